@@ -1,0 +1,1 @@
+// Sets of write keys. Definitions and their laws only, in specs/ and proofs/.
