@@ -1,0 +1,13 @@
+pub mod Decompose
+pub mod Closing
+pub mod Placed
+pub mod MoreObjects
+pub mod StateLaws
+pub mod Invariant
+pub mod OneKey
+pub mod NewKeys
+pub mod Equivalence
+pub mod Preserved
+pub mod Progress
+pub mod Executed
+pub mod Marked

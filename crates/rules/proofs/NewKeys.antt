@@ -1,0 +1,200 @@
+-- Every plain write takes a key that nobody holds: every key of every set is below the next one, in every state of every run. Assumes nothing.
+use Prim.Native.Nat.{ℕ, zero, suc, _<_}
+use native.Mathlib.Omega.{arith}
+use native.Mathlib.Decide.{ℕ-discrete}
+use mathlib.Core.Path.{_≡_, refl, sym, ap, _∙_, subst as along}
+use mathlib.Core.Bool.{Bool, true, false, _||_}
+use mathlib.Core.List.{List, []}
+use mathlib.Core.Logic.{_⊎_, inl, inr}
+use mathlib.Core.Option.{Option, some, none}
+use lib.Dec.{T, eqb→eq}
+use lib.ListN.{length, getElem?}
+use Rattle.keys.specs.Keys.{Keys, empty, singleton, holds, union}
+use Rattle.keys.proofs.KeyLaws.{holds-empty, holds-singleton, holds-union}
+use Rattle.plan.specs.Syntax.{Expression, Arguments, Program}
+use Rattle.records.specs.Record.{Record}
+use Rattle.rules.specs.State.{Cell, cell, Thread, State, fresh, freshObject, lookup, monitor, store, storeMonitor, addObject, learn, become, addThread, useKey, start, changeAt}
+use Rattle.rules.specs.Rules.{Rule, Converts, E-CALL, E-LET, E-IF, E-WHILE, E-NEW, E-READ, E-WRITE, E-READV, E-WRITEV, E-FORK, E-JOIN, E-RE-ENTER, E-ACQUIRE, E-RELEASE, Moves, EVAL, EVALᶜ}
+use Rattle.rules.proofs.StateLaws.{added, changed, store-same, store-other, store-monitor, lock-same, lock-other, lock-lookup, new-lookup, new-monitors, found-thread}
+
+-- every key of the set is below n
+abbrev pub Below : Keys → ℕ → Type 0
+Below K n = (k : ℕ) → T (holds K k) → k < n
+
+-- the next key is in no set
+pub record Unused (s : State) : Type 0 where
+  pub threads : (p : ℕ) (t : Thread) → getElem? (s .threads) p ≡ some t → Below (t .keys) (s .nextKey)
+  pub fields : (o f : ℕ) (c : Cell) → lookup s o f ≡ some c → Below (c .keys) (s .nextKey)
+  pub monitors : (o : ℕ) (c : Cell) → monitor s o ≡ some c → Below (c .keys) (s .nextKey)
+  pub positive : 0 < s .nextKey
+
+below-singleton : (w n : ℕ) → w < n → Below (singleton w) n
+below-singleton w n h k t = let e : k ≡ w = eqb→eq k w (rw (holds-singleton w k) at t) in omega arith
+
+below-empty : (n : ℕ) → Below empty n
+below-empty n k t = absurd (rw (holds-empty k) at t)
+
+below-union : (K L : Keys) (n : ℕ) → Below K n → Below L n → Below (union K L) n
+below-union K L n f g k t = go (holds K k) (holds L k) refl refl (rw (holds-union K L k) at t)
+  where
+    go : (x y : Bool) → holds K k ≡ x → holds L k ≡ y → T (x || y) → k < n
+    go true y e d h = f k (rw e tt)
+    go false y e d h = g k (rw d h)
+
+below-fresh : (c : Cell) (n : ℕ) → fresh ≡ c → 0 < n → Below (c .keys) n
+unfolding fresh
+below-fresh c n e h = along (λ (z : Cell). Below (z .keys) n) e (below-singleton 0 n h)
+
+-- ---- the parts of a move
+
+unused-key : (s : State) → Unused s → Unused (useKey s)
+unfolding useKey lookup monitor
+unused-key s U = record {
+  threads = λ p t h k x. let b = U .threads p t h k x in omega arith;
+  fields = λ o f c h k x. let b = U .fields o f c h k x in omega arith;
+  monitors = λ o c h k x. let b = U .monitors o c h k x in omega arith;
+  positive = omega arith;
+}
+
+unused-store : (s : State) (o f : ℕ) (c d : Cell) → lookup s o f ≡ some d → Below (c .keys) (s .nextKey) → Unused s → Unused (store s o f c)
+unfolding store
+unused-store s o f c d h b U = record {
+  threads = U .threads;
+  fields = λ o′ f′ c′ h′. go o′ f′ c′ h′ (ℕ-discrete o o′) (ℕ-discrete f f′);
+  monitors = λ o′ c′ h′. U .monitors o′ c′ (sym (store-monitor s o f c o′) ∙ h′);
+  positive = U .positive;
+}
+  where
+    go : (o′ f′ : ℕ) (c′ : Cell) → lookup (store s o f c) o′ f′ ≡ some c′ → Dec (o ≡ o′) → Dec (f ≡ f′) → Below (c′ .keys) (s .nextKey)
+    go o′ f′ c′ h′ (yes x) (yes y) =
+        let q : some c ≡ some c′ = sym (store-same s o f c d h) ∙ ap (λ (z : ℕ). lookup (store s o f c) o z) y ∙ ap (λ (z : ℕ). lookup (store s o f c) z f′) x ∙ h′ in
+        let r : c ≡ c′ = cc in
+        along (λ (z : Cell). Below (z .keys) (s .nextKey)) r b
+    go o′ f′ c′ h′ (yes x) (no y) = U .fields o′ f′ c′ (sym (store-other s o f c o′ f′ (λ p q. y q)) ∙ h′)
+    go o′ f′ c′ h′ (no x) y = U .fields o′ f′ c′ (sym (store-other s o f c o′ f′ (λ p q. x p)) ∙ h′)
+
+unused-lock : (s : State) (o : ℕ) (c d : Cell) → monitor s o ≡ some d → Below (c .keys) (s .nextKey) → Unused s → Unused (storeMonitor s o c)
+unfolding storeMonitor
+unused-lock s o c d h b U = record {
+  threads = U .threads;
+  fields = λ o′ f′ c′ h′. U .fields o′ f′ c′ (sym (lock-lookup s o c o′ f′) ∙ h′);
+  monitors = λ o′ c′ h′. go o′ c′ h′ (ℕ-discrete o o′);
+  positive = U .positive;
+}
+  where
+    go : (o′ : ℕ) (c′ : Cell) → monitor (storeMonitor s o c) o′ ≡ some c′ → Dec (o ≡ o′) → Below (c′ .keys) (s .nextKey)
+    go o′ c′ h′ (yes x) =
+        let q : some c ≡ some c′ = sym (lock-same s o c d h) ∙ ap (λ (z : ℕ). monitor (storeMonitor s o c) z) x ∙ h′ in
+        let r : c ≡ c′ = cc in
+        along (λ (z : Cell). Below (z .keys) (s .nextKey)) r b
+    go o′ c′ h′ (no x) = U .monitors o′ c′ (sym (lock-other s o c o′ x) ∙ h′)
+
+unused-new : (s : State) (fs : List ℕ) → Unused s → Unused (addObject s (freshObject fs))
+unfolding addObject
+unused-new s fs U = record {
+  threads = U .threads;
+  fields = λ o f c h. field-of o f c h (new-lookup s fs o f);
+  monitors = λ o c h. monitor-of o c h (new-monitors s fs o);
+  positive = U .positive;
+}
+  where
+    s₁ : State
+    s₁ = addObject s (freshObject fs)
+
+    field-of : (o f : ℕ) (c : Cell) → lookup s₁ o f ≡ some c
+        → (lookup s₁ o f ≡ lookup s o f) ⊎ ((length (s .objects) ≡ o) × (lookup s o f ≡ none) × (lookup s₁ o f ≡ some fresh)) → Below (c .keys) (s .nextKey)
+    field-of o f c h (inl e) = U .fields o f c (sym e ∙ h)
+    field-of o f c h (inr (_, _, e)) = let q : some fresh ≡ some c = sym e ∙ h in below-fresh c (s .nextKey) (cc) (U .positive)
+
+    monitor-of : (o : ℕ) (c : Cell) → monitor s₁ o ≡ some c
+        → (monitor s₁ o ≡ monitor s o) ⊎ ((length (s .objects) ≡ o) × (monitor s o ≡ none) × (monitor s₁ o ≡ some fresh)) → Below (c .keys) (s .nextKey)
+    monitor-of o c h (inl e) = U .monitors o c (sym e ∙ h)
+    monitor-of o c h (inr (_, _, e)) = let q : some fresh ≡ some c = sym e ∙ h in below-fresh c (s .nextKey) (cc) (U .positive)
+
+-- one thread changes, and its keys stay below the next
+unused-change : (s : State) (p : ℕ) (h : Thread → Thread) → ((t : Thread) → Below (t .keys) (s .nextKey) → Below (h t .keys) (s .nextKey)) → Unused s
+    → Unused (record { objects = s .objects; threads = changeAt (s .threads) p h; nextKey = s .nextKey })
+unfolding lookup monitor
+unused-change s p h b U = record {
+  threads = λ q u e. go q u (changed (s .threads) p h q u e);
+  fields = λ o f c e. U .fields o f c e;
+  monitors = λ o c e. U .monitors o c e;
+  positive = U .positive;
+}
+  where
+    go : (q : ℕ) (u : Thread) → (t : Thread) × (getElem? (s .threads) q ≡ some t) × ((t ≡ u) ⊎ (h t ≡ u)) → Below (u .keys) (s .nextKey)
+    go q u (t, e, inl x) = along (λ (z : Thread). Below (z .keys) (s .nextKey)) x (U .threads q t e)
+    go q u (t, e, inr x) = along (λ (z : Thread). Below (z .keys) (s .nextKey)) x (b t (U .threads q t e))
+
+unused-learn : (s : State) (p : ℕ) (W : Keys) → Below W (s .nextKey) → Unused s → Unused (learn s p W)
+unfolding learn
+unused-learn s p W b U = unused-change s p _ (λ t c. below-union W (t .keys) (s .nextKey) b c) U
+
+unused-become : (s : State) (p : ℕ) (e : Expression) → Unused s → Unused (become s p e)
+unfolding become
+unused-become s p e U = unused-change s p _ (λ t c. c) U
+
+unused-thread : (s : State) (u : Thread) → Below (u .keys) (s .nextKey) → Unused s → Unused (addThread s u)
+unfolding addThread lookup monitor
+unused-thread s u b U = record {
+  threads = λ q w e. go q w (added (s .threads) u q w e);
+  fields = λ o f c e. U .fields o f c e;
+  monitors = λ o c e. U .monitors o c e;
+  positive = U .positive;
+}
+  where
+    go : (q : ℕ) (w : Thread) → ((q < length (s .threads)) × (getElem? (s .threads) q ≡ some w)) ⊎ ((q ≡ length (s .threads)) × (u ≡ w)) → Below (w .keys) (s .nextKey)
+    go q w (inl (_, e)) = U .threads q w e
+    go q w (inr (_, e)) = along (λ (z : Thread). Below (z .keys) (s .nextKey)) e b
+
+-- ---- moves
+
+module _ (g : Program) (s : State) (p : ℕ) (t : Thread) (ht : getElem? (s .threads) p ≡ some t) (U : Unused s) where
+  kept : {e : Expression} {R : Rule} {r : Option Record} {s′ : State} {e′ : Expression} → Converts g s p t e R r s′ e′ → Unused s′
+  unfolding useKey addObject storeMonitor store lookup
+  kept (E-CALL os hd hp) = U
+  kept E-LET = U
+  kept (E-IF b) = U
+  kept E-WHILE = U
+  kept (E-NEW {fs}) = unused-new s fs U
+  kept (E-READ w h k v) = U
+  kept (E-WRITE w {o} {f} {u} {v} h k vol) =
+      let c : Cell = cell (singleton (s .nextKey)) v in
+      let b : Below (singleton (s .nextKey)) (suc (s .nextKey)) = below-singleton (s .nextKey) (suc (s .nextKey)) (omega arith) in
+      unused-learn (store (useKey s) o f c) p (singleton (s .nextKey)) b (unused-store (useKey s) o f c (cell (singleton w) u) h b (unused-key s U))
+  kept (E-READV {o} {f} {v} {W} h vol) = unused-learn s p W (U .fields o f (cell W v) h) U
+  kept (E-WRITEV {o} {f} {u} {v} {W} h vol) = unused-store s o f (cell (union W (t .keys)) v) (cell W u) h (below-union W (t .keys) (s .nextKey) (U .fields o f (cell W u) h) (U .threads p t ht)) U
+  kept (E-FORK {e}) = unused-thread (addObject s (freshObject [])) (record { self = length (s .objects); expression = e; keys = t .keys }) (U .threads p t ht) (unused-new s [] U)
+  kept (E-JOIN {o} {v} {q} h l) =
+      let j = found-thread (s .threads) 0 o q h in
+      unused-learn s p (q .thread .keys) (U .threads (j .0) (q .thread) (j .2)) U
+  kept (E-RE-ENTER h) = U
+  kept (E-ACQUIRE {o} {u} {W} h n) =
+      unused-learn (storeMonitor s o (cell empty (t .self))) p W (U .monitors o (cell W u) h) (unused-lock s o (cell empty (t .self)) (cell W u) h (below-empty (s .nextKey)) U)
+  kept (E-RELEASE {o} h) = unused-lock s o (cell (t .keys) 0) (cell empty (t .self)) h (U .threads p t ht) U
+
+-- every move keeps it
+pub unused-move : (g : Program) (s : State) (p : ℕ) → Unused s → {R : Rule} {r : Option Record} {s′ : State} → Moves g s p R r s′ → Unused s′
+unused-move g s p U (EVAL K {t} {s′ = s′} ht he c) = unused-become s′ p _ (kept g s p t ht U c)
+unused-move g s p U (EVALᶜ K ht he c) = unused-become s p _ U
+
+pub unused-start : Unused start
+unfolding start freshObject lookup monitor
+unused-start = record {
+  threads = λ p t h. one p t h;
+  fields = λ o f c h. absurd (nowhere o f c h);
+  monitors = λ o c h. free o c h;
+  positive = omega arith;
+}
+  where
+    one : (p : ℕ) (t : Thread) → getElem? (start .threads) p ≡ some t → Below (t .keys) 1
+    one zero t h = let e : record { self = 0; expression = Expression.call 0 Arguments.end; keys = singleton 0 } ≡ t = cc in along (λ (z : Thread). Below (z .keys) 1) e (below-singleton 0 1 (omega arith))
+    one (suc p) t h = absurd (let z : _≡_ {A = ℕ} 0 1 = cc in omega arith)
+
+    nowhere : (o f : ℕ) (c : Cell) → lookup start o f ≡ some c → ⊥
+    nowhere zero f c h = let z : _≡_ {A = ℕ} 0 1 = cc in omega arith
+    nowhere (suc o) f c h = let z : _≡_ {A = ℕ} 0 1 = cc in omega arith
+
+    free : (o : ℕ) (c : Cell) → monitor start o ≡ some c → Below (c .keys) 1
+    free zero c h = below-fresh c 1 (cc) (omega arith)
+    free (suc o) c h = absurd (let z : _≡_ {A = ℕ} 0 1 = cc in omega arith)

@@ -1,0 +1,251 @@
+-- Every rule keeps the invariant.
+use Prim.Native.Nat.{ℕ, _<_}
+use native.Mathlib.Omega.{arith}
+use native.Mathlib.Decide.{ℕ-discrete}
+use mathlib.Core.Path.{_≡_, refl, sym, ap, _∙_, subst as along}
+use mathlib.Core.Bool.{Bool, true, false}
+use mathlib.Core.List.{List, [], _∷_}
+use mathlib.Core.Logic.{inl, inr}
+use mathlib.Core.Option.{Option, some}
+use lib.ListN.{length, getElem?}
+use lib.Dec.{eqb}
+use Rattle.keys.specs.Keys.{Keys, empty, singleton, union, isEmpty}
+use Rattle.plan.specs.Syntax.{Expression, Condition, Arguments, literal, bind, parametersAre, substitute, Program, Procedure, bool, sequence}
+use Rattle.plan.specs.Slots.{bound}
+use Rattle.rules.specs.Context.{Context, Contextᶜ, Focus, focus, top, here, hold, plug, plugᶜ, Redex, Redexᶜ, term, termᶜ, literals}
+use Rattle.rules.proofs.Decompose.{found, foundᶜ}
+use Rattle.rules.specs.State.{Cell, cell, Thread, State, freshObject, lookup, monitor, store, storeMonitor, addObject, learn, become, addThread, useKey}
+use Rattle.records.specs.Record.{Record}
+use Rattle.rules.specs.Rules.{Rule, choose, Converts, E-CALL, E-LET, E-IF, E-WHILE, E-NEW, E-READ, E-WRITE, E-READV, E-WRITEV, E-FORK, E-JOIN, E-RE-ENTER, E-ACQUIRE, E-RELEASE, Convertsᶜ, E-NOTNOTTRUE, E-ANDTRUE, E-ANDFALSE, E-EQUALTRUE, E-EQUALFALSE, Moves, EVAL, EVALᶜ}
+use Rattle.plan.proofs.WellFormed.{WellFormedProgram, unbound}
+use Rattle.rules.proofs.Closing.{more, filled, covers-one, covers-params}
+use Rattle.rules.proofs.Placed.{Landed, Text, Textᶜ, Around, Ready, Readyᶜ, Good, held, holds, pending, pendingᶜ, rise, riseᶜ}
+use Rattle.rules.proofs.StateLaws.{inside, added-old, change-same, lock-same, lock-other, found-thread}
+use Rattle.rules.proofs.Invariant.{In, Once, owed, heldBy, Sound, Inv, inv-store, inv-key, inv-lock, length-new, inv-new, inv-learn, inv-become, inv-thread}
+
+-- the thread after it learnt
+abbrev pub learnt : Thread → Keys → Thread
+learnt t W = record { self = t .self; expression = t .expression; keys = union W (t .keys) }
+
+-- thread p, which is t, is about to move x in K
+module _ (g : Program) (s : State) (p : ℕ) (t : Thread) (K : Context) (I : Inv g s) (at : getElem? (s .threads) p ≡ some t) (x : Redex) (h : t .expression ≡ plug K (term x)) where
+  pub seen : focus top (t .expression) ≡ here K x
+  seen = ap (focus top) h ∙ found K x
+
+  pub placed : Around g (length (s .objects)) K × Ready g (length (s .objects)) x
+  placed = along (Good g (length (s .objects))) seen (I .each p t at .good)
+
+  pub owes : owed t ≡ held x (pending K)
+  owes = ap holds seen
+
+  pub owing : (o : ℕ) → In o (held x (pending K)) → monitor s o ≡ some (heldBy t)
+  owing o i = I .each p t at .held o (rw owes i)
+
+  pub owing-once : Once (held x (pending K))
+  owing-once = rw owes at (I .each p t at .once)
+
+  pub settle : (e : Expression) → held x (pending K) ≡ pending K → Text g (length (s .objects)) e → Inv g (become s p (plug K e))
+  settle e q c =
+      inv-become g s p (plug K e) t (pending K) I at (rise g (length (s .objects)) K e (placed .0) c)
+      (λ o i. owing o (rw q i)) (rw q at owing-once)
+
+module _ (g : Program) (P : WellFormedProgram g) (s : State) (I : Inv g s) (p : ℕ) (t : Thread) (ht : getElem? (s .threads) p ≡ some t) (K : Context) where
+  abbrev N : ℕ
+  N = length (s .objects)
+
+  kept-call : (m : ℕ) (os : List ℕ) (d : Procedure) → getElem? (g .procedures) m ≡ some d → d .parameters ≡ length os → t .expression ≡ plug K (Expression.call m (literals os Arguments.end)) → Inv g (become s p (plug K (substitute (parametersAre os) (d .body))))
+  unfolding term
+  kept-call m os d hd hp he =
+      settle g s p t K I ht (Redex.call m os) he (substitute (parametersAre os) (d .body)) refl
+      (filled g N (parametersAre os) _ unbound (covers-params N (d .parameters) os (placed g s p t K I ht (Redex.call m os) he .1 .1) hp) (d .body) (more g 1 N (I .null-there) _ (d .body) (P .bodies m d hd)))
+
+  -- a step back to where the mover stood, after what the rule did to the rest
+  learnt-at : (s₁ : State) (W : Keys) → s₁ .threads ≡ s .threads → getElem? (learn s₁ p W .threads) p ≡ some (learnt t W)
+  unfolding learn
+  learnt-at s₁ W e = change-same (s₁ .threads) p _ t (rw e ht)
+
+  -- unbound has to release a monitor that is free
+  free-of : (o : ℕ) (c : Cell) → monitor s o ≡ some c → isEmpty (c .keys) ≡ false → (q : ℕ) (u : Thread) → getElem? (s .threads) q ≡ some u → In o (owed u) → ⊥
+  unfolding isEmpty
+  free-of o c m e q u hu i =
+      let k : some c ≡ some (heldBy u) = sym m ∙ I .each q u hu .held o i in
+      let j : c ≡ heldBy u = cc in
+      let z : false ≡ true = sym e ∙ ap (λ (y : Cell). eqb (y .keys) 0) j in
+      let y : _≡_ {A = ℕ} 0 1 = cc in omega arith
+
+  kept-acquire : (o : ℕ) (e : Expression) (c : Cell) → monitor s o ≡ some c → isEmpty (c .keys) ≡ false → t .expression ≡ plug K (Expression.synch (literal o) e)
+      → Inv g (become (learn (storeMonitor s o (record { keys = empty; value = t .self })) p (c .keys)) p (plug K (Expression.hold o e)))
+  unfolding term plug learn storeMonitor monitor
+  kept-acquire o e c m f he = inv-become g s₂ p (plug (hold K o) e) (learnt t (c .keys)) (o ∷ pending K) I₂ at₂ (rise g (length (s₂ .objects)) (hold K o) e (pl .1 .0, pl .0) (pl .1 .1)) mine (first, owing-once g s p t K I ht (Redex.synch o e) he)
+    where
+      s₁ : State
+      s₁ = storeMonitor s o (record { keys = empty; value = t .self })
+
+      s₂ : State
+      s₂ = learn s₁ p (c .keys)
+
+      I₁ : Inv g s₁
+      I₁ = inv-lock g s o (heldBy t) c I m (I .each p t ht .self-there) (free-of o c m f)
+
+      I₂ : Inv g s₂
+      I₂ = inv-learn g s₁ p (c .keys) t I₁ ht
+
+      at₂ : getElem? (s₂ .threads) p ≡ some (learnt t (c .keys))
+      at₂ = learnt-at s₁ (c .keys) refl
+
+      pl : Around g (length (s₂ .objects)) K × Ready g (length (s₂ .objects)) (Redex.synch o e)
+      pl = placed g s₂ p (learnt t (c .keys)) K I₂ at₂ (Redex.synch o e) he
+
+      first : In o (pending K) → ⊥
+      first i = free-of o c m f p t ht (rw (owes g s p t K I ht (Redex.synch o e) he) i)
+
+      mine : (a : ℕ) → In a (o ∷ pending K) → monitor s₂ a ≡ some (heldBy t)
+      mine a (inl q) = rw q (lock-same s o (heldBy t) c m)
+      mine a (inr i) = lock-other s o (heldBy t) a (λ q. first (rw q i)) ∙ owing g s p t K I ht (Redex.synch o e) he a i
+
+  kept-release : (o v : ℕ) → monitor s o ≡ some (record { keys = empty; value = t .self }) → t .expression ≡ plug K (Expression.hold o (literal v))
+      → Inv g (become (storeMonitor s o (record { keys = t .keys; value = 0 })) p (plug K (literal v)))
+  unfolding term storeMonitor become
+  kept-release o v m he = inv-lock g s₁ o (record { keys = t .keys; value = 0 }) (heldBy t) I₁ m₁ (I .null-there) alone
+    where
+      s₁ : State
+      s₁ = become s p (plug K (literal v))
+
+      m₁ : monitor s₁ o ≡ some (heldBy t)
+      m₁ = unfold monitor in m
+
+      pl : Around g N K × Ready g N (Redex.hold o v)
+      pl = placed g s p t K I ht (Redex.hold o v) he
+
+      once : Once (o ∷ pending K)
+      once = owing-once g s p t K I ht (Redex.hold o v) he
+
+      I₁ : Inv g s₁
+      I₁ = inv-become g s p (plug K (literal v)) t (pending K) I ht (rise g N K (literal v) (pl .0) (pl .1 .1)) (λ a i. owing g s p t K I ht (Redex.hold o v) he a (inr i)) (once .1)
+
+      at₁ : getElem? (s₁ .threads) p ≡ some (record { self = t .self; expression = plug K (literal v); keys = t .keys })
+      at₁ = change-same (s .threads) p _ t ht
+
+      -- it was pending once
+      alone : (q : ℕ) (u : Thread) → getElem? (s₁ .threads) q ≡ some u → In o (owed u) → ⊥
+      alone q u hu i = go (ℕ-discrete p q)
+        where
+          here′ : monitor s₁ o ≡ some (heldBy u)
+          here′ = I₁ .each q u hu .held o i
+
+          go : Dec (p ≡ q) → ⊥
+          go (yes e) =
+              let k : some (record { self = t .self; expression = plug K (literal v); keys = t .keys }) ≡ some u = sym at₁ ∙ ap (λ (a : ℕ). getElem? (s₁ .threads) a) e ∙ hu in
+              let j : record { self = t .self; expression = plug K (literal v); keys = t .keys } ≡ u = cc in
+              once .0 (rw (rise g N K (literal v) (pl .0) (pl .1 .1) .theirs) at (along (λ (w : Thread). In o (owed w)) (sym j) i))
+          go (no e) =
+              let k : some (heldBy t) ≡ some (heldBy u) = sym m₁ ∙ here′ in
+              let j : heldBy t ≡ heldBy u = cc in
+              e (I₁ .apart p q _ u at₁ hu (ap (λ (c : Cell). c .value) j))
+
+  kept-fork : (e : Expression) → t .expression ≡ plug K (Expression.fork e)
+      → Inv g (become (addThread (addObject s (freshObject [])) (record { self = length (s .objects); expression = e; keys = t .keys })) p (plug K (literal (length (s .objects)))))
+  unfolding term addThread addObject plug
+  kept-fork e he = settle g s₂ p t K I₂ at₂ (Redex.fork e) he (literal N) refl more-there
+    where
+      s₁ : State
+      s₁ = addObject s (freshObject [])
+
+      u : Thread
+      u = record { self = N; expression = e; keys = t .keys }
+
+      s₂ : State
+      s₂ = addThread s₁ u
+
+      I₁ : Inv g s₁
+      I₁ = inv-new g s [] I
+
+      more-there : N < length (s₁ .objects)
+      more-there = omega (arith, length-new s [])
+
+      new : Sound g s₁ u
+      new =
+          let l = rise g (length (s₁ .objects)) top e tt (placed g s₁ p t K I₁ ht (Redex.fork e) he .1) in
+          record {
+            good = l .good;
+            self-there = more-there;
+            held = λ o i. absurd (none-owed l o i);
+            once = one-none l;
+          }
+        where
+          none-owed : Landed g (length (s₁ .objects)) [] (focus top (plug top e)) → (o : ℕ) → In o (owed u) → ⊥
+          none-owed l o i = rw (l .theirs) at i
+
+          one-none : Landed g (length (s₁ .objects)) [] (focus top (plug top e)) → Once (owed u)
+          one-none l = rw (l .theirs) tt
+
+      fresh-self : (q : ℕ) (w : Thread) → getElem? (s₁ .threads) q ≡ some w → w .self ≡ N → ⊥
+      fresh-self q w hw e = let b = I .each q w hw .self-there in omega arith
+
+      I₂ : Inv g s₂
+      I₂ = inv-thread g s₁ u I₁ new fresh-self
+
+      at₂ : getElem? (s₂ .threads) p ≡ some t
+      at₂ = added-old (s .threads) u p (inside (s .threads) p t ht) ∙ ht
+
+  choose-text : (b : Bool) (e e′ : Expression) → Text g N e → Text g N e′ → Text g N (choose b e e′)
+  unfolding choose
+  choose-text true e e′ h k = h
+  choose-text false e e′ h k = k
+
+  pub kept : {e : Expression} {R : Rule} {r : Option Record} {s′ : State} {e′ : Expression} → Converts g s p t e R r s′ e′ → t .expression ≡ plug K e → Inv g (become s′ p (plug K e′))
+  unfolding term sequence bound store useKey addObject lookup focus learn
+  kept (E-CALL {m} os {d} hd hp) he = kept-call m os d hd hp he
+  kept (E-LET {x} {o} {e}) he =
+      let pl = placed g s p t K I ht (Redex.letIn x o e) he in
+      settle g s p t K I ht (Redex.letIn x o e) he (substitute (bind x o) e) refl (filled g N (bind x o) _ unbound (covers-one N x o (pl .1 .0)) e (pl .1 .1))
+  kept (E-IF b {e} {e′}) he =
+      let pl = placed g s p t K I ht (Redex.if b e e′) he in
+      settle g s p t K I ht (Redex.if b e e′) he (choose b e e′) refl (choose-text b e e′ (pl .1 .0) (pl .1 .1))
+  kept (E-WHILE {c} {e}) he =
+      let pl = placed g s p t K I ht (Redex.while c e) he in
+      settle g s p t K I ht (Redex.while c e) he _ refl (pl .1 .0, (pl .1 .1, (pl .1 .0, pl .1 .1)), I .null-there)
+  kept (E-NEW {fs}) he = settle g (addObject s (freshObject fs)) p t K (inv-new g s fs I) ht (Redex.new fs) he (literal N) refl (omega (arith, length-new s fs))
+  kept (E-READ w {o} {f} {v} h k vol) he = settle g s p t K I ht (Redex.read o f) he (literal v) refl (I .cells o f _ h)
+  kept (E-WRITE w {o} {f} {u} {v} h k vol) he =
+      let s₁ = store (useKey s) o f (record { keys = singleton (s .nextKey); value = v }) in
+      let I₁ = inv-store g (useKey s) o f (record { keys = singleton (s .nextKey); value = v }) _ (inv-key g s I) h (placed g s p t K I ht (Redex.write o f v) he .1 .3) in
+      let I₂ = inv-learn g s₁ p (singleton (s .nextKey)) t I₁ ht in
+      let at₂ = learnt-at s₁ (singleton (s .nextKey)) refl in
+      settle g (learn s₁ p (singleton (s .nextKey))) p (learnt t (singleton (s .nextKey))) K I₂ at₂ (Redex.write o f v) he (literal v) refl (placed g (learn s₁ p (singleton (s .nextKey))) p (learnt t (singleton (s .nextKey))) K I₂ at₂ (Redex.write o f v) he .1 .3)
+  kept (E-READV {o} {f} {v} {W} h vol) he =
+      settle g (learn s p W) p (learnt t W) K (inv-learn g s p W t I ht) (learnt-at s W refl) (Redex.read o f) he (literal v) refl (I .cells o f _ h)
+  kept (E-WRITEV {o} {f} {u} {v} {W} h vol) he =
+      let d : Cell = record { keys = union W (t .keys); value = v } in
+      let I₁ = inv-store g s o f d _ I h (placed g s p t K I ht (Redex.write o f v) he .1 .3) in
+      settle g (store s o f d) p t K I₁ ht (Redex.write o f v) he (literal v) refl (placed g (store s o f d) p t K I₁ ht (Redex.write o f v) he .1 .3)
+  kept (E-FORK {e}) he = kept-fork e he
+  kept (E-JOIN {o} {v} {q} h l) he =
+      let j = found-thread (s .threads) 0 o q h in
+      let b : v < N = along (λ (e : Expression). Good g N (focus top e)) l (I .each (j .0) (q .thread) (j .2) .good) in
+      settle g (learn s p (q .thread .keys)) p (learnt t (q .thread .keys)) K (inv-learn g s p (q .thread .keys) t I ht) (learnt-at s (q .thread .keys) refl) (Redex.join o) he (literal v) refl b
+  kept (E-RE-ENTER {o} {e} h) he = settle g s p t K I ht (Redex.synch o e) he e refl (placed g s p t K I ht (Redex.synch o e) he .1 .1)
+  kept (E-ACQUIRE {o} {u} {W} {e} h n) he = kept-acquire o e (cell W u) h n he
+  kept (E-RELEASE {o} {v} h) he = kept-release o v h he
+
+module _ (g : Program) (s : State) (I : Inv g s) (p : ℕ) (t : Thread) (ht : getElem? (s .threads) p ≡ some t) (K : Contextᶜ) where
+  settleᶜ : (x : Redexᶜ) (b : Condition) → t .expression ≡ plugᶜ K (termᶜ x) → (Readyᶜ g (length (s .objects)) x → Textᶜ g (length (s .objects)) b) → Inv g (become s p (plugᶜ K b))
+  settleᶜ x b h c =
+      let seen′ = ap (focus top) h ∙ foundᶜ K x in
+      let d = I .each p t ht in
+      let pl = along (Good g (length (s .objects))) seen′ (d .good) in
+      inv-become g s p (plugᶜ K b) t (pendingᶜ K) I ht (riseᶜ g (length (s .objects)) K b (pl .0) (c (pl .1)))
+      (λ o i. d .held o (rw seen′ i)) (along (λ (F : Focus). Once (holds F)) seen′ (d .once))
+
+  pub keptᶜ : {c : Condition} {R : Rule} {c′ : Condition} → Convertsᶜ c R c′ → t .expression ≡ plugᶜ K c → Inv g (become s p (plugᶜ K c′))
+  unfolding termᶜ bool
+  keptᶜ E-NOTNOTTRUE he = settleᶜ Redexᶜ.notFalse Condition.truth he (λ r. tt)
+  keptᶜ (E-ANDTRUE {c}) he = settleᶜ (Redexᶜ.and true c) c he (λ r. r)
+  keptᶜ (E-ANDFALSE {c}) he = settleᶜ (Redexᶜ.and false c) (Condition.not Condition.truth) he (λ r. tt)
+  keptᶜ (E-EQUALTRUE {o} {o′} h) he = settleᶜ (Redexᶜ.equal o o′) Condition.truth he (λ r. tt)
+  keptᶜ (E-EQUALFALSE {o} {o′} h) he = settleᶜ (Redexᶜ.equal o o′) (Condition.not Condition.truth) he (λ r. tt)
+
+-- a move keeps the invariant
+pub keeps : (g : Program) → WellFormedProgram g → (s : State) → Inv g s → (p : ℕ) {R : Rule} {r : Option Record} {s′ : State} → Moves g s p R r s′ → Inv g s′
+keeps g P s I p (EVAL K {t} ht he c) = kept g P s I p t ht K c he
+keeps g P s I p (EVALᶜ K {t} ht he c) = keptᶜ g s I p t ht K c he

@@ -1,0 +1,31 @@
+-- Executions: demand 2 of one run, as a relation. Assumes nothing.
+use Prim.Native.Nat.{ℕ}
+use mathlib.Core.Path.{_≡_}
+use mathlib.Core.List.{List, [], _∷_}
+use mathlib.Core.Option.{Option, some, none}
+use Rattle.plan.specs.Syntax.{Program}
+use Rattle.records.specs.Record.{Record}
+use Rattle.rules.specs.State.{State}
+use Rattle.rules.specs.Rules.{Rule, Moves, Lacks}
+use Rattle.rules.specs.Step.{Attempt}
+use Rattle.rules.specs.Room.{PassedOver, Room, lackOf}
+use Rattle.rules.specs.Run.{Stop, Run, afterPass, afterMove, stopped}
+
+-- The run r of the picks from state s deals with each pick in one of four ways: it is passed over for a reason of document 01's; the run stops for
+-- want of a key; the run stops for room that a rule's move would lack; or the thread moves by a rule, of which the run keeps the name, the record
+-- and the state after it.
+module _ (g : Program) where
+  pub data Execution : State → List ℕ → Run → Type 0 where
+    ends : {s : State} → Execution s [] (stopped Stop.end [] s)
+    passes : {s : State} {p : ℕ} {ps : List ℕ} {r : Run} {a : Attempt}
+        → PassedOver s p a → Execution s ps r
+        → Execution s (p ∷ ps) (afterPass r)
+    lacks-key : {s : State} {p : ℕ} {ps : List ℕ} {e : Record}
+        → Lacks g s p e
+        → Execution s (p ∷ ps) (stopped Stop.race (e ∷ []) s)
+    lacks-room : {s s′ : State} {p : ℕ} {ps : List ℕ} {R : Rule} {e : Option Record} {k : Room}
+        → Moves g s p R e s′ → lackOf R s p s′ ≡ some k
+        → Execution s (p ∷ ps) (stopped (Stop.noRoom k) [] s)
+    moves : {s s′ : State} {p : ℕ} {ps : List ℕ} {r : Run} {R : Rule} {e : Option Record}
+        → Moves g s p R e s′ → lackOf R s p s′ ≡ none → Execution s′ ps r
+        → Execution s (p ∷ ps) (afterMove (record { rule = R; entry = e; state = s′ }) r)

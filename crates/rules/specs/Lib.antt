@@ -1,0 +1,9 @@
+pub mod Context
+pub mod State
+pub mod Rules
+pub mod Step
+pub mod Room
+pub mod Run
+pub mod Execution
+pub mod Play
+pub mod ShotList

@@ -1,0 +1,75 @@
+-- What a play of a schedule on a plan answers, and what it leaves in the log area (document 01, "Who can cause a refusal"). Assumes nothing.
+use Prim.Native.Nat.{ℕ, _*_}
+use mathlib.Core.Bool.{Bool}
+use mathlib.Core.List.{List, [], _∷_, _++_}
+use mathlib.Core.Option.{Option, some, none}
+use lib.Dec.{ltb}
+use lib.ListN.{length, getD, drop}
+use Rattle.format.specs.Refusal.{Refusal, Check, check, checkWhole, firstRefusal}
+use Rattle.plan.specs.Trees.{programOf}
+use Rattle.plan.specs.Check.{checks}
+use Rattle.records.specs.Packed.{bytesOf}
+use Rattle.rules.specs.Run.{Run, play, Outcome, outcomeOf}
+
+-- ---- 8: "over 4,096 picks"
+
+unfoldable pub tooManyPicks : List ℕ → Bool
+tooManyPicks schedule = ltb 4096 (length schedule)
+
+-- ---- 9: "a pick over 7", at the lowest pick
+
+unfoldable pub wrongPick : List ℕ → ℕ → Bool
+wrongPick schedule i = ltb 7 (getD schedule i 0)
+
+-- ---- 10: "log area under 3 times the picks"
+
+unfoldable pub shortArea : List ℕ → List ℕ → Bool
+shortArea schedule area = ltb (length area) (3 * length schedule)
+
+unfoldable pub playChecks : List ℕ → List ℕ → List ℕ → List Check
+unfolding checks tooManyPicks wrongPick shortArea
+playChecks plan schedule area =
+    checks plan
+    ++ (checkWhole 8 (tooManyPicks schedule)
+    ∷ check 9 (length schedule) (wrongPick schedule)
+    ∷ checkWhole 10 (shortArea schedule area)
+    ∷ [])
+
+unfoldable pub playRefusal : List ℕ → List ℕ → List ℕ → Option Refusal
+unfolding playChecks firstRefusal
+playRefusal plan schedule area = firstRefusal (playChecks plan schedule area)
+
+-- the run of a schedule on an accepted plan
+unfoldable pub runOf : List ℕ → List ℕ → Run
+unfolding programOf play
+runOf plan schedule = play (programOf plan) schedule
+
+-- "A refused play has no run."
+pub data Played : Type 0 where
+  refused : Refusal → Played
+  ran : Outcome → Played
+
+unfoldable pub playedBy : List ℕ → List ℕ → Option Refusal → Played
+unfolding runOf outcomeOf programOf
+playedBy plan schedule (some r) = refused r
+playedBy plan schedule none = ran (outcomeOf (programOf plan) (runOf plan schedule))
+
+-- the answer to a play
+unfoldable pub played : List ℕ → List ℕ → List ℕ → Played
+unfolding playedBy playRefusal
+played plan schedule area = playedBy plan schedule (playRefusal plan schedule area)
+
+-- "After a run the log area begins with the records; its other bytes keep their values."
+unfoldable pub overwrite : List ℕ → List ℕ → List ℕ
+overwrite bytes area = bytes ++ drop (length bytes) area
+
+-- "no area changes" where the play is refused
+unfoldable pub areaBy : List ℕ → List ℕ → List ℕ → Option Refusal → List ℕ
+unfolding runOf bytesOf overwrite
+areaBy plan schedule area (some r) = area
+areaBy plan schedule area none = overwrite (bytesOf (runOf plan schedule .log)) area
+
+-- the whole log area after a play
+unfoldable pub areaAfter : List ℕ → List ℕ → List ℕ → List ℕ
+unfolding areaBy playRefusal
+areaAfter plan schedule area = areaBy plan schedule area (playRefusal plan schedule area)

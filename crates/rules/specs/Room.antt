@@ -1,0 +1,132 @@
+-- Passing over and stopping: the answer to a pick (document 01, "How a thread moves"). Assumes nothing.
+use Prim.Native.Nat.{ℕ}
+use mathlib.Core.Path.{_≡_}
+use mathlib.Core.Bool.{Bool, false, cond, _||_}
+use mathlib.Core.List.{List, [], _∷_}
+use mathlib.Core.Option.{Option, some, none}
+use lib.Dec.{ltb, leb}
+use lib.ListN.{length, getElem?, drop}
+use Rattle.format.specs.Refusal.{orElse}
+use Rattle.keys.specs.Keys.{empty}
+use Rattle.plan.specs.Syntax.{Expression, Program, literal}
+use Rattle.records.specs.Record.{Record}
+use Rattle.rules.specs.Context.{Context, top, plug, focus, depthOf}
+use Rattle.rules.specs.State.{cell, Thread, State, Numbered, lookup, monitor, threadOf}
+use Rattle.rules.specs.Rules.{Rule, e-call, e-let, e-if, e-while, e-notnottrue, e-andtrue, e-andfalse, e-equaltrue, e-equalfalse, e-new, e-read, e-write, e-readv, e-writev, e-fork, e-join, e-re-enter, e-acquire, e-release}
+use Rattle.rules.specs.Step.{forMonitor, forJoin, missingField, notThread, Move, Attempt, absent, finished, waiting, stuck, lacking, moves, attempt}
+
+-- ---- passing over, as a relation
+
+-- the redex e of a thread that stands for object `self` cannot move, and why
+module _ (s : State) (self : ℕ) where
+  pub data Blocked : Expression → Attempt → Type 0 where
+    -- "monitor held by another"
+    MONITOR-HELD : {o u : ℕ} {e : Expression}
+        → monitor s o ≡ some (cell empty u) → (u ≡ self → ⊥)
+        → Blocked (Expression.synch (literal o) e) (waiting (forMonitor o))
+    -- "join of an unfinished thread, itself included"
+    UNFINISHED : {o : ℕ} {q : Numbered}
+        → threadOf 0 (s .threads) o ≡ some q → ((v : ℕ) → q .thread .expression ≡ literal v → ⊥)
+        → Blocked (Expression.join (literal o)) (waiting (forJoin o))
+    -- "field missing from the object"
+    NO-FIELD-TO-READ : {o f : ℕ}
+        → lookup s o f ≡ none
+        → Blocked (Expression.read (literal o) f) (stuck (missingField o f))
+    NO-FIELD-TO-WRITE : {o f v : ℕ}
+        → lookup s o f ≡ none
+        → Blocked (Expression.write (literal o) f (literal v)) (stuck (missingField o f))
+    -- "join of an object that is no thread"
+    NO-THREAD : {o : ℕ}
+        → threadOf 0 (s .threads) o ≡ none
+        → Blocked (Expression.join (literal o)) (stuck (notThread o))
+
+-- "A pick is passed over, changing nothing, if that thread is absent, finished, waiting [..] or stuck [..]."
+module _ (s : State) (p : ℕ) where
+  pub data PassedOver : Attempt → Type 0 where
+    ABSENT : getElem? (s .threads) p ≡ none → PassedOver absent
+    FINISHED : {t : Thread} {v : ℕ} → getElem? (s .threads) p ≡ some t → t .expression ≡ literal v → PassedOver (finished v)
+    BLOCKED : (K : Context) {t : Thread} {e : Expression} {a : Attempt}
+        → getElem? (s .threads) p ≡ some t → t .expression ≡ plug K e → Blocked s (t .self) e a
+        → PassedOver a
+
+-- ---- room
+
+-- "no room (thread, object, key, depth)"
+pub data Room : Type 0 where
+  noThread noObject noKey noDepth : Room
+
+-- "fork with 8 threads present; new or fork with 32 objects present, null included; plain write with keys 0 to 255 all in use": the room that the
+-- state before the move lacks
+unfoldable pub lackBefore : State → Rule → Option Room
+lackBefore s e-call = none
+lackBefore s e-let = none
+lackBefore s e-if = none
+lackBefore s e-while = none
+lackBefore s e-notnottrue = none
+lackBefore s e-andtrue = none
+lackBefore s e-andfalse = none
+lackBefore s e-equaltrue = none
+lackBefore s e-equalfalse = none
+lackBefore s e-new = cond (leb 32 (length (s .objects))) (some noObject) none
+lackBefore s e-read = none
+lackBefore s e-write = cond (leb 256 (s .nextKey)) (some noKey) none
+lackBefore s e-readv = none
+lackBefore s e-writev = none
+lackBefore s e-fork = cond (leb 8 (length (s .threads))) (some noThread) (cond (leb 32 (length (s .objects))) (some noObject) none)
+lackBefore s e-join = none
+lackBefore s e-re-enter = none
+lackBefore s e-acquire = none
+lackBefore s e-release = none
+
+-- a depth over 32
+unfoldable pub deep : Thread → Bool
+unfolding depthOf focus
+deep t = ltb 32 (depthOf (focus top (t .expression)))
+
+unfoldable pub deepAt : Option Thread → Bool
+unfolding deep
+deepAt none = false
+deepAt (some t) = deep t
+
+unfoldable pub anyDeep : List Thread → Bool
+unfolding deep
+anyDeep [] = false
+anyDeep (t ∷ ts) = deep t || anyDeep ts
+
+-- "a depth over 32 after the move, in the mover or in the thread it forks": thread p moved from s to s′
+unfoldable pub lackAfter : State → ℕ → State → Option Room
+unfolding deepAt anyDeep
+lackAfter s p s′ = cond (deepAt (getElem? (s′ .threads) p) || anyDeep (drop (length (s .threads)) (s′ .threads))) (some noDepth) none
+
+-- the first room that thread p's move from s to s′ by a rule lacks
+unfoldable pub lackOf : Rule → State → ℕ → State → Option Room
+unfolding lackBefore lackAfter orElse
+lackOf R s p s′ = orElse (lackBefore s R) (lackAfter s p s′)
+
+-- ---- the answer to a pick
+
+pub data Answer : Type 0 where
+  passed : Answer  -- "A pick is passed over, changing nothing"
+  race : Record → Answer  -- the run stops: key missing
+  full : Room → Answer  -- the run stops: no room
+  moved : Move → Answer
+
+unfoldable pub admit : Move → Option Room → Answer
+admit m none = moved m
+admit m (some k) = full k
+
+-- "A pick is passed over [..] if that thread is absent, finished, waiting [..] or stuck [..]. Otherwise the run stops at this pick, unmoved, for the
+-- first of: key missing; [..]"
+unfoldable pub answer : State → ℕ → Attempt → Answer
+unfolding lackOf admit
+answer s p absent = passed
+answer s p (finished v) = passed
+answer s p (waiting w) = passed
+answer s p (stuck r) = passed
+answer s p (lacking r) = race r
+answer s p (moves m) = admit m (lackOf (m .rule) s p (m .state))
+
+-- the answer to a pick of thread p in state s
+unfoldable pub step : Program → State → ℕ → Answer
+unfolding attempt answer
+step g s p = answer s p (attempt g s p)

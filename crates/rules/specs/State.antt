@@ -1,0 +1,154 @@
+-- The state of a run: μ, θ and κ of document 001, section 4, with the next unused key (document 01, "How a thread moves"). Assumes nothing.
+use Prim.Native.Nat.{ℕ, zero, suc}
+use mathlib.Core.Bool.{cond}
+use mathlib.Core.List.{List, [], _∷_, _++_}
+use mathlib.Core.Option.{Option, some, none}
+use lib.Dec.{eqb}
+use lib.ListN.{getElem?}
+use Rattle.keys.specs.Keys.{Keys, singleton, union}
+use Rattle.plan.specs.Syntax.{Expression, Arguments}
+
+-- what a location holds: (W, o)
+pub record Cell : Type 0 where
+  pub keys : Keys
+  pub value : ℕ
+
+abbrev pub cell : Keys → ℕ → Cell
+cell W o = record { keys = W; value = o }
+
+pub record Field : Type 0 where
+  pub name : ℕ
+  pub cell : Cell
+
+-- an object: its monitor, which is field 0, and its other fields. The monitor's value is its owner while its set is empty.
+pub record Object : Type 0 where
+  pub monitor : Cell
+  pub fields : List Field
+
+-- a thread: the object that stands for it, its expression θ and its key set κ
+pub record Thread : Type 0 where
+  pub self : ℕ
+  pub expression : Expression
+  pub keys : Keys
+
+-- "Objects and threads are numbered in order of creation and live to the end of the run"
+pub record State : Type 0 where
+  pub objects : List Object
+  pub threads : List Thread
+  pub nextKey : ℕ
+
+-- "New fields and new monitors hold null and key set {0}."
+unfoldable pub fresh : Cell
+fresh = cell (singleton 0) 0
+
+unfoldable pub freshFields : List ℕ → List Field
+unfolding fresh
+freshFields [] = []
+freshFields (f ∷ fs) = record { name = f; cell = fresh } ∷ freshFields fs
+
+unfoldable pub freshObject : List ℕ → Object
+unfolding freshFields
+freshObject fs = record { monitor = fresh; fields = freshFields fs }
+
+-- the list with its element i changed
+unfoldable pub changeAt : {A : Type 0} → List A → ℕ → (A → A) → List A
+changeAt [] i h = []
+changeAt (x ∷ xs) zero h = h x ∷ xs
+changeAt (x ∷ xs) (suc i) h = x ∷ changeAt xs i h
+
+-- ---- μ
+
+unfoldable pub findField : List Field → ℕ → Option Cell
+findField [] f = none
+findField (x ∷ xs) f = cond (eqb (x .name) f) (some (x .cell)) (findField xs f)
+
+unfoldable pub storeField : List Field → ℕ → Cell → List Field
+storeField [] f c = []
+storeField (x ∷ xs) f c = cond (eqb (x .name) f) (record { name = f; cell = c } ∷ xs) (x ∷ storeField xs f c)
+
+unfoldable pub fieldOf : Option Object → ℕ → Option Cell
+unfolding findField
+fieldOf none f = none
+fieldOf (some x) f = findField (x .fields) f
+
+unfoldable pub monitorOf : Option Object → Option Cell
+monitorOf none = none
+monitorOf (some x) = some (x .monitor)
+
+-- μ(o, f), f not the monitor
+unfoldable pub lookup : State → ℕ → ℕ → Option Cell
+unfolding fieldOf
+lookup s o f = fieldOf (getElem? (s .objects) o) f
+
+-- μ(o, Lock)
+unfoldable pub monitor : State → ℕ → Option Cell
+unfolding monitorOf
+monitor s o = monitorOf (getElem? (s .objects) o)
+
+-- μ[(o, f) ↦ c]
+unfoldable pub store : State → ℕ → ℕ → Cell → State
+unfolding changeAt storeField
+store s o f c = record {
+  objects = changeAt (s .objects) o (λ x. record { monitor = x .monitor; fields = storeField (x .fields) f c });
+  threads = s .threads;
+  nextKey = s .nextKey;
+}
+
+-- μ[(o, Lock) ↦ c]
+unfoldable pub storeMonitor : State → ℕ → Cell → State
+unfolding changeAt
+storeMonitor s o c = record {
+  objects = changeAt (s .objects) o (λ x. record { monitor = c; fields = x .fields });
+  threads = s .threads;
+  nextKey = s .nextKey;
+}
+
+unfoldable pub addObject : State → Object → State
+addObject s x = record { objects = s .objects ++ (x ∷ []); threads = s .threads; nextKey = s .nextKey }
+
+-- ---- θ and κ
+
+-- κ[p ↦ W ∪ κ(p)]
+unfoldable pub learn : State → ℕ → Keys → State
+unfolding changeAt union
+learn s p W = record {
+  objects = s .objects;
+  threads = changeAt (s .threads) p (λ x. record { self = x .self; expression = x .expression; keys = union W (x .keys) });
+  nextKey = s .nextKey;
+}
+
+-- θ[p ↦ e]
+unfoldable pub become : State → ℕ → Expression → State
+unfolding changeAt
+become s p e = record {
+  objects = s .objects;
+  threads = changeAt (s .threads) p (λ x. record { self = x .self; expression = e; keys = x .keys });
+  nextKey = s .nextKey;
+}
+
+unfoldable pub addThread : State → Thread → State
+addThread s x = record { objects = s .objects; threads = s .threads ++ (x ∷ []); nextKey = s .nextKey }
+
+-- "the next unused key, 1 upward"
+unfoldable pub useKey : State → State
+useKey s = record { objects = s .objects; threads = s .threads; nextKey = suc (s .nextKey) }
+
+-- a thread with its number
+pub record Numbered : Type 0 where
+  pub number : ℕ
+  pub thread : Thread
+
+-- the thread that object o stands for, among threads numbered from i
+unfoldable pub threadOf : ℕ → List Thread → ℕ → Option Numbered
+threadOf i [] o = none
+threadOf i (x ∷ xs) o = cond (eqb (x .self) o) (some (record { number = i; thread = x })) (threadOf (suc i) xs o)
+
+-- "The run starts with object 0 (null), its monitor free with key set {0}, and thread 0 about to call main, knowing key 0. Object 0 also stands for
+-- thread 0."
+unfoldable pub start : State
+unfolding freshObject
+start = record {
+  objects = freshObject [] ∷ [];
+  threads = record { self = 0; expression = Expression.call 0 Arguments.end; keys = singleton 0 } ∷ [];
+  nextKey = 1;
+}

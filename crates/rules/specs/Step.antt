@@ -1,0 +1,165 @@
+-- The rules as a function: what a thread can do next (document 01, "How a thread moves"). Assumes nothing.
+use Prim.Native.Nat.{ℕ}
+use mathlib.Core.Bool.{Bool, true, false, cond}
+use mathlib.Core.List.{List, []}
+use mathlib.Core.Option.{Option, some, none}
+use lib.Dec.{eqb}
+use lib.ListN.{length, getElem?}
+use Rattle.keys.specs.Keys.{empty, singleton, union, subset, isEmpty}
+use Rattle.plan.specs.Syntax.{Expression, Condition, Procedure, Program, literal, sequence, bool, bind, parametersAre, substitute}
+use Rattle.records.specs.Record.{Kind, Record, entry}
+use Rattle.rules.specs.Context.{Context, top, plug, plugᶜ, Redex, Redexᶜ, Focus, value, here, hereᶜ, focus, asLiteral}
+use Rattle.rules.specs.State.{Cell, cell, Thread, State, Numbered, freshObject, lookup, monitor, store, storeMonitor, addObject, learn, become, addThread, useKey, threadOf}
+use Rattle.rules.specs.Rules.{Rule, isVolatile, choose, e-call, e-let, e-if, e-while, e-notnottrue, e-andtrue, e-andfalse, e-equaltrue, e-equalfalse, e-new, e-read, e-write, e-readv, e-writev, e-fork, e-join, e-re-enter, e-acquire, e-release}
+
+-- "waiting (monitor held by another, or join of an unfinished thread, itself included)", with the object
+pub data Wait : Type 0 where
+  forMonitor : ℕ → Wait
+  forJoin : ℕ → Wait
+
+-- "stuck (field missing from the object, or join of an object that is no thread)", with the object, and the field
+pub data Stuck : Type 0 where
+  missingField : ℕ → ℕ → Stuck
+  notThread : ℕ → Stuck
+  noRule : Stuck  -- a slot that nothing binds, a call without its procedure or arguments, a hold without its monitor: no accepted plan comes here
+
+-- what a redex comes to. Of a rule: its record, the state after it but for the mover's expression, and what replaces the redex
+pub data Act : Type 0 where
+  waits : Wait → Act
+  stops : Stuck → Act
+  lacks : Record → Act
+  does : Rule → Option Record → State → Expression → Act
+
+-- E-CALL
+unfoldable pub callAct : State → Option Procedure → List ℕ → Act
+unfolding substitute parametersAre
+callAct s none os = stops noRule
+callAct s (some d) os = cond (eqb (d .parameters) (length os)) (does e-call none s (substitute (parametersAre os) (d .body))) (stops noRule)
+
+-- E-READ, E-READV
+unfoldable pub readAct : Program → State → ℕ → Thread → ℕ → ℕ → Option Cell → Act
+unfolding isVolatile subset learn
+readAct g s p t o f none = stops (missingField o f)
+readAct g s p t o f (some c) =
+    cond (isVolatile g f)
+    (does e-readv (some (entry Kind.readv p o f (c .value))) (learn s p (c .keys)) (literal (c .value)))
+    (cond (subset (c .keys) (t .keys))
+    (does e-read (some (entry Kind.read p o f (c .value))) s (literal (c .value)))
+    (lacks (entry Kind.lacksRead p o f 0)))
+
+-- E-WRITE, E-WRITEV
+unfoldable pub writeAct : Program → State → ℕ → Thread → ℕ → ℕ → ℕ → Option Cell → Act
+unfolding isVolatile subset learn store useKey union
+writeAct g s p t o f v none = stops (missingField o f)
+writeAct g s p t o f v (some c) =
+    cond (isVolatile g f)
+    (does e-writev (some (entry Kind.writev p o f v)) (store s o f (cell (union (c .keys) (t .keys)) v)) (literal v))
+    (cond (subset (c .keys) (t .keys))
+    (does e-write (some (entry Kind.write p o f v)) (learn (store (useKey s) o f (cell (singleton (s .nextKey)) v)) p (singleton (s .nextKey))) (literal v))
+    (lacks (entry Kind.lacksWrite p o f v)))
+
+-- E-JOIN, where the thread's value is known, and where its thread is
+unfoldable pub joinValue : State → ℕ → ℕ → Numbered → Option ℕ → Act
+unfolding learn
+joinValue s p o q none = waits (forJoin o)
+joinValue s p o q (some v) = does e-join (some (entry Kind.join p o (q .number) v)) (learn s p (q .thread .keys)) (literal v)
+
+unfoldable pub joinAct : State → ℕ → ℕ → Option Numbered → Act
+unfolding asLiteral joinValue
+joinAct s p o none = stops (notThread o)
+joinAct s p o (some q) = joinValue s p o q (asLiteral (q .thread .expression))
+
+-- E-RE-ENTER, E-ACQUIRE. "A monitor is free exactly when its set is not empty; thread 0 as owner looks like null otherwise."
+unfoldable pub synchAct : State → ℕ → Thread → ℕ → Expression → Option Cell → Act
+unfolding isEmpty learn storeMonitor
+synchAct s p t o e none = stops noRule
+synchAct s p t o e (some c) =
+    cond (isEmpty (c .keys))
+    (cond (eqb (c .value) (t .self)) (does e-re-enter none s e) (waits (forMonitor o)))
+    (does e-acquire (some (entry Kind.acquire p o 0 0)) (learn (storeMonitor s o (cell empty (t .self))) p (c .keys)) (Expression.hold o e))
+
+-- E-RELEASE
+unfoldable pub holdAct : State → ℕ → Thread → ℕ → ℕ → Option Cell → Act
+unfolding isEmpty storeMonitor
+holdAct s p t o v none = stops noRule
+holdAct s p t o v (some c) =
+    cond (isEmpty (c .keys))
+    (cond (eqb (c .value) (t .self))
+    (does e-release (some (entry Kind.release p o 0 0)) (storeMonitor s o (cell (t .keys) 0)) (literal v))
+    (stops noRule))
+    (stops noRule)
+
+-- the rules for expressions: thread p, which is t
+unfoldable pub act : Program → State → ℕ → Thread → Redex → Act
+unfolding callAct readAct writeAct joinAct synchAct holdAct bind substitute choose sequence freshObject addObject addThread lookup monitor threadOf
+act g s p t (Redex.variable x) = stops noRule
+act g s p t (Redex.new fs) = does e-new (some (entry Kind.new p (length (s .objects)) 0 0)) (addObject s (freshObject fs)) (literal (length (s .objects)))
+act g s p t (Redex.read o f) = readAct g s p t o f (lookup s o f)
+act g s p t (Redex.write o f v) = writeAct g s p t o f v (lookup s o f)
+act g s p t (Redex.letIn x o e) = does e-let none s (substitute (bind x o) e)
+act g s p t (Redex.if b e e′) = does e-if none s (choose b e e′)
+act g s p t (Redex.while c e) = does e-while none s (Expression.if c (sequence e (Expression.while c e)) (literal 0))
+act g s p t (Redex.call m os) = callAct s (getElem? (g .procedures) m) os
+act g s p t (Redex.fork e) =
+    does e-fork (some (entry Kind.fork p (length (s .objects)) (length (s .threads)) 0))
+    (addThread (addObject s (freshObject [])) (record { self = length (s .objects); expression = e; keys = t .keys }))
+    (literal (length (s .objects)))
+act g s p t (Redex.join o) = joinAct s p o (threadOf 0 (s .threads) o)
+act g s p t (Redex.synch o e) = synchAct s p t o e (monitor s o)
+act g s p t (Redex.hold o v) = holdAct s p t o v (monitor s o)
+
+-- the rules for conditions, and what replaces the redex
+pub record Actᶜ : Type 0 where
+  pub rule : Rule
+  pub result : Condition
+
+unfoldable pub equalAct : Bool → Actᶜ
+unfolding bool
+equalAct true = record { rule = e-equaltrue; result = bool true }
+equalAct false = record { rule = e-equalfalse; result = bool false }
+
+unfoldable pub actᶜ : Redexᶜ → Actᶜ
+unfolding equalAct
+actᶜ Redexᶜ.notFalse = record { rule = e-notnottrue; result = bool true }
+actᶜ (Redexᶜ.and true c) = record { rule = e-andtrue; result = c }
+actᶜ (Redexᶜ.and false c) = record { rule = e-andfalse; result = bool false }
+actᶜ (Redexᶜ.equal o o′) = equalAct (eqb o o′)
+
+-- a move: its rule, its record, the state after it
+pub record Move : Type 0 where
+  pub rule : Rule
+  pub entry : Option Record
+  pub state : State
+
+-- what a thread can do, whatever the room
+pub data Attempt : Type 0 where
+  absent : Attempt
+  finished : ℕ → Attempt
+  waiting : Wait → Attempt
+  stuck : Stuck → Attempt
+  lacking : Record → Attempt
+  moves : Move → Attempt
+
+-- EVAL
+unfoldable pub around : State → ℕ → Context → Act → Attempt
+unfolding become plug
+around s p K (waits w) = waiting w
+around s p K (stops r) = stuck r
+around s p K (lacks r) = lacking r
+around s p K (does R r s′ e) = moves (record { rule = R; entry = r; state = become s′ p (plug K e) })
+
+unfoldable pub attemptAt : Program → State → ℕ → Thread → Focus → Attempt
+unfolding around act actᶜ become plug
+attemptAt g s p t (value o) = finished o
+attemptAt g s p t (here K r) = around s p K (act g s p t r)
+attemptAt g s p t (hereᶜ K r) = moves (record { rule = actᶜ r .rule; entry = none; state = become s p (plugᶜ K (actᶜ r .result)) })
+
+unfoldable pub attemptBy : Program → State → ℕ → Option Thread → Attempt
+unfolding attemptAt focus
+attemptBy g s p none = absent
+attemptBy g s p (some t) = attemptAt g s p t (focus top (t .expression))
+
+-- what thread p can do in state s
+unfoldable pub attempt : Program → State → ℕ → Attempt
+unfolding attemptBy
+attempt g s p = attemptBy g s p (getElem? (s .threads) p)
