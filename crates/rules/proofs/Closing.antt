@@ -1,4 +1,4 @@
--- Text of a plan stays text: with more objects, and with values for its variables.
+-- Text of a plan stays text: with more objects, and with values for its slots. Assumes nothing.
 use Prim.Native.Nat.{ℕ, zero, suc, _<_, _≤_}
 use native.Mathlib.Omega.{arith}
 use mathlib.Core.Path.{_≡_, refl, sym, ap, _∙_}

@@ -1,4 +1,4 @@
--- The function `attempt` and the relation `Moves` say the same.
+-- The rules as a function and as a relation say the same: moves, missing keys, and what is passed over. Assumes nothing.
 use Prim.Native.Nat.{ℕ}
 use mathlib.Core.Path.{_≡_, refl, sym, ap, _∙_, subst as along}
 use mathlib.Core.Bool.{Bool, true, false, cond, true≢false}

@@ -1,5 +1,5 @@
--- THE INVARIANT of runs: every thread's expression is closed and names what is there; a pending hold of a thread has its monitor, held by that
--- thread, and is pending once; and the parts of a move keep it.
+-- The invariant of runs: every thread's expression is closed and names what is there; a pending hold of a thread has its monitor, held by that
+-- thread, and is pending once; and the parts of a move keep it. Assumes nothing.
 use Prim.Native.Nat.{ℕ, suc, _<_, _≤_}
 use native.Mathlib.Omega.{arith}
 use native.Mathlib.Decide.{ℕ-discrete}

@@ -11,3 +11,7 @@ pub mod Preserved
 pub mod Progress
 pub mod Executed
 pub mod Marked
+pub mod KeyBridge
+pub mod Bridge
+pub mod TidyRuns
+pub mod RunKeys

@@ -1,4 +1,4 @@
--- What is well placed stays so with more objects.
+-- What is well placed stays so with more objects. Assumes nothing.
 use Prim.Native.Nat.{ℕ, _≤_}
 use native.Mathlib.Omega.{arith}
 use mathlib.Core.List.{List, [], _∷_}

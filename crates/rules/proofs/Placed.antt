@@ -1,4 +1,5 @@
 -- A thread's expression, seen from the part that moves next: what stands around it and in it is text of a plan, but for the holds around it.
+-- Assumes nothing.
 use Prim.Native.Nat.{ℕ, suc, _<_, _+_}
 use native.Mathlib.Omega.{arith}
 use mathlib.Core.Path.{_≡_, refl, sym}

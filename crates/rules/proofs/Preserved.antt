@@ -1,4 +1,4 @@
--- Every rule keeps the invariant.
+-- Every rule keeps the invariant. Assumes nothing.
 use Prim.Native.Nat.{ℕ, _<_}
 use native.Mathlib.Omega.{arith}
 use native.Mathlib.Decide.{ℕ-discrete}

@@ -1,4 +1,4 @@
--- Laws of the state: what a store, a new object and a changed thread leave where.
+-- Laws of the state: what a store, a new object and a changed thread leave where. Assumes nothing.
 use Prim.Native.Nat.{ℕ, zero, suc, _<_, _≤_, _+_}
 use native.Mathlib.Omega.{arith}
 use native.Mathlib.Decide.{ℕ-discrete}

@@ -1,0 +1,128 @@
+-- Demand 3, whole: every run of every accepted plan over any list of at most 4,096 picks agrees with its log. Assumes nothing.
+use Prim.Native.Nat.{ℕ, zero, suc, _-_, _<_, _≤_}
+use native.Mathlib.Omega.{arith}
+use mathlib.Core.Path.{_≡_, refl, sym, ap, _∙_, subst as along}
+use mathlib.Core.List.{List, reverse}
+use mathlib.Core.Logic.{_↔_, Iff·symm, Iff·trans}
+use mathlib.Core.Option.{Option, some, none}
+use lib.Dec.{T}
+use lib.ListN.{length}
+use Rattle.format.specs.Version.{Version, v1, versionOf}
+use Rattle.order.specs.Chains.{At, Unordered}
+use Rattle.order.specs.Judge.{MayName, names, none-unordered, Judged, named, MayAnswer, refuses, judges}
+use Rattle.order.proofs.Agree.{agree, lacking-plain}
+use Rattle.order.proofs.Judge.{judge, judge-may}
+use Rattle.plan.specs.Syntax.{Program}
+use Rattle.plan.specs.Format.{version}
+use Rattle.plan.specs.Trees.{programOf}
+use Rattle.plan.specs.Check.{refusal}
+use Rattle.plan.proofs.WellFormed.{WellFormedProgram}
+use Rattle.plan.proofs.Accepted.{accepted}
+use Rattle.plan.proofs.Decoded.{well-formed}
+use Rattle.records.specs.Record.{Record, isPlain, lacksKey}
+use Rattle.records.specs.Packed.{bytesOf, logOf}
+use Rattle.records.specs.Refusals.{logRefusal}
+use Rattle.records.proofs.Tidy.{LacksLast}
+use Rattle.records.proofs.RoundTrip.{logOf-bytesOf}
+use Rattle.records.proofs.Accepted.{well-formed-log}
+use Rattle.rules.specs.Run.{Stop, end, race, noRoom, Run, play}
+use Rattle.rules.specs.Play.{runOf}
+use Rattle.rules.proofs.Executed.{play-executes}
+use Rattle.rules.proofs.RunKeys.{kept-play}
+use Rattle.rules.proofs.StateLaws.{there}
+use Rattle.rules.proofs.TidyRuns.{TidyRun, tidy-play}
+use Rattle.agreement.specs.Agreement.{StoppedAt, stopIndex, Agreement}
+use Rattle.agreement.proofs.LastRecord.{LastLacks, last-lacks, lacks-stopped, race-recorded}
+
+-- ---- what a judge may say of a log whose unordered accesses are the stop
+
+module _ (v : Version) (r : Run) (n : LastLacks (r .stop) (r .log))
+    (exact : (j : ℕ) (x : Record) → At (r .log) j x → T (isPlain (x .kind)) → T (lacksKey (x .kind)) ↔ Unordered v (r .log) j) where
+  stopped-there : (j : ℕ) → Unordered v (r .log) j → StoppedAt r j
+  stopped-there j u = lacks-stopped r n j (u .access) (u .at-j) .0 (exact j (u .access) (u .at-j) (u .plain) .1 u)
+
+  named-stop : (a : Option ℕ) → MayName v (r .log) a → (e : Stop) → r .stop ≡ e → LastLacks e (r .log) → a ≡ stopIndex e (r .log)
+  named-stop (some j) (names u) end q m = absurd (let y : end ≡ race = sym q ∙ stopped-there j u .raced in let z : _≡_ {A = ℕ} 0 1 = cc in omega arith)
+  named-stop (some j) (names u) (noRoom k) q m = absurd (let y : noRoom k ≡ race = sym q ∙ stopped-there j u .raced in let z : _≡_ {A = ℕ} 0 1 = cc in omega arith)
+  named-stop (some j) (names u) race q m = let b = stopped-there j u .is-last in ap {B = Option ℕ} some (omega arith)
+  named-stop none (none-unordered f) end q m = refl
+  named-stop none (none-unordered f) (noRoom k) q m = refl
+  named-stop none (none-unordered f) race q m = absurd (last (m .0))
+    where
+      last : 0 < length (r .log) → ⊥
+      last b =
+          let x = there (r .log) (length (r .log) - 1) (omega arith) in
+          let k = m .1 (length (r .log) - 1) (x .0) (x .1) .1 (omega arith) in
+          f (length (r .log) - 1) (exact (length (r .log) - 1) (x .0) (x .1) (lacking-plain (x .0 .kind) k) .0 k)
+
+  named-only : (a : Option ℕ) → MayName v (r .log) a → a ≡ stopIndex (r .stop) (r .log)
+  named-only a m = named-stop a m (r .stop) refl n
+
+  may-stop : MayName v (r .log) (stopIndex (r .stop) (r .log))
+  may-stop = along (MayName v (r .log)) (named-only (judge v (r .log)) (judge-may v (r .log))) (judge-may v (r .log))
+
+  -- of the log in bytes, which are read back and not refused
+  judged-bytes : logOf (bytesOf (r .log)) ≡ r .log → logRefusal (bytesOf (r .log)) ≡ none → (a : Judged) → MayAnswer v (bytesOf (r .log)) a ↔ (a ≡ named (stopIndex (r .stop) (r .log)))
+  judged-bytes w c a = (only a, λ e. along (MayAnswer v (bytesOf (r .log))) (sym e) (judges c (along (λ (L : List Record). MayName v L (stopIndex (r .stop) (r .log))) (sym w) may-stop)))
+    where
+      only : (a : Judged) → MayAnswer v (bytesOf (r .log)) a → a ≡ named (stopIndex (r .stop) (r .log))
+      only (Judged.refused x) (refuses e) = absurd (let z : _≡_ {A = ℕ} 0 1 = cc in omega arith)
+      only (Judged.named a) (judges e m) = ap named (named-only a (along (λ (L : List Record). MayName v L a) w m))
+
+-- ---- runs
+
+lacks-last : (r : Run) → LastLacks (r .stop) (r .log) → LacksLast (r .log)
+lacks-last r n i x h k = lacks-stopped r n i x h .0 k .is-last
+
+-- any well-formed program, any list of at most 4,096 picks, picks passed over included
+pub play-agrees : (g : Program) → WellFormedProgram g → (ps : List ℕ) → length ps ≤ 4096 → Agreement v1 (play g ps)
+play-agrees g P ps few =
+    record {
+      stops = λ j x h a. Iff·trans (Iff·symm (lacks-stopped r n j x h)) (exact j x h a);
+      lacks = lacks-stopped r n;
+      recorded = race-recorded r n;
+      as-written = written;
+      not-refused = clean;
+      judged = judged-bytes v1 r n exact written clean;
+    }
+  where
+    r : Run
+    r = play g ps
+
+    n : LastLacks (r .stop) (r .log)
+    n = last-lacks (play-executes g P ps)
+
+    tidy : TidyRun ps r
+    tidy = tidy-play g P ps
+
+    exact : (j : ℕ) (x : Record) → At (r .log) j x → T (isPlain (x .kind)) → T (lacksKey (x .kind)) ↔ Unordered v1 (r .log) j
+    exact = agree v1 (r .log) (kept-play g P ps .legal)
+
+    written : logOf (bytesOf (r .log)) ≡ r .log
+    written = logOf-bytesOf (r .log) (tidy .all-tidy)
+
+    clean : logRefusal (bytesOf (r .log)) ≡ none
+    clean = let b = tidy .few in well-formed-log (r .log) (tidy .all-tidy) (lacks-last r n) (omega arith)
+
+-- ---- accepted plans
+
+accepted-version : (b : List ℕ) → refusal b ≡ none → programOf b .version ≡ v1
+unfolding programOf versionOf
+accepted-version b h = rw (accepted b h .version-one)
+
+run-is : (plan schedule : List ℕ) → runOf plan schedule ≡ play (programOf plan) schedule
+unfolding runOf
+run-is plan schedule = refl
+
+-- demand 3: any accepted plan, any list of at most 4,096 picks
+pub agreement : (plan schedule : List ℕ) → refusal plan ≡ none → length schedule ≤ 4096 → Agreement (programOf plan .version) (runOf plan schedule)
+agreement plan schedule h few =
+    along (λ (v : Version). Agreement v (runOf plan schedule)) (sym (accepted-version plan h))
+    (along (Agreement v1) (sym (run-is plan schedule)) (play-agrees (programOf plan) (well-formed plan h) schedule few))
+
+-- a run's log has at most one unordered access
+pub one-unordered : {v : Version} {r : Run} → Agreement v r → (i j : ℕ) → Unordered v (r .log) i → Unordered v (r .log) j → i ≡ j
+one-unordered A i j u w =
+    let a = A .stops i (u .access) (u .at-j) (u .plain) .1 u .is-last in
+    let b = A .stops j (w .access) (w .at-j) (w .plain) .1 w .is-last in
+    omega arith

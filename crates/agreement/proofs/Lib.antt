@@ -1,0 +1,2 @@
+pub mod LastRecord
+pub mod Agreed

@@ -1,0 +1,40 @@
+-- Demand 3 of one run, "a single claim about the whole list of picks of one play". Assumes nothing.
+use Prim.Native.Nat.{ℕ, suc, _-_, _<_}
+use mathlib.Core.Path.{_≡_}
+use mathlib.Core.List.{List}
+use mathlib.Core.Logic.{_↔_}
+use mathlib.Core.Option.{Option, some, none}
+use lib.Dec.{T}
+use lib.ListN.{length}
+use Rattle.format.specs.Version.{Version}
+use Rattle.order.specs.Chains.{At, Unordered}
+use Rattle.order.specs.Judge.{Judged, named, MayAnswer}
+use Rattle.records.specs.Record.{Record, isPlain, lacksKey}
+use Rattle.records.specs.Packed.{bytesOf, logOf}
+use Rattle.records.specs.Refusals.{logRefusal}
+use Rattle.rules.specs.Run.{Stop, end, race, noRoom, Run}
+
+-- "A run stops for want of a key exactly when its outcome is race; then the last record [..] is that access": record j of the log is where the run
+-- stopped for want of its key
+pub record StoppedAt (r : Run) (j : ℕ) : Type 0 where
+  pub raced : r .stop ≡ race
+  pub is-last : suc j ≡ length (r .log)
+
+-- "which the judge names by its index, counted from 0"; "and none when the run did not stop so"
+abbrev pub stopIndex : Stop → List Record → Option ℕ
+stopIndex end L = none
+stopIndex race L = some (length L - 1)
+stopIndex (noRoom k) L = none
+
+pub record Agreement (v : Version) (r : Run) : Type 0 where
+  -- "a plain access in the log is where the run stopped for want of its key exactly when its field has an earlier plain write and no happens-before
+  -- chain leads from the last such write to it"
+  pub stops : (j : ℕ) (x : Record) → At (r .log) j x → T (isPlain (x .kind)) → StoppedAt r j ↔ Unordered v (r .log) j
+  -- "then the last record, and no other, is of kind 10 or 11"
+  pub lacks : (j : ℕ) (x : Record) → At (r .log) j x → T (lacksKey (x .kind)) ↔ StoppedAt r j
+  pub recorded : r .stop ≡ race → 0 < length (r .log)
+  -- "The judge gets just the run's records, as written, and finds nothing to refuse in them."
+  pub as-written : logOf (bytesOf (r .log)) ≡ r .log
+  pub not-refused : logRefusal (bytesOf (r .log)) ≡ none
+  -- "and the judge, given only the log, names that access, and none when the run did not stop so"
+  pub judged : (a : Judged) → MayAnswer v (bytesOf (r .log)) a ↔ (a ≡ named (stopIndex (r .stop) (r .log)))

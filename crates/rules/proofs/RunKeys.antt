@@ -1,0 +1,106 @@
+-- The bridge over whole runs: after any picks every key set is the one that the log alone determines, and the log is one that the key machine can
+-- write. Assumes nothing.
+use Prim.Native.Nat.{ℕ, zero, suc, _≤_}
+use native.Mathlib.Omega.{arith}
+use mathlib.Core.Path.{_≡_, refl, sym, ap, _∙_, subst as along}
+use mathlib.Core.Bool.{Bool, true, false, not}
+use mathlib.Core.List.{List, [], _∷_, reverseAux, reverse}
+use mathlib.Core.Logic.{_⊎_, _↔_}
+use mathlib.Core.Option.{Option, some, none}
+use lib.Dec.{T, eqb, eqb·zero-suc}
+use lib.ListN.{getElem?}
+use Rattle.format.specs.Version.{v1}
+use Rattle.keys.specs.Keys.{Keys, singleton, holds, isEmpty}
+use Rattle.keys.proofs.KeyLaws.{holds-singleton}
+use Rattle.order.proofs.KeySets.{onlyZero}
+use Rattle.order.proofs.KeyMachine.{start as startKeys, after}
+use Rattle.order.proofs.EverySet.{WouldReach, every-set}
+use Rattle.plan.specs.Syntax.{Expression, Arguments, Program}
+use Rattle.plan.proofs.WellFormed.{WellFormedProgram}
+use Rattle.records.specs.Record.{Record}
+use Rattle.rules.specs.State.{Cell, Thread, State, start, fresh, freshObject, lookup, monitor}
+use Rattle.rules.specs.Rules.{isVolatile, Wants, WANTS-READ, WANTS-WRITE, Lacks, LACKS}
+use Rattle.rules.specs.Run.{Run, logged, stopped, afterPass, afterMove, play}
+use Rattle.rules.specs.Execution.{Execution, ends, passes, lacks-key, lacks-room, moves}
+use Rattle.rules.proofs.KeyBridge.{keysOf}
+use Rattle.rules.proofs.Bridge.{Kept, bridge, tested}
+use Rattle.rules.proofs.Executed.{Reachable, reachable-start, reachable-move, play-executes}
+
+-- ---- a thread that lacks its key
+
+module _ (g : Program) (s : State) (I : Reachable g s) (p : ℕ) (H : List Record) (J : Kept g s H) where
+  kept-lacks : {r : Record} → Lacks g s p r → Kept g s (r ∷ H)
+  kept-lacks (LACKS K {t} ht he (WANTS-READ w {o} {f} {v} h k vol)) = record { agrees = J .agrees; legal = (J .legal, J .agrees .present p t ht, rw (sym (tested g s (I .invariant) p t ht H J w o f v h vol) ∙ k) tt) }
+  kept-lacks (LACKS K {t} ht he (WANTS-WRITE w {o} {f} {u} h k vol)) = record { agrees = J .agrees; legal = (J .legal, J .agrees .present p t ht, rw (sym (tested g s (I .invariant) p t ht H J w o f u h vol) ∙ k) tt) }
+
+-- ---- the start
+
+kept-start : (g : Program) → Kept g start []
+unfolding start startKeys onlyZero lookup monitor freshObject isEmpty
+kept-start g = record {
+  agrees = record {
+    present = λ p t h. one p t h;
+    absent = λ p h. no-other p h;
+    knows = λ p t h k. known p t h k;
+    plain = λ o f v. ap keysOf (nowhere o f);
+    volatiles = λ o f v k. sym (ap (λ (x : Option Cell). holds (keysOf x) k) (nowhere o f) ∙ holds-singleton 0 k);
+    monitors = λ o k. free o k;
+    owner = λ o c m e p t h v. absurd (held o c m e);
+    next = refl;
+  };
+  legal = tt;
+}
+  where
+    one : (p : ℕ) (t : Thread) → getElem? (start .threads) p ≡ some t → T (eqb 0 p)
+    one zero t h = tt
+    one (suc p) t h = absurd (let z : _≡_ {A = ℕ} 0 1 = cc in omega arith)
+
+    no-other : (p : ℕ) → 1 ≤ p → T (not (eqb 0 p))
+    no-other zero h = absurd (omega arith)
+    no-other (suc p) h = rw (eqb·zero-suc p) tt
+
+    known : (p : ℕ) (t : Thread) → getElem? (start .threads) p ≡ some t → (k : ℕ) → eqb k 0 ≡ holds (t .keys) k
+    known zero t h k = let e : record { self = 0; expression = Expression.call 0 Arguments.end; keys = singleton 0 } ≡ t = cc in sym (holds-singleton 0 k) ∙ ap (λ (z : Thread). holds (z .keys) k) e
+    known (suc p) t h k = absurd (let z : _≡_ {A = ℕ} 0 1 = cc in omega arith)
+
+    nowhere : (o f : ℕ) → lookup start o f ≡ none
+    nowhere zero f = refl
+    nowhere (suc o) f = refl
+
+    free : (o k : ℕ) → eqb k 0 ≡ holds (keysOf (monitor start o)) k
+    free zero k = sym (holds-singleton 0 k)
+    free (suc o) k = sym (holds-singleton 0 k)
+
+    held : (o : ℕ) (c : Cell) → monitor start o ≡ some c → isEmpty (c .keys) ≡ true → ⊥
+    held zero c m e = let y : fresh ≡ c = cc in let w : false ≡ true = ap (λ (z : Cell). isEmpty (z .keys)) y ∙ e in let q : _≡_ {A = ℕ} 0 1 = cc in omega arith
+    held (suc o) c m e = let z : _≡_ {A = ℕ} 0 1 = cc in omega arith
+
+-- ---- whole runs
+
+turn-logged : (r : Option Record) (L H : List Record) → reverseAux (logged r L) H ≡ reverseAux L (logged r H)
+unfolding logged
+turn-logged none L H = refl
+turn-logged (some r) L H = refl
+
+kept-execution : (g : Program) → WellFormedProgram g → {s : State} {ps : List ℕ} {r : Run} (H : List Record) → Reachable g s → Kept g s H → Execution g s ps r → Kept g (r .final) (reverseAux (r .log) H)
+unfolding stopped afterPass afterMove
+kept-execution g P H I J ends = J
+kept-execution g P H I J (passes h x) = kept-execution g P H I J x
+kept-execution g P H I J (lacks-key {s} {p} h) = kept-lacks g s I p H J h
+kept-execution g P H I J (lacks-room h e) = J
+kept-execution g P H I J (moves {s} {p = p} {r = r} {e = e} h k x) =
+    along (Kept g (r .final)) (sym (turn-logged e (r .log) H))
+    (kept-execution g P (logged e H) (reachable-move g P s p I h) (bridge g s (I .invariant) p H J h) x)
+
+-- after any picks the sets are those of the log
+pub kept-play : (g : Program) → WellFormedProgram g → (ps : List ℕ) → Kept g (play g ps .final) (reverse (play g ps .log))
+kept-play g P ps = kept-execution g P [] (reachable-start g P) (kept-start g) (play-executes g P ps)
+
+-- after any picks a present thread's set holds key 0 and the keys of just those plain writes in the log that would have a chain to a `new` record of
+-- this thread, were one put at the log's end (document 02, E9)
+pub every-set-of-runs : (g : Program) → WellFormedProgram g → (ps : List ℕ) (p : ℕ) (t : Thread) → getElem? (play g ps .final .threads) p ≡ some t
+    → (k : ℕ) → T (holds (t .keys) k) ↔ ((k ≡ 0) ⊎ WouldReach v1 (play g ps .log) p k)
+every-set-of-runs g P ps p t h k =
+    let J = kept-play g P ps in
+    along (λ (b : Bool). T b ↔ ((k ≡ 0) ⊎ WouldReach v1 (play g ps .log) p k)) (J .agrees .knows p t h k)
+    (every-set v1 (play g ps .log) (J .legal) p k (J .agrees .present p t h))

@@ -1,0 +1,174 @@
+-- A run stays within its room, and its records are tidy and no more than its picks. Assumes nothing.
+use Prim.Native.Nat.{ℕ, suc, _<_, _≤_}
+use native.Mathlib.Omega.{arith}
+use mathlib.Core.Path.{_≡_, refl, sym, subst as along}
+use mathlib.Core.Bool.{Bool, true, false, cond}
+use mathlib.Core.List.{List, []}
+use mathlib.Core.Option.{Option, some, none}
+use lib.ListN.{length, getElem?}
+use lib.Dec.{eqb, leb, nleb→lt}
+use borrow.Author.Tests.{ne-eqb, le-ltb}
+use Rattle.keys.specs.Keys.{singleton, empty}
+use Rattle.plan.specs.Syntax.{Program, Expression}
+use Rattle.rules.specs.Context.{Context, focus, top, plug, term, Redex}
+use Rattle.rules.specs.State.{Cell, Thread, State, start, freshObject, store, storeMonitor, addObject, learn, become, addThread, useKey}
+use Rattle.records.specs.Record.{Record}
+use Rattle.rules.specs.Rules.{Rule, Wants, WANTS-READ, WANTS-WRITE, Lacks, LACKS, Converts, E-CALL, E-LET, E-IF, E-WHILE, E-NEW, E-READ, E-WRITE, E-READV, E-WRITEV, E-FORK, E-JOIN, E-RE-ENTER, E-ACQUIRE, E-RELEASE, Moves, EVAL, EVALᶜ}
+use Rattle.rules.specs.Room.{Room, noThread, noObject, noKey, lackBefore, lackAfter, lackOf}
+use Rattle.format.specs.Refusal.{orElse}
+use Rattle.rules.specs.Run.{Run, logged, stopped, afterPass, afterMove, play}
+use Rattle.plan.proofs.WellFormed.{WellFormedProgram}
+use Rattle.records.proofs.Tidy.{Tidy, AllTidy}
+use Rattle.rules.proofs.Placed.{Good}
+use Rattle.rules.proofs.StateLaws.{inside, length-added, change-length, found-thread}
+use Rattle.rules.proofs.Invariant.{Inv}
+use Rattle.rules.proofs.Preserved.{placed}
+use Rattle.rules.specs.Execution.{Execution, ends, passes, lacks-key, lacks-room, moves}
+use Rattle.rules.proofs.Executed.{Reachable, reachable-start, reachable-move, play-executes}
+
+-- within the room: 8 threads, 32 objects, keys 0 to 255
+pub record Roomy (s : State) : Type 0 where
+  pub threads8 : length (s .threads) ≤ 8
+  pub objects32 : length (s .objects) ≤ 32
+  pub keys256 : s .nextKey ≤ 256
+
+pub roomy-become : (s : State) (p : ℕ) (e : Expression) → Roomy s → Roomy (become s p e)
+unfolding become
+roomy-become s p e z = let a = z .threads8 in record { threads8 = omega (arith, change-length (s .threads) p (λ x. record { self = x .self; expression = e; keys = x .keys })); objects32 = z .objects32; keys256 = z .keys256 }
+
+roomy-learn : (s : State) (p W : ℕ) → Roomy s → Roomy (learn s p W)
+unfolding learn
+roomy-learn s p W z = let a = z .threads8 in record { threads8 = along (λ (n : ℕ). n ≤ 8) (sym (change-length (s .threads) p _)) a; objects32 = z .objects32; keys256 = z .keys256 }
+
+roomy-store : (s : State) (o f : ℕ) (c : Cell) → Roomy s → Roomy (store s o f c)
+unfolding store
+roomy-store s o f c z = let a = z .objects32 in record { threads8 = z .threads8; objects32 = along (λ (n : ℕ). n ≤ 32) (sym (change-length (s .objects) o _)) a; keys256 = z .keys256 }
+
+roomy-lock : (s : State) (o : ℕ) (c : Cell) → Roomy s → Roomy (storeMonitor s o c)
+unfolding storeMonitor
+roomy-lock s o c z = let a = z .objects32 in record { threads8 = z .threads8; objects32 = along (λ (n : ℕ). n ≤ 32) (sym (change-length (s .objects) o _)) a; keys256 = z .keys256 }
+
+below-when : (a b : ℕ) (k : Room) (r : Option Room) → cond (leb a b) (some k) r ≡ none → (b < a) × (r ≡ none)
+below-when a b k r h = go (leb a b) refl h
+  where
+    go : (x : Bool) → leb a b ≡ x → cond x (some k) r ≡ none → (b < a) × (r ≡ none)
+    go true e h = let z : _≡_ {A = ℕ} 0 1 = cc in absurd (omega arith)
+    go false e h = (nleb→lt a b (rw e tt), h)
+
+before-none : (a b : Option Room) → orElse a b ≡ none → a ≡ none
+unfolding orElse
+before-none none b h = refl
+before-none (some k) b h = cc
+
+nonzero : (f : ℕ) → 0 < f → eqb f 0 ≡ false
+nonzero f h = ne-eqb f 0 (λ e. omega arith)
+
+abbrev TidyOr : Option Record → Type 0
+TidyOr none = Unit {0}
+TidyOr (some r) = Tidy r
+
+module _ (g : Program) (s : State) (I : Inv g s) (z : Roomy s) (p : ℕ) (t : Thread) (ht : getElem? (s .threads) p ≡ some t) (K : Context) where
+  three : p < 8
+  three = let a = z .threads8 in let b = inside (s .threads) p t ht in omega arith
+
+  five : (o : ℕ) → o < length (s .objects) → o < 32
+  five o h = let a = z .objects32 in omega arith
+
+  -- room before the move is enough after it
+  fits : {e : Expression} {R : Rule} {r : Option Record} {s′ : State} {e′ : Expression} → Converts g s p t e R r s′ e′ → lackBefore s R ≡ none → Roomy s′
+  unfolding lackBefore useKey addObject addThread
+  fits (E-CALL os hd hp) l = z
+  fits E-LET l = z
+  fits (E-IF b) l = z
+  fits E-WHILE l = z
+  fits (E-NEW {fs}) l = let b = below-when 32 (length (s .objects)) noObject none l .0 in record { threads8 = z .threads8; objects32 = omega (arith, length-added (s .objects) (freshObject fs)); keys256 = z .keys256 }
+  fits (E-READ w h k vol) l = z
+  fits (E-WRITE w {o} {f} {u} {v} h k vol) l =
+      let b = below-when 256 (s .nextKey) noKey none l .0 in
+      roomy-learn (store (useKey s) o f (record { keys = singleton (s .nextKey); value = v })) p (singleton (s .nextKey)) (roomy-store (useKey s) o f (record { keys = singleton (s .nextKey); value = v }) (record { threads8 = z .threads8; objects32 = z .objects32; keys256 = omega arith }))
+  fits (E-READV {W = W} h vol) l = roomy-learn s p W z
+  fits (E-WRITEV {o} {f} h vol) l = roomy-store s o f _ z
+  fits (E-FORK {e}) l =
+      let b = below-when 8 (length (s .threads)) noThread _ l in
+      let d = below-when 32 (length (s .objects)) noObject none (b .1) .0 in
+      let c = b .0 in
+      record { threads8 = omega (arith, length-added (s .threads) (record { self = length (s .objects); expression = e; keys = t .keys })); objects32 = omega (arith, length-added (s .objects) (freshObject [])); keys256 = z .keys256 }
+  fits (E-JOIN {q = q} h l′) l = roomy-learn s p (q .thread .keys) z
+  fits (E-RE-ENTER h) l = z
+  fits (E-ACQUIRE {o} {W = W} h n) l = roomy-learn (storeMonitor s o (record { keys = empty; value = t .self })) p W (roomy-lock s o (record { keys = empty; value = t .self }) z)
+  fits (E-RELEASE {o} h) l = roomy-lock s o (record { keys = t .keys; value = 0 }) z
+
+  tidy : {e : Expression} {R : Rule} {r : Option Record} {s′ : State} {e′ : Expression} → Converts g s p t e R r s′ e′ → t .expression ≡ plug K e → lackBefore s R ≡ none → TidyOr r
+  unfolding lackBefore term focus
+  tidy (E-CALL os hd hp) he l = tt
+  tidy E-LET he l = tt
+  tidy (E-IF b) he l = tt
+  tidy E-WHILE he l = tt
+  tidy (E-NEW {fs}) he l = let b = below-when 32 (length (s .objects)) noObject none l .0 in record { thread-below = three; object-below = b; field-below = omega arith; value-below = omega arith; columns = refl }
+  tidy (E-READ w {o} {f} {v} h k vol) he l = let q = placed g s p t K I ht (Redex.read o f) he .1 in record { thread-below = three; object-below = five o (q .2); field-below = q .1; value-below = five v (I .cells o f _ h); columns = nonzero f (q .0) }
+  tidy (E-WRITE w {o} {f} {u} {v} h k vol) he l = let q = placed g s p t K I ht (Redex.write o f v) he .1 in record { thread-below = three; object-below = five o (q .2); field-below = q .1; value-below = five v (q .3); columns = nonzero f (q .0) }
+  tidy (E-READV {o} {f} {v} h vol) he l = let q = placed g s p t K I ht (Redex.read o f) he .1 in record { thread-below = three; object-below = five o (q .2); field-below = q .1; value-below = five v (I .cells o f _ h); columns = nonzero f (q .0) }
+  tidy (E-WRITEV {o} {f} {u} {v} h vol) he l = let q = placed g s p t K I ht (Redex.write o f v) he .1 in record { thread-below = three; object-below = five o (q .2); field-below = q .1; value-below = five v (q .3); columns = nonzero f (q .0) }
+  tidy (E-FORK {e}) he l =
+      let b = below-when 8 (length (s .threads)) noThread _ l in
+      let d = below-when 32 (length (s .objects)) noObject none (b .1) .0 in
+      let c = b .0 in
+      record { thread-below = three; object-below = d; field-below = omega arith; value-below = omega arith; columns = rw (le-ltb 7 (length (s .threads)) (omega arith)) }
+  tidy (E-JOIN {o} {v} {q} h l′) he l =
+      let j = found-thread (s .threads) 0 o q h in
+      let i = inside (s .threads) (j .0) (q .thread) (j .2) in
+      let a = z .threads8 in
+      let w : v < length (s .objects) = along (λ (e : Expression). Good g (length (s .objects)) (focus top e)) l′ (I .each (j .0) (q .thread) (j .2) .good) in
+      let n : q .number < 8 = omega (arith, j .1) in
+      record { thread-below = three; object-below = five o (placed g s p t K I ht (Redex.join o) he .1); field-below = omega arith; value-below = five v w; columns = le-ltb 7 (q .number) (omega arith) }
+  tidy (E-RE-ENTER h) he l = tt
+  tidy (E-ACQUIRE {o} {u} {W} {e} h n) he l = record { thread-below = three; object-below = five o (placed g s p t K I ht (Redex.synch o e) he .1 .0); field-below = omega arith; value-below = omega arith; columns = refl }
+  tidy (E-RELEASE {o} {v} h) he l = record { thread-below = three; object-below = five o (placed g s p t K I ht (Redex.hold o v) he .1 .0); field-below = omega arith; value-below = omega arith; columns = refl }
+
+  tidy-lacks : {e : Expression} {r : Record} → Wants g s p t e r → t .expression ≡ plug K e → Tidy r
+  unfolding term
+  tidy-lacks (WANTS-READ w {o} {f} h k vol) he = let q = placed g s p t K I ht (Redex.read o f) he .1 in record { thread-below = three; object-below = five o (q .2); field-below = q .1; value-below = omega arith; columns = rw (nonzero f (q .0)) }
+  tidy-lacks (WANTS-WRITE w {o} {f} {v = x} h k vol) he = let q = placed g s p t K I ht (Redex.write o f x) he .1 in record { thread-below = three; object-below = five o (q .2); field-below = q .1; value-below = five x (q .3); columns = nonzero f (q .0) }
+
+-- a pick's move
+pub tidy-move : (g : Program) (s : State) → Inv g s → Roomy s → (p : ℕ) {R : Rule} {r : Option Record} {s′ : State} → Moves g s p R r s′ → lackOf R s p s′ ≡ none → Roomy s′ × TidyOr r
+unfolding lackOf
+tidy-move g s I z p (EVAL K {t} {e} {e′} {R} {r} {s′} ht he c) l =
+    let b = before-none (lackBefore s R) (lackAfter s p (become s′ p (plug K e′))) l in
+    (roomy-become s′ p (plug K e′) (fits g s I z p t ht K c b), tidy g s I z p t ht K c he b)
+tidy-move g s I z p (EVALᶜ K {t} ht he k) l = (roomy-become s p _ z, tt)
+
+tidy-lacking : (g : Program) (s : State) → Inv g s → Roomy s → (p : ℕ) {r : Record} → Lacks g s p r → Tidy r
+tidy-lacking g s I z p (LACKS K {t} ht he w) = tidy-lacks g s I z p t ht K w he
+
+tidy-logged : (r : Option Record) (L : List Record) → TidyOr r → AllTidy L → AllTidy (logged r L)
+unfolding logged
+tidy-logged none L a b = b
+tidy-logged (some r) L a b = (a, b)
+
+longer : (r : Option Record) (L : List Record) → length (logged r L) ≤ suc (length L)
+unfolding logged
+longer none L = omega arith
+longer (some r) L = omega arith
+
+-- the room left, the records, and their number
+pub record TidyRun (ps : List ℕ) (r : Run) : Type 0 where
+  pub roomy : Roomy (r .final)
+  pub all-tidy : AllTidy (r .log)
+  pub few : length (r .log) ≤ length ps
+
+tidy-execution : (g : Program) → WellFormedProgram g → {s : State} {ps : List ℕ} {r : Run} → Reachable g s → Roomy s → Execution g s ps r → TidyRun ps r
+unfolding stopped afterPass afterMove
+tidy-execution g P I z ends = record { roomy = z; all-tidy = tt; few = omega arith }
+tidy-execution g P I z (passes h x) = let d = tidy-execution g P I z x in record { roomy = d .roomy; all-tidy = d .all-tidy; few = omega arith }
+tidy-execution g P I z (lacks-key {s} {p} h) = record { roomy = z; all-tidy = (tidy-lacking g s (I .invariant) z p h, tt); few = omega arith }
+tidy-execution g P I z (lacks-room h e) = record { roomy = z; all-tidy = tt; few = omega arith }
+tidy-execution g P I z (moves {s} {p = p} {r = r} {e = e} h k x) =
+    let n = tidy-move g s (I .invariant) z p h k in
+    let d = tidy-execution g P (reachable-move g P s p I h) (n .0) x in
+    record { roomy = d .roomy; all-tidy = tidy-logged e (r .log) (n .1) (d .all-tidy); few = omega (arith, longer e (r .log)) }
+
+-- every run's records are tidy, and there are no more of them than picks
+pub tidy-play : (g : Program) → WellFormedProgram g → (ps : List ℕ) → TidyRun ps (play g ps)
+unfolding start
+tidy-play g P ps = tidy-execution g P (reachable-start g P) (record { threads8 = omega arith; objects32 = omega arith; keys256 = omega arith }) (play-executes g P ps)
