@@ -32,7 +32,7 @@ use Rattle.rules.proofs.RunKeys.{kept-play}
 use Rattle.rules.proofs.StateLaws.{there}
 use Rattle.rules.proofs.TidyRuns.{TidyRun, tidy-play}
 use Rattle.agreement.specs.Agreement.{StoppedAt, stopIndex, Agreement}
-use Rattle.agreement.proofs.LastRecord.{LastLacks, last-lacks, lacks-stopped, race-recorded}
+use Rattle.agreement.proofs.LastRecord.{LastLacks, last-lacks, last-access, lacks-stopped, race-recorded}
 
 -- ---- what a judge may say of a log whose unordered accesses are the stop
 
@@ -75,15 +75,16 @@ lacks-last : (r : Run) → LastLacks (r .stop) (r .log) → LacksLast (r .log)
 lacks-last r n i x h k = lacks-stopped r n i x h .0 k .is-last
 
 -- any well-formed program, any list of at most 4,096 picks, picks passed over included
-pub play-agrees : (g : Program) → WellFormedProgram g → (ps : List ℕ) → length ps ≤ 4096 → Agreement v1 (play g ps)
-play-agrees g P ps few =
+pub play-agrees : (g : Program) → WellFormedProgram g → g .version ≡ v1 → (ps : List ℕ) → length ps ≤ 4096 → Agreement g ps (play g ps)
+play-agrees g P one ps few =
     record {
       stops = λ j x h a. Iff·trans (Iff·symm (lacks-stopped r n j x h)) (exact j x h a);
       lacks = lacks-stopped r n;
       recorded = race-recorded r n;
+      that-access = λ j x h st. last-access (play-executes g P ps) (st .raced) j x h (st .is-last);
       as-written = written;
       not-refused = clean;
-      judged = judged-bytes v1 r n exact written clean;
+      judged = judged-bytes (g .version) r n exact written clean;
     }
   where
     r : Run
@@ -95,8 +96,8 @@ play-agrees g P ps few =
     tidy : TidyRun ps r
     tidy = tidy-play g P ps
 
-    exact : (j : ℕ) (x : Record) → At (r .log) j x → T (isPlain (x .kind)) → T (lacksKey (x .kind)) ↔ Unordered v1 (r .log) j
-    exact = agree v1 (r .log) (kept-play g P ps .legal)
+    exact : (j : ℕ) (x : Record) → At (r .log) j x → T (isPlain (x .kind)) → T (lacksKey (x .kind)) ↔ Unordered (g .version) (r .log) j
+    exact = along (λ (v : Version). (j : ℕ) (x : Record) → At (r .log) j x → T (isPlain (x .kind)) → T (lacksKey (x .kind)) ↔ Unordered v (r .log) j) (sym one) (agree v1 (r .log) (kept-play g P ps .legal))
 
     written : logOf (bytesOf (r .log)) ≡ r .log
     written = logOf-bytesOf (r .log) (tidy .all-tidy)
@@ -115,13 +116,12 @@ unfolding runOf
 run-is plan schedule = refl
 
 -- demand 3: any accepted plan, any list of at most 4,096 picks
-pub agreement : (plan schedule : List ℕ) → refusal plan ≡ none → length schedule ≤ 4096 → Agreement (programOf plan .version) (runOf plan schedule)
+pub agreement : (plan schedule : List ℕ) → refusal plan ≡ none → length schedule ≤ 4096 → Agreement (programOf plan) schedule (runOf plan schedule)
 agreement plan schedule h few =
-    along (λ (v : Version). Agreement v (runOf plan schedule)) (sym (accepted-version plan h))
-    (along (Agreement v1) (sym (run-is plan schedule)) (play-agrees (programOf plan) (well-formed plan h) schedule few))
+    along (Agreement (programOf plan) schedule) (sym (run-is plan schedule)) (play-agrees (programOf plan) (well-formed plan h) (accepted-version plan h) schedule few)
 
 -- a run's log has at most one unordered access
-pub one-unordered : {v : Version} {r : Run} → Agreement v r → (i j : ℕ) → Unordered v (r .log) i → Unordered v (r .log) j → i ≡ j
+pub one-unordered : {g : Program} {ps : List ℕ} {r : Run} → Agreement g ps r → (i j : ℕ) → Unordered (g .version) (r .log) i → Unordered (g .version) (r .log) j → i ≡ j
 one-unordered A i j u w =
     let a = A .stops i (u .access) (u .at-j) (u .plain) .1 u .is-last in
     let b = A .stops j (w .access) (w .at-j) (w .plain) .1 w .is-last in

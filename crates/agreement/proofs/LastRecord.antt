@@ -7,14 +7,14 @@ use mathlib.Core.List.{List, [], _∷_}
 use mathlib.Core.Logic.{_↔_}
 use mathlib.Core.Option.{Option, some, none}
 use lib.Dec.{T, T-not}
-use lib.ListN.{length}
+use lib.ListN.{length, getElem?}
 use Rattle.order.specs.Chains.{At}
 use Rattle.plan.specs.Syntax.{Expression, Program}
 use Rattle.records.specs.Record.{Record, lacksKey}
 use Rattle.rules.specs.State.{Thread, State}
-use Rattle.rules.specs.Rules.{Rule, Converts, E-CALL, E-LET, E-IF, E-WHILE, E-NEW, E-READ, E-WRITE, E-READV, E-WRITEV, E-FORK, E-JOIN, E-RE-ENTER, E-ACQUIRE, E-RELEASE, Moves, EVAL, EVALᶜ, Wants, WANTS-READ, WANTS-WRITE, Lacks, LACKS}
+use Rattle.rules.specs.Rules.{Rule, Converts, E-CALL, E-LET, E-IF, E-WHILE, E-NEW, E-READ, E-WRITE, E-READV, E-WRITEV, E-FORK, E-JOIN, E-RE-ENTER, E-ACQUIRE, E-RELEASE, Moves, EVAL, EVALᶜ, LacksHere, LACKS-READ, LACKS-WRITE, Lacks, LACKS}
 use Rattle.rules.specs.Run.{Stop, end, race, noRoom, Run, logged, stopped, afterPass, afterMove}
-use Rattle.rules.specs.Execution.{Execution, ends, passes, lacks-key, lacks-room, moves}
+use Rattle.rules.specs.Execution.{Execution, ends, passes, lacks-key, no-room, moves}
 use Rattle.agreement.specs.Agreement.{StoppedAt}
 
 -- ---- moves and stops
@@ -46,8 +46,8 @@ complete-move (EVALᶜ K ht he c) = tt
 
 -- the record of a stop lacks its key
 lacking : {g : Program} {s : State} {p : ℕ} {r : Record} → Lacks g s p r → T (lacksKey (r .kind))
-lacking (LACKS K ht he (WANTS-READ w h k v)) = tt
-lacking (LACKS K ht he (WANTS-WRITE w h k v)) = tt
+lacking (LACKS K ht he (LACKS-READ w h k v)) = tt
+lacking (LACKS K ht he (LACKS-WRITE w h k v)) = tt
 
 -- ---- runs
 
@@ -87,8 +87,33 @@ unfolding stopped afterPass afterMove
 last-lacks ends = none-in-empty
 last-lacks (passes h x) = last-lacks x
 last-lacks (lacks-key {e = e} h) = (omega arith, only-one e (lacking h))
-last-lacks (lacks-room h e) = none-in-empty
+last-lacks (no-room h e) = none-in-empty
 last-lacks (moves {r = r} {e = e} h k x) = last-logged e (r .stop) (r .log) (complete-move h) (last-lacks x)
+
+-- ---- the access
+
+last-one : (r x : Record) (j : ℕ) → At (r ∷ []) j x → r ≡ x
+last-one r x zero h = cc
+last-one r x (suc j) h = absurd (let z : _≡_ {A = ℕ} 0 1 = cc in omega arith)
+
+in-logged : (e : Option Record) (L : List Record) (j : ℕ) (x : Record) → 0 < length L → At (logged e L) j x → suc j ≡ length (logged e L) → (i : ℕ) × At L i x × (suc i ≡ length L)
+unfolding logged
+in-logged none L j x b h q = (j, h, q)
+in-logged (some r) L zero x b h q = absurd (omega arith)
+in-logged (some r) L (suc j) x b h q = (j, h, omega arith)
+
+some-logged : {g : Program} {s : State} {ps : List ℕ} {r : Run} → Execution g s ps r → r .stop ≡ race → 0 < length (r .log)
+some-logged x q = (rw q at (last-lacks x)) .0
+
+-- the last record of a run that stopped for want of a key is the access that the thread picked last lacks the key for
+pub last-access : {g : Program} {s : State} {ps : List ℕ} {r : Run} → Execution g s ps r → r .stop ≡ race → (j : ℕ) (x : Record) → At (r .log) j x → suc j ≡ length (r .log)
+    → (p : ℕ) × (getElem? ps (r .picks) ≡ some p) × Lacks g (r .final) p x
+unfolding stopped afterPass afterMove
+last-access ends q j x h l = absurd (let z : _≡_ {A = ℕ} 0 1 = cc in omega arith)
+last-access (passes o y) q j x h l = last-access y q j x h l
+last-access {g} (lacks-key {s} {p} {e = e} k) q j x h l = (p, refl, along (Lacks g s p) (last-one e x j h) k)
+last-access (no-room m k) q j x h l = absurd (let z : _≡_ {A = ℕ} 0 1 = cc in omega arith)
+last-access (moves {r = r} {e = e} m k y) q j x h l = let i = in-logged e (r .log) j x (some-logged y q) h l in last-access y q (i .0) x (i .1) (i .2)
 
 -- ---- the stop
 

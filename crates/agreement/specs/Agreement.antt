@@ -1,17 +1,20 @@
--- Demand 3 of one run, "a single claim about the whole list of picks of one play". Assumes nothing.
+-- Demand 3 of one run, "a single claim about the whole list of picks of one play": "a plain access in the log is where the run stopped for want of its
+-- key exactly when its field has an earlier plain write and no happens-before chain leads from the last such write to it; and the judge, given only
+-- the log, names that access, and none when the run did not stop so". Assumes nothing.
 use Prim.Native.Nat.{ℕ, suc, _-_, _<_}
 use mathlib.Core.Path.{_≡_}
 use mathlib.Core.List.{List}
 use mathlib.Core.Logic.{_↔_}
 use mathlib.Core.Option.{Option, some, none}
 use lib.Dec.{T}
-use lib.ListN.{length}
-use Rattle.format.specs.Version.{Version}
+use lib.ListN.{length, getElem?}
 use Rattle.order.specs.Chains.{At, Unordered}
 use Rattle.order.specs.Judge.{Judged, named, MayAnswer}
+use Rattle.plan.specs.Syntax.{Program}
 use Rattle.records.specs.Record.{Record, isPlain, lacksKey}
 use Rattle.records.specs.Packed.{bytesOf, logOf}
 use Rattle.records.specs.Refusals.{logRefusal}
+use Rattle.rules.specs.Rules.{Lacks}
 use Rattle.rules.specs.Run.{Stop, end, race, noRoom, Run}
 
 -- "A run stops for want of a key exactly when its outcome is race; then the last record [..] is that access": record j of the log is where the run
@@ -26,15 +29,18 @@ stopIndex end L = none
 stopIndex race L = some (length L - 1)
 stopIndex (noRoom k) L = none
 
-pub record Agreement (v : Version) (r : Run) : Type 0 where
+-- of the run r of the picks on program g
+pub record Agreement (g : Program) (picks : List ℕ) (r : Run) : Type 0 where
   -- "a plain access in the log is where the run stopped for want of its key exactly when its field has an earlier plain write and no happens-before
   -- chain leads from the last such write to it"
-  pub stops : (j : ℕ) (x : Record) → At (r .log) j x → T (isPlain (x .kind)) → StoppedAt r j ↔ Unordered v (r .log) j
+  pub stops : (j : ℕ) (x : Record) → At (r .log) j x → T (isPlain (x .kind)) → StoppedAt r j ↔ Unordered (g .version) (r .log) j
   -- "then the last record, and no other, is of kind 10 or 11"
   pub lacks : (j : ℕ) (x : Record) → At (r .log) j x → T (lacksKey (x .kind)) ↔ StoppedAt r j
   pub recorded : r .stop ≡ race → 0 < length (r .log)
+  -- "and is that access": it is the access whose key the thread picked last lacks
+  pub that-access : (j : ℕ) (x : Record) → At (r .log) j x → StoppedAt r j → (p : ℕ) × (getElem? picks (r .picks) ≡ some p) × Lacks g (r .final) p x
   -- "The judge gets just the run's records, as written, and finds nothing to refuse in them."
   pub as-written : logOf (bytesOf (r .log)) ≡ r .log
   pub not-refused : logRefusal (bytesOf (r .log)) ≡ none
   -- "and the judge, given only the log, names that access, and none when the run did not stop so"
-  pub judged : (a : Judged) → MayAnswer v (bytesOf (r .log)) a ↔ (a ≡ named (stopIndex (r .stop) (r .log)))
+  pub judged : (a : Judged) → MayAnswer (g .version) (bytesOf (r .log)) a ↔ (a ≡ named (stopIndex (r .stop) (r .log)))

@@ -7,5 +7,6 @@ use lib.Dec.{eqb}
 pub data Version : Type 0 where
   v0 v1 : Version
 
+-- the version of a packed number; any number but 1, which check 2 refuses, is read as 0
 unfoldable pub versionOf : ℕ → Version
 versionOf n = cond (eqb n 1) v1 v0

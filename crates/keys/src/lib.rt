@@ -1,1 +1,97 @@
-// Sets of write keys. Definitions and their laws only, in specs/ and proofs/.
+// Sets of write keys 0 to 255, by value (document 01, "How a thread moves").
+ghost use mathlib.Core.Path.{_≡_};
+ghost use Rattle.keys.specs.Keys.{empty, singleton, holds, union, isEmpty};
+ghost use Rattle.keys.specs.KeySet.{keysOf, wordOf, emptySet, zeroSet, holdsOf, learnOf, joinOf, isEmptyOf, Made, Told};
+
+// Key k is in the set where bit k % 64 of word k / 64 is 1.
+pub struct KeySet {
+    pub w0: u64,
+    pub w1: u64,
+    pub w2: u64,
+    pub w3: u64,
+}
+
+impl KeySet {
+    // No key.
+    pub fn new() -> KeySet
+        ensures { λ r. ⌜ Made r emptySet empty ⌝ }
+    {
+        KeySet {
+            w0: 0,
+            w1: 0,
+            w2: 0,
+            w3: 0,
+        }
+    }
+
+    // Key 0 alone.
+    pub fn zero() -> KeySet
+        ensures { λ r. ⌜ Made r zeroSet (singleton 0) ⌝ }
+    {
+        KeySet {
+            w0: 1,
+            w1: 0,
+            w2: 0,
+            w3: 0,
+        }
+    }
+
+    // The word that has the key's bit.
+    fn word(self, k: u8) -> u64
+        ensures { λ r. ⌜ r ≡ wordOf self k ⌝ }
+    {
+        if k < 64 {
+            self.w0
+        } else if k < 128 {
+            self.w1
+        } else if k < 192 {
+            self.w2
+        } else {
+            self.w3
+        }
+    }
+
+    // Whether the key is in the set.
+    pub fn holds(self, k: u8) -> bool
+        ensures { λ r. ⌜ Told r (holdsOf self k) (holds (keysOf self) k) ⌝ }
+    {
+        (self.word(k) >> (k % 64)) % 2 == 1
+    }
+
+    // The set with one key more.
+    pub fn learn(self, k: u8) -> KeySet
+        ensures { λ r. ⌜ Made r (learnOf self k) (union (singleton k) (keysOf self)) ⌝ }
+    {
+        let b = 1u64 << (k % 64);
+        let mut r = self;
+        if k < 64 {
+            r.w0 = r.w0 | b;
+        } else if k < 128 {
+            r.w1 = r.w1 | b;
+        } else if k < 192 {
+            r.w2 = r.w2 | b;
+        } else {
+            r.w3 = r.w3 | b;
+        }
+        r
+    }
+
+    // The keys of both sets.
+    pub fn join(self, other: KeySet) -> KeySet
+        ensures { λ r. ⌜ Made r (joinOf self other) (union (keysOf self) (keysOf other)) ⌝ }
+    {
+        KeySet {
+            w0: self.w0 | other.w0,
+            w1: self.w1 | other.w1,
+            w2: self.w2 | other.w2,
+            w3: self.w3 | other.w3,
+        }
+    }
+
+    // Whether the set has no key.
+    pub fn is_empty(self) -> bool
+        ensures { λ r. ⌜ Told r (isEmptyOf self) (isEmpty (keysOf self)) ⌝ }
+    {
+        (self.w0 | (self.w1 | (self.w2 | self.w3))) == 0
+    }
+}

@@ -28,7 +28,7 @@ pub data Chain (v : Version) (L : List Record) (i : ℕ) : ℕ → Type 0 where
   one : {j : ℕ} → Linked v L i j → Chain v L i j
   more : {j k : ℕ} → Chain v L i j → Linked v L j k → Chain v L i k
 
--- w is a plain write, kind 3, of field f of object o
+-- "A plain write in the log is a record of kind 3.": w is one of field f of object o
 pub record Writes (w : Record) (o f : ℕ) : Type 0 where
   pub is-write : w .kind ≡ write
   pub same-object : w .object ≡ o

@@ -6,7 +6,7 @@ use Rattle.format.specs.Refusal.{Refusal, Check, check, checkWhole, firstRefusa
 use Rattle.plan.specs.Format.{procedures, terms}
 use Rattle.plan.specs.Refusals.{wrongLength, wrongHeader, wrongProcedure, wrongTerm, wronglySorted, notNamedOnce, usesUnboundSlot}
 
--- "The place is the lowest procedure for 3 and 7; the lowest term for 4 to 6; 0 for every other number"
+-- "The place is the lowest procedure for 3 and 7; the lowest term for 4 to 6 [..]; [..] 0 for every other number"
 unfoldable pub checks : List ℕ → List Check
 unfolding wrongLength wrongHeader wrongProcedure wrongTerm wronglySorted notNamedOnce usesUnboundSlot procedures terms
 checks b =

@@ -67,8 +67,8 @@ bind none o y = none
 bind (some x) o y = cond (eqb x y) (some o) none
 
 -- [x̄ ↦ ō]: "Parameters fill variable slots 0 upward."
-unfoldable pub parametersAre : List ℕ → Environment
-parametersAre os y = getElem? os y
+unfoldable pub bindParameters : List ℕ → Environment
+bindParameters os y = getElem? os y
 
 unfoldable pub without : Option ℕ → Environment → Environment
 without none ρ y = ρ y

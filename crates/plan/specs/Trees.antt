@@ -40,24 +40,24 @@ binderOf x = cond (eqb x 15) none (some x)
 unfoldable pub nodes : List (ℕ → ℕ → ℕ → Node)
 unfolding fieldsFrom binderOf
 nodes =
-    (λ x y z. null)
-    ∷ (λ x y z. variable x)
-    ∷ (λ x y z. new (fieldsFrom x 0 32))
-    ∷ (λ x y z. read x y)
-    ∷ (λ x y z. write x y z)
-    ∷ (λ x y z. letIn (binderOf x) y z)
-    ∷ (λ x y z. if x y z)
-    ∷ (λ x y z. while x y)
-    ∷ (λ x y z. call x y)
-    ∷ (λ x y z. fork x)
-    ∷ (λ x y z. join x)
-    ∷ (λ x y z. synch x y)
-    ∷ (λ x y z. truth)
-    ∷ (λ x y z. not x)
-    ∷ (λ x y z. and x y)
-    ∷ (λ x y z. equal x y)
-    ∷ (λ x y z. list x y)
-    ∷ (λ x y z. listEnd)
+    (λ x y z. null)  -- 0 null
+    ∷ (λ x y z. variable x)  -- 1 variable
+    ∷ (λ x y z. new (fieldsFrom x 0 32))  -- 2 new
+    ∷ (λ x y z. read x y)  -- 3 read
+    ∷ (λ x y z. write x y z)  -- 4 write
+    ∷ (λ x y z. letIn (binderOf x) y z)  -- 5 let
+    ∷ (λ x y z. if x y z)  -- 6 if
+    ∷ (λ x y z. while x y)  -- 7 while
+    ∷ (λ x y z. call x y)  -- 8 call
+    ∷ (λ x y z. fork x)  -- 9 fork
+    ∷ (λ x y z. join x)  -- 10 join
+    ∷ (λ x y z. synch x y)  -- 11 synch
+    ∷ (λ x y z. truth)  -- 12 true
+    ∷ (λ x y z. not x)  -- 13 not
+    ∷ (λ x y z. and x y)  -- 14 and
+    ∷ (λ x y z. equal x y)  -- 15 equal
+    ∷ (λ x y z. list x y)  -- 16 list
+    ∷ (λ x y z. listEnd)  -- 17 list end
     ∷ []
 
 unfoldable pub nodeOf : Term → Node
@@ -68,7 +68,7 @@ unfoldable pub nodeAt : List ℕ → ℕ → Node
 unfolding nodeOf termAt
 nodeAt b t = nodeOf (termAt b t)
 
--- ---- the trees, as a relation: term t of a table of nodes stands for this tree
+-- ---- the trees, as a relation: term t of a table of nodes stands for this tree. "The only literal in a plan is null."
 
 abbrev mutual
   pub Stands : (ℕ → Node) → ℕ → Expression → Type 0

@@ -16,7 +16,7 @@ wrongLogLength b = not (eqb (length b % 3) 0) || ltb 12288 (length b)
 
 -- ---- 12
 
--- "a plain or volatile access with field 0, a fork or join with field over 7, or anything but 0 in an unused column or the value of kind 10": the
+-- "a plain or volatile access with field 0, a fork or join with field over 7, or anything but 0 in [..] an unused column or the value of kind 10": the
 -- columns field and value of each kind
 abbrev pub wrongColumns : Kind → ℕ → ℕ → Bool
 wrongColumns new f v = not (eqb f 0) || not (eqb v 0)

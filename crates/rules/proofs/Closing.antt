@@ -7,7 +7,7 @@ use mathlib.Core.List.{List, [], _∷_}
 use mathlib.Core.Option.{Option, some, none}
 use lib.Dec.{T, ltb, eqb, ltb→lt}
 use lib.ListN.{getElem?, length}
-use Rattle.plan.specs.Syntax.{Expression, Condition, Arguments, Environment, bind, parametersAre, without, valueOr, substitute, substituteᶜ, substituteᵃ, Program}
+use Rattle.plan.specs.Syntax.{Expression, Condition, Arguments, Environment, bind, bindParameters, without, valueOr, substitute, substituteᶜ, substituteᵃ, Program}
 use Rattle.plan.specs.Slots.{bound}
 use Rattle.plan.proofs.WellFormed.{WellFormed, WellFormedᶜ, WellFormedᵃ, count, unbound}
 
@@ -123,6 +123,6 @@ params-there n (o ∷ os) (suc x) b h = shift (getElem? os x) (params-there n os
     shift none h = h
     shift (some o) h = h
 
-pub covers-params : (n k : ℕ) (os : List ℕ) → Below n os → k ≡ length os → Covers n (λ x. ltb x k) (parametersAre os) unbound
-unfolding parametersAre
+pub covers-params : (n k : ℕ) (os : List ℕ) → Below n os → k ≡ length os → Covers n (λ x. ltb x k) (bindParameters os) unbound
+unfolding bindParameters
 covers-params n k os b e x t = let l = ltb→lt x k t in params-there n os x b (omega arith)

@@ -6,7 +6,7 @@ use mathlib.Core.List.{List, [], _∷_, _++_, append-nil, append-assoc}
 use mathlib.Core.Option.{Option, some, none, Option·some-ne-none}
 use lib.Dec.{T}
 use Rattle.plan.specs.Syntax.{Expression, Condition, Arguments, literal, end, argument, bool}
-use Rattle.rules.specs.Context.{Context, Contextᶜ, top, read, write₁, write₂, call, letIn, synch, hold, join, equal₁, equal₂, literals, plug, plugᶜ, Redex, Redexᶜ, Focus, value, here, hereᶜ, focus, focusᶜ, focusᵃ, asLiteral, asBool, isTruth, falseWhen, term, termᶜ, onLiteral, onBool, onNot}
+use Rattle.rules.specs.Context.{Context, Contextᶜ, top, read, write₁, write₂, call, letIn, synch, hold, join, equal₁, equal₂, literals, plug, plugᶜ, Redex, Redexᶜ, Focus, value, here, hereᶜ, focus, focusᶜ, focusᵃ, asLiteral, asBool, isTruth, falseWhen, redexExpression, redexCondition, onLiteral, onBool, onNot}
 
 focus-args : (K : Context) (m : ℕ) (vs os : List ℕ) (es : Arguments) (e : Expression) → asLiteral e ≡ none
     → focusᵃ K m vs (literals os (argument e es)) ≡ focus (call K m (vs ++ os) es) e
@@ -48,8 +48,8 @@ unfolding focus literals
 focus-lits K m vs [] = rw append-nil
 focus-lits K m vs (o ∷ os) = focus-lits K m (vs ++ (o ∷ [])) os ∙ ap (λ (l : List ℕ). here K (Redex.call m l)) (append-assoc vs (o ∷ []) os)
 
-pub focus-term : (K : Context) (r : Redex) → focus K (term r) ≡ here K r
-unfolding focus term
+pub focus-term : (K : Context) (r : Redex) → focus K (redexExpression r) ≡ here K r
+unfolding focus redexExpression
 focus-term K (Redex.variable x) = refl
 focus-term K (Redex.new fs) = refl
 focus-term K (Redex.read o f) = refl
@@ -64,15 +64,15 @@ focus-term K (Redex.join o) = refl
 focus-term K (Redex.synch o e) = refl
 focus-term K (Redex.hold o v) = refl
 
-pub focus-termᶜ : (K : Contextᶜ) (r : Redexᶜ) → focusᶜ K (termᶜ r) ≡ hereᶜ K r
-unfolding focus termᶜ
+pub focus-termᶜ : (K : Contextᶜ) (r : Redexᶜ) → focusᶜ K (redexCondition r) ≡ hereᶜ K r
+unfolding focus redexCondition
 focus-termᶜ K Redexᶜ.notFalse = refl
 focus-termᶜ K (Redexᶜ.and true c) = refl
 focus-termᶜ K (Redexᶜ.and false c) = refl
 focus-termᶜ K (Redexᶜ.equal o o′) = refl
 
-term-none : (r : Redex) → asLiteral (term r) ≡ none
-unfolding asLiteral term
+term-none : (r : Redex) → asLiteral (redexExpression r) ≡ none
+unfolding asLiteral redexExpression
 term-none (Redex.variable x) = refl
 term-none (Redex.new fs) = refl
 term-none (Redex.read o f) = refl
@@ -86,26 +86,26 @@ term-none (Redex.join o) = refl
 term-none (Redex.synch o e) = refl
 term-none (Redex.hold o v) = refl
 
-term-noneᶜ : (r : Redexᶜ) → asBool (termᶜ r) ≡ none
-unfolding asBool termᶜ
+term-noneᶜ : (r : Redexᶜ) → asBool (redexCondition r) ≡ none
+unfolding asBool redexCondition
 term-noneᶜ Redexᶜ.notFalse = refl
 term-noneᶜ (Redexᶜ.and b c) = refl
 term-noneᶜ (Redexᶜ.equal o o′) = refl
 
 -- unique decomposition: what stands in the hole is found, and nothing else
-pub found : (K : Context) (r : Redex) → focus top (plug K (term r)) ≡ here K r
-found K r = focus-plug K (term r) (term-none r) ∙ focus-term K r
+pub found : (K : Context) (r : Redex) → focus top (plug K (redexExpression r)) ≡ here K r
+found K r = focus-plug K (redexExpression r) (term-none r) ∙ focus-term K r
 
-pub foundᶜ : (K : Contextᶜ) (r : Redexᶜ) → focus top (plugᶜ K (termᶜ r)) ≡ hereᶜ K r
-foundᶜ K r = focus-plugᶜ K (termᶜ r) (term-noneᶜ r) ∙ focus-termᶜ K r
+pub foundᶜ : (K : Contextᶜ) (r : Redexᶜ) → focus top (plugᶜ K (redexCondition r)) ≡ hereᶜ K r
+foundᶜ K r = focus-plugᶜ K (redexCondition r) (term-noneᶜ r) ∙ focus-termᶜ K r
 
 -- ---- what is found stands there
 
 -- the context with the part in its hole is w
 abbrev pub Back : Expression → Focus → Type 0
 Back w (value o) = Unit {0}
-Back w (here K r) = plug K (term r) ≡ w
-Back w (hereᶜ K r) = plugᶜ K (termᶜ r) ≡ w
+Back w (here K r) = plug K (redexExpression r) ≡ w
+Back w (hereᶜ K r) = plugᶜ K (redexCondition r) ≡ w
 
 back-literal : (w e : Expression) (k : ℕ → Focus) (r : Focus) → ((o : ℕ) → e ≡ literal o → Back w (k o)) → Back w r → Back w (onLiteral (asLiteral e) k r)
 unfolding asLiteral
@@ -144,7 +144,7 @@ back-bool w (Condition.and c c′) k r h h′ = h′
 back-bool w (Condition.equal e e′) k r h h′ = h′
 
 back-not : (K : Contextᶜ) (c : Condition) (b : Bool) → c ≡ bool b → Back (plugᶜ K (Condition.not c)) (onNot K b)
-unfolding bool termᶜ
+unfolding bool redexCondition
 back-not K c true q = tt
 back-not K c false q = rw q refl
 
@@ -154,7 +154,7 @@ literals-append [] os es = refl
 literals-append (v ∷ vs) os es = ap (argument (literal v)) (literals-append vs os es)
 
 mutual
-  unfolding focus plug term termᶜ
+  unfolding focus plug redexExpression redexCondition
 
   pub back : (K : Context) (e : Expression) → Back (plug K e) (focus K e)
   back K (Expression.literal o) = tt
@@ -265,10 +265,10 @@ mutual
 
 -- the expression that is focused so
 unfoldable pub whole : Focus → Expression
-unfolding plug term termᶜ
+unfolding plug redexExpression redexCondition
 whole (value o) = literal o
-whole (here K r) = plug K (term r)
-whole (hereᶜ K r) = plugᶜ K (termᶜ r)
+whole (here K r) = plug K (redexExpression r)
+whole (hereᶜ K r) = plugᶜ K (redexCondition r)
 
 whole-back : (w : Expression) (F : Focus) → Somewhere F → Back w F → whole F ≡ w
 unfolding whole

@@ -10,12 +10,12 @@ use lib.ListN.{length, getElem?}
 use borrow.Author.Tests.{eq-eqb, ne-eqb, eqb-true, eqb-false}
 use Rattle.keys.specs.Keys.{Keys, empty, singleton, holds, subset, isEmpty}
 use Rattle.plan.specs.Syntax.{Expression, Condition, literal, end, Program, Procedure}
-use Rattle.rules.specs.Context.{Context, top, plug, plugᶜ, literals, asLiteral, Redex, Redexᶜ, term, termᶜ, Focus, value, here, hereᶜ, focus}
+use Rattle.rules.specs.Context.{Context, top, plug, plugᶜ, literals, asLiteral, Redex, Redexᶜ, redexExpression, redexCondition, Focus, value, here, hereᶜ, focus}
 use Rattle.rules.specs.State.{Cell, Thread, State, lookup, monitor, become, threadOf, Numbered}
 use Rattle.records.specs.Record.{Record}
-use Rattle.rules.specs.Rules.{Rule, isVolatile, Wants, WANTS-READ, WANTS-WRITE, Lacks, LACKS, Converts, E-CALL, E-LET, E-IF, E-WHILE, E-NEW, E-READ, E-WRITE, E-READV, E-WRITEV, E-FORK, E-JOIN, E-RE-ENTER, E-ACQUIRE, E-RELEASE, Convertsᶜ, E-NOTNOTTRUE, E-ANDTRUE, E-ANDFALSE, E-EQUALTRUE, E-EQUALFALSE, Moves, EVAL, EVALᶜ}
-use Rattle.rules.specs.Step.{Stuck, missingField, notThread, noRule, equalAct, Act, waits, stops, lacks, does, act, actᶜ, Actᶜ, Move, Attempt, moves, attempt, attemptBy, attemptAt, around, callAct, readAct, writeAct, joinAct, joinValue, synchAct, holdAct}
-use Rattle.rules.specs.Room.{Blocked, MONITOR-HELD, UNFINISHED, NO-FIELD-TO-READ, NO-FIELD-TO-WRITE, NO-THREAD, PassedOver, ABSENT, FINISHED, BLOCKED, Answer, answer, admit, Room, lackOf, step}
+use Rattle.rules.specs.Rules.{Rule, isVolatile, LacksHere, LACKS-READ, LACKS-WRITE, Lacks, LACKS, Converts, E-CALL, E-LET, E-IF, E-WHILE, E-NEW, E-READ, E-WRITE, E-READV, E-WRITEV, E-FORK, E-JOIN, E-RE-ENTER, E-ACQUIRE, E-RELEASE, Convertsᶜ, E-NOTNOTTRUE, E-ANDTRUE, E-ANDFALSE, E-EQUALTRUE, E-EQUALFALSE, Moves, EVAL, EVALᶜ}
+use Rattle.rules.specs.Step.{Stuck, missingField, notThread, noRule, equalAct, Act, waits, sticks, lacks, does, act, actᶜ, Actᶜ, Move, Attempt, moves, attempt, attemptBy, attemptAt, around, callAct, readAct, writeAct, joinAct, joinValue, synchAct, holdAct}
+use Rattle.rules.specs.Room.{Blocked, MONITOR-HELD, UNFINISHED, NO-FIELD-TO-READ, NO-FIELD-TO-WRITE, NO-THREAD, PassedOver, ABSENT, FINISHED, BLOCKED, Answer, answer, withinRoom, Room, noRoomFor, step}
 use Rattle.keys.proofs.KeyLaws.{subset-singleton}
 use Rattle.rules.proofs.OneKey.{OneKey, its-cell}
 use Rattle.rules.proofs.Decompose.{found, foundᶜ, whole, whole-focus, as-literal}
@@ -24,8 +24,8 @@ use Rattle.rules.proofs.Decompose.{found, foundᶜ, whole, whole-focus,
 
 module _ (g : Program) (s : State) (p : ℕ) (t : Thread) where
   acts : {e : Expression} {R : Rule} {r : Option Record} {s′ : State} {e′ : Expression} → Converts g s p t e R r s′ e′
-      → (x : Redex) × (term x ≡ e) × (act g s p t x ≡ does R r s′ e′)
-  unfolding act term
+      → (x : Redex) × (redexExpression x ≡ e) × (act g s p t x ≡ does R r s′ e′)
+  unfolding act redexExpression
   acts (E-CALL {m} os hd hp) = (Redex.call m os, refl, rw (hd, eq-eqb _ _ hp))
   acts (E-LET {x} {o} {e}) = (Redex.letIn x o e, refl, refl)
   acts (E-IF b {e} {e′}) = (Redex.if b e e′, refl, refl)
@@ -41,13 +41,13 @@ module _ (g : Program) (s : State) (p : ℕ) (t : Thread) where
   acts (E-ACQUIRE {o} {e} h n) = (Redex.synch o e, refl, rw (h, n))
   acts (E-RELEASE {o} {v} h) = (Redex.hold o v, refl, rw (h, eq-eqb (t .self) (t .self) refl))
 
-  acts-lacking : {e : Expression} {r : Record} → Wants g s p t e r → (x : Redex) × (term x ≡ e) × (act g s p t x ≡ lacks r)
-  unfolding act term
-  acts-lacking (WANTS-READ w {o} {f} h k v) = (Redex.read o f, refl, rw (h, v, subset-singleton w (t .keys) ∙ k))
-  acts-lacking (WANTS-WRITE w {o} {f} {v = x} h k v) = (Redex.write o f x, refl, rw (h, v, subset-singleton w (t .keys) ∙ k))
+  acts-lacking : {e : Expression} {r : Record} → LacksHere g s p t e r → (x : Redex) × (redexExpression x ≡ e) × (act g s p t x ≡ lacks r)
+  unfolding act redexExpression
+  acts-lacking (LACKS-READ w {o} {f} h k v) = (Redex.read o f, refl, rw (h, v, subset-singleton w (t .keys) ∙ k))
+  acts-lacking (LACKS-WRITE w {o} {f} {v = x} h k v) = (Redex.write o f x, refl, rw (h, v, subset-singleton w (t .keys) ∙ k))
 
-actsᶜ : {c : Condition} {R : Rule} {c′ : Condition} → Convertsᶜ c R c′ → (x : Redexᶜ) × (termᶜ x ≡ c) × (actᶜ x ≡ record { rule = R; result = c′ })
-unfolding actᶜ termᶜ
+actsᶜ : {c : Condition} {R : Rule} {c′ : Condition} → Convertsᶜ c R c′ → (x : Redexᶜ) × (redexCondition x ≡ c) × (actᶜ x ≡ record { rule = R; result = c′ })
+unfolding actᶜ redexCondition
 actsᶜ E-NOTNOTTRUE = (Redexᶜ.notFalse, refl, refl)
 actsᶜ (E-ANDTRUE {c}) = (Redexᶜ.and true c, refl, refl)
 actsᶜ (E-ANDFALSE {c}) = (Redexᶜ.and false c, refl, refl)
@@ -76,8 +76,8 @@ module _ (s : State) (g : Program) (p : ℕ) (t : Thread) where
   abbrev Blocks : Act → Attempt → Type 0
   Blocks x a = (K : Context) → around s p K x ≡ a
 
-  acts-blocked : {e : Expression} {a : Attempt} → Blocked s (t .self) e a → (x : Redex) × (term x ≡ e) × Blocks (act g s p t x) a
-  unfolding act term around isEmpty
+  acts-blocked : {e : Expression} {a : Attempt} → Blocked s (t .self) e a → (x : Redex) × (redexExpression x ≡ e) × Blocks (act g s p t x) a
+  unfolding act redexExpression around isEmpty
   acts-blocked (MONITOR-HELD {o} {u} {e} h n) = (Redex.synch o e, refl, λ K. rw (h, ne-eqb u (t .self) n))
   acts-blocked (UNFINISHED {o} {q} h n) = (Redex.join o, refl, λ K. rw (h, unfinished (q .thread .expression) n))
     where
@@ -123,8 +123,8 @@ module _ (g : Program) (s : State) (I : OneKey g s) (p : ℕ) (t : Thread) where
   -- an act that is a move is a rule
   abbrev Ruled : Expression → Act → Type 0
   Ruled e (waits w) = Blocked s (t .self) e (Attempt.waiting w)
-  Ruled e (stops r) = Unless r (Blocked s (t .self) e (Attempt.stuck r))
-  Ruled e (lacks r) = Wants g s p t e r
+  Ruled e (sticks r) = Unless r (Blocked s (t .self) e (Attempt.stuck r))
+  Ruled e (lacks r) = LacksHere g s p t e r
   Ruled e (does R r s′ e′) = Converts g s p t e R r s′ e′
 
   -- where a test decides between two acts
@@ -147,7 +147,7 @@ module _ (g : Program) (s : State) (I : OneKey g s) (p : ℕ) (t : Thread) where
   read-ruled o f (some c) h =
       which _ (isVolatile g f) _ _
       (λ v. E-READV {v = c .value} {W = c .keys} h v)
-      (λ v. let k = its-cell g s I o f c h v in which _ (subset (c .keys) (t .keys)) _ _ (λ w. E-READ (k .0) (k .2) (tested c (k .0) (k .1) ∙ w) v) (λ w. WANTS-READ (k .0) (k .2) (tested c (k .0) (k .1) ∙ w) v))
+      (λ v. let k = its-cell g s I o f c h v in which _ (subset (c .keys) (t .keys)) _ _ (λ w. E-READ (k .0) (k .2) (tested c (k .0) (k .1) ∙ w) v) (λ w. LACKS-READ (k .0) (k .2) (tested c (k .0) (k .1) ∙ w) v))
 
   write-ruled : (o f x : ℕ) (c : Option Cell) → lookup s o f ≡ c → Ruled (Expression.write (literal o) f (literal x)) (writeAct g s p t o f x c)
   unfolding writeAct
@@ -155,7 +155,7 @@ module _ (g : Program) (s : State) (I : OneKey g s) (p : ℕ) (t : Thread) where
   write-ruled o f x (some c) h =
       which _ (isVolatile g f) _ _
       (λ v. E-WRITEV {u = c .value} {W = c .keys} h v)
-      (λ v. let k = its-cell g s I o f c h v in which _ (subset (c .keys) (t .keys)) _ _ (λ w. E-WRITE (k .0) (k .2) (tested c (k .0) (k .1) ∙ w) v) (λ w. WANTS-WRITE (k .0) (k .2) (tested c (k .0) (k .1) ∙ w) v))
+      (λ v. let k = its-cell g s I o f c h v in which _ (subset (c .keys) (t .keys)) _ _ (λ w. E-WRITE (k .0) (k .2) (tested c (k .0) (k .1) ∙ w) v) (λ w. LACKS-WRITE (k .0) (k .2) (tested c (k .0) (k .1) ∙ w) v))
 
   join-ruled₂ : (o : ℕ) (q : Numbered) (v : Option ℕ) → threadOf 0 (s .threads) o ≡ some q → asLiteral (q .thread .expression) ≡ v
       → Ruled (Expression.join (literal o)) (joinValue s p o q v)
@@ -194,8 +194,8 @@ module _ (g : Program) (s : State) (I : OneKey g s) (p : ℕ) (t : Thread) where
       (λ k. which _ (eqb (c .value) (t .self)) _ _ (λ q. E-RELEASE (h ∙ ap {B = Option Cell} some (held c k q))) (λ q. tt))
       (λ k. tt)
 
-  ruled : (x : Redex) → Ruled (term x) (act g s p t x)
-  unfolding act term
+  ruled : (x : Redex) → Ruled (redexExpression x) (act g s p t x)
+  unfolding act redexExpression
   ruled (Redex.variable x) = tt
   ruled (Redex.new fs) = E-NEW
   ruled (Redex.read o f) = read-ruled o f (lookup s o f) refl
@@ -214,8 +214,8 @@ unfolding equalAct
 ruled-equal o o′ true h = E-EQUALTRUE (eqb-true o o′ h)
 ruled-equal o o′ false h = E-EQUALFALSE (λ q. absurd (true≢false (sym (eq-eqb o o′ q) ∙ h)))
 
-ruledᶜ : (x : Redexᶜ) → Convertsᶜ (termᶜ x) (actᶜ x .rule) (actᶜ x .result)
-unfolding actᶜ termᶜ
+ruledᶜ : (x : Redexᶜ) → Convertsᶜ (redexCondition x) (actᶜ x .rule) (actᶜ x .result)
+unfolding actᶜ redexCondition
 ruledᶜ Redexᶜ.notFalse = E-NOTNOTTRUE
 ruledᶜ (Redexᶜ.and true c) = E-ANDTRUE
 ruledᶜ (Redexᶜ.and false c) = E-ANDFALSE
@@ -241,14 +241,14 @@ module _ (g : Program) (s : State) (I : OneKey g s) (p : ℕ) where
     described-around : (K : Context) (e : Expression) (a : Act) → plug K e ≡ t .expression → Ruled g s I p t e a → Described (around s p K a)
     unfolding around
     described-around K e (waits w) h c = BLOCKED K ht (sym h) c
-    described-around K e (stops r) h c = unless-around r _ _ (λ b. BLOCKED K ht (sym h) b) c
+    described-around K e (sticks r) h c = unless-around r _ _ (λ b. BLOCKED K ht (sym h) b) c
     described-around K e (lacks r) h c = LACKS K ht (sym h) c
     described-around K e (does R r s′ e′) h c = EVAL K ht (sym h) c
 
     described-at : (F : Focus) → whole F ≡ t .expression → Described (attemptAt g s p t F)
     unfolding attemptAt whole
     described-at (value o) h = FINISHED ht (sym h)
-    described-at (here K x) h = described-around K (term x) (act g s p t x) h (ruled g s I p t x)
+    described-at (here K x) h = described-around K (redexExpression x) (act g s p t x) h (ruled g s I p t x)
     described-at (hereᶜ K x) h = EVALᶜ K ht (sym h) (ruledᶜ x)
 
   described-by : (t : Option Thread) → getElem? (s .threads) p ≡ t → Described (attemptBy g s p t)
@@ -269,12 +269,12 @@ module _ (g : Program) (s : State) (I : OneKey g s) (p : ℕ) where
 
 -- ---- a pick moves exactly where a rule applies and there is room after it
 
-admit-moved : (m m′ : Move) (k : Option Room) → admit m k ≡ Answer.moved m′ → (m ≡ m′) × (k ≡ none)
-unfolding admit
+admit-moved : (m m′ : Move) (k : Option Room) → withinRoom m k ≡ Answer.moved m′ → (m ≡ m′) × (k ≡ none)
+unfolding withinRoom
 admit-moved m m′ none h = (cc, refl)
 admit-moved m m′ (some k) h = let z : _≡_ {A = ℕ} 0 1 = cc in absurd (omega arith)
 
-answer-moved : (s : State) (p : ℕ) (a : Attempt) (m : Move) → answer s p a ≡ Answer.moved m → (a ≡ moves m) × (lackOf (m .rule) s p (m .state) ≡ none)
+answer-moved : (s : State) (p : ℕ) (a : Attempt) (m : Move) → answer s p a ≡ Answer.moved m → (a ≡ moves m) × (noRoomFor (m .rule) s p (m .state) ≡ none)
 unfolding answer
 answer-moved s p Attempt.absent m h = (let z : _≡_ {A = ℕ} 0 1 = cc in absurd (omega arith))
 answer-moved s p (Attempt.finished v) m h = (let z : _≡_ {A = ℕ} 0 1 = cc in absurd (omega arith))
@@ -282,15 +282,15 @@ answer-moved s p (Attempt.waiting w) m h = (let z : _≡_ {A = ℕ} 0 1 = cc in 
 answer-moved s p (Attempt.stuck r) m h = (let z : _≡_ {A = ℕ} 0 1 = cc in absurd (omega arith))
 answer-moved s p (Attempt.lacking r) m h = let z : _≡_ {A = ℕ} 0 1 = cc in absurd (omega arith)
 answer-moved s p (moves m′) m h =
-    let a = admit-moved m′ m (lackOf (m′ .rule) s p (m′ .state)) h in
-    (ap moves (a .0), ap (λ (x : Move). lackOf (x .rule) s p (x .state)) (sym (a .0)) ∙ a .1)
+    let a = admit-moved m′ m (noRoomFor (m′ .rule) s p (m′ .state)) h in
+    (ap moves (a .0), ap (λ (x : Move). noRoomFor (x .rule) s p (x .state)) (sym (a .0)) ∙ a .1)
 
 module _ (g : Program) (s : State) (I : OneKey g s) (p : ℕ) where
-  pub step-sound : (m : Move) → step g s p ≡ Answer.moved m → Moves g s p (m .rule) (m .entry) (m .state) × (lackOf (m .rule) s p (m .state) ≡ none)
+  pub step-sound : (m : Move) → step g s p ≡ Answer.moved m → Moves g s p (m .rule) (m .entry) (m .state) × (noRoomFor (m .rule) s p (m .state) ≡ none)
   unfolding step
   step-sound m h = let a = answer-moved s p (attempt g s p) m h in (sound g s I p m (a .0), a .1)
 
-pub step-complete : (g : Program) (s : State) (p : ℕ) {R : Rule} {r : Option Record} {s′ : State} → Moves g s p R r s′ → lackOf R s p s′ ≡ none
+pub step-complete : (g : Program) (s : State) (p : ℕ) {R : Rule} {r : Option Record} {s′ : State} → Moves g s p R r s′ → noRoomFor R s p s′ ≡ none
     → step g s p ≡ Answer.moved (record { rule = R; entry = r; state = s′ })
-unfolding step answer admit
+unfolding step answer withinRoom
 step-complete g s p m q = rw (complete g s p m, q)

@@ -14,9 +14,9 @@ use Rattle.records.specs.Record.{Record}
 use Rattle.rules.specs.State.{State, start}
 use Rattle.rules.specs.Rules.{Rule, Moves}
 use Rattle.rules.specs.Step.{Stuck, missingField, notThread, noRule, Move, Attempt, attempt}
-use Rattle.rules.specs.Room.{Blocked, MONITOR-HELD, UNFINISHED, NO-FIELD-TO-READ, NO-FIELD-TO-WRITE, NO-THREAD, PassedOver, ABSENT, FINISHED, BLOCKED, Room, lackOf, Answer, admit, answer, step}
+use Rattle.rules.specs.Room.{Blocked, MONITOR-HELD, UNFINISHED, NO-FIELD-TO-READ, NO-FIELD-TO-WRITE, NO-THREAD, PassedOver, ABSENT, FINISHED, BLOCKED, Room, noRoomFor, Answer, withinRoom, answer, step}
 use Rattle.rules.specs.Run.{Run, resume, run, play, stopped, afterPass, afterMove}
-use Rattle.rules.specs.Execution.{Execution, ends, passes, lacks-key, lacks-room, moves}
+use Rattle.rules.specs.Execution.{Execution, ends, passes, lacks-key, no-room, moves}
 use Rattle.rules.proofs.Invariant.{Inv}
 use Rattle.rules.proofs.OneKey.{OneKey, one-key-start, one-key-move}
 use Rattle.rules.proofs.NewKeys.{Unused, unused-start, unused-move}
@@ -45,10 +45,10 @@ unless-ruled noRule A k h = absurd k
 
 module _ (g : Program) (P : WellFormedProgram g) where
   admitted : (s : State) (p : ℕ) (ps : List ℕ) (m : Move) → Moves g s p (m .rule) (m .entry) (m .state) → Execution g (m .state) ps (run g (m .state) ps)
-      → (k : Option Room) → lackOf (m .rule) s p (m .state) ≡ k → Execution g s (p ∷ ps) (resume s (λ s′. run g s′ ps) (admit m k))
-  unfolding admit resume
+      → (k : Option Room) → noRoomFor (m .rule) s p (m .state) ≡ k → Execution g s (p ∷ ps) (resume s (λ s′. run g s′ ps) (withinRoom m k))
+  unfolding withinRoom resume
   admitted s p ps m h r none e = moves h e r
-  admitted s p ps m h r (some k) e = lacks-room h e
+  admitted s p ps m h r (some k) e = no-room h e
 
   dealt : (s : State) (p : ℕ) (ps : List ℕ) (I : Reachable g s) (a : Attempt) → Described g s (I .one-key) p a → Ruled a
       → ((s′ : State) → Reachable g s′ → Execution g s′ ps (run g s′ ps)) → Execution g s (p ∷ ps) (resume s (λ s′. run g s′ ps) (answer s p a))
@@ -58,7 +58,7 @@ module _ (g : Program) (P : WellFormedProgram g) where
   dealt s p ps I (Attempt.waiting w) h k ih = passes h (ih s I)
   dealt s p ps I (Attempt.stuck r) h k ih = passes (unless-ruled r _ k h) (ih s I)
   dealt s p ps I (Attempt.lacking r) h k ih = lacks-key h
-  dealt s p ps I (Attempt.moves m) h k ih = admitted s p ps m h (ih (m .state) (reachable-move g P s p I h)) (lackOf (m .rule) s p (m .state)) refl
+  dealt s p ps I (Attempt.moves m) h k ih = admitted s p ps m h (ih (m .state) (reachable-move g P s p I h)) (noRoomFor (m .rule) s p (m .state)) refl
 
   pub run-executes : (s : State) (ps : List ℕ) → Reachable g s → Execution g s ps (run g s ps)
   unfolding run step
@@ -82,11 +82,11 @@ over-passed (FINISHED h e) = refl
 over-passed {p = p} (BLOCKED K h e b) = blocked-passed p b
 
 pub executes-run : (g : Program) {s : State} {ps : List ℕ} {r : Run} → Execution g s ps r → run g s ps ≡ r
-unfolding run step resume answer admit
+unfolding run step resume answer withinRoom
 executes-run g ends = refl
 executes-run g (passes {s} {p} {ps} h x) = rw (complete-passed g s p h, over-passed h) (ap afterPass (executes-run g x))
 executes-run g (lacks-key {s} {p} h) = rw (complete-lacks g s p h)
-executes-run g (lacks-room {s} {p = p} h e) = rw (complete g s p h, e)
+executes-run g (no-room {s} {p = p} h e) = rw (complete g s p h, e)
 executes-run g (moves {s} {s′} {p} {ps} {r} {R} {e} h k x) = rw (complete g s p h, k) (ap (afterMove (record { rule = R; entry = e; state = s′ })) (executes-run g x))
 
 -- ---- the move count is the number of rule instances
@@ -95,7 +95,7 @@ pub moveCount : {g : Program} {s : State} {ps : List ℕ} {r : Run} → Executio
 moveCount ends = 0
 moveCount (passes h x) = moveCount x
 moveCount (lacks-key h) = 0
-moveCount (lacks-room h e) = 0
+moveCount (no-room h e) = 0
 moveCount (moves h k x) = suc (moveCount x)
 
 pub moves-counted : {g : Program} {s : State} {ps : List ℕ} {r : Run} (x : Execution g s ps r) → length (r .instances) ≡ moveCount x
@@ -103,7 +103,7 @@ unfolding moveCount stopped afterPass afterMove
 moves-counted ends = refl
 moves-counted (passes h x) = moves-counted x
 moves-counted (lacks-key h) = refl
-moves-counted (lacks-room h e) = refl
+moves-counted (no-room h e) = refl
 moves-counted (moves h k x) = ap suc (moves-counted x)
 
 -- ---- plays
@@ -113,7 +113,7 @@ unfolding stopped afterPass afterMove
 reachable-after g P I ends = I
 reachable-after g P I (passes h x) = reachable-after g P I x
 reachable-after g P I (lacks-key h) = I
-reachable-after g P I (lacks-room h e) = I
+reachable-after g P I (no-room h e) = I
 reachable-after g P I (moves {s} {p = p} h k x) = reachable-after g P (reachable-move g P s p I h) x
 
 pub reachable-run : (g : Program) → WellFormedProgram g → (s : State) (ps : List ℕ) → Reachable g s → Reachable g (run g s ps .final)

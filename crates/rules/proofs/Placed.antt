@@ -9,7 +9,7 @@ use mathlib.Core.Option.{Option, some, none}
 use lib.ListN.{length, length-append}
 use Rattle.plan.specs.Syntax.{Expression, Condition, Arguments, literal, end, argument, Program, bool}
 use Rattle.plan.specs.Slots.{bound}
-use Rattle.rules.specs.Context.{Context, Contextᶜ, top, read, write₁, write₂, call, letIn, synch, hold, join, equal₁, equal₂, literals, plug, plugᶜ, Redex, Redexᶜ, Focus, value, here, hereᶜ, focus, focusᶜ, focusᵃ, asLiteral, asBool, term, onLiteral, onBool, onNot}
+use Rattle.rules.specs.Context.{Context, Contextᶜ, top, read, write₁, write₂, call, letIn, synch, hold, join, equal₁, equal₂, literals, plug, plugᶜ, Redex, Redexᶜ, Focus, value, here, hereᶜ, focus, focusᶜ, focusᵃ, asLiteral, asBool, redexExpression, onLiteral, onBool, onNot}
 use Rattle.rules.proofs.Decompose.{focus-plug, focus-plugᶜ, found, as-literal, as-bool}
 use Rattle.plan.proofs.WellFormed.{WellFormed, WellFormedᶜ, WellFormedᵃ, count, Callable, unbound}
 use Rattle.rules.proofs.Closing.{Below}
@@ -198,7 +198,7 @@ module _ (g : Program) (n : ℕ) where
 
   -- a value
   rise-lit : (K : Context) (v : ℕ) → v < n → Around g n K → Lands (pending K) (focus top (plug K (literal v)))
-  unfolding plug asLiteral asBool focus term
+  unfolding plug asLiteral asBool focus redexExpression
   rise-lit top v h k = record { good = h; theirs = refl }
   rise-lit (read K f) v h k = risen K (Expression.read (literal v) f) refl (k .2) (k .0, k .1, h)
   rise-lit (write₁ K f e′) v h k = risen K (Expression.write (literal v) f e′) refl (k .3) (k .0, k .1, h, k .2)

@@ -10,9 +10,9 @@ use mathlib.Core.Option.{Option, some}
 use lib.ListN.{length, getElem?}
 use lib.Dec.{eqb}
 use Rattle.keys.specs.Keys.{Keys, empty, singleton, union, isEmpty}
-use Rattle.plan.specs.Syntax.{Expression, Condition, Arguments, literal, bind, parametersAre, substitute, Program, Procedure, bool, sequence}
+use Rattle.plan.specs.Syntax.{Expression, Condition, Arguments, literal, bind, bindParameters, substitute, Program, Procedure, bool, sequence}
 use Rattle.plan.specs.Slots.{bound}
-use Rattle.rules.specs.Context.{Context, Contextᶜ, Focus, focus, top, here, hold, plug, plugᶜ, Redex, Redexᶜ, term, termᶜ, literals}
+use Rattle.rules.specs.Context.{Context, Contextᶜ, Focus, focus, top, here, hold, plug, plugᶜ, Redex, Redexᶜ, redexExpression, redexCondition, literals}
 use Rattle.rules.proofs.Decompose.{found, foundᶜ}
 use Rattle.rules.specs.State.{Cell, cell, Thread, State, freshObject, lookup, monitor, store, storeMonitor, addObject, learn, become, addThread, useKey}
 use Rattle.records.specs.Record.{Record}
@@ -28,7 +28,7 @@ abbrev pub learnt : Thread → Keys → Thread
 learnt t W = record { self = t .self; expression = t .expression; keys = union W (t .keys) }
 
 -- thread p, which is t, is about to move x in K
-module _ (g : Program) (s : State) (p : ℕ) (t : Thread) (K : Context) (I : Inv g s) (at : getElem? (s .threads) p ≡ some t) (x : Redex) (h : t .expression ≡ plug K (term x)) where
+module _ (g : Program) (s : State) (p : ℕ) (t : Thread) (K : Context) (I : Inv g s) (at : getElem? (s .threads) p ≡ some t) (x : Redex) (h : t .expression ≡ plug K (redexExpression x)) where
   pub seen : focus top (t .expression) ≡ here K x
   seen = ap (focus top) h ∙ found K x
 
@@ -53,11 +53,11 @@ module _ (g : Program) (P : WellFormedProgram g) (s : State) (I : Inv g s) (p : 
   abbrev N : ℕ
   N = length (s .objects)
 
-  kept-call : (m : ℕ) (os : List ℕ) (d : Procedure) → getElem? (g .procedures) m ≡ some d → d .parameters ≡ length os → t .expression ≡ plug K (Expression.call m (literals os Arguments.end)) → Inv g (become s p (plug K (substitute (parametersAre os) (d .body))))
-  unfolding term
+  kept-call : (m : ℕ) (os : List ℕ) (d : Procedure) → getElem? (g .procedures) m ≡ some d → d .parameters ≡ length os → t .expression ≡ plug K (Expression.call m (literals os Arguments.end)) → Inv g (become s p (plug K (substitute (bindParameters os) (d .body))))
+  unfolding redexExpression
   kept-call m os d hd hp he =
-      settle g s p t K I ht (Redex.call m os) he (substitute (parametersAre os) (d .body)) refl
-      (filled g N (parametersAre os) _ unbound (covers-params N (d .parameters) os (placed g s p t K I ht (Redex.call m os) he .1 .1) hp) (d .body) (more g 1 N (I .null-there) _ (d .body) (P .bodies m d hd)))
+      settle g s p t K I ht (Redex.call m os) he (substitute (bindParameters os) (d .body)) refl
+      (filled g N (bindParameters os) _ unbound (covers-params N (d .parameters) os (placed g s p t K I ht (Redex.call m os) he .1 .1) hp) (d .body) (more g 1 N (I .null-there) _ (d .body) (P .bodies m d hd)))
 
   -- a step back to where the mover stood, after what the rule did to the rest
   learnt-at : (s₁ : State) (W : Keys) → s₁ .threads ≡ s .threads → getElem? (learn s₁ p W .threads) p ≡ some (learnt t W)
@@ -75,7 +75,7 @@ module _ (g : Program) (P : WellFormedProgram g) (s : State) (I : Inv g s) (p : 
 
   kept-acquire : (o : ℕ) (e : Expression) (c : Cell) → monitor s o ≡ some c → isEmpty (c .keys) ≡ false → t .expression ≡ plug K (Expression.synch (literal o) e)
       → Inv g (become (learn (storeMonitor s o (record { keys = empty; value = t .self })) p (c .keys)) p (plug K (Expression.hold o e)))
-  unfolding term plug learn storeMonitor monitor
+  unfolding redexExpression plug learn storeMonitor monitor
   kept-acquire o e c m f he = inv-become g s₂ p (plug (hold K o) e) (learnt t (c .keys)) (o ∷ pending K) I₂ at₂ (rise g (length (s₂ .objects)) (hold K o) e (pl .1 .0, pl .0) (pl .1 .1)) mine (first, owing-once g s p t K I ht (Redex.synch o e) he)
     where
       s₁ : State
@@ -105,7 +105,7 @@ module _ (g : Program) (P : WellFormedProgram g) (s : State) (I : Inv g s) (p : 
 
   kept-release : (o v : ℕ) → monitor s o ≡ some (record { keys = empty; value = t .self }) → t .expression ≡ plug K (Expression.hold o (literal v))
       → Inv g (become (storeMonitor s o (record { keys = t .keys; value = 0 })) p (plug K (literal v)))
-  unfolding term storeMonitor become
+  unfolding redexExpression storeMonitor become
   kept-release o v m he = inv-lock g s₁ o (record { keys = t .keys; value = 0 }) (heldBy t) I₁ m₁ (I .null-there) alone
     where
       s₁ : State
@@ -145,7 +145,7 @@ module _ (g : Program) (P : WellFormedProgram g) (s : State) (I : Inv g s) (p : 
 
   kept-fork : (e : Expression) → t .expression ≡ plug K (Expression.fork e)
       → Inv g (become (addThread (addObject s (freshObject [])) (record { self = length (s .objects); expression = e; keys = t .keys })) p (plug K (literal (length (s .objects)))))
-  unfolding term addThread addObject plug
+  unfolding redexExpression addThread addObject plug
   kept-fork e he = settle g s₂ p t K I₂ at₂ (Redex.fork e) he (literal N) refl more-there
     where
       s₁ : State
@@ -194,7 +194,7 @@ module _ (g : Program) (P : WellFormedProgram g) (s : State) (I : Inv g s) (p : 
   choose-text false e e′ h k = k
 
   pub kept : {e : Expression} {R : Rule} {r : Option Record} {s′ : State} {e′ : Expression} → Converts g s p t e R r s′ e′ → t .expression ≡ plug K e → Inv g (become s′ p (plug K e′))
-  unfolding term sequence bound store useKey addObject lookup focus learn
+  unfolding redexExpression sequence bound store useKey addObject lookup focus learn
   kept (E-CALL {m} os {d} hd hp) he = kept-call m os d hd hp he
   kept (E-LET {x} {o} {e}) he =
       let pl = placed g s p t K I ht (Redex.letIn x o e) he in
@@ -229,7 +229,7 @@ module _ (g : Program) (P : WellFormedProgram g) (s : State) (I : Inv g s) (p : 
   kept (E-RELEASE {o} {v} h) he = kept-release o v h he
 
 module _ (g : Program) (s : State) (I : Inv g s) (p : ℕ) (t : Thread) (ht : getElem? (s .threads) p ≡ some t) (K : Contextᶜ) where
-  settleᶜ : (x : Redexᶜ) (b : Condition) → t .expression ≡ plugᶜ K (termᶜ x) → (Readyᶜ g (length (s .objects)) x → Textᶜ g (length (s .objects)) b) → Inv g (become s p (plugᶜ K b))
+  settleᶜ : (x : Redexᶜ) (b : Condition) → t .expression ≡ plugᶜ K (redexCondition x) → (Readyᶜ g (length (s .objects)) x → Textᶜ g (length (s .objects)) b) → Inv g (become s p (plugᶜ K b))
   settleᶜ x b h c =
       let seen′ = ap (focus top) h ∙ foundᶜ K x in
       let d = I .each p t ht in
@@ -238,7 +238,7 @@ module _ (g : Program) (s : State) (I : Inv g s) (p : ℕ) (t : Thread) (ht : ge
       (λ o i. d .held o (rw seen′ i)) (along (λ (F : Focus). Once (holds F)) seen′ (d .once))
 
   pub keptᶜ : {c : Condition} {R : Rule} {c′ : Condition} → Convertsᶜ c R c′ → t .expression ≡ plugᶜ K c → Inv g (become s p (plugᶜ K c′))
-  unfolding termᶜ bool
+  unfolding redexCondition bool
   keptᶜ E-NOTNOTTRUE he = settleᶜ Redexᶜ.notFalse Condition.truth he (λ r. tt)
   keptᶜ (E-ANDTRUE {c}) he = settleᶜ (Redexᶜ.and true c) c he (λ r. r)
   keptᶜ (E-ANDFALSE {c}) he = settleᶜ (Redexᶜ.and false c) (Condition.not Condition.truth) he (λ r. tt)

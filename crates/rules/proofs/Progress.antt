@@ -14,7 +14,7 @@ use Rattle.plan.specs.Syntax.{Expression, Arguments, Program}
 use Rattle.rules.specs.Context.{Context, Focus, focus, top, value, here, hereᶜ, asLiteral, Redex}
 use Rattle.rules.specs.State.{Cell, Thread, State, start, fresh, freshObject, lookup, monitor, threadOf, Numbered}
 use Rattle.rules.specs.Rules.{isVolatile}
-use Rattle.rules.specs.Step.{Stuck, notThread, missingField, noRule, Act, waits, stops, lacks, does, callAct, readAct, writeAct, joinAct, joinValue, synchAct, holdAct, act, Attempt, around, attemptAt, attemptBy, attempt}
+use Rattle.rules.specs.Step.{Stuck, notThread, missingField, noRule, Act, waits, sticks, lacks, does, callAct, readAct, writeAct, joinAct, joinValue, synchAct, holdAct, act, Attempt, around, attemptAt, attemptBy, attempt}
 use Rattle.plan.proofs.WellFormed.{WellFormedProgram, Callable}
 use Rattle.rules.proofs.Placed.{Good, Ready, holds, held, pending}
 use Rattle.rules.proofs.StateLaws.{monitor-there}
@@ -28,7 +28,7 @@ Known noRule = ⊥
 
 abbrev Fine : Act → Type 0
 Fine (waits w) = Unit {0}
-Fine (stops r) = Known r
+Fine (sticks r) = Known r
 Fine (lacks r) = Unit {0}
 Fine (does R r s e) = Unit {0}
 
@@ -95,7 +95,7 @@ module _ (g : Program) (s : State) (I : Inv g s) (p : ℕ) (t : Thread) (ht : ge
   fine-around : (K : Context) (a : Act) → Fine a → Ruled (around s p K a)
   unfolding around
   fine-around K (waits w) h = tt
-  fine-around K (stops r) h = h
+  fine-around K (sticks r) h = h
   fine-around K (lacks r) h = tt
   fine-around K (does R r s′ e) h = tt
 

@@ -19,9 +19,9 @@ use Rattle.plan.specs.Syntax.{Expression, Arguments, Program}
 use Rattle.plan.proofs.WellFormed.{WellFormedProgram}
 use Rattle.records.specs.Record.{Record}
 use Rattle.rules.specs.State.{Cell, Thread, State, start, fresh, freshObject, lookup, monitor}
-use Rattle.rules.specs.Rules.{isVolatile, Wants, WANTS-READ, WANTS-WRITE, Lacks, LACKS}
+use Rattle.rules.specs.Rules.{isVolatile, LacksHere, LACKS-READ, LACKS-WRITE, Lacks, LACKS}
 use Rattle.rules.specs.Run.{Run, logged, stopped, afterPass, afterMove, play}
-use Rattle.rules.specs.Execution.{Execution, ends, passes, lacks-key, lacks-room, moves}
+use Rattle.rules.specs.Execution.{Execution, ends, passes, lacks-key, no-room, moves}
 use Rattle.rules.proofs.KeyBridge.{keysOf}
 use Rattle.rules.proofs.Bridge.{Kept, bridge, tested}
 use Rattle.rules.proofs.Executed.{Reachable, reachable-start, reachable-move, play-executes}
@@ -30,8 +30,8 @@ use Rattle.rules.proofs.Executed.{Reachable, reachable-start, reachable
 
 module _ (g : Program) (s : State) (I : Reachable g s) (p : ℕ) (H : List Record) (J : Kept g s H) where
   kept-lacks : {r : Record} → Lacks g s p r → Kept g s (r ∷ H)
-  kept-lacks (LACKS K {t} ht he (WANTS-READ w {o} {f} {v} h k vol)) = record { agrees = J .agrees; legal = (J .legal, J .agrees .present p t ht, rw (sym (tested g s (I .invariant) p t ht H J w o f v h vol) ∙ k) tt) }
-  kept-lacks (LACKS K {t} ht he (WANTS-WRITE w {o} {f} {u} h k vol)) = record { agrees = J .agrees; legal = (J .legal, J .agrees .present p t ht, rw (sym (tested g s (I .invariant) p t ht H J w o f u h vol) ∙ k) tt) }
+  kept-lacks (LACKS K {t} ht he (LACKS-READ w {o} {f} {v} h k vol)) = record { agrees = J .agrees; legal = (J .legal, J .agrees .present p t ht, rw (sym (tested g s (I .invariant) p t ht H J w o f v h vol) ∙ k) tt) }
+  kept-lacks (LACKS K {t} ht he (LACKS-WRITE w {o} {f} {u} h k vol)) = record { agrees = J .agrees; legal = (J .legal, J .agrees .present p t ht, rw (sym (tested g s (I .invariant) p t ht H J w o f u h vol) ∙ k) tt) }
 
 -- ---- the start
 
@@ -87,7 +87,7 @@ unfolding stopped afterPass afterMove
 kept-execution g P H I J ends = J
 kept-execution g P H I J (passes h x) = kept-execution g P H I J x
 kept-execution g P H I J (lacks-key {s} {p} h) = kept-lacks g s I p H J h
-kept-execution g P H I J (lacks-room h e) = J
+kept-execution g P H I J (no-room h e) = J
 kept-execution g P H I J (moves {s} {p = p} {r = r} {e = e} h k x) =
     along (Kept g (r .final)) (sym (turn-logged e (r .log) H))
     (kept-execution g P (logged e H) (reachable-move g P s p I h) (bridge g s (I .invariant) p H J h) x)

@@ -10,11 +10,11 @@ use lib.Dec.{eqb, leb, nleb→lt}
 use borrow.Author.Tests.{ne-eqb, le-ltb}
 use Rattle.keys.specs.Keys.{singleton, empty}
 use Rattle.plan.specs.Syntax.{Program, Expression}
-use Rattle.rules.specs.Context.{Context, focus, top, plug, term, Redex}
+use Rattle.rules.specs.Context.{Context, focus, top, plug, redexExpression, Redex}
 use Rattle.rules.specs.State.{Cell, Thread, State, start, freshObject, store, storeMonitor, addObject, learn, become, addThread, useKey}
 use Rattle.records.specs.Record.{Record}
-use Rattle.rules.specs.Rules.{Rule, Wants, WANTS-READ, WANTS-WRITE, Lacks, LACKS, Converts, E-CALL, E-LET, E-IF, E-WHILE, E-NEW, E-READ, E-WRITE, E-READV, E-WRITEV, E-FORK, E-JOIN, E-RE-ENTER, E-ACQUIRE, E-RELEASE, Moves, EVAL, EVALᶜ}
-use Rattle.rules.specs.Room.{Room, noThread, noObject, noKey, lackBefore, lackAfter, lackOf}
+use Rattle.rules.specs.Rules.{Rule, LacksHere, LACKS-READ, LACKS-WRITE, Lacks, LACKS, Converts, E-CALL, E-LET, E-IF, E-WHILE, E-NEW, E-READ, E-WRITE, E-READV, E-WRITEV, E-FORK, E-JOIN, E-RE-ENTER, E-ACQUIRE, E-RELEASE, Moves, EVAL, EVALᶜ}
+use Rattle.rules.specs.Room.{Room, noRoomBefore, noRoomAfter, noRoomFor}
 use Rattle.format.specs.Refusal.{orElse}
 use Rattle.rules.specs.Run.{Run, logged, stopped, afterPass, afterMove, play}
 use Rattle.plan.proofs.WellFormed.{WellFormedProgram}
@@ -23,7 +23,7 @@ use Rattle.rules.proofs.Placed.{Good}
 use Rattle.rules.proofs.StateLaws.{inside, length-added, change-length, found-thread}
 use Rattle.rules.proofs.Invariant.{Inv}
 use Rattle.rules.proofs.Preserved.{placed}
-use Rattle.rules.specs.Execution.{Execution, ends, passes, lacks-key, lacks-room, moves}
+use Rattle.rules.specs.Execution.{Execution, ends, passes, lacks-key, no-room, moves}
 use Rattle.rules.proofs.Executed.{Reachable, reachable-start, reachable-move, play-executes}
 
 -- within the room: 8 threads, 32 objects, keys 0 to 255
@@ -75,22 +75,22 @@ module _ (g : Program) (s : State) (I : Inv g s) (z : Roomy s) (p : ℕ) (t : Th
   five o h = let a = z .objects32 in omega arith
 
   -- room before the move is enough after it
-  fits : {e : Expression} {R : Rule} {r : Option Record} {s′ : State} {e′ : Expression} → Converts g s p t e R r s′ e′ → lackBefore s R ≡ none → Roomy s′
-  unfolding lackBefore useKey addObject addThread
+  fits : {e : Expression} {R : Rule} {r : Option Record} {s′ : State} {e′ : Expression} → Converts g s p t e R r s′ e′ → noRoomBefore s R ≡ none → Roomy s′
+  unfolding noRoomBefore useKey addObject addThread
   fits (E-CALL os hd hp) l = z
   fits E-LET l = z
   fits (E-IF b) l = z
   fits E-WHILE l = z
-  fits (E-NEW {fs}) l = let b = below-when 32 (length (s .objects)) noObject none l .0 in record { threads8 = z .threads8; objects32 = omega (arith, length-added (s .objects) (freshObject fs)); keys256 = z .keys256 }
+  fits (E-NEW {fs}) l = let b = below-when 32 (length (s .objects)) Room.object none l .0 in record { threads8 = z .threads8; objects32 = omega (arith, length-added (s .objects) (freshObject fs)); keys256 = z .keys256 }
   fits (E-READ w h k vol) l = z
   fits (E-WRITE w {o} {f} {u} {v} h k vol) l =
-      let b = below-when 256 (s .nextKey) noKey none l .0 in
+      let b = below-when 256 (s .nextKey) Room.key none l .0 in
       roomy-learn (store (useKey s) o f (record { keys = singleton (s .nextKey); value = v })) p (singleton (s .nextKey)) (roomy-store (useKey s) o f (record { keys = singleton (s .nextKey); value = v }) (record { threads8 = z .threads8; objects32 = z .objects32; keys256 = omega arith }))
   fits (E-READV {W = W} h vol) l = roomy-learn s p W z
   fits (E-WRITEV {o} {f} h vol) l = roomy-store s o f _ z
   fits (E-FORK {e}) l =
-      let b = below-when 8 (length (s .threads)) noThread _ l in
-      let d = below-when 32 (length (s .objects)) noObject none (b .1) .0 in
+      let b = below-when 8 (length (s .threads)) Room.thread _ l in
+      let d = below-when 32 (length (s .objects)) Room.object none (b .1) .0 in
       let c = b .0 in
       record { threads8 = omega (arith, length-added (s .threads) (record { self = length (s .objects); expression = e; keys = t .keys })); objects32 = omega (arith, length-added (s .objects) (freshObject [])); keys256 = z .keys256 }
   fits (E-JOIN {q = q} h l′) l = roomy-learn s p (q .thread .keys) z
@@ -98,20 +98,20 @@ module _ (g : Program) (s : State) (I : Inv g s) (z : Roomy s) (p : ℕ) (t : Th
   fits (E-ACQUIRE {o} {W = W} h n) l = roomy-learn (storeMonitor s o (record { keys = empty; value = t .self })) p W (roomy-lock s o (record { keys = empty; value = t .self }) z)
   fits (E-RELEASE {o} h) l = roomy-lock s o (record { keys = t .keys; value = 0 }) z
 
-  tidy : {e : Expression} {R : Rule} {r : Option Record} {s′ : State} {e′ : Expression} → Converts g s p t e R r s′ e′ → t .expression ≡ plug K e → lackBefore s R ≡ none → TidyOr r
-  unfolding lackBefore term focus
+  tidy : {e : Expression} {R : Rule} {r : Option Record} {s′ : State} {e′ : Expression} → Converts g s p t e R r s′ e′ → t .expression ≡ plug K e → noRoomBefore s R ≡ none → TidyOr r
+  unfolding noRoomBefore redexExpression focus
   tidy (E-CALL os hd hp) he l = tt
   tidy E-LET he l = tt
   tidy (E-IF b) he l = tt
   tidy E-WHILE he l = tt
-  tidy (E-NEW {fs}) he l = let b = below-when 32 (length (s .objects)) noObject none l .0 in record { thread-below = three; object-below = b; field-below = omega arith; value-below = omega arith; columns = refl }
+  tidy (E-NEW {fs}) he l = let b = below-when 32 (length (s .objects)) Room.object none l .0 in record { thread-below = three; object-below = b; field-below = omega arith; value-below = omega arith; columns = refl }
   tidy (E-READ w {o} {f} {v} h k vol) he l = let q = placed g s p t K I ht (Redex.read o f) he .1 in record { thread-below = three; object-below = five o (q .2); field-below = q .1; value-below = five v (I .cells o f _ h); columns = nonzero f (q .0) }
   tidy (E-WRITE w {o} {f} {u} {v} h k vol) he l = let q = placed g s p t K I ht (Redex.write o f v) he .1 in record { thread-below = three; object-below = five o (q .2); field-below = q .1; value-below = five v (q .3); columns = nonzero f (q .0) }
   tidy (E-READV {o} {f} {v} h vol) he l = let q = placed g s p t K I ht (Redex.read o f) he .1 in record { thread-below = three; object-below = five o (q .2); field-below = q .1; value-below = five v (I .cells o f _ h); columns = nonzero f (q .0) }
   tidy (E-WRITEV {o} {f} {u} {v} h vol) he l = let q = placed g s p t K I ht (Redex.write o f v) he .1 in record { thread-below = three; object-below = five o (q .2); field-below = q .1; value-below = five v (q .3); columns = nonzero f (q .0) }
   tidy (E-FORK {e}) he l =
-      let b = below-when 8 (length (s .threads)) noThread _ l in
-      let d = below-when 32 (length (s .objects)) noObject none (b .1) .0 in
+      let b = below-when 8 (length (s .threads)) Room.thread _ l in
+      let d = below-when 32 (length (s .objects)) Room.object none (b .1) .0 in
       let c = b .0 in
       record { thread-below = three; object-below = d; field-below = omega arith; value-below = omega arith; columns = rw (le-ltb 7 (length (s .threads)) (omega arith)) }
   tidy (E-JOIN {o} {v} {q} h l′) he l =
@@ -125,16 +125,16 @@ module _ (g : Program) (s : State) (I : Inv g s) (z : Roomy s) (p : ℕ) (t : Th
   tidy (E-ACQUIRE {o} {u} {W} {e} h n) he l = record { thread-below = three; object-below = five o (placed g s p t K I ht (Redex.synch o e) he .1 .0); field-below = omega arith; value-below = omega arith; columns = refl }
   tidy (E-RELEASE {o} {v} h) he l = record { thread-below = three; object-below = five o (placed g s p t K I ht (Redex.hold o v) he .1 .0); field-below = omega arith; value-below = omega arith; columns = refl }
 
-  tidy-lacks : {e : Expression} {r : Record} → Wants g s p t e r → t .expression ≡ plug K e → Tidy r
-  unfolding term
-  tidy-lacks (WANTS-READ w {o} {f} h k vol) he = let q = placed g s p t K I ht (Redex.read o f) he .1 in record { thread-below = three; object-below = five o (q .2); field-below = q .1; value-below = omega arith; columns = rw (nonzero f (q .0)) }
-  tidy-lacks (WANTS-WRITE w {o} {f} {v = x} h k vol) he = let q = placed g s p t K I ht (Redex.write o f x) he .1 in record { thread-below = three; object-below = five o (q .2); field-below = q .1; value-below = five x (q .3); columns = nonzero f (q .0) }
+  tidy-lacks : {e : Expression} {r : Record} → LacksHere g s p t e r → t .expression ≡ plug K e → Tidy r
+  unfolding redexExpression
+  tidy-lacks (LACKS-READ w {o} {f} h k vol) he = let q = placed g s p t K I ht (Redex.read o f) he .1 in record { thread-below = three; object-below = five o (q .2); field-below = q .1; value-below = omega arith; columns = rw (nonzero f (q .0)) }
+  tidy-lacks (LACKS-WRITE w {o} {f} {v = x} h k vol) he = let q = placed g s p t K I ht (Redex.write o f x) he .1 in record { thread-below = three; object-below = five o (q .2); field-below = q .1; value-below = five x (q .3); columns = nonzero f (q .0) }
 
 -- a pick's move
-pub tidy-move : (g : Program) (s : State) → Inv g s → Roomy s → (p : ℕ) {R : Rule} {r : Option Record} {s′ : State} → Moves g s p R r s′ → lackOf R s p s′ ≡ none → Roomy s′ × TidyOr r
-unfolding lackOf
+pub tidy-move : (g : Program) (s : State) → Inv g s → Roomy s → (p : ℕ) {R : Rule} {r : Option Record} {s′ : State} → Moves g s p R r s′ → noRoomFor R s p s′ ≡ none → Roomy s′ × TidyOr r
+unfolding noRoomFor
 tidy-move g s I z p (EVAL K {t} {e} {e′} {R} {r} {s′} ht he c) l =
-    let b = before-none (lackBefore s R) (lackAfter s p (become s′ p (plug K e′))) l in
+    let b = before-none (noRoomBefore s R) (noRoomAfter s p (become s′ p (plug K e′))) l in
     (roomy-become s′ p (plug K e′) (fits g s I z p t ht K c b), tidy g s I z p t ht K c he b)
 tidy-move g s I z p (EVALᶜ K {t} ht he k) l = (roomy-become s p _ z, tt)
 
@@ -162,7 +162,7 @@ unfolding stopped afterPass afterMove
 tidy-execution g P I z ends = record { roomy = z; all-tidy = tt; few = omega arith }
 tidy-execution g P I z (passes h x) = let d = tidy-execution g P I z x in record { roomy = d .roomy; all-tidy = d .all-tidy; few = omega arith }
 tidy-execution g P I z (lacks-key {s} {p} h) = record { roomy = z; all-tidy = (tidy-lacking g s (I .invariant) z p h, tt); few = omega arith }
-tidy-execution g P I z (lacks-room h e) = record { roomy = z; all-tidy = tt; few = omega arith }
+tidy-execution g P I z (no-room h e) = record { roomy = z; all-tidy = tt; few = omega arith }
 tidy-execution g P I z (moves {s} {p = p} {r = r} {e = e} h k x) =
     let n = tidy-move g s (I .invariant) z p h k in
     let d = tidy-execution g P (reachable-move g P s p I h) (n .0) x in

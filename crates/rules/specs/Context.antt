@@ -100,26 +100,26 @@ pub data Redexᶜ : Type 0 where
   equal : ℕ → ℕ → Redexᶜ
 
 -- the expression and the condition that a redex is
-unfoldable pub term : Redex → Expression
+unfoldable pub redexExpression : Redex → Expression
 unfolding literals bool
-term (variable x) = Expression.variable x
-term (new fs) = Expression.new fs
-term (read o f) = Expression.read (literal o) f
-term (write o f v) = Expression.write (literal o) f (literal v)
-term (letIn x o e) = Expression.letIn x (literal o) e
-term (if b e e′) = Expression.if (bool b) e e′
-term (while c e) = Expression.while c e
-term (call m os) = Expression.call m (literals os end)
-term (fork e) = Expression.fork e
-term (join o) = Expression.join (literal o)
-term (synch o e) = Expression.synch (literal o) e
-term (hold o v) = Expression.hold o (literal v)
+redexExpression (variable x) = Expression.variable x
+redexExpression (new fs) = Expression.new fs
+redexExpression (read o f) = Expression.read (literal o) f
+redexExpression (write o f v) = Expression.write (literal o) f (literal v)
+redexExpression (letIn x o e) = Expression.letIn x (literal o) e
+redexExpression (if b e e′) = Expression.if (bool b) e e′
+redexExpression (while c e) = Expression.while c e
+redexExpression (call m os) = Expression.call m (literals os end)
+redexExpression (fork e) = Expression.fork e
+redexExpression (join o) = Expression.join (literal o)
+redexExpression (synch o e) = Expression.synch (literal o) e
+redexExpression (hold o v) = Expression.hold o (literal v)
 
-unfoldable pub termᶜ : Redexᶜ → Condition
+unfoldable pub redexCondition : Redexᶜ → Condition
 unfolding bool
-termᶜ notFalse = Condition.not (bool false)
-termᶜ (and b c) = Condition.and (bool b) c
-termᶜ (equal o o′) = Condition.equal (literal o) (literal o′)
+redexCondition notFalse = Condition.not (bool false)
+redexCondition (and b c) = Condition.and (bool b) c
+redexCondition (equal o o′) = Condition.equal (literal o) (literal o′)
 
 -- the value that an expression is
 unfoldable pub asLiteral : Expression → Option ℕ
@@ -195,7 +195,7 @@ unfoldable mutual
   focus K (Expression.hold o e) = onLiteral (asLiteral e) (λ v. here K (hold o v)) (focus (hold K o) e)
 
   pub focusᶜ : Contextᶜ → Condition → Focus
-  focusᶜ K Condition.truth = value 0
+  focusᶜ K Condition.truth = value 0  -- never asked, as in `onNot`
   focusᶜ K (Condition.not c) = onBool (asBool c) (λ b. onNot K b) (focusᶜ (not K) c)
   focusᶜ K (Condition.and c c′) = onBool (asBool c) (λ b. hereᶜ K (and b c′)) (focusᶜ (and K c′) c)
   focusᶜ K (Condition.equal e e′) = onLiteral (asLiteral e) (λ o. onLiteral (asLiteral e′) (λ o′. hereᶜ K (equal o o′)) (focus (equal₂ K o) e′)) (focus (equal₁ K e′) e)

@@ -1,4 +1,6 @@
--- Executions: demand 2 of one run, as a relation. Assumes nothing.
+-- Executions (document 001, definition 6.5), with the picks passed over and the stop: demand 2 of one run, "Each run moves as the write-key rules of
+-- Boyland's kernel language say, one rule to each move, every plain write a new key, nothing passed over, stuck or stopped except for document 01's
+-- reasons". Assumes nothing.
 use Prim.Native.Nat.{ℕ}
 use mathlib.Core.Path.{_≡_}
 use mathlib.Core.List.{List, [], _∷_}
@@ -8,7 +10,7 @@ use Rattle.records.specs.Record.{Record}
 use Rattle.rules.specs.State.{State}
 use Rattle.rules.specs.Rules.{Rule, Moves, Lacks}
 use Rattle.rules.specs.Step.{Attempt}
-use Rattle.rules.specs.Room.{PassedOver, Room, lackOf}
+use Rattle.rules.specs.Room.{PassedOver, Room, noRoomFor}
 use Rattle.rules.specs.Run.{Stop, Run, afterPass, afterMove, stopped}
 
 -- The run r of the picks from state s deals with each pick in one of four ways: it is passed over for a reason of document 01's; the run stops for
@@ -23,9 +25,9 @@ module _ (g : Program) where
     lacks-key : {s : State} {p : ℕ} {ps : List ℕ} {e : Record}
         → Lacks g s p e
         → Execution s (p ∷ ps) (stopped Stop.race (e ∷ []) s)
-    lacks-room : {s s′ : State} {p : ℕ} {ps : List ℕ} {R : Rule} {e : Option Record} {k : Room}
-        → Moves g s p R e s′ → lackOf R s p s′ ≡ some k
+    no-room : {s s′ : State} {p : ℕ} {ps : List ℕ} {R : Rule} {e : Option Record} {k : Room}
+        → Moves g s p R e s′ → noRoomFor R s p s′ ≡ some k
         → Execution s (p ∷ ps) (stopped (Stop.noRoom k) [] s)
     moves : {s s′ : State} {p : ℕ} {ps : List ℕ} {r : Run} {R : Rule} {e : Option Record}
-        → Moves g s p R e s′ → lackOf R s p s′ ≡ none → Execution s′ ps r
+        → Moves g s p R e s′ → noRoomFor R s p s′ ≡ none → Execution s′ ps r
         → Execution s (p ∷ ps) (afterMove (record { rule = R; entry = e; state = s′ }) r)

@@ -17,7 +17,7 @@ use Rattle.rules.specs.Step.{forMonitor, forJoin, missingField, notThrea
 
 -- ---- passing over, as a relation
 
--- the redex e of a thread that stands for object `self` cannot move, and why
+-- the redex e of the thread that object `self` stands for cannot move, and why
 module _ (s : State) (self : ℕ) where
   pub data Blocked : Expression → Attempt → Type 0 where
     -- "monitor held by another"
@@ -53,30 +53,30 @@ module _ (s : State) (p : ℕ) where
 
 -- "no room (thread, object, key, depth)"
 pub data Room : Type 0 where
-  noThread noObject noKey noDepth : Room
+  thread object key depth : Room
 
 -- "fork with 8 threads present; new or fork with 32 objects present, null included; plain write with keys 0 to 255 all in use": the room that the
 -- state before the move lacks
-unfoldable pub lackBefore : State → Rule → Option Room
-lackBefore s e-call = none
-lackBefore s e-let = none
-lackBefore s e-if = none
-lackBefore s e-while = none
-lackBefore s e-notnottrue = none
-lackBefore s e-andtrue = none
-lackBefore s e-andfalse = none
-lackBefore s e-equaltrue = none
-lackBefore s e-equalfalse = none
-lackBefore s e-new = cond (leb 32 (length (s .objects))) (some noObject) none
-lackBefore s e-read = none
-lackBefore s e-write = cond (leb 256 (s .nextKey)) (some noKey) none
-lackBefore s e-readv = none
-lackBefore s e-writev = none
-lackBefore s e-fork = cond (leb 8 (length (s .threads))) (some noThread) (cond (leb 32 (length (s .objects))) (some noObject) none)
-lackBefore s e-join = none
-lackBefore s e-re-enter = none
-lackBefore s e-acquire = none
-lackBefore s e-release = none
+unfoldable pub noRoomBefore : State → Rule → Option Room
+noRoomBefore s e-call = none
+noRoomBefore s e-let = none
+noRoomBefore s e-if = none
+noRoomBefore s e-while = none
+noRoomBefore s e-notnottrue = none
+noRoomBefore s e-andtrue = none
+noRoomBefore s e-andfalse = none
+noRoomBefore s e-equaltrue = none
+noRoomBefore s e-equalfalse = none
+noRoomBefore s e-new = cond (leb 32 (length (s .objects))) (some Room.object) none
+noRoomBefore s e-read = none
+noRoomBefore s e-write = cond (leb 256 (s .nextKey)) (some Room.key) none
+noRoomBefore s e-readv = none
+noRoomBefore s e-writev = none
+noRoomBefore s e-fork = cond (leb 8 (length (s .threads))) (some Room.thread) (cond (leb 32 (length (s .objects))) (some Room.object) none)
+noRoomBefore s e-join = none
+noRoomBefore s e-re-enter = none
+noRoomBefore s e-acquire = none
+noRoomBefore s e-release = none
 
 -- a depth over 32
 unfoldable pub deep : Thread → Bool
@@ -94,37 +94,37 @@ anyDeep [] = false
 anyDeep (t ∷ ts) = deep t || anyDeep ts
 
 -- "a depth over 32 after the move, in the mover or in the thread it forks": thread p moved from s to s′
-unfoldable pub lackAfter : State → ℕ → State → Option Room
+unfoldable pub noRoomAfter : State → ℕ → State → Option Room
 unfolding deepAt anyDeep
-lackAfter s p s′ = cond (deepAt (getElem? (s′ .threads) p) || anyDeep (drop (length (s .threads)) (s′ .threads))) (some noDepth) none
+noRoomAfter s p s′ = cond (deepAt (getElem? (s′ .threads) p) || anyDeep (drop (length (s .threads)) (s′ .threads))) (some Room.depth) none
 
 -- the first room that thread p's move from s to s′ by a rule lacks
-unfoldable pub lackOf : Rule → State → ℕ → State → Option Room
-unfolding lackBefore lackAfter orElse
-lackOf R s p s′ = orElse (lackBefore s R) (lackAfter s p s′)
+unfoldable pub noRoomFor : Rule → State → ℕ → State → Option Room
+unfolding noRoomBefore noRoomAfter orElse
+noRoomFor R s p s′ = orElse (noRoomBefore s R) (noRoomAfter s p s′)
 
 -- ---- the answer to a pick
 
 pub data Answer : Type 0 where
   passed : Answer  -- "A pick is passed over, changing nothing"
   race : Record → Answer  -- the run stops: key missing
-  full : Room → Answer  -- the run stops: no room
+  noRoom : Room → Answer  -- the run stops: no room
   moved : Move → Answer
 
-unfoldable pub admit : Move → Option Room → Answer
-admit m none = moved m
-admit m (some k) = full k
+unfoldable pub withinRoom : Move → Option Room → Answer
+withinRoom m none = moved m
+withinRoom m (some k) = noRoom k
 
 -- "A pick is passed over [..] if that thread is absent, finished, waiting [..] or stuck [..]. Otherwise the run stops at this pick, unmoved, for the
 -- first of: key missing; [..]"
 unfoldable pub answer : State → ℕ → Attempt → Answer
-unfolding lackOf admit
+unfolding noRoomFor withinRoom
 answer s p absent = passed
 answer s p (finished v) = passed
 answer s p (waiting w) = passed
 answer s p (stuck r) = passed
 answer s p (lacking r) = race r
-answer s p (moves m) = admit m (lackOf (m .rule) s p (m .state))
+answer s p (moves m) = withinRoom m (noRoomFor (m .rule) s p (m .state))
 
 -- the answer to a pick of thread p in state s
 unfoldable pub step : Program → State → ℕ → Answer

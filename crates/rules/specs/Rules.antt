@@ -7,7 +7,7 @@ use mathlib.Core.Option.{Option, some, none}
 use lib.Dec.{eqb}
 use lib.ListN.{length, getElem?}
 use Rattle.keys.specs.Keys.{Keys, empty, singleton, holds, union, isEmpty}
-use Rattle.plan.specs.Syntax.{Expression, Condition, Procedure, Program, literal, end, sequence, bool, bind, parametersAre, substitute}
+use Rattle.plan.specs.Syntax.{Expression, Condition, Procedure, Program, literal, end, sequence, bool, bind, bindParameters, substitute}
 use Rattle.plan.specs.Format.{maskBit}
 use Rattle.records.specs.Record.{Kind, Record, entry}
 use Rattle.rules.specs.Context.{Context, Contextᶜ, plug, plugᶜ, literals}
@@ -29,11 +29,13 @@ choose true e e′ = e
 choose false e e′ = e′
 
 -- Figures 7 and 8: in program g and state s thread p, which is t, converts an expression into another; the rule, its record, and the state after it.
+-- "Reads and writes give the value read or written [..]. Fork gives the new thread's object, and its number as field; join gives the object, the thread
+-- number as field, and the result as value. Columns without a use are 0. Other moves leave no record."
 module _ (g : Program) (s : State) (p : ℕ) (t : Thread) where
   pub data Converts : Expression → Rule → Option Record → State → Expression → Type 0 where
     E-CALL : {m : ℕ} (os : List ℕ) {d : Procedure}
         → getElem? (g .procedures) m ≡ some d → d .parameters ≡ length os
-        → Converts (Expression.call m (literals os end)) e-call none s (substitute (parametersAre os) (d .body))
+        → Converts (Expression.call m (literals os end)) e-call none s (substitute (bindParameters os) (d .body))
     E-LET : {x : Option ℕ} {o : ℕ} {e : Expression}
         → Converts (Expression.letIn x (literal o) e) e-let none s (substitute (bind x o) e)
     E-IF : (b : Bool) {e e′ : Expression}
@@ -104,16 +106,16 @@ module _ (g : Program) (s : State) (p : ℕ) where
 -- Definition 6.2, a write key error: thread p, which is t, is about to read or write a plain field whose key it lacks; with the record that the run
 -- then ends with: "kind 11 the value it would have written, kind 10 gives 0"
 module _ (g : Program) (s : State) (p : ℕ) (t : Thread) where
-  pub data Wants : Expression → Record → Type 0 where
-    WANTS-READ : (w : ℕ) {o f v : ℕ}
+  pub data LacksHere : Expression → Record → Type 0 where
+    LACKS-READ : (w : ℕ) {o f v : ℕ}
         → lookup s o f ≡ some (cell (singleton w) v) → holds (t .keys) w ≡ false → isVolatile g f ≡ false
-        → Wants (Expression.read (literal o) f) (entry Kind.lacksRead p o f 0)
-    WANTS-WRITE : (w : ℕ) {o f u v : ℕ}
+        → LacksHere (Expression.read (literal o) f) (entry Kind.lacksRead p o f 0)
+    LACKS-WRITE : (w : ℕ) {o f u v : ℕ}
         → lookup s o f ≡ some (cell (singleton w) u) → holds (t .keys) w ≡ false → isVolatile g f ≡ false
-        → Wants (Expression.write (literal o) f (literal v)) (entry Kind.lacksWrite p o f v)
+        → LacksHere (Expression.write (literal o) f (literal v)) (entry Kind.lacksWrite p o f v)
 
 module _ (g : Program) (s : State) (p : ℕ) where
   pub data Lacks : Record → Type 0 where
     LACKS : (K : Context) {t : Thread} {e : Expression} {r : Record}
-        → getElem? (s .threads) p ≡ some t → t .expression ≡ plug K e → Wants g s p t e r
+        → getElem? (s .threads) p ≡ some t → t .expression ≡ plug K e → LacksHere g s p t e r
         → Lacks r

@@ -45,7 +45,7 @@ unfoldable pub resume : State → (State → Run) → Answer → Run
 unfolding afterPass afterMove stopped
 resume s k Answer.passed = afterPass (k s)
 resume s k (Answer.race r) = stopped race (r ∷ []) s
-resume s k (Answer.full w) = stopped (noRoom w) [] s
+resume s k (Answer.noRoom w) = stopped (noRoom w) [] s
 resume s k (Answer.moved m) = afterMove m (k (m .state))
 
 -- the run of a list of picks from state s
@@ -79,14 +79,14 @@ status (Attempt.stuck r) = stuck r
 status (Attempt.lacking r) = lacking (r .object) (r .field)
 status (Attempt.moves m) = ready
 
--- the states of n threads from thread p on
+-- the statuses of n threads from thread p on
 unfoldable pub statusesFrom : Program → State → ℕ → ℕ → List Status
 unfolding status attempt
 statusesFrom g s p zero = []
 statusesFrom g s p (suc n) = status (attempt g s p) ∷ statusesFrom g s (suc p) n
 
 -- "The outcome holds: end, race, or no room (thread, object, key, depth); the picks dealt with before the end or stop; the moves made; the records
--- written; and for each of 8 threads [..]"
+-- written; and for each of 8 threads [..]"; "the answer also gives its length: for a run by the count of records"
 pub record Outcome : Type 0 where
   pub stop : Stop
   pub picks : ℕ

@@ -6,7 +6,7 @@ use mathlib.Core.Option.{Option, some, none}
 use lib.Dec.{eqb}
 use lib.ListN.{length, getElem?}
 use Rattle.keys.specs.Keys.{empty, singleton, union, subset, isEmpty}
-use Rattle.plan.specs.Syntax.{Expression, Condition, Procedure, Program, literal, sequence, bool, bind, parametersAre, substitute}
+use Rattle.plan.specs.Syntax.{Expression, Condition, Procedure, Program, literal, sequence, bool, bind, bindParameters, substitute}
 use Rattle.records.specs.Record.{Kind, Record, entry}
 use Rattle.rules.specs.Context.{Context, top, plug, plugᶜ, Redex, Redexᶜ, Focus, value, here, hereᶜ, focus, asLiteral}
 use Rattle.rules.specs.State.{Cell, cell, Thread, State, Numbered, freshObject, lookup, monitor, store, storeMonitor, addObject, learn, become, addThread, useKey, threadOf}
@@ -21,25 +21,25 @@ pub data Wait : Type 0 where
 pub data Stuck : Type 0 where
   missingField : ℕ → ℕ → Stuck
   notThread : ℕ → Stuck
-  noRule : Stuck  -- a slot that nothing binds, a call without its procedure or arguments, a hold without its monitor: no accepted plan comes here
+  noRule : Stuck  -- a slot that nothing binds, a call without its procedure or arguments, an object or a held monitor that is not there: no accepted plan comes here
 
 -- what a redex comes to. Of a rule: its record, the state after it but for the mover's expression, and what replaces the redex
 pub data Act : Type 0 where
   waits : Wait → Act
-  stops : Stuck → Act
+  sticks : Stuck → Act
   lacks : Record → Act
   does : Rule → Option Record → State → Expression → Act
 
 -- E-CALL
 unfoldable pub callAct : State → Option Procedure → List ℕ → Act
-unfolding substitute parametersAre
-callAct s none os = stops noRule
-callAct s (some d) os = cond (eqb (d .parameters) (length os)) (does e-call none s (substitute (parametersAre os) (d .body))) (stops noRule)
+unfolding substitute bindParameters
+callAct s none os = sticks noRule
+callAct s (some d) os = cond (eqb (d .parameters) (length os)) (does e-call none s (substitute (bindParameters os) (d .body))) (sticks noRule)
 
 -- E-READ, E-READV
 unfoldable pub readAct : Program → State → ℕ → Thread → ℕ → ℕ → Option Cell → Act
 unfolding isVolatile subset learn
-readAct g s p t o f none = stops (missingField o f)
+readAct g s p t o f none = sticks (missingField o f)
 readAct g s p t o f (some c) =
     cond (isVolatile g f)
     (does e-readv (some (entry Kind.readv p o f (c .value))) (learn s p (c .keys)) (literal (c .value)))
@@ -50,7 +50,7 @@ readAct g s p t o f (some c) =
 -- E-WRITE, E-WRITEV
 unfoldable pub writeAct : Program → State → ℕ → Thread → ℕ → ℕ → ℕ → Option Cell → Act
 unfolding isVolatile subset learn store useKey union
-writeAct g s p t o f v none = stops (missingField o f)
+writeAct g s p t o f v none = sticks (missingField o f)
 writeAct g s p t o f v (some c) =
     cond (isVolatile g f)
     (does e-writev (some (entry Kind.writev p o f v)) (store s o f (cell (union (c .keys) (t .keys)) v)) (literal v))
@@ -66,13 +66,13 @@ joinValue s p o q (some v) = does e-join (some (entry Kind.join p o (q .number) 
 
 unfoldable pub joinAct : State → ℕ → ℕ → Option Numbered → Act
 unfolding asLiteral joinValue
-joinAct s p o none = stops (notThread o)
+joinAct s p o none = sticks (notThread o)
 joinAct s p o (some q) = joinValue s p o q (asLiteral (q .thread .expression))
 
 -- E-RE-ENTER, E-ACQUIRE. "A monitor is free exactly when its set is not empty; thread 0 as owner looks like null otherwise."
 unfoldable pub synchAct : State → ℕ → Thread → ℕ → Expression → Option Cell → Act
 unfolding isEmpty learn storeMonitor
-synchAct s p t o e none = stops noRule
+synchAct s p t o e none = sticks noRule
 synchAct s p t o e (some c) =
     cond (isEmpty (c .keys))
     (cond (eqb (c .value) (t .self)) (does e-re-enter none s e) (waits (forMonitor o)))
@@ -81,18 +81,18 @@ synchAct s p t o e (some c) =
 -- E-RELEASE
 unfoldable pub holdAct : State → ℕ → Thread → ℕ → ℕ → Option Cell → Act
 unfolding isEmpty storeMonitor
-holdAct s p t o v none = stops noRule
+holdAct s p t o v none = sticks noRule
 holdAct s p t o v (some c) =
     cond (isEmpty (c .keys))
     (cond (eqb (c .value) (t .self))
     (does e-release (some (entry Kind.release p o 0 0)) (storeMonitor s o (cell (t .keys) 0)) (literal v))
-    (stops noRule))
-    (stops noRule)
+    (sticks noRule))
+    (sticks noRule)
 
 -- the rules for expressions: thread p, which is t
 unfoldable pub act : Program → State → ℕ → Thread → Redex → Act
 unfolding callAct readAct writeAct joinAct synchAct holdAct bind substitute choose sequence freshObject addObject addThread lookup monitor threadOf
-act g s p t (Redex.variable x) = stops noRule
+act g s p t (Redex.variable x) = sticks noRule
 act g s p t (Redex.new fs) = does e-new (some (entry Kind.new p (length (s .objects)) 0 0)) (addObject s (freshObject fs)) (literal (length (s .objects)))
 act g s p t (Redex.read o f) = readAct g s p t o f (lookup s o f)
 act g s p t (Redex.write o f v) = writeAct g s p t o f v (lookup s o f)
@@ -144,7 +144,7 @@ pub data Attempt : Type 0 where
 unfoldable pub around : State → ℕ → Context → Act → Attempt
 unfolding become plug
 around s p K (waits w) = waiting w
-around s p K (stops r) = stuck r
+around s p K (sticks r) = stuck r
 around s p K (lacks r) = lacking r
 around s p K (does R r s′ e) = moves (record { rule = R; entry = r; state = become s′ p (plug K e) })
 
