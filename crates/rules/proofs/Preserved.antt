@@ -64,7 +64,7 @@ module _ (g : Program) (P : WellFormedProgram g) (s : State) (I : Inv g s) (p : 
   unfolding learn
   learnt-at s₁ W e = change-same (s₁ .threads) p _ t (rw e ht)
 
-  -- unbound has to release a monitor that is free
+  -- no thread has to release a monitor that is free
   free-of : (o : ℕ) (c : Cell) → monitor s o ≡ some c → isEmpty (c .keys) ≡ false → (q : ℕ) (u : Thread) → getElem? (s .threads) q ≡ some u → In o (owed u) → ⊥
   unfolding isEmpty
   free-of o c m e q u hu i =
@@ -73,28 +73,28 @@ module _ (g : Program) (P : WellFormedProgram g) (s : State) (I : Inv g s) (p : 
       let z : false ≡ true = sym e ∙ ap (λ (y : Cell). eqb (y .keys) 0) j in
       let y : _≡_ {A = ℕ} 0 1 = cc in omega arith
 
-  kept-acquire : (o : ℕ) (e : Expression) (c : Cell) → monitor s o ≡ some c → isEmpty (c .keys) ≡ false → t .expression ≡ plug K (Expression.synch (literal o) e)
-      → Inv g (become (learn (storeMonitor s o (record { keys = empty; value = t .self })) p (c .keys)) p (plug K (Expression.hold o e)))
+  kept-acquire : (o : ℕ) (e : Expression) (c : Cell) (W : Keys) → monitor s o ≡ some c → isEmpty (c .keys) ≡ false → t .expression ≡ plug K (Expression.synch (literal o) e)
+      → Inv g (become (learn (storeMonitor s o (cell empty (t .self))) p W) p (plug K (Expression.hold o e)))
   unfolding redexExpression plug learn storeMonitor monitor
-  kept-acquire o e c m f he = inv-become g s₂ p (plug (hold K o) e) (learnt t (c .keys)) (o ∷ pending K) I₂ at₂ (rise g (length (s₂ .objects)) (hold K o) e (pl .1 .0, pl .0) (pl .1 .1)) mine (first, owing-once g s p t K I ht (Redex.synch o e) he)
+  kept-acquire o e c W m f he = inv-become g s₂ p (plug (hold K o) e) (learnt t W) (o ∷ pending K) I₂ at₂ (rise g (length (s₂ .objects)) (hold K o) e (pl .1 .0, pl .0) (pl .1 .1)) mine (first, owing-once g s p t K I ht (Redex.synch o e) he)
     where
       s₁ : State
       s₁ = storeMonitor s o (record { keys = empty; value = t .self })
 
       s₂ : State
-      s₂ = learn s₁ p (c .keys)
+      s₂ = learn s₁ p W
 
       I₁ : Inv g s₁
       I₁ = inv-lock g s o (heldBy t) c I m (I .each p t ht .self-there) (free-of o c m f)
 
       I₂ : Inv g s₂
-      I₂ = inv-learn g s₁ p (c .keys) t I₁ ht
+      I₂ = inv-learn g s₁ p W t I₁ ht
 
-      at₂ : getElem? (s₂ .threads) p ≡ some (learnt t (c .keys))
-      at₂ = learnt-at s₁ (c .keys) refl
+      at₂ : getElem? (s₂ .threads) p ≡ some (learnt t W)
+      at₂ = learnt-at s₁ W refl
 
       pl : Around g (length (s₂ .objects)) K × Ready g (length (s₂ .objects)) (Redex.synch o e)
-      pl = placed g s₂ p (learnt t (c .keys)) K I₂ at₂ (Redex.synch o e) he
+      pl = placed g s₂ p (learnt t W) K I₂ at₂ (Redex.synch o e) he
 
       first : In o (pending K) → ⊥
       first i = free-of o c m f p t ht (rw (owes g s p t K I ht (Redex.synch o e) he) i)
@@ -102,6 +102,29 @@ module _ (g : Program) (P : WellFormedProgram g) (s : State) (I : Inv g s) (p : 
       mine : (a : ℕ) → In a (o ∷ pending K) → monitor s₂ a ≡ some (heldBy t)
       mine a (inl q) = rw q (lock-same s o (heldBy t) c m)
       mine a (inr i) = lock-other s o (heldBy t) a (λ q. first (rw q i)) ∙ owing g s p t K I ht (Redex.synch o e) he a i
+
+  -- a move that learns some keys, whichever they are
+  settle-learn : (W : Keys) (x : Redex) (v : ℕ) → t .expression ≡ plug K (redexExpression x) → held x (pending K) ≡ pending K → v < N → Inv g (become (learn s p W) p (plug K (literal v)))
+  unfolding learn
+  settle-learn W x v he q b = settle g (learn s p W) p (learnt t W) K (inv-learn g s p W t I ht) (learnt-at s W refl) x he (literal v) q b
+
+  -- a plain write: a new key, stored and learnt
+  kept-write : (o f v : ℕ) (c : Cell) → lookup s o f ≡ some c → t .expression ≡ plug K (redexExpression (Redex.write o f v))
+      → Inv g (become (learn (store (useKey s) o f (cell (singleton (s .nextKey)) v)) p (singleton (s .nextKey))) p (plug K (literal v)))
+  unfolding redexExpression store useKey lookup learn
+  kept-write o f v c h he =
+      let s₁ = store (useKey s) o f (record { keys = singleton (s .nextKey); value = v }) in
+      let I₁ = inv-store g (useKey s) o f (record { keys = singleton (s .nextKey); value = v }) _ (inv-key g s I) h (placed g s p t K I ht (Redex.write o f v) he .1 .3) in
+      let I₂ = inv-learn g s₁ p (singleton (s .nextKey)) t I₁ ht in
+      let at₂ = learnt-at s₁ (singleton (s .nextKey)) refl in
+      settle g (learn s₁ p (singleton (s .nextKey))) p (learnt t (singleton (s .nextKey))) K I₂ at₂ (Redex.write o f v) he (literal v) refl (placed g (learn s₁ p (singleton (s .nextKey))) p (learnt t (singleton (s .nextKey))) K I₂ at₂ (Redex.write o f v) he .1 .3)
+
+  -- a write to a field, with whichever keys
+  settle-write : (d : Cell) (o f : ℕ) (c : Cell) → lookup s o f ≡ some c → t .expression ≡ plug K (redexExpression (Redex.write o f (d .value))) → Inv g (become (store s o f d) p (plug K (literal (d .value))))
+  unfolding store
+  settle-write d o f c h he =
+      let I₁ = inv-store g s o f d c I h (placed g s p t K I ht (Redex.write o f (d .value)) he .1 .3) in
+      settle g (store s o f d) p t K I₁ ht (Redex.write o f (d .value)) he (literal (d .value)) refl (placed g (store s o f d) p t K I₁ ht (Redex.write o f (d .value)) he .1 .3)
 
   kept-release : (o v : ℕ) → monitor s o ≡ some (record { keys = empty; value = t .self }) → t .expression ≡ plug K (Expression.hold o (literal v))
       → Inv g (become (storeMonitor s o (record { keys = t .keys; value = 0 })) p (plug K (literal v)))
@@ -194,7 +217,7 @@ module _ (g : Program) (P : WellFormedProgram g) (s : State) (I : Inv g s) (p : 
   choose-text false e e′ h k = k
 
   pub kept : {e : Expression} {R : Rule} {r : Option Record} {s′ : State} {e′ : Expression} → Converts g s p t e R r s′ e′ → t .expression ≡ plug K e → Inv g (become s′ p (plug K e′))
-  unfolding redexExpression sequence bound store useKey addObject lookup focus learn
+  unfolding redexExpression sequence bound store useKey addObject lookup focus
   kept (E-CALL {m} os {d} hd hp) he = kept-call m os d hd hp he
   kept (E-LET {x} {o} {e}) he =
       let pl = placed g s p t K I ht (Redex.letIn x o e) he in
@@ -207,25 +230,15 @@ module _ (g : Program) (P : WellFormedProgram g) (s : State) (I : Inv g s) (p : 
       settle g s p t K I ht (Redex.while c e) he _ refl (pl .1 .0, (pl .1 .1, (pl .1 .0, pl .1 .1)), I .null-there)
   kept (E-NEW {fs}) he = settle g (addObject s (freshObject fs)) p t K (inv-new g s fs I) ht (Redex.new fs) he (literal N) refl (omega (arith, length-new s fs))
   kept (E-READ w {o} {f} {v} h k vol) he = settle g s p t K I ht (Redex.read o f) he (literal v) refl (I .cells o f _ h)
-  kept (E-WRITE w {o} {f} {u} {v} h k vol) he =
-      let s₁ = store (useKey s) o f (record { keys = singleton (s .nextKey); value = v }) in
-      let I₁ = inv-store g (useKey s) o f (record { keys = singleton (s .nextKey); value = v }) _ (inv-key g s I) h (placed g s p t K I ht (Redex.write o f v) he .1 .3) in
-      let I₂ = inv-learn g s₁ p (singleton (s .nextKey)) t I₁ ht in
-      let at₂ = learnt-at s₁ (singleton (s .nextKey)) refl in
-      settle g (learn s₁ p (singleton (s .nextKey))) p (learnt t (singleton (s .nextKey))) K I₂ at₂ (Redex.write o f v) he (literal v) refl (placed g (learn s₁ p (singleton (s .nextKey))) p (learnt t (singleton (s .nextKey))) K I₂ at₂ (Redex.write o f v) he .1 .3)
-  kept (E-READV {o} {f} {v} {W} h vol) he =
-      settle g (learn s p W) p (learnt t W) K (inv-learn g s p W t I ht) (learnt-at s W refl) (Redex.read o f) he (literal v) refl (I .cells o f _ h)
-  kept (E-WRITEV {o} {f} {u} {v} {W} h vol) he =
-      let d : Cell = record { keys = union W (t .keys); value = v } in
-      let I₁ = inv-store g s o f d _ I h (placed g s p t K I ht (Redex.write o f v) he .1 .3) in
-      settle g (store s o f d) p t K I₁ ht (Redex.write o f v) he (literal v) refl (placed g (store s o f d) p t K I₁ ht (Redex.write o f v) he .1 .3)
+  kept (E-WRITE w {o} {f} {u} {v} h k vol) he = kept-write o f v _ h he
+  kept (E-READV {o} {f} {v} h vol) he = settle-learn _ (Redex.read o f) v he refl (I .cells o f _ h)
+  kept (E-WRITEV {o} {f} h vol) he = settle-write _ o f _ h he
   kept (E-FORK {e}) he = kept-fork e he
   kept (E-JOIN {o} {v} {q} h l) he =
       let j = found-thread (s .threads) 0 o q h in
-      let b : v < N = along (λ (e : Expression). Good g N (focus top e)) l (I .each (j .0) (q .thread) (j .2) .good) in
-      settle g (learn s p (q .thread .keys)) p (learnt t (q .thread .keys)) K (inv-learn g s p (q .thread .keys) t I ht) (learnt-at s (q .thread .keys) refl) (Redex.join o) he (literal v) refl b
+      settle-learn _ (Redex.join o) v he refl (along (λ (e : Expression). Good g N (focus top e)) l (I .each (j .0) (q .thread) (j .2) .good))
   kept (E-RE-ENTER {o} {e} h) he = settle g s p t K I ht (Redex.synch o e) he e refl (placed g s p t K I ht (Redex.synch o e) he .1 .1)
-  kept (E-ACQUIRE {o} {u} {W} {e} h n) he = kept-acquire o e (cell W u) h n he
+  kept (E-ACQUIRE {o} {u} {W} {e} h n) he = kept-acquire o e (cell W u) _ h n he
   kept (E-RELEASE {o} {v} h) he = kept-release o v h he
 
 module _ (g : Program) (s : State) (I : Inv g s) (p : ℕ) (t : Thread) (ht : getElem? (s .threads) p ≡ some t) (K : Contextᶜ) where
