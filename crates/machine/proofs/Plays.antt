@@ -1,0 +1,70 @@
+-- The machine plays every accepted plan as it is defined: the same stop, picks, rules, log, final state and outcome. Assumes nothing.
+use Prim.Native.Nat.{ℕ}
+use mathlib.Core.Path.{_≡_, refl, ap, _∙_, subst as along}
+use mathlib.Core.List.{List}
+use mathlib.Core.Option.{none}
+use lib.ListN.{length}
+use Rattle.plan.specs.Trees.{programOf}
+use Rattle.plan.specs.Check.{refusal}
+use Rattle.plan.proofs.Accepted.{accepted}
+use Rattle.plan.proofs.Decoded.{well-formed}
+use Rattle.rules.specs.Context.{literals, plug, redexExpression}
+use Rattle.rules.specs.State.{State, start}
+use Rattle.rules.specs.Step.{attempt}
+use Rattle.rules.specs.Run.{Run, run, play, Status, statusesFrom, outcomeOf}
+use Rattle.rules.proofs.Decompose.{whole}
+use Rattle.rules.proofs.Executed.{Reachable, reachable-start}
+use Rattle.machine.specs.Machine as machine
+use Rattle.machine.specs.Playing as playing
+use Rattle.machine.specs.Playing.{tableOf}
+use Rattle.machine.proofs.Substitution.{firstSlots}
+use Rattle.machine.proofs.Attempts.{stateOf, attemptOf}
+use Rattle.machine.proofs.Limits.{start-limits}
+use Rattle.machine.proofs.Runs.{Reached, attempt-reached, step-reached, runMeant, run-of, run-reached, statuses-of}
+use Rattle.machine.proofs.PlanTable.{tabulates}
+
+start-of : (table : machine.Table) → start ≡ stateOf table playing.start
+unfolding start playing.start whole plug redexExpression literals firstSlots
+start-of table = refl
+
+module _ (b : List ℕ) (h : refusal b ≡ none) where
+  -- the start, and whatever a run comes to
+  pub start-reached : Reached (tableOf b) (programOf b) playing.start
+  unfolding playing.start
+  start-reached = record { sorted = (tt, tt); limits = start-limits; reachable = along (Reachable (programOf b)) (start-of (tableOf b)) (reachable-start (programOf b) (well-formed b h)) }
+
+  pub plays-reached : (ps : List ℕ) → Reached (tableOf b) (programOf b) (playing.runOf b ps .final)
+  unfolding playing.runOf
+  plays-reached ps = run-reached (tableOf b) (programOf b) (well-formed b h) (tabulates b (accepted b h)) ps playing.start start-reached
+
+  pub move-reached : (s : machine.State) (p : ℕ) (m : machine.Move) → Reached (tableOf b) (programOf b) s → playing.step (tableOf b) s p ≡ playing.Answer.moved m
+      → Reached (tableOf b) (programOf b) (m .state)
+  move-reached = step-reached (tableOf b) (programOf b) (well-formed b h) (tabulates b (accepted b h))
+
+  -- what a thread can do, in any such state
+  pub plays-attempt : (s : machine.State) (p : ℕ) → Reached (tableOf b) (programOf b) s
+      → attemptOf (tableOf b) (machine.attempt (tableOf b) s p) ≡ attempt (programOf b) (stateOf (tableOf b) s) p
+  plays-attempt = attempt-reached (tableOf b) (programOf b) (well-formed b h) (tabulates b (accepted b h))
+
+  -- THE MACHINE'S RUN IS THE DEFINED RUN
+  pub plays : (ps : List ℕ) → play (programOf b) ps ≡ runMeant (tableOf b) (playing.runOf b ps)
+  unfolding play playing.runOf
+  plays ps =
+      ap (λ (s : State). run (programOf b) s ps) (start-of (tableOf b))
+      ∙ run-of (tableOf b) (programOf b) (well-formed b h) (tabulates b (accepted b h)) ps playing.start start-reached
+
+  pub plays-statuses : (ps : List ℕ) (p n : ℕ) → statusesFrom (programOf b) (play (programOf b) ps .final) p n ≡ playing.statusesFrom (tableOf b) (playing.runOf b ps .final) p n
+  plays-statuses ps p n =
+      ap (λ (r : Run). statusesFrom (programOf b) (r .final) p n) (plays ps)
+      ∙ statuses-of (tableOf b) (programOf b) (well-formed b h) (tabulates b (accepted b h)) (playing.runOf b ps .final) (plays-reached ps) p n
+
+  pub plays-log : (ps : List ℕ) → play (programOf b) ps .log ≡ playing.runOf b ps .log
+  plays-log ps = ap (λ (r : Run). r .log) (plays ps)
+
+  -- so the outcome is read off the machine's run
+  pub plays-outcome : (ps : List ℕ) → outcomeOf (programOf b) (play (programOf b) ps) ≡ playing.outcomeOf (tableOf b) (playing.runOf b ps)
+  unfolding outcomeOf playing.outcomeOf
+  plays-outcome ps =
+      ap (λ (r : Run). outcomeOf (programOf b) r) (plays ps)
+      ∙ ap (λ (l : List Status). record { stop = playing.runOf b ps .stop; picks = playing.runOf b ps .picks; moves = length (playing.runOf b ps .instances); records = length (playing.runOf b ps .log); threads = l })
+      (statuses-of (tableOf b) (programOf b) (well-formed b h) (tabulates b (accepted b h)) (playing.runOf b ps .final) (plays-reached ps) 0 8)

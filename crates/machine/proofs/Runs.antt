@@ -1,0 +1,218 @@
+-- The machine's runs, from a state that a run of a well-formed program comes to, are the defined runs. Assumes nothing.
+use Prim.Native.Nat.{ℕ, zero, suc}
+use mathlib.Core.Path.{_≡_, refl, sym, ap, ap₂, _∙_}
+use mathlib.Core.Bool.{Bool, cond, _||_}
+use mathlib.Core.List.{List, [], _∷_, map}
+use mathlib.Core.Option.{Option, some, none, Option·map}
+use lib.Dec.{ltb, leb}
+use lib.ListN.{length, getElem?, drop, length-map}
+use Rattle.format.specs.Refusal.{orElse}
+use Rattle.plan.specs.Syntax.{Program}
+use Rattle.plan.proofs.WellFormed.{WellFormedProgram}
+use Rattle.rules.specs.Context.{Focus, depthOf}
+use Rattle.rules.specs.State.{Thread, State}
+use Rattle.rules.specs.Rules.{Rule, e-call, e-let, e-if, e-while, e-notnottrue, e-andtrue, e-andfalse, e-equaltrue, e-equalfalse, e-new, e-read, e-write, e-readv, e-writev, e-fork, e-join, e-re-enter, e-acquire, e-release}
+use Rattle.rules.specs.Step.{Attempt, Move, attempt}
+use Rattle.rules.specs.Room.{Room, noRoomBefore, deep, deepAt, anyDeep, noRoomAfter, noRoomFor, Answer, withinRoom, answer, step}
+use Rattle.rules.specs.Run.{Run, afterPass, afterMove, resume, run, Status, status, statusesFrom}
+use Rattle.rules.proofs.Decompose.{focus-whole}
+use Rattle.rules.proofs.Progress.{ruled}
+use Rattle.rules.proofs.Equivalence.{step-sound}
+use Rattle.rules.proofs.Executed.{Reachable, reachable-move}
+use Rattle.machine.specs.Machine as machine
+use Rattle.machine.specs.Machine.{Table}
+use Rattle.machine.specs.Playing as playing
+use Rattle.machine.proofs.Meaning.{mean}
+use Rattle.machine.proofs.Sorted.{WellFound, depth-height}
+use Rattle.machine.proofs.Attempts.{Tabulates, threadMeant, stateOf, attemptOf, attempt-of, get-map}
+use Rattle.machine.proofs.Limits.{Limits, step-limits}
+use Rattle.machine.proofs.WellSorted.{WellAll, WellAt, well-at, well-drop, WellAttempt, attempt-well}
+
+drop-map : {A B : Type 0} (f : A → B) (n : ℕ) (xs : List A) → drop n (map f xs) ≡ map f (drop n xs)
+drop-map f zero xs = refl
+drop-map f (suc n) [] = refl
+drop-map f (suc n) (x ∷ xs) = drop-map f n xs
+
+module _ (table : Table) where
+  -- ---- room
+
+  lack-before : (s : machine.State) (R : Rule) → noRoomBefore (stateOf table s) R ≡ playing.noRoomBefore s R
+  unfolding noRoomBefore playing.noRoomBefore
+  lack-before s e-call = refl
+  lack-before s e-let = refl
+  lack-before s e-if = refl
+  lack-before s e-while = refl
+  lack-before s e-notnottrue = refl
+  lack-before s e-andtrue = refl
+  lack-before s e-andfalse = refl
+  lack-before s e-equaltrue = refl
+  lack-before s e-equalfalse = refl
+  lack-before s e-new = refl
+  lack-before s e-read = refl
+  lack-before s e-write = refl
+  lack-before s e-readv = refl
+  lack-before s e-writev = refl
+  lack-before s e-fork =
+      ap (λ (n : ℕ). cond (leb 8 n) (some Room.thread) (cond (leb 32 (length (s .objects))) (some Room.object) none)) (length-map (s .threads) (threadMeant table))
+  lack-before s e-join = refl
+  lack-before s e-re-enter = refl
+  lack-before s e-acquire = refl
+  lack-before s e-release = refl
+
+  deep-of : (t : machine.Thread) → WellFound (t .code) → deep (threadMeant table t) ≡ playing.deep t
+  unfolding deep playing.deep
+  deep-of t w =
+      ap (λ (F : Focus). ltb 32 (depthOf F)) (focus-whole (mean (table .node) (table .count) (t .code)))
+      ∙ ap (λ (n : ℕ). ltb 32 n) (depth-height (table .node) (table .count) (t .code) w)
+
+  deep-at : (t : Option machine.Thread) → WellAt t → deepAt (Option·map (threadMeant table) t) ≡ playing.deepAt t
+  unfolding deepAt playing.deepAt
+  deep-at none w = refl
+  deep-at (some t) w = deep-of t w
+
+  any-deep : (ts : List machine.Thread) → WellAll ts → anyDeep (map (threadMeant table) ts) ≡ playing.anyDeep ts
+  unfolding anyDeep playing.anyDeep
+  any-deep [] w = refl
+  any-deep (t ∷ ts) w = ap₂ (λ (x y : Bool). x || y) (deep-of t (w .0)) (any-deep ts (w .1))
+
+  lack-after : (s : machine.State) (p : ℕ) (s′ : machine.State) → WellAll (s′ .threads) → noRoomAfter (stateOf table s) p (stateOf table s′) ≡ playing.noRoomAfter s p s′
+  unfolding noRoomAfter playing.noRoomAfter
+  lack-after s p s′ w =
+      let th = threadMeant table in
+      let a : deepAt (getElem? (map th (s′ .threads)) p) ≡ playing.deepAt (getElem? (s′ .threads) p) =
+      ap deepAt (get-map th (s′ .threads) p) ∙ deep-at (getElem? (s′ .threads) p) (well-at (s′ .threads) p w) in
+      let d : anyDeep (drop (length (s .threads)) (map th (s′ .threads))) ≡ playing.anyDeep (drop (length (s .threads)) (s′ .threads)) =
+      ap anyDeep (drop-map th (length (s .threads)) (s′ .threads)) ∙ any-deep (drop (length (s .threads)) (s′ .threads)) (well-drop (length (s .threads)) (s′ .threads) w) in
+      rw (length-map (s .threads) th, a, d)
+
+  lack-of : (R : Rule) (s : machine.State) (p : ℕ) (s′ : machine.State) → WellAll (s′ .threads)
+      → noRoomFor R (stateOf table s) p (stateOf table s′) ≡ playing.noRoomFor R s p s′
+  unfolding noRoomFor playing.noRoomFor
+  lack-of R s p s′ w = ap₂ (λ (x y : Option Room). orElse x y) (lack-before s R) (lack-after s p s′ w)
+
+  -- ---- the answer to a pick
+
+  abbrev moveOf : machine.Move → Move
+  moveOf m = record { rule = m .rule; entry = m .entry; state = stateOf table (m .state) }
+
+  abbrev pub answerOf : playing.Answer → Answer
+  answerOf playing.Answer.passed = Answer.passed
+  answerOf (playing.Answer.race r) = Answer.race r
+  answerOf (playing.Answer.noRoom k) = Answer.noRoom k
+  answerOf (playing.Answer.moved m) = Answer.moved (moveOf m)
+
+  abbrev WellAnswer : playing.Answer → Type 0
+  WellAnswer playing.Answer.passed = Unit {0}
+  WellAnswer (playing.Answer.race r) = Unit {0}
+  WellAnswer (playing.Answer.noRoom k) = Unit {0}
+  WellAnswer (playing.Answer.moved m) = WellAll (m .state .threads)
+
+  admit-of : (m : machine.Move) (k : Option Room) → withinRoom (moveOf m) k ≡ answerOf (playing.withinRoom m k)
+  unfolding withinRoom playing.withinRoom
+  admit-of m none = refl
+  admit-of m (some k) = refl
+
+  answer-of : (s : machine.State) (p : ℕ) (a : machine.Attempt) → WellAttempt table a → answer (stateOf table s) p (attemptOf table a) ≡ answerOf (playing.answer s p a)
+  unfolding answer playing.answer
+  answer-of s p machine.Attempt.absent w = refl
+  answer-of s p (machine.Attempt.finished v) w = refl
+  answer-of s p (machine.Attempt.waiting x) w = refl
+  answer-of s p (machine.Attempt.stuck r) w = refl
+  answer-of s p (machine.Attempt.lacking r) w = refl
+  answer-of s p (machine.Attempt.moves m) w = ap (withinRoom (moveOf m)) (lack-of (m .rule) s p (m .state) w) ∙ admit-of m (playing.noRoomFor (m .rule) s p (m .state))
+
+  admit-well : (m : machine.Move) (k : Option Room) → WellAll (m .state .threads) → WellAnswer (playing.withinRoom m k)
+  unfolding playing.withinRoom
+  admit-well m none w = w
+  admit-well m (some k) w = tt
+
+  answer-well : (s : machine.State) (p : ℕ) (a : machine.Attempt) → WellAttempt table a → WellAnswer (playing.answer s p a)
+  unfolding playing.answer
+  answer-well s p machine.Attempt.absent w = tt
+  answer-well s p (machine.Attempt.finished v) w = tt
+  answer-well s p (machine.Attempt.waiting x) w = tt
+  answer-well s p (machine.Attempt.stuck r) w = tt
+  answer-well s p (machine.Attempt.lacking r) w = tt
+  answer-well s p (machine.Attempt.moves m) w = admit-well m (playing.noRoomFor (m .rule) s p (m .state)) w
+
+  abbrev pub runMeant : playing.Run → Run
+  runMeant r = record { stop = r .stop; picks = r .picks; instances = r .instances; log = r .log; final = stateOf table (r .final) }
+
+  -- what holds of every state that a run of the machine comes to: its frames are well sorted, it is within the limits, and it stands for a state that a
+  -- defined run comes to
+  pub record Reached (g : Program) (s : machine.State) : Type 0 where
+    pub sorted : WellAll (s .threads)
+    pub limits : Limits s
+    pub reachable : Reachable g (stateOf table s)
+
+  module _ (g : Program) (good : WellFormedProgram g) (law : Tabulates table g) where
+    pub attempt-reached : (s : machine.State) (p : ℕ) → Reached g s → attemptOf table (machine.attempt table s p) ≡ attempt g (stateOf table s) p
+    attempt-reached s p r = attempt-of table g law s p (ruled g (stateOf table s) (r .reachable .invariant) p)
+
+    -- the machine's answer to a pick
+    pub step-of : (s : machine.State) (p : ℕ) → Reached g s → step g (stateOf table s) p ≡ answerOf (playing.step table s p)
+    unfolding step playing.step
+    step-of s p r =
+        ap (answer (stateOf table s) p) (sym (attempt-reached s p r)) ∙ answer-of s p (machine.attempt table s p) (attempt-well table s p (r .sorted))
+
+    moved-reached : (s : machine.State) (p : ℕ) (m : machine.Move) → Reached g s → playing.step table s p ≡ playing.Answer.moved m → WellAll (m .state .threads) → Reached g (m .state)
+    moved-reached s p m r e w =
+        let k = step-sound g (stateOf table s) (r .reachable .one-key) p (moveOf m) (step-of s p r ∙ ap answerOf e) in
+        record { sorted = w; limits = step-limits table s p m (r .limits) e; reachable = reachable-move g good (stateOf table s) p (r .reachable) (k .0) }
+
+    step-well : (s : machine.State) (p : ℕ) → Reached g s → WellAnswer (playing.step table s p)
+    unfolding playing.step
+    step-well s p r = answer-well s p (machine.attempt table s p) (attempt-well table s p (r .sorted))
+
+    -- a move keeps what holds of a run's states
+    pub step-reached : (s : machine.State) (p : ℕ) (m : machine.Move) → Reached g s → playing.step table s p ≡ playing.Answer.moved m → Reached g (m .state)
+    step-reached s p m r e = moved-reached s p m r e (rw e at (step-well s p r))
+
+    -- ---- runs
+
+    resume-of : (s : machine.State) (p : ℕ) (k : State → Run) (k′ : machine.State → playing.Run) (a : playing.Answer) → Reached g s → playing.step table s p ≡ a
+        → ((z : machine.State) → Reached g z → k (stateOf table z) ≡ runMeant (k′ z)) → resume (stateOf table s) k (answerOf a) ≡ runMeant (playing.resume s k′ a)
+    unfolding resume playing.resume
+    resume-of s p k k′ playing.Answer.passed r e q = ap afterPass (q s r)
+    resume-of s p k k′ (playing.Answer.race x) r e q = refl
+    resume-of s p k k′ (playing.Answer.noRoom x) r e q = refl
+    resume-of s p k k′ (playing.Answer.moved m) r e q = ap (afterMove (moveOf m)) (q (m .state) (step-reached s p m r e))
+
+    -- the machine's run stands for the defined run
+    pub run-of : (ps : List ℕ) (s : machine.State) → Reached g s → run g (stateOf table s) ps ≡ runMeant (playing.run table s ps)
+    unfolding run playing.run
+    run-of [] s r = refl
+    run-of (p ∷ ps) s r =
+        ap (resume (stateOf table s) (λ z. run g z ps)) (step-of s p r)
+        ∙ resume-of s p (λ z. run g z ps) (λ z. playing.run table z ps) (playing.step table s p) r refl (λ z u. run-of ps z u)
+
+    resume-reached : (s : machine.State) (p : ℕ) (k : machine.State → playing.Run) (a : playing.Answer) → Reached g s → playing.step table s p ≡ a
+        → ((z : machine.State) → Reached g z → Reached g (k z .final)) → Reached g (playing.resume s k a .final)
+    unfolding playing.resume
+    resume-reached s p k playing.Answer.passed r e q = q s r
+    resume-reached s p k (playing.Answer.race x) r e q = r
+    resume-reached s p k (playing.Answer.noRoom x) r e q = r
+    resume-reached s p k (playing.Answer.moved m) r e q = q (m .state) (step-reached s p m r e)
+
+    -- and ends in such a state
+    pub run-reached : (ps : List ℕ) (s : machine.State) → Reached g s → Reached g (playing.run table s ps .final)
+    unfolding playing.run
+    run-reached [] s r = r
+    run-reached (p ∷ ps) s r = resume-reached s p (λ z. playing.run table z ps) (playing.step table s p) r refl (λ z u. run-reached ps z u)
+
+    -- ---- the states of the threads
+
+    status-of : (a : machine.Attempt) → status (attemptOf table a) ≡ playing.status a
+    unfolding status playing.status
+    status-of machine.Attempt.absent = refl
+    status-of (machine.Attempt.finished v) = refl
+    status-of (machine.Attempt.waiting w) = refl
+    status-of (machine.Attempt.stuck r) = refl
+    status-of (machine.Attempt.lacking r) = refl
+    status-of (machine.Attempt.moves m) = refl
+
+    pub statuses-of : (s : machine.State) → Reached g s → (p n : ℕ) → statusesFrom g (stateOf table s) p n ≡ playing.statusesFrom table s p n
+    unfolding statusesFrom playing.statusesFrom
+    statuses-of s r p zero = refl
+    statuses-of s r p (suc n) =
+        ap₂ (λ (x : Status) (xs : List Status). x ∷ xs) (ap status (sym (attempt-reached s p r)) ∙ status-of (machine.attempt table s p)) (statuses-of s r (suc p) n)

@@ -1,0 +1,176 @@
+-- What a table of nodes, in which children come after parents, gives for trees: how far a tree is looked into does not matter, so each is its node over
+-- the trees of its children. Assumes nothing.
+use Prim.Native.Nat.{ℕ, zero, suc, _+_, _-_, _≤_, _<_}
+use native.Mathlib.Omega.{arith}
+use mathlib.Core.Path.{_≡_, refl, _∙_}
+use Rattle.plan.specs.Syntax.{Expression, Condition, Arguments}
+use Rattle.plan.specs.Trees.{Node, expressionOf, conditionOf, argumentsOf, expressionAt, conditionAt, argumentsAt}
+
+-- the children of a term come after it
+abbrev pub Below : ℕ → Node → Type 0
+Below t Node.null = Unit {0}
+Below t (Node.variable x) = Unit {0}
+Below t (Node.new fs) = Unit {0}
+Below t (Node.read i f) = t < i
+Below t (Node.write i f j) = (t < i) × (t < j)
+Below t (Node.letIn x i j) = (t < i) × (t < j)
+Below t (Node.if i j k) = (t < i) × (t < j) × (t < k)
+Below t (Node.while i j) = (t < i) × (t < j)
+Below t (Node.call m i) = t < i
+Below t (Node.fork i) = t < i
+Below t (Node.join i) = t < i
+Below t (Node.synch i j) = (t < i) × (t < j)
+Below t Node.truth = Unit {0}
+Below t (Node.not i) = t < i
+Below t (Node.and i j) = (t < i) × (t < j)
+Below t (Node.equal i j) = (t < i) × (t < j)
+Below t (Node.list i j) = (t < i) × (t < j)
+Below t Node.listEnd = Unit {0}
+Below t Node.unknown = Unit {0}
+
+-- N nodes, and null past them
+pub record Ordered (h : ℕ → Node) (N : ℕ) : Type 0 where
+  pub past : (t : ℕ) → N ≤ t → h t ≡ Node.null
+  pub below : (t : ℕ) → Below t (h t)
+
+-- ---- the trees
+
+module _ (h : ℕ → Node) (N : ℕ) where
+  unfoldable pub tree : ℕ → Expression
+  unfolding expressionAt
+  tree t = expressionAt h (N - t) t
+
+  unfoldable pub treeᶜ : ℕ → Condition
+  unfolding expressionAt
+  treeᶜ t = conditionAt h (N - t) t
+
+  unfoldable pub treeᵃ : ℕ → Arguments
+  unfolding expressionAt
+  treeᵃ t = argumentsAt h (N - t) t
+
+-- ---- what a node makes of its children's trees
+
+module _ (t : ℕ) (e e′ : ℕ → Expression) (c c′ : ℕ → Condition) (l l′ : ℕ → Arguments)
+    (he : (i : ℕ) → t < i → e i ≡ e′ i) (hc : (i : ℕ) → t < i → c i ≡ c′ i) (hl : (i : ℕ) → t < i → l i ≡ l′ i) where
+  expression-cong : (x : Node) → Below t x → expressionOf e c l x ≡ expressionOf e′ c′ l′ x
+  unfolding expressionOf
+  expression-cong Node.null b = refl
+  expression-cong (Node.variable x) b = refl
+  expression-cong (Node.new fs) b = refl
+  expression-cong (Node.read i f) b = rw (he i b)
+  expression-cong (Node.write i f j) b = rw (he i (b .0), he j (b .1))
+  expression-cong (Node.letIn x i j) b = rw (he i (b .0), he j (b .1))
+  expression-cong (Node.if i j k) b = rw (hc i (b .0), he j (b .1), he k (b .2))
+  expression-cong (Node.while i j) b = rw (hc i (b .0), he j (b .1))
+  expression-cong (Node.call m i) b = rw (hl i b)
+  expression-cong (Node.fork i) b = rw (he i b)
+  expression-cong (Node.join i) b = rw (he i b)
+  expression-cong (Node.synch i j) b = rw (he i (b .0), he j (b .1))
+  expression-cong Node.truth b = refl
+  expression-cong (Node.not i) b = refl
+  expression-cong (Node.and i j) b = refl
+  expression-cong (Node.equal i j) b = refl
+  expression-cong (Node.list i j) b = refl
+  expression-cong Node.listEnd b = refl
+  expression-cong Node.unknown b = refl
+
+  condition-cong : (x : Node) → Below t x → conditionOf e c x ≡ conditionOf e′ c′ x
+  unfolding conditionOf
+  condition-cong Node.null b = refl
+  condition-cong (Node.variable x) b = refl
+  condition-cong (Node.new fs) b = refl
+  condition-cong (Node.read i f) b = refl
+  condition-cong (Node.write i f j) b = refl
+  condition-cong (Node.letIn x i j) b = refl
+  condition-cong (Node.if i j k) b = refl
+  condition-cong (Node.while i j) b = refl
+  condition-cong (Node.call m i) b = refl
+  condition-cong (Node.fork i) b = refl
+  condition-cong (Node.join i) b = refl
+  condition-cong (Node.synch i j) b = refl
+  condition-cong Node.truth b = refl
+  condition-cong (Node.not i) b = rw (hc i b)
+  condition-cong (Node.and i j) b = rw (hc i (b .0), hc j (b .1))
+  condition-cong (Node.equal i j) b = rw (he i (b .0), he j (b .1))
+  condition-cong (Node.list i j) b = refl
+  condition-cong Node.listEnd b = refl
+  condition-cong Node.unknown b = refl
+
+  arguments-cong : (x : Node) → Below t x → argumentsOf e l x ≡ argumentsOf e′ l′ x
+  unfolding argumentsOf
+  arguments-cong Node.null b = refl
+  arguments-cong (Node.variable x) b = refl
+  arguments-cong (Node.new fs) b = refl
+  arguments-cong (Node.read i f) b = refl
+  arguments-cong (Node.write i f j) b = refl
+  arguments-cong (Node.letIn x i j) b = refl
+  arguments-cong (Node.if i j k) b = refl
+  arguments-cong (Node.while i j) b = refl
+  arguments-cong (Node.call m i) b = refl
+  arguments-cong (Node.fork i) b = refl
+  arguments-cong (Node.join i) b = refl
+  arguments-cong (Node.synch i j) b = refl
+  arguments-cong Node.truth b = refl
+  arguments-cong (Node.not i) b = refl
+  arguments-cong (Node.and i j) b = refl
+  arguments-cong (Node.equal i j) b = refl
+  arguments-cong (Node.list i j) b = rw (he i (b .0), hl j (b .1))
+  arguments-cong Node.listEnd b = refl
+  arguments-cong Node.unknown b = refl
+
+-- ---- how far a tree is looked into
+
+module _ (h : ℕ → Node) (N : ℕ) (o : Ordered h N) where
+  mutual
+    unfolding expressionAt
+
+    expression-fuel : (n m t : ℕ) → N ≤ t + n → N ≤ t + m → expressionAt h n t ≡ expressionAt h m t
+    expression-fuel zero zero t p q = refl
+    expression-fuel zero (suc m) t p q = rw (o .past t (omega arith))
+    expression-fuel (suc n) zero t p q = rw (o .past t (omega arith))
+    expression-fuel (suc n) (suc m) t p q =
+        expression-cong t (λ i. expressionAt h n i) (λ i. expressionAt h m i) (λ i. conditionAt h n i) (λ i. conditionAt h m i) (λ i. argumentsAt h n i) (λ i. argumentsAt h m i)
+        (λ i b. expression-fuel n m i (omega arith) (omega arith)) (λ i b. condition-fuel n m i (omega arith) (omega arith)) (λ i b. arguments-fuel n m i (omega arith) (omega arith))
+        (h t) (o .below t)
+
+    condition-fuel : (n m t : ℕ) → N ≤ t + n → N ≤ t + m → conditionAt h n t ≡ conditionAt h m t
+    condition-fuel zero zero t p q = refl
+    condition-fuel zero (suc m) t p q = rw (o .past t (omega arith))
+    condition-fuel (suc n) zero t p q = rw (o .past t (omega arith))
+    condition-fuel (suc n) (suc m) t p q =
+        condition-cong t (λ i. expressionAt h n i) (λ i. expressionAt h m i) (λ i. conditionAt h n i) (λ i. conditionAt h m i) (λ i. argumentsAt h n i) (λ i. argumentsAt h m i)
+        (λ i b. expression-fuel n m i (omega arith) (omega arith)) (λ i b. condition-fuel n m i (omega arith) (omega arith)) (λ i b. arguments-fuel n m i (omega arith) (omega arith))
+        (h t) (o .below t)
+
+    pub arguments-fuel : (n m t : ℕ) → N ≤ t + n → N ≤ t + m → argumentsAt h n t ≡ argumentsAt h m t
+    arguments-fuel zero zero t p q = refl
+    arguments-fuel zero (suc m) t p q = rw (o .past t (omega arith))
+    arguments-fuel (suc n) zero t p q = rw (o .past t (omega arith))
+    arguments-fuel (suc n) (suc m) t p q =
+        arguments-cong t (λ i. expressionAt h n i) (λ i. expressionAt h m i) (λ i. conditionAt h n i) (λ i. conditionAt h m i) (λ i. argumentsAt h n i) (λ i. argumentsAt h m i)
+        (λ i b. expression-fuel n m i (omega arith) (omega arith)) (λ i b. condition-fuel n m i (omega arith) (omega arith)) (λ i b. arguments-fuel n m i (omega arith) (omega arith))
+        (h t) (o .below t)
+
+  pub tree-law : (t : ℕ) → tree h N t ≡ expressionOf (tree h N) (treeᶜ h N) (treeᵃ h N) (h t)
+  unfolding tree treeᶜ treeᵃ
+  tree-law t =
+      expression-fuel (N - t) (suc (N - t)) t (omega arith) (omega arith)
+      ∙ expression-cong t (λ i. expressionAt h (N - t) i) (tree h N) (λ i. conditionAt h (N - t) i) (treeᶜ h N) (λ i. argumentsAt h (N - t) i) (treeᵃ h N)
+      (λ i b. expression-fuel (N - t) (N - i) i (omega arith) (omega arith)) (λ i b. condition-fuel (N - t) (N - i) i (omega arith) (omega arith)) (λ i b. arguments-fuel (N - t) (N - i) i (omega arith) (omega arith))
+      (h t) (o .below t)
+
+  pub tree-lawᶜ : (t : ℕ) → treeᶜ h N t ≡ conditionOf (tree h N) (treeᶜ h N) (h t)
+  unfolding tree treeᶜ treeᵃ
+  tree-lawᶜ t =
+      condition-fuel (N - t) (suc (N - t)) t (omega arith) (omega arith)
+      ∙ condition-cong t (λ i. expressionAt h (N - t) i) (tree h N) (λ i. conditionAt h (N - t) i) (treeᶜ h N) (λ i. argumentsAt h (N - t) i) (treeᵃ h N)
+      (λ i b. expression-fuel (N - t) (N - i) i (omega arith) (omega arith)) (λ i b. condition-fuel (N - t) (N - i) i (omega arith) (omega arith)) (λ i b. arguments-fuel (N - t) (N - i) i (omega arith) (omega arith))
+      (h t) (o .below t)
+
+  pub tree-lawᵃ : (t : ℕ) → treeᵃ h N t ≡ argumentsOf (tree h N) (treeᵃ h N) (h t)
+  unfolding tree treeᶜ treeᵃ
+  tree-lawᵃ t =
+      arguments-fuel (N - t) (suc (N - t)) t (omega arith) (omega arith)
+      ∙ arguments-cong t (λ i. expressionAt h (N - t) i) (tree h N) (λ i. conditionAt h (N - t) i) (treeᶜ h N) (λ i. argumentsAt h (N - t) i) (treeᵃ h N)
+      (λ i b. expression-fuel (N - t) (N - i) i (omega arith) (omega arith)) (λ i b. condition-fuel (N - t) (N - i) i (omega arith) (omega arith)) (λ i b. arguments-fuel (N - t) (N - i) i (omega arith) (omega arith))
+      (h t) (o .below t)

@@ -1,0 +1,219 @@
+-- The machine that the code runs; no reader of the entries' promises needs it. Its state, and what a thread can do in it. Its names are those of the
+-- definitions that it follows: use them qualified. Assumes nothing.
+use Prim.Native.Nat.{ℕ, suc}
+use mathlib.Core.Bool.{Bool, true, false, cond}
+use mathlib.Core.List.{List, [], _∷_, _++_}
+use mathlib.Core.Option.{Option, some, none}
+use lib.Dec.{eqb}
+use lib.ListN.{length, getElem?}
+use Rattle.keys.specs.Keys.{Keys, empty, singleton, union, subset, isEmpty}
+use Rattle.plan.specs.Trees.{Node}
+use Rattle.records.specs.Record.{Kind, Record, entry}
+use Rattle.rules.specs.State.{Cell, cell, Object, fresh, freshObject, changeAt, storeField, fieldOf, monitorOf}
+use Rattle.rules.specs.Rules.{Rule, e-call, e-let, e-if, e-while, e-notnottrue, e-andtrue, e-andfalse, e-new, e-read, e-write, e-readv, e-writev, e-fork, e-join, e-re-enter, e-acquire, e-release}
+use Rattle.rules.specs.Step.{Wait, forMonitor, forJoin, Stuck, missingField, notThread, equalAct}
+use Rattle.machine.specs.Frames.{putBound, Closure, closure, Frame, Ready, Readyᶜ, Found, Result}
+use Rattle.machine.specs.Landing.{upᶜ, enter, enterᶜ, go}
+
+-- ---- the state
+
+-- a thread: the object that stands for it, where it stands, its key set
+pub record Thread : Type 0 where
+  pub self : ℕ
+  pub code : Found
+  pub keys : Keys
+
+pub record State : Type 0 where
+  pub objects : List Object
+  pub threads : List Thread
+  pub nextKey : ℕ
+
+unfoldable pub onObjects : State → List Object → State
+onObjects s l = record { objects = l; threads = s .threads; nextKey = s .nextKey }
+
+unfoldable pub onThreads : State → List Thread → State
+onThreads s l = record { objects = s .objects; threads = l; nextKey = s .nextKey }
+
+unfoldable pub store : State → ℕ → ℕ → Cell → State
+unfolding onObjects changeAt storeField
+store s o f c = onObjects s (changeAt (s .objects) o (λ x. record { monitor = x .monitor; fields = storeField (x .fields) f c }))
+
+unfoldable pub storeMonitor : State → ℕ → Cell → State
+unfolding onObjects changeAt
+storeMonitor s o c = onObjects s (changeAt (s .objects) o (λ x. record { monitor = c; fields = x .fields }))
+
+unfoldable pub addObject : State → List ℕ → State
+unfolding onObjects freshObject
+addObject s fs = onObjects s (s .objects ++ (freshObject fs ∷ []))
+
+unfoldable pub addThread : State → Thread → State
+unfolding onThreads
+addThread s x = onThreads s (s .threads ++ (x ∷ []))
+
+unfoldable pub learn : State → ℕ → Keys → State
+unfolding onThreads changeAt union
+learn s p W = onThreads s (changeAt (s .threads) p (λ x. record { self = x .self; code = x .code; keys = union W (x .keys) }))
+
+unfoldable pub become : State → ℕ → Found → State
+unfolding onThreads changeAt
+become s p F = onThreads s (changeAt (s .threads) p (λ x. record { self = x .self; code = F; keys = x .keys }))
+
+unfoldable pub useKey : State → State
+useKey s = record { objects = s .objects; threads = s .threads; nextKey = suc (s .nextKey) }
+
+unfoldable pub lookup : State → ℕ → ℕ → Option Cell
+unfolding fieldOf
+lookup s o f = fieldOf (getElem? (s .objects) o) f
+
+-- every object that a run asks for is there: past the last, a new monitor is as good as any
+unfoldable pub cellOr : Option Cell → Cell
+unfolding fresh
+cellOr none = fresh
+cellOr (some c) = c
+
+unfoldable pub monitor : State → ℕ → Cell
+unfolding cellOr monitorOf
+monitor s o = cellOr (monitorOf (getElem? (s .objects) o))
+
+-- a thread with its number
+pub record Numbered : Type 0 where
+  pub number : ℕ
+  pub thread : Thread
+
+-- the thread that object o stands for, among threads numbered from i
+unfoldable pub threadOf : ℕ → List Thread → ℕ → Option Numbered
+threadOf i [] o = none
+threadOf i (x ∷ xs) o = cond (eqb (x .self) o) (some (record { number = i; thread = x })) (threadOf (suc i) xs o)
+
+unfoldable pub finishedWith : Found → Option ℕ
+finishedWith (Found.value o) = some o
+finishedWith (Found.here S r) = none
+finishedWith (Found.hereᶜ S r) = none
+
+-- ---- the moves
+
+-- what the machine knows of a plan: the nodes of its terms, how many there are, which fields are volatile, the roots of its procedures
+pub record Table : Type 0 where
+  pub node : ℕ → Node
+  pub count : ℕ
+  pub isVolatile : ℕ → Bool
+  pub root : ℕ → ℕ
+
+-- what is ready comes to this. Of a rule: its record, the state after it but for where the mover stands, and what takes the place of what was ready
+pub data Act : Type 0 where
+  waits : Wait → Act
+  sticks : Stuck → Act
+  lacks : Record → Act
+  does : Rule → Option Record → State → Result → Act
+
+-- a move: its rule, its record, the state after it
+pub record Move : Type 0 where
+  pub rule : Rule
+  pub entry : Option Record
+  pub state : State
+
+-- what a thread can do, whatever the room
+pub data Attempt : Type 0 where
+  absent : Attempt
+  finished : ℕ → Attempt
+  waiting : Wait → Attempt
+  stuck : Stuck → Attempt
+  lacking : Record → Attempt
+  moves : Move → Attempt
+
+-- where a thread stands after a condition's rule
+pub record Actᶜ : Type 0 where
+  pub rule : Rule
+  pub code : Found
+
+unfoldable pub choose : Bool → Result → Result → Result
+choose true x y = x
+choose false x y = y
+
+unfoldable pub joinValue : State → ℕ → ℕ → Numbered → Option ℕ → Act
+unfolding learn
+joinValue s p o q none = waits (forJoin o)
+joinValue s p o q (some v) = does e-join (some (entry Kind.join p o (q .number) v)) (learn s p (q .thread .keys)) (Result.value v)
+
+unfoldable pub joinAct : State → ℕ → ℕ → Option Numbered → Act
+unfolding joinValue finishedWith
+joinAct s p o none = sticks (notThread o)
+joinAct s p o (some q) = joinValue s p o q (finishedWith (q .thread .code))
+
+unfoldable pub synchAct : State → ℕ → Thread → ℕ → Closure → Cell → Act
+unfolding learn storeMonitor isEmpty
+synchAct s p t o x c =
+    cond (isEmpty (c .keys))
+    (cond (eqb (c .value) (t .self)) (does e-re-enter none s (Result.run x)) (waits (forMonitor o)))
+    (does e-acquire (some (entry Kind.acquire p o 0 0)) (learn (storeMonitor s o (cell empty (t .self))) p (c .keys)) (Result.held o x))
+
+module _ (table : Table) where
+  unfoldable pub readAct : State → ℕ → Thread → ℕ → ℕ → Option Cell → Act
+  unfolding learn subset
+  readAct s p t o f none = sticks (missingField o f)
+  readAct s p t o f (some c) =
+      cond (table .isVolatile f)
+      (does e-readv (some (entry Kind.readv p o f (c .value))) (learn s p (c .keys)) (Result.value (c .value)))
+      (cond (subset (c .keys) (t .keys))
+      (does e-read (some (entry Kind.read p o f (c .value))) s (Result.value (c .value)))
+      (lacks (entry Kind.lacksRead p o f 0)))
+
+  unfoldable pub writeAct : State → ℕ → Thread → ℕ → ℕ → ℕ → Option Cell → Act
+  unfolding learn store useKey subset union
+  writeAct s p t o f v none = sticks (missingField o f)
+  writeAct s p t o f v (some c) =
+      cond (table .isVolatile f)
+      (does e-writev (some (entry Kind.writev p o f v)) (store s o f (cell (union (c .keys) (t .keys)) v)) (Result.value v))
+      (cond (subset (c .keys) (t .keys))
+      (does e-write (some (entry Kind.write p o f v)) (learn (store (useKey s) o f (cell (singleton (s .nextKey)) v)) p (singleton (s .nextKey))) (Result.value v))
+      (lacks (entry Kind.lacksWrite p o f v)))
+
+  -- thread p, which is t. A call has its procedure and its count of arguments, and a hold its monitor: no run comes to another, and none is tested
+  unfoldable pub act : State → ℕ → Thread → Ready → Act
+  unfolding readAct writeAct joinAct synchAct choose putBound enter addThread addObject storeMonitor threadOf lookup monitor
+  act s p t (Ready.new fs) = does e-new (some (entry Kind.new p (length (s .objects)) 0 0)) (addObject s fs) (Result.value (length (s .objects)))
+  act s p t (Ready.read o f) = readAct s p t o f (lookup s o f)
+  act s p t (Ready.write o f v) = writeAct s p t o f v (lookup s o f)
+  act s p t (Ready.letIn x o y) = does e-let none s (Result.run (closure (y .at) (putBound (y .slots) x o)))
+  act s p t (Ready.if b x) = does e-if none s (Result.run (closure (cond b (x .first) (x .second)) (x .slots)))
+  act s p t (Ready.while x) = does e-while none s (Result.whileTest x)
+  act s p t (Ready.call m n σ) = does e-call none s (Result.run (closure (table .root m) σ))
+  act s p t (Ready.fork x) =
+      does e-fork (some (entry Kind.fork p (length (s .objects)) (length (s .threads)) 0))
+      (addThread (addObject s []) (record { self = length (s .objects); code = enter (table .node) (table .count) [] x; keys = t .keys }))
+      (Result.value (length (s .objects)))
+  act s p t (Ready.join o) = joinAct s p o (threadOf 0 (s .threads) o)
+  act s p t (Ready.synch o x) = synchAct s p t o x (monitor s o)
+  act s p t (Ready.hold o v) = does e-release (some (entry Kind.release p o 0 0)) (storeMonitor s o (cell (t .keys) 0)) (Result.value v)
+  act s p t (Ready.whileTest b x) = does e-if none s (choose b (Result.whileBody x) (Result.value 0))
+  act s p t (Ready.whileBody o x) = does e-let none s (Result.whileAgain x)
+
+  unfoldable pub actᶜ : List Frame → Readyᶜ → Actᶜ
+  unfolding upᶜ enterᶜ equalAct
+  actᶜ S Readyᶜ.notFalse = record { rule = e-notnottrue; code = upᶜ (table .node) (table .count) S true }
+  actᶜ S (Readyᶜ.and true x) = record { rule = e-andtrue; code = enterᶜ (table .node) (table .count) S x }
+  actᶜ S (Readyᶜ.and false x) = record { rule = e-andfalse; code = upᶜ (table .node) (table .count) S false }
+  actᶜ S (Readyᶜ.equal o o′) = record { rule = equalAct (eqb o o′) .rule; code = upᶜ (table .node) (table .count) S (eqb o o′) }
+
+  unfoldable pub around : ℕ → List Frame → Act → Attempt
+  unfolding become go
+  around p S (waits w) = waiting w
+  around p S (sticks r) = stuck r
+  around p S (lacks r) = lacking r
+  around p S (does R r s′ x) = moves (record { rule = R; entry = r; state = become s′ p (go (table .node) (table .count) S x) })
+
+  unfoldable pub attemptAt : State → ℕ → Thread → Found → Attempt
+  unfolding around act actᶜ become
+  attemptAt s p t (Found.value o) = finished o
+  attemptAt s p t (Found.here S r) = around p S (act s p t r)
+  attemptAt s p t (Found.hereᶜ S r) = moves (record { rule = actᶜ S r .rule; entry = none; state = become s p (actᶜ S r .code) })
+
+  unfoldable pub attemptBy : State → ℕ → Option Thread → Attempt
+  unfolding attemptAt
+  attemptBy s p none = absent
+  attemptBy s p (some t) = attemptAt s p t (t .code)
+
+  -- what thread p can do in state s
+  unfoldable pub attempt : State → ℕ → Attempt
+  unfolding attemptBy
+  attempt s p = attemptBy s p (getElem? (s .threads) p)

@@ -1,0 +1,89 @@
+-- The machine that the code runs; no reader of the entries' promises needs it. Landing in turns, as the code's loop makes it: where landing stands, and
+-- one turn of it. h gives the nodes of a plan of N terms. Assumes nothing.
+use Prim.Native.Nat.{ℕ}
+use mathlib.Core.Bool.{Bool, true, false}
+use mathlib.Core.List.{List, [], _∷_}
+use Rattle.plan.specs.Trees.{Node}
+use Rattle.machine.specs.Frames.{Slots, Closure, firstOf, secondOf, Frame, Ready, Readyᶜ, Found, Result}
+use Rattle.machine.specs.Landing
+use Rattle.machine.specs.Landing.{given, valueIn, boolIn, downBy, downByᶜ, downByᵃ, upBy, downᵃ, nowhere, up, upᶜ}
+
+-- what landing goes on with, in the hole of its frames
+pub data Going : Type 0 where
+  value : ℕ → Going  -- a value, up into the innermost frame
+  truth : Bool → Going  -- a condition's value
+  enter : Closure → Going  -- an expression
+  enterᶜ : Closure → Going  -- a condition
+  down : Closure → Going  -- an expression that is no value
+  downᶜ : Closure → Going  -- a condition that is no value
+  list : ℕ → ℕ → Slots → Closure → Going  -- the rest of a call's list: the procedure, how many values there are, in slots 0 upward
+
+pub data Turn : Type 0 where
+  ends : Found → Turn
+  goes : List Frame → Going → Turn
+
+abbrev pub goDown : List Frame → Closure → Turn
+goDown S x = goes S (down x)
+
+abbrev pub goDownᶜ : List Frame → Closure → Turn
+goDownᶜ S x = goes S (downᶜ x)
+
+abbrev pub goList : List Frame → ℕ → ℕ → Slots → Closure → Turn
+goList S m n σ x = goes S (list m n σ x)
+
+-- where a rule's result begins
+unfoldable pub begin : List Frame → Result → Turn
+begin S (Result.value v) = goes S (value v)
+begin S (Result.run x) = goes S (enter x)
+begin S (Result.held o x) = goes (Frame.hold o ∷ S) (enter x)
+begin S (Result.whileTest x) = goes (Frame.whileTest x ∷ S) (enterᶜ (firstOf x))
+begin S (Result.whileBody x) = goes (Frame.whileBody x ∷ S) (enter (secondOf x))
+begin S (Result.whileAgain x) = ends (Found.here S (Ready.while x))
+
+module _ (h : ℕ → Node) (N : ℕ) where
+  -- what landing finds
+  unfoldable pub land : List Frame → Going → Found
+  unfolding up upᶜ Landing.enter Landing.enterᶜ Landing.down
+  land S (value v) = up h N S v
+  land S (truth b) = upᶜ h N S b
+  land S (enter x) = Landing.enter h N S x
+  land S (enterᶜ x) = Landing.enterᶜ h N S x
+  land S (down x) = Landing.down h N S x
+  land S (downᶜ x) = Landing.downᶜ h N S x
+  land S (list m n σ x) = downᵃ h N S m n σ x
+
+  unfoldable pub truthTurn : List Frame → Bool → Turn
+  truthTurn [] b = ends (nowhere h N b)
+  truthTurn (Frame.if x ∷ S) b = ends (Found.here S (Ready.if b x))
+  truthTurn (Frame.and x ∷ S) b = ends (Found.hereᶜ S (Readyᶜ.and b x))
+  truthTurn (Frame.not ∷ S) true = goes S (truth false)
+  truthTurn (Frame.not ∷ S) false = ends (Found.hereᶜ S Readyᶜ.notFalse)
+  truthTurn (Frame.whileTest x ∷ S) b = ends (Found.here S (Ready.whileTest b x))
+  truthTurn (Frame.read f ∷ S) b = ends (nowhere h N b)
+  truthTurn (Frame.write₁ f x ∷ S) b = ends (nowhere h N b)
+  truthTurn (Frame.write₂ o f ∷ S) b = ends (nowhere h N b)
+  truthTurn (Frame.call m n σ x ∷ S) b = ends (nowhere h N b)
+  truthTurn (Frame.letIn x y ∷ S) b = ends (nowhere h N b)
+  truthTurn (Frame.synch x ∷ S) b = ends (nowhere h N b)
+  truthTurn (Frame.hold o ∷ S) b = ends (nowhere h N b)
+  truthTurn (Frame.join ∷ S) b = ends (nowhere h N b)
+  truthTurn (Frame.equal₁ x ∷ S) b = ends (nowhere h N b)
+  truthTurn (Frame.equal₂ o ∷ S) b = ends (nowhere h N b)
+  truthTurn (Frame.whileBody x ∷ S) b = ends (nowhere h N b)
+
+  -- one turn
+  unfoldable pub turn : List Frame → Going → Turn
+  unfolding upBy downBy downByᶜ downByᵃ valueIn boolIn truthTurn
+  turn S (value v) = upBy h ends goDown goDownᶜ goList S v
+  turn S (truth b) = truthTurn S b
+  turn S (enter x) = given (valueIn h x) (λ v. goes S (value v)) (goes S (down x))
+  turn S (enterᶜ x) = given (boolIn h x) (λ b. goes S (truth b)) (goes S (downᶜ x))
+  turn S (down x) = downBy h ends goDown goDownᶜ goList (x .slots) S (h (x .at))
+  turn S (downᶜ x) = downByᶜ h ends goDown goDownᶜ goList (x .slots) S (h (x .at))
+  turn S (list m n σ x) = downByᵃ h ends goDown goDownᶜ goList (x .slots) S m n σ (h (x .at))
+
+  -- what landing finds after a turn
+  unfoldable pub landTurn : Turn → Found
+  unfolding land
+  landTurn (ends F) = F
+  landTurn (goes S g) = land S g
