@@ -1,0 +1,102 @@
+use borrow.Author.Tests.{eq-eqb, ne-eqb}
+use native.Mathlib.Omega.{arith}
+use lib.ListN.{length-set}
+use Rattle.engine.specs.Machine.{recordsAfter, logPut}
+use borrow.Author.Needs.{needs}
+use Rattle.engine.proofs.put.Statement.{statement}
+use Rattle.engine.proofs.put.Tie as tie
+
+returns : tie.Need-returns
+unfolding recordsAfter logPut
+returns c = let t = eq-eqb _ _ (c .if1 .taken) in ((simp t, omega arith), simp t)
+
+mul-w : tie.Need-mul-w
+mul-w c = search needs
+
+add-w : tie.Need-add-w
+add-w c = search needs
+
+mul-w-2 : tie.Need-mul-w-2
+mul-w-2 c = search needs
+
+add-w-2 : tie.Need-add-w-2
+add-w-2 c = search needs
+
+mul-w-3 : tie.Need-mul-w-3
+mul-w-3 c = search needs
+
+add-w-3 : tie.Need-add-w-3
+add-w-3 c = search needs
+
+mul-w-4 : tie.Need-mul-w-4
+mul-w-4 c = search needs
+
+mul-w-5 : tie.Need-mul-w-5
+mul-w-5 c = search needs
+
+add-w-4 : tie.Need-add-w-4
+add-w-4 c = search needs
+
+mul-at : tie.Need-mul-at
+mul-at c = search needs
+
+cast-log : tie.Need-cast-log
+cast-log c = search needs
+
+slice-write-log : tie.Need-slice-write-log
+slice-write-log c = search needs
+
+cast-log-2 : tie.Need-cast-log-2
+cast-log-2 c = search needs
+
+add-log : tie.Need-add-log
+add-log c = search needs
+
+slice-write-log-2 : tie.Need-slice-write-log-2
+slice-write-log-2 c = simp length-set (omega arith)
+
+cast-log-3 : tie.Need-cast-log-3
+cast-log-3 c = search needs
+
+add-log-2 : tie.Need-add-log-2
+add-log-2 c = search needs
+
+slice-write-log-3 : tie.Need-slice-write-log-3
+slice-write-log-3 c = simp length-set (omega arith)
+
+add-t12 : tie.Need-add-t12
+add-t12 c = search needs
+
+same-length : tie.Need-same-length
+same-length c = search needs
+
+returns-2 : tie.Need-returns-2
+unfolding recordsAfter logPut
+returns-2 c = let t = ne-eqb _ _ (c .before .before .before .before .before .before .if1 .left) in ((simp t, omega arith), simp t)
+
+pub put-spec : {M : Type 1} → statement M
+put-spec =
+    tie.close
+    (tie.spec
+    returns
+    mul-w
+    add-w
+    mul-w-2
+    add-w-2
+    mul-w-3
+    add-w-3
+    mul-w-4
+    mul-w-5
+    add-w-4
+    mul-at
+    cast-log
+    slice-write-log
+    cast-log-2
+    add-log
+    slice-write-log-2
+    cast-log-3
+    add-log-2
+    slice-write-log-3
+    add-t12
+    same-length
+    returns-2)

@@ -1,0 +1,296 @@
+// The run of a schedule over a loaded plan. `run` owns flat arrays of small structs, 32 cells to an object, the monitor at field 0; the frames lie in
+// arrays of numbers that only landing touches. What is made is stored past the present ones, and counts once it is counted.
+ghost use mathlib.Core.Path.{_≡_};
+ghost use Prim.Native.Nat.{_<_, _≤_, _+_, _*_};
+ghost use lib.ListN.{length};
+ghost use Rattle.landing.specs.Landing.{Stack};
+ghost use Rattle.engine.specs.Machine.{Placed, headOf, cellFirst, noThing, tallyFirst, tallyPut, tallyMoved, logPut, stopOf, finishOf, Finished, endOf, startOf, playOf};
+use keys::KeySet;
+use landing::go;
+use landing::go::Part;
+use landing::land;
+use moves::act;
+use moves::act::Acted;
+use moves::act::Room;
+use moves::look;
+use moves::look::Sight;
+use moves::settle;
+use moves::settle::Answer;
+use moves::state::Cell;
+use moves::state::Counts;
+use moves::state::Entry;
+use moves::state::Head;
+use moves::state::Object;
+
+// How a run ended: with its picks, for want of a key, or for want of room.
+pub enum Stop {
+    End,
+    Race,
+    NoRoom(Room),
+}
+
+// What a thread's next pick would meet, with the value, the object and the field that its part is about.
+pub struct Seen {
+    pub sight: Sight,
+    pub value: usize,
+    pub object: usize,
+    pub field: usize,
+}
+
+pub struct Ran {
+    pub stop: Stop,
+    pub picks: usize,
+    pub moves: usize,
+    pub records: usize,
+    pub threads: [Seen; 8],
+}
+
+// What a run has counted.
+pub struct Tally {
+    pub counts: Counts,
+    pub moves: usize,
+    pub records: usize,
+}
+
+// What a move comes to, once its landings are known.
+pub struct Turn {
+    pub answer: Answer,
+    pub entry: Entry,
+    pub mover: Head,
+    pub young: Head,
+}
+
+// About to call main.
+fn first_head(root: usize) -> Head
+    ensures { λ r. ⌜ r ≡ headOf root ⌝ }
+{
+    let call = go::ready_of(Part::Run, root, 0, 0, 0);
+    let one = KeySet::zero();
+    Head {
+        ready: call,
+        depth: 0,
+        object: 0,
+        keys: one,
+    }
+}
+
+// Null, with key 0.
+fn first_cell() -> Cell
+    ensures { λ r. ⌜ r ≡ cellFirst ⌝ }
+{
+    let one = KeySet::zero();
+    Cell {
+        value: 0,
+        key: 0,
+        keys: one,
+    }
+}
+
+// No fields; the first object stands for thread 0.
+fn first_object() -> Object
+    ensures { λ r. ⌜ r ≡ noThing ⌝ }
+{
+    Object { mask: 0, thread: 0 }
+}
+
+// One thread, one object, one key.
+fn first_tally() -> Tally
+    ensures { λ r. ⌜ r ≡ tallyFirst ⌝ }
+{
+    let one = Counts {
+        threads: 1,
+        objects: 1,
+        keys: 1,
+    };
+    Tally {
+        counts: one,
+        moves: 0,
+        records: 0,
+    }
+}
+
+// The cell that the thread's part is about, 32 to an object.
+fn cell_of(h: Head) -> usize
+    ensures { λ r. ⌜ Placed (h .ready) r ⌝ }
+{
+    let x = h.ready;
+    let o = look::object_of(x);
+    let f = look::field_of(x);
+    o * 32 + f
+}
+
+// Writes the turn's record and counts it; kind 0 is none.
+fn put(log: &mut [u8], s: Tally, p: usize, m: Turn) -> Tally
+    requires { ⌜ (s .records * 3 + 3 ≤ length (now log)) × (s .records ≤ 4096) ⌝ }
+    ensures { λ r. ⌜ (r ≡ tallyPut s (m .entry)) × (r .records ≤ s .records + 1) ⌝ }
+    ensures { λ r. ⌜ now (log .exit) ≡ logPut (now (log .entry)) (s .records) p (m .entry) ⌝ }
+{
+    let e = m.entry;
+    let kind = e.kind;
+    if kind == 0 {
+        return s;
+    }
+    let w = (((kind % 16 * 8 + p % 8) * 32 + e.object % 32) * 32 + e.field % 32) * 128
+        + e.value % 32 * 4;
+    let at = s.records * 3;
+    log[at] = (w / 65536 % 256) as u8;
+    log[at + 1] = (w / 256 % 256) as u8;
+    log[at + 2] = (w % 256) as u8;
+    let n = s.counts;
+    Tally {
+        counts: n,
+        moves: s.moves,
+        records: s.records + 1,
+    }
+}
+
+// The counts after a move.
+fn moved(s: Tally, a: Acted) -> Tally
+    requires { ⌜ s .moves ≤ 4096 ⌝ }
+    ensures { λ r. ⌜ (r ≡ tallyMoved s a) × (r .moves ≤ s .moves + 1) ⌝ }
+{
+    let n = a.counts;
+    Tally {
+        counts: n,
+        moves: s.moves + 1,
+        records: s.records,
+    }
+}
+
+fn stop_of(a: Answer) -> Stop
+    ensures { λ r. ⌜ r ≡ stopOf a ⌝ }
+{
+    match a {
+        Answer::Moved => Stop::End,
+        Answer::Race => Stop::Race,
+        Answer::NoRoom(r) => Stop::NoRoom(r),
+    }
+}
+
+// Lands the mover and the new thread, then settles.
+fn finish(
+    words: &[usize; 1024],
+    roots: &[usize; 32],
+    tops: &mut [usize; 297],
+    envs: &mut [usize; 297],
+    args: &mut [usize; 297],
+    n: Counts,
+    p: usize,
+    w: Sight,
+    h: Head,
+    a: Acted,
+) -> Turn
+    requires { ⌜ p < 8 ⌝ }
+    ensures { λ r. ⌜ (record { stack = record { tops = now (tops .exit); envs = now (envs .exit); args = now (args .exit) }; turn = r }) ≡ finishOf (now (words .entry)) (now (roots .entry)) n p w h a (record { tops = now (tops .entry); envs = now (envs .entry); args = now (args .entry) }) ⌝ }
+{
+    let go = a.go;
+    let start = a.born;
+    let l = land::land(words, roots, tops, envs, args, p * 33, go, h.depth % 33);
+    let b = land::land(words, roots, tops, envs, args, n.threads % 9 * 33, start, 0);
+    let answer = settle::answer_to(w, a, l, b);
+    let x = h.ready;
+    let e = settle::entry_of(answer, x, a);
+    let mover = settle::mover(a, h, l);
+    let young = settle::born(n, h, b);
+    Turn {
+        answer: answer,
+        entry: e,
+        mover: mover,
+        young: young,
+    }
+}
+
+// The run's end, with what each of the eight threads would meet.
+fn end_of(
+    stop: Stop,
+    picks: usize,
+    mask: usize,
+    s: Tally,
+    heads: [Head; 9],
+    cells: [Cell; 1024],
+    objects: [Object; 33],
+) -> Ran
+    ensures { λ r. ⌜ r ≡ endOf stop picks mask s heads cells objects ⌝ }
+{
+    let n = s.counts;
+    let none = Seen {
+        sight: Sight::Absent,
+        value: 0,
+        object: 0,
+        field: 0,
+    };
+    let mut all = [none; 8];
+    for p in 0..8 {
+        let h = heads[p];
+        let x = h.ready;
+        let k = cell_of(h);
+        let c = cells[k];
+        let t = objects[k / 32];
+        let other = heads[t.thread % 9];
+        let w = look::look(mask, n, p, h, c, t, other);
+        all[p] = Seen {
+            sight: w,
+            value: x.a,
+            object: k / 32,
+            field: k % 32,
+        };
+    }
+    Ran {
+        stop: stop,
+        picks: picks,
+        moves: s.moves,
+        records: s.records,
+        threads: all,
+    }
+}
+
+// The run of the picks from the start, with its records in the log.
+pub fn run(
+    words: &[usize; 1024],
+    roots: &[usize; 32],
+    mask: usize,
+    picks: &[u8],
+    log: &mut [u8],
+) -> Ran
+    requires { ⌜ (length (now picks) ≤ 4096) × (length (now picks) * 3 ≤ length (now log)) ⌝ }
+    ensures ran { λ r. ⌜ r ≡ playOf (now (words .entry)) (now (roots .entry)) mask (startOf (now (roots .entry)) (now (log .entry))) (now (picks .entry)) 0 .ran ⌝ }
+    ensures area { λ r. ⌜ now (log .exit) ≡ playOf (now (words .entry)) (now (roots .entry)) mask (startOf (now (roots .entry)) (now (log .entry))) (now (picks .entry)) 0 .area ⌝ }
+{
+    let mut heads = [first_head(roots[0]); 9];
+    let mut cells = [first_cell(); 1024];
+    let mut objects = [first_object(); 33];
+    let mut tops = [0usize; 297];
+    let mut envs = [0usize; 297];
+    let mut args = [0usize; 297];
+    let mut s = first_tally();
+    for i in 0..picks.len() {
+        let p = (picks[i] % 8) as usize;
+        let h = heads[p];
+        let k = cell_of(h);
+        let c = cells[k];
+        let t = objects[k / 32];
+        let other = heads[t.thread % 9];
+        let n = s.counts;
+        let w = look::look(mask, n, p, h, c, t, other);
+        if settle::passes(w) {
+            continue;
+        }
+        let a = act::act(mask, n, h, c, t, other);
+        let m = finish(words, roots, &mut tops, &mut envs, &mut args, n, p, w, h, a);
+        s = put(&mut *log, s, p, m);
+        let answer = m.answer;
+        let Answer::Moved = answer else {
+            return end_of(stop_of(answer), i, mask, s, heads, cells, objects);
+        };
+        let young = m.young;
+        let mover = m.mover;
+        let cell = a.cell;
+        let thing = a.thing;
+        heads[n.threads % 9] = young;
+        heads[p] = mover;
+        cells[k] = cell;
+        objects[n.objects % 33] = thing;
+        s = moved(s, a);
+    }
+    end_of(Stop::End, picks.len(), mask, s, heads, cells, objects)
+}

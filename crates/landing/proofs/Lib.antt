@@ -1,0 +1,4 @@
+pub mod Units
+pub mod Others
+pub mod Depths
+pub mod Turns

@@ -1,0 +1,24 @@
+-- How landing goes on, ends, and runs out of steps. Assumes nothing.
+use mathlib.Core.Path.{_≡_}
+use mathlib.Core.Bool.{true, false}
+use mathlib.Core.List.{List}
+use Prim.Native.Nat.{ℕ, zero, suc, _+_, _-_, _<_}
+use native.Mathlib.Omega.{arith}
+use Rattle.landing.specs.declared.go.Go.{Go}
+use Rattle.landing.specs.Going.{goFull}
+use Rattle.landing.specs.Landing.{liveOf, Stack, ended, storeAt, turnAt, landOf}
+
+pub goes : (n : ℕ) (ws rs : List ℕ) (base : ℕ) (k : Stack) (g : Go) (d : ℕ) → 0 < n → liveOf g ≡ true
+    → landOf n ws rs base k g d ≡ landOf (n - 1) ws rs base (storeAt k (base + turnAt ws rs base k g d .at) (turnAt ws rs base k g d .frame)) (turnAt ws rs base k g d .go) (turnAt ws rs base k g d .depth)
+unfolding landOf
+goes zero ws rs base k g d h e = absurd (omega arith)
+goes (suc n) ws rs base k g d h e = let q : suc n - 1 ≡ n = omega arith in rw (q, e)
+
+pub halts : (n : ℕ) (ws rs : List ℕ) (base : ℕ) (k : Stack) (g : Go) (d : ℕ) → 0 < n → liveOf g ≡ false → landOf n ws rs base k g d ≡ ended k g d
+unfolding landOf
+halts zero ws rs base k g d h e = absurd (omega arith)
+halts (suc n) ws rs base k g d h e = rw e
+
+pub spent : (n : ℕ) (ws rs : List ℕ) (base : ℕ) (k : Stack) (g : Go) (d : ℕ) → n ≡ 0 → landOf n ws rs base k g d ≡ ended k goFull d
+unfolding landOf
+spent n ws rs base k g d e = rw e

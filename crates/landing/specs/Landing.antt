@@ -1,0 +1,67 @@
+-- Landing: steps until the part that moves next is found. The machine that the code runs; no reader of the entries' promises needs it. Assumes nothing.
+use Prim.Native.Nat.{ℕ, zero, suc, _+_, _-_}
+use mathlib.Core.Bool.{Bool, true, false, cond}
+use mathlib.Core.List.{List}
+use lib.Dec.{eqb}
+use lib.ListN.{getD, set}
+use Rattle.landing.specs.declared.frame.Frame.{Frame}
+use Rattle.landing.specs.declared.go.Stage.{Stage}
+use Rattle.landing.specs.declared.go.Stage.the-variants as stage
+use Rattle.landing.specs.declared.go.Go.{Go}
+use Rattle.landing.specs.declared.down.Turn.{Turn}
+use Rattle.landing.specs.declared.land.Landed.{Landed}
+use Rattle.landing.specs.Frames.{packOf, unpackOf}
+use Rattle.landing.specs.Going.{goFull}
+use Rattle.landing.specs.Down.{stepOf}
+
+abbrev pub liveBy : Stage → Bool
+liveBy stage.Full = false
+liveBy stage.At = false
+liveBy stage.Run = true
+liveBy stage.RunCondition = true
+liveBy stage.Want = true
+liveBy stage.WantCondition = true
+liveBy stage.List = true
+liveBy stage.Value = true
+liveBy stage.Truth = true
+
+abbrev pub liveOf : Go → Bool
+liveOf g = liveBy (g .stage)
+
+abbrev pub topOf : ℕ → ℕ → ℕ
+topOf base d = cond (eqb d 0) base (base + (d - 1))
+
+-- the frames of all threads
+pub record Stack : Type 0 where
+  pub tops : List ℕ
+  pub envs : List ℕ
+  pub args : List ℕ
+
+pub record Ended : Type 0 where
+  pub stack : Stack
+  pub landed : Landed
+
+abbrev pub ended : Stack → Go → ℕ → Ended
+ended k g d = record { stack = k; landed = record { go = g; depth = d } }
+
+abbrev pub frameAt : Stack → ℕ → Frame
+frameAt k i = unpackOf (getD (k .tops) i 0) (getD (k .envs) i 0) (getD (k .args) i 0)
+
+abbrev pub storeAt : Stack → ℕ → Frame → Stack
+storeAt k i f =
+    record {
+      tops = set (k .tops) i (packOf f .top);
+      envs = set (k .envs) i (packOf f .env);
+      args = set (k .args) i (packOf f .args);
+    }
+
+abbrev pub turnAt : List ℕ → List ℕ → ℕ → Stack → Go → ℕ → Turn
+turnAt ws rs base k g d = stepOf ws rs g d (frameAt k (topOf base d))
+
+-- at most n steps
+unfoldable pub landOf : ℕ → List ℕ → List ℕ → ℕ → Stack → Go → ℕ → Ended
+landOf zero ws rs base k g d = ended k goFull d
+landOf (suc n) ws rs base k g d =
+    cond (liveOf g)
+    (landOf n ws rs base (storeAt k (base + turnAt ws rs base k g d .at) (turnAt ws rs base k g d .frame)) (turnAt ws rs base k g d .go) (turnAt ws rs base k g d .depth))
+    (ended k g d)

@@ -1,0 +1,6 @@
+pub mod Slots
+pub mod Words
+pub mod Frames
+pub mod Going
+pub mod Down
+pub mod Landing

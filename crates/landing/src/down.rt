@@ -1,0 +1,216 @@
+// The way down: an operand, a call's list, a term.
+ghost use mathlib.Core.Path.{_≡_};
+ghost use Rattle.landing.specs.Down.{stayOf, pushOf, wantOf, wantConditionOf, rootAt, listOf, simpleOf, runOf, runConditionOf, backOf, backConditionOf, stepOf};
+use crate::frame;
+use crate::frame::Frame;
+use crate::frame::Kind;
+use crate::go;
+use crate::go::Go;
+use crate::go::Part;
+use crate::go::Stage;
+use crate::words;
+
+// One step: where landing then stands, how deep, and a frame for place `at`.
+pub struct Turn {
+    pub go: Go,
+    pub depth: usize,
+    pub at: usize,
+    pub frame: Frame,
+}
+
+// No frame more.
+pub fn stay(g: Go, depth: usize) -> Turn
+    ensures { λ r. ⌜ r ≡ stayOf g depth ⌝ }
+{
+    let f = frame::frame_of(Kind::Read, 0, 0, 0, 0);
+    Turn {
+        go: g,
+        depth: depth,
+        at: depth,
+        frame: f,
+    }
+}
+
+// A frame more, if there is room for it.
+fn push(g: Go, depth: usize, f: Frame) -> Turn
+    ensures { λ r. ⌜ r ≡ pushOf g depth f ⌝ }
+{
+    if depth < 32 {
+        return Turn {
+            go: g,
+            depth: depth + 1,
+            at: depth,
+            frame: f,
+        };
+    }
+    stay(go::full(), depth)
+}
+
+// A frame that wants the value of expression i: fed at once where i needs no move.
+fn want(words: &[usize; 1024], f: Frame, i: usize, d: usize) -> Turn
+    ensures { λ r. ⌜ r ≡ wantOf (now (words .entry)) f i d ⌝ }
+{
+    let v = words::value(words, f.env, i);
+    if v < 32 {
+        return stay(go::feed(f, v), d);
+    }
+    push(go::run(i, f.env), d, f)
+}
+
+// The same of condition i.
+fn want_condition(words: &[usize; 1024], f: Frame, i: usize, d: usize) -> Turn
+    ensures { λ r. ⌜ r ≡ wantConditionOf (now (words .entry)) f i d ⌝ }
+{
+    let b = words::truth(words, i);
+    if b < 2 {
+        return stay(go::feed_condition(f, b), d);
+    }
+    push(go::run_condition(i, f.env), d, f)
+}
+
+// The root of procedure m; an index over 31 wraps.
+fn root(roots: &[usize; 32], m: usize) -> usize
+    ensures { λ r. ⌜ r ≡ rootAt (now (roots .entry)) m ⌝ }
+{
+    roots[m % 32]
+}
+
+// The rest of a call's list: the next operand, or the call.
+fn list(words: &[usize; 1024], roots: &[usize; 32], f: Frame, d: usize) -> Turn
+    ensures { λ r. ⌜ r ≡ listOf (now (words .entry)) (now (roots .entry)) f d ⌝ }
+{
+    let w = words::word(words, f.a);
+    if words::tag(w) == 16 {
+        return want(words, frame::rest(f, words::second(w)), words::first(w), d);
+    }
+    let t = root(roots, f.m);
+    stay(go::at(go::ready_of(Part::Run, t, 0, 0, f.args)), d)
+}
+
+// Down from an expression whose operands need no look: a value, `new`, `while`, `fork`.
+fn simple(words: &[usize; 1024], w: usize, t: usize, env: usize) -> Go
+    ensures { λ r. ⌜ r ≡ simpleOf (now (words .entry)) w t env ⌝ }
+{
+    let k = words::tag(w);
+    match k {
+        2 => go::at(go::ready_of(Part::New, words::mask_of(w), 0, 0, 0)),
+        7 => go::at(go::ready_of(Part::While, words::first(w), words::second(w), 0, env)),
+        9 => go::at(go::ready_of(Part::Fork, words::first(w), 0, 0, env)),
+        0 => go::value(0),
+        1 => go::value(words::value(words, env, t)),
+        _ => go::at(go::ready_of(Part::NoRule, 0, 0, 0, 0)),
+    }
+}
+
+// Down from an expression.
+fn run(words: &[usize; 1024], roots: &[usize; 32], t: usize, env: usize, d: usize) -> Turn
+    ensures { λ r. ⌜ r ≡ runOf (now (words .entry)) (now (roots .entry)) t env d ⌝ }
+{
+    let w = words::word(words, t);
+    let k = words::tag(w);
+    let a = words::first(w);
+    let b = words::second(w);
+    match k {
+        3 => want(
+            words,
+            frame::frame_of(Kind::Read, 0, 0, words::field_of(w), env),
+            a,
+            d,
+        ),
+        4 => want(
+            words,
+            frame::frame_of(
+                Kind::Write1,
+                words::write_second(w),
+                0,
+                words::field_of(w),
+                env,
+            ),
+            a,
+            d,
+        ),
+        5 => want(
+            words,
+            frame::let_frame(words::slot_of(w), words::let_second(w), env),
+            words::let_first(w),
+            d,
+        ),
+        6 => want_condition(
+            words,
+            frame::frame_of(Kind::If, b, words::third(w), 0, env),
+            a,
+            d,
+        ),
+        8 => list(
+            words,
+            roots,
+            frame::frame_of(
+                Kind::Call,
+                words::list_of(w),
+                0,
+                words::procedure_of(w),
+                env,
+            ),
+            d,
+        ),
+        10 => want(words, frame::frame_of(Kind::Join, 0, 0, 0, env), a, d),
+        11 => want(words, frame::frame_of(Kind::Synch, b, 0, 0, env), a, d),
+        _ => stay(simple(words, w, t, env), d),
+    }
+}
+
+// Down from a condition.
+fn run_condition(words: &[usize; 1024], t: usize, env: usize, d: usize) -> Turn
+    ensures { λ r. ⌜ r ≡ runConditionOf (now (words .entry)) t env d ⌝ }
+{
+    let w = words::word(words, t);
+    let k = words::tag(w);
+    let a = words::first(w);
+    let b = words::second(w);
+    match k {
+        12 => stay(go::truth(1), d),
+        13 => want_condition(words, frame::frame_of(Kind::Not, 0, 0, 0, env), a, d),
+        14 => want_condition(words, frame::frame_of(Kind::And, b, 0, 0, env), a, d),
+        15 => want(words, frame::frame_of(Kind::Equal1, b, 0, 0, env), a, d),
+        _ => stay(go::at(go::ready_of(Part::NoRule, 0, 0, 0, 0)), d),
+    }
+}
+
+// A value goes up into the top frame.
+fn back(f: Frame, v: usize, d: usize) -> Turn
+    ensures { λ r. ⌜ r ≡ backOf f v d ⌝ }
+{
+    if d == 0 {
+        return stay(go::at(go::ready_of(Part::Done, v, 0, 0, 0)), d);
+    }
+    stay(go::feed(f, v), d - 1)
+}
+
+// A condition's value goes up into the top frame.
+fn back_condition(f: Frame, b: usize, d: usize) -> Turn
+    ensures { λ r. ⌜ r ≡ backConditionOf f b d ⌝ }
+{
+    if d == 0 {
+        return stay(go::at(go::ready_of(Part::NoRule, 0, 0, 0, 0)), d);
+    }
+    stay(go::feed_condition(f, b), d - 1)
+}
+
+// One step of landing, with the top frame.
+pub fn step(words: &[usize; 1024], roots: &[usize; 32], g: Go, d: usize, f: Frame) -> Turn
+    ensures { λ r. ⌜ r ≡ stepOf (now (words .entry)) (now (roots .entry)) g d f ⌝ }
+{
+    let h = g.frame;
+    let s = g.stage;
+    match s {
+        Stage::Run => run(words, roots, g.i, h.env, d),
+        Stage::RunCondition => run_condition(words, g.i, h.env, d),
+        Stage::Want => want(words, h, g.i, d),
+        Stage::WantCondition => want_condition(words, h, g.i, d),
+        Stage::List => list(words, roots, h, d),
+        Stage::Value => back(f, g.i, d),
+        Stage::Truth => back_condition(f, g.i, d),
+        Stage::At => stay(g, d),
+        Stage::Full => stay(g, d),
+    }
+}

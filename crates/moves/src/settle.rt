@@ -1,0 +1,132 @@
+// Settle: the answer to a pick, once the landings are known.
+ghost use mathlib.Core.Path.{_≡_};
+ghost use Rattle.moves.specs.Settle.{passesOf, lackEntry, fullOf, answerOf, moverOf, bornOf, entryBy};
+use crate::act;
+use crate::act::Acted;
+use crate::act::Room;
+use crate::look::Sight;
+use crate::state::Counts;
+use crate::state::Entry;
+use crate::state::Head;
+use keys::KeySet;
+use landing::go::Go;
+use landing::go::Part;
+use landing::go::Ready;
+use landing::go::Stage;
+use landing::land::Landed;
+
+// A pick moves its thread, or stops the run.
+pub enum Answer {
+    Moved,
+    Race,
+    NoRoom(Room),
+}
+
+// Whether a pick that meets this is passed over.
+pub fn passes(s: Sight) -> bool
+    ensures { λ r. ⌜ r ≡ passesOf s ⌝ }
+{
+    match s {
+        Sight::Ready => false,
+        Sight::Lacking => false,
+        Sight::Absent => true,
+        Sight::Finished => true,
+        Sight::Monitor => true,
+        Sight::Join => true,
+        Sight::NoField => true,
+        Sight::NoThread => true,
+        Sight::NoRule => true,
+    }
+}
+
+// The record of an access that lacks its key.
+pub fn lack(r: Ready) -> Entry
+    ensures { λ e. ⌜ e ≡ lackEntry r ⌝ }
+{
+    let p = r.part;
+    match p {
+        Part::Write => act::entry(11, r.a, r.b, r.c),
+        _ => act::entry(10, r.a, r.b, 0),
+    }
+}
+
+fn full(l: Landed) -> bool
+    ensures { λ r. ⌜ r ≡ fullOf l ⌝ }
+{
+    let g = l.go;
+    let s = g.stage;
+    match s {
+        Stage::Full => true,
+        _ => false,
+    }
+}
+
+// The answer to a pick that is not passed over: of a fork, the new thread's landing counts too.
+pub fn answer_to(s: Sight, a: Acted, l: Landed, b: Landed) -> Answer
+    ensures { λ r. ⌜ r ≡ answerOf s a l b ⌝ }
+{
+    let room = a.room;
+    let e = a.entry;
+    match s {
+        Sight::Lacking => Answer::Race,
+        _ => match room {
+            Room::Enough => {
+                if full(l) {
+                    return Answer::NoRoom(Room::NoDepth);
+                }
+                if e.kind == 8 {
+                    if full(b) {
+                        return Answer::NoRoom(Room::NoDepth);
+                    }
+                }
+                Answer::Moved
+            }
+            Room::NoThread => Answer::NoRoom(Room::NoThread),
+            Room::NoObject => Answer::NoRoom(Room::NoObject),
+            Room::NoKey => Answer::NoRoom(Room::NoKey),
+            Room::NoDepth => Answer::NoRoom(Room::NoDepth),
+        },
+    }
+}
+
+// The mover after its move.
+pub fn mover(a: Acted, h: Head, l: Landed) -> Head
+    ensures { λ r. ⌜ r ≡ moverOf a h l ⌝ }
+{
+    let g = l.go;
+    let x = g.ready;
+    let ks = a.keys;
+    Head {
+        ready: x,
+        depth: l.depth,
+        object: h.object,
+        keys: ks,
+    }
+}
+
+// The thread that a fork starts: its object is the next one, its keys are its maker's.
+pub fn born(n: Counts, h: Head, b: Landed) -> Head
+    ensures { λ r. ⌜ r ≡ bornOf n h b ⌝ }
+{
+    let g = b.go;
+    let x = g.ready;
+    let ks = h.keys;
+    Head {
+        ready: x,
+        depth: b.depth,
+        object: n.objects,
+        keys: ks,
+    }
+}
+
+// The record that a pick leaves: the move's, or that of the access that lacks its key, or none.
+pub fn entry_of(w: Answer, r: Ready, a: Acted) -> Entry
+    ensures { λ e. ⌜ e ≡ entryBy w r a ⌝ }
+{
+    let e = a.entry;
+    match w {
+        Answer::Moved => e,
+        Answer::Race => lack(r),
+        Answer::NoRoom(_) => act::entry(0, 0, 0, 0),
+    }
+}

@@ -1,0 +1,80 @@
+-- A step of a call's list: at a term of the list its expression is wanted, and at the end the call is ready. Assumes nothing.
+use Prim.Native.Nat.{ℕ, suc, _%_, _≤_, _<_}
+use native.Mathlib.Omega.{arith}
+use mathlib.Core.Path.{_≡_, refl, sym, ap, _∙_, subst}
+use mathlib.Core.List.{List}
+use lib.ListN.{length}
+use Rattle.plan.specs.Format.{procedures, terms, root, expression, tagAt}
+use Rattle.plan.specs.Trees.{nodeAt}
+use Rattle.plan.proofs.Accepted.{OfSort, Accepted}
+use Rattle.machine.specs.Frames.{closure}
+use Rattle.machine.specs.Frames as frames
+use Rattle.machine.specs.Playing as playing
+use Rattle.machine.specs.Landing.{downᵃ}
+use Rattle.machine.proofs.PlanTable.{ordered}
+use Rattle.machine.proofs.CallLists.{list-left}
+use Rattle.machine.proofs.Sorted.{Well}
+use Rattle.landing.specs.declared.frame.Frame.{Frame}
+use Rattle.landing.specs.declared.go.Part.the-variants as part
+use Rattle.landing.specs.Words.{wordAt, firstOf, secondOf}
+use Rattle.landing.specs.Frames.{restOf}
+use Rattle.landing.specs.Going.{readyOf, goAt}
+use Rattle.landing.specs.Down.{rootAt, listBy, listOf}
+use Rattle.landing.specs.Landing.{Stack}
+use Rattle.refinement.proofs.Meant.{Loaded, slots, closed, IsRest, IsExpression}
+use Rattle.refinement.proofs.Words.{Rest, rest-at}
+use Rattle.refinement.proofs.Descent.{list-more, list-end}
+use Rattle.refinement.proofs.Fuel.{left}
+use Rattle.refinement.proofs.Feeding.{call-unlogged}
+use Rattle.refinement.proofs.Operands.{Placed, Next, stays, want, child, lower}
+
+-- ---- the root of a procedure
+
+root-is : {b ws rs : List ℕ} → Accepted b → Loaded b ws rs → (m : ℕ) → m < procedures b → rootAt rs m ≡ root b m
+unfolding rootAt
+root-is a loaded m l = let q : m % 32 ≡ m = omega (arith, a .few-procedures) in rw q (loaded .roots m l)
+
+root-table : (b : List ℕ) (m : ℕ) → playing.tableOf b .root m ≡ root b m
+unfolding playing.tableOf
+root-table b m = refl
+
+root-fits : {b ws rs : List ℕ} → Accepted b → Loaded b ws rs → (m : ℕ) → m < procedures b → IsExpression b (rootAt rs m)
+root-fits {b} a loaded m l =
+    let e = root-is a loaded m l in
+    let u = a .each-procedure m l in
+    (subst (λ (t : ℕ). t < terms b) (sym e) (u .root-below), subst (λ (t : ℕ). OfSort expression (tagAt b t)) (sym e) (u .root-sorted))
+
+module _ {b ws rs : List ℕ} {k : Stack} {base : ℕ} {S : List frames.Frame} (c : Placed b ws rs k base S) {n : ℕ} {X : frames.Found} where
+  list-by : (f : Frame) → Well S → f .m < procedures b → IsRest b (f .n) (f .a) → X ≡ downᵃ (nodeAt b) (terms b) S (f .m) (f .n) (slots (f .args)) (closed (f .a) (f .env))
+      → left (f .a) ≤ suc n → Rest b (f .a) (wordAt ws (f .a)) → Next b ws k base n X (listOf ws rs f (length S))
+  unfolding listOf listBy
+  list-by f w l s e m (Rest.more p q r z) =
+      let i = firstOf (wordAt ws (f .a)) in
+      let j = secondOf (wordAt ws (f .a)) in
+      let u = list-left (nodeAt b) (terms b) (ordered b (c .right)) (f .a) i j q in
+      rw p
+      (want c (restOf f j) i (record {
+        a-fits = omega arith;
+        b-fits = omega arith;
+        m-fits = omega (arith, c .right .few-procedures);
+        n-fits = omega (arith, s .2);
+        sorted = (l, (z .below, z .sorted, omega (arith, s .2)));
+      }) w (child r) (e ∙ list-more (ordered b (c .right)) S (f .a) (slots (f .env)) (f .m) (f .n) (slots (f .args)) q)
+      (omega (arith, lower (c .right) (f .a) i n m (r .above) (r .below))) (omega (arith, lower (c .right) (f .a) j n m (z .above) (z .below))))
+  list-by f w l s e m (Rest.end p q) =
+      rw p
+      (stays c (goAt (readyOf part.Run (rootAt rs (f .m)) 0 0 (f .args))) (
+        w,
+        root-fits (c .right) (c .loaded) (f .m) l,
+        (
+          frames.Ready.call (f .m) (f .n) (slots (f .args)),
+          e ∙ list-end (ordered b (c .right)) S (f .a) (slots (f .env)) (f .m) (f .n) (slots (f .args)) q,
+          call-unlogged b (f .m) (f .n) (slots (f .args)) (closed (rootAt rs (f .m)) (f .args))
+              (ap (λ (t : ℕ). closure t (slots (f .args))) (root-table b (f .m) ∙ sym (root-is (c .right) (c .loaded) (f .m) l))),
+        ),
+      )
+      (omega arith))
+
+  pub list-step : (f : Frame) → Well S → f .m < procedures b → IsRest b (f .n) (f .a) → X ≡ downᵃ (nodeAt b) (terms b) S (f .m) (f .n) (slots (f .args)) (closed (f .a) (f .env))
+      → left (f .a) ≤ suc n → Next b ws k base n X (listOf ws rs f (length S))
+  list-step f w l s e m = list-by f w l s e m (rest-at b ws rs (c .right) (c .loaded) (f .a) (s .0) (s .1))

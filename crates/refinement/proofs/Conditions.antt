@@ -1,0 +1,79 @@
+-- A step from a condition: it is true, or its first operand is wanted for a frame. Assumes nothing.
+use Prim.Native.Nat.{ℕ, suc, _+_, _≤_, _<_}
+use native.Mathlib.Omega.{arith}
+use mathlib.Core.Path.{_≡_, _∙_}
+use mathlib.Core.Bool.{Bool, true, false}
+use mathlib.Core.List.{List, _∷_}
+use mathlib.Core.Option.{Option, some, none}
+use lib.ListN.{length}
+use Rattle.plan.specs.Format.{terms}
+use Rattle.plan.specs.Trees.{Node, nodeAt}
+use Rattle.rules.specs.Context.{falseWhen}
+use Rattle.machine.specs.Frames as frames
+use Rattle.machine.specs.Landing.{isTrue, boolOf, boolIn, enterᶜ}
+use Rattle.machine.proofs.PlanTable.{ordered}
+use Rattle.machine.proofs.Sorted.{Wellᶜ}
+use Rattle.landing.specs.declared.frame.Kind.the-variants as kind
+use Rattle.landing.specs.Words.{wordAt, firstOf, secondOf}
+use Rattle.landing.specs.Frames.{framed}
+use Rattle.landing.specs.Going.{goTruth}
+use Rattle.landing.specs.Down.{runConditionBy, runConditionOf}
+use Rattle.landing.specs.Landing.{Stack}
+use Rattle.refinement.proofs.Meant.{slots, closed, IsCondition}
+use Rattle.refinement.proofs.Words.{Condition, condition-at}
+use Rattle.refinement.proofs.Descent.{enter-truth, enter-not-true, enter-not, enter-and, enter-equal}
+use Rattle.refinement.proofs.Fuel.{left}
+use Rattle.refinement.proofs.Operands.{Placed, Next, stays, want, wantᶜ, child, childᶜ, lower, plain-fine}
+
+false-never : (t : Bool) → falseWhen t ≡ some true → ⊥
+unfolding falseWhen
+false-never true e = let z : _≡_ {A = ℕ} 0 1 = cc in omega arith
+false-never false e = let z : _≡_ {A = ℕ} 0 1 = cc in omega arith
+
+none-never : _≡_ {A = Option Bool} none (some true) → ⊥
+none-never e = let z : _≡_ {A = ℕ} 0 1 = cc in omega arith
+
+module _ {b ws rs : List ℕ} {k : Stack} {base : ℕ} {S : List frames.Frame} (c : Placed b ws rs k base S) {n : ℕ} {X : frames.Found}
+    (t e : ℕ) (w : Wellᶜ S) (s : IsCondition b t) (x : X ≡ enterᶜ (nodeAt b) (terms b) S (closed t e)) (l : left t ≤ suc n) where
+  abbrev word : ℕ
+  word = wordAt ws t
+
+  truth-in : nodeAt b t ≡ Node.truth → boolIn (nodeAt b) (closed t e) ≡ some true
+  unfolding boolIn boolOf
+  truth-in q = rw q
+
+  -- `not true` is a value, and the operand of another `not` is not true
+  not-in : (i : ℕ) → nodeAt b t ≡ Node.not i → Condition b i (wordAt ws i) → X ≡ enterᶜ (nodeAt b) (terms b) (frames.Frame.not ∷ S) (closed i e)
+  unfolding isTrue boolOf
+  not-in i q (Condition.truth r o) = x ∙ enter-not-true (ordered b (c .right)) S t (slots e) q o
+  not-in i q (Condition.not r o _) =
+      x ∙ enter-not (ordered b (c .right)) S t (slots e) q (rw o) (λ z. false-never (isTrue (nodeAt b (firstOf (wordAt ws i)))) (rw o at z))
+  not-in i q (Condition.and r o _ _) = x ∙ enter-not (ordered b (c .right)) S t (slots e) q (rw o) (λ z. none-never (rw o at z))
+  not-in i q (Condition.equal r o _ _) = x ∙ enter-not (ordered b (c .right)) S t (slots e) q (rw o) (λ z. none-never (rw o at z))
+
+  -- a child takes a step less
+  less : (i : ℕ) → t < i → i < terms b → left i + 1 ≤ n
+  less i p q = lower (c .right) t i n l p q
+
+  less-one : (i : ℕ) → t < i → i < terms b → left i ≤ n
+  less-one i p q = omega (arith, less i p q)
+
+  run-by : Condition b t word → Next b ws k base n X (runConditionOf ws t e (length S))
+  unfolding runConditionOf runConditionBy
+  run-by (Condition.truth p q) =
+      rw p (stays c (goTruth 1) (w, omega arith, x ∙ enter-truth (ordered b (c .right)) S (closed t e) true (truth-in q)) (omega (arith, s .0, c .right .few-terms)))
+  run-by (Condition.not p q i) =
+      rw p
+      (wantᶜ c (framed kind.Not 0 0 0 e) (firstOf word) (plain-fine kind.Not 0 0 0 e (omega arith) (omega arith) (omega arith) tt) w (childᶜ i)
+      (not-in (firstOf word) q (condition-at b ws rs (c .right) (c .loaded) (firstOf word) (i .below) (i .sorted))) (less-one _ (i .above) (i .below)))
+  run-by (Condition.and p q i j) =
+      rw p
+      (wantᶜ c (framed kind.And (secondOf word) 0 0 e) (firstOf word) (plain-fine kind.And (secondOf word) 0 0 e (omega arith) (omega arith) (omega arith) (childᶜ j)) w (childᶜ i)
+      (x ∙ enter-and (ordered b (c .right)) S t (slots e) q) (less-one _ (i .above) (i .below)))
+  run-by (Condition.equal p q i j) =
+      rw p
+      (want c (framed kind.Equal1 (secondOf word) 0 0 e) (firstOf word) (plain-fine kind.Equal1 (secondOf word) 0 0 e (omega arith) (omega arith) (omega arith) (child j)) w (child i)
+      (x ∙ enter-equal (ordered b (c .right)) S t (slots e) q) (less-one _ (i .above) (i .below)) (less _ (j .above) (j .below)))
+
+  pub run-condition-step : Next b ws k base n X (runConditionOf ws t e (length S))
+  run-condition-step = run-by (condition-at b ws rs (c .right) (c .loaded) t (s .0) (s .1))

@@ -1,0 +1,125 @@
+-- Frames in the stack: what is stored in a place is read back, and the other places stay as they were. Assumes nothing.
+use Prim.Native.Nat.{ℕ, _+_, _*_, _/_, _%_, _≤_, _<_}
+use native.Mathlib.Omega.{arith}
+use mathlib.Core.Path.{_≡_, refl, sym, _∙_, subst}
+use mathlib.Core.List.{List, [], _∷_}
+use lib.ListN.{length, length-set}
+use lib.Seq.{getD-set-same, getD-set-other}
+use Rattle.machine.specs.Frames as frames
+use Rattle.landing.specs.declared.frame.Kind.{Kind}
+use Rattle.landing.specs.declared.frame.Kind.the-variants as kind
+use Rattle.landing.specs.declared.frame.Frame.{Frame}
+use Rattle.landing.specs.Frames.{codeOf, kindOf, packOf, unpackOf}
+use Rattle.landing.specs.Landing.{Stack, frameAt, storeAt}
+use Rattle.refinement.proofs.Meant.{frameOf, Fine, Holds, Sized}
+
+code-small : (k : Kind) → codeOf k < 16
+code-small kind.Read = omega arith
+code-small kind.Write1 = omega arith
+code-small kind.Write2 = omega arith
+code-small kind.Call = omega arith
+code-small kind.Let = omega arith
+code-small kind.Synch = omega arith
+code-small kind.Hold = omega arith
+code-small kind.Join = omega arith
+code-small kind.Equal1 = omega arith
+code-small kind.Equal2 = omega arith
+code-small kind.If = omega arith
+code-small kind.And = omega arith
+code-small kind.Not = omega arith
+code-small kind.Test = omega arith
+code-small kind.Body = omega arith
+
+code-kind : (k : Kind) → kindOf (codeOf k) ≡ k
+unfolding kindOf
+code-kind kind.Read = refl
+code-kind kind.Write1 = refl
+code-kind kind.Write2 = refl
+code-kind kind.Call = refl
+code-kind kind.Let = refl
+code-kind kind.Synch = refl
+code-kind kind.Hold = refl
+code-kind kind.Join = refl
+code-kind kind.Equal1 = refl
+code-kind kind.Equal2 = refl
+code-kind kind.If = refl
+code-kind kind.And = refl
+code-kind kind.Not = refl
+code-kind kind.Test = refl
+code-kind kind.Body = refl
+
+-- five fields in one number
+top-of : ℕ → ℕ → ℕ → ℕ → ℕ → ℕ
+top-of n m b a c = (((n % 16 * 32 + m % 32) * 1024 + b % 1024) * 1024 + a % 1024) * 16 + c
+
+top-code : (n m b a c : ℕ) → c < 16 → top-of n m b a c % 16 ≡ c
+unfolding top-of
+top-code n m b a c h = omega arith
+
+top-a : (n m b a c : ℕ) → c < 16 → a < 1024 → top-of n m b a c / 16 % 1024 ≡ a
+unfolding top-of
+top-a n m b a c h l = omega arith
+
+top-b : (n m b a c : ℕ) → c < 16 → b < 1024 → top-of n m b a c / 16384 % 1024 ≡ b
+unfolding top-of
+top-b n m b a c h l = omega arith
+
+top-m : (n m b a c : ℕ) → c < 16 → m < 32 → top-of n m b a c / 16777216 % 32 ≡ m
+unfolding top-of
+top-m n m b a c h l = omega arith
+
+top-n : (n m b a c : ℕ) → c < 16 → n < 16 → top-of n m b a c / 536870912 % 16 ≡ n
+unfolding top-of
+top-n n m b a c h l = omega arith
+
+pub unpacked : (f : Frame) → f .a < 1024 → f .b < 1024 → f .m < 32 → f .n < 16 → unpackOf (packOf f .top) (packOf f .env) (packOf f .args) ≡ f
+unfolding unpackOf packOf top-of
+unpacked f ha hb hm hn =
+    let c = codeOf (f .kind) in
+    let s = code-small (f .kind) in
+    rw (
+      top-code (f .n) (f .m) (f .b) (f .a) c s,
+      code-kind (f .kind),
+      top-a (f .n) (f .m) (f .b) (f .a) c s ha,
+      top-b (f .n) (f .m) (f .b) (f .a) c s hb,
+      top-m (f .n) (f .m) (f .b) (f .a) c s hm,
+      top-n (f .n) (f .m) (f .b) (f .a) c s hn,
+    )
+
+-- ---- a store
+
+pub read-other : (k : Stack) (i : ℕ) (f : Frame) (j : ℕ) → (j ≡ i → ⊥) → frameAt (storeAt k i f) j ≡ frameAt k j
+unfolding unpackOf
+read-other k i f j h =
+    rw (getD-set-other (k .tops) i j (packOf f .top) 0 h, getD-set-other (k .envs) i j (packOf f .env) 0 h, getD-set-other (k .args) i j (packOf f .args) 0 h)
+
+module _ (b : List ℕ) where
+  pub read-back : (k : Stack) (i : ℕ) (f : Frame) → Sized b k → i < 297 → Fine b f → frameAt (storeAt k i f) i ≡ f
+  read-back k i f s h n =
+      let p : i < length (k .tops) = omega (arith, s .tops-size) in
+      let q : i < length (k .envs) = omega (arith, s .envs-size) in
+      let r : i < length (k .args) = omega (arith, s .args-size) in
+      rw (getD-set-same (k .tops) i (packOf f .top) 0 p, getD-set-same (k .envs) i (packOf f .env) 0 q, getD-set-same (k .args) i (packOf f .args) 0 r)
+      (unpacked f (n .a-fits) (n .b-fits) (n .m-fits) (n .n-fits))
+
+  pub still-sized : (k : Stack) (i : ℕ) (f : Frame) → Sized b k → Sized b (storeAt k i f)
+  still-sized k i f s = record {
+    tops-size = length-set (k .tops) i (packOf f .top) ∙ s .tops-size;
+    envs-size = length-set (k .envs) i (packOf f .env) ∙ s .envs-size;
+    args-size = length-set (k .args) i (packOf f .args) ∙ s .args-size;
+  }
+
+  -- a store past the frames leaves them
+  pub still-holds : (k : Stack) (base i : ℕ) (f : Frame) (S : List frames.Frame) → base + length S ≤ i → Holds b k base S → Holds b (storeAt k i f) base S
+  still-holds k base i f [] h p = tt
+  still-holds k base i f (F ∷ S) h p =
+      let l : base + length S ≡ i → ⊥ = λ e. omega arith in
+      let e = read-other k i f (base + length S) l in
+      (subst (λ (g : Frame). frameOf g ≡ F) (sym e) (p .0), subst (Fine b) (sym e) (p .1), still-holds k base i f S (omega arith) (p .2))
+
+  -- a frame on top
+  pub holds-more : (k : Stack) (base : ℕ) (f : Frame) (S : List frames.Frame) → Sized b k → base + length S < 297 → Fine b f → Holds b k base S
+      → Holds b (storeAt k (base + length S) f) base (frameOf f ∷ S)
+  holds-more k base f S s h n p =
+      let e = read-back k (base + length S) f s h n in
+      (subst (λ (g : Frame). frameOf g ≡ frameOf f) (sym e) refl, subst (Fine b) (sym e) n, still-holds k base (base + length S) f S (omega arith) p)

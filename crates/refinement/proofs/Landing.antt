@@ -1,0 +1,105 @@
+-- Landing on numbers finds what landing on frames finds: the part that moves next, in frames that the stack holds, or more frames than there is room
+-- for. 2,100 steps are enough. Assumes nothing.
+use Prim.Native.Nat.{ℕ, zero, suc, _+_, _-_, _≤_, _<_}
+use native.Mathlib.Omega.{arith}
+use mathlib.Core.Path.{_≡_, refl, sym, ap, _∙_, subst}
+use mathlib.Core.Bool.{Bool, true, false}
+use mathlib.Core.List.{List}
+use mathlib.Core.Option.{none}
+use mathlib.Core.Logic.{_⊎_, inl, inr}
+use lib.ListN.{length}
+use Rattle.plan.specs.Check.{refusal}
+use Rattle.plan.proofs.Accepted.{Accepted, accepted}
+use Rattle.machine.specs.Frames as frames
+use Rattle.landing.specs.declared.go.Stage.{Stage}
+use Rattle.landing.specs.declared.go.Stage.the-variants as stage
+use Rattle.landing.specs.declared.go.Go.{Go}
+use Rattle.landing.specs.Landing.{Stack, ended, liveBy, frameAt, storeAt, turnAt, topOf, landOf}
+use Rattle.landing.proofs.Turns
+use Rattle.landing.proofs.Depths.{step-in}
+use Rattle.refinement.proofs.Meant.{Loaded, Holds, Goes, GoesBy, Sized, FoundBy, Lands}
+use Rattle.refinement.proofs.FrameLaws.{read-other, still-sized}
+use Rattle.refinement.proofs.Fuel.{Enough, EnoughBy, needs-most}
+use Rattle.refinement.proofs.Operands.{Next}
+use Rattle.refinement.proofs.Steps.{step}
+
+-- no stage has ended with no step left
+none-left : (ws : List ℕ) (s : Stage) (g : Go) → EnoughBy ws 0 s g → ⊥
+none-left ws stage.Full g p = omega arith
+none-left ws stage.At g p = omega arith
+none-left ws stage.Run g p = omega (arith, p .0)
+none-left ws stage.RunCondition g p = omega arith
+none-left ws stage.Want g p = omega (arith, p .0)
+none-left ws stage.WantCondition g p = omega arith
+none-left ws stage.List g p = omega arith
+none-left ws stage.Value g p = omega arith
+none-left ws stage.Truth g p = omega arith
+
+enough-by : (b ws : List ℕ) (s : Stage) (g : Go) (S : List frames.Frame) (X : frames.Found) → GoesBy b s g S X → EnoughBy ws 2100 s g
+enough-by b ws stage.Full g S X p = omega arith
+enough-by b ws stage.At g S X p = omega arith
+enough-by b ws stage.Run g S X p = (omega arith, λ l. omega arith)
+enough-by b ws stage.RunCondition g S X p = omega arith
+enough-by b ws stage.Want g S X p = (omega arith, omega (arith, needs-most (g .frame .kind) (g .frame .a)))
+enough-by b ws stage.WantCondition g S X p = omega arith
+enough-by b ws stage.List g S X p = omega arith
+enough-by b ws stage.Value g S X p = omega arith
+enough-by b ws stage.Truth g S X p = omega (arith, p .1)
+
+-- ---- landing has ended
+
+ended-by : (b : List ℕ) (k : Stack) (base : ℕ) (X : frames.Found) (S : List frames.Frame) (g : Go) (s : Stage) → Holds b k base S → length S ≤ 32 → liveBy s ≡ false → GoesBy b s g S X
+    → FoundBy b s (ended k g (length S)) base X
+ended-by b k base X S g stage.Full held few live p = p
+ended-by b k base X S g stage.At held few live p = (S, held, refl, few, p)
+ended-by b k base X S g stage.Run held few live p = let z : _≡_ {A = ℕ} 0 1 = cc in omega arith
+ended-by b k base X S g stage.RunCondition held few live p = let z : _≡_ {A = ℕ} 0 1 = cc in omega arith
+ended-by b k base X S g stage.Want held few live p = let z : _≡_ {A = ℕ} 0 1 = cc in omega arith
+ended-by b k base X S g stage.WantCondition held few live p = let z : _≡_ {A = ℕ} 0 1 = cc in omega arith
+ended-by b k base X S g stage.List held few live p = let z : _≡_ {A = ℕ} 0 1 = cc in omega arith
+ended-by b k base X S g stage.Value held few live p = let z : _≡_ {A = ℕ} 0 1 = cc in omega arith
+ended-by b k base X S g stage.Truth held few live p = let z : _≡_ {A = ℕ} 0 1 = cc in omega arith
+
+-- ---- and on
+
+module _ (b ws rs : List ℕ) (a : Accepted b) (loaded : Loaded b ws rs) (base : ℕ) (room : base + 33 ≤ 297) (X : frames.Found) where
+  apart : (i d : ℕ) → (i < base) ⊎ (base + 33 ≤ i) → d ≤ 32 → i ≡ base + d → ⊥
+  apart i d (inl p) l e = omega arith
+  apart i d (inr p) l e = omega arith
+
+  -- what is to be shown of n steps
+  abbrev LandsIn : ℕ → Type 0
+  LandsIn n =
+      (k : Stack) → Sized b k → (S : List frames.Frame) → Holds b k base S → length S ≤ 32 → (g : Go) → Goes b g S X → Enough ws n g
+      → Lands b k base X (landOf n ws rs base k g (length S))
+
+  lands-on : (n : ℕ) → LandsIn n → (k : Stack) → Sized b k → (S : List frames.Frame) → length S ≤ 32 → (g : Go) → liveBy (g .stage) ≡ true
+      → Next b ws k base n X (turnAt ws rs base k g (length S)) → Lands b k base X (landOf (suc n) ws rs base k g (length S))
+  lands-on n rest k sized S few g live m =
+      let T = turnAt ws rs base k g (length S) in
+      let k′ = storeAt k (base + T .at) (T .frame) in
+      let one : suc n - 1 ≡ n = omega arith in
+      let i = step-in ws rs g (length S) (frameAt k (topOf base (length S))) few .1 in
+      let r = rest k′ (still-sized b k (base + T .at) (T .frame) sized) (m .around) (m .holds) (m .few) (T .go) (m .goes) (m .enough) in
+      subst (Lands b k base X)
+      (ap (λ (d : ℕ). landOf n ws rs base k′ (T .go) d) (sym (m .depth-is)) ∙ ap (λ (j : ℕ). landOf j ws rs base k′ (T .go) (T .depth)) (sym one)
+      ∙ sym (Turns.goes (suc n) ws rs base k g (length S) (omega arith) live))
+      (record { found = r .found; sized = r .sized; others = λ j h. r .others j h ∙ read-other k (base + T .at) (T .frame) j (apart j (T .at) h i) })
+
+  lands-by : (n : ℕ) → LandsIn n → (k : Stack) → Sized b k → (S : List frames.Frame) → Holds b k base S → length S ≤ 32 → (g : Go) → Goes b g S X → Enough ws (suc n) g
+      → (t : Bool) → liveBy (g .stage) ≡ t → Lands b k base X (landOf (suc n) ws rs base k g (length S))
+  lands-by n rest k sized S held few g p q true live = lands-on n rest k sized S few g live (step g S (record { right = a; loaded = loaded; sized = sized; room = room; held = held; few = few }) live p q)
+  lands-by n rest k sized S held few g p q false live =
+      subst (Lands b k base X) (sym (Turns.halts (suc n) ws rs base k g (length S) (omega arith) live))
+      (record { found = ended-by b k base X S g (g .stage) held few live p; sized = sized; others = λ i h. refl })
+
+  lands : (n : ℕ) → LandsIn n
+  lands zero k sized S held few g p q = absurd (none-left ws (g .stage) g q)
+  lands (suc n) k sized S held few g p q = lands-by n (lands n) k sized S held few g p q (liveBy (g .stage)) refl
+
+-- landing, from any stage of an accepted plan
+pub landed : (b ws rs : List ℕ) → refusal b ≡ none → Loaded b ws rs → (base : ℕ) (k : Stack) → Sized b k → base + 33 ≤ 297
+    → (S : List frames.Frame) → Holds b k base S → (g : Go) (d : ℕ) → d ≡ length S → d ≤ 32 → (X : frames.Found) → Goes b g S X → Lands b k base X (landOf 2100 ws rs base k g d)
+landed b ws rs right loaded base k sized room S held g d e few X p =
+    subst (λ (d : ℕ). Lands b k base X (landOf 2100 ws rs base k g d)) (sym e)
+    (lands b ws rs (accepted b right) loaded base room X 2100 k sized S held (omega arith) g p (enough-by b ws (g .stage) g S X p))

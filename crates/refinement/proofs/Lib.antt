@@ -1,0 +1,14 @@
+pub mod Meant
+pub mod SlotLaws
+pub mod FrameLaws
+pub mod Words
+pub mod Values
+pub mod Descent
+pub mod Fuel
+pub mod Feeding
+pub mod Operands
+pub mod Calls
+pub mod Expressions
+pub mod Conditions
+pub mod Steps
+pub mod Landing

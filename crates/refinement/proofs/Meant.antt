@@ -1,0 +1,195 @@
+-- What the code's slots, frames, stacks and parts stand for in the abstract machine, for a plan b whose terms and roots are loaded as numbers.
+-- Assumes nothing.
+use Prim.Native.Nat.{ℕ, suc, _+_, _*_, _^_, _≤_, _<_}
+use mathlib.Core.Path.{_≡_}
+use mathlib.Core.Bool.{true, false}
+use mathlib.Core.List.{List, [], _∷_}
+use mathlib.Core.Option.{Option, none}
+use mathlib.Core.Logic.{_⊎_}
+use lib.Dec.{eqb}
+use lib.ListN.{length, getD}
+use Rattle.format.specs.Bits.{bitsAt}
+use Rattle.plan.specs.Format.{procedures, terms, root, expression, condition, list, fieldsFrom, maskBit, termBit, tagAt}
+use Rattle.plan.specs.Trees.{binderOf, nodeAt}
+use Rattle.plan.proofs.Accepted.{OfSort}
+use Rattle.plan.proofs.WellFormed.{count}
+use Rattle.rules.specs.Rules.{Rule}
+use Rattle.machine.specs.Frames.{Slots, Closure, closure, branches}
+use Rattle.machine.specs.Frames as frames
+use Rattle.machine.specs.Machine as machine
+use Rattle.machine.specs.Playing as playing
+use Rattle.machine.specs.Landing.{downᵃ, up, upᶜ, enter, enterᶜ}
+use Rattle.machine.proofs.TreeLaws.{treeᵃ}
+use Rattle.machine.proofs.Sorted.{Well, Wellᶜ}
+use Rattle.landing.specs.declared.frame.Kind.{Kind}
+use Rattle.landing.specs.declared.frame.Kind.the-variants as kind
+use Rattle.landing.specs.declared.frame.Frame.{Frame}
+use Rattle.landing.specs.declared.go.Part.{Part}
+use Rattle.landing.specs.declared.go.Part.the-variants as part
+use Rattle.landing.specs.declared.go.Ready.{Ready}
+use Rattle.landing.specs.declared.go.Stage.{Stage}
+use Rattle.landing.specs.declared.go.Stage.the-variants as stage
+use Rattle.landing.specs.declared.go.Go.{Go}
+use Rattle.landing.specs.Slots.{slotOf}
+use Rattle.landing.specs.Landing.{Stack, Ended, frameAt}
+
+-- ---- the plan as numbers
+
+-- each term's 40 bits, and each root
+pub record Loaded (b ws rs : List ℕ) : Type 0 where
+  pub words : (t : ℕ) → t < terms b → getD ws t 0 ≡ bitsAt b (termBit b t) 40
+  pub roots : (m : ℕ) → m < procedures b → getD rs m 0 ≡ root b m
+
+-- ---- slots, closures, frames
+
+abbrev pub slots : ℕ → Slots
+slots e = slotOf e
+
+abbrev pub closed : ℕ → ℕ → Closure
+closed t e = closure t (slots e)
+
+abbrev pub frameBy : Kind → Frame → frames.Frame
+frameBy kind.Read f = frames.Frame.read (f .m)
+frameBy kind.Write1 f = frames.Frame.write₁ (f .m) (closed (f .a) (f .env))
+frameBy kind.Write2 f = frames.Frame.write₂ (f .args) (f .m)
+frameBy kind.Call f = frames.Frame.call (f .m) (f .n) (slots (f .args)) (closed (f .a) (f .env))
+frameBy kind.Let f = frames.Frame.letIn (binderOf (f .n)) (closed (f .a) (f .env))
+frameBy kind.Synch f = frames.Frame.synch (closed (f .a) (f .env))
+frameBy kind.Hold f = frames.Frame.hold (f .args)
+frameBy kind.Join f = frames.Frame.join
+frameBy kind.Equal1 f = frames.Frame.equal₁ (closed (f .a) (f .env))
+frameBy kind.Equal2 f = frames.Frame.equal₂ (f .args)
+frameBy kind.If f = frames.Frame.if (branches (f .a) (f .b) (slots (f .env)))
+frameBy kind.And f = frames.Frame.and (closed (f .a) (f .env))
+frameBy kind.Not f = frames.Frame.not
+frameBy kind.Test f = frames.Frame.whileTest (branches (f .a) (f .b) (slots (f .env)))
+frameBy kind.Body f = frames.Frame.whileBody (branches (f .a) (f .b) (slots (f .env)))
+
+-- the frame that a code frame stands for
+abbrev pub frameOf : Frame → frames.Frame
+frameOf f = frameBy (f .kind) f
+
+module _ (b : List ℕ) where
+  -- a term of the plan, of the sort that is wanted
+  abbrev pub IsExpression : ℕ → Type 0
+  IsExpression t = (t < terms b) × OfSort expression (tagAt b t)
+
+  abbrev pub IsCondition : ℕ → Type 0
+  IsCondition t = (t < terms b) × OfSort condition (tagAt b t)
+
+  -- the rest of a call's list, after n arguments: no more than eight in all
+  abbrev pub IsRest : ℕ → ℕ → Type 0
+  IsRest n t = (t < terms b) × OfSort list (tagAt b t) × (n + count (treeᵃ (nodeAt b) (terms b) t) ≤ 8)
+
+  abbrev pub SortedBy : Kind → Frame → Type 0
+  SortedBy kind.Read f = (0 < f .m)
+  SortedBy kind.Write1 f = (0 < f .m) × IsExpression (f .a)
+  SortedBy kind.Write2 f = (0 < f .m) × (f .args < 32)
+  SortedBy kind.Call f = (f .m < procedures b) × IsRest (suc (f .n)) (f .a)
+  SortedBy kind.Let f = ((f .n < 8) ⊎ (f .n ≡ 15)) × IsExpression (f .a)
+  SortedBy kind.Synch f = IsExpression (f .a)
+  SortedBy kind.Hold f = f .args < 32
+  SortedBy kind.Join f = Unit {0}
+  SortedBy kind.Equal1 f = IsExpression (f .a)
+  SortedBy kind.Equal2 f = f .args < 32
+  SortedBy kind.If f = IsExpression (f .a) × IsExpression (f .b)
+  SortedBy kind.And f = IsCondition (f .a)
+  SortedBy kind.Not f = Unit {0}
+  SortedBy kind.Test f = IsCondition (f .a) × IsExpression (f .b)
+  SortedBy kind.Body f = IsCondition (f .a) × IsExpression (f .b)
+
+  -- a frame that the code can hold: its numbers fit, its terms are of the right sort
+  pub record Fine (f : Frame) : Type 0 where
+    pub a-fits : f .a < 1024
+    pub b-fits : f .b < 1024
+    pub m-fits : f .m < 32
+    pub n-fits : f .n < 16
+    pub sorted : SortedBy (f .kind) f
+
+  -- the frames from place `base` on stand for S, the innermost last
+  abbrev pub Holds : Stack → ℕ → List frames.Frame → Type 0
+  Holds k base [] = Unit {0}
+  Holds k base (F ∷ S) = (frameOf (frameAt k (base + length S)) ≡ F) × Fine (frameAt k (base + length S)) × Holds k base S
+
+  -- ---- what moves next
+
+  -- a part that leaves no record and needs no room: whatever the state, it comes to this result
+  pub record Unlogged (R : frames.Ready) (x : frames.Result) : Type 0 where
+    pub rule : Rule
+    pub needs-no-room : (s : machine.State) → playing.noRoomBefore s rule ≡ none
+    pub acts : (s : machine.State) (p : ℕ) (t : machine.Thread) → machine.act (playing.tableOf b) s p t R ≡ machine.Act.does rule none s x
+
+  -- the same of a part of a condition, whose value is v
+  pub record Unloggedᶜ (S : List frames.Frame) (Q : frames.Readyᶜ) (code : frames.Found) : Type 0 where
+    pub needs-no-room : (s : machine.State) → playing.noRoomBefore s (machine.actᶜ (playing.tableOf b) S Q .rule) ≡ none
+    pub acts : machine.actᶜ (playing.tableOf b) S Q .code ≡ code
+
+  abbrev pub Pure : List frames.Frame → frames.Result → frames.Found → Type 0
+  Pure S x X = (R : frames.Ready) × (X ≡ frames.Found.here S R) × Unlogged R x
+
+  abbrev pub Pureᶜ : List frames.Frame → frames.Found → frames.Found → Type 0
+  Pureᶜ S code X = (Q : frames.Readyᶜ) × (X ≡ frames.Found.hereᶜ S Q) × Unloggedᶜ S Q code
+
+  -- part r, in the frames S, is what was found
+  abbrev pub StandsBy : Part → Ready → List frames.Frame → frames.Found → Type 0
+  StandsBy part.Done r S X = (S ≡ []) × (X ≡ frames.Found.value (r .a)) × (r .a < 32)
+  StandsBy part.NoRule r S X = ⊥
+  StandsBy part.Run r S X = Well S × IsExpression (r .a) × Pure S (frames.Result.run (closed (r .a) (r .env))) X
+  StandsBy part.RunCondition r S X = Wellᶜ S × IsCondition (r .a) × (X ≡ frames.Found.hereᶜ S (frames.Readyᶜ.and true (closed (r .a) (r .env))))
+  StandsBy part.Val r S X = Well S × (r .a ≡ 0) × Pure S (frames.Result.value 0) X
+  StandsBy part.Truth r S X = Wellᶜ S × (r .a < 2) × Pureᶜ S (upᶜ (nodeAt b) (terms b) S (eqb (r .a) 1)) X
+  StandsBy part.While r S X = Well S × IsCondition (r .a) × IsExpression (r .b) × (X ≡ frames.Found.here S (frames.Ready.while (branches (r .a) (r .b) (slots (r .env)))))
+  StandsBy part.Body r S X = Well S × IsCondition (r .a) × IsExpression (r .b) × (X ≡ frames.Found.here S (frames.Ready.whileTest true (branches (r .a) (r .b) (slots (r .env)))))
+  StandsBy part.Again r S X = Well S × IsCondition (r .a) × IsExpression (r .b) × Pure S (frames.Result.whileAgain (branches (r .a) (r .b) (slots (r .env)))) X
+  StandsBy part.New r S X = Well S × (r .a < 2 ^ 32) × (eqb (maskBit (r .a) 0) 1 ≡ false) × (X ≡ frames.Found.here S (frames.Ready.new (fieldsFrom (r .a) 0 32)))
+  StandsBy part.Read r S X = Well S × (r .a < 32) × (0 < r .b) × (r .b < 32) × (X ≡ frames.Found.here S (frames.Ready.read (r .a) (r .b)))
+  StandsBy part.Write r S X = Well S × (r .a < 32) × (0 < r .b) × (r .b < 32) × (r .c < 32) × (X ≡ frames.Found.here S (frames.Ready.write (r .a) (r .b) (r .c)))
+  StandsBy part.Fork r S X = Well S × IsExpression (r .a) × (X ≡ frames.Found.here S (frames.Ready.fork (closed (r .a) (r .env))))
+  StandsBy part.Join r S X = Well S × (r .a < 32) × (X ≡ frames.Found.here S (frames.Ready.join (r .a)))
+  StandsBy part.Synch r S X = Well S × (r .a < 32) × IsExpression (r .b) × (X ≡ frames.Found.here S (frames.Ready.synch (r .a) (closed (r .b) (r .env))))
+  StandsBy part.Hold r S X = Well S × (r .a < 32) × (r .b < 32) × (X ≡ frames.Found.here S (frames.Ready.hold (r .a) (r .b)))
+
+  abbrev pub Stands : Ready → List frames.Frame → frames.Found → Type 0
+  Stands r S X = StandsBy (r .part) r S X
+
+  -- ---- where landing stands
+
+  -- stage g, in the frames S, comes to X
+  abbrev pub GoesBy : Stage → Go → List frames.Frame → frames.Found → Type 0
+  GoesBy stage.Full g S X = 32 < frames.height X
+  GoesBy stage.At g S X = Stands (g .ready) S X
+  GoesBy stage.Run g S X = Well S × IsExpression (g .i) × (X ≡ enter (nodeAt b) (terms b) S (closed (g .i) (g .frame .env)))
+  GoesBy stage.RunCondition g S X = Wellᶜ S × IsCondition (g .i) × (X ≡ enterᶜ (nodeAt b) (terms b) S (closed (g .i) (g .frame .env)))
+  GoesBy stage.Want g S X = Fine (g .frame) × Well (frameOf (g .frame) ∷ S) × IsExpression (g .i) × (X ≡ enter (nodeAt b) (terms b) (frameOf (g .frame) ∷ S) (closed (g .i) (g .frame .env)))
+  GoesBy stage.WantCondition g S X = Fine (g .frame) × Wellᶜ (frameOf (g .frame) ∷ S) × IsCondition (g .i) × (X ≡ enterᶜ (nodeAt b) (terms b) (frameOf (g .frame) ∷ S) (closed (g .i) (g .frame .env)))
+  GoesBy stage.List g S X = Well S × (g .frame .kind ≡ kind.Call) × (g .frame .m < procedures b) × IsRest (g .frame .n) (g .frame .a) × (X ≡ downᵃ (nodeAt b) (terms b) S (g .frame .m) (g .frame .n) (slots (g .frame .args)) (closed (g .frame .a) (g .frame .env)))
+  GoesBy stage.Value g S X = Well S × (g .i < 32) × (X ≡ up (nodeAt b) (terms b) S (g .i))
+  GoesBy stage.Truth g S X = Wellᶜ S × (g .i < 2) × (X ≡ upᶜ (nodeAt b) (terms b) S (eqb (g .i) 1))
+
+  abbrev pub Goes : Go → List frames.Frame → frames.Found → Type 0
+  Goes g S X = GoesBy (g .stage) g S X
+
+  -- a stack of the code: room for nine threads of 33 frames
+  pub record Sized (k : Stack) : Type 0 where
+    pub tops-size : length (k .tops) ≡ 297
+    pub envs-size : length (k .envs) ≡ 297
+    pub args-size : length (k .args) ≡ 297
+
+  -- where landing ended: the part that moves next is found, in frames that the stack holds; or there is no room for the frames
+  abbrev pub FoundBy : Stage → Ended → ℕ → frames.Found → Type 0
+  FoundBy stage.At E base X = (S : List frames.Frame) × Holds (E .stack) base S × (E .landed .depth ≡ length S) × (length S ≤ 32) × Stands (E .landed .go .ready) S X
+  FoundBy stage.Full E base X = 32 < frames.height X
+  FoundBy stage.Run E base X = ⊥
+  FoundBy stage.RunCondition E base X = ⊥
+  FoundBy stage.Want E base X = ⊥
+  FoundBy stage.WantCondition E base X = ⊥
+  FoundBy stage.List E base X = ⊥
+  FoundBy stage.Value E base X = ⊥
+  FoundBy stage.Truth E base X = ⊥
+
+  -- landing from a stack k, in the place of the thread whose frames begin at `base`, found X
+  pub record Lands (k : Stack) (base : ℕ) (X : frames.Found) (E : Ended) : Type 0 where
+    pub found : FoundBy (E .landed .go .stage) E base X
+    pub sized : Sized (E .stack)
+    -- the other threads' frames are as they were
+    pub others : (i : ℕ) → (i < base) ⊎ (base + 33 ≤ i) → frameAt (E .stack) i ≡ frameAt k i

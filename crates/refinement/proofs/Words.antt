@@ -1,0 +1,244 @@
+-- A term by its word: the numbers that the code reads from the 40 bits are the operands of the term's node, and they fit. Assumes nothing.
+use Prim.Native.Nat.{ℕ, suc, _+_, _/_, _%_, _^_, _≤_, _<_}
+use native.Mathlib.Omega.{arith}
+use native.Mathlib.Decide.{ℕ-discrete}
+use mathlib.Core.Path.{_≡_, refl, sym, ap, _∙_, subst}
+use mathlib.Core.Bool.{false}
+use mathlib.Core.List.{List}
+use mathlib.Core.Logic.{_⊎_, inl, inr}
+use lib.Dec.{eqb}
+use lib.ListN.{getD}
+use Rattle.format.specs.Bits.{bitsAt}
+use Rattle.format.proofs.BitLaws.{field-of, first-of}
+use Rattle.plan.specs.Format.{procedures, terms, maskBit, fieldsFrom, expression, condition, list, width, table, layout, laidOut, termBit, tagAt, termAt}
+use Rattle.plan.specs.Trees.{Node, binderOf, nodes, nodeAt}
+use Rattle.plan.proofs.WellFormed.{count}
+use Rattle.plan.proofs.Accepted.{OfSort, Child, Fits, RightTerm, Accepted}
+use Rattle.plan.proofs.Decoded.{node-is}
+use Rattle.machine.proofs.TreeLaws.{treeᵃ}
+use Rattle.machine.proofs.CallLists.{call-fits}
+use Rattle.landing.specs.Words.{wordAt, tagOf, firstOf, secondOf, thirdOf, slotBits, fieldBits, writeSecond, letFirst, letSecond, procedureBits, listBits, maskBits}
+use Rattle.refinement.proofs.Meant.{Loaded}
+
+-- ---- what a term is, by its word
+
+-- an expression
+pub data Expression (b : List ℕ) (t w : ℕ) : Type 0 where
+  null : tagOf w ≡ 0 → nodeAt b t ≡ Node.null → Expression b t w
+  variable : tagOf w ≡ 1 → nodeAt b t ≡ Node.variable (slotBits w) → Expression b t w
+  new : tagOf w ≡ 2 → nodeAt b t ≡ Node.new (fieldsFrom (maskBits w) 0 32) → eqb (maskBit (maskBits w) 0) 1 ≡ false → Expression b t w
+  read : tagOf w ≡ 3 → nodeAt b t ≡ Node.read (firstOf w) (fieldBits w) → Child b t expression (firstOf w) → 0 < fieldBits w → Expression b t w
+  write : tagOf w ≡ 4 → nodeAt b t ≡ Node.write (firstOf w) (fieldBits w) (writeSecond w) → Child b t expression (firstOf w) → 0 < fieldBits w
+      → Child b t expression (writeSecond w) → Expression b t w
+  letIn : tagOf w ≡ 5 → nodeAt b t ≡ Node.letIn (binderOf (slotBits w)) (letFirst w) (letSecond w) → (slotBits w < 8) ⊎ (slotBits w ≡ 15)
+      → Child b t expression (letFirst w) → Child b t expression (letSecond w) → Expression b t w
+  if : tagOf w ≡ 6 → nodeAt b t ≡ Node.if (firstOf w) (secondOf w) (thirdOf w) → Child b t condition (firstOf w) → Child b t expression (secondOf w)
+      → Child b t expression (thirdOf w) → Expression b t w
+  while : tagOf w ≡ 7 → nodeAt b t ≡ Node.while (firstOf w) (secondOf w) → Child b t condition (firstOf w) → Child b t expression (secondOf w) → Expression b t w
+  call : tagOf w ≡ 8 → nodeAt b t ≡ Node.call (procedureBits w) (listBits w) → procedureBits w < procedures b → Child b t list (listBits w)
+      → count (treeᵃ (nodeAt b) (terms b) (listBits w)) ≤ 8 → Expression b t w
+  fork : tagOf w ≡ 9 → nodeAt b t ≡ Node.fork (firstOf w) → Child b t expression (firstOf w) → Expression b t w
+  join : tagOf w ≡ 10 → nodeAt b t ≡ Node.join (firstOf w) → Child b t expression (firstOf w) → Expression b t w
+  synch : tagOf w ≡ 11 → nodeAt b t ≡ Node.synch (firstOf w) (secondOf w) → Child b t expression (firstOf w) → Child b t expression (secondOf w) → Expression b t w
+
+-- a condition
+pub data Condition (b : List ℕ) (t w : ℕ) : Type 0 where
+  truth : tagOf w ≡ 12 → nodeAt b t ≡ Node.truth → Condition b t w
+  not : tagOf w ≡ 13 → nodeAt b t ≡ Node.not (firstOf w) → Child b t condition (firstOf w) → Condition b t w
+  and : tagOf w ≡ 14 → nodeAt b t ≡ Node.and (firstOf w) (secondOf w) → Child b t condition (firstOf w) → Child b t condition (secondOf w) → Condition b t w
+  equal : tagOf w ≡ 15 → nodeAt b t ≡ Node.equal (firstOf w) (secondOf w) → Child b t expression (firstOf w) → Child b t expression (secondOf w) → Condition b t w
+
+-- the rest of a call's list
+pub data Rest (b : List ℕ) (t w : ℕ) : Type 0 where
+  more : tagOf w ≡ 16 → nodeAt b t ≡ Node.list (firstOf w) (secondOf w) → Child b t expression (firstOf w) → Child b t list (secondOf w) → Rest b t w
+  end : tagOf w ≡ 17 → nodeAt b t ≡ Node.listEnd → Rest b t w
+
+-- ---- the operands
+
+no-bits : (b : List ℕ) (i : ℕ) → 0 ≡ bitsAt b i 0
+unfolding bitsAt
+no-bits b i = refl
+
+-- node and fits of a term of tag k, by values that are its bits
+record Known (b : List ℕ) (t k x y z : ℕ) : Type 0 where
+  node : nodeAt b t ≡ getD nodes k (λ x y z. Node.unknown) x y z
+  first : Fits b t (layout k .first) x
+  second : Fits b t (layout k .second) y
+  third : Fits b t (layout k .third) z
+
+module _ (b : List ℕ) (t k x y z : ℕ) (right : RightTerm b t) where
+  known-by : tagAt b t ≡ k → x ≡ termAt b t .value₁ → y ≡ termAt b t .value₂ → z ≡ termAt b t .value₃ → Known b t k x y z
+  known-by e p₁ p₂ p₃ = rw (p₁, p₂, p₃) (record {
+    node = node-is b t k e;
+    first = subst (λ (j : ℕ). Fits b t (layout j .first) (termAt b t .value₁)) e (right .first-fits);
+    second = subst (λ (j : ℕ). Fits b t (layout j .second) (termAt b t .value₂)) e (right .second-fits);
+    third = subst (λ (j : ℕ). Fits b t (layout j .third) (termAt b t .value₃)) e (right .third-fits);
+  })
+
+  known : tagAt b t ≡ k → x ≡ bitsAt b (termBit b t + 5) (width (layout k .first)) → y ≡ bitsAt b (termBit b t + (5 + width (layout k .first))) (width (layout k .second))
+      → z ≡ bitsAt b (termBit b t + (5 + width (layout k .first) + width (layout k .second))) (width (layout k .third)) → Known b t k x y z
+  unfolding termAt laidOut
+  known e p₁ p₂ p₃ =
+      known-by e
+      (p₁ ∙ ap (λ (j : ℕ). bitsAt b (termBit b t + 5) (width (layout j .first))) (sym e))
+      (p₂ ∙ ap (λ (j : ℕ). bitsAt b (termBit b t + (5 + width (layout j .first))) (width (layout j .second))) (sym e))
+      (p₃ ∙ ap (λ (j : ℕ). bitsAt b (termBit b t + (5 + width (layout j .first) + width (layout j .second))) (width (layout j .third))) (sym e))
+
+module _ (b ws rs : List ℕ) (a : Accepted b) (loaded : Loaded b ws rs) (t : ℕ) (h : t < terms b) where
+  word-is : wordAt ws t ≡ bitsAt b (termBit b t) 40
+  unfolding wordAt
+  word-is = let m : t % 1024 ≡ t = omega (arith, a .few-terms) in rw m (loaded .words t h)
+
+  pub tag-is : tagOf (wordAt ws t) ≡ tagAt b t
+  unfolding tagAt
+  tag-is = ap (λ (w : ℕ). w / 34359738368) word-is ∙ sym (first-of b (termBit b t) 5 35)
+
+  -- the field of w bits after v bits
+  bits : (v w r : ℕ) → v + w + r ≡ 40 → wordAt ws t / 2 ^ r % 2 ^ w ≡ bitsAt b (termBit b t + v) w
+  bits v w r e = ap (λ (x : ℕ). x / 2 ^ r % 2 ^ w) (word-is ∙ ap (bitsAt b (termBit b t)) (sym e)) ∙ sym (field-of b (termBit b t) v w r)
+
+  tagged : (k : ℕ) → tagAt b t ≡ k → tagOf (wordAt ws t) ≡ k
+  tagged k e = tag-is ∙ e
+
+  abbrev w : ℕ
+  w = wordAt ws t
+
+  right : RightTerm b t
+  right = a .each-term t h
+
+  slot-sort : (x : ℕ) → ((x ≡ 15 → ⊥) → x ≤ 7) → (x < 8) ⊎ (x ≡ 15)
+  slot-sort x f = at (ℕ-discrete x 15)
+    where
+      at : Dec (x ≡ 15) → (x < 8) ⊎ (x ≡ 15)
+      at (yes e) = inr e
+      at (no n) = let l = f n in inl (omega arith)
+
+  at-null : tagAt b t ≡ 0 → Expression b t w
+  unfolding nodes
+  at-null e = Expression.null (tagged 0 e) (node-is b t 0 e)
+
+  at-variable : tagAt b t ≡ 1 → Expression b t w
+  unfolding nodes layout table
+  at-variable e =
+      let n = known b t 1 (slotBits w) 0 0 right e (bits 5 4 31 refl) (no-bits b _) (no-bits b _) in
+      Expression.variable (tagged 1 e) (n .node)
+
+  at-new : tagAt b t ≡ 2 → Expression b t w
+  unfolding nodes layout table
+  at-new e =
+      let n = known b t 2 (maskBits w) 0 0 right e (bits 5 32 3 refl) (no-bits b _) (no-bits b _) in
+      Expression.new (tagged 2 e) (n .node) (n .first .0)
+
+  at-read : tagAt b t ≡ 3 → Expression b t w
+  unfolding nodes layout table
+  at-read e =
+      let n = known b t 3 (firstOf w) (fieldBits w) 0 right e (bits 5 10 25 refl) (bits 15 5 20 refl) (no-bits b _) in
+      Expression.read (tagged 3 e) (n .node) (n .first) (n .second .0)
+
+  at-write : tagAt b t ≡ 4 → Expression b t w
+  unfolding nodes layout table
+  at-write e =
+      let n = known b t 4 (firstOf w) (fieldBits w) (writeSecond w) right e (bits 5 10 25 refl) (bits 15 5 20 refl) (bits 20 10 10 refl) in
+      Expression.write (tagged 4 e) (n .node) (n .first) (n .second .0) (n .third)
+
+  at-let : tagAt b t ≡ 5 → Expression b t w
+  unfolding nodes layout table
+  at-let e =
+      let n = known b t 5 (slotBits w) (letFirst w) (letSecond w) right e (bits 5 4 31 refl) (bits 9 10 21 refl) (bits 19 10 11 refl) in
+      Expression.letIn (tagged 5 e) (n .node) (slot-sort (slotBits w) (n .first)) (n .second) (n .third)
+
+  at-if : tagAt b t ≡ 6 → Expression b t w
+  unfolding nodes layout table
+  at-if e =
+      let n = known b t 6 (firstOf w) (secondOf w) (thirdOf w) right e (bits 5 10 25 refl) (bits 15 10 15 refl) (bits 25 10 5 refl) in
+      Expression.if (tagged 6 e) (n .node) (n .first) (n .second) (n .third)
+
+  at-while : tagAt b t ≡ 7 → Expression b t w
+  unfolding nodes layout table
+  at-while e =
+      let n = known b t 7 (firstOf w) (secondOf w) 0 right e (bits 5 10 25 refl) (bits 15 10 15 refl) (no-bits b _) in
+      Expression.while (tagged 7 e) (n .node) (n .first) (n .second)
+
+  call-list : tagAt b t ≡ 8 → bitsAt b (termBit b t + 10) 10 ≡ termAt b t .value₂
+  unfolding layout table termAt laidOut
+  call-list e = ap (λ (j : ℕ). bitsAt b (termBit b t + (5 + width (layout j .first))) (width (layout j .second))) (sym e)
+
+  at-call : tagAt b t ≡ 8 → Expression b t w
+  unfolding nodes layout table
+  at-call e =
+      let n = known b t 8 (procedureBits w) (listBits w) 0 right e (bits 5 5 30 refl) (bits 10 10 20 refl) (no-bits b _) in
+      let q : listBits w ≡ termAt b t .value₂ = bits 10 10 20 refl ∙ call-list e in
+      Expression.call (tagged 8 e) (n .node) (n .first) (n .second) (rw q (call-fits b a t h e))
+
+  at-fork : tagAt b t ≡ 9 → Expression b t w
+  unfolding nodes layout table
+  at-fork e =
+      let n = known b t 9 (firstOf w) 0 0 right e (bits 5 10 25 refl) (no-bits b _) (no-bits b _) in
+      Expression.fork (tagged 9 e) (n .node) (n .first)
+
+  at-join : tagAt b t ≡ 10 → Expression b t w
+  unfolding nodes layout table
+  at-join e =
+      let n = known b t 10 (firstOf w) 0 0 right e (bits 5 10 25 refl) (no-bits b _) (no-bits b _) in
+      Expression.join (tagged 10 e) (n .node) (n .first)
+
+  at-synch : tagAt b t ≡ 11 → Expression b t w
+  unfolding nodes layout table
+  at-synch e =
+      let n = known b t 11 (firstOf w) (secondOf w) 0 right e (bits 5 10 25 refl) (bits 15 10 15 refl) (no-bits b _) in
+      Expression.synch (tagged 11 e) (n .node) (n .first) (n .second)
+
+  at-truth : tagAt b t ≡ 12 → Condition b t w
+  unfolding nodes
+  at-truth e = Condition.truth (tagged 12 e) (node-is b t 12 e)
+
+  at-not : tagAt b t ≡ 13 → Condition b t w
+  unfolding nodes layout table
+  at-not e =
+      let n = known b t 13 (firstOf w) 0 0 right e (bits 5 10 25 refl) (no-bits b _) (no-bits b _) in
+      Condition.not (tagged 13 e) (n .node) (n .first)
+
+  at-and : tagAt b t ≡ 14 → Condition b t w
+  unfolding nodes layout table
+  at-and e =
+      let n = known b t 14 (firstOf w) (secondOf w) 0 right e (bits 5 10 25 refl) (bits 15 10 15 refl) (no-bits b _) in
+      Condition.and (tagged 14 e) (n .node) (n .first) (n .second)
+
+  at-equal : tagAt b t ≡ 15 → Condition b t w
+  unfolding nodes layout table
+  at-equal e =
+      let n = known b t 15 (firstOf w) (secondOf w) 0 right e (bits 5 10 25 refl) (bits 15 10 15 refl) (no-bits b _) in
+      Condition.equal (tagged 15 e) (n .node) (n .first) (n .second)
+
+  at-more : tagAt b t ≡ 16 → Rest b t w
+  unfolding nodes layout table
+  at-more e =
+      let n = known b t 16 (firstOf w) (secondOf w) 0 right e (bits 5 10 25 refl) (bits 15 10 15 refl) (no-bits b _) in
+      Rest.more (tagged 16 e) (n .node) (n .first) (n .second)
+
+  at-end : tagAt b t ≡ 17 → Rest b t w
+  unfolding nodes
+  at-end e = Rest.end (tagged 17 e) (node-is b t 17 e)
+
+  -- ---- by the sort
+
+  from : {A : Type 0} (k : ℕ) → k ≤ tagAt b t → (tagAt b t ≡ k → A) → (suc k ≤ tagAt b t → A) → A
+  from {A} k l f g = at (ℕ-discrete (tagAt b t) k)
+    where
+      at : Dec (tagAt b t ≡ k) → A
+      at (yes e) = f e
+      at (no n) = g (omega arith)
+
+  last : (k : ℕ) → k ≤ tagAt b t → tagAt b t ≤ k → tagAt b t ≡ k
+  last k p q = omega arith
+
+  pub expression-at : OfSort expression (tagAt b t) → Expression b t (wordAt ws t)
+  expression-at s =
+      from 0 (omega arith) at-null (λ l. from 1 l at-variable (λ l. from 2 l at-new (λ l. from 3 l at-read (λ l. from 4 l at-write (λ l. from 5 l at-let (λ l.
+      from 6 l at-if (λ l. from 7 l at-while (λ l. from 8 l at-call (λ l. from 9 l at-fork (λ l. from 10 l at-join (λ l. at-synch (last 11 l s))))))))))))
+
+  pub condition-at : OfSort condition (tagAt b t) → Condition b t (wordAt ws t)
+  condition-at s = from 12 (s .0) at-truth (λ l. from 13 l at-not (λ l. from 14 l at-and (λ l. at-equal (last 15 l (s .1)))))
+
+  pub rest-at : OfSort list (tagAt b t) → Rest b t (wordAt ws t)
+  rest-at s = from 16 (s .0) at-more (λ l. at-end (last 17 l (s .1)))

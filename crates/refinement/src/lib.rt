@@ -1,0 +1,1 @@
+// The code's machine follows the abstract machine. No code: see proofs/.
