@@ -3,3 +3,11 @@ pub mod Passing
 pub mod Accepted
 pub mod Decoded
 pub mod Fields
+pub mod Reading
+pub mod Lowest
+pub mod Tags
+pub mod SingleTerm
+pub mod SortLaws
+pub mod NameLaws
+pub mod TreeLaws
+pub mod Walk

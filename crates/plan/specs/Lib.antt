@@ -4,3 +4,5 @@ pub mod Trees
 pub mod Slots
 pub mod Refusals
 pub mod Check
+pub mod Answer
+pub mod Steps

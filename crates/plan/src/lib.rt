@@ -1,1 +1,62 @@
-// The packed plan, its trees, and refusals 1 to 7. Definitions and theorems only, in specs/ and proofs/.
+// The packed plan: is it one that can be played, and if not, what is wrong with it, and where (document 01, refusals 1 to 7).
+pub mod bits; // bits.rt: numbers of two, four and five bytes
+pub mod layout; // layout.rt: the numbers of the header and of the procedures
+mod term; // term.rt: a term taken apart, by the table of terms
+mod header; // header.rt: checks 1 to 3
+mod table; // table.rt: check 4, a single term
+mod sorts; // sorts.rt: check 5
+mod names; // names.rt: check 6
+mod survey; // survey.rt: the one pass over the terms, for checks 4 to 6
+mod slots; // slots.rt: check 7
+
+ghost use mathlib.Core.Path.{_≡_};
+ghost use Rattle.plan.specs.Check.{refusal};
+ghost use Rattle.plan.specs.Answer.{answered};
+
+// What the check answers: the plan passes, or document 01's number and place of the refusal.
+pub enum Checked {
+    Passed,
+    Refused { number: usize, place: usize },
+}
+
+pub fn refused(number: usize, place: usize) -> Checked
+    ensures { λ r. ⌜ r ≡ Checked.Refused number place ⌝ }
+{
+    Checked::Refused { number, place }
+}
+
+// The checks run in the order of their numbers; the answer is the first that finds a fault, at its lowest place.
+pub fn check(plan: &[u8]) -> Checked
+    ensures { λ r. ⌜ answered r ≡ refusal (now (plan .entry)) ⌝ }
+{
+    if header::wrong_length(plan) {
+        return refused(1, 0);
+    }
+    if header::wrong_header(plan) {
+        return refused(2, 0);
+    }
+    let procs = layout::procedures(plan);
+    let count = layout::terms(plan);
+    let p = header::lowest_wrong_procedure(plan, procs, count);
+    if p < procs {
+        return refused(3, p);
+    }
+    let found = survey::survey(plan, procs, count);
+    let t = found.wrong;
+    if t < count {
+        return refused(4, t);
+    }
+    let misplaced = sorts::lowest_wrongly_sorted(plan, procs, count, found.misplaced);
+    let miscounted = found.miscounted;
+    if misplaced < count {
+        return refused(5, misplaced);
+    }
+    if miscounted < count {
+        return refused(6, miscounted);
+    }
+    let p = slots::lowest_open(plan, procs, count);
+    if p < procs {
+        return refused(7, p);
+    }
+    Checked::Passed
+}
