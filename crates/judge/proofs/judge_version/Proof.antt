@@ -1,0 +1,36 @@
+-- `judge::judge_version` meets its contract: the refusals in the order of their numbers, then the pass. Assumes nothing.
+use Rattle.judge.proofs.Refused.{refused-length, refused-record, not-refused}
+use Rattle.order.specs.Judge.{refuses}
+use mathlib.Core.Path.{sym, _∙_}
+use borrow.Author.Needs.{needs}
+use Rattle.judge.proofs.judge_version.Statement.{statement}
+use Rattle.judge.proofs.judge_version.Tie as tie
+
+wrong-length-requires : tie.Need-wrong-length-requires
+wrong-length-requires c κs = search needs
+
+returns : tie.Need-returns
+returns c = refuses (refused-length (c .before .before .before .args .log .now) (sym (c .if1 .taken) ∙ c .before .wrong-length .ensures))
+
+lowest-wrong-requires : tie.Need-lowest-wrong-requires
+lowest-wrong-requires c κs = search needs
+
+returns-2 : tie.Need-returns-2
+returns-2 c = refuses (refused-record (c .before .before .before .before .before .args .log .now) (c .before .lowest-wrong .result) (sym (c .before .before .if1 .left) ∙ c .before .before .before .wrong-length .ensures) (c .before .lowest-wrong .ensures) (c .if2 .taken))
+
+pass-requires : tie.Need-pass-requires
+pass-requires c κs = not-refused (c .before .before .before .before .before .args .log .now) (c .before .lowest-wrong .result) (sym (c .before .before .if1 .left) ∙ c .before .before .before .wrong-length .ensures) (c .before .lowest-wrong .ensures) (c .if2 .left)
+
+returns-3 : tie.Need-returns-3
+returns-3 c = search needs
+
+pub judge-version-spec : {M : Type 1} → statement M
+judge-version-spec =
+    tie.close
+    (tie.spec
+    wrong-length-requires
+    returns
+    lowest-wrong-requires
+    returns-2
+    pass-requires
+    returns-3)

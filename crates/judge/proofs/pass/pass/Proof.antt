@@ -1,0 +1,171 @@
+-- `judge::pass::pass` meets its contract. The invariant is `Going`: the rows show the clocks, the writes are the last writes, no record so far is late. The
+-- measure is the count of records left. Assumes nothing.
+use Rattle.judge.proofs.Table.{rowAt}
+use Rattle.judge.proofs.Going.{Going, Here, going-start, short, known, source-below, target-below, own-few, heard-few, one-few, last-thread, names-late, next-by, none-named}
+use Rattle.format.specs.Version.{versionOf}
+use lib.ListN.{length}
+use native.Mathlib.Omega.{arith}
+use mathlib.Core.Path.{_≡_, refl, sym, _∙_}
+use Prim.Native.Nat.{_-_, _/_, _≤_}
+use borrow.Author.Needs.{needs}
+use Rattle.judge.proofs.pass.pass.Statement.{statement}
+use Rattle.judge.proofs.pass.pass.Tie as tie
+
+abbrev Inv-loop : tie.InvT-loop
+Inv-loop log version count ones rows₀ writes₀ i₀ rows writes i = (i ≤ count) × (count ≡ length log / 3) × Going (versionOf version) log i rows writes
+
+abbrev μ-loop : tie.MeasureT-loop
+μ-loop log version count ones rows₀ writes₀ i₀ rows writes i = count - i
+
+-- what is known of a record once its columns are read
+here : (p : tie.After-columns-at Inv-loop μ-loop)
+    → Here (versionOf (p .before .before .before .before .before .args .version)) (p .before .before .before .before .before .args .log .now) (p .before .before .loop .i) (p .before .before .loop .rows) (p .before .before .loop .writes) (p .columns-at .result)
+here p = record { accepted-log = p .before .before .before .before .before .pre; below = omega arith; read = p .columns-at .ensures; going = p .before .before .loop .inv .2 }
+
+one-record-each-requires : tie.Need-one-record-each-requires Inv-loop μ-loop
+one-record-each-requires c κs = search needs
+
+loop-holds : tie.Need-loop-holds Inv-loop μ-loop
+loop-holds c = (omega arith, refl, going-start (versionOf (c .before .before .args .version)) (c .before .before .args .log .now))
+
+columns-at-requires : tie.Need-columns-at-requires Inv-loop μ-loop
+columns-at-requires c κs = search needs
+
+mul-place : tie.Need-mul-place Inv-loop μ-loop
+mul-place c = search needs
+
+add-place : tie.Need-add-place Inv-loop μ-loop
+add-place c = search needs
+
+mul-own : tie.Need-mul-own Inv-loop μ-loop
+mul-own c = search needs
+
+array-copy-out-own : tie.Need-array-copy-out-own Inv-loop μ-loop
+array-copy-out-own c = search needs
+
+mul-last : tie.Need-mul-last Inv-loop μ-loop
+mul-last c = search needs
+
+array-copy-out-last : tie.Need-array-copy-out-last Inv-loop μ-loop
+array-copy-out-last c = search needs
+
+late-requires : tie.Need-late-requires Inv-loop μ-loop
+late-requires c κs = (known (here (c .before .before .before .before)), last-thread (here (c .before .before .before .before)))
+
+returns : tie.Need-returns Inv-loop μ-loop
+returns c = names-late (here (c .before .before .before .before .before .before)) (sym (c .if1 .taken) ∙ c .before .late .ensures)
+
+source-requires : tie.Need-source-requires Inv-loop μ-loop
+source-requires c κs = known (here (c .before .before .before .before .before .before))
+
+target-requires : tie.Need-target-requires Inv-loop μ-loop
+target-requires c κs = known (here (c .before .before .before .before .before .before .before))
+
+mul-heard : tie.Need-mul-heard Inv-loop μ-loop
+mul-heard c = omega (arith, source-below (here (c .before .before .before .before .before .before .before .before)) (c .before .source .result) (c .before .source .ensures))
+
+array-copy-out-heard : tie.Need-array-copy-out-heard Inv-loop μ-loop
+array-copy-out-heard c = source-below (here (c .before .before .before .before .before .before .before .before)) (c .before .source .result) (c .before .source .ensures)
+
+mul-fed : tie.Need-mul-fed Inv-loop μ-loop
+mul-fed c = omega (arith, target-below (here (c .before .before .before .before .before .before .before .before .before)) (c .before .target .result) (c .before .target .ensures))
+
+array-copy-out-fed : tie.Need-array-copy-out-fed Inv-loop μ-loop
+array-copy-out-fed c = target-below (here (c .before .before .before .before .before .before .before .before .before)) (c .before .target .result) (c .before .target .ensures)
+
+mul-one : tie.Need-mul-one Inv-loop μ-loop
+mul-one c = search needs
+
+array-copy-out-one : tie.Need-array-copy-out-one Inv-loop μ-loop
+array-copy-out-one c = search needs
+
+advanced-requires : tie.Need-advanced-requires Inv-loop μ-loop
+advanced-requires c κs =
+    let ones = c .before .before .before .before .before .before .before .before .before .before .before .before .before .before .one-record-each in
+    let columns = c .before .before .before .before .before .before .before .before .before .before .before .columns-at in
+    (own-few (here (c .before .before .before .before .before .before .before .before .before .before .before)), (heard-few (here (c .before .before .before .before .before .before .before .before .before .before .before)) (c .before .before .before .before .source .result) (c .before .before .before .before .source .ensures), one-few (ones .result) (ones .ensures) (columns .result .thread) (columns .ensures .thread-below)))
+
+raised-requires : tie.Need-raised-requires Inv-loop μ-loop
+raised-requires c κs = search needs
+
+mul-rows : tie.Need-mul-rows Inv-loop μ-loop
+mul-rows c = search needs
+
+array-set-from-rows : tie.Need-array-set-from-rows Inv-loop μ-loop
+array-set-from-rows c = search needs
+
+mul-rows-2 : tie.Need-mul-rows-2 Inv-loop μ-loop
+mul-rows-2 c = omega (arith, target-below (here (c .before .before .before .before .before .before .before .before .before .before .before .before .before)) (c .before .before .before .before .before .target .result) (c .before .before .before .before .before .target .ensures))
+
+array-set-from-rows-2 : tie.Need-array-set-from-rows-2 Inv-loop μ-loop
+array-set-from-rows-2 c = target-below (here (c .before .before .before .before .before .before .before .before .before .before .before .before .before)) (c .before .before .before .before .before .target .result) (c .before .before .before .before .before .target .ensures)
+
+written-requires : tie.Need-written-requires Inv-loop μ-loop
+written-requires c κs = known (here (c .before .before .before .before .before .before .before .before .before .before .before .before .before))
+
+mul-writes : tie.Need-mul-writes Inv-loop μ-loop
+mul-writes c = search needs
+
+array-set-from-writes : tie.Need-array-set-from-writes Inv-loop μ-loop
+array-set-from-writes c = search needs
+
+add-i : tie.Need-add-i Inv-loop μ-loop
+add-i c = omega (arith, short (here (c .before .before .before .before .before .before .before .before .before .before .before .before .before .before)))
+
+loop-less : tie.Need-loop-less Inv-loop μ-loop
+loop-less c = search needs
+
+loop-again : tie.Need-loop-again Inv-loop μ-loop
+loop-again c =
+    let ones = c .before .before .before .before .before .before .before .before .before .before .before .before .before .before .before .before .before .one-record-each in
+    let columns = c .before .before .before .before .before .before .before .before .before .before .before .before .before .before .columns-at in
+    let source = c .before .before .before .before .before .before .before .source in
+    let target = c .before .before .before .before .before .before .target in
+    let moved = c .before .before .advanced in
+    let told = c .before .raised in (
+      omega (arith, c .before .before .before .before .before .before .before .before .before .before .before .before .before .before .before .loop-test .taken),
+      c .before .before .before .before .before .before .before .before .before .before .before .before .before .before .before .before .loop .inv .1,
+      next-by (here (c .before .before .before .before .before .before .before .before .before .before .before .before .before .before)) (source .result) (target .result) (rowAt (ones .result) (columns .result .thread)) (moved .result) (told .result) (c .written .result) (source .ensures) (target .ensures) (c .written .ensures) (sym (c .before .before .before .before .before .before .before .before .if1 .left) ∙ c .before .before .before .before .before .before .before .before .before .late .ensures) (ones .ensures .each (columns .result .thread) (columns .ensures .thread-below)) (moved .ensures) (told .ensures),
+    )
+
+returns-2 : tie.Need-returns-2 Inv-loop μ-loop
+returns-2 c = none-named (versionOf (c .before .before .before .before .args .version)) (c .before .before .before .before .args .log .now) (c .before .loop .i) (c .before .loop .rows) (c .before .loop .writes) (c .before .before .before .before .pre) (c .before .loop .inv .2) (omega arith)
+
+pub pass-spec : {M : Type 1} → statement M
+pass-spec =
+    tie.close
+    (tie.spec
+    Inv-loop
+    μ-loop
+    one-record-each-requires
+    loop-holds
+    columns-at-requires
+    mul-place
+    add-place
+    mul-own
+    array-copy-out-own
+    mul-last
+    array-copy-out-last
+    late-requires
+    returns
+    source-requires
+    target-requires
+    mul-heard
+    array-copy-out-heard
+    mul-fed
+    array-copy-out-fed
+    mul-one
+    array-copy-out-one
+    advanced-requires
+    raised-requires
+    mul-rows
+    array-set-from-rows
+    mul-rows-2
+    array-set-from-rows-2
+    written-requires
+    mul-writes
+    array-set-from-writes
+    add-i
+    loop-less
+    loop-again
+    returns-2)

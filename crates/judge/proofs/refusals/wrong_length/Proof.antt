@@ -1,0 +1,11 @@
+-- `judge::refusals::wrong_length` meets its contract: its test is the definition's. Assumes nothing.
+use Rattle.records.proofs.Accepted.{wrong-length}
+use mathlib.Core.Path.{sym}
+use Rattle.judge.proofs.refusals.wrong_length.Statement.{statement}
+use Rattle.judge.proofs.refusals.wrong_length.Tie as tie
+
+returns : tie.Need-returns
+returns c = sym (wrong-length (c .args .log .now))
+
+pub wrong-length-spec : {M : Type 1} → statement M
+wrong-length-spec = tie.close (tie.spec returns)
