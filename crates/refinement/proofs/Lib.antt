@@ -12,3 +12,10 @@ pub mod Expressions
 pub mod Conditions
 pub mod Steps
 pub mod Landing
+pub mod States
+pub mod Looks
+pub mod Acts
+pub mod Picks
+pub mod Logs
+pub mod Starts
+pub mod Plays

@@ -1,0 +1,137 @@
+-- A record that the code writes is the record's three bytes, and the log area after a run has the run's records in it. Assumes nothing.
+use Prim.Native.Nat.{ℕ, suc, _+_, _*_, _/_, _%_, _≤_, _<_}
+use native.Mathlib.Nat.{mod-eq-of-lt, add-zero}
+use native.Mathlib.Omega.{arith}
+use mathlib.Core.Path.{_≡_, refl, sym, ap, ap₂, _∙_}
+use mathlib.Core.Bool.{Bool, true, false, cond}
+use mathlib.Core.List.{List, [], _∷_, _++_, append-assoc, append-nil}
+use mathlib.Core.Option.{Option, some, none}
+use lib.Dec.{eqb}
+use lib.ListN.{length, set, take, drop, length-append, length-set, take-append-drop}
+use lib.Seq.{length-take-le, take-at, drop-append-add, drop-drop, sets-eq}
+use borrow.Author.Tests.{eq-eqb, ne-eqb}
+use Rattle.records.specs.Record.{Kind, new, read, write, readv, writev, acquire, release, fork, join, lacksRead, lacksWrite, kindNumber, Record}
+use Rattle.records.specs.Packed.{packed, threeBytes, bytesOf}
+use Rattle.rules.specs.Run.{logged}
+use Rattle.moves.specs.declared.state.Entry.{Entry}
+use Rattle.engine.specs.Machine.{wordOf, logPut, recordsAfter}
+use Rattle.refinement.proofs.States.{test-true, test-false}
+use Rattle.refinement.proofs.Looks.{Written, Entered}
+
+-- ---- bytes put over a list, from place i on
+
+unfoldable pub overlay : List ℕ → ℕ → List ℕ → List ℕ
+overlay l i bs = take i l ++ bs ++ drop (i + length bs) l
+
+overlay-none : (l : List ℕ) (i : ℕ) → overlay l i [] ≡ l
+unfolding overlay
+overlay-none l i = ap₂ (λ (x : List ℕ) (k : ℕ). x ++ drop k l) (append-nil (take i l)) (add-zero i) ∙ take-append-drop i l
+
+pub no-records : (l : List ℕ) (i : ℕ) → overlay l i (bytesOf []) ≡ l
+unfolding bytesOf
+no-records l i = overlay-none l i
+
+overlay-more : (l : List ℕ) (i : ℕ) (t bs : List ℕ) → i + length t ≤ length l → overlay (overlay l i t) (i + length t) bs ≡ overlay l i (t ++ bs)
+unfolding overlay
+overlay-more l i t bs h =
+    let front : length (take i l ++ t) ≡ i + length t = length-append (take i l) t ∙ ap (λ (k : ℕ). k + length t) (length-take-le i l (omega arith)) in
+    ap₂ (λ (x y : List ℕ). x ++ bs ++ y)
+    (take-at (take i l ++ t) (drop (i + length t) l) (i + length t) front)
+    (ap (λ (k : ℕ). drop (k + length bs) (take i l ++ t ++ drop (i + length t) l)) (sym front)
+    ∙ drop-append-add (take i l ++ t) (drop (i + length t) l) (length bs)
+    ∙ drop-drop (length bs) (i + length t) l)
+    ∙ ap₂ (λ (x : List ℕ) (k : ℕ). x ++ drop k l) (append-assoc (take i l) t bs) end
+  where
+    end : i + length t + length bs ≡ i + length (t ++ bs)
+    end = let e = length-append t bs in omega arith
+
+-- ---- a record
+
+kind-small : (k : Kind) → (0 < kindNumber k) × (kindNumber k < 16)
+kind-small new = omega arith
+kind-small read = omega arith
+kind-small write = omega arith
+kind-small readv = omega arith
+kind-small writev = omega arith
+kind-small acquire = omega arith
+kind-small release = omega arith
+kind-small fork = omega arith
+kind-small join = omega arith
+kind-small lacksRead = omega arith
+kind-small lacksWrite = omega arith
+
+word-packed : (p : ℕ) (e : Entry) (r : Record) → Written p e r → (wordOf p e ≡ packed r) × (wordOf p e < 16777216)
+unfolding packed
+word-packed p e r w =
+    let k = kind-small (r .kind) in
+    let kind : e .kind % 16 ≡ kindNumber (r .kind) = ap (λ (x : ℕ). x % 16) (w .kind) ∙ mod-eq-of-lt (k .1) in
+    let thread : p % 8 ≡ r .thread = mod-eq-of-lt (w .thread-fits) ∙ w .thread in
+    let object : e .object % 32 ≡ r .object = mod-eq-of-lt (w .object-fits) ∙ w .object in
+    let field : e .field % 32 ≡ r .field = mod-eq-of-lt (w .field-fits) ∙ w .field in
+    let value : e .value % 32 ≡ r .value = mod-eq-of-lt (w .value-fits) ∙ w .value in
+    (omega arith, omega arith)
+
+-- three stores
+put-three : (l : List ℕ) (i j k m x y z : ℕ) → i ≡ m → j ≡ suc m → k ≡ suc (suc m) → m + 3 ≤ length l
+    → set (set (set l i x) j y) k z ≡ take m l ++ (x ∷ y ∷ z ∷ []) ++ drop (m + 3) l
+put-three l i j k m x y z a b c h =
+    ap₂ (λ (i j : ℕ). set (set (set l i x) j y) k z) a b
+    ∙ ap (λ (k : ℕ). set (set (set l m x) (suc m) y) k z) c
+    ∙ sets-eq (x ∷ y ∷ z ∷ []) l m h
+
+first-byte : (w v : ℕ) → w ≡ v → w < 16777216 → w / 65536 % 256 ≡ v / 65536
+first-byte w v e h = omega arith
+
+-- an entry that is a record is put as its three bytes
+pub put-record : (l : List ℕ) (n p : ℕ) (e : Entry) (r : Record) → Written p e r → 3 * n + 3 ≤ length l → logPut l n p e ≡ overlay l (3 * n) (threeBytes (packed r))
+unfolding logPut overlay threeBytes
+put-record l n p e r w h =
+    let q = word-packed p e r w in
+    test-false (eqb (e .kind) 0) l _ (ne-eqb (e .kind) 0 (λ z. let k = kind-small (r .kind) in let q = w .kind in omega arith))
+    ∙ put-three l (n * 3) (n * 3 + 1) (n * 3 + 2) (3 * n) _ _ _ (omega arith) (omega arith) (omega arith) h
+    ∙ ap₂ (λ (x v : ℕ). take (3 * n) l ++ (x ∷ v / 256 % 256 ∷ v % 256 ∷ []) ++ drop (3 * n + 3) l) (first-byte (wordOf p e) (packed r) (q .0) (q .1)) (q .0)
+
+pub put-none : (l : List ℕ) (n p : ℕ) (e : Entry) → e .kind ≡ 0 → (logPut l n p e ≡ l) × (recordsAfter n e ≡ n)
+unfolding logPut recordsAfter
+put-none l n p e h = (test-true (eqb (e .kind) 0) _ _ (eq-eqb (e .kind) 0 h), test-true (eqb (e .kind) 0) _ _ (eq-eqb (e .kind) 0 h))
+
+pub record-counts : (n p : ℕ) (e : Entry) (r : Record) → Written p e r → recordsAfter n e ≡ n + 1
+unfolding recordsAfter
+record-counts n p e r w = test-false (eqb (e .kind) 0) _ _ (ne-eqb (e .kind) 0 (λ z. let k = kind-small (r .kind) in let q = w .kind in omega arith))
+
+-- an entry and the records after it
+pub put-logged : (l : List ℕ) (n p : ℕ) (e : Entry) (r : Option Record) (L : List Record) → Entered p e r → 3 * n + 3 ≤ length l
+    → (overlay (logPut l n p e) (3 * recordsAfter n e) (bytesOf L) ≡ overlay l (3 * n) (bytesOf (logged r L))) × (recordsAfter n e + length L ≡ n + length (logged r L))
+unfolding logged bytesOf
+put-logged l n p e none L w h =
+    let q = put-none l n p e w in
+    (ap₂ (λ (x : List ℕ) (k : ℕ). overlay x (3 * k) (bytesOf L)) (q .0) (q .1), ap (λ (k : ℕ). k + length L) (q .1))
+put-logged l n p e (some r) L w h =
+    let c = record-counts n p e r w in (
+      ap₂ (λ (x : List ℕ) (k : ℕ). overlay x k (bytesOf L)) (put-record l n p e r w h) (later c)
+          ∙ overlay-more l (3 * n) (threeBytes (packed r)) (bytesOf L) (three h),
+      (omega arith),
+    )
+  where
+    later : recordsAfter n e ≡ n + 1 → 3 * recordsAfter n e ≡ 3 * n + length (threeBytes (packed r))
+    later c = omega arith
+
+    three : 3 * n + 3 ≤ length l → 3 * n + length (threeBytes (packed r)) ≤ length l
+    three h = h
+
+-- a record that is the last
+pub put-last : (l : List ℕ) (n p : ℕ) (e : Entry) (r : Record) → Written p e r → 3 * n + 3 ≤ length l → logPut l n p e ≡ overlay l (3 * n) (bytesOf (r ∷ []))
+unfolding bytesOf
+put-last l n p e r w h = put-record l n p e r w h ∙ ap (overlay l (3 * n)) (sym (append-nil (threeBytes (packed r))))
+
+pub log-length : (l : List ℕ) (n p : ℕ) (e : Entry) → length (logPut l n p e) ≡ length l
+unfolding logPut
+log-length l n p e = by (eqb (e .kind) 0) (wordOf p e / 65536 % 256) (wordOf p e / 256 % 256) (wordOf p e % 256)
+  where
+    by : (t : Bool) (x y z : ℕ) → length (cond t l (set (set (set l (n * 3) x) (n * 3 + 1) y) (n * 3 + 2) z)) ≡ length l
+    by true x y z = refl
+    by false x y z = length-set (set (set l (n * 3) x) (n * 3 + 1) y) (n * 3 + 2) z ∙ length-set (set l (n * 3) x) (n * 3 + 1) y ∙ length-set l (n * 3) x
+
+pub count-grows : (n p : ℕ) (e : Entry) (r : Option Record) → Entered p e r → recordsAfter n e ≤ n + 1
+count-grows n p e none w = let q = put-none [] n p e w .1 in omega arith
+count-grows n p e (some r) w = let q = record-counts n p e r w in omega arith

@@ -1,0 +1,160 @@
+-- What a look says against what a thread of the abstract machine can do, and the facts of the state that both read. Assumes nothing.
+use Prim.Native.Nat.{ℕ, _+_, _-_, _*_, _/_, _%_, _^_, _≤_, _<_}
+use native.Mathlib.Nat.{mod-eq-of-lt}
+use native.Mathlib.Omega.{arith}
+use mathlib.Core.Path.{_≡_, refl, sym, ap, ap₂, _∙_, subst as along}
+use mathlib.Core.Bool.{Bool, true, false, cond}
+use mathlib.Core.List.{List}
+use mathlib.Core.Option.{Option, some, none}
+use lib.Dec.{eqb}
+use lib.ListN.{length, getD, getElem?}
+use Rattle.keys.specs.declared.KeySet.{KeySet}
+use Rattle.keys.specs.Keys.{Keys, holds, subset}
+use Rattle.keys.specs.KeySet.{keysOf, holdsOf}
+use Rattle.keys.proofs.KeyLaws.{subset-singleton}
+use Rattle.keys.proofs.KeySetLaws.{Fits, keys-holds}
+use Rattle.plan.specs.Format.{maskBit, volatiles}
+use Rattle.plan.specs.Trees.{programOf}
+use Rattle.plan.specs.Check.{refusal}
+use Rattle.plan.proofs.Accepted.{accepted}
+use Rattle.records.specs.Record.{Record, kindNumber}
+use Rattle.rules.specs.State.{fieldOf, monitorOf}
+use Rattle.rules.specs.State as rules
+use Rattle.rules.specs.Step.{forMonitor, forJoin, missingField, notThread}
+use Rattle.rules.proofs.Placed as placed
+use Rattle.rules.proofs.StateLaws.{outside}
+use Rattle.machine.specs.Frames as frames
+use Rattle.machine.specs.Machine as machine
+use Rattle.machine.specs.Playing.{tableOf}
+use Rattle.machine.proofs.MemoryLaws.{lookup-of, monitor-of}
+use Rattle.machine.proofs.Meaning.{redex, mean}
+use Rattle.machine.proofs.Runs.{Reached}
+use Rattle.machine.proofs.Standing.{standing}
+use Rattle.landing.specs.declared.go.Ready.{Ready}
+use Rattle.moves.specs.declared.state.Cell.{Cell}
+use Rattle.moves.specs.declared.state.Object.{Object}
+use Rattle.moves.specs.declared.state.Counts.{Counts}
+use Rattle.moves.specs.declared.state.Entry.{Entry}
+use Rattle.moves.specs.declared.look.Sight.{Sight}
+use Rattle.moves.specs.declared.look.Sight.the-variants as sight
+use Rattle.moves.specs.Look.{hasOf, objectOf}
+use Rattle.moves.specs.Look as look
+use Rattle.moves.specs.Settle.{lackEntry}
+use Rattle.engine.specs.Machine.{noCell, noThing}
+use Rattle.refinement.proofs.States.{cellMeant, CellFits, memoryOf, memory-cell, memory-mask, Kept}
+
+-- ---- records
+
+-- an entry of the code, of thread p, is a record: its numbers, which fit
+pub record Written (p : ℕ) (e : Entry) (r : Record) : Type 0 where
+  pub kind : e .kind ≡ kindNumber (r .kind)
+  pub thread : p ≡ r .thread
+  pub object : e .object ≡ r .object
+  pub field : e .field ≡ r .field
+  pub value : e .value ≡ r .value
+  pub thread-fits : p < 8
+  pub object-fits : e .object < 32
+  pub field-fits : e .field < 32
+  pub value-fits : e .value < 32
+
+-- an entry of kind 0 is none
+abbrev pub Entered : ℕ → Entry → Option Record → Type 0
+Entered p e none = e .kind ≡ 0
+Entered p e (some r) = Written p e r
+
+-- ---- what a look says
+
+-- thread p, at part r, sees w; where it is ready, Z holds of its move
+abbrev pub MeetsBy : Sight → ℕ → Ready → machine.Attempt → (machine.Move → Type 0) → Type 0
+MeetsBy sight.Absent p r A Z = A ≡ machine.Attempt.absent
+MeetsBy sight.Finished p r A Z = A ≡ machine.Attempt.finished (r .a)
+MeetsBy sight.Ready p r A Z = (v : machine.Move) × (A ≡ machine.Attempt.moves v) × Z v
+MeetsBy sight.Monitor p r A Z = A ≡ machine.Attempt.waiting (forMonitor (objectOf r))
+MeetsBy sight.Join p r A Z = A ≡ machine.Attempt.waiting (forJoin (objectOf r))
+MeetsBy sight.NoField p r A Z = A ≡ machine.Attempt.stuck (missingField (objectOf r) (look.fieldOf r))
+MeetsBy sight.NoThread p r A Z = A ≡ machine.Attempt.stuck (notThread (objectOf r))
+MeetsBy sight.NoRule p r A Z = ⊥
+MeetsBy sight.Lacking p r A Z = (x : Record) × (A ≡ machine.Attempt.lacking x) × (x .object ≡ objectOf r) × (x .field ≡ look.fieldOf r) × Written p (lackEntry r) x
+
+-- ---- what is read
+
+-- the bit of a field
+pub has-bit : (mask f : ℕ) → f < 32 → hasOf mask f ≡ eqb (maskBit mask f) 1
+unfolding hasOf maskBit
+has-bit mask f h = ap (λ (x : ℕ). eqb (mask / 2 ^ (31 - x) % 2) 1) (mod-eq-of-lt h)
+
+pub volatile-bit : (b : List ℕ) (f : ℕ) → f < 32 → tableOf b .isVolatile f ≡ hasOf (volatiles b) f
+unfolding tableOf
+volatile-bit b f h = sym (has-bit (volatiles b) f h)
+
+-- field 0, the monitor, is volatile
+pub monitor-bit : (b : List ℕ) → refusal b ≡ none → hasOf (volatiles b) 0 ≡ true
+monitor-bit b ok = has-bit (volatiles b) 0 (omega arith) ∙ ap (λ (x : ℕ). eqb x 1) (accepted b ok .monitor-volatile)
+
+pub meant-value : (x : Bool) (c : Cell) → cellMeant x c .value ≡ c .value
+meant-value true c = refl
+meant-value false c = refl
+
+counted : (mask : ℕ) (cs : List Cell) (ts : List Object) (n o : ℕ) → o < n → o < memoryOf mask cs ts n .count
+unfolding memoryOf
+counted mask cs ts n o h = h
+
+module _ {mask : ℕ} {cs : List Cell} {ts : List Object} {n : Counts} {s : machine.State} (k : Kept mask cs ts n s) where
+  pub lookup-cell : (o f : ℕ) → o < n .objects → o < 32 → 0 < f → f < 32
+      → machine.lookup s o f ≡ cond (hasOf (getD ts o noThing .mask) f) (some (cellMeant (hasOf mask f) (getD cs (o * 32 + f) noCell))) none
+  unfolding machine.lookup
+  lookup-cell o f i p z q =
+      ap (λ (l : List rules.Object). fieldOf (getElem? l o) f) (k .objects)
+      ∙ lookup-of (memoryOf mask cs ts (n .objects)) o f (counted mask cs ts (n .objects) o i) z q
+      ∙ ap₂ (λ (x : Bool) (c : rules.Cell). cond x (some c) none)
+      (ap (λ (a : ℕ). eqb (maskBit a f) 1) (memory-mask mask cs ts (n .objects) o i) ∙ sym (has-bit (getD ts o noThing .mask) f q))
+      (memory-cell mask cs ts (n .objects) o f p q)
+
+  pub monitor-cell : (o : ℕ) → hasOf mask 0 ≡ true → o < n .objects → o < 32 → machine.monitor s o ≡ cellMeant true (getD cs (o * 32 + 0) noCell)
+  unfolding machine.monitor
+  monitor-cell o v i p =
+      ap (λ (l : List rules.Object). machine.cellOr (monitorOf (getElem? l o))) (k .objects)
+      ∙ ap machine.cellOr (monitor-of (memoryOf mask cs ts (n .objects)) o (counted mask cs ts (n .objects) o i))
+      ∙ memory-cell mask cs ts (n .objects) o 0 p (omega arith)
+      ∙ ap (λ (x : Bool). cellMeant x (getD cs (o * 32 + 0) noCell)) v
+
+-- ---- what a thread can do
+
+module _ (table : machine.Table) (s : machine.State) (p : ℕ) where
+  pub attempt-absent : length (s .threads) ≤ p → machine.attempt table s p ≡ machine.Attempt.absent
+  unfolding machine.attempt
+  attempt-absent h = ap (machine.attemptBy table s p) (outside (s .threads) p h)
+
+  module _ (t : machine.Thread) (there : getElem? (s .threads) p ≡ some t) where
+    attempt-code : machine.attempt table s p ≡ machine.attemptAt table s p t (t .code)
+    unfolding machine.attempt
+    attempt-code = ap (machine.attemptBy table s p) there
+
+    pub attempt-value : (v : ℕ) → t .code ≡ frames.Found.value v → machine.attempt table s p ≡ machine.Attempt.finished v
+    unfolding machine.attemptAt
+    attempt-value v e = attempt-code ∙ ap (machine.attemptAt table s p t) e
+
+    -- an expression that is ready
+    pub attempt-act : (S : List frames.Frame) (R : frames.Ready) (A : machine.Act) → t .code ≡ frames.Found.here S R → machine.act table s p t R ≡ A
+        → machine.attempt table s p ≡ machine.around table p S A
+    unfolding machine.attemptAt
+    attempt-act S R A e h = attempt-code ∙ ap (machine.attemptAt table s p t) e ∙ ap (machine.around table p S) h
+
+    -- a condition that is ready
+    pub attempt-condition : (S : List frames.Frame) (Q : frames.Readyᶜ) → t .code ≡ frames.Found.hereᶜ S Q
+        → machine.attempt table s p
+        ≡ machine.Attempt.moves (record { rule = machine.actᶜ table S Q .rule; entry = none; state = machine.become s p (machine.actᶜ table S Q .code) })
+    unfolding machine.attemptAt
+    attempt-condition S Q e = attempt-code ∙ ap (machine.attemptAt table s p t) e
+
+-- what is ready is there
+pub ready-there : (b : List ℕ) (s : machine.State) (p : ℕ) (t : machine.Thread) → Reached (tableOf b) (programOf b) s → getElem? (s .threads) p ≡ some t
+    → (S : List frames.Frame) (R : frames.Ready) → t .code ≡ frames.Found.here S R
+    → placed.Ready (programOf b) (length (s .objects)) (redex (tableOf b .node) (tableOf b .count) R)
+ready-there b s p t r there S R e =
+    along (λ (F : frames.Found). placed.Good (programOf b) (length (s .objects)) (mean (tableOf b .node) (tableOf b .count) F)) e
+    (standing (tableOf b) (programOf b) s p t r there .good) .1
+
+-- a plain field's one key
+pub one-key : (c : Cell) (ks : KeySet) (K : Keys) → CellFits c → Fits ks → keysOf ks ≡ K → subset (cellMeant false c .keys) K ≡ holdsOf ks (c .key)
+one-key c ks K f g e = subset-singleton (c .key) K ∙ ap (λ (L : Keys). holds L (c .key)) (sym e) ∙ sym (keys-holds (c .key) (f .key) g)

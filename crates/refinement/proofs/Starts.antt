@@ -1,0 +1,125 @@
+-- The engine's start stands for the abstract machine's. Assumes nothing.
+use Prim.Native.Nat.{ℕ, zero, suc, _*_, _/_, _%_, _^_, _<_}
+use native.Mathlib.Nat.{zero-div}
+use native.Mathlib.Omega.{arith}
+use native.Mathlib.Decide.{decLt}
+use mathlib.Core.Path.{_≡_, refl, sym, ap, ap₂, _∙_, fun-ext, subst as along}
+use mathlib.Core.Bool.{Bool, true, false}
+use mathlib.Core.List.{List, [], _∷_}
+use mathlib.Core.Option.{some, none}
+use lib.Dec.{ltb}
+use lib.ListN.{length, getD, set, getElem?, replicate, length-replicate, getD-replicate, List·getD-eq-default}
+use lib.Seq.{set-getD}
+use Rattle.keys.specs.Keys.{singleton}
+use Rattle.keys.specs.KeySet.{zeroSet}
+use Rattle.keys.proofs.KeySetLaws.{fits-zero, fits-empty, keys-zero}
+use Rattle.plan.specs.Format.{procedures, root, volatiles}
+use Rattle.plan.specs.Check.{refusal}
+use Rattle.plan.proofs.Accepted.{accepted}
+use Rattle.rules.specs.State.{freshObject}
+use Rattle.rules.specs.Rules.{e-call}
+use Rattle.machine.specs.Frames.{Slots, noSlots, closure}
+use Rattle.machine.specs.Frames as frames
+use Rattle.machine.specs.Memory.{objectsOf}
+use Rattle.machine.specs.Machine as machine
+use Rattle.machine.specs.Playing as playing
+use Rattle.landing.specs.declared.go.Part.the-variants as part
+use Rattle.landing.specs.Slots.{slotOf, choose}
+use Rattle.landing.specs.Going.{readyOf}
+use Rattle.landing.specs.Landing.{Stack}
+use Rattle.moves.specs.declared.state.Cell.{Cell}
+use Rattle.moves.specs.declared.state.Object.{Object}
+use Rattle.moves.specs.Act.{countsOf}
+use Rattle.engine.specs.Machine.{noCell, noThing, headAt, startOf}
+use Rattle.refinement.proofs.Meant.{Loaded, IsExpression, Stands}
+use Rattle.refinement.proofs.States.{CellFits, freshCell, memoryOf, Kept, Headed, Related, kept-object}
+use Rattle.refinement.proofs.Acts.{no-fields, no-bit}
+
+-- no slots
+slots-zero : slotOf 0 ≡ noSlots
+unfolding slotOf noSlots
+slots-zero = fun-ext (λ x. at x (ltb x 8))
+  where
+    at : (x : ℕ) (t : Bool) → choose t (0 / 2 ^ (x * 5) % 32) 0 ≡ 0
+    at x true = ap (λ (n : ℕ). n % 32) (zero-div (2 ^ (x * 5)))
+    at x false = refl
+
+-- fresh cells, and objects of which the first is null, stand for the start's memory
+module _ (mask : ℕ) (cs : List Cell) (ts : List Object) (cells-size : length cs ≡ 1024) (new : (i : ℕ) → i < 1024 → getD cs i noCell ≡ freshCell)
+    (things-size : length ts ≡ 33) (null : getD ts 0 noThing ≡ noThing) where
+  cell-fits : (i : ℕ) → CellFits (getD cs i noCell)
+  cell-fits i = at (decLt i 1024)
+    where
+      at : Dec (i < 1024) → CellFits (getD cs i noCell)
+      at (yes h) = along CellFits (sym (new i h)) (record { key = omega arith; keys = fits-zero })
+      at (no h) = along CellFits (sym (List·getD-eq-default cs noCell {n = i} (omega arith))) (record { key = omega arith; keys = fits-empty })
+
+  -- with no object yet
+  empty-kept : Kept mask cs ts (countsOf 0 0 1) (record { objects = []; threads = []; nextKey = 1 })
+  unfolding objectsOf memoryOf
+  empty-kept = record {
+    cells-size = cells-size;
+    things-size = things-size;
+    threads-count = refl;
+    objects-count = refl;
+    keys-count = refl;
+    objects = refl;
+    cells-fit = cell-fits;
+    fresh-past = λ i h l. new i l;
+    numbers = λ o h. absurd (omega arith);
+  }
+
+  start-kept : Kept mask cs ts (countsOf 1 1 1) playing.start
+  unfolding playing.start machine.threadOf
+  start-kept =
+      along (λ (l : List Object). Kept mask cs l (countsOf 1 1 1) playing.start) (ap (set ts 0) (sym null) ∙ set-getD ts 0 noThing)
+      (along (λ (fs : List ℕ). Kept mask cs (set ts 0 noThing) (countsOf 1 1 1) (record { objects = freshObject fs ∷ []; threads = playing.start .threads; nextKey = 1 })) no-fields
+      (kept-object empty-kept noThing (playing.start .threads) 1 (omega arith) no-bit refl (λ o h. absurd (omega arith)) refl))
+
+module _ (b ws rs : List ℕ) (ok : refusal b ≡ none) (loaded : Loaded b ws rs) where
+  main-there : 0 < procedures b
+  main-there = let x = accepted b ok .some-procedure in omega arith
+
+  main-root : root b 0 ≡ getD rs 0 0
+  main-root = sym (loaded .roots 0 main-there)
+
+  -- thread 0 is about to call main
+  start-stands : Stands b (readyOf part.Run (getD rs 0 0) 0 0 0) [] (frames.Found.here [] (frames.Ready.call 0 0 noSlots))
+  unfolding playing.noRoomBefore machine.act playing.tableOf
+  start-stands = (
+    tt,
+    along (λ (t : ℕ). IsExpression b t) main-root (accepted b ok .each-procedure 0 main-there .root-below, accepted b ok .each-procedure 0 main-there .root-sorted),
+    (
+      frames.Ready.call 0 0 noSlots,
+      refl,
+      record {
+        rule = e-call;
+        needs-no-room = λ s. refl;
+        acts = λ s p t. ap₂ (λ (t : ℕ) (ρ : Slots). machine.Act.does e-call none s (frames.Result.run (closure t ρ))) main-root (sym slots-zero);
+      },
+    ),
+  )
+
+  start-headed : (k : Stack)
+      → Headed b k (0 * 33) (record { ready = readyOf part.Run (getD rs 0 0) 0 0 0; depth = 0; object = 0; keys = zeroSet })
+      (record { self = 0; code = frames.Found.here [] (frames.Ready.call 0 0 noSlots); keys = singleton 0 })
+  start-headed k = record { stack = []; held = tt; depth = refl; shallow = omega arith; stands = start-stands; object = refl; keys = keys-zero; keys-fit = fits-zero }
+
+  start-each : (area : List ℕ) (p : ℕ) (t : machine.Thread) → getElem? (playing.start .threads) p ≡ some t
+      → Headed b (startOf rs area .stack) (p * 33) (headAt (startOf rs area .heads) p) t
+  unfolding startOf playing.start
+  start-each area zero t h =
+      let e : record { self = 0; code = frames.Found.here [] (frames.Ready.call 0 0 noSlots); keys = singleton 0 } ≡ t = cc in
+      along (λ (t : machine.Thread). Headed b (startOf rs area .stack) (0 * 33) (headAt (startOf rs area .heads) 0) t) e (start-headed (startOf rs area .stack))
+  start-each area (suc p) t h = absurd (let z : _≡_ {A = ℕ} 0 1 = cc in omega arith)
+
+  pub start-related : (area : List ℕ) → Related b (startOf rs area) playing.start
+  unfolding startOf
+  start-related area = record {
+    heads-size = refl;
+    sized = record { tops-size = length-replicate {A = ℕ} 297 0; envs-size = length-replicate {A = ℕ} 297 0; args-size = length-replicate {A = ℕ} 297 0 };
+    kept =
+        start-kept (volatiles b) (replicate 1024 freshCell) (replicate 33 noThing) (length-replicate 1024 freshCell)
+        (λ i h. getD-replicate 1024 i freshCell noCell h) (length-replicate 33 noThing) refl;
+    each = start-each area;
+  }
