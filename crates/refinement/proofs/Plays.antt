@@ -15,7 +15,7 @@ use Rattle.plan.proofs.Accepted.{accepted}
 use Rattle.records.specs.Record.{Record}
 use Rattle.records.specs.Packed.{bytesOf}
 use Rattle.rules.specs.Room as rooms
-use Rattle.rules.specs.Step.{forMonitor, forJoin, missingField, notThread, Stuck}
+use Rattle.rules.specs.Step.{forMonitor, forJoin, missingField, notThread}
 use Rattle.rules.specs.Run.{Stop, Status, Outcome, play, outcomeOf}
 use Rattle.rules.specs.Play.{overwrite}
 use Rattle.machine.specs.Machine as machine
@@ -57,7 +57,7 @@ statusBy sight.Monitor v o f = Status.waiting (forMonitor o)
 statusBy sight.Join v o f = Status.waiting (forJoin o)
 statusBy sight.NoField v o f = Status.stuck (missingField o f)
 statusBy sight.NoThread v o f = Status.stuck (notThread o)
-statusBy sight.NoRule v o f = Status.stuck Stuck.noRule
+statusBy sight.NoRule v o f = Status.ready
 statusBy sight.Lacking v o f = Status.lacking o f
 
 -- the status that the code's words for a thread mean

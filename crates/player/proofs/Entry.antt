@@ -1,0 +1,63 @@
+-- The two ways that a play ends: it is refused, or its run is answered. Assumes nothing.
+use Prim.Native.Nat.{ℕ}
+use mathlib.Core.Path.{_≡_, refl, sym, ap, _∙_}
+use mathlib.Core.List.{List}
+use mathlib.Core.Option.{Option, some, none}
+use lib.ListN.{length}
+use Rattle.format.specs.Refusal.{Refusal}
+use Rattle.plan.specs.Format.{procedures, terms, volatiles}
+use Rattle.plan.specs.Answer as check
+use Rattle.plan.specs.declared.Checked.{Checked}
+use Rattle.plan.specs.declared.Checked.the-variants as checked
+use Rattle.rules.specs.Run as run
+use Rattle.rules.specs.Play as play
+use Rattle.rules.specs.Play.{playRefusal, played, playedBy, areaAfter, areaBy, runOf}
+use Rattle.engine.specs.declared.Ran.{Ran}
+use Rattle.engine.specs.Machine.{playOf, startOf}
+use Rattle.player.specs.declared.outcome.Outcome.{Outcome}
+use Rattle.player.specs.declared.outcome.Played.{Played}
+use Rattle.player.specs.Refused.{RefusedAs}
+use Rattle.player.specs.Loading.{Words, Roots}
+use Rattle.player.specs.Outcomes.{outcomeBy}
+use Rattle.player.specs.Answer.{outcomeOf, answeredBy, answered}
+use Rattle.player.proofs.Passed.{Passed, by-code}
+use Rattle.player.proofs.Answers.{outcome-defined, area-defined}
+
+module _ (plan schedule area : List ℕ) (x : Checked) (h : RefusedAs plan schedule (length area) (check.answered x)) where
+  -- refused
+  module _ (k i : ℕ) (e : x ≡ checked.Refused k i) where
+    refusal-is : playRefusal plan schedule area ≡ some (record { number = k; place = i })
+    unfolding check.answered
+    refusal-is = sym (h area refl) ∙ ap check.answered e
+
+    pub refused-answer : (r : Played) → r .checked ≡ x → answered r ≡ played plan schedule area
+    unfolding answered played playedBy
+    refused-answer r q = ap (λ (y : Checked). answeredBy y (r .outcome)) (q ∙ e) ∙ sym (ap (playedBy plan schedule) refusal-is)
+
+    pub refused-area : area ≡ areaAfter plan schedule area
+    unfolding areaAfter areaBy
+    refused-area = sym (ap (areaBy plan schedule area) refusal-is)
+
+  -- not refused
+  module _ (e : x ≡ checked.Passed) (ws rs : List ℕ) (words : Words plan (terms plan) ws) (roots : Roots plan (procedures plan) rs) (mask : ℕ) (m : mask ≡ volatiles plan) where
+    pass : Passed plan schedule area
+    pass = by-code plan schedule area x h e
+
+    refusal-none : playRefusal plan schedule area ≡ none
+    unfolding check.answered
+    refusal-none = sym (h area refl) ∙ ap check.answered e
+
+    pub ran-answer : (o : Outcome) → o ≡ outcomeBy (playOf ws rs mask (startOf rs area) schedule 0 .ran) → answered (record { checked = x; outcome = o }) ≡ played plan schedule area
+    unfolding answered played playedBy runOf outcomeOf
+    ran-answer o q =
+        ap (λ (y : Checked). answeredBy y o) e
+        ∙ ap (λ (y : Outcome). answeredBy checked.Passed y) (q ∙ ap (λ (k : ℕ). outcomeBy (playOf ws rs k (startOf rs area) schedule 0 .ran)) m)
+        ∙ ap (λ (y : run.Outcome). play.Played.ran y) (outcome-defined plan schedule area ws rs pass words roots)
+        ∙ sym (ap (playedBy plan schedule) refusal-none)
+
+    pub ran-area : playOf ws rs mask (startOf rs area) schedule 0 .area ≡ areaAfter plan schedule area
+    unfolding areaAfter areaBy runOf
+    ran-area =
+        ap (λ (k : ℕ). playOf ws rs k (startOf rs area) schedule 0 .area) m
+        ∙ area-defined plan schedule area ws rs pass words roots
+        ∙ sym (ap (areaBy plan schedule area) refusal-none)

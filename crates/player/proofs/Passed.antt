@@ -1,0 +1,69 @@
+-- A play that nothing refuses: what its plan, its schedule and its log area are. Assumes nothing.
+use Prim.Native.Nat.{ℕ, _+_, _*_, _≤_, _<_}
+use native.Mathlib.Omega.{arith}
+use mathlib.Core.Path.{_≡_, refl, sym, ap, _∙_}
+use mathlib.Core.Bool.{Bool, false}
+use mathlib.Core.List.{List}
+use mathlib.Core.Option.{Option, some, none}
+use lib.ListN.{length, getD}
+use borrow.Author.Tests.{ltb-false}
+use Rattle.format.specs.Refusal.{Refusal, orElse, lowest, refuse}
+use Rattle.format.proofs.RefusalLaws.{lowest-none}
+use Rattle.plan.specs.Format.{procedures, terms, planLength}
+use Rattle.plan.specs.Check.{refusal}
+use Rattle.plan.specs.Answer.{answered}
+use Rattle.plan.specs.declared.Checked.{Checked}
+use Rattle.plan.specs.declared.Checked.the-variants as checked
+use Rattle.plan.proofs.Accepted.{accepted}
+use Rattle.rules.specs.Play.{tooManyPicks, wrongPick, shortArea, playRefusal}
+use Rattle.player.specs.Refused.{RefusedAs}
+use Rattle.player.proofs.RefusalChain.{chain, late}
+
+-- neither is refused
+or-none : (a b : Option Refusal) → orElse a b ≡ none → (a ≡ none) × (b ≡ none)
+unfolding orElse
+or-none (some x) b e = absurd (let z : _≡_ {A = ℕ} 0 1 = cc in omega arith)
+or-none none b e = (refl, e)
+
+refuse-none : (k : ℕ) (o : Option ℕ) (l : Option Refusal) → refuse k o l ≡ none → (o ≡ none) × (l ≡ none)
+unfolding refuse
+refuse-none k (some i) l e = absurd (let z : _≡_ {A = ℕ} 0 1 = cc in omega arith)
+refuse-none k none l e = (refl, e)
+
+whole-right : (x : Bool) → lowest (λ place. x) 1 ≡ none → x ≡ false
+whole-right x e = lowest-none (λ place. x) 1 e 0 (omega arith)
+
+pub record Passed (plan schedule area : List ℕ) : Type 0 where
+  pub plan-passes : refusal plan ≡ none
+  pub few : length schedule ≤ 4096
+  pub small : (j : ℕ) → j < length schedule → getD schedule j 0 ≤ 7
+  pub wide : 3 * length schedule ≤ length area
+
+pub passed : (plan schedule area : List ℕ) → playRefusal plan schedule area ≡ none → Passed plan schedule area
+unfolding tooManyPicks wrongPick shortArea
+passed plan schedule area e =
+    let a = or-none (refusal plan) (late schedule area) (sym (chain plan schedule area) ∙ e) in
+    let x = refuse-none 8 (lowest (λ place. tooManyPicks schedule) 1) _ (a .1) in
+    let y = refuse-none 9 (lowest (wrongPick schedule) (length schedule)) _ (x .1) in
+    let z = refuse-none 10 (lowest (λ place. shortArea schedule area) 1) none (y .1) in
+    record {
+      plan-passes = a .0;
+      few = ltb-false 4096 (length schedule) (whole-right (tooManyPicks schedule) (x .0));
+      small = λ j h. ltb-false 7 (getD schedule j 0) (lowest-none (wrongPick schedule) (length schedule) (y .0) j h);
+      wide = ltb-false (length area) (3 * length schedule) (whole-right (shortArea schedule area) (z .0));
+    }
+
+-- an accepted plan's numbers lie inside it
+pub record Inside (plan : List ℕ) : Type 0 where
+  pub few-procedures : procedures plan ≤ 32
+  pub few-terms : terms plan ≤ 1024
+  pub long : length plan ≡ 8 + 2 * procedures plan + 5 * terms plan
+
+pub inside : (plan : List ℕ) → refusal plan ≡ none → Inside plan
+unfolding planLength
+inside plan e = let a = accepted plan e in record { few-procedures = a .few-procedures; few-terms = a .few-terms; long = a .length-right }
+
+-- what the code's refusal says, where it is none
+pub by-code : (plan schedule area : List ℕ) (r : Checked) → RefusedAs plan schedule (length area) (answered r) → r ≡ checked.Passed → Passed plan schedule area
+unfolding answered
+by-code plan schedule area r h e = passed plan schedule area (sym (h area refl) ∙ ap answered e)

@@ -1,0 +1,42 @@
+-- The refusal of a play: the plan's, or that of the first of checks 8 to 10 that finds a fault. Assumes nothing.
+use Prim.Native.Nat.{ℕ, _*_}
+use mathlib.Core.Path.{_≡_, refl, sym, ap, _∙_}
+use mathlib.Core.List.{List, [], _∷_}
+use mathlib.Core.Option.{Option, some, none}
+use lib.ListN.{length}
+use Rattle.format.specs.Refusal.{Refusal, check, checkWhole, orElse, lowest, refuse, firstRefusal}
+use Rattle.format.proofs.RefusalLaws.{refusal-append}
+use Rattle.plan.specs.Check.{checks, refusal}
+use Rattle.plan.specs.Answer.{answered}
+use Rattle.plan.specs.declared.Checked.{Checked}
+use Rattle.plan.specs.declared.Checked.the-variants.{Passed, Refused}
+use Rattle.rules.specs.Play.{tooManyPicks, wrongPick, shortArea, playChecks, playRefusal}
+
+pub chain : (plan schedule area : List ℕ) → playRefusal plan schedule area
+    ≡ orElse (refusal plan)
+    (refuse 8 (lowest (λ place. tooManyPicks schedule) 1)
+    (refuse 9 (lowest (wrongPick schedule) (length schedule))
+    (refuse 10 (lowest (λ place. shortArea schedule area) 1) none)))
+unfolding playRefusal playChecks refusal firstRefusal
+chain plan schedule area = refusal-append (checks plan) (checkWhole 8 (tooManyPicks schedule) ∷ check 9 (length schedule) (wrongPick schedule) ∷ checkWhole 10 (shortArea schedule area) ∷ [])
+
+-- checks 8 to 10
+abbrev pub late : List ℕ → List ℕ → Option Refusal
+late schedule area =
+    refuse 8 (lowest (λ place. tooManyPicks schedule) 1)
+    (refuse 9 (lowest (wrongPick schedule) (length schedule))
+    (refuse 10 (lowest (λ place. shortArea schedule area) 1) none))
+
+-- the plan is refused
+pub by-plan : (plan schedule area : List ℕ) (r : Checked) (k i : ℕ) → answered r ≡ refusal plan → r ≡ Refused k i → answered r ≡ playRefusal plan schedule area
+unfolding answered orElse
+by-plan plan schedule area r k i e q =
+    let s : refusal plan ≡ some (record { number = k; place = i }) = sym e ∙ ap answered q in
+    ap answered q ∙ sym (chain plan schedule area ∙ rw s)
+
+-- the plan passes
+pub by-later : (plan schedule area : List ℕ) (r r′ : Checked) → answered r ≡ refusal plan → r ≡ Passed → answered r′ ≡ late schedule area → answered r′ ≡ playRefusal plan schedule area
+unfolding answered orElse
+by-later plan schedule area r r′ e q h =
+    let s : refusal plan ≡ none = sym e ∙ ap answered q in
+    h ∙ sym (chain plan schedule area ∙ rw s)

@@ -1,0 +1,61 @@
+use mathlib.Core.Path.{_≡_, refl, sym, ap, _∙_, subst}
+use Prim.Native.Nat.{ℕ, suc, _+_, _*_, _-_, _<_, _≤_}
+use native.Mathlib.Omega.{arith}
+use lib.ListN.{length, length-set}
+use borrow.Author.Needs.{needs}
+use Rattle.plan.specs.Format.{root}
+use Rattle.player.specs.Loading.{Roots}
+use Rattle.player.proofs.Filled.{one-more}
+use Rattle.player.proofs.load.roots.Statement.{statement}
+use Rattle.player.proofs.load.roots.Tie as tie
+use Rattle.plan.proofs.layout.root.Reads as root-reads
+
+abbrev Inv-loop : tie.InvT-loop
+Inv-loop plan procs all₀ p₀ all p = (p ≤ procs) × (length all ≡ 32) × Roots plan p all
+
+abbrev μ-loop : tie.MeasureT-loop
+μ-loop plan procs all₀ p₀ all p = procs - p
+
+-- src/load.rt:31:5
+loop-holds : tie.Need-loop-holds Inv-loop μ-loop
+loop-holds c = (search needs, refl, λ i q. absurd (omega arith))
+
+-- src/load.rt:32:18
+root-requires : tie.Need-root-requires Inv-loop μ-loop
+root-requires c κs = search needs
+
+mul-all : tie.Need-mul-all Inv-loop μ-loop
+mul-all c = search needs
+
+array-write-all : tie.Need-array-write-all Inv-loop μ-loop
+array-write-all c = search needs
+
+add-p : tie.Need-add-p Inv-loop μ-loop
+add-p c = search needs
+
+loop-less : tie.Need-loop-less Inv-loop μ-loop
+loop-less c = search needs
+
+loop-again : tie.Need-loop-again Inv-loop μ-loop
+loop-again c =
+    let l = c .before .before .loop in
+    let n : l .p < length (l .all) = rw (l .inv .1) (omega arith) in
+    (search needs, length-set (l .all) (l .p) _ ∙ l .inv .1, one-more (root (c .before .before .before .before .args .plan .now)) (l .all) (l .p) _ n (c .root .ensures) (l .inv .2))
+
+returns : tie.Need-returns Inv-loop μ-loop
+returns c i q = let l = c .before .loop in l .inv .2 i (omega arith)
+
+pub roots-spec : {M : Type 1} → statement M
+roots-spec =
+    tie.close
+    (tie.spec
+    Inv-loop
+    μ-loop
+    loop-holds
+    root-requires
+    mul-all
+    array-write-all
+    add-p
+    loop-less
+    loop-again
+    returns)

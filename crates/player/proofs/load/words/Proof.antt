@@ -1,0 +1,85 @@
+use mathlib.Core.Path.{_≡_, refl, sym, ap, _∙_, subst}
+use Prim.Native.Nat.{ℕ, suc, _+_, _*_, _-_, _<_, _≤_}
+use native.Mathlib.Omega.{arith}
+use mathlib.Core.List.{List}
+use lib.ListN.{length, length-set}
+use Rattle.format.specs.Bits.{bitsAt}
+use borrow.Author.Needs.{needs}
+use Rattle.plan.specs.Format.{procedures, terms, termBit}
+use Rattle.player.specs.Loading.{Words}
+use Rattle.player.proofs.Filled.{one-more}
+use Rattle.player.proofs.load.words.Statement.{statement}
+use Rattle.player.proofs.load.words.Tie as tie
+use Rattle.plan.proofs.bits.five.Reads as five-reads
+
+-- where a term begins, in bits
+place : (b : List ℕ) (m t : ℕ) → m ≡ procedures b → (8 + 2 * m + 5 * t) * 8 ≡ termBit b t
+unfolding termBit
+place b m t e = rw e refl
+
+abbrev Inv-loop : tie.InvT-loop
+Inv-loop plan procs count all₀ t₀ all t = (t ≤ count) × (length all ≡ 1024) × Words plan t all
+
+abbrev μ-loop : tie.MeasureT-loop
+μ-loop plan procs count all₀ t₀ all t = count - t
+
+-- src/load.rt:31:5
+loop-holds : tie.Need-loop-holds Inv-loop μ-loop
+loop-holds c = (search needs, refl, λ i q. absurd (omega arith))
+
+-- src/load.rt:32:18
+mul-five : tie.Need-mul-five Inv-loop μ-loop
+mul-five c = search needs
+
+add-five : tie.Need-add-five Inv-loop μ-loop
+add-five c = search needs
+
+mul-five-2 : tie.Need-mul-five-2 Inv-loop μ-loop
+mul-five-2 c = search needs
+
+add-five-2 : tie.Need-add-five-2 Inv-loop μ-loop
+add-five-2 c = search needs
+
+five-requires : tie.Need-five-requires Inv-loop μ-loop
+five-requires c κs = search needs
+
+mul-all : tie.Need-mul-all Inv-loop μ-loop
+mul-all c = search needs
+
+array-write-all : tie.Need-array-write-all Inv-loop μ-loop
+array-write-all c = search needs
+
+add-t : tie.Need-add-t Inv-loop μ-loop
+add-t c = search needs
+
+loop-less : tie.Need-loop-less Inv-loop μ-loop
+loop-less c = search needs
+
+loop-again : tie.Need-loop-again Inv-loop μ-loop
+loop-again c =
+    let a = c .before .before .before .before .args in
+    let l = c .before .before .loop in
+    let n : l .t < length (l .all) = rw (l .inv .1) (omega arith) in
+    (search needs, length-set (l .all) (l .t) _ ∙ l .inv .1, one-more (λ t. bitsAt (a .plan .now) (termBit (a .plan .now) t) 40) (l .all) (l .t) _ n (c .five .ensures .0 ∙ ap (λ (i : ℕ). bitsAt (a .plan .now) i 40) (place (a .plan .now) (a .procs) (l .t) (c .before .before .before .before .pre .0))) (l .inv .2))
+
+returns : tie.Need-returns Inv-loop μ-loop
+returns c i q = let l = c .before .loop in l .inv .2 i (omega arith)
+
+pub words-spec : {M : Type 1} → statement M
+words-spec =
+    tie.close
+    (tie.spec
+    Inv-loop
+    μ-loop
+    loop-holds
+    mul-five
+    add-five
+    mul-five-2
+    add-five-2
+    five-requires
+    mul-all
+    array-write-all
+    add-t
+    loop-less
+    loop-again
+    returns)

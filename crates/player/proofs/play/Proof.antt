@@ -1,0 +1,129 @@
+use Prim.Native.Nat.{ℕ, _+_, _*_, _≤_, _<_}
+use native.Mathlib.Omega.{arith}
+use mathlib.Core.Path.{_≡_, refl, sym, ap, _∙_}
+use mathlib.Core.List.{List}
+use lib.ListN.{length}
+use borrow.Author.Needs.{needs}
+use Rattle.plan.specs.Format.{procedures, terms, volatiles}
+use Rattle.rules.specs.Play.{played, playedBy, areaAfter, areaBy, runOf}
+use Rattle.player.specs.Answer.{answered}
+use Rattle.player.specs.Loading.{Words, Roots}
+use Rattle.player.specs.Outcomes.{outcomeBy}
+use Rattle.player.proofs.Passed.{Passed, Inside, inside, by-code}
+use Rattle.player.proofs.Entry.{refused-answer, refused-area, ran-answer, ran-area}
+use Rattle.player.proofs.play.Statement.{statement}
+use Rattle.player.proofs.play.Tie as tie
+use Rattle.player.proofs.play.Reads as reads
+use Rattle.player.proofs.play.Lts as lts
+use Rattle.engine.proofs.run.Reads as run-reads
+use Rattle.plan.proofs.bits.quad.Reads as quad-reads
+use Rattle.plan.proofs.layout.procedures.Reads as procedures-reads
+use Rattle.plan.proofs.layout.terms.Reads as terms-reads
+use Rattle.player.proofs.load.roots.Reads as roots-reads
+use Rattle.player.proofs.load.words.Reads as words-reads
+use Rattle.player.proofs.outcome.outcome_of.Reads as outcome-of-reads
+use Rattle.player.proofs.outcome.refused.Reads as refused-reads
+use Rattle.player.proofs.refusal.refusal.Reads as refusal-reads
+
+-- nothing refuses the play
+told : (c : tie.After-enum-told) → Passed (c .before .before .before .before .before .before .args .plan .now) (c .before .before .before .before .before .before .args .schedule .now) (c .before .before .before .before .before .before .args .log .now)
+told c = by-code _ _ _ (c .before .before .refusal .result) (c .before .before .refusal .ensures) (c .enum-told .given .1)
+
+-- so the plan's numbers lie inside it
+within : (c : tie.After-enum-told) → Inside (c .before .before .before .before .before .before .args .plan .now)
+within c = inside _ (told c .plan-passes)
+
+-- src/lib.rt:20:9
+refusal-requires : tie.Need-refusal-requires
+refusal-requires c κs = search needs
+
+enum-told : tie.Need-enum-told
+enum-told c = search needs
+
+-- src/lib.rt:22:9
+enum-told-2 : tie.Need-enum-told-2
+enum-told-2 c = search needs
+
+-- src/lib.rt:22:9
+refused-requires : tie.Need-refused-requires
+refused-requires c κs = search needs
+
+-- src/lib.rt:22:9
+returns : tie.Need-returns
+returns c =
+    let a = c .before .before .before .before .before .before .before .args in
+    (refused-answer (a .plan .now) (a .schedule .now) (a .log .now) _ (c .before .before .before .refusal .ensures) _ _ (c .before .enum-told2 .given .1) (c .refused .result) (c .refused .ensures), refused-area (a .plan .now) (a .schedule .now) (a .log .now) _ (c .before .before .before .refusal .ensures) _ _ (c .before .enum-told2 .given .1))
+
+-- src/lib.rt:24:9
+procedures-requires : tie.Need-procedures-requires
+procedures-requires c κs = let w = within c .long in omega arith
+
+-- src/lib.rt:25:9
+terms-requires : tie.Need-terms-requires
+terms-requires c κs = let w = within (c .before) .long in omega arith
+
+-- src/lib.rt:26:17
+words-requires : tie.Need-words-requires
+words-requires c κs =
+    let w = within (c .before .before) in
+    let p = c .before .procedures .ensures in
+    let t = c .terms .ensures in
+    (p, omega (arith, w .few-procedures), omega (arith, w .few-terms), omega (arith, w .long))
+
+-- src/lib.rt:27:17
+roots-requires : tie.Need-roots-requires
+roots-requires c κs =
+    let w = within (c .before .before .before) in
+    let p = c .before .before .procedures .ensures in
+    (omega (arith, w .few-procedures), omega (arith, w .long))
+
+-- src/lib.rt:28:9
+quad-requires : tie.Need-quad-requires
+quad-requires c κs = let w = within (c .before .before .before .before) .long in omega arith
+
+-- src/lib.rt:29:9
+run-requires : tie.Need-run-requires
+run-requires c κs = let t = told (c .before .before .before .before .before .before .before .before) in (t .few, omega (arith, t .wide))
+
+-- src/lib.rt:30:9
+outcome-of-requires : tie.Need-outcome-of-requires
+outcome-of-requires c κs = search needs
+
+-- src/lib.rt:16:1
+same-length : tie.Need-same-length
+same-length c = search needs
+
+-- src/lib.rt:16:1
+returns-2 : tie.Need-returns-2
+returns-2 c =
+    let a = c .before .before .before .before .before .before .before .before .before .before .before .before .before .before .before .before .before .before .args in
+    let t = c .before .before .before .before .before .before .before .before .before .before .before .before in
+    let w : Words (a .plan .now) (terms (a .plan .now)) (c .before .before .before .before .before .before .before .before .before .words .result) = λ i q. c .before .before .before .before .before .before .before .before .before .words .ensures i (omega (arith, c .before .before .before .before .before .before .before .before .before .before .terms .ensures)) in
+    let r : Roots (a .plan .now) (procedures (a .plan .now)) (c .before .before .before .before .before .before .before .before .roots .result) = λ i q. c .before .before .before .before .before .before .before .before .roots .ensures i (omega (arith, c .before .before .before .before .before .before .before .before .before .before .before .procedures .ensures)) in
+    let m : c .before .before .before .before .before .before .before .quad .result ≡ volatiles (a .plan .now) = unfold volatiles in c .before .before .before .before .before .before .before .quad .ensures .0 in
+    let e = t .enum-told .given .1 in
+    let h = c .before .before .before .before .before .before .before .before .before .before .before .before .before .before .refusal .ensures in
+    let ws = c .before .before .before .before .before .before .before .before .before .words .result in
+    let rs = c .before .before .before .before .before .before .before .before .roots .result in (
+      ran-answer (a .plan .now) (a .schedule .now) (a .log .now) _ h e ws rs w r _ m _ (c .outcome-of .ensures ∙ ap outcomeBy (c .before .before .before .run .ensures .0)),
+      c .before .before .before .run .ensures .1 ∙ ran-area (a .plan .now) (a .schedule .now) (a .log .now) _ h e ws rs w r _ m,
+    )
+
+pub play-spec : {M : Type 1} → statement M
+play-spec =
+    tie.close
+    (tie.spec
+    refusal-requires
+    enum-told
+    enum-told-2
+    refused-requires
+    returns
+    procedures-requires
+    terms-requires
+    words-requires
+    roots-requires
+    quad-requires
+    run-requires
+    outcome-of-requires
+    same-length
+    returns-2)

@@ -1,0 +1,111 @@
+use mathlib.Core.Path.{_≡_, refl, sym, ap, _∙_}
+use mathlib.Core.Bool.{true, false}
+use mathlib.Core.Option.{some, none}
+use Prim.Native.Nat.{ℕ, _*_}
+use native.Mathlib.Omega.{arith}
+use lib.ListN.{length}
+use borrow.Author.Needs.{needs}
+use borrow.Author.Tests.{lt-ltb, le-ltb}
+use Rattle.format.specs.Refusal.{lowest, refuse}
+use Rattle.plan.specs.Answer.{answered}
+use Rattle.plan.proofs.Lowest.{whole, whole-none, missed, struck}
+use Rattle.rules.specs.Play.{tooManyPicks, wrongPick, shortArea}
+use Rattle.player.proofs.RefusalChain.{by-plan, by-later}
+use Rattle.player.proofs.refusal.refusal.Statement.{statement}
+use Rattle.player.proofs.refusal.refusal.Tie as tie
+use Rattle.player.proofs.refusal.refusal.Reads as reads
+use Rattle.player.proofs.refusal.refusal.Lts as lts
+use Rattle.plan.proofs.check.Reads as check-reads
+use Rattle.plan.proofs.refused.Reads as refused-reads
+use Rattle.player.proofs.refusal.lowest_wrong_pick.Reads as lowest-wrong-pick-reads
+
+-- src/refusal.rt:27:9
+check-requires : tie.Need-check-requires
+check-requires c κs = search needs
+
+enum-told : tie.Need-enum-told
+enum-told c = search needs
+
+-- src/refusal.rt:29:9
+enum-told-2 : tie.Need-enum-told-2
+enum-told-2 c = search needs
+
+-- src/refusal.rt:29:9
+returns : tie.Need-returns
+returns c a e =
+    by-plan _ _ a _ _ _ (c .before .before .check .ensures) (c .enum-told2 .given .1)
+
+-- src/refusal.rt:32:9
+refused-requires : tie.Need-refused-requires
+refused-requires c κs = search needs
+
+-- src/refusal.rt:32:9
+returns-2 : tie.Need-returns-2
+unfolding answered refuse
+returns-2 c a e =
+    let s = c .before .before .before .before .before .before .before .args .schedule .now in
+    let m8 : lowest (λ place. tooManyPicks s) 1 ≡ some 0 = whole (tooManyPicks s) (unfold tooManyPicks in lt-ltb 4096 _ (c .before .if1 .taken)) in
+    by-later _ s a _ (c .refused .result) (c .before .before .before .before .check .ensures) (c .before .before .enum-told .given .1) (ap answered (c .refused .ensures) ∙ sym (rw m8))
+
+-- src/refusal.rt:34:9
+lowest-wrong-pick-requires : tie.Need-lowest-wrong-pick-requires
+lowest-wrong-pick-requires c κs = search needs
+
+-- src/refusal.rt:36:9
+refused-requires-2 : tie.Need-refused-requires-2
+refused-requires-2 c κs = search needs
+
+-- src/refusal.rt:36:9
+returns-3 : tie.Need-returns-3
+unfolding answered refuse
+returns-3 c a e =
+    let s = c .before .before .before .before .before .before .before .before .before .args .schedule .now in
+    let m8 : lowest (λ place. tooManyPicks s) 1 ≡ none = whole-none (tooManyPicks s) (unfold tooManyPicks in le-ltb 4096 _ (c .before .before .before .if1 .left)) in
+    let m9 : lowest (wrongPick s) (length s) ≡ some (c .before .before .lowest-wrong-pick .result) = struck (wrongPick s) (length s) (length s) _ refl (c .before .before .lowest-wrong-pick .ensures) (c .before .if2 .taken) in
+    by-later _ s a _ (c .refused2 .result) (c .before .before .before .before .before .before .check .ensures) (c .before .before .before .before .enum-told .given .1) (ap answered (c .refused2 .ensures) ∙ sym (rw (m8, m9)))
+
+-- src/refusal.rt:38:15
+mul-if3 : tie.Need-mul-if3
+mul-if3 c = search needs
+
+-- src/refusal.rt:39:9
+refused-requires-3 : tie.Need-refused-requires-3
+refused-requires-3 c κs = search needs
+
+-- src/refusal.rt:39:9
+returns-4 : tie.Need-returns-4
+unfolding answered refuse
+returns-4 c a e =
+    let s = c .before .before .before .before .before .before .before .before .before .before .args .schedule .now in
+    let m8 : lowest (λ place. tooManyPicks s) 1 ≡ none = whole-none (tooManyPicks s) (unfold tooManyPicks in le-ltb 4096 _ (c .before .before .before .before .if1 .left)) in
+    let m9 : lowest (wrongPick s) (length s) ≡ none = missed (wrongPick s) (length s) (length s) _ refl (c .before .before .before .lowest-wrong-pick .ensures) (c .before .before .if2 .left) in
+    let m10 : lowest (λ place. shortArea s a) 1 ≡ some 0 = whole (shortArea s a) (unfold shortArea in rw e (lt-ltb _ (3 * length s) (c .before .if3 .taken))) in
+    by-later _ s a _ (c .refused3 .result) (c .before .before .before .before .before .before .before .check .ensures) (c .before .before .before .before .before .enum-told .given .1) (ap answered (c .refused3 .ensures) ∙ sym (rw (m8, m9, m10)))
+
+-- src/refusal.rt:24:1
+returns-5 : tie.Need-returns-5
+unfolding answered refuse
+returns-5 c a e =
+    let s = c .before .before .before .before .before .before .before .before .before .args .schedule .now in
+    let m8 : lowest (λ place. tooManyPicks s) 1 ≡ none = whole-none (tooManyPicks s) (unfold tooManyPicks in le-ltb 4096 _ (c .before .before .before .if1 .left)) in
+    let m9 : lowest (wrongPick s) (length s) ≡ none = missed (wrongPick s) (length s) (length s) _ refl (c .before .before .lowest-wrong-pick .ensures) (c .before .if2 .left) in
+    let m10 : lowest (λ place. shortArea s a) 1 ≡ none = whole-none (shortArea s a) (unfold shortArea in rw e (le-ltb _ (3 * length s) (c .if3 .left))) in
+    by-later _ s a _ (c .before .before .before .before .before .before .check .result) (c .before .before .before .before .before .before .check .ensures) (c .before .before .before .before .enum-told .given .1) (ap answered (c .before .before .before .before .enum-told .given .1) ∙ sym (rw (m8, m9, m10)))
+
+pub refusal-spec : {M : Type 1} → statement M
+refusal-spec =
+    tie.close
+    (tie.spec
+    check-requires
+    enum-told
+    enum-told-2
+    returns
+    refused-requires
+    returns-2
+    lowest-wrong-pick-requires
+    refused-requires-2
+    returns-3
+    mul-if3
+    refused-requires-3
+    returns-4
+    returns-5)

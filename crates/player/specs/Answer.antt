@@ -1,0 +1,69 @@
+-- What the entry's answer says: document 01's words for each case. Assumes nothing.
+use mathlib.Core.List.{List, map}
+use Rattle.format.specs.Refusal.{Refusal}
+use Rattle.rules.specs.Step as step
+use Rattle.rules.specs.Room as rules
+use Rattle.rules.specs.Run as run
+use Rattle.rules.specs.Play as play
+use Rattle.player.specs.declared.outcome.NoRoom.{NoRoom}
+use Rattle.player.specs.declared.outcome.NoRoom.the-variants as no-room
+use Rattle.player.specs.declared.outcome.Stop.{Stop}
+use Rattle.player.specs.declared.outcome.Stop.the-variants as stop
+use Rattle.player.specs.declared.outcome.Wait.{Wait}
+use Rattle.player.specs.declared.outcome.Wait.the-variants as wait
+use Rattle.player.specs.declared.outcome.Stuck.{Stuck}
+use Rattle.player.specs.declared.outcome.Stuck.the-variants as stuck
+use Rattle.player.specs.declared.outcome.ThreadState.{ThreadState}
+use Rattle.player.specs.declared.outcome.ThreadState.the-variants as state
+use Rattle.player.specs.declared.outcome.Thread.{Thread}
+use Rattle.player.specs.declared.outcome.Outcome.{Outcome}
+use Rattle.player.specs.declared.outcome.Played.{Played}
+use Rattle.plan.specs.declared.Checked.{Checked}
+use Rattle.plan.specs.declared.Checked.the-variants as checked
+
+-- "no room (thread, object, key, depth)"
+unfoldable pub roomOf : NoRoom → rules.Room
+roomOf no-room.Thread = rules.Room.thread
+roomOf no-room.Object = rules.Room.object
+roomOf no-room.Key = rules.Room.key
+roomOf no-room.Depth = rules.Room.depth
+
+-- "end, race, or no room"
+unfoldable pub stopOf : Stop → run.Stop
+unfolding roomOf
+stopOf stop.End = run.Stop.end
+stopOf stop.Race = run.Stop.race
+stopOf (stop.NoRoom r) = run.Stop.noRoom (roomOf r)
+
+-- "waiting (monitor held by another, or join of an unfinished thread, itself included)"
+unfoldable pub waitOf : Wait → step.Wait
+waitOf (wait.Monitor o) = step.Wait.forMonitor o
+waitOf (wait.Join o) = step.Wait.forJoin o
+
+-- "stuck (field missing from the object, or join of an object that is no thread)"
+unfoldable pub stuckOf : Stuck → step.Stuck
+stuckOf (stuck.Field o f) = step.Stuck.missingField o f
+stuckOf (stuck.Thread o) = step.Stuck.notThread o
+
+-- "absent, finished with its value, ready, waiting, stuck with its reason, or lacking the key of a named object's named field"
+unfoldable pub statusOf : ThreadState → run.Status
+unfolding waitOf stuckOf
+statusOf state.Absent = run.Status.absent
+statusOf (state.Finished v) = run.Status.finished v
+statusOf state.Ready = run.Status.ready
+statusOf (state.Waiting w) = run.Status.waiting (waitOf w)
+statusOf (state.Stuck w) = run.Status.stuck (stuckOf w)
+statusOf (state.Lacking o f) = run.Status.lacking o f
+
+unfoldable pub outcomeOf : Outcome → run.Outcome
+unfolding stopOf statusOf
+outcomeOf x = record { stop = stopOf (x .stop); picks = x .picks; moves = x .moves; records = x .records; threads = map (λ (t : Thread). statusOf (t .state)) (x .threads) }
+
+-- "A refused play has no run."
+abbrev pub answeredBy : Checked → Outcome → play.Played
+answeredBy checked.Passed x = play.Played.ran (outcomeOf x)
+answeredBy (checked.Refused k i) x = play.Played.refused (record { number = k; place = i })
+
+unfoldable pub answered : Played → play.Played
+unfolding outcomeOf
+answered r = answeredBy (r .checked) (r .outcome)

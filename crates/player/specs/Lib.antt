@@ -1,0 +1,4 @@
+pub mod Answer
+pub mod Loading
+pub mod Refused
+pub mod Outcomes

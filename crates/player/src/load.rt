@@ -1,0 +1,36 @@
+// A plan as numbers: the 40 bits of each term, and each root.
+ghost use Prim.Native.Nat.{_≤_, _+_, _*_};
+ghost use mathlib.Core.Path.{_≡_};
+ghost use lib.ListN.{length};
+ghost use Rattle.plan.specs.Format.{procedures, terms, root};
+ghost use Rattle.player.specs.Loading.{Words, Roots};
+use plan::bits;
+use plan::layout;
+
+// The words of the first `count` terms.
+pub fn words(plan: &[u8], procs: usize, count: usize) -> [usize; 1024]
+    requires { ⌜ (procs ≡ procedures (now plan)) × (procs ≤ 32) × (count ≤ 1024) × (8 + 2 * procs + 5 * count ≤ length (now plan)) ⌝ }
+    ensures { λ r. ⌜ Words (now (plan .entry)) count r ⌝ }
+{
+    let mut all = [0usize; 1024];
+    let mut t = 0;
+    while t < count {
+        all[t] = bits::five(plan, 8 + 2 * procs + 5 * t);
+        t += 1;
+    }
+    all
+}
+
+// The roots of the procedures.
+pub fn roots(plan: &[u8], procs: usize) -> [usize; 32]
+    requires { ⌜ (procs ≤ 32) × (8 + 2 * procs ≤ length (now plan)) ⌝ }
+    ensures { λ r. ⌜ Roots (now (plan .entry)) procs r ⌝ }
+{
+    let mut all = [0usize; 32];
+    let mut p = 0;
+    while p < procs {
+        all[p] = layout::root(plan, p);
+        p += 1;
+    }
+    all
+}

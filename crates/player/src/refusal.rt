@@ -1,0 +1,42 @@
+// Refusals 1 to 10: of the plan, of the schedule, of the log area.
+ghost use lib.ListN.{length};
+ghost use Rattle.plan.specs.Steps.{Lowest};
+ghost use Rattle.plan.specs.Answer.{answered};
+ghost use Rattle.rules.specs.Play.{wrongPick};
+ghost use Rattle.player.specs.Refused.{RefusedAs};
+use plan::Checked;
+
+// The lowest pick over 7, or the length.
+fn lowest_wrong_pick(schedule: &[u8]) -> usize
+    ensures { λ r. ⌜ Lowest (wrongPick (now (schedule .entry))) (length (now (schedule .entry))) r ⌝ }
+{
+    let mut i = 0;
+    while i < schedule.len() {
+        if schedule[i] > 7 {
+            return i;
+        }
+        i += 1;
+    }
+    i
+}
+
+// What refuses a play with a log area of this length, if anything does.
+pub fn refusal(plan: &[u8], schedule: &[u8], area: usize) -> Checked
+    ensures { λ r. ⌜ RefusedAs (now (plan .entry)) (now (schedule .entry)) area (answered r) ⌝ }
+{
+    let checked = plan::check(plan);
+    let Checked::Passed = checked else {
+        return checked;
+    };
+    if schedule.len() > 4096 {
+        return plan::refused(8, 0);
+    }
+    let i = lowest_wrong_pick(schedule);
+    if i < schedule.len() {
+        return plan::refused(9, i);
+    }
+    if area < 3 * schedule.len() {
+        return plan::refused(10, 0);
+    }
+    checked
+}
