@@ -107,7 +107,7 @@ play-agrees g P one ps few =
 
 -- ---- accepted plans
 
-accepted-version : (b : List ℕ) → refusal b ≡ none → programOf b .version ≡ v1
+pub accepted-version : (b : List ℕ) → refusal b ≡ none → programOf b .version ≡ v1
 unfolding programOf versionOf
 accepted-version b h = rw (accepted b h .version-one)
 

@@ -1,2 +1,3 @@
 pub mod LastRecord
 pub mod Agreed
+pub mod Entry

@@ -1,1 +1,60 @@
-// Demand 3: the stop for want of a key, the chains of the log and the judge agree. Definitions and theorems only, in specs/ and proofs/.
+// Demand 3: the stop for want of a key, the chains of the log and the judge agree. The theorem over the definitions is in specs/ and proofs/; here
+// is the play and the judge, one after the other, on one log area.
+ghost use mathlib.Core.Path.{_≡_};
+ghost use Prim.Native.Nat.{_*_, _-_, _≤_};
+ghost use lib.ListN.{length, take, drop};
+ghost use Rattle.format.specs.Version.{v1};
+ghost use Rattle.order.specs.Judge.{MayAnswer};
+ghost use Rattle.rules.specs.Play.{played, areaAfter};
+ghost use Rattle.player.specs.Answer.{answered};
+ghost use Rattle.judge.specs.Answer as judge;
+ghost use Rattle.agreement.specs.AgreedOn.{AgreedOn};
+use judge::Judgement;
+use plan::Checked;
+use player::outcome::Played;
+
+// What a play answers, and what the judge says of the records that it wrote.
+pub struct PlayedAndJudged {
+    pub played: Played,
+    pub judgement: Judgement,
+}
+
+// The bytes of so many records.
+fn record_bytes(records: usize) -> usize
+    requires { ⌜ records ≤ 4096 ⌝ }
+    ensures { λ r. ⌜ r ≡ 3 * records ⌝ }
+{
+    3 * records
+}
+
+// The judge on a part of a log area, and on no other byte of it.
+fn judge_part(area: &[u8], start: usize, end: usize) -> Judgement
+    requires { ⌜ (start ≤ end) × (end ≤ length (now area)) ⌝ }
+    ensures { λ r. ⌜ MayAnswer v1 (take (end - start) (drop start (now (area .entry)))) (judge.answered r) ⌝ }
+{
+    judge::judge(&area[start..end])
+}
+
+// A schedule is played on a plan, and the judge gets just the run's records, the first bytes of the log area. A refused play has no run, and its
+// judgement, `Ordered`, has no meaning.
+pub fn play_and_judge(plan: &[u8], schedule: &[u8], log: &mut [u8]) -> PlayedAndJudged
+    ensures answer { λ r. ⌜ answered (r .played) ≡ played (now (plan .entry)) (now (schedule .entry)) (now (log .entry)) ⌝ }
+    ensures area { λ r. ⌜ now (log .exit) ≡ areaAfter (now (plan .entry)) (now (schedule .entry)) (now (log .entry)) ⌝ }
+    ensures agreed { λ r. ⌜ AgreedOn (now (plan .entry)) (now (schedule .entry)) r ⌝ }
+{
+    let played = player::play(plan, schedule, log);
+    let checked = played.checked;
+    let Checked::Passed = checked else {
+        return PlayedAndJudged {
+            played: played,
+            judgement: Judgement::Ordered,
+        };
+    };
+    let outcome = played.outcome;
+    let bytes = record_bytes(outcome.records);
+    let judgement = judge_part(log, 0, bytes);
+    PlayedAndJudged {
+        played: played,
+        judgement: judgement,
+    }
+}
