@@ -1,4 +1,4 @@
--- A record of the log as the code takes it apart. Assumes nothing.
+-- A record of the log as the code takes it apart. No reader of the entry's promise needs it. Assumes nothing.
 use Prim.Native.Nat.{ℕ, _<_}
 use mathlib.Core.Path.{_≡_}
 use mathlib.Core.List.{List}

@@ -1,4 +1,4 @@
--- The lowest wrong record of a log, or the count of its records. Assumes nothing.
+-- The lowest wrong record of a log, or the count of its records. No reader of the entry's promise needs it. Assumes nothing.
 use Prim.Native.Nat.{ℕ, _<_, _≤_}
 use mathlib.Core.Path.{_≡_}
 use mathlib.Core.Bool.{true, false}

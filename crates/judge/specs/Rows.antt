@@ -1,4 +1,4 @@
--- Rows of eight clocks, and the two rows that a record hears and tells. Assumes nothing.
+-- Rows of eight clocks, and the two rows that a record hears and tells. No reader of the entry's promise needs it. Assumes nothing.
 use Prim.Native.Nat.{ℕ, _+_, _*_, _<_, _≤_, max}
 use mathlib.Core.Path.{_≡_}
 use mathlib.Core.Bool.{cond}

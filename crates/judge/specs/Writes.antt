@@ -1,4 +1,4 @@
--- The last plain write of a field, and whether an access comes after it. Assumes nothing.
+-- The last plain write of a field, and whether an access comes after it. No reader of the entry's promise needs it. Assumes nothing.
 use mathlib.Core.Bool.{Bool, _&&_, cond}
 use lib.Dec.{eqb, ltb}
 use Rattle.records.specs.Record.{isPlain}

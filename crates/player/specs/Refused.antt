@@ -1,4 +1,4 @@
--- The refusal of a play, by the length of its log area. Assumes nothing.
+-- The refusal of a play, by the length of its log area. No reader of the entry's promise needs it. Assumes nothing.
 use Prim.Native.Nat.{ℕ}
 use mathlib.Core.Path.{_≡_}
 use mathlib.Core.List.{List}
