@@ -11,7 +11,7 @@ use lib.ListN.{length}
 use borrow.Author.Tests.{ltb-false, leb-false, eqb-true, eq-eqb, not-false}
 use Rattle.format.proofs.RefusalLaws.{head-pass, tail-pass, none-is-pass, neither}
 use Rattle.plan.specs.Format.{version, procedures, terms, headerSpare, volatiles, maskBit, parameters, root, planLength, Operand, expression, Term, tagAt, termAt}
-use Rattle.plan.specs.Refusals.{some<, wrongLength, wrongHeader, wrongProcedure, wrongOperand, someOperand, breaksTable, wrongTerm, misplaced, listLength, wrongCall, wronglySorted, notNamedOnce, usesUnboundSlot}
+use Rattle.plan.specs.Refusals.{anyBelow, wrongLength, wrongHeader, wrongProcedure, wrongOperand, someOperand, breaksTable, wrongTerm, misplaced, listLength, wrongCall, wronglySorted, notNamedOnce, usesUnboundSlot}
 use Rattle.plan.specs.Check.{checks, refusal}
 
 -- ---- 1 to 3: sizes, header, procedures
@@ -97,13 +97,13 @@ table-of procs n t m h =
 
 -- ---- 5: sorts
 
-none-of : (n : ℕ) (f : ℕ → Bool) → some< n f ≡ false → (k : ℕ) → k < n → f k ≡ false
-unfolding some<
+none-of : (n : ℕ) (f : ℕ → Bool) → anyBelow n f ≡ false → (k : ℕ) → k < n → f k ≡ false
+unfolding anyBelow
 none-of zero f h k q = absurd (omega arith)
-none-of (suc n) f h k q = go (λ p. none-of n f (neither (some< n f) (f n) h .0) k p) (ℕ-discrete k n)
+none-of (suc n) f h k q = go (λ p. none-of n f (neither (anyBelow n f) (f n) h .0) k p) (ℕ-discrete k n)
   where
     go : (k < n → f k ≡ false) → Dec (k ≡ n) → f k ≡ false
-    go i (yes e) = ap f e ∙ neither (some< n f) (f n) h .1
+    go i (yes e) = ap f e ∙ neither (anyBelow n f) (f n) h .1
     go i (no e) = i (omega (arith, e))
 
 pub at-itself : (v : ℕ) (x : Bool) → (eqb v v && x) ≡ false → x ≡ false
@@ -118,8 +118,8 @@ pub record Sorted (b : List ℕ) (t : ℕ) : Type 0 where
 pub sorted-of : (b : List ℕ) (t : ℕ) → wronglySorted b t ≡ false → Sorted b t
 unfolding wronglySorted
 sorted-of b t h =
-    let x = some< (procedures b) (λ p. eqb (root b p) t && misplaced expression (tagAt b t)) in
-    let y = some< (terms b) (λ u. someOperand (λ kind v. eqb v t && misplaced kind (tagAt b t)) (termAt b u)) in
+    let x = anyBelow (procedures b) (λ p. eqb (root b p) t && misplaced expression (tagAt b t)) in
+    let y = anyBelow (terms b) (λ u. someOperand (λ kind v. eqb v t && misplaced kind (tagAt b t)) (termAt b u)) in
     let h₂ = neither (x || y) (wrongCall b t) h in
     let h₁ = neither x y (h₂ .0) in
     record { as-root = none-of _ _ (h₁ .0); as-child = none-of _ _ (h₁ .1); as-call = h₂ .1 }

@@ -1,6 +1,6 @@
 -- What the bits of a plan say: fields of a number, the counts of the header, and a term as its 40 bits. Assumes nothing.
 use mathlib.Core.Path.{_≡_, refl, ap, sym, _∙_}
-use mathlib.Core.Bool.{Bool, true, false, cond, _&&_, _||_, not}
+use mathlib.Core.Bool.{Bool, true, false, _&&_, _||_, not}
 use mathlib.Core.List.{List, [], _∷_}
 use Prim.Native.Nat.{ℕ, zero, suc, _+_, _-_, _*_, _/_, _%_, _^_, _≤_, _<_}
 use native.Mathlib.Nat.{one-mul, mod-eq-of-lt, div-one, pow-suc}
@@ -10,12 +10,12 @@ use lib.Count.{ones, ones-step, ones-le}
 use lib.Dec.{ltb, leb, eqb, T, leb→le}
 use lib.ListN.{length, getD}
 use lib.Pow.{pow-lt}
-use borrow.Author.Tests.{lt-ltb, le-ltb, eq-eqb, ne-eqb}
+use borrow.Author.Tests.{lt-ltb, le-ltb}
 use Rattle.format.specs.Bits.{bitAt, bitsAt}
 use Rattle.format.proofs.BitLaws.{bits-below, bits-add, field-of, first-of}
-use Rattle.plan.specs.Format.{version, procedures, terms, headerSpare, volatiles, maskBit, fieldsFrom, Operand, absent, slot, binder, mask, fieldName, procedure, expression, condition, list, width, Row, operands, table, layout, Term, laidOut, termBit, tagAt, termAt}
-use Rattle.plan.specs.Refusals.{wrongOperand}
-use Rattle.plan.specs.Steps.{wordAt, inWord, termIn, fieldOr0, smallOf, split}
+use Rattle.plan.specs.Format.{version, procedures, terms, parameters, root, headerSpare, volatiles, maskBit, fieldsFrom, absent, width, Row, operands, table, layout, Term, laidOut, termBit, tagAt, termAt}
+use Rattle.plan.specs.Refusals.{wrongHeader, wrongProcedure}
+use Rattle.plan.specs.Steps.{wordAt, inWord, termIn}
 use Rattle.plan.proofs.Fields.{onesOf, fields-count, field-bit}
 
 -- ---- bits
@@ -69,6 +69,27 @@ top-bit x h = go (decLt x 128)
 pub monitor-of : (b : List ℕ) → getD b 4 0 < 256 → ltb (getD b 4 0) 128 ≡ not (eqb (maskBit (volatiles b) 0) 1)
 unfolding volatiles bitAt
 monitor-of b h = top-bit (getD b 4 0) h ∙ ap (λ (n : ℕ). not (eqb n 1)) (sym (field-bit b 32 0 (omega arith)))
+
+-- the tests of check 2, on the header's numbers
+abbrev pub headerTests : ℕ → ℕ → ℕ → ℕ → Bool → Bool
+headerTests v p n s m = not (eqb v 1) || ltb p 1 || ltb 32 p || ltb n 1 || ltb 1024 n || not (eqb s 0) || m
+
+are-tests : (b : List ℕ) → wrongHeader b ≡ headerTests (version b) (procedures b) (terms b) (headerSpare b) (not (eqb (maskBit (volatiles b) 0) 1))
+unfolding wrongHeader
+are-tests b = refl
+
+pub header-tests : (b : List ℕ) (h p n : ℕ) → h ≡ bitsAt b 0 32 → p ≡ procedures b → n ≡ terms b
+    → wrongHeader b ≡ headerTests (h / 268435456) p n (h % 1024) (not (eqb (maskBit (volatiles b) 0) 1))
+header-tests b h p n e f g =
+    are-tests b ∙ rw (version-of b h e, spare-of b h e, f, g)
+
+-- the tests of check 3, on a procedure's numbers
+procedure-are : (b : List ℕ) (p : ℕ) → wrongProcedure b p ≡ (ltb 8 (parameters b p) || (eqb p 0 && ltb 0 (parameters b p)) || leb (terms b) (root b p))
+unfolding wrongProcedure
+procedure-are b p = refl
+
+pub procedure-tests : (b : List ℕ) (p k n r : ℕ) → k ≡ parameters b p → n ≡ terms b → r ≡ root b p → wrongProcedure b p ≡ (ltb 8 k || (eqb p 0 && ltb 0 k) || leb n r)
+procedure-tests b p k n r e f g = procedure-are b p ∙ rw (e, f, g)
 
 -- ---- a mask of fields
 
@@ -134,6 +155,10 @@ laid b i k r h =
     let s : bitsAt b (i + (5 + a₁ + a₂ + a₃)) (35 - (a₁ + a₂ + a₃)) ≡ bitsAt b i 40 % 2 ^ (35 - (a₁ + a₂ + a₃)) = back40 b i (5 + a₁ + a₂ + a₃) (35 - (a₁ + a₂ + a₃)) (omega arith) in
     rw (x, y, z, s)
 
+pub word-is : (b : List ℕ) (procs t w : ℕ) → procs ≡ procedures b → w ≡ bitsAt b ((8 + 2 * procs + 5 * t) * 8) 40 → w ≡ wordAt b t
+unfolding wordAt termBit
+word-is b procs t w e f = f ∙ rw e
+
 pub tag-in : (b : List ℕ) (t : ℕ) → tagAt b t ≡ wordAt b t / 34359738368
 unfolding tagAt wordAt
 tag-in b t = first-of b (termBit b t) 5 35
@@ -143,36 +168,6 @@ pub term-is : (b : List ℕ) (t : ℕ) → termAt b t ≡ termIn (wordAt b t)
 unfolding termAt termIn wordAt
 term-is b t =
     laid b (termBit b t) (tagAt b t) (layout (tagAt b t)) (fits (tagAt b t)) ∙ ap (λ (k : ℕ). inWord (wordAt b t) k (layout k)) (tag-in b t)
-
--- the operand that is no term has at most 32 bits
-field-below : (j : Operand) (y : ℕ) → y < 2 ^ width j → fieldOr0 j y < 4294967296
-field-below absent y h = omega arith
-field-below slot y h = omega arith
-field-below binder y h = omega arith
-field-below mask y h = omega arith
-field-below fieldName y h = omega arith
-field-below procedure y h = omega arith
-field-below expression y h = omega arith
-field-below condition y h = omega arith
-field-below list y h = omega arith
-
-small-below : (i j : Operand) (x y : ℕ) → x < 2 ^ width i → y < 2 ^ width j → smallOf i x j y < 4294967296
-small-below absent j x y p q = omega arith
-small-below slot j x y p q = omega arith
-small-below binder j x y p q = omega arith
-small-below mask j x y p q = omega arith
-small-below fieldName j x y p q = omega arith
-small-below procedure j x y p q = omega arith
-small-below expression j x y p q = field-below j y q
-small-below condition j x y p q = field-below j y q
-small-below list j x y p q = field-below j y q
-
-pub small-of : (b : List ℕ) (t : ℕ) → split (termAt b t) .small < 4294967296
-unfolding split termAt laidOut
-small-of b t =
-    let r = layout (tagAt b t) in
-    small-below (r .first) (r .second) (termAt b t .value₁) (termAt b t .value₂) (bits-below b (termBit b t + 5) (width (r .first)))
-    (bits-below b (termBit b t + (5 + width (r .first))) (width (r .second)))
 
 -- the values of a term by its tag, of its 40 bits
 module _ (b : List ℕ) (t w : ℕ) (e : w ≡ wordAt b t) (k : ℕ) (key : w / 34359738368 ≡ k) where

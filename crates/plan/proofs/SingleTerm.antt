@@ -1,102 +1,110 @@
--- Check 4: a term of the table. Assumes nothing.
+-- Check 4: a term of the table, of its 40 bits, and the array of them. Assumes nothing.
 use mathlib.Core.Path.{_≡_, refl, ap, sym, _∙_}
-use mathlib.Core.Bool.{Bool, true, false, cond, _&&_, _||_, not}
+use mathlib.Core.Bool.{Bool, true, false, _||_}
 use mathlib.Core.List.{List}
-use Prim.Native.Nat.{ℕ, zero, suc, _/_, _%_, _≤_, _<_}
+use Prim.Native.Nat.{ℕ, zero, suc, _/_, _<_}
+use native.Mathlib.Decide.{ℕ-discrete}
 use native.Mathlib.Omega.{arith}
-use lib.Dec.{ltb, leb, eqb}
-use borrow.Author.Tests.{lt-ltb, leb-false, ltb-false}
+use lib.Dec.{leb}
+use lib.ListN.{getD, set, length-set, replicate, length-replicate}
+use lib.Seq.{getD-set-same, getD-set-other}
+use borrow.Author.Tests.{lt-ltb, leb-false}
 use Rattle.format.proofs.RefusalLaws.{neither}
-use Rattle.plan.specs.Format.{procedures, terms, maskBit, fieldsFrom, Operand, absent, slot, binder, mask, fieldName, procedure, expression, condition, list, operands, table, layout, Term, laidOut, tagAt, termAt}
-use Rattle.plan.specs.Refusals.{wrongOperand, someOperand, breaksTable, wrongTerm, isChild, misplaced}
-use Rattle.plan.specs.Steps.{Sized, Headed, inWord, termIn, partsOf, kidOf, sortOf, childOf, isSort, smallOf, split, smallTests, wrongSmall, outside, breaks}
-use Rattle.plan.specs.declared.term.Parts.{Parts}
+use Rattle.plan.specs.Format.{procedures, terms, Operand, absent, slot, binder, mask, fieldName, procedure, expression, condition, list, layout, laidOut, tagAt, termAt}
+use Rattle.plan.specs.Trees.{nodeOf, Node}
+use Rattle.plan.specs.Refusals.{wrongOperand, breaksTable, wrongTerm, isChild}
+use Rattle.plan.specs.Steps.{Sized, Loaded, wordAt, inWord, termIn, nodeIn}
 use Rattle.plan.proofs.Passing.{PassesTable, table-of}
 use Rattle.plan.proofs.Tags.{by-tag}
+use Rattle.plan.proofs.Reading.{term-is}
 
--- a tag without operands
-pub layout-rest : (k : ℕ) → (k ≡ 1 → ⊥) → (k ≡ 2 → ⊥) → (k ≡ 3 → ⊥) → (k ≡ 4 → ⊥) → (k ≡ 5 → ⊥) → (k ≡ 6 → ⊥) → (k ≡ 7 → ⊥) → (k ≡ 8 → ⊥) → (k ≡ 9 → ⊥) → (k ≡ 10 → ⊥) → (k ≡ 11 → ⊥) → (k ≡ 13 → ⊥) → (k ≡ 14 → ⊥) → (k ≡ 15 → ⊥) → (k ≡ 16 → ⊥) → layout k ≡ operands absent absent absent
-unfolding layout table
-layout-rest k =
-    by-tag (λ k. (k ≡ 1 → ⊥) → (k ≡ 2 → ⊥) → (k ≡ 3 → ⊥) → (k ≡ 4 → ⊥) → (k ≡ 5 → ⊥) → (k ≡ 6 → ⊥) → (k ≡ 7 → ⊥) → (k ≡ 8 → ⊥) → (k ≡ 9 → ⊥) → (k ≡ 10 → ⊥) → (k ≡ 11 → ⊥) → (k ≡ 13 → ⊥) → (k ≡ 14 → ⊥) → (k ≡ 15 → ⊥) → (k ≡ 16 → ⊥) → layout k ≡ operands absent absent absent)
-    (λ h1 h2 h3 h4 h5 h6 h7 h8 h9 h10 h11 h13 h14 h15 h16. refl)
-    (λ h1 h2 h3 h4 h5 h6 h7 h8 h9 h10 h11 h13 h14 h15 h16. absurd (h1 refl))
-    (λ h1 h2 h3 h4 h5 h6 h7 h8 h9 h10 h11 h13 h14 h15 h16. absurd (h2 refl))
-    (λ h1 h2 h3 h4 h5 h6 h7 h8 h9 h10 h11 h13 h14 h15 h16. absurd (h3 refl))
-    (λ h1 h2 h3 h4 h5 h6 h7 h8 h9 h10 h11 h13 h14 h15 h16. absurd (h4 refl))
-    (λ h1 h2 h3 h4 h5 h6 h7 h8 h9 h10 h11 h13 h14 h15 h16. absurd (h5 refl))
-    (λ h1 h2 h3 h4 h5 h6 h7 h8 h9 h10 h11 h13 h14 h15 h16. absurd (h6 refl))
-    (λ h1 h2 h3 h4 h5 h6 h7 h8 h9 h10 h11 h13 h14 h15 h16. absurd (h7 refl))
-    (λ h1 h2 h3 h4 h5 h6 h7 h8 h9 h10 h11 h13 h14 h15 h16. absurd (h8 refl))
-    (λ h1 h2 h3 h4 h5 h6 h7 h8 h9 h10 h11 h13 h14 h15 h16. absurd (h9 refl))
-    (λ h1 h2 h3 h4 h5 h6 h7 h8 h9 h10 h11 h13 h14 h15 h16. absurd (h10 refl))
-    (λ h1 h2 h3 h4 h5 h6 h7 h8 h9 h10 h11 h13 h14 h15 h16. absurd (h11 refl))
-    (λ h1 h2 h3 h4 h5 h6 h7 h8 h9 h10 h11 h13 h14 h15 h16. refl)
-    (λ h1 h2 h3 h4 h5 h6 h7 h8 h9 h10 h11 h13 h14 h15 h16. absurd (h13 refl))
-    (λ h1 h2 h3 h4 h5 h6 h7 h8 h9 h10 h11 h13 h14 h15 h16. absurd (h14 refl))
-    (λ h1 h2 h3 h4 h5 h6 h7 h8 h9 h10 h11 h13 h14 h15 h16. absurd (h15 refl))
-    (λ h1 h2 h3 h4 h5 h6 h7 h8 h9 h10 h11 h13 h14 h15 h16. absurd (h16 refl))
-    (λ h1 h2 h3 h4 h5 h6 h7 h8 h9 h10 h11 h13 h14 h15 h16. refl)
-    (λ j. λ h1 h2 h3 h4 h5 h6 h7 h8 h9 h10 h11 h13 h14 h15 h16. refl) k
+-- ---- a term in its 40 bits
 
--- and its parts
-pub bare : (w : ℕ) → layout (w / 34359738368) ≡ operands absent absent absent
-    → partsOf (w / 34359738368) 0 (kidOf 0 0) (kidOf 0 0) (kidOf 0 0) (w % 34359738368) ≡ split (termIn w)
-unfolding split termIn inWord
-bare w e = rw e
+-- the node of a tag, of the 40 bits w
+abbrev pub rowOf : ℕ → ℕ → Node
+rowOf k w = nodeOf (inWord w k (layout k))
 
--- a tag whose operands are terms, or a tag past the table
-pub small-rest : (procs v k : ℕ) → (k ≡ 1 → ⊥) → (k ≡ 2 → ⊥) → (k ≡ 3 → ⊥) → (k ≡ 4 → ⊥) → (k ≡ 5 → ⊥) → (k ≡ 8 → ⊥) → ltb 17 k ≡ wrongSmall procs k v
-unfolding wrongSmall smallTests
-small-rest procs v k =
-    by-tag (λ k. (k ≡ 1 → ⊥) → (k ≡ 2 → ⊥) → (k ≡ 3 → ⊥) → (k ≡ 4 → ⊥) → (k ≡ 5 → ⊥) → (k ≡ 8 → ⊥) → ltb 17 k ≡ wrongSmall procs k v)
-    (λ h1 h2 h3 h4 h5 h8. refl)
-    (λ h1 h2 h3 h4 h5 h8. absurd (h1 refl))
-    (λ h1 h2 h3 h4 h5 h8. absurd (h2 refl))
-    (λ h1 h2 h3 h4 h5 h8. absurd (h3 refl))
-    (λ h1 h2 h3 h4 h5 h8. absurd (h4 refl))
-    (λ h1 h2 h3 h4 h5 h8. absurd (h5 refl))
-    (λ h1 h2 h3 h4 h5 h8. refl)
-    (λ h1 h2 h3 h4 h5 h8. refl)
-    (λ h1 h2 h3 h4 h5 h8. absurd (h8 refl))
-    (λ h1 h2 h3 h4 h5 h8. refl)
-    (λ h1 h2 h3 h4 h5 h8. refl)
-    (λ h1 h2 h3 h4 h5 h8. refl)
-    (λ h1 h2 h3 h4 h5 h8. refl)
-    (λ h1 h2 h3 h4 h5 h8. refl)
-    (λ h1 h2 h3 h4 h5 h8. refl)
-    (λ h1 h2 h3 h4 h5 h8. refl)
-    (λ h1 h2 h3 h4 h5 h8. refl)
-    (λ h1 h2 h3 h4 h5 h8. refl)
-    (λ j. λ h1 h2 h3 h4 h5 h8. lt-ltb 17 (suc (suc (suc (suc (suc (suc (suc (suc (suc (suc (suc (suc (suc (suc (suc (suc (suc (suc j)))))))))))))))))) (omega arith)) k
+pub row-is : (w k : ℕ) → w / 34359738368 ≡ k → nodeOf (termIn w) ≡ rowOf k w
+unfolding termIn
+row-is w k e = ap (λ (j : ℕ). nodeOf (inWord w j (layout j))) e
 
--- ---- the parts are wrong where the term is
+pub node-in : (ws : List ℕ) (t k : ℕ) → getD ws t 0 / 34359738368 ≡ k → nodeIn ws t ≡ rowOf k (getD ws t 0)
+unfolding nodeIn
+node-in ws t k e = row-is (getD ws t 0) k e
 
-or-no : (x : Bool) → (x || false) ≡ x
+-- the term of the 40 bits, tested as the plan's term is
+pub judged : (b : List ℕ) (procs n t w : ℕ) (r x : Bool) → Sized b procs n → w ≡ wordAt b t → r ≡ breaksTable procs n t (termIn w) → r ≡ x → wrongTerm b t ≡ x
+unfolding wrongTerm
+judged b procs n t w r x z e q h =
+    let f : breaksTable procs n t (termIn w) ≡ breaksTable (procedures b) (terms b) t (termAt b t) = rw (z .procs-are, z .terms-are, e) (ap (breaksTable (procedures b) (terms b) t) (sym (term-is b t))) in
+    sym f ∙ sym q ∙ h
+
+-- ---- the array of the terms' 40 bits
+
+zeros-at : (n t : ℕ) → _≡_ {A = ℕ} (getD (replicate n 0) t 0) 0
+zeros-at zero t = refl
+zeros-at (suc n) zero = refl
+zeros-at (suc n) (suc t) = zeros-at n t
+
+pub unloaded : (b ws : List ℕ) → ws ≡ replicate 1024 0 → Loaded b 0 ws
+unloaded b ws e =
+    rw e
+    record { size = length-replicate {A = ℕ} 1024 0; each = λ t h. absurd (omega arith); rest = λ t h. zeros-at 1024 t }
+
+pub loaded-more : (b : List ℕ) (t : ℕ) (ws : List ℕ) (w : ℕ) → t < 1024 → w ≡ wordAt b t → Loaded b t ws → Loaded b (suc t) (set ws t w)
+loaded-more b t ws w h e l =
+    record {
+      size = length-set ws t w ∙ l .size;
+      each = λ i q. go i q (ℕ-discrete t i);
+      rest = λ i q. getD-set-other ws t i w 0 (λ z. omega arith) ∙ l .rest i (omega arith);
+    }
+  where
+    go : (i : ℕ) → i < suc t → Dec (t ≡ i) → getD (set ws t w) i 0 ≡ wordAt b i
+    go i q (yes z) = rw (← z) (getD-set-same ws t w 0 (let s = l .size in omega arith) ∙ e)
+    go i q (no z) = getD-set-other ws t i w 0 (λ x. z (sym x)) ∙ l .each i (omega (arith, z))
+
+-- a tag past the table
+pub past-table : (procs n t w : ℕ) → 17 < w / 34359738368 → true ≡ breaksTable procs n t (termIn w)
+unfolding breaksTable termIn inWord
+past-table procs n t w h = rw (lt-ltb 17 (w / 34359738368) h)
+
+-- none of the table's tags
+pub no-row : (k : ℕ) → (k ≡ 0 → ⊥) → (k ≡ 1 → ⊥) → (k ≡ 2 → ⊥) → (k ≡ 3 → ⊥) → (k ≡ 4 → ⊥) → (k ≡ 5 → ⊥) → (k ≡ 6 → ⊥) → (k ≡ 7 → ⊥) → (k ≡ 8 → ⊥) → (k ≡ 9 → ⊥) → (k ≡ 10 → ⊥) → (k ≡ 11 → ⊥) → (k ≡ 12 → ⊥) → (k ≡ 13 → ⊥) → (k ≡ 14 → ⊥) → (k ≡ 15 → ⊥) → (k ≡ 16 → ⊥) → (k ≡ 17 → ⊥) → 17 < k
+no-row k =
+    by-tag (λ k. (k ≡ 0 → ⊥) → (k ≡ 1 → ⊥) → (k ≡ 2 → ⊥) → (k ≡ 3 → ⊥) → (k ≡ 4 → ⊥) → (k ≡ 5 → ⊥) → (k ≡ 6 → ⊥) → (k ≡ 7 → ⊥) → (k ≡ 8 → ⊥) → (k ≡ 9 → ⊥) → (k ≡ 10 → ⊥) → (k ≡ 11 → ⊥) → (k ≡ 12 → ⊥) → (k ≡ 13 → ⊥) → (k ≡ 14 → ⊥) → (k ≡ 15 → ⊥) → (k ≡ 16 → ⊥) → (k ≡ 17 → ⊥) → 17 < k)
+    (λ h0 h1 h2 h3 h4 h5 h6 h7 h8 h9 h10 h11 h12 h13 h14 h15 h16 h17. absurd (h0 refl))
+    (λ h0 h1 h2 h3 h4 h5 h6 h7 h8 h9 h10 h11 h12 h13 h14 h15 h16 h17. absurd (h1 refl))
+    (λ h0 h1 h2 h3 h4 h5 h6 h7 h8 h9 h10 h11 h12 h13 h14 h15 h16 h17. absurd (h2 refl))
+    (λ h0 h1 h2 h3 h4 h5 h6 h7 h8 h9 h10 h11 h12 h13 h14 h15 h16 h17. absurd (h3 refl))
+    (λ h0 h1 h2 h3 h4 h5 h6 h7 h8 h9 h10 h11 h12 h13 h14 h15 h16 h17. absurd (h4 refl))
+    (λ h0 h1 h2 h3 h4 h5 h6 h7 h8 h9 h10 h11 h12 h13 h14 h15 h16 h17. absurd (h5 refl))
+    (λ h0 h1 h2 h3 h4 h5 h6 h7 h8 h9 h10 h11 h12 h13 h14 h15 h16 h17. absurd (h6 refl))
+    (λ h0 h1 h2 h3 h4 h5 h6 h7 h8 h9 h10 h11 h12 h13 h14 h15 h16 h17. absurd (h7 refl))
+    (λ h0 h1 h2 h3 h4 h5 h6 h7 h8 h9 h10 h11 h12 h13 h14 h15 h16 h17. absurd (h8 refl))
+    (λ h0 h1 h2 h3 h4 h5 h6 h7 h8 h9 h10 h11 h12 h13 h14 h15 h16 h17. absurd (h9 refl))
+    (λ h0 h1 h2 h3 h4 h5 h6 h7 h8 h9 h10 h11 h12 h13 h14 h15 h16 h17. absurd (h10 refl))
+    (λ h0 h1 h2 h3 h4 h5 h6 h7 h8 h9 h10 h11 h12 h13 h14 h15 h16 h17. absurd (h11 refl))
+    (λ h0 h1 h2 h3 h4 h5 h6 h7 h8 h9 h10 h11 h12 h13 h14 h15 h16 h17. absurd (h12 refl))
+    (λ h0 h1 h2 h3 h4 h5 h6 h7 h8 h9 h10 h11 h12 h13 h14 h15 h16 h17. absurd (h13 refl))
+    (λ h0 h1 h2 h3 h4 h5 h6 h7 h8 h9 h10 h11 h12 h13 h14 h15 h16 h17. absurd (h14 refl))
+    (λ h0 h1 h2 h3 h4 h5 h6 h7 h8 h9 h10 h11 h12 h13 h14 h15 h16 h17. absurd (h15 refl))
+    (λ h0 h1 h2 h3 h4 h5 h6 h7 h8 h9 h10 h11 h12 h13 h14 h15 h16 h17. absurd (h16 refl))
+    (λ h0 h1 h2 h3 h4 h5 h6 h7 h8 h9 h10 h11 h12 h13 h14 h15 h16 h17. absurd (h17 refl))
+    (λ j h0 h1 h2 h3 h4 h5 h6 h7 h8 h9 h10 h11 h12 h13 h14 h15 h16 h17. omega arith) k
+
+pub or-no : (x : Bool) → (x || false) ≡ x
 or-no true = refl
 or-no false = refl
 
--- a term of tag k
-abbrev termOf : ℕ → ℕ → ℕ → ℕ → ℕ → Term
-termOf k x y z s = record { tag = k; first = layout k .first; value₁ = x; second = layout k .second; value₂ = y; third = layout k .third; value₃ = z; spare = s }
+pub or-right : (x y z : Bool) → ((x || y) || z) ≡ (x || (y || z))
+or-right true y z = refl
+or-right false y z = refl
 
-same : (procs n t x y z s k : ℕ) → breaks procs n t (split (termOf k x y z s)) ≡ breaksTable procs n t (termOf k x y z s)
-unfolding breaks breaksTable split someOperand outside wrongSmall smallTests layout table
-same procs n t x y z s k =
-    by-tag (λ k. breaks procs n t (split (termOf k x y z s)) ≡ breaksTable procs n t (termOf k x y z s))
-    refl (simp or-no) (simp or-no) (simp or-no) (simp or-no) refl (simp or-no) (simp or-no) (simp or-no) (simp or-no) (simp or-no) (simp or-no) refl (simp or-no) (simp or-no) (simp or-no) (simp or-no) refl
-    (λ j. let e = lt-ltb 17 (suc (suc (suc (suc (suc (suc (suc (suc (suc (suc (suc (suc (suc (suc (suc (suc (suc (suc j)))))))))))))))))) (omega arith) in rw e)
-    k
-
-pub breaks-is : (b : List ℕ) (procs n t : ℕ) → Sized b procs n → breaks procs n t (split (termAt b t)) ≡ wrongTerm b t
-unfolding wrongTerm termAt laidOut
-breaks-is b procs n t z = rw (z .procs-are, z .terms-are) (same (procedures b) (terms b) t _ _ _ _ (tagAt b t))
+pub tested : (procs n t w k : ℕ) (r : Bool) → w / 34359738368 ≡ k → r ≡ breaksTable procs n t (inWord w k (layout k)) → r ≡ breaksTable procs n t (termIn w)
+unfolding termIn
+tested procs n t w k r e q = q ∙ sym (ap (λ (j : ℕ). breaksTable procs n t (inWord w j (layout j))) e)
 
 -- ---- what is right of a term that passes
-
-pub tag-of : (b : List ℕ) (t : ℕ) → split (termAt b t) .tag ≡ tagAt b t
-unfolding termAt laidOut split
-tag-of b t = refl
 
 pub passes : (b : List ℕ) (t : ℕ) → wrongTerm b t ≡ false → PassesTable (procedures b) (terms b) t (termAt b t)
 unfolding wrongTerm
@@ -120,51 +128,6 @@ child-between procs n t expression v h k = between v t n h
 child-between procs n t condition v h k = between v t n h
 child-between procs n t list v h k = between v t n h
 
--- and below the count where there is none too
-index-below : (procs n t : ℕ) (kind : Operand) (v : ℕ) → 1 ≤ n → wrongOperand procs n t kind v ≡ false → childOf kind v < n
-index-below procs n t absent v q h = omega arith
-index-below procs n t slot v q h = omega arith
-index-below procs n t binder v q h = omega arith
-index-below procs n t mask v q h = omega arith
-index-below procs n t fieldName v q h = omega arith
-index-below procs n t procedure v q h = omega arith
-index-below procs n t expression v q h = between v t n h .1
-index-below procs n t condition v q h = between v t n h .1
-index-below procs n t list v q h = between v t n h .1
-
-pub child-sort : (kind : Operand) → isSort (sortOf kind) ≡ isChild kind
-child-sort absent = refl
-child-sort slot = refl
-child-sort binder = refl
-child-sort mask = refl
-child-sort fieldName = refl
-child-sort procedure = refl
-child-sort expression = refl
-child-sort condition = refl
-child-sort list = refl
-
-pub child-is : (kind : Operand) (v : ℕ) → isChild kind ≡ true → childOf kind v ≡ v
-child-is absent v h = clash (sym h)
-child-is slot v h = clash (sym h)
-child-is binder v h = clash (sym h)
-child-is mask v h = clash (sym h)
-child-is fieldName v h = clash (sym h)
-child-is procedure v h = clash (sym h)
-child-is expression v h = refl
-child-is condition v h = refl
-child-is list v h = refl
-
-pub misplaced-child : (kind : Operand) (k : ℕ) → misplaced kind k ≡ true → isChild kind ≡ true
-misplaced-child absent k h = clash (sym h)
-misplaced-child slot k h = clash (sym h)
-misplaced-child binder k h = clash (sym h)
-misplaced-child mask k h = clash (sym h)
-misplaced-child fieldName k h = clash (sym h)
-misplaced-child procedure k h = clash (sym h)
-misplaced-child expression k h = refl
-misplaced-child condition k h = refl
-misplaced-child list k h = refl
-
 module _ (b : List ℕ) (procs n t : ℕ) (z : Sized b procs n) (h : wrongTerm b t ≡ false) where
   pub first-between : isChild (termAt b t .first) ≡ true → (t < termAt b t .value₁) × (termAt b t .value₁ < n)
   first-between k = rw (z .terms-are) (child-between (procedures b) (terms b) t (termAt b t .first) (termAt b t .value₁) (passes b t h .first-right) k)
@@ -174,18 +137,6 @@ module _ (b : List ℕ) (procs n t : ℕ) (z : Sized b procs n) (h : wrongTerm b
 
   pub third-between : isChild (termAt b t .third) ≡ true → (t < termAt b t .value₃) × (termAt b t .value₃ < n)
   third-between k = rw (z .terms-are) (child-between (procedures b) (terms b) t (termAt b t .third) (termAt b t .value₃) (passes b t h .third-right) k)
-
-  -- the indexes of the parts
-  pub indexes : 1 ≤ n → (split (termAt b t) .first .index < n) × (split (termAt b t) .second .index < n) × (split (termAt b t) .third .index < n)
-  unfolding split
-  indexes q =
-      rw (z .terms-are)
-      (let p = passes b t h in
-      let q′ : 1 ≤ terms b = rw (← z .terms-are) q in (
-        index-below (procedures b) (terms b) t (termAt b t .first) (termAt b t .value₁) q′ (p .first-right),
-        index-below (procedures b) (terms b) t (termAt b t .second) (termAt b t .value₂) q′ (p .second-right),
-        index-below (procedures b) (terms b) t (termAt b t .third) (termAt b t .value₃) q′ (p .third-right),
-      ))
 
 -- ---- kinds by tag
 
@@ -200,43 +151,3 @@ second-is b t k e = ap (λ (x : ℕ). layout x .second) e
 pub third-is : (b : List ℕ) (t k : ℕ) → tagAt b t ≡ k → termAt b t .third ≡ layout k .third
 unfolding termAt laidOut
 third-is b t k e = ap (λ (x : ℕ). layout x .third) e
-
--- the index of a child is the operand's value
-module _ (b : List ℕ) (t k : ℕ) (e : tagAt b t ≡ k) where
-  pub first-index : isChild (layout k .first) ≡ true → split (termAt b t) .first .index ≡ termAt b t .value₁
-  unfolding split
-  first-index h = child-is (termAt b t .first) (termAt b t .value₁) (ap isChild (first-is b t k e) ∙ h)
-
-  pub second-index : isChild (layout k .second) ≡ true → split (termAt b t) .second .index ≡ termAt b t .value₂
-  unfolding split
-  second-index h = child-is (termAt b t .second) (termAt b t .value₂) (ap isChild (second-is b t k e) ∙ h)
-
-  pub third-index : isChild (layout k .third) ≡ true → split (termAt b t) .third .index ≡ termAt b t .value₃
-  unfolding split
-  third-index h = child-is (termAt b t .third) (termAt b t .value₃) (ap isChild (third-is b t k e) ∙ h)
-
-  -- the operand that is no term is the first, where that is none
-  pub small-is : split (termAt b t) .small ≡ smallOf (layout k .first) (termAt b t .value₁) (layout k .second) (termAt b t .value₂)
-  unfolding split
-  small-is = rw (first-is b t k e, second-is b t k e)
-
--- ---- a term as taken apart and tested
-
-pub judged : (b : List ℕ) (procs n t : ℕ) (m : Parts) (r x : Bool) → Sized b procs n → m ≡ split (termAt b t) → r ≡ breaks procs n t m → r ≡ x → wrongTerm b t ≡ x
-judged b procs n t m r x z e q h = sym (q ∙ ap (breaks procs n t) e ∙ breaks-is b procs n t z) ∙ h
-
-pub parts-below : (b : List ℕ) (procs n t : ℕ) (m : Parts) → Headed b procs n → m ≡ split (termAt b t) → wrongTerm b t ≡ false
-    → (m .first .index < n) × (m .second .index < n) × (m .third .index < n)
-parts-below b procs n t m z e h =
-    let i = indexes b procs n t (z .sized) h (z .some-term) in
-    let e₁ : m .first .index ≡ split (termAt b t) .first .index = ap (λ (p : Parts). p .first .index) e in
-    let e₂ : m .second .index ≡ split (termAt b t) .second .index = ap (λ (p : Parts). p .second .index) e in
-    let e₃ : m .third .index ≡ split (termAt b t) .third .index = ap (λ (p : Parts). p .third .index) e in
-    (rw e₁ (i .0), rw e₂ (i .1), rw e₃ (i .2))
-
-pub indexes-fit : (b : List ℕ) (procs n t : ℕ) (m : Parts) → Headed b procs n → m ≡ split (termAt b t) → wrongTerm b t ≡ false
-    → (m .first .index < 1024) × (m .second .index < 1024) × (m .third .index < 1024)
-indexes-fit b procs n t m z e h =
-    let i = parts-below b procs n t m z e h in
-    let f = z .few in
-    (omega (arith, i .0), omega (arith, i .1), omega (arith, i .2))

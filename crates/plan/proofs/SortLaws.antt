@@ -1,21 +1,23 @@
 -- Check 5: the lowest of the misplaced, found by one pass; and a list counted no further than nine. Assumes nothing.
 use mathlib.Core.Path.{_≡_, refl, ap, sym, _∙_}
 use mathlib.Core.Logic.{_⊎_, inl, inr, ⊎-elim}
-use mathlib.Core.Bool.{Bool, true, false, cond, _&&_, _||_, not}
-use mathlib.Core.List.{List}
+use mathlib.Core.Bool.{Bool, true, false, _&&_, _||_, not}
+use mathlib.Core.List.{List, [], _∷_}
 use Prim.Native.Nat.{ℕ, zero, suc, _+_, _-_, _/_, _%_, _≤_, _<_}
 use native.Mathlib.Nat.{suc-add}
 use native.Mathlib.Decide.{decLt, ℕ-discrete}
 use native.Mathlib.Omega.{arith}
 use lib.Dec.{ltb, leb, eqb}
+use lib.ListN.{getD}
 use borrow.Author.Tests.{lt-ltb, le-ltb, le-leb, lt-leb, eq-eqb, ne-eqb, leb-false}
-use Rattle.plan.specs.Format.{procedures, terms, parameters, root, Operand, absent, slot, binder, mask, fieldName, procedure, expression, condition, list, table, layout, termAt, tagAt}
-use Rattle.plan.specs.Refusals.{some<, someOperand, wrongOperand, wrongTerm, misplaced, isChild, wronglySorted, wrongCall, listLength}
-use Rattle.plan.specs.Steps.{Lowest, Sized, Right, wordAt, sortOf, childOf, split, tagSort, wrongSort, lowerIf, loweredBy, misplacedRoot, misfits, Childless}
-use Rattle.plan.specs.declared.term.Parts.{Parts}
-use Rattle.plan.proofs.Reading.{tag-in, tag-was, first-was, second-was}
+use Rattle.plan.specs.Format.{procedures, terms, parameters, root, Operand, expression, condition, list, table, layout, laidOut, Term, termAt, tagAt}
+use Rattle.plan.specs.Trees.{Node, nodes, nodeOf, nodeAt}
+use Rattle.plan.specs.Refusals.{anyBelow, someOperand, wrongOperand, wrongTerm, misplaced, isChild, wronglySorted, wrongCall, listLength}
+use Rattle.plan.specs.Steps.{Lowest, Sized, Right, Loaded, wordAt, tagIn, nodeIn, termIn, Child, childOf, childrenOf, tagSort, wrongSort, lowerIf, lowerAll, misplacedRoot, misfits, faults}
+use Rattle.plan.proofs.Reading.{tag-in, tag-was, first-was, second-was, term-is}
+use Rattle.plan.proofs.Tags.{by-tag}
 use Rattle.plan.proofs.Lowest.{lowest-ext, parameters-small}
-use Rattle.plan.proofs.SingleTerm.{misplaced-child, passes, first-between, second-between, third-between, first-is, second-is}
+use Rattle.plan.proofs.SingleTerm.{or-no, or-right, passes, child-between, second-between, first-is, second-is}
 
 -- ---- lists
 
@@ -89,51 +91,33 @@ tag-sort k = go (decLt k 12) (decLt k 16)
     go (no p) (yes q) = inr (inl (omega (arith, p), q, rw (le-ltb k 12 (omega (arith, p)), lt-ltb k 16 q)))
     go (no p) (no q) = inr (inr (omega (arith, q), rw (le-ltb k 12 (omega (arith, p)), le-ltb k 16 (omega (arith, q)))))
 
--- a child's sort is wrong where the term is misplaced
-pub sort-is : (kind : Operand) (k : ℕ) → wrongSort (sortOf kind) k ≡ misplaced kind k
+-- a sort is wrong where the term is misplaced
+sort₁ : (k : ℕ) → wrongSort 1 k ≡ leb 12 k
 unfolding wrongSort
-sort-is absent k = refl
-sort-is slot k = refl
-sort-is binder k = refl
-sort-is mask k = refl
-sort-is fieldName k = refl
-sort-is procedure k = refl
-sort-is expression k =
+sort₁ k =
     ⊎-elim (λ p. rw (p .1, lt-leb 12 k (p .0)))
     (⊎-elim (λ p. rw (p .2, le-leb 12 k (p .0))) (λ p. rw (p .1, le-leb 12 k (omega (arith, p .0)))))
     (tag-sort k)
-sort-is condition k =
+
+sort₂ : (k : ℕ) → wrongSort 2 k ≡ (ltb k 12 || leb 16 k)
+unfolding wrongSort
+sort₂ k =
     ⊎-elim (λ p. rw (p .1, lt-ltb k 12 (p .0)))
     (⊎-elim (λ p. rw (p .2, le-ltb k 12 (p .0), lt-leb 16 k (p .1))) (λ p. rw (p .1, le-ltb k 12 (omega (arith, p .0)), le-leb 16 k (p .0))))
     (tag-sort k)
-sort-is list k =
+
+sort₃ : (k : ℕ) → wrongSort 3 k ≡ ltb k 16
+unfolding wrongSort
+sort₃ k =
     ⊎-elim (λ p. rw (p .1, lt-ltb k 16 (omega (arith, p .0))))
     (⊎-elim (λ p. rw (p .2, lt-ltb k 16 (p .1))) (λ p. rw (p .1, le-ltb k 16 (p .0))))
     (tag-sort k)
-
--- where an operand is no term, nothing is lowered
-lowered : (b : List ℕ) (kind : Operand) (v best : ℕ)
-    → lowerIf (wrongSort (sortOf kind) (tagAt b (childOf kind v))) (childOf kind v) best ≡ lowerIf (misplaced kind (tagAt b v)) v best
-unfolding wrongSort
-lowered b absent v best = refl
-lowered b slot v best = refl
-lowered b binder v best = refl
-lowered b mask v best = refl
-lowered b fieldName v best = refl
-lowered b procedure v best = refl
-lowered b expression v best = ap (λ (x : Bool). lowerIf x v best) (sort-is expression (tagAt b v))
-lowered b condition v best = ap (λ (x : Bool). lowerIf x v best) (sort-is condition (tagAt b v))
-lowered b list v best = ap (λ (x : Bool). lowerIf x v best) (sort-is list (tagAt b v))
 
 -- ---- one more fault
 
 or-true : (x : Bool) → (x || true) ≡ true
 or-true true = refl
 or-true false = refl
-
-or-no : (x : Bool) → (x || false) ≡ x
-or-no true = refl
-or-no false = refl
 
 module _ (f g w : ℕ → Bool) (n v best : ℕ) (e : (k : ℕ) → g k ≡ (f k || (eqb v k && w k))) (l : Lowest f n best) where
   off : w v ≡ false → (k : ℕ) → f k ≡ g k
@@ -169,62 +153,174 @@ module _ (f g w : ℕ → Bool) (n v best : ℕ) (e : (k : ℕ) → g k ≡ (f k
       go true h = down h (decLt v best)
       go false h = lowest-ext f g n best (λ k p. off h k) l
 
+-- ---- the names of a list of children
+
+-- term t is one of these, and of another sort
+unfoldable pub strays : List ℕ → List Child → ℕ → Bool
+strays b [] t = false
+strays b (k ∷ ks) t = (eqb (k .index) t && wrongSort (k .sort) (tagAt b t)) || strays b ks t
+
+abbrev pub Within : ℕ → List Child → Type 0
+Within n [] = Unit {0}
+Within n (k ∷ ks) = (k .index < n) × Within n ks
+
+pub tags-are : (b : List ℕ) (n : ℕ) (ws : List ℕ) → Loaded b n ws → (t : ℕ) → t < n → tagIn ws t ≡ tagAt b t
+unfolding tagIn
+tags-are b n ws l t h = ap (λ (w : ℕ). w / 34359738368) (l .each t h) ∙ sym (tag-in b t)
+
+lower-all : (b : List ℕ) (n : ℕ) (ws : List ℕ) → Loaded b n ws → (ks : List Child) (f : ℕ → Bool) (best : ℕ) → Within n ks → Lowest f n best
+    → Lowest (λ t. f t || strays b ks t) n (lowerAll ws ks best)
+unfolding lowerAll strays
+lower-all b n ws d [] f best z l = lowest-ext f (λ t. f t || false) n best (λ t h. sym (or-no (f t))) l
+lower-all b n ws d (k ∷ ks) f best z l =
+    let v = k .index in
+    let w : ℕ → Bool = λ t. wrongSort (k .sort) (tagAt b t) in
+    let g : ℕ → Bool = λ t. f t || (eqb v t && w t) in
+    let one : Lowest g n (lowerIf (w v) v best) = lower-step f g w n v best (λ t. refl) l (λ q. z .0) in
+    let e : wrongSort (k .sort) (tagIn ws v) ≡ w v = ap (wrongSort (k .sort)) (tags-are b n ws d v (z .0)) in
+    let rest = lower-all b n ws d ks g (lowerIf (wrongSort (k .sort) (tagIn ws v)) v best) (z .1) (rw e one) in
+    lowest-ext (λ t. g t || strays b ks t) (λ t. f t || strays b (k ∷ ks) t) n _ (λ t h. or-right (f t) (eqb v t && w t) (strays b ks t)) rest
+
+-- a node of the array is the plan's
+pub nodes-are : (b : List ℕ) (n : ℕ) (ws : List ℕ) → Loaded b n ws → (t : ℕ) → t < n → nodeIn ws t ≡ nodeAt b t
+unfolding nodeIn nodeAt
+nodes-are b n ws l t h = ap (λ (w : ℕ). nodeOf (termIn w)) (l .each t h) ∙ sym (ap nodeOf (term-is b t))
+
 -- ---- roots
 
 pub no-root : (b : List ℕ) (n : ℕ) → Lowest (misplacedRoot b 0) n n
-unfolding misplacedRoot some<
+unfolding misplacedRoot anyBelow
 no-root b n = record { within = omega arith; here = λ h. absurd (omega arith); before = λ k h. refl }
 
-pub one-root : (b : List ℕ) (p n best v r : ℕ) → v ≡ root b p → root b p < n → r ≡ lowerIf (wrongSort 1 (tagAt b v)) v best → Lowest (misplacedRoot b p) n best
+pub one-root : (b : List ℕ) (p n : ℕ) (ws : List ℕ) (best v r : ℕ) → Loaded b n ws → v ≡ root b p → root b p < n → r ≡ lowerAll ws (childOf 1 v ∷ []) best → Lowest (misplacedRoot b p) n best
     → Lowest (misplacedRoot b (suc p)) n r
-unfolding misplacedRoot some<
-one-root b p n best v r e h q l =
-    let z : lowerIf (misplaced expression (tagAt b (root b p))) (root b p) best ≡ r =
-    sym (q ∙ rw e (ap (λ (x : Bool). lowerIf x (root b p) best) (sort-is expression (tagAt b (root b p))))) in
-    rw z at (lower-step (misplacedRoot b p) (misplacedRoot b (suc p)) (λ k. misplaced expression (tagAt b k)) n (root b p) best (λ k. refl) l (λ z. h))
+unfolding misplacedRoot anyBelow strays
+one-root b p n ws best v r d e h q l =
+    rw q
+    (lowest-ext (λ t. misplacedRoot b p t || strays b (childOf 1 v ∷ []) t) (misplacedRoot b (suc p)) n _
+    (λ t k. rw (e, sort₁ (tagAt b t), or-no (eqb (root b p) t && leb 12 (tagAt b t))))
+    (lower-all b n ws d (childOf 1 v ∷ []) (misplacedRoot b p) best (rw e h, tt) l))
 
--- ---- terms
+-- ---- the children of a term
 
-or-assoc : (r s x y z : Bool) → (r || (s || ((x || y) || z))) ≡ ((((r || s) || x) || y) || z)
-or-assoc true s x y z = refl
-or-assoc false true x y z = refl
-or-assoc false false x y z = refl
+and-no : (x : Bool) → (x && false) ≡ false
+and-no true = refl
+and-no false = refl
 
-pub no-term : (b : List ℕ) (procs n r : ℕ) → procs ≡ procedures b → Lowest (misplacedRoot b procs) n r → Lowest (misfits b 0) n r
-unfolding misplacedRoot misfits some<
-no-term b procs n r e l = lowest-ext (misplacedRoot b procs) (misfits b 0) n r (λ k h. rw e (sym (or-no _))) l
+-- a term of tag k
+abbrev pub termOf : ℕ → ℕ → ℕ → ℕ → ℕ → Term
+termOf k x y z s = record { tag = k; first = layout k .first; value₁ = x; second = layout k .second; value₂ = y; third = layout k .third; value₃ = z; spare = s }
 
-pub one-term : (b : List ℕ) (procs u n best : ℕ) → Sized b procs n → wrongTerm b u ≡ false → Lowest (misfits b u) n best
-    → Lowest (misfits b (suc u)) n (loweredBy b (split (termAt b u)) best)
-unfolding misfits some< someOperand loweredBy split
-one-term b procs u n best r h l =
-    let m = termAt b u in
-    let w₁ : ℕ → Bool = λ k. misplaced (m .first) (tagAt b k) in
-    let w₂ : ℕ → Bool = λ k. misplaced (m .second) (tagAt b k) in
-    let w₃ : ℕ → Bool = λ k. misplaced (m .third) (tagAt b k) in
-    let g₁ : ℕ → Bool = λ k. misfits b u k || (eqb (m .value₁) k && w₁ k) in
-    let g₂ : ℕ → Bool = λ k. g₁ k || (eqb (m .value₂) k && w₂ k) in
-    let l₁ = lower-step (misfits b u) g₁ w₁ n (m .value₁) best (λ k. refl) l (λ z. first-between b procs n u r h (misplaced-child (m .first) (tagAt b (m .value₁)) z) .1) in
-    let l₂ = lower-step g₁ g₂ w₂ n (m .value₂) (lowerIf (w₁ (m .value₁)) (m .value₁) best) (λ k. refl) l₁ (λ z. second-between b procs n u r h (misplaced-child (m .second) (tagAt b (m .value₂)) z) .1) in
-    rw (lowered b (m .first) (m .value₁), lowered b (m .second) (m .value₂), lowered b (m .third) (m .value₃))
-    (lower-step g₂ (misfits b (suc u)) w₃ n (m .value₃) (lowerIf (w₂ (m .value₂)) (m .value₂) (lowerIf (w₁ (m .value₁)) (m .value₁) best))
-    (λ k. or-assoc (some< (procedures b) (λ p. eqb (root b p) k && misplaced expression (tagAt b k))) (some< u (λ i. someOperand (λ kind v. eqb v k && misplaced kind (tagAt b k)) (termAt b i)))
-    (eqb (m .value₁) k && w₁ k) (eqb (m .value₂) k && w₂ k) (eqb (m .value₃) k && w₃ k)) l₂ (λ z. third-between b procs n u r h (misplaced-child (m .third) (tagAt b (m .value₃)) z) .1))
+abbrev pub nodeOfTag : ℕ → ℕ → ℕ → ℕ → Node
+nodeOfTag k x y z = getD nodes k (λ x y z. Node.unknown) x y z
+
+-- the misplaced operands are the misplaced children
+strays-are : (b : List ℕ) (t x y z s k : ℕ) → someOperand (λ kind v. eqb v t && misplaced kind (tagAt b t)) (termOf k x y z s) ≡ strays b (childrenOf (nodeOfTag k x y z)) t
+unfolding someOperand strays childrenOf nodes layout table
+strays-are b t x y z s k =
+    by-tag (λ k. someOperand (λ kind v. eqb v t && misplaced kind (tagAt b t)) (termOf k x y z s) ≡ strays b (childrenOf (nodeOfTag k x y z)) t)
+    (simp (and-no, or-no, or-right, sort₁, sort₂, sort₃))
+    (simp (and-no, or-no, or-right, sort₁, sort₂, sort₃))
+    (simp (and-no, or-no, or-right, sort₁, sort₂, sort₃))
+    (simp (and-no, or-no, or-right, sort₁, sort₂, sort₃))
+    (simp (and-no, or-no, or-right, sort₁, sort₂, sort₃))
+    (simp (and-no, or-no, or-right, sort₁, sort₂, sort₃))
+    (simp (and-no, or-no, or-right, sort₁, sort₂, sort₃))
+    (simp (and-no, or-no, or-right, sort₁, sort₂, sort₃))
+    (simp (and-no, or-no, or-right, sort₁, sort₂, sort₃))
+    (simp (and-no, or-no, or-right, sort₁, sort₂, sort₃))
+    (simp (and-no, or-no, or-right, sort₁, sort₂, sort₃))
+    (simp (and-no, or-no, or-right, sort₁, sort₂, sort₃))
+    (simp (and-no, or-no, or-right, sort₁, sort₂, sort₃))
+    (simp (and-no, or-no, or-right, sort₁, sort₂, sort₃))
+    (simp (and-no, or-no, or-right, sort₁, sort₂, sort₃))
+    (simp (and-no, or-no, or-right, sort₁, sort₂, sort₃))
+    (simp (and-no, or-no, or-right, sort₁, sort₂, sort₃))
+    (simp (and-no, or-no, or-right, sort₁, sort₂, sort₃))
+    (λ j. simp (and-no, or-no)) k
+
+term-strays : (b : List ℕ) (u t : ℕ) → someOperand (λ kind v. eqb v t && misplaced kind (tagAt b t)) (termAt b u) ≡ strays b (childrenOf (nodeAt b u)) t
+unfolding termAt laidOut nodeAt nodeOf
+term-strays b u t = strays-are b t _ _ _ _ (tagAt b u)
+
+-- the children of a right term are below the count
+rows-within : (p n t x y z k : ℕ) → wrongOperand p n t (layout k .first) x ≡ false → wrongOperand p n t (layout k .second) y ≡ false → wrongOperand p n t (layout k .third) z ≡ false → Within n (childrenOf (nodeOfTag k x y z))
+unfolding layout table nodes childrenOf
+rows-within p n t x y z k =
+    by-tag (λ k. wrongOperand p n t (layout k .first) x ≡ false → wrongOperand p n t (layout k .second) y ≡ false → wrongOperand p n t (layout k .third) z ≡ false → Within n (childrenOf (nodeOfTag k x y z)))
+    (λ a b c. tt)
+    (λ a b c. tt)
+    (λ a b c. tt)
+    (λ a b c. (child-between p n t expression x a refl .1, tt))
+    (λ a b c. (child-between p n t expression x a refl .1, (child-between p n t expression z c refl .1, tt)))
+    (λ a b c. (child-between p n t expression y b refl .1, (child-between p n t expression z c refl .1, tt)))
+    (λ a b c. (child-between p n t condition x a refl .1, (child-between p n t expression y b refl .1, (child-between p n t expression z c refl .1, tt))))
+    (λ a b c. (child-between p n t condition x a refl .1, (child-between p n t expression y b refl .1, tt)))
+    (λ a b c. (child-between p n t list y b refl .1, tt))
+    (λ a b c. (child-between p n t expression x a refl .1, tt))
+    (λ a b c. (child-between p n t expression x a refl .1, tt))
+    (λ a b c. (child-between p n t expression x a refl .1, (child-between p n t expression y b refl .1, tt)))
+    (λ a b c. tt)
+    (λ a b c. (child-between p n t condition x a refl .1, tt))
+    (λ a b c. (child-between p n t condition x a refl .1, (child-between p n t condition y b refl .1, tt)))
+    (λ a b c. (child-between p n t expression x a refl .1, (child-between p n t expression y b refl .1, tt)))
+    (λ a b c. (child-between p n t expression x a refl .1, (child-between p n t list y b refl .1, tt)))
+    (λ a b c. tt)
+    (λ j a b c. tt) k
+
+pub children-within : (b : List ℕ) (procs n u : ℕ) → Sized b procs n → wrongTerm b u ≡ false → Within n (childrenOf (nodeAt b u))
+unfolding termAt laidOut nodeAt nodeOf
+children-within b procs n u z h =
+    let f = passes b u h in
+    rw (z .terms-are) (rows-within (procedures b) (terms b) u _ _ _ (tagAt b u) (f .first-right) (f .second-right) (f .third-right))
+
+or-end : (r s c x y : Bool) → ((r || (s || x)) || (c || y)) ≡ ((((r || s) || c) || x) || y)
+or-end true s c x y = refl
+or-end false true c x y = refl
+or-end false false true true y = refl
+or-end false false true false y = refl
+or-end false false false true y = refl
+or-end false false false false y = refl
+
+pub no-faults : (b : List ℕ) (procs n r : ℕ) → procs ≡ procedures b → Lowest (misplacedRoot b procs) n r → Lowest (faults b 0) n r
+unfolding misplacedRoot faults misfits anyBelow
+no-faults b procs n r e l = lowest-ext (misplacedRoot b procs) (faults b 0) n r (λ k h. rw e (sym (or-no _ ∙ or-no _))) l
+
+-- the children of one more term, and the term as a call
+pub one-term : (b : List ℕ) (procs u n : ℕ) (ws : List ℕ) (best least r : ℕ) → Loaded b n ws → Sized b procs n → wrongTerm b u ≡ false → u < n
+    → least ≡ lowerAll ws (childrenOf (nodeIn ws u)) best → r ≡ lowerIf (wrongCall b u) u least → Lowest (faults b u) n best → Lowest (faults b (suc u)) n r
+unfolding faults misfits anyBelow
+one-term b procs u n ws best least r d z h q e e′ l =
+    let ks = childrenOf (nodeAt b u) in
+    let k : nodeIn ws u ≡ nodeAt b u = nodes-are b n ws d u q in
+    let f : ℕ → Bool = λ t. faults b u t || strays b ks t in
+    let first : Lowest f n least = rw (e, k) (lower-all b n ws d ks (faults b u) best (children-within b procs n u z h) l) in
+    rw e′
+    (lower-step f (faults b (suc u)) (wrongCall b) n u least
+    (λ t. rw (term-strays b u t) (or-end (anyBelow (procedures b) (λ p. eqb (root b p) t && misplaced expression (tagAt b t))) (anyBelow u (λ i. someOperand (λ kind v. eqb v t && misplaced kind (tagAt b t)) (termAt b i))) (anyBelow u (λ i. eqb i t && wrongCall b t)) (strays b ks t) (eqb u t && wrongCall b t)))
+    first (λ c. q))
 
 -- ---- calls
 
-sorted-is : (b : List ℕ) (t : ℕ) → wronglySorted b t ≡ (misfits b (terms b) t || wrongCall b t)
-unfolding wronglySorted misfits
-sorted-is b t = refl
+-- a call among the first n terms
+call-at : (b : List ℕ) (n t : ℕ) → t < n → anyBelow n (λ i. eqb i t && wrongCall b t) ≡ wrongCall b t
+unfolding anyBelow
+call-at b zero t h = absurd (omega arith)
+call-at b (suc n) t h = go (ℕ-discrete n t) (call-at b n t)
+  where
+    before : (m : ℕ) → m ≤ t → anyBelow m (λ i. eqb i t && wrongCall b t) ≡ false
+    before zero q = refl
+    before (suc m) q = rw (before m (omega arith), ne-eqb m t (λ e. omega (arith, e)))
 
-pub misfit-here : (b : List ℕ) (n t : ℕ) → n ≡ terms b → misfits b n t ≡ true → wronglySorted b t ≡ true
-misfit-here b n t e h = let g : misfits b (terms b) t ≡ true = rw e at h in sorted-is b t ∙ rw g
+    go : Dec (n ≡ t) → (t < n → anyBelow n (λ i. eqb i t && wrongCall b t) ≡ wrongCall b t) → (anyBelow n (λ i. eqb i t && wrongCall b t) || (eqb n t && wrongCall b t)) ≡ wrongCall b t
+    go (yes e) i = rw (before n (omega arith), eq-eqb n t e)
+    go (no e) i = rw (i (omega (arith, e)), ne-eqb n t e) (or-no (wrongCall b t))
 
-pub call-here : (b : List ℕ) (t : ℕ) → wrongCall b t ≡ true → wronglySorted b t ≡ true
-call-here b t h = sorted-is b t ∙ rw h (or-true (misfits b (terms b) t))
-
-pub neither-here : (b : List ℕ) (n t : ℕ) → n ≡ terms b → misfits b n t ≡ false → wrongCall b t ≡ false → wronglySorted b t ≡ false
-neither-here b n t e h g = let f : misfits b (terms b) t ≡ false = rw e at h in sorted-is b t ∙ rw (f, g)
+pub all-faults : (b : List ℕ) (n r : ℕ) → n ≡ terms b → Lowest (faults b n) n r → Lowest (wronglySorted b) n r
+unfolding wronglySorted faults misfits
+all-faults b n r e l =
+    lowest-ext (faults b n) (wronglySorted b) n r
+    (λ t h. rw (call-at b n t h, e)) l
 
 pub no-call : (b : List ℕ) (t : ℕ) → (tagAt b t ≡ 8 → ⊥) → wrongCall b t ≡ false
 unfolding wrongCall
@@ -275,22 +371,3 @@ module _ (b : List ℕ) (t w : ℕ) (e : w ≡ wordAt b t) where
 
   pub no-next : (w / 34359738368 ≡ 16 → ⊥) → tagAt b t ≡ 16 → ⊥
   no-next h q = h (ap (λ (v : ℕ). v / 34359738368) e ∙ sym (tag-in b t) ∙ q)
-
--- ---- a term without children
-
-lowers-nothing : (b : List ℕ) (s i best : ℕ) → s ≡ 0 → lowerIf (wrongSort s (tagAt b i)) i best ≡ best
-unfolding wrongSort
-lowers-nothing b s i best e = rw e
-
-unlowered : (b : List ℕ) (m : Parts) (best : ℕ) → Childless m → loweredBy b m best ≡ best
-unfolding loweredBy
-unlowered b m best z =
-    lowers-nothing b (m .third .sort) (m .third .index) _ (z .no-third)
-    ∙ lowers-nothing b (m .second .sort) (m .second .index) _ (z .no-second)
-    ∙ lowers-nothing b (m .first .sort) (m .first .index) best (z .no-first)
-
-pub leaf-term : (b : List ℕ) (procs u n best : ℕ) (m : Parts) → Sized b procs n → m ≡ split (termAt b u) → Childless m → wrongTerm b u ≡ false → Lowest (misfits b u) n best
-    → Lowest (misfits b (suc u)) n best
-leaf-term b procs u n best m r e z h l =
-    let q : loweredBy b (split (termAt b u)) best ≡ best = ap (λ (p : Parts). loweredBy b p best) (sym e) ∙ unlowered b m best z in
-    rw q at (one-term b procs u n best r h l)

@@ -3,29 +3,8 @@ use Prim.Native.Nat.{ℕ, zero, suc, _+_, _-_, _≤_, _<_}
 use native.Mathlib.Omega.{arith}
 use mathlib.Core.Path.{_≡_, refl, _∙_}
 use Rattle.plan.specs.Syntax.{Expression, Condition, Arguments}
+use Rattle.plan.specs.Steps.{Below}
 use Rattle.plan.specs.Trees.{Node, expressionOf, conditionOf, argumentsOf, expressionAt, conditionAt, argumentsAt}
-
--- the children of a node come after term t
-abbrev pub Below : ℕ → Node → Type 0
-Below t Node.null = Unit {0}
-Below t (Node.variable x) = Unit {0}
-Below t (Node.new fs) = Unit {0}
-Below t (Node.read i f) = t < i
-Below t (Node.write i f j) = (t < i) × (t < j)
-Below t (Node.letIn x i j) = (t < i) × (t < j)
-Below t (Node.if i j k) = (t < i) × (t < j) × (t < k)
-Below t (Node.while i j) = (t < i) × (t < j)
-Below t (Node.call m i) = t < i
-Below t (Node.fork i) = t < i
-Below t (Node.join i) = t < i
-Below t (Node.synch i j) = (t < i) × (t < j)
-Below t Node.truth = Unit {0}
-Below t (Node.not i) = t < i
-Below t (Node.and i j) = (t < i) × (t < j)
-Below t (Node.equal i j) = (t < i) × (t < j)
-Below t (Node.list i j) = (t < i) × (t < j)
-Below t Node.listEnd = Unit {0}
-Below t Node.unknown = Unit {0}
 
 module _ (t : ℕ) (e e′ : ℕ → Expression) (c c′ : ℕ → Condition) (l l′ : ℕ → Arguments)
     (he : (i : ℕ) → t < i → e i ≡ e′ i) (hc : (i : ℕ) → t < i → c i ≡ c′ i) (hl : (i : ℕ) → t < i → l i ≡ l′ i) where
@@ -99,7 +78,7 @@ module _ (h : ℕ → Node) (N : ℕ) (past : (t : ℕ) → N ≤ t → h t ≡ 
   mutual
     unfolding expressionAt
 
-    expression-fuel : (n m t : ℕ) → N ≤ t + n → N ≤ t + m → expressionAt h n t ≡ expressionAt h m t
+    pub expression-fuel : (n m t : ℕ) → N ≤ t + n → N ≤ t + m → expressionAt h n t ≡ expressionAt h m t
     expression-fuel zero zero t p q = refl
     expression-fuel zero (suc m) t p q = rw (past t (omega arith))
     expression-fuel (suc n) zero t p q = rw (past t (omega arith))

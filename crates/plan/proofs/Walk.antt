@@ -1,29 +1,29 @@
 -- Check 7: the tree of a term from the trees of its children, and sets of slots as masks. Assumes nothing.
-use mathlib.Core.Path.{_≡_, refl, ap, sym, _∙_, fun-ext}
-use mathlib.Core.Bool.{Bool, true, false, cond, _&&_, _||_, not}
+use mathlib.Core.Path.{_≡_, refl, ap, sym, subst, _∙_, fun-ext}
+use mathlib.Core.Bool.{Bool, true, false, _&&_, _||_, not}
 use mathlib.Core.List.{List, [], _∷_}
-use mathlib.Core.Option.{Option, some, none}
 use Prim.Native.Nat.{ℕ, zero, suc, _+_, _-_, _*_, _/_, _%_, _^_, _≤_, _<_}
 use native.Mathlib.Nat.{div-eq-of-lt, pow-suc, mul-mod-left, one-mul}
 use native.Mathlib.Decide.{decLt, ℕ-discrete}
 use native.Mathlib.Omega.{arith}
 use lib.Bits.{bitOr, or-shr, or-mod}
 use lib.Pow.{pow-lt, pow-mono, pow-add, pow-pos, shl-shr, high, ones-split, ones-lt}
-use lib.Dec.{ltb, leb, eqb}
+use lib.Dec.{ltb, eqb}
 use lib.ListN.{length, getD}
-use borrow.Author.Tests.{ltb-false, lt-ltb, le-ltb, eq-eqb, ne-eqb}
+use borrow.Author.Tests.{lt-ltb, le-ltb, eq-eqb, ne-eqb}
 use Rattle.format.specs.Bits.{bitAt, bitsAt}
 use Rattle.plan.specs.Syntax.{Expression, Condition, Arguments}
-use Rattle.plan.specs.Format.{procedures, terms, parameters, root, Operand, absent, slot, binder, mask, fieldName, procedure, expression, condition, list, width, Row, table, layout, termBit, termAt, tagAt}
-use Rattle.plan.specs.Trees.{Node, nodes, nodeAt, binderOf, expressionOf, conditionOf, argumentsOf, treeAt}
+use Rattle.plan.specs.Format.{procedures, terms, parameters, root, expression, condition, list, table, layout, termBit, termAt, tagAt}
+use Rattle.plan.specs.Trees.{Node, nodes, nodeOf, nodeAt, binderOf, expressionOf, conditionOf, argumentsOf, treeAt}
 use Rattle.plan.specs.Slots.{closed, closedᶜ, closedᵃ, bound}
-use Rattle.plan.specs.Refusals.{wrongOperand, isChild, usesUnboundSlot}
-use Rattle.plan.specs.Steps.{Right, wordAt, bitOf, slots, withSlot, conditionTreeAt, listTreeAt}
-use Rattle.plan.proofs.Reading.{shl-one, tag-was, first-was, second-was, third-was}
+use Rattle.plan.specs.Refusals.{wrongOperand, usesUnboundSlot}
+use Rattle.plan.specs.Steps.{Right, Loaded, Ordered, Below, inWord, termIn, nodeIn, bitOf, slots, withSlot, treeIn, conditionIn, listIn, leafIn, told, seen, After}
+use Rattle.plan.proofs.Reading.{shl-one}
 use Rattle.plan.proofs.Tags.{by-tag}
 use Rattle.plan.proofs.Decoded.{node-is}
-use Rattle.plan.proofs.TreeLaws.{Below, treeE, treeC, treeL, lawE, lawC, lawL}
-use Rattle.plan.proofs.SingleTerm.{clash, passes, child-between, first-is, second-is, third-is, first-between, second-between, third-between}
+use Rattle.plan.proofs.TreeLaws.{treeE, treeC, treeL, lawE, lawC, lawL, expression-fuel}
+use Rattle.plan.proofs.SingleTerm.{rowOf, row-is, node-in, passes, child-between, first-is, second-is, third-is}
+use Rattle.plan.proofs.SortLaws.{nodes-are}
 
 -- ---- past the end all bits are 0
 
@@ -85,23 +85,84 @@ below b procs n r t = go (decLt t (terms b))
         (rw (first-is b t (tagAt b t) refl) at (f .first-right)) (rw (second-is b t (tagAt b t) refl) at (f .second-right)) (rw (third-is b t (tagAt b t) refl) at (f .third-right)))
     go (no h) = rw (past b procs n r t (omega (arith, h))) tt
 
+-- ---- the array's nodes are the plan's, and their trees too
+
+module _ (b : List ℕ) (procs n : ℕ) (r : Right b procs n) (ws : List ℕ) (d : Loaded b n ws) where
+  all-nodes : nodeIn ws ≡ nodeAt b
+  unfolding nodeIn nodes nodeOf termIn inWord layout table
+  all-nodes = fun-ext (λ t. go t (decLt t n))
+    where
+      go : (t : ℕ) → Dec (t < n) → nodeIn ws t ≡ nodeAt b t
+      go t (yes h) = nodes-are b n ws d t h
+      go t (no h) = rw (d .rest t (omega (arith, h))) (sym (past b procs n r t (let e = r .headed .sized .terms-are in omega (arith, h))))
+
+  pub ordered : Ordered ws
+  ordered = record { below = λ t. rw all-nodes (below b procs n r t); ends = λ t h. let f = r .headed .few in d .rest t (omega arith) }
+
+  pub tree-is : (t : ℕ) → treeIn ws t ≡ treeAt b t
+  unfolding treeIn treeAt
+  tree-is t =
+      let f = r .headed .few in
+      let e = r .headed .sized .terms-are in
+      rw all-nodes (expression-fuel (nodeAt b) (terms b) (past b procs n r) (below b procs n r) (1024 - t) (terms b - t) t (omega arith) (omega arith))
+
 -- ---- the tree of a term from those of its children
 
-module _ (b : List ℕ) (procs n : ℕ) (r : Right b procs n) (t k : ℕ) (e : tagAt b t ≡ k) where
-  abbrev node : Node
-  node = getD nodes k (λ x y z. Node.unknown) (termAt b t .value₁) (termAt b t .value₂) (termAt b t .value₃)
+module _ (ws : List ℕ) (o : Ordered ws) where
+  empty : (t : ℕ) → 1024 ≤ t → nodeIn ws t ≡ Node.null
+  unfolding nodeIn nodes nodeOf termIn inWord layout table
+  empty t h = rw (o .ends t h)
 
-  expr-is : treeAt b t ≡ expressionOf (treeAt b) (conditionTreeAt b) (listTreeAt b) node
-  unfolding treeAt conditionTreeAt listTreeAt treeE treeC treeL
-  expr-is = lawE (nodeAt b) (terms b) (past b procs n r) (below b procs n r) t ∙ ap (expressionOf (treeAt b) (conditionTreeAt b) (listTreeAt b)) (node-is b t k e)
+  module _ (t k : ℕ) (e : getD ws t 0 / 34359738368 ≡ k) where
+    pub expr-is : treeIn ws t ≡ expressionOf (treeIn ws) (conditionIn ws) (listIn ws) (rowOf k (getD ws t 0))
+    unfolding treeIn conditionIn listIn treeE treeC treeL
+    expr-is = lawE (nodeIn ws) 1024 empty (o .below) t ∙ ap (expressionOf (treeIn ws) (conditionIn ws) (listIn ws)) (node-in ws t k e)
 
-  cond-is : conditionTreeAt b t ≡ conditionOf (treeAt b) (conditionTreeAt b) node
-  unfolding treeAt conditionTreeAt listTreeAt treeE treeC treeL
-  cond-is = lawC (nodeAt b) (terms b) (past b procs n r) (below b procs n r) t ∙ ap (conditionOf (treeAt b) (conditionTreeAt b)) (node-is b t k e)
+    pub cond-is : conditionIn ws t ≡ conditionOf (treeIn ws) (conditionIn ws) (rowOf k (getD ws t 0))
+    unfolding treeIn conditionIn listIn treeE treeC treeL
+    cond-is = lawC (nodeIn ws) 1024 empty (o .below) t ∙ ap (conditionOf (treeIn ws) (conditionIn ws)) (node-in ws t k e)
 
-  list-is : listTreeAt b t ≡ argumentsOf (treeAt b) (listTreeAt b) node
-  unfolding treeAt conditionTreeAt listTreeAt treeE treeC treeL
-  list-is = lawL (nodeAt b) (terms b) (past b procs n r) (below b procs n r) t ∙ ap (argumentsOf (treeAt b) (listTreeAt b)) (node-is b t k e)
+    pub list-is : listIn ws t ≡ argumentsOf (treeIn ws) (listIn ws) (rowOf k (getD ws t 0))
+    unfolding treeIn conditionIn listIn treeE treeC treeL
+    list-is = lawL (nodeIn ws) 1024 empty (o .below) t ∙ ap (argumentsOf (treeIn ws) (listIn ws)) (node-in ws t k e)
+
+    -- the children come after
+    pub row-below : Below t (rowOf k (getD ws t 0))
+    row-below = subst (Below t) (node-in ws t k e) (o .below t)
+
+-- a term without children
+module _ (e e′ : ℕ → Expression) (c c′ : ℕ → Condition) (l l′ : ℕ → Arguments) (w : ℕ) where
+  leaf-same : (k : ℕ) → k < 3 → expressionOf e c l (rowOf k w) ≡ expressionOf e′ c′ l′ (rowOf k w)
+  unfolding nodeOf inWord layout table nodes expressionOf
+  leaf-same zero h = refl
+  leaf-same (suc zero) h = refl
+  leaf-same (suc (suc zero)) h = refl
+  leaf-same (suc (suc (suc k))) h = absurd (omega arith)
+
+pub leaf-is : (ws : List ℕ) → Ordered ws → (t : ℕ) → getD ws t 0 / 34359738368 < 3 → treeIn ws t ≡ leafIn (getD ws t 0)
+unfolding leafIn
+leaf-is ws o t h =
+    let w = getD ws t 0 in
+    let k = w / 34359738368 in
+    expr-is ws o t k refl ∙ leaf-same _ _ _ _ _ _ w k h ∙ sym (ap (expressionOf (λ i. Expression.literal 0) (λ i. Condition.truth) (λ i. Arguments.end)) (row-is w k refl))
+
+leaf-row : (w k : ℕ) → w / 34359738368 ≡ k → leafIn w ≡ expressionOf (λ i. Expression.literal 0) (λ i. Condition.truth) (λ i. Arguments.end) (rowOf k w)
+unfolding leafIn
+leaf-row w k e = ap (expressionOf (λ i. Expression.literal 0) (λ i. Condition.truth) (λ i. Arguments.end)) (row-is w k e)
+
+pub leaf-closed : (w : ℕ) (ρ : ℕ → Bool) → w / 34359738368 < 3 → (w / 34359738368 ≡ 1 → ⊥) → true ≡ closed ρ (leafIn w)
+unfolding nodeOf inWord layout table nodes expressionOf closed
+leaf-closed w ρ h n = go (w / 34359738368) refl h n
+  where
+    go : (k : ℕ) → w / 34359738368 ≡ k → k < 3 → (k ≡ 1 → ⊥) → true ≡ closed ρ (leafIn w)
+    go zero e h n = sym (ap (closed ρ) (leaf-row w 0 e))
+    go (suc zero) e h n = absurd (n refl)
+    go (suc (suc zero)) e h n = sym (ap (closed ρ) (leaf-row w 2 e))
+    go (suc (suc (suc k))) e h n = absurd (omega arith)
+
+pub leaf-variable : (w : ℕ) (ρ : ℕ → Bool) → w / 34359738368 ≡ 1 → ρ (w / 2147483648 % 16) ≡ closed ρ (leafIn w)
+unfolding nodeOf inWord layout table nodes expressionOf closed
+leaf-variable w ρ e = sym (ap (closed ρ) (leaf-row w 1 e))
 
 -- ---- the slots of a mask
 
@@ -144,16 +205,13 @@ or-swap false true = refl
 or-swap false false = refl
 
 -- what a let binds
-bound-is : (procs n t m x : ℕ) → wrongOperand procs n t binder x ≡ false → slots (withSlot m x) ≡ bound (binderOf x) (slots m)
+pub bound-is : (m x : ℕ) → slots (withSlot m x) ≡ bound (binderOf x) (slots m)
 unfolding slots withSlot bound binderOf
-bound-is procs n t m x h = go (decLt x 8) (ℕ-discrete x 15)
+bound-is m x = go (ℕ-discrete x 15)
   where
-    go : Dec (x < 8) → Dec (x ≡ 15) → slots (withSlot m x) ≡ bound (binderOf x) (slots m)
-    go (yes q) d =
-        rw (lt-ltb x 8 q, ne-eqb x 15 (λ e. omega (arith, e)))
-        (fun-ext (λ y. or-bit m (2 ^ x) y ∙ rw (pow-is x y) (or-swap (bitOf m y) (eqb x y))))
-    go (no q) (yes e) = rw (le-ltb x 8 (omega (arith, q)), eq-eqb x 15 e)
-    go (no q) (no e) = clash (rw (lt-ltb 7 x (omega (arith, q)), ne-eqb x 15 e) at h)
+    go : Dec (x ≡ 15) → slots (withSlot m x) ≡ bound (binderOf x) (slots m)
+    go (yes e) = rw (eq-eqb x 15 e)
+    go (no e) = rw (ne-eqb x 15 e) (fun-ext (λ y. or-bit m (2 ^ x) y ∙ rw (pow-is x y) (or-swap (bitOf m y) (eqb x y))))
 
 ones-odd : (j : ℕ) → (2 ^ suc j - 1) % 2 ≡ 1
 ones-odd j = rw pow-suc (omega (arith, pow-pos j))
@@ -183,74 +241,27 @@ open-of b p k rt x e h f g =
     let v : x ≡ closed (λ y. ltb y (parameters b p)) (treeAt b (root b p)) = g ∙ rw (q, f) in
     ap not (sym v)
 
--- ---- a step of the walk: term t, of the 40 bits w, has tag k
-
 pub and-true : (x y : Bool) → x ≡ true → (x && y) ≡ y
 and-true x y h = rw h
 
 pub and-false : (x y : Bool) → x ≡ false → (x && y) ≡ false
 and-false x y h = rw h
 
-module _ (b : List ℕ) (procs n t : ℕ) (r : Right b procs n) (h : t < n) (w : ℕ) (e : w ≡ wordAt b t) (k : ℕ) (key : w / 34359738368 ≡ k) where
-  tag-is : tagAt b t ≡ k
-  tag-is = tag-was b t w e k key
+pub and-swap : (x y : Bool) → y ≡ true → (x && y) ≡ x
+and-swap true y h = h
+and-swap false y h = refl
 
-  abbrev row : Row
-  row = layout k
-
-  pub at₁ : w / 2 ^ (35 - width (row .first)) % 2 ^ width (row .first) ≡ termAt b t .value₁
-  at₁ = first-was b t w e k key
-
-  pub at₂ : w / 2 ^ (35 - (width (row .first) + width (row .second))) % 2 ^ width (row .second) ≡ termAt b t .value₂
-  at₂ = second-was b t w e k key
-
-  pub at₃ : w / 2 ^ (35 - (width (row .first) + width (row .second) + width (row .third))) % 2 ^ width (row .third) ≡ termAt b t .value₃
-  at₃ = third-was b t w e k key
-
-  -- a child has fewer terms from it on, and is below the count
-  abbrev Smaller : ℕ → ℕ → Type 0
-  Smaller s x = (n - x < s) × (Right b procs n × (x < n))
-
-  smaller : (s x v : ℕ) → n - t ≡ s → x ≡ v → (t < v) × (v < n) → Smaller s x
-  smaller s x v q f z = rw f (omega (arith, z .0, z .1), (r, z .1))
-
-  pub kid₁ : (s : ℕ) → n - t ≡ s → isChild (row .first) ≡ true → Smaller s (w / 2 ^ (35 - width (row .first)) % 2 ^ width (row .first))
-  kid₁ s q c = smaller s _ _ q at₁ (first-between b procs n t (r .headed .sized) (r .terms-right t h) (ap isChild (first-is b t k tag-is) ∙ c))
-
-  pub kid₂ : (s : ℕ) → n - t ≡ s → isChild (row .second) ≡ true → Smaller s (w / 2 ^ (35 - (width (row .first) + width (row .second))) % 2 ^ width (row .second))
-  kid₂ s q c = smaller s _ _ q at₂ (second-between b procs n t (r .headed .sized) (r .terms-right t h) (ap isChild (second-is b t k tag-is) ∙ c))
-
-  pub kid₃ : (s : ℕ) → n - t ≡ s → isChild (row .third) ≡ true → Smaller s (w / 2 ^ (35 - (width (row .first) + width (row .second) + width (row .third))) % 2 ^ width (row .third))
-  kid₃ s q c = smaller s _ _ q at₃ (third-between b procs n t (r .headed .sized) (r .terms-right t h) (ap isChild (third-is b t k tag-is) ∙ c))
-
-  right₁ : wrongOperand (procedures b) (terms b) t (row .first) (termAt b t .value₁) ≡ false
-  right₁ = sym (ap (λ (o : Operand). wrongOperand (procedures b) (terms b) t o (termAt b t .value₁)) (first-is b t k tag-is)) ∙ passes b t (r .terms-right t h) .first-right
-
-  module _ (ρ : ℕ → Bool) (x y z : ℕ) (ex : x ≡ termAt b t .value₁) (ey : y ≡ termAt b t .value₂) (ez : z ≡ termAt b t .value₃) where
-    pub expr-was : closed ρ (treeAt b t) ≡ closed ρ (expressionOf (treeAt b) (conditionTreeAt b) (listTreeAt b) (getD nodes k (λ x y z. Node.unknown) x y z))
-    expr-was = rw (ex, ey, ez) (ap (closed ρ) (expr-is b procs n r t k tag-is))
-
-    pub cond-was : closedᶜ ρ (conditionTreeAt b t) ≡ closedᶜ ρ (conditionOf (treeAt b) (conditionTreeAt b) (getD nodes k (λ x y z. Node.unknown) x y z))
-    cond-was = rw (ex, ey, ez) (ap (closedᶜ ρ) (cond-is b procs n r t k tag-is))
-
-    pub list-was : closedᵃ ρ (listTreeAt b t) ≡ closedᵃ ρ (argumentsOf (treeAt b) (listTreeAt b) (getD nodes k (λ x y z. Node.unknown) x y z))
-    list-was = rw (ex, ey, ez) (ap (closedᵃ ρ) (list-is b procs n r t k tag-is))
-
--- what a let binds, of its 40 bits
-pub bound-at : (b : List ℕ) (procs n t : ℕ) (r : Right b procs n) (h : t < n) (w : ℕ) (e : w ≡ wordAt b t) (s : ℕ) (key : w / 34359738368 ≡ 5)
-    → slots (withSlot s (w / 2147483648 % 16)) ≡ bound (binderOf (w / 2147483648 % 16)) (slots s)
-unfolding layout table
-bound-at b procs n t r h w e s key =
-    let q : w / 2147483648 % 16 ≡ termAt b t .value₁ = at₁ b procs n t r h w e 5 key in
-    rw q (bound-is (procedures b) (terms b) t s (termAt b t .value₁) (right₁ b procs n t r h w e 5 key))
+pub and-no : (x y : Bool) → y ≡ false → (x && y) ≡ false
+and-no true y h = h
+and-no false y h = refl
 
 -- ---- the tags that are no inner node of their sort
 
-module _ (e : ℕ → Expression) (c : ℕ → Condition) (l : ℕ → Arguments) (ρ : ℕ → Bool) (x y z : ℕ) where
-  pub expr-rest : (k : ℕ) → (k ≡ 1 → ⊥) → (k ≡ 3 → ⊥) → (k ≡ 9 → ⊥) → (k ≡ 10 → ⊥) → (k ≡ 4 → ⊥) → (k ≡ 5 → ⊥) → (k ≡ 6 → ⊥) → (k ≡ 7 → ⊥) → (k ≡ 8 → ⊥) → (k ≡ 11 → ⊥) → closed ρ (expressionOf e c l (getD nodes k (λ x y z. Node.unknown) x y z)) ≡ true
-  unfolding nodes closed expressionOf
+module _ (e : ℕ → Expression) (c : ℕ → Condition) (l : ℕ → Arguments) (ρ : ℕ → Bool) (w : ℕ) where
+  pub expr-rest : (k : ℕ) → (k ≡ 1 → ⊥) → (k ≡ 3 → ⊥) → (k ≡ 9 → ⊥) → (k ≡ 10 → ⊥) → (k ≡ 4 → ⊥) → (k ≡ 5 → ⊥) → (k ≡ 6 → ⊥) → (k ≡ 7 → ⊥) → (k ≡ 8 → ⊥) → (k ≡ 11 → ⊥) → closed ρ (expressionOf e c l (rowOf k w)) ≡ true
+  unfolding nodeOf inWord layout table nodes closed expressionOf
   expr-rest k =
-      by-tag (λ k. (k ≡ 1 → ⊥) → (k ≡ 3 → ⊥) → (k ≡ 9 → ⊥) → (k ≡ 10 → ⊥) → (k ≡ 4 → ⊥) → (k ≡ 5 → ⊥) → (k ≡ 6 → ⊥) → (k ≡ 7 → ⊥) → (k ≡ 8 → ⊥) → (k ≡ 11 → ⊥) → closed ρ (expressionOf e c l (getD nodes k (λ x y z. Node.unknown) x y z)) ≡ true)
+      by-tag (λ k. (k ≡ 1 → ⊥) → (k ≡ 3 → ⊥) → (k ≡ 9 → ⊥) → (k ≡ 10 → ⊥) → (k ≡ 4 → ⊥) → (k ≡ 5 → ⊥) → (k ≡ 6 → ⊥) → (k ≡ 7 → ⊥) → (k ≡ 8 → ⊥) → (k ≡ 11 → ⊥) → closed ρ (expressionOf e c l (rowOf k w)) ≡ true)
       (λ h1 h3 h9 h10 h4 h5 h6 h7 h8 h11. refl)
       (λ h1 h3 h9 h10 h4 h5 h6 h7 h8 h11. absurd (h1 refl))
       (λ h1 h3 h9 h10 h4 h5 h6 h7 h8 h11. refl)
@@ -271,10 +282,10 @@ module _ (e : ℕ → Expression) (c : ℕ → Condition) (l : ℕ → Arguments
       (λ h1 h3 h9 h10 h4 h5 h6 h7 h8 h11. refl)
       (λ j. λ h1 h3 h9 h10 h4 h5 h6 h7 h8 h11. refl) k
 
-  pub cond-rest : (k : ℕ) → (k ≡ 13 → ⊥) → (k ≡ 14 → ⊥) → (k ≡ 15 → ⊥) → closedᶜ ρ (conditionOf e c (getD nodes k (λ x y z. Node.unknown) x y z)) ≡ true
-  unfolding nodes closed conditionOf
+  pub cond-rest : (k : ℕ) → (k ≡ 13 → ⊥) → (k ≡ 14 → ⊥) → (k ≡ 15 → ⊥) → closedᶜ ρ (conditionOf e c (rowOf k w)) ≡ true
+  unfolding nodeOf inWord layout table nodes closed conditionOf
   cond-rest k =
-      by-tag (λ k. (k ≡ 13 → ⊥) → (k ≡ 14 → ⊥) → (k ≡ 15 → ⊥) → closedᶜ ρ (conditionOf e c (getD nodes k (λ x y z. Node.unknown) x y z)) ≡ true)
+      by-tag (λ k. (k ≡ 13 → ⊥) → (k ≡ 14 → ⊥) → (k ≡ 15 → ⊥) → closedᶜ ρ (conditionOf e c (rowOf k w)) ≡ true)
       (λ h13 h14 h15. refl)
       (λ h13 h14 h15. refl)
       (λ h13 h14 h15. refl)
@@ -295,10 +306,10 @@ module _ (e : ℕ → Expression) (c : ℕ → Condition) (l : ℕ → Arguments
       (λ h13 h14 h15. refl)
       (λ j. λ h13 h14 h15. refl) k
 
-  pub list-rest : (k : ℕ) → (k ≡ 16 → ⊥) → closedᵃ ρ (argumentsOf e l (getD nodes k (λ x y z. Node.unknown) x y z)) ≡ true
-  unfolding nodes closed argumentsOf
+  pub list-rest : (k : ℕ) → (k ≡ 16 → ⊥) → closedᵃ ρ (argumentsOf e l (rowOf k w)) ≡ true
+  unfolding nodeOf inWord layout table nodes closed argumentsOf
   list-rest k =
-      by-tag (λ k. (k ≡ 16 → ⊥) → closedᵃ ρ (argumentsOf e l (getD nodes k (λ x y z. Node.unknown) x y z)) ≡ true)
+      by-tag (λ k. (k ≡ 16 → ⊥) → closedᵃ ρ (argumentsOf e l (rowOf k w)) ≡ true)
       (λ h16. refl)
       (λ h16. refl)
       (λ h16. refl)
@@ -318,3 +329,49 @@ module _ (e : ℕ → Expression) (c : ℕ → Condition) (l : ℕ → Arguments
       (λ h16. absurd (h16 refl))
       (λ h16. refl)
       (λ j. λ h16. refl) k
+
+-- ---- the span of terms falls
+
+pub mod-below : (v : ℕ) → v % 1024 < 1024
+mod-below v = omega arith
+
+pub apart : (s t x : ℕ) → 3 * (1024 - t) ≡ s → t < x → x < 1024 → 3 * (1024 - x) + 2 < s
+apart s t x e h k = omega arith
+
+pub inside : (s t x : ℕ) → 3 * (1024 - t) ≡ s → t < x → x < 1024 → 3 * (1024 - x) + 1 < s
+inside s t x e h k = omega arith
+
+pub beyond : (s f t x : ℕ) → 3 * (1024 - f) + 1 ≡ s → f ≤ t → t < x → x < 1024 → 3 * (1024 - x) + 1 < s
+beyond s f t x e g h k = omega arith
+
+pub here : (s f t : ℕ) → 3 * (1024 - f) + 1 ≡ s → f ≤ t → 3 * (1024 - t) < s
+here s f t e h = omega arith
+
+pub just : (s x : ℕ) → 3 * (1024 - x) + 2 ≡ s → 3 * (1024 - x) + 1 < s
+just s x e = omega arith
+
+-- ---- answers
+
+pub not-yes : (x : Bool) → not x ≡ true → x ≡ false
+not-yes true h = sym h
+not-yes false h = refl
+
+pub not-no : (x : Bool) → not x ≡ false → x ≡ true
+not-no true h = refl
+not-no false h = sym h
+
+pub seen-told : (ws : List ℕ) (x : Bool) → seen ws (told x) ≡ x
+unfolding seen told
+seen-told ws true = refl
+seen-told ws false = refl
+
+pub after-told : (t : ℕ) (x : Bool) → After t (told x)
+unfolding told
+after-told t true = tt
+after-told t false = tt
+
+pub and-three : (c e e′ : Bool) → c ≡ true → (e && e′) ≡ ((c && e) && e′)
+and-three c e e′ h = rw h
+
+pub and-none : (c e e′ : Bool) → c ≡ false → false ≡ ((c && e) && e′)
+and-none c e e′ h = rw h

@@ -10,17 +10,17 @@ use Rattle.plan.specs.Slots.{closed}
 
 -- ---- for some, and summed over, the numbers below n
 
-unfoldable pub some< : ℕ → (ℕ → Bool) → Bool
-some< zero f = false
-some< (suc n) f = some< n f || f n
+unfoldable pub anyBelow : ℕ → (ℕ → Bool) → Bool
+anyBelow zero f = false
+anyBelow (suc n) f = anyBelow n f || f n
 
-unfoldable pub sum< : ℕ → (ℕ → ℕ) → ℕ
-sum< zero f = 0
-sum< (suc n) f = sum< n f + f n
+unfoldable pub sumBelow : ℕ → (ℕ → ℕ) → ℕ
+sumBelow zero f = 0
+sumBelow (suc n) f = sumBelow n f + f n
 
-abbrev pub one : Bool → ℕ
-one true = 1
-one false = 0
+abbrev pub oneIf : Bool → ℕ
+oneIf true = 1
+oneIf false = 0
 
 -- ---- 1: "wrong length, or under 8 bytes"
 
@@ -54,15 +54,15 @@ wrongProcedure b p =
 
 -- value v at an operand of term t, in a plan with these numbers of procedures and terms
 abbrev pub wrongOperand : ℕ → ℕ → ℕ → Operand → ℕ → Bool
-wrongOperand procs n t absent v = false
-wrongOperand procs n t slot v = ltb 7 v
-wrongOperand procs n t binder v = ltb 7 v && not (eqb v 15)
-wrongOperand procs n t mask v = eqb (maskBit v 0) 1 || ltb 8 (length (fieldsFrom v 0 32))  -- "A `new` names at most eight fields, never field 0."
-wrongOperand procs n t fieldName v = eqb v 0  -- "Read and write never name field 0."
-wrongOperand procs n t procedure v = leb procs v
-wrongOperand procs n t expression v = leb v t || leb n v
-wrongOperand procs n t condition v = leb v t || leb n v
-wrongOperand procs n t list v = leb v t || leb n v
+wrongOperand procedureCount n t absent v = false
+wrongOperand procedureCount n t slot v = ltb 7 v
+wrongOperand procedureCount n t binder v = ltb 7 v && not (eqb v 15)
+wrongOperand procedureCount n t mask v = eqb (maskBit v 0) 1 || ltb 8 (length (fieldsFrom v 0 32))  -- "A `new` names at most eight fields, never field 0."
+wrongOperand procedureCount n t fieldName v = eqb v 0  -- "Read and write never name field 0."
+wrongOperand procedureCount n t procedure v = leb procedureCount v
+wrongOperand procedureCount n t expression v = leb v t || leb n v
+wrongOperand procedureCount n t condition v = leb v t || leb n v
+wrongOperand procedureCount n t list v = leb v t || leb n v
 
 unfoldable pub someOperand : (Operand → ℕ → Bool) → Term → Bool
 someOperand f m = f (m .first) (m .value₁) || f (m .second) (m .value₂) || f (m .third) (m .value₃)
@@ -70,9 +70,9 @@ someOperand f m = f (m .first) (m .value₁) || f (m .second) (m .value₂) || f
 -- m as term t of a plan with these numbers of procedures and terms
 unfoldable pub breaksTable : ℕ → ℕ → ℕ → Term → Bool
 unfolding someOperand maskBit fieldsFrom
-breaksTable procs n t m =
+breaksTable procedureCount n t m =
     ltb 17 (m .tag)
-    || someOperand (wrongOperand procs n t) m
+    || someOperand (wrongOperand procedureCount n t) m
     || not (eqb (m .spare) 0)  -- "All spare bits are zero."
 
 unfoldable pub wrongTerm : List ℕ → ℕ → Bool
@@ -106,10 +106,10 @@ wrongCall b t = eqb (tagAt b t) 8 && not (eqb (listLength b (terms b) (termAt b 
 
 -- "A root is an expression."; "(for 5 the wrongly sorted term, or the call)"
 unfoldable pub wronglySorted : List ℕ → ℕ → Bool
-unfolding someOperand some< wrongCall procedures terms root tagAt termAt
+unfolding someOperand anyBelow wrongCall procedures terms root tagAt termAt
 wronglySorted b t =
-    (some< (procedures b) (λ p. eqb (root b p) t && misplaced expression (tagAt b t))
-    || some< (terms b) (λ u. someOperand (λ kind v. eqb v t && misplaced kind (tagAt b t)) (termAt b u)))
+    (anyBelow (procedures b) (λ p. eqb (root b p) t && misplaced expression (tagAt b t))
+    || anyBelow (terms b) (λ u. someOperand (λ kind v. eqb v t && misplaced kind (tagAt b t)) (termAt b u)))
     || wrongCall b t
 
 -- ---- 6: "a term not named exactly once, by a parent or a procedure"
@@ -127,11 +127,11 @@ isChild list = true
 
 -- how often term m names term t
 unfoldable pub timesIn : Term → ℕ → ℕ
-timesIn m t = one (isChild (m .first) && eqb (m .value₁) t) + one (isChild (m .second) && eqb (m .value₂) t) + one (isChild (m .third) && eqb (m .value₃) t)
+timesIn m t = oneIf (isChild (m .first) && eqb (m .value₁) t) + oneIf (isChild (m .second) && eqb (m .value₂) t) + oneIf (isChild (m .third) && eqb (m .value₃) t)
 
 unfoldable pub timesNamed : List ℕ → ℕ → ℕ
-unfolding sum< timesIn procedures terms root termAt
-timesNamed b t = sum< (procedures b) (λ p. one (eqb (root b p) t)) + sum< (terms b) (λ u. timesIn (termAt b u) t)
+unfolding sumBelow timesIn procedures terms root termAt
+timesNamed b t = sumBelow (procedures b) (λ p. oneIf (eqb (root b p) t)) + sumBelow (terms b) (λ u. timesIn (termAt b u) t)
 
 unfoldable pub notNamedOnce : List ℕ → ℕ → Bool
 unfolding timesNamed

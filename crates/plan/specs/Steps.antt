@@ -5,15 +5,15 @@ use mathlib.Core.Bool.{Bool, true, false, cond, _&&_, _||_, not}
 use mathlib.Core.List.{List, [], _∷_}
 use lib.Bits.{bitOr}
 use lib.Dec.{eqb, ltb, leb}
-use lib.ListN.{length, getD}
+use lib.ListN.{length, getD, set}
 use Rattle.format.specs.Bits.{bitsAt}
-use Rattle.plan.specs.Syntax.{Condition, Arguments}
-use Rattle.plan.specs.Format.{procedures, terms, root, Operand, absent, slot, binder, mask, fieldName, procedure, expression, condition, list, width, Row, layout, Term, termBit, tagAt, termAt}
-use Rattle.plan.specs.Trees.{nodeAt, conditionAt, argumentsAt}
-use Rattle.plan.specs.Refusals.{some<, sum<, one, wrongOperand, wrongProcedure, wrongTerm, misplaced, someOperand, timesIn, notNamedOnce}
-use Rattle.plan.specs.declared.term.Child.{Child}
-use Rattle.plan.specs.declared.term.Parts.{Parts}
-use Rattle.plan.specs.declared.survey.Found.{Found}
+use Rattle.plan.specs.Syntax.{Expression, Condition, Arguments}
+use Rattle.plan.specs.Format.{procedures, terms, root, expression, width, Row, layout, Term, termBit, tagAt, termAt}
+use Rattle.plan.specs.Trees.{Node, nodeOf, expressionOf, expressionAt, conditionAt, argumentsAt}
+use Rattle.plan.specs.Slots.{closed}
+use Rattle.plan.specs.Refusals.{anyBelow, sumBelow, oneIf, wrongProcedure, wrongTerm, misplaced, someOperand, wrongCall, timesIn}
+use Rattle.plan.specs.declared.slots.Rest.{Rest}
+use Rattle.plan.specs.declared.slots.Rest.the-variants.{Closed, Open, At}
 
 -- r is the lowest of the numbers below n at which the test passes, or n
 pub record Lowest (f : ℕ → Bool) (n r : ℕ) : Type 0 where
@@ -61,149 +61,129 @@ inWord w k r =
       spare = w % 2 ^ (35 - (width (r .first) + width (r .second) + width (r .third)));
     }
 
+-- the term that stands in 40 bits
 unfoldable pub termIn : ℕ → Term
 unfolding inWord layout
 termIn w = inWord w (w / 34359738368) (layout (w / 34359738368))
 
-abbrev pub kidOf : ℕ → ℕ → Child
-kidOf s i = record { sort = s; index = i }
+-- the terms' 40 bits in an array, and zeros after them
+pub record Loaded (b : List ℕ) (n : ℕ) (words : List ℕ) : Type 0 where
+  pub size : length words ≡ 1024
+  pub each : (t : ℕ) → t < n → getD words t 0 ≡ wordAt b t
+  pub rest : (t : ℕ) → n ≤ t → getD words t 0 ≡ 0
 
-abbrev pub partsOf : ℕ → ℕ → Child → Child → Child → ℕ → Parts
-partsOf k s a b c r = record { tag = k; small = s; first = a; second = b; third = c; spare = r }
+-- the tag of term t in the array
+unfoldable pub tagIn : List ℕ → ℕ → ℕ
+tagIn words t = getD words t 0 / 34359738368
 
--- the sort wanted at an operand: 1 an expression, 2 a condition, 3 a list, and 0 where the operand is no term
-abbrev pub sortOf : Operand → ℕ
-sortOf absent = 0
-sortOf slot = 0
-sortOf binder = 0
-sortOf mask = 0
-sortOf fieldName = 0
-sortOf procedure = 0
-sortOf expression = 1
-sortOf condition = 2
-sortOf list = 3
+-- the node of term t in the array
+unfoldable pub nodeIn : List ℕ → ℕ → Node
+unfolding nodeOf termIn
+nodeIn words t = nodeOf (termIn (getD words t 0))
 
--- an operand's term, and 0 where it is none
-abbrev pub childOf : Operand → ℕ → ℕ
-childOf absent v = 0
-childOf slot v = 0
-childOf binder v = 0
-childOf mask v = 0
-childOf fieldName v = 0
-childOf procedure v = 0
-childOf expression v = v
-childOf condition v = v
-childOf list v = v
+-- the children of a node come after term t
+abbrev pub Below : ℕ → Node → Type 0
+Below t Node.null = Unit {0}
+Below t (Node.variable x) = Unit {0}
+Below t (Node.new fs) = Unit {0}
+Below t (Node.read i f) = t < i
+Below t (Node.write i f j) = (t < i) × (t < j)
+Below t (Node.letIn x i j) = (t < i) × (t < j)
+Below t (Node.if i j k) = (t < i) × (t < j) × (t < k)
+Below t (Node.while i j) = (t < i) × (t < j)
+Below t (Node.call m i) = t < i
+Below t (Node.fork i) = t < i
+Below t (Node.join i) = t < i
+Below t (Node.synch i j) = (t < i) × (t < j)
+Below t Node.truth = Unit {0}
+Below t (Node.not i) = t < i
+Below t (Node.and i j) = (t < i) × (t < j)
+Below t (Node.equal i j) = (t < i) × (t < j)
+Below t (Node.list i j) = (t < i) × (t < j)
+Below t Node.listEnd = Unit {0}
+Below t Node.unknown = Unit {0}
 
-abbrev pub child : Operand → ℕ → Child
-child kind v = kidOf (sortOf kind) (childOf kind v)
-
--- the one operand that is no term: the first, or a field after a term
-abbrev pub fieldOr0 : Operand → ℕ → ℕ
-fieldOr0 absent y = 0
-fieldOr0 slot y = 0
-fieldOr0 binder y = 0
-fieldOr0 mask y = 0
-fieldOr0 fieldName y = y
-fieldOr0 procedure y = 0
-fieldOr0 expression y = 0
-fieldOr0 condition y = 0
-fieldOr0 list y = 0
-
-abbrev pub smallOf : Operand → ℕ → Operand → ℕ → ℕ
-smallOf absent x kind y = 0
-smallOf slot x kind y = x
-smallOf binder x kind y = x
-smallOf mask x kind y = x
-smallOf fieldName x kind y = x
-smallOf procedure x kind y = x
-smallOf expression x kind y = fieldOr0 kind y
-smallOf condition x kind y = fieldOr0 kind y
-smallOf list x kind y = fieldOr0 kind y
-
-unfoldable pub split : Term → Parts
-split m =
-    partsOf (m .tag) (smallOf (m .first) (m .value₁) (m .second) (m .value₂)) (child (m .first) (m .value₁)) (child (m .second) (m .value₂))
-    (child (m .third) (m .value₃)) (m .spare)
-
--- no operand is a term
-pub record Childless (m : Parts) : Type 0 where
-  pub no-first : m .first .sort ≡ 0
-  pub no-second : m .second .sort ≡ 0
-  pub no-third : m .third .sort ≡ 0
+-- every child comes after its parent, and there are no terms past the array
+pub record Ordered (words : List ℕ) : Type 0 where
+  pub below : (t : ℕ) → Below t (nodeIn words t)
+  pub ends : (t : ℕ) → 1024 ≤ t → getD words t 0 ≡ 0
 
 -- ---- check 4
 
--- the operand that is no term, by the tag
-unfoldable pub smallTests : List (ℕ → ℕ → Bool)
-smallTests =
-    (λ procs v. false)
-    ∷ (λ procs v. ltb 7 v)
-    ∷ (λ procs v. wrongOperand 0 0 0 mask v)
-    ∷ (λ procs v. eqb v 0)
-    ∷ (λ procs v. eqb v 0)
-    ∷ (λ procs v. ltb 7 v && not (eqb v 15))
-    ∷ (λ procs v. false)
-    ∷ (λ procs v. false)
-    ∷ (λ procs v. leb procs v)
-    ∷ (λ procs v. false)
-    ∷ (λ procs v. false)
-    ∷ (λ procs v. false)
-    ∷ (λ procs v. false)
-    ∷ (λ procs v. false)
-    ∷ (λ procs v. false)
-    ∷ (λ procs v. false)
-    ∷ (λ procs v. false)
-    ∷ (λ procs v. false)
-    ∷ []
+-- a child index not above its parent's, t, or not below the count
+abbrev pub outside : ℕ → ℕ → ℕ → Bool
+outside n t v = leb v t || leb n v
 
-unfoldable pub wrongSmall : ℕ → ℕ → ℕ → Bool
-unfolding smallTests
-wrongSmall procs k v = getD smallTests k (λ procs v. true) procs v
+-- ---- the names of terms, for checks 5 and 6
 
-abbrev pub isSort : ℕ → Bool
-isSort s = not (eqb s 0)
+-- a child: the sort that the table wants (1 an expression, 2 a condition, 3 a list), and the term
+pub record Child : Type 0 where
+  pub sort : ℕ
+  pub index : ℕ
 
-unfoldable pub outside : ℕ → ℕ → Child → Bool
-outside n t c = isSort (c .sort) && (leb (c .index) t || leb n (c .index))
+-- the child of this sort at this index
+abbrev pub childOf : ℕ → ℕ → Child
+childOf s i = record { sort = s; index = i }
 
-unfoldable pub breaks : ℕ → ℕ → ℕ → Parts → Bool
-unfolding wrongSmall outside
-breaks procs n t m =
-    outside n t (m .first) || wrongSmall procs (m .tag) (m .small) || outside n t (m .second) || outside n t (m .third) || not (eqb (m .spare) 0)
+-- the children of a node
+unfoldable pub childrenOf : Node → List Child
+childrenOf Node.null = []
+childrenOf (Node.variable x) = []
+childrenOf (Node.new fs) = []
+childrenOf (Node.read i f) = childOf 1 i ∷ []
+childrenOf (Node.write i f j) = childOf 1 i ∷ childOf 1 j ∷ []
+childrenOf (Node.letIn x i j) = childOf 1 i ∷ childOf 1 j ∷ []
+childrenOf (Node.if i j k) = childOf 2 i ∷ childOf 1 j ∷ childOf 1 k ∷ []
+childrenOf (Node.while i j) = childOf 2 i ∷ childOf 1 j ∷ []
+childrenOf (Node.call m i) = childOf 3 i ∷ []
+childrenOf (Node.fork i) = childOf 1 i ∷ []
+childrenOf (Node.join i) = childOf 1 i ∷ []
+childrenOf (Node.synch i j) = childOf 1 i ∷ childOf 1 j ∷ []
+childrenOf Node.truth = []
+childrenOf (Node.not i) = childOf 2 i ∷ []
+childrenOf (Node.and i j) = childOf 2 i ∷ childOf 2 j ∷ []
+childrenOf (Node.equal i j) = childOf 1 i ∷ childOf 1 j ∷ []
+childrenOf (Node.list i j) = childOf 1 i ∷ childOf 3 j ∷ []
+childrenOf Node.listEnd = []
+childrenOf Node.unknown = []
 
 -- ---- check 5
 
+-- the sort of a tag: "e is an expression (tags 0 to 11), c a condition (12 to 15), list is 16 or 17"
 unfoldable pub tagSort : ℕ → ℕ
 tagSort k = cond (ltb k 12) 1 (cond (ltb k 16) 2 3)
 
--- a term of this tag, where the sort is wanted
+-- a term of this tag is of another sort than is wanted
 unfoldable pub wrongSort : ℕ → ℕ → Bool
 unfolding tagSort
-wrongSort s k = isSort s && not (eqb (tagSort k) s)
+wrongSort s k = not (eqb (tagSort k) s)
 
+-- the lower of two, if the test passes
 abbrev pub lowerIf : Bool → ℕ → ℕ → ℕ
 lowerIf on v best = cond (on && ltb v best) v best
 
--- the lowest of best and the misplaced children of m
-unfoldable pub loweredBy : List ℕ → Parts → ℕ → ℕ
-unfolding wrongSort
-loweredBy b m best =
-    lowerIf (wrongSort (m .third .sort) (tagAt b (m .third .index))) (m .third .index)
-    (lowerIf (wrongSort (m .second .sort) (tagAt b (m .second .index))) (m .second .index)
-    (lowerIf (wrongSort (m .first .sort) (tagAt b (m .first .index))) (m .first .index) best))
+-- the lowest of best and those of these children that are of another sort
+unfoldable pub lowerAll : List ℕ → List Child → ℕ → ℕ
+unfolding wrongSort tagIn
+lowerAll words [] best = best
+lowerAll words (k ∷ ks) best = lowerAll words ks (lowerIf (wrongSort (k .sort) (tagIn words (k .index))) (k .index) best)
 
 -- a root of the first procedures
 unfoldable pub misplacedRoot : List ℕ → ℕ → ℕ → Bool
-unfolding some<
-misplacedRoot b n t = some< n (λ p. eqb (root b p) t && misplaced expression (tagAt b t))
+unfolding anyBelow
+misplacedRoot b n t = anyBelow n (λ p. eqb (root b p) t && misplaced expression (tagAt b t))
 
 -- term t as a root, or as a child of one of the first u terms
 unfoldable pub misfits : List ℕ → ℕ → ℕ → Bool
-unfolding some< someOperand
+unfolding anyBelow someOperand
 misfits b u t =
-    some< (procedures b) (λ p. eqb (root b p) t && misplaced expression (tagAt b t))
-    || some< u (λ i. someOperand (λ kind v. eqb v t && misplaced kind (tagAt b t)) (termAt b i))
+    anyBelow (procedures b) (λ p. eqb (root b p) t && misplaced expression (tagAt b t))
+    || anyBelow u (λ i. someOperand (λ kind v. eqb v t && misplaced kind (tagAt b t)) (termAt b i))
+
+-- that, or a wrong call of the first u terms
+unfoldable pub faults : List ℕ → ℕ → ℕ → Bool
+unfolding misfits anyBelow
+faults b u t = misfits b u t || anyBelow u (λ i. eqb i t && wrongCall b t)
 
 -- ---- check 6
 
@@ -212,10 +192,11 @@ unfoldable pub moreOf : ℕ → ℕ
 moreOf zero = 1
 moreOf (suc n) = 2
 
-unfoldable pub moreIf : Bool → ℕ → ℕ
+-- these terms named once more
+unfoldable pub countAll : List Child → List ℕ → List ℕ
 unfolding moreOf
-moreIf true n = moreOf n
-moreIf false n = n
+countAll [] counts = counts
+countAll (k ∷ ks) counts = countAll ks (set counts (k .index) (moreOf (getD counts (k .index) 0)))
 
 -- no further than two
 unfoldable pub cap : ℕ → ℕ
@@ -223,27 +204,26 @@ cap zero = 0
 cap (suc zero) = 1
 cap (suc (suc n)) = 2
 
+-- how often the first n procedures name term t
 unfoldable pub rootTimes : List ℕ → ℕ → ℕ → ℕ
-rootTimes b n t = sum< n (λ p. one (eqb (root b p) t))
+rootTimes b n t = sumBelow n (λ p. oneIf (eqb (root b p) t))
 
+-- how often the procedures and the first n terms name term t
 unfoldable pub allTimes : List ℕ → ℕ → ℕ → ℕ
-allTimes b n t = sum< (procedures b) (λ p. one (eqb (root b p) t)) + sum< n (λ u. timesIn (termAt b u) t)
+allTimes b n t = sumBelow (procedures b) (λ p. oneIf (eqb (root b p) t)) + sumBelow n (λ u. timesIn (termAt b u) t)
 
+-- the counts of an array are these, no further than two
 pub record Counted (f : ℕ → ℕ) (counts : List ℕ) : Type 0 where
   pub size : length counts ≡ 1024
   pub each : (t : ℕ) → t < 1024 → getD counts t 0 ≡ cap (f t)
 
+-- term t is not counted once
 unfoldable pub notOnce : List ℕ → ℕ → Bool
 notOnce counts t = not (eqb (getD counts t 0) 1)
 
--- the pass over the terms
-pub record Surveyed (b : List ℕ) (n : ℕ) (r : Found) : Type 0 where
-  pub wrong-is : Lowest (wrongTerm b) n (r .wrong)
-  pub misplaced-is : n ≤ r .wrong → Lowest (misfits b n) n (r .misplaced)
-  pub miscounted-is : n ≤ r .wrong → Lowest (notNamedOnce b) n (r .miscounted)
-
 -- ---- check 7
 
+-- bit x of a number
 abbrev pub bitOf : ℕ → ℕ → Bool
 bitOf m x = eqb (m / 2 ^ x % 2) 1
 
@@ -251,13 +231,44 @@ bitOf m x = eqb (m / 2 ^ x % 2) 1
 unfoldable pub slots : ℕ → ℕ → Bool
 slots m x = bitOf m x
 
+-- what is bound in a let's second operand; slot 15 binds nothing
 unfoldable pub withSlot : ℕ → ℕ → ℕ
-withSlot m x = cond (ltb x 8) (bitOr m (2 ^ x)) m
+withSlot m x = cond (eqb x 15) m (bitOr m (2 ^ x))
 
-unfoldable pub conditionTreeAt : List ℕ → ℕ → Condition
-unfolding nodeAt terms conditionAt
-conditionTreeAt b t = conditionAt (nodeAt b) (terms b - t) t
+-- the tree of the expression at term t of the array
+unfoldable pub treeIn : List ℕ → ℕ → Expression
+unfolding nodeIn expressionAt
+treeIn words t = expressionAt (nodeIn words) (1024 - t) t
 
-unfoldable pub listTreeAt : List ℕ → ℕ → Arguments
-unfolding nodeAt terms argumentsAt
-listTreeAt b t = argumentsAt (nodeAt b) (terms b - t) t
+-- the tree of the condition at term t of the array
+unfoldable pub conditionIn : List ℕ → ℕ → Condition
+unfolding nodeIn expressionAt
+conditionIn words t = conditionAt (nodeIn words) (1024 - t) t
+
+-- the tree of the list at term t of the array
+unfoldable pub listIn : List ℕ → ℕ → Arguments
+unfolding nodeIn expressionAt
+listIn words t = argumentsAt (nodeIn words) (1024 - t) t
+
+-- the expression of a term without children, by its 40 bits
+unfoldable pub leafIn : ℕ → Expression
+unfolding nodeOf termIn expressionOf
+leafIn w = expressionOf (λ i. Expression.literal 0) (λ i. Condition.truth) (λ i. Arguments.end) (nodeOf (termIn w))
+
+-- nothing is left, and this was seen
+unfoldable pub told : Bool → Rest
+told true = Closed
+told false = Open
+
+-- whether all slots are bound, once what is left is seen
+unfoldable pub seen : List ℕ → Rest → Bool
+unfolding closed treeIn slots
+seen words Closed = true
+seen words Open = false
+seen words (At t m) = closed (slots m) (treeIn words t)
+
+-- what is left comes after term t
+abbrev pub After : ℕ → Rest → Type 0
+After t Closed = Unit {0}
+After t Open = Unit {0}
+After t (At x m) = (t < x) × (x < 1024)

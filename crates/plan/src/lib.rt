@@ -1,12 +1,11 @@
 // The packed plan: is it one that can be played, and if not, what is wrong with it, and where (document 01, refusals 1 to 7).
 pub mod bits; // bits.rt: numbers of two, four and five bytes
 pub mod layout; // layout.rt: the numbers of the header and of the procedures
-mod term; // term.rt: a term taken apart, by the table of terms
+mod term; // term.rt: the 40 bits of a term
 mod header; // header.rt: checks 1 to 3
-mod table; // table.rt: check 4, a single term
+mod table; // table.rt: check 4, and the terms loaded
 mod sorts; // sorts.rt: check 5
-mod names; // names.rt: check 6
-mod survey; // survey.rt: the one pass over the terms, for checks 4 to 6
+mod names; // names.rt: the names of terms, for checks 5 and 6
 mod slots; // slots.rt: check 7
 
 ghost use mathlib.Core.Path.{_≡_};
@@ -41,20 +40,21 @@ pub fn check(plan: &[u8]) -> Checked
     if p < procs {
         return refused(3, p);
     }
-    let found = survey::survey(plan, procs, count);
-    let t = found.wrong;
+    let mut words = [0usize; 1024];
+    let t = table::load(plan, procs, count, &mut words);
     if t < count {
         return refused(4, t);
     }
-    let misplaced = sorts::lowest_wrongly_sorted(plan, procs, count, found.misplaced);
-    let miscounted = found.miscounted;
+    let mut times = [0u8; 1024];
+    let misplaced = names::name_all(plan, procs, count, &words, &mut times);
+    let miscounted = names::lowest_miscounted(&times, count);
     if misplaced < count {
         return refused(5, misplaced);
     }
     if miscounted < count {
         return refused(6, miscounted);
     }
-    let p = slots::lowest_open(plan, procs, count);
+    let p = slots::lowest_open(plan, procs, count, &words);
     if p < procs {
         return refused(7, p);
     }

@@ -1,39 +1,31 @@
-use mathlib.Core.Path.{_≡_, refl, sym, ap, _∙_}
-use Prim.Native.Nat.{ℕ, suc, _+_, _*_, _-_, _/_, _%_, _^_, _<_, _≤_}
+-- `five`: a number of 32 bits and a byte, joined.
+use mathlib.Core.Path.{sym, _∙_}
+use Prim.Native.Nat.{_+_, _*_}
 use native.Mathlib.Omega.{arith}
-use Rattle.plan.proofs.Reading.{joined, part-of, front-of, back-of, shl-one, procedures-lt, terms-lt, version-of, spare-of, monitor-of, fields-are, no-monitor-bit, monitor-bit, term-is, small-of}
+use Rattle.plan.proofs.Reading.{joined}
 use Rattle.format.proofs.BitLaws.{byte-at}
 use borrow.Author.Needs.{needs}
 use Rattle.plan.proofs.bits.five.Statement.{statement}
 use Rattle.plan.proofs.bits.five.Tie as tie
-use Rattle.plan.proofs.bits.quad.Reads as quad-reads
-use Rattle.plan.proofs.bits.wide.Reads as wide-reads
 
--- src/bits.rt:38:9
 quad-requires : tie.Need-quad-requires
 quad-requires c κs = search needs
 
--- src/bits.rt:39:20
 add-wide : tie.Need-add-wide
 add-wide c = search needs
 
--- src/bits.rt:39:18
 shared-slice-read-wide : tie.Need-shared-slice-read-wide
 shared-slice-read-wide c = search needs
 
--- src/bits.rt:39:9
 wide-requires : tie.Need-wide-requires
 wide-requires c κs = search needs
 
--- src/bits.rt:40:5
 mul-result : tie.Need-mul-result
 mul-result c = search needs
 
--- src/bits.rt:40:5
 add-result : tie.Need-add-result
 add-result c = search needs
 
--- src/bits.rt:34:1
 returns : tie.Need-returns
 returns c = let a = c .before .before .before .before .args in let g = (c .before .shared-slice-known2 .given (a .at + 4)) .fits in (sym (joined (a .s .now) (a .at * 8) ((a .at + 4) * 8) 32 8 _ _ (sym (c .before .before .quad .ensures .0)) (byte-at (a .s .now) (a .at + 4) g ∙ sym (c .wide .ensures .0)) (omega arith)), omega arith)
 

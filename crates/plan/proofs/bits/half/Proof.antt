@@ -1,43 +1,35 @@
-use mathlib.Core.Path.{_≡_, refl, sym, ap, _∙_}
-use Prim.Native.Nat.{ℕ, suc, _+_, _*_, _-_, _/_, _%_, _^_, _<_, _≤_}
+-- `half`: two bytes, joined.
+use mathlib.Core.Path.{sym}
+use Prim.Native.Nat.{ℕ, _+_, _*_, _<_}
 use native.Mathlib.Omega.{arith}
-use Rattle.plan.proofs.Reading.{joined, part-of, front-of, back-of, shl-one, procedures-lt, terms-lt, version-of, spare-of, monitor-of, fields-are, no-monitor-bit, monitor-bit, term-is, small-of}
+use Rattle.plan.proofs.Reading.{joined}
 use Rattle.format.proofs.BitLaws.{byte-at}
 use lib.ListN.{getD}
 use borrow.Author.Needs.{needs}
 use Rattle.plan.proofs.bits.half.Statement.{statement}
 use Rattle.plan.proofs.bits.half.Tie as tie
-use Rattle.plan.proofs.bits.wide.Reads as wide-reads
 
--- src/bits.rt:18:18
 shared-slice-read-wide : tie.Need-shared-slice-read-wide
 shared-slice-read-wide c = search needs
 
--- src/bits.rt:18:9
 wide-requires : tie.Need-wide-requires
 wide-requires c κs = search needs
 
--- src/bits.rt:19:20
 add-wide : tie.Need-add-wide
 add-wide c = search needs
 
--- src/bits.rt:19:18
 shared-slice-read-wide-2 : tie.Need-shared-slice-read-wide-2
 shared-slice-read-wide-2 c = search needs
 
--- src/bits.rt:19:9
 wide-requires-2 : tie.Need-wide-requires-2
 wide-requires-2 c κs = search needs
 
--- src/bits.rt:20:5
 mul-result : tie.Need-mul-result
 mul-result c = search needs
 
--- src/bits.rt:20:5
 add-result : tie.Need-add-result
 add-result c = search needs
 
--- src/bits.rt:14:1
 returns : tie.Need-returns
 returns c = let a = c .before .before .before .before .before .args in let g : (j : ℕ) → getD (a .s .now) j 0 < 256 = λ j. (c .before .shared-slice-known3 .given j) .fits in (rw (c .before .before .wide .ensures .0, c .wide2 .ensures .0) (sym (joined (a .s .now) (a .at * 8) ((a .at + 1) * 8) 8 8 _ _ (byte-at (a .s .now) (a .at) (g (a .at))) (byte-at (a .s .now) (a .at + 1) (g (a .at + 1))) (omega arith))), omega arith)
 

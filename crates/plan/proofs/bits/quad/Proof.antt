@@ -1,11 +1,11 @@
-use mathlib.Core.Path.{_≡_, refl, sym, ap, _∙_}
-use Prim.Native.Nat.{_+_, _*_, _-_, _/_, _%_, _^_, _<_, _≤_}
+-- `quad`: two numbers of 16 bits, joined.
+use mathlib.Core.Path.{sym}
+use Prim.Native.Nat.{_+_, _*_}
 use native.Mathlib.Omega.{arith}
 use Rattle.plan.proofs.Reading.{joined}
 use borrow.Author.Needs.{needs}
 use Rattle.plan.proofs.bits.quad.Statement.{statement}
 use Rattle.plan.proofs.bits.quad.Tie as tie
-use Rattle.plan.proofs.bits.half.Reads as half-reads
 
 half-requires : tie.Need-half-requires
 half-requires c κs = search needs

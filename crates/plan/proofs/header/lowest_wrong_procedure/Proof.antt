@@ -1,16 +1,15 @@
+-- `lowest_wrong_procedure`: the procedures so far are right.
 use Rattle.plan.specs.Refusals.{wrongProcedure}
 use Rattle.plan.proofs.Lowest.{found, found-none}
 use borrow.Author.Count.{below-more}
 use mathlib.Core.Bool.{false}
 use Prim.Native.Nat.{ℕ}
-use mathlib.Core.Path.{_≡_, refl, sym, ap, _∙_}
-use Prim.Native.Nat.{_+_, _*_, _-_, _/_, _%_, _^_, _<_, _≤_}
+use mathlib.Core.Path.{_≡_, sym, _∙_}
+use Prim.Native.Nat.{_-_, _<_, _≤_}
 use native.Mathlib.Omega.{arith}
-use borrow.Author.Tests.{lt-ltb, le-ltb, le-leb, lt-leb, eq-eqb, ne-eqb}
 use borrow.Author.Needs.{needs}
 use Rattle.plan.proofs.header.lowest_wrong_procedure.Statement.{statement}
 use Rattle.plan.proofs.header.lowest_wrong_procedure.Tie as tie
-use Rattle.plan.proofs.header.wrong_procedure.Reads as wrong-procedure-reads
 
 abbrev Inv-loop : tie.InvT-loop
 Inv-loop plan procs count p₀ p = (p ≤ procs) × ((k : ℕ) → k < p → wrongProcedure plan k ≡ false)

@@ -1,54 +1,45 @@
-use Rattle.plan.specs.Refusals.{usesUnboundSlot}
-use Rattle.plan.proofs.Walk.{open-of}
-use Rattle.plan.proofs.Lowest.{parameters-small, root-below, found, found-none}
-use Rattle.plan.proofs.Reading.{shl-one}
+-- `lowest_open`: the trees of the array are the plan's, and the parameters of a procedure are the first slots.
+use mathlib.Core.Path.{_≡_, ap, _∙_}
+use borrow.Author.Needs.{needs}
+use native.Mathlib.Omega.{arith}
+use Prim.Native.Nat.{ℕ, _-_, _≤_, _<_}
+use mathlib.Core.Bool.{false}
 use borrow.Author.Count.{below-more}
 use lib.Pow.{pow-pos}
-use mathlib.Core.Bool.{false, not}
-use Prim.Native.Nat.{ℕ, suc}
-use native.Mathlib.Numerals.{add-one}
-use mathlib.Core.Path.{_≡_, refl, sym, ap, _∙_}
-use Prim.Native.Nat.{_+_, _*_, _-_, _/_, _%_, _^_, _<_, _≤_}
-use native.Mathlib.Omega.{arith}
-use borrow.Author.Needs.{needs}
+use Rattle.plan.specs.Refusals.{usesUnboundSlot}
+use Rattle.plan.specs.Slots.{closed}
+use Rattle.plan.proofs.Reading.{shl-one}
+use Rattle.plan.proofs.Lowest.{parameters-small, root-below, found, found-none}
+use Rattle.plan.proofs.Walk.{open-of, ordered, tree-is}
 use Rattle.plan.proofs.slots.lowest_open.Statement.{statement}
 use Rattle.plan.proofs.slots.lowest_open.Tie as tie
-use Rattle.plan.proofs.slots.closed_expression.Reads as closed-expression-reads
-use Rattle.plan.proofs.layout.parameters.Reads as parameters-reads
-use Rattle.plan.proofs.layout.root.Reads as root-reads
 
 abbrev Inv-loop : tie.InvT-loop
-Inv-loop plan procs count p₀ p = (p ≤ procs) × ((k : ℕ) → k < p → usesUnboundSlot plan k ≡ false)
+Inv-loop plan procs count words p₀ p = (p ≤ procs) × ((k : ℕ) → k < p → usesUnboundSlot plan k ≡ false)
 
 abbrev μ-loop : tie.MeasureT-loop
-μ-loop plan procs count p₀ p = procs - p
+μ-loop plan procs count words p₀ p = procs - p
 
 loop-holds : tie.Need-loop-holds Inv-loop μ-loop
 loop-holds c = (search needs, λ k h. absurd (omega arith))
 
 parameters-requires : tie.Need-parameters-requires Inv-loop μ-loop
-parameters-requires c κs = omega (arith, c .before .before .before .pre .headed .sized)
+parameters-requires c κs = let s = c .before .before .before in let a = s .args in let b = a .plan .now in let r = s .pre .0 in let z = r .headed .sized in omega (arith, z)
 
 shl-bound : tie.Need-shl-bound Inv-loop μ-loop
-shl-bound c = omega (arith, parameters-small (c .before .before .before .before .args .plan .now) (c .before .before .before .before .args .procs) (c .before .before .before .before .args .count) (c .before .before .loop .p) (c .before .before .before .before .pre .headed) (c .before .loop-test .taken))
+shl-bound c = let s = c .before .before .before .before in let a = s .args in let b = a .plan .now in let r = s .pre .0 in omega (arith, parameters-small b (a .procs) (a .count) (c .before .before .loop .p) (r .headed) (c .before .loop-test .taken))
 
 sub-bound : tie.Need-sub-bound Inv-loop μ-loop
-sub-bound c = rw (shl-one (c .parameters .result) (omega (arith, parameters-small (c .before .before .before .before .args .plan .now) (c .before .before .before .before .args .procs) (c .before .before .before .before .args .count) (c .before .before .loop .p) (c .before .before .before .before .pre .headed) (c .before .loop-test .taken)))) (omega (arith, pow-pos (c .parameters .result)))
+sub-bound c = let s = c .before .before .before .before in let a = s .args in let b = a .plan .now in let r = s .pre .0 in rw (shl-one (c .parameters .result) (omega (arith, parameters-small b (a .procs) (a .count) (c .before .before .loop .p) (r .headed) (c .before .loop-test .taken)))) (omega (arith, pow-pos (c .parameters .result)))
 
 root-requires : tie.Need-root-requires Inv-loop μ-loop
-root-requires c κs = omega (arith, c .before .before .before .before .pre .headed .sized)
+root-requires c κs = let s = c .before .before .before .before in let a = s .args in let b = a .plan .now in let r = s .pre .0 in let z = r .headed .sized in omega (arith, z)
 
 closed-expression-requires : tie.Need-closed-expression-requires Inv-loop μ-loop
-closed-expression-requires c κs = (c .before .before .before .before .before .pre, rw (c .root .ensures) (root-below (c .before .before .before .before .before .args .plan .now) (c .before .before .before .before .before .args .procs) (c .before .before .before .before .before .args .count) (c .before .before .before .loop .p) (c .before .before .before .before .before .pre .headed) (c .before .before .loop-test .taken)))
+closed-expression-requires c κs = let s = c .before .before .before .before .before in let a = s .args in let b = a .plan .now in let r = s .pre .0 in let f = r .headed .few in (ordered b (a .procs) (a .count) r (a .words .now) (s .pre .1), omega (arith, c .root .ensures, root-below b (a .procs) (a .count) (c .before .before .before .loop .p) (r .headed) (c .before .before .loop-test .taken)))
 
 returns : tie.Need-returns Inv-loop μ-loop
-returns c =
-    let a = c .before .before .before .before .before .before .before .args in
-    let l = c .before .before .before .before .before .loop in
-    let r = c .before .before .before .before .before .before .before .pre in
-    let small = parameters-small (a .plan .now) (a .procs) (a .count) (l .p) (r .headed) (c .before .before .before .before .loop-test .taken) in
-    let o = open-of (a .plan .now) (l .p) (c .before .before .before .parameters .result) (c .before .before .root .result) (c .before .closed-expression .result) (c .before .before .before .parameters .ensures) (omega (arith, small, c .before .before .before .parameters .ensures)) (c .before .before .root .ensures) (c .before .closed-expression .ensures) in
-    found (usesUnboundSlot (a .plan .now)) _ _ (c .before .before .before .before .loop-test .taken) (o ∙ c .if1 .taken) (l .inv .1)
+returns c = let s = c .before .before .before .before .before .before .before in let a = s .args in let b = a .plan .now in let r = s .pre .0 in let ws = a .words .now in let l = c .before .before .before .before .before .loop in let k = c .before .before .before .parameters in let t = c .before .before .root in let x = c .before .closed-expression in let o = open-of b (l .p) (k .result) (t .result) (x .result) (k .ensures) (omega (arith, parameters-small b (a .procs) (a .count) (c .before .before .before .before .before .loop .p) (r .headed) (c .before .before .before .before .loop-test .taken), k .ensures)) (t .ensures) (x .ensures ∙ ap (closed _) (tree-is b (a .procs) (a .count) r ws (s .pre .1) (t .result))) in found (usesUnboundSlot b) _ _ (c .before .before .before .before .loop-test .taken) (o ∙ c .if1 .taken) (l .inv .1)
 
 add-p : tie.Need-add-p Inv-loop μ-loop
 add-p c = search needs
@@ -57,13 +48,7 @@ loop-less : tie.Need-loop-less Inv-loop μ-loop
 loop-less c = search needs
 
 loop-again : tie.Need-loop-again Inv-loop μ-loop
-loop-again c =
-    let a = c .before .before .before .before .before .before .before .args in
-    let l = c .before .before .before .before .before .loop in
-    let r = c .before .before .before .before .before .before .before .pre in
-    let small = parameters-small (a .plan .now) (a .procs) (a .count) (l .p) (r .headed) (c .before .before .before .before .loop-test .taken) in
-    let o = open-of (a .plan .now) (l .p) (c .before .before .before .parameters .result) (c .before .before .root .result) (c .before .closed-expression .result) (c .before .before .before .parameters .ensures) (omega (arith, small, c .before .before .before .parameters .ensures)) (c .before .before .root .ensures) (c .before .closed-expression .ensures) in
-    (search needs, below-more _ _ (l .inv .1) (o ∙ c .if1 .left))
+loop-again c = let s = c .before .before .before .before .before .before .before in let a = s .args in let b = a .plan .now in let r = s .pre .0 in let ws = a .words .now in let l = c .before .before .before .before .before .loop in let k = c .before .before .before .parameters in let t = c .before .before .root in let x = c .before .closed-expression in let o = open-of b (l .p) (k .result) (t .result) (x .result) (k .ensures) (omega (arith, parameters-small b (a .procs) (a .count) (c .before .before .before .before .before .loop .p) (r .headed) (c .before .before .before .before .loop-test .taken), k .ensures)) (t .ensures) (x .ensures ∙ ap (closed _) (tree-is b (a .procs) (a .count) r ws (s .pre .1) (t .result))) in (search needs, below-more _ _ (l .inv .1) (o ∙ c .if1 .left))
 
 returns-2 : tie.Need-returns-2 Inv-loop μ-loop
 returns-2 c = found-none (usesUnboundSlot (c .before .before .before .args .plan .now)) _ _ (search needs) (search needs) (c .before .loop .inv .1)
