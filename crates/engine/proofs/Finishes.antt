@@ -8,15 +8,15 @@ use Rattle.moves.specs.declared.state.Counts.{Counts}
 use Rattle.moves.specs.declared.look.Sight.{Sight}
 use Rattle.moves.specs.declared.act.Acted.{Acted}
 use Rattle.engine.specs.declared.Turn.{Turn}
-use Rattle.engine.specs.Machine.{turnBy, settled, landBorn, Finished, finishOf}
+use Rattle.engine.specs.Machine.{turnBy, settled, landBorn, Finished, youngOf, finishOf}
 
 pub finished : (ws rs : List ℕ) (n : Counts) (p : ℕ) (w : Sight) (h : Head) (a : Acted) (k : Stack) (x y : Ended) (t : Turn)
     → x ≡ landOf 2100 ws rs (p * 33) k (a .go) (h .depth % 33)
-    → y ≡ landOf 2100 ws rs (n .threads % 9 * 33) (x .stack) (a .born) 0
-    → t ≡ turnBy n w h a (x .landed) (y .landed)
+    → y ≡ youngOf ws rs n h a (x .stack)
+    → t ≡ turnBy w h a (x .landed) (y .landed)
     → _≡_ {A = Finished} (record { stack = y .stack; turn = t }) (finishOf ws rs n p w h a k)
 unfolding finishOf
 finished ws rs n p w h a k x y t qx qy qt =
     ap (λ (t : Turn). record { stack = y .stack; turn = t }) qt
-    ∙ ap (λ (y : Ended). settled n w h a (x .landed) y) qy
+    ∙ ap (λ (y : Ended). settled w h a (x .landed) y) qy
     ∙ ap (λ (x : Ended). landBorn ws rs n w h a x) qx

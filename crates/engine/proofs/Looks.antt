@@ -1,8 +1,9 @@
 -- A thread's look and act, found by its cell's number; the threads at the end, seen one after the other. Assumes nothing.
 use mathlib.Core.Path.{_≡_, refl}
 use mathlib.Core.List.{List}
-use Prim.Native.Nat.{ℕ, zero, suc, _+_, _-_, _/_, _%_, _<_}
+use Prim.Native.Nat.{ℕ, zero, suc, _+_, _-_, _/_, _%_, _<_, _≤_}
 use native.Mathlib.Omega.{arith}
+use borrow.Author.Tests.{le-leb, lt-leb}
 use lib.ListN.{getD, set, replicate}
 use Rattle.moves.specs.declared.state.Head.{Head}
 use Rattle.moves.specs.declared.state.Cell.{Cell}
@@ -13,11 +14,15 @@ use Rattle.moves.specs.declared.look.Sight.the-variants as sight
 use Rattle.moves.specs.Look.{lookOf}
 use Rattle.moves.specs.Act.{actOf}
 use Rattle.engine.specs.declared.Seen.{Seen}
-use Rattle.engine.specs.Machine.{noHead, noCell, noThing, headAt, Placed, lookAt, actAt, seenAt, seenOf}
+use Rattle.engine.specs.Machine.{noHead, noCell, noThing, headAt, Placed, sightOf, lookAt, actAt, seenAt, seenOf}
+
+-- a thread that is there is looked at
+pub present : (mask : ℕ) (n : Counts) (p : ℕ) (h : Head) (c : Cell) (t : Object) (q : Head) → p < n .threads → lookOf mask h c t (q .ready .part) ≡ sightOf mask n p h c t q
+present mask n p h c t q e = rw (lt-leb _ _ e)
 
 module _ (mask : ℕ) (n : Counts) (l : List Head) (cs : List Cell) (ts : List Object) where
   module _ (p k : ℕ) (q : Placed (headAt l p .ready) k) where
-    pub looked : lookOf mask n p (headAt l p) (getD cs k noCell) (getD ts (k / 32) noThing) (getD l (getD ts (k / 32) noThing .thread % 9) noHead) ≡ lookAt mask n l cs ts p
+    pub looked : sightOf mask n p (headAt l p) (getD cs k noCell) (getD ts (k / 32) noThing) (getD l (getD ts (k / 32) noThing .thread % 9) noHead) ≡ lookAt mask n l cs ts p
     unfolding lookAt
     looked = rw (q .object, q .cell)
 
@@ -27,6 +32,10 @@ module _ (mask : ℕ) (n : Counts) (l : List Head) (cs : List Cell) (ts : List O
 
     pub seen : (w : Sight) → w ≡ lookAt mask n l cs ts p → record { sight = w; value = headAt l p .ready .a; object = k / 32; field = k % 32 } ≡ seenAt mask n l cs ts p
     seen w e = rw (e, q .object, q .field)
+
+  pub absent : (p : ℕ) → n .threads ≤ p → lookAt mask n l cs ts p ≡ sight.Absent
+  unfolding lookAt
+  absent p h = rw (le-leb _ _ h)
 
   -- the next threads, as many as are left, put at their numbers
   unfoldable pub seenFrom : ℕ → ℕ → List Seen → List Seen

@@ -1,6 +1,6 @@
 -- How a run begins, goes on, passes a pick over, and stops. Assumes nothing.
-use mathlib.Core.Path.{_≡_, refl, ap, _∙_}
-use mathlib.Core.Bool.{true, false}
+use mathlib.Core.Path.{_≡_, refl, sym, ap, _∙_}
+use mathlib.Core.Bool.{Bool, true, false}
 use mathlib.Core.List.{List, [], _∷_}
 use Prim.Native.Nat.{ℕ, _+_, _%_}
 use lib.ListN.{getD, set, replicate}
@@ -13,9 +13,10 @@ use Rattle.moves.specs.declared.state.Object.{Object}
 use Rattle.moves.specs.declared.act.Acted.{Acted}
 use Rattle.moves.specs.declared.settle.Answer.{Answer}
 use Rattle.moves.specs.declared.settle.Answer.the-variants as answer
-use Rattle.moves.specs.Settle.{passesOf}
+use Rattle.moves.specs.Settle.{passesOf, forksOf, moverOf, bornOf}
+use Rattle.engine.specs.declared.Stop.{Stop}
 use Rattle.engine.specs.declared.Tally.{Tally}
-use Rattle.engine.specs.Machine.{Machine, Finished, headAt, cellNumber, headOf, cellFirst, noThing, tallyFirst, tallyPut, tallyMoved, logPut, stopOf, metBy, actedBy, finishedBy, stopped, logged, after, startOf, playOf}
+use Rattle.engine.specs.Machine.{Machine, Finished, Played, endOf, headAt, cellNumber, headOf, cellFirst, noThing, tallyFirst, tallyPut, tallyMoved, logPut, stopOf, metBy, actedBy, finishedBy, stopped, logged, withYoung, after, startOf, playOf}
 
 module _ (ws rs : List ℕ) (mask : ℕ) where
   abbrev begun : Head → Cell → Object → Tally → List ℕ → Machine
@@ -55,15 +56,35 @@ module _ (ws rs : List ℕ) (mask : ℕ) where
     stops t answer.Race h g qt e = rw (g, ← qt, e)
     stops t (answer.NoRoom r) h g qt e = rw (g, ← qt, e)
 
+-- the heads, where a thread was made and where none was
+pub young-made : (forks : Bool) (hs hs′ : List Head) (q : ℕ) (y y′ : Head) → forks ≡ true → y ≡ y′ → hs′ ≡ set hs q y → hs′ ≡ withYoung forks hs q y′
+young-made forks hs hs′ q y y′ k e h = h ∙ ap (set hs q) e ∙ ap (λ (x : Bool). withYoung x hs q y′) (sym k)
+
+pub young-none : (forks : Bool) (hs hs′ : List Head) (q : ℕ) (y : Head) → forks ≡ false → hs′ ≡ hs → hs′ ≡ withYoung forks hs q y
+young-none forks hs hs′ q y k h = h ∙ ap (λ (x : Bool). withYoung x hs q y) (sym k)
+
+-- an end by the same numbers is the same end
+pub ends-as : (mask : ℕ) (hs : List Head) (cs : List Cell) (ts : List Object) (e e′ : Stop) (i i′ : ℕ) (s s′ : Tally) (l l′ : List ℕ) → e ≡ e′ → i ≡ i′ → s ≡ s′ → l ≡ l′
+    → _≡_ {A = Played} (record { ran = endOf e i mask s hs cs ts; area = l }) (record { ran = endOf e′ i′ mask s′ hs cs ts; area = l′ })
+ends-as mask hs cs ts e e′ i i′ s s′ l l′ qe qi qs ql = rw (qe, qi, qs, ql)
+
+pub ends-so : (mask : ℕ) (hs : List Head) (cs : List Cell) (ts : List Object) (e e₁ e₂ : Stop) (i i₂ : ℕ) (s s₁ s₂ : Tally) (l l₁ l₂ : List ℕ) (x : Played)
+    → e ≡ e₁ → e₁ ≡ e₂ → i ≡ i₂ → s ≡ s₁ → s₁ ≡ s₂ → l ≡ l₁ → l₁ ≡ l₂ → record { ran = endOf e₂ i₂ mask s₂ hs cs ts; area = l₂ } ≡ x
+    → record { ran = endOf e i mask s hs cs ts; area = l } ≡ x
+ends-so mask hs cs ts e e₁ e₂ i i₂ s s₁ s₂ l l₁ l₂ x p q r t u v w h = ends-as mask hs cs ts e e₂ i i₂ s s₂ l l₂ (p ∙ q) r (t ∙ u) (v ∙ w) ∙ h
+
 -- the machine where a turn ends is the machine after the pick
-pub after-is : (m : Machine) (p : ℕ) (a : Acted) (t : Finished) (k : ℕ) (s : Tally) (l : List ℕ)
-    → k ≡ cellNumber (headAt (m .heads) p .ready) → s ≡ tallyMoved (tallyPut (m .tally) (t .turn .entry)) a → l ≡ logPut (m .log) (m .tally .records) p (t .turn .entry)
+pub after-is : (m : Machine) (p : ℕ) (a : Acted) (t : Finished) (k : ℕ) (hs : List Head) (h : Head) (s : Tally) (l : List ℕ)
+    → k ≡ cellNumber (headAt (m .heads) p .ready)
+    → hs ≡ withYoung (forksOf a) (m .heads) (m .tally .counts .threads % 9) (bornOf (m .tally .counts) (headAt (m .heads) p) (t .turn .born))
+    → h ≡ moverOf a (headAt (m .heads) p) (t .turn .landed)
+    → s ≡ tallyMoved (tallyPut (m .tally) (t .turn .entry)) a → l ≡ logPut (m .log) (m .tally .records) p (t .turn .entry)
     → _≡_ {A = Machine} (record {
-      heads = set (set (m .heads) (m .tally .counts .threads % 9) (t .turn .young)) p (t .turn .mover);
+      heads = set hs p h;
       cells = set (m .cells) k (a .cell);
       objects = set (m .objects) (m .tally .counts .objects % 33) (a .thing);
       stack = t .stack;
       tally = s;
       log = l;
     }) (after m p a t)
-after-is m p a t k s l qk qs ql = rw (qk, qs, ql)
+after-is m p a t k hs h s l qk qhs qh qs ql = rw (qk, qhs, qh, qs, ql)

@@ -3,27 +3,29 @@ use Prim.Native.Nat.{ℕ, zero, suc, _+_, _*_, _/_, _%_, _<_}
 use mathlib.Core.Path.{_≡_}
 use mathlib.Core.Bool.{Bool, true, false, cond}
 use mathlib.Core.List.{List, [], _∷_}
-use lib.Dec.{eqb}
+use lib.Dec.{eqb, leb}
 use lib.ListN.{getD, set, replicate}
 use Rattle.keys.specs.declared.KeySet.{KeySet}
 use Rattle.keys.specs.KeySet.{emptySet, zeroSet}
-use Rattle.landing.specs.declared.go.Part.the-variants as part
+use Rattle.landing.specs.Parts.{Part as part}
 use Rattle.landing.specs.declared.go.Ready.{Ready}
 use Rattle.landing.specs.declared.land.Landed.{Landed}
-use Rattle.landing.specs.Going.{readyOf}
-use Rattle.landing.specs.Landing.{Stack, Ended, landOf}
+use Rattle.landing.specs.declared.go.Go.{Go}
+use Rattle.landing.specs.Going.{readyOf, goRun, goFull}
+use Rattle.landing.specs.Landing.{Stack, Ended, ended, landOf}
 use Rattle.moves.specs.declared.state.Head.{Head}
 use Rattle.moves.specs.declared.state.Cell.{Cell}
 use Rattle.moves.specs.declared.state.Object.{Object}
 use Rattle.moves.specs.declared.state.Counts.{Counts}
 use Rattle.moves.specs.declared.state.Entry.{Entry}
 use Rattle.moves.specs.declared.look.Sight.{Sight}
+use Rattle.moves.specs.declared.look.Sight.the-variants as sight
 use Rattle.moves.specs.declared.act.Acted.{Acted}
 use Rattle.moves.specs.declared.settle.Answer.{Answer}
 use Rattle.moves.specs.declared.settle.Answer.the-variants as answer
 use Rattle.moves.specs.Look.{objectOf, fieldOf, lookOf}
 use Rattle.moves.specs.Act.{actOf, cellOf, countsOf}
-use Rattle.moves.specs.Settle.{passesOf, answerOf, moverOf, bornOf, entryBy}
+use Rattle.moves.specs.Settle.{passesOf, forksOf, answerOf, moverOf, bornOf, entryBy}
 use Rattle.engine.specs.declared.Stop.{Stop}
 use Rattle.engine.specs.declared.Stop.the-variants as stop
 use Rattle.engine.specs.declared.Seen.{Seen}
@@ -73,8 +75,11 @@ thingAt l ts p = getD ts (objectOf (headAt l p .ready)) noThing
 abbrev pub otherAt : List Head → List Object → ℕ → Head
 otherAt l ts p = getD l (thingAt l ts p .thread % 9) noHead
 
+abbrev pub sightOf : ℕ → Counts → ℕ → Head → Cell → Object → Head → Sight
+sightOf mask n p h c t q = cond (leb (n .threads) p) sight.Absent (lookOf mask h c t (q .ready .part))
+
 unfoldable pub lookAt : ℕ → Counts → List Head → List Cell → List Object → ℕ → Sight
-lookAt mask n l cs ts p = lookOf mask n p (headAt l p) (cellAt l cs p) (thingAt l ts p) (otherAt l ts p)
+lookAt mask n l cs ts p = sightOf mask n p (headAt l p) (cellAt l cs p) (thingAt l ts p) (otherAt l ts p)
 
 unfoldable pub actAt : ℕ → Counts → List Head → List Cell → List Object → ℕ → Acted
 actAt mask n l cs ts p = actOf mask n (headAt l p) (cellAt l cs p) (thingAt l ts p) (otherAt l ts p)
@@ -85,20 +90,22 @@ pub record Finished : Type 0 where
   pub stack : Stack
   pub turn : Turn
 
-abbrev pub turnBy : Counts → Sight → Head → Acted → Landed → Landed → Turn
-turnBy n w h a l b =
-    record {
-      answer = answerOf w a l b;
-      entry = entryBy (answerOf w a l b) (h .ready) a;
-      mover = moverOf a h l;
-      young = bornOf n h b;
-    }
+-- where a forked thread starts
+abbrev pub youngGo : Head → Go
+youngGo h = goRun (h .ready .a) (h .ready .env)
 
-abbrev pub settled : Counts → Sight → Head → Acted → Landed → Ended → Finished
-settled n w h a l y = record { stack = y .stack; turn = turnBy n w h a l (y .landed) }
+-- the landing of the thread that a fork makes; another move makes none
+unfoldable pub youngOf : List ℕ → List ℕ → Counts → Head → Acted → Stack → Ended
+youngOf ws rs n h a k = cond (forksOf a) (landOf 2100 ws rs (n .threads % 9 * 33) k (youngGo h) 0) (ended k goFull 0)
+
+abbrev pub turnBy : Sight → Head → Acted → Landed → Landed → Turn
+turnBy w h a l b = record { answer = answerOf w a l b; entry = entryBy (answerOf w a l b) (h .ready) a; landed = l; born = b }
+
+abbrev pub settled : Sight → Head → Acted → Landed → Ended → Finished
+settled w h a l y = record { stack = y .stack; turn = turnBy w h a l (y .landed) }
 
 abbrev pub landBorn : List ℕ → List ℕ → Counts → Sight → Head → Acted → Ended → Finished
-landBorn ws rs n w h a x = settled n w h a (x .landed) (landOf 2100 ws rs (n .threads % 9 * 33) (x .stack) (a .born) 0)
+landBorn ws rs n w h a x = settled w h a (x .landed) (youngOf ws rs n h a (x .stack))
 
 unfoldable pub finishOf : List ℕ → List ℕ → Counts → ℕ → Sight → Head → Acted → Stack → Finished
 finishOf ws rs n p w h a k = landBorn ws rs n w h a (landOf 2100 ws rs (p * 33) k (a .go) (h .depth % 33))
@@ -170,11 +177,15 @@ logged m p t =
       log = logPut (m .log) (m .tally .records) p (t .turn .entry);
     }
 
+-- the heads with a new thread's, which only a fork makes
+abbrev pub withYoung : Bool → List Head → ℕ → Head → List Head
+withYoung forks l q y = cond forks (set l q y) l
+
 -- the machine after a pick that moved
 abbrev pub after : Machine → ℕ → Acted → Finished → Machine
 after m p a t =
     record {
-      heads = set (set (m .heads) (m .tally .counts .threads % 9) (t .turn .young)) p (t .turn .mover);
+      heads = set (withYoung (forksOf a) (m .heads) (m .tally .counts .threads % 9) (bornOf (m .tally .counts) (headAt (m .heads) p) (t .turn .born))) p (moverOf a (headAt (m .heads) p) (t .turn .landed));
       cells = set (m .cells) (cellNumber (headAt (m .heads) p .ready)) (a .cell);
       objects = set (m .objects) (m .tally .counts .objects % 33) (a .thing);
       stack = t .stack;

@@ -4,11 +4,12 @@ ghost use mathlib.Core.Path.{_≡_};
 ghost use Prim.Native.Nat.{_<_, _≤_, _+_, _*_};
 ghost use lib.ListN.{length};
 ghost use Rattle.landing.specs.Landing.{Stack};
-ghost use Rattle.engine.specs.Machine.{Placed, headOf, cellFirst, noThing, tallyFirst, tallyPut, tallyMoved, logPut, stopOf, finishOf, Finished, endOf, startOf, playOf};
+ghost use Rattle.engine.specs.Machine.{Placed, headOf, cellFirst, noThing, tallyFirst, tallyPut, tallyMoved, logPut, stopOf, youngOf, finishOf, Finished, sightOf, endOf, startOf, playOf};
 use keys::KeySet;
 use landing::go;
-use landing::go::Part;
 use landing::land;
+use landing::land::Landed;
+use landing::part;
 use moves::act;
 use moves::act::Acted;
 use moves::act::Room;
@@ -52,19 +53,19 @@ pub struct Tally {
     pub records: usize,
 }
 
-// What a move comes to, once its landings are known.
+// What a move comes to, with the landing of the mover and of the thread that it makes.
 pub struct Turn {
     pub answer: Answer,
     pub entry: Entry,
-    pub mover: Head,
-    pub young: Head,
+    pub landed: Landed,
+    pub born: Landed,
 }
 
 // About to call main.
 fn first_head(root: usize) -> Head
     ensures { λ r. ⌜ r ≡ headOf root ⌝ }
 {
-    let call = go::ready_of(Part::Run, root, 0, 0, 0);
+    let call = go::ready_of(part::RUN, root, 0, 0, 0);
     let one = KeySet::zero();
     Head {
         ready: call,
@@ -167,6 +168,27 @@ fn stop_of(a: Answer) -> Stop
     }
 }
 
+// Lands the thread that a fork makes; another move makes none.
+fn land_young(
+    words: &[usize; 1024],
+    roots: &[usize; 32],
+    tops: &mut [usize; 297],
+    envs: &mut [usize; 297],
+    args: &mut [usize; 297],
+    n: Counts,
+    h: Head,
+    a: Acted,
+) -> Landed
+    ensures { λ r. ⌜ (record { stack = record { tops = now (tops .exit); envs = now (envs .exit); args = now (args .exit) }; landed = r }) ≡ youngOf (now (words .entry)) (now (roots .entry)) n h a (record { tops = now (tops .entry); envs = now (envs .entry); args = now (args .entry) }) ⌝ }
+{
+    if settle::forks(a) {
+        let x = h.ready;
+        let start = go::run(x.a, x.env);
+        return land::land(words, roots, tops, envs, args, n.threads % 9 * 33, start, 0);
+    }
+    land::end_at(go::full(), 0)
+}
+
 // Lands the mover and the new thread, then settles.
 fn finish(
     words: &[usize; 1024],
@@ -184,20 +206,37 @@ fn finish(
     ensures { λ r. ⌜ (record { stack = record { tops = now (tops .exit); envs = now (envs .exit); args = now (args .exit) }; turn = r }) ≡ finishOf (now (words .entry)) (now (roots .entry)) n p w h a (record { tops = now (tops .entry); envs = now (envs .entry); args = now (args .entry) }) ⌝ }
 {
     let go = a.go;
-    let start = a.born;
-    let l = land::land(words, roots, tops, envs, args, p * 33, go, h.depth % 33);
-    let b = land::land(words, roots, tops, envs, args, n.threads % 9 * 33, start, 0);
+    let l = land::land(
+        words,
+        roots,
+        &mut *tops,
+        &mut *envs,
+        &mut *args,
+        p * 33,
+        go,
+        h.depth % 33,
+    );
+    let b = land_young(words, roots, tops, envs, args, n, h, a);
     let answer = settle::answer_to(w, a, l, b);
     let x = h.ready;
     let e = settle::entry_of(answer, x, a);
-    let mover = settle::mover(a, h, l);
-    let young = settle::born(n, h, b);
     Turn {
         answer: answer,
         entry: e,
-        mover: mover,
-        young: young,
+        landed: l,
+        born: b,
     }
+}
+
+// What thread p's next pick meets, an absent thread's included.
+fn sight_of(mask: usize, n: Counts, p: usize, h: Head, c: Cell, t: Object, other: Head) -> Sight
+    ensures { λ r. ⌜ r ≡ sightOf mask n p h c t other ⌝ }
+{
+    if n.threads <= p {
+        return Sight::Absent;
+    }
+    let x = other.ready;
+    look::look(mask, h, c, t, x.part)
 }
 
 // The run's end, with what each of the eight threads would meet.
@@ -227,7 +266,7 @@ fn end_of(
         let c = cells[k];
         let t = objects[k / 32];
         let other = heads[t.thread % 9];
-        let w = look::look(mask, n, p, h, c, t, other);
+        let w = sight_of(mask, n, p, h, c, t, other);
         all[p] = Seen {
             sight: w,
             value: x.a,
@@ -263,15 +302,21 @@ pub fn run(
     let mut envs = [0usize; 297];
     let mut args = [0usize; 297];
     let mut s = first_tally();
+    let mut stop = Stop::End;
+    let mut dealt = picks.len();
     for i in 0..picks.len() {
         let p = (picks[i] % 8) as usize;
+        let n = s.counts;
+        if n.threads <= p {
+            continue;
+        }
         let h = heads[p];
         let k = cell_of(h);
         let c = cells[k];
         let t = objects[k / 32];
         let other = heads[t.thread % 9];
-        let n = s.counts;
-        let w = look::look(mask, n, p, h, c, t, other);
+        let x = other.ready;
+        let w = look::look(mask, h, c, t, x.part);
         if settle::passes(w) {
             continue;
         }
@@ -280,17 +325,23 @@ pub fn run(
         s = put(&mut *log, s, p, m);
         let answer = m.answer;
         let Answer::Moved = answer else {
-            return end_of(stop_of(answer), i, mask, s, heads, cells, objects);
+            stop = stop_of(answer);
+            dealt = i;
+            break;
         };
-        let young = m.young;
-        let mover = m.mover;
+        let b = m.born;
+        if settle::forks(a) {
+            let young = settle::born(n, h, b);
+            heads[n.threads % 9] = young;
+        }
+        let l = m.landed;
+        let mover = settle::mover(a, h, l);
         let cell = a.cell;
         let thing = a.thing;
-        heads[n.threads % 9] = young;
         heads[p] = mover;
         cells[k] = cell;
         objects[n.objects % 33] = thing;
         s = moved(s, a);
     }
-    end_of(Stop::End, picks.len(), mask, s, heads, cells, objects)
+    end_of(stop, dealt, mask, s, heads, cells, objects)
 }

@@ -6,16 +6,14 @@ use native.Mathlib.Omega.{arith}
 use native.Mathlib.Decide.{decLt}
 use borrow.Author.Tests.{lt-ltb, le-ltb}
 use lib.Dec.{eqb, ltb}
-use Rattle.landing.specs.declared.frame.Kind.the-variants as kind
 use Rattle.landing.specs.declared.frame.Frame.{Frame}
 use Rattle.landing.specs.declared.go.Stage.{Stage}
 use Rattle.landing.specs.declared.go.Stage.the-variants as stage
 use Rattle.landing.specs.declared.go.Go.{Go}
 use Rattle.landing.specs.declared.down.Turn.{Turn}
-use Rattle.landing.specs.Words.{wordAt, tagOf, procedureBits, listBits, valueOf, truthOf}
-use Rattle.landing.specs.Frames.{framed}
+use Rattle.landing.specs.Words.{valueOf, truthOf}
 use Rattle.landing.specs.Going.{goRun, goRunCondition}
-use Rattle.landing.specs.Down.{pushOf, wantBy, wantOf, wantConditionBy, wantConditionOf, listBy, listOf, runBy, runOf, runConditionBy, runConditionOf, backOf, backConditionOf, stepBy, stepOf}
+use Rattle.landing.specs.Down.{pushOf, wantBy, wantOf, wantConditionBy, wantConditionOf, openedOf, listedOf, wantedBy, downOf, backOf, backConditionOf, stepBy, stepOf}
 
 abbrev pub Within : Turn → Type 0
 Within m = (m .depth ≤ 32) × (m .at ≤ 32)
@@ -40,28 +38,19 @@ want-condition-in : (ws : List ℕ) (f : Frame) (i d : ℕ) → d ≤ 32 → Wit
 unfolding wantConditionOf wantConditionBy
 want-condition-in ws f i d h = either-in (ltb (truthOf ws i) 2) _ _ (h, h) (push-in (goRunCondition i (f .env)) d f h)
 
-list-in : (ws rs : List ℕ) (f : Frame) (d : ℕ) → d ≤ 32 → Within (listOf ws rs f d)
-unfolding listOf listBy
-list-in ws rs f d h = either-in (eqb (tagOf (wordAt ws (f .a))) 16) _ _ (want-in ws _ _ d h) (h, h)
+wanted-in : (s : Stage) (ws : List ℕ) (g : Go) (d : ℕ) → d ≤ 32 → Within (wantedBy s ws g d)
+wanted-in stage.Full ws g d h = (h, h)
+wanted-in stage.At ws g d h = (h, h)
+wanted-in stage.Run ws g d h = (h, h)
+wanted-in stage.RunCondition ws g d h = (h, h)
+wanted-in stage.Want ws g d h = want-in ws (g .frame) (g .i) d h
+wanted-in stage.WantCondition ws g d h = want-condition-in ws (g .frame) (g .i) d h
+wanted-in stage.List ws g d h = (h, h)
+wanted-in stage.Value ws g d h = (h, h)
+wanted-in stage.Truth ws g d h = (h, h)
 
-run-in : (ws rs : List ℕ) (t e d : ℕ) → d ≤ 32 → Within (runOf ws rs t e d)
-unfolding runOf runBy
-run-in ws rs t e d h =
-    let k = tagOf (wordAt ws t) in
-    either-in (eqb k 3) _ _ (want-in ws _ _ d h)
-    (either-in (eqb k 4) _ _ (want-in ws _ _ d h)
-    (either-in (eqb k 5) _ _ (want-in ws _ _ d h)
-    (either-in (eqb k 6) _ _ (want-condition-in ws _ _ d h)
-    (either-in (eqb k 8) _ _ (list-in ws rs (framed kind.Call (listBits (wordAt ws t)) 0 (procedureBits (wordAt ws t)) e) d h)
-    (either-in (eqb k 10) _ _ (want-in ws _ _ d h) (either-in (eqb k 11) _ _ (want-in ws _ _ d h) (h, h)))))))
-
-run-condition-in : (ws : List ℕ) (t e d : ℕ) → d ≤ 32 → Within (runConditionOf ws t e d)
-unfolding runConditionOf runConditionBy
-run-condition-in ws t e d h =
-    let k = tagOf (wordAt ws t) in
-    either-in (eqb k 12) _ _ (h, h)
-    (either-in (eqb k 13) _ _ (want-condition-in ws _ _ d h)
-    (either-in (eqb k 14) _ _ (want-condition-in ws _ _ d h) (either-in (eqb k 15) _ _ (want-in ws _ _ d h) (h, h))))
+down-in : (ws rs : List ℕ) (g : Go) (d : ℕ) → d ≤ 32 → Within (downOf ws rs g d)
+down-in ws rs g d h = wanted-in (listedOf ws rs (openedOf ws g) .stage) ws (listedOf ws rs (openedOf ws g)) d h
 
 less : (d : ℕ) → d ≤ 32 → d - 1 ≤ 32
 less d h = omega arith
@@ -75,14 +64,13 @@ unfolding backConditionOf
 back-condition-in f b d h = either-in (eqb d 0) _ _ (h, h) (less d h, less d h)
 
 step-by-in : (s : Stage) (ws rs : List ℕ) (g : Go) (d : ℕ) (f : Frame) → d ≤ 32 → Within (stepBy s ws rs g d f)
-unfolding stepBy
-step-by-in stage.Full ws rs g d f h = (h, h)
-step-by-in stage.At ws rs g d f h = (h, h)
-step-by-in stage.Run ws rs g d f h = run-in ws rs (g .i) (g .frame .env) d h
-step-by-in stage.RunCondition ws rs g d f h = run-condition-in ws (g .i) (g .frame .env) d h
-step-by-in stage.Want ws rs g d f h = want-in ws (g .frame) (g .i) d h
-step-by-in stage.WantCondition ws rs g d f h = want-condition-in ws (g .frame) (g .i) d h
-step-by-in stage.List ws rs g d f h = list-in ws rs (g .frame) d h
+step-by-in stage.Full ws rs g d f h = down-in ws rs g d h
+step-by-in stage.At ws rs g d f h = down-in ws rs g d h
+step-by-in stage.Run ws rs g d f h = down-in ws rs g d h
+step-by-in stage.RunCondition ws rs g d f h = down-in ws rs g d h
+step-by-in stage.Want ws rs g d f h = down-in ws rs g d h
+step-by-in stage.WantCondition ws rs g d f h = down-in ws rs g d h
+step-by-in stage.List ws rs g d f h = down-in ws rs g d h
 step-by-in stage.Value ws rs g d f h = back-in f (g .i) d h
 step-by-in stage.Truth ws rs g d f h = back-condition-in f (g .i) d h
 

@@ -6,10 +6,10 @@ use Prim.Native.Nat.{ℕ, zero, suc, _+_, _-_, _<_}
 use native.Mathlib.Omega.{arith}
 use Rattle.landing.specs.declared.go.Go.{Go}
 use Rattle.landing.specs.Going.{goFull}
-use Rattle.landing.specs.Landing.{liveOf, Stack, ended, storeAt, turnAt, landOf}
+use Rattle.landing.specs.Landing.{liveOf, Stack, ended, stored, turnAt, landOf}
 
 pub goes : (n : ℕ) (ws rs : List ℕ) (base : ℕ) (k : Stack) (g : Go) (d : ℕ) → 0 < n → liveOf g ≡ true
-    → landOf n ws rs base k g d ≡ landOf (n - 1) ws rs base (storeAt k (base + turnAt ws rs base k g d .at) (turnAt ws rs base k g d .frame)) (turnAt ws rs base k g d .go) (turnAt ws rs base k g d .depth)
+    → landOf n ws rs base k g d ≡ landOf (n - 1) ws rs base (stored k base (turnAt ws rs base k g d)) (turnAt ws rs base k g d .go) (turnAt ws rs base k g d .depth)
 unfolding landOf
 goes zero ws rs base k g d h e = absurd (omega arith)
 goes (suc n) ws rs base k g d h e = let q : suc n - 1 ≡ n = omega arith in rw (q, e)

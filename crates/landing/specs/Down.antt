@@ -6,14 +6,15 @@ use lib.Dec.{eqb, ltb}
 use lib.ListN.{getD, set}
 use Rattle.landing.specs.declared.frame.Kind.the-variants as kind
 use Rattle.landing.specs.declared.frame.Frame.{Frame}
-use Rattle.landing.specs.declared.go.Part.the-variants as part
+use Rattle.landing.specs.Parts.{Part as part}
 use Rattle.landing.specs.declared.go.Stage.{Stage}
 use Rattle.landing.specs.declared.go.Stage.the-variants as stage
 use Rattle.landing.specs.declared.go.Go.{Go}
 use Rattle.landing.specs.declared.down.Turn.{Turn}
+use Rattle.landing.specs.Slots.{slotOf}
 use Rattle.landing.specs.Words.{wordAt, tagOf, firstOf, secondOf, thirdOf, slotBits, fieldBits, procedureBits, listBits, letFirst, letSecond, writeSecond, maskBits, valueOf, truthOf}
 use Rattle.landing.specs.Frames.{framed, letFrame, restOf}
-use Rattle.landing.specs.Going.{readyOf, noRule, goAt, goRun, goRunCondition, goValue, goTruth, goFull, feedOf, feedConditionOf}
+use Rattle.landing.specs.Going.{readyOf, noRule, goAt, goRun, goRunCondition, goWant, goWantCondition, goList, goValue, goTruth, goFull, feedOf, feedConditionOf}
 
 abbrev pub stayOf : Go → ℕ → Turn
 stayOf g d = record { go = g; depth = d; at = d; frame = framed kind.Read 0 0 0 0 }
@@ -40,54 +41,100 @@ wantConditionOf ws f i d = wantConditionBy (truthOf ws i) f i d
 unfoldable pub rootAt : List ℕ → ℕ → ℕ
 rootAt rs m = getD rs (m % 32) 0
 
-unfoldable pub listBy : List ℕ → List ℕ → ℕ → Frame → ℕ → Turn
-listBy ws rs w f d = cond (eqb (tagOf w) 16) (wantOf ws (restOf f (secondOf w)) (firstOf w) d) (stayOf (goAt (readyOf part.Run (rootAt rs (f .m)) 0 0 (f .args))) d)
+unfoldable pub listBy : List ℕ → ℕ → Frame → Go
+listBy rs w f = cond (eqb (tagOf w) 16) (goWant (restOf f (secondOf w)) (firstOf w)) (goAt (readyOf part.Run (rootAt rs (f .m)) 0 0 (f .args)))
 
-unfoldable pub listOf : List ℕ → List ℕ → Frame → ℕ → Turn
+unfoldable pub listOf : List ℕ → List ℕ → Frame → Go
 unfolding listBy
-listOf ws rs f d = listBy ws rs (wordAt ws (f .a)) f d
+listOf ws rs f = listBy rs (wordAt ws (f .a)) f
 
 -- an expression whose operands need no look, by its tag k
-unfoldable pub simpleBy : List ℕ → ℕ → ℕ → ℕ → ℕ → Go
-simpleBy ws k w t env =
+unfoldable pub simpleBy : ℕ → ℕ → ℕ → Go
+simpleBy k w env =
     cond (eqb k 2) (goAt (readyOf part.New (maskBits w) 0 0 0))
     (cond (eqb k 7) (goAt (readyOf part.While (firstOf w) (secondOf w) 0 env))
     (cond (eqb k 9) (goAt (readyOf part.Fork (firstOf w) 0 0 env))
     (cond (eqb k 0) (goValue 0)
-    (cond (eqb k 1) (goValue (valueOf ws env t)) (goAt noRule)))))
+    (cond (eqb k 1) (goValue (slotOf env (slotBits w))) (goAt noRule)))))
 
-unfoldable pub simpleOf : List ℕ → ℕ → ℕ → ℕ → Go
+unfoldable pub simpleOf : ℕ → ℕ → Go
 unfolding simpleBy
-simpleOf ws w t env = simpleBy ws (tagOf w) w t env
+simpleOf w env = simpleBy (tagOf w) w env
 
 -- an expression, by its tag k
-unfoldable pub runBy : List ℕ → List ℕ → ℕ → ℕ → ℕ → ℕ → ℕ → Turn
-unfolding wantOf wantConditionOf listOf simpleOf
-runBy ws rs k w t env d =
-    cond (eqb k 3) (wantOf ws (framed kind.Read 0 0 (fieldBits w) env) (firstOf w) d)
-    (cond (eqb k 4) (wantOf ws (framed kind.Write1 (writeSecond w) 0 (fieldBits w) env) (firstOf w) d)
-    (cond (eqb k 5) (wantOf ws (letFrame (slotBits w) (letSecond w) env) (letFirst w) d)
-    (cond (eqb k 6) (wantConditionOf ws (framed kind.If (secondOf w) (thirdOf w) 0 env) (firstOf w) d)
-    (cond (eqb k 8) (listOf ws rs (framed kind.Call (listBits w) 0 (procedureBits w) env) d)
-    (cond (eqb k 10) (wantOf ws (framed kind.Join 0 0 0 env) (firstOf w) d)
-    (cond (eqb k 11) (wantOf ws (framed kind.Synch (secondOf w) 0 0 env) (firstOf w) d) (stayOf (simpleOf ws w t env) d)))))))
+unfoldable pub runBy : ℕ → ℕ → ℕ → Go
+unfolding simpleOf
+runBy k w env =
+    cond (eqb k 3) (goWant (framed kind.Read 0 0 (fieldBits w) env) (firstOf w))
+    (cond (eqb k 4) (goWant (framed kind.Write1 (writeSecond w) 0 (fieldBits w) env) (firstOf w))
+    (cond (eqb k 5) (goWant (letFrame (slotBits w) (letSecond w) env) (letFirst w))
+    (cond (eqb k 6) (goWantCondition (framed kind.If (secondOf w) (thirdOf w) 0 env) (firstOf w))
+    (cond (eqb k 8) (goList (framed kind.Call (listBits w) 0 (procedureBits w) env))
+    (cond (eqb k 10) (goWant (framed kind.Join 0 0 0 env) (firstOf w))
+    (cond (eqb k 11) (goWant (framed kind.Synch (secondOf w) 0 0 env) (firstOf w)) (simpleOf w env)))))))
 
-unfoldable pub runOf : List ℕ → List ℕ → ℕ → ℕ → ℕ → Turn
+unfoldable pub runOf : ℕ → ℕ → Go
 unfolding runBy
-runOf ws rs t env d = runBy ws rs (tagOf (wordAt ws t)) (wordAt ws t) t env d
+runOf w env = runBy (tagOf w) w env
 
 -- a condition, by its tag k
-unfoldable pub runConditionBy : List ℕ → ℕ → ℕ → ℕ → ℕ → Turn
-unfolding wantOf wantConditionOf
-runConditionBy ws k w env d =
-    cond (eqb k 12) (stayOf (goTruth 1) d)
-    (cond (eqb k 13) (wantConditionOf ws (framed kind.Not 0 0 0 env) (firstOf w) d)
-    (cond (eqb k 14) (wantConditionOf ws (framed kind.And (secondOf w) 0 0 env) (firstOf w) d)
-    (cond (eqb k 15) (wantOf ws (framed kind.Equal1 (secondOf w) 0 0 env) (firstOf w) d) (stayOf (goAt noRule) d))))
+unfoldable pub runConditionBy : ℕ → ℕ → ℕ → Go
+runConditionBy k w env =
+    cond (eqb k 12) (goTruth 1)
+    (cond (eqb k 13) (goWantCondition (framed kind.Not 0 0 0 env) (firstOf w))
+    (cond (eqb k 14) (goWantCondition (framed kind.And (secondOf w) 0 0 env) (firstOf w))
+    (cond (eqb k 15) (goWant (framed kind.Equal1 (secondOf w) 0 0 env) (firstOf w)) (goAt noRule))))
 
-unfoldable pub runConditionOf : List ℕ → ℕ → ℕ → ℕ → Turn
+unfoldable pub runConditionOf : ℕ → ℕ → Go
 unfolding runConditionBy
-runConditionOf ws t env d = runConditionBy ws (tagOf (wordAt ws t)) (wordAt ws t) env d
+runConditionOf w env = runConditionBy (tagOf w) w env
+
+-- ---- a way down, in three parts
+
+abbrev pub openedBy : Stage → List ℕ → Go → Go
+openedBy stage.Full ws g = g
+openedBy stage.At ws g = g
+openedBy stage.Run ws g = runOf (wordAt ws (g .i)) (g .frame .env)
+openedBy stage.RunCondition ws g = runConditionOf (wordAt ws (g .i)) (g .frame .env)
+openedBy stage.Want ws g = g
+openedBy stage.WantCondition ws g = g
+openedBy stage.List ws g = g
+openedBy stage.Value ws g = g
+openedBy stage.Truth ws g = g
+
+abbrev pub openedOf : List ℕ → Go → Go
+openedOf ws g = openedBy (g .stage) ws g
+
+abbrev pub listedBy : Stage → List ℕ → List ℕ → Go → Go
+listedBy stage.Full ws rs g = g
+listedBy stage.At ws rs g = g
+listedBy stage.Run ws rs g = g
+listedBy stage.RunCondition ws rs g = g
+listedBy stage.Want ws rs g = g
+listedBy stage.WantCondition ws rs g = g
+listedBy stage.List ws rs g = listOf ws rs (g .frame)
+listedBy stage.Value ws rs g = g
+listedBy stage.Truth ws rs g = g
+
+abbrev pub listedOf : List ℕ → List ℕ → Go → Go
+listedOf ws rs g = listedBy (g .stage) ws rs g
+
+abbrev pub wantedBy : Stage → List ℕ → Go → ℕ → Turn
+wantedBy stage.Full ws g d = stayOf g d
+wantedBy stage.At ws g d = stayOf g d
+wantedBy stage.Run ws g d = stayOf g d
+wantedBy stage.RunCondition ws g d = stayOf g d
+wantedBy stage.Want ws g d = wantOf ws (g .frame) (g .i) d
+wantedBy stage.WantCondition ws g d = wantConditionOf ws (g .frame) (g .i) d
+wantedBy stage.List ws g d = stayOf g d
+wantedBy stage.Value ws g d = stayOf g d
+wantedBy stage.Truth ws g d = stayOf g d
+
+abbrev pub wantedOf : List ℕ → Go → ℕ → Turn
+wantedOf ws g d = wantedBy (g .stage) ws g d
+
+abbrev pub downOf : List ℕ → List ℕ → Go → ℕ → Turn
+downOf ws rs g d = wantedOf ws (listedOf ws rs (openedOf ws g)) d
 
 -- ---- a value goes into the top frame
 
@@ -99,18 +146,16 @@ backConditionOf f b d = cond (eqb d 0) (stayOf (goAt noRule) d) (stayOf (feedCon
 
 -- ---- a step
 
-unfoldable pub stepBy : Stage → List ℕ → List ℕ → Go → ℕ → Frame → Turn
-unfolding runOf runConditionOf wantOf wantConditionOf listOf backOf backConditionOf
-stepBy stage.Full ws rs g d f = stayOf g d
-stepBy stage.At ws rs g d f = stayOf g d
-stepBy stage.Run ws rs g d f = runOf ws rs (g .i) (g .frame .env) d
-stepBy stage.RunCondition ws rs g d f = runConditionOf ws (g .i) (g .frame .env) d
-stepBy stage.Want ws rs g d f = wantOf ws (g .frame) (g .i) d
-stepBy stage.WantCondition ws rs g d f = wantConditionOf ws (g .frame) (g .i) d
-stepBy stage.List ws rs g d f = listOf ws rs (g .frame) d
+abbrev pub stepBy : Stage → List ℕ → List ℕ → Go → ℕ → Frame → Turn
+stepBy stage.Full ws rs g d f = downOf ws rs g d
+stepBy stage.At ws rs g d f = downOf ws rs g d
+stepBy stage.Run ws rs g d f = downOf ws rs g d
+stepBy stage.RunCondition ws rs g d f = downOf ws rs g d
+stepBy stage.Want ws rs g d f = downOf ws rs g d
+stepBy stage.WantCondition ws rs g d f = downOf ws rs g d
+stepBy stage.List ws rs g d f = downOf ws rs g d
 stepBy stage.Value ws rs g d f = backOf f (g .i) d
 stepBy stage.Truth ws rs g d f = backConditionOf f (g .i) d
 
 unfoldable pub stepOf : List ℕ → List ℕ → Go → ℕ → Frame → Turn
-unfolding stepBy
 stepOf ws rs g d f = stepBy (g .stage) ws rs g d f

@@ -7,25 +7,32 @@ use Rattle.landing.specs.Slots.{bindOf}
 use Rattle.landing.specs.declared.frame.Kind.{Kind}
 use Rattle.landing.specs.declared.frame.Kind.the-variants as kind
 use Rattle.landing.specs.declared.frame.Frame.{Frame}
-use Rattle.landing.specs.declared.go.Part.{Part}
-use Rattle.landing.specs.declared.go.Part.the-variants as part
+use Rattle.landing.specs.Parts.{Part, numberOf}
+use Rattle.landing.specs.Parts.{Part as part}
 use Rattle.landing.specs.declared.go.Ready.{Ready}
 use Rattle.landing.specs.declared.go.Stage.{Stage}
 use Rattle.landing.specs.declared.go.Stage.the-variants as stage
 use Rattle.landing.specs.declared.go.Go.{Go}
 use Rattle.landing.specs.Frames.{framed, secondFrame, collected}
 
+abbrev pub readyAt : ℕ → ℕ → ℕ → ℕ → ℕ → Ready
+readyAt p a b c env = record { part = p; a = a; b = b; c = c; env = env }
+
 abbrev pub readyOf : Part → ℕ → ℕ → ℕ → ℕ → Ready
-readyOf p a b c env = record { part = p; a = a; b = b; c = c; env = env }
+readyOf p a b c env = readyAt (numberOf p) a b c env
 
 abbrev pub noRule : Ready
 noRule = readyOf part.NoRule 0 0 0 0
 
 abbrev pub goOf : Stage → Frame → ℕ → Go
-goOf s f i = record { stage = s; frame = f; i = i; ready = readyOf part.Done 0 0 0 0 }
+goOf s f i = record { stage = s; frame = f; i = i }
 
 abbrev pub goAt : Ready → Go
-goAt r = record { stage = stage.At; frame = framed kind.Read 0 0 0 0; i = 0; ready = r }
+goAt r = goOf stage.At (record { kind = kind.Read; a = r .a; b = r .b; m = r .part; n = 0; env = r .env; args = r .c }) 0
+
+-- the part where landing has ended
+abbrev pub readyIn : Go → Ready
+readyIn g = readyAt (g .frame .m) (g .frame .a) (g .frame .b) (g .frame .args) (g .frame .env)
 
 abbrev pub goRun : ℕ → ℕ → Go
 goRun t env = goOf stage.Run (framed kind.Read 0 0 0 env) t

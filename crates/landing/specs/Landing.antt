@@ -2,7 +2,7 @@
 use Prim.Native.Nat.{ℕ, zero, suc, _+_, _-_}
 use mathlib.Core.Bool.{Bool, true, false, cond}
 use mathlib.Core.List.{List}
-use lib.Dec.{eqb}
+use lib.Dec.{eqb, ltb}
 use lib.ListN.{getD, set}
 use Rattle.landing.specs.declared.frame.Frame.{Frame}
 use Rattle.landing.specs.declared.go.Stage.{Stage}
@@ -11,7 +11,7 @@ use Rattle.landing.specs.declared.go.Go.{Go}
 use Rattle.landing.specs.declared.down.Turn.{Turn}
 use Rattle.landing.specs.declared.land.Landed.{Landed}
 use Rattle.landing.specs.Frames.{packOf, unpackOf}
-use Rattle.landing.specs.Going.{goFull}
+use Rattle.landing.specs.Going.{readyIn, goFull}
 use Rattle.landing.specs.Down.{stepOf}
 
 abbrev pub liveBy : Stage → Bool
@@ -41,8 +41,11 @@ pub record Ended : Type 0 where
   pub stack : Stack
   pub landed : Landed
 
+abbrev pub landedOf : Go → ℕ → Landed
+landedOf g d = record { stage = g .stage; ready = readyIn g; depth = d }
+
 abbrev pub ended : Stack → Go → ℕ → Ended
-ended k g d = record { stack = k; landed = record { go = g; depth = d } }
+ended k g d = record { stack = k; landed = landedOf g d }
 
 abbrev pub frameAt : Stack → ℕ → Frame
 frameAt k i = unpackOf (getD (k .tops) i 0) (getD (k .envs) i 0) (getD (k .args) i 0)
@@ -58,10 +61,14 @@ storeAt k i f =
 abbrev pub turnAt : List ℕ → List ℕ → ℕ → Stack → Go → ℕ → Turn
 turnAt ws rs base k g d = stepOf ws rs g d (frameAt k (topOf base d))
 
+-- a step that goes deeper stores its frame
+abbrev pub stored : Stack → ℕ → Turn → Stack
+stored k base t = cond (ltb (t .at) (t .depth)) (storeAt k (base + t .at) (t .frame)) k
+
 -- at most n steps
 unfoldable pub landOf : ℕ → List ℕ → List ℕ → ℕ → Stack → Go → ℕ → Ended
 landOf zero ws rs base k g d = ended k goFull d
 landOf (suc n) ws rs base k g d =
     cond (liveOf g)
-    (landOf n ws rs base (storeAt k (base + turnAt ws rs base k g d .at) (turnAt ws rs base k g d .frame)) (turnAt ws rs base k g d .go) (turnAt ws rs base k g d .depth))
+    (landOf n ws rs base (stored k base (turnAt ws rs base k g d)) (turnAt ws rs base k g d .go) (turnAt ws rs base k g d .depth))
     (ended k g d)

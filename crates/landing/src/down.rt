@@ -1,13 +1,14 @@
 // The way down: an operand, a call's list, a term.
 ghost use mathlib.Core.Path.{_≡_};
-ghost use Rattle.landing.specs.Down.{stayOf, pushOf, wantOf, wantConditionOf, rootAt, listOf, simpleOf, runOf, runConditionOf, backOf, backConditionOf, stepOf};
+ghost use Rattle.landing.specs.Down.{stayOf, pushOf, wantOf, wantConditionOf, rootAt, listOf, simpleOf, runOf, runConditionOf, openedOf, listedOf, wantedOf, backOf, backConditionOf, stepOf};
 use crate::frame;
 use crate::frame::Frame;
 use crate::frame::Kind;
 use crate::go;
 use crate::go::Go;
-use crate::go::Part;
 use crate::go::Stage;
+use crate::part;
+use crate::slots;
 use crate::words;
 
 // One step: where landing then stands, how deep, and a frame for place `at`.
@@ -76,103 +77,115 @@ fn root(roots: &[usize; 32], m: usize) -> usize
 }
 
 // The rest of a call's list: the next operand, or the call.
-fn list(words: &[usize; 1024], roots: &[usize; 32], f: Frame, d: usize) -> Turn
-    ensures { λ r. ⌜ r ≡ listOf (now (words .entry)) (now (roots .entry)) f d ⌝ }
+fn list(words: &[usize; 1024], roots: &[usize; 32], f: Frame) -> Go
+    ensures { λ r. ⌜ r ≡ listOf (now (words .entry)) (now (roots .entry)) f ⌝ }
 {
     let w = words::word(words, f.a);
     if words::tag(w) == 16 {
-        return want(words, frame::rest(f, words::second(w)), words::first(w), d);
+        return go::want(frame::rest(f, words::second(w)), words::first(w));
     }
     let t = root(roots, f.m);
-    stay(go::at(go::ready_of(Part::Run, t, 0, 0, f.args)), d)
+    go::at(go::ready_of(part::RUN, t, 0, 0, f.args))
 }
 
 // Down from an expression whose operands need no look: a value, `new`, `while`, `fork`.
-fn simple(words: &[usize; 1024], w: usize, t: usize, env: usize) -> Go
-    ensures { λ r. ⌜ r ≡ simpleOf (now (words .entry)) w t env ⌝ }
+fn simple(w: usize, env: usize) -> Go
+    ensures { λ r. ⌜ r ≡ simpleOf w env ⌝ }
 {
     let k = words::tag(w);
     match k {
-        2 => go::at(go::ready_of(Part::New, words::mask_of(w), 0, 0, 0)),
-        7 => go::at(go::ready_of(Part::While, words::first(w), words::second(w), 0, env)),
-        9 => go::at(go::ready_of(Part::Fork, words::first(w), 0, 0, env)),
+        2 => go::at(go::ready_of(part::NEW, words::mask_of(w), 0, 0, 0)),
+        7 => go::at(go::ready_of(part::WHILE, words::first(w), words::second(w), 0, env)),
+        9 => go::at(go::ready_of(part::FORK, words::first(w), 0, 0, env)),
         0 => go::value(0),
-        1 => go::value(words::value(words, env, t)),
-        _ => go::at(go::ready_of(Part::NoRule, 0, 0, 0, 0)),
+        1 => go::value(slots::slot(env, words::slot_of(w))),
+        _ => go::at(go::ready_of(part::NO_RULE, 0, 0, 0, 0)),
     }
 }
 
 // Down from an expression.
-fn run(words: &[usize; 1024], roots: &[usize; 32], t: usize, env: usize, d: usize) -> Turn
-    ensures { λ r. ⌜ r ≡ runOf (now (words .entry)) (now (roots .entry)) t env d ⌝ }
+fn run(w: usize, env: usize) -> Go
+    ensures { λ r. ⌜ r ≡ runOf w env ⌝ }
 {
-    let w = words::word(words, t);
     let k = words::tag(w);
     let a = words::first(w);
     let b = words::second(w);
+    let f = words::field_of(w);
     match k {
-        3 => want(
-            words,
-            frame::frame_of(Kind::Read, 0, 0, words::field_of(w), env),
+        3 => go::want(frame::frame_of(Kind::Read, 0, 0, f, env), a),
+        4 => go::want(
+            frame::frame_of(Kind::Write1, words::write_second(w), 0, f, env),
             a,
-            d,
         ),
-        4 => want(
-            words,
-            frame::frame_of(
-                Kind::Write1,
-                words::write_second(w),
-                0,
-                words::field_of(w),
-                env,
-            ),
-            a,
-            d,
-        ),
-        5 => want(
-            words,
+        5 => go::want(
             frame::let_frame(words::slot_of(w), words::let_second(w), env),
             words::let_first(w),
-            d,
         ),
-        6 => want_condition(
-            words,
-            frame::frame_of(Kind::If, b, words::third(w), 0, env),
-            a,
-            d,
-        ),
-        8 => list(
-            words,
-            roots,
-            frame::frame_of(
-                Kind::Call,
-                words::list_of(w),
-                0,
-                words::procedure_of(w),
-                env,
-            ),
-            d,
-        ),
-        10 => want(words, frame::frame_of(Kind::Join, 0, 0, 0, env), a, d),
-        11 => want(words, frame::frame_of(Kind::Synch, b, 0, 0, env), a, d),
-        _ => stay(simple(words, w, t, env), d),
+        6 => go::want_condition(frame::frame_of(Kind::If, b, words::third(w), 0, env), a),
+        8 => go::list(frame::frame_of(
+            Kind::Call,
+            words::list_of(w),
+            0,
+            words::procedure_of(w),
+            env,
+        )),
+        10 => go::want(frame::frame_of(Kind::Join, 0, 0, 0, env), a),
+        11 => go::want(frame::frame_of(Kind::Synch, b, 0, 0, env), a),
+        _ => simple(w, env),
     }
 }
 
 // Down from a condition.
-fn run_condition(words: &[usize; 1024], t: usize, env: usize, d: usize) -> Turn
-    ensures { λ r. ⌜ r ≡ runConditionOf (now (words .entry)) t env d ⌝ }
+fn run_condition(w: usize, env: usize) -> Go
+    ensures { λ r. ⌜ r ≡ runConditionOf w env ⌝ }
 {
-    let w = words::word(words, t);
     let k = words::tag(w);
     let a = words::first(w);
     let b = words::second(w);
     match k {
-        12 => stay(go::truth(1), d),
-        13 => want_condition(words, frame::frame_of(Kind::Not, 0, 0, 0, env), a, d),
-        14 => want_condition(words, frame::frame_of(Kind::And, b, 0, 0, env), a, d),
-        15 => want(words, frame::frame_of(Kind::Equal1, b, 0, 0, env), a, d),
-        _ => stay(go::at(go::ready_of(Part::NoRule, 0, 0, 0, 0)), d),
+        12 => go::truth(1),
+        13 => go::want_condition(frame::frame_of(Kind::Not, 0, 0, 0, env), a),
+        14 => go::want_condition(frame::frame_of(Kind::And, b, 0, 0, env), a),
+        15 => go::want(frame::frame_of(Kind::Equal1, b, 0, 0, env), a),
+        _ => go::at(go::ready_of(part::NO_RULE, 0, 0, 0, 0)),
+    }
+}
+
+// A way down is taken: its term is opened.
+fn opened(words: &[usize; 1024], g: Go) -> Go
+    ensures { λ r. ⌜ r ≡ openedOf (now (words .entry)) g ⌝ }
+{
+    let h = g.frame;
+    let s = g.stage;
+    match s {
+        Stage::Run => run(words::word(words, g.i), h.env),
+        Stage::RunCondition => run_condition(words::word(words, g.i), h.env),
+        _ => g,
+    }
+}
+
+// A call's list is gone into.
+fn listed(words: &[usize; 1024], roots: &[usize; 32], g: Go) -> Go
+    ensures { λ r. ⌜ r ≡ listedOf (now (words .entry)) (now (roots .entry)) g ⌝ }
+{
+    let h = g.frame;
+    let s = g.stage;
+    match s {
+        Stage::List => list(words, roots, h),
+        _ => g,
+    }
+}
+
+// A frame that wants an operand is fed, or set down.
+fn wanted(words: &[usize; 1024], g: Go, d: usize) -> Turn
+    ensures { λ r. ⌜ r ≡ wantedOf (now (words .entry)) g d ⌝ }
+{
+    let h = g.frame;
+    let s = g.stage;
+    match s {
+        Stage::Want => want(words, h, g.i, d),
+        Stage::WantCondition => want_condition(words, h, g.i, d),
+        _ => stay(g, d),
     }
 }
 
@@ -181,7 +194,7 @@ fn back(f: Frame, v: usize, d: usize) -> Turn
     ensures { λ r. ⌜ r ≡ backOf f v d ⌝ }
 {
     if d == 0 {
-        return stay(go::at(go::ready_of(Part::Done, v, 0, 0, 0)), d);
+        return stay(go::at(go::ready_of(part::DONE, v, 0, 0, 0)), d);
     }
     stay(go::feed(f, v), d - 1)
 }
@@ -191,26 +204,19 @@ fn back_condition(f: Frame, b: usize, d: usize) -> Turn
     ensures { λ r. ⌜ r ≡ backConditionOf f b d ⌝ }
 {
     if d == 0 {
-        return stay(go::at(go::ready_of(Part::NoRule, 0, 0, 0, 0)), d);
+        return stay(go::at(go::ready_of(part::NO_RULE, 0, 0, 0, 0)), d);
     }
     stay(go::feed_condition(f, b), d - 1)
 }
 
-// One step of landing, with the top frame.
+// One step of landing, with the top frame. A way down goes through its three functions one after the other, so that each has one caller.
 pub fn step(words: &[usize; 1024], roots: &[usize; 32], g: Go, d: usize, f: Frame) -> Turn
     ensures { λ r. ⌜ r ≡ stepOf (now (words .entry)) (now (roots .entry)) g d f ⌝ }
 {
-    let h = g.frame;
     let s = g.stage;
     match s {
-        Stage::Run => run(words, roots, g.i, h.env, d),
-        Stage::RunCondition => run_condition(words, g.i, h.env, d),
-        Stage::Want => want(words, h, g.i, d),
-        Stage::WantCondition => want_condition(words, h, g.i, d),
-        Stage::List => list(words, roots, h, d),
         Stage::Value => back(f, g.i, d),
         Stage::Truth => back_condition(f, g.i, d),
-        Stage::At => stay(g, d),
-        Stage::Full => stay(g, d),
+        _ => wanted(words, listed(words, roots, opened(words, g)), d),
     }
 }

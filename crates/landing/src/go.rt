@@ -1,35 +1,16 @@
 // Where landing stands, and what a frame does with the value of its operand.
 ghost use mathlib.Core.Path.{_≡_};
 ghost use mathlib.Core.Bool.{Bool, true, false};
-ghost use Rattle.landing.specs.Going.{readyOf, goOf, goAt, goRun, goRunCondition, goWant, goWantCondition, goList, goValue, goTruth, goFull, sameOf, feedOf, feedIfOf, feedConditionOf};
+ghost use Rattle.landing.specs.Going.{readyAt, goOf, goAt, readyIn, goRun, goRunCondition, goWant, goWantCondition, goList, goValue, goTruth, goFull, sameOf, feedOf, feedIfOf, feedConditionOf};
 use crate::frame;
 use crate::frame::Frame;
 use crate::frame::Kind;
+use crate::part;
 use crate::slots;
-
-// The part that moves next. Run, RunCondition, Val, Truth, Body and Again are moves that only go on elsewhere.
-pub enum Part {
-    Done,
-    NoRule,
-    Run,
-    RunCondition,
-    Val,
-    Truth,
-    While,
-    Body,
-    Again,
-    New,
-    Read,
-    Write,
-    Fork,
-    Join,
-    Synch,
-    Hold,
-}
 
 // The part with its numbers: a value, an object, a term or a mask a; a field, a term or a value b; a value c; the slots.
 pub struct Ready {
-    pub part: Part,
+    pub part: usize,
     pub a: usize,
     pub b: usize,
     pub c: usize,
@@ -49,16 +30,15 @@ pub enum Stage {
     Truth,
 }
 
-// A stage with its numbers: i is a term or a value; the slots of a way down are the frame's.
+// A stage with its numbers: i is a term or a value; the slots of a way down are the frame's. Where landing has ended, the frame's numbers are the part's.
 pub struct Go {
     pub stage: Stage,
     pub frame: Frame,
     pub i: usize,
-    pub ready: Ready,
 }
 
-pub fn ready_of(part: Part, a: usize, b: usize, c: usize, env: usize) -> Ready
-    ensures { λ r. ⌜ r ≡ readyOf part a b c env ⌝ }
+pub fn ready_of(part: usize, a: usize, b: usize, c: usize, env: usize) -> Ready
+    ensures { λ r. ⌜ r ≡ readyAt part a b c env ⌝ }
 {
     Ready {
         part: part,
@@ -72,12 +52,10 @@ pub fn ready_of(part: Part, a: usize, b: usize, c: usize, env: usize) -> Ready
 pub fn go_of(stage: Stage, f: Frame, i: usize) -> Go
     ensures { λ r. ⌜ r ≡ goOf stage f i ⌝ }
 {
-    let r = ready_of(Part::Done, 0, 0, 0, 0);
     Go {
         stage: stage,
         frame: f,
         i: i,
-        ready: r,
     }
 }
 
@@ -85,13 +63,24 @@ pub fn go_of(stage: Stage, f: Frame, i: usize) -> Go
 pub fn at(r: Ready) -> Go
     ensures { λ x. ⌜ x ≡ goAt r ⌝ }
 {
-    let f = frame::frame_of(Kind::Read, 0, 0, 0, 0);
-    Go {
-        stage: Stage::At,
-        frame: f,
-        i: 0,
-        ready: r,
-    }
+    let f = Frame {
+        kind: Kind::Read,
+        a: r.a,
+        b: r.b,
+        m: r.part,
+        n: 0,
+        env: r.env,
+        args: r.c,
+    };
+    go_of(Stage::At, f, 0)
+}
+
+// The part where landing has ended.
+pub fn ready_in(g: Go) -> Ready
+    ensures { λ x. ⌜ x ≡ readyIn g ⌝ }
+{
+    let f = g.frame;
+    ready_of(f.m, f.a, f.b, f.args, f.env)
 }
 
 // Down from expression t with these slots.
@@ -167,21 +156,21 @@ pub fn feed(f: Frame, v: usize) -> Go
 {
     let k = f.kind;
     match k {
-        Kind::Read => at(ready_of(Part::Read, v, f.m, 0, 0)),
+        Kind::Read => at(ready_of(part::READ, v, f.m, 0, 0)),
         Kind::Write1 => want(frame::second_frame(Kind::Write2, f, v), f.a),
-        Kind::Write2 => at(ready_of(Part::Write, f.args, f.m, v, 0)),
+        Kind::Write2 => at(ready_of(part::WRITE, f.args, f.m, v, 0)),
         Kind::Call => list(frame::collect(f, v)),
-        Kind::Let => at(ready_of(Part::Run, f.a, 0, 0, slots::bind(f.env, f.n, v))),
-        Kind::Synch => at(ready_of(Part::Synch, v, f.a, 0, f.env)),
-        Kind::Hold => at(ready_of(Part::Hold, f.args, v, 0, 0)),
-        Kind::Join => at(ready_of(Part::Join, v, 0, 0, 0)),
+        Kind::Let => at(ready_of(part::RUN, f.a, 0, 0, slots::bind(f.env, f.n, v))),
+        Kind::Synch => at(ready_of(part::SYNCH, v, f.a, 0, f.env)),
+        Kind::Hold => at(ready_of(part::HOLD, f.args, v, 0, 0)),
+        Kind::Join => at(ready_of(part::JOIN, v, 0, 0, 0)),
         Kind::Equal1 => want(frame::second_frame(Kind::Equal2, f, v), f.a),
-        Kind::Equal2 => at(ready_of(Part::Truth, same(f.args, v), 0, 0, 0)),
-        Kind::Body => at(ready_of(Part::Again, f.a, f.b, 0, f.env)),
-        Kind::If => at(ready_of(Part::NoRule, 0, 0, 0, 0)),
-        Kind::And => at(ready_of(Part::NoRule, 0, 0, 0, 0)),
-        Kind::Not => at(ready_of(Part::NoRule, 0, 0, 0, 0)),
-        Kind::Test => at(ready_of(Part::NoRule, 0, 0, 0, 0)),
+        Kind::Equal2 => at(ready_of(part::TRUTH, same(f.args, v), 0, 0, 0)),
+        Kind::Body => at(ready_of(part::AGAIN, f.a, f.b, 0, f.env)),
+        Kind::If => at(ready_of(part::NO_RULE, 0, 0, 0, 0)),
+        Kind::And => at(ready_of(part::NO_RULE, 0, 0, 0, 0)),
+        Kind::Not => at(ready_of(part::NO_RULE, 0, 0, 0, 0)),
+        Kind::Test => at(ready_of(part::NO_RULE, 0, 0, 0, 0)),
     }
 }
 
@@ -193,17 +182,17 @@ fn feed_if(f: Frame, b: usize) -> Go
     match k {
         Kind::If => {
             if b == 1 {
-                return at(ready_of(Part::Run, f.a, 0, 0, f.env));
+                return at(ready_of(part::RUN, f.a, 0, 0, f.env));
             }
-            at(ready_of(Part::Run, f.b, 0, 0, f.env))
+            at(ready_of(part::RUN, f.b, 0, 0, f.env))
         }
         Kind::Test => {
             if b == 1 {
-                return at(ready_of(Part::Body, f.a, f.b, 0, f.env));
+                return at(ready_of(part::BODY, f.a, f.b, 0, f.env));
             }
-            at(ready_of(Part::Val, 0, 0, 0, 0))
+            at(ready_of(part::VAL, 0, 0, 0, 0))
         }
-        _ => at(ready_of(Part::NoRule, 0, 0, 0, 0)),
+        _ => at(ready_of(part::NO_RULE, 0, 0, 0, 0)),
     }
 }
 
@@ -215,15 +204,15 @@ pub fn feed_condition(f: Frame, b: usize) -> Go
     match k {
         Kind::And => {
             if b == 1 {
-                return at(ready_of(Part::RunCondition, f.a, 0, 0, f.env));
+                return at(ready_of(part::RUN_CONDITION, f.a, 0, 0, f.env));
             }
-            at(ready_of(Part::Truth, 0, 0, 0, 0))
+            at(ready_of(part::TRUTH, 0, 0, 0, 0))
         }
         Kind::Not => {
             if b == 1 {
                 return truth(0);
             }
-            at(ready_of(Part::Truth, 1, 0, 0, 0))
+            at(ready_of(part::TRUTH, 1, 0, 0, 0))
         }
         _ => feed_if(f, b),
     }

@@ -3,16 +3,31 @@
 ghost use mathlib.Core.Path.{_≡_};
 ghost use mathlib.Core.Bool.{Bool, true, false};
 ghost use Prim.Native.Nat.{_<_, _≤_};
-ghost use Rattle.landing.specs.Landing.{liveOf, topOf, landOf, Stack, Ended};
+ghost use Rattle.landing.specs.Landing.{liveOf, landedOf, topOf, landOf, Stack, Ended};
 use crate::down;
 use crate::frame;
 use crate::go;
 use crate::go::Go;
+use crate::go::Ready;
 use crate::go::Stage;
 
+// The stage at which landing ended, the part if it found one, and how deep.
 pub struct Landed {
-    pub go: Go,
+    pub stage: Stage,
+    pub ready: Ready,
     pub depth: usize,
+}
+
+pub fn end_at(g: Go, depth: usize) -> Landed
+    ensures { λ r. ⌜ r ≡ landedOf g depth ⌝ }
+{
+    let s = g.stage;
+    let r = go::ready_in(g);
+    Landed {
+        stage: s,
+        ready: r,
+        depth: depth,
+    }
 }
 
 // Whether landing goes on.
@@ -64,24 +79,23 @@ pub fn land(
     let mut left: usize = 2100;
     while 0 < left {
         if !live(g) {
-            return Landed { go: g, depth: d };
+            return end_at(g, d);
         }
         let k = top(base, d);
         let f = frame::unpack(tops[k], envs[k], args[k]);
         let m = down::step(words, roots, g, d, f);
         let h = m.frame;
-        let w = frame::pack(h);
-        let j = base + m.at;
-        tops[j] = w.top;
-        envs[j] = w.env;
-        args[j] = w.args;
+        if m.at < m.depth {
+            let w = frame::pack(h);
+            let j = base + m.at;
+            tops[j] = w.top;
+            envs[j] = w.env;
+            args[j] = w.args;
+        }
         let next = m.go;
         g = next;
         d = m.depth;
         left -= 1;
     }
-    Landed {
-        go: go::full(),
-        depth: d,
-    }
+    end_at(go::full(), d)
 }

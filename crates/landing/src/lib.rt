@@ -3,5 +3,6 @@ pub mod down;
 pub mod frame;
 pub mod go;
 pub mod land;
+pub mod part;
 pub mod slots;
 pub mod words;

@@ -6,8 +6,7 @@ use Rattle.keys.specs.declared.KeySet.{KeySet}
 use Rattle.keys.specs.KeySet.{emptySet, learnOf, joinOf, isEmptyOf}
 use Rattle.landing.specs.declared.frame.Kind.the-variants as kind
 use Rattle.landing.specs.declared.frame.Frame.{Frame}
-use Rattle.landing.specs.declared.go.Part.{Part}
-use Rattle.landing.specs.declared.go.Part.the-variants as part
+use Rattle.landing.specs.Parts.{Part as part}
 use Rattle.landing.specs.declared.go.Ready.{Ready}
 use Rattle.landing.specs.declared.go.Go.{Go}
 use Rattle.landing.specs.Frames.{framed}
@@ -20,7 +19,7 @@ use Rattle.moves.specs.declared.state.Entry.{Entry}
 use Rattle.moves.specs.declared.act.Room.{Room}
 use Rattle.moves.specs.declared.act.Room.the-variants as room
 use Rattle.moves.specs.declared.act.Acted.{Acted}
-use Rattle.moves.specs.Look.{hasOf}
+use Rattle.moves.specs.Look.{isPart, hasOf}
 
 abbrev pub entryOf : ℕ → ℕ → ℕ → ℕ → Entry
 entryOf k o f v = record { kind = k; object = o; field = f; value = v }
@@ -38,7 +37,7 @@ abbrev pub countsOf : ℕ → ℕ → ℕ → Counts
 countsOf t o k = record { threads = t; objects = o; keys = k }
 
 abbrev pub actedOf : Room → Go → Counts → KeySet → Cell → Entry → Acted
-actedOf r g n ks c e = record { room = r; go = g; born = goFull; keys = ks; cell = c; thing = nothing; counts = n; entry = e }
+actedOf r g n ks c e = record { room = r; go = g; keys = ks; cell = c; thing = nothing; counts = n; entry = e }
 
 abbrev pub goOn : Room → Go → Counts → Head → Cell → Acted
 goOn r g n h c = actedOf r g n (h .keys) c noEntry
@@ -64,7 +63,6 @@ actNew n h c mask =
     (record {
       room = room.Enough;
       go = goValue (n .objects);
-      born = goFull;
       keys = h .keys;
       cell = c;
       thing = record { mask = mask; thread = 8 };
@@ -72,8 +70,8 @@ actNew n h c mask =
       entry = entryOf 1 (n .objects) 0 0;
     })
 
-unfoldable pub actFork : Counts → Head → Cell → ℕ → ℕ → Acted
-actFork n h c t env =
+unfoldable pub actFork : Counts → Head → Cell → Acted
+actFork n h c =
     cond (leb 8 (n .threads))
     (goOn room.NoThread (goValue (n .objects)) n h c)
     (cond (leb 32 (n .objects))
@@ -81,7 +79,6 @@ actFork n h c t env =
     (record {
       room = room.Enough;
       go = goValue (n .objects);
-      born = goRun t env;
       keys = h .keys;
       cell = c;
       thing = record { mask = 0; thread = n .threads };
@@ -104,44 +101,30 @@ actSynch n h c o t env =
 abbrev pub actHold : Counts → Head → ℕ → ℕ → Acted
 actHold n h o v = actedOf room.Enough (goValue v) n (h .keys) (cellOf 0 0 (h .keys)) (entryOf 7 o 0 0)
 
-abbrev pub pureBy : Part → Ready → Go
-pureBy part.Done r = goFull
-pureBy part.NoRule r = goFull
-pureBy part.Run r = goRun (r .a) (r .env)
-pureBy part.RunCondition r = goRunCondition (r .a) (r .env)
-pureBy part.Val r = goValue (r .a)
-pureBy part.Truth r = goTruth (r .a)
-pureBy part.While r = goWantCondition (framed kind.Test (r .a) (r .b) 0 (r .env)) (r .a)
-pureBy part.Body r = goWant (framed kind.Body (r .a) (r .b) 0 (r .env)) (r .b)
-pureBy part.Again r = goAt (readyOf part.While (r .a) (r .b) 0 (r .env))
-pureBy part.New r = goFull
-pureBy part.Read r = goFull
-pureBy part.Write r = goFull
-pureBy part.Fork r = goFull
-pureBy part.Join r = goFull
-pureBy part.Synch r = goFull
-pureBy part.Hold r = goFull
+-- where a move that leaves no record goes on, by its part p
+unfoldable pub pureBy : ℕ → Ready → Go
+pureBy p r =
+    cond (isPart part.Run p) (goRun (r .a) (r .env))
+    (cond (isPart part.RunCondition p) (goRunCondition (r .a) (r .env))
+    (cond (isPart part.Val p) (goValue (r .a))
+    (cond (isPart part.Truth p) (goTruth (r .a))
+    (cond (isPart part.While p) (goWantCondition (framed kind.Test (r .a) (r .b) 0 (r .env)) (r .a))
+    (cond (isPart part.Body p) (goWant (framed kind.Body (r .a) (r .b) 0 (r .env)) (r .b))
+    (cond (isPart part.Again p) (goAt (readyOf part.While (r .a) (r .b) 0 (r .env))) goFull))))))
 
-unfoldable pub actPure : Head → Go
+abbrev pub actPure : Head → Go
 actPure h = pureBy (h .ready .part) (h .ready)
 
-abbrev pub actBy : Part → ℕ → Counts → Head → Cell → Object → Head → Acted
-actBy part.Done mask n h c t q = goOn room.Enough (actPure h) n h c
-actBy part.NoRule mask n h c t q = goOn room.Enough (actPure h) n h c
-actBy part.Run mask n h c t q = goOn room.Enough (actPure h) n h c
-actBy part.RunCondition mask n h c t q = goOn room.Enough (actPure h) n h c
-actBy part.Val mask n h c t q = goOn room.Enough (actPure h) n h c
-actBy part.Truth mask n h c t q = goOn room.Enough (actPure h) n h c
-actBy part.While mask n h c t q = goOn room.Enough (actPure h) n h c
-actBy part.Body mask n h c t q = goOn room.Enough (actPure h) n h c
-actBy part.Again mask n h c t q = goOn room.Enough (actPure h) n h c
-actBy part.New mask n h c t q = actNew n h c (h .ready .a)
-actBy part.Read mask n h c t q = actRead mask n h c (h .ready .a) (h .ready .b)
-actBy part.Write mask n h c t q = actWrite mask n h c (h .ready .a) (h .ready .b) (h .ready .c)
-actBy part.Fork mask n h c t q = actFork n h c (h .ready .a) (h .ready .env)
-actBy part.Join mask n h c t q = actJoin n h c t q (h .ready .a)
-actBy part.Synch mask n h c t q = actSynch n h c (h .ready .a) (h .ready .b) (h .ready .env)
-actBy part.Hold mask n h c t q = actHold n h (h .ready .a) (h .ready .b)
+-- what the move of part p does
+unfoldable pub actBy : ℕ → ℕ → Counts → Head → Cell → Object → Head → Acted
+actBy p mask n h c t q =
+    cond (isPart part.New p) (actNew n h c (h .ready .a))
+    (cond (isPart part.Read p) (actRead mask n h c (h .ready .a) (h .ready .b))
+    (cond (isPart part.Write p) (actWrite mask n h c (h .ready .a) (h .ready .b) (h .ready .c))
+    (cond (isPart part.Fork p) (actFork n h c)
+    (cond (isPart part.Join p) (actJoin n h c t q (h .ready .a))
+    (cond (isPart part.Synch p) (actSynch n h c (h .ready .a) (h .ready .b) (h .ready .env))
+    (cond (isPart part.Hold p) (actHold n h (h .ready .a) (h .ready .b)) (goOn room.Enough (actPure h) n h c)))))))
 
-unfoldable pub actOf : ℕ → Counts → Head → Cell → Object → Head → Acted
+abbrev pub actOf : ℕ → Counts → Head → Cell → Object → Head → Acted
 actOf mask n h c t q = actBy (h .ready .part) mask n h c t q

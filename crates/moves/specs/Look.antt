@@ -3,55 +3,29 @@ use Prim.Native.Nat.{ℕ, _-_, _/_, _%_, _^_}
 use mathlib.Core.Bool.{Bool, true, false, cond}
 use lib.Dec.{eqb, leb}
 use Rattle.keys.specs.KeySet.{holdsOf, isEmptyOf}
-use Rattle.landing.specs.declared.go.Part.{Part}
-use Rattle.landing.specs.declared.go.Part.the-variants as part
+use Rattle.landing.specs.Parts.{Part, Part as part, numberOf}
 use Rattle.landing.specs.declared.go.Ready.{Ready}
 use Rattle.moves.specs.declared.state.Head.{Head}
 use Rattle.moves.specs.declared.state.Cell.{Cell}
 use Rattle.moves.specs.declared.state.Object.{Object}
-use Rattle.moves.specs.declared.state.Counts.{Counts}
 use Rattle.moves.specs.declared.look.Sight.{Sight}
 use Rattle.moves.specs.declared.look.Sight.the-variants as sight
 
+-- whether a number is a part's
+abbrev pub isPart : Part → ℕ → Bool
+isPart q p = eqb p (numberOf q)
+
 -- the object and the field that a part is about
-abbrev pub objectBy : Part → ℕ → ℕ
-objectBy part.Done a = 0
-objectBy part.NoRule a = 0
-objectBy part.Run a = 0
-objectBy part.RunCondition a = 0
-objectBy part.Val a = 0
-objectBy part.Truth a = 0
-objectBy part.While a = 0
-objectBy part.Body a = 0
-objectBy part.Again a = 0
-objectBy part.New a = 0
-objectBy part.Read a = a % 32
-objectBy part.Write a = a % 32
-objectBy part.Fork a = 0
-objectBy part.Join a = a % 32
-objectBy part.Synch a = a % 32
-objectBy part.Hold a = a % 32
+unfoldable pub objectBy : ℕ → ℕ → ℕ
+objectBy p a =
+    cond (isPart part.Read p) (a % 32)
+    (cond (isPart part.Write p) (a % 32) (cond (isPart part.Join p) (a % 32) (cond (isPart part.Synch p) (a % 32) (cond (isPart part.Hold p) (a % 32) 0))))
 
 abbrev pub objectOf : Ready → ℕ
 objectOf r = objectBy (r .part) (r .a)
 
-abbrev pub fieldBy : Part → ℕ → ℕ
-fieldBy part.Done b = 0
-fieldBy part.NoRule b = 0
-fieldBy part.Run b = 0
-fieldBy part.RunCondition b = 0
-fieldBy part.Val b = 0
-fieldBy part.Truth b = 0
-fieldBy part.While b = 0
-fieldBy part.Body b = 0
-fieldBy part.Again b = 0
-fieldBy part.New b = 0
-fieldBy part.Read b = b % 32
-fieldBy part.Write b = b % 32
-fieldBy part.Fork b = 0
-fieldBy part.Join b = 0
-fieldBy part.Synch b = 0
-fieldBy part.Hold b = 0
+unfoldable pub fieldBy : ℕ → ℕ → ℕ
+fieldBy p b = cond (isPart part.Read p) (b % 32) (cond (isPart part.Write p) (b % 32) 0)
 
 abbrev pub fieldOf : Ready → ℕ
 fieldOf r = fieldBy (r .part) (r .b)
@@ -63,47 +37,21 @@ hasOf mask f = eqb (mask / 2 ^ (31 - f % 32) % 2) 1
 unfoldable pub lookField : ℕ → Head → Cell → Object → ℕ → Sight
 lookField mask h c t f = cond (hasOf (t .mask) f) (cond (hasOf mask f) sight.Ready (cond (holdsOf (h .keys) (c .key)) sight.Ready sight.Lacking)) sight.NoField
 
-abbrev pub joinBy : Part → Sight
-joinBy part.Done = sight.Ready
-joinBy part.NoRule = sight.Join
-joinBy part.Run = sight.Join
-joinBy part.RunCondition = sight.Join
-joinBy part.Val = sight.Join
-joinBy part.Truth = sight.Join
-joinBy part.While = sight.Join
-joinBy part.Body = sight.Join
-joinBy part.Again = sight.Join
-joinBy part.New = sight.Join
-joinBy part.Read = sight.Join
-joinBy part.Write = sight.Join
-joinBy part.Fork = sight.Join
-joinBy part.Join = sight.Join
-joinBy part.Synch = sight.Join
-joinBy part.Hold = sight.Join
-
-unfoldable pub lookJoin : Object → Head → Sight
-lookJoin t q = cond (leb 8 (t .thread)) sight.NoThread (joinBy (q .ready .part))
+unfoldable pub lookJoin : Object → ℕ → Sight
+lookJoin t q = cond (leb 8 (t .thread)) sight.NoThread (cond (isPart part.Done q) sight.Ready sight.Join)
 
 unfoldable pub lookSynch : Head → Cell → Sight
 lookSynch h c = cond (isEmptyOf (c .keys)) (cond (eqb (c .value) (h .object)) sight.Ready sight.Monitor) sight.Ready
 
-abbrev pub lookBy : Part → ℕ → Head → Cell → Object → Head → Sight
-lookBy part.Done mask h c t q = sight.Finished
-lookBy part.NoRule mask h c t q = sight.NoRule
-lookBy part.Run mask h c t q = sight.Ready
-lookBy part.RunCondition mask h c t q = sight.Ready
-lookBy part.Val mask h c t q = sight.Ready
-lookBy part.Truth mask h c t q = sight.Ready
-lookBy part.While mask h c t q = sight.Ready
-lookBy part.Body mask h c t q = sight.Ready
-lookBy part.Again mask h c t q = sight.Ready
-lookBy part.New mask h c t q = sight.Ready
-lookBy part.Read mask h c t q = lookField mask h c t (h .ready .b)
-lookBy part.Write mask h c t q = lookField mask h c t (h .ready .b)
-lookBy part.Fork mask h c t q = sight.Ready
-lookBy part.Join mask h c t q = lookJoin t q
-lookBy part.Synch mask h c t q = lookSynch h c
-lookBy part.Hold mask h c t q = sight.Ready
+unfoldable pub aboutField : ℕ → Bool
+aboutField p = cond (isPart part.Read p) true (isPart part.Write p)
 
-unfoldable pub lookOf : ℕ → Counts → ℕ → Head → Cell → Object → Head → Sight
-lookOf mask n p h c t q = cond (leb (n .threads) p) sight.Absent (lookBy (h .ready .part) mask h c t q)
+-- what the pick of a thread with part p meets
+unfoldable pub lookBy : ℕ → ℕ → Head → Cell → Object → ℕ → Sight
+lookBy p mask h c t q =
+    cond (aboutField p) (lookField mask h c t (h .ready .b))
+    (cond (isPart part.Done p) sight.Finished
+    (cond (isPart part.NoRule p) sight.NoRule (cond (isPart part.Join p) (lookJoin t q) (cond (isPart part.Synch p) (lookSynch h c) sight.Ready))))
+
+abbrev pub lookOf : ℕ → Head → Cell → Object → ℕ → Sight
+lookOf mask h c t q = lookBy (h .ready .part) mask h c t q

@@ -3,8 +3,7 @@
 use Prim.Native.Nat.{ℕ}
 use mathlib.Core.Bool.{Bool, true, false, cond}
 use lib.Dec.{eqb}
-use Rattle.landing.specs.declared.go.Part.{Part}
-use Rattle.landing.specs.declared.go.Part.the-variants as part
+use Rattle.landing.specs.Parts.{Part as part}
 use Rattle.landing.specs.declared.go.Ready.{Ready}
 use Rattle.landing.specs.declared.go.Stage.{Stage}
 use Rattle.landing.specs.declared.go.Stage.the-variants as stage
@@ -20,6 +19,7 @@ use Rattle.moves.specs.declared.act.Acted.{Acted}
 use Rattle.moves.specs.declared.settle.Answer.{Answer}
 use Rattle.moves.specs.declared.settle.Answer.the-variants as answer
 use Rattle.moves.specs.Act.{entryOf}
+use Rattle.moves.specs.Look.{isPart}
 
 abbrev pub passesOf : Sight → Bool
 passesOf sight.Absent = true
@@ -32,26 +32,15 @@ passesOf sight.NoThread = true
 passesOf sight.NoRule = true
 passesOf sight.Lacking = false
 
-abbrev pub lackBy : Part → Ready → Entry
-lackBy part.Done r = entryOf 10 (r .a) (r .b) 0
-lackBy part.NoRule r = entryOf 10 (r .a) (r .b) 0
-lackBy part.Run r = entryOf 10 (r .a) (r .b) 0
-lackBy part.RunCondition r = entryOf 10 (r .a) (r .b) 0
-lackBy part.Val r = entryOf 10 (r .a) (r .b) 0
-lackBy part.Truth r = entryOf 10 (r .a) (r .b) 0
-lackBy part.While r = entryOf 10 (r .a) (r .b) 0
-lackBy part.Body r = entryOf 10 (r .a) (r .b) 0
-lackBy part.Again r = entryOf 10 (r .a) (r .b) 0
-lackBy part.New r = entryOf 10 (r .a) (r .b) 0
-lackBy part.Read r = entryOf 10 (r .a) (r .b) 0
-lackBy part.Write r = entryOf 11 (r .a) (r .b) (r .c)
-lackBy part.Fork r = entryOf 10 (r .a) (r .b) 0
-lackBy part.Join r = entryOf 10 (r .a) (r .b) 0
-lackBy part.Synch r = entryOf 10 (r .a) (r .b) 0
-lackBy part.Hold r = entryOf 10 (r .a) (r .b) 0
+-- the record of an access that lacks its key, by its part p
+unfoldable pub lackBy : ℕ → Ready → Entry
+lackBy p r = cond (isPart part.Write p) (entryOf 11 (r .a) (r .b) (r .c)) (entryOf 10 (r .a) (r .b) 0)
 
 abbrev pub lackEntry : Ready → Entry
 lackEntry r = lackBy (r .part) r
+
+abbrev pub forksOf : Acted → Bool
+forksOf a = eqb (a .entry .kind) 8
 
 abbrev pub fullBy : Stage → Bool
 fullBy stage.Full = true
@@ -65,7 +54,7 @@ fullBy stage.Value = false
 fullBy stage.Truth = false
 
 abbrev pub fullOf : Landed → Bool
-fullOf l = fullBy (l .go .stage)
+fullOf l = fullBy (l .stage)
 
 abbrev pub depthBy : Bool → Bool → Bool → Answer
 depthBy l fork b = cond l (answer.NoRoom room.NoDepth) (cond fork (cond b (answer.NoRoom room.NoDepth) answer.Moved) answer.Moved)
@@ -89,13 +78,13 @@ answerBy sight.NoRule a = a
 answerBy sight.Lacking a = answer.Race
 
 unfoldable pub answerOf : Sight → Acted → Landed → Landed → Answer
-answerOf s a l b = answerBy s (roomBy (a .room) (depthBy (fullOf l) (eqb (a .entry .kind) 8) (fullOf b)))
+answerOf s a l b = answerBy s (roomBy (a .room) (depthBy (fullOf l) (forksOf a) (fullOf b)))
 
 abbrev pub moverOf : Acted → Head → Landed → Head
-moverOf a h l = record { ready = l .go .ready; depth = l .depth; object = h .object; keys = a .keys }
+moverOf a h l = record { ready = l .ready; depth = l .depth; object = h .object; keys = a .keys }
 
 abbrev pub bornOf : Counts → Head → Landed → Head
-bornOf n h b = record { ready = b .go .ready; depth = b .depth; object = n .objects; keys = h .keys }
+bornOf n h b = record { ready = b .ready; depth = b .depth; object = n .objects; keys = h .keys }
 
 abbrev pub entryBy : Answer → Ready → Acted → Entry
 entryBy answer.Moved r a = a .entry

@@ -13,7 +13,7 @@ use landing::frame::Frame;
 use landing::frame::Kind;
 use landing::go;
 use landing::go::Go;
-use landing::go::Part;
+use landing::part;
 
 // Room for the move, or what is lacking.
 pub enum Room {
@@ -24,11 +24,10 @@ pub enum Room {
     NoDepth,
 }
 
-// What a move does: where the mover goes on, where a new thread starts, the mover's keys, the cell, the new object, the counts and the record.
+// What a move does: where the mover goes on, its keys, the cell, the new object, the counts and the record.
 pub struct Acted {
     pub room: Room,
     pub go: Go,
-    pub born: Go,
     pub keys: KeySet,
     pub cell: Cell,
     pub thing: Object,
@@ -52,11 +51,9 @@ fn acted_of(room: Room, g: Go, n: Counts, ks: KeySet, c: Cell, e: Entry) -> Acte
     ensures { λ r. ⌜ r ≡ actedOf room g n ks c e ⌝ }
 {
     let t = Object { mask: 0, thread: 8 };
-    let b = go::full();
     Acted {
         room: room,
         go: g,
-        born: b,
         keys: ks,
         cell: c,
         thing: t,
@@ -138,11 +135,9 @@ fn act_new(n: Counts, h: Head, c: Cell, mask: usize) -> Acted
         keys: n.keys,
     };
     let g = go::value(o);
-    let b = go::full();
     Acted {
         room: Room::Enough,
         go: g,
-        born: b,
         keys: ks,
         cell: c,
         thing: t,
@@ -151,8 +146,8 @@ fn act_new(n: Counts, h: Head, c: Cell, mask: usize) -> Acted
     }
 }
 
-fn act_fork(n: Counts, h: Head, c: Cell, at: usize, env: usize) -> Acted
-    ensures { λ r. ⌜ r ≡ actFork n h c at env ⌝ }
+fn act_fork(n: Counts, h: Head, c: Cell) -> Acted
+    ensures { λ r. ⌜ r ≡ actFork n h c ⌝ }
 {
     let q = n.threads;
     let o = n.objects;
@@ -171,11 +166,9 @@ fn act_fork(n: Counts, h: Head, c: Cell, at: usize, env: usize) -> Acted
         keys: n.keys,
     };
     let g = go::value(o);
-    let b = go::run(at, env);
     Acted {
         room: Room::Enough,
         go: g,
-        born: b,
         keys: ks,
         cell: c,
         thing: t,
@@ -248,13 +241,13 @@ fn act_pure(h: Head) -> Go
     let r = h.ready;
     let p = r.part;
     match p {
-        Part::Run => go::run(r.a, r.env),
-        Part::RunCondition => go::run_condition(r.a, r.env),
-        Part::Val => go::value(r.a),
-        Part::Truth => go::truth(r.a),
-        Part::While => go::want_condition(frame::frame_of(Kind::Test, r.a, r.b, 0, r.env), r.a),
-        Part::Body => go::want(frame::frame_of(Kind::Body, r.a, r.b, 0, r.env), r.b),
-        Part::Again => go::at(go::ready_of(Part::While, r.a, r.b, 0, r.env)),
+        part::RUN => go::run(r.a, r.env),
+        part::RUN_CONDITION => go::run_condition(r.a, r.env),
+        part::VAL => go::value(r.a),
+        part::TRUTH => go::truth(r.a),
+        part::WHILE => go::want_condition(frame::frame_of(Kind::Test, r.a, r.b, 0, r.env), r.a),
+        part::BODY => go::want(frame::frame_of(Kind::Body, r.a, r.b, 0, r.env), r.b),
+        part::AGAIN => go::at(go::ready_of(part::WHILE, r.a, r.b, 0, r.env)),
         _ => go::full(),
     }
 }
@@ -266,13 +259,13 @@ pub fn act(mask: usize, n: Counts, h: Head, c: Cell, t: Object, other: Head) -> 
     let r = h.ready;
     let p = r.part;
     match p {
-        Part::New => act_new(n, h, c, r.a),
-        Part::Read => act_read(mask, n, h, c, r.a, r.b),
-        Part::Write => act_write(mask, n, h, c, r.a, r.b, r.c),
-        Part::Fork => act_fork(n, h, c, r.a, r.env),
-        Part::Join => act_join(n, h, c, t, other, r.a),
-        Part::Synch => act_synch(n, h, c, r.a, r.b, r.env),
-        Part::Hold => act_hold(n, h, r.a, r.b),
+        part::NEW => act_new(n, h, c, r.a),
+        part::READ => act_read(mask, n, h, c, r.a, r.b),
+        part::WRITE => act_write(mask, n, h, c, r.a, r.b, r.c),
+        part::FORK => act_fork(n, h, c),
+        part::JOIN => act_join(n, h, c, t, other, r.a),
+        part::SYNCH => act_synch(n, h, c, r.a, r.b, r.env),
+        part::HOLD => act_hold(n, h, r.a, r.b),
         _ => go_on(Room::Enough, act_pure(h), n, h, c),
     }
 }

@@ -1,13 +1,12 @@
 // Look: what a thread's next pick meets, apart from room.
 ghost use mathlib.Core.Path.{_≡_};
 ghost use Prim.Native.Nat.{_<_};
-ghost use Rattle.moves.specs.Look.{objectOf, fieldOf, hasOf, lookField, lookJoin, lookSynch, lookOf};
+ghost use Rattle.moves.specs.Look.{objectOf, fieldOf, hasOf, lookField, lookJoin, lookSynch, aboutField, lookOf};
 use crate::state::Cell;
-use crate::state::Counts;
 use crate::state::Head;
 use crate::state::Object;
-use landing::go::Part;
 use landing::go::Ready;
+use landing::part;
 
 // What a look says: absent, finished, waiting for a monitor or a join, stuck for a field, a thread or a rule, lacking a key, or ready.
 pub enum Sight {
@@ -28,11 +27,11 @@ pub fn object_of(r: Ready) -> usize
 {
     let p = r.part;
     match p {
-        Part::Read => r.a % 32,
-        Part::Write => r.a % 32,
-        Part::Join => r.a % 32,
-        Part::Synch => r.a % 32,
-        Part::Hold => r.a % 32,
+        part::READ => r.a % 32,
+        part::WRITE => r.a % 32,
+        part::JOIN => r.a % 32,
+        part::SYNCH => r.a % 32,
+        part::HOLD => r.a % 32,
         _ => 0,
     }
 }
@@ -43,8 +42,8 @@ pub fn field_of(r: Ready) -> usize
 {
     let p = r.part;
     match p {
-        Part::Read => r.b % 32,
-        Part::Write => r.b % 32,
+        part::READ => r.b % 32,
+        part::WRITE => r.b % 32,
         _ => 0,
     }
 }
@@ -72,17 +71,16 @@ fn look_field(mask: usize, h: Head, c: Cell, t: Object, f: usize) -> Sight
     Sight::Lacking
 }
 
-fn look_join(t: Object, other: Head) -> Sight
+fn look_join(t: Object, other: usize) -> Sight
     ensures { λ r. ⌜ r ≡ lookJoin t other ⌝ }
 {
     if 8 <= t.thread {
         return Sight::NoThread;
     }
-    let r = other.ready;
-    let p = r.part;
-    match p {
-        Part::Done => Sight::Ready,
-        _ => Sight::Join,
+    if other == part::DONE {
+        Sight::Ready
+    } else {
+        Sight::Join
     }
 }
 
@@ -98,22 +96,31 @@ fn look_synch(h: Head, c: Cell) -> Sight
     Sight::Ready
 }
 
-// What thread p's next pick meets: h is its head, c and t the cell and the object that its part is about, other the thread that t stands for.
-pub fn look(mask: usize, n: Counts, p: usize, h: Head, c: Cell, t: Object, other: Head) -> Sight
-    ensures { λ r. ⌜ r ≡ lookOf mask n p h c t other ⌝ }
+// Whether the part reads or writes a field.
+fn about_field(p: usize) -> bool
+    ensures { λ r. ⌜ r ≡ aboutField p ⌝ }
 {
-    if n.threads <= p {
-        return Sight::Absent;
+    if p == part::READ {
+        return true;
     }
+    p == part::WRITE
+}
+
+// What a present thread's next pick meets: h is its head, c and t the cell and the object that its part is about, other the part of the thread that
+// t stands for.
+pub fn look(mask: usize, h: Head, c: Cell, t: Object, other: usize) -> Sight
+    ensures { λ r. ⌜ r ≡ lookOf mask h c t other ⌝ }
+{
     let r = h.ready;
-    let q = r.part;
-    match q {
-        Part::Done => Sight::Finished,
-        Part::NoRule => Sight::NoRule,
-        Part::Read => look_field(mask, h, c, t, r.b),
-        Part::Write => look_field(mask, h, c, t, r.b),
-        Part::Join => look_join(t, other),
-        Part::Synch => look_synch(h, c),
+    let p = r.part;
+    if about_field(p) {
+        return look_field(mask, h, c, t, r.b);
+    }
+    match p {
+        part::DONE => Sight::Finished,
+        part::NO_RULE => Sight::NoRule,
+        part::JOIN => look_join(t, other),
+        part::SYNCH => look_synch(h, c),
         _ => Sight::Ready,
     }
 }

@@ -1,6 +1,6 @@
 // Settle: the answer to a pick, once the landings are known.
 ghost use mathlib.Core.Path.{_≡_};
-ghost use Rattle.moves.specs.Settle.{passesOf, lackEntry, fullOf, answerOf, moverOf, bornOf, entryBy};
+ghost use Rattle.moves.specs.Settle.{passesOf, lackEntry, forksOf, fullOf, answerOf, moverOf, bornOf, entryBy};
 use crate::act;
 use crate::act::Acted;
 use crate::act::Room;
@@ -9,11 +9,10 @@ use crate::state::Counts;
 use crate::state::Entry;
 use crate::state::Head;
 use keys::KeySet;
-use landing::go::Go;
-use landing::go::Part;
 use landing::go::Ready;
 use landing::go::Stage;
 use landing::land::Landed;
+use landing::part;
 
 // A pick moves its thread, or stops the run.
 pub enum Answer {
@@ -43,18 +42,24 @@ pub fn passes(s: Sight) -> bool
 pub fn lack(r: Ready) -> Entry
     ensures { λ e. ⌜ e ≡ lackEntry r ⌝ }
 {
-    let p = r.part;
-    match p {
-        Part::Write => act::entry(11, r.a, r.b, r.c),
-        _ => act::entry(10, r.a, r.b, 0),
+    if r.part == part::WRITE {
+        return act::entry(11, r.a, r.b, r.c);
     }
+    act::entry(10, r.a, r.b, 0)
+}
+
+// Whether the move makes a thread.
+pub fn forks(a: Acted) -> bool
+    ensures { λ r. ⌜ r ≡ forksOf a ⌝ }
+{
+    let e = a.entry;
+    e.kind == 8
 }
 
 fn full(l: Landed) -> bool
     ensures { λ r. ⌜ r ≡ fullOf l ⌝ }
 {
-    let g = l.go;
-    let s = g.stage;
+    let s = l.stage;
     match s {
         Stage::Full => true,
         _ => false,
@@ -66,7 +71,6 @@ pub fn answer_to(s: Sight, a: Acted, l: Landed, b: Landed) -> Answer
     ensures { λ r. ⌜ r ≡ answerOf s a l b ⌝ }
 {
     let room = a.room;
-    let e = a.entry;
     match s {
         Sight::Lacking => Answer::Race,
         _ => match room {
@@ -74,7 +78,7 @@ pub fn answer_to(s: Sight, a: Acted, l: Landed, b: Landed) -> Answer
                 if full(l) {
                     return Answer::NoRoom(Room::NoDepth);
                 }
-                if e.kind == 8 {
+                if forks(a) {
                     if full(b) {
                         return Answer::NoRoom(Room::NoDepth);
                     }
@@ -93,8 +97,7 @@ pub fn answer_to(s: Sight, a: Acted, l: Landed, b: Landed) -> Answer
 pub fn mover(a: Acted, h: Head, l: Landed) -> Head
     ensures { λ r. ⌜ r ≡ moverOf a h l ⌝ }
 {
-    let g = l.go;
-    let x = g.ready;
+    let x = l.ready;
     let ks = a.keys;
     Head {
         ready: x,
@@ -108,8 +111,7 @@ pub fn mover(a: Acted, h: Head, l: Landed) -> Head
 pub fn born(n: Counts, h: Head, b: Landed) -> Head
     ensures { λ r. ⌜ r ≡ bornOf n h b ⌝ }
 {
-    let g = b.go;
-    let x = g.ready;
+    let x = b.ready;
     let ks = h.keys;
     Head {
         ready: x,

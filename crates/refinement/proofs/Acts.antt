@@ -38,13 +38,12 @@ use Rattle.machine.proofs.Sorted.{Well}
 use Rattle.machine.proofs.Runs.{Reached}
 use Rattle.machine.proofs.Standing.{standing, cell-there}
 use Rattle.landing.specs.declared.frame.Kind.the-variants as kind
-use Rattle.landing.specs.declared.go.Part.{Part}
-use Rattle.landing.specs.declared.go.Part.the-variants as part
+use Rattle.landing.specs.Parts.{Part, Part as part, numberOf as partNumber}
 use Rattle.landing.specs.declared.go.Ready.{Ready}
 use Rattle.landing.specs.declared.go.Go.{Go}
 use Rattle.landing.specs.Frames.{framed}
 use Rattle.landing.specs.Landing.{Stack}
-use Rattle.landing.specs.Going.{readyOf, goAt, goRun, goRunCondition, goWant, goWantCondition, goValue, goTruth, goFull}
+use Rattle.landing.specs.Going.{readyAt, readyOf, goAt, goRun, goRunCondition, goWant, goWantCondition, goValue, goTruth}
 use Rattle.moves.specs.declared.state.Head.{Head}
 use Rattle.moves.specs.declared.state.Cell.{Cell}
 use Rattle.moves.specs.declared.state.Object.{Object}
@@ -55,11 +54,12 @@ use Rattle.moves.specs.declared.look.Sight.the-variants as sight
 use Rattle.moves.specs.declared.act.Room.{Room}
 use Rattle.moves.specs.declared.act.Room.the-variants as room
 use Rattle.moves.specs.declared.act.Acted.{Acted}
-use Rattle.moves.specs.Look.{hasOf, objectOf, lookField, joinBy, lookJoin, lookSynch, lookBy, lookOf}
-use Rattle.moves.specs.Act.{entryOf, nothing, cellOf, countsOf, actedOf, actRead, actWrite, actNew, actFork, actJoin, holdFrame, actSynch, actHold, actPure, actBy, actOf}
+use Rattle.moves.specs.Look.{isPart, objectBy, objectOf, fieldBy, hasOf, lookField, lookJoin, lookSynch, aboutField, lookBy, lookOf}
+use Rattle.moves.specs.Act.{entryOf, nothing, cellOf, countsOf, actedOf, actRead, actWrite, actNew, actFork, actJoin, holdFrame, actSynch, actHold, pureBy, actBy, actOf}
+use Rattle.moves.specs.Settle.{lackBy, forksOf}
 use Rattle.engine.specs.Machine as engine
 use Rattle.engine.specs.Machine.{noHead, noCell, noThing, headAt, cellNumber, lookAt, actAt, actedBy}
-use Rattle.refinement.proofs.Meant.{slots, closed, IsExpression, IsCondition, Goes, StandsBy, Unlogged}
+use Rattle.refinement.proofs.Meant.{slots, closed, IsExpression, IsCondition, Goes, Stands, StandsBy, Unlogged}
 use Rattle.refinement.proofs.States.{cellMeant, CellFits, numberOf, Kept, Headed, Related, test-true, test-false, Strange, strange-number, added-number, other-number, found-thread, kept-changed, kept-past, kept-key, kept-store, kept-monitor, kept-object, kept-same}
 use Rattle.refinement.proofs.Looks.{Written, Entered, MeetsBy, volatile-bit, monitor-bit, meant-value, lookup-cell, monitor-cell, attempt-absent, attempt-value, attempt-act, attempt-condition, ready-there, one-key}
 
@@ -81,32 +81,32 @@ abbrev pub moverIn : frames.Found → Keys → machine.Thread → machine.Thread
 moverIn F K x = record { self = x .self; code = F; keys = K }
 
 -- the new thread, if the move is a fork
-abbrev pub Born : List ℕ → Counts → KeySet → Acted → Option machine.Thread → Type 0
-Born b n ks a none = (eqb (a .entry .kind) 8 ≡ false) × (a .born ≡ goFull)
-Born b n ks a (some y) = (eqb (a .entry .kind) 8 ≡ true) × (n .threads < 8) × (n .objects ≡ y .self) × (keysOf ks ≡ y .keys) × Goes b (a .born) [] (y .code)
+abbrev pub Born : List ℕ → Counts → KeySet → Ready → Acted → Option machine.Thread → Type 0
+Born b n ks r a none = forksOf a ≡ false
+Born b n ks r a (some y) = (forksOf a ≡ true) × (n .threads < 8) × (n .objects ≡ y .self) × (keysOf ks ≡ y .keys) × Goes b (goRun (r .a) (r .env)) [] (y .code)
 
--- thread p, in the frames S and with the keys ks, makes the move v in state s: a is what the code does, with cell i
-pub record Does (b : List ℕ) (cs : List Cell) (ts : List Object) (n : Counts) (i : ℕ) (ks : KeySet) (s : machine.State) (p : ℕ) (S : List frames.Frame) (a : Acted) (v : machine.Move) : Type 0 where
+-- thread p, at part r in the frames S and with the keys ks, makes the move v in state s: a is what the code does, with cell i
+pub record Does (b : List ℕ) (cs : List Cell) (ts : List Object) (n : Counts) (i : ℕ) (ks : KeySet) (r : Ready) (s : machine.State) (p : ℕ) (S : List frames.Frame) (a : Acted) (v : machine.Move) : Type 0 where
   pub entered : Entered p (a .entry) (v .entry)
   pub code : frames.Found
   pub goes : Goes b (a .go) S code
   pub young : Option machine.Thread
-  pub born : Born b n ks a young
+  pub born : Born b n ks r a young
   pub threads : v .state .threads ≡ withYoung (changeAt (s .threads) p (moverIn code (keysOf (a .keys)))) young
   pub keys-fit : Fits (a .keys)
   pub kept : Kept (volatiles b) (set cs i (a .cell)) (set ts (n .objects) (a .thing)) (a .counts) (v .state)
 
-abbrev pub DoesBy : Room → List ℕ → List Cell → List Object → Counts → ℕ → KeySet → machine.State → ℕ → List frames.Frame → Acted → machine.Move → Type 0
-DoesBy room.Enough b cs ts n i ks s p S a v = Does b cs ts n i ks s p S a v
-DoesBy room.NoThread b cs ts n i ks s p S a v = Unit {0}
-DoesBy room.NoObject b cs ts n i ks s p S a v = Unit {0}
-DoesBy room.NoKey b cs ts n i ks s p S a v = Unit {0}
-DoesBy room.NoDepth b cs ts n i ks s p S a v = Unit {0}
+abbrev pub DoesBy : Room → List ℕ → List Cell → List Object → Counts → ℕ → KeySet → Ready → machine.State → ℕ → List frames.Frame → Acted → machine.Move → Type 0
+DoesBy room.Enough b cs ts n i ks r s p S a v = Does b cs ts n i ks r s p S a v
+DoesBy room.NoThread b cs ts n i ks r s p S a v = Unit {0}
+DoesBy room.NoObject b cs ts n i ks r s p S a v = Unit {0}
+DoesBy room.NoKey b cs ts n i ks r s p S a v = Unit {0}
+DoesBy room.NoDepth b cs ts n i ks r s p S a v = Unit {0}
 
 -- the room before the move, and where it is enough the move
-pub record Acts (b : List ℕ) (cs : List Cell) (ts : List Object) (n : Counts) (i : ℕ) (ks : KeySet) (s : machine.State) (p : ℕ) (S : List frames.Frame) (a : Acted) (v : machine.Move) : Type 0 where
+pub record Acts (b : List ℕ) (cs : List Cell) (ts : List Object) (n : Counts) (i : ℕ) (ks : KeySet) (r : Ready) (s : machine.State) (p : ℕ) (S : List frames.Frame) (a : Acted) (v : machine.Move) : Type 0 where
   pub lacks : playing.noRoomBefore s (v .rule) ≡ roomMeant (a .room)
-  pub does : DoesBy (a .room) b cs ts n i ks s p S a v
+  pub does : DoesBy (a .room) b cs ts n i ks r s p S a v
 
 -- ---- changes to the threads
 
@@ -152,19 +152,23 @@ pub no-bit : eqb (maskBit 0 0) 1 ≡ false
 unfolding maskBit
 no-bit = refl
 
--- a thread is finished where its part says so
-Ends : Part → ℕ → frames.Found → Type 0
-Ends P a X = ((joinBy P ≡ sight.Ready) × (machine.finishedWith X ≡ some a) × (a < 32)) ⊎ ((joinBy P ≡ sight.Join) × (machine.finishedWith X ≡ none))
+-- what a join of a thread at part q meets
+abbrev joinBy : ℕ → Sight
+joinBy q = cond (isPart part.Done q) sight.Ready sight.Join
 
-ends-here : (P : Part) (a : ℕ) (X : frames.Found) (S : List frames.Frame) (R : frames.Ready) → joinBy P ≡ sight.Join → X ≡ frames.Found.here S R → Ends P a X
+-- a thread is finished where its part says so
+Ends : ℕ → ℕ → frames.Found → Type 0
+Ends q a X = ((joinBy q ≡ sight.Ready) × (machine.finishedWith X ≡ some a) × (a < 32)) ⊎ ((joinBy q ≡ sight.Join) × (machine.finishedWith X ≡ none))
+
+ends-here : (P : Part) (a : ℕ) (X : frames.Found) (S : List frames.Frame) (R : frames.Ready) → joinBy (partNumber P) ≡ sight.Join → X ≡ frames.Found.here S R → Ends (partNumber P) a X
 unfolding Ends machine.finishedWith
 ends-here P a X S R j e = inr (j, ap machine.finishedWith e)
 
-ends-hereᶜ : (P : Part) (a : ℕ) (X : frames.Found) (S : List frames.Frame) (Q : frames.Readyᶜ) → joinBy P ≡ sight.Join → X ≡ frames.Found.hereᶜ S Q → Ends P a X
+ends-hereᶜ : (P : Part) (a : ℕ) (X : frames.Found) (S : List frames.Frame) (Q : frames.Readyᶜ) → joinBy (partNumber P) ≡ sight.Join → X ≡ frames.Found.hereᶜ S Q → Ends (partNumber P) a X
 unfolding Ends machine.finishedWith
 ends-hereᶜ P a X S Q j e = inr (j, ap machine.finishedWith e)
 
-stands-ends : (b : List ℕ) (P : Part) (r : Ready) (S : List frames.Frame) (X : frames.Found) → StandsBy b P r S X → Ends P (r .a) X
+stands-ends : (b : List ℕ) (P : Part) (r : Ready) (S : List frames.Frame) (X : frames.Found) → StandsBy b P r S X → Ends (partNumber P) (r .a) X
 unfolding Ends machine.finishedWith
 stands-ends b part.Done r S X h = inl (refl, ap machine.finishedWith (h .1), h .2)
 stands-ends b part.NoRule r S X h = absurd h
@@ -183,6 +187,9 @@ stands-ends b part.Join r S X h = ends-here part.Join (r .a) X S _ refl (h .2)
 stands-ends b part.Synch r S X h = ends-here part.Synch (r .a) X S _ refl (h .3)
 stands-ends b part.Hold r S X h = ends-here part.Hold (r .a) X S _ refl (h .3)
 
+ends : (b : List ℕ) (r : Ready) (S : List frames.Frame) (X : frames.Found) → Stands b r S X → Ends (r .part) (r .a) X
+ends b r S X (P, e, h) = along (λ (q : ℕ). Ends q (r .a) X) (sym e) (stands-ends b P r S X h)
+
 -- ---- the parts of a move
 
 module _ (b : List ℕ) (ok : refusal b ≡ none) (l : List Head) (cs : List Cell) (ts : List Object) (n : Counts) (s : machine.State)
@@ -192,8 +199,8 @@ module _ (b : List ℕ) (ok : refusal b ≡ none) (l : List Head) (cs : List Cel
   abbrev head : Part → ℕ → ℕ → ℕ → ℕ → Head
   head P a b c env = record { ready = readyOf P a b c env; depth = d; object = self; keys = ks }
 
-  abbrev After : ℕ → Acted → machine.Move → Type 0
-  After i a v = Acts b cs ts n i ks s p S a v
+  abbrev After : Ready → ℕ → Acted → machine.Move → Type 0
+  After r i a v = Acts b cs ts n i ks r s p S a v
 
   -- what the mover knows
   unlearnt : s .threads ≡ changeAt (s .threads) p (knowing (keysOf ks))
@@ -209,19 +216,19 @@ module _ (b : List ℕ) (ok : refusal b ≡ none) (l : List Head) (cs : List Cel
   joined c f = ap (union (keysOf c)) (sym known) ∙ union-comm (keysOf c) (keysOf ks) ∙ sym (keys-join fits f)
 
   -- a move that forks no thread
-  moved : (i : ℕ) (R : Rule) (r : Option Record) (s′ : machine.State) (F : frames.Found) (g : Go) (n′ : Counts) (ks′ : KeySet) (c : Cell) (x : Object) (e : Entry)
+  moved : (r₀ : Ready) (i : ℕ) (R : Rule) (r : Option Record) (s′ : machine.State) (F : frames.Found) (g : Go) (n′ : Counts) (ks′ : KeySet) (c : Cell) (x : Object) (e : Entry)
       → playing.noRoomBefore s R ≡ none → Entered p e r → eqb (e .kind) 8 ≡ false → Goes b g S F → Fits ks′
       → s′ .threads ≡ changeAt (s .threads) p (knowing (keysOf ks′)) → Kept (volatiles b) (set cs i c) (set ts (n .objects) x) n′ s′
-      → After i (record { room = room.Enough; go = g; born = goFull; keys = ks′; cell = c; thing = x; counts = n′; entry = e }) (record { rule = R; entry = r; state = machine.become s′ p F })
+      → After r₀ i (record { room = room.Enough; go = g; keys = ks′; cell = c; thing = x; counts = n′; entry = e }) (record { rule = R; entry = r; state = machine.become s′ p F })
   unfolding machine.become
-  moved i R r s′ F g n′ ks′ c x e lack ent kind goes fit threads kept = record {
+  moved r₀ i R r s′ F g n′ ks′ c x e lack ent kind goes fit threads kept = record {
     lacks = lack;
     does = record {
       entered = ent;
       code = F;
       goes = goes;
       young = none;
-      born = (kind, refl);
+      born = kind;
       threads =
           ap (λ (xs : List machine.Thread). changeAt xs p (λ x. record { self = x .self; code = F; keys = x .keys })) threads
           ∙ change-twice (s .threads) p (knowing (keysOf ks′)) (λ x. record { self = x .self; code = F; keys = x .keys });
@@ -231,9 +238,9 @@ module _ (b : List ℕ) (ok : refusal b ≡ none) (l : List Head) (cs : List Cel
   }
 
   -- a move that leaves the memory and the keys as they are, and no record
-  plain : (i : ℕ) (R : Rule) (F : frames.Found) (g : Go) → playing.noRoomBefore s R ≡ none → Goes b g S F
-      → After i (actedOf room.Enough g n ks (getD cs i noCell) (entryOf 0 0 0 0)) (record { rule = R; entry = none; state = machine.become s p F })
-  plain i R F g lack goes = moved i R none s F g n ks (getD cs i noCell) nothing (entryOf 0 0 0 0) lack refl refl goes fits unlearnt (kept-past (kept-same k i) nothing)
+  plain : (r₀ : Ready) (i : ℕ) (R : Rule) (F : frames.Found) (g : Go) → playing.noRoomBefore s R ≡ none → Goes b g S F
+      → After r₀ i (actedOf room.Enough g n ks (getD cs i noCell) (entryOf 0 0 0 0)) (record { rule = R; entry = none; state = machine.become s p F })
+  plain r₀ i R F g lack goes = moved r₀ i R none s F g n ks (getD cs i noCell) nothing (entryOf 0 0 0 0) lack refl refl goes fits unlearnt (kept-past (kept-same k i) nothing)
 
   few-threads : n .threads ≤ 8
   few-threads = let a = k .threads-count in let c = reach .limits .counts .few-threads in omega arith
@@ -263,8 +270,8 @@ module _ (b : List ℕ) (ok : refusal b ≡ none) (l : List Head) (cs : List Cel
   -- E-READ, E-READV
   read-meets : (o f w env i j : ℕ) → i ≡ o * 32 + f → j ≡ o → Well S → o < 32 → 0 < f → f < 32 → t .code ≡ frames.Found.here S (frames.Ready.read o f)
       → MeetsBy (lookField (volatiles b) (head part.Read o f w env) (getD cs i noCell) (getD ts j noThing) f) p (readyOf part.Read o f w env) (machine.attempt (tableOf b) s p)
-      (After i (actRead (volatiles b) n (head part.Read o f w env) (getD cs i noCell) o f))
-  unfolding lookField actRead machine.act machine.readAct machine.around machine.learn playing.noRoomBefore land.go tableOf
+      (After (readyOf part.Read o f w env) i (actRead (volatiles b) n (head part.Read o f w env) (getD cs i noCell) o f))
+  unfolding objectBy fieldBy lackBy lookField actRead machine.act machine.readAct machine.around machine.learn playing.noRoomBefore land.go tableOf
   read-meets o f w env i j ei ej well ho zf hf code =
       by (hasOf (getD ts j noThing .mask) f) (hasOf (volatiles b) f) (holdsOf ks (c .key)) (field-found o f i j ei ej o-there ho zf hf) (volatile-bit b f hf) (one-key c ks (t .keys) fit fits known)
     where
@@ -286,7 +293,7 @@ module _ (b : List ℕ) (ok : refusal b ≡ none) (l : List Head) (cs : List Cel
 
       by : (x y z : Bool) → machine.lookup s o f ≡ cond x (some (cellMeant y c)) none → tableOf b .isVolatile f ≡ y → subset (cellMeant false c .keys) (t .keys) ≡ z
           → MeetsBy (cond x (cond y sight.Ready (cond z sight.Ready sight.Lacking)) sight.NoField) p (readyOf part.Read o f w env) (machine.attempt (tableOf b) s p)
-          (After i (cond y
+          (After (readyOf part.Read o f w env) i (cond y
           (actedOf room.Enough (goValue (c .value)) n (joinOf ks (c .keys)) c (entryOf 4 o f (c .value)))
           (actedOf room.Enough (goValue (c .value)) n ks c (entryOf 2 o f (c .value)))))
       by false y z e v q =
@@ -295,7 +302,7 @@ module _ (b : List ℕ) (ok : refusal b ≡ none) (l : List Head) (cs : List Cel
       by true true z e v q = (
         _,
         attempt-act (tableOf b) s p t there S (frames.Ready.read o f) _ code (ap (machine.readAct (tableOf b) s p t o f) e ∙ test-true (tableOf b .isVolatile f) _ _ v),
-        moved i e-readv (some (entry records.Kind.readv p o f (c .value))) (machine.learn s p (keysOf (c .keys))) (up (nodeAt b) (terms b) S (c .value)) (goValue (c .value)) n
+        moved _ i e-readv (some (entry records.Kind.readv p o f (c .value))) (machine.learn s p (keysOf (c .keys))) (up (nodeAt b) (terms b) S (c .value)) (goValue (c .value)) n
             (joinOf ks (c .keys)) c nothing (entryOf 4 o f (c .value)) refl (written records.Kind.readv o f (c .value) ho hf (value-fits true e)) refl
             (well, value-fits true e, refl) (fits-join fits (fit .keys)) (learnt (keysOf (c .keys)) _ (joined (c .keys) (fit .keys)))
             (kept-changed (kept-past (kept-same k i) nothing) p _ (λ x. refl)),
@@ -304,7 +311,7 @@ module _ (b : List ℕ) (ok : refusal b ≡ none) (l : List Head) (cs : List Cel
         _,
         attempt-act (tableOf b) s p t there S (frames.Ready.read o f) _ code
             (ap (machine.readAct (tableOf b) s p t o f) e ∙ test-false (tableOf b .isVolatile f) _ _ v ∙ test-true (subset (cellMeant false c .keys) (t .keys)) _ _ q),
-        moved i e-read (some (entry records.Kind.read p o f (c .value))) s (up (nodeAt b) (terms b) S (c .value)) (goValue (c .value)) n
+        moved _ i e-read (some (entry records.Kind.read p o f (c .value))) s (up (nodeAt b) (terms b) S (c .value)) (goValue (c .value)) n
             ks c nothing (entryOf 2 o f (c .value)) refl (written records.Kind.read o f (c .value) ho hf (value-fits false e)) refl
             (well, value-fits false e, refl) fits unlearnt (kept-past (kept-same k i) nothing),
       )
@@ -320,8 +327,8 @@ module _ (b : List ℕ) (ok : refusal b ≡ none) (l : List Head) (cs : List Cel
   -- E-WRITE, E-WRITEV
   write-meets : (o f w env i j : ℕ) → i ≡ o * 32 + f → j ≡ o → Well S → o < 32 → 0 < f → f < 32 → w < 32 → t .code ≡ frames.Found.here S (frames.Ready.write o f w)
       → MeetsBy (lookField (volatiles b) (head part.Write o f w env) (getD cs i noCell) (getD ts j noThing) f) p (readyOf part.Write o f w env) (machine.attempt (tableOf b) s p)
-      (After i (actWrite (volatiles b) n (head part.Write o f w env) (getD cs i noCell) o f w))
-  unfolding lookField actWrite machine.act machine.writeAct machine.around machine.learn machine.store machine.useKey playing.noRoomBefore land.go tableOf
+      (After (readyOf part.Write o f w env) i (actWrite (volatiles b) n (head part.Write o f w env) (getD cs i noCell) o f w))
+  unfolding objectBy fieldBy lackBy lookField actWrite machine.act machine.writeAct machine.around machine.learn machine.store machine.useKey playing.noRoomBefore land.go tableOf
   write-meets o f w env i j ei ej well ho zf hf hw code =
       by (hasOf (getD ts j noThing .mask) f) (hasOf (volatiles b) f) (holdsOf ks (c .key)) (leb 256 (n .keys)) (field-found o f i j ei ej o-there ho zf hf) refl (volatile-bit b f hf) (one-key c ks (t .keys) fit fits known) refl
     where
@@ -346,7 +353,7 @@ module _ (b : List ℕ) (ok : refusal b ≡ none) (l : List Head) (cs : List Cel
       by : (x y z u : Bool) → machine.lookup s o f ≡ cond x (some (cellMeant y c)) none → hasOf (volatiles b) f ≡ y → tableOf b .isVolatile f ≡ y
           → subset (cellMeant false c .keys) (t .keys) ≡ z → leb 256 (n .keys) ≡ u
           → MeetsBy (cond x (cond y sight.Ready (cond z sight.Ready sight.Lacking)) sight.NoField) p (readyOf part.Write o f w env) (machine.attempt (tableOf b) s p)
-          (After i (cond y
+          (After (readyOf part.Write o f w env) i (cond y
           (actedOf room.Enough (goValue w) n ks (cellOf w (c .key) (joinOf (c .keys) ks)) (entryOf 5 o f w))
           (cond u
           (actedOf room.NoKey (goValue w) n ks c (entryOf 0 0 0 0))
@@ -357,7 +364,7 @@ module _ (b : List ℕ) (ok : refusal b ≡ none) (l : List Head) (cs : List Cel
       by true true z u e g v q r = (
         _,
         attempt-act (tableOf b) s p t there S (frames.Ready.write o f w) _ code (ap (machine.writeAct (tableOf b) s p t o f w) e ∙ test-true (tableOf b .isVolatile f) _ _ v),
-        moved i e-writev (some (entry records.Kind.writev p o f w)) (machine.store s o f (rules.cell (union (keysOf (c .keys)) (t .keys)) w)) (up (nodeAt b) (terms b) S w) (goValue w) n
+        moved _ i e-writev (some (entry records.Kind.writev p o f w)) (machine.store s o f (rules.cell (union (keysOf (c .keys)) (t .keys)) w)) (up (nodeAt b) (terms b) S w) (goValue w) n
             ks (cellOf w (c .key) (joinOf (c .keys) ks)) nothing (entryOf 5 o f w) refl (written records.Kind.writev o f w ho hf hw) refl
             (well, hw, refl) fits unlearnt
             (stored true (cellOf w (c .key) (joinOf (c .keys) ks)) _ g
@@ -375,7 +382,7 @@ module _ (b : List ℕ) (ok : refusal b ≡ none) (l : List Head) (cs : List Cel
             _,
             attempt-act (tableOf b) s p t there S (frames.Ready.write o f w) _ code
                 (ap (machine.writeAct (tableOf b) s p t o f w) e ∙ test-false (tableOf b .isVolatile f) _ _ v ∙ test-true (subset (cellMeant false c .keys) (t .keys)) _ _ q),
-            moved i e-write (some (entry records.Kind.write p o f w)) (machine.learn (machine.store (machine.useKey s) o f (rules.cell (singleton (s .nextKey)) w)) p (singleton (s .nextKey)))
+            moved _ i e-write (some (entry records.Kind.write p o f w)) (machine.learn (machine.store (machine.useKey s) o f (rules.cell (singleton (s .nextKey)) w)) p (singleton (s .nextKey)))
                 (up (nodeAt b) (terms b) S w) (goValue w) (countsOf (n .threads) (n .objects) (n .keys + 1))
                 (learnOf ks (n .keys)) (cellOf w (n .keys) (c .keys)) nothing (entryOf 3 o f w)
                 (test-false (leb 256 (s .nextKey)) _ _ (ap (leb 256) (sym (k .keys-count)) ∙ r)) (written records.Kind.write o f w ho hf hw) refl
@@ -398,8 +405,8 @@ module _ (b : List ℕ) (ok : refusal b ≡ none) (l : List Head) (cs : List Cel
   -- E-RE-ENTER, E-ACQUIRE
   synch-meets : (o u w env i : ℕ) → i ≡ o * 32 + 0 → Well S → o < 32 → IsExpression b u → t .code ≡ frames.Found.here S (frames.Ready.synch o (closed u env))
       → MeetsBy (lookSynch (head part.Synch o u w env) (getD cs i noCell)) p (readyOf part.Synch o u w env) (machine.attempt (tableOf b) s p)
-      (After i (actSynch n (head part.Synch o u w env) (getD cs i noCell) o u env))
-  unfolding lookSynch actSynch machine.act machine.synchAct machine.around machine.learn machine.storeMonitor playing.noRoomBefore land.go tableOf
+      (After (readyOf part.Synch o u w env) i (actSynch n (head part.Synch o u w env) (getD cs i noCell) o u env))
+  unfolding objectBy fieldBy lookSynch actSynch machine.act machine.synchAct machine.around machine.learn machine.storeMonitor playing.noRoomBefore land.go tableOf
   synch-meets o u w env i ei well ho hu code =
       by (isEmptyOf (c .keys)) (eqb (c .value) self) (sym (keys-is-empty (c .keys))) (ap (eqb (c .value)) (sym same))
     where
@@ -423,14 +430,14 @@ module _ (b : List ℕ) (ok : refusal b ≡ none) (l : List Head) (cs : List Cel
 
       by : (x y : Bool) → isEmpty (keysOf (c .keys)) ≡ x → eqb (c .value) (t .self) ≡ y
           → MeetsBy (cond x (cond y sight.Ready sight.Monitor) sight.Ready) p (readyOf part.Synch o u w env) (machine.attempt (tableOf b) s p)
-          (After i (cond x
+          (After (readyOf part.Synch o u w env) i (cond x
           (actedOf room.Enough (goRun u env) n ks c (entryOf 0 0 0 0))
           (actedOf room.Enough (goWant (holdFrame env o) u) n (joinOf ks (c .keys)) c′ (entryOf 6 o 0 0))))
       by true true e q = (
         _,
         attempt-act (tableOf b) s p t there S (frames.Ready.synch o (closed u env)) _ code
             (acted ∙ test-true (isEmpty (keysOf (c .keys))) _ _ e ∙ test-true (eqb (c .value) (t .self)) _ _ q),
-        plain i e-re-enter (enter (nodeAt b) (terms b) S (closed u env)) (goRun u env) refl (well, hu, refl),
+        plain _ i e-re-enter (enter (nodeAt b) (terms b) S (closed u env)) (goRun u env) refl (well, hu, refl),
       )
       by true false e q =
           attempt-act (tableOf b) s p t there S (frames.Ready.synch o (closed u env)) _ code
@@ -439,7 +446,7 @@ module _ (b : List ℕ) (ok : refusal b ≡ none) (l : List Head) (cs : List Cel
       by false y e q = (
         _,
         attempt-act (tableOf b) s p t there S (frames.Ready.synch o (closed u env)) _ code (acted ∙ test-false (isEmpty (keysOf (c .keys))) _ _ e),
-        moved i e-acquire (some (entry records.Kind.acquire p o 0 0)) (machine.learn (machine.storeMonitor s o (rules.cell empty (t .self))) p (keysOf (c .keys)))
+        moved _ i e-acquire (some (entry records.Kind.acquire p o 0 0)) (machine.learn (machine.storeMonitor s o (rules.cell empty (t .self))) p (keysOf (c .keys)))
             (enter (nodeAt b) (terms b) (frames.Frame.hold o ∷ S) (closed u env)) (goWant (holdFrame env o) u) n
             (joinOf ks (c .keys)) c′ nothing (entryOf 6 o 0 0) refl (written records.Kind.acquire o 0 0 ho (omega arith) (omega arith)) refl
             (record { a-fits = omega arith; b-fits = omega arith; m-fits = omega arith; n-fits = omega arith; sorted = ho }, well, hu, refl)
@@ -449,12 +456,12 @@ module _ (b : List ℕ) (ok : refusal b ≡ none) (l : List Head) (cs : List Cel
 
   -- E-RELEASE
   hold-meets : (o v w env i : ℕ) → i ≡ o * 32 + 0 → Well S → o < 32 → v < 32 → t .code ≡ frames.Found.here S (frames.Ready.hold o v)
-      → MeetsBy sight.Ready p (readyOf part.Hold o v w env) (machine.attempt (tableOf b) s p) (After i (actHold n (head part.Hold o v w env) o v))
+      → MeetsBy sight.Ready p (readyOf part.Hold o v w env) (machine.attempt (tableOf b) s p) (After (readyOf part.Hold o v w env) i (actHold n (head part.Hold o v w env) o v))
   unfolding machine.act machine.around machine.storeMonitor playing.noRoomBefore land.go tableOf
   hold-meets o v w env i ei well ho hv code = (
     _,
     attempt-act (tableOf b) s p t there S (frames.Ready.hold o v) _ code refl,
-    moved i e-release (some (entry records.Kind.release p o 0 0)) (machine.storeMonitor s o (rules.cell (t .keys) 0)) (up (nodeAt b) (terms b) S v) (goValue v) n
+    moved _ i e-release (some (entry records.Kind.release p o 0 0)) (machine.storeMonitor s o (rules.cell (t .keys) 0)) (up (nodeAt b) (terms b) S v) (goValue v) n
         ks (cellOf 0 0 ks) nothing (entryOf 7 o 0 0) refl (written records.Kind.release o 0 0 ho (omega arith) (omega arith)) refl
         (well, hv, refl) fits unlearnt
         (monitor-stored o i (cellOf 0 0 ks) _ ei (ap (λ (K : Keys). rules.cell K 0) known) (record { key = omega arith; keys = fits })
@@ -470,7 +477,7 @@ module _ (b : List ℕ) (ok : refusal b ≡ none) (l : List Head) (cs : List Cel
 
   -- E-NEW
   new-meets : (a b′ w env i : ℕ) → Well S → eqb (maskBit a 0) 1 ≡ false → t .code ≡ frames.Found.here S (frames.Ready.new (fieldsFrom a 0 32))
-      → MeetsBy sight.Ready p (readyOf part.New a b′ w env) (machine.attempt (tableOf b) s p) (After i (actNew n (head part.New a b′ w env) (getD cs i noCell) a))
+      → MeetsBy sight.Ready p (readyOf part.New a b′ w env) (machine.attempt (tableOf b) s p) (After (readyOf part.New a b′ w env) i (actNew n (head part.New a b′ w env) (getD cs i noCell) a))
   unfolding actNew machine.act machine.around machine.addObject playing.noRoomBefore land.go tableOf
   new-meets a b′ w env i well out code = by (leb 32 (n .objects)) refl
     where
@@ -487,12 +494,11 @@ module _ (b : List ℕ) (ok : refusal b ≡ none) (l : List Head) (cs : List Cel
 
       by : (x : Bool) → leb 32 (n .objects) ≡ x
           → (v : machine.Move) × (machine.attempt (tableOf b) s p ≡ machine.Attempt.moves v)
-          × After i (cond x
+          × After (readyOf part.New a b′ w env) i (cond x
           (actedOf room.NoObject (goValue (n .objects)) n ks (getD cs i noCell) (entryOf 0 0 0 0))
           (record {
             room = room.Enough;
             go = goValue (n .objects);
-            born = goFull;
             keys = ks;
             cell = getD cs i noCell;
             thing = record { mask = a; thread = 8 };
@@ -504,7 +510,7 @@ module _ (b : List ℕ) (ok : refusal b ≡ none) (l : List Head) (cs : List Cel
           let h : n .objects < 32 = leb-false 32 (n .objects) e in (
             _,
             acted,
-            moved i e-new (some (entry records.Kind.new p (length (s .objects)) 0 0)) (machine.addObject s (fieldsFrom a 0 32)) (up (nodeAt b) (terms b) S (length (s .objects))) (goValue (n .objects))
+            moved _ i e-new (some (entry records.Kind.new p (length (s .objects)) 0 0)) (machine.addObject s (fieldsFrom a 0 32)) (up (nodeAt b) (terms b) S (length (s .objects))) (goValue (n .objects))
                 (countsOf (n .threads) (n .objects + 1) (n .keys)) ks (getD cs i noCell) (record { mask = a; thread = 8 }) (entryOf 1 (n .objects) 0 0)
                 (test-false (leb 32 (length (s .objects))) _ _ (ap (leb 32) (sym count) ∙ e))
                 (along (λ (o : ℕ). Written p (entryOf 1 (n .objects) 0 0) (entry records.Kind.new p o 0 0)) count (written records.Kind.new (n .objects) 0 0 h (omega arith) (omega arith)))
@@ -513,7 +519,7 @@ module _ (b : List ℕ) (ok : refusal b ≡ none) (l : List Head) (cs : List Cel
 
   -- E-FORK
   fork-meets : (u b′ w env i : ℕ) → Well S → IsExpression b u → t .code ≡ frames.Found.here S (frames.Ready.fork (closed u env))
-      → MeetsBy sight.Ready p (readyOf part.Fork u b′ w env) (machine.attempt (tableOf b) s p) (After i (actFork n (head part.Fork u b′ w env) (getD cs i noCell) u env))
+      → MeetsBy sight.Ready p (readyOf part.Fork u b′ w env) (machine.attempt (tableOf b) s p) (After (readyOf part.Fork u b′ w env) i (actFork n (head part.Fork u b′ w env) (getD cs i noCell)))
   unfolding actFork machine.act machine.around machine.addObject machine.addThread machine.become playing.noRoomBefore land.go tableOf
   fork-meets u b′ w env i well hu code = by (leb 8 (n .threads)) (leb 32 (n .objects)) refl refl
     where
@@ -558,14 +564,13 @@ module _ (b : List ℕ) (ok : refusal b ≡ none) (l : List Head) (cs : List Cel
 
       by : (x₁ x₂ : Bool) → leb 8 (n .threads) ≡ x₁ → leb 32 (n .objects) ≡ x₂
           → (v : machine.Move) × (machine.attempt (tableOf b) s p ≡ machine.Attempt.moves v)
-          × After i (cond x₁
+          × After (readyOf part.Fork u b′ w env) i (cond x₁
           (actedOf room.NoThread (goValue (n .objects)) n ks (getD cs i noCell) (entryOf 0 0 0 0))
           (cond x₂
           (actedOf room.NoObject (goValue (n .objects)) n ks (getD cs i noCell) (entryOf 0 0 0 0))
           (record {
             room = room.Enough;
             go = goValue (n .objects);
-            born = goRun u env;
             keys = ks;
             cell = getD cs i noCell;
             thing = x;
@@ -614,9 +619,9 @@ module _ (b : List ℕ) (ok : refusal b ≡ none) (l : List Head) (cs : List Cel
   module _ (stk : Stack) (each : (q : ℕ) (u : machine.Thread) → getElem? (s .threads) q ≡ some u → Headed b stk (q * 33) (headAt l q) u) where
     -- E-JOIN
     join-meets : (o b′ w env i j : ℕ) → j ≡ o → Well S → o < 32 → t .code ≡ frames.Found.here S (frames.Ready.join o)
-        → MeetsBy (lookJoin (getD ts j noThing) (getD l (getD ts j noThing .thread % 9) noHead)) p (readyOf part.Join o b′ w env) (machine.attempt (tableOf b) s p)
-        (After i (actJoin n (head part.Join o b′ w env) (getD cs i noCell) (getD ts j noThing) (getD l (getD ts j noThing .thread % 9) noHead) o))
-    unfolding lookJoin machine.act machine.joinAct machine.joinValue machine.around machine.learn playing.noRoomBefore land.go tableOf Ends
+        → MeetsBy (lookJoin (getD ts j noThing) (getD l (getD ts j noThing .thread % 9) noHead .ready .part)) p (readyOf part.Join o b′ w env) (machine.attempt (tableOf b) s p)
+        (After (readyOf part.Join o b′ w env) i (actJoin n (head part.Join o b′ w env) (getD cs i noCell) (getD ts j noThing) (getD l (getD ts j noThing .thread % 9) noHead) o))
+    unfolding objectBy fieldBy lookJoin machine.act machine.joinAct machine.joinValue machine.around machine.learn playing.noRoomBefore land.go tableOf Ends
     join-meets o b′ w env i j ej well ho code =
         by (machine.threadOf 0 (s .threads) o) refl
         (ap (λ (j : ℕ). getD ts j noThing .thread) ej ∙ k .numbers o (object-there o (ready-there b s p t reach there S (frames.Ready.join o) code)))
@@ -625,7 +630,7 @@ module _ (b : List ℕ) (ok : refusal b ≡ none) (l : List Head) (cs : List Cel
         Sees : Sight → ℕ → Head → Type 0
         Sees w₁ a q =
             MeetsBy w₁ p (readyOf part.Join o b′ w env) (machine.attempt (tableOf b) s p)
-            (After i (actedOf room.Enough (goValue (q .ready .a)) n (joinOf ks (q .keys)) (getD cs i noCell) (entryOf 9 o a (q .ready .a))))
+            (After (readyOf part.Join o b′ w env) i (actedOf room.Enough (goValue (q .ready .a)) n (joinOf ks (q .keys)) (getD cs i noCell) (entryOf 9 o a (q .ready .a))))
 
         Goal : ℕ → Head → Type 0
         Goal a q = Sees (cond (leb 8 a) sight.NoThread (joinBy (q .ready .part))) a q
@@ -640,7 +645,7 @@ module _ (b : List ℕ) (ok : refusal b ≡ none) (l : List Head) (cs : List Cel
             along (λ (w₁ : Sight). Sees w₁ (q .number) h) (sym j ∙ e₁) (
               _,
               acted (some q) e ∙ ap (λ (v : Option ℕ). machine.around (tableOf b) p S (machine.joinValue s p o q v)) f,
-              moved i e-join (some (entry records.Kind.join p o (q .number) (h .ready .a))) (machine.learn s p (q .thread .keys)) (up (nodeAt b) (terms b) S (h .ready .a)) (goValue (h .ready .a)) n
+              moved _ i e-join (some (entry records.Kind.join p o (q .number) (h .ready .a))) (machine.learn s p (q .thread .keys)) (up (nodeAt b) (terms b) S (h .ready .a)) (goValue (h .ready .a)) n
                   (joinOf ks (h .keys)) (getD cs i noCell) nothing (entryOf 9 o (q .number) (h .ready .a)) refl (written records.Kind.join o (q .number) (h .ready .a) ho (omega arith) v) refl
                   (well, v, refl) (fits-join fits fit) (learnt (q .thread .keys) _ (ap (λ (K : Keys). union K (t .keys)) (sym eq) ∙ joined (h .keys) fit))
                   (kept-changed (kept-past (kept-same k i) nothing) p _ (λ x. refl)),
@@ -667,21 +672,21 @@ module _ (b : List ℕ) (ok : refusal b ≡ none) (l : List Head) (cs : List Cel
             (along (λ (z : ℕ). Goal (q .number) (getD l z noHead)) (sym (mod-eq-of-lt {m = 9} (omega arith)))
             (along (λ (x : Bool). Sees (cond x sight.NoThread (joinBy (headAt l (q .number) .ready .part))) (q .number) (headAt l (q .number)))
             (sym (lt-leb 8 (q .number) lt))
-            (finish q (headAt l (q .number)) _ e lt (H .keys) (H .keys-fit) (stands-ends b (headAt l (q .number) .ready .part) (headAt l (q .number) .ready) (H .stack) (q .thread .code) (H .stands)) refl)))
+            (finish q (headAt l (q .number)) _ e lt (H .keys) (H .keys-fit) (ends b (headAt l (q .number) .ready) (H .stack) (q .thread .code) (H .stands)) refl)))
 
     -- a part that leaves no record and changes nothing but where its thread stands
     pure-meets : (i : ℕ) (r : Ready) (x : frames.Result) (R : frames.Ready) (g : Go) → t .code ≡ frames.Found.here S R → Unlogged b R x
         → Goes b g S (land.go (nodeAt b) (terms b) S x)
-        → MeetsBy sight.Ready p r (machine.attempt (tableOf b) s p) (After i (actedOf room.Enough g n ks (getD cs i noCell) (entryOf 0 0 0 0)))
+        → MeetsBy sight.Ready p r (machine.attempt (tableOf b) s p) (After (r) i (actedOf room.Enough g n ks (getD cs i noCell) (entryOf 0 0 0 0)))
     unfolding machine.around tableOf
     pure-meets i r x R g code u goes =
-        (_, attempt-act (tableOf b) s p t there S R _ code (u .acts s p t), plain i (u .rule) (land.go (nodeAt b) (terms b) S x) g (u .needs-no-room s) goes)
+        (_, attempt-act (tableOf b) s p t there S R _ code (u .acts s p t), plain _ i (u .rule) (land.go (nodeAt b) (terms b) S x) g (u .needs-no-room s) goes)
 
     condition-meets : (i : ℕ) (r : Ready) (Q : frames.Readyᶜ) (g : Go) → t .code ≡ frames.Found.hereᶜ S Q → playing.noRoomBefore s (machine.actᶜ (tableOf b) S Q .rule) ≡ none
         → Goes b g S (machine.actᶜ (tableOf b) S Q .code)
-        → MeetsBy sight.Ready p r (machine.attempt (tableOf b) s p) (After i (actedOf room.Enough g n ks (getD cs i noCell) (entryOf 0 0 0 0)))
+        → MeetsBy sight.Ready p r (machine.attempt (tableOf b) s p) (After (r) i (actedOf room.Enough g n ks (getD cs i noCell) (entryOf 0 0 0 0)))
     condition-meets i r Q g code lack goes =
-        (_, attempt-condition (tableOf b) s p t there S Q code, plain i (machine.actᶜ (tableOf b) S Q .rule) (machine.actᶜ (tableOf b) S Q .code) g lack goes)
+        (_, attempt-condition (tableOf b) s p t there S Q code, plain _ i (machine.actᶜ (tableOf b) S Q .rule) (machine.actᶜ (tableOf b) S Q .code) g lack goes)
 
     -- a while, and the turn of its body
     loops : {a b′ : ℕ} → IsCondition b a → IsExpression b b′ → (a < 1024) × (b′ < 1024)
@@ -689,25 +694,25 @@ module _ (b : List ℕ) (ok : refusal b ≡ none) (l : List Head) (cs : List Cel
 
     while-meets : (a b′ w env i : ℕ) → Well S → IsCondition b a → IsExpression b b′ → t .code ≡ frames.Found.here S (frames.Ready.while (branches a b′ (slots env)))
         → MeetsBy sight.Ready p (readyOf part.While a b′ w env) (machine.attempt (tableOf b) s p)
-        (After i (actedOf room.Enough (goWantCondition (framed kind.Test a b′ 0 env) a) n ks (getD cs i noCell) (entryOf 0 0 0 0)))
+        (After (readyOf part.While a b′ w env) i (actedOf room.Enough (goWantCondition (framed kind.Test a b′ 0 env) a) n ks (getD cs i noCell) (entryOf 0 0 0 0)))
     unfolding machine.act machine.around playing.noRoomBefore land.go tableOf
     while-meets a b′ w env i well hc he code =
         let z = loops hc he in (
           _,
           attempt-act (tableOf b) s p t there S (frames.Ready.while (branches a b′ (slots env))) _ code refl,
-          plain i e-while (enterᶜ (nodeAt b) (terms b) (frames.Frame.whileTest (branches a b′ (slots env)) ∷ S) (closed a env)) (goWantCondition (framed kind.Test a b′ 0 env) a) refl
+          plain _ i e-while (enterᶜ (nodeAt b) (terms b) (frames.Frame.whileTest (branches a b′ (slots env)) ∷ S) (closed a env)) (goWantCondition (framed kind.Test a b′ 0 env) a) refl
               (record { a-fits = z .0; b-fits = z .1; m-fits = omega arith; n-fits = omega arith; sorted = (hc, he) }, well, hc, refl),
         )
 
     body-meets : (a b′ w env i : ℕ) → Well S → IsCondition b a → IsExpression b b′ → t .code ≡ frames.Found.here S (frames.Ready.whileTest true (branches a b′ (slots env)))
         → MeetsBy sight.Ready p (readyOf part.Body a b′ w env) (machine.attempt (tableOf b) s p)
-        (After i (actedOf room.Enough (goWant (framed kind.Body a b′ 0 env) b′) n ks (getD cs i noCell) (entryOf 0 0 0 0)))
+        (After (readyOf part.Body a b′ w env) i (actedOf room.Enough (goWant (framed kind.Body a b′ 0 env) b′) n ks (getD cs i noCell) (entryOf 0 0 0 0)))
     unfolding machine.act machine.choose machine.around playing.noRoomBefore land.go tableOf
     body-meets a b′ w env i well hc he code =
         let z = loops hc he in (
           _,
           attempt-act (tableOf b) s p t there S (frames.Ready.whileTest true (branches a b′ (slots env))) _ code refl,
-          plain i e-if (enter (nodeAt b) (terms b) (frames.Frame.whileBody (branches a b′ (slots env)) ∷ S) (closed b′ env)) (goWant (framed kind.Body a b′ 0 env) b′) refl
+          plain _ i e-if (enter (nodeAt b) (terms b) (frames.Frame.whileBody (branches a b′ (slots env)) ∷ S) (closed b′ env)) (goWant (framed kind.Body a b′ 0 env) b′) refl
               (record { a-fits = z .0; b-fits = z .1; m-fits = omega arith; n-fits = omega arith; sorted = (hc, he) }, well, he, refl),
         )
 
@@ -722,11 +727,11 @@ module _ (b : List ℕ) (ok : refusal b ≡ none) (l : List Head) (cs : List Cel
     otherFor r = getD l (thingFor r .thread % 9) noHead
 
     meets : (P : Part) (a b′ c env : ℕ) → StandsBy b P (readyOf P a b′ c env) S (t .code)
-        → MeetsBy (lookBy P (volatiles b) (head P a b′ c env) (cellFor (readyOf P a b′ c env)) (thingFor (readyOf P a b′ c env)) (otherFor (readyOf P a b′ c env)))
+        → MeetsBy (lookOf (volatiles b) (head P a b′ c env) (cellFor (readyOf P a b′ c env)) (thingFor (readyOf P a b′ c env)) (otherFor (readyOf P a b′ c env) .ready .part))
         p (readyOf P a b′ c env) (machine.attempt (tableOf b) s p)
-        (After (cellNumber (readyOf P a b′ c env))
-        (actBy P (volatiles b) n (head P a b′ c env) (cellFor (readyOf P a b′ c env)) (thingFor (readyOf P a b′ c env)) (otherFor (readyOf P a b′ c env))))
-    unfolding actPure machine.actᶜ land.go playing.noRoomBefore tableOf
+        (After (readyOf P a b′ c env) (cellNumber (readyOf P a b′ c env))
+        (actOf (volatiles b) n (head P a b′ c env) (cellFor (readyOf P a b′ c env)) (thingFor (readyOf P a b′ c env)) (otherFor (readyOf P a b′ c env))))
+    unfolding objectBy fieldBy aboutField lookBy pureBy actBy machine.actᶜ land.go playing.noRoomBefore tableOf
     meets part.Done a b′ c env h = attempt-value (tableOf b) s p t there a (h .1)
     meets part.NoRule a b′ c env h = absurd h
     meets part.Run a b′ c env h = pure-meets 0 (readyOf part.Run a b′ c env) _ (h .2 .0) (goRun a env) (h .2 .1) (h .2 .2) (h .0, h .1, refl)
@@ -740,7 +745,7 @@ module _ (b : List ℕ) (ok : refusal b ≡ none) (l : List Head) (cs : List Cel
     meets part.While a b′ c env h = while-meets a b′ c env 0 (h .0) (h .1) (h .2) (h .3)
     meets part.Body a b′ c env h = body-meets a b′ c env 0 (h .0) (h .1) (h .2) (h .3)
     meets part.Again a b′ c env h =
-        pure-meets 0 (readyOf part.Again a b′ c env) _ (h .3 .0) (goAt (readyOf part.While a b′ 0 env)) (h .3 .1) (h .3 .2) (h .0, h .1, h .2, refl)
+        pure-meets 0 (readyOf part.Again a b′ c env) _ (h .3 .0) (goAt (readyOf part.While a b′ 0 env)) (h .3 .1) (h .3 .2) (part.While, refl, (h .0, h .1, h .2, refl))
     meets part.New a b′ c env h = new-meets a b′ c env 0 (h .0) (h .2) (h .3)
     meets part.Read a b′ c env h =
         read-meets a b′ c env (a % 32 * 32 + b′ % 32) (a % 32) (ap₂ (λ (x y : ℕ). x * 32 + y) (mod-eq-of-lt (h .1)) (mod-eq-of-lt (h .3))) (mod-eq-of-lt (h .1)) (h .0) (h .1) (h .2) (h .3) (h .4)
@@ -758,7 +763,7 @@ pub record Ahead (b : List ℕ) (m : engine.Machine) (s : machine.State) (p : �
   pub thread : machine.Thread
   pub there : getElem? (s .threads) p ≡ some thread
   pub headed : Headed b (m .stack) (p * 33) (headAt (m .heads) p) thread
-  pub acts : Acts b (m .cells) (m .objects) (m .tally .counts) (cellNumber (headAt (m .heads) p .ready)) (headAt (m .heads) p .keys) s p (headed .stack) (actedBy (volatiles b) m p) v
+  pub acts : Acts b (m .cells) (m .objects) (m .tally .counts) (cellNumber (headAt (m .heads) p .ready)) (headAt (m .heads) p .keys) (headAt (m .heads) p .ready) s p (headed .stack) (actedBy (volatiles b) m p) v
 
 meets-more : (w : Sight) (p : ℕ) (r : Ready) (A : machine.Attempt) (Z Z′ : machine.Move → Type 0) → ((v : machine.Move) → Z v → Z′ v) → MeetsBy w p r A Z → MeetsBy w p r A Z′
 meets-more sight.Absent p r A Z Z′ f h = h
@@ -774,7 +779,7 @@ meets-more sight.Lacking p r A Z Z′ f h = h
 -- WHAT A LOOK SAYS IS WHAT THE THREAD CAN DO, AND WHERE IT IS READY WHAT THE CODE DOES IS ITS MOVE
 pub looks : (b : List ℕ) → refusal b ≡ none → (m : engine.Machine) (s : machine.State) → Related b m s → Reached (tableOf b) (programOf b) s → (p : ℕ) → p < 8
     → MeetsBy (lookAt (volatiles b) (m .tally .counts) (m .heads) (m .cells) (m .objects) p) p (headAt (m .heads) p .ready) (machine.attempt (tableOf b) s p) (Ahead b m s p)
-unfolding lookAt lookOf actAt actOf
+unfolding lookAt actAt
 looks b ok m s rel reach p small = by (leb (m .tally .counts .threads) p) refl
   where
     h : Head
@@ -783,17 +788,31 @@ looks b ok m s rel reach p small = by (leb (m .tally .counts .threads) p) refl
     r : Ready
     r = h .ready
 
-    by : (x : Bool) → leb (m .tally .counts .threads) p ≡ x
-        → MeetsBy (cond x sight.Absent (lookBy (r .part) (volatiles b) h (getD (m .cells) (cellNumber r) noCell) (getD (m .objects) (objectOf r) noThing)
-        (getD (m .heads) (getD (m .objects) (objectOf r) noThing .thread % 9) noHead))) p r (machine.attempt (tableOf b) s p) (Ahead b m s p)
+    -- thread p, were r′ its part
+    headFor : Ready → Head
+    headFor r′ = record { ready = r′; depth = h .depth; object = h .object; keys = h .keys }
+
+    otherIn : Ready → Head
+    otherIn r′ = getD (m .heads) (getD (m .objects) (objectOf r′) noThing .thread % 9) noHead
+
+    sees : Ready → Sight
+    sees r′ = lookOf (volatiles b) (headFor r′) (getD (m .cells) (cellNumber r′) noCell) (getD (m .objects) (objectOf r′) noThing) (otherIn r′ .ready .part)
+
+    does : Ready → Acted
+    does r′ = actOf (volatiles b) (m .tally .counts) (headFor r′) (getD (m .cells) (cellNumber r′) noCell) (getD (m .objects) (objectOf r′) noThing) (otherIn r′)
+
+    by : (x : Bool) → leb (m .tally .counts .threads) p ≡ x → MeetsBy (cond x sight.Absent (sees r)) p r (machine.attempt (tableOf b) s p) (Ahead b m s p)
     by true e = attempt-absent (tableOf b) s p (let x = leb-true (m .tally .counts .threads) p e in let y = rel .kept .threads-count in omega arith)
     by false e =
         let x = leb-false (m .tally .counts .threads) p e in
         let y = rel .kept .threads-count in
         let (t, there) = present (s .threads) p (omega arith) in
         let H = rel .each p t there in
-        meets-more (lookBy (r .part) (volatiles b) h (getD (m .cells) (cellNumber r) noCell) (getD (m .objects) (objectOf r) noThing)
-        (getD (m .heads) (getD (m .objects) (objectOf r) noThing .thread % 9) noHead)) p r (machine.attempt (tableOf b) s p) _ (Ahead b m s p)
-        (λ v z. record { thread = t; there = there; headed = H; acts = z })
+        let P = H .stands .0 in
+        let same : readyOf P (r .a) (r .b) (r .c) (r .env) ≡ r = ap (λ (q : ℕ). readyAt q (r .a) (r .b) (r .c) (r .env)) (sym (H .stands .1)) in
+        meets-more (sees r) p r (machine.attempt (tableOf b) s p) _ (Ahead b m s p) (λ v z. record { thread = t; there = there; headed = H; acts = z })
+        (along (λ (r′ : Ready). MeetsBy (sees r′) p r′ (machine.attempt (tableOf b) s p)
+        (Acts b (m .cells) (m .objects) (m .tally .counts) (cellNumber r′) (h .keys) r′ s p (H .stack) (does r′))) same
         (meets b ok (m .heads) (m .cells) (m .objects) (m .tally .counts) s (rel .kept) reach p small t there (H .stack) (h .depth) (h .object) (h .keys) (H .object) (H .keys) (H .keys-fit)
-        (m .stack) (rel .each) (r .part) (r .a) (r .b) (r .c) (r .env) (H .stands))
+        (m .stack) (rel .each) P (r .a) (r .b) (r .c) (r .env)
+        (along (λ (r′ : Ready). StandsBy b P r′ (H .stack) (t .code)) (sym same) (H .stands .2))))

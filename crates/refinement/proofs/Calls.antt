@@ -15,11 +15,11 @@ use Rattle.machine.proofs.PlanTable.{ordered}
 use Rattle.machine.proofs.CallLists.{list-left}
 use Rattle.machine.proofs.Sorted.{Well}
 use Rattle.landing.specs.declared.frame.Frame.{Frame}
-use Rattle.landing.specs.declared.go.Part.the-variants as part
+use Rattle.landing.specs.Parts.{Part as part}
 use Rattle.landing.specs.Words.{wordAt, firstOf, secondOf}
 use Rattle.landing.specs.Frames.{restOf}
 use Rattle.landing.specs.Going.{readyOf, goAt}
-use Rattle.landing.specs.Down.{rootAt, listBy, listOf}
+use Rattle.landing.specs.Down.{rootAt, listBy, listOf, wantedOf}
 use Rattle.landing.specs.Landing.{Stack}
 use Rattle.refinement.proofs.Meant.{Loaded, slots, closed, IsRest, IsExpression}
 use Rattle.refinement.proofs.Words.{Rest, rest-at}
@@ -46,7 +46,7 @@ root-fits {b} a loaded m l =
 
 module _ {b ws rs : List ℕ} {k : Stack} {base : ℕ} {S : List frames.Frame} (c : Placed b ws rs k base S) {n : ℕ} {X : frames.Found} where
   list-by : (f : Frame) → Well S → f .m < procedures b → IsRest b (f .n) (f .a) → X ≡ downᵃ (nodeAt b) (terms b) S (f .m) (f .n) (slots (f .args)) (closed (f .a) (f .env))
-      → left (f .a) ≤ suc n → Rest b (f .a) (wordAt ws (f .a)) → Next b ws k base n X (listOf ws rs f (length S))
+      → left (f .a) ≤ suc n → Rest b (f .a) (wordAt ws (f .a)) → Next b ws k base n X (wantedOf ws (listOf ws rs f) (length S))
   unfolding listOf listBy
   list-by f w l s e m (Rest.more p q r z) =
       let i = firstOf (wordAt ws (f .a)) in
@@ -64,17 +64,21 @@ module _ {b ws rs : List ℕ} {k : Stack} {base : ℕ} {S : List frames.Frame} (
   list-by f w l s e m (Rest.end p q) =
       rw p
       (stays c (goAt (readyOf part.Run (rootAt rs (f .m)) 0 0 (f .args))) (
-        w,
-        root-fits (c .right) (c .loaded) (f .m) l,
+        part.Run,
+        refl,
         (
-          frames.Ready.call (f .m) (f .n) (slots (f .args)),
-          e ∙ list-end (ordered b (c .right)) S (f .a) (slots (f .env)) (f .m) (f .n) (slots (f .args)) q,
-          call-unlogged b (f .m) (f .n) (slots (f .args)) (closed (rootAt rs (f .m)) (f .args))
-              (ap (λ (t : ℕ). closure t (slots (f .args))) (root-table b (f .m) ∙ sym (root-is (c .right) (c .loaded) (f .m) l))),
+          w,
+          root-fits (c .right) (c .loaded) (f .m) l,
+          (
+            frames.Ready.call (f .m) (f .n) (slots (f .args)),
+            e ∙ list-end (ordered b (c .right)) S (f .a) (slots (f .env)) (f .m) (f .n) (slots (f .args)) q,
+            call-unlogged b (f .m) (f .n) (slots (f .args)) (closed (rootAt rs (f .m)) (f .args))
+                (ap (λ (t : ℕ). closure t (slots (f .args))) (root-table b (f .m) ∙ sym (root-is (c .right) (c .loaded) (f .m) l))),
+          ),
         ),
       )
       (omega arith))
 
   pub list-step : (f : Frame) → Well S → f .m < procedures b → IsRest b (f .n) (f .a) → X ≡ downᵃ (nodeAt b) (terms b) S (f .m) (f .n) (slots (f .args)) (closed (f .a) (f .env))
-      → left (f .a) ≤ suc n → Next b ws k base n X (listOf ws rs f (length S))
+      → left (f .a) ≤ suc n → Next b ws k base n X (wantedOf ws (listOf ws rs f) (length S))
   list-step f w l s e m = list-by f w l s e m (rest-at b ws rs (c .right) (c .loaded) (f .a) (s .0) (s .1))

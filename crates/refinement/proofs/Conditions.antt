@@ -17,7 +17,7 @@ use Rattle.landing.specs.declared.frame.Kind.the-variants as kind
 use Rattle.landing.specs.Words.{wordAt, firstOf, secondOf}
 use Rattle.landing.specs.Frames.{framed}
 use Rattle.landing.specs.Going.{goTruth}
-use Rattle.landing.specs.Down.{runConditionBy, runConditionOf}
+use Rattle.landing.specs.Down.{runConditionBy, runConditionOf, listedOf, wantedOf}
 use Rattle.landing.specs.Landing.{Stack}
 use Rattle.refinement.proofs.Meant.{slots, closed, IsCondition}
 use Rattle.refinement.proofs.Words.{Condition, condition-at}
@@ -58,7 +58,7 @@ module _ {b ws rs : List ℕ} {k : Stack} {base : ℕ} {S : List frames.Frame} (
   less-one : (i : ℕ) → t < i → i < terms b → left i ≤ n
   less-one i p q = omega (arith, less i p q)
 
-  run-by : Condition b t word → Next b ws k base n X (runConditionOf ws t e (length S))
+  run-by : Condition b t word → Next b ws k base n X (wantedOf ws (listedOf ws rs (runConditionOf (wordAt ws t) e)) (length S))
   unfolding runConditionOf runConditionBy
   run-by (Condition.truth p q) =
       rw p (stays c (goTruth 1) (w, omega arith, x ∙ enter-truth (ordered b (c .right)) S (closed t e) true (truth-in q)) (omega (arith, s .0, c .right .few-terms)))
@@ -75,5 +75,5 @@ module _ {b ws rs : List ℕ} {k : Stack} {base : ℕ} {S : List frames.Frame} (
       (want c (framed kind.Equal1 (secondOf word) 0 0 e) (firstOf word) (plain-fine kind.Equal1 (secondOf word) 0 0 e (omega arith) (omega arith) (omega arith) (child j)) w (child i)
       (x ∙ enter-equal (ordered b (c .right)) S t (slots e) q) (less-one _ (i .above) (i .below)) (less _ (j .above) (j .below)))
 
-  pub run-condition-step : Next b ws k base n X (runConditionOf ws t e (length S))
+  pub run-condition-step : Next b ws k base n X (wantedOf ws (listedOf ws rs (runConditionOf (wordAt ws t) e)) (length S))
   run-condition-step = run-by (condition-at b ws rs (c .right) (c .loaded) t (s .0) (s .1))

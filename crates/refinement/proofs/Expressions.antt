@@ -1,7 +1,7 @@
 -- A step from an expression: it is a value, or ready, or its first operand is wanted for a frame. Assumes nothing.
 use Prim.Native.Nat.{ℕ, suc, _+_, _≤_, _<_}
 use native.Mathlib.Omega.{arith}
-use mathlib.Core.Path.{_≡_, sym, ap, _∙_}
+use mathlib.Core.Path.{_≡_, refl, sym, ap, _∙_}
 use mathlib.Core.List.{List}
 use lib.ListN.{length}
 use Rattle.plan.specs.Format.{terms}
@@ -12,11 +12,12 @@ use Rattle.machine.specs.Landing.{downᵃ, up, enter}
 use Rattle.machine.proofs.PlanTable.{ordered}
 use Rattle.machine.proofs.Sorted.{Well}
 use Rattle.landing.specs.declared.frame.Kind.the-variants as kind
-use Rattle.landing.specs.declared.go.Part.the-variants as part
+use Rattle.landing.specs.Parts.{Part as part}
+use Rattle.landing.specs.Slots.{slotOf}
 use Rattle.landing.specs.Words.{wordAt, tagOf, firstOf, secondOf, thirdOf, slotBits, fieldBits, writeSecond, letFirst, letSecond, procedureBits, listBits, maskBits, valueBy, valueOf}
 use Rattle.landing.specs.Frames.{framed, letFrame}
 use Rattle.landing.specs.Going.{readyOf, goAt, goValue}
-use Rattle.landing.specs.Down.{simpleBy, simpleOf, runBy, runOf}
+use Rattle.landing.specs.Down.{simpleBy, simpleOf, runBy, runOf, listedOf, wantedOf}
 use Rattle.landing.specs.Landing.{Stack}
 use Rattle.refinement.proofs.Meant.{slots, closed, IsExpression}
 use Rattle.refinement.proofs.SlotLaws.{none-bound, slot-below}
@@ -34,6 +35,10 @@ null-value ws t e p = rw p
 slot-value : (ws : List ℕ) (t e : ℕ) → tagOf (wordAt ws t) ≡ 1 → valueOf ws e t < 32
 unfolding valueOf valueBy
 slot-value ws t e p = rw p (slot-below e (slotBits (wordAt ws t)))
+
+slot-is : (ws : List ℕ) (t e : ℕ) → tagOf (wordAt ws t) ≡ 1 → valueOf ws e t ≡ slotOf e (slotBits (wordAt ws t))
+unfolding valueOf valueBy
+slot-is ws t e p = rw p
 
 module _ {b ws rs : List ℕ} {k : Stack} {base : ℕ} {S : List frames.Frame} (c : Placed b ws rs k base S) {n : ℕ} {X : frames.Found}
     (t e : ℕ) (w : Well S) (s : IsExpression b t) (x : X ≡ enter (nodeAt b) (terms b) S (closed t e)) (l : left t ≤ suc n) where
@@ -54,15 +59,16 @@ module _ {b ws rs : List ℕ} {k : Stack} {base : ℕ} {S : List frames.Frame} (
   less-one : (i : ℕ) → t < i → i < terms b → left i ≤ n
   less-one i p q = omega (arith, less i p q)
 
-  run-by : (valueOf ws e t < 32 → 2055 ≤ suc n) → Valued b ws t e → Expression b t word → Next b ws k base n X (runOf ws rs t e (length S))
+  run-by : (valueOf ws e t < 32 → 2055 ≤ suc n) → Valued b ws t e → Expression b t word → Next b ws k base n X (wantedOf ws (listedOf ws rs (runOf (wordAt ws t) e)) (length S))
   unfolding runOf runBy simpleOf simpleBy
   run-by m v (Expression.null p q) =
       let z = null-value ws t e p in
       let r : valueOf ws e t < 32 = omega arith in
       rw p (stays c (goValue 0) (w, omega arith, a-value v r ∙ ap (up (nodeAt b) (terms b) S) z) (omega (arith, m r)))
   run-by m v (Expression.variable p q) =
-      let r = slot-value ws t e p in rw p (stays c (goValue (valueOf ws e t)) (w, r, a-value v r) (omega (arith, m r)))
-  run-by m v (Expression.new p q r) = rw p (stays c (goAt (readyOf part.New (maskBits word) 0 0 0)) (w, omega arith, r, x ∙ enter-new (ordered b (c .right)) S t (slots e) q) one)
+      let r = slot-value ws t e p in
+      rw (p, ← slot-is ws t e p) (stays c (goValue (valueOf ws e t)) (w, r, a-value v r) (omega (arith, m r)))
+  run-by m v (Expression.new p q r) = rw p (stays c (goAt (readyOf part.New (maskBits word) 0 0 0)) (part.New, refl, (w, omega arith, r, x ∙ enter-new (ordered b (c .right)) S t (slots e) q)) one)
   run-by m v (Expression.read p q i r) =
       rw p
       (want c (framed kind.Read 0 0 (fieldBits word) e) (firstOf word) (plain-fine kind.Read 0 0 (fieldBits word) e (omega arith) (omega arith) (omega arith) r)
@@ -83,13 +89,13 @@ module _ {b ws rs : List ℕ} {k : Stack} {base : ℕ} {S : List frames.Frame} (
       (plain-fine kind.If (secondOf word) (thirdOf word) 0 e (omega arith) (omega arith) (omega arith) (child j, child o))
       w (childᶜ i) (x ∙ enter-if (ordered b (c .right)) S t (slots e) q) (less-one _ (i .above) (i .below)))
   run-by m v (Expression.while p q i j) =
-      rw p (stays c (goAt (readyOf part.While (firstOf word) (secondOf word) 0 e)) (w, childᶜ i, child j, x ∙ enter-while (ordered b (c .right)) S t (slots e) q) one)
+      rw p (stays c (goAt (readyOf part.While (firstOf word) (secondOf word) 0 e)) (part.While, refl, (w, childᶜ i, child j, x ∙ enter-while (ordered b (c .right)) S t (slots e) q)) one)
   run-by m v (Expression.call p q r i o) =
       rw p
       (list-step c (framed kind.Call (listBits word) 0 (procedureBits word) e) w r (i .below, i .sorted, omega arith)
       (x ∙ enter-call (ordered b (c .right)) S t (slots e) q
       ∙ ap (λ (σ : Slots). downᵃ (nodeAt b) (terms b) S (procedureBits word) 0 σ (closed (listBits word) e)) (sym none-bound)) (omega (arith, less (listBits word) (i .above) (i .below))))
-  run-by m v (Expression.fork p q i) = rw p (stays c (goAt (readyOf part.Fork (firstOf word) 0 0 e)) (w, child i, x ∙ enter-fork (ordered b (c .right)) S t (slots e) q) one)
+  run-by m v (Expression.fork p q i) = rw p (stays c (goAt (readyOf part.Fork (firstOf word) 0 0 e)) (part.Fork, refl, (w, child i, x ∙ enter-fork (ordered b (c .right)) S t (slots e) q)) one)
   run-by m v (Expression.join p q i) =
       rw p
       (want c (framed kind.Join 0 0 0 e) (firstOf word) (plain-fine kind.Join 0 0 0 e (omega arith) (omega arith) (omega arith) tt)
@@ -99,5 +105,5 @@ module _ {b ws rs : List ℕ} {k : Stack} {base : ℕ} {S : List frames.Frame} (
       (want c (framed kind.Synch (secondOf word) 0 0 e) (firstOf word) (plain-fine kind.Synch (secondOf word) 0 0 e (omega arith) (omega arith) (omega arith) (child j))
       w (child i) (x ∙ enter-synch (ordered b (c .right)) S t (slots e) q) (less-one _ (i .above) (i .below)) one)
 
-  pub run-step : (valueOf ws e t < 32 → 2055 ≤ suc n) → Next b ws k base n X (runOf ws rs t e (length S))
+  pub run-step : (valueOf ws e t < 32 → 2055 ≤ suc n) → Next b ws k base n X (wantedOf ws (listedOf ws rs (runOf (wordAt ws t) e)) (length S))
   run-step m = run-by m (valued b ws rs (c .right) (c .loaded) t e s) (expression-at b ws rs (c .right) (c .loaded) t (s .0) (s .1))

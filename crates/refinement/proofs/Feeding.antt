@@ -19,7 +19,7 @@ use Rattle.machine.proofs.Sorted.{Well, Wellᶜ}
 use Rattle.landing.specs.declared.frame.Kind.{Kind}
 use Rattle.landing.specs.declared.frame.Kind.the-variants as kind
 use Rattle.landing.specs.declared.frame.Frame.{Frame}
-use Rattle.landing.specs.declared.go.Part.the-variants as part
+use Rattle.landing.specs.Parts.{Part as part}
 use Rattle.landing.specs.declared.go.Go.{Go}
 use Rattle.landing.specs.Slots.{bindOf}
 use Rattle.landing.specs.Frames.{secondFrame}
@@ -101,33 +101,37 @@ module _ (b : List ℕ) where
     feed-by : (k : Kind) (f : Frame) (v : ℕ) → f .m < 32 → f .n < 16 → SortedBy b k f → v < 32 → Well (frameBy k f ∷ S)
         → X ≡ up (nodeAt b) (terms b) (frameBy k f ∷ S) v → Goes b (feedBy k f v) S X
     unfolding up upBy enter
-    feed-by kind.Read f v hm hn s l w e = (w, l, s, hm, e)
+    feed-by kind.Read f v hm hn s l w e = (part.Read, refl, (w, l, s, hm, e))
     feed-by kind.Write1 f v hm hn s l w e = (second-fine kind.Write2 f v hm (s .0, l), w, s .1, e)
-    feed-by kind.Write2 f v hm hn s l w e = (w, s .1, s .0, hm, l, e)
+    feed-by kind.Write2 f v hm hn s l w e = (part.Write, refl, (w, s .1, s .0, hm, l, e))
     feed-by kind.Call f v hm hn s l w e =
         let q : f .n % 16 + 1 ≡ suc (f .n) = omega arith in
         let r : f .n < 8 = omega (arith, s .1 .2) in
         (w, refl, s .0, rw q (s .1), rw (q, bound (f .args) (f .n) v r l) e)
     feed-by kind.Let f v hm hn s l w e = (
-      w,
-      s .1,
+      part.Run,
+      refl,
       (
-        frames.Ready.letIn (binderOf (f .n)) v (closed (f .a) (f .env)),
-        e,
-        let-unlogged (binderOf (f .n)) v (closed (f .a) (f .env)) (closed (f .a) (bindOf (f .env) (f .n) v)) (ap (λ (ρ : Slots). closure (f .a) ρ) (sym (let-bound (f .env) (f .n) v (s .0) l))),
+        w,
+        s .1,
+        (
+          frames.Ready.letIn (binderOf (f .n)) v (closed (f .a) (f .env)),
+          e,
+          let-unlogged (binderOf (f .n)) v (closed (f .a) (f .env)) (closed (f .a) (bindOf (f .env) (f .n) v)) (ap (λ (ρ : Slots). closure (f .a) ρ) (sym (let-bound (f .env) (f .n) v (s .0) l))),
+        ),
       ),
     )
-    feed-by kind.Synch f v hm hn s l w e = (w, l, s, e)
-    feed-by kind.Hold f v hm hn s l w e = (w, s, l, e)
-    feed-by kind.Join f v hm hn s l w e = (w, l, e)
+    feed-by kind.Synch f v hm hn s l w e = (part.Synch, refl, (w, l, s, e))
+    feed-by kind.Hold f v hm hn s l w e = (part.Hold, refl, (w, s, l, e))
+    feed-by kind.Join f v hm hn s l w e = (part.Join, refl, (w, l, e))
     feed-by kind.Equal1 f v hm hn s l w e = (second-fine kind.Equal2 f v hm l, w, s, e)
-    feed-by kind.Equal2 f v hm hn s l w e = (w, same-small (f .args) v, (frames.Readyᶜ.equal (f .args) v, e, equal-unlogged S (f .args) v))
+    feed-by kind.Equal2 f v hm hn s l w e = (part.Truth, refl, (w, same-small (f .args) v, (frames.Readyᶜ.equal (f .args) v, e, equal-unlogged S (f .args) v)))
     feed-by kind.If f v hm hn s l w e = absurd w
     feed-by kind.And f v hm hn s l w e = absurd w
     feed-by kind.Not f v hm hn s l w e = absurd w
     feed-by kind.Test f v hm hn s l w e = absurd w
     feed-by kind.Body f v hm hn s l w e =
-        (w, s .0, s .1, (frames.Ready.whileBody v (branches (f .a) (f .b) (slots (f .env))), e, again-unlogged v (branches (f .a) (f .b) (slots (f .env)))))
+        (part.Again, refl, (w, s .0, s .1, (frames.Ready.whileBody v (branches (f .a) (f .b) (slots (f .env))), e, again-unlogged v (branches (f .a) (f .b) (slots (f .env))))))
 
     -- an expression's value
     pub feed-goes : (f : Frame) (v : ℕ) → Fine b f → v < 32 → Well (frameOf f ∷ S) → X ≡ up (nodeAt b) (terms b) (frameOf f ∷ S) v → Goes b (feedOf f v) S X
@@ -161,23 +165,23 @@ module _ (b : List ℕ) where
         let y = branches (f .a) (f .b) (slots (f .env)) in
         kind-if kind.If f x q
         (choose-goes (eqb x 1) (goAt (readyOf part.Run (f .a) 0 0 (f .env))) (goAt (readyOf part.Run (f .b) 0 0 (f .env)))
-        (λ t. (w, s .0, (frames.Ready.if true y, e ∙ ap (upᶜ (nodeAt b) (terms b) (frames.Frame.if y ∷ S)) t, if-unlogged true y)))
-        (λ t. (w, s .1, (frames.Ready.if false y, e ∙ ap (upᶜ (nodeAt b) (terms b) (frames.Frame.if y ∷ S)) t, if-unlogged false y))))
+        (λ t. (part.Run, refl, (w, s .0, (frames.Ready.if true y, e ∙ ap (upᶜ (nodeAt b) (terms b) (frames.Frame.if y ∷ S)) t, if-unlogged true y))))
+        (λ t. (part.Run, refl, (w, s .1, (frames.Ready.if false y, e ∙ ap (upᶜ (nodeAt b) (terms b) (frames.Frame.if y ∷ S)) t, if-unlogged false y)))))
     feed-condition-by kind.And f x q s l w e =
         let y = closed (f .a) (f .env) in
         choose-goes (eqb x 1) (goAt (readyOf part.RunCondition (f .a) 0 0 (f .env))) (goAt (readyOf part.Truth 0 0 0 0))
-        (λ t. (w, s, e ∙ ap (upᶜ (nodeAt b) (terms b) (frames.Frame.and y ∷ S)) t))
-        (λ t. (w, omega arith, (frames.Readyᶜ.and false y, e ∙ ap (upᶜ (nodeAt b) (terms b) (frames.Frame.and y ∷ S)) t, and-unlogged S y)))
+        (λ t. (part.RunCondition, refl, (w, s, e ∙ ap (upᶜ (nodeAt b) (terms b) (frames.Frame.and y ∷ S)) t)))
+        (λ t. (part.Truth, refl, (w, omega arith, (frames.Readyᶜ.and false y, e ∙ ap (upᶜ (nodeAt b) (terms b) (frames.Frame.and y ∷ S)) t, and-unlogged S y))))
     feed-condition-by kind.Not f x q s l w e =
         choose-goes (eqb x 1) (goTruth 0) (goAt (readyOf part.Truth 1 0 0 0))
         (λ t. (w, omega arith, e ∙ ap (upᶜ (nodeAt b) (terms b) (frames.Frame.not ∷ S)) t))
-        (λ t. (w, omega arith, (frames.Readyᶜ.notFalse, e ∙ ap (upᶜ (nodeAt b) (terms b) (frames.Frame.not ∷ S)) t, not-unlogged S)))
+        (λ t. (part.Truth, refl, (w, omega arith, (frames.Readyᶜ.notFalse, e ∙ ap (upᶜ (nodeAt b) (terms b) (frames.Frame.not ∷ S)) t, not-unlogged S))))
     feed-condition-by kind.Test f x q s l w e =
         let y = branches (f .a) (f .b) (slots (f .env)) in
         kind-if kind.Test f x q
         (choose-goes (eqb x 1) (goAt (readyOf part.Body (f .a) (f .b) 0 (f .env))) (goAt (readyOf part.Val 0 0 0 0))
-        (λ t. (w, s .0, s .1, e ∙ ap (upᶜ (nodeAt b) (terms b) (frames.Frame.whileTest y ∷ S)) t))
-        (λ t. (w, refl, (frames.Ready.whileTest false y, e ∙ ap (upᶜ (nodeAt b) (terms b) (frames.Frame.whileTest y ∷ S)) t, test-unlogged y))))
+        (λ t. (part.Body, refl, (w, s .0, s .1, e ∙ ap (upᶜ (nodeAt b) (terms b) (frames.Frame.whileTest y ∷ S)) t)))
+        (λ t. (part.Val, refl, (w, refl, (frames.Ready.whileTest false y, e ∙ ap (upᶜ (nodeAt b) (terms b) (frames.Frame.whileTest y ∷ S)) t, test-unlogged y)))))
     feed-condition-by kind.Body f x q s l w e = absurd w
 
     pub feed-condition-goes : (f : Frame) (x : ℕ) → Fine b f → x < 2 → Wellᶜ (frameOf f ∷ S) → X ≡ upᶜ (nodeAt b) (terms b) (frameOf f ∷ S) (eqb x 1) → Goes b (feedConditionOf f x) S X

@@ -2,7 +2,10 @@
 use Prim.Native.Nat.{ℕ, _+_, _*_, _/_, _%_, _≤_, _<_}
 use native.Mathlib.Omega.{arith}
 use mathlib.Core.Path.{_≡_, refl, sym, _∙_, subst}
+use mathlib.Core.Bool.{Bool, true, false, cond}
 use mathlib.Core.List.{List, [], _∷_}
+use lib.Dec.{ltb}
+use borrow.Author.Tests.{lt-ltb, le-ltb}
 use lib.ListN.{length, length-set}
 use lib.Seq.{getD-set-same, getD-set-other}
 use Rattle.machine.specs.Frames as frames
@@ -10,7 +13,10 @@ use Rattle.landing.specs.declared.frame.Kind.{Kind}
 use Rattle.landing.specs.declared.frame.Kind.the-variants as kind
 use Rattle.landing.specs.declared.frame.Frame.{Frame}
 use Rattle.landing.specs.Frames.{codeOf, kindOf, packOf, unpackOf}
-use Rattle.landing.specs.Landing.{Stack, frameAt, storeAt}
+use Rattle.landing.specs.declared.go.Go.{Go}
+use Rattle.landing.specs.declared.down.Turn.{Turn}
+use Rattle.landing.specs.Down.{stayOf}
+use Rattle.landing.specs.Landing.{Stack, frameAt, storeAt, stored}
 use Rattle.refinement.proofs.Meant.{frameOf, Fine, Holds, Sized}
 
 code-small : (k : Kind) → codeOf k < 16
@@ -123,3 +129,25 @@ module _ (b : List ℕ) where
   holds-more k base f S s h n p =
       let e = read-back k (base + length S) f s h n in
       (subst (λ (g : Frame). frameOf g ≡ frameOf f) (sym e) refl, subst (Fine b) (sym e) n, still-holds k base (base + length S) f S (omega arith) p)
+
+-- ---- a step stores its frame where it goes deeper, and nothing else
+
+pub stored-stay : (k : Stack) (base : ℕ) (g : Go) (d : ℕ) → stored k base (stayOf g d) ≡ k
+stored-stay k base g d = rw (le-ltb d d (omega arith))
+
+pub stored-push : (k : Stack) (base : ℕ) (g : Go) (d : ℕ) (f : Frame) → stored k base (record { go = g; depth = d + 1; at = d; frame = f }) ≡ storeAt k (base + d) f
+stored-push k base g d f = rw (lt-ltb d (d + 1) (omega arith))
+
+pub stored-sized : (b : List ℕ) (k : Stack) (base : ℕ) (t : Turn) → Sized b k → Sized b (stored k base t)
+stored-sized b k base t s = at (ltb (t .at) (t .depth))
+  where
+    at : (x : Bool) → Sized b (cond x (storeAt k (base + t .at) (t .frame)) k)
+    at true = still-sized b k (base + t .at) (t .frame) s
+    at false = s
+
+pub stored-other : (k : Stack) (base : ℕ) (t : Turn) (j : ℕ) → (j ≡ base + t .at → ⊥) → frameAt (stored k base t) j ≡ frameAt k j
+stored-other k base t j h = at (ltb (t .at) (t .depth))
+  where
+    at : (x : Bool) → frameAt (cond x (storeAt k (base + t .at) (t .frame)) k) j ≡ frameAt k j
+    at true = read-other k (base + t .at) (t .frame) j h
+    at false = refl

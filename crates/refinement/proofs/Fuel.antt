@@ -9,7 +9,7 @@ use borrow.Author.Tests.{eqb-true}
 use Rattle.landing.specs.declared.frame.Kind.{Kind}
 use Rattle.landing.specs.declared.frame.Kind.the-variants as kind
 use Rattle.landing.specs.declared.frame.Frame.{Frame}
-use Rattle.landing.specs.declared.go.Part.the-variants as part
+use Rattle.landing.specs.Parts.{Part as part}
 use Rattle.landing.specs.declared.go.Stage.{Stage}
 use Rattle.landing.specs.declared.go.Stage.the-variants as stage
 use Rattle.landing.specs.declared.go.Go.{Go}

@@ -14,11 +14,11 @@ use Rattle.machine.specs.Frames as frames
 use Rattle.landing.specs.declared.go.Stage.{Stage}
 use Rattle.landing.specs.declared.go.Stage.the-variants as stage
 use Rattle.landing.specs.declared.go.Go.{Go}
-use Rattle.landing.specs.Landing.{Stack, ended, liveBy, frameAt, storeAt, turnAt, topOf, landOf}
+use Rattle.landing.specs.Landing.{Stack, ended, liveBy, frameAt, stored, turnAt, topOf, landOf}
 use Rattle.landing.proofs.Turns
 use Rattle.landing.proofs.Depths.{step-in}
 use Rattle.refinement.proofs.Meant.{Loaded, Holds, Goes, GoesBy, Sized, FoundBy, Lands}
-use Rattle.refinement.proofs.FrameLaws.{read-other, still-sized}
+use Rattle.refinement.proofs.FrameLaws.{stored-sized, stored-other}
 use Rattle.refinement.proofs.Fuel.{Enough, EnoughBy, needs-most}
 use Rattle.refinement.proofs.Operands.{Next}
 use Rattle.refinement.proofs.Steps.{step}
@@ -77,14 +77,14 @@ module _ (b ws rs : List ℕ) (a : Accepted b) (loaded : Loaded b ws rs) (base :
       → Next b ws k base n X (turnAt ws rs base k g (length S)) → Lands b k base X (landOf (suc n) ws rs base k g (length S))
   lands-on n rest k sized S few g live m =
       let T = turnAt ws rs base k g (length S) in
-      let k′ = storeAt k (base + T .at) (T .frame) in
+      let k′ = stored k base T in
       let one : suc n - 1 ≡ n = omega arith in
       let i = step-in ws rs g (length S) (frameAt k (topOf base (length S))) few .1 in
-      let r = rest k′ (still-sized b k (base + T .at) (T .frame) sized) (m .around) (m .holds) (m .few) (T .go) (m .goes) (m .enough) in
+      let r = rest k′ (stored-sized b k base T sized) (m .around) (m .holds) (m .few) (T .go) (m .goes) (m .enough) in
       subst (Lands b k base X)
       (ap (λ (d : ℕ). landOf n ws rs base k′ (T .go) d) (sym (m .depth-is)) ∙ ap (λ (j : ℕ). landOf j ws rs base k′ (T .go) (T .depth)) (sym one)
       ∙ sym (Turns.goes (suc n) ws rs base k g (length S) (omega arith) live))
-      (record { found = r .found; sized = r .sized; others = λ j h. r .others j h ∙ read-other k (base + T .at) (T .frame) j (apart j (T .at) h i) })
+      (record { found = r .found; sized = r .sized; others = λ j h. r .others j h ∙ stored-other k base T j (apart j (T .at) h i) })
 
   lands-by : (n : ℕ) → LandsIn n → (k : Stack) → Sized b k → (S : List frames.Frame) → Holds b k base S → length S ≤ 32 → (g : Go) → Goes b g S X → Enough ws (suc n) g
       → (t : Bool) → liveBy (g .stage) ≡ t → Lands b k base X (landOf (suc n) ws rs base k g (length S))

@@ -24,13 +24,13 @@ use Rattle.machine.proofs.Sorted.{Well, Wellᶜ}
 use Rattle.landing.specs.declared.frame.Kind.{Kind}
 use Rattle.landing.specs.declared.frame.Kind.the-variants as kind
 use Rattle.landing.specs.declared.frame.Frame.{Frame}
-use Rattle.landing.specs.declared.go.Part.{Part}
-use Rattle.landing.specs.declared.go.Part.the-variants as part
+use Rattle.landing.specs.Parts.{Part, Part as part, numberOf}
 use Rattle.landing.specs.declared.go.Ready.{Ready}
 use Rattle.landing.specs.declared.go.Stage.{Stage}
 use Rattle.landing.specs.declared.go.Stage.the-variants as stage
 use Rattle.landing.specs.declared.go.Go.{Go}
 use Rattle.landing.specs.Slots.{slotOf}
+use Rattle.landing.specs.Going.{readyIn}
 use Rattle.landing.specs.Landing.{Stack, Ended, frameAt}
 
 -- ---- the plan as numbers
@@ -150,14 +150,14 @@ module _ (b : List ℕ) where
   StandsBy part.Hold r S X = Well S × (r .a < 32) × (r .b < 32) × (X ≡ frames.Found.here S (frames.Ready.hold (r .a) (r .b)))
 
   abbrev pub Stands : Ready → List frames.Frame → frames.Found → Type 0
-  Stands r S X = StandsBy (r .part) r S X
+  Stands r S X = (P : Part) × (r .part ≡ numberOf P) × StandsBy P r S X
 
   -- ---- where landing stands
 
   -- stage g, in the frames S, comes to X
   abbrev pub GoesBy : Stage → Go → List frames.Frame → frames.Found → Type 0
   GoesBy stage.Full g S X = 32 < frames.height X
-  GoesBy stage.At g S X = Stands (g .ready) S X
+  GoesBy stage.At g S X = Stands (readyIn g) S X
   GoesBy stage.Run g S X = Well S × IsExpression (g .i) × (X ≡ enter (nodeAt b) (terms b) S (closed (g .i) (g .frame .env)))
   GoesBy stage.RunCondition g S X = Wellᶜ S × IsCondition (g .i) × (X ≡ enterᶜ (nodeAt b) (terms b) S (closed (g .i) (g .frame .env)))
   GoesBy stage.Want g S X = Fine (g .frame) × Well (frameOf (g .frame) ∷ S) × IsExpression (g .i) × (X ≡ enter (nodeAt b) (terms b) (frameOf (g .frame) ∷ S) (closed (g .i) (g .frame .env)))
@@ -177,7 +177,7 @@ module _ (b : List ℕ) where
 
   -- where landing ended: the part that moves next is found, in frames that the stack holds; or there is no room for the frames
   abbrev pub FoundBy : Stage → Ended → ℕ → frames.Found → Type 0
-  FoundBy stage.At E base X = (S : List frames.Frame) × Holds (E .stack) base S × (E .landed .depth ≡ length S) × (length S ≤ 32) × Stands (E .landed .go .ready) S X
+  FoundBy stage.At E base X = (S : List frames.Frame) × Holds (E .stack) base S × (E .landed .depth ≡ length S) × (length S ≤ 32) × Stands (E .landed .ready) S X
   FoundBy stage.Full E base X = 32 < frames.height X
   FoundBy stage.Run E base X = ⊥
   FoundBy stage.RunCondition E base X = ⊥
@@ -189,7 +189,7 @@ module _ (b : List ℕ) where
 
   -- landing from a stack k, in the place of the thread whose frames begin at `base`, found X
   pub record Lands (k : Stack) (base : ℕ) (X : frames.Found) (E : Ended) : Type 0 where
-    pub found : FoundBy (E .landed .go .stage) E base X
+    pub found : FoundBy (E .landed .stage) E base X
     pub sized : Sized (E .stack)
     -- the other threads' frames are as they were
     pub others : (i : ℕ) → (i < base) ⊎ (base + 33 ≤ i) → frameAt (E .stack) i ≡ frameAt k i

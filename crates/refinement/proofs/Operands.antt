@@ -16,7 +16,6 @@ use Rattle.machine.specs.Landing.{enter, enterᶜ}
 use Rattle.machine.proofs.PlanTable.{ordered}
 use Rattle.machine.proofs.Sorted.{Well, Wellᶜ}
 use Rattle.landing.specs.declared.frame.Kind.{Kind}
-use Rattle.landing.specs.declared.frame.Kind.the-variants as kind
 use Rattle.landing.specs.declared.frame.Frame.{Frame}
 use Rattle.landing.specs.declared.go.Go.{Go}
 use Rattle.landing.specs.declared.down.Turn.{Turn}
@@ -24,9 +23,9 @@ use Rattle.landing.specs.Words.{valueOf, truthOf}
 use Rattle.landing.specs.Frames.{framed}
 use Rattle.landing.specs.Going.{goRun, goRunCondition, goFull, feedOf, feedConditionOf}
 use Rattle.landing.specs.Down.{stayOf, pushOf, wantBy, wantOf, wantConditionBy, wantConditionOf}
-use Rattle.landing.specs.Landing.{Stack, storeAt}
+use Rattle.landing.specs.Landing.{Stack, stored}
 use Rattle.refinement.proofs.Meant.{Loaded, closed, frameOf, IsExpression, IsCondition, SortedBy, Fine, Holds, Goes, Sized}
-use Rattle.refinement.proofs.FrameLaws.{still-holds, holds-more}
+use Rattle.refinement.proofs.FrameLaws.{holds-more, stored-stay, stored-push}
 use Rattle.refinement.proofs.Values.{Valued, Tested, valued, tested}
 use Rattle.refinement.proofs.Descent.{enter-value, enter-truth, under, underᶜ}
 use Rattle.refinement.proofs.Fuel.{left, needs, Enough, feed-enough, feed-condition-enough}
@@ -44,7 +43,7 @@ pub record Placed (b ws rs : List ℕ) (k : Stack) (base : ℕ) (S : List frames
 -- after a step T, with n steps more: in frames that the stack then holds, landing stands at what comes to X
 pub record Next (b ws : List ℕ) (k : Stack) (base n : ℕ) (X : frames.Found) (T : Turn) : Type 0 where
   pub around : List frames.Frame
-  pub holds : Holds b (storeAt k (base + T .at) (T .frame)) base around
+  pub holds : Holds b (stored k base T) base around
   pub depth-is : T .depth ≡ length around
   pub few : length around ≤ 32
   pub goes : Goes b (T .go) around X
@@ -86,7 +85,7 @@ module _ {b ws rs : List ℕ} {k : Stack} {base : ℕ} {S : List frames.Frame} (
   pub stays : (g : Go) → Goes b g S X → Enough ws n g → Next b ws k base n X (stayOf g (length S))
   stays g p q = record {
     around = S;
-    holds = still-holds b k base (base + length S) (framed kind.Read 0 0 0 0) S (omega arith) (c .held);
+    holds = subst (λ (k : Stack). Holds b k base S) (sym (stored-stay k base g (length S))) (c .held);
     depth-is = refl;
     few = c .few;
     goes = p;
@@ -96,7 +95,7 @@ module _ {b ws rs : List ℕ} {k : Stack} {base : ℕ} {S : List frames.Frame} (
   pushes : (g : Go) (f : Frame) → length S < 32 → Fine b f → Goes b g (frameOf f ∷ S) X → Enough ws n g → Next b ws k base n X (pushed g (length S) f)
   pushes g f l fine p q = record {
     around = frameOf f ∷ S;
-    holds = holds-more b k base f S (c .sized) (omega (arith, c .room)) fine (c .held);
+    holds = subst (λ (k : Stack). Holds b k base (frameOf f ∷ S)) (sym (stored-push k base g (length S) f)) (holds-more b k base f S (c .sized) (omega (arith, c .room)) fine (c .held));
     depth-is = omega arith;
     few = l;
     goes = p;

@@ -29,12 +29,10 @@ use Rattle.machine.specs.Playing.{tableOf}
 use Rattle.machine.specs.Playing as playing
 use Rattle.machine.proofs.Runs.{Reached}
 use Rattle.landing.specs.declared.frame.Frame.{Frame}
-use Rattle.landing.specs.declared.go.Part.{Part}
-use Rattle.landing.specs.declared.go.Part.the-variants as part
+use Rattle.landing.specs.Parts.{Part, Part as part}
 use Rattle.landing.specs.declared.go.Ready.{Ready}
 use Rattle.landing.specs.declared.go.Stage.{Stage}
 use Rattle.landing.specs.declared.go.Stage.the-variants as stage
-use Rattle.landing.specs.declared.go.Go.{Go}
 use Rattle.landing.specs.declared.land.Landed.{Landed}
 use Rattle.landing.specs.Going.{goFull}
 use Rattle.landing.specs.Landing.{Stack, Ended, ended, frameAt, landOf}
@@ -47,9 +45,9 @@ use Rattle.moves.specs.declared.act.Room.the-variants as room
 use Rattle.moves.specs.declared.act.Acted.{Acted}
 use Rattle.moves.specs.declared.settle.Answer.{Answer}
 use Rattle.moves.specs.declared.settle.Answer.the-variants as answer
-use Rattle.moves.specs.Settle.{passesOf, fullBy, fullOf, depthBy, roomBy, answerOf, moverOf, bornOf, entryBy}
+use Rattle.moves.specs.Settle.{passesOf, forksOf, fullBy, fullOf, depthBy, roomBy, answerOf, moverOf, bornOf, entryBy}
 use Rattle.engine.specs.Machine as engine
-use Rattle.engine.specs.Machine.{noHead, headAt, cellNumber, lookAt, actedBy, Finished, finishOf, finishedBy, after}
+use Rattle.engine.specs.Machine.{noHead, headAt, cellNumber, lookAt, actedBy, Finished, youngOf, finishOf, finishedBy, after}
 use Rattle.refinement.proofs.Meant.{Loaded, frameOf, Fine, Holds, StandsBy, Goes, Sized, FoundBy, Lands}
 use Rattle.refinement.proofs.Landing.{landed}
 use Rattle.refinement.proofs.States.{Kept, Headed, Related}
@@ -81,7 +79,7 @@ stands-height b part.Hold r S X h = ap height (h .3)
 found-full : (b : List ℕ) (g : Stage) (E : Ended) (base : ℕ) (X : frames.Found) → FoundBy b g E base X → fullBy g ≡ ltb 32 (height X)
 found-full b stage.Full E base X h = sym (lt-ltb 32 (height X) h)
 found-full b stage.At E base X (S, held, depth, shallow, stands) =
-    let e = stands-height b (E .landed .go .ready .part) (E .landed .go .ready) S X stands in sym (le-ltb 32 (height X) (omega arith))
+    let e = stands-height b (stands .0) (E .landed .ready) S X (stands .2) in sym (le-ltb 32 (height X) (omega arith))
 found-full b stage.Run E base X h = absurd h
 found-full b stage.RunCondition E base X h = absurd h
 found-full b stage.Want E base X h = absurd h
@@ -101,11 +99,6 @@ found-at b stage.WantCondition E base X h e = absurd h
 found-at b stage.List E base X h e = absurd h
 found-at b stage.Value E base X h e = absurd h
 found-at b stage.Truth E base X h e = absurd h
-
--- a landing that has ended stays
-land-full : (n : ℕ) (ws rs : List ℕ) (base : ℕ) (k : Stack) (d : ℕ) → landOf (suc n) ws rs base k goFull d ≡ ended k goFull d
-unfolding landOf
-land-full n ws rs base k d = refl
 
 -- frames that lie elsewhere stay
 holds-same : (b : List ℕ) (k k′ : Stack) (base : ℕ) (S : List frames.Frame) → length S ≤ 33 → ((j : ℕ) → j < 33 → frameAt k′ (base + j) ≡ frameAt k (base + j)) → Holds b k base S
@@ -168,8 +161,14 @@ room-after xs (some y) u p n l e =
 abbrev landMover : List ℕ → List ℕ → engine.Machine → ℕ → Acted → Ended
 landMover ws rs m p a = landOf 2100 ws rs (p * 33) (m .stack) (a .go) (headAt (m .heads) p .depth % 33)
 
-abbrev landBorn : List ℕ → List ℕ → engine.Machine → Acted → Ended → Ended
-landBorn ws rs m a x = landOf 2100 ws rs (m .tally .counts .threads % 9 * 33) (x .stack) (a .born) 0
+-- the heads, where a thread was made and where none was
+young-size : (x : Bool) (l : List Head) (q : ℕ) (y : Head) → length (engine.withYoung x l q y) ≡ length l
+young-size true l q y = length-set l q y
+young-size false l q y = refl
+
+young-other : (x : Bool) (l : List Head) (i : ℕ) (y : Head) (q : ℕ) → (q ≡ i → ⊥) → headAt (engine.withYoung x l i y) q ≡ headAt l q
+young-other true l i y q e = getD-set-other l i q y noHead e
+young-other false l i y q e = refl
 
 -- what a look, a move and two landings come to
 abbrev settled : List ℕ → List ℕ → Sight → engine.Machine → ℕ → Acted → Finished
@@ -179,7 +178,7 @@ turnedBy : engine.Machine → ℕ → Acted → Landed → Ended → Answer → 
 turnedBy m p a l y z =
     record {
       stack = y .stack;
-      turn = record { answer = z; entry = entryBy z (headAt (m .heads) p .ready) a; mover = moverOf a (headAt (m .heads) p) l; young = bornOf (m .tally .counts) (headAt (m .heads) p) (y .landed) };
+      turn = record { answer = z; entry = entryBy z (headAt (m .heads) p .ready) a; landed = l; born = y .landed };
     }
 
 module _ (b ws rs : List ℕ) (ok : refusal b ≡ none) (loaded : Loaded b ws rs) (m : engine.Machine) (s : machine.State) (rel : Related b m s)
@@ -200,9 +199,9 @@ module _ (b ws rs : List ℕ) (ok : refusal b ≡ none) (loaded : Loaded b ws rs
   L = landMover ws rs m p (actedBy (volatiles b) m p)
 
   abbrev Y : Ended
-  Y = landBorn ws rs m (actedBy (volatiles b) m p) (landMover ws rs m p (actedBy (volatiles b) m p))
+  Y = youngOf ws rs (m .tally .counts) (headAt (m .heads) p) (actedBy (volatiles b) m p) (landMover ws rs m p (actedBy (volatiles b) m p) .stack)
 
-  module _ (D : Does b (m .cells) (m .objects) (m .tally .counts) (cellNumber (headAt (m .heads) p .ready)) (headAt (m .heads) p .keys) s p (ahead .headed .stack) (actedBy (volatiles b) m p) v) where
+  module _ (D : Does b (m .cells) (m .objects) (m .tally .counts) (cellNumber (headAt (m .heads) p .ready)) (headAt (m .heads) p .keys) (headAt (m .heads) p .ready) s p (ahead .headed .stack) (actedBy (volatiles b) m p) v) where
     few-threads : m .tally .counts .threads ≤ 8
     few-threads = let x = rel .kept .threads-count in let y = reach .limits .counts .few-threads in omega arith
 
@@ -227,9 +226,10 @@ module _ (b ws rs : List ℕ) (ok : refusal b ≡ none) (loaded : Loaded b ws rs
       full : (eqb (a .entry .kind) 8 && fullOf (Y .landed)) ≡ youngDeep young
       head : (y : machine.Thread) → young ≡ some y → (eqb (a .entry .kind) 8 && fullOf (Y .landed)) ≡ false → Headed b (Y .stack) (m .tally .counts .threads * 33) (bornOf n h (Y .landed)) y
 
-    second : (young : Option machine.Thread) → Born b n (h .keys) a young → Second young
-    second none (k, e) =
-        let q : Y ≡ ended (L .stack) goFull 0 = ap (λ (g : Go). landOf 2100 ws rs (m .tally .counts .threads % 9 * 33) (L .stack) g 0) e ∙ land-full 2099 ws rs _ (L .stack) 0 in
+    second : (young : Option machine.Thread) → Born b n (h .keys) (h .ready) a young → Second young
+    unfolding youngOf
+    second none k =
+        let q : Y ≡ ended (L .stack) goFull 0 = ap (λ (x : Bool). cond x (landOf 2100 ws rs (m .tally .counts .threads % 9 * 33) (L .stack) (engine.youngGo h) 0) (ended (L .stack) goFull 0)) k in
         record {
           sized = along (λ (E : Ended). Sized b (E .stack)) (sym q) (lands .sized);
           others = λ i l. ap (λ (E : Ended). frameAt (E .stack) i) q;
@@ -238,17 +238,20 @@ module _ (b ws rs : List ℕ) (ok : refusal b ≡ none) (loaded : Loaded b ws rs
         }
     second (some y) (k, few, o, known, goes) =
         let e : m .tally .counts .threads % 9 ≡ m .tally .counts .threads = mod-eq-of-lt (omega arith) in
+        let q : landOf 2100 ws rs (m .tally .counts .threads % 9 * 33) (L .stack) (engine.youngGo h) 0 ≡ Y =
+        ap (λ (x : Bool). cond x (landOf 2100 ws rs (m .tally .counts .threads % 9 * 33) (L .stack) (engine.youngGo h) 0) (ended (L .stack) goFull 0)) (sym k) in
         let lands′ : Lands b (L .stack) (m .tally .counts .threads * 33) (y .code) Y =
-        along (λ (c : ℕ). Lands b (L .stack) (c * 33) (y .code) Y) e
-        (landed b ws rs ok loaded (m .tally .counts .threads % 9 * 33) (L .stack) (lands .sized) (omega arith) [] tt (a .born) 0 refl (omega arith) (y .code) goes) in
+        along (λ (E : Ended). Lands b (L .stack) (m .tally .counts .threads * 33) (y .code) E) q
+        (along (λ (c : ℕ). Lands b (L .stack) (c * 33) (y .code) (landOf 2100 ws rs (m .tally .counts .threads % 9 * 33) (L .stack) (engine.youngGo h) 0)) e
+        (landed b ws rs ok loaded (m .tally .counts .threads % 9 * 33) (L .stack) (lands .sized) (omega arith) [] tt (engine.youngGo h) 0 refl (omega arith) (y .code) goes)) in
         record {
           sized = lands′ .sized;
           others = λ i l. lands′ .others i (inl l);
-          full = ap (λ (x : Bool). x && fullOf (Y .landed)) k ∙ found-full b (Y .landed .go .stage) Y (m .tally .counts .threads * 33) (y .code) (lands′ .found);
+          full = ap (λ (x : Bool). x && fullOf (Y .landed)) k ∙ found-full b (Y .landed .stage) Y (m .tally .counts .threads * 33) (y .code) (lands′ .found);
           head = λ y′ z f.
               let same : y ≡ y′ = cc in
               along (λ (y′ : machine.Thread). Headed b (Y .stack) (m .tally .counts .threads * 33) (bornOf n h (Y .landed)) y′) same
-              (let F = found-at b (Y .landed .go .stage) Y (m .tally .counts .threads * 33) (y .code) (lands′ .found) (ap (λ (x : Bool). x && fullOf (Y .landed)) (sym k) ∙ f) in
+              (let F = found-at b (Y .landed .stage) Y (m .tally .counts .threads * 33) (y .code) (lands′ .found) (ap (λ (x : Bool). x && fullOf (Y .landed)) (sym k) ∙ f) in
               record { stack = F .0; held = F .1; depth = F .2; shallow = F .3; stands = F .4; object = o; keys = known; keys-fit = H .keys-fit });
         }
 
@@ -261,7 +264,7 @@ module _ (b ws rs : List ℕ) (ok : refusal b ≡ none) (loaded : Loaded b ws rs
     two = second (D .young) (D .born)
 
     mover-full : fullOf (L .landed) ≡ ltb 32 (height (D .code))
-    mover-full = found-full b (L .landed .go .stage) L (p * 33) (D .code) (lands .found)
+    mover-full = found-full b (L .landed .stage) L (p * 33) (D .code) (lands .found)
 
     deep-after : playing.noRoomAfter s p (v .state) ≡ cond (fullOf (L .landed) || (eqb (a .entry .kind) 8 && fullOf (Y .landed))) (some rooms.Room.depth) none
     unfolding playing.noRoomAfter
@@ -273,7 +276,7 @@ module _ (b ws rs : List ℕ) (ok : refusal b ≡ none) (loaded : Loaded b ws rs
     -- ---- the state after the move
 
     abbrev heads₁ : List Head
-    heads₁ = set (m .heads) (m .tally .counts .threads % 9) (bornOf n h (Y .landed))
+    heads₁ = engine.withYoung (forksOf a) (m .heads) (m .tally .counts .threads % 9) (bornOf n h (Y .landed))
 
     abbrev heads′ : List Head
     heads′ = set heads₁ p (moverOf a h (L .landed))
@@ -283,25 +286,29 @@ module _ (b ws rs : List ℕ) (ok : refusal b ≡ none) (loaded : Loaded b ws rs
 
     -- the mover's head, a new thread's, and any other's
     head-mover : headAt heads′ p ≡ moverOf a h (L .landed)
-    head-mover = getD-set-same heads₁ p (moverOf a h (L .landed)) noHead (let x = rel .heads-size in let y = length-set (m .heads) (m .tally .counts .threads % 9) (bornOf n h (Y .landed)) in omega arith)
+    head-mover = getD-set-same heads₁ p (moverOf a h (L .landed)) noHead (let x = rel .heads-size in let y = young-size (forksOf a) (m .heads) (m .tally .counts .threads % 9) (bornOf n h (Y .landed)) in omega arith)
 
-    head-young : headAt heads′ (m .tally .counts .threads) ≡ bornOf n h (Y .landed)
-    head-young =
+    head-young : forksOf a ≡ true → headAt heads′ (m .tally .counts .threads) ≡ bornOf n h (Y .landed)
+    head-young k =
         let l = here in
         let z = few-threads in
         let x = rel .heads-size in
         getD-set-other heads₁ p (m .tally .counts .threads) (moverOf a h (L .landed)) noHead (λ e. omega arith)
         ∙ ap (λ (i : ℕ). getD heads₁ i noHead) (sym mod-threads)
+        ∙ ap (λ (x : Bool). getD (engine.withYoung x (m .heads) (m .tally .counts .threads % 9) (bornOf n h (Y .landed))) (m .tally .counts .threads % 9) noHead) k
         ∙ getD-set-same (m .heads) (m .tally .counts .threads % 9) (bornOf n h (Y .landed)) noHead (omega (arith, mod-threads))
 
     head-other : (q : ℕ) → (q ≡ p → ⊥) → q < m .tally .counts .threads → headAt heads′ q ≡ headAt (m .heads) q
     head-other q e l =
-        getD-set-other heads₁ p q (moverOf a h (L .landed)) noHead e ∙ getD-set-other (m .heads) (m .tally .counts .threads % 9) q (bornOf n h (Y .landed)) noHead (λ x. omega (arith, mod-threads))
+        getD-set-other heads₁ p q (moverOf a h (L .landed)) noHead e ∙ young-other (forksOf a) (m .heads) (m .tally .counts .threads % 9) (bornOf n h (Y .landed)) q (λ x. omega (arith, mod-threads))
+
+    forked : (y : machine.Thread) → D .young ≡ some y → forksOf a ≡ true
+    forked y e = along (λ (young : Option machine.Thread). Born b n (h .keys) (h .ready) a young) e (D .born) .0
 
     -- its frames are as they were, or as the first landing left them
     mover-headed : fullOf (L .landed) ≡ false → Headed b (Y .stack) (p * 33) (moverOf a h (L .landed)) (moverIn (D .code) (keysOf (a .keys)) (ahead .thread))
     mover-headed f =
-        let F = found-at b (L .landed .go .stage) L (p * 33) (D .code) (lands .found) f in
+        let F = found-at b (L .landed .stage) L (p * 33) (D .code) (lands .found) f in
         let sh = F .3 in
         let l = here in
         record {
@@ -371,12 +378,12 @@ module _ (b ws rs : List ℕ) (ok : refusal b ≡ none) (loaded : Loaded b ws rs
                 let c : m .tally .counts .threads ≡ q = rel .kept .threads-count ∙ sym (l ∙ change-length (s .threads) p _) in
                 along (λ (u : machine.Thread). Headed b (Y .stack) (q * 33) (headAt heads′ q) u) z
                 (along (λ (q : ℕ). Headed b (Y .stack) (q * 33) (headAt heads′ q) y) c
-                (along (λ (h : Head). Headed b (Y .stack) (m .tally .counts .threads * 33) h y) (sym head-young) (two .head y e fy)))
+                (along (λ (h : Head). Headed b (Y .stack) (m .tally .counts .threads * 33) h y) (sym (head-young (forked y e))) (two .head y e fy)))
 
     related-after : fullOf (L .landed) ≡ false → (eqb (a .entry .kind) 8 && fullOf (Y .landed)) ≡ false → Related b (after m p a (turnedBy m p a (L .landed) Y answer.Moved)) (v .state)
     unfolding turnedBy
     related-after fl fy = record {
-      heads-size = length-set heads₁ p (moverOf a h (L .landed)) ∙ length-set (m .heads) (m .tally .counts .threads % 9) (bornOf n h (Y .landed)) ∙ rel .heads-size;
+      heads-size = length-set heads₁ p (moverOf a h (L .landed)) ∙ young-size (forksOf a) (m .heads) (m .tally .counts .threads % 9) (bornOf n h (Y .landed)) ∙ rel .heads-size;
       sized = two .sized;
       kept =
           along (λ (i : ℕ). Kept (volatiles b) (set (m .cells) (cellNumber (headAt (m .heads) p .ready)) (a .cell)) (set (m .objects) i (a .thing)) (a .counts) (v .state))
@@ -409,7 +416,7 @@ module _ (b ws rs : List ℕ) (ok : refusal b ≡ none) (loaded : Loaded b ws rs
 
   -- by the room before the move
   by-room : (R : Room) (z : Answer) → machine.attempt (tableOf b) s p ≡ machine.Attempt.moves v → playing.noRoomBefore s (v .rule) ≡ roomMeant R
-      → DoesBy R b (m .cells) (m .objects) (m .tally .counts) (cellNumber (headAt (m .heads) p .ready)) (headAt (m .heads) p .keys) s p (ahead .headed .stack) a v
+      → DoesBy R b (m .cells) (m .objects) (m .tally .counts) (cellNumber (headAt (m .heads) p .ready)) (headAt (m .heads) p .keys) (headAt (m .heads) p .ready) s p (ahead .headed .stack) a v
       → z ≡ depthBy (fullOf (L .landed)) (eqb (a .entry .kind) 8) (fullOf (Y .landed))
       → AnsweredBy b m s p (roomBy R z) (turnedBy m p a (L .landed) Y (roomBy R z))
   unfolding turnedBy playing.withinRoom orElse

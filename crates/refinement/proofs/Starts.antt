@@ -23,7 +23,7 @@ use Rattle.machine.specs.Frames as frames
 use Rattle.machine.specs.Memory.{objectsOf}
 use Rattle.machine.specs.Machine as machine
 use Rattle.machine.specs.Playing as playing
-use Rattle.landing.specs.declared.go.Part.the-variants as part
+use Rattle.landing.specs.Parts.{Part as part}
 use Rattle.landing.specs.Slots.{slotOf, choose}
 use Rattle.landing.specs.Going.{readyOf}
 use Rattle.landing.specs.Landing.{Stack}
@@ -87,16 +87,20 @@ module _ (b ws rs : List ℕ) (ok : refusal b ≡ none) (loaded : Loaded b ws rs
   start-stands : Stands b (readyOf part.Run (getD rs 0 0) 0 0 0) [] (frames.Found.here [] (frames.Ready.call 0 0 noSlots))
   unfolding playing.noRoomBefore machine.act playing.tableOf
   start-stands = (
-    tt,
-    along (λ (t : ℕ). IsExpression b t) main-root (accepted b ok .each-procedure 0 main-there .root-below, accepted b ok .each-procedure 0 main-there .root-sorted),
+    part.Run,
+    refl,
     (
-      frames.Ready.call 0 0 noSlots,
-      refl,
-      record {
-        rule = e-call;
-        needs-no-room = λ s. refl;
-        acts = λ s p t. ap₂ (λ (t : ℕ) (ρ : Slots). machine.Act.does e-call none s (frames.Result.run (closure t ρ))) main-root (sym slots-zero);
-      },
+      tt,
+      along (λ (t : ℕ). IsExpression b t) main-root (accepted b ok .each-procedure 0 main-there .root-below, accepted b ok .each-procedure 0 main-there .root-sorted),
+      (
+        frames.Ready.call 0 0 noSlots,
+        refl,
+        record {
+          rule = e-call;
+          needs-no-room = λ s. refl;
+          acts = λ s p t. ap₂ (λ (t : ℕ) (ρ : Slots). machine.Act.does e-call none s (frames.Result.run (closure t ρ))) main-root (sym slots-zero);
+        },
+      ),
     ),
   )
 

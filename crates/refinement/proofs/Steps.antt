@@ -12,7 +12,7 @@ use Rattle.machine.specs.Frames as frames
 use Rattle.machine.specs.Landing.{upBy, up, upᶜ}
 use Rattle.machine.proofs.Sorted.{Well, Wellᶜ}
 use Rattle.landing.specs.declared.frame.Frame.{Frame}
-use Rattle.landing.specs.declared.go.Part.the-variants as part
+use Rattle.landing.specs.Parts.{Part as part}
 use Rattle.landing.specs.declared.go.Stage.{Stage}
 use Rattle.landing.specs.declared.go.Stage.the-variants as stage
 use Rattle.landing.specs.declared.go.Go.{Go}
@@ -50,7 +50,7 @@ module _ {b ws rs : List ℕ} {k : Stack} {base n : ℕ} {X : frames.Found} wher
   back-step : (S : List frames.Frame) → Placed b ws rs k base S → (v : ℕ) → v < 32 → Well S → X ≡ up (nodeAt b) (terms b) S v → 2054 ≤ suc n
       → Next b ws k base n X (backOf (frameAt k (topOf base (length S))) v (length S))
   unfolding backOf up upBy
-  back-step [] c v l w x m = stays c (goAt (readyOf part.Done v 0 0 0)) (refl, x, l) (omega arith)
+  back-step [] c v l w x m = stays c (goAt (readyOf part.Done v 0 0 0)) (part.Done, refl, (refl, x, l)) (omega arith)
   back-step (F ∷ S) c v l w x m =
       let f = frameAt k (base + length S) in
       let e = c .held .0 in
@@ -74,20 +74,19 @@ module _ {b ws rs : List ℕ} {k : Stack} {base n : ℕ} {X : frames.Found} wher
 
   -- ---- by the stage
 
-  step-by : (s : Stage) (g : Go) (S : List frames.Frame) → Placed b ws rs k base S → liveBy s ≡ true → GoesBy b s g S X → EnoughBy ws (suc n) s g
+  step-by : (s : Stage) (g : Go) (S : List frames.Frame) → g .stage ≡ s → Placed b ws rs k base S → liveBy s ≡ true → GoesBy b s g S X → EnoughBy ws (suc n) s g
       → Next b ws k base n X (stepBy s ws rs g (length S) (frameAt k (topOf base (length S))))
-  unfolding stepBy
-  step-by stage.Full g S c live p q = let z : _≡_ {A = ℕ} 0 1 = cc in absurd (omega arith)
-  step-by stage.At g S c live p q = let z : _≡_ {A = ℕ} 0 1 = cc in absurd (omega arith)
-  step-by stage.Run g S c live p q = run-step c (g .i) (g .frame .env) (p .0) (p .1) (p .2) (q .0) (q .1)
-  step-by stage.RunCondition g S c live p q = run-condition-step c (g .i) (g .frame .env) (p .0) (p .1) (p .2) q
-  step-by stage.Want g S c live p q = want c (g .frame) (g .i) (p .0) (p .1) (p .2) (p .3) (omega (arith, q .0)) (omega (arith, q .1))
-  step-by stage.WantCondition g S c live p q = wantᶜ c (g .frame) (g .i) (p .0) (p .1) (p .2) (p .3) (omega arith)
-  step-by stage.List g S c live p q = list-step c (g .frame) (p .0) (p .2) (p .3) (p .4) q
-  step-by stage.Value g S c live p q = back-step S c (g .i) (p .1) (p .0) (p .2) q
-  step-by stage.Truth g S c live p q = back-stepᶜ S c (g .i) (p .1) (p .0) (p .2) q
+  step-by stage.Full g S z c live p q = let z : _≡_ {A = ℕ} 0 1 = cc in absurd (omega arith)
+  step-by stage.At g S z c live p q = let z : _≡_ {A = ℕ} 0 1 = cc in absurd (omega arith)
+  step-by stage.Run g S z c live p q = rw z (run-step c (g .i) (g .frame .env) (p .0) (p .1) (p .2) (q .0) (q .1))
+  step-by stage.RunCondition g S z c live p q = rw z (run-condition-step c (g .i) (g .frame .env) (p .0) (p .1) (p .2) q)
+  step-by stage.Want g S z c live p q = rw z (want c (g .frame) (g .i) (p .0) (p .1) (p .2) (p .3) (omega (arith, q .0)) (omega (arith, q .1)))
+  step-by stage.WantCondition g S z c live p q = rw z (wantᶜ c (g .frame) (g .i) (p .0) (p .1) (p .2) (p .3) (omega arith))
+  step-by stage.List g S z c live p q = rw z (list-step c (g .frame) (p .0) (p .2) (p .3) (p .4) q)
+  step-by stage.Value g S z c live p q = back-step S c (g .i) (p .1) (p .0) (p .2) q
+  step-by stage.Truth g S z c live p q = back-stepᶜ S c (g .i) (p .1) (p .0) (p .2) q
 
   pub step : (g : Go) (S : List frames.Frame) → Placed b ws rs k base S → liveBy (g .stage) ≡ true → Goes b g S X → Enough ws (suc n) g
       → Next b ws k base n X (stepOf ws rs g (length S) (frameAt k (topOf base (length S))))
   unfolding stepOf
-  step g S c live p q = step-by (g .stage) g S c live p q
+  step g S c live p q = step-by (g .stage) g S refl c live p q

@@ -66,8 +66,8 @@ mul-other c = search needs
 array-copy-out-other : tie.Need-array-copy-out-other Inv-loop μ-loop
 array-copy-out-other c = search needs
 
-look-requires : tie.Need-look-requires Inv-loop μ-loop
-look-requires c κs = search needs
+sight-of-requires : tie.Need-sight-of-requires Inv-loop μ-loop
+sight-of-requires c κs = search needs
 
 mul-all : tie.Need-mul-all Inv-loop μ-loop
 mul-all c = search needs
@@ -87,7 +87,7 @@ loop-again c =
     let p = l .loop .p in
     let q = c .before .before .before .before .before .cell-of .ensures in
     let h : p < 8 = c .before .before .before .before .before .before .before .before .loop-test .taken in
-    let e = seen (mask l) (counts l) (heads l) (cells l) (objects l) p (c .before .before .before .before .before .cell-of .result) q (c .look .result) (c .look .ensures ∙ looked (mask l) (counts l) (heads l) (cells l) (objects l) p (c .before .before .before .before .before .cell-of .result) q) in
+    let e = seen (mask l) (counts l) (heads l) (cells l) (objects l) p (c .before .before .before .before .before .cell-of .result) q (c .sight-of .result) (c .sight-of .ensures ∙ looked (mask l) (counts l) (heads l) (cells l) (objects l) p (c .before .before .before .before .before .cell-of .result) q) in
     (omega arith, ap (λ (x : Seen). seenFrom (mask l) (counts l) (heads l) (cells l) (objects l) (8 - (p + 1)) (p + 1) (set (l .loop .all) p x)) e ∙ sym (one-more (mask l) (counts l) (heads l) (cells l) (objects l) p (l .loop .all) h) ∙ l .loop .inv .1)
 
 returns : tie.Need-returns Inv-loop μ-loop
@@ -113,7 +113,7 @@ end-of-spec =
     array-copy-out-t
     mul-other
     array-copy-out-other
-    look-requires
+    sight-of-requires
     mul-all
     array-set-from-all
     add-p

@@ -9,11 +9,8 @@ mul-land c = search needs
 land-requires : tie.Need-land-requires
 land-requires c κs = search needs
 
-mul-land-2 : tie.Need-mul-land-2
-mul-land-2 c = search needs
-
-land-requires-2 : tie.Need-land-requires-2
-land-requires-2 c κs = search needs
+land-young-requires : tie.Need-land-young-requires
+land-young-requires c κs = search needs
 
 answer-to-requires : tie.Need-answer-to-requires
 answer-to-requires c κs = search needs
@@ -21,14 +18,8 @@ answer-to-requires c κs = search needs
 entry-of-requires : tie.Need-entry-of-requires
 entry-of-requires c κs = search needs
 
-mover-requires : tie.Need-mover-requires
-mover-requires c κs = search needs
-
-born-requires : tie.Need-born-requires
-born-requires c κs = search needs
-
 returns : tie.Need-returns
-returns c = finished (c .before .before .before .before .before .before .before .before .before .before .before .before .before .before .before .before .before .args .words .now) (c .before .before .before .before .before .before .before .before .before .before .before .before .before .before .before .before .before .args .roots .now) (c .before .before .before .before .before .before .before .before .before .before .before .before .before .before .before .before .before .args .n) (c .before .before .before .before .before .before .before .before .before .before .before .before .before .before .before .before .before .args .p) (c .before .before .before .before .before .before .before .before .before .before .before .before .before .before .before .before .before .args .w) (c .before .before .before .before .before .before .before .before .before .before .before .before .before .before .before .before .before .args .h) (c .before .before .before .before .before .before .before .before .before .before .before .before .before .before .before .before .before .args .a) (record { tops = c .before .before .before .before .before .before .before .before .before .before .before .before .before .before .before .before .before .args .tops .now; envs = c .before .before .before .before .before .before .before .before .before .before .before .before .before .before .before .before .before .args .envs .now; args = c .before .before .before .before .before .before .before .before .before .before .before .before .before .before .before .before .before .args .args .now }) (record { stack = record { tops = c .before .before .before .before .before .before .before .before .before .before .land .last .1 .1 .0; envs = c .before .before .before .before .before .before .before .before .before .before .land .last .1 .1 .1 .0; args = c .before .before .before .before .before .before .before .before .before .before .land .last .1 .1 .1 .1 .0 }; landed = c .before .before .before .before .before .before .before .before .before .before .land .result }) (record { stack = record { tops = c .before .before .before .before .before .land2 .last .1 .1 .0; envs = c .before .before .before .before .before .land2 .last .1 .1 .1 .0; args = c .before .before .before .before .before .land2 .last .1 .1 .1 .1 .0 }; landed = c .before .before .before .before .before .land2 .result }) _ (c .before .before .before .before .before .before .before .before .before .before .land .ensures .0) (c .before .before .before .before .before .land2 .ensures .0) (simp (c .born .ensures, c .before .mover .ensures, c .before .before .entry-of .ensures, c .before .before .before .before .answer-to .ensures))
+returns c = let a = c .before .before .before .before .before .before .before .before .before .before .before .before .before .args in finished (a .words .now) (a .roots .now) (a .n) (a .p) (a .w) (a .h) (a .a) (record { tops = a .tops .now; envs = a .envs .now; args = a .args .now }) (record { stack = record { tops = c .before .before .before .before .before .before .before .land .last .1 .1 .0; envs = c .before .before .before .before .before .before .before .land .last .1 .1 .1 .0; args = c .before .before .before .before .before .before .before .land .last .1 .1 .1 .1 .0 }; landed = c .before .before .before .before .before .before .before .land .result }) (record { stack = record { tops = c .before .before .before .land-young .last .1 .1 .0; envs = c .before .before .before .land-young .last .1 .1 .1 .0; args = c .before .before .before .land-young .last .1 .1 .1 .1 .0 }; landed = c .before .before .before .land-young .result }) _ (c .before .before .before .before .before .before .before .land .ensures .0) (c .before .before .before .land-young .ensures) (simp (c .entry-of .ensures, c .before .before .answer-to .ensures))
 
 pub finish-spec : {M : Type 1} → statement M
 finish-spec =
@@ -36,10 +27,7 @@ finish-spec =
     (tie.spec
     mul-land
     land-requires
-    mul-land-2
-    land-requires-2
+    land-young-requires
     answer-to-requires
     entry-of-requires
-    mover-requires
-    born-requires
     returns)

@@ -1,32 +1,33 @@
 -- `run` meets its contract. The loop's invariant: the rest of the run from here is the whole run. Assumes nothing.
 use mathlib.Core.Path.{_≡_, refl, sym, ap, _∙_}
-use mathlib.Core.Bool.{false}
+use mathlib.Core.Bool.{true, false}
 use mathlib.Core.List.{List, [], _∷_}
-use Prim.Native.Nat.{ℕ, _≤_, _<_, _+_, _-_, _%_}
+use mathlib.Core.Logic.{⊎-elim}
+use Prim.Native.Nat.{ℕ, _≤_, _<_, _+_, _-_, _/_, _%_}
 use native.Mathlib.Numerals.{add-one}
 use native.Mathlib.Omega.{arith}
 use lib.ListN.{length, getD, drop, drop-of-length-le}
 use lib.Seq.{drop-cons}
 use Rattle.moves.specs.declared.look.Sight.{Sight}
 use Rattle.moves.specs.declared.act.Acted.{Acted}
-use Rattle.moves.specs.Settle.{passesOf}
-use Rattle.engine.specs.declared.Stop.{Stop}
+use Rattle.moves.specs.Settle.{passesOf, forksOf, bornOf}
 use Rattle.engine.specs.declared.Stop.the-variants as stop
 use Rattle.engine.specs.declared.Tally.{Tally}
-use Rattle.engine.specs.Machine.{Machine, Finished, Played, headAt, metBy, actedBy, finishedBy, finishOf, tallyPut, tallyMoved, stopOf, endOf, stopped, logged, startOf, playOf}
-use Rattle.engine.proofs.Looks.{looked, acted}
-use Rattle.engine.proofs.Plays.{begins, skips, goes, stops, after-is}
+use Rattle.engine.specs.Machine.{Machine, Finished, Played, noHead, noCell, noThing, headAt, metBy, actedBy, finishedBy, finishOf, tallyPut, tallyMoved, logPut, stopOf, endOf, stopped, logged, withYoung, startOf, playOf}
+use Rattle.engine.proofs.Looks.{present, absent, looked, acted}
+use Rattle.engine.proofs.Plays.{begins, skips, goes, stops, young-made, young-none, after-is, ends-as, ends-so}
 use borrow.Author.Needs.{needs}
 use Rattle.engine.proofs.run.Statement.{statement}
 use Rattle.engine.proofs.run.Tie as tie
 
 abbrev Inv-loop : tie.InvT-loop
-Inv-loop words roots mask picks log₀ heads₀ cells₀ objects₀ tops₀ envs₀ args₀ s₀ i₀ i-end log heads cells objects tops envs args s i =
+Inv-loop words roots mask picks log₀ heads₀ cells₀ objects₀ tops₀ envs₀ args₀ s₀ stop₀ dealt₀ i₀ i-end log heads cells objects tops envs args s halt dealt i =
     (i-end ≡ length picks) × (i ≤ length picks) × (s .moves ≤ i) × (s .records ≤ i) × (length log ≡ length log₀)
     × (playOf words roots mask (record { heads = heads; cells = cells; objects = objects; stack = record { tops = tops; envs = envs; args = args }; tally = s; log = log }) (drop i picks) i ≡ playOf words roots mask (startOf roots log₀) picks 0)
+    × (halt ≡ stop.End) × (dealt ≡ length picks)
 
 abbrev μ-loop : tie.MeasureT-loop
-μ-loop words roots mask picks log₀ heads₀ cells₀ objects₀ tops₀ envs₀ args₀ s₀ i₀ i-end log heads cells objects tops envs args s i = length picks - i
+μ-loop words roots mask picks log₀ heads₀ cells₀ objects₀ tops₀ envs₀ args₀ s₀ stop₀ dealt₀ i₀ i-end log heads cells objects tops envs args s halt dealt i = length picks - i
 
 -- where a turn begins: the plan, the picks, the machine
 abbrev start : tie.At-loop Inv-loop μ-loop → tie.Start Inv-loop μ-loop
@@ -74,10 +75,16 @@ rest c =
 
 -- what the pick meets, and whether it is passed over
 abbrev from-look : tie.After-look Inv-loop μ-loop → tie.At-loop Inv-loop μ-loop
-from-look c = c .before .before .before .before .before .before .before .before .before .before
+from-look c = c .before .before .before .before .before .before .before .before .before .before .before .before .before
 
 met : (c : tie.After-look Inv-loop μ-loop) → c .look .result ≡ metBy (mask (from-look c)) (machine (from-look c)) (pick (from-look c) % 8)
-met c = let l = from-look c in let k = c .before .before .before .before .before .before .cell-of in c .look .ensures ∙ looked (mask l) (l .loop .s .counts) (l .loop .heads) (l .loop .cells) (l .loop .objects) (pick l % 8) (k .result) (k .ensures)
+met c =
+    let l = from-look c in
+    let k = c .before .before .before .before .before .before .cell-of in
+    c .look .ensures
+    ∙ present (mask l) (l .loop .s .counts) (pick l % 8) (headAt (l .loop .heads) (pick l % 8)) (getD (l .loop .cells) (k .result) noCell) (getD (l .loop .objects) (k .result / 32) noThing)
+    (getD (l .loop .heads) (getD (l .loop .objects) (k .result / 32) noThing .thread % 9) noHead) (c .before .before .before .before .before .before .before .before .if1 .left)
+    ∙ looked (mask l) (l .loop .s .counts) (l .loop .heads) (l .loop .cells) (l .loop .objects) (pick l % 8) (k .result) (k .ensures)
 
 passed : (c : tie.After-passes Inv-loop μ-loop) → passesOf (metBy (mask (from-look (c .before))) (machine (from-look (c .before))) (pick (from-look (c .before)) % 8)) ≡ c .passes .result
 passed c = ap passesOf (sym (met (c .before))) ∙ sym (c .passes .ensures)
@@ -96,7 +103,10 @@ abbrev done : tie.After-finish Inv-loop μ-loop → Finished
 done c = record { stack = record { tops = c .finish .last .1 .1 .0; envs = c .finish .last .1 .1 .1 .0; args = c .finish .last .1 .1 .1 .1 .0 }; turn = c .finish .result }
 
 did : (c : tie.After-finish Inv-loop μ-loop) → deed c ≡ actedBy (mask (from c)) (machine (from c)) (pick (from c) % 8)
-did c = let l = from c in let k = c .before .before .before .before .before .before .before .before .before .before .before .before .before .cell-of in c .before .before .before .before .act .ensures ∙ acted (mask l) (l .loop .s .counts) (l .loop .heads) (l .loop .cells) (l .loop .objects) (pick l % 8) (k .result) (k .ensures)
+did c =
+    let l = from c in
+    let k = c .before .before .before .before .before .before .before .before .before .before .before .before .before .cell-of in
+    c .before .before .before .before .act .ensures ∙ acted (mask l) (l .loop .s .counts) (l .loop .heads) (l .loop .cells) (l .loop .objects) (pick l % 8) (k .result) (k .ensures)
 
 came : (c : tie.After-finish Inv-loop μ-loop) → done c ≡ finishedBy (words (from c)) (roots (from c)) (mask (from c)) (machine (from c)) (pick (from c) % 8)
 came c =
@@ -108,7 +118,78 @@ came c =
     ∙ ap (λ (a : Acted). finishOf (words l) (roots l) (m .tally .counts) p (metBy (mask l) m p) (headAt (m .heads) p) a (m .stack)) (did c)
 
 stays : (c : tie.After-finish Inv-loop μ-loop) → passesOf (metBy (mask (from c)) (machine (from c)) (pick (from c) % 8)) ≡ false
-stays c = passed (c .before .before .before .before .before .before) ∙ c .before .before .before .before .before .if1 .left
+stays c = passed (c .before .before .before .before .before .before) ∙ c .before .before .before .before .before .if2 .left
+
+-- the heads, with a new thread's where one was made
+young : (c : tie.Joined3 Inv-loop μ-loop)
+    → c .if3 .heads
+    ≡ withYoung (forksOf (deed (c .before .before .before .before .before .before .before .before .before))) (c .before .before .before .before .before .before .before .before .before .before .before .before .before .before .before .before .before .before .before .before .before .before .before .before .before .before .before .before .before .loop .heads) (c .before .before .before .before .before .before .before .before .before .before .before .before .before .before .before .before .before .before .before .before .before .before .before .before .before .before .before .before .before .loop .s .counts .threads % 9)
+    (bornOf (c .before .before .before .before .before .before .before .before .before .before .before .before .before .before .before .before .before .before .before .before .before .before .before .before .before .before .before .before .before .loop .s .counts) (headAt (c .before .before .before .before .before .before .before .before .before .before .before .before .before .before .before .before .before .before .before .before .before .before .before .before .before .before .before .before .before .loop .heads) (pick (c .before .before .before .before .before .before .before .before .before .before .before .before .before .before .before .before .before .before .before .before .before .before .before .before .before .before .before .before .before) % 8)) (c .before .before .before .before .before .before .before .before .before .finish .result .born))
+young c =
+    let l = c .before .before .before .before .before .before .before .before .before .before .before .before .before .before .before .before .before .before .before .before .before .before .before .before .before .before .before .before .before in
+    let f = c .before .before .before .before .before .before .before .before .before in
+    let y = bornOf (l .loop .s .counts) (headAt (l .loop .heads) (pick l % 8)) (f .finish .result .born) in
+    ⊎-elim (λ w. young-made (forksOf (deed f)) (l .loop .heads) _ (l .loop .s .counts .threads % 9) _ y (sym (c .before .forks .ensures) ∙ w .0 .taken) (w .1 .ensures) (w .3))
+    (λ w. young-none (forksOf (deed f)) (l .loop .heads) _ (l .loop .s .counts .threads % 9) y (sym (c .before .forks .ensures) ∙ w .0 .left) (w .1)) (c .if3 .came)
+
+-- a stop is the end of the run
+stopped-so : (c : tie.After-stop-of Inv-loop μ-loop)
+    → stopped (mask (c .before .before .before .before .before .before .before .before .before .before .before .before .before .before .before .before .before .before .before .before .before .before .before .before .before .before)) (logged (machine (c .before .before .before .before .before .before .before .before .before .before .before .before .before .before .before .before .before .before .before .before .before .before .before .before .before .before)) (pick (c .before .before .before .before .before .before .before .before .before .before .before .before .before .before .before .before .before .before .before .before .before .before .before .before .before .before) % 8) (done (c .before .before .before .before .before .before))) (stopOf (c .before .before .before .before .before .before .finish .result .answer)) (c .before .before .before .before .before .before .before .before .before .before .before .before .before .before .before .before .before .before .before .before .before .before .before .before .before .before .loop .i)
+    ≡ whole (c .before .before .before .before .before .before .before .before .before .before .before .before .before .before .before .before .before .before .before .before .before .before .before .before .before .before)
+stopped-so c =
+    let f = c .before .before .before .before .before .before in
+    let l = c .before .before .before .before .before .before .before .before .before .before .before .before .before .before .before .before .before .before .before .before .before .before .before .before .before .before in
+    sym (stops (words l) (roots l) (mask l) (machine l) (pick l) (later l) (l .loop .i) (done f) (f .finish .result .answer) (c .before .match .keys2) (stays f) (came f) refl) ∙ rest (c .before .before .before .before .before .before .before .before .before .before .before .before .before .before .before .before .before .before .before .before .before .before .before .before .before)
+
+-- the loop was left at its end, or by a stop
+ended-so : (c : tie.Left-loop Inv-loop μ-loop)
+    → _≡_ {A = Played} (record {
+      ran = endOf (c .loop-test .stop) (c .loop-test .dealt) (mask (c .before)) (c .loop-test .s) (c .before .loop .heads) (c .before .loop .cells) (c .before .loop .objects);
+      area = c .loop-test .log;
+    }) (whole (c .before))
+unfolding playOf
+ended-so c =
+    let l = c .before in
+    let v = l .loop .inv in
+    ⊎-elim (λ w.
+    let t : length (list l) ≤ l .loop .i = omega (arith, w .0 .left, v .0) in
+    let i : l .loop .dealt ≡ l .loop .i = omega (arith, t, v .1, v .7) in
+    let q : playOf (words l) (roots l) (mask l) (machine l) [] (l .loop .i) ≡ whole l = rw (drop-of-length-le (list l) t) at (v .5) in
+    ends-as (mask l) (l .loop .heads) (l .loop .cells) (l .loop .objects) _ _ _ _ _ _ _ _ (w .3 ∙ v .6) (w .4 ∙ i) (w .2) (w .1) ∙ q) (λ w.
+    let c0 : tie.In-loop Inv-loop μ-loop = record { before = l; loop-test = w .0 } in
+    let c1 : tie.After-shared-slice-known2 Inv-loop μ-loop = record { before = c0; shared-slice-known2 = w .1 } in
+    let c2 : tie.After-n Inv-loop μ-loop = record { before = c1; n = w .2 } in
+    let c3 : tie.After-struct-known Inv-loop μ-loop = record { before = c2; struct-known = w .3 } in
+    let c4 : tie.Else1 Inv-loop μ-loop = record { before = c3; if1 = w .4 } in
+    let c5 : tie.After-h Inv-loop μ-loop = record { before = c4; h = w .5 } in
+    let c6 : tie.After-cell-of Inv-loop μ-loop = record { before = c5; cell-of = w .6 } in
+    let c7 : tie.After-c Inv-loop μ-loop = record { before = c6; c = w .7 } in
+    let c8 : tie.After-t Inv-loop μ-loop = record { before = c7; t = w .8 } in
+    let c9 : tie.After-struct-known2 Inv-loop μ-loop = record { before = c8; struct-known2 = w .9 } in
+    let c10 : tie.After-other Inv-loop μ-loop = record { before = c9; other = w .10 } in
+    let c11 : tie.After-x Inv-loop μ-loop = record { before = c10; x = w .11 } in
+    let c12 : tie.After-look Inv-loop μ-loop = record { before = c11; look = w .12 } in
+    let c13 : tie.After-passes Inv-loop μ-loop = record { before = c12; passes = w .13 } in
+    let c14 : tie.Else2 Inv-loop μ-loop = record { before = c13; if2 = w .14 } in
+    let c15 : tie.After-act Inv-loop μ-loop = record { before = c14; act = w .15 } in
+    let c16 : tie.After-tops Inv-loop μ-loop = record { before = c15; tops = w .16 } in
+    let c17 : tie.After-envs Inv-loop μ-loop = record { before = c16; envs = w .17 } in
+    let c18 : tie.After-args2 Inv-loop μ-loop = record { before = c17; args2 = w .18 } in
+    let c19 : tie.After-finish Inv-loop μ-loop = record { before = c18; finish = w .19 } in
+    let c20 : tie.After-put-arg Inv-loop μ-loop = record { before = c19; put-arg = w .20 } in
+    let c21 : tie.After-put Inv-loop μ-loop = record { before = c20; put = w .21 } in
+    let c22 : tie.After-log Inv-loop μ-loop = record { before = c21; log = w .22 } in
+    let c23 : tie.After-slice-known2 Inv-loop μ-loop = record { before = c22; slice-known2 = w .23 } in
+    let c24 : tie.At-match-keys2 Inv-loop μ-loop = record { before = c23; match = w .24 } in
+    let c25 : tie.After-stop-of Inv-loop μ-loop = record { before = c24; stop-of = w .25 } in
+    let e = stopOf (w .19 .result .answer) in
+    let r = tallyPut (l .loop .s) (w .19 .result .entry) in
+    let o = logPut (l .loop .log) (l .loop .s .records) (pick l % 8) (w .19 .result .entry) in
+    let x : Played = record { ran = endOf e (l .loop .i) (mask l) r (l .loop .heads) (l .loop .cells) (l .loop .objects); area = o } in
+    let q : x ≡ whole l = stopped-so c25 in
+    ends-so (mask l) (l .loop .heads) (l .loop .cells) (l .loop .objects) (c .loop-test .stop) (w .25 .result) e (c .loop-test .dealt) (l .loop .i)
+    (c .loop-test .s) (w .21 .result) r (c .loop-test .log) (w .21 .last .0) o (whole l)
+    (w .28) (w .25 .ensures) (w .29) (w .27) (w .21 .ensures .0 .0) (w .26) (w .21 .ensures .1) q) (c .loop-test .came)
 
 element-copy-out-first-head : tie.Need-element-copy-out-first-head Inv-loop μ-loop
 element-copy-out-first-head c = search needs
@@ -128,13 +209,27 @@ first-tally-requires c κs = search needs
 loop-holds : tie.Need-loop-holds Inv-loop μ-loop
 loop-holds c =
     let r = c .before .before .before .before .before .before .before in
-    (refl, omega arith, rw (c .first-tally .ensures) (omega arith), rw (c .first-tally .ensures) (omega arith), refl, begins (r .args .words .now) (r .args .roots .now) (r .args .mask) (r .args .picks .now) (r .args .log .now) _ _ _ _ (c .before .before .before .first-head .ensures) (c .before .before .first-cell .ensures) (c .before .first-object .ensures) (c .first-tally .ensures))
+    (refl, omega arith, rw (c .first-tally .ensures) (omega arith), rw (c .first-tally .ensures) (omega arith), refl, begins (r .args .words .now) (r .args .roots .now) (r .args .mask) (r .args .picks .now) (r .args .log .now) _ _ _ _ (c .before .before .before .first-head .ensures) (c .before .before .first-cell .ensures) (c .before .first-object .ensures) (c .first-tally .ensures), refl, refl)
 
 shared-slice-read-p : tie.Need-shared-slice-read-p Inv-loop μ-loop
 shared-slice-read-p c = search needs
 
 cast-p : tie.Need-cast-p Inv-loop μ-loop
 cast-p c = search needs
+
+add-i : tie.Need-add-i Inv-loop μ-loop
+add-i c = record { fits = omega (arith, c .before .before .before .before .loop-test .taken, c .before .before .before .before .before .before .before .before .before .before .before .before .before .pre .0) }
+
+loop-less : tie.Need-loop-less Inv-loop μ-loop
+loop-less c = omega (arith, c .before .before .before .before .loop-test .taken, c .before .before .before .before .before .loop .inv .0)
+
+loop-again : tie.Need-loop-again Inv-loop μ-loop
+loop-again c =
+    let l = c .before .before .before .before .before in
+    let v = l .loop .inv in
+    let t = c .before .before .before .before .loop-test .taken in
+    let e = absent (mask l) (l .loop .s .counts) (l .loop .heads) (l .loop .cells) (l .loop .objects) (pick l % 8) (c .if1 .taken) in
+    (v .0, omega arith, omega arith, omega arith, v .4, sym (skips (words l) (roots l) (mask l) (machine l) (pick l) (later l) (l .loop .i) (ap passesOf e)) ∙ rest (c .before .before .before .before), v .6, v .7)
 
 mul-h : tie.Need-mul-h Inv-loop μ-loop
 mul-h c = search needs
@@ -169,18 +264,18 @@ look-requires c κs = search needs
 passes-requires : tie.Need-passes-requires Inv-loop μ-loop
 passes-requires c κs = search needs
 
-add-i : tie.Need-add-i Inv-loop μ-loop
-add-i c = record { fits = omega (arith, c .before .before .before .before .before .before .before .before .before .before .before .loop-test .taken, c .before .before .before .before .before .before .before .before .before .before .before .before .before .before .before .before .before .before .before .before .pre .0) }
+add-i-2 : tie.Need-add-i-2 Inv-loop μ-loop
+add-i-2 c = record { fits = omega (arith, c .before .before .before .before .before .before .before .before .before .before .before .before .before .before .loop-test .taken, c .before .before .before .before .before .before .before .before .before .before .before .before .before .before .before .before .before .before .before .before .before .before .before .pre .0) }
 
-loop-less : tie.Need-loop-less Inv-loop μ-loop
-loop-less c = omega (arith, c .before .before .before .before .before .before .before .before .before .before .before .loop-test .taken, c .before .before .before .before .before .before .before .before .before .before .before .before .loop .inv .0)
+loop-less-2 : tie.Need-loop-less-2 Inv-loop μ-loop
+loop-less-2 c = omega (arith, c .before .before .before .before .before .before .before .before .before .before .before .before .before .before .loop-test .taken, c .before .before .before .before .before .before .before .before .before .before .before .before .before .before .before .loop .inv .0)
 
-loop-again : tie.Need-loop-again Inv-loop μ-loop
-loop-again c =
-    let l = c .before .before .before .before .before .before .before .before .before .before .before .before in
+loop-again-2 : tie.Need-loop-again-2 Inv-loop μ-loop
+loop-again-2 c =
+    let l = c .before .before .before .before .before .before .before .before .before .before .before .before .before .before .before in
     let v = l .loop .inv in
-    let t = c .before .before .before .before .before .before .before .before .before .before .before .loop-test .taken in
-    (v .0, omega arith, omega arith, omega arith, v .4, sym (skips (words l) (roots l) (mask l) (machine l) (pick l) (later l) (l .loop .i) (passed (c .before) ∙ c .if1 .taken)) ∙ rest (c .before .before .before .before .before .before .before .before .before .before .before))
+    let t = c .before .before .before .before .before .before .before .before .before .before .before .before .before .before .loop-test .taken in
+    (v .0, omega arith, omega arith, omega arith, v .4, sym (skips (words l) (roots l) (mask l) (machine l) (pick l) (later l) (l .loop .i) (passed (c .before) ∙ c .if2 .taken)) ∙ rest (c .before .before .before .before .before .before .before .before .before .before .before .before .before .before), v .6, v .7)
 
 act-requires : tie.Need-act-requires Inv-loop μ-loop
 act-requires c κs = search needs
@@ -190,9 +285,9 @@ finish-requires c κs = search needs
 
 put-requires : tie.Need-put-requires Inv-loop μ-loop
 put-requires c κs =
-    let v = c .before .before .before .before .before .before .before .before .before .before .before .before .before .before .before .before .before .before .loop .inv in
-    let t = c .before .before .before .before .before .before .before .before .before .before .before .before .before .before .before .before .before .loop-test .taken in
-    let r = c .before .before .before .before .before .before .before .before .before .before .before .before .before .before .before .before .before .before .before .before .before .before .before .before .before .before .pre in
+    let v = c .before .before .before .before .before .before .before .before .before .before .before .before .before .before .before .before .before .before .before .before .before .loop .inv in
+    let t = c .before .before .before .before .before .before .before .before .before .before .before .before .before .before .before .before .before .before .before .before .loop-test .taken in
+    let r = c .before .before .before .before .before .before .before .before .before .before .before .before .before .before .before .before .before .before .before .before .before .before .before .before .before .before .before .before .before .pre in
     (omega (arith, v .0, v .3, v .4, t, r .0, r .1), omega (arith, v .0, v .3, t, r .0))
 
 enum-told : tie.Need-enum-told Inv-loop μ-loop
@@ -201,31 +296,20 @@ enum-told c = search needs
 stop-of-requires : tie.Need-stop-of-requires Inv-loop μ-loop
 stop-of-requires c κs = search needs
 
-end-of-requires : tie.Need-end-of-requires Inv-loop μ-loop
-end-of-requires c κs = search needs
+forks-requires : tie.Need-forks-requires Inv-loop μ-loop
+forks-requires c κs = search needs
 
-same-length : tie.Need-same-length Inv-loop μ-loop
-same-length c = c .before .before .before .before .before .put .kept .0 ∙ c .before .before .before .before .before .before .before .before .before .before .before .before .before .before .before .before .before .before .before .before .before .before .before .before .loop .inv .4
-
-returns : tie.Need-returns Inv-loop μ-loop
-returns c =
-    let f = c .before .before .before .before .before .before .before in
-    let l = from f in
-    let a = f .finish .result .answer in
-    let put = c .before .before .before .before .before .put in
-    let q : stopped (mask l) (logged (machine l) (pick l % 8) (done f)) (stopOf a) (l .loop .i) ≡ whole l = sym (stops (words l) (roots l) (mask l) (machine l) (pick l) (later l) (l .loop .i) (done f) a (c .before .before .match .keys2) (stays f) (came f) refl) ∙ rest (c .before .before .before .before .before .before .before .before .before .before .before .before .before .before .before .before .before .before .before .before .before .before .before) in (
-      c .end-of .ensures
-          ∙ ap (λ (e : Stop). endOf e (l .loop .i) (mask l) (put .result) (l .loop .heads) (l .loop .cells) (l .loop .objects)) (c .before .stop-of .ensures)
-          ∙ ap (λ (s : Tally). endOf (stopOf a) (l .loop .i) (mask l) s (l .loop .heads) (l .loop .cells) (l .loop .objects)) (put .ensures .0 .0)
-          ∙ ap (λ (x : Played). x .ran) q,
-      put .ensures .1 ∙ ap (λ (x : Played). x .area) q,
-    )
+born-requires : tie.Need-born-requires Inv-loop μ-loop
+born-requires c κs = search needs
 
 mul-heads : tie.Need-mul-heads Inv-loop μ-loop
 mul-heads c = search needs
 
 array-set-from-heads : tie.Need-array-set-from-heads Inv-loop μ-loop
 array-set-from-heads c = search needs
+
+mover-requires : tie.Need-mover-requires Inv-loop μ-loop
+mover-requires c κs = search needs
 
 mul-heads-2 : tie.Need-mul-heads-2 Inv-loop μ-loop
 mul-heads-2 c = search needs
@@ -234,10 +318,10 @@ array-set-from-heads-2 : tie.Need-array-set-from-heads-2 Inv-loop μ-loop
 array-set-from-heads-2 c = search needs
 
 mul-cells : tie.Need-mul-cells Inv-loop μ-loop
-mul-cells c = record { fits = omega (arith, c .before .before .before .before .before .before .before .before .before .before .before .before .before .before .before .before .before .before .before .before .before .before .before .before .cell-of .ensures .inside) }
+mul-cells c = record { fits = omega (arith, c .before .before .before .before .before .before .before .before .before .before .before .before .before .before .before .before .before .before .before .before .before .before .before .before .before .before .cell-of .ensures .inside) }
 
 array-set-from-cells : tie.Need-array-set-from-cells Inv-loop μ-loop
-array-set-from-cells c = omega (arith, c .before .before .before .before .before .before .before .before .before .before .before .before .before .before .before .before .before .before .before .before .before .before .before .before .cell-of .ensures .inside)
+array-set-from-cells c = omega (arith, c .before .before .before .before .before .before .before .before .before .before .before .before .before .before .before .before .before .before .before .before .before .before .before .before .before .before .cell-of .ensures .inside)
 
 mul-objects : tie.Need-mul-objects Inv-loop μ-loop
 mul-objects c = search needs
@@ -247,54 +331,49 @@ array-set-from-objects c = search needs
 
 moved-requires : tie.Need-moved-requires Inv-loop μ-loop
 moved-requires c κs =
-    let e : c .before .before .before .before .before .before .before .before .before .before .put .result .moves ≡ c .before .before .before .before .before .before .before .before .before .before .before .before .before .before .before .before .before .before .before .before .before .before .before .before .before .before .before .before .before .loop .s .moves = ap (λ (s : Tally). s .moves) (c .before .before .before .before .before .before .before .before .before .before .put .ensures .0 .0) in
-    omega (arith, e, c .before .before .before .before .before .before .before .before .before .before .before .before .before .before .before .before .before .before .before .before .before .before .before .before .before .before .before .before .before .loop .inv .0, c .before .before .before .before .before .before .before .before .before .before .before .before .before .before .before .before .before .before .before .before .before .before .before .before .before .before .before .before .before .loop .inv .2, c .before .before .before .before .before .before .before .before .before .before .before .before .before .before .before .before .before .before .before .before .before .before .before .before .before .before .before .before .loop-test .taken, c .before .before .before .before .before .before .before .before .before .before .before .before .before .before .before .before .before .before .before .before .before .before .before .before .before .before .before .before .before .before .before .before .before .before .before .before .before .pre .0)
+    let l = c .before .before .before .before .before .before .before .before .before .before .before .before .before .before .before .before .before .before .before .before .before .before .before .before .before .before .before .before .before .before .before .before .before .before in
+    let e : c .before .before .before .before .before .before .before .before .before .before .before .before .put .result .moves ≡ l .loop .s .moves = ap (λ (s : Tally). s .moves) (c .before .before .before .before .before .before .before .before .before .before .before .before .put .ensures .0 .0) in
+    omega (arith, e, l .loop .inv .0, l .loop .inv .2, c .before .before .before .before .before .before .before .before .before .before .before .before .before .before .before .before .before .before .before .before .before .before .before .before .before .before .before .before .before .before .before .before .before .loop-test .taken, c .before .before .before .before .before .before .before .before .before .before .before .before .before .before .before .before .before .before .before .before .before .before .before .before .before .before .before .before .before .before .before .before .before .before .before .before .before .before .before .before .before .before .pre .0)
 
-add-i-2 : tie.Need-add-i-2 Inv-loop μ-loop
-add-i-2 c = record { fits = omega (arith, c .before .before .before .before .before .before .before .before .before .before .before .before .before .before .before .before .before .before .before .before .before .before .before .before .before .before .before .before .before .loop-test .taken, c .before .before .before .before .before .before .before .before .before .before .before .before .before .before .before .before .before .before .before .before .before .before .before .before .before .before .before .before .before .before .loop .inv .0, c .before .before .before .before .before .before .before .before .before .before .before .before .before .before .before .before .before .before .before .before .before .before .before .before .before .before .before .before .before .before .before .before .before .before .before .before .before .before .pre .0) }
+add-i-3 : tie.Need-add-i-3 Inv-loop μ-loop
+add-i-3 c = record { fits = omega (arith, c .before .before .before .before .before .before .before .before .before .before .before .before .before .before .before .before .before .before .before .before .before .before .before .before .before .before .before .before .before .before .before .before .before .before .loop-test .taken, c .before .before .before .before .before .before .before .before .before .before .before .before .before .before .before .before .before .before .before .before .before .before .before .before .before .before .before .before .before .before .before .before .before .before .before .loop .inv .0, c .before .before .before .before .before .before .before .before .before .before .before .before .before .before .before .before .before .before .before .before .before .before .before .before .before .before .before .before .before .before .before .before .before .before .before .before .before .before .before .before .before .before .before .pre .0) }
 
-loop-less-2 : tie.Need-loop-less-2 Inv-loop μ-loop
-loop-less-2 c = omega (arith, c .before .before .before .before .before .before .before .before .before .before .before .before .before .before .before .before .before .before .before .before .before .before .before .before .before .before .before .before .before .loop-test .taken, c .before .before .before .before .before .before .before .before .before .before .before .before .before .before .before .before .before .before .before .before .before .before .before .before .before .before .before .before .before .before .loop .inv .0)
+loop-less-3 : tie.Need-loop-less-3 Inv-loop μ-loop
+loop-less-3 c = omega (arith, c .before .before .before .before .before .before .before .before .before .before .before .before .before .before .before .before .before .before .before .before .before .before .before .before .before .before .before .before .before .before .before .before .before .before .loop-test .taken, c .before .before .before .before .before .before .before .before .before .before .before .before .before .before .before .before .before .before .before .before .before .before .before .before .before .before .before .before .before .before .before .before .before .before .before .loop .inv .0)
 
-loop-again-2 : tie.Need-loop-again-2 Inv-loop μ-loop
-loop-again-2 c =
-    let f = c .before .before .before .before .before .before .before .before .before .before .before .before .before in
+loop-again-3 : tie.Need-loop-again-3 Inv-loop μ-loop
+loop-again-3 c =
+    let f = c .before .before .before .before .before .before .before .before .before .before .before .before .before .before .before in
     let l = from f in
     let v = l .loop .inv in
-    let t = c .before .before .before .before .before .before .before .before .before .before .before .before .before .before .before .before .before .before .before .before .before .before .before .before .before .before .before .before .before .loop-test .taken in
-    let put = c .before .before .before .before .before .before .before .before .before .before .before .put in
+    let t = c .before .before .before .before .before .before .before .before .before .before .before .before .before .before .before .before .before .before .before .before .before .before .before .before .before .before .before .before .before .before .before .before .before .before .loop-test .taken in
+    let put = c .before .before .before .before .before .before .before .before .before .before .before .before .before .put in
+    let k = c .before .before .before .before .before .before .before .before .before .before .before .before .before .before .before .before .before .before .before .before .before .before .before .before .before .before .before .before .cell-of in
+    let j = c .before .before .before .before .before .before in
     let s : c .moved .result ≡ tallyMoved (tallyPut (l .loop .s) (f .finish .result .entry)) (deed f) = c .moved .ensures .0 ∙ ap (λ (s : Tally). tallyMoved s (deed f)) (put .ensures .0 .0) in
     let moves : c .moved .result .moves ≡ l .loop .s .moves + 1 = ap (λ (s : Tally). s .moves) s in
     let records : c .moved .result .records ≡ put .result .records = ap (λ (s : Tally). s .records) (c .moved .ensures .0) in
-    let e = after-is (machine l) (pick l % 8) (deed f) (done f) (c .before .before .before .before .before .before .before .before .before .before .before .before .before .before .before .before .before .before .before .before .before .before .before .before .before .before .cell-of .result) (c .moved .result) (put .last .0) (c .before .before .before .before .before .before .before .before .before .before .before .before .before .before .before .before .before .before .before .before .before .before .before .before .before .before .cell-of .ensures .cell) s (put .ensures .1) in (
+    let e = after-is (machine l) (pick l % 8) (deed f) (done f) (k .result) (j .if3 .heads) (c .before .before .before .before .mover .result) (c .moved .result) (put .last .0) (k .ensures .cell) (young j) (c .before .before .before .before .mover .ensures) s (put .ensures .1) in (
       v .0,
       omega (arith, t, v .0),
       omega (arith, moves, v .2),
       omega (arith, records, put .ensures .0 .1, v .3),
       put .kept .0 ∙ v .4,
       ap (λ (x : Machine). playOf (words l) (roots l) (mask l) x (later l) (l .loop .i + 1)) e
-          ∙ sym (goes (words l) (roots l) (mask l) (machine l) (pick l) (later l) (l .loop .i) (deed f) (done f) (stays f) (did f) (came f) (c .before .before .before .before .before .before .before .enum-told .given .1))
-          ∙ rest (c .before .before .before .before .before .before .before .before .before .before .before .before .before .before .before .before .before .before .before .before .before .before .before .before .before .before .before .before .before),
+          ∙ sym (goes (words l) (roots l) (mask l) (machine l) (pick l) (later l) (l .loop .i) (deed f) (done f) (stays f) (did f) (came f) (c .before .before .before .before .before .before .before .before .before .enum-told .given .1))
+          ∙ rest (c .before .before .before .before .before .before .before .before .before .before .before .before .before .before .before .before .before .before .before .before .before .before .before .before .before .before .before .before .before .before .before .before .before .before),
+      v .6,
+      v .7,
     )
 
-end-of-requires-2 : tie.Need-end-of-requires-2 Inv-loop μ-loop
-end-of-requires-2 c κs = search needs
+end-of-requires : tie.Need-end-of-requires Inv-loop μ-loop
+end-of-requires c κs = search needs
 
-same-length-2 : tie.Need-same-length-2 Inv-loop μ-loop
-same-length-2 c = c .before .before .loop .inv .4
+same-length : tie.Need-same-length Inv-loop μ-loop
+same-length c = let v = c .before .before .loop .inv in ⊎-elim (λ w. ap length (w .1) ∙ v .4) (λ w. ap length (w .26) ∙ w .21 .kept .0 ∙ v .4) (c .before .loop-test .came)
 
-returns-2 : tie.Need-returns-2 Inv-loop μ-loop
-unfolding playOf
-returns-2 c =
-    let l = c .before .before in
-    let t : length (list l) ≤ l .loop .i = omega (arith, c .before .loop-test .left, l .loop .inv .0) in
-    let i : l .loop .i ≡ length (list l) = omega (arith, t, l .loop .inv .1) in
-    let q : playOf (words l) (roots l) (mask l) (machine l) [] (l .loop .i) ≡ whole l = rw (drop-of-length-le (list l) t) at (l .loop .inv .5) in (
-      c .end-of2 .ensures
-          ∙ ap (λ (i : ℕ). endOf stop.End i (mask l) (l .loop .s) (l .loop .heads) (l .loop .cells) (l .loop .objects)) (sym i)
-          ∙ ap (λ (x : Played). x .ran) q,
-      ap (λ (x : Played). x .area) q,
-    )
+returns : tie.Need-returns Inv-loop μ-loop
+returns c = let q = ended-so (c .before) in (c .end-of .ensures ∙ ap (λ (x : Played). x .ran) q, ap (λ (x : Played). x .area) q)
 
 pub run-spec : {M : Type 1} → statement M
 run-spec =
@@ -310,6 +389,9 @@ run-spec =
     loop-holds
     shared-slice-read-p
     cast-p
+    add-i
+    loop-less
+    loop-again
     mul-h
     array-copy-out-h
     cell-of-requires
@@ -321,19 +403,19 @@ run-spec =
     array-copy-out-other
     look-requires
     passes-requires
-    add-i
-    loop-less
-    loop-again
+    add-i-2
+    loop-less-2
+    loop-again-2
     act-requires
     finish-requires
     put-requires
     enum-told
     stop-of-requires
-    end-of-requires
-    same-length
-    returns
+    forks-requires
+    born-requires
     mul-heads
     array-set-from-heads
+    mover-requires
     mul-heads-2
     array-set-from-heads-2
     mul-cells
@@ -341,9 +423,9 @@ run-spec =
     mul-objects
     array-set-from-objects
     moved-requires
-    add-i-2
-    loop-less-2
-    loop-again-2
-    end-of-requires-2
-    same-length-2
-    returns-2)
+    add-i-3
+    loop-less-3
+    loop-again-3
+    end-of-requires
+    same-length
+    returns)

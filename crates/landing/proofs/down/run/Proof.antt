@@ -3,131 +3,174 @@ use Rattle.landing.specs.Down.{runOf, runBy}
 use borrow.Author.Needs.{needs}
 use Rattle.landing.proofs.down.run.Statement.{statement}
 use Rattle.landing.proofs.down.run.Tie as tie
+use Rattle.landing.proofs.down.run.Reads as reads
+use Rattle.landing.proofs.down.run.Lts as lts
+use Rattle.landing.proofs.down.simple.Reads as simple-reads
+use Rattle.landing.proofs.frame.frame_of.Reads as frame-of-reads
+use Rattle.landing.proofs.frame.let_frame.Reads as let-frame-reads
+use Rattle.landing.proofs.go.list.Reads as list-reads
+use Rattle.landing.proofs.go.want.Reads as want-reads
+use Rattle.landing.proofs.go.want_condition.Reads as want-condition-reads
+use Rattle.landing.proofs.words.field_of.Reads as field-of-reads
+use Rattle.landing.proofs.words.first.Reads as first-reads
+use Rattle.landing.proofs.words.let_first.Reads as let-first-reads
+use Rattle.landing.proofs.words.let_second.Reads as let-second-reads
+use Rattle.landing.proofs.words.list_of.Reads as list-of-reads
+use Rattle.landing.proofs.words.procedure_of.Reads as procedure-of-reads
+use Rattle.landing.proofs.words.second.Reads as second-reads
+use Rattle.landing.proofs.words.slot_of.Reads as slot-of-reads
+use Rattle.landing.proofs.words.tag.Reads as tag-reads
+use Rattle.landing.proofs.words.third.Reads as third-reads
+use Rattle.landing.proofs.words.write_second.Reads as write-second-reads
 
-word-requires : tie.Need-word-requires
-word-requires c κs = search needs
-
+-- src/down.rt:110:9
 tag-requires : tie.Need-tag-requires
 tag-requires c κs = search needs
 
+-- src/down.rt:111:9
 first-requires : tie.Need-first-requires
 first-requires c κs = search needs
 
+-- src/down.rt:112:9
 second-requires : tie.Need-second-requires
 second-requires c κs = search needs
 
+-- src/down.rt:113:9
 field-of-requires : tie.Need-field-of-requires
 field-of-requires c κs = search needs
 
+-- src/down.rt:115:23
 frame-of-requires : tie.Need-frame-of-requires
 frame-of-requires c κs = search needs
 
+-- src/down.rt:115:14
 want-requires : tie.Need-want-requires
 want-requires c κs = search needs
 
+-- src/down.rt:117:43
 write-second-requires : tie.Need-write-second-requires
 write-second-requires c κs = search needs
 
-field-of-requires-2 : tie.Need-field-of-requires-2
-field-of-requires-2 c κs = search needs
-
+-- src/down.rt:117:13
 frame-of-requires-2 : tie.Need-frame-of-requires-2
 frame-of-requires-2 c κs = search needs
 
+-- src/down.rt:116:14
 want-requires-2 : tie.Need-want-requires-2
 want-requires-2 c κs = search needs
 
+-- src/down.rt:121:30
 slot-of-requires : tie.Need-slot-of-requires
 slot-of-requires c κs = search needs
 
+-- src/down.rt:121:49
 let-second-requires : tie.Need-let-second-requires
 let-second-requires c κs = search needs
 
+-- src/down.rt:121:13
 let-frame-requires : tie.Need-let-frame-requires
 let-frame-requires c κs = search needs
 
+-- src/down.rt:122:13
 let-first-requires : tie.Need-let-first-requires
 let-first-requires c κs = search needs
 
+-- src/down.rt:120:14
 want-requires-3 : tie.Need-want-requires-3
 want-requires-3 c κs = search needs
 
+-- src/down.rt:124:62
 third-requires : tie.Need-third-requires
 third-requires c κs = search needs
 
+-- src/down.rt:124:33
 frame-of-requires-3 : tie.Need-frame-of-requires-3
 frame-of-requires-3 c κs = search needs
 
+-- src/down.rt:124:14
 want-condition-requires : tie.Need-want-condition-requires
 want-condition-requires c κs = search needs
 
+-- src/down.rt:127:13
 list-of-requires : tie.Need-list-of-requires
 list-of-requires c κs = search needs
 
+-- src/down.rt:129:13
 procedure-of-requires : tie.Need-procedure-of-requires
 procedure-of-requires c κs = search needs
 
+-- src/down.rt:125:23
 frame-of-requires-4 : tie.Need-frame-of-requires-4
 frame-of-requires-4 c κs = search needs
 
+-- src/down.rt:125:14
 list-requires : tie.Need-list-requires
 list-requires c κs = search needs
 
+-- src/down.rt:132:24
 frame-of-requires-5 : tie.Need-frame-of-requires-5
 frame-of-requires-5 c κs = search needs
 
+-- src/down.rt:132:15
 want-requires-4 : tie.Need-want-requires-4
 want-requires-4 c κs = search needs
 
+-- src/down.rt:133:24
 frame-of-requires-6 : tie.Need-frame-of-requires-6
 frame-of-requires-6 c κs = search needs
 
+-- src/down.rt:133:15
 want-requires-5 : tie.Need-want-requires-5
 want-requires-5 c κs = search needs
 
+-- src/down.rt:134:14
 simple-requires : tie.Need-simple-requires
 simple-requires c κs = search needs
 
-stay-requires : tie.Need-stay-requires
-stay-requires c κs = search needs
-
+-- src/down.rt:107:1
 returns : tie.Need-returns
 unfolding runOf runBy
-returns c = rw (← c .before .before .before .before .before .before .before .word .ensures, ← c .before .before .before .before .before .before .tag .ensures) (simp (c .want .ensures, c .before .frame-of .ensures, c .before .before .field-of .ensures, c .before .before .before .before .before .first .ensures, c .before .before .before .match .keys1))
+returns c = rw (← c .before .before .before .before .before .before .tag .ensures) (simp (c .want .ensures, c .before .frame-of .ensures, c .before .before .before .field-of .ensures, c .before .before .before .before .second .ensures, c .before .before .before .before .before .first .ensures, c .before .before .match .keys1))
 
+-- src/down.rt:107:1
 returns-2 : tie.Need-returns-2
 unfolding runOf runBy
-returns-2 c = rw (← c .before .before .before .before .before .before .before .before .word .ensures, ← c .before .before .before .before .before .before .before .tag .ensures) (simp (c .want2 .ensures, c .before .frame-of2 .ensures, c .before .before .field-of2 .ensures, c .before .before .before .write-second .ensures, c .before .before .before .before .before .before .first .ensures, c .before .before .before .before .match .keys2))
+returns-2 c = rw (← c .before .before .before .before .before .before .before .tag .ensures) (simp (c .want2 .ensures, c .before .frame-of2 .ensures, c .before .before .write-second .ensures, c .before .before .before .before .field-of .ensures, c .before .before .before .before .before .second .ensures, c .before .before .before .before .before .before .first .ensures, c .before .before .before .match .keys2))
 
+-- src/down.rt:107:1
 returns-3 : tie.Need-returns-3
 unfolding runOf runBy
-returns-3 c = rw (← c .before .before .before .before .before .before .before .before .before .word .ensures, ← c .before .before .before .before .before .before .before .before .tag .ensures) (simp (c .want3 .ensures, c .before .let-first .ensures, c .before .before .let-frame .ensures, c .before .before .before .let-second .ensures, c .before .before .before .before .slot-of .ensures, c .before .before .before .before .before .match .keys3))
+returns-3 c = rw (← c .before .before .before .before .before .before .before .before .before .tag .ensures) (simp (c .want3 .ensures, c .before .let-first .ensures, c .before .before .let-frame .ensures, c .before .before .before .let-second .ensures, c .before .before .before .before .slot-of .ensures, c .before .before .before .before .before .before .field-of .ensures, c .before .before .before .before .before .before .before .second .ensures, c .before .before .before .before .before .before .before .before .first .ensures, c .before .before .before .before .before .match .keys3))
 
+-- src/down.rt:107:1
 returns-4 : tie.Need-returns-4
 unfolding runOf runBy
-returns-4 c = rw (← c .before .before .before .before .before .before .before .word .ensures, ← c .before .before .before .before .before .before .tag .ensures) (simp (c .want-condition .ensures, c .before .frame-of3 .ensures, c .before .before .third .ensures, c .before .before .before .before .second .ensures, c .before .before .before .before .before .first .ensures, c .before .before .before .match .keys4))
+returns-4 c = rw (← c .before .before .before .before .before .before .before .tag .ensures) (simp (c .want-condition .ensures, c .before .frame-of3 .ensures, c .before .before .third .ensures, c .before .before .before .before .field-of .ensures, c .before .before .before .before .before .second .ensures, c .before .before .before .before .before .before .first .ensures, c .before .before .before .match .keys4))
 
+-- src/down.rt:107:1
 returns-5 : tie.Need-returns-5
 unfolding runOf runBy
-returns-5 c = rw (← c .before .before .before .before .before .before .before .before .word .ensures, ← c .before .before .before .before .before .before .before .tag .ensures) (simp (c .list .ensures, c .before .frame-of4 .ensures, c .before .before .procedure-of .ensures, c .before .before .before .list-of .ensures, c .before .before .before .before .match .keys5))
+returns-5 c = rw (← c .before .before .before .before .before .before .before .before .tag .ensures) (simp (c .list .ensures, c .before .frame-of4 .ensures, c .before .before .procedure-of .ensures, c .before .before .before .list-of .ensures, c .before .before .before .before .before .field-of .ensures, c .before .before .before .before .before .before .second .ensures, c .before .before .before .before .before .before .before .first .ensures, c .before .before .before .before .match .keys5))
 
+-- src/down.rt:107:1
 returns-6 : tie.Need-returns-6
 unfolding runOf runBy
-returns-6 c = rw (← c .before .before .before .before .before .before .word .ensures, ← c .before .before .before .before .before .tag .ensures) (simp (c .want4 .ensures, c .before .frame-of5 .ensures, c .before .before .before .before .first .ensures, c .before .before .match .keys6))
+returns-6 c = rw (← c .before .before .before .before .before .before .tag .ensures) (simp (c .want4 .ensures, c .before .frame-of5 .ensures, c .before .before .before .field-of .ensures, c .before .before .before .before .second .ensures, c .before .before .before .before .before .first .ensures, c .before .before .match .keys6))
 
+-- src/down.rt:107:1
 returns-7 : tie.Need-returns-7
 unfolding runOf runBy
-returns-7 c = rw (← c .before .before .before .before .before .before .word .ensures, ← c .before .before .before .before .before .tag .ensures) (simp (c .want5 .ensures, c .before .frame-of6 .ensures, c .before .before .before .second .ensures, c .before .before .before .before .first .ensures, c .before .before .match .keys7))
+returns-7 c = rw (← c .before .before .before .before .before .before .tag .ensures) (simp (c .want5 .ensures, c .before .frame-of6 .ensures, c .before .before .before .field-of .ensures, c .before .before .before .before .second .ensures, c .before .before .before .before .before .first .ensures, c .before .before .match .keys7))
 
+-- src/down.rt:107:1
 returns-8 : tie.Need-returns-8
 unfolding runOf runBy
-returns-8 c = simp (c .stay .ensures, c .before .simple .ensures) (rw (← c .before .before .before .before .before .before .word .ensures, ← c .before .before .before .before .before .tag .ensures) (simp (ne-eqb _ _ (c .before .before .match .rest .0 .0 .0 .0 .0 .0 .1), ne-eqb _ _ (c .before .before .match .rest .0 .0 .0 .0 .0 .1), ne-eqb _ _ (c .before .before .match .rest .0 .0 .0 .0 .1), ne-eqb _ _ (c .before .before .match .rest .0 .0 .0 .1), ne-eqb _ _ (c .before .before .match .rest .0 .0 .1), ne-eqb _ _ (c .before .before .match .rest .0 .1), ne-eqb _ _ (c .before .before .match .rest .1))))
+returns-8 c = simp (c .simple .ensures) (rw (← c .before .before .before .before .before .tag .ensures) (simp (ne-eqb _ _ (c .before .match .rest .0 .0 .0 .0 .0 .0 .1), ne-eqb _ _ (c .before .match .rest .0 .0 .0 .0 .0 .1), ne-eqb _ _ (c .before .match .rest .0 .0 .0 .0 .1), ne-eqb _ _ (c .before .match .rest .0 .0 .0 .1), ne-eqb _ _ (c .before .match .rest .0 .0 .1), ne-eqb _ _ (c .before .match .rest .0 .1), ne-eqb _ _ (c .before .match .rest .1))))
 
 pub run-spec : {M : Type 1} → statement M
 run-spec =
     tie.close
     (tie.spec
-    word-requires
     tag-requires
     first-requires
     second-requires
@@ -135,7 +178,6 @@ run-spec =
     frame-of-requires
     want-requires
     write-second-requires
-    field-of-requires-2
     frame-of-requires-2
     want-requires-2
     slot-of-requires
@@ -155,7 +197,6 @@ run-spec =
     frame-of-requires-6
     want-requires-5
     simple-requires
-    stay-requires
     returns
     returns-2
     returns-3

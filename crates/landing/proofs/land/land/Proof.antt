@@ -4,12 +4,10 @@ use mathlib.Core.Bool.{true, false}
 use mathlib.Core.List.{List}
 use Prim.Native.Nat.{ℕ, _<_, _≤_, _+_, _-_}
 use native.Mathlib.Omega.{arith}
-use lib.ListN.{set}
-use borrow.Author.Tests.{not-true, not-false}
-use Rattle.landing.specs.declared.frame.Packed.{Packed}
+use mathlib.Core.Logic.{⊎-elim}
+use borrow.Author.Tests.{not-true, not-false, lt-ltb, le-ltb}
 use Rattle.landing.specs.declared.down.Turn.{Turn}
-use Rattle.landing.specs.Frames.{packOf}
-use Rattle.landing.specs.Landing.{Stack, liveOf, storeAt, turnAt, landOf}
+use Rattle.landing.specs.Landing.{Stack, liveOf, stored, turnAt, landOf}
 use Rattle.landing.proofs.Depths.{Within, step-in}
 use Rattle.landing.proofs.Turns.{goes, halts, spent}
 use borrow.Author.Needs.{needs}
@@ -46,8 +44,14 @@ took : (c : tie.After-step Inv-loop μ-loop) → c .step .result ≡ turn (c .be
 took c = simp (c .step .ensures, c .before .unpack .ensures, c .before .before .before .before .before .top .ensures .0)
 
 -- the place of the frame is a place
-place : (c : tie.After-struct-known Inv-loop μ-loop) → base (c .before .before .before .before .before .before .before .before .before .before .before .before) + c .before .before .before .step .result .at < 297
-place c = omega (arith, inside (c .before .before .before), c .before .before .before .before .before .before .before .before .before .before .before .before .loop .inv .2)
+place : (c : tie.After-struct-known2 Inv-loop μ-loop) → base (c .before .before .before .before .before .before .before .before .before .before .before .before .before .before) + c .before .before .before .before .before .step .result .at < 297
+place c = omega (arith, inside (c .before .before .before .before .before), c .before .before .before .before .before .before .before .before .before .before .before .before .before .before .loop .inv .2)
+
+-- the frames after the step
+keeps : (c : tie.Joined2 Inv-loop μ-loop)
+    → _≡_ {A = Stack} (record { tops = c .if2 .tops; envs = c .if2 .envs; args = c .if2 .args }) (stored (stack (c .before .before .before .before .before .before .before .before .before .before .before .before)) (base (c .before .before .before .before .before .before .before .before .before .before .before .before)) (c .before .before .before .step .result))
+keeps c =
+    ⊎-elim (λ w. simp (w .3, w .4, w .5, w .1 .ensures, lt-ltb _ _ (w .0 .taken))) (λ w. simp (w .1, w .2, w .3, le-ltb _ _ (w .0 .left))) (c .if2 .came)
 
 loop-holds : tie.Need-loop-holds Inv-loop μ-loop
 loop-holds c = (omega arith, c .pre .1, c .pre .0, refl)
@@ -55,8 +59,16 @@ loop-holds c = (omega arith, c .pre .1, c .pre .0, refl)
 live-requires : tie.Need-live-requires Inv-loop μ-loop
 live-requires c κs = search needs
 
+end-at-requires : tie.Need-end-at-requires Inv-loop μ-loop
+end-at-requires c κs = search needs
+
 returns : tie.Need-returns Inv-loop μ-loop
-returns c = let l = c .before .before .before in let e : liveOf (l .loop .g) ≡ false = sym (c .before .live .ensures) ∙ not-true _ (c .if1 .taken) in (sym (halts (l .loop .left) (words l) (roots l) (base l) (stack l) (l .loop .g) (l .loop .d) (c .before .before .loop-test .taken) e) ∙ l .loop .inv .3, l .loop .inv .1)
+returns c =
+    let l = c .before .before .before .before in
+    let e : liveOf (l .loop .g) ≡ false = sym (c .before .before .live .ensures) ∙ not-true _ (c .before .if1 .taken) in (
+      simp (c .end-at .ensures) (sym (halts (l .loop .left) (words l) (roots l) (base l) (stack l) (l .loop .g) (l .loop .d) (c .before .before .before .loop-test .taken) e) ∙ l .loop .inv .3),
+      simp (c .end-at .ensures) (l .loop .inv .1),
+    )
 
 top-requires : tie.Need-top-requires Inv-loop μ-loop
 top-requires c κs = search needs
@@ -120,20 +132,26 @@ loop-again c =
     let l = c .before .before .before .before .before .before .before .before .before .before .before .before .before in
     let s = c .before .before .before .before in
     let r = s .step .result in
-    let h = inside s in
     let e : liveOf (l .loop .g) ≡ true = sym (c .before .before .before .before .before .before .before .before .before .before .before .live .ensures) ∙ not-false _ (c .before .before .before .before .before .before .before .before .before .before .if1 .left) in
-    let w : c .before .before .pack .result ≡ packOf (r .frame) = c .before .before .pack .ensures in
     let q : _ ≡ landOf (l .loop .left) (words l) (roots l) (base l) (stack l) (l .loop .g) (l .loop .d) =
-    ap (λ (w : Packed). landOf (l .loop .left - 1) (words l) (roots l) (base l) (record { tops = set (l .loop .tops) (base l + r .at) (w .top); envs = set (l .loop .envs) (base l + r .at) (w .env); args = set (l .loop .args) (base l + r .at) (w .args) }) (r .go) (r .depth)) w
-    ∙ ap (λ (r : Turn). landOf (l .loop .left - 1) (words l) (roots l) (base l) (storeAt (stack l) (base l + r .at) (r .frame)) (r .go) (r .depth)) (took s)
+    ap (λ (k : Stack). landOf (l .loop .left - 1) (words l) (roots l) (base l) k (r .go) (r .depth)) (keeps (c .before))
+    ∙ ap (λ (r : Turn). landOf (l .loop .left - 1) (words l) (roots l) (base l) (stored (stack l) (base l) r) (r .go) (r .depth)) (took s)
     ∙ sym (goes (l .loop .left) (words l) (roots l) (base l) (stack l) (l .loop .g) (l .loop .d) (c .before .before .before .before .before .before .before .before .before .before .before .before .loop-test .taken) e) in
-    (omega (arith, l .loop .inv .0), h .0, l .loop .inv .2, q ∙ l .loop .inv .3)
+    (omega (arith, l .loop .inv .0), inside s .0, l .loop .inv .2, q ∙ l .loop .inv .3)
 
 full-requires : tie.Need-full-requires Inv-loop μ-loop
 full-requires c κs = search needs
 
+end-at-requires-2 : tie.Need-end-at-requires-2 Inv-loop μ-loop
+end-at-requires-2 c κs = search needs
+
 returns-2 : tie.Need-returns-2 Inv-loop μ-loop
-returns-2 c = let l = c .before .before in let z : l .loop .left ≡ 0 = omega (arith, c .before .loop-test .left) in (simp (c .full .ensures) (sym (spent (l .loop .left) (words l) (roots l) (base l) (stack l) (l .loop .g) (l .loop .d) z) ∙ l .loop .inv .3), l .loop .inv .1)
+returns-2 c =
+    let l = c .before .before .before in
+    let z : l .loop .left ≡ 0 = omega (arith, c .before .before .loop-test .left) in (
+      simp (c .end-at2 .ensures, c .before .full .ensures) (sym (spent (l .loop .left) (words l) (roots l) (base l) (stack l) (l .loop .g) (l .loop .d) z) ∙ l .loop .inv .3),
+      simp (c .end-at2 .ensures) (l .loop .inv .1),
+    )
 
 pub land-spec : {M : Type 1} → statement M
 land-spec =
@@ -143,6 +161,7 @@ land-spec =
     μ-loop
     loop-holds
     live-requires
+    end-at-requires
     returns
     top-requires
     mul-unpack
@@ -165,4 +184,5 @@ land-spec =
     loop-less
     loop-again
     full-requires
+    end-at-requires-2
     returns-2)

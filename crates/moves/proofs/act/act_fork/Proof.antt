@@ -1,4 +1,4 @@
-use borrow.Author.Tests.{le-leb, lt-leb}
+use borrow.Author.Tests.{eq-eqb, ne-eqb, le-leb, lt-leb}
 use Rattle.moves.specs.Act.{actFork}
 use borrow.Author.Needs.{needs}
 use Rattle.moves.proofs.act.act_fork.Statement.{statement}
@@ -27,21 +27,18 @@ returns-2 c = simp (c .go-on2 .ensures, c .before .value2 .ensures, lt-leb _ _ (
 entry-requires : tie.Need-entry-requires
 entry-requires c κs = search needs
 
-add-t19 : tie.Need-add-t19
-add-t19 c = search needs
+add-t16 : tie.Need-add-t16
+add-t16 c = search needs
 
-add-t20 : tie.Need-add-t20
-add-t20 c = search needs
+add-t17 : tie.Need-add-t17
+add-t17 c = search needs
 
 value-requires-3 : tie.Need-value-requires-3
 value-requires-3 c κs = search needs
 
-run-requires : tie.Need-run-requires
-run-requires c κs = search needs
-
 returns-3 : tie.Need-returns-3
 unfolding actFork
-returns-3 c = simp (c .run .ensures, c .before .value3 .ensures, c .before .before .entry .ensures, lt-leb _ _ (c .before .before .before .before .before .if1 .left), lt-leb _ _ (c .before .before .before .before .if2 .left))
+returns-3 c = simp (c .value3 .ensures, c .before .entry .ensures, lt-leb _ _ (c .before .before .before .before .if1 .left), lt-leb _ _ (c .before .before .before .if2 .left))
 
 pub act-fork-spec : {M : Type 1} → statement M
 act-fork-spec =
@@ -54,8 +51,7 @@ act-fork-spec =
     go-on-requires-2
     returns-2
     entry-requires
-    add-t19
-    add-t20
+    add-t16
+    add-t17
     value-requires-3
-    run-requires
     returns-3)

@@ -1,4 +1,4 @@
-use borrow.Author.Tests.{le-leb, lt-leb}
+use borrow.Author.Tests.{eq-eqb, ne-eqb, le-leb, lt-leb}
 use Rattle.moves.specs.Act.{actNew}
 use borrow.Author.Needs.{needs}
 use Rattle.moves.proofs.act.act_new.Statement.{statement}
@@ -17,18 +17,15 @@ returns c = simp (c .go-on .ensures, c .before .value .ensures, le-leb _ _ (c .b
 entry-requires : tie.Need-entry-requires
 entry-requires c κs = search needs
 
-add-t15 : tie.Need-add-t15
-add-t15 c = search needs
+add-t14 : tie.Need-add-t14
+add-t14 c = search needs
 
 value-requires-2 : tie.Need-value-requires-2
 value-requires-2 c κs = search needs
 
-full-requires : tie.Need-full-requires
-full-requires c κs = search needs
-
 returns-2 : tie.Need-returns-2
 unfolding actNew
-returns-2 c = simp (c .full .ensures, c .before .value2 .ensures, c .before .before .entry .ensures, lt-leb _ _ (c .before .before .before .before .if1 .left))
+returns-2 c = simp (c .value2 .ensures, c .before .entry .ensures, lt-leb _ _ (c .before .before .before .if1 .left))
 
 pub act-new-spec : {M : Type 1} → statement M
 act-new-spec =
@@ -38,7 +35,6 @@ act-new-spec =
     go-on-requires
     returns
     entry-requires
-    add-t15
+    add-t14
     value-requires-2
-    full-requires
     returns-2)

@@ -1,5 +1,4 @@
 use mathlib.Core.Path.{sym, _∙_}
-use borrow.Author.Tests.{eq-eqb, ne-eqb}
 use Rattle.moves.proofs.Others.{answer-other}
 use Rattle.moves.specs.Settle.{answerOf}
 use borrow.Author.Needs.{needs}
@@ -17,14 +16,17 @@ full-requires c κs = search needs
 
 returns : tie.Need-returns
 unfolding answerOf
-returns c = simp (sym (c .before .full .ensures) ∙ c .if1 .taken, c .before .before .enum-told2 .given .1) (sym (answer-other (c .before .before .before .before .before .before .args .s) _ (c .before .before .before .before .match .keys2)))
+returns c = simp (sym (c .before .full .ensures) ∙ c .if1 .taken, c .before .before .enum-told2 .given .1) (sym (answer-other (c .before .before .before .before .before .args .s) _ (c .before .before .before .before .match .keys2)))
+
+forks-requires : tie.Need-forks-requires
+forks-requires c κs = search needs
 
 full-requires-2 : tie.Need-full-requires-2
 full-requires-2 c κs = search needs
 
 returns-2 : tie.Need-returns-2
 unfolding answerOf
-returns-2 c = simp (sym (c .before .before .before .before .before .full .ensures) ∙ c .before .before .before .before .if1 .left, eq-eqb _ _ (c .before .before .if2 .taken), sym (c .before .full2 .ensures) ∙ c .if3 .taken, c .before .before .before .before .before .before .enum-told2 .given .1) (sym (answer-other (c .before .before .before .before .before .before .before .before .before .before .args .s) _ (c .before .before .before .before .before .before .before .before .match .keys2)))
+returns-2 c = simp (sym (c .before .before .before .before .before .full .ensures) ∙ c .before .before .before .before .if1 .left, sym (c .before .before .before .forks .ensures) ∙ c .before .before .if2 .taken, sym (c .before .full2 .ensures) ∙ c .if3 .taken, c .before .before .before .before .before .before .enum-told2 .given .1) (sym (answer-other (c .before .before .before .before .before .before .before .before .before .args .s) _ (c .before .before .before .before .before .before .before .before .match .keys2)))
 
 enum-told-3 : tie.Need-enum-told-3
 enum-told-3 c = search needs
@@ -44,27 +46,27 @@ returns-3 c = simp (c .enum-told .given .1)
 
 returns-4 : tie.Need-returns-4
 unfolding answerOf
-returns-4 c = simp (sym (c .before .before .before .before .before .full .ensures) ∙ c .before .before .before .before .if1 .left, eq-eqb _ _ (c .before .before .if2 .taken), sym (c .before .full2 .ensures) ∙ c .if3 .left, c .before .before .before .before .before .before .enum-told2 .given .1) (sym (answer-other (c .before .before .before .before .before .before .before .before .before .before .args .s) _ (c .before .before .before .before .before .before .before .before .match .keys2)))
+returns-4 c = simp (sym (c .before .before .before .before .before .full .ensures) ∙ c .before .before .before .before .if1 .left, sym (c .before .before .before .forks .ensures) ∙ c .before .before .if2 .taken, sym (c .before .full2 .ensures) ∙ c .if3 .left, c .before .before .before .before .before .before .enum-told2 .given .1) (sym (answer-other (c .before .before .before .before .before .before .before .before .before .args .s) _ (c .before .before .before .before .before .before .before .before .match .keys2)))
 
 returns-5 : tie.Need-returns-5
 unfolding answerOf
-returns-5 c = simp (sym (c .before .before .before .full .ensures) ∙ c .before .before .if1 .left, ne-eqb _ _ (c .if2 .left), c .before .before .before .before .enum-told2 .given .1) (sym (answer-other (c .before .before .before .before .before .before .before .before .args .s) _ (c .before .before .before .before .before .before .match .keys2)))
+returns-5 c = simp (sym (c .before .before .before .full .ensures) ∙ c .before .before .if1 .left, sym (c .before .forks .ensures) ∙ c .if2 .left, c .before .before .before .before .enum-told2 .given .1) (sym (answer-other (c .before .before .before .before .before .before .before .args .s) _ (c .before .before .before .before .before .before .match .keys2)))
 
 returns-6 : tie.Need-returns-6
 unfolding answerOf
-returns-6 c = simp (c .enum-told3 .given .1) (sym (answer-other (c .before .before .before .before .args .s) _ (c .before .before .match .keys2)))
+returns-6 c = simp (c .enum-told3 .given .1) (sym (answer-other (c .before .before .before .args .s) _ (c .before .before .match .keys2)))
 
 returns-7 : tie.Need-returns-7
 unfolding answerOf
-returns-7 c = simp (c .enum-told4 .given .1) (sym (answer-other (c .before .before .before .before .args .s) _ (c .before .before .match .keys2)))
+returns-7 c = simp (c .enum-told4 .given .1) (sym (answer-other (c .before .before .before .args .s) _ (c .before .before .match .keys2)))
 
 returns-8 : tie.Need-returns-8
 unfolding answerOf
-returns-8 c = simp (c .enum-told5 .given .1) (sym (answer-other (c .before .before .before .before .args .s) _ (c .before .before .match .keys2)))
+returns-8 c = simp (c .enum-told5 .given .1) (sym (answer-other (c .before .before .before .args .s) _ (c .before .before .match .keys2)))
 
 returns-9 : tie.Need-returns-9
 unfolding answerOf
-returns-9 c = simp (c .enum-told6 .given .1) (sym (answer-other (c .before .before .before .before .args .s) _ (c .before .before .match .keys2)))
+returns-9 c = simp (c .enum-told6 .given .1) (sym (answer-other (c .before .before .before .args .s) _ (c .before .before .match .keys2)))
 
 pub answer-to-spec : {M : Type 1} → statement M
 answer-to-spec =
@@ -74,6 +76,7 @@ answer-to-spec =
     enum-told-2
     full-requires
     returns
+    forks-requires
     full-requires-2
     returns-2
     enum-told-3

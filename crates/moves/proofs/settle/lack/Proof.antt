@@ -1,23 +1,22 @@
-use mathlib.Core.Path.{sym, _∙_}
-use Rattle.moves.proofs.Others.{lack-other}
+use borrow.Author.Tests.{eq-eqb, ne-eqb}
+use Rattle.moves.specs.Settle.{lackBy}
 use borrow.Author.Needs.{needs}
 use Rattle.moves.proofs.settle.lack.Statement.{statement}
 use Rattle.moves.proofs.settle.lack.Tie as tie
 
-enum-told : tie.Need-enum-told
-enum-told c = search needs
-
 entry-requires : tie.Need-entry-requires
 entry-requires c κs = search needs
+
+returns : tie.Need-returns
+unfolding lackBy
+returns c = simp (c .entry .ensures, eq-eqb _ _ (c .before .if1 .taken))
 
 entry-requires-2 : tie.Need-entry-requires-2
 entry-requires-2 c κs = search needs
 
-returns : tie.Need-returns
-returns c = simp (c .entry .ensures, c .before .enum-told .given .1)
-
 returns-2 : tie.Need-returns-2
-returns-2 c = c .entry2 .ensures ∙ sym (lack-other ((c .before .before .args .r) .part) (c .before .before .args .r) (c .before .match .keys2))
+unfolding lackBy
+returns-2 c = simp (c .entry2 .ensures, ne-eqb _ _ (c .before .if1 .left))
 
 pub lack-spec : {M : Type 1} → statement M
-lack-spec = tie.close (tie.spec enum-told entry-requires entry-requires-2 returns returns-2)
+lack-spec = tie.close (tie.spec entry-requires returns entry-requires-2 returns-2)

@@ -1,0 +1,55 @@
+use mathlib.Core.Path.{sym, _∙_}
+use Rattle.landing.proofs.Others.{wanted-other}
+use borrow.Author.Needs.{needs}
+use Rattle.landing.proofs.down.wanted.Statement.{statement}
+use Rattle.landing.proofs.down.wanted.Tie as tie
+use Rattle.landing.proofs.down.wanted.Reads as reads
+use Rattle.landing.proofs.down.wanted.Lts as lts
+use Rattle.landing.proofs.down.stay.Reads as stay-reads
+use Rattle.landing.proofs.down.want.Reads as want-reads
+use Rattle.landing.proofs.down.want_condition.Reads as want-condition-reads
+
+-- src/down.rt:186:24
+enum-told : tie.Need-enum-told
+enum-told c = search needs
+
+-- src/down.rt:186:24
+want-requires : tie.Need-want-requires
+want-requires c κs = search needs
+
+-- src/down.rt:187:33
+enum-told-2 : tie.Need-enum-told-2
+enum-told-2 c = search needs
+
+-- src/down.rt:187:33
+want-condition-requires : tie.Need-want-condition-requires
+want-condition-requires c κs = search needs
+
+-- src/down.rt:188:14
+stay-requires : tie.Need-stay-requires
+stay-requires c κs = search needs
+
+-- src/down.rt:180:1
+returns : tie.Need-returns
+returns c = simp (c .want .ensures, c .before .enum-told .given .1)
+
+-- src/down.rt:180:1
+returns-2 : tie.Need-returns-2
+returns-2 c = simp (c .want-condition .ensures, c .before .enum-told2 .given .1)
+
+-- src/down.rt:180:1
+returns-3 : tie.Need-returns-3
+returns-3 c = let a = c .before .before .before .args in c .stay .ensures ∙ sym (wanted-other (a .g .stage) (a .words .now) (a .g) (a .d) (c .before .match .keys3))
+
+pub wanted-spec : {M : Type 1} → statement M
+wanted-spec =
+    tie.close
+    (tie.spec
+    enum-told
+    want-requires
+    enum-told-2
+    want-condition-requires
+    stay-requires
+    returns
+    returns-2
+    returns-3)
