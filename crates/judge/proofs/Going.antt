@@ -27,16 +27,17 @@ use Rattle.order.proofs.Clock.{count, clock, clock-bound}
 use Rattle.order.proofs.Late.{late, lastThread, lastTurn, isWriteOf, isWriteOf→}
 use Rattle.order.proofs.Past.{past, past-zero, past-suc, past-length, at→getD, at-within}
 use Rattle.order.proofs.Judge.{unorderedAt, unordered-decided}
-use Rattle.judge.specs.Columns.{ReadAt}
-use Rattle.judge.specs.Rows.{clockOf, One, OneEach, Raised, Advanced, Few, Known, rowOf, sourceRow, targetRow}
-use Rattle.judge.specs.Writes.{lateBy, writtenBy}
-use Rattle.judge.specs.declared.decode.Columns.{Columns}
-use Rattle.judge.specs.declared.rows.Row.{Row}
-use Rattle.judge.specs.declared.pass.Write.{Write}
-use Rattle.judge.proofs.Decoded.{kind-is-kind}
-use Rattle.judge.proofs.Filled.{zeros}
-use Rattle.judge.proofs.Accesses.{ltb-leb, written-new, written-old}
-use Rattle.judge.proofs.Table.{Fits, row-below, source-valid, target-valid, rowAt, Shows, sourcePort, targetPort, count-length, own-shows, heard-shows, moved-gathers, shows-step}
+use Rattle.decoding.specs.Columns.{ReadAt}
+use Rattle.clocks.specs.Rows.{clockOf, One, OneEach, Raised, Advanced, Few}
+use Rattle.effects.specs.Rows.{Known, sourceRow, targetRow}
+use Rattle.effects.specs.Writes.{lateBy, writtenBy}
+use Rattle.decoding.specs.declared.Columns.{Columns}
+use Rattle.clocks.specs.declared.Row.{Row}
+use Rattle.effects.specs.declared.writes.Write.{Write}
+use Rattle.decoding.proofs.Decoded.{kind-is-kind}
+use Rattle.clocks.proofs.Filled.{zeros}
+use Rattle.effects.proofs.Accesses.{ltb-leb, written-new, written-old}
+use Rattle.judge.proofs.Table.{Fits, rowOf, heard-row, told-row, row-below, source-valid, target-valid, rowAt, Shows, sourcePort, targetPort, count-length, own-shows, heard-shows, moved-gathers, shows-step}
 
 abbrev noWrite : Write
 noWrite = record { thread = 0; count = 0 }
@@ -143,11 +144,11 @@ module _ {v : Version} {b : List ℕ} {i : ℕ} {rows : List Row} {writes : List
 
   pub source-is : sourceRow v c ≡ rowOf (sourcePort v (recordAt b i))
   unfolding sourceRow
-  source-is = rw (R .thread-is, R .object-is, R .field-is, ← kind-here)
+  source-is = rw (R .thread-is, R .object-is, R .field-is, ← kind-here) (heard-row v (recordAt b i .kind) (recordAt b i .thread) (recordAt b i .object) (recordAt b i .field))
 
   pub target-is : targetRow v c ≡ rowOf (targetPort v (recordAt b i))
   unfolding targetRow
-  target-is = rw (R .thread-is, R .object-is, R .field-is, ← kind-here)
+  target-is = rw (R .thread-is, R .object-is, R .field-is, ← kind-here) (told-row v (recordAt b i .kind) (recordAt b i .thread) (recordAt b i .object) (recordAt b i .field))
 
   pub source-below : (from : ℕ) → from ≡ sourceRow v c → from < 1064
   source-below from e = omega (arith, source-is, row-below (sourcePort v (recordAt b i)) (source-valid v (recordAt b i) fits))

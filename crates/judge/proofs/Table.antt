@@ -16,10 +16,70 @@ use Rattle.records.specs.Record.{Kind, new, read, write, readv, writev, acquire
 use Rattle.order.proofs.Tests.{cond-true, cond-false}
 use Rattle.order.proofs.Ports.{Port, ofThread, ofMonitor, ofVolatile, Feeds}
 use Rattle.order.proofs.Clock.{count, clock, gather, reading, second, secondPort, feeds, clock-bound, clock-fed, clock-unfed, clock-own}
-use Rattle.judge.specs.Rows.{clockOf, noRow, One, Raised, Advanced, rowOf, fedPort, portOr}
-use Rattle.judge.specs.declared.rows.Row.{Row}
+use Rattle.clocks.specs.Rows.{clockOf, noRow, One, Raised, Advanced}
+use Rattle.effects.specs.Rows.{monitorRow, volatileRow, heardRow, toldRow}
+use Rattle.clocks.specs.declared.Row.{Row}
 
 -- ---- ports and their rows
+
+-- the row of a port
+abbrev pub rowOf : Port → ℕ
+rowOf (ofThread q) = q
+rowOf (ofMonitor o) = monitorRow o
+rowOf (ofVolatile o f) = volatileRow o f
+
+-- the port that a record feeds besides its thread's
+abbrev fedPort : Version → Kind → ℕ → ℕ → Option Port
+fedPort v new o f = none
+fedPort v read o f = none
+fedPort v write o f = none
+fedPort v0 readv o f = none
+fedPort v1 readv o f = none
+fedPort v0 writev o f = none
+fedPort v1 writev o f = some (ofVolatile o f)
+fedPort v acquire o f = none
+fedPort v release o f = some (ofMonitor o)
+fedPort v fork o f = some (ofThread f)
+fedPort v join o f = none
+fedPort v lacksRead o f = none
+fedPort v lacksWrite o f = none
+
+-- a second port, or the thread's
+abbrev portOr : ℕ → Option Port → Port
+portOr t none = ofThread t
+portOr t (some p) = p
+
+-- the row that a record hears is that of its second port
+pub heard-row : (v : Version) (k : Kind) (t o f : ℕ) → heardRow v k t o f ≡ rowOf (portOr t (secondPort v k o f))
+heard-row v new t o f = refl
+heard-row v read t o f = refl
+heard-row v write t o f = refl
+heard-row v0 readv t o f = refl
+heard-row v1 readv t o f = refl
+heard-row v0 writev t o f = refl
+heard-row v1 writev t o f = refl
+heard-row v acquire t o f = refl
+heard-row v release t o f = refl
+heard-row v fork t o f = refl
+heard-row v join t o f = refl
+heard-row v lacksRead t o f = refl
+heard-row v lacksWrite t o f = refl
+
+-- the row that it tells is that of the port that it feeds
+pub told-row : (v : Version) (k : Kind) (t o f : ℕ) → toldRow v k t o f ≡ rowOf (portOr t (fedPort v k o f))
+told-row v new t o f = refl
+told-row v read t o f = refl
+told-row v write t o f = refl
+told-row v0 readv t o f = refl
+told-row v1 readv t o f = refl
+told-row v0 writev t o f = refl
+told-row v1 writev t o f = refl
+told-row v acquire t o f = refl
+told-row v release t o f = refl
+told-row v fork t o f = refl
+told-row v join t o f = refl
+told-row v lacksRead t o f = refl
+told-row v lacksWrite t o f = refl
 
 abbrev pub Valid : Port → Type 0
 Valid (ofThread q) = q < 8

@@ -1,5 +1,1 @@
 pub mod Answer
-pub mod Columns
-pub mod Lowest
-pub mod Rows
-pub mod Writes

@@ -1,8 +1,5 @@
 // The judge of a log (document 01, "The log and its order"): refusals 11 and 12, then one pass by clocks.
-mod decode;
-mod pass;
-mod refusals;
-mod rows;
+mod pass; // pass.rt: the pass by clocks
 
 ghost use mathlib.Core.Path.{_≡_};
 ghost use Prim.Native.Nat.{_<_};
@@ -32,13 +29,13 @@ pub fn judge(log: &[u8]) -> Judgement
 fn judge_version(log: &[u8], version: usize) -> Judgement
     ensures { λ r. ⌜ MayAnswer (versionOf version) (now (log .entry)) (answered r) ⌝ }
 {
-    if refusals::wrong_length(log) {
+    if log_refusals::wrong_length(log) {
         return Judgement::Refused {
             number: 11,
             place: 0,
         };
     }
-    let wrong = refusals::lowest_wrong(log);
+    let wrong = log_refusals::lowest_wrong(log);
     if wrong < log.len() / 3 {
         return Judgement::Refused {
             number: 12,

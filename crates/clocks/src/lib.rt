@@ -1,0 +1,68 @@
+// Rows of eight clocks. A row's clock of thread u says how many of u's records have reached what the row is of.
+ghost use mathlib.Core.Path.{_≡_};
+ghost use Prim.Native.Nat.{_<_, max};
+ghost use Rattle.clocks.specs.Rows.{Raised, Advanced, One, OneEach, Few};
+
+pub struct Row {
+    pub clocks: [u16; 8],
+}
+
+// The higher of two clocks.
+fn higher(a: u16, b: u16) -> u16
+    ensures { λ r. ⌜ r ≡ max a b ⌝ }
+{
+    if a < b { b } else { a }
+}
+
+// The row that is told what another row knows.
+pub fn raised(row: Row, told: Row) -> Row
+    ensures { λ r. ⌜ Raised row told r ⌝ }
+{
+    let mut clocks = [0u16; 8];
+    let mut thread = 0;
+    while thread < 8 {
+        clocks[thread] = higher(row.clocks[thread], told.clocks[thread]);
+        thread += 1;
+    }
+    Row { clocks: clocks }
+}
+
+// The row of a thread after a record: it hears another row, and counts the record. `one` is the row of that one record: eight sums at once
+// are quicker than a store to one of eight clocks.
+pub fn advanced(own: Row, heard: Row, one: Row) -> Row
+    requires { ⌜ Few own ⌝ ∗ ⌜ Few heard ⌝ ∗ ⌜ Few one ⌝ }
+    ensures { λ r. ⌜ Advanced own heard one r ⌝ }
+{
+    let mut clocks = [0u16; 8];
+    let mut thread = 0;
+    while thread < 8 {
+        clocks[thread] = higher(own.clocks[thread], heard.clocks[thread]) + one.clocks[thread];
+        thread += 1;
+    }
+    Row { clocks: clocks }
+}
+
+// The row with one record of a thread, and none of the others.
+fn one_record(thread: usize) -> Row
+    requires { ⌜ thread < 8 ⌝ }
+    ensures { λ r. ⌜ One thread r ⌝ }
+{
+    let mut clocks = [0u16; 8];
+    clocks[thread] = 1;
+    Row { clocks: clocks }
+}
+
+// That row for each thread.
+pub fn one_record_each() -> [Row; 8]
+    ensures { λ r. ⌜ OneEach r ⌝ }
+{
+    let none = Row { clocks: [0u16; 8] };
+    let mut rows = [none; 8];
+    let mut thread = 0;
+    while thread < 8 {
+        let row = one_record(thread);
+        rows[thread] = row;
+        thread += 1;
+    }
+    rows
+}

@@ -1,0 +1,64 @@
+-- The two rows that a record hears and tells. No reader of the entries' promises needs it. Assumes nothing.
+use Prim.Native.Nat.{ℕ, _+_, _*_, _<_, _≤_}
+use Rattle.format.specs.Version.{Version, v0, v1}
+use Rattle.records.specs.Record.{Kind, new, read, write, readv, writev, acquire, release, fork, join, lacksRead, lacksWrite}
+use Rattle.records.specs.Packed.{kindOf}
+use Rattle.decoding.specs.declared.Columns.{Columns}
+
+-- what is known of the columns of a record of a log that is not refused
+pub record Known (r : Columns) : Type 0 where
+  pub kind-least : 0 < r .kind
+  pub kind-most : r .kind ≤ 11
+  pub thread-below : r .thread < 8
+  pub object-below : r .object < 32
+  pub field-below : r .field < 32
+
+-- the row of a monitor; that of thread q is q
+abbrev pub monitorRow : ℕ → ℕ
+monitorRow o = 8 + o
+
+-- the row of a volatile field
+abbrev pub volatileRow : ℕ → ℕ → ℕ
+volatileRow o f = 40 + (o * 32 + f)
+
+-- the row that a record of thread t hears besides its thread's, or its thread's
+abbrev pub heardRow : Version → Kind → ℕ → ℕ → ℕ → ℕ
+heardRow v new t o f = t
+heardRow v read t o f = t
+heardRow v write t o f = t
+heardRow v0 readv t o f = t
+heardRow v1 readv t o f = volatileRow o f
+heardRow v0 writev t o f = t
+heardRow v1 writev t o f = t
+heardRow v acquire t o f = monitorRow o
+heardRow v release t o f = t
+heardRow v fork t o f = t
+heardRow v join t o f = f
+heardRow v lacksRead t o f = t
+heardRow v lacksWrite t o f = t
+
+-- the row that it tells besides its thread's, or its thread's
+abbrev pub toldRow : Version → Kind → ℕ → ℕ → ℕ → ℕ
+toldRow v new t o f = t
+toldRow v read t o f = t
+toldRow v write t o f = t
+toldRow v0 readv t o f = t
+toldRow v1 readv t o f = t
+toldRow v0 writev t o f = t
+toldRow v1 writev t o f = volatileRow o f
+toldRow v acquire t o f = t
+toldRow v release t o f = monitorRow o
+toldRow v fork t o f = f
+toldRow v join t o f = t
+toldRow v lacksRead t o f = t
+toldRow v lacksWrite t o f = t
+
+-- the row that the record with these columns hears
+unfoldable pub sourceRow : Version → Columns → ℕ
+unfolding kindOf
+sourceRow v r = heardRow v (kindOf (r .kind)) (r .thread) (r .object) (r .field)
+
+-- the row that it tells
+unfoldable pub targetRow : Version → Columns → ℕ
+unfolding kindOf
+targetRow v r = toldRow v (kindOf (r .kind)) (r .thread) (r .object) (r .field)

@@ -1,0 +1,55 @@
+-- `log_refusals::lowest_wrong` meets its contract. The invariant: no record so far is wrong. The measure is the count of records left. Assumes nothing.
+use Rattle.records.specs.Refusals.{wrongRecord}
+use Rattle.records.specs.Packed.{recordCount}
+use borrow.Author.Count.{below-more}
+use lib.ListN.{length}
+use mathlib.Core.Bool.{false}
+use native.Mathlib.Omega.{arith}
+use mathlib.Core.Path.{_≡_, refl, sym, _∙_}
+use Prim.Native.Nat.{ℕ, _-_, _/_, _<_, _≤_}
+use borrow.Author.Needs.{needs}
+use Rattle.log_refusals.proofs.lowest_wrong.Statement.{statement}
+use Rattle.log_refusals.proofs.lowest_wrong.Tie as tie
+
+abbrev Inv-loop : tie.InvT-loop
+Inv-loop log count i₀ i = (i ≤ count) × (count ≡ length log / 3) × ((k : ℕ) → k < i → wrongRecord log k ≡ false)
+
+abbrev μ-loop : tie.MeasureT-loop
+μ-loop log count i₀ i = count - i
+
+loop-holds : tie.Need-loop-holds Inv-loop μ-loop
+loop-holds c = (omega arith, refl, λ k h. absurd (omega arith))
+
+wrong-record-requires : tie.Need-wrong-record-requires Inv-loop μ-loop
+wrong-record-requires c κs = search needs
+
+returns : tie.Need-returns Inv-loop μ-loop
+unfolding recordCount
+returns c = record { within = omega arith; lower-right = c .before .before .before .loop .inv .2; is-wrong = λ h. sym (c .before .wrong-record .ensures) ∙ c .if1 .taken }
+
+add-i : tie.Need-add-i Inv-loop μ-loop
+add-i c = search needs
+
+loop-less : tie.Need-loop-less Inv-loop μ-loop
+loop-less c = search needs
+
+loop-again : tie.Need-loop-again Inv-loop μ-loop
+loop-again c = (omega arith, c .before .before .before .loop .inv .1, below-more _ _ (c .before .before .before .loop .inv .2) (sym (c .before .wrong-record .ensures) ∙ c .if1 .left))
+
+returns-2 : tie.Need-returns-2 Inv-loop μ-loop
+unfolding recordCount
+returns-2 c = record { within = omega arith; lower-right = c .before .loop .inv .2; is-wrong = λ h. absurd (omega arith) }
+
+pub lowest-wrong-spec : {M : Type 1} → statement M
+lowest-wrong-spec =
+    tie.close
+    (tie.spec
+    Inv-loop
+    μ-loop
+    loop-holds
+    wrong-record-requires
+    returns
+    add-i
+    loop-less
+    loop-again
+    returns-2)
