@@ -1,0 +1,52 @@
+//! The independent implementation's answers as the numbers and bytes that include/ruqzhemil.h gives.
+
+use crate::independent::{self, Outcome, Refusal, State};
+
+fn number(refusal: Refusal) -> u64 {
+    u64::from(refusal.0) * 65536 + refusal.1 as u64
+}
+
+pub fn check(plan: &[u8]) -> u64 {
+    independent::check(plan).map_or_else(number, |_| 0)
+}
+
+pub fn play(plan: &[u8], schedule: &[u8], log: &mut [u8], out: &mut [u8; 32]) -> u64 {
+    match independent::play(plan, schedule, log) {
+        Ok(outcome) => {
+            *out = bytes(&outcome);
+            0
+        }
+        Err(refusal) => number(refusal),
+    }
+}
+
+pub fn judge(log: &[u8]) -> u64 {
+    match independent::judge(log) {
+        Ok(None) => 0,
+        Ok(Some(index)) => (1 << 32) + index as u64,
+        Err(refusal) => (2 << 32) + number(refusal),
+    }
+}
+
+fn bytes(outcome: &Outcome) -> [u8; 32] {
+    let mut out = [0; 32];
+    out[0] = outcome.word;
+    for (i, count) in [outcome.picks, outcome.moves, outcome.records].into_iter().enumerate() {
+        out[1 + 2 * i] = (count >> 8) as u8;
+        out[2 + 2 * i] = count as u8;
+    }
+    for (t, state) in outcome.states.into_iter().enumerate() {
+        let three = match state {
+            State::Absent => [0, 0, 0],
+            State::Finished(value) => [1, value, 0],
+            State::Ready => [2, 0, 0],
+            State::WaitMonitor(object) => [3, object, 0],
+            State::WaitJoin(object) => [4, object, 0],
+            State::StuckField(object, field) => [5, object, field],
+            State::StuckThread(object) => [6, object, 0],
+            State::Lacking(object, field) => [7, object, field],
+        };
+        out[8 + 3 * t..11 + 3 * t].copy_from_slice(&three);
+    }
+    out
+}

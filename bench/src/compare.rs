@@ -1,0 +1,125 @@
+//! The library's answers beside the independent implementation's: the number, all 32 bytes of the outcome and the whole log area.
+
+use crate::random::Random;
+use crate::{answers, generate, library};
+
+/// How many cases had each answer.
+#[derive(Default)]
+struct Seen {
+    refusals: [usize; 13],
+    passed: usize,
+    stops: [usize; 6],
+    states: [usize; 8],
+    judged: [usize; 2],
+}
+
+impl Seen {
+    fn refused(&mut self, answer: u64) {
+        self.refusals[(answer >> 16 & 0xffff) as usize] += 1;
+    }
+
+    fn outcome(&mut self, out: &[u8; 32]) {
+        self.stops[usize::from(out[0])] += 1;
+        (0..8).for_each(|t| self.states[usize::from(out[8 + 3 * t])] += 1);
+    }
+
+    fn judgement(&mut self, answer: u64) {
+        match answer >> 32 {
+            2 => self.refused(answer & 0xffff_ffff),
+            kind => self.judged[kind as usize] += 1,
+        }
+    }
+
+    fn print(&self) {
+        println!("  plans passed {}; refusals 1 to 12 {:?}", self.passed, &self.refusals[1..]);
+        println!("  runs end, race, no-thread, no-object, no-key, no-depth {:?}", self.stops);
+        println!("  threads absent, finished, ready, monitor, join, no field, no thread, lacking {:?}", self.states);
+        println!("  logs ordered, unordered {:?}", self.judged);
+        let counts = self.refusals[1..].iter().chain(&self.stops).chain(&self.states).chain(&self.judged);
+        assert!(self.passed > 0 && counts.min() > Some(&0), "an answer that no case had: more cases are needed");
+    }
+}
+
+fn differ(what: &str, input: &[&[u8]], ours: &dyn std::fmt::Debug, theirs: &dyn std::fmt::Debug) -> ! {
+    println!("DIFFERENCE in {what}\n  library      {ours:x?}\n  independent  {theirs:x?}");
+    for part in input {
+        let hex: String = part.iter().map(|b| format!("{b:02x}")).collect();
+        println!("  input {} bytes: {hex}", part.len());
+    }
+    std::process::exit(1)
+}
+
+fn same<T: PartialEq + std::fmt::Debug>(what: &str, input: &[&[u8]], ours: T, theirs: T) -> T {
+    if ours != theirs {
+        differ(what, input, &ours, &theirs);
+    }
+    ours
+}
+
+fn check(plan: &[u8], seen: &mut Seen) {
+    match same("check", &[plan], library::check(plan), answers::check(plan)) {
+        0 => seen.passed += 1,
+        answer => seen.refused(answer),
+    }
+}
+
+/// The records of a run, or none.
+fn play(plan: &[u8], schedule: &[u8], area: &[u8], before: [u8; 32], seen: &mut Seen) -> Option<Vec<u8>> {
+    let (mut ours, mut theirs) = ((area.to_vec(), before), (area.to_vec(), before));
+    let input = [plan, schedule, area, &before];
+    let answer = library::play(plan, schedule, &mut ours.0, &mut ours.1);
+    same("play", &input, answer, answers::play(plan, schedule, &mut theirs.0, &mut theirs.1));
+    let out = same("the outcome", &input, ours.1, theirs.1);
+    let area = same("the log area", &input, ours.0, theirs.0);
+    if answer != 0 {
+        seen.refused(answer);
+        return None;
+    }
+    seen.outcome(&out);
+    let records = usize::from(out[5]) << 8 | usize::from(out[6]);
+    Some(area[..3 * records].to_vec())
+}
+
+fn judge(log: &[u8], seen: &mut Seen) {
+    seen.judgement(same("judge", &[log], library::judge(log), answers::judge(log)));
+}
+
+fn plan(random: &mut Random) -> Vec<u8> {
+    let size = random.pick(&[5, 20, 60, 60, 150, 400]);
+    let plan = match random.below(100) {
+        0..=44 => generate::any(random, size),
+        45..=84 => generate::shared(random),
+        85..=95 => generate::room(random),
+        _ => {
+            let length = random.below(100);
+            return random.bytes(length);
+        }
+    };
+    if random.percent(40) {
+        generate::damaged(random, plan)
+    } else {
+        plan
+    }
+}
+
+/// Compares so many plans, schedules, areas and logs; leaves the process at the first difference.
+pub fn run(cases: usize, seed: u64) {
+    let random = &mut Random::new(seed);
+    let mut seen = Seen::default();
+    let began = std::time::Instant::now();
+    for _ in 0..cases {
+        let plan = plan(random);
+        check(&plan, &mut seen);
+        let schedule = generate::schedule(random);
+        let area = generate::area(random, schedule.len());
+        let mut before = [0; 32];
+        before.fill_with(|| random.byte());
+        if let Some(log) = play(&plan, &schedule, &area, before, &mut seen) {
+            judge(&log, &mut seen);
+            judge(&generate::damaged_log(random, log), &mut seen);
+        }
+        judge(&generate::log(random), &mut seen);
+    }
+    println!("compared: {cases} cases, seed {seed}, {:.1} s, no difference", began.elapsed().as_secs_f64());
+    seen.print();
+}

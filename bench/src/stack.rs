@@ -1,0 +1,74 @@
+//! The stack that each entry of the library takes: it is called on a stack of painted bytes, of which those that were written are counted.
+
+use crate::inputs::{self, Input};
+use crate::library;
+
+const SIZE: usize = 1 << 22;
+
+/// Calls f on the stack that ends at `top`.
+unsafe fn call_on(top: *mut u8, f: extern "C" fn(*mut u8), data: *mut u8) {
+    std::arch::asm!(
+        "xchg rsp, r12",
+        "call {f}",
+        "mov rsp, r12",
+        f = in(reg) f,
+        inout("rdi") data => _,
+        inout("r12") top => _,
+        clobber_abi("C"),
+    );
+}
+
+extern "C" fn run(data: *mut u8) {
+    let work = unsafe { &mut *(data as *mut &mut dyn FnMut()) };
+    work();
+}
+
+/// The bytes of a stack of one colour that the work wrote to.
+fn painted(colour: u8, work: &mut dyn FnMut()) -> usize {
+    let mut stack = vec![u128::from_ne_bytes([colour; 16]); SIZE / 16];
+    let bottom = stack.as_mut_ptr() as *mut u8;
+    let mut work = work;
+    unsafe {
+        call_on(bottom.add(SIZE), run, &mut work as *mut &mut dyn FnMut() as *mut u8);
+        let left = (0..SIZE).find(|i| bottom.add(*i).read_volatile() != colour);
+        SIZE - left.expect("nothing was written")
+    }
+}
+
+fn depth(mut work: impl FnMut()) -> usize {
+    painted(0xa5, &mut work).max(painted(0x5a, &mut work))
+}
+
+/// The most that an entry takes over all inputs, and the input that takes it. Fails where it is more than include/ruqzhemil.h says.
+fn most(name: &str, said: usize, inputs: &[Input], mut entry: impl FnMut(&Input)) {
+    let (bytes, input) = inputs.iter().map(|i| (depth(|| entry(i)), i.name)).max().unwrap();
+    println!("  {name}: {:.1} KB at most ({input}); the header says up to {said} KB", bytes as f64 / 1024.0);
+    assert!(bytes <= said * 1024, "{name} takes more stack than include/ruqzhemil.h says");
+}
+
+/// The same inputs, each with the records of its run in place of its schedule.
+fn logs(inputs: &[Input]) -> Vec<Input> {
+    let records = |i: &Input| {
+        let (mut log, mut out) = (vec![0; 3 * i.schedule.len()], [0; 32]);
+        assert_eq!(library::play(&i.plan, &i.schedule, &mut log, &mut out), 0, "{} is refused", i.name);
+        log.truncate(3 * (usize::from(out[5]) << 8 | usize::from(out[6])));
+        Input { name: i.name, plan: vec![], schedule: log }
+    };
+    inputs.iter().map(records).collect()
+}
+
+pub fn print() {
+    println!("\nstack");
+    let all = inputs::deepest();
+    let logs = logs(&all);
+    let (mut log, mut out) = (vec![0; 12288], [0; 32]);
+    most("check", 96, &all, |i| {
+        library::check(&i.plan);
+    });
+    most("play", 192, &all, |i| {
+        library::play(&i.plan, &i.schedule, &mut log, &mut out);
+    });
+    most("judge", 32, &logs, |i| {
+        library::judge(&i.schedule);
+    });
+}

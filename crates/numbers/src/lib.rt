@@ -1,0 +1,48 @@
+// An answer as one number.
+ghost use mathlib.Core.Path.{_≡_};
+ghost use Prim.Native.Nat.{_+_, _*_, _^_, _≤_};
+ghost use Rattle.plan.specs.Answer as plan;
+ghost use Rattle.judge.specs.Answer as judge;
+ghost use Rattle.numbers.specs.Numbers.{checkNumber, judgeNumber};
+ghost use Rattle.numbers.specs.Small.{SmallCheck, SmallJudged};
+use judge::Judgement;
+use plan::Checked;
+
+// Of a refusal.
+pub fn refusal(number: usize, place: usize) -> u64
+    requires { ⌜ (number ≤ 12) × (place ≤ 4096) ⌝ }
+    ensures { λ r. ⌜ r ≡ number * 65536 + place ⌝ }
+{
+    (number as u64) * 65536 + place as u64
+}
+
+// Of an unordered access.
+fn index(index: usize) -> u64
+    requires { ⌜ index ≤ 4096 ⌝ }
+    ensures { λ r. ⌜ r ≡ 2 ^ 32 + index ⌝ }
+{
+    4294967296 + index as u64
+}
+
+// Of a check's answer.
+pub fn of_check(checked: Checked) -> u64
+    requires { ⌜ SmallCheck (plan.answered checked) ⌝ }
+    ensures { λ r. ⌜ r ≡ checkNumber (plan.answered checked) ⌝ }
+{
+    match checked {
+        Checked::Passed => 0,
+        Checked::Refused { number, place } => refusal(number, place),
+    }
+}
+
+// Of a judge's answer.
+pub fn of_judge(judgement: Judgement) -> u64
+    requires { ⌜ SmallJudged (judge.answered judgement) ⌝ }
+    ensures { λ r. ⌜ r ≡ judgeNumber (judge.answered judgement) ⌝ }
+{
+    match judgement {
+        Judgement::Ordered => 0,
+        Judgement::Unordered(at) => index(at),
+        Judgement::Refused { number, place } => 8589934592 + refusal(number, place),
+    }
+}

@@ -1,0 +1,132 @@
+// The outcome of a run as 32 bytes.
+ghost use mathlib.Core.Path.{_≡_};
+ghost use Prim.Native.Nat.{_/_, _%_, _<_};
+ghost use Rattle.player.specs.Answer.{stopOf, statusOf, outcomeOf};
+ghost use Rattle.outcome_bytes.specs.Bytes.{stopByte, three, threadBytes, outcomeBytes};
+ghost use Rattle.outcome_bytes.specs.Small.{SmallStatus, SmallOutcome};
+ghost use Rattle.outcome_bytes.specs.Parts.{headBytes};
+use player::outcome::NoRoom;
+use player::outcome::Outcome;
+use player::outcome::Stop;
+use player::outcome::Stuck;
+use player::outcome::ThreadState;
+use player::outcome::Wait;
+
+// A thread's three bytes: its state, the value or the object that the state names, the field that it names.
+pub struct ThreadBytes {
+    pub state: u8,
+    pub named: u8,
+    pub field: u8,
+}
+
+fn room_byte(room: NoRoom) -> u8
+    ensures { λ r. ⌜ r ≡ stopByte (stopOf (Stop.NoRoom room)) ⌝ }
+{
+    match room {
+        NoRoom::Thread => 2,
+        NoRoom::Object => 3,
+        NoRoom::Key => 4,
+        NoRoom::Depth => 5,
+    }
+}
+
+fn stop_byte(stop: Stop) -> u8
+    ensures { λ r. ⌜ r ≡ stopByte (stopOf stop) ⌝ }
+{
+    match stop {
+        Stop::End => 0,
+        Stop::Race => 1,
+        Stop::NoRoom(room) => room_byte(room),
+    }
+}
+
+fn high(n: usize) -> u8
+    requires { ⌜ n < 65536 ⌝ }
+    ensures { λ r. ⌜ r ≡ n / 256 ⌝ }
+{
+    (n / 256) as u8
+}
+
+fn low(n: usize) -> u8
+    ensures { λ r. ⌜ r ≡ n % 256 ⌝ }
+{
+    (n % 256) as u8
+}
+
+fn named(state: u8, named: usize, field: usize) -> ThreadBytes
+    requires { ⌜ (named < 256) × (field < 256) ⌝ }
+    ensures { λ r. ⌜ r ≡ three state named field ⌝ }
+{
+    ThreadBytes {
+        state: state,
+        named: named as u8,
+        field: field as u8,
+    }
+}
+
+fn waiting_bytes(w: Wait) -> ThreadBytes
+    requires { ⌜ SmallStatus (statusOf (ThreadState.Waiting w)) ⌝ }
+    ensures { λ r. ⌜ r ≡ threadBytes (statusOf (ThreadState.Waiting w)) ⌝ }
+{
+    match w {
+        Wait::Monitor { object } => named(3, object, 0),
+        Wait::Join { object } => named(4, object, 0),
+    }
+}
+
+fn stuck_bytes(w: Stuck) -> ThreadBytes
+    requires { ⌜ SmallStatus (statusOf (ThreadState.Stuck w)) ⌝ }
+    ensures { λ r. ⌜ r ≡ threadBytes (statusOf (ThreadState.Stuck w)) ⌝ }
+{
+    match w {
+        Stuck::Field { object, field } => named(5, object, field),
+        Stuck::Thread { object } => named(6, object, 0),
+    }
+}
+
+fn thread_bytes(state: ThreadState) -> ThreadBytes
+    requires { ⌜ SmallStatus (statusOf state) ⌝ }
+    ensures { λ r. ⌜ r ≡ threadBytes (statusOf state) ⌝ }
+{
+    match state {
+        ThreadState::Absent => named(0, 0, 0),
+        ThreadState::Finished { value } => named(1, value, 0),
+        ThreadState::Ready => named(2, 0, 0),
+        ThreadState::Waiting(w) => waiting_bytes(w),
+        ThreadState::Stuck(w) => stuck_bytes(w),
+        ThreadState::Lacking { object, field } => named(7, object, field),
+    }
+}
+
+// The first seven bytes: the stop, then the counts, 16 bits each, high byte first.
+fn write_head(out: &mut [u8; 32], stop: Stop, picks: usize, moves: usize, records: usize)
+    requires { ⌜ (picks < 65536) × (moves < 65536) × (records < 65536) ⌝ }
+    ensures { λ r. ⌜ now (out .exit) ≡ headBytes (now (out .entry)) (stopOf stop) picks moves records ⌝ }
+{
+    out[0] = stop_byte(stop);
+    out[1] = high(picks);
+    out[2] = low(picks);
+    out[3] = high(moves);
+    out[4] = low(moves);
+    out[5] = high(records);
+    out[6] = low(records);
+}
+
+// All 32 bytes of an outcome.
+pub fn write(out: &mut [u8; 32], o: Outcome)
+    requires { ⌜ SmallOutcome (outcomeOf o) ⌝ }
+    ensures { λ r. ⌜ now (out .exit) ≡ outcomeBytes (outcomeOf o) ⌝ }
+{
+    let stop = o.stop;
+    let threads = o.threads;
+    *out = [0u8; 32];
+    write_head(out, stop, o.picks, o.moves, o.records);
+    for p in 0..8 {
+        let thread = threads[p];
+        let state = thread.state;
+        let bytes = thread_bytes(state);
+        out[8 + 3 * p] = bytes.state;
+        out[9 + 3 * p] = bytes.named;
+        out[10 + 3 * p] = bytes.field;
+    }
+}

@@ -1,0 +1,5 @@
+pub mod Refusals
+pub mod Judged
+pub mod Statuses
+pub mod Outcomes
+pub mod Played

@@ -1,0 +1,47 @@
+-- The numbers of a run's outcome fit their bytes. Assumes nothing.
+use Prim.Native.Nat.{ℕ, _≤_}
+use native.Mathlib.Omega.{arith}
+use mathlib.Core.Path.{_≡_, refl}
+use mathlib.Core.List.{List}
+use mathlib.Core.Option.{none}
+use lib.ListN.{length}
+use Rattle.plan.specs.Syntax.{Program}
+use Rattle.plan.specs.Check.{refusal}
+use Rattle.plan.specs.Trees.{programOf}
+use Rattle.plan.proofs.Decoded.{well-formed}
+use Rattle.rules.specs.State.{State, start}
+use Rattle.rules.specs.Run.{Run, stopped, afterPass, afterMove, run, play, outcomeOf, statusesFrom}
+use Rattle.rules.specs.Execution.{Execution, ends, passes, lacks-key, no-room, moves}
+use Rattle.rules.proofs.Executed.{reachable-start, reachable-run, play-executes}
+use Rattle.rules.proofs.TidyRuns.{tidy-play}
+use Rattle.outcome_bytes.specs.Small.{SmallOutcome}
+use Rattle.ruqzhemil.proofs.Statuses.{small-threads}
+
+-- eight threads
+eight-of : (g : Program) (s : State) → length (statusesFrom g s 0 8) ≡ 8
+unfolding statusesFrom
+eight-of g s = refl
+
+-- no more picks are dealt with, and no more moves made, than there are picks
+few : {g : Program} {s : State} {ps : List ℕ} {r : Run} → Execution g s ps r → (r .picks ≤ length ps) × (length (r .instances) ≤ length ps)
+unfolding stopped afterPass afterMove
+few ends = (omega arith, omega arith)
+few (passes h x) = let d = few x in (omega arith, omega arith)
+few (lacks-key h) = (omega arith, omega arith)
+few (no-room h e) = (omega arith, omega arith)
+few (moves h k x) = let d = few x in (omega arith, omega arith)
+
+pub small-outcome : (plan ps : List ℕ) → refusal plan ≡ none → length ps ≤ 4096 → SmallOutcome (outcomeOf (programOf plan) (play (programOf plan) ps))
+unfolding outcomeOf play
+small-outcome plan ps e n =
+    let g = programOf plan in
+    let P = well-formed plan e in
+    let t = tidy-play g P ps in
+    let d = few (play-executes g P ps) in
+    record {
+      picks = omega (arith, d .0);
+      moves = omega (arith, d .1);
+      records = omega (arith, t .few);
+      threads = small-threads g (run g start ps .final) (reachable-run g P start ps (reachable-start g P) .invariant) (t .roomy) 0 8;
+      eight = eight-of g (run g start ps .final);
+    }

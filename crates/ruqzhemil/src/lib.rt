@@ -1,0 +1,49 @@
+// The entries for programs in C, Rust and other languages: check, play and judge, each with a number for its answer. A slice is a pointer and a length.
+ghost use mathlib.Core.Path.{_≡_};
+ghost use Rattle.plan.specs.Check.{refusal};
+ghost use Rattle.rules.specs.Play.{played, areaAfter};
+ghost use Rattle.numbers.specs.Numbers.{checkNumber, playNumber, MayReturn};
+ghost use Rattle.ruqzhemil.specs.Bytes.{outAfter};
+use plan::Checked;
+
+// 0 for a plan that passes; else the refusal, number * 65536 + place.
+#[no_mangle]
+pub extern "C" fn ruqzhemil_check(plan: &[u8]) -> u64
+    ensures { λ r. ⌜ r ≡ checkNumber (refusal (now (plan .entry))) ⌝ }
+{
+    let checked = plan::check(plan);
+    numbers::of_check(checked)
+}
+
+// 0 for a run, whose records begin the log area and whose outcome is in `out`; else the refusal, number * 65536 + place, and neither area changed.
+#[no_mangle]
+pub extern "C" fn ruqzhemil_play(
+    plan: &[u8],
+    schedule: &[u8],
+    log: &mut [u8],
+    out: &mut [u8; 32],
+) -> u64
+    ensures answer { λ r. ⌜ r ≡ playNumber (played (now (plan .entry)) (now (schedule .entry)) (now (log .entry))) ⌝ }
+    ensures area { λ r. ⌜ now (log .exit) ≡ areaAfter (now (plan .entry)) (now (schedule .entry)) (now (log .entry)) ⌝ }
+    ensures bytes { λ r. ⌜ now (out .exit) ≡ outAfter (now (out .entry)) (played (now (plan .entry)) (now (schedule .entry)) (now (log .entry))) ⌝ }
+{
+    let played = player::play(plan, schedule, log);
+    let checked = played.checked;
+    match checked {
+        Checked::Refused { number, place } => numbers::refusal(number, place),
+        Checked::Passed => {
+            let outcome = played.outcome;
+            outcome_bytes::write(out, outcome);
+            0
+        }
+    }
+}
+
+// 0 for a log without an unordered access; 2^32 + index for one; 2 * 2^32 + number * 65536 + place for a refusal.
+#[no_mangle]
+pub extern "C" fn ruqzhemil_judge(log: &[u8]) -> u64
+    ensures { λ r. ⌜ MayReturn (now (log .entry)) r ⌝ }
+{
+    let judgement = judge::judge(log);
+    numbers::of_judge(judgement)
+}

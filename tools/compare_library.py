@@ -1,0 +1,103 @@
+#!/usr/bin/env python3
+"""Holds the static library to the second interpreter on random cases.
+
+  compare_library.py ORACLE SEED COUNT
+  compare_library.py - < CASES
+
+ORACLE is the folder of the second interpreter; CASES are its JSON lines, made before. The library is target/staticlib/libruqzhemil.a
+(`rt staticlib ruqzhemil` makes it), linked into a shared object by the C compiler. Compared are: what check returns; what play returns, the 32
+bytes of the outcome and the whole log area, beyond the records too; what judge returns for the log of each run and for each log of the cases.
+"""
+
+import ctypes
+import json
+import os
+import subprocess
+import sys
+
+WORDS = ["end", "race", "no-thread", "no-object", "no-key", "no-depth"]
+FILL = 0xA5
+
+
+def library(root):
+    """The static library as a shared object that this program can load."""
+    made = root + "/target/examples/libruqzhemil.so"
+    os.makedirs(os.path.dirname(made), exist_ok=True)
+    archive = root + "/target/staticlib/libruqzhemil.a"
+    subprocess.run(["cc", "-shared", "-o", made, "-Wl,--whole-archive", archive, "-Wl,--no-whole-archive"], check=True)
+    loaded = ctypes.CDLL(made)
+    for name in ("check", "play", "judge"):
+        getattr(loaded, "ruqzhemil_" + name).restype = ctypes.c_uint64
+    return loaded
+
+
+def lent(data):
+    """Bytes as a pointer and a length."""
+    return (ctypes.c_uint8 * max(1, len(data))).from_buffer_copy(data or b"\0"), ctypes.c_size_t(len(data))
+
+
+def state_bytes(state):
+    """A thread's three bytes."""
+    kind, rest = state[0], state[1:]
+    codes = {"absent": 0, "finished": 1, "ready": 2, "lacking": 7}
+    if kind == "waiting":
+        return [{"monitor": 3, "join": 4}[rest[0]], rest[1], 0]
+    if kind == "stuck":
+        return [5, rest[1], rest[2]] if rest[0] == "field" else [6, rest[1], 0]
+    return [codes[kind]] + (list(rest) + [0, 0])[:2]
+
+
+def out_bytes(want):
+    """The 32 bytes of an outcome."""
+    counts = [want["picks"], want["moves"], want["records"]]
+    out = [WORDS.index(want["outcome"])] + [b for c in counts for b in (c >> 8, c & 255)] + [0]
+    return bytes(out + [b for state in want["states"] for b in state_bytes(state)])
+
+
+def judged_right(lib, log, want):
+    """Whether judge returns one of the numbers that it may."""
+    got = lib.ruqzhemil_judge(*lent(log))
+    if "refused" in want:
+        return got == (2 << 32) + want["refused"][0] * 65536 + want["refused"][1]
+    return got in [(1 << 32) + i for i in want["unordered"]] if want["unordered"] else got == 0
+
+
+def played_right(lib, case):
+    """Whether check and play answer as the case asks."""
+    play, want = case["play"], case["want"]
+    plan, schedule = bytes.fromhex(play["plan"]), bytes.fromhex(play["schedule"])
+    area = (ctypes.c_uint8 * max(1, play["area"]))(*([FILL] * max(1, play["area"])))
+    out = (ctypes.c_uint8 * 32)(*([FILL] * 32))
+    got = lib.ruqzhemil_play(*lent(plan), *lent(schedule), area, ctypes.c_size_t(play["area"]), out)
+    left = bytes(area)[:play["area"]]
+    checked = lib.ruqzhemil_check(*lent(plan))
+    if "refused" in want:
+        number, place = want["refused"]
+        right = got == number * 65536 + place and left == bytes([FILL]) * play["area"] and bytes(out) == bytes([FILL]) * 32
+        return right and checked == (got if number < 8 else 0)
+    log = bytes.fromhex(want["log"])
+    right = got == 0 and checked == 0 and bytes(out) == out_bytes(want) and left == log + bytes([FILL]) * (play["area"] - len(log))
+    return right and judged_right(lib, log, want["judge"])
+
+
+def main(argv):
+    if len(argv) not in (2, 4):
+        sys.exit(__doc__)
+    lib = library(os.path.dirname(os.path.dirname(os.path.abspath(__file__))))
+    rows = sys.stdin
+    if len(argv) == 4:
+        rows = subprocess.Popen([sys.executable, argv[1] + "/oracle.py", "vectors", argv[2], argv[3]], stdout=subprocess.PIPE).stdout
+    compared = differ = 0
+    for row in rows:
+        case = json.loads(row)
+        right = played_right(lib, case) if "play" in case else judged_right(lib, bytes.fromhex(case["judge"]), case["want"])
+        compared += 1
+        if not right:
+            differ += 1
+            print(row)
+    print("%d cases, %d differ" % (compared, differ))
+    sys.exit(differ != 0 or compared == 0)
+
+
+if __name__ == "__main__":
+    main(sys.argv)
