@@ -58,13 +58,13 @@ module _ (plan schedule area : List ℕ) (p : Played) (h : answered p ≡ played
       let y : play.Played.ran (outcomeOf (p .outcome)) ≡ play.Played.refused r = ran-is ∙ ap (playedBy plan schedule) q in
       absurd (let z : _≡_ {A = ℕ} 0 1 = cc in omega arith)
 
-  not-refused : playRefusal plan schedule area ≡ none
+  pub not-refused : playRefusal plan schedule area ≡ none
   not-refused = not-refused-by (playRefusal plan schedule area) refl
 
-  passes : Passed plan schedule area
+  pub passes : Passed plan schedule area
   passes = passed plan schedule area not-refused
 
-  outcome-is : outcomeOf (p .outcome) ≡ run.outcomeOf (programOf plan) (runOf plan schedule)
+  pub outcome-is : outcomeOf (p .outcome) ≡ run.outcomeOf (programOf plan) (runOf plan schedule)
   unfolding playedBy
   outcome-is = ap (outcomeOr (outcomeOf (p .outcome))) (ran-is ∙ ap (playedBy plan schedule) not-refused)
 
@@ -84,15 +84,14 @@ module _ (plan schedule area : List ℕ) (p : Played) (h : answered p ≡ played
   -- ---- the log area that it leaves
 
   module _ (after : List ℕ) (left : after ≡ areaAfter plan schedule area) where
-    bytes : List ℕ
+    abbrev pub bytes : List ℕ
     bytes = bytesOf (runOf plan schedule .log)
 
     count : 3 * p .outcome .records ≡ length bytes
-    unfolding bytes
     count = ap (λ (n : ℕ). 3 * n) records-are ∙ sym (length-bytes (runOf plan schedule .log))
 
     after-is : after ≡ bytes ++ drop (length bytes) area
-    unfolding bytes areaAfter areaBy overwrite
+    unfolding areaAfter areaBy overwrite
     after-is = left ∙ ap (areaBy plan schedule area) not-refused
 
     -- it has room for the records
@@ -100,7 +99,7 @@ module _ (plan schedule area : List ℕ) (p : Played) (h : answered p ≡ played
     within n q = omega (arith, q, count, ap (λ (l : List ℕ). length l) after-is, length-append bytes (drop (length bytes) area))
 
     -- and begins with them
-    begins : (n : ℕ) → n ≡ 3 * p .outcome .records → take (n - 0) after ≡ bytes
+    pub begins : (n : ℕ) → n ≡ 3 * p .outcome .records → take (n - 0) after ≡ bytes
     begins n q = ap (λ (k : ℕ). take k after) (sub-zero n ∙ q ∙ count) ∙ ap (take (length bytes)) after-is ∙ take-append-seam bytes (drop (length bytes) area)
 
     agrees-all : Agreement (programOf plan) schedule (runOf plan schedule)
@@ -110,7 +109,6 @@ module _ (plan schedule area : List ℕ) (p : Played) (h : answered p ≡ played
 
     module _ (j : Judgement) (n : ℕ) (q : n ≡ 3 * p .outcome .records) (m : MayAnswer v1 (take (n - 0) after) (judge.answered j)) where
       may : MayAnswer (programOf plan .version) (bytesOf (runOf plan schedule .log)) (judge.answered j)
-      unfolding bytes
       may = along (λ (v : Version). MayAnswer v bytes (judge.answered j)) (sym (accepted-version plan (passes .plan-passes))) (along (λ (b : List ℕ). MayAnswer v1 b (judge.answered j)) (begins n q) m)
 
       named-stop : judge.answered j ≡ named (stopIndex (runOf plan schedule .stop) (runOf plan schedule .log))

@@ -1,0 +1,4 @@
+pub mod Decimals
+pub mod Added
+pub mod Words
+pub mod LineParts

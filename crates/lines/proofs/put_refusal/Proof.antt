@@ -1,0 +1,61 @@
+-- `lines::put_refusal` meets its contract. Assumes nothing.
+use native.Mathlib.Omega.{arith}
+use Rattle.lines.specs.Text.{ascii}
+use Rattle.lines.proofs.Added.{added-more, added-as}
+use Rattle.lines.proofs.LineParts.{refusal-parts, refusal-length}
+use borrow.Author.Needs.{needs}
+use Rattle.lines.proofs.put_refusal.Statement.{statement}
+use Rattle.lines.proofs.put_refusal.Tie as tie
+use Rattle.lines.proofs.put_refusal.Reads as reads
+use Rattle.lines.proofs.put_refusal.Lts as lts
+use Rattle.lines.proofs.put_column.Reads as put-column-reads
+use Rattle.lines.proofs.text.put_byte.Reads as put-byte-reads
+use Rattle.lines.proofs.text.put_word.Reads as put-word-reads
+
+-- src/lines.rt:101:39
+slice-aggregate-put-word : tie.Need-slice-aggregate-put-word
+slice-aggregate-put-word c = search needs
+
+-- src/lines.rt:101:9
+put-word-requires : tie.Need-put-word-requires
+unfolding ascii
+put-word-requires c κs = let a = c .before .before .before .args in omega (arith, refusal-length (record { number = a .number; place = a .place }))
+
+-- src/lines.rt:102:9
+put-column-requires : tie.Need-put-column-requires
+unfolding ascii
+put-column-requires c κs = let a = c .before .before .before .before .before .before .before .args in omega (arith, refusal-length (record { number = a .number; place = a .place }))
+
+-- src/lines.rt:103:9
+put-column-requires-2 : tie.Need-put-column-requires-2
+unfolding ascii
+put-column-requires-2 c κs = let a = c .before .before .before .before .before .before .before .before .before .before .before .args in omega (arith, refusal-length (record { number = a .number; place = a .place }))
+
+-- src/lines.rt:104:5
+put-byte-requires : tie.Need-put-byte-requires
+unfolding ascii
+put-byte-requires c κs = let a = c .before .before .before .before .before .before .before .before .before .before .before .before .before .before .before .args in omega (arith, refusal-length (record { number = a .number; place = a .place }))
+
+-- src/lines.rt:97:1
+same-length : tie.Need-same-length
+same-length c = search needs
+
+-- src/lines.rt:97:1
+returns : tie.Need-returns
+unfolding ascii
+returns c =
+    let a = c .before .before .before .before .before .before .before .before .before .before .before .before .before .before .before .before .before .before .args in
+    added-as (refusal-parts (record { number = a .number; place = a .place }))
+    (added-more (added-more (added-more (c .before .before .before .before .before .before .before .before .before .before .before .before .before .before .put-word .ensures) (c .before .before .before .before .before .before .before .before .before .before .put-column .ensures)) (c .before .before .before .before .before .before .put-column2 .ensures)) (c .before .before .put-byte .ensures))
+
+pub put-refusal-spec : {M : Type 1} → statement M
+put-refusal-spec =
+    tie.close
+    (tie.spec
+    slice-aggregate-put-word
+    put-word-requires
+    put-column-requires
+    put-column-requires-2
+    put-byte-requires
+    same-length
+    returns)

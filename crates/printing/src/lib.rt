@@ -1,0 +1,60 @@
+// The text of a shot list (document 01, "Shot list"): what the printing program writes for the bytes that it reads.
+mod run; // run.rt: the lines of a run
+
+ghost use Prim.Native.Nat.{_≤_, _<_};
+ghost use mathlib.Core.Path.{_≡_};
+ghost use lib.ListN.{length, take};
+ghost use Rattle.printing.specs.Printed.{playText, printed};
+ghost use Rattle.lines.specs.Wrote.{Wrote};
+use plan::Checked;
+use plan::bits;
+
+// A schedule is played on a plan.
+fn print_play(plan: &[u8], schedule: &[u8], area: &mut [u8]) -> usize
+    requires { ⌜ 131072 ≤ length (now area) ⌝ }
+    ensures { λ r. ⌜ Wrote (now (area .entry)) 0 (playText (now (plan .entry)) (now (schedule .entry))) (now (area .exit)) r ⌝ }
+{
+    let mut log = [0u8; 12288];
+    let played = player::play(plan, schedule, &mut log);
+    let checked = played.checked;
+    let outcome = played.outcome;
+    match checked {
+        Checked::Refused { number, place } => lines::put_refusal(area, 0, number, place),
+        Checked::Passed => {
+            let end = run::record_bytes(outcome.records);
+            let stop = outcome.stop;
+            run::print_run(
+                &log[0..end],
+                stop,
+                outcome.picks,
+                outcome.moves,
+                outcome.records,
+                area,
+            )
+        }
+    }
+}
+
+// A plan length of 16 bits, a plan and a schedule, as the program reads them. An area of 131,072 bytes or more then begins with the text, whose length
+// is the answer; a shorter one has no room for every text, and gets none.
+pub fn shot_list(input: &[u8], area: &mut [u8]) -> usize
+    ensures text { λ r. ⌜ (131072 ≤ length (now (area .entry)) → take r (now (area .exit)) ≡ printed (now (input .entry))) ⌝ }
+    ensures short { λ r. ⌜ (length (now (area .entry)) < 131072 → (r ≡ 0) × (now (area .exit) ≡ now (area .entry))) ⌝ }
+    ensures counted { λ r. ⌜ (r ≤ length (now (area .exit))) × (r ≡ length (take r (now (area .exit)))) ⌝ }
+{
+    if area.len() < 131072 {
+        return 0;
+    }
+    if input.len() < 2 {
+        return lines::put_refusal(area, 0, 1, 0);
+    }
+    let length = bits::half(input, 0);
+    if length > 5192 {
+        return lines::put_refusal(area, 0, 1, 0);
+    }
+    let end = 2 + length;
+    if input.len() < end {
+        return lines::put_refusal(area, 0, 1, 0);
+    }
+    print_play(&input[2..end], &input[end..], area)
+}
