@@ -12,13 +12,13 @@ use Rattle.order.specs.Chains.{At, Unordered}
 use Rattle.order.specs.Judge.{MayName, names, none-unordered, Judged, named, MayAnswer, refuses, judges}
 use Rattle.order.proofs.Agree.{agree, lacking-plain}
 use Rattle.order.proofs.Judge.{judge, judge-may}
-use Rattle.plan.specs.Syntax.{Program}
-use Rattle.plan.specs.Format.{version}
-use Rattle.plan.specs.Trees.{programOf}
-use Rattle.plan.specs.Check.{refusal}
-use Rattle.plan.proofs.WellFormed.{WellFormedProgram}
-use Rattle.plan.proofs.Accepted.{accepted}
-use Rattle.plan.proofs.Decoded.{well-formed}
+use Rattle.packed.specs.Syntax.{Program}
+use Rattle.packed.specs.Format.{version}
+use Rattle.packed.specs.Trees.{programOf}
+use Rattle.packed.specs.Check.{refusal}
+use Rattle.packed.proofs.WellFormed.{WellFormedProgram}
+use Rattle.packed.proofs.Accepted.{accepted}
+use Rattle.packed.proofs.Decoded.{well-formed}
 use Rattle.records.specs.Record.{Record, isPlain, lacksKey}
 use Rattle.records.specs.Packed.{bytesOf, logOf}
 use Rattle.records.specs.Refusals.{logRefusal}

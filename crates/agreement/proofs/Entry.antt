@@ -10,8 +10,8 @@ use lib.Seq.{take-append-seam}
 use Rattle.format.specs.Refusal.{Refusal}
 use Rattle.format.specs.Version.{Version, v1}
 use Rattle.order.specs.Judge.{named, MayAnswer}
-use Rattle.plan.specs.Trees.{programOf}
-use Rattle.plan.proofs.Decoded.{well-formed}
+use Rattle.packed.specs.Trees.{programOf}
+use Rattle.packed.proofs.Decoded.{well-formed}
 use Rattle.plan.specs.declared.Checked.{Checked}
 use Rattle.plan.specs.declared.Checked.the-variants as checked
 use Rattle.records.specs.Packed.{bytesOf}

@@ -9,7 +9,7 @@ use mathlib.Core.Option.{Option, some, none}
 use lib.Dec.{T, T-not}
 use lib.ListN.{length, getElem?}
 use Rattle.order.specs.Chains.{At}
-use Rattle.plan.specs.Syntax.{Expression, Program}
+use Rattle.packed.specs.Syntax.{Expression, Program}
 use Rattle.records.specs.Record.{Record, lacksKey}
 use Rattle.rules.specs.State.{Thread, State}
 use Rattle.rules.specs.Rules.{Rule, Converts, E-CALL, E-LET, E-IF, E-WHILE, E-NEW, E-READ, E-WRITE, E-READV, E-WRITEV, E-FORK, E-JOIN, E-RE-ENTER, E-ACQUIRE, E-RELEASE, Moves, EVAL, EVALᶜ, LacksHere, LACKS-READ, LACKS-WRITE, Lacks, LACKS}

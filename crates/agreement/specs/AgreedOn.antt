@@ -4,7 +4,7 @@ use mathlib.Core.Path.{_≡_}
 use mathlib.Core.List.{List}
 use mathlib.Core.Option.{Option, some, none}
 use Rattle.order.specs.Judge.{named}
-use Rattle.plan.specs.Trees.{programOf}
+use Rattle.packed.specs.Trees.{programOf}
 use Rattle.plan.specs.declared.Checked.the-variants as checked
 use Rattle.rules.specs.Play.{runOf}
 use Rattle.player.specs.declared.outcome.Stop.{Stop}

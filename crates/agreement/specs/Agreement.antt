@@ -10,7 +10,7 @@ use lib.Dec.{T}
 use lib.ListN.{length, getElem?}
 use Rattle.order.specs.Chains.{At, Unordered}
 use Rattle.order.specs.Judge.{Judged, named, MayAnswer}
-use Rattle.plan.specs.Syntax.{Program}
+use Rattle.packed.specs.Syntax.{Program}
 use Rattle.records.specs.Record.{Record, isPlain, lacksKey}
 use Rattle.records.specs.Packed.{bytesOf, logOf}
 use Rattle.records.specs.Refusals.{logRefusal}

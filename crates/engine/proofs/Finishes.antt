@@ -3,10 +3,10 @@ use mathlib.Core.Path.{_≡_, ap, _∙_}
 use mathlib.Core.List.{List}
 use Prim.Native.Nat.{ℕ, _*_, _%_}
 use Rattle.landing.specs.Landing.{Stack, Ended, landOf}
-use Rattle.moves.specs.declared.state.Head.{Head}
-use Rattle.moves.specs.declared.state.Counts.{Counts}
-use Rattle.moves.specs.declared.look.Sight.{Sight}
-use Rattle.moves.specs.declared.act.Acted.{Acted}
+use Rattle.state.specs.declared.Head.{Head}
+use Rattle.state.specs.declared.Counts.{Counts}
+use Rattle.look.specs.declared.Sight.{Sight}
+use Rattle.state.specs.declared.acted.Acted.{Acted}
 use Rattle.engine.specs.declared.Turn.{Turn}
 use Rattle.engine.specs.Machine.{turnBy, settled, landBorn, Finished, youngOf, finishOf}
 

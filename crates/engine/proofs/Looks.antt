@@ -5,16 +5,16 @@ use Prim.Native.Nat.{ℕ, zero, suc, _+_, _-_, _/_, _%_, _<_, _≤_}
 use native.Mathlib.Omega.{arith}
 use borrow.Author.Tests.{le-leb, lt-leb}
 use lib.ListN.{getD, set, replicate}
-use Rattle.moves.specs.declared.state.Head.{Head}
-use Rattle.moves.specs.declared.state.Cell.{Cell}
-use Rattle.moves.specs.declared.state.Object.{Object}
-use Rattle.moves.specs.declared.state.Counts.{Counts}
-use Rattle.moves.specs.declared.look.Sight.{Sight}
-use Rattle.moves.specs.declared.look.Sight.the-variants as sight
-use Rattle.moves.specs.Look.{lookOf}
-use Rattle.moves.specs.Act.{actOf}
+use Rattle.state.specs.declared.Head.{Head}
+use Rattle.state.specs.declared.Cell.{Cell}
+use Rattle.state.specs.declared.Object.{Object}
+use Rattle.state.specs.declared.Counts.{Counts}
+use Rattle.look.specs.declared.Sight.{Sight}
+use Rattle.look.specs.declared.Sight.the-variants as sight
+use Rattle.look.specs.Look.{lookOf}
+use Rattle.act.specs.Act.{actOf}
 use Rattle.engine.specs.declared.Seen.{Seen}
-use Rattle.engine.specs.Machine.{noHead, noCell, noThing, headAt, Placed, sightOf, lookAt, actAt, seenAt, seenOf}
+use Rattle.engine.specs.Machine.{noHead, noCell, noThing, headAt, Placed, sightOf, seenBy, noneSeen, lookAt, actAt, seenAt, seenOf}
 
 -- a thread that is there is looked at
 pub present : (mask : ℕ) (n : Counts) (p : ℕ) (h : Head) (c : Cell) (t : Object) (q : Head) → p < n .threads → lookOf mask h c t (q .ready .part) ≡ sightOf mask n p h c t q
@@ -33,6 +33,9 @@ module _ (mask : ℕ) (n : Counts) (l : List Head) (cs : List Cell) (ts : List O
     pub seen : (w : Sight) → w ≡ lookAt mask n l cs ts p → record { sight = w; value = headAt l p .ready .a; object = k / 32; field = k % 32 } ≡ seenAt mask n l cs ts p
     seen w e = rw (e, q .object, q .field)
 
+    pub seen-so : seenBy mask n p k (headAt l p) (getD cs k noCell) (getD ts (k / 32) noThing) (getD l (getD ts (k / 32) noThing .thread % 9) noHead) ≡ seenAt mask n l cs ts p
+    seen-so = seen _ looked
+
   pub absent : (p : ℕ) → n .threads ≤ p → lookAt mask n l cs ts p ≡ sight.Absent
   unfolding lookAt
   absent p h = rw (le-leb _ _ h)
@@ -42,7 +45,7 @@ module _ (mask : ℕ) (n : Counts) (l : List Head) (cs : List Cell) (ts : List O
   seenFrom zero p all = all
   seenFrom (suc left) p all = seenFrom left (p + 1) (set all p (seenAt mask n l cs ts p))
 
-  pub all-seen : seenFrom 8 0 (replicate 8 (record { sight = sight.Absent; value = 0; object = 0; field = 0 })) ≡ seenOf mask n l cs ts
+  pub all-seen : seenFrom 8 0 (replicate 8 noneSeen) ≡ seenOf mask n l cs ts
   unfolding seenFrom seenOf
   all-seen = refl
 

@@ -6,14 +6,14 @@ use Prim.Native.Nat.{ℕ, _+_, _%_}
 use lib.ListN.{getD, set, replicate}
 use types.Run.{OneOf, miss}
 use denote.Enum.Declared.{tagOf}
-use Rattle.moves.proofs.settle.Answer as answer-type
-use Rattle.moves.specs.declared.state.Head.{Head}
-use Rattle.moves.specs.declared.state.Cell.{Cell}
-use Rattle.moves.specs.declared.state.Object.{Object}
-use Rattle.moves.specs.declared.act.Acted.{Acted}
-use Rattle.moves.specs.declared.settle.Answer.{Answer}
-use Rattle.moves.specs.declared.settle.Answer.the-variants as answer
-use Rattle.moves.specs.Settle.{passesOf, forksOf, moverOf, bornOf}
+use Rattle.settle.proofs.Answer as answer-type
+use Rattle.state.specs.declared.Head.{Head}
+use Rattle.state.specs.declared.Cell.{Cell}
+use Rattle.state.specs.declared.Object.{Object}
+use Rattle.state.specs.declared.acted.Acted.{Acted}
+use Rattle.settle.specs.declared.Answer.{Answer}
+use Rattle.settle.specs.declared.Answer.the-variants as answer
+use Rattle.settle.specs.Settle.{passesOf, forksOf, moverOf, bornOf}
 use Rattle.engine.specs.declared.Stop.{Stop}
 use Rattle.engine.specs.declared.Tally.{Tally}
 use Rattle.engine.specs.Machine.{Machine, Finished, Played, endOf, headAt, cellNumber, headOf, cellFirst, noThing, tallyFirst, tallyPut, tallyMoved, logPut, stopOf, metBy, actedBy, finishedBy, stopped, logged, withYoung, after, startOf, playOf}

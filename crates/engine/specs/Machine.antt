@@ -7,25 +7,26 @@ use lib.Dec.{eqb, leb}
 use lib.ListN.{getD, set, replicate}
 use Rattle.keys.specs.declared.KeySet.{KeySet}
 use Rattle.keys.specs.KeySet.{emptySet, zeroSet}
-use Rattle.landing.specs.Parts.{Part as part}
-use Rattle.landing.specs.declared.go.Ready.{Ready}
-use Rattle.landing.specs.declared.land.Landed.{Landed}
-use Rattle.landing.specs.declared.go.Go.{Go}
-use Rattle.landing.specs.Going.{readyOf, goRun, goFull}
+use Rattle.frames.specs.Parts.{Part as part}
+use Rattle.frames.specs.declared.go.Ready.{Ready}
+use Rattle.landing.specs.declared.Landed.{Landed}
+use Rattle.frames.specs.declared.go.Go.{Go}
+use Rattle.frames.specs.Going.{readyOf, goRun, goFull}
 use Rattle.landing.specs.Landing.{Stack, Ended, ended, landOf}
-use Rattle.moves.specs.declared.state.Head.{Head}
-use Rattle.moves.specs.declared.state.Cell.{Cell}
-use Rattle.moves.specs.declared.state.Object.{Object}
-use Rattle.moves.specs.declared.state.Counts.{Counts}
-use Rattle.moves.specs.declared.state.Entry.{Entry}
-use Rattle.moves.specs.declared.look.Sight.{Sight}
-use Rattle.moves.specs.declared.look.Sight.the-variants as sight
-use Rattle.moves.specs.declared.act.Acted.{Acted}
-use Rattle.moves.specs.declared.settle.Answer.{Answer}
-use Rattle.moves.specs.declared.settle.Answer.the-variants as answer
-use Rattle.moves.specs.Look.{objectOf, fieldOf, lookOf}
-use Rattle.moves.specs.Act.{actOf, cellOf, countsOf}
-use Rattle.moves.specs.Settle.{passesOf, forksOf, answerOf, moverOf, bornOf, entryBy}
+use Rattle.state.specs.declared.Head.{Head}
+use Rattle.state.specs.declared.Cell.{Cell}
+use Rattle.state.specs.declared.Object.{Object}
+use Rattle.state.specs.declared.Counts.{Counts}
+use Rattle.state.specs.declared.Entry.{Entry}
+use Rattle.look.specs.declared.Sight.{Sight}
+use Rattle.look.specs.declared.Sight.the-variants as sight
+use Rattle.state.specs.declared.acted.Acted.{Acted}
+use Rattle.settle.specs.declared.Answer.{Answer}
+use Rattle.settle.specs.declared.Answer.the-variants as answer
+use Rattle.look.specs.Look.{objectOf, fieldOf, lookOf}
+use Rattle.state.specs.Acted.{cellOf, countsOf}
+use Rattle.act.specs.Act.{actOf}
+use Rattle.settle.specs.Settle.{passesOf, forksOf, answerOf, moverOf, bornOf, entryBy}
 use Rattle.engine.specs.declared.Stop.{Stop}
 use Rattle.engine.specs.declared.Stop.the-variants as stop
 use Rattle.engine.specs.declared.Seen.{Seen}
@@ -138,6 +139,12 @@ abbrev pub tallyMoved : Tally → Acted → Tally
 tallyMoved s a = record { counts = a .counts; moves = s .moves + 1; records = s .records }
 
 -- ---- the threads at the end
+
+abbrev pub noneSeen : Seen
+noneSeen = record { sight = sight.Absent; value = 0; object = 0; field = 0 }
+
+abbrev pub seenBy : ℕ → Counts → ℕ → ℕ → Head → Cell → Object → Head → Seen
+seenBy mask n p k h c t q = record { sight = sightOf mask n p h c t q; value = h .ready .a; object = k / 32; field = k % 32 }
 
 abbrev pub seenAt : ℕ → Counts → List Head → List Cell → List Object → ℕ → Seen
 seenAt mask n l cs ts p =

@@ -4,24 +4,20 @@ ghost use mathlib.Core.Path.{_≡_};
 ghost use Prim.Native.Nat.{_<_, _≤_, _+_, _*_};
 ghost use lib.ListN.{length};
 ghost use Rattle.landing.specs.Landing.{Stack};
-ghost use Rattle.engine.specs.Machine.{Placed, headOf, cellFirst, noThing, tallyFirst, tallyPut, tallyMoved, logPut, stopOf, youngOf, finishOf, Finished, sightOf, endOf, startOf, playOf};
+ghost use Rattle.engine.specs.Machine.{Placed, headOf, cellFirst, noThing, tallyFirst, tallyPut, tallyMoved, logPut, stopOf, youngOf, finishOf, Finished, sightOf, seenBy, noneSeen, startOf, playOf};
+use frames::go;
+use frames::part;
 use keys::KeySet;
-use landing::go;
-use landing::land;
-use landing::land::Landed;
-use landing::part;
-use moves::act;
-use moves::act::Acted;
-use moves::act::Room;
-use moves::look;
-use moves::look::Sight;
-use moves::settle;
-use moves::settle::Answer;
-use moves::state::Cell;
-use moves::state::Counts;
-use moves::state::Entry;
-use moves::state::Head;
-use moves::state::Object;
+use landing::Landed;
+use look::Sight;
+use settle::Answer;
+use state::Cell;
+use state::Counts;
+use state::Entry;
+use state::Head;
+use state::Object;
+use state::acted::Acted;
+use state::acted::Room;
 
 // How a run ended: with its picks, for want of a key, or for want of room.
 pub enum Stop {
@@ -184,9 +180,9 @@ fn land_young(
     if settle::forks(a) {
         let x = h.ready;
         let start = go::run(x.a, x.env);
-        return land::land(words, roots, tops, envs, args, n.threads % 9 * 33, start, 0);
+        return landing::land(words, roots, tops, envs, args, n.threads % 9 * 33, start, 0);
     }
-    land::end_at(go::full(), 0)
+    landing::end_at(go::full(), 0)
 }
 
 // Lands the mover and the new thread, then settles.
@@ -206,7 +202,7 @@ fn finish(
     ensures { λ r. ⌜ (record { stack = record { tops = now (tops .exit); envs = now (envs .exit); args = now (args .exit) }; turn = r }) ≡ finishOf (now (words .entry)) (now (roots .entry)) n p w h a (record { tops = now (tops .entry); envs = now (envs .entry); args = now (args .entry) }) ⌝ }
 {
     let go = a.go;
-    let l = land::land(
+    let l = landing::land(
         words,
         roots,
         &mut *tops,
@@ -239,51 +235,43 @@ fn sight_of(mask: usize, n: Counts, p: usize, h: Head, c: Cell, t: Object, other
     look::look(mask, h, c, t, x.part)
 }
 
-// The run's end, with what each of the eight threads would meet.
-fn end_of(
-    stop: Stop,
-    picks: usize,
+// The same with the numbers of its part; k is the cell that the part is about.
+fn seen_of(
     mask: usize,
-    s: Tally,
-    heads: [Head; 9],
-    cells: [Cell; 1024],
-    objects: [Object; 33],
-) -> Ran
-    ensures { λ r. ⌜ r ≡ endOf stop picks mask s heads cells objects ⌝ }
+    n: Counts,
+    p: usize,
+    k: usize,
+    h: Head,
+    c: Cell,
+    t: Object,
+    other: Head,
+) -> Seen
+    ensures { λ r. ⌜ r ≡ seenBy mask n p k h c t other ⌝ }
 {
-    let n = s.counts;
-    let none = Seen {
+    let w = sight_of(mask, n, p, h, c, t, other);
+    let x = h.ready;
+    Seen {
+        sight: w,
+        value: x.a,
+        object: k / 32,
+        field: k % 32,
+    }
+}
+
+// Nothing seen yet.
+fn none_seen() -> Seen
+    ensures { λ r. ⌜ r ≡ noneSeen ⌝ }
+{
+    Seen {
         sight: Sight::Absent,
         value: 0,
         object: 0,
         field: 0,
-    };
-    let mut all = [none; 8];
-    for p in 0..8 {
-        let h = heads[p];
-        let x = h.ready;
-        let k = cell_of(h);
-        let c = cells[k];
-        let t = objects[k / 32];
-        let other = heads[t.thread % 9];
-        let w = sight_of(mask, n, p, h, c, t, other);
-        all[p] = Seen {
-            sight: w,
-            value: x.a,
-            object: k / 32,
-            field: k % 32,
-        };
-    }
-    Ran {
-        stop: stop,
-        picks: picks,
-        moves: s.moves,
-        records: s.records,
-        threads: all,
     }
 }
 
-// The run of the picks from the start, with its records in the log.
+// The run of the picks from the start, with its records in the log; then what each of the eight threads would meet. It owns arrays of structs, which
+// no function can be lent, so both loops stand in it.
 pub fn run(
     words: &[usize; 1024],
     roots: &[usize; 32],
@@ -343,5 +331,22 @@ pub fn run(
         objects[n.objects % 33] = thing;
         s = moved(s, a);
     }
-    end_of(stop, dealt, mask, s, heads, cells, objects)
+    let n = s.counts;
+    let mut all = [none_seen(); 8];
+    for p in 0..8 {
+        let h = heads[p];
+        let k = cell_of(h);
+        let c = cells[k];
+        let t = objects[k / 32];
+        let other = heads[t.thread % 9];
+        let seen = seen_of(mask, n, p, k, h, c, t, other);
+        all[p] = seen;
+    }
+    Ran {
+        stop: stop,
+        picks: dealt,
+        moves: s.moves,
+        records: s.records,
+        threads: all,
+    }
 }

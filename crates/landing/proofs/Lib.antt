@@ -1,4 +1,1 @@
-pub mod Units
-pub mod Others
-pub mod Depths
 pub mod Turns

@@ -4,8 +4,8 @@ use mathlib.Core.Bool.{true, false}
 use mathlib.Core.List.{List}
 use Prim.Native.Nat.{ℕ, zero, suc, _+_, _-_, _<_}
 use native.Mathlib.Omega.{arith}
-use Rattle.landing.specs.declared.go.Go.{Go}
-use Rattle.landing.specs.Going.{goFull}
+use Rattle.frames.specs.declared.go.Go.{Go}
+use Rattle.frames.specs.Going.{goFull}
 use Rattle.landing.specs.Landing.{liveOf, Stack, ended, stored, turnAt, landOf}
 
 pub goes : (n : ℕ) (ws rs : List ℕ) (base : ℕ) (k : Stack) (g : Go) (d : ℕ) → 0 < n → liveOf g ≡ true

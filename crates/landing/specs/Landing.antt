@@ -4,15 +4,15 @@ use mathlib.Core.Bool.{Bool, true, false, cond}
 use mathlib.Core.List.{List}
 use lib.Dec.{eqb, ltb}
 use lib.ListN.{getD, set}
-use Rattle.landing.specs.declared.frame.Frame.{Frame}
-use Rattle.landing.specs.declared.go.Stage.{Stage}
-use Rattle.landing.specs.declared.go.Stage.the-variants as stage
-use Rattle.landing.specs.declared.go.Go.{Go}
-use Rattle.landing.specs.declared.down.Turn.{Turn}
-use Rattle.landing.specs.declared.land.Landed.{Landed}
-use Rattle.landing.specs.Frames.{packOf, unpackOf}
-use Rattle.landing.specs.Going.{readyIn, goFull}
-use Rattle.landing.specs.Down.{stepOf}
+use Rattle.frames.specs.declared.frame.Frame.{Frame}
+use Rattle.frames.specs.declared.go.Stage.{Stage}
+use Rattle.frames.specs.declared.go.Stage.the-variants as stage
+use Rattle.frames.specs.declared.go.Go.{Go}
+use Rattle.landing_step.specs.declared.Turn.{Turn}
+use Rattle.landing.specs.declared.Landed.{Landed}
+use Rattle.frames.specs.Frames.{packOf, unpackOf}
+use Rattle.frames.specs.Going.{readyIn, goFull}
+use Rattle.landing_step.specs.Down.{stepOf}
 
 abbrev pub liveBy : Stage → Bool
 liveBy stage.Full = false

@@ -9,8 +9,8 @@ use lib.Dec.{T, eqb, ltb}
 use lib.ListN.{length, getElem?, length-map}
 use borrow.Author.Tests.{eqb-true}
 use Rattle.keys.specs.Keys.{Keys, subset, isEmpty}
-use Rattle.plan.specs.Syntax.{Expression, Condition, Procedure, Program, bind, bindParameters, substitute}
-use Rattle.plan.specs.Slots.{closed}
+use Rattle.packed.specs.Syntax.{Expression, Condition, Procedure, Program, bind, bindParameters, substitute}
+use Rattle.packed.specs.Slots.{closed}
 use Rattle.rules.specs.Context.{Context, plug, plugᶜ, asLiteral}
 use Rattle.rules.specs.State.{Cell, Thread, State, Numbered, changeAt, monitorOf, fieldOf, learn, become, threadOf}
 use Rattle.rules.specs.Rules.{Rule, isVolatile, choose, e-call, e-let, e-if}

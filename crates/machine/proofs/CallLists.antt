@@ -8,13 +8,13 @@ use mathlib.Core.List.{List, [], _∷_}
 use lib.Dec.{eqb}
 use lib.ListN.{getD}
 use borrow.Author.Tests.{eqb-true, eqb-false}
-use Rattle.plan.specs.Syntax.{Expression, Arguments, Environment, substituteᵃ}
-use Rattle.plan.specs.Format.{procedures, terms, list, table, layout, tagAt, termAt}
-use Rattle.plan.specs.Trees.{Node, nodes, nodeAt, argumentsOf, expressionAt, argumentsAt, programOf}
-use Rattle.plan.specs.Refusals.{listLength}
-use Rattle.plan.proofs.WellFormed.{count}
-use Rattle.plan.proofs.Accepted.{Accepted}
-use Rattle.plan.proofs.Decoded.{node-is}
+use Rattle.packed.specs.Syntax.{Expression, Arguments, Environment, substituteᵃ}
+use Rattle.packed.specs.Format.{procedures, terms, list, table, layout, tagAt, termAt}
+use Rattle.packed.specs.Trees.{Node, nodes, nodeAt, argumentsOf, expressionAt, argumentsAt, programOf}
+use Rattle.packed.specs.Refusals.{listLength}
+use Rattle.packed.proofs.WellFormed.{count}
+use Rattle.packed.proofs.Accepted.{Accepted}
+use Rattle.packed.proofs.Decoded.{node-is}
 use Rattle.rules.proofs.Placed.{Around}
 use Rattle.machine.specs.Frames.{Slots, Closure, Frame}
 use Rattle.machine.proofs.TreeLaws.{Ordered, treeᵃ, tree-lawᵃ, arguments-fuel}

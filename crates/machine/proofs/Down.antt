@@ -5,8 +5,8 @@ use mathlib.Core.Path.{_≡_, refl, sym, ap, _∙_}
 use mathlib.Core.Bool.{Bool, true, false}
 use mathlib.Core.List.{List}
 use mathlib.Core.Option.{Option, some, none}
-use Rattle.plan.specs.Syntax.{Expression, Condition, Arguments, substitute, substituteᶜ, substituteᵃ}
-use Rattle.plan.specs.Trees.{Node, expressionOf, conditionOf, argumentsOf}
+use Rattle.packed.specs.Syntax.{Expression, Condition, Arguments, substitute, substituteᶜ, substituteᵃ}
+use Rattle.packed.specs.Trees.{Node, expressionOf, conditionOf, argumentsOf}
 use Rattle.rules.specs.Context.{asLiteral, asBool, isTruth, falseWhen, Focus, focus, focusᶜ, focusᵃ, onLiteral, onBool, onNot}
 use Rattle.machine.specs.Frames.{Slots, noSlots, put, Closure, closure, Frame, Found}
 use Rattle.machine.specs.Landing.{given, valueOf, isTrue, boolOf, valueIn, boolIn, foundNot, downBy, downByᶜ, downByᵃ, down, downᶜ, downᵃ}

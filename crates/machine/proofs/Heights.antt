@@ -7,7 +7,7 @@ use mathlib.Core.Bool.{Bool, true, false}
 use mathlib.Core.List.{List, [], _∷_}
 use mathlib.Core.Option.{Option, some, none, Option·some-ne-none}
 use lib.ListN.{length}
-use Rattle.plan.specs.Trees.{Node}
+use Rattle.packed.specs.Trees.{Node}
 use Rattle.rules.specs.Context.{falseWhen}
 use Rattle.machine.specs.Frames.{Slots, noSlots, put, Closure, closure, Frame, Found, height}
 use Rattle.machine.specs.Landing.{given, valueOf, isTrue, boolOf, valueIn, boolIn, foundNot, downBy, downByᶜ, downByᵃ, down, downᶜ, downᵃ}

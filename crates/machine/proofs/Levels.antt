@@ -4,7 +4,7 @@ use mathlib.Core.Path.{_≡_, refl}
 use mathlib.Core.Bool.{Bool, true, false}
 use mathlib.Core.List.{List, [], _∷_}
 use mathlib.Core.Option.{Option, some, none}
-use Rattle.plan.specs.Trees.{Node}
+use Rattle.packed.specs.Trees.{Node}
 use Rattle.machine.specs.Frames.{Slots, noSlots, put, Closure, closure, Frame, Found}
 use Rattle.machine.specs.Landing.{given, valueIn, boolIn, foundNot, downBy, downByᶜ, downByᵃ, upBy}
 use Rattle.machine.proofs.TreeLaws.{Below}

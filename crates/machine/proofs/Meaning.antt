@@ -2,8 +2,8 @@
 use Prim.Native.Nat.{ℕ}
 use mathlib.Core.List.{List, [], _∷_}
 use mathlib.Core.Option.{Option, none}
-use Rattle.plan.specs.Syntax.{Expression, Condition, Arguments, literal, without, substitute, substituteᶜ, substituteᵃ}
-use Rattle.plan.specs.Trees.{Node}
+use Rattle.packed.specs.Syntax.{Expression, Condition, Arguments, literal, without, substitute, substituteᶜ, substituteᵃ}
+use Rattle.packed.specs.Trees.{Node}
 use Rattle.rules.specs.Context.{Context, Contextᶜ, Redex, Redexᶜ, Focus}
 use Rattle.machine.specs.Frames.{Closure, Branches, firstOf, secondOf, Frame, read, write₁, write₂, call, letIn, synch, hold, join, equal₁, equal₂, if, and, not, whileTest, whileBody, Ready, Readyᶜ, Found, Result}
 use Rattle.machine.proofs.TreeLaws.{tree, treeᶜ, treeᵃ}

@@ -6,8 +6,8 @@ use mathlib.Core.Path.{_≡_, refl, sym, ap, _∙_}
 use mathlib.Core.Bool.{Bool, true, false}
 use mathlib.Core.List.{List, [], _∷_, _++_, append-nil, append-assoc}
 use mathlib.Core.Option.{Option, some, none}
-use Rattle.plan.specs.Syntax.{Expression, Condition, Arguments, literal, argument, bool, substitute}
-use Rattle.plan.specs.Trees.{Node, expressionOf}
+use Rattle.packed.specs.Syntax.{Expression, Condition, Arguments, literal, argument, bool, substitute}
+use Rattle.packed.specs.Trees.{Node, expressionOf}
 use Rattle.rules.specs.Context.{Context, top, literals, plug, plugᶜ, asLiteral, asBool, Redex, Redexᶜ, redexExpression, redexCondition, focus, focusᵃ}
 use Rattle.rules.proofs.Decompose.{found, foundᶜ, focus-plug, focus-plugᶜ, as-literal, as-bool, whole, whole-focus}
 use Rattle.machine.specs.Frames.{Slots, put, Closure, closure, firstOf, secondOf, Frame, Ready, Result}

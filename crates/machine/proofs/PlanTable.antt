@@ -10,13 +10,13 @@ use mathlib.Core.Option.{none}
 use lib.Dec.{T, ltb}
 use lib.ListN.{length, getD, List·getD-eq-default}
 use Rattle.format.specs.Bits.{bitAt, bitsAt}
-use Rattle.plan.specs.Syntax.{Procedure}
-use Rattle.plan.specs.Format.{procedures, terms, parameters, root, planLength, Row, operands, absent, table, layout, termBit, tagAt, termAt}
-use Rattle.plan.specs.Trees.{Node, nodes, nodeAt, expressionOf, treeAt, procedureAt, programOf}
-use Rattle.plan.specs.Slots.{closed}
-use Rattle.plan.specs.Check.{refusal}
-use Rattle.plan.proofs.Accepted.{Fits, RightTerm, Accepted, accepted}
-use Rattle.plan.proofs.Decoded.{procedures-inside, node-is}
+use Rattle.packed.specs.Syntax.{Procedure}
+use Rattle.packed.specs.Format.{procedures, terms, parameters, root, planLength, Row, operands, absent, table, layout, termBit, tagAt, termAt}
+use Rattle.packed.specs.Trees.{Node, nodes, nodeAt, expressionOf, treeAt, procedureAt, programOf}
+use Rattle.packed.specs.Slots.{closed}
+use Rattle.packed.specs.Check.{refusal}
+use Rattle.packed.proofs.Accepted.{Fits, RightTerm, Accepted, accepted}
+use Rattle.packed.proofs.Decoded.{procedures-inside, node-is}
 use Rattle.rules.specs.Rules.{isVolatile}
 use Rattle.machine.specs.Playing.{tableOf}
 use Rattle.machine.proofs.TreeLaws.{Below, Ordered, tree, treeᶜ, treeᵃ, tree-law}

@@ -7,8 +7,8 @@ use mathlib.Core.Option.{Option, some, none, Option·map}
 use lib.Dec.{ltb, leb}
 use lib.ListN.{length, getElem?, drop, length-map}
 use Rattle.format.specs.Refusal.{orElse}
-use Rattle.plan.specs.Syntax.{Program}
-use Rattle.plan.proofs.WellFormed.{WellFormedProgram}
+use Rattle.packed.specs.Syntax.{Program}
+use Rattle.packed.proofs.WellFormed.{WellFormedProgram}
 use Rattle.rules.specs.Context.{Focus, depthOf}
 use Rattle.rules.specs.State.{Thread, State}
 use Rattle.rules.specs.Rules.{Rule, e-call, e-let, e-if, e-while, e-notnottrue, e-andtrue, e-andfalse, e-equaltrue, e-equalfalse, e-new, e-read, e-write, e-readv, e-writev, e-fork, e-join, e-re-enter, e-acquire, e-release}

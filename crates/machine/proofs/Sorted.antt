@@ -5,7 +5,7 @@ use mathlib.Core.Bool.{Bool, true, false}
 use mathlib.Core.List.{List, [], _∷_}
 use mathlib.Core.Option.{Option, some, none}
 use lib.ListN.{length}
-use Rattle.plan.specs.Trees.{Node}
+use Rattle.packed.specs.Trees.{Node}
 use Rattle.rules.specs.Context.{depth, depthᶜ, depthOf}
 use Rattle.machine.specs.Frames.{Slots, noSlots, put, Closure, closure, firstOf, secondOf, Frame, Found, height, Result}
 use Rattle.machine.specs.Landing.{given, valueIn, boolIn, foundNot, downBy, downByᶜ, downByᵃ, down, downᶜ, downᵃ, up, upᶜ, enter, enterᶜ, go}

@@ -4,11 +4,11 @@ use mathlib.Core.Path.{_≡_, sym, ap, _∙_}
 use mathlib.Core.List.{List}
 use mathlib.Core.Option.{some, Option·map}
 use lib.ListN.{length, getElem?}
-use Rattle.plan.specs.Syntax.{Procedure, Program}
-use Rattle.plan.specs.Format.{procedures, parameters}
-use Rattle.plan.specs.Trees.{procedureAt, programOf}
-use Rattle.plan.proofs.WellFormed.{Callable}
-use Rattle.plan.proofs.Decoded.{procedures-inside}
+use Rattle.packed.specs.Syntax.{Procedure, Program}
+use Rattle.packed.specs.Format.{procedures, parameters}
+use Rattle.packed.specs.Trees.{procedureAt, programOf}
+use Rattle.packed.proofs.WellFormed.{Callable}
+use Rattle.packed.proofs.Decoded.{procedures-inside}
 use Rattle.rules.specs.State.{Cell, Thread, monitorOf, lookup, monitor}
 use Rattle.rules.proofs.Decompose.{focus-whole}
 use Rattle.rules.proofs.Placed.{Good, holds}

@@ -3,8 +3,8 @@
 use Prim.Native.Nat.{ℕ, zero, suc, _+_, _-_, _≤_, _<_}
 use native.Mathlib.Omega.{arith}
 use mathlib.Core.Path.{_≡_, refl, _∙_}
-use Rattle.plan.specs.Syntax.{Expression, Condition, Arguments}
-use Rattle.plan.specs.Trees.{Node, expressionOf, conditionOf, argumentsOf, expressionAt, conditionAt, argumentsAt}
+use Rattle.packed.specs.Syntax.{Expression, Condition, Arguments}
+use Rattle.packed.specs.Trees.{Node, expressionOf, conditionOf, argumentsOf, expressionAt, conditionAt, argumentsAt}
 
 -- the children of a term come after it
 abbrev pub Below : ℕ → Node → Type 0

@@ -7,7 +7,7 @@ use mathlib.Core.Option.{Option, some, none}
 use lib.Dec.{eqb}
 use lib.ListN.{length, getElem?}
 use Rattle.keys.specs.Keys.{Keys, empty, singleton, union, subset, isEmpty}
-use Rattle.plan.specs.Trees.{Node}
+use Rattle.packed.specs.Trees.{Node}
 use Rattle.records.specs.Record.{Kind, Record, entry}
 use Rattle.rules.specs.State.{Cell, cell, Object, fresh, freshObject, changeAt, storeField, fieldOf, monitorOf}
 use Rattle.rules.specs.Rules.{Rule, e-call, e-let, e-if, e-while, e-notnottrue, e-andtrue, e-andfalse, e-new, e-read, e-write, e-readv, e-writev, e-fork, e-join, e-re-enter, e-acquire, e-release}

@@ -8,8 +8,8 @@ use lib.Dec.{eqb, ltb, leb}
 use lib.ListN.{length, getElem?, drop}
 use Rattle.format.specs.Refusal.{orElse}
 use Rattle.keys.specs.Keys.{singleton}
-use Rattle.plan.specs.Format.{terms, root, volatiles, maskBit}
-use Rattle.plan.specs.Trees.{nodeAt}
+use Rattle.packed.specs.Format.{terms, root, volatiles, maskBit}
+use Rattle.packed.specs.Trees.{nodeAt}
 use Rattle.records.specs.Record.{Record}
 use Rattle.rules.specs.State.{freshObject}
 use Rattle.rules.specs.Rules.{Rule, e-call, e-let, e-if, e-while, e-notnottrue, e-andtrue, e-andfalse, e-equaltrue, e-equalfalse, e-new, e-read, e-write, e-readv, e-writev, e-fork, e-join, e-re-enter, e-acquire, e-release}

@@ -1,8 +1,1 @@
-pub mod Syntax
-pub mod Format
-pub mod Trees
-pub mod Slots
-pub mod Refusals
-pub mod Check
 pub mod Answer
-pub mod Steps

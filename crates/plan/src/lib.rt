@@ -1,15 +1,8 @@
 // The packed plan: is it one that can be played, and if not, what is wrong with it, and where (document 01, refusals 1 to 7).
-pub mod bits; // bits.rt: numbers of two, four and five bytes
-pub mod layout; // layout.rt: the numbers of the header and of the procedures
-mod term; // term.rt: the 40 bits of a term
-mod header; // header.rt: checks 1 to 3
-mod table; // table.rt: check 4, and the terms loaded
-mod sorts; // sorts.rt: check 5
-mod names; // names.rt: the names of terms, for checks 5 and 6
-mod slots; // slots.rt: check 7
-
+use header::layout;
+use terms::table;
 ghost use mathlib.Core.Path.{_≡_};
-ghost use Rattle.plan.specs.Check.{refusal};
+ghost use Rattle.packed.specs.Check.{refusal};
 ghost use Rattle.plan.specs.Answer.{answered};
 
 // What the check answers: the plan passes, or document 01's number and place of the refusal.
@@ -46,15 +39,15 @@ pub fn check(plan: &[u8]) -> Checked
         return refused(4, t);
     }
     let mut times = [0u8; 1024];
-    let misplaced = names::name_all(plan, procs, count, &words, &mut times);
-    let miscounted = names::lowest_miscounted(&times, count);
+    let misplaced = naming::name_all(plan, procs, count, &words, &mut times);
+    let miscounted = naming::lowest_miscounted(&times, count);
     if misplaced < count {
         return refused(5, misplaced);
     }
     if miscounted < count {
         return refused(6, miscounted);
     }
-    let p = slots::lowest_open(plan, procs, count, &words);
+    let p = bound_slots::lowest_open(plan, procs, count, &words);
     if p < procs {
         return refused(7, p);
     }

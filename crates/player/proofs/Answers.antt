@@ -5,15 +5,15 @@ use mathlib.Core.Path.{_≡_, refl, sym, ap, _∙_}
 use mathlib.Core.List.{List, [], _∷_, map}
 use mathlib.Core.Option.{Option, some, none}
 use lib.ListN.{length, length-map}
-use Rattle.plan.specs.Format.{procedures, terms, volatiles}
-use Rattle.plan.specs.Trees.{programOf}
+use Rattle.packed.specs.Format.{procedures, terms, volatiles}
+use Rattle.packed.specs.Trees.{programOf}
 use Rattle.records.specs.Packed.{bytesOf}
 use Rattle.rules.specs.Run as run
 use Rattle.rules.specs.Play as play
-use Rattle.moves.specs.declared.act.Room.{Room}
-use Rattle.moves.specs.declared.act.Room.the-variants as room
-use Rattle.moves.specs.declared.look.Sight.{Sight}
-use Rattle.moves.specs.declared.look.Sight.the-variants as sight
+use Rattle.state.specs.declared.acted.Room.{Room}
+use Rattle.state.specs.declared.acted.Room.the-variants as room
+use Rattle.look.specs.declared.Sight.{Sight}
+use Rattle.look.specs.declared.Sight.the-variants as sight
 use Rattle.engine.specs.declared.Stop.{Stop}
 use Rattle.engine.specs.declared.Stop.the-variants as stop
 use Rattle.engine.specs.declared.Seen.{Seen}

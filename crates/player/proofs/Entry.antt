@@ -5,7 +5,7 @@ use mathlib.Core.List.{List}
 use mathlib.Core.Option.{Option, some, none}
 use lib.ListN.{length}
 use Rattle.format.specs.Refusal.{Refusal}
-use Rattle.plan.specs.Format.{procedures, terms, volatiles}
+use Rattle.packed.specs.Format.{procedures, terms, volatiles}
 use Rattle.plan.specs.Answer as check
 use Rattle.plan.specs.declared.Checked.{Checked}
 use Rattle.plan.specs.declared.Checked.the-variants as checked

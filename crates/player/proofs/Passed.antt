@@ -9,12 +9,12 @@ use lib.ListN.{length, getD}
 use borrow.Author.Tests.{ltb-false}
 use Rattle.format.specs.Refusal.{Refusal, orElse, lowest, refuse}
 use Rattle.format.proofs.RefusalLaws.{lowest-none}
-use Rattle.plan.specs.Format.{procedures, terms, planLength}
-use Rattle.plan.specs.Check.{refusal}
+use Rattle.packed.specs.Format.{procedures, terms, planLength}
+use Rattle.packed.specs.Check.{refusal}
 use Rattle.plan.specs.Answer.{answered}
 use Rattle.plan.specs.declared.Checked.{Checked}
 use Rattle.plan.specs.declared.Checked.the-variants as checked
-use Rattle.plan.proofs.Accepted.{accepted}
+use Rattle.packed.proofs.Accepted.{accepted}
 use Rattle.rules.specs.Play.{tooManyPicks, wrongPick, shortArea, playRefusal}
 use Rattle.player.specs.Refused.{RefusedAs}
 use Rattle.player.proofs.RefusalChain.{chain, late}

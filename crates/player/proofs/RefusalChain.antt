@@ -6,7 +6,7 @@ use mathlib.Core.Option.{Option, some, none}
 use lib.ListN.{length}
 use Rattle.format.specs.Refusal.{Refusal, check, checkWhole, orElse, lowest, refuse, firstRefusal}
 use Rattle.format.proofs.RefusalLaws.{refusal-append}
-use Rattle.plan.specs.Check.{checks, refusal}
+use Rattle.packed.specs.Check.{checks, refusal}
 use Rattle.plan.specs.Answer.{answered}
 use Rattle.plan.specs.declared.Checked.{Checked}
 use Rattle.plan.specs.declared.Checked.the-variants.{Passed, Refused}

@@ -4,7 +4,7 @@ use mathlib.Core.Path.{_≡_}
 use mathlib.Core.List.{List}
 use lib.ListN.{getD}
 use Rattle.format.specs.Bits.{bitsAt}
-use Rattle.plan.specs.Format.{termBit, root}
+use Rattle.packed.specs.Format.{termBit, root}
 
 -- the first n terms, each as its 40 bits
 abbrev pub Words : List ℕ → ℕ → List ℕ → Type 0

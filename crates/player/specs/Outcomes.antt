@@ -3,10 +3,10 @@
 use Prim.Native.Nat.{ℕ}
 use mathlib.Core.List.{List, [], _∷_}
 use lib.ListN.{getD}
-use Rattle.moves.specs.declared.act.Room.{Room}
-use Rattle.moves.specs.declared.act.Room.the-variants as room
-use Rattle.moves.specs.declared.look.Sight.{Sight}
-use Rattle.moves.specs.declared.look.Sight.the-variants as sight
+use Rattle.state.specs.declared.acted.Room.{Room}
+use Rattle.state.specs.declared.acted.Room.the-variants as room
+use Rattle.look.specs.declared.Sight.{Sight}
+use Rattle.look.specs.declared.Sight.the-variants as sight
 use Rattle.engine.specs.declared.Stop.{Stop}
 use Rattle.engine.specs.declared.Stop.the-variants as stop
 use Rattle.engine.specs.declared.Seen.{Seen}

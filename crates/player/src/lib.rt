@@ -7,9 +7,9 @@ ghost use mathlib.Core.Path.{_≡_};
 ghost use Rattle.rules.specs.Play.{played, areaAfter};
 ghost use Rattle.player.specs.Answer.{answered};
 use crate::outcome::Played;
+use header::bits;
+use header::layout;
 use plan::Checked;
-use plan::bits;
-use plan::layout;
 
 // Every plan, schedule and log area gets document 01's answer: a refusal of number 1 to 10 with its place, and no byte of the area changed; or the
 // run's outcome, and an area that begins with the run's records and is otherwise as it was.

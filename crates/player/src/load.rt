@@ -2,10 +2,10 @@
 ghost use Prim.Native.Nat.{_≤_, _+_, _*_};
 ghost use mathlib.Core.Path.{_≡_};
 ghost use lib.ListN.{length};
-ghost use Rattle.plan.specs.Format.{procedures, terms, root};
+ghost use Rattle.packed.specs.Format.{procedures, terms, root};
 ghost use Rattle.player.specs.Loading.{Words, Roots};
-use plan::bits;
-use plan::layout;
+use header::bits;
+use header::layout;
 
 // The words of the first `count` terms.
 pub fn words(plan: &[u8], procs: usize, count: usize) -> [usize; 1024]

@@ -3,9 +3,9 @@ ghost use mathlib.Core.Path.{_≡_};
 ghost use Rattle.player.specs.Outcomes.{roomBy, stopBy, stateBy, threadsBy, outcomeBy};
 use engine::Ran;
 use engine::Seen;
-use moves::act::Room;
-use moves::look::Sight;
+use look::Sight;
 use plan::Checked;
+use state::acted::Room;
 
 // No room for a thread, an object, a key or a depth.
 pub enum NoRoom {

@@ -6,8 +6,8 @@ use mathlib.Core.List.{List, _++_}
 use lib.ListN.{length, take}
 use Rattle.plan.specs.declared.Checked.{Checked}
 use Rattle.plan.specs.declared.Checked.the-variants as checked
-use Rattle.plan.specs.Trees.{programOf}
-use Rattle.plan.proofs.Decoded.{well-formed}
+use Rattle.packed.specs.Trees.{programOf}
+use Rattle.packed.proofs.Decoded.{well-formed}
 use Rattle.records.specs.Record.{Record}
 use Rattle.records.specs.Packed.{bytesOf, logOf}
 use Rattle.records.proofs.RoundTrip.{logOf-bytesOf}

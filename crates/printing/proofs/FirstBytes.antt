@@ -11,7 +11,7 @@ use lib.Seq.{take-all, take-take, getD-take, length-take-le}
 use borrow.Author.Tests.{ltb-true, ltb-false, lt-ltb}
 use Rattle.format.specs.Bits.{bitAt, bitsAt}
 use Rattle.format.specs.Refusal.{Refusal, orElse, lowest, refuse}
-use Rattle.plan.specs.Check.{refusal}
+use Rattle.packed.specs.Check.{refusal}
 use Rattle.records.specs.Record.{Record}
 use Rattle.rules.specs.Play.{tooManyPicks, playRefusal, played, playedBy, runOf}
 use Rattle.player.proofs.RefusalChain.{chain}

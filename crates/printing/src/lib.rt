@@ -6,8 +6,8 @@ ghost use mathlib.Core.Path.{_≡_};
 ghost use lib.ListN.{length, take};
 ghost use Rattle.printing.specs.Printed.{playText, printed};
 ghost use Rattle.lines.specs.Wrote.{Wrote};
+use header::bits;
 use plan::Checked;
-use plan::bits;
 
 // A schedule is played on a plan.
 fn print_play(plan: &[u8], schedule: &[u8], area: &mut [u8]) -> usize

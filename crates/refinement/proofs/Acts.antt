@@ -15,10 +15,10 @@ use Rattle.keys.specs.declared.KeySet.{KeySet}
 use Rattle.keys.specs.Keys.{Keys, empty, singleton, union, subset, isEmpty}
 use Rattle.keys.specs.KeySet.{keysOf, emptySet, holdsOf, learnOf, joinOf, isEmptyOf}
 use Rattle.keys.proofs.KeySetLaws.{Fits, keys-empty, keys-join, keys-learn, keys-is-empty, fits-empty, fits-join, fits-learn}
-use Rattle.plan.specs.Format.{volatiles, terms, maskBit, fieldsFrom}
-use Rattle.plan.specs.Trees.{nodeAt, programOf}
-use Rattle.plan.specs.Check.{refusal}
-use Rattle.plan.proofs.Accepted.{accepted}
+use Rattle.packed.specs.Format.{volatiles, terms, maskBit, fieldsFrom}
+use Rattle.packed.specs.Trees.{nodeAt, programOf}
+use Rattle.packed.specs.Check.{refusal}
+use Rattle.packed.proofs.Accepted.{accepted}
 use Rattle.records.specs.Record.{Record, entry}
 use Rattle.records.specs.Record as records
 use Rattle.rules.specs.State.{changeAt}
@@ -37,26 +37,30 @@ use Rattle.machine.specs.Playing as playing
 use Rattle.machine.proofs.Sorted.{Well}
 use Rattle.machine.proofs.Runs.{Reached}
 use Rattle.machine.proofs.Standing.{standing, cell-there}
-use Rattle.landing.specs.declared.frame.Kind.the-variants as kind
-use Rattle.landing.specs.Parts.{Part, Part as part, numberOf as partNumber}
-use Rattle.landing.specs.declared.go.Ready.{Ready}
-use Rattle.landing.specs.declared.go.Go.{Go}
-use Rattle.landing.specs.Frames.{framed}
+use Rattle.frames.specs.declared.frame.Kind.the-variants as kind
+use Rattle.frames.specs.Parts.{Part, Part as part, numberOf as partNumber}
+use Rattle.frames.specs.declared.go.Ready.{Ready}
+use Rattle.frames.specs.declared.go.Go.{Go}
+use Rattle.frames.specs.Frames.{framed}
 use Rattle.landing.specs.Landing.{Stack}
-use Rattle.landing.specs.Going.{readyAt, readyOf, goAt, goRun, goRunCondition, goWant, goWantCondition, goValue, goTruth}
-use Rattle.moves.specs.declared.state.Head.{Head}
-use Rattle.moves.specs.declared.state.Cell.{Cell}
-use Rattle.moves.specs.declared.state.Object.{Object}
-use Rattle.moves.specs.declared.state.Counts.{Counts}
-use Rattle.moves.specs.declared.state.Entry.{Entry}
-use Rattle.moves.specs.declared.look.Sight.{Sight}
-use Rattle.moves.specs.declared.look.Sight.the-variants as sight
-use Rattle.moves.specs.declared.act.Room.{Room}
-use Rattle.moves.specs.declared.act.Room.the-variants as room
-use Rattle.moves.specs.declared.act.Acted.{Acted}
-use Rattle.moves.specs.Look.{isPart, objectBy, objectOf, fieldBy, hasOf, lookField, lookJoin, lookSynch, aboutField, lookBy, lookOf}
-use Rattle.moves.specs.Act.{entryOf, nothing, cellOf, countsOf, actedOf, actRead, actWrite, actNew, actFork, actJoin, holdFrame, actSynch, actHold, pureBy, actBy, actOf}
-use Rattle.moves.specs.Settle.{lackBy, forksOf}
+use Rattle.frames.specs.Going.{readyAt, readyOf, goAt, goRun, goRunCondition, goWant, goWantCondition, goValue, goTruth}
+use Rattle.state.specs.declared.Head.{Head}
+use Rattle.state.specs.declared.Cell.{Cell}
+use Rattle.state.specs.declared.Object.{Object}
+use Rattle.state.specs.declared.Counts.{Counts}
+use Rattle.state.specs.declared.Entry.{Entry}
+use Rattle.look.specs.declared.Sight.{Sight}
+use Rattle.look.specs.declared.Sight.the-variants as sight
+use Rattle.state.specs.declared.acted.Room.{Room}
+use Rattle.state.specs.declared.acted.Room.the-variants as room
+use Rattle.state.specs.declared.acted.Acted.{Acted}
+use Rattle.look.specs.Look.{isPart, objectBy, objectOf, fieldBy, hasOf, lookField, lookJoin, lookSynch, aboutField, lookBy, lookOf}
+use Rattle.state.specs.Acted.{entryOf, nothing, cellOf, countsOf, actedOf}
+use Rattle.accesses.specs.Accesses.{actRead, actWrite}
+use Rattle.objects.specs.Objects.{actNew, actFork, actJoin}
+use Rattle.monitors.specs.Monitors.{holdFrame, actSynch, actHold}
+use Rattle.act.specs.Act.{pureBy, actBy, actOf}
+use Rattle.settle.specs.Settle.{lackBy, forksOf}
 use Rattle.engine.specs.Machine as engine
 use Rattle.engine.specs.Machine.{noHead, noCell, noThing, headAt, cellNumber, lookAt, actAt, actedBy}
 use Rattle.refinement.proofs.Meant.{slots, closed, IsExpression, IsCondition, Goes, Stands, StandsBy, Unlogged}

@@ -4,9 +4,9 @@ use native.Mathlib.Omega.{arith}
 use mathlib.Core.Path.{_≡_, refl, sym, ap, _∙_, subst}
 use mathlib.Core.List.{List}
 use lib.ListN.{length}
-use Rattle.plan.specs.Format.{procedures, terms, root, expression, tagAt}
-use Rattle.plan.specs.Trees.{nodeAt}
-use Rattle.plan.proofs.Accepted.{OfSort, Accepted}
+use Rattle.packed.specs.Format.{procedures, terms, root, expression, tagAt}
+use Rattle.packed.specs.Trees.{nodeAt}
+use Rattle.packed.proofs.Accepted.{OfSort, Accepted}
 use Rattle.machine.specs.Frames.{closure}
 use Rattle.machine.specs.Frames as frames
 use Rattle.machine.specs.Playing as playing
@@ -14,12 +14,12 @@ use Rattle.machine.specs.Landing.{downᵃ}
 use Rattle.machine.proofs.PlanTable.{ordered}
 use Rattle.machine.proofs.CallLists.{list-left}
 use Rattle.machine.proofs.Sorted.{Well}
-use Rattle.landing.specs.declared.frame.Frame.{Frame}
-use Rattle.landing.specs.Parts.{Part as part}
-use Rattle.landing.specs.Words.{wordAt, firstOf, secondOf}
-use Rattle.landing.specs.Frames.{restOf}
-use Rattle.landing.specs.Going.{readyOf, goAt}
-use Rattle.landing.specs.Down.{rootAt, listBy, listOf, wantedOf}
+use Rattle.frames.specs.declared.frame.Frame.{Frame}
+use Rattle.frames.specs.Parts.{Part as part}
+use Rattle.term_words.specs.Words.{wordAt, firstOf, secondOf}
+use Rattle.frames.specs.Frames.{restOf}
+use Rattle.frames.specs.Going.{readyOf, goAt}
+use Rattle.landing_step.specs.Down.{rootAt, listBy, listOf, wantedOf}
 use Rattle.landing.specs.Landing.{Stack}
 use Rattle.refinement.proofs.Meant.{Loaded, slots, closed, IsRest, IsExpression}
 use Rattle.refinement.proofs.Words.{Rest, rest-at}

@@ -6,18 +6,18 @@ use mathlib.Core.Bool.{Bool, true, false}
 use mathlib.Core.List.{List, _∷_}
 use mathlib.Core.Option.{Option, some, none}
 use lib.ListN.{length}
-use Rattle.plan.specs.Format.{terms}
-use Rattle.plan.specs.Trees.{Node, nodeAt}
+use Rattle.packed.specs.Format.{terms}
+use Rattle.packed.specs.Trees.{Node, nodeAt}
 use Rattle.rules.specs.Context.{falseWhen}
 use Rattle.machine.specs.Frames as frames
 use Rattle.machine.specs.Landing.{isTrue, boolOf, boolIn, enterᶜ}
 use Rattle.machine.proofs.PlanTable.{ordered}
 use Rattle.machine.proofs.Sorted.{Wellᶜ}
-use Rattle.landing.specs.declared.frame.Kind.the-variants as kind
-use Rattle.landing.specs.Words.{wordAt, firstOf, secondOf}
-use Rattle.landing.specs.Frames.{framed}
-use Rattle.landing.specs.Going.{goTruth}
-use Rattle.landing.specs.Down.{runConditionBy, runConditionOf, listedOf, wantedOf}
+use Rattle.frames.specs.declared.frame.Kind.the-variants as kind
+use Rattle.term_words.specs.Words.{wordAt, firstOf, secondOf}
+use Rattle.frames.specs.Frames.{framed}
+use Rattle.frames.specs.Going.{goTruth}
+use Rattle.landing_step.specs.Down.{runConditionBy, runConditionOf, listedOf, wantedOf}
 use Rattle.landing.specs.Landing.{Stack}
 use Rattle.refinement.proofs.Meant.{slots, closed, IsCondition}
 use Rattle.refinement.proofs.Words.{Condition, condition-at}

@@ -4,20 +4,20 @@ use native.Mathlib.Omega.{arith}
 use mathlib.Core.Path.{_≡_, refl, sym, ap, _∙_}
 use mathlib.Core.List.{List}
 use lib.ListN.{length}
-use Rattle.plan.specs.Format.{terms}
-use Rattle.plan.specs.Trees.{nodeAt}
+use Rattle.packed.specs.Format.{terms}
+use Rattle.packed.specs.Trees.{nodeAt}
 use Rattle.machine.specs.Frames.{Slots}
 use Rattle.machine.specs.Frames as frames
 use Rattle.machine.specs.Landing.{downᵃ, up, enter}
 use Rattle.machine.proofs.PlanTable.{ordered}
 use Rattle.machine.proofs.Sorted.{Well}
-use Rattle.landing.specs.declared.frame.Kind.the-variants as kind
-use Rattle.landing.specs.Parts.{Part as part}
-use Rattle.landing.specs.Slots.{slotOf}
-use Rattle.landing.specs.Words.{wordAt, tagOf, firstOf, secondOf, thirdOf, slotBits, fieldBits, writeSecond, letFirst, letSecond, procedureBits, listBits, maskBits, valueBy, valueOf}
-use Rattle.landing.specs.Frames.{framed, letFrame}
-use Rattle.landing.specs.Going.{readyOf, goAt, goValue}
-use Rattle.landing.specs.Down.{simpleBy, simpleOf, runBy, runOf, listedOf, wantedOf}
+use Rattle.frames.specs.declared.frame.Kind.the-variants as kind
+use Rattle.frames.specs.Parts.{Part as part}
+use Rattle.term_words.specs.Slots.{slotOf}
+use Rattle.term_words.specs.Words.{wordAt, tagOf, firstOf, secondOf, thirdOf, slotBits, fieldBits, writeSecond, letFirst, letSecond, procedureBits, listBits, maskBits, valueBy, valueOf}
+use Rattle.frames.specs.Frames.{framed, letFrame}
+use Rattle.frames.specs.Going.{readyOf, goAt, goValue}
+use Rattle.landing_step.specs.Down.{simpleBy, simpleOf, runBy, runOf, listedOf, wantedOf}
 use Rattle.landing.specs.Landing.{Stack}
 use Rattle.refinement.proofs.Meant.{slots, closed, IsExpression}
 use Rattle.refinement.proofs.SlotLaws.{none-bound, slot-below}

@@ -9,13 +9,13 @@ use borrow.Author.Tests.{lt-ltb, le-ltb}
 use lib.ListN.{length, length-set}
 use lib.Seq.{getD-set-same, getD-set-other}
 use Rattle.machine.specs.Frames as frames
-use Rattle.landing.specs.declared.frame.Kind.{Kind}
-use Rattle.landing.specs.declared.frame.Kind.the-variants as kind
-use Rattle.landing.specs.declared.frame.Frame.{Frame}
-use Rattle.landing.specs.Frames.{codeOf, kindOf, packOf, unpackOf}
-use Rattle.landing.specs.declared.go.Go.{Go}
-use Rattle.landing.specs.declared.down.Turn.{Turn}
-use Rattle.landing.specs.Down.{stayOf}
+use Rattle.frames.specs.declared.frame.Kind.{Kind}
+use Rattle.frames.specs.declared.frame.Kind.the-variants as kind
+use Rattle.frames.specs.declared.frame.Frame.{Frame}
+use Rattle.frames.specs.Frames.{codeOf, kindOf, packOf, unpackOf}
+use Rattle.frames.specs.declared.go.Go.{Go}
+use Rattle.landing_step.specs.declared.Turn.{Turn}
+use Rattle.landing_step.specs.Down.{stayOf}
 use Rattle.landing.specs.Landing.{Stack, frameAt, storeAt, stored}
 use Rattle.refinement.proofs.Meant.{frameOf, Fine, Holds, Sized}
 

@@ -8,15 +8,15 @@ use mathlib.Core.List.{List}
 use mathlib.Core.Option.{none}
 use mathlib.Core.Logic.{_⊎_, inl, inr}
 use lib.ListN.{length}
-use Rattle.plan.specs.Check.{refusal}
-use Rattle.plan.proofs.Accepted.{Accepted, accepted}
+use Rattle.packed.specs.Check.{refusal}
+use Rattle.packed.proofs.Accepted.{Accepted, accepted}
 use Rattle.machine.specs.Frames as frames
-use Rattle.landing.specs.declared.go.Stage.{Stage}
-use Rattle.landing.specs.declared.go.Stage.the-variants as stage
-use Rattle.landing.specs.declared.go.Go.{Go}
+use Rattle.frames.specs.declared.go.Stage.{Stage}
+use Rattle.frames.specs.declared.go.Stage.the-variants as stage
+use Rattle.frames.specs.declared.go.Go.{Go}
 use Rattle.landing.specs.Landing.{Stack, ended, liveBy, frameAt, stored, turnAt, topOf, landOf}
 use Rattle.landing.proofs.Turns
-use Rattle.landing.proofs.Depths.{step-in}
+use Rattle.landing_step.proofs.Depths.{step-in}
 use Rattle.refinement.proofs.Meant.{Loaded, Holds, Goes, GoesBy, Sized, FoundBy, Lands}
 use Rattle.refinement.proofs.FrameLaws.{stored-sized, stored-other}
 use Rattle.refinement.proofs.Fuel.{Enough, EnoughBy, needs-most}

@@ -13,7 +13,7 @@ use borrow.Author.Tests.{eq-eqb, ne-eqb}
 use Rattle.records.specs.Record.{Kind, new, read, write, readv, writev, acquire, release, fork, join, lacksRead, lacksWrite, kindNumber, Record}
 use Rattle.records.specs.Packed.{packed, threeBytes, bytesOf}
 use Rattle.rules.specs.Run.{logged}
-use Rattle.moves.specs.declared.state.Entry.{Entry}
+use Rattle.state.specs.declared.Entry.{Entry}
 use Rattle.engine.specs.Machine.{wordOf, logPut, recordsAfter}
 use Rattle.refinement.proofs.States.{test-true, test-false}
 use Rattle.refinement.proofs.Looks.{Written, Entered}

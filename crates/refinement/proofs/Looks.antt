@@ -13,10 +13,10 @@ use Rattle.keys.specs.Keys.{Keys, holds, subset}
 use Rattle.keys.specs.KeySet.{keysOf, holdsOf}
 use Rattle.keys.proofs.KeyLaws.{subset-singleton}
 use Rattle.keys.proofs.KeySetLaws.{Fits, keys-holds}
-use Rattle.plan.specs.Format.{maskBit, volatiles}
-use Rattle.plan.specs.Trees.{programOf}
-use Rattle.plan.specs.Check.{refusal}
-use Rattle.plan.proofs.Accepted.{accepted}
+use Rattle.packed.specs.Format.{maskBit, volatiles}
+use Rattle.packed.specs.Trees.{programOf}
+use Rattle.packed.specs.Check.{refusal}
+use Rattle.packed.proofs.Accepted.{accepted}
 use Rattle.records.specs.Record.{Record, kindNumber}
 use Rattle.rules.specs.State.{fieldOf, monitorOf}
 use Rattle.rules.specs.State as rules
@@ -30,16 +30,16 @@ use Rattle.machine.proofs.MemoryLaws.{lookup-of, monitor-of}
 use Rattle.machine.proofs.Meaning.{redex, mean}
 use Rattle.machine.proofs.Runs.{Reached}
 use Rattle.machine.proofs.Standing.{standing}
-use Rattle.landing.specs.declared.go.Ready.{Ready}
-use Rattle.moves.specs.declared.state.Cell.{Cell}
-use Rattle.moves.specs.declared.state.Object.{Object}
-use Rattle.moves.specs.declared.state.Counts.{Counts}
-use Rattle.moves.specs.declared.state.Entry.{Entry}
-use Rattle.moves.specs.declared.look.Sight.{Sight}
-use Rattle.moves.specs.declared.look.Sight.the-variants as sight
-use Rattle.moves.specs.Look.{hasOf, objectOf}
-use Rattle.moves.specs.Look as look
-use Rattle.moves.specs.Settle.{lackEntry}
+use Rattle.frames.specs.declared.go.Ready.{Ready}
+use Rattle.state.specs.declared.Cell.{Cell}
+use Rattle.state.specs.declared.Object.{Object}
+use Rattle.state.specs.declared.Counts.{Counts}
+use Rattle.state.specs.declared.Entry.{Entry}
+use Rattle.look.specs.declared.Sight.{Sight}
+use Rattle.look.specs.declared.Sight.the-variants as sight
+use Rattle.look.specs.Look.{hasOf, objectOf}
+use Rattle.look.specs.Look as look
+use Rattle.settle.specs.Settle.{lackEntry}
 use Rattle.engine.specs.Machine.{noCell, noThing}
 use Rattle.refinement.proofs.States.{cellMeant, CellFits, memoryOf, memory-cell, memory-mask, Kept}
 

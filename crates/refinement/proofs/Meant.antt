@@ -9,10 +9,10 @@ use mathlib.Core.Logic.{_⊎_}
 use lib.Dec.{eqb}
 use lib.ListN.{length, getD}
 use Rattle.format.specs.Bits.{bitsAt}
-use Rattle.plan.specs.Format.{procedures, terms, root, expression, condition, list, fieldsFrom, maskBit, termBit, tagAt}
-use Rattle.plan.specs.Trees.{binderOf, nodeAt}
-use Rattle.plan.proofs.Accepted.{OfSort}
-use Rattle.plan.proofs.WellFormed.{count}
+use Rattle.packed.specs.Format.{procedures, terms, root, expression, condition, list, fieldsFrom, maskBit, termBit, tagAt}
+use Rattle.packed.specs.Trees.{binderOf, nodeAt}
+use Rattle.packed.proofs.Accepted.{OfSort}
+use Rattle.packed.proofs.WellFormed.{count}
 use Rattle.rules.specs.Rules.{Rule}
 use Rattle.machine.specs.Frames.{Slots, Closure, closure, branches}
 use Rattle.machine.specs.Frames as frames
@@ -21,16 +21,16 @@ use Rattle.machine.specs.Playing as playing
 use Rattle.machine.specs.Landing.{downᵃ, up, upᶜ, enter, enterᶜ}
 use Rattle.machine.proofs.TreeLaws.{treeᵃ}
 use Rattle.machine.proofs.Sorted.{Well, Wellᶜ}
-use Rattle.landing.specs.declared.frame.Kind.{Kind}
-use Rattle.landing.specs.declared.frame.Kind.the-variants as kind
-use Rattle.landing.specs.declared.frame.Frame.{Frame}
-use Rattle.landing.specs.Parts.{Part, Part as part, numberOf}
-use Rattle.landing.specs.declared.go.Ready.{Ready}
-use Rattle.landing.specs.declared.go.Stage.{Stage}
-use Rattle.landing.specs.declared.go.Stage.the-variants as stage
-use Rattle.landing.specs.declared.go.Go.{Go}
-use Rattle.landing.specs.Slots.{slotOf}
-use Rattle.landing.specs.Going.{readyIn}
+use Rattle.frames.specs.declared.frame.Kind.{Kind}
+use Rattle.frames.specs.declared.frame.Kind.the-variants as kind
+use Rattle.frames.specs.declared.frame.Frame.{Frame}
+use Rattle.frames.specs.Parts.{Part, Part as part, numberOf}
+use Rattle.frames.specs.declared.go.Ready.{Ready}
+use Rattle.frames.specs.declared.go.Stage.{Stage}
+use Rattle.frames.specs.declared.go.Stage.the-variants as stage
+use Rattle.frames.specs.declared.go.Go.{Go}
+use Rattle.term_words.specs.Slots.{slotOf}
+use Rattle.frames.specs.Going.{readyIn}
 use Rattle.landing.specs.Landing.{Stack, Ended, frameAt}
 
 -- ---- the plan as numbers

@@ -8,21 +8,21 @@ use mathlib.Core.List.{List, _∷_}
 use lib.Dec.{eqb}
 use lib.ListN.{length}
 use borrow.Author.Tests.{lt-ltb, le-ltb}
-use Rattle.plan.specs.Format.{terms, expression, condition}
-use Rattle.plan.specs.Trees.{nodeAt}
-use Rattle.plan.proofs.Accepted.{Child, Accepted}
+use Rattle.packed.specs.Format.{terms, expression, condition}
+use Rattle.packed.specs.Trees.{nodeAt}
+use Rattle.packed.proofs.Accepted.{Child, Accepted}
 use Rattle.machine.specs.Frames as frames
 use Rattle.machine.specs.Landing.{enter, enterᶜ}
 use Rattle.machine.proofs.PlanTable.{ordered}
 use Rattle.machine.proofs.Sorted.{Well, Wellᶜ}
-use Rattle.landing.specs.declared.frame.Kind.{Kind}
-use Rattle.landing.specs.declared.frame.Frame.{Frame}
-use Rattle.landing.specs.declared.go.Go.{Go}
-use Rattle.landing.specs.declared.down.Turn.{Turn}
-use Rattle.landing.specs.Words.{valueOf, truthOf}
-use Rattle.landing.specs.Frames.{framed}
-use Rattle.landing.specs.Going.{goRun, goRunCondition, goFull, feedOf, feedConditionOf}
-use Rattle.landing.specs.Down.{stayOf, pushOf, wantBy, wantOf, wantConditionBy, wantConditionOf}
+use Rattle.frames.specs.declared.frame.Kind.{Kind}
+use Rattle.frames.specs.declared.frame.Frame.{Frame}
+use Rattle.frames.specs.declared.go.Go.{Go}
+use Rattle.landing_step.specs.declared.Turn.{Turn}
+use Rattle.term_words.specs.Words.{valueOf, truthOf}
+use Rattle.frames.specs.Frames.{framed}
+use Rattle.frames.specs.Going.{goRun, goRunCondition, goFull, feedOf, feedConditionOf}
+use Rattle.landing_step.specs.Down.{stayOf, pushOf, wantBy, wantOf, wantConditionBy, wantConditionOf}
 use Rattle.landing.specs.Landing.{Stack, stored}
 use Rattle.refinement.proofs.Meant.{Loaded, closed, frameOf, IsExpression, IsCondition, SortedBy, Fine, Holds, Goes, Sized}
 use Rattle.refinement.proofs.FrameLaws.{holds-more, stored-stay, stored-push}

@@ -15,9 +15,9 @@ use lib.Seq.{getD-set-same, getD-set-other, drop-append-seam}
 use borrow.Author.Tests.{lt-ltb, le-ltb}
 use Rattle.format.specs.Refusal.{orElse}
 use Rattle.keys.specs.KeySet.{keysOf}
-use Rattle.plan.specs.Format.{volatiles}
-use Rattle.plan.specs.Trees.{programOf}
-use Rattle.plan.specs.Check.{refusal}
+use Rattle.packed.specs.Format.{volatiles}
+use Rattle.packed.specs.Trees.{programOf}
+use Rattle.packed.specs.Check.{refusal}
 use Rattle.records.specs.Record.{Record}
 use Rattle.rules.specs.State.{changeAt}
 use Rattle.rules.specs.Room as rooms
@@ -28,24 +28,24 @@ use Rattle.machine.specs.Machine as machine
 use Rattle.machine.specs.Playing.{tableOf}
 use Rattle.machine.specs.Playing as playing
 use Rattle.machine.proofs.Runs.{Reached}
-use Rattle.landing.specs.declared.frame.Frame.{Frame}
-use Rattle.landing.specs.Parts.{Part, Part as part}
-use Rattle.landing.specs.declared.go.Ready.{Ready}
-use Rattle.landing.specs.declared.go.Stage.{Stage}
-use Rattle.landing.specs.declared.go.Stage.the-variants as stage
-use Rattle.landing.specs.declared.land.Landed.{Landed}
-use Rattle.landing.specs.Going.{goFull}
+use Rattle.frames.specs.declared.frame.Frame.{Frame}
+use Rattle.frames.specs.Parts.{Part, Part as part}
+use Rattle.frames.specs.declared.go.Ready.{Ready}
+use Rattle.frames.specs.declared.go.Stage.{Stage}
+use Rattle.frames.specs.declared.go.Stage.the-variants as stage
+use Rattle.landing.specs.declared.Landed.{Landed}
+use Rattle.frames.specs.Going.{goFull}
 use Rattle.landing.specs.Landing.{Stack, Ended, ended, frameAt, landOf}
-use Rattle.moves.specs.declared.state.Head.{Head}
-use Rattle.moves.specs.declared.state.Counts.{Counts}
-use Rattle.moves.specs.declared.look.Sight.{Sight}
-use Rattle.moves.specs.declared.look.Sight.the-variants as sight
-use Rattle.moves.specs.declared.act.Room.{Room}
-use Rattle.moves.specs.declared.act.Room.the-variants as room
-use Rattle.moves.specs.declared.act.Acted.{Acted}
-use Rattle.moves.specs.declared.settle.Answer.{Answer}
-use Rattle.moves.specs.declared.settle.Answer.the-variants as answer
-use Rattle.moves.specs.Settle.{passesOf, forksOf, fullBy, fullOf, depthBy, roomBy, answerOf, moverOf, bornOf, entryBy}
+use Rattle.state.specs.declared.Head.{Head}
+use Rattle.state.specs.declared.Counts.{Counts}
+use Rattle.look.specs.declared.Sight.{Sight}
+use Rattle.look.specs.declared.Sight.the-variants as sight
+use Rattle.state.specs.declared.acted.Room.{Room}
+use Rattle.state.specs.declared.acted.Room.the-variants as room
+use Rattle.state.specs.declared.acted.Acted.{Acted}
+use Rattle.settle.specs.declared.Answer.{Answer}
+use Rattle.settle.specs.declared.Answer.the-variants as answer
+use Rattle.settle.specs.Settle.{passesOf, forksOf, fullBy, fullOf, depthBy, roomBy, answerOf, moverOf, bornOf, entryBy}
 use Rattle.engine.specs.Machine as engine
 use Rattle.engine.specs.Machine.{noHead, headAt, cellNumber, lookAt, actedBy, Finished, youngOf, finishOf, finishedBy, after}
 use Rattle.refinement.proofs.Meant.{Loaded, frameOf, Fine, Holds, StandsBy, Goes, Sized, FoundBy, Lands}

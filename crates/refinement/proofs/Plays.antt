@@ -8,10 +8,10 @@ use mathlib.Core.Bool.{Bool, true, false, cond}
 use mathlib.Core.List.{List, [], _∷_, _++_, map}
 use mathlib.Core.Option.{some, none}
 use lib.ListN.{length, getD, drop}
-use Rattle.plan.specs.Format.{volatiles}
-use Rattle.plan.specs.Trees.{programOf}
-use Rattle.plan.specs.Check.{refusal}
-use Rattle.plan.proofs.Accepted.{accepted}
+use Rattle.packed.specs.Format.{volatiles}
+use Rattle.packed.specs.Trees.{programOf}
+use Rattle.packed.specs.Check.{refusal}
+use Rattle.packed.proofs.Accepted.{accepted}
 use Rattle.records.specs.Record.{Record}
 use Rattle.records.specs.Packed.{bytesOf}
 use Rattle.rules.specs.Room as rooms
@@ -23,16 +23,16 @@ use Rattle.machine.specs.Playing.{tableOf}
 use Rattle.machine.specs.Playing as playing
 use Rattle.machine.proofs.Runs.{Reached}
 use Rattle.machine.proofs.Plays.{start-reached, move-reached, plays-outcome, plays-log}
-use Rattle.landing.specs.declared.go.Ready.{Ready}
-use Rattle.moves.specs.declared.look.Sight.{Sight}
-use Rattle.moves.specs.declared.look.Sight.the-variants as sight
-use Rattle.moves.specs.declared.act.Room.{Room}
-use Rattle.moves.specs.declared.act.Room.the-variants as room
-use Rattle.moves.specs.declared.settle.Answer.{Answer}
-use Rattle.moves.specs.declared.settle.Answer.the-variants as answer
-use Rattle.moves.specs.Look.{objectOf}
-use Rattle.moves.specs.Look as look
-use Rattle.moves.specs.Settle.{passesOf}
+use Rattle.frames.specs.declared.go.Ready.{Ready}
+use Rattle.look.specs.declared.Sight.{Sight}
+use Rattle.look.specs.declared.Sight.the-variants as sight
+use Rattle.state.specs.declared.acted.Room.{Room}
+use Rattle.state.specs.declared.acted.Room.the-variants as room
+use Rattle.settle.specs.declared.Answer.{Answer}
+use Rattle.settle.specs.declared.Answer.the-variants as answer
+use Rattle.look.specs.Look.{objectOf}
+use Rattle.look.specs.Look as look
+use Rattle.settle.specs.Settle.{passesOf}
 use Rattle.engine.specs.declared.Stop.the-variants as stop
 use Rattle.engine.specs.declared.Stop as code
 use Rattle.engine.specs.declared.Seen.{Seen}

@@ -13,9 +13,9 @@ use lib.Seq.{set-getD}
 use Rattle.keys.specs.Keys.{singleton}
 use Rattle.keys.specs.KeySet.{zeroSet}
 use Rattle.keys.proofs.KeySetLaws.{fits-zero, fits-empty, keys-zero}
-use Rattle.plan.specs.Format.{procedures, root, volatiles}
-use Rattle.plan.specs.Check.{refusal}
-use Rattle.plan.proofs.Accepted.{accepted}
+use Rattle.packed.specs.Format.{procedures, root, volatiles}
+use Rattle.packed.specs.Check.{refusal}
+use Rattle.packed.proofs.Accepted.{accepted}
 use Rattle.rules.specs.State.{freshObject}
 use Rattle.rules.specs.Rules.{e-call}
 use Rattle.machine.specs.Frames.{Slots, noSlots, closure}
@@ -23,13 +23,13 @@ use Rattle.machine.specs.Frames as frames
 use Rattle.machine.specs.Memory.{objectsOf}
 use Rattle.machine.specs.Machine as machine
 use Rattle.machine.specs.Playing as playing
-use Rattle.landing.specs.Parts.{Part as part}
-use Rattle.landing.specs.Slots.{slotOf, choose}
-use Rattle.landing.specs.Going.{readyOf}
+use Rattle.frames.specs.Parts.{Part as part}
+use Rattle.term_words.specs.Slots.{slotOf, choose}
+use Rattle.frames.specs.Going.{readyOf}
 use Rattle.landing.specs.Landing.{Stack}
-use Rattle.moves.specs.declared.state.Cell.{Cell}
-use Rattle.moves.specs.declared.state.Object.{Object}
-use Rattle.moves.specs.Act.{countsOf}
+use Rattle.state.specs.declared.Cell.{Cell}
+use Rattle.state.specs.declared.Object.{Object}
+use Rattle.state.specs.Acted.{countsOf}
 use Rattle.engine.specs.Machine.{noCell, noThing, headAt, startOf}
 use Rattle.refinement.proofs.Meant.{Loaded, IsExpression, Stands}
 use Rattle.refinement.proofs.States.{CellFits, freshCell, memoryOf, Kept, Headed, Related, kept-object}

@@ -14,7 +14,7 @@ use borrow.Author.Tests.{eq-eqb, ne-eqb, lt-ltb, le-ltb, ltb-true}
 use Rattle.keys.specs.Keys.{Keys, singleton}
 use Rattle.keys.specs.KeySet.{keysOf, zeroSet}
 use Rattle.keys.proofs.KeySetLaws.{Fits, keys-zero}
-use Rattle.plan.specs.Format.{maskBit, fieldsFrom, volatiles}
+use Rattle.packed.specs.Format.{maskBit, fieldsFrom, volatiles}
 use Rattle.rules.specs.State.{fresh, freshObject, changeAt, storeField}
 use Rattle.rules.specs.State as rules
 use Rattle.rules.proofs.StateLaws.{change-length, length-added}
@@ -23,12 +23,12 @@ use Rattle.machine.specs.Memory.{Memory, objectsOf, storeCell, addMask}
 use Rattle.machine.specs.Machine as machine
 use Rattle.machine.proofs.MemoryLaws.{store-of, store-monitor-of, add-of, FreshPast}
 use Rattle.landing.specs.Landing.{Stack}
-use Rattle.moves.specs.declared.state.Head.{Head}
-use Rattle.moves.specs.declared.state.Cell.{Cell}
-use Rattle.moves.specs.declared.state.Object.{Object}
-use Rattle.moves.specs.declared.state.Counts.{Counts}
-use Rattle.moves.specs.Look.{hasOf}
-use Rattle.moves.specs.Act.{cellOf}
+use Rattle.state.specs.declared.Head.{Head}
+use Rattle.state.specs.declared.Cell.{Cell}
+use Rattle.state.specs.declared.Object.{Object}
+use Rattle.state.specs.declared.Counts.{Counts}
+use Rattle.look.specs.Look.{hasOf}
+use Rattle.state.specs.Acted.{cellOf}
 use Rattle.engine.specs.Machine as engine
 use Rattle.engine.specs.Machine.{noCell, noThing, headAt}
 use Rattle.refinement.proofs.Meant.{Holds, Stands, Sized}

@@ -6,18 +6,18 @@ use mathlib.Core.Bool.{true}
 use mathlib.Core.List.{List, [], _∷_}
 use lib.Dec.{eqb, eqb·suc-zero}
 use lib.ListN.{length}
-use Rattle.plan.specs.Format.{terms}
-use Rattle.plan.specs.Trees.{nodeAt}
+use Rattle.packed.specs.Format.{terms}
+use Rattle.packed.specs.Trees.{nodeAt}
 use Rattle.machine.specs.Frames as frames
 use Rattle.machine.specs.Landing.{upBy, up, upᶜ}
 use Rattle.machine.proofs.Sorted.{Well, Wellᶜ}
-use Rattle.landing.specs.declared.frame.Frame.{Frame}
-use Rattle.landing.specs.Parts.{Part as part}
-use Rattle.landing.specs.declared.go.Stage.{Stage}
-use Rattle.landing.specs.declared.go.Stage.the-variants as stage
-use Rattle.landing.specs.declared.go.Go.{Go}
-use Rattle.landing.specs.Going.{readyOf, goAt, feedOf, feedConditionOf}
-use Rattle.landing.specs.Down.{stayOf, backOf, backConditionOf, stepBy, stepOf}
+use Rattle.frames.specs.declared.frame.Frame.{Frame}
+use Rattle.frames.specs.Parts.{Part as part}
+use Rattle.frames.specs.declared.go.Stage.{Stage}
+use Rattle.frames.specs.declared.go.Stage.the-variants as stage
+use Rattle.frames.specs.declared.go.Go.{Go}
+use Rattle.frames.specs.Going.{readyOf, goAt, feedOf, feedConditionOf}
+use Rattle.landing_step.specs.Down.{stayOf, backOf, backConditionOf, stepBy, stepOf}
 use Rattle.landing.specs.Landing.{Stack, liveBy, topOf, frameAt}
 use Rattle.refinement.proofs.Meant.{Goes, GoesBy}
 use Rattle.refinement.proofs.Fuel.{needs-most, Enough, EnoughBy, feed-enough, feed-condition-enough}

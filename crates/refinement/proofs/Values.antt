@@ -5,13 +5,13 @@ use mathlib.Core.Path.{_≡_, refl, sym, ap, _∙_}
 use mathlib.Core.List.{List}
 use mathlib.Core.Option.{some, none}
 use lib.Dec.{eqb}
-use Rattle.plan.specs.Trees.{Node, nodeAt}
-use Rattle.plan.proofs.Accepted.{Accepted}
+use Rattle.packed.specs.Trees.{Node, nodeAt}
+use Rattle.packed.proofs.Accepted.{Accepted}
 use Rattle.rules.specs.Context.{falseWhen}
 use Rattle.machine.specs.Landing.{valueIn, boolIn, boolOf, isTrue}
 use Rattle.machine.specs.Landing as machine
-use Rattle.landing.specs.Slots.{slotOf}
-use Rattle.landing.specs.Words.{wordAt, tagOf, firstOf, slotBits, valueBy, valueOf, truthBy, truthOf}
+use Rattle.term_words.specs.Slots.{slotOf}
+use Rattle.term_words.specs.Words.{wordAt, tagOf, firstOf, slotBits, valueBy, valueOf, truthBy, truthOf}
 use Rattle.refinement.proofs.Meant.{Loaded, closed, IsExpression, IsCondition}
 use Rattle.refinement.proofs.SlotLaws.{slot-below}
 use Rattle.refinement.proofs.Words.{Expression, Condition, expression-at, condition-at}

@@ -10,14 +10,14 @@ use lib.Dec.{eqb}
 use lib.ListN.{getD}
 use Rattle.format.specs.Bits.{bitsAt}
 use Rattle.format.proofs.BitLaws.{field-of, first-of}
-use Rattle.plan.specs.Format.{procedures, terms, maskBit, fieldsFrom, expression, condition, list, width, table, layout, laidOut, termBit, tagAt, termAt}
-use Rattle.plan.specs.Trees.{Node, binderOf, nodes, nodeAt}
-use Rattle.plan.proofs.WellFormed.{count}
-use Rattle.plan.proofs.Accepted.{OfSort, Child, Fits, RightTerm, Accepted}
-use Rattle.plan.proofs.Decoded.{node-is}
+use Rattle.packed.specs.Format.{procedures, terms, maskBit, fieldsFrom, expression, condition, list, width, table, layout, laidOut, termBit, tagAt, termAt}
+use Rattle.packed.specs.Trees.{Node, binderOf, nodes, nodeAt}
+use Rattle.packed.proofs.WellFormed.{count}
+use Rattle.packed.proofs.Accepted.{OfSort, Child, Fits, RightTerm, Accepted}
+use Rattle.packed.proofs.Decoded.{node-is}
 use Rattle.machine.proofs.TreeLaws.{treeᵃ}
 use Rattle.machine.proofs.CallLists.{call-fits}
-use Rattle.landing.specs.Words.{wordAt, tagOf, firstOf, secondOf, thirdOf, slotBits, fieldBits, writeSecond, letFirst, letSecond, procedureBits, listBits, maskBits}
+use Rattle.term_words.specs.Words.{wordAt, tagOf, firstOf, secondOf, thirdOf, slotBits, fieldBits, writeSecond, letFirst, letSecond, procedureBits, listBits, maskBits}
 use Rattle.refinement.proofs.Meant.{Loaded}
 
 -- ---- what a term is, by its word

@@ -10,7 +10,7 @@ use lib.ListN.{length, getElem?}
 use lib.Dec.{T, eqb}
 use Rattle.keys.specs.Keys.{Keys, empty, singleton, union, holds, isEmpty}
 use Rattle.keys.proofs.KeyLaws.{holds-union, holds-singleton, singleton-injective, some-key, no-key}
-use Rattle.plan.specs.Syntax.{Expression, Program}
+use Rattle.packed.specs.Syntax.{Expression, Program}
 use Rattle.rules.specs.Context.{plug, plugᶜ}
 use Rattle.rules.specs.State.{Cell, cell, Thread, State, fresh, freshObject, lookup, monitor, store, storeMonitor, addObject, learn, become, addThread, useKey, threadOf, Numbered}
 use Rattle.records.specs.Record.{Kind, Record, entry}

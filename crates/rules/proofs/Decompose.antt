@@ -5,7 +5,7 @@ use mathlib.Core.Bool.{Bool, true, false}
 use mathlib.Core.List.{List, [], _∷_, _++_, append-nil, append-assoc}
 use mathlib.Core.Option.{Option, some, none, Option·some-ne-none}
 use lib.Dec.{T}
-use Rattle.plan.specs.Syntax.{Expression, Condition, Arguments, literal, end, argument, bool}
+use Rattle.packed.specs.Syntax.{Expression, Condition, Arguments, literal, end, argument, bool}
 use Rattle.rules.specs.Context.{Context, Contextᶜ, top, read, write₁, write₂, call, letIn, synch, hold, join, equal₁, equal₂, literals, plug, plugᶜ, Redex, Redexᶜ, Focus, value, here, hereᶜ, focus, focusᶜ, focusᵃ, asLiteral, asBool, isTruth, falseWhen, redexExpression, redexCondition, onLiteral, onBool, onNot}
 
 focus-args : (K : Context) (m : ℕ) (vs os : List ℕ) (es : Arguments) (e : Expression) → asLiteral e ≡ none

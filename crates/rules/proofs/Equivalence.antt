@@ -9,7 +9,7 @@ use lib.Dec.{eqb}
 use lib.ListN.{length, getElem?}
 use borrow.Author.Tests.{eq-eqb, ne-eqb, eqb-true, eqb-false}
 use Rattle.keys.specs.Keys.{Keys, empty, singleton, holds, subset, isEmpty}
-use Rattle.plan.specs.Syntax.{Expression, Condition, literal, end, Program, Procedure}
+use Rattle.packed.specs.Syntax.{Expression, Condition, literal, end, Program, Procedure}
 use Rattle.rules.specs.Context.{Context, top, plug, plugᶜ, literals, asLiteral, Redex, Redexᶜ, redexExpression, redexCondition, Focus, value, here, hereᶜ, focus}
 use Rattle.rules.specs.State.{Cell, Thread, State, lookup, monitor, become, threadOf, Numbered}
 use Rattle.records.specs.Record.{Record}

@@ -5,11 +5,11 @@ use mathlib.Core.Path.{_≡_, refl, ap, subst as along}
 use mathlib.Core.List.{List, [], _∷_}
 use mathlib.Core.Option.{Option, some, none}
 use lib.ListN.{length}
-use Rattle.plan.specs.Syntax.{Expression, Program}
-use Rattle.plan.specs.Trees.{programOf}
-use Rattle.plan.specs.Check.{refusal}
-use Rattle.plan.proofs.WellFormed.{WellFormedProgram}
-use Rattle.plan.proofs.Decoded.{well-formed}
+use Rattle.packed.specs.Syntax.{Expression, Program}
+use Rattle.packed.specs.Trees.{programOf}
+use Rattle.packed.specs.Check.{refusal}
+use Rattle.packed.proofs.WellFormed.{WellFormedProgram}
+use Rattle.packed.proofs.Decoded.{well-formed}
 use Rattle.records.specs.Record.{Record}
 use Rattle.rules.specs.State.{State, start}
 use Rattle.rules.specs.Rules.{Rule, Moves}

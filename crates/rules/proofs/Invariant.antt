@@ -9,7 +9,7 @@ use mathlib.Core.Logic.{_⊎_, inl, inr}
 use mathlib.Core.Option.{some, none}
 use lib.ListN.{length, getElem?}
 use Rattle.keys.specs.Keys.{Keys, empty}
-use Rattle.plan.specs.Syntax.{Expression, Program}
+use Rattle.packed.specs.Syntax.{Expression, Program}
 use Rattle.rules.specs.Context.{focus, top}
 use Rattle.rules.specs.State.{Cell, Thread, State, fresh, freshObject, lookup, monitor, store, storeMonitor, addObject, changeAt, learn, become, addThread, useKey}
 use Rattle.rules.proofs.Placed.{Good, holds, Landed}

@@ -10,7 +10,7 @@ use mathlib.Core.Option.{Option, some, none}
 use lib.ListN.{length, getElem?}
 use lib.Dec.{T}
 use Rattle.keys.specs.Keys.{Keys, empty, singleton, union, holds, isEmpty}
-use Rattle.plan.specs.Syntax.{Expression, Program}
+use Rattle.packed.specs.Syntax.{Expression, Program}
 use Rattle.rules.specs.State.{Cell, Thread, State, fresh, freshObject, lookup, monitor, store, storeMonitor, addObject, changeAt, learn, become, addThread, useKey}
 use Rattle.order.proofs.KeySets.{KeySet, noKeys, put, put-same, put-other, put₂, put₂-same, put₂-other}
 use Rattle.order.proofs.KeyMachine.{KeyState, monitorTaken, threadKnows, plainKeyed, volatileKnows, monitorFreed, threadForked}

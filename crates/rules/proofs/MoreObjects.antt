@@ -2,10 +2,10 @@
 use Prim.Native.Nat.{ℕ, _≤_}
 use native.Mathlib.Omega.{arith}
 use mathlib.Core.List.{List, [], _∷_}
-use Rattle.plan.specs.Syntax.{Program}
-use Rattle.plan.specs.Slots.{bound}
+use Rattle.packed.specs.Syntax.{Program}
+use Rattle.packed.specs.Slots.{bound}
 use Rattle.rules.specs.Context.{Context, Contextᶜ, top, read, write₁, write₂, call, letIn, synch, hold, join, equal₁, equal₂, Redex, Redexᶜ, Focus, value, here, hereᶜ}
-use Rattle.plan.proofs.WellFormed.{unbound}
+use Rattle.packed.proofs.WellFormed.{unbound}
 use Rattle.rules.proofs.Closing.{more, moreᶜ, moreᵃ, Below}
 use Rattle.rules.proofs.Placed.{Around, Aroundᶜ, Ready, Readyᶜ, Good}
 

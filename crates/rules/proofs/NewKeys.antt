@@ -11,7 +11,7 @@ use lib.Dec.{T, eqb→eq}
 use lib.ListN.{length, getElem?}
 use Rattle.keys.specs.Keys.{Keys, empty, singleton, holds, union}
 use Rattle.keys.proofs.KeyLaws.{holds-empty, holds-singleton, holds-union}
-use Rattle.plan.specs.Syntax.{Expression, Arguments, Program}
+use Rattle.packed.specs.Syntax.{Expression, Arguments, Program}
 use Rattle.records.specs.Record.{Record}
 use Rattle.rules.specs.State.{Cell, cell, Thread, State, fresh, freshObject, lookup, monitor, store, storeMonitor, addObject, learn, become, addThread, useKey, start, changeAt}
 use Rattle.rules.specs.Rules.{Rule, Converts, E-CALL, E-LET, E-IF, E-WHILE, E-NEW, E-READ, E-WRITE, E-READV, E-WRITEV, E-FORK, E-JOIN, E-RE-ENTER, E-ACQUIRE, E-RELEASE, Moves, EVAL, EVALᶜ}

@@ -9,7 +9,7 @@ use mathlib.Core.Logic.{_⊎_, inl, inr}
 use mathlib.Core.Option.{Option, some, none}
 use lib.ListN.{length}
 use Rattle.keys.specs.Keys.{singleton, union}
-use Rattle.plan.specs.Syntax.{Expression, Program}
+use Rattle.packed.specs.Syntax.{Expression, Program}
 use Rattle.records.specs.Record.{Record}
 use Rattle.rules.specs.State.{Cell, cell, Thread, State, fresh, freshObject, lookup, store, storeMonitor, addObject, learn, become, addThread, useKey, start}
 use Rattle.rules.specs.Rules.{Rule, isVolatile, Converts, E-CALL, E-LET, E-IF, E-WHILE, E-NEW, E-READ, E-WRITE, E-READV, E-WRITEV, E-FORK, E-JOIN, E-RE-ENTER, E-ACQUIRE, E-RELEASE, Moves, EVAL, EVALᶜ}

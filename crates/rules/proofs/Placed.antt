@@ -7,11 +7,11 @@ use mathlib.Core.Bool.{Bool, true, false}
 use mathlib.Core.List.{List, [], _∷_, _++_}
 use mathlib.Core.Option.{Option, some, none}
 use lib.ListN.{length, length-append}
-use Rattle.plan.specs.Syntax.{Expression, Condition, Arguments, literal, end, argument, Program, bool}
-use Rattle.plan.specs.Slots.{bound}
+use Rattle.packed.specs.Syntax.{Expression, Condition, Arguments, literal, end, argument, Program, bool}
+use Rattle.packed.specs.Slots.{bound}
 use Rattle.rules.specs.Context.{Context, Contextᶜ, top, read, write₁, write₂, call, letIn, synch, hold, join, equal₁, equal₂, literals, plug, plugᶜ, Redex, Redexᶜ, Focus, value, here, hereᶜ, focus, focusᶜ, focusᵃ, asLiteral, asBool, redexExpression, onLiteral, onBool, onNot}
 use Rattle.rules.proofs.Decompose.{focus-plug, focus-plugᶜ, found, as-literal, as-bool}
-use Rattle.plan.proofs.WellFormed.{WellFormed, WellFormedᶜ, WellFormedᵃ, count, Callable, unbound}
+use Rattle.packed.proofs.WellFormed.{WellFormed, WellFormedᶜ, WellFormedᵃ, count, Callable, unbound}
 use Rattle.rules.proofs.Closing.{Below}
 
 abbrev pub Text : Program → ℕ → Expression → Type 0

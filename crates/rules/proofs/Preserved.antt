@@ -10,14 +10,14 @@ use mathlib.Core.Option.{Option, some}
 use lib.ListN.{length, getElem?}
 use lib.Dec.{eqb}
 use Rattle.keys.specs.Keys.{Keys, empty, singleton, union, isEmpty}
-use Rattle.plan.specs.Syntax.{Expression, Condition, Arguments, literal, bind, bindParameters, substitute, Program, Procedure, bool, sequence}
-use Rattle.plan.specs.Slots.{bound}
+use Rattle.packed.specs.Syntax.{Expression, Condition, Arguments, literal, bind, bindParameters, substitute, Program, Procedure, bool, sequence}
+use Rattle.packed.specs.Slots.{bound}
 use Rattle.rules.specs.Context.{Context, Contextᶜ, Focus, focus, top, here, hold, plug, plugᶜ, Redex, Redexᶜ, redexExpression, redexCondition, literals}
 use Rattle.rules.proofs.Decompose.{found, foundᶜ}
 use Rattle.rules.specs.State.{Cell, cell, Thread, State, freshObject, lookup, monitor, store, storeMonitor, addObject, learn, become, addThread, useKey}
 use Rattle.records.specs.Record.{Record}
 use Rattle.rules.specs.Rules.{Rule, choose, Converts, E-CALL, E-LET, E-IF, E-WHILE, E-NEW, E-READ, E-WRITE, E-READV, E-WRITEV, E-FORK, E-JOIN, E-RE-ENTER, E-ACQUIRE, E-RELEASE, Convertsᶜ, E-NOTNOTTRUE, E-ANDTRUE, E-ANDFALSE, E-EQUALTRUE, E-EQUALFALSE, Moves, EVAL, EVALᶜ}
-use Rattle.plan.proofs.WellFormed.{WellFormedProgram, unbound}
+use Rattle.packed.proofs.WellFormed.{WellFormedProgram, unbound}
 use Rattle.rules.proofs.Closing.{more, filled, covers-one, covers-params}
 use Rattle.rules.proofs.Placed.{Landed, Text, Textᶜ, Around, Ready, Readyᶜ, Good, held, holds, pending, pendingᶜ, rise, riseᶜ}
 use Rattle.rules.proofs.StateLaws.{inside, added-old, change-same, lock-same, lock-other, found-thread}

@@ -10,12 +10,12 @@ use lib.ListN.{length, getElem?}
 use lib.Dec.{eqb}
 use borrow.Author.Tests.{eq-eqb}
 use Rattle.keys.specs.Keys.{singleton, isEmpty, subset}
-use Rattle.plan.specs.Syntax.{Expression, Arguments, Program}
+use Rattle.packed.specs.Syntax.{Expression, Arguments, Program}
 use Rattle.rules.specs.Context.{Context, Focus, focus, top, value, here, hereᶜ, asLiteral, Redex}
 use Rattle.rules.specs.State.{Cell, Thread, State, start, fresh, freshObject, lookup, monitor, threadOf, Numbered}
 use Rattle.rules.specs.Rules.{isVolatile}
 use Rattle.rules.specs.Step.{Stuck, notThread, missingField, noRule, Act, waits, sticks, lacks, does, callAct, readAct, writeAct, joinAct, joinValue, synchAct, holdAct, act, Attempt, around, attemptAt, attemptBy, attempt}
-use Rattle.plan.proofs.WellFormed.{WellFormedProgram, Callable}
+use Rattle.packed.proofs.WellFormed.{WellFormedProgram, Callable}
 use Rattle.rules.proofs.Placed.{Good, Ready, holds, held, pending}
 use Rattle.rules.proofs.StateLaws.{monitor-there}
 use Rattle.rules.proofs.Invariant.{In, heldBy, Sound, Inv}

@@ -15,8 +15,8 @@ use Rattle.keys.proofs.KeyLaws.{holds-singleton}
 use Rattle.order.proofs.KeySets.{onlyZero}
 use Rattle.order.proofs.KeyMachine.{start as startKeys, after}
 use Rattle.order.proofs.EverySet.{WouldReach, every-set}
-use Rattle.plan.specs.Syntax.{Expression, Arguments, Program}
-use Rattle.plan.proofs.WellFormed.{WellFormedProgram}
+use Rattle.packed.specs.Syntax.{Expression, Arguments, Program}
+use Rattle.packed.proofs.WellFormed.{WellFormedProgram}
 use Rattle.records.specs.Record.{Record}
 use Rattle.rules.specs.State.{Cell, Thread, State, start, fresh, freshObject, lookup, monitor}
 use Rattle.rules.specs.Rules.{isVolatile, LacksHere, LACKS-READ, LACKS-WRITE, Lacks, LACKS}

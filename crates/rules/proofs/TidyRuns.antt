@@ -9,7 +9,7 @@ use lib.ListN.{length, getElem?}
 use lib.Dec.{eqb, leb, nleb→lt}
 use borrow.Author.Tests.{ne-eqb, le-ltb}
 use Rattle.keys.specs.Keys.{singleton, empty}
-use Rattle.plan.specs.Syntax.{Program, Expression}
+use Rattle.packed.specs.Syntax.{Program, Expression}
 use Rattle.rules.specs.Context.{Context, focus, top, plug, redexExpression, Redex}
 use Rattle.rules.specs.State.{Cell, Thread, State, start, freshObject, store, storeMonitor, addObject, learn, become, addThread, useKey}
 use Rattle.records.specs.Record.{Record}
@@ -17,7 +17,7 @@ use Rattle.rules.specs.Rules.{Rule, LacksHere, LACKS-READ, LACKS-WRITE, 
 use Rattle.rules.specs.Room.{Room, noRoomBefore, noRoomAfter, noRoomFor}
 use Rattle.format.specs.Refusal.{orElse}
 use Rattle.rules.specs.Run.{Run, logged, stopped, afterPass, afterMove, play}
-use Rattle.plan.proofs.WellFormed.{WellFormedProgram}
+use Rattle.packed.proofs.WellFormed.{WellFormedProgram}
 use Rattle.records.proofs.Tidy.{Tidy, AllTidy}
 use Rattle.rules.proofs.Placed.{Good}
 use Rattle.rules.proofs.StateLaws.{inside, length-added, change-length, found-thread}

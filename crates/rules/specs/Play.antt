@@ -6,8 +6,8 @@ use mathlib.Core.Option.{Option, some, none}
 use lib.Dec.{ltb}
 use lib.ListN.{length, getD, drop}
 use Rattle.format.specs.Refusal.{Refusal, Check, check, checkWhole, firstRefusal}
-use Rattle.plan.specs.Trees.{programOf}
-use Rattle.plan.specs.Check.{checks}
+use Rattle.packed.specs.Trees.{programOf}
+use Rattle.packed.specs.Check.{checks}
 use Rattle.records.specs.Packed.{bytesOf}
 use Rattle.rules.specs.Run.{Run, play, Outcome, outcomeOf}
 

@@ -8,7 +8,7 @@ use lib.Dec.{ltb, leb}
 use lib.ListN.{length, getElem?, drop}
 use Rattle.format.specs.Refusal.{orElse}
 use Rattle.keys.specs.Keys.{empty}
-use Rattle.plan.specs.Syntax.{Expression, Program, literal}
+use Rattle.packed.specs.Syntax.{Expression, Program, literal}
 use Rattle.records.specs.Record.{Record}
 use Rattle.rules.specs.Context.{Context, top, plug, focus, depthOf}
 use Rattle.rules.specs.State.{cell, Thread, State, Numbered, lookup, monitor, threadOf}

@@ -7,8 +7,8 @@ use mathlib.Core.Option.{Option, some, none}
 use lib.Dec.{eqb}
 use lib.ListN.{length, getElem?}
 use Rattle.keys.specs.Keys.{Keys, empty, singleton, holds, union, isEmpty}
-use Rattle.plan.specs.Syntax.{Expression, Condition, Procedure, Program, literal, end, sequence, bool, bind, bindParameters, substitute}
-use Rattle.plan.specs.Format.{maskBit}
+use Rattle.packed.specs.Syntax.{Expression, Condition, Procedure, Program, literal, end, sequence, bool, bind, bindParameters, substitute}
+use Rattle.packed.specs.Format.{maskBit}
 use Rattle.records.specs.Record.{Kind, Record, entry}
 use Rattle.rules.specs.Context.{Context, Contextᶜ, plug, plugᶜ, literals}
 use Rattle.rules.specs.State.{cell, Thread, State, Numbered, freshObject, lookup, monitor, store, storeMonitor, addObject, learn, become, addThread, useKey, threadOf}

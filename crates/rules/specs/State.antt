@@ -6,7 +6,7 @@ use mathlib.Core.Option.{Option, some, none}
 use lib.Dec.{eqb}
 use lib.ListN.{getElem?}
 use Rattle.keys.specs.Keys.{Keys, singleton, union}
-use Rattle.plan.specs.Syntax.{Expression, Arguments}
+use Rattle.packed.specs.Syntax.{Expression, Arguments}
 
 -- what a location holds: (W, o)
 pub record Cell : Type 0 where

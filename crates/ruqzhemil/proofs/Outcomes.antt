@@ -5,10 +5,10 @@ use mathlib.Core.Path.{_≡_, refl}
 use mathlib.Core.List.{List}
 use mathlib.Core.Option.{none}
 use lib.ListN.{length}
-use Rattle.plan.specs.Syntax.{Program}
-use Rattle.plan.specs.Check.{refusal}
-use Rattle.plan.specs.Trees.{programOf}
-use Rattle.plan.proofs.Decoded.{well-formed}
+use Rattle.packed.specs.Syntax.{Program}
+use Rattle.packed.specs.Check.{refusal}
+use Rattle.packed.specs.Trees.{programOf}
+use Rattle.packed.proofs.Decoded.{well-formed}
 use Rattle.rules.specs.State.{State, start}
 use Rattle.rules.specs.Run.{Run, stopped, afterPass, afterMove, run, play, outcomeOf, statusesFrom}
 use Rattle.rules.specs.Execution.{Execution, ends, passes, lacks-key, no-room, moves}

@@ -9,8 +9,8 @@ use borrow.Author.Tests.{ltb-false}
 use Rattle.format.specs.Refusal.{Refusal, Check, check, checkWhole, orElse, firstRefusal}
 use Rattle.format.proofs.BitLaws.{bits-below}
 use Rattle.format.proofs.RefusalLaws.{First, here, later, some-is-first}
-use Rattle.plan.specs.Format.{procedures, terms}
-use Rattle.plan.specs.Check.{checks, refusal}
+use Rattle.packed.specs.Format.{procedures, terms}
+use Rattle.packed.specs.Check.{checks, refusal}
 use Rattle.records.specs.Packed.{recordCount}
 use Rattle.records.specs.Refusals.{wrongLogLength, wrongRecord, logChecks, logRefusal}
 use Rattle.records.proofs.Accepted.{right-length}

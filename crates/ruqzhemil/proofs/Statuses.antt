@@ -8,7 +8,7 @@ use mathlib.Core.Option.{Option, some, none}
 use lib.Dec.{eqb}
 use lib.ListN.{length, getElem?}
 use Rattle.keys.specs.Keys.{subset, isEmpty}
-use Rattle.plan.specs.Syntax.{Program, Procedure, Expression}
+use Rattle.packed.specs.Syntax.{Program, Procedure, Expression}
 use Rattle.rules.specs.Context.{Context, Redex, Focus, value, here, hereᶜ, focus, top, asLiteral}
 use Rattle.rules.specs.State.{Cell, Thread, State, Numbered, lookup, monitor, threadOf}
 use Rattle.rules.specs.Rules.{isVolatile}

@@ -1,6 +1,6 @@
 // The entries for programs in C, Rust and other languages: check, play and judge, each with a number for its answer. A slice is a pointer and a length.
 ghost use mathlib.Core.Path.{_≡_};
-ghost use Rattle.plan.specs.Check.{refusal};
+ghost use Rattle.packed.specs.Check.{refusal};
 ghost use Rattle.rules.specs.Play.{played, areaAfter};
 ghost use Rattle.numbers.specs.Numbers.{checkNumber, playNumber, MayReturn};
 ghost use Rattle.ruqzhemil.specs.Bytes.{outAfter};

@@ -2,8 +2,8 @@
 // moves and records; three bytes for each of eight threads. Numbers of two bytes have the high byte first.
 ghost use Prim.Native.Nat.{_≤_};
 ghost use lib.ListN.{length};
+use header::bits;
 use plan::Checked;
-use plan::bits;
 use player::outcome::NoRoom;
 use player::outcome::Outcome;
 use player::outcome::Played;

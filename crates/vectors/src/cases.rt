@@ -6,9 +6,9 @@
 ghost use Prim.Native.Nat.{_≤_};
 ghost use lib.ListN.{length};
 use crate::answer;
+use header::bits;
 use judge::Judgement;
 use plan::Checked;
-use plan::bits;
 use player::outcome::Played;
 
 // What every log area is filled with before a play.

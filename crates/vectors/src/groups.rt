@@ -1,7 +1,7 @@
 // The cases of a file, each behind its length of two bytes, and how many of them differ.
 ghost use Prim.Native.Nat.{_≤_};
 use crate::cases;
-use plan::bits;
+use header::bits;
 
 pub enum Group {
     Check,

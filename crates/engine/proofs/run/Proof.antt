@@ -1,4 +1,4 @@
--- `run` meets its contract. The loop's invariant: the rest of the run from here is the whole run. Assumes nothing.
+-- `run` meets its contract. The first loop's invariant: the rest of the run from here is the whole run; the second's: what is left to see makes up all that is seen. Assumes nothing.
 use mathlib.Core.Path.{_≡_, refl, sym, ap, _∙_}
 use mathlib.Core.Bool.{true, false}
 use mathlib.Core.List.{List, [], _∷_}
@@ -6,15 +6,16 @@ use mathlib.Core.Logic.{⊎-elim}
 use Prim.Native.Nat.{ℕ, _≤_, _<_, _+_, _-_, _/_, _%_}
 use native.Mathlib.Numerals.{add-one}
 use native.Mathlib.Omega.{arith}
-use lib.ListN.{length, getD, drop, drop-of-length-le}
+use lib.ListN.{length, getD, set, drop, drop-of-length-le, replicate}
 use lib.Seq.{drop-cons}
-use Rattle.moves.specs.declared.look.Sight.{Sight}
-use Rattle.moves.specs.declared.act.Acted.{Acted}
-use Rattle.moves.specs.Settle.{passesOf, forksOf, bornOf}
+use Rattle.look.specs.declared.Sight.{Sight}
+use Rattle.state.specs.declared.acted.Acted.{Acted}
+use Rattle.settle.specs.Settle.{passesOf, forksOf, bornOf}
 use Rattle.engine.specs.declared.Stop.the-variants as stop
+use Rattle.engine.specs.declared.Seen.{Seen}
 use Rattle.engine.specs.declared.Tally.{Tally}
-use Rattle.engine.specs.Machine.{Machine, Finished, Played, noHead, noCell, noThing, headAt, metBy, actedBy, finishedBy, finishOf, tallyPut, tallyMoved, logPut, stopOf, endOf, stopped, logged, withYoung, startOf, playOf}
-use Rattle.engine.proofs.Looks.{present, absent, looked, acted}
+use Rattle.engine.specs.Machine.{Machine, Finished, Played, noHead, noCell, noThing, headAt, metBy, actedBy, finishedBy, finishOf, tallyPut, tallyMoved, logPut, stopOf, seenOf, endOf, stopped, logged, withYoung, startOf, playOf}
+use Rattle.engine.proofs.Looks.{present, absent, looked, acted, seen-so, seenFrom, all-seen, one-more, none-left}
 use Rattle.engine.proofs.Plays.{begins, skips, goes, stops, young-made, young-none, after-is, ends-as, ends-so}
 use borrow.Author.Needs.{needs}
 use Rattle.engine.proofs.run.Statement.{statement}
@@ -29,26 +30,32 @@ Inv-loop words roots mask picks log₀ heads₀ cells₀ objects₀ tops₀ envs
 abbrev μ-loop : tie.MeasureT-loop
 μ-loop words roots mask picks log₀ heads₀ cells₀ objects₀ tops₀ envs₀ args₀ s₀ stop₀ dealt₀ i₀ i-end log heads cells objects tops envs args s halt dealt i = length picks - i
 
+abbrev Inv-loop2 : tie.InvT-loop2
+Inv-loop2 words roots mask picks log heads cells objects s halt dealt n all₀ p₀ all p = (p ≤ 8) × (seenFrom mask n heads cells objects (8 - p) p all ≡ seenOf mask n heads cells objects)
+
+abbrev μ-loop2 : tie.MeasureT-loop2
+μ-loop2 words roots mask picks log heads cells objects s halt dealt n all₀ p₀ all p = 8 - p
+
 -- where a turn begins: the plan, the picks, the machine
-abbrev start : tie.At-loop Inv-loop μ-loop → tie.Start Inv-loop μ-loop
+abbrev start : tie.At-loop Inv-loop μ-loop Inv-loop2 μ-loop2 → tie.Start Inv-loop μ-loop Inv-loop2 μ-loop2
 start c = c .before .before .before .before .before .before .before .before
 
-abbrev words : tie.At-loop Inv-loop μ-loop → List ℕ
+abbrev words : tie.At-loop Inv-loop μ-loop Inv-loop2 μ-loop2 → List ℕ
 words c = start c .args .words .now
 
-abbrev roots : tie.At-loop Inv-loop μ-loop → List ℕ
+abbrev roots : tie.At-loop Inv-loop μ-loop Inv-loop2 μ-loop2 → List ℕ
 roots c = start c .args .roots .now
 
-abbrev mask : tie.At-loop Inv-loop μ-loop → ℕ
+abbrev mask : tie.At-loop Inv-loop μ-loop Inv-loop2 μ-loop2 → ℕ
 mask c = start c .args .mask
 
-abbrev list : tie.At-loop Inv-loop μ-loop → List ℕ
+abbrev list : tie.At-loop Inv-loop μ-loop Inv-loop2 μ-loop2 → List ℕ
 list c = start c .args .picks .now
 
-abbrev pick : tie.At-loop Inv-loop μ-loop → ℕ
+abbrev pick : tie.At-loop Inv-loop μ-loop Inv-loop2 μ-loop2 → ℕ
 pick c = getD (list c) (c .loop .i) 0
 
-abbrev machine : tie.At-loop Inv-loop μ-loop → Machine
+abbrev machine : tie.At-loop Inv-loop μ-loop Inv-loop2 μ-loop2 → Machine
 machine c =
     record {
       heads = c .loop .heads;
@@ -59,14 +66,14 @@ machine c =
       log = c .loop .log;
     }
 
-abbrev whole : tie.At-loop Inv-loop μ-loop → Played
+abbrev whole : tie.At-loop Inv-loop μ-loop Inv-loop2 μ-loop2 → Played
 whole c = playOf (words c) (roots c) (mask c) (startOf (roots c) (start c .args .log .now)) (list c) 0
 
 -- the rest of the picks begins with this one
-abbrev later : tie.At-loop Inv-loop μ-loop → List ℕ
+abbrev later : tie.At-loop Inv-loop μ-loop Inv-loop2 μ-loop2 → List ℕ
 later c = drop (c .loop .i + 1) (list c)
 
-rest : (c : tie.In-loop Inv-loop μ-loop) → playOf (words (c .before)) (roots (c .before)) (mask (c .before)) (machine (c .before)) (pick (c .before) ∷ later (c .before)) (c .before .loop .i) ≡ whole (c .before)
+rest : (c : tie.In-loop Inv-loop μ-loop Inv-loop2 μ-loop2) → playOf (words (c .before)) (roots (c .before)) (mask (c .before)) (machine (c .before)) (pick (c .before) ∷ later (c .before)) (c .before .loop .i) ≡ whole (c .before)
 rest c =
     let l = c .before in
     let h : l .loop .i < length (list l) = omega arith in
@@ -74,10 +81,10 @@ rest c =
     rw e at (l .loop .inv .5)
 
 -- what the pick meets, and whether it is passed over
-abbrev from-look : tie.After-look Inv-loop μ-loop → tie.At-loop Inv-loop μ-loop
+abbrev from-look : tie.After-look Inv-loop μ-loop Inv-loop2 μ-loop2 → tie.At-loop Inv-loop μ-loop Inv-loop2 μ-loop2
 from-look c = c .before .before .before .before .before .before .before .before .before .before .before .before .before
 
-met : (c : tie.After-look Inv-loop μ-loop) → c .look .result ≡ metBy (mask (from-look c)) (machine (from-look c)) (pick (from-look c) % 8)
+met : (c : tie.After-look Inv-loop μ-loop Inv-loop2 μ-loop2) → c .look .result ≡ metBy (mask (from-look c)) (machine (from-look c)) (pick (from-look c) % 8)
 met c =
     let l = from-look c in
     let k = c .before .before .before .before .before .before .cell-of in
@@ -86,29 +93,29 @@ met c =
     (getD (l .loop .heads) (getD (l .loop .objects) (k .result / 32) noThing .thread % 9) noHead) (c .before .before .before .before .before .before .before .before .if1 .left)
     ∙ looked (mask l) (l .loop .s .counts) (l .loop .heads) (l .loop .cells) (l .loop .objects) (pick l % 8) (k .result) (k .ensures)
 
-passed : (c : tie.After-passes Inv-loop μ-loop) → passesOf (metBy (mask (from-look (c .before))) (machine (from-look (c .before))) (pick (from-look (c .before)) % 8)) ≡ c .passes .result
+passed : (c : tie.After-passes Inv-loop μ-loop Inv-loop2 μ-loop2) → passesOf (metBy (mask (from-look (c .before))) (machine (from-look (c .before))) (pick (from-look (c .before)) % 8)) ≡ c .passes .result
 passed c = ap passesOf (sym (met (c .before))) ∙ sym (c .passes .ensures)
 
 -- what the pick does and comes to
-abbrev to-look : tie.After-finish Inv-loop μ-loop → tie.After-look Inv-loop μ-loop
+abbrev to-look : tie.After-finish Inv-loop μ-loop Inv-loop2 μ-loop2 → tie.After-look Inv-loop μ-loop Inv-loop2 μ-loop2
 to-look c = c .before .before .before .before .before .before .before
 
-abbrev from : tie.After-finish Inv-loop μ-loop → tie.At-loop Inv-loop μ-loop
+abbrev from : tie.After-finish Inv-loop μ-loop Inv-loop2 μ-loop2 → tie.At-loop Inv-loop μ-loop Inv-loop2 μ-loop2
 from c = from-look (to-look c)
 
-abbrev deed : tie.After-finish Inv-loop μ-loop → Acted
+abbrev deed : tie.After-finish Inv-loop μ-loop Inv-loop2 μ-loop2 → Acted
 deed c = c .before .before .before .before .act .result
 
-abbrev done : tie.After-finish Inv-loop μ-loop → Finished
+abbrev done : tie.After-finish Inv-loop μ-loop Inv-loop2 μ-loop2 → Finished
 done c = record { stack = record { tops = c .finish .last .1 .1 .0; envs = c .finish .last .1 .1 .1 .0; args = c .finish .last .1 .1 .1 .1 .0 }; turn = c .finish .result }
 
-did : (c : tie.After-finish Inv-loop μ-loop) → deed c ≡ actedBy (mask (from c)) (machine (from c)) (pick (from c) % 8)
+did : (c : tie.After-finish Inv-loop μ-loop Inv-loop2 μ-loop2) → deed c ≡ actedBy (mask (from c)) (machine (from c)) (pick (from c) % 8)
 did c =
     let l = from c in
     let k = c .before .before .before .before .before .before .before .before .before .before .before .before .before .cell-of in
     c .before .before .before .before .act .ensures ∙ acted (mask l) (l .loop .s .counts) (l .loop .heads) (l .loop .cells) (l .loop .objects) (pick l % 8) (k .result) (k .ensures)
 
-came : (c : tie.After-finish Inv-loop μ-loop) → done c ≡ finishedBy (words (from c)) (roots (from c)) (mask (from c)) (machine (from c)) (pick (from c) % 8)
+came : (c : tie.After-finish Inv-loop μ-loop Inv-loop2 μ-loop2) → done c ≡ finishedBy (words (from c)) (roots (from c)) (mask (from c)) (machine (from c)) (pick (from c) % 8)
 came c =
     let l = from c in
     let m = machine l in
@@ -117,11 +124,11 @@ came c =
     ∙ ap (λ (w : Sight). finishOf (words l) (roots l) (m .tally .counts) p w (headAt (m .heads) p) (deed c) (m .stack)) (met (to-look c))
     ∙ ap (λ (a : Acted). finishOf (words l) (roots l) (m .tally .counts) p (metBy (mask l) m p) (headAt (m .heads) p) a (m .stack)) (did c)
 
-stays : (c : tie.After-finish Inv-loop μ-loop) → passesOf (metBy (mask (from c)) (machine (from c)) (pick (from c) % 8)) ≡ false
+stays : (c : tie.After-finish Inv-loop μ-loop Inv-loop2 μ-loop2) → passesOf (metBy (mask (from c)) (machine (from c)) (pick (from c) % 8)) ≡ false
 stays c = passed (c .before .before .before .before .before .before) ∙ c .before .before .before .before .before .if2 .left
 
 -- the heads, with a new thread's where one was made
-young : (c : tie.Joined3 Inv-loop μ-loop)
+young : (c : tie.Joined3 Inv-loop μ-loop Inv-loop2 μ-loop2)
     → c .if3 .heads
     ≡ withYoung (forksOf (deed (c .before .before .before .before .before .before .before .before .before))) (c .before .before .before .before .before .before .before .before .before .before .before .before .before .before .before .before .before .before .before .before .before .before .before .before .before .before .before .before .before .loop .heads) (c .before .before .before .before .before .before .before .before .before .before .before .before .before .before .before .before .before .before .before .before .before .before .before .before .before .before .before .before .before .loop .s .counts .threads % 9)
     (bornOf (c .before .before .before .before .before .before .before .before .before .before .before .before .before .before .before .before .before .before .before .before .before .before .before .before .before .before .before .before .before .loop .s .counts) (headAt (c .before .before .before .before .before .before .before .before .before .before .before .before .before .before .before .before .before .before .before .before .before .before .before .before .before .before .before .before .before .loop .heads) (pick (c .before .before .before .before .before .before .before .before .before .before .before .before .before .before .before .before .before .before .before .before .before .before .before .before .before .before .before .before .before) % 8)) (c .before .before .before .before .before .before .before .before .before .finish .result .born))
@@ -133,7 +140,7 @@ young c =
     (λ w. young-none (forksOf (deed f)) (l .loop .heads) _ (l .loop .s .counts .threads % 9) y (sym (c .before .forks .ensures) ∙ w .0 .left) (w .1)) (c .if3 .came)
 
 -- a stop is the end of the run
-stopped-so : (c : tie.After-stop-of Inv-loop μ-loop)
+stopped-so : (c : tie.After-stop-of Inv-loop μ-loop Inv-loop2 μ-loop2)
     → stopped (mask (c .before .before .before .before .before .before .before .before .before .before .before .before .before .before .before .before .before .before .before .before .before .before .before .before .before .before)) (logged (machine (c .before .before .before .before .before .before .before .before .before .before .before .before .before .before .before .before .before .before .before .before .before .before .before .before .before .before)) (pick (c .before .before .before .before .before .before .before .before .before .before .before .before .before .before .before .before .before .before .before .before .before .before .before .before .before .before) % 8) (done (c .before .before .before .before .before .before))) (stopOf (c .before .before .before .before .before .before .finish .result .answer)) (c .before .before .before .before .before .before .before .before .before .before .before .before .before .before .before .before .before .before .before .before .before .before .before .before .before .before .loop .i)
     ≡ whole (c .before .before .before .before .before .before .before .before .before .before .before .before .before .before .before .before .before .before .before .before .before .before .before .before .before .before)
 stopped-so c =
@@ -142,7 +149,7 @@ stopped-so c =
     sym (stops (words l) (roots l) (mask l) (machine l) (pick l) (later l) (l .loop .i) (done f) (f .finish .result .answer) (c .before .match .keys2) (stays f) (came f) refl) ∙ rest (c .before .before .before .before .before .before .before .before .before .before .before .before .before .before .before .before .before .before .before .before .before .before .before .before .before)
 
 -- the loop was left at its end, or by a stop
-ended-so : (c : tie.Left-loop Inv-loop μ-loop)
+ended-so : (c : tie.Left-loop Inv-loop μ-loop Inv-loop2 μ-loop2)
     → _≡_ {A = Played} (record {
       ran = endOf (c .loop-test .stop) (c .loop-test .dealt) (mask (c .before)) (c .loop-test .s) (c .before .loop .heads) (c .before .loop .cells) (c .before .loop .objects);
       area = c .loop-test .log;
@@ -156,32 +163,32 @@ ended-so c =
     let i : l .loop .dealt ≡ l .loop .i = omega (arith, t, v .1, v .7) in
     let q : playOf (words l) (roots l) (mask l) (machine l) [] (l .loop .i) ≡ whole l = rw (drop-of-length-le (list l) t) at (v .5) in
     ends-as (mask l) (l .loop .heads) (l .loop .cells) (l .loop .objects) _ _ _ _ _ _ _ _ (w .3 ∙ v .6) (w .4 ∙ i) (w .2) (w .1) ∙ q) (λ w.
-    let c0 : tie.In-loop Inv-loop μ-loop = record { before = l; loop-test = w .0 } in
-    let c1 : tie.After-shared-slice-known2 Inv-loop μ-loop = record { before = c0; shared-slice-known2 = w .1 } in
-    let c2 : tie.After-n Inv-loop μ-loop = record { before = c1; n = w .2 } in
-    let c3 : tie.After-struct-known Inv-loop μ-loop = record { before = c2; struct-known = w .3 } in
-    let c4 : tie.Else1 Inv-loop μ-loop = record { before = c3; if1 = w .4 } in
-    let c5 : tie.After-h Inv-loop μ-loop = record { before = c4; h = w .5 } in
-    let c6 : tie.After-cell-of Inv-loop μ-loop = record { before = c5; cell-of = w .6 } in
-    let c7 : tie.After-c Inv-loop μ-loop = record { before = c6; c = w .7 } in
-    let c8 : tie.After-t Inv-loop μ-loop = record { before = c7; t = w .8 } in
-    let c9 : tie.After-struct-known2 Inv-loop μ-loop = record { before = c8; struct-known2 = w .9 } in
-    let c10 : tie.After-other Inv-loop μ-loop = record { before = c9; other = w .10 } in
-    let c11 : tie.After-x Inv-loop μ-loop = record { before = c10; x = w .11 } in
-    let c12 : tie.After-look Inv-loop μ-loop = record { before = c11; look = w .12 } in
-    let c13 : tie.After-passes Inv-loop μ-loop = record { before = c12; passes = w .13 } in
-    let c14 : tie.Else2 Inv-loop μ-loop = record { before = c13; if2 = w .14 } in
-    let c15 : tie.After-act Inv-loop μ-loop = record { before = c14; act = w .15 } in
-    let c16 : tie.After-tops Inv-loop μ-loop = record { before = c15; tops = w .16 } in
-    let c17 : tie.After-envs Inv-loop μ-loop = record { before = c16; envs = w .17 } in
-    let c18 : tie.After-args2 Inv-loop μ-loop = record { before = c17; args2 = w .18 } in
-    let c19 : tie.After-finish Inv-loop μ-loop = record { before = c18; finish = w .19 } in
-    let c20 : tie.After-put-arg Inv-loop μ-loop = record { before = c19; put-arg = w .20 } in
-    let c21 : tie.After-put Inv-loop μ-loop = record { before = c20; put = w .21 } in
-    let c22 : tie.After-log Inv-loop μ-loop = record { before = c21; log = w .22 } in
-    let c23 : tie.After-slice-known2 Inv-loop μ-loop = record { before = c22; slice-known2 = w .23 } in
-    let c24 : tie.At-match-keys2 Inv-loop μ-loop = record { before = c23; match = w .24 } in
-    let c25 : tie.After-stop-of Inv-loop μ-loop = record { before = c24; stop-of = w .25 } in
+    let c0 : tie.In-loop Inv-loop μ-loop Inv-loop2 μ-loop2 = record { before = l; loop-test = w .0 } in
+    let c1 : tie.After-shared-slice-known2 Inv-loop μ-loop Inv-loop2 μ-loop2 = record { before = c0; shared-slice-known2 = w .1 } in
+    let c2 : tie.After-n Inv-loop μ-loop Inv-loop2 μ-loop2 = record { before = c1; n = w .2 } in
+    let c3 : tie.After-struct-known Inv-loop μ-loop Inv-loop2 μ-loop2 = record { before = c2; struct-known = w .3 } in
+    let c4 : tie.Else1 Inv-loop μ-loop Inv-loop2 μ-loop2 = record { before = c3; if1 = w .4 } in
+    let c5 : tie.After-h Inv-loop μ-loop Inv-loop2 μ-loop2 = record { before = c4; h = w .5 } in
+    let c6 : tie.After-cell-of Inv-loop μ-loop Inv-loop2 μ-loop2 = record { before = c5; cell-of = w .6 } in
+    let c7 : tie.After-c Inv-loop μ-loop Inv-loop2 μ-loop2 = record { before = c6; c = w .7 } in
+    let c8 : tie.After-t Inv-loop μ-loop Inv-loop2 μ-loop2 = record { before = c7; t = w .8 } in
+    let c9 : tie.After-struct-known2 Inv-loop μ-loop Inv-loop2 μ-loop2 = record { before = c8; struct-known2 = w .9 } in
+    let c10 : tie.After-other Inv-loop μ-loop Inv-loop2 μ-loop2 = record { before = c9; other = w .10 } in
+    let c11 : tie.After-x Inv-loop μ-loop Inv-loop2 μ-loop2 = record { before = c10; x = w .11 } in
+    let c12 : tie.After-look Inv-loop μ-loop Inv-loop2 μ-loop2 = record { before = c11; look = w .12 } in
+    let c13 : tie.After-passes Inv-loop μ-loop Inv-loop2 μ-loop2 = record { before = c12; passes = w .13 } in
+    let c14 : tie.Else2 Inv-loop μ-loop Inv-loop2 μ-loop2 = record { before = c13; if2 = w .14 } in
+    let c15 : tie.After-act Inv-loop μ-loop Inv-loop2 μ-loop2 = record { before = c14; act = w .15 } in
+    let c16 : tie.After-tops Inv-loop μ-loop Inv-loop2 μ-loop2 = record { before = c15; tops = w .16 } in
+    let c17 : tie.After-envs Inv-loop μ-loop Inv-loop2 μ-loop2 = record { before = c16; envs = w .17 } in
+    let c18 : tie.After-args2 Inv-loop μ-loop Inv-loop2 μ-loop2 = record { before = c17; args2 = w .18 } in
+    let c19 : tie.After-finish Inv-loop μ-loop Inv-loop2 μ-loop2 = record { before = c18; finish = w .19 } in
+    let c20 : tie.After-put-arg Inv-loop μ-loop Inv-loop2 μ-loop2 = record { before = c19; put-arg = w .20 } in
+    let c21 : tie.After-put Inv-loop μ-loop Inv-loop2 μ-loop2 = record { before = c20; put = w .21 } in
+    let c22 : tie.After-log Inv-loop μ-loop Inv-loop2 μ-loop2 = record { before = c21; log = w .22 } in
+    let c23 : tie.After-slice-known2 Inv-loop μ-loop Inv-loop2 μ-loop2 = record { before = c22; slice-known2 = w .23 } in
+    let c24 : tie.At-match-keys2 Inv-loop μ-loop Inv-loop2 μ-loop2 = record { before = c23; match = w .24 } in
+    let c25 : tie.After-stop-of Inv-loop μ-loop Inv-loop2 μ-loop2 = record { before = c24; stop-of = w .25 } in
     let e = stopOf (w .19 .result .answer) in
     let r = tallyPut (l .loop .s) (w .19 .result .entry) in
     let o = logPut (l .loop .log) (l .loop .s .records) (pick l % 8) (w .19 .result .entry) in
@@ -191,39 +198,39 @@ ended-so c =
     (c .loop-test .s) (w .21 .result) r (c .loop-test .log) (w .21 .last .0) o (whole l)
     (w .28) (w .25 .ensures) (w .29) (w .27) (w .21 .ensures .0 .0) (w .26) (w .21 .ensures .1) q) (c .loop-test .came)
 
-element-copy-out-first-head : tie.Need-element-copy-out-first-head Inv-loop μ-loop
+element-copy-out-first-head : tie.Need-element-copy-out-first-head Inv-loop μ-loop Inv-loop2 μ-loop2
 element-copy-out-first-head c = search needs
 
-first-head-requires : tie.Need-first-head-requires Inv-loop μ-loop
+first-head-requires : tie.Need-first-head-requires Inv-loop μ-loop Inv-loop2 μ-loop2
 first-head-requires c κs = search needs
 
-first-cell-requires : tie.Need-first-cell-requires Inv-loop μ-loop
+first-cell-requires : tie.Need-first-cell-requires Inv-loop μ-loop Inv-loop2 μ-loop2
 first-cell-requires c κs = search needs
 
-first-object-requires : tie.Need-first-object-requires Inv-loop μ-loop
+first-object-requires : tie.Need-first-object-requires Inv-loop μ-loop Inv-loop2 μ-loop2
 first-object-requires c κs = search needs
 
-first-tally-requires : tie.Need-first-tally-requires Inv-loop μ-loop
+first-tally-requires : tie.Need-first-tally-requires Inv-loop μ-loop Inv-loop2 μ-loop2
 first-tally-requires c κs = search needs
 
-loop-holds : tie.Need-loop-holds Inv-loop μ-loop
+loop-holds : tie.Need-loop-holds Inv-loop μ-loop Inv-loop2 μ-loop2
 loop-holds c =
     let r = c .before .before .before .before .before .before .before in
     (refl, omega arith, rw (c .first-tally .ensures) (omega arith), rw (c .first-tally .ensures) (omega arith), refl, begins (r .args .words .now) (r .args .roots .now) (r .args .mask) (r .args .picks .now) (r .args .log .now) _ _ _ _ (c .before .before .before .first-head .ensures) (c .before .before .first-cell .ensures) (c .before .first-object .ensures) (c .first-tally .ensures), refl, refl)
 
-shared-slice-read-p : tie.Need-shared-slice-read-p Inv-loop μ-loop
+shared-slice-read-p : tie.Need-shared-slice-read-p Inv-loop μ-loop Inv-loop2 μ-loop2
 shared-slice-read-p c = search needs
 
-cast-p : tie.Need-cast-p Inv-loop μ-loop
+cast-p : tie.Need-cast-p Inv-loop μ-loop Inv-loop2 μ-loop2
 cast-p c = search needs
 
-add-i : tie.Need-add-i Inv-loop μ-loop
+add-i : tie.Need-add-i Inv-loop μ-loop Inv-loop2 μ-loop2
 add-i c = record { fits = omega (arith, c .before .before .before .before .loop-test .taken, c .before .before .before .before .before .before .before .before .before .before .before .before .before .pre .0) }
 
-loop-less : tie.Need-loop-less Inv-loop μ-loop
+loop-less : tie.Need-loop-less Inv-loop μ-loop Inv-loop2 μ-loop2
 loop-less c = omega (arith, c .before .before .before .before .loop-test .taken, c .before .before .before .before .before .loop .inv .0)
 
-loop-again : tie.Need-loop-again Inv-loop μ-loop
+loop-again : tie.Need-loop-again Inv-loop μ-loop Inv-loop2 μ-loop2
 loop-again c =
     let l = c .before .before .before .before .before in
     let v = l .loop .inv in
@@ -231,117 +238,117 @@ loop-again c =
     let e = absent (mask l) (l .loop .s .counts) (l .loop .heads) (l .loop .cells) (l .loop .objects) (pick l % 8) (c .if1 .taken) in
     (v .0, omega arith, omega arith, omega arith, v .4, sym (skips (words l) (roots l) (mask l) (machine l) (pick l) (later l) (l .loop .i) (ap passesOf e)) ∙ rest (c .before .before .before .before), v .6, v .7)
 
-mul-h : tie.Need-mul-h Inv-loop μ-loop
+mul-h : tie.Need-mul-h Inv-loop μ-loop Inv-loop2 μ-loop2
 mul-h c = search needs
 
-array-copy-out-h : tie.Need-array-copy-out-h Inv-loop μ-loop
+array-copy-out-h : tie.Need-array-copy-out-h Inv-loop μ-loop Inv-loop2 μ-loop2
 array-copy-out-h c = search needs
 
-cell-of-requires : tie.Need-cell-of-requires Inv-loop μ-loop
+cell-of-requires : tie.Need-cell-of-requires Inv-loop μ-loop Inv-loop2 μ-loop2
 cell-of-requires c κs = search needs
 
-mul-c : tie.Need-mul-c Inv-loop μ-loop
+mul-c : tie.Need-mul-c Inv-loop μ-loop Inv-loop2 μ-loop2
 mul-c c = search needs
 
-array-copy-out-c : tie.Need-array-copy-out-c Inv-loop μ-loop
+array-copy-out-c : tie.Need-array-copy-out-c Inv-loop μ-loop Inv-loop2 μ-loop2
 array-copy-out-c c = search needs
 
-mul-t : tie.Need-mul-t Inv-loop μ-loop
+mul-t : tie.Need-mul-t Inv-loop μ-loop Inv-loop2 μ-loop2
 mul-t c = search needs
 
-array-copy-out-t : tie.Need-array-copy-out-t Inv-loop μ-loop
+array-copy-out-t : tie.Need-array-copy-out-t Inv-loop μ-loop Inv-loop2 μ-loop2
 array-copy-out-t c = search needs
 
-mul-other : tie.Need-mul-other Inv-loop μ-loop
+mul-other : tie.Need-mul-other Inv-loop μ-loop Inv-loop2 μ-loop2
 mul-other c = search needs
 
-array-copy-out-other : tie.Need-array-copy-out-other Inv-loop μ-loop
+array-copy-out-other : tie.Need-array-copy-out-other Inv-loop μ-loop Inv-loop2 μ-loop2
 array-copy-out-other c = search needs
 
-look-requires : tie.Need-look-requires Inv-loop μ-loop
+look-requires : tie.Need-look-requires Inv-loop μ-loop Inv-loop2 μ-loop2
 look-requires c κs = search needs
 
-passes-requires : tie.Need-passes-requires Inv-loop μ-loop
+passes-requires : tie.Need-passes-requires Inv-loop μ-loop Inv-loop2 μ-loop2
 passes-requires c κs = search needs
 
-add-i-2 : tie.Need-add-i-2 Inv-loop μ-loop
+add-i-2 : tie.Need-add-i-2 Inv-loop μ-loop Inv-loop2 μ-loop2
 add-i-2 c = record { fits = omega (arith, c .before .before .before .before .before .before .before .before .before .before .before .before .before .before .loop-test .taken, c .before .before .before .before .before .before .before .before .before .before .before .before .before .before .before .before .before .before .before .before .before .before .before .pre .0) }
 
-loop-less-2 : tie.Need-loop-less-2 Inv-loop μ-loop
+loop-less-2 : tie.Need-loop-less-2 Inv-loop μ-loop Inv-loop2 μ-loop2
 loop-less-2 c = omega (arith, c .before .before .before .before .before .before .before .before .before .before .before .before .before .before .loop-test .taken, c .before .before .before .before .before .before .before .before .before .before .before .before .before .before .before .loop .inv .0)
 
-loop-again-2 : tie.Need-loop-again-2 Inv-loop μ-loop
+loop-again-2 : tie.Need-loop-again-2 Inv-loop μ-loop Inv-loop2 μ-loop2
 loop-again-2 c =
     let l = c .before .before .before .before .before .before .before .before .before .before .before .before .before .before .before in
     let v = l .loop .inv in
     let t = c .before .before .before .before .before .before .before .before .before .before .before .before .before .before .loop-test .taken in
     (v .0, omega arith, omega arith, omega arith, v .4, sym (skips (words l) (roots l) (mask l) (machine l) (pick l) (later l) (l .loop .i) (passed (c .before) ∙ c .if2 .taken)) ∙ rest (c .before .before .before .before .before .before .before .before .before .before .before .before .before .before), v .6, v .7)
 
-act-requires : tie.Need-act-requires Inv-loop μ-loop
+act-requires : tie.Need-act-requires Inv-loop μ-loop Inv-loop2 μ-loop2
 act-requires c κs = search needs
 
-finish-requires : tie.Need-finish-requires Inv-loop μ-loop
+finish-requires : tie.Need-finish-requires Inv-loop μ-loop Inv-loop2 μ-loop2
 finish-requires c κs = search needs
 
-put-requires : tie.Need-put-requires Inv-loop μ-loop
+put-requires : tie.Need-put-requires Inv-loop μ-loop Inv-loop2 μ-loop2
 put-requires c κs =
     let v = c .before .before .before .before .before .before .before .before .before .before .before .before .before .before .before .before .before .before .before .before .before .loop .inv in
     let t = c .before .before .before .before .before .before .before .before .before .before .before .before .before .before .before .before .before .before .before .before .loop-test .taken in
     let r = c .before .before .before .before .before .before .before .before .before .before .before .before .before .before .before .before .before .before .before .before .before .before .before .before .before .before .before .before .before .pre in
     (omega (arith, v .0, v .3, v .4, t, r .0, r .1), omega (arith, v .0, v .3, t, r .0))
 
-enum-told : tie.Need-enum-told Inv-loop μ-loop
+enum-told : tie.Need-enum-told Inv-loop μ-loop Inv-loop2 μ-loop2
 enum-told c = search needs
 
-stop-of-requires : tie.Need-stop-of-requires Inv-loop μ-loop
+stop-of-requires : tie.Need-stop-of-requires Inv-loop μ-loop Inv-loop2 μ-loop2
 stop-of-requires c κs = search needs
 
-forks-requires : tie.Need-forks-requires Inv-loop μ-loop
+forks-requires : tie.Need-forks-requires Inv-loop μ-loop Inv-loop2 μ-loop2
 forks-requires c κs = search needs
 
-born-requires : tie.Need-born-requires Inv-loop μ-loop
+born-requires : tie.Need-born-requires Inv-loop μ-loop Inv-loop2 μ-loop2
 born-requires c κs = search needs
 
-mul-heads : tie.Need-mul-heads Inv-loop μ-loop
+mul-heads : tie.Need-mul-heads Inv-loop μ-loop Inv-loop2 μ-loop2
 mul-heads c = search needs
 
-array-set-from-heads : tie.Need-array-set-from-heads Inv-loop μ-loop
+array-set-from-heads : tie.Need-array-set-from-heads Inv-loop μ-loop Inv-loop2 μ-loop2
 array-set-from-heads c = search needs
 
-mover-requires : tie.Need-mover-requires Inv-loop μ-loop
+mover-requires : tie.Need-mover-requires Inv-loop μ-loop Inv-loop2 μ-loop2
 mover-requires c κs = search needs
 
-mul-heads-2 : tie.Need-mul-heads-2 Inv-loop μ-loop
+mul-heads-2 : tie.Need-mul-heads-2 Inv-loop μ-loop Inv-loop2 μ-loop2
 mul-heads-2 c = search needs
 
-array-set-from-heads-2 : tie.Need-array-set-from-heads-2 Inv-loop μ-loop
+array-set-from-heads-2 : tie.Need-array-set-from-heads-2 Inv-loop μ-loop Inv-loop2 μ-loop2
 array-set-from-heads-2 c = search needs
 
-mul-cells : tie.Need-mul-cells Inv-loop μ-loop
+mul-cells : tie.Need-mul-cells Inv-loop μ-loop Inv-loop2 μ-loop2
 mul-cells c = record { fits = omega (arith, c .before .before .before .before .before .before .before .before .before .before .before .before .before .before .before .before .before .before .before .before .before .before .before .before .before .before .cell-of .ensures .inside) }
 
-array-set-from-cells : tie.Need-array-set-from-cells Inv-loop μ-loop
+array-set-from-cells : tie.Need-array-set-from-cells Inv-loop μ-loop Inv-loop2 μ-loop2
 array-set-from-cells c = omega (arith, c .before .before .before .before .before .before .before .before .before .before .before .before .before .before .before .before .before .before .before .before .before .before .before .before .before .before .cell-of .ensures .inside)
 
-mul-objects : tie.Need-mul-objects Inv-loop μ-loop
+mul-objects : tie.Need-mul-objects Inv-loop μ-loop Inv-loop2 μ-loop2
 mul-objects c = search needs
 
-array-set-from-objects : tie.Need-array-set-from-objects Inv-loop μ-loop
+array-set-from-objects : tie.Need-array-set-from-objects Inv-loop μ-loop Inv-loop2 μ-loop2
 array-set-from-objects c = search needs
 
-moved-requires : tie.Need-moved-requires Inv-loop μ-loop
+moved-requires : tie.Need-moved-requires Inv-loop μ-loop Inv-loop2 μ-loop2
 moved-requires c κs =
     let l = c .before .before .before .before .before .before .before .before .before .before .before .before .before .before .before .before .before .before .before .before .before .before .before .before .before .before .before .before .before .before .before .before .before .before in
     let e : c .before .before .before .before .before .before .before .before .before .before .before .before .put .result .moves ≡ l .loop .s .moves = ap (λ (s : Tally). s .moves) (c .before .before .before .before .before .before .before .before .before .before .before .before .put .ensures .0 .0) in
     omega (arith, e, l .loop .inv .0, l .loop .inv .2, c .before .before .before .before .before .before .before .before .before .before .before .before .before .before .before .before .before .before .before .before .before .before .before .before .before .before .before .before .before .before .before .before .before .loop-test .taken, c .before .before .before .before .before .before .before .before .before .before .before .before .before .before .before .before .before .before .before .before .before .before .before .before .before .before .before .before .before .before .before .before .before .before .before .before .before .before .before .before .before .before .pre .0)
 
-add-i-3 : tie.Need-add-i-3 Inv-loop μ-loop
+add-i-3 : tie.Need-add-i-3 Inv-loop μ-loop Inv-loop2 μ-loop2
 add-i-3 c = record { fits = omega (arith, c .before .before .before .before .before .before .before .before .before .before .before .before .before .before .before .before .before .before .before .before .before .before .before .before .before .before .before .before .before .before .before .before .before .before .loop-test .taken, c .before .before .before .before .before .before .before .before .before .before .before .before .before .before .before .before .before .before .before .before .before .before .before .before .before .before .before .before .before .before .before .before .before .before .before .loop .inv .0, c .before .before .before .before .before .before .before .before .before .before .before .before .before .before .before .before .before .before .before .before .before .before .before .before .before .before .before .before .before .before .before .before .before .before .before .before .before .before .before .before .before .before .before .pre .0) }
 
-loop-less-3 : tie.Need-loop-less-3 Inv-loop μ-loop
+loop-less-3 : tie.Need-loop-less-3 Inv-loop μ-loop Inv-loop2 μ-loop2
 loop-less-3 c = omega (arith, c .before .before .before .before .before .before .before .before .before .before .before .before .before .before .before .before .before .before .before .before .before .before .before .before .before .before .before .before .before .before .before .before .before .before .loop-test .taken, c .before .before .before .before .before .before .before .before .before .before .before .before .before .before .before .before .before .before .before .before .before .before .before .before .before .before .before .before .before .before .before .before .before .before .before .loop .inv .0)
 
-loop-again-3 : tie.Need-loop-again-3 Inv-loop μ-loop
+loop-again-3 : tie.Need-loop-again-3 Inv-loop μ-loop Inv-loop2 μ-loop2
 loop-again-3 c =
     let f = c .before .before .before .before .before .before .before .before .before .before .before .before .before .before .before in
     let l = from f in
@@ -366,14 +373,96 @@ loop-again-3 c =
       v .7,
     )
 
-end-of-requires : tie.Need-end-of-requires Inv-loop μ-loop
-end-of-requires c κs = search needs
+-- where a thread is seen: the machine where the run ended
+abbrev left : tie.At-loop2 Inv-loop μ-loop Inv-loop2 μ-loop2 → tie.Left-loop Inv-loop μ-loop Inv-loop2 μ-loop2
+left c = c .before .before .before
 
-same-length : tie.Need-same-length Inv-loop μ-loop
-same-length c = let v = c .before .before .loop .inv in ⊎-elim (λ w. ap length (w .1) ∙ v .4) (λ w. ap length (w .26) ∙ w .21 .kept .0 ∙ v .4) (c .before .loop-test .came)
+abbrev ended-at : tie.At-loop2 Inv-loop μ-loop Inv-loop2 μ-loop2 → tie.At-loop Inv-loop μ-loop Inv-loop2 μ-loop2
+ended-at c = left c .before
 
-returns : tie.Need-returns Inv-loop μ-loop
-returns c = let q = ended-so (c .before) in (c .end-of .ensures ∙ ap (λ (x : Played). x .ran) q, ap (λ (x : Played). x .area) q)
+none-seen-requires : tie.Need-none-seen-requires Inv-loop μ-loop Inv-loop2 μ-loop2
+none-seen-requires c κs = search needs
+
+loop2-holds : tie.Need-loop2-holds Inv-loop μ-loop Inv-loop2 μ-loop2
+loop2-holds c =
+    let l = c .before .before in
+    let m = l .before in (
+      omega arith,
+      ap (λ (x : Seen). seenFrom (mask m) (l .loop-test .s .counts) (m .loop .heads) (m .loop .cells) (m .loop .objects) 8 0 (replicate 8 x)) (c .none-seen .ensures)
+          ∙ all-seen (mask m) (l .loop-test .s .counts) (m .loop .heads) (m .loop .cells) (m .loop .objects),
+    )
+
+mul-h-2 : tie.Need-mul-h-2 Inv-loop μ-loop Inv-loop2 μ-loop2
+mul-h-2 c = search needs
+
+array-copy-out-h-2 : tie.Need-array-copy-out-h-2 Inv-loop μ-loop Inv-loop2 μ-loop2
+array-copy-out-h-2 c = search needs
+
+cell-of-requires-2 : tie.Need-cell-of-requires-2 Inv-loop μ-loop Inv-loop2 μ-loop2
+cell-of-requires-2 c κs = search needs
+
+mul-c-2 : tie.Need-mul-c-2 Inv-loop μ-loop Inv-loop2 μ-loop2
+mul-c-2 c = search needs
+
+array-copy-out-c-2 : tie.Need-array-copy-out-c-2 Inv-loop μ-loop Inv-loop2 μ-loop2
+array-copy-out-c-2 c = search needs
+
+mul-t-2 : tie.Need-mul-t-2 Inv-loop μ-loop Inv-loop2 μ-loop2
+mul-t-2 c = search needs
+
+array-copy-out-t-2 : tie.Need-array-copy-out-t-2 Inv-loop μ-loop Inv-loop2 μ-loop2
+array-copy-out-t-2 c = search needs
+
+mul-other-2 : tie.Need-mul-other-2 Inv-loop μ-loop Inv-loop2 μ-loop2
+mul-other-2 c = search needs
+
+array-copy-out-other-2 : tie.Need-array-copy-out-other-2 Inv-loop μ-loop Inv-loop2 μ-loop2
+array-copy-out-other-2 c = search needs
+
+seen-of-requires : tie.Need-seen-of-requires Inv-loop μ-loop Inv-loop2 μ-loop2
+seen-of-requires c κs = search needs
+
+mul-all : tie.Need-mul-all Inv-loop μ-loop Inv-loop2 μ-loop2
+mul-all c = search needs
+
+array-set-from-all : tie.Need-array-set-from-all Inv-loop μ-loop Inv-loop2 μ-loop2
+array-set-from-all c = search needs
+
+add-p : tie.Need-add-p Inv-loop μ-loop Inv-loop2 μ-loop2
+add-p c = search needs
+
+loop2-less : tie.Need-loop2-less Inv-loop μ-loop Inv-loop2 μ-loop2
+loop2-less c = search needs
+
+loop2-again : tie.Need-loop2-again Inv-loop μ-loop Inv-loop2 μ-loop2
+loop2-again c =
+    let l = c .before .before .before .before .before .before .before .before in
+    let m = ended-at l in
+    let n = left l .loop-test .s .counts in
+    let p = l .loop2 .p in
+    let k = c .before .before .before .before .before .cell-of2 in
+    let h : p < 8 = c .before .before .before .before .before .before .before .loop2-test .taken in
+    let e = c .seen-of .ensures ∙ seen-so (mask m) n (m .loop .heads) (m .loop .cells) (m .loop .objects) p (k .result) (k .ensures) in (
+      omega arith,
+      ap (λ (x : Seen). seenFrom (mask m) n (m .loop .heads) (m .loop .cells) (m .loop .objects) (8 - (p + 1)) (p + 1) (set (l .loop2 .all) p x)) e
+          ∙ sym (one-more (mask m) n (m .loop .heads) (m .loop .cells) (m .loop .objects) p (l .loop2 .all) h) ∙ l .loop2 .inv .1,
+    )
+
+same-length : tie.Need-same-length Inv-loop μ-loop Inv-loop2 μ-loop2
+same-length c = let l = left (c .before) in let v = l .before .loop .inv in ⊎-elim (λ w. ap length (w .1) ∙ v .4) (λ w. ap length (w .26) ∙ w .21 .kept .0 ∙ v .4) (l .loop-test .came)
+
+returns : tie.Need-returns Inv-loop μ-loop Inv-loop2 μ-loop2
+returns c =
+    let a = c .before in
+    let l = left a in
+    let m = ended-at a in
+    let z : 8 - a .loop2 .p ≡ 0 = omega arith in
+    let q = ended-so l in
+    let e = sym (none-left (mask m) (l .loop-test .s .counts) (m .loop .heads) (m .loop .cells) (m .loop .objects) (a .loop2 .p) (a .loop2 .all) z) ∙ a .loop2 .inv .1 in (
+      ap (λ (x : List Seen). record { stop = l .loop-test .stop; picks = l .loop-test .dealt; moves = l .loop-test .s .moves; records = l .loop-test .s .records; threads = x }) e
+          ∙ ap (λ (x : Played). x .ran) q,
+      ap (λ (x : Played). x .area) q,
+    )
 
 pub run-spec : {M : Type 1} → statement M
 run-spec =
@@ -381,6 +470,8 @@ run-spec =
     (tie.spec
     Inv-loop
     μ-loop
+    Inv-loop2
+    μ-loop2
     element-copy-out-first-head
     first-head-requires
     first-cell-requires
@@ -426,6 +517,22 @@ run-spec =
     add-i-3
     loop-less-3
     loop-again-3
-    end-of-requires
+    none-seen-requires
+    loop2-holds
+    mul-h-2
+    array-copy-out-h-2
+    cell-of-requires-2
+    mul-c-2
+    array-copy-out-c-2
+    mul-t-2
+    array-copy-out-t-2
+    mul-other-2
+    array-copy-out-other-2
+    seen-of-requires
+    mul-all
+    array-set-from-all
+    add-p
+    loop2-less
+    loop2-again
     same-length
     returns)

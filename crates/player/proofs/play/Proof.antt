@@ -4,7 +4,7 @@ use mathlib.Core.Path.{_≡_, refl, sym, ap, _∙_}
 use mathlib.Core.List.{List}
 use lib.ListN.{length}
 use borrow.Author.Needs.{needs}
-use Rattle.plan.specs.Format.{procedures, terms, volatiles}
+use Rattle.packed.specs.Format.{procedures, terms, volatiles}
 use Rattle.rules.specs.Play.{played, playedBy, areaAfter, areaBy, runOf}
 use Rattle.player.specs.Answer.{answered}
 use Rattle.player.specs.Loading.{Words, Roots}
@@ -16,9 +16,9 @@ use Rattle.player.proofs.play.Tie as tie
 use Rattle.player.proofs.play.Reads as reads
 use Rattle.player.proofs.play.Lts as lts
 use Rattle.engine.proofs.run.Reads as run-reads
-use Rattle.plan.proofs.bits.quad.Reads as quad-reads
-use Rattle.plan.proofs.layout.procedures.Reads as procedures-reads
-use Rattle.plan.proofs.layout.terms.Reads as terms-reads
+use Rattle.header.proofs.bits.quad.Reads as quad-reads
+use Rattle.header.proofs.layout.procedures.Reads as procedures-reads
+use Rattle.header.proofs.layout.terms.Reads as terms-reads
 use Rattle.player.proofs.load.roots.Reads as roots-reads
 use Rattle.player.proofs.load.words.Reads as words-reads
 use Rattle.player.proofs.outcome.outcome_of.Reads as outcome-of-reads

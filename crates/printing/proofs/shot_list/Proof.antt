@@ -8,7 +8,7 @@ use borrow.Author.Needs.{needs}
 use Rattle.printing.proofs.shot_list.Statement.{statement}
 use Rattle.printing.proofs.shot_list.Tie as tie
 use Rattle.printing.proofs.shot_list.Lts as lts
-use Rattle.plan.proofs.bits.half.Reads as half-reads
+use Rattle.header.proofs.bits.half.Reads as half-reads
 use Rattle.lines.proofs.put_refusal.Reads as put-refusal-reads
 use Rattle.printing.proofs.print_play.Reads as print-play-reads
 

@@ -3,12 +3,12 @@ use Prim.Native.Nat.{ℕ, suc, _+_, _*_, _-_, _<_, _≤_}
 use native.Mathlib.Omega.{arith}
 use lib.ListN.{length, length-set}
 use borrow.Author.Needs.{needs}
-use Rattle.plan.specs.Format.{root}
+use Rattle.packed.specs.Format.{root}
 use Rattle.player.specs.Loading.{Roots}
 use Rattle.player.proofs.Filled.{one-more}
 use Rattle.player.proofs.load.roots.Statement.{statement}
 use Rattle.player.proofs.load.roots.Tie as tie
-use Rattle.plan.proofs.layout.root.Reads as root-reads
+use Rattle.header.proofs.layout.root.Reads as root-reads
 
 abbrev Inv-loop : tie.InvT-loop
 Inv-loop plan procs all₀ p₀ all p = (p ≤ procs) × (length all ≡ 32) × Roots plan p all

@@ -6,7 +6,7 @@ use Rattle.vectors.proofs.cases.listed.Statement.{statement}
 use Rattle.vectors.proofs.cases.listed.Tie as tie
 use Rattle.vectors.proofs.cases.listed.Reads as reads
 use Rattle.vectors.proofs.cases.listed.Lts as lts
-use Rattle.plan.proofs.bits.half.Reads as half-reads
+use Rattle.header.proofs.bits.half.Reads as half-reads
 
 abbrev Inv-loop : tie.InvT-loop
 Inv-loop indices index k₀ found₀ k found = k ≤ length indices / 2

@@ -1,0 +1,48 @@
+use mathlib.Core.Path.{sym, _∙_}
+use Rattle.accesses.specs.Accesses.{actRead}
+use borrow.Author.Needs.{needs}
+use Rattle.accesses.proofs.act_read.Statement.{statement}
+use Rattle.accesses.proofs.act_read.Tie as tie
+
+value-requires : tie.Need-value-requires
+value-requires c κs = search needs
+
+has-requires : tie.Need-has-requires
+has-requires c κs = search needs
+
+join-requires : tie.Need-join-requires
+join-requires c κs = search needs
+
+entry-requires : tie.Need-entry-requires
+entry-requires c κs = search needs
+
+acted-of-requires : tie.Need-acted-of-requires
+acted-of-requires c κs = search needs
+
+returns : tie.Need-returns
+unfolding actRead
+returns c = simp (c .acted-of .ensures, c .before .entry .ensures, c .before .before .join .ensures .exact, c .before .before .before .before .before .before .value .ensures, sym (c .before .before .before .before .before .has .ensures) ∙ c .before .before .before .before .if1 .taken)
+
+entry-requires-2 : tie.Need-entry-requires-2
+entry-requires-2 c κs = search needs
+
+acted-of-requires-2 : tie.Need-acted-of-requires-2
+acted-of-requires-2 c κs = search needs
+
+returns-2 : tie.Need-returns-2
+unfolding actRead
+returns-2 c = simp (c .acted-of2 .ensures, c .before .entry2 .ensures, c .before .before .before .before .value .ensures, sym (c .before .before .before .has .ensures) ∙ c .before .before .if1 .left)
+
+pub act-read-spec : {M : Type 1} → statement M
+act-read-spec =
+    tie.close
+    (tie.spec
+    value-requires
+    has-requires
+    join-requires
+    entry-requires
+    acted-of-requires
+    returns
+    entry-requires-2
+    acted-of-requires-2
+    returns-2)

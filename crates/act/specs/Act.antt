@@ -1,0 +1,48 @@
+-- Act: what a move does, by value. The machine that the code runs; no reader of the entries' promises needs it. Assumes nothing.
+use Prim.Native.Nat.{ℕ}
+use mathlib.Core.Bool.{cond}
+use Rattle.frames.specs.declared.frame.Kind.the-variants as kind
+use Rattle.frames.specs.Parts.{Part as part}
+use Rattle.frames.specs.declared.go.Ready.{Ready}
+use Rattle.frames.specs.declared.go.Go.{Go}
+use Rattle.frames.specs.Frames.{framed}
+use Rattle.frames.specs.Going.{readyOf, goAt, goRun, goRunCondition, goWant, goWantCondition, goValue, goTruth, goFull}
+use Rattle.state.specs.declared.Head.{Head}
+use Rattle.state.specs.declared.Cell.{Cell}
+use Rattle.state.specs.declared.Object.{Object}
+use Rattle.state.specs.declared.Counts.{Counts}
+use Rattle.state.specs.declared.acted.Room.the-variants as room
+use Rattle.state.specs.declared.acted.Acted.{Acted}
+use Rattle.state.specs.Acted.{goOn}
+use Rattle.look.specs.Look.{isPart}
+use Rattle.accesses.specs.Accesses.{actRead, actWrite}
+use Rattle.objects.specs.Objects.{actNew, actFork, actJoin}
+use Rattle.monitors.specs.Monitors.{actSynch, actHold}
+
+-- where a move that leaves no record goes on, by its part p
+unfoldable pub pureBy : ℕ → Ready → Go
+pureBy p r =
+    cond (isPart part.Run p) (goRun (r .a) (r .env))
+    (cond (isPart part.RunCondition p) (goRunCondition (r .a) (r .env))
+    (cond (isPart part.Val p) (goValue (r .a))
+    (cond (isPart part.Truth p) (goTruth (r .a))
+    (cond (isPart part.While p) (goWantCondition (framed kind.Test (r .a) (r .b) 0 (r .env)) (r .a))
+    (cond (isPart part.Body p) (goWant (framed kind.Body (r .a) (r .b) 0 (r .env)) (r .b))
+    (cond (isPart part.Again p) (goAt (readyOf part.While (r .a) (r .b) 0 (r .env))) goFull))))))
+
+abbrev pub actPure : Head → Go
+actPure h = pureBy (h .ready .part) (h .ready)
+
+-- what the move of part p does
+unfoldable pub actBy : ℕ → ℕ → Counts → Head → Cell → Object → Head → Acted
+actBy p mask n h c t q =
+    cond (isPart part.New p) (actNew n h c (h .ready .a))
+    (cond (isPart part.Read p) (actRead mask n h c (h .ready .a) (h .ready .b))
+    (cond (isPart part.Write p) (actWrite mask n h c (h .ready .a) (h .ready .b) (h .ready .c))
+    (cond (isPart part.Fork p) (actFork n h c)
+    (cond (isPart part.Join p) (actJoin n h c t q (h .ready .a))
+    (cond (isPart part.Synch p) (actSynch n h c (h .ready .a) (h .ready .b) (h .ready .env))
+    (cond (isPart part.Hold p) (actHold n h (h .ready .a) (h .ready .b)) (goOn room.Enough (actPure h) n h c)))))))
+
+abbrev pub actOf : ℕ → Counts → Head → Cell → Object → Head → Acted
+actOf mask n h c t q = actBy (h .ready .part) mask n h c t q

@@ -1,0 +1,14 @@
+use Rattle.frames.specs.Frames.{unpackOf}
+use borrow.Author.Needs.{needs}
+use Rattle.frames.proofs.frame.unpack.Statement.{statement}
+use Rattle.frames.proofs.frame.unpack.Tie as tie
+
+kind-of-requires : tie.Need-kind-of-requires
+kind-of-requires c κs = search needs
+
+returns : tie.Need-returns
+unfolding unpackOf
+returns c = simp (c .kind-of .ensures)
+
+pub unpack-spec : {M : Type 1} → statement M
+unpack-spec = tie.close (tie.spec kind-of-requires returns)

@@ -1,0 +1,12 @@
+use borrow.Author.Needs.{needs}
+use Rattle.landing.proofs.end_at.Statement.{statement}
+use Rattle.landing.proofs.end_at.Tie as tie
+
+ready-in-requires : tie.Need-ready-in-requires
+ready-in-requires c κs = search needs
+
+returns : tie.Need-returns
+returns c = simp (c .ready-in .ensures)
+
+pub end-at-spec : {M : Type 1} → statement M
+end-at-spec = tie.close (tie.spec ready-in-requires returns)

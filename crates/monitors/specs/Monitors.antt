@@ -1,0 +1,25 @@
+-- What a synch does at its start and at its end, by value. The machine that the code runs; no reader of the entries' promises needs it. Assumes nothing.
+use Prim.Native.Nat.{ℕ}
+use mathlib.Core.Bool.{cond}
+use Rattle.keys.specs.KeySet.{emptySet, joinOf, isEmptyOf}
+use Rattle.frames.specs.declared.frame.Kind.the-variants as kind
+use Rattle.frames.specs.declared.frame.Frame.{Frame}
+use Rattle.frames.specs.Going.{goRun, goWant, goValue}
+use Rattle.state.specs.declared.Head.{Head}
+use Rattle.state.specs.declared.Cell.{Cell}
+use Rattle.state.specs.declared.Counts.{Counts}
+use Rattle.state.specs.declared.acted.Room.the-variants as room
+use Rattle.state.specs.declared.acted.Acted.{Acted}
+use Rattle.state.specs.Acted.{entryOf, cellOf, actedOf, goOn}
+
+abbrev pub holdFrame : ℕ → ℕ → Frame
+holdFrame env o = record { kind = kind.Hold; a = 0; b = 0; m = 0; n = 0; env = env; args = o }
+
+unfoldable pub actSynch : Counts → Head → Cell → ℕ → ℕ → ℕ → Acted
+actSynch n h c o t env =
+    cond (isEmptyOf (c .keys))
+    (goOn room.Enough (goRun t env) n h c)
+    (actedOf room.Enough (goWant (holdFrame env o) t) n (joinOf (h .keys) (c .keys)) (cellOf (h .object) 0 emptySet) (entryOf 6 o 0 0))
+
+abbrev pub actHold : Counts → Head → ℕ → ℕ → Acted
+actHold n h o v = actedOf room.Enough (goValue v) n (h .keys) (cellOf 0 0 (h .keys)) (entryOf 7 o 0 0)

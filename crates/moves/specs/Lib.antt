@@ -1,3 +1,0 @@
-pub mod Look
-pub mod Act
-pub mod Settle

@@ -1,0 +1,55 @@
+-- `lowest_miscounted`: the terms so far are counted once.
+use mathlib.Core.Path.{_≡_}
+use Prim.Native.Nat.{ℕ, _-_, _<_, _≤_}
+use native.Mathlib.Omega.{arith}
+use borrow.Author.Tests.{eq-eqb, ne-eqb}
+use Rattle.packed.specs.Steps.{notOnce}
+use Rattle.packed.proofs.Lowest.{found, found-none}
+use borrow.Author.Count.{below-more}
+use mathlib.Core.Bool.{false}
+use borrow.Author.Needs.{needs}
+use Rattle.naming.proofs.lowest_miscounted.Statement.{statement}
+use Rattle.naming.proofs.lowest_miscounted.Tie as tie
+
+abbrev Inv-loop : tie.InvT-loop
+Inv-loop times count t₀ t = (t ≤ count) × ((k : ℕ) → k < t → notOnce times k ≡ false)
+
+abbrev μ-loop : tie.MeasureT-loop
+μ-loop times count t₀ t = count - t
+
+loop-holds : tie.Need-loop-holds Inv-loop μ-loop
+loop-holds c = (search needs, λ k h. absurd (omega arith))
+
+element-copy-out-if1 : tie.Need-element-copy-out-if1 Inv-loop μ-loop
+element-copy-out-if1 c = search needs
+
+returns : tie.Need-returns Inv-loop μ-loop
+unfolding notOnce
+returns c = found (notOnce (c .before .before .before .before .args .times .now)) _ _ (c .before .before .loop-test .taken) (simp (ne-eqb _ _ (c .if1 .taken))) (c .before .before .before .loop .inv .1)
+
+add-t : tie.Need-add-t Inv-loop μ-loop
+add-t c = search needs
+
+loop-less : tie.Need-loop-less Inv-loop μ-loop
+loop-less c = search needs
+
+loop-again : tie.Need-loop-again Inv-loop μ-loop
+unfolding notOnce
+loop-again c = (search needs, below-more _ _ (c .before .before .before .loop .inv .1) (simp (eq-eqb _ _ (c .if1 .left))))
+
+returns-2 : tie.Need-returns-2 Inv-loop μ-loop
+returns-2 c = found-none (notOnce (c .before .before .args .times .now)) _ _ (search needs) (search needs) (c .before .loop .inv .1)
+
+pub lowest-miscounted-spec : {M : Type 1} → statement M
+lowest-miscounted-spec =
+    tie.close
+    (tie.spec
+    Inv-loop
+    μ-loop
+    loop-holds
+    element-copy-out-if1
+    returns
+    add-t
+    loop-less
+    loop-again
+    returns-2)

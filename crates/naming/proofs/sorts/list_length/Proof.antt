@@ -1,0 +1,57 @@
+-- `list_length`: what is counted and what is left to count make the list.
+use mathlib.Core.Path.{_≡_}
+use borrow.Author.Needs.{needs}
+use native.Mathlib.Omega.{arith}
+use Prim.Native.Nat.{suc, _+_, _-_, _<_, _≤_}
+use Rattle.packed.specs.Format.{termAt}
+use Rattle.packed.specs.Refusals.{listLength}
+use lib.ListN.{getD}
+use Rattle.packed.proofs.SortLaws.{list-stop, list-step, rest-between, next-is, no-next}
+use Rattle.naming.proofs.sorts.list_length.Statement.{statement}
+use Rattle.naming.proofs.sorts.list_length.Tie as tie
+
+abbrev Inv-loop : tie.InvT-loop
+Inv-loop plan procs count words from n₀ t₀ n t = (n ≤ 9) × (t < count) × (n + listLength plan (9 - n) t ≡ listLength plan 9 from)
+
+abbrev μ-loop : tie.MeasureT-loop
+μ-loop plan procs count words from n₀ t₀ n t = 9 - n
+
+loop-holds : tie.Need-loop-holds Inv-loop μ-loop
+loop-holds c = (search needs, c .pre .1 .1, omega arith)
+
+mul-w : tie.Need-mul-w Inv-loop μ-loop
+mul-w c = let f = c .before .before .pre .0 .headed .few in omega arith
+
+element-copy-out-w : tie.Need-element-copy-out-w Inv-loop μ-loop
+element-copy-out-w c = let f = c .before .before .pre .0 .headed .few in omega arith
+
+returns : tie.Need-returns Inv-loop μ-loop
+returns c = let a = c .before .before .before .before .args in let l = c .before .before .before .loop in omega (arith, l .inv .2, list-stop (a .plan .now) (9 - l .n) (l .t) (no-next (a .plan .now) (l .t) (getD (a .words .now) (l .t) 0) (c .before .before .before .before .pre .1 .0 .each (l .t) (l .inv .1)) (c .if1 .taken)))
+
+add-n : tie.Need-add-n Inv-loop μ-loop
+add-n c = search needs
+
+loop-less : tie.Need-loop-less Inv-loop μ-loop
+loop-less c = search needs
+
+loop-again : tie.Need-loop-again Inv-loop μ-loop
+loop-again c = let a = c .before .before .before .before .args in let l = c .before .before .before .loop in let b = a .plan .now in let w = getD (a .words .now) (l .t) 0 in let e = next-is b (l .t) w (c .before .before .before .before .pre .1 .0 .each (l .t) (l .inv .1)) (c .if1 .left) in let k : 9 - l .n ≡ suc (9 - (l .n + 1)) = omega arith in let s : listLength b (9 - l .n) (l .t) ≡ suc (listLength b (9 - (l .n + 1)) (termAt b (l .t) .value₂)) = rw k (list-step b (9 - (l .n + 1)) (l .t) (e .0)) in (search needs, rw (e .1) (rest-between b (a .procs) (a .count) (c .before .before .before .before .pre .0) (l .t) (l .inv .1) (e .0) .1), rw (e .1) (omega (arith, s, l .inv .2)))
+
+returns-2 : tie.Need-returns-2 Inv-loop μ-loop
+unfolding listLength
+returns-2 c = let l = c .before .loop in let z : 9 - l .n ≡ 0 = omega arith in let q : listLength (c .before .before .args .plan .now) (9 - l .n) (l .t) ≡ 0 = rw z in omega (arith, l .inv .2, q)
+
+pub list-length-spec : {M : Type 1} → statement M
+list-length-spec =
+    tie.close
+    (tie.spec
+    Inv-loop
+    μ-loop
+    loop-holds
+    mul-w
+    element-copy-out-w
+    returns
+    add-n
+    loop-less
+    loop-again
+    returns-2)

@@ -1,0 +1,76 @@
+// Check 5: terms of the right sort, and calls with as many arguments as there are parameters.
+use header::layout;
+use terms::term::ARGUMENTS;
+use terms::term::PROCEDURE;
+use terms::term::SECOND;
+use terms::term::TAG;
+ghost use mathlib.Core.Path.{_≡_};
+ghost use Prim.Native.Nat.{_<_};
+ghost use Rattle.packed.specs.Refusals.{listLength, wrongCall};
+ghost use Rattle.packed.specs.Steps.{Right, Loaded, tagSort, wrongSort, tagIn, lowerIf};
+
+// The sort of a tag: 1 an expression, 2 a condition, 3 a list.
+fn sort_of(tag: usize) -> usize
+    ensures { λ r. ⌜ r ≡ tagSort tag ⌝ }
+{
+    if tag < 12 {
+        return 1;
+    }
+    if tag < 16 { 2 } else { 3 }
+}
+
+// The lower of `best` and term `index`, if that is of another sort than the table wants.
+pub fn lower(words: &[usize; 1024], sort: usize, index: usize, best: usize) -> usize
+    requires { ⌜ index < 1024 ⌝ }
+    ensures { λ r. ⌜ r ≡ lowerIf (wrongSort sort (tagIn (now (words .entry)) index)) index best ⌝ }
+{
+    if sort_of(words[index] / TAG) == sort {
+        return best;
+    }
+    if index < best { index } else { best }
+}
+
+// The terms of tag 16 from term `from` on, up to the first other tag; counted to nine at most, one more than any parameters.
+fn list_length(plan: &[u8], procs: usize, count: usize, words: &[usize; 1024], from: usize) -> usize
+    requires { ⌜ Right (now plan) procs count ⌝ }
+    requires { ⌜ Loaded (now plan) count (now words) ⌝ }
+    requires { ⌜ from < count ⌝ }
+    ensures { λ r. ⌜ r ≡ listLength (now (plan .entry)) 9 from ⌝ }
+{
+    let mut n = 0;
+    let mut t = from;
+    while n < 9 {
+        let w = words[t];
+        if w / TAG != 16 {
+            return n;
+        }
+        t = w / SECOND % 1024;
+        n += 1;
+    }
+    n
+}
+
+// The lower of `best` and term `t`, if that is a call whose list is not as long as the parameters.
+pub fn lower_call(
+    plan: &[u8],
+    procs: usize,
+    count: usize,
+    words: &[usize; 1024],
+    t: usize,
+    best: usize,
+) -> usize
+    requires { ⌜ Right (now plan) procs count ⌝ }
+    requires { ⌜ Loaded (now plan) count (now words) ⌝ }
+    requires { ⌜ t < count ⌝ }
+    ensures { λ r. ⌜ r ≡ lowerIf (wrongCall (now (plan .entry)) t) t best ⌝ }
+{
+    let w = words[t];
+    if w / TAG != 8 {
+        return best;
+    }
+    let n = list_length(plan, procs, count, words, w / ARGUMENTS % 1024);
+    if n == layout::parameters(plan, w / PROCEDURE % 32) {
+        return best;
+    }
+    if t < best { t } else { best }
+}

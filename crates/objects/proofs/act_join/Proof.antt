@@ -1,0 +1,22 @@
+use borrow.Author.Needs.{needs}
+use Rattle.objects.proofs.act_join.Statement.{statement}
+use Rattle.objects.proofs.act_join.Tie as tie
+
+join-requires : tie.Need-join-requires
+join-requires c κs = search needs
+
+value-requires : tie.Need-value-requires
+value-requires c κs = search needs
+
+entry-requires : tie.Need-entry-requires
+entry-requires c κs = search needs
+
+acted-of-requires : tie.Need-acted-of-requires
+acted-of-requires c κs = search needs
+
+returns : tie.Need-returns
+returns c = simp (c .acted-of .ensures, c .before .entry .ensures, c .before .before .value .ensures, c .before .before .before .before .join .ensures .exact)
+
+pub act-join-spec : {M : Type 1} → statement M
+act-join-spec =
+    tie.close (tie.spec join-requires value-requires entry-requires acted-of-requires returns)

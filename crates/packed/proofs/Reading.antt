@@ -1,0 +1,194 @@
+-- What the bits of a plan say: fields of a number, the counts of the header, and a term as its 40 bits. Assumes nothing.
+use mathlib.Core.Path.{_≡_, refl, ap, sym, _∙_}
+use mathlib.Core.Bool.{Bool, true, false, _&&_, _||_, not}
+use mathlib.Core.List.{List, [], _∷_}
+use Prim.Native.Nat.{ℕ, zero, suc, _+_, _-_, _*_, _/_, _%_, _^_, _≤_, _<_}
+use native.Mathlib.Nat.{one-mul, mod-eq-of-lt, div-one, pow-suc}
+use native.Mathlib.Decide.{decLt}
+use native.Mathlib.Omega.{arith}
+use lib.Count.{ones, ones-step, ones-le}
+use lib.Dec.{ltb, leb, eqb, T, leb→le}
+use lib.ListN.{length, getD}
+use lib.Pow.{pow-lt}
+use borrow.Author.Tests.{lt-ltb, le-ltb}
+use Rattle.format.specs.Bits.{bitAt, bitsAt}
+use Rattle.format.proofs.BitLaws.{bits-below, bits-add, field-of, first-of}
+use Rattle.packed.specs.Format.{version, procedures, terms, parameters, root, headerSpare, volatiles, maskBit, fieldsFrom, absent, width, Row, operands, table, layout, Term, laidOut, termBit, tagAt, termAt}
+use Rattle.packed.specs.Refusals.{wrongHeader, wrongProcedure}
+use Rattle.packed.specs.Steps.{wordAt, inWord, termIn}
+use Rattle.packed.proofs.Fields.{onesOf, fields-count, field-bit}
+
+-- ---- bits
+
+pub joined : (l : List ℕ) (p q v w x y : ℕ) → bitsAt l p v ≡ x → bitsAt l q w ≡ y → p + v ≡ q → bitsAt l p (v + w) ≡ x * 2 ^ w + y
+joined l p q v w x y e f h =
+    bits-add l p v w ∙ ap (λ (n : ℕ). n * 2 ^ w + bitsAt l (p + v) w) e ∙ ap (λ (n : ℕ). x * 2 ^ w + bitsAt l n w) h ∙ ap (λ (n : ℕ). x * 2 ^ w + n) f
+
+-- a field of a number of v + w + r bits
+pub part-of : (l : List ℕ) (p q v w r x : ℕ) → bitsAt l p (v + w + r) ≡ x → p + v ≡ q → bitsAt l q w ≡ x / 2 ^ r % 2 ^ w
+part-of l p q v w r x e h =
+    ap (λ (n : ℕ). bitsAt l n w) (sym h) ∙ field-of l p v w r ∙ ap (λ (n : ℕ). n / 2 ^ r % 2 ^ w) e
+
+-- its first bits
+pub front-of : (l : List ℕ) (p q v r x : ℕ) → bitsAt l p (v + r) ≡ x → p ≡ q → bitsAt l q v ≡ x / 2 ^ r
+front-of l p q v r x e h = ap (λ (n : ℕ). bitsAt l n v) (sym h) ∙ first-of l p v r ∙ ap (λ (n : ℕ). n / 2 ^ r) e
+
+-- its last bits
+pub back-of : (l : List ℕ) (p q v w x : ℕ) → bitsAt l p (v + w + 0) ≡ x → p + v ≡ q → bitsAt l q w ≡ x % 2 ^ w
+back-of l p q v w x e h = part-of l p q v w 0 x e h ∙ ap (λ (n : ℕ). n % 2 ^ w) (div-one x)
+
+pub shl-one : (k : ℕ) → k < 64 → (1 * 2 ^ k) % 2 ^ 64 ≡ 2 ^ k
+shl-one k h = rw one-mul (mod-eq-of-lt (pow-lt {i = k} {j = 64} h))
+
+-- ---- the header
+
+pub procedures-lt : (b : List ℕ) → procedures b < 64
+unfolding procedures
+procedures-lt b = bits-below b 4 6
+
+pub terms-lt : (b : List ℕ) → terms b < 4096
+unfolding terms
+terms-lt b = bits-below b 10 12
+
+pub version-of : (b : List ℕ) (h : ℕ) → h ≡ bitsAt b 0 32 → version b ≡ h / 268435456
+unfolding version
+version-of b h e = front-of b 0 0 4 28 h (sym e) refl
+
+pub spare-of : (b : List ℕ) (h : ℕ) → h ≡ bitsAt b 0 32 → headerSpare b ≡ h % 1024
+unfolding headerSpare
+spare-of b h e = back-of b 0 22 22 10 h (sym e) refl
+
+top-bit : (x : ℕ) → x < 256 → ltb x 128 ≡ not (eqb (x / 128 % 2) 1)
+top-bit x h = go (decLt x 128)
+  where
+    go : Dec (x < 128) → ltb x 128 ≡ not (eqb (x / 128 % 2) 1)
+    go (yes q) = let e : x / 128 % 2 ≡ 0 = omega arith in simp (e, lt-ltb _ _ q)
+    go (no q) = let e : x / 128 % 2 ≡ 1 = omega (arith, q) in simp (e, le-ltb x 128 (omega (arith, q)))
+
+-- the bit of field 0 in the mask of volatile fields
+pub monitor-of : (b : List ℕ) → getD b 4 0 < 256 → ltb (getD b 4 0) 128 ≡ not (eqb (maskBit (volatiles b) 0) 1)
+unfolding volatiles bitAt
+monitor-of b h = top-bit (getD b 4 0) h ∙ ap (λ (n : ℕ). not (eqb n 1)) (sym (field-bit b 32 0 (omega arith)))
+
+-- the tests of check 2, on the header's numbers
+abbrev pub headerTests : ℕ → ℕ → ℕ → ℕ → Bool → Bool
+headerTests v p n s m = not (eqb v 1) || ltb p 1 || ltb 32 p || ltb n 1 || ltb 1024 n || not (eqb s 0) || m
+
+are-tests : (b : List ℕ) → wrongHeader b ≡ headerTests (version b) (procedures b) (terms b) (headerSpare b) (not (eqb (maskBit (volatiles b) 0) 1))
+unfolding wrongHeader
+are-tests b = refl
+
+pub header-tests : (b : List ℕ) (h p n : ℕ) → h ≡ bitsAt b 0 32 → p ≡ procedures b → n ≡ terms b
+    → wrongHeader b ≡ headerTests (h / 268435456) p n (h % 1024) (not (eqb (maskBit (volatiles b) 0) 1))
+header-tests b h p n e f g =
+    are-tests b ∙ rw (version-of b h e, spare-of b h e, f, g)
+
+-- the tests of check 3, on a procedure's numbers
+procedure-are : (b : List ℕ) (p : ℕ) → wrongProcedure b p ≡ (ltb 8 (parameters b p) || (eqb p 0 && ltb 0 (parameters b p)) || leb (terms b) (root b p))
+unfolding wrongProcedure
+procedure-are b p = refl
+
+pub procedure-tests : (b : List ℕ) (p k n r : ℕ) → k ≡ parameters b p → n ≡ terms b → r ≡ root b p → wrongProcedure b p ≡ (ltb 8 k || (eqb p 0 && ltb 0 k) || leb n r)
+procedure-tests b p k n r e f g = procedure-are b p ∙ rw (e, f, g)
+
+-- ---- a mask of fields
+
+ones-are : (k v : ℕ) → v < 2 ^ k → ones v ≡ onesOf k v
+unfolding onesOf
+ones-are zero v h = let z = ones-le 0 v h in omega arith
+ones-are (suc k) v h =
+    let q : v / 2 < 2 ^ k = let p = rw pow-suc at h in omega arith in
+    ones-step v ∙ ap (λ (n : ℕ). v % 2 + n) (ones-are k (v / 2) q)
+
+-- the language's own count of ones is the count of fields
+pub fields-are : (v : ℕ) → v < 4294967296 → ltb 8 (ones v) ≡ ltb 8 (length (fieldsFrom v 0 32))
+fields-are v h = ap (ltb 8) (ones-are 32 v h ∙ sym (fields-count v))
+
+pub no-monitor-bit : (v : ℕ) → v < 2147483648 → eqb (maskBit v 0) 1 ≡ false
+unfolding maskBit
+no-monitor-bit v h = let e : v / 2147483648 % 2 ≡ 0 = omega arith in simp e
+
+pub monitor-bit : (v : ℕ) → 2147483648 ≤ v → v < 4294967296 → eqb (maskBit v 0) 1 ≡ true
+unfolding maskBit
+monitor-bit v g h = let e : v / 2147483648 % 2 ≡ 1 = omega arith in simp e
+
+-- ---- a term as its 40 bits
+
+both : (x y : Bool) → T (x && y) → T x × T y
+both true y h = (tt, h)
+both false y h = absurd h
+
+-- the operands of every row fit the 35 bits after the tag: one test over all rows
+abbrev total : Row → ℕ
+total r = width (r .first) + width (r .second) + width (r .third)
+
+rowsFit : List Row → Bool
+rowsFit [] = true
+rowsFit (r ∷ rs) = leb (total r) 35 && rowsFit rs
+
+rows-fit : (rs : List Row) (d : Row) (k : ℕ) → T (leb (total d) 35) → T (rowsFit rs) → total (getD rs k d) ≤ 35
+unfolding rowsFit
+rows-fit [] d k h f = leb→le _ _ h
+rows-fit (r ∷ rs) d zero h f = leb→le _ _ (both (leb (total r) 35) (rowsFit rs) f .0)
+rows-fit (r ∷ rs) d (suc k) h f = rows-fit rs d k h (both (leb (total r) 35) (rowsFit rs) f .1)
+
+fits : (k : ℕ) → total (layout k) ≤ 35
+unfolding layout table rowsFit
+fits k = rows-fit table (operands absent absent absent) k tt tt
+
+-- a bits from bit v on, of 40
+part40 : (b : List ℕ) (i v a r : ℕ) → v + a + r ≡ 40 → bitsAt b (i + v) a ≡ bitsAt b i 40 / 2 ^ r % 2 ^ a
+part40 b i v a r h = field-of b i v a r ∙ ap (λ (n : ℕ). bitsAt b i n / 2 ^ r % 2 ^ a) h
+
+back40 : (b : List ℕ) (i v a : ℕ) → v + a ≡ 40 → bitsAt b (i + v) a ≡ bitsAt b i 40 % 2 ^ a
+back40 b i v a h = part40 b i v a 0 (omega arith) ∙ ap (λ (n : ℕ). n % 2 ^ a) (div-one (bitsAt b i 40))
+
+laid : (b : List ℕ) (i k : ℕ) (r : Row) → total r ≤ 35 → laidOut b i k r ≡ inWord (bitsAt b i 40) k r
+unfolding laidOut inWord
+laid b i k r h =
+    let a₁ = width (r .first) in
+    let a₂ = width (r .second) in
+    let a₃ = width (r .third) in
+    let x : bitsAt b (i + 5) a₁ ≡ bitsAt b i 40 / 2 ^ (35 - a₁) % 2 ^ a₁ = part40 b i 5 a₁ (35 - a₁) (omega arith) in
+    let y : bitsAt b (i + (5 + a₁)) a₂ ≡ bitsAt b i 40 / 2 ^ (35 - (a₁ + a₂)) % 2 ^ a₂ = part40 b i (5 + a₁) a₂ (35 - (a₁ + a₂)) (omega arith) in
+    let z : bitsAt b (i + (5 + a₁ + a₂)) a₃ ≡ bitsAt b i 40 / 2 ^ (35 - (a₁ + a₂ + a₃)) % 2 ^ a₃ = part40 b i (5 + a₁ + a₂) a₃ (35 - (a₁ + a₂ + a₃)) (omega arith) in
+    let s : bitsAt b (i + (5 + a₁ + a₂ + a₃)) (35 - (a₁ + a₂ + a₃)) ≡ bitsAt b i 40 % 2 ^ (35 - (a₁ + a₂ + a₃)) = back40 b i (5 + a₁ + a₂ + a₃) (35 - (a₁ + a₂ + a₃)) (omega arith) in
+    rw (x, y, z, s)
+
+pub word-is : (b : List ℕ) (procs t w : ℕ) → procs ≡ procedures b → w ≡ bitsAt b ((8 + 2 * procs + 5 * t) * 8) 40 → w ≡ wordAt b t
+unfolding wordAt termBit
+word-is b procs t w e f = f ∙ rw e
+
+pub tag-in : (b : List ℕ) (t : ℕ) → tagAt b t ≡ wordAt b t / 34359738368
+unfolding tagAt wordAt
+tag-in b t = first-of b (termBit b t) 5 35
+
+-- a term is what stands in its 40 bits
+pub term-is : (b : List ℕ) (t : ℕ) → termAt b t ≡ termIn (wordAt b t)
+unfolding termAt termIn wordAt
+term-is b t =
+    laid b (termBit b t) (tagAt b t) (layout (tagAt b t)) (fits (tagAt b t)) ∙ ap (λ (k : ℕ). inWord (wordAt b t) k (layout k)) (tag-in b t)
+
+-- the values of a term by its tag, of its 40 bits
+module _ (b : List ℕ) (t w : ℕ) (e : w ≡ wordAt b t) (k : ℕ) (key : w / 34359738368 ≡ k) where
+  pub tag-was : tagAt b t ≡ k
+  tag-was = tag-in b t ∙ ap (λ (v : ℕ). v / 34359738368) (sym e) ∙ key
+
+  abbrev row : Row
+  row = layout k
+
+  whole-was : inWord w k row ≡ termAt b t
+  unfolding termIn
+  whole-was = ap (λ (j : ℕ). inWord w j (layout j)) (sym key) ∙ ap termIn e ∙ sym (term-is b t)
+
+  pub first-was : w / 2 ^ (35 - width (row .first)) % 2 ^ width (row .first) ≡ termAt b t .value₁
+  unfolding inWord
+  first-was = ap (λ (m : Term). m .value₁) whole-was
+
+  pub second-was : w / 2 ^ (35 - (width (row .first) + width (row .second))) % 2 ^ width (row .second) ≡ termAt b t .value₂
+  unfolding inWord
+  second-was = ap (λ (m : Term). m .value₂) whole-was
+
+  pub third-was : w / 2 ^ (35 - (width (row .first) + width (row .second) + width (row .third))) % 2 ^ width (row .third) ≡ termAt b t .value₃
+  unfolding inWord
+  third-was = ap (λ (m : Term). m .value₃) whole-was

@@ -1,0 +1,253 @@
+-- Names for what the inner functions do: no reader of the entry's promise needs them. Assumes nothing.
+use Prim.Native.Nat.{ℕ, zero, suc, _+_, _-_, _*_, _/_, _%_, _^_, _≤_, _<_}
+use mathlib.Core.Path.{_≡_}
+use mathlib.Core.Bool.{Bool, true, false, cond, _&&_, _||_, not}
+use mathlib.Core.List.{List, [], _∷_}
+use lib.Bits.{bitOr}
+use lib.Dec.{eqb, ltb, leb}
+use lib.ListN.{length, getD, set}
+use Rattle.format.specs.Bits.{bitsAt}
+use Rattle.packed.specs.Syntax.{Expression, Condition, Arguments}
+use Rattle.packed.specs.Format.{procedures, terms, root, expression, width, Row, layout, Term, termBit, tagAt, termAt}
+use Rattle.packed.specs.Trees.{Node, nodeOf, expressionOf, expressionAt, conditionAt, argumentsAt}
+use Rattle.packed.specs.Refusals.{anyBelow, sumBelow, oneIf, wrongProcedure, wrongTerm, misplaced, someOperand, wrongCall, timesIn}
+
+-- r is the lowest of the numbers below n at which the test passes, or n
+pub record Lowest (f : ℕ → Bool) (n r : ℕ) : Type 0 where
+  pub within : r ≤ n
+  pub here : r < n → f r ≡ true
+  pub before : (k : ℕ) → k < r → f k ≡ false
+
+-- ---- what the checks so far have shown
+
+-- check 1: a plan of the right length, with these numbers of procedures and terms
+pub record Sized (b : List ℕ) (procs n : ℕ) : Type 0 where
+  pub procs-are : procs ≡ procedures b
+  pub terms-are : n ≡ terms b
+  pub long : length b ≡ 8 + 2 * procs + 5 * n
+
+-- checks 1 to 3
+pub record Headed (b : List ℕ) (procs n : ℕ) : Type 0 where
+  pub sized : Sized b procs n
+  pub some-term : 1 ≤ n
+  pub few : n ≤ 1024
+  pub procs-right : (p : ℕ) → p < procs → wrongProcedure b p ≡ false
+
+-- checks 1 to 4
+pub record Right (b : List ℕ) (procs n : ℕ) : Type 0 where
+  pub headed : Headed b procs n
+  pub terms-right : (t : ℕ) → t < n → wrongTerm b t ≡ false
+
+-- ---- a term taken apart
+
+-- the 40 bits of term t
+unfoldable pub wordAt : List ℕ → ℕ → ℕ
+wordAt b t = bitsAt b (termBit b t) 40
+
+-- the term of this tag and row that stands in 40 bits
+unfoldable pub inWord : ℕ → ℕ → Row → Term
+inWord w k r =
+    record {
+      tag = k;
+      first = r .first;
+      value₁ = w / 2 ^ (35 - width (r .first)) % 2 ^ width (r .first);
+      second = r .second;
+      value₂ = w / 2 ^ (35 - (width (r .first) + width (r .second))) % 2 ^ width (r .second);
+      third = r .third;
+      value₃ = w / 2 ^ (35 - (width (r .first) + width (r .second) + width (r .third))) % 2 ^ width (r .third);
+      spare = w % 2 ^ (35 - (width (r .first) + width (r .second) + width (r .third)));
+    }
+
+-- the term that stands in 40 bits
+unfoldable pub termIn : ℕ → Term
+unfolding inWord layout
+termIn w = inWord w (w / 34359738368) (layout (w / 34359738368))
+
+-- the terms' 40 bits in an array, and zeros after them
+pub record Loaded (b : List ℕ) (n : ℕ) (words : List ℕ) : Type 0 where
+  pub size : length words ≡ 1024
+  pub each : (t : ℕ) → t < n → getD words t 0 ≡ wordAt b t
+  pub rest : (t : ℕ) → n ≤ t → getD words t 0 ≡ 0
+
+-- the tag of term t in the array
+unfoldable pub tagIn : List ℕ → ℕ → ℕ
+tagIn words t = getD words t 0 / 34359738368
+
+-- the node of term t in the array
+unfoldable pub nodeIn : List ℕ → ℕ → Node
+unfolding nodeOf termIn
+nodeIn words t = nodeOf (termIn (getD words t 0))
+
+-- the children of a node come after term t
+abbrev pub Below : ℕ → Node → Type 0
+Below t Node.null = Unit {0}
+Below t (Node.variable x) = Unit {0}
+Below t (Node.new fs) = Unit {0}
+Below t (Node.read i f) = t < i
+Below t (Node.write i f j) = (t < i) × (t < j)
+Below t (Node.letIn x i j) = (t < i) × (t < j)
+Below t (Node.if i j k) = (t < i) × (t < j) × (t < k)
+Below t (Node.while i j) = (t < i) × (t < j)
+Below t (Node.call m i) = t < i
+Below t (Node.fork i) = t < i
+Below t (Node.join i) = t < i
+Below t (Node.synch i j) = (t < i) × (t < j)
+Below t Node.truth = Unit {0}
+Below t (Node.not i) = t < i
+Below t (Node.and i j) = (t < i) × (t < j)
+Below t (Node.equal i j) = (t < i) × (t < j)
+Below t (Node.list i j) = (t < i) × (t < j)
+Below t Node.listEnd = Unit {0}
+Below t Node.unknown = Unit {0}
+
+-- every child comes after its parent, and there are no terms past the array
+pub record Ordered (words : List ℕ) : Type 0 where
+  pub below : (t : ℕ) → Below t (nodeIn words t)
+  pub ends : (t : ℕ) → 1024 ≤ t → getD words t 0 ≡ 0
+
+-- ---- check 4
+
+-- a child index not above its parent's, t, or not below the count
+abbrev pub outside : ℕ → ℕ → ℕ → Bool
+outside n t v = leb v t || leb n v
+
+-- ---- the names of terms, for checks 5 and 6
+
+-- a child: the sort that the table wants (1 an expression, 2 a condition, 3 a list), and the term
+pub record Child : Type 0 where
+  pub sort : ℕ
+  pub index : ℕ
+
+-- the child of this sort at this index
+abbrev pub childOf : ℕ → ℕ → Child
+childOf s i = record { sort = s; index = i }
+
+-- the children of a node
+unfoldable pub childrenOf : Node → List Child
+childrenOf Node.null = []
+childrenOf (Node.variable x) = []
+childrenOf (Node.new fs) = []
+childrenOf (Node.read i f) = childOf 1 i ∷ []
+childrenOf (Node.write i f j) = childOf 1 i ∷ childOf 1 j ∷ []
+childrenOf (Node.letIn x i j) = childOf 1 i ∷ childOf 1 j ∷ []
+childrenOf (Node.if i j k) = childOf 2 i ∷ childOf 1 j ∷ childOf 1 k ∷ []
+childrenOf (Node.while i j) = childOf 2 i ∷ childOf 1 j ∷ []
+childrenOf (Node.call m i) = childOf 3 i ∷ []
+childrenOf (Node.fork i) = childOf 1 i ∷ []
+childrenOf (Node.join i) = childOf 1 i ∷ []
+childrenOf (Node.synch i j) = childOf 1 i ∷ childOf 1 j ∷ []
+childrenOf Node.truth = []
+childrenOf (Node.not i) = childOf 2 i ∷ []
+childrenOf (Node.and i j) = childOf 2 i ∷ childOf 2 j ∷ []
+childrenOf (Node.equal i j) = childOf 1 i ∷ childOf 1 j ∷ []
+childrenOf (Node.list i j) = childOf 1 i ∷ childOf 3 j ∷ []
+childrenOf Node.listEnd = []
+childrenOf Node.unknown = []
+
+-- ---- check 5
+
+-- the sort of a tag: "e is an expression (tags 0 to 11), c a condition (12 to 15), list is 16 or 17"
+unfoldable pub tagSort : ℕ → ℕ
+tagSort k = cond (ltb k 12) 1 (cond (ltb k 16) 2 3)
+
+-- a term of this tag is of another sort than is wanted
+unfoldable pub wrongSort : ℕ → ℕ → Bool
+unfolding tagSort
+wrongSort s k = not (eqb (tagSort k) s)
+
+-- the lower of two, if the test passes
+abbrev pub lowerIf : Bool → ℕ → ℕ → ℕ
+lowerIf on v best = cond (on && ltb v best) v best
+
+-- the lowest of best and those of these children that are of another sort
+unfoldable pub lowerAll : List ℕ → List Child → ℕ → ℕ
+unfolding wrongSort tagIn
+lowerAll words [] best = best
+lowerAll words (k ∷ ks) best = lowerAll words ks (lowerIf (wrongSort (k .sort) (tagIn words (k .index))) (k .index) best)
+
+-- a root of the first procedures
+unfoldable pub misplacedRoot : List ℕ → ℕ → ℕ → Bool
+unfolding anyBelow
+misplacedRoot b n t = anyBelow n (λ p. eqb (root b p) t && misplaced expression (tagAt b t))
+
+-- term t as a root, or as a child of one of the first u terms
+unfoldable pub misfits : List ℕ → ℕ → ℕ → Bool
+unfolding anyBelow someOperand
+misfits b u t =
+    anyBelow (procedures b) (λ p. eqb (root b p) t && misplaced expression (tagAt b t))
+    || anyBelow u (λ i. someOperand (λ kind v. eqb v t && misplaced kind (tagAt b t)) (termAt b i))
+
+-- that, or a wrong call of the first u terms
+unfoldable pub faults : List ℕ → ℕ → ℕ → Bool
+unfolding misfits anyBelow
+faults b u t = misfits b u t || anyBelow u (λ i. eqb i t && wrongCall b t)
+
+-- ---- check 6
+
+-- one more, no further than two
+unfoldable pub moreOf : ℕ → ℕ
+moreOf zero = 1
+moreOf (suc n) = 2
+
+-- these terms named once more
+unfoldable pub countAll : List Child → List ℕ → List ℕ
+unfolding moreOf
+countAll [] counts = counts
+countAll (k ∷ ks) counts = countAll ks (set counts (k .index) (moreOf (getD counts (k .index) 0)))
+
+-- no further than two
+unfoldable pub cap : ℕ → ℕ
+cap zero = 0
+cap (suc zero) = 1
+cap (suc (suc n)) = 2
+
+-- how often the first n procedures name term t
+unfoldable pub rootTimes : List ℕ → ℕ → ℕ → ℕ
+rootTimes b n t = sumBelow n (λ p. oneIf (eqb (root b p) t))
+
+-- how often the procedures and the first n terms name term t
+unfoldable pub allTimes : List ℕ → ℕ → ℕ → ℕ
+allTimes b n t = sumBelow (procedures b) (λ p. oneIf (eqb (root b p) t)) + sumBelow n (λ u. timesIn (termAt b u) t)
+
+-- the counts of an array are these, no further than two
+pub record Counted (f : ℕ → ℕ) (counts : List ℕ) : Type 0 where
+  pub size : length counts ≡ 1024
+  pub each : (t : ℕ) → t < 1024 → getD counts t 0 ≡ cap (f t)
+
+-- term t is not counted once
+unfoldable pub notOnce : List ℕ → ℕ → Bool
+notOnce counts t = not (eqb (getD counts t 0) 1)
+
+-- ---- check 7
+
+-- bit x of a number
+abbrev pub bitOf : ℕ → ℕ → Bool
+bitOf m x = eqb (m / 2 ^ x % 2) 1
+
+-- the slots of a mask
+unfoldable pub slots : ℕ → ℕ → Bool
+slots m x = bitOf m x
+
+-- what is bound in a let's second operand; slot 15 binds nothing
+unfoldable pub withSlot : ℕ → ℕ → ℕ
+withSlot m x = cond (eqb x 15) m (bitOr m (2 ^ x))
+
+-- the tree of the expression at term t of the array
+unfoldable pub treeIn : List ℕ → ℕ → Expression
+unfolding nodeIn expressionAt
+treeIn words t = expressionAt (nodeIn words) (1024 - t) t
+
+-- the tree of the condition at term t of the array
+unfoldable pub conditionIn : List ℕ → ℕ → Condition
+unfolding nodeIn expressionAt
+conditionIn words t = conditionAt (nodeIn words) (1024 - t) t
+
+-- the tree of the list at term t of the array
+unfoldable pub listIn : List ℕ → ℕ → Arguments
+unfolding nodeIn expressionAt
+listIn words t = argumentsAt (nodeIn words) (1024 - t) t
+
+-- the expression of a term without children, by its 40 bits
+unfoldable pub leafIn : ℕ → Expression
+unfolding nodeOf termIn expressionOf
+leafIn w = expressionOf (λ i. Expression.literal 0) (λ i. Condition.truth) (λ i. Arguments.end) (nodeOf (termIn w))

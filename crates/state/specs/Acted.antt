@@ -1,0 +1,32 @@
+-- What a move does to the state, by value. The machine that the code runs; no reader of the entries' promises needs it. Assumes nothing.
+use Prim.Native.Nat.{ℕ}
+use Rattle.keys.specs.declared.KeySet.{KeySet}
+use Rattle.frames.specs.declared.go.Go.{Go}
+use Rattle.state.specs.declared.Head.{Head}
+use Rattle.state.specs.declared.Cell.{Cell}
+use Rattle.state.specs.declared.Object.{Object}
+use Rattle.state.specs.declared.Counts.{Counts}
+use Rattle.state.specs.declared.Entry.{Entry}
+use Rattle.state.specs.declared.acted.Room.{Room}
+use Rattle.state.specs.declared.acted.Acted.{Acted}
+
+abbrev pub entryOf : ℕ → ℕ → ℕ → ℕ → Entry
+entryOf k o f v = record { kind = k; object = o; field = f; value = v }
+
+abbrev pub noEntry : Entry
+noEntry = entryOf 0 0 0 0
+
+abbrev pub nothing : Object
+nothing = record { mask = 0; thread = 8 }
+
+abbrev pub cellOf : ℕ → ℕ → KeySet → Cell
+cellOf v k ks = record { value = v; key = k; keys = ks }
+
+abbrev pub countsOf : ℕ → ℕ → ℕ → Counts
+countsOf t o k = record { threads = t; objects = o; keys = k }
+
+abbrev pub actedOf : Room → Go → Counts → KeySet → Cell → Entry → Acted
+actedOf r g n ks c e = record { room = r; go = g; keys = ks; cell = c; thing = nothing; counts = n; entry = e }
+
+abbrev pub goOn : Room → Go → Counts → Head → Cell → Acted
+goOn r g n h c = actedOf r g n (h .keys) c noEntry
