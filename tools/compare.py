@@ -1,9 +1,10 @@
 #!/usr/bin/env python3
 """Holds the printing program to the second interpreter on fresh random cases.
 
-  compare.py ORACLE PROGRAM SEED COUNT
+  compare.py PROGRAM ORACLE SEED COUNT
+  compare.py PROGRAM - < CASES
 
-ORACLE is the folder of the second interpreter, PROGRAM the built printing program (`rt check shotlist` makes target/bin/shotlist). Every case that
+ORACLE is the folder of the second interpreter, CASES its JSON lines, made before; PROGRAM is the built printing program (`rt check shotlist` makes target/bin/shotlist). Every case that
 plays a schedule on a plan is written as the program's standard input, and what it prints is compared with the text that the case asks for. Cases that
 refuse the log area (number 10) are left out, since the program lends an area that is always long enough. Every tenth input is also cut short within
 its plan, which is refusal 1, and every tenth run is also played with more picks than a schedule may have, which is refusal 8.
@@ -33,10 +34,9 @@ def text_of(want):
     return "\n".join(lines) + "\n"
 
 
-def cases(oracle, seed, count):
+def cases(rows):
     """Inputs of the program, each with its text."""
-    made = subprocess.Popen([sys.executable, oracle + "/oracle.py", "vectors", seed, str(count)], stdout=subprocess.PIPE)
-    for number, row in enumerate(made.stdout):
+    for number, row in enumerate(rows):
         case = json.loads(row)
         if "play" not in case or case["want"].get("refused", [0])[0] == 10:
             continue
@@ -47,16 +47,17 @@ def cases(oracle, seed, count):
             yield data[:2 + len(plan) // 2], "refused 1 0\n"
             if "refused" not in case["want"]:
                 yield data + bytes(4097 + number % 70000), "refused 8 0\n"
-    if made.wait() != 0:
-        sys.exit("the second interpreter failed")
 
 
 def main(argv):
-    if len(argv) != 5:
+    if len(argv) not in (3, 5):
         sys.exit(__doc__)
+    rows = sys.stdin
+    if len(argv) == 5:
+        rows = subprocess.Popen([sys.executable, argv[2] + "/oracle.py", "vectors", argv[3], argv[4]], stdout=subprocess.PIPE).stdout
     compared = differ = 0
-    for data, text in cases(argv[1], argv[3], int(argv[4])):
-        got = subprocess.run([argv[2]], input=data, stdout=subprocess.PIPE).stdout.decode()
+    for data, text in cases(rows):
+        got = subprocess.run([argv[1]], input=data, stdout=subprocess.PIPE).stdout.decode()
         compared += 1
         if got != text:
             differ += 1

@@ -62,10 +62,10 @@ pub fn print() {
     let all = inputs::deepest();
     let logs = logs(&all);
     let (mut log, mut out) = (vec![0; 12288], [0; 32]);
-    most("check", 96, &all, |i| {
+    most("check", 48, &all, |i| {
         library::check(&i.plan);
     });
-    most("play", 192, &all, |i| {
+    most("play", 128, &all, |i| {
         library::play(&i.plan, &i.schedule, &mut log, &mut out);
     });
     most("judge", 32, &logs, |i| {
