@@ -5,6 +5,7 @@ mod compare;
 mod generate;
 mod independent;
 mod inputs;
+#[path = "../../include/ruqzhemil.rs"]
 mod library;
 mod plans;
 mod random;

@@ -1,18 +1,7 @@
-//! The static library's three functions for Rust. A slice meets what the library asks of its pointers, and two borrows of one call cannot overlap.
+//! The static library's answers as Rust's own types.
 
-extern "C" {
-    fn ruqzhemil_check(plan: *const u8, plan_len: usize) -> u64;
-    fn ruqzhemil_play(
-        plan: *const u8,
-        plan_len: usize,
-        schedule: *const u8,
-        schedule_len: usize,
-        log: *mut u8,
-        log_len: usize,
-        out: *mut u8,
-    ) -> u64;
-    fn ruqzhemil_judge(log: *const u8, log_len: usize) -> u64;
-}
+#[path = "../../../include/ruqzhemil.rs"]
+mod library;
 
 /// Document 01's number of a refusal, and its place.
 #[derive(Debug, PartialEq, Eq)]
@@ -29,7 +18,7 @@ fn refusal(answer: u64) -> Refusal {
 }
 
 pub fn check(plan: &[u8]) -> Result<(), Refusal> {
-    match unsafe { ruqzhemil_check(plan.as_ptr(), plan.len()) } {
+    match library::check(plan) {
         0 => Ok(()),
         answer => Err(refusal(answer)),
     }
@@ -63,18 +52,7 @@ impl Outcome {
 
 pub fn play(plan: &[u8], schedule: &[u8], log: &mut [u8]) -> Result<Outcome, Refusal> {
     let mut out = [0; 32];
-    let answer = unsafe {
-        ruqzhemil_play(
-            plan.as_ptr(),
-            plan.len(),
-            schedule.as_ptr(),
-            schedule.len(),
-            log.as_mut_ptr(),
-            log.len(),
-            out.as_mut_ptr(),
-        )
-    };
-    match answer {
+    match library::play(plan, schedule, log, &mut out) {
         0 => Ok(Outcome(out)),
         answer => Err(refusal(answer)),
     }
@@ -82,7 +60,7 @@ pub fn play(plan: &[u8], schedule: &[u8], log: &mut [u8]) -> Result<Outcome, Ref
 
 /// The index of an unordered access, if the log has one.
 pub fn judge(log: &[u8]) -> Result<Option<u64>, Refusal> {
-    match unsafe { ruqzhemil_judge(log.as_ptr(), log.len()) } {
+    match library::judge(log) {
         0 => Ok(None),
         answer if answer >> 32 == 1 => Ok(Some(answer & 0xffff_ffff)),
         answer => Err(refusal(answer & 0xffff_ffff)),

@@ -1,4 +1,5 @@
-//! The three entries of the static library.
+//! The functions of the static library for Rust, answers as include/ruqzhemil.h documents them. A slice meets what the library asks of its pointers, and two
+//! borrows of one call cannot overlap.
 
 extern "C" {
     fn ruqzhemil_check(plan: *const u8, plan_len: usize) -> u64;
