@@ -7,8 +7,7 @@ use Rattle.state.specs.declared.Head.{Head}
 use Rattle.state.specs.declared.Counts.{Counts}
 use Rattle.look.specs.declared.Sight.{Sight}
 use Rattle.state.specs.declared.acted.Acted.{Acted}
-use Rattle.engine.specs.declared.Turn.{Turn}
-use Rattle.engine.specs.Machine.{turnBy, settled, landBorn, Finished, youngOf, finishOf}
+use Rattle.engine.specs.Machine.{Turn, turnBy, settled, landBorn, Finished, youngOf, finishOf}
 
 pub finished : (ws rs : List ℕ) (n : Counts) (p : ℕ) (w : Sight) (h : Head) (a : Acted) (k : Stack) (x y : Ended) (t : Turn)
     → x ≡ landOf 2100 ws rs (p * 33) k (a .go) (h .depth % 33)

@@ -15,8 +15,9 @@ use Rattle.settle.specs.declared.Answer.{Answer}
 use Rattle.settle.specs.declared.Answer.the-variants as answer
 use Rattle.settle.specs.Settle.{passesOf, forksOf, moverOf, bornOf}
 use Rattle.engine.specs.declared.Stop.{Stop}
-use Rattle.engine.specs.declared.Tally.{Tally}
-use Rattle.engine.specs.Machine.{Machine, Finished, Played, endOf, headAt, cellNumber, headOf, cellFirst, noThing, tallyFirst, tallyPut, tallyMoved, logPut, stopOf, metBy, actedBy, finishedBy, stopped, logged, withYoung, after, startOf, playOf}
+use Rattle.tally.specs.declared.Tally.{Tally}
+use Rattle.tally.specs.Tally.{tallyFirst, tallyPut, tallyMoved, logPut}
+use Rattle.engine.specs.Machine.{Machine, Finished, Played, endOf, headAt, cellNumber, headOf, cellFirst, noThing, stopOf, metBy, actedBy, finishedBy, stopped, logged, withYoung, after, startOf, playOf}
 
 module _ (ws rs : List ℕ) (mask : ℕ) where
   abbrev begun : Head → Cell → Object → Tally → List ℕ → Machine
@@ -78,7 +79,7 @@ pub after-is : (m : Machine) (p : ℕ) (a : Acted) (t : Finished) (k : ℕ) (hs 
     → k ≡ cellNumber (headAt (m .heads) p .ready)
     → hs ≡ withYoung (forksOf a) (m .heads) (m .tally .counts .threads % 9) (bornOf (m .tally .counts) (headAt (m .heads) p) (t .turn .born))
     → h ≡ moverOf a (headAt (m .heads) p) (t .turn .landed)
-    → s ≡ tallyMoved (tallyPut (m .tally) (t .turn .entry)) a → l ≡ logPut (m .log) (m .tally .records) p (t .turn .entry)
+    → s ≡ tallyMoved (tallyPut (m .tally) (t .turn .entry)) (a .counts) → l ≡ logPut (m .log) (m .tally .records) p (t .turn .entry)
     → _≡_ {A = Machine} (record {
       heads = set hs p h;
       cells = set (m .cells) k (a .cell);

@@ -21,18 +21,18 @@ use Rattle.state.specs.declared.Entry.{Entry}
 use Rattle.look.specs.declared.Sight.{Sight}
 use Rattle.look.specs.declared.Sight.the-variants as sight
 use Rattle.state.specs.declared.acted.Acted.{Acted}
+use Rattle.tally.specs.declared.Tally.{Tally}
+use Rattle.tally.specs.Tally.{tallyFirst, tallyPut, tallyMoved, logPut}
 use Rattle.settle.specs.declared.Answer.{Answer}
 use Rattle.settle.specs.declared.Answer.the-variants as answer
 use Rattle.look.specs.Look.{objectOf, fieldOf, lookOf}
-use Rattle.state.specs.Acted.{cellOf, countsOf}
+use Rattle.state.specs.Acted.{cellOf}
 use Rattle.act.specs.Act.{actOf}
 use Rattle.settle.specs.Settle.{passesOf, forksOf, answerOf, moverOf, bornOf, entryBy}
 use Rattle.engine.specs.declared.Stop.{Stop}
 use Rattle.engine.specs.declared.Stop.the-variants as stop
 use Rattle.engine.specs.declared.Seen.{Seen}
 use Rattle.engine.specs.declared.Ran.{Ran}
-use Rattle.engine.specs.declared.Tally.{Tally}
-use Rattle.engine.specs.declared.Turn.{Turn}
 
 -- past the end of a list: zeros, no keys, and the first variant
 abbrev pub noHead : Head
@@ -87,6 +87,13 @@ actAt mask n l cs ts p = actOf mask n (headAt l p) (cellAt l cs p) (thingAt l ts
 
 -- ---- a pick that is not passed over: act, land the mover, land the new thread, settle
 
+-- what a pick comes to, with its record and the landings of the mover and of the thread that it makes
+pub record Turn : Type 0 where
+  pub answer : Answer
+  pub entry : Entry
+  pub landed : Landed
+  pub born : Landed
+
 pub record Finished : Type 0 where
   pub stack : Stack
   pub turn : Turn
@@ -120,23 +127,6 @@ actedBy mask m p = actAt mask (m .tally .counts) (m .heads) (m .cells) (m .objec
 
 abbrev pub finishedBy : List ℕ → List ℕ → ℕ → Machine → ℕ → Finished
 finishedBy ws rs mask m p = finishOf ws rs (m .tally .counts) p (metBy mask m p) (headAt (m .heads) p) (actedBy mask m p) (m .stack)
-
--- ---- the log and the counts
-
-abbrev pub wordOf : ℕ → Entry → ℕ
-wordOf p e = (((e .kind % 16 * 8 + p % 8) * 32 + e .object % 32) * 32 + e .field % 32) * 128 + e .value % 32 * 4
-
-unfoldable pub logPut : List ℕ → ℕ → ℕ → Entry → List ℕ
-logPut l n p e = cond (eqb (e .kind) 0) l (set (set (set l (n * 3) (wordOf p e / 65536 % 256)) (n * 3 + 1) (wordOf p e / 256 % 256)) (n * 3 + 2) (wordOf p e % 256))
-
-unfoldable pub recordsAfter : ℕ → Entry → ℕ
-recordsAfter n e = cond (eqb (e .kind) 0) n (n + 1)
-
-abbrev pub tallyPut : Tally → Entry → Tally
-tallyPut s e = record { counts = s .counts; moves = s .moves; records = recordsAfter (s .records) e }
-
-abbrev pub tallyMoved : Tally → Acted → Tally
-tallyMoved s a = record { counts = a .counts; moves = s .moves + 1; records = s .records }
 
 -- ---- the threads at the end
 
@@ -196,7 +186,7 @@ after m p a t =
       cells = set (m .cells) (cellNumber (headAt (m .heads) p .ready)) (a .cell);
       objects = set (m .objects) (m .tally .counts .objects % 33) (a .thing);
       stack = t .stack;
-      tally = tallyMoved (tallyPut (m .tally) (t .turn .entry)) a;
+      tally = tallyMoved (tallyPut (m .tally) (t .turn .entry)) (a .counts);
       log = logPut (m .log) (m .tally .records) p (t .turn .entry);
     }
 
@@ -220,9 +210,6 @@ headOf root = record { ready = readyOf part.Run root 0 0 0; depth = 0; object = 
 
 abbrev pub cellFirst : Cell
 cellFirst = cellOf 0 0 zeroSet
-
-abbrev pub tallyFirst : Tally
-tallyFirst = record { counts = countsOf 1 1 1; moves = 0; records = 0 }
 
 unfoldable pub startOf : List ℕ → List ℕ → Machine
 startOf rs l =

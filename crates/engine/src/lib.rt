@@ -4,7 +4,7 @@ ghost use mathlib.Core.Path.{_≡_};
 ghost use Prim.Native.Nat.{_<_, _≤_, _+_, _*_};
 ghost use lib.ListN.{length};
 ghost use Rattle.landing.specs.Landing.{Stack};
-ghost use Rattle.engine.specs.Machine.{Placed, headOf, cellFirst, noThing, tallyFirst, tallyPut, tallyMoved, logPut, stopOf, youngOf, finishOf, Finished, sightOf, seenBy, noneSeen, startOf, playOf};
+ghost use Rattle.engine.specs.Machine.{Placed, headOf, cellFirst, noThing, stopOf, youngOf, sightOf, seenBy, noneSeen, startOf, playOf};
 use frames::go;
 use frames::part;
 use keys::KeySet;
@@ -13,7 +13,6 @@ use look::Sight;
 use settle::Answer;
 use state::Cell;
 use state::Counts;
-use state::Entry;
 use state::Head;
 use state::Object;
 use state::acted::Acted;
@@ -26,12 +25,12 @@ pub enum Stop {
     NoRoom(Room),
 }
 
-// What a thread's next pick would meet, with the value, the object and the field that its part is about.
+// The value, the object and the field that a thread's part is about, and what its next pick would meet.
 pub struct Seen {
-    pub sight: Sight,
     pub value: usize,
     pub object: usize,
     pub field: usize,
+    pub sight: Sight,
 }
 
 pub struct Ran {
@@ -40,21 +39,6 @@ pub struct Ran {
     pub moves: usize,
     pub records: usize,
     pub threads: [Seen; 8],
-}
-
-// What a run has counted.
-pub struct Tally {
-    pub counts: Counts,
-    pub moves: usize,
-    pub records: usize,
-}
-
-// What a move comes to, with the landing of the mover and of the thread that it makes.
-pub struct Turn {
-    pub answer: Answer,
-    pub entry: Entry,
-    pub landed: Landed,
-    pub born: Landed,
 }
 
 // About to call main.
@@ -90,22 +74,6 @@ fn first_object() -> Object
     Object { mask: 0, thread: 0 }
 }
 
-// One thread, one object, one key.
-fn first_tally() -> Tally
-    ensures { λ r. ⌜ r ≡ tallyFirst ⌝ }
-{
-    let one = Counts {
-        threads: 1,
-        objects: 1,
-        keys: 1,
-    };
-    Tally {
-        counts: one,
-        moves: 0,
-        records: 0,
-    }
-}
-
 // The cell that the thread's part is about, 32 to an object.
 fn cell_of(h: Head) -> usize
     ensures { λ r. ⌜ Placed (h .ready) r ⌝ }
@@ -114,44 +82,6 @@ fn cell_of(h: Head) -> usize
     let o = look::object_of(x);
     let f = look::field_of(x);
     o * 32 + f
-}
-
-// Writes the turn's record and counts it; kind 0 is none.
-fn put(log: &mut [u8], s: Tally, p: usize, m: Turn) -> Tally
-    requires { ⌜ (s .records * 3 + 3 ≤ length (now log)) × (s .records ≤ 4096) ⌝ }
-    ensures { λ r. ⌜ (r ≡ tallyPut s (m .entry)) × (r .records ≤ s .records + 1) ⌝ }
-    ensures { λ r. ⌜ now (log .exit) ≡ logPut (now (log .entry)) (s .records) p (m .entry) ⌝ }
-{
-    let e = m.entry;
-    let kind = e.kind;
-    if kind == 0 {
-        return s;
-    }
-    let w = (((kind % 16 * 8 + p % 8) * 32 + e.object % 32) * 32 + e.field % 32) * 128
-        + e.value % 32 * 4;
-    let at = s.records * 3;
-    log[at] = (w / 65536 % 256) as u8;
-    log[at + 1] = (w / 256 % 256) as u8;
-    log[at + 2] = (w % 256) as u8;
-    let n = s.counts;
-    Tally {
-        counts: n,
-        moves: s.moves,
-        records: s.records + 1,
-    }
-}
-
-// The counts after a move.
-fn moved(s: Tally, a: Acted) -> Tally
-    requires { ⌜ s .moves ≤ 4096 ⌝ }
-    ensures { λ r. ⌜ (r ≡ tallyMoved s a) × (r .moves ≤ s .moves + 1) ⌝ }
-{
-    let n = a.counts;
-    Tally {
-        counts: n,
-        moves: s.moves + 1,
-        records: s.records,
-    }
 }
 
 fn stop_of(a: Answer) -> Stop
@@ -183,45 +113,6 @@ fn land_young(
         return landing::land(words, roots, tops, envs, args, n.threads % 9 * 33, start, 0);
     }
     landing::end_at(go::full(), 0)
-}
-
-// Lands the mover and the new thread, then settles.
-fn finish(
-    words: &[usize; 1024],
-    roots: &[usize; 32],
-    tops: &mut [usize; 297],
-    envs: &mut [usize; 297],
-    args: &mut [usize; 297],
-    n: Counts,
-    p: usize,
-    w: Sight,
-    h: Head,
-    a: Acted,
-) -> Turn
-    requires { ⌜ p < 8 ⌝ }
-    ensures { λ r. ⌜ (record { stack = record { tops = now (tops .exit); envs = now (envs .exit); args = now (args .exit) }; turn = r }) ≡ finishOf (now (words .entry)) (now (roots .entry)) n p w h a (record { tops = now (tops .entry); envs = now (envs .entry); args = now (args .entry) }) ⌝ }
-{
-    let go = a.go;
-    let l = landing::land(
-        words,
-        roots,
-        &mut *tops,
-        &mut *envs,
-        &mut *args,
-        p * 33,
-        go,
-        h.depth % 33,
-    );
-    let b = land_young(words, roots, tops, envs, args, n, h, a);
-    let answer = settle::answer_to(w, a, l, b);
-    let x = h.ready;
-    let e = settle::entry_of(answer, x, a);
-    Turn {
-        answer: answer,
-        entry: e,
-        landed: l,
-        born: b,
-    }
 }
 
 // What thread p's next pick meets, an absent thread's included.
@@ -289,7 +180,7 @@ pub fn run(
     let mut tops = [0usize; 297];
     let mut envs = [0usize; 297];
     let mut args = [0usize; 297];
-    let mut s = first_tally();
+    let mut s = tally::first();
     let mut stop = Stop::End;
     let mut dealt = picks.len();
     for i in 0..picks.len() {
@@ -309,27 +200,39 @@ pub fn run(
             continue;
         }
         let a = act::act(mask, n, h, c, t, other);
-        let m = finish(words, roots, &mut tops, &mut envs, &mut args, n, p, w, h, a);
-        s = put(&mut *log, s, p, m);
-        let answer = m.answer;
+        let go = a.go;
+        let l = landing::land(
+            words,
+            roots,
+            &mut tops,
+            &mut envs,
+            &mut args,
+            p * 33,
+            go,
+            h.depth % 33,
+        );
+        let b = land_young(words, roots, &mut tops, &mut envs, &mut args, n, h, a);
+        let answer = settle::answer_to(w, a, l, b);
+        let y = h.ready;
+        let e = settle::entry_of(answer, y, a);
+        s = tally::put(&mut *log, s, p, e);
         let Answer::Moved = answer else {
             stop = stop_of(answer);
             dealt = i;
             break;
         };
-        let b = m.born;
         if settle::forks(a) {
             let young = settle::born(n, h, b);
             heads[n.threads % 9] = young;
         }
-        let l = m.landed;
         let mover = settle::mover(a, h, l);
         let cell = a.cell;
         let thing = a.thing;
         heads[p] = mover;
         cells[k] = cell;
         objects[n.objects % 33] = thing;
-        s = moved(s, a);
+        let m = a.counts;
+        s = tally::moved(s, m);
     }
     let n = s.counts;
     let mut all = [none_seen(); 8];

@@ -24,13 +24,13 @@ pub enum Kind {
 
 // A construct: terms a and b, field or procedure m, slot or count n, the slots, and a value or the values collected.
 pub struct Frame {
-    pub kind: Kind,
     pub a: usize,
     pub b: usize,
     pub m: usize,
     pub n: usize,
     pub env: usize,
     pub args: usize,
+    pub kind: Kind,
 }
 
 // The three numbers of a frame.

@@ -32,9 +32,9 @@ pub enum Stage {
 
 // A stage with its numbers: i is a term or a value; the slots of a way down are the frame's. Where landing has ended, the frame's numbers are the part's.
 pub struct Go {
-    pub stage: Stage,
-    pub frame: Frame,
     pub i: usize,
+    pub frame: Frame,
+    pub stage: Stage,
 }
 
 pub fn ready_of(part: usize, a: usize, b: usize, c: usize, env: usize) -> Ready
@@ -53,9 +53,9 @@ pub fn go_of(stage: Stage, f: Frame, i: usize) -> Go
     ensures { λ r. ⌜ r ≡ goOf stage f i ⌝ }
 {
     Go {
-        stage: stage,
-        frame: f,
         i: i,
+        frame: f,
+        stage: stage,
     }
 }
 

@@ -10,11 +10,11 @@ use frames::go::Go;
 use frames::go::Ready;
 use frames::go::Stage;
 
-// The stage at which landing ended, the part if it found one, and how deep.
+// The part if landing found one, how deep it ended, and at which stage.
 pub struct Landed {
-    pub stage: Stage,
     pub ready: Ready,
     pub depth: usize,
+    pub stage: Stage,
 }
 
 pub fn end_at(g: Go, depth: usize) -> Landed
@@ -23,9 +23,9 @@ pub fn end_at(g: Go, depth: usize) -> Landed
     let s = g.stage;
     let r = go::ready_in(g);
     Landed {
-        stage: s,
         ready: r,
         depth: depth,
+        stage: s,
     }
 }
 

@@ -11,12 +11,12 @@ use frames::part;
 use term_words::slots;
 use term_words::words;
 
-// One step: where landing then stands, how deep, and a frame for place `at`.
+// One step: how deep landing then is, a frame for place `at`, and where landing stands.
 pub struct Turn {
-    pub go: Go,
     pub depth: usize,
     pub at: usize,
     pub frame: Frame,
+    pub go: Go,
 }
 
 // No frame more.

@@ -14,7 +14,7 @@ use Rattle.records.specs.Record.{Kind, new, read, write, readv, writev, acquire
 use Rattle.records.specs.Packed.{packed, threeBytes, bytesOf}
 use Rattle.rules.specs.Run.{logged}
 use Rattle.state.specs.declared.Entry.{Entry}
-use Rattle.engine.specs.Machine.{wordOf, logPut, recordsAfter}
+use Rattle.tally.specs.Tally.{wordOf, logPut, recordsAfter}
 use Rattle.refinement.proofs.States.{test-true, test-false}
 use Rattle.refinement.proofs.Looks.{Written, Entered}
 

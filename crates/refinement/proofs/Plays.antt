@@ -38,7 +38,8 @@ use Rattle.engine.specs.declared.Stop as code
 use Rattle.engine.specs.declared.Seen.{Seen}
 use Rattle.engine.specs.declared.Ran.{Ran}
 use Rattle.engine.specs.Machine as engine
-use Rattle.engine.specs.Machine.{headAt, lookAt, actedBy, finishedBy, logPut, recordsAfter, seenAt, seenOf, stopped, logged, after, onAnswer, playOf, startOf}
+use Rattle.tally.specs.Tally.{logPut, recordsAfter}
+use Rattle.engine.specs.Machine.{headAt, lookAt, actedBy, finishedBy, seenAt, seenOf, stopped, logged, after, onAnswer, playOf, startOf}
 use Rattle.refinement.proofs.Meant.{Loaded}
 use Rattle.refinement.proofs.States.{Related}
 use Rattle.refinement.proofs.Looks.{MeetsBy}

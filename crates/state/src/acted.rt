@@ -18,15 +18,15 @@ pub enum Room {
     NoDepth,
 }
 
-// What a move does: where the mover goes on, its keys, the cell, the new object, the counts and the record.
+// What a move does: the mover's keys, the cell, the new object, the counts, the record, where the mover goes on, and room for it.
 pub struct Acted {
-    pub room: Room,
-    pub go: Go,
     pub keys: KeySet,
     pub cell: Cell,
     pub thing: Object,
     pub counts: Counts,
     pub entry: Entry,
+    pub go: Go,
+    pub room: Room,
 }
 
 pub fn entry(kind: usize, object: usize, field: usize, value: usize) -> Entry

@@ -12,11 +12,11 @@ pub struct Head {
     pub keys: KeySet,
 }
 
-// A field or a monitor: its value, the one key of a plain field, the set of a volatile field or a monitor.
+// A field or a monitor: its value, the set of a volatile field or a monitor, the one key of a plain field.
 pub struct Cell {
     pub value: usize,
-    pub key: u8,
     pub keys: KeySet,
+    pub key: u8,
 }
 
 // An object's fields, and the number of the thread that it stands for, 8 if none.

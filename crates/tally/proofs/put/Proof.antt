@@ -1,10 +1,10 @@
 use borrow.Author.Tests.{eq-eqb, ne-eqb}
 use native.Mathlib.Omega.{arith}
 use lib.ListN.{length-set}
-use Rattle.engine.specs.Machine.{recordsAfter, logPut}
+use Rattle.tally.specs.Tally.{recordsAfter, logPut}
 use borrow.Author.Needs.{needs}
-use Rattle.engine.proofs.put.Statement.{statement}
-use Rattle.engine.proofs.put.Tie as tie
+use Rattle.tally.proofs.put.Statement.{statement}
+use Rattle.tally.proofs.put.Tie as tie
 
 returns : tie.Need-returns
 unfolding recordsAfter logPut
@@ -64,8 +64,8 @@ add-log-2 c = search needs
 slice-write-log-3 : tie.Need-slice-write-log-3
 slice-write-log-3 c = simp length-set (omega arith)
 
-add-t12 : tie.Need-add-t12
-add-t12 c = search needs
+add-t11 : tie.Need-add-t11
+add-t11 c = search needs
 
 same-length : tie.Need-same-length
 same-length c = search needs
@@ -97,6 +97,6 @@ put-spec =
     cast-log-3
     add-log-2
     slice-write-log-3
-    add-t12
+    add-t11
     same-length
     returns-2)
