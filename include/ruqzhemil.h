@@ -1,7 +1,7 @@
 /* Ruqzhemil: a verified checker of plans for relay test sets, as a static library.
  *
- * Each function takes any bytes, has no other condition, and returns the number that crates/ruqzhemil/specs defines; the proofs of
- * crates/ruqzhemil show it for every input. Functions keep no state between calls, have no global state and allocate nothing, so threads may
+ * Each function takes any bytes, has no other condition, and returns the number that crates/numbers/specs/Numbers defines, with the bytes of
+ * crates/outcome_bytes/specs/Bytes; the proofs of crates/ruqzhemil show it for every input. Functions keep no state between calls, have no global state and allocate nothing, so threads may
  * call them at the same time on areas of their own.
  *
  * No pointer is null, even where its length is 0. The areas of one call do not overlap, and no other thread writes to them meanwhile.
@@ -11,7 +11,7 @@
  * A refusal is number * 65536 + place; numbers are 1 to 12 and places at most 4,096:
  *
  *   1  plan length                           place 0
- *   2  plan header                           place 0
+ *   2  plan header or mask                   place 0
  *   3  a procedure                           the lowest such procedure
  *   4  a term against the table of terms     the lowest such term
  *   5  a wrongly sorted term, or a call      the lowest such term
@@ -21,7 +21,8 @@
  *   9  a pick over 7                         the lowest such pick
  *  10  log area under 3 times the picks      place 0
  *  11  log length                            place 0
- *  12  a record                              the lowest such record
+ *  12  a record: its kind, a 10 or 11 that
+ *      is not last, a column, a spare bit    the lowest such record
  */
 #ifndef RUQZHEMIL_H
 #define RUQZHEMIL_H

@@ -1,6 +1,5 @@
--- Executions (document 001, definition 6.5), with the picks passed over and the stop: demand 2 of one run, "Each run moves as the write-key rules of
--- Boyland's kernel language say, one rule to each move, every plain write a new key, nothing passed over, stuck or stopped except for document 01's
--- reasons". Assumes nothing.
+-- Executions (document 001, definition 6.5), with the picks passed over and the stop: demand 2 of one run (README, "What is proved"): each move by a rule
+-- of the write keys, one rule to each move, every plain write a new key, nothing passed over, stuck or stopped except for document 01's reasons. Assumes nothing.
 use Prim.Native.Nat.{ℕ}
 use mathlib.Core.Path.{_≡_}
 use mathlib.Core.List.{List, [], _∷_}
