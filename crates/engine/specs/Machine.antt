@@ -1,11 +1,10 @@
 -- The run of a schedule over flat lists of records: the machine that the code runs; no reader of the entries' promises needs it. Assumes nothing.
-use Prim.Native.Nat.{ℕ, zero, suc, _+_, _*_, _/_, _%_, _<_}
+use Prim.Native.Nat.{ℕ, _+_, _*_, _/_, _%_, _<_}
 use mathlib.Core.Path.{_≡_}
-use mathlib.Core.Bool.{Bool, true, false, cond}
+use mathlib.Core.Bool.{Bool, cond}
 use mathlib.Core.List.{List, [], _∷_}
-use lib.Dec.{eqb, leb}
+use lib.Dec.{leb}
 use lib.ListN.{getD, set, replicate}
-use Rattle.keys.specs.declared.KeySet.{KeySet}
 use Rattle.keys.specs.KeySet.{emptySet, zeroSet}
 use Rattle.frames.specs.Parts.{Part as part}
 use Rattle.frames.specs.declared.go.Ready.{Ready}

@@ -3,7 +3,6 @@
 ghost use mathlib.Core.Path.{_≡_};
 ghost use Prim.Native.Nat.{_<_, _≤_, _+_, _*_};
 ghost use lib.ListN.{length};
-ghost use Rattle.landing.specs.Landing.{Stack};
 ghost use Rattle.engine.specs.Machine.{Placed, headOf, cellFirst, noThing, stopOf, youngOf, sightOf, seenBy, noneSeen, startOf, playOf};
 use frames::go;
 use frames::part;

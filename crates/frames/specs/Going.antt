@@ -1,7 +1,7 @@
 -- Where landing stands, and what a frame does with the value of its operand: the machine that the code runs; no reader of the entries' promises
 -- needs it. Assumes nothing.
 use Prim.Native.Nat.{ℕ}
-use mathlib.Core.Bool.{Bool, true, false, cond}
+use mathlib.Core.Bool.{cond}
 use lib.Dec.{eqb}
 use Rattle.term_words.specs.Slots.{bindOf}
 use Rattle.frames.specs.declared.frame.Kind.{Kind}

@@ -1,6 +1,5 @@
 // Where landing stands, and what a frame does with the value of its operand.
 ghost use mathlib.Core.Path.{_≡_};
-ghost use mathlib.Core.Bool.{Bool, true, false};
 ghost use Rattle.frames.specs.Going.{readyAt, goOf, goAt, readyIn, goRun, goRunCondition, goWant, goWantCondition, goList, goValue, goTruth, goFull, sameOf, feedOf, feedIfOf, feedConditionOf};
 use crate::frame;
 use crate::frame::Frame;
@@ -49,7 +48,7 @@ pub fn ready_of(part: usize, a: usize, b: usize, c: usize, env: usize) -> Ready
     }
 }
 
-pub fn go_of(stage: Stage, f: Frame, i: usize) -> Go
+fn go_of(stage: Stage, f: Frame, i: usize) -> Go
     ensures { λ r. ⌜ r ≡ goOf stage f i ⌝ }
 {
     Go {

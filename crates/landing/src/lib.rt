@@ -1,9 +1,9 @@
 // Landing: steps until the part that moves next is found. The frames of all threads lie in three lent arrays of numbers, 33 places to a thread, of
 // which the last is never part of the stack.
 ghost use mathlib.Core.Path.{_≡_};
-ghost use mathlib.Core.Bool.{Bool, true, false};
+ghost use mathlib.Core.Bool.{true, false};
 ghost use Prim.Native.Nat.{_<_, _≤_};
-ghost use Rattle.landing.specs.Landing.{liveOf, landedOf, topOf, landOf, Stack, Ended};
+ghost use Rattle.landing.specs.Landing.{liveOf, landedOf, topOf, landOf};
 use frames::frame;
 use frames::go;
 use frames::go::Go;

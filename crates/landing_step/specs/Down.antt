@@ -1,9 +1,9 @@
 -- The way down, and one step of landing: the machine that the code runs; no reader of the entries' promises needs it. Assumes nothing.
-use Prim.Native.Nat.{ℕ, zero, suc, _+_, _-_, _*_, _/_, _%_}
-use mathlib.Core.Bool.{Bool, true, false, cond}
-use mathlib.Core.List.{List, [], _∷_}
+use Prim.Native.Nat.{ℕ, _+_, _-_, _%_}
+use mathlib.Core.Bool.{cond}
+use mathlib.Core.List.{List}
 use lib.Dec.{eqb, ltb}
-use lib.ListN.{getD, set}
+use lib.ListN.{getD}
 use Rattle.frames.specs.declared.frame.Kind.the-variants as kind
 use Rattle.frames.specs.declared.frame.Frame.{Frame}
 use Rattle.frames.specs.Parts.{Part as part}

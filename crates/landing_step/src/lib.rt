@@ -20,7 +20,7 @@ pub struct Turn {
 }
 
 // No frame more.
-pub fn stay(g: Go, depth: usize) -> Turn
+fn stay(g: Go, depth: usize) -> Turn
     ensures { λ r. ⌜ r ≡ stayOf g depth ⌝ }
 {
     let f = frame::frame_of(Kind::Read, 0, 0, 0, 0);

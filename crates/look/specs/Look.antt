@@ -1,6 +1,6 @@
 -- Look: what a thread's next pick meets. The machine that the code runs; no reader of the entries' promises needs it. Assumes nothing.
 use Prim.Native.Nat.{ℕ, _-_, _/_, _%_, _^_}
-use mathlib.Core.Bool.{Bool, true, false, cond}
+use mathlib.Core.Bool.{Bool, true, cond}
 use lib.Dec.{eqb, leb}
 use Rattle.keys.specs.KeySet.{holdsOf, isEmptyOf}
 use Rattle.frames.specs.Parts.{Part, Part as part, numberOf}

@@ -1,6 +1,6 @@
 // Settle: the answer to a pick, once the landings are known.
 ghost use mathlib.Core.Path.{_≡_};
-ghost use Rattle.settle.specs.Settle.{passesOf, lackEntry, forksOf, fullOf, answerOf, moverOf, bornOf, entryBy};
+ghost use Rattle.settle.specs.Settle.{passesOf, lackEntry, forksOf, fullOf, depthBy, roomBy, answerOf, moverOf, bornOf, entryBy};
 use frames::go::Ready;
 use frames::go::Stage;
 use frames::part;
@@ -39,7 +39,7 @@ pub fn passes(s: Sight) -> bool
 }
 
 // The record of an access that lacks its key.
-pub fn lack(r: Ready) -> Entry
+fn lack(r: Ready) -> Entry
     ensures { λ e. ⌜ e ≡ lackEntry r ⌝ }
 {
     if r.part == part::WRITE {
@@ -66,30 +66,42 @@ fn full(l: Landed) -> bool
     }
 }
 
-// The answer to a pick that is not passed over: of a fork, the new thread's landing counts too.
+// The answer to a move that has room for what it makes, by its landings: of a fork, the new thread's counts too.
+fn depth_answer(a: Acted, l: Landed, b: Landed) -> Answer
+    ensures { λ r. ⌜ r ≡ depthBy (fullOf l) (forksOf a) (fullOf b) ⌝ }
+{
+    if full(l) {
+        return Answer::NoRoom(Room::NoDepth);
+    }
+    if forks(a) {
+        if full(b) {
+            return Answer::NoRoom(Room::NoDepth);
+        }
+    }
+    Answer::Moved
+}
+
+// The answer to a move that lacks no key.
+fn room_answer(a: Acted, l: Landed, b: Landed) -> Answer
+    ensures { λ r. ⌜ r ≡ roomBy (a .room) (depthBy (fullOf l) (forksOf a) (fullOf b)) ⌝ }
+{
+    let room = a.room;
+    match room {
+        Room::Enough => depth_answer(a, l, b),
+        Room::NoThread => Answer::NoRoom(Room::NoThread),
+        Room::NoObject => Answer::NoRoom(Room::NoObject),
+        Room::NoKey => Answer::NoRoom(Room::NoKey),
+        Room::NoDepth => Answer::NoRoom(Room::NoDepth),
+    }
+}
+
+// The answer to a pick that is not passed over.
 pub fn answer_to(s: Sight, a: Acted, l: Landed, b: Landed) -> Answer
     ensures { λ r. ⌜ r ≡ answerOf s a l b ⌝ }
 {
-    let room = a.room;
     match s {
         Sight::Lacking => Answer::Race,
-        _ => match room {
-            Room::Enough => {
-                if full(l) {
-                    return Answer::NoRoom(Room::NoDepth);
-                }
-                if forks(a) {
-                    if full(b) {
-                        return Answer::NoRoom(Room::NoDepth);
-                    }
-                }
-                Answer::Moved
-            }
-            Room::NoThread => Answer::NoRoom(Room::NoThread),
-            Room::NoObject => Answer::NoRoom(Room::NoObject),
-            Room::NoKey => Answer::NoRoom(Room::NoKey),
-            Room::NoDepth => Answer::NoRoom(Room::NoDepth),
-        },
+        _ => room_answer(a, l, b),
     }
 }
 

@@ -1,6 +1,6 @@
 // Eight slots of a value 0 to 31 in one number, slot 0 lowest: the variables of a procedure, and the values collected for a call.
 ghost use mathlib.Core.Path.{_≡_};
-ghost use Prim.Native.Nat.{_<_, _^_};
+ghost use Prim.Native.Nat.{_<_};
 ghost use Rattle.term_words.specs.Slots.{unitOf, slotOf, bindOf};
 
 // What one in slot x is worth, for x under 8.

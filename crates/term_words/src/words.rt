@@ -1,6 +1,5 @@
 // Terms by their 40-bit words: tag 5, then the operands from the top.
 ghost use mathlib.Core.Path.{_≡_};
-ghost use Prim.Native.Nat.{_<_, _≤_};
 ghost use Rattle.term_words.specs.Words.{wordAt, tagOf, firstOf, secondOf, thirdOf, slotBits, fieldBits, procedureBits, listBits, letFirst, letSecond, writeSecond, maskBits, valueOf, truthOf};
 
 // The word of term t; an index over 1,023 wraps.

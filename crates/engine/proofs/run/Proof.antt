@@ -1,6 +1,6 @@
 -- `run` meets its contract. The first loop's invariant: the rest of the run from here is the whole run; the second's: what is left to see makes up all that is seen. Assumes nothing.
 use mathlib.Core.Path.{_≡_, refl, sym, ap, _∙_}
-use mathlib.Core.Bool.{true, false}
+use mathlib.Core.Bool.{false}
 use mathlib.Core.List.{List, [], _∷_}
 use mathlib.Core.Logic.{⊎-elim}
 use Prim.Native.Nat.{ℕ, _≤_, _<_, _+_, _-_, _/_, _%_}

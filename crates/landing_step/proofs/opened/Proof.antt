@@ -1,4 +1,4 @@
-use mathlib.Core.Path.{sym, _∙_}
+use mathlib.Core.Path.{sym}
 use Rattle.landing_step.proofs.Others.{opened-other}
 use borrow.Author.Needs.{needs}
 use Rattle.landing_step.proofs.opened.Statement.{statement}

@@ -1,4 +1,4 @@
-use mathlib.Core.Path.{sym, _∙_}
+use mathlib.Core.Path.{sym}
 use Rattle.landing_step.proofs.Others.{step-other}
 use Rattle.landing_step.specs.Down.{stepOf}
 use borrow.Author.Needs.{needs}

@@ -1,6 +1,5 @@
 use borrow.Author.Tests.{eq-eqb, ne-eqb}
 use Rattle.look.specs.Look.{aboutField}
-use borrow.Author.Needs.{needs}
 use Rattle.look.proofs.about_field.Statement.{statement}
 use Rattle.look.proofs.about_field.Tie as tie
 

@@ -1,6 +1,5 @@
 use borrow.Author.Tests.{eq-eqb, ne-eqb, le-leb, lt-leb}
 use Rattle.look.specs.Look.{lookJoin}
-use borrow.Author.Needs.{needs}
 use Rattle.look.proofs.look_join.Statement.{statement}
 use Rattle.look.proofs.look_join.Tie as tie
 
