@@ -4,15 +4,17 @@
   compare.py PROGRAM ORACLE SEED COUNT
   compare.py PROGRAM - < CASES
 
-ORACLE is the folder of the second interpreter, CASES its JSON lines, made before; PROGRAM is the built printing program (`rt check shotlist` makes target/bin/shotlist). Every case that
-plays a schedule on a plan is written as the program's standard input, and what it prints is compared with the text that the case asks for. Cases that
-refuse the log area (number 10) are left out, since the program lends an area that is always long enough. Every tenth input is also cut short within
-its plan, which is refusal 1, and every tenth run is also played with more picks than a schedule may have, which is refusal 8.
+ORACLE is the folder of the second interpreter, CASES its JSON lines, made before; PROGRAM is the built printing program (`rt check shotlist` makes
+target/bin/shotlist). Every case that plays a schedule on a plan is written as the program's standard input, and what it prints is compared with the
+text that the case asks for. Cases that refuse the log area (number 10) are left out, since the program lends an area that is always long enough.
+Every tenth input is also cut short within its plan, which is refusal 1, and every tenth run is also played with more picks than a schedule may have,
+which is refusal 8.
 """
 
-import json
 import subprocess
 import sys
+
+import interpreter
 
 KINDS = ["", "new", "read", "write", "readv", "writev", "acquire", "release", "fork", "join", "lacks-read", "lacks-write"]
 
@@ -34,10 +36,9 @@ def text_of(want):
     return "\n".join(lines) + "\n"
 
 
-def cases(rows):
+def inputs(cases):
     """Inputs of the program, each with its text."""
-    for number, row in enumerate(rows):
-        case = json.loads(row)
+    for number, case in enumerate(cases):
         if "play" not in case or case["want"].get("refused", [0])[0] == 10:
             continue
         plan, schedule = bytes.fromhex(case["play"]["plan"]), bytes.fromhex(case["play"]["schedule"])
@@ -52,11 +53,8 @@ def cases(rows):
 def main(argv):
     if len(argv) not in (3, 5):
         sys.exit(__doc__)
-    rows = sys.stdin
-    if len(argv) == 5:
-        rows = subprocess.Popen([sys.executable, argv[2] + "/oracle.py", "vectors", argv[3], argv[4]], stdout=subprocess.PIPE).stdout
     compared = differ = 0
-    for data, text in cases(rows):
+    for data, text in inputs(interpreter.cases(argv[2:])):
         got = subprocess.run([argv[1]], input=data, stdout=subprocess.PIPE).stdout.decode()
         compared += 1
         if got != text:

@@ -15,7 +15,8 @@ import os
 import subprocess
 import sys
 
-WORDS = ["end", "race", "no-thread", "no-object", "no-key", "no-depth"]
+import interpreter
+
 FILL = 0xA5
 
 
@@ -36,22 +37,9 @@ def lent(data):
     return (ctypes.c_uint8 * max(1, len(data))).from_buffer_copy(data or b"\0"), ctypes.c_size_t(len(data))
 
 
-def state_bytes(state):
-    """A thread's three bytes."""
-    kind, rest = state[0], state[1:]
-    codes = {"absent": 0, "finished": 1, "ready": 2, "lacking": 7}
-    if kind == "waiting":
-        return [{"monitor": 3, "join": 4}[rest[0]], rest[1], 0]
-    if kind == "stuck":
-        return [5, rest[1], rest[2]] if rest[0] == "field" else [6, rest[1], 0]
-    return [codes[kind]] + (list(rest) + [0, 0])[:2]
-
-
 def out_bytes(want):
     """The 32 bytes of an outcome."""
-    counts = [want["picks"], want["moves"], want["records"]]
-    out = [WORDS.index(want["outcome"])] + [b for c in counts for b in (c >> 8, c & 255)] + [0]
-    return bytes(out + [b for state in want["states"] for b in state_bytes(state)])
+    return interpreter.outcome_bytes(want) + bytes(1) + b"".join(map(interpreter.thread_bytes, want["states"]))
 
 
 def judged_right(lib, log, want):
@@ -84,17 +72,13 @@ def main(argv):
     if len(argv) not in (2, 4):
         sys.exit(__doc__)
     lib = library(os.path.dirname(os.path.dirname(os.path.abspath(__file__))))
-    rows = sys.stdin
-    if len(argv) == 4:
-        rows = subprocess.Popen([sys.executable, argv[1] + "/oracle.py", "vectors", argv[2], argv[3]], stdout=subprocess.PIPE).stdout
     compared = differ = 0
-    for row in rows:
-        case = json.loads(row)
+    for case in interpreter.cases(argv[1:]):
         right = played_right(lib, case) if "play" in case else judged_right(lib, bytes.fromhex(case["judge"]), case["want"])
         compared += 1
         if not right:
             differ += 1
-            print(row)
+            print(json.dumps(case))
     print("%d cases, %d differ" % (compared, differ))
     sys.exit(differ != 0 or compared == 0)
 

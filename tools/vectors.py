@@ -16,13 +16,11 @@ indices the judge may name, and each; the log.
 """
 
 import collections
-import json
-import subprocess
 import sys
 
-OUTCOMES = ["end", "race", "no-thread", "no-object", "no-key", "no-depth"]
-STATES = {("absent",): 0, ("finished",): 1, ("ready",): 2, ("waiting", "monitor"): 3, ("waiting", "join"): 4, ("stuck", "field"): 5,
-          ("stuck", "thread"): 6, ("lacking",): 7}
+import interpreter
+from interpreter import OUTCOMES, STATES, outcome_bytes, state_words, thread_bytes
+
 LONG = 6000  # bytes of a case from which on only a few are kept
 KEPT = {"refused": 45, "end": 330, "long": 10, "log": 260}  # of each number, of runs to the end, of long cases, of logs by their unordered accesses
 
@@ -33,23 +31,12 @@ def two(number):
     return number.to_bytes(2, "big")
 
 
-def state_words(state):
-    return tuple(x for x in state if isinstance(x, str))
-
-
-def thread_bytes(state):
-    """Three bytes of a thread's state."""
-    numbers = [x for x in state if not isinstance(x, str)]
-    return bytes([STATES[state_words(state)]] + numbers + [0] * (2 - len(numbers)))
-
-
 def answer_bytes(want):
     """The answer to a play in 34 bytes."""
     if "refused" in want:
         number, place = want["refused"]
         return bytes([number]) + two(place) + bytes(31)
-    counts = two(want["picks"]) + two(want["moves"]) + two(want["records"])
-    return bytes(3) + bytes([OUTCOMES.index(want["outcome"])]) + counts + b"".join(map(thread_bytes, want["states"]))
+    return bytes(3) + outcome_bytes(want) + b"".join(map(thread_bytes, want["states"]))
 
 
 def play_bytes(plan, schedule, area, want):
@@ -95,11 +82,10 @@ def marks_of(want):
 ALL_MARKS = [("refused", n) for n in range(1, 13)] + OUTCOMES + list(range(8)) + [("kind", k) for k in range(1, 12)] + [("picks", 4096)]
 
 
-def chosen(rows):
+def chosen(cases):
     """The stored cases, by file."""
     kept, files, marks = collections.Counter(), collections.defaultdict(list), set()
-    for row in rows:
-        case = json.loads(row)
+    for case in cases:
         name, kind = kind_of(case)
         stored = case_bytes(case)
         if len(stored) > LONG:
@@ -200,8 +186,7 @@ def main(argv):
         sys.exit(__doc__)
     sys.path.insert(0, argv[1])
     import oracle
-    made = subprocess.run([sys.executable, argv[1] + "/oracle.py", "vectors", argv[2], argv[3]], stdout=subprocess.PIPE, check=True)
-    files = chosen(made.stdout.splitlines())
+    files = chosen(interpreter.cases(argv[1:4]))
     files["shots"], files["shot_logs"] = shot_list(oracle)
     for name, stored in files.items():
         with open("%s/data/%s" % (argv[4], name), "wb") as out:

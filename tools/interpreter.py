@@ -1,0 +1,45 @@
+"""The second interpreter's cases, and its words as bytes."""
+
+import contextlib
+import json
+import subprocess
+import sys
+
+OUTCOMES = ["end", "race", "no-thread", "no-object", "no-key", "no-depth"]
+STATES = {("absent",): 0, ("finished",): 1, ("ready",): 2, ("waiting", "monitor"): 3, ("waiting", "join"): 4, ("stuck", "field"): 5,
+          ("stuck", "thread"): 6, ("lacking",): 7}
+
+
+def state_words(state):
+    return tuple(x for x in state if isinstance(x, str))
+
+
+def thread_bytes(state):
+    """Three bytes of a thread: its state, its value or object, its field."""
+    numbers = [x for x in state if not isinstance(x, str)]
+    return bytes([STATES[state_words(state)]] + numbers + [0] * (2 - len(numbers)))
+
+
+def outcome_bytes(want):
+    """The outcome, then picks, moves and records, high byte first."""
+    counts = b"".join(want[name].to_bytes(2, "big") for name in ("picks", "moves", "records"))
+    return bytes([OUTCOMES.index(want["outcome"])]) + counts
+
+
+@contextlib.contextmanager
+def running(words):
+    """The lines that `oracle.py vectors` writes for FOLDER SEED COUNT, or, for `-`, those of standard input. Fails where the interpreter fails."""
+    if words == ["-"]:
+        yield sys.stdin
+        return
+    folder, seed, count = words
+    made = subprocess.Popen([sys.executable, folder + "/oracle.py", "vectors", seed, count], stdout=subprocess.PIPE)
+    yield made.stdout
+    if made.wait() != 0:
+        sys.exit("the second interpreter ended with status %d" % made.returncode)
+
+
+def cases(words):
+    with running(words) as rows:
+        for row in rows:
+            yield json.loads(row)
