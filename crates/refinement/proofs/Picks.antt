@@ -1,6 +1,5 @@
--- The code's answer to a pick is the abstract machine's, and a move keeps what the code's state stands for. That landing is right is taken as a
--- hypothesis. Assumes nothing.
-use Prim.Native.Nat.{ℕ, suc, _+_, _*_, _%_, _≤_, _<_}
+-- The code's answer to a pick is the abstract machine's, and a move keeps what the code's state stands for. Assumes nothing.
+use Prim.Native.Nat.{ℕ, _+_, _*_, _%_, _≤_, _<_}
 use native.Mathlib.Nat.{mod-eq-of-lt}
 use native.Mathlib.Omega.{arith}
 use native.Mathlib.Decide.{ℕ-discrete, decLt}
@@ -48,7 +47,7 @@ use Rattle.settle.specs.declared.Answer.the-variants as answer
 use Rattle.settle.specs.Settle.{passesOf, forksOf, fullBy, fullOf, depthBy, roomBy, answerOf, moverOf, bornOf, entryBy}
 use Rattle.engine.specs.Machine as engine
 use Rattle.engine.specs.Machine.{noHead, headAt, cellNumber, lookAt, actedBy, Finished, youngOf, finishOf, finishedBy, after}
-use Rattle.refinement.proofs.Meant.{Loaded, frameOf, Fine, Holds, StandsBy, Goes, Sized, FoundBy, Lands}
+use Rattle.refinement.proofs.Meant.{Loaded, frameOf, Fine, Holds, StandsBy, Sized, FoundBy, Lands}
 use Rattle.refinement.proofs.Landing.{landed}
 use Rattle.refinement.proofs.States.{Kept, Headed, Related}
 use Rattle.refinement.proofs.Looks.{Written, Entered, MeetsBy}

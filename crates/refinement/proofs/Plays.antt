@@ -1,5 +1,5 @@
 -- The engine's play of a schedule on an accepted plan is the abstract machine's run, and so the defined one: the same stop, counts, states of threads and
--- log. That landing is right is taken as a hypothesis. Assumes nothing.
+-- log. Assumes nothing.
 use Prim.Native.Nat.{ℕ, suc, _+_, _*_, _≤_, _<_}
 use native.Mathlib.Nat.{mod-eq-of-lt, zero-add}
 use native.Mathlib.Omega.{arith}
@@ -11,7 +11,6 @@ use lib.ListN.{length, getD, drop}
 use Rattle.packed.specs.Format.{volatiles}
 use Rattle.packed.specs.Trees.{programOf}
 use Rattle.packed.specs.Check.{refusal}
-use Rattle.packed.proofs.Accepted.{accepted}
 use Rattle.records.specs.Record.{Record}
 use Rattle.records.specs.Packed.{bytesOf}
 use Rattle.rules.specs.Room as rooms
@@ -38,7 +37,6 @@ use Rattle.engine.specs.declared.Stop as code
 use Rattle.engine.specs.declared.Seen.{Seen}
 use Rattle.engine.specs.declared.Ran.{Ran}
 use Rattle.engine.specs.Machine as engine
-use Rattle.tally.specs.Tally.{logPut, recordsAfter}
 use Rattle.engine.specs.Machine.{headAt, lookAt, actedBy, finishedBy, seenAt, seenOf, stopped, logged, after, onAnswer, playOf, startOf}
 use Rattle.refinement.proofs.Meant.{Loaded}
 use Rattle.refinement.proofs.States.{Related}
