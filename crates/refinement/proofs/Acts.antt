@@ -64,7 +64,10 @@ use Rattle.settle.specs.Settle.{lackBy, forksOf}
 use Rattle.engine.specs.Machine as engine
 use Rattle.engine.specs.Machine.{noHead, noCell, noThing, headAt, cellNumber, lookAt, actAt, actedBy}
 use Rattle.refinement.proofs.Meant.{slots, closed, IsExpression, IsCondition, Goes, Stands, StandsBy, Unlogged}
-use Rattle.refinement.proofs.States.{cellMeant, CellFits, numberOf, Kept, Headed, Related, test-true, test-false, Strange, strange-number, added-number, other-number, found-thread, kept-changed, kept-past, kept-key, kept-store, kept-monitor, kept-object, kept-same}
+use Rattle.refinement.proofs.States.{cellMeant, CellFits, numberOf, Kept, Headed, Related}
+use Rattle.refinement.proofs.Tests.{test-true, test-false}
+use Rattle.refinement.proofs.ThreadNumbers.{Strange, strange-number, added-number, other-number, found-thread}
+use Rattle.refinement.proofs.KeptLaws.{kept-changed, kept-past, kept-key, kept-store, kept-monitor, kept-object, kept-same}
 use Rattle.refinement.proofs.Looks.{Written, Entered, MeetsBy, volatile-bit, monitor-bit, meant-value, lookup-cell, monitor-cell, attempt-absent, attempt-value, attempt-act, attempt-condition, ready-there, one-key}
 
 -- ---- what a move does, by both

@@ -13,6 +13,10 @@ pub mod Conditions
 pub mod Steps
 pub mod Landing
 pub mod States
+mod Tests
+mod MemoryOf
+mod ThreadNumbers
+mod KeptLaws
 pub mod Looks
 pub mod Acts
 pub mod Picks

@@ -15,7 +15,7 @@ use Rattle.records.specs.Packed.{packed, threeBytes, bytesOf}
 use Rattle.rules.specs.Run.{logged}
 use Rattle.state.specs.declared.Entry.{Entry}
 use Rattle.tally.specs.Tally.{wordOf, logPut, recordsAfter}
-use Rattle.refinement.proofs.States.{test-true, test-false}
+use Rattle.refinement.proofs.Tests.{test-true, test-false}
 use Rattle.refinement.proofs.Looks.{Written, Entered}
 
 -- ---- bytes put over a list, from place i on

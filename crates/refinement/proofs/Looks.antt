@@ -41,7 +41,8 @@ use Rattle.look.specs.Look.{hasOf, objectOf}
 use Rattle.look.specs.Look as look
 use Rattle.settle.specs.Settle.{lackEntry}
 use Rattle.engine.specs.Machine.{noCell, noThing}
-use Rattle.refinement.proofs.States.{cellMeant, CellFits, memoryOf, memory-cell, memory-mask, Kept}
+use Rattle.refinement.proofs.States.{cellMeant, CellFits, memoryOf, Kept}
+use Rattle.refinement.proofs.MemoryOf.{memory-cell, memory-mask}
 
 -- ---- records
 
