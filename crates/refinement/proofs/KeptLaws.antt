@@ -155,3 +155,12 @@ module _ {mask : ℕ} {cs : List Cell} {ts : List Object} {n : Counts} {s : mach
   -- a cell is stored to as it is
   pub kept-same : (i : ℕ) → Kept mask (set cs i (getD cs i noCell)) ts n s
   kept-same i = rw (set-getD cs i noCell) k
+
+-- a mask of no fields
+pub no-fields : fieldsFrom 0 0 32 ≡ []
+unfolding fieldsFrom
+no-fields = refl
+
+pub no-bit : eqb (maskBit 0 0) 1 ≡ false
+unfolding maskBit
+no-bit = refl

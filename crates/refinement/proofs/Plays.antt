@@ -41,7 +41,8 @@ use Rattle.engine.specs.Machine.{headAt, lookAt, actedBy, finishedBy, seenAt, s
 use Rattle.refinement.proofs.Meant.{Loaded}
 use Rattle.refinement.proofs.States.{Related}
 use Rattle.refinement.proofs.Looks.{MeetsBy}
-use Rattle.refinement.proofs.Acts.{roomMeant, Ahead, looks}
+use Rattle.refinement.proofs.Moves.{roomMeant, Ahead}
+use Rattle.refinement.proofs.Acts.{looks}
 use Rattle.refinement.proofs.Picks.{AnsweredBy, passes, picks}
 use Rattle.refinement.proofs.Starts.{start-related}
 use Rattle.refinement.proofs.Logs.{overlay, no-records, put-logged, put-none, put-last, record-counts, log-length, count-grows}

@@ -33,8 +33,7 @@ use Rattle.state.specs.Acted.{countsOf}
 use Rattle.engine.specs.Machine.{noCell, noThing, headAt, startOf}
 use Rattle.refinement.proofs.Meant.{Loaded, IsExpression, Stands}
 use Rattle.refinement.proofs.States.{CellFits, freshCell, memoryOf, Kept, Headed, Related}
-use Rattle.refinement.proofs.KeptLaws.{kept-object}
-use Rattle.refinement.proofs.Acts.{no-fields, no-bit}
+use Rattle.refinement.proofs.KeptLaws.{kept-object, no-fields, no-bit}
 
 -- no slots
 slots-zero : slotOf 0 ≡ noSlots
