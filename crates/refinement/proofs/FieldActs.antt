@@ -44,9 +44,9 @@ use Rattle.engine.specs.Machine.{noCell, noThing, headAt}
 use Rattle.refinement.proofs.States.{cellMeant, CellFits, Kept, Headed, Related}
 use Rattle.refinement.proofs.Tests.{test-true, test-false}
 use Rattle.refinement.proofs.KeptLaws.{kept-changed, kept-past, kept-key, kept-store, kept-same}
-use Rattle.refinement.proofs.Looks.{MeetsBy, volatile-bit, meant-value, lookup-cell, attempt-act, ready-there, one-key}
+use Rattle.refinement.proofs.Looks.{MeetsBy, volatile-bit, meant-value, lookup-cell, ready-there, one-key}
 use Rattle.refinement.proofs.Moves.{Mover, Acts}
-use Rattle.refinement.proofs.Moving.{headFor, unlearnt, learnt, joined, moved, object-there, written}
+use Rattle.refinement.proofs.Moving.{headFor, unlearnt, learnt, joined, moved, object-there, written, attempts}
 
 module _ {b : List ℕ} {m : engine.Machine} {s : machine.State} {p : ℕ} (mover : Mover b m s p) where
   open engine.Machine m using (cells as cs, objects as ts)
@@ -97,11 +97,11 @@ module _ {b : List ℕ} {m : engine.Machine} {s : machine.State} {p : ℕ} (move
           (actedOf room.Enough (goValue (c .value)) n (joinOf ks (c .keys)) c (entryOf 4 o f (c .value)))
           (actedOf room.Enough (goValue (c .value)) n ks c (entryOf 2 o f (c .value)))))
       by false y z e v q =
-          attempt-act (tableOf b) s p t there S (frames.Ready.read o f) _ code (ap (machine.readAct (tableOf b) s p t o f) e)
+          attempts mover (frames.Ready.read o f) code (ap (machine.readAct (tableOf b) s p t o f) e)
           ∙ ap₂ (λ (o f : ℕ). machine.Attempt.stuck (missingField o f)) (sym (mod-eq-of-lt ho)) (sym (mod-eq-of-lt hf))
       by true true z e v q = (
         _,
-        attempt-act (tableOf b) s p t there S (frames.Ready.read o f) _ code (ap (machine.readAct (tableOf b) s p t o f) e ∙ test-true (tableOf b .isVolatile f) _ _ v),
+        attempts mover (frames.Ready.read o f) code (ap (machine.readAct (tableOf b) s p t o f) e ∙ test-true (tableOf b .isVolatile f) _ _ v),
         moved mover _ i e-readv (some (entry records.Kind.readv p o f (c .value))) (machine.learn s p (keysOf (c .keys))) (up (nodeAt b) (terms b) S (c .value)) (goValue (c .value)) n
             (joinOf ks (c .keys)) c nothing (entryOf 4 o f (c .value)) refl (written mover records.Kind.readv o f (c .value) ho hf (value-fits true e)) refl
             (well, value-fits true e, refl) (fits-join fits (fit .keys)) (learnt mover (keysOf (c .keys)) _ (joined mover (c .keys) (fit .keys)))
@@ -109,7 +109,7 @@ module _ {b : List ℕ} {m : engine.Machine} {s : machine.State} {p : ℕ} (move
       )
       by true false true e v q = (
         _,
-        attempt-act (tableOf b) s p t there S (frames.Ready.read o f) _ code
+        attempts mover (frames.Ready.read o f) code
             (ap (machine.readAct (tableOf b) s p t o f) e ∙ test-false (tableOf b .isVolatile f) _ _ v ∙ test-true (subset (cellMeant false c .keys) (t .keys)) _ _ q),
         moved mover _ i e-read (some (entry records.Kind.read p o f (c .value))) s (up (nodeAt b) (terms b) S (c .value)) (goValue (c .value)) n
             ks c nothing (entryOf 2 o f (c .value)) refl (written mover records.Kind.read o f (c .value) ho hf (value-fits false e)) refl
@@ -117,7 +117,7 @@ module _ {b : List ℕ} {m : engine.Machine} {s : machine.State} {p : ℕ} (move
       )
       by true false false e v q = (
         _,
-        attempt-act (tableOf b) s p t there S (frames.Ready.read o f) _ code
+        attempts mover (frames.Ready.read o f) code
             (ap (machine.readAct (tableOf b) s p t o f) e ∙ test-false (tableOf b .isVolatile f) _ _ v ∙ test-false (subset (cellMeant false c .keys) (t .keys)) _ _ q),
         sym (mod-eq-of-lt ho),
         sym (mod-eq-of-lt hf),
@@ -159,11 +159,11 @@ module _ {b : List ℕ} {m : engine.Machine} {s : machine.State} {p : ℕ} (move
           (actedOf room.NoKey (goValue w) n ks c (entryOf 0 0 0 0))
           (actedOf room.Enough (goValue w) (countsOf (n .threads) (n .objects) (n .keys + 1)) (learnOf ks (n .keys)) (cellOf w (n .keys) (c .keys)) (entryOf 3 o f w)))))
       by false y z u e g v q r =
-          attempt-act (tableOf b) s p t there S (frames.Ready.write o f w) _ code (ap (machine.writeAct (tableOf b) s p t o f w) e)
+          attempts mover (frames.Ready.write o f w) code (ap (machine.writeAct (tableOf b) s p t o f w) e)
           ∙ ap₂ (λ (o f : ℕ). machine.Attempt.stuck (missingField o f)) (sym (mod-eq-of-lt ho)) (sym (mod-eq-of-lt hf))
       by true true z u e g v q r = (
         _,
-        attempt-act (tableOf b) s p t there S (frames.Ready.write o f w) _ code (ap (machine.writeAct (tableOf b) s p t o f w) e ∙ test-true (tableOf b .isVolatile f) _ _ v),
+        attempts mover (frames.Ready.write o f w) code (ap (machine.writeAct (tableOf b) s p t o f w) e ∙ test-true (tableOf b .isVolatile f) _ _ v),
         moved mover _ i e-writev (some (entry records.Kind.writev p o f w)) (machine.store s o f (rules.cell (union (keysOf (c .keys)) (t .keys)) w)) (up (nodeAt b) (terms b) S w) (goValue w) n
             ks (cellOf w (c .key) (joinOf (c .keys) ks)) nothing (entryOf 5 o f w) refl (written mover records.Kind.writev o f w ho hf hw) refl
             (well, hw, refl) fits (unlearnt mover)
@@ -173,14 +173,14 @@ module _ {b : List ℕ} {m : engine.Machine} {s : machine.State} {p : ℕ} (move
       )
       by true false true true e g v q r = (
         _,
-        attempt-act (tableOf b) s p t there S (frames.Ready.write o f w) _ code
+        attempts mover (frames.Ready.write o f w) code
             (ap (machine.writeAct (tableOf b) s p t o f w) e ∙ test-false (tableOf b .isVolatile f) _ _ v ∙ test-true (subset (cellMeant false c .keys) (t .keys)) _ _ q),
         record { lacks = test-true (leb 256 (s .nextKey)) _ _ (ap (leb 256) (sym (k .keys-count)) ∙ r); does = tt },
       )
       by true false true false e g v q r =
           let room-left : n .keys < 256 = leb-false 256 (n .keys) r in (
             _,
-            attempt-act (tableOf b) s p t there S (frames.Ready.write o f w) _ code
+            attempts mover (frames.Ready.write o f w) code
                 (ap (machine.writeAct (tableOf b) s p t o f w) e ∙ test-false (tableOf b .isVolatile f) _ _ v ∙ test-true (subset (cellMeant false c .keys) (t .keys)) _ _ q),
             moved mover _ i e-write (some (entry records.Kind.write p o f w)) (machine.learn (machine.store (machine.useKey s) o f (rules.cell (singleton (s .nextKey)) w)) p (singleton (s .nextKey)))
                 (up (nodeAt b) (terms b) S w) (goValue w) (countsOf (n .threads) (n .objects) (n .keys + 1))
@@ -195,7 +195,7 @@ module _ {b : List ℕ} {m : engine.Machine} {s : machine.State} {p : ℕ} (move
           )
       by true false false u e g v q r = (
         _,
-        attempt-act (tableOf b) s p t there S (frames.Ready.write o f w) _ code
+        attempts mover (frames.Ready.write o f w) code
             (ap (machine.writeAct (tableOf b) s p t o f w) e ∙ test-false (tableOf b .isVolatile f) _ _ v ∙ test-false (subset (cellMeant false c .keys) (t .keys)) _ _ q),
         sym (mod-eq-of-lt ho),
         sym (mod-eq-of-lt hf),

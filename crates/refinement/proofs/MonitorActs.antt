@@ -42,9 +42,9 @@ use Rattle.refinement.proofs.Meant.{closed, IsExpression}
 use Rattle.refinement.proofs.States.{cellMeant, CellFits, Kept, Headed, Related}
 use Rattle.refinement.proofs.Tests.{test-true, test-false}
 use Rattle.refinement.proofs.KeptLaws.{kept-changed, kept-past, kept-monitor}
-use Rattle.refinement.proofs.Looks.{MeetsBy, monitor-bit, monitor-cell, attempt-act, ready-there}
+use Rattle.refinement.proofs.Looks.{MeetsBy, monitor-bit, monitor-cell, ready-there}
 use Rattle.refinement.proofs.Moves.{Mover, Acts}
-use Rattle.refinement.proofs.Moving.{headFor, unlearnt, learnt, joined, moved, plain, object-there, written}
+use Rattle.refinement.proofs.Moving.{headFor, unlearnt, learnt, joined, moved, plain, object-there, written, attempts}
 
 module _ {b : List ℕ} {m : engine.Machine} {s : machine.State} {p : ℕ} (mover : Mover b m s p) where
   open engine.Machine m using (cells as cs, objects as ts)
@@ -102,17 +102,17 @@ module _ {b : List ℕ} {m : engine.Machine} {s : machine.State} {p : ℕ} (move
           (actedOf room.Enough (goWant (holdFrame env o) u) n (joinOf ks (c .keys)) c′ (entryOf 6 o 0 0))))
       by true true e q = (
         _,
-        attempt-act (tableOf b) s p t there S (frames.Ready.synch o (closed u env)) _ code
+        attempts mover (frames.Ready.synch o (closed u env)) code
             (acted ∙ test-true (isEmpty (keysOf (c .keys))) _ _ e ∙ test-true (eqb (c .value) (t .self)) _ _ q),
         plain mover _ i e-re-enter (enter (nodeAt b) (terms b) S (closed u env)) (goRun u env) refl (well, hu, refl),
       )
       by true false e q =
-          attempt-act (tableOf b) s p t there S (frames.Ready.synch o (closed u env)) _ code
+          attempts mover (frames.Ready.synch o (closed u env)) code
           (acted ∙ test-true (isEmpty (keysOf (c .keys))) _ _ e ∙ test-false (eqb (c .value) (t .self)) _ _ q)
           ∙ ap (λ (o : ℕ). machine.Attempt.waiting (forMonitor o)) (sym (mod-eq-of-lt ho))
       by false y e q = (
         _,
-        attempt-act (tableOf b) s p t there S (frames.Ready.synch o (closed u env)) _ code (acted ∙ test-false (isEmpty (keysOf (c .keys))) _ _ e),
+        attempts mover (frames.Ready.synch o (closed u env)) code (acted ∙ test-false (isEmpty (keysOf (c .keys))) _ _ e),
         moved mover _ i e-acquire (some (entry records.Kind.acquire p o 0 0)) (machine.learn (machine.storeMonitor s o (rules.cell empty (t .self))) p (keysOf (c .keys)))
             (enter (nodeAt b) (terms b) (frames.Frame.hold o ∷ S) (closed u env)) (goWant (holdFrame env o) u) n
             (joinOf ks (c .keys)) c′ nothing (entryOf 6 o 0 0) refl (written mover records.Kind.acquire o 0 0 ho (omega arith) (omega arith)) refl
@@ -127,7 +127,7 @@ module _ {b : List ℕ} {m : engine.Machine} {s : machine.State} {p : ℕ} (move
   unfolding machine.act machine.around machine.storeMonitor playing.noRoomBefore land.go tableOf
   hold-meets o v w env i ei well ho hv code = (
     _,
-    attempt-act (tableOf b) s p t there S (frames.Ready.hold o v) _ code refl,
+    attempts mover (frames.Ready.hold o v) code refl,
     moved mover _ i e-release (some (entry records.Kind.release p o 0 0)) (machine.storeMonitor s o (rules.cell (t .keys) 0)) (up (nodeAt b) (terms b) S v) (goValue v) n
         ks (cellOf 0 0 ks) nothing (entryOf 7 o 0 0) refl (written mover records.Kind.release o 0 0 ho (omega arith) (omega arith)) refl
         (well, hv, refl) fits (unlearnt mover)

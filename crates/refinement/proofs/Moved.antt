@@ -34,6 +34,7 @@ use Rattle.refinement.proofs.Meant.{Loaded, Sized, Lands}
 use Rattle.refinement.proofs.Landing.{landed}
 use Rattle.refinement.proofs.States.{Kept, Headed, Related}
 use Rattle.refinement.proofs.Moves.{withYoung, moverIn, Mover, Born, Does}
+use Rattle.refinement.proofs.Moving.{few-threads}
 use Rattle.refinement.proofs.Depths.{found-full, found-at, holds-same}
 use Rattle.refinement.proofs.RoomAfter.{youngDeep, room-after}
 
@@ -68,7 +69,7 @@ young-other false l i y q e = refl
 
 module _ {b ws rs : List ℕ} (loaded : Loaded b ws rs) {m : engine.Machine} {s : machine.State} {p : ℕ} (mover : Mover b m s p) {v : machine.Move}
     (D : Does mover (headAt (m .heads) p .ready) (cellNumber (headAt (m .heads) p .ready)) (actedBy (volatiles b) m p) v) where
-  open Mover mover using (ok, related as rel, reached as reach, small, thread as t, there, headed as H)
+  open Mover mover using (ok, related as rel, reached as reach, thread as t, there, headed as H)
 
   abbrev a : Acted
   a = actedBy (volatiles b) m p
@@ -94,9 +95,6 @@ module _ {b ws rs : List ℕ} (loaded : Loaded b ws rs) {m : engine.Machine} {s 
 
   abbrev olds : List machine.Thread
   olds = changeAt (s .threads) p gone
-
-  few-threads : n .threads ≤ 8
-  few-threads = let x = rel .kept .threads-count in let y = reach .limits .counts .few-threads in omega arith
 
   few-objects : n .objects ≤ 32
   few-objects = let x = rel .kept .objects-count in let y = reach .limits .counts .few-objects in omega arith
@@ -175,7 +173,7 @@ module _ {b ws rs : List ℕ} (loaded : Loaded b ws rs) {m : engine.Machine} {s 
   heads′ = set heads₁ p (moverOf a h (L .landed))
 
   mod-threads : n .threads % 9 ≡ n .threads
-  mod-threads = let x = few-threads in mod-eq-of-lt (omega arith)
+  mod-threads = let x = few-threads mover in mod-eq-of-lt (omega arith)
 
   -- the mover's head, a new thread's, and any other's
   head-mover : headAt heads′ p ≡ moverOf a h (L .landed)
@@ -184,7 +182,7 @@ module _ {b ws rs : List ℕ} (loaded : Loaded b ws rs) {m : engine.Machine} {s 
   head-young : forksOf a ≡ true → headAt heads′ (n .threads) ≡ bornOf n h (Y .landed)
   head-young k =
       let l = here in
-      let z = few-threads in
+      let z = few-threads mover in
       let x = rel .heads-size in
       getD-set-other heads₁ p (n .threads) (moverOf a h (L .landed)) noHead (λ e. omega arith)
       ∙ ap (λ (i : ℕ). getD heads₁ i noHead) (sym mod-threads)

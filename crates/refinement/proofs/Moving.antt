@@ -19,6 +19,7 @@ use Rattle.rules.specs.State.{changeAt}
 use Rattle.rules.specs.Rules.{Rule}
 use Rattle.machine.specs.Frames as frames
 use Rattle.machine.specs.Machine as machine
+use Rattle.machine.specs.Playing.{tableOf}
 use Rattle.machine.specs.Playing as playing
 use Rattle.frames.specs.declared.go.Ready.{Ready}
 use Rattle.frames.specs.declared.go.Go.{Go}
@@ -34,7 +35,7 @@ use Rattle.engine.specs.Machine.{noCell, headAt}
 use Rattle.refinement.proofs.Meant.{Goes}
 use Rattle.refinement.proofs.States.{Kept, Headed, Related}
 use Rattle.refinement.proofs.KeptLaws.{kept-changed, kept-past, kept-same}
-use Rattle.refinement.proofs.Looks.{Written, Entered}
+use Rattle.refinement.proofs.Looks.{Written, Entered, attempt-act}
 use Rattle.refinement.proofs.Moves.{Mover, Acts}
 use Rattle.refinement.proofs.ChangeLaws.{change-agree, change-none, change-twice}
 
@@ -57,6 +58,10 @@ module _ {b : List ℕ} {m : engine.Machine} {s : machine.State} {p : ℕ} (move
 
   abbrev ks : KeySet
   ks = headAt (m .heads) p .keys
+
+  -- what is ready is tried
+  pub attempts : {A : machine.Act} (R : frames.Ready) → t .code ≡ frames.Found.here S R → machine.act (tableOf b) s p t R ≡ A → machine.attempt (tableOf b) s p ≡ machine.around (tableOf b) p S A
+  attempts R e h = attempt-act (tableOf b) s p t there S R _ e h
 
   -- what the mover knows
   pub unlearnt : s .threads ≡ changeAt (s .threads) p (knowing (keysOf ks))

@@ -49,9 +49,9 @@ use Rattle.refinement.proofs.States.{numberOf, Kept, Headed, Related}
 use Rattle.refinement.proofs.Tests.{test-true, test-false}
 use Rattle.refinement.proofs.ThreadNumbers.{Strange, strange-number, added-number, other-number, found-thread}
 use Rattle.refinement.proofs.KeptLaws.{kept-changed, kept-past, kept-object, kept-same, no-fields, no-bit}
-use Rattle.refinement.proofs.Looks.{Written, MeetsBy, attempt-act, ready-there}
+use Rattle.refinement.proofs.Looks.{Written, MeetsBy, ready-there}
 use Rattle.refinement.proofs.Moves.{Mover, Acts, moverIn}
-use Rattle.refinement.proofs.Moving.{headFor, unlearnt, learnt, joined, moved, few-threads, object-there, written}
+use Rattle.refinement.proofs.Moving.{headFor, unlearnt, learnt, joined, moved, few-threads, object-there, written, attempts}
 use Rattle.refinement.proofs.Ended.{joinBy, Ends, ends}
 use Rattle.refinement.proofs.ChangeLaws.{change-agree, change-before}
 
@@ -89,7 +89,7 @@ module _ {b : List ℕ} {m : engine.Machine} {s : machine.State} {p : ℕ} (move
           (ap numberOf (sym (strange-number (s .threads) 0 (n .objects) strange)))
 
       acted : machine.attempt (tableOf b) s p ≡ machine.around (tableOf b) p S (machine.act (tableOf b) s p t (frames.Ready.new (fieldsFrom a 0 32)))
-      acted = attempt-act (tableOf b) s p t there S (frames.Ready.new (fieldsFrom a 0 32)) _ code refl
+      acted = attempts mover (frames.Ready.new (fieldsFrom a 0 32)) code refl
 
       by : (x : Bool) → leb 32 (n .objects) ≡ x
           → (v : machine.Move) × (machine.attempt (tableOf b) s p ≡ machine.Attempt.moves v)
@@ -159,7 +159,7 @@ module _ {b : List ℕ} {m : engine.Machine} {s : machine.State} {p : ℕ} (move
           more xs y e = let z = length-added xs y in omega arith
 
       acted : machine.attempt (tableOf b) s p ≡ machine.around (tableOf b) p S (machine.act (tableOf b) s p t (frames.Ready.fork (closed u env)))
-      acted = attempt-act (tableOf b) s p t there S (frames.Ready.fork (closed u env)) _ code refl
+      acted = attempts mover (frames.Ready.fork (closed u env)) code refl
 
       by : (x₁ x₂ : Bool) → leb 8 (n .threads) ≡ x₁ → leb 32 (n .objects) ≡ x₂
           → (v : machine.Move) × (machine.attempt (tableOf b) s p ≡ machine.Attempt.moves v)
@@ -235,7 +235,7 @@ module _ {b : List ℕ} {m : engine.Machine} {s : machine.State} {p : ℕ} (move
 
       acted : (x : Option machine.Numbered) → machine.threadOf 0 (s .threads) o ≡ x
           → machine.attempt (tableOf b) s p ≡ machine.around (tableOf b) p S (machine.joinAct s p o x)
-      acted x e = attempt-act (tableOf b) s p t there S (frames.Ready.join o) _ code (ap (machine.joinAct s p o) e)
+      acted x e = attempts mover (frames.Ready.join o) code (ap (machine.joinAct s p o) e)
 
       finish : (q : machine.Numbered) (h : Head) (w₁ : Sight) → machine.threadOf 0 (s .threads) o ≡ some q → q .number < 8
           → keysOf (h .keys) ≡ q .thread .keys → Fits (h .keys) → Ends (h .ready .part) (h .ready .a) (q .thread .code) → joinBy (h .ready .part) ≡ w₁ → Sees w₁ (q .number) h

@@ -33,9 +33,9 @@ use Rattle.engine.specs.Machine as engine
 use Rattle.engine.specs.Machine.{noCell, headAt}
 use Rattle.refinement.proofs.Meant.{slots, closed, IsExpression, IsCondition, Goes, Unlogged}
 use Rattle.refinement.proofs.States.{Headed}
-use Rattle.refinement.proofs.Looks.{MeetsBy, attempt-act, attempt-condition}
+use Rattle.refinement.proofs.Looks.{MeetsBy, attempt-condition}
 use Rattle.refinement.proofs.Moves.{Mover, Acts}
-use Rattle.refinement.proofs.Moving.{plain}
+use Rattle.refinement.proofs.Moving.{plain, attempts}
 
 module _ {b : List ℕ} {m : engine.Machine} {s : machine.State} {p : ℕ} (mover : Mover b m s p) where
   open engine.Machine m using (cells as cs)
@@ -54,7 +54,7 @@ module _ {b : List ℕ} {m : engine.Machine} {s : machine.State} {p : ℕ} (move
       → MeetsBy sight.Ready p r (machine.attempt (tableOf b) s p) (Acts mover r i (actedOf room.Enough g n ks (getD cs i noCell) (entryOf 0 0 0 0)))
   unfolding machine.around tableOf
   pure-meets i r x R g code u goes =
-      (_, attempt-act (tableOf b) s p t there S R _ code (u .acts s p t), plain mover _ i (u .rule) (land.go (nodeAt b) (terms b) S x) g (u .needs-no-room s) goes)
+      (_, attempts mover R code (u .acts s p t), plain mover _ i (u .rule) (land.go (nodeAt b) (terms b) S x) g (u .needs-no-room s) goes)
 
   pub condition-meets : (i : ℕ) (r : Ready) (Q : frames.Readyᶜ) (g : Go) → t .code ≡ frames.Found.hereᶜ S Q → playing.noRoomBefore s (machine.actᶜ (tableOf b) S Q .rule) ≡ none
       → Goes b g S (machine.actᶜ (tableOf b) S Q .code)
@@ -73,7 +73,7 @@ module _ {b : List ℕ} {m : engine.Machine} {s : machine.State} {p : ℕ} (move
   while-meets a b′ w env i well hc he code =
       let z = loops hc he in (
         _,
-        attempt-act (tableOf b) s p t there S (frames.Ready.while (branches a b′ (slots env))) _ code refl,
+        attempts mover (frames.Ready.while (branches a b′ (slots env))) code refl,
         plain mover _ i e-while (enterᶜ (nodeAt b) (terms b) (frames.Frame.whileTest (branches a b′ (slots env)) ∷ S) (closed a env)) (goWantCondition (framed kind.Test a b′ 0 env) a) refl
             (record { a-fits = z .0; b-fits = z .1; m-fits = omega arith; n-fits = omega arith; sorted = (hc, he) }, well, hc, refl),
       )
@@ -85,7 +85,7 @@ module _ {b : List ℕ} {m : engine.Machine} {s : machine.State} {p : ℕ} (move
   body-meets a b′ w env i well hc he code =
       let z = loops hc he in (
         _,
-        attempt-act (tableOf b) s p t there S (frames.Ready.whileTest true (branches a b′ (slots env))) _ code refl,
+        attempts mover (frames.Ready.whileTest true (branches a b′ (slots env))) code refl,
         plain mover _ i e-if (enter (nodeAt b) (terms b) (frames.Frame.whileBody (branches a b′ (slots env)) ∷ S) (closed b′ env)) (goWant (framed kind.Body a b′ 0 env) b′) refl
             (record { a-fits = z .0; b-fits = z .1; m-fits = omega arith; n-fits = omega arith; sorted = (hc, he) }, well, he, refl),
       )
