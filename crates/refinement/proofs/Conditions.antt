@@ -2,9 +2,9 @@
 use Prim.Native.Nat.{ℕ, suc, _≤_}
 use native.Mathlib.Omega.{arith}
 use mathlib.Core.Path.{_≡_, _∙_}
-use mathlib.Core.Bool.{Bool, true, false}
+use mathlib.Core.Bool.{Bool, true, false, false≢true}
 use mathlib.Core.List.{List, _∷_}
-use mathlib.Core.Option.{Option, some, none}
+use mathlib.Core.Option.{some, Option·none-ne-some, Option·some-injective}
 use lib.ListN.{length}
 use Rattle.packed.specs.Format.{terms}
 use Rattle.packed.specs.Trees.{Node, nodeAt}
@@ -27,11 +27,8 @@ use Rattle.refinement.proofs.Operands.{Placed, Next, stays, want, want�
 
 false-never : (t : Bool) → falseWhen t ≡ some true → ⊥
 unfolding falseWhen
-false-never true e = let z : _≡_ {A = ℕ} 0 1 = cc in omega arith
-false-never false e = let z : _≡_ {A = ℕ} 0 1 = cc in omega arith
-
-none-never : _≡_ {A = Option Bool} none (some true) → ⊥
-none-never e = let z : _≡_ {A = ℕ} 0 1 = cc in omega arith
+false-never true e = false≢true (Option·some-injective false true e)
+false-never false e = Option·none-ne-some true e
 
 module _ {b ws rs : List ℕ} {k : Stack} {base : ℕ} {S : List frames.Frame} (c : Placed b ws rs k base S) {n : ℕ} {X : frames.Found}
     (t e : ℕ) (w : Wellᶜ S) (s : IsCondition b t) (x : X ≡ enterᶜ (nodeAt b) (terms b) S (closed t e)) (l : left t ≤ suc n) where
@@ -48,8 +45,8 @@ module _ {b ws rs : List ℕ} {k : Stack} {base : ℕ} {S : List frames.Frame} (
   not-in i q (Condition.truth r o) = x ∙ enter-not-true (ordered b (c .right)) S t (slots e) q o
   not-in i q (Condition.not r o _) =
       x ∙ enter-not (ordered b (c .right)) S t (slots e) q (rw o) (λ z. false-never (isTrue (nodeAt b (firstOf (wordAt ws i)))) (rw o at z))
-  not-in i q (Condition.and r o _ _) = x ∙ enter-not (ordered b (c .right)) S t (slots e) q (rw o) (λ z. none-never (rw o at z))
-  not-in i q (Condition.equal r o _ _) = x ∙ enter-not (ordered b (c .right)) S t (slots e) q (rw o) (λ z. none-never (rw o at z))
+  not-in i q (Condition.and r o _ _) = x ∙ enter-not (ordered b (c .right)) S t (slots e) q (rw o) (λ z. Option·none-ne-some true (rw o at z))
+  not-in i q (Condition.equal r o _ _) = x ∙ enter-not (ordered b (c .right)) S t (slots e) q (rw o) (λ z. Option·none-ne-some true (rw o at z))
 
   run-by : Condition b t word → Next b ws k base n X (wantedOf ws (listedOf ws rs (runConditionOf (wordAt ws t) e)) (length S))
   unfolding runConditionOf runConditionBy

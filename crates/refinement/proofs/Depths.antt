@@ -2,7 +2,7 @@
 use Prim.Native.Nat.{ℕ, _+_, _≤_, _<_}
 use native.Mathlib.Omega.{arith}
 use mathlib.Core.Path.{_≡_, sym, ap, _∙_, subst as along}
-use mathlib.Core.Bool.{false}
+use mathlib.Core.Bool.{false, true≢false}
 use mathlib.Core.List.{List, [], _∷_}
 use lib.Dec.{ltb}
 use lib.ListN.{length}
@@ -52,7 +52,7 @@ found-full b stage.Truth E base X h = absurd h
 
 -- and else the part is found
 pub found-at : (b : List ℕ) (g : Stage) (E : Ended) (base : ℕ) (X : frames.Found) → FoundBy b g E base X → fullBy g ≡ false → FoundBy b stage.At E base X
-found-at b stage.Full E base X h e = absurd (let z : _≡_ {A = ℕ} 0 1 = cc in omega arith)
+found-at b stage.Full E base X h e = absurd (true≢false e)
 found-at b stage.At E base X h e = h
 found-at b stage.Run E base X h e = absurd h
 found-at b stage.RunCondition E base X h e = absurd h

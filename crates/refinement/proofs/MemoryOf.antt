@@ -17,8 +17,8 @@ use Rattle.machine.specs.Memory.{storeCell, addMask}
 use Rattle.state.specs.declared.Cell.{Cell}
 use Rattle.state.specs.declared.Object.{Object}
 use Rattle.look.specs.Look.{hasOf}
-use Rattle.engine.specs.Machine.{noCell, noThing}
-use Rattle.refinement.proofs.States.{cellMeant, freshCell, memoryOf}
+use Rattle.engine.specs.Machine.{noCell, noThing, cellFirst}
+use Rattle.refinement.proofs.States.{cellMeant, memoryOf}
 use Rattle.refinement.proofs.Tests.{test-true, test-false}
 
 inside-32 : (o f : ℕ) → o < 32 → f < 32 → (ltb o 32 && ltb f 32) ≡ true
@@ -34,7 +34,7 @@ pub memory-mask : (mask : ℕ) (cs : List Cell) (ts : List Object) (n o : ℕ) �
 unfolding memoryOf
 memory-mask mask cs ts n o p = test-true (ltb o n) _ _ (lt-ltb o n p)
 
-pub fresh-meant : (x : Bool) → cellMeant x freshCell ≡ fresh
+pub fresh-meant : (x : Bool) → cellMeant x cellFirst ≡ fresh
 unfolding fresh
 fresh-meant true = ap (λ (K : Keys). rules.cell K 0) keys-zero
 fresh-meant false = refl

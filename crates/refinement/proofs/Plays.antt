@@ -6,7 +6,7 @@ use native.Mathlib.Omega.{arith}
 use mathlib.Core.Path.{_≡_, refl, sym, ap, ap₂, _∙_, subst as along}
 use mathlib.Core.Bool.{Bool, true, false, cond}
 use mathlib.Core.List.{List, [], _∷_, _++_, map}
-use mathlib.Core.Option.{some, none}
+use mathlib.Core.Option.{some, none, Option·none-ne-some}
 use lib.ListN.{length, getD, drop}
 use Rattle.packed.specs.Format.{volatiles}
 use Rattle.packed.specs.Trees.{programOf}
@@ -114,7 +114,7 @@ StopMeans stop.Race e = Stop.race ≡ e
 StopMeans (stop.NoRoom r) e = (w : rooms.Room) × (roomMeant r ≡ some w) × (Stop.noRoom w ≡ e)
 
 room-same : (r : Room) (w : rooms.Room) → roomMeant r ≡ some w → roomOf r ≡ w
-room-same room.Enough w e = absurd (let z : _≡_ {A = ℕ} 0 1 = cc in omega arith)
+room-same room.Enough w e = absurd (Option·none-ne-some w e)
 room-same room.NoThread w e = cc
 room-same room.NoObject w e = cc
 room-same room.NoKey w e = cc

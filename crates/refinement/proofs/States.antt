@@ -7,7 +7,7 @@ use mathlib.Core.Option.{Option, some, none}
 use lib.Dec.{ltb}
 use lib.ListN.{length, getD, getElem?}
 use Rattle.keys.specs.Keys.{singleton}
-use Rattle.keys.specs.KeySet.{keysOf, zeroSet}
+use Rattle.keys.specs.KeySet.{keysOf}
 use Rattle.keys.proofs.KeySetLaws.{Fits}
 use Rattle.packed.specs.Format.{volatiles}
 use Rattle.rules.specs.State.{fresh}
@@ -21,9 +21,8 @@ use Rattle.state.specs.declared.Cell.{Cell}
 use Rattle.state.specs.declared.Object.{Object}
 use Rattle.state.specs.declared.Counts.{Counts}
 use Rattle.look.specs.Look.{hasOf}
-use Rattle.state.specs.Acted.{cellOf}
 use Rattle.engine.specs.Machine as engine
-use Rattle.engine.specs.Machine.{noCell, noThing, headAt}
+use Rattle.engine.specs.Machine.{noCell, noThing, headAt, cellFirst}
 use Rattle.refinement.proofs.Meant.{Holds, Stands, Sized}
 
 -- the cell that a cell of the code stands for: a volatile field or a monitor has a set, a plain field one key
@@ -34,9 +33,6 @@ cellMeant false c = rules.cell (singleton (c .key)) (c .value)
 pub record CellFits (c : Cell) : Type 0 where
   pub key : c .key < 256
   pub keys : Fits (c .keys)
-
-abbrev pub freshCell : Cell
-freshCell = cellOf 0 0 zeroSet
 
 -- the memory of n objects: cell 32 o + f is field f of object o
 unfoldable pub memoryOf : ℕ → List Cell → List Object → ℕ → Memory
@@ -62,7 +58,7 @@ pub record Kept (mask : ℕ) (cs : List Cell) (ts : List Object) (n : Counts) (s
   pub objects : s .objects ≡ objectsOf (memoryOf mask cs ts (n .objects))
   pub cells-fit : (i : ℕ) → CellFits (getD cs i noCell)
   -- no cell past the last object has been stored to
-  pub fresh-past : (i : ℕ) → n .objects * 32 ≤ i → i < 1024 → getD cs i noCell ≡ freshCell
+  pub fresh-past : (i : ℕ) → n .objects * 32 ≤ i → i < 1024 → getD cs i noCell ≡ cellFirst
   pub numbers : (o : ℕ) → o < n .objects → getD ts o noThing .thread ≡ numberOf (machine.threadOf 0 (s .threads) o)
 
 -- what a head says of a thread whose frames begin at `base`
