@@ -71,7 +71,7 @@ first-byte : (w v : ℕ) → w ≡ v → w < 16777216 → w / 65536 % 256 ≡ v 
 first-byte w v e h = omega arith
 
 -- an entry that is a record is put as its three bytes
-pub put-record : (l : List ℕ) (n p : ℕ) (e : Entry) (r : Record) → Written p e r → 3 * n + 3 ≤ length l → logPut l n p e ≡ overlay l (3 * n) (threeBytes (packed r))
+put-record : (l : List ℕ) (n p : ℕ) (e : Entry) (r : Record) → Written p e r → 3 * n + 3 ≤ length l → logPut l n p e ≡ overlay l (3 * n) (threeBytes (packed r))
 unfolding logPut overlay threeBytes
 put-record l n p e r w h =
     let q = word-packed p e r w in

@@ -80,7 +80,7 @@ MeetsBy sight.Lacking p r A Z = (x : Record) × (A ≡ machine.Attempt.lacking x
 -- ---- what is read
 
 -- the bit of a field
-pub has-bit : (mask f : ℕ) → f < 32 → hasOf mask f ≡ eqb (maskBit mask f) 1
+has-bit : (mask f : ℕ) → f < 32 → hasOf mask f ≡ eqb (maskBit mask f) 1
 unfolding hasOf maskBit
 has-bit mask f h = ap (λ (x : ℕ). eqb (mask / 2 ^ (31 - x) % 2) 1) (mod-eq-of-lt h)
 

@@ -124,10 +124,10 @@ module _ (b : List ℕ) where
     pub needs-no-room : (s : machine.State) → playing.noRoomBefore s (machine.actᶜ (playing.tableOf b) S Q .rule) ≡ none
     pub acts : machine.actᶜ (playing.tableOf b) S Q .code ≡ code
 
-  abbrev pub Pure : List frames.Frame → frames.Result → frames.Found → Type 0
+  abbrev Pure : List frames.Frame → frames.Result → frames.Found → Type 0
   Pure S x X = (R : frames.Ready) × (X ≡ frames.Found.here S R) × Unlogged R x
 
-  abbrev pub Pureᶜ : List frames.Frame → frames.Found → frames.Found → Type 0
+  abbrev Pureᶜ : List frames.Frame → frames.Found → frames.Found → Type 0
   Pureᶜ S code X = (Q : frames.Readyᶜ) × (X ≡ frames.Found.hereᶜ S Q) × Unloggedᶜ S Q code
 
   -- part r, in the frames S, is what was found

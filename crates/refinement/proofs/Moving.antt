@@ -40,7 +40,7 @@ use Rattle.refinement.proofs.Moves.{Mover, Acts}
 use Rattle.refinement.proofs.ChangeLaws.{change-agree, change-none, change-twice}
 
 -- a thread that knows the keys K
-abbrev pub knowing : Keys → machine.Thread → machine.Thread
+abbrev knowing : Keys → machine.Thread → machine.Thread
 knowing K x = record { self = x .self; code = x .code; keys = K }
 
 -- thread p's head, were r its part

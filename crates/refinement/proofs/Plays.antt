@@ -80,7 +80,7 @@ cons-same : {A : Type 0} {x y : A} {xs ys : List A} → x ≡ y → xs ≡ ys �
 cons-same {A} e h = ap₂ {C = List A} (λ x xs. x ∷ xs) e h
 
 -- what the code says of its threads is what they can do
-pub statuses : (b : List ℕ) → refusal b ≡ none → (m : engine.Machine) (s : machine.State) → Related b m s → Reached (tableOf b) (programOf b) s
+statuses : (b : List ℕ) → refusal b ≡ none → (m : engine.Machine) (s : machine.State) → Related b m s → Reached (tableOf b) (programOf b) s
     → map statusOf (seenOf (volatiles b) (m .tally .counts) (m .heads) (m .cells) (m .objects)) ≡ playing.statusesFrom (tableOf b) s 0 8
 unfolding seenOf playing.statusesFrom
 statuses b ok m s rel reach =
@@ -95,7 +95,7 @@ statuses b ok m s rel reach =
 -- ---- a play against a run
 
 -- what the room that the code names means; no run stops where there was enough
-abbrev pub roomOf : Room → rooms.Room
+abbrev roomOf : Room → rooms.Room
 roomOf room.Enough = rooms.Room.depth
 roomOf room.NoThread = rooms.Room.thread
 roomOf room.NoObject = rooms.Room.object
@@ -108,7 +108,7 @@ stopMeant stop.Race = Stop.race
 stopMeant (stop.NoRoom r) = Stop.noRoom (roomOf r)
 
 -- how the code says that it stopped
-abbrev pub StopMeans : code.Stop → Stop → Type 0
+abbrev StopMeans : code.Stop → Stop → Type 0
 StopMeans stop.End e = Stop.end ≡ e
 StopMeans stop.Race e = Stop.race ≡ e
 StopMeans (stop.NoRoom r) e = (w : rooms.Room) × (roomMeant r ≡ some w) × (Stop.noRoom w ≡ e)
@@ -126,20 +126,20 @@ stop-same stop.Race e h = h
 stop-same (stop.NoRoom r) e (w, k, h) = ap Stop.noRoom (room-same r w k) ∙ h
 
 -- the play P, from i picks, n moves, k records and the area l on, is the run R
-pub record PlaysAs (b : List ℕ) (i n k : ℕ) (l : List ℕ) (P : engine.Played) (R : playing.Run) : Type 0 where
-  pub stop : StopMeans (P .ran .stop) (R .stop)
-  pub picks : P .ran .picks ≡ i + R .picks
-  pub moves : P .ran .moves ≡ n + length (R .instances)
-  pub records : P .ran .records ≡ k + length (R .log)
-  pub threads : map statusOf (P .ran .threads) ≡ playing.statusesFrom (tableOf b) (R .final) 0 8
-  pub area : P .area ≡ overlay l (3 * k) (bytesOf (R .log))
+record PlaysAs (b : List ℕ) (i n k : ℕ) (l : List ℕ) (P : engine.Played) (R : playing.Run) : Type 0 where
+  stop : StopMeans (P .ran .stop) (R .stop)
+  picks : P .ran .picks ≡ i + R .picks
+  moves : P .ran .moves ≡ n + length (R .instances)
+  records : P .ran .records ≡ k + length (R .log)
+  threads : map statusOf (P .ran .threads) ≡ playing.statusesFrom (tableOf b) (R .final) 0 8
+  area : P .area ≡ overlay l (3 * k) (bytesOf (R .log))
 
 -- the outcome that the code's answer means
 abbrev pub outcomeMeant : Ran → Outcome
 outcomeMeant r = record { stop = stopMeant (r .stop); picks = r .picks; moves = r .moves; records = r .records; threads = map statusOf (r .threads) }
 
 -- every pick is 0 to 7
-abbrev pub Small : List ℕ → Type 0
+abbrev Small : List ℕ → Type 0
 Small ps = (j : ℕ) → j < length ps → getD ps j 0 ≤ 7
 
 outcome-same : {a a′ : Stop} {c c′ d d′ e e′ : ℕ} {l l′ : List Status} → a ≡ a′ → c ≡ c′ → d ≡ d′ → e ≡ e′ → l ≡ l′
@@ -224,7 +224,7 @@ module _ (b ws rs : List ℕ) (ok : refusal b ≡ none) (loaded : Loaded b ws rs
     pick-plays false e = answered-plays (T .turn .answer) (picks b ws rs ok loaded m s rel reach p small e)
 
   -- THE CODE'S PLAY FROM A STATE IS THE ABSTRACT MACHINE'S RUN FROM WHAT IT STANDS FOR
-  pub plays : (ps : List ℕ) (i : ℕ) → Small ps → (m : engine.Machine) (s : machine.State) → Related b m s → Reached (tableOf b) (programOf b) s
+  plays : (ps : List ℕ) (i : ℕ) → Small ps → (m : engine.Machine) (s : machine.State) → Related b m s → Reached (tableOf b) (programOf b) s
       → 3 * (m .tally .records + length ps) ≤ length (m .log)
       → PlaysAs b i (m .tally .moves) (m .tally .records) (m .log) (playOf ws rs (volatiles b) m ps i) (playing.run (tableOf b) s ps)
   unfolding playOf playing.run playing.stopped
@@ -252,7 +252,7 @@ module _ (b ws rs : List ℕ) (ok : refusal b ≡ none) (loaded : Loaded b ws rs
   -- ---- from the start
 
   module _ (ps area : List ℕ) (small : Small ps) (wide : 3 * length ps ≤ length area) where
-    pub from-start : PlaysAs b 0 0 0 area (playOf ws rs (volatiles b) (startOf rs area) ps 0) (playing.runOf b ps)
+    from-start : PlaysAs b 0 0 0 area (playOf ws rs (volatiles b) (startOf rs area) ps 0) (playing.runOf b ps)
     unfolding startOf playing.runOf
     from-start = plays ps 0 small (startOf rs area) playing.start (start-related b ws rs ok loaded area) (start-reached b ok) (let e = zero-add (length ps) in omega arith)
 
@@ -261,7 +261,7 @@ module _ (b ws rs : List ℕ) (ok : refusal b ≡ none) (loaded : Loaded b ws rs
     overlay-start bs = ap (λ (k : ℕ). bs ++ drop k area) (zero-add (length bs))
 
     -- THE CODE'S PLAY IS THE ABSTRACT MACHINE'S RUN
-    pub plays-machine : (outcomeMeant (playOf ws rs (volatiles b) (startOf rs area) ps 0 .ran) ≡ playing.outcomeOf (tableOf b) (playing.runOf b ps))
+    plays-machine : (outcomeMeant (playOf ws rs (volatiles b) (startOf rs area) ps 0 .ran) ≡ playing.outcomeOf (tableOf b) (playing.runOf b ps))
         × (playOf ws rs (volatiles b) (startOf rs area) ps 0 .area ≡ overwrite (bytesOf (playing.runOf b ps .log)) area)
     unfolding playing.outcomeOf
     plays-machine =
