@@ -29,7 +29,6 @@ use Rattle.machine.specs.Playing as playing
 use Rattle.machine.proofs.Sorted.{Well}
 use Rattle.machine.proofs.Standing.{cell-there}
 use Rattle.frames.specs.Parts.{Part as part}
-use Rattle.frames.specs.declared.go.Ready.{Ready}
 use Rattle.frames.specs.Going.{readyOf, goValue}
 use Rattle.state.specs.declared.Cell.{Cell}
 use Rattle.state.specs.declared.Counts.{Counts}

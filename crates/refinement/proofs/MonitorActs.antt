@@ -27,7 +27,6 @@ use Rattle.machine.specs.Playing.{tableOf}
 use Rattle.machine.specs.Playing as playing
 use Rattle.machine.proofs.Sorted.{Well}
 use Rattle.frames.specs.Parts.{Part as part}
-use Rattle.frames.specs.declared.go.Ready.{Ready}
 use Rattle.frames.specs.Going.{readyOf, goRun, goWant, goValue}
 use Rattle.state.specs.declared.Cell.{Cell}
 use Rattle.state.specs.declared.Counts.{Counts}

@@ -23,7 +23,6 @@ use Rattle.frames.specs.Going.{goFull}
 use Rattle.landing.specs.Landing.{Ended, ended, frameAt, landOf}
 use Rattle.state.specs.declared.Head.{Head}
 use Rattle.state.specs.declared.Counts.{Counts}
-use Rattle.state.specs.declared.acted.Room.{Room}
 use Rattle.state.specs.declared.acted.Acted.{Acted}
 use Rattle.settle.specs.declared.Answer.{Answer}
 use Rattle.settle.specs.declared.Answer.the-variants as answer

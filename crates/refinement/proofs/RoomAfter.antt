@@ -15,7 +15,6 @@ use Rattle.machine.specs.Frames.{height}
 use Rattle.machine.specs.Machine as machine
 use Rattle.machine.specs.Playing.{tableOf}
 use Rattle.machine.specs.Playing as playing
-use Rattle.state.specs.declared.acted.Room.{Room}
 use Rattle.refinement.proofs.Moves.{withYoung}
 
 -- the step of a move, by what it lacks
