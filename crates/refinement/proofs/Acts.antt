@@ -30,7 +30,7 @@ use Rattle.state.specs.declared.acted.Acted.{Acted}
 use Rattle.look.specs.Look.{objectBy, objectOf, fieldBy, aboutField, lookBy, lookOf}
 use Rattle.act.specs.Act.{pureBy, actBy, actOf}
 use Rattle.engine.specs.Machine as engine
-use Rattle.engine.specs.Machine.{noHead, noCell, noThing, headAt, cellNumber, lookAt, actAt}
+use Rattle.engine.specs.Machine.{noHead, noCell, noThing, headAt, cellNumber, lookAt, actAt, metBy}
 use Rattle.refinement.proofs.Meant.{closed, StandsBy}
 use Rattle.refinement.proofs.States.{Headed, Related}
 use Rattle.refinement.proofs.Looks.{MeetsBy, attempt-absent, attempt-value}
@@ -97,7 +97,7 @@ meets-more sight.Lacking p r A Z Z′ f h = h
 
 -- WHAT A LOOK SAYS IS WHAT THE THREAD CAN DO, AND WHERE IT IS READY WHAT THE CODE DOES IS ITS MOVE
 pub looks : (b : List ℕ) → refusal b ≡ none → (m : engine.Machine) (s : machine.State) → Related b m s → Reached (tableOf b) (programOf b) s → (p : ℕ) → p < 8
-    → MeetsBy (lookAt (volatiles b) (m .tally .counts) (m .heads) (m .cells) (m .objects) p) p (headAt (m .heads) p .ready) (machine.attempt (tableOf b) s p) (Ahead b m s p)
+    → MeetsBy (metBy (volatiles b) m p) p (headAt (m .heads) p .ready) (machine.attempt (tableOf b) s p) (Ahead b m s p)
 unfolding lookAt actAt
 looks b ok m s rel reach p small = by (leb (m .tally .counts .threads) p) refl
   where

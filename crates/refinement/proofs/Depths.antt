@@ -1,22 +1,21 @@
 -- Landing that is full has found more frames than there is room for, and other landing the part that moves next. Assumes nothing.
-use Prim.Native.Nat.{ℕ, _+_, _≤_, _<_}
+use Prim.Native.Nat.{ℕ}
 use native.Mathlib.Omega.{arith}
-use mathlib.Core.Path.{_≡_, sym, ap, _∙_, subst as along}
+use mathlib.Core.Path.{_≡_, sym, ap, _∙_}
 use mathlib.Core.Bool.{false, true≢false}
-use mathlib.Core.List.{List, [], _∷_}
+use mathlib.Core.List.{List}
 use lib.Dec.{ltb}
 use lib.ListN.{length}
 use borrow.Author.Tests.{lt-ltb, le-ltb}
 use Rattle.machine.specs.Frames.{height}
 use Rattle.machine.specs.Frames as frames
-use Rattle.frames.specs.declared.frame.Frame.{Frame}
 use Rattle.frames.specs.Parts.{Part, Part as part}
 use Rattle.frames.specs.declared.go.Ready.{Ready}
 use Rattle.frames.specs.declared.go.Stage.{Stage}
 use Rattle.frames.specs.declared.go.Stage.the-variants as stage
-use Rattle.landing.specs.Landing.{Stack, Ended, frameAt}
+use Rattle.landing.specs.Landing.{Ended}
 use Rattle.settle.specs.Settle.{fullBy}
-use Rattle.refinement.proofs.Meant.{frameOf, Fine, Holds, StandsBy, FoundBy}
+use Rattle.refinement.proofs.Meant.{StandsBy, FoundBy}
 
 stands-height : (b : List ℕ) (P : Part) (r : Ready) (S : List frames.Frame) (X : frames.Found) → StandsBy b P r S X → height X ≡ length S
 unfolding height
@@ -61,11 +60,3 @@ found-at b stage.WantCondition E base X h e = absurd h
 found-at b stage.List E base X h e = absurd h
 found-at b stage.Value E base X h e = absurd h
 found-at b stage.Truth E base X h e = absurd h
-
--- frames that lie elsewhere stay
-pub holds-same : (b : List ℕ) (k k′ : Stack) (base : ℕ) (S : List frames.Frame) → length S ≤ 33 → ((j : ℕ) → j < 33 → frameAt k′ (base + j) ≡ frameAt k (base + j)) → Holds b k base S
-    → Holds b k′ base S
-holds-same b k k′ base [] l e h = tt
-holds-same b k k′ base (F ∷ S) l e (x, y, z) =
-    let q = e (length S) l in
-    (ap frameOf q ∙ x, along (λ (f : Frame). Fine b f) (sym q) y, holds-same b k k′ base S (omega arith) e z)

@@ -1,7 +1,7 @@
 -- Frames in the stack: what is stored in a place is read back, and the other places stay as they were. Assumes nothing.
 use Prim.Native.Nat.{ℕ, _+_, _*_, _/_, _%_, _≤_, _<_}
 use native.Mathlib.Omega.{arith}
-use mathlib.Core.Path.{_≡_, refl, sym, _∙_, subst}
+use mathlib.Core.Path.{_≡_, refl, sym, ap, _∙_, subst}
 use mathlib.Core.Bool.{Bool, true, false, cond}
 use mathlib.Core.List.{List, [], _∷_}
 use lib.Dec.{ltb}
@@ -122,6 +122,14 @@ module _ (b : List ℕ) where
       let l : base + length S ≡ i → ⊥ = λ e. omega arith in
       let e = read-other k i f (base + length S) l in
       (subst (λ (g : Frame). frameOf g ≡ F) (sym e) (p .0), subst (Fine b) (sym e) (p .1), still-holds k base i f S (omega arith) (p .2))
+
+  -- frames that lie elsewhere stay
+  pub holds-same : (k k′ : Stack) (base : ℕ) (S : List frames.Frame) → length S ≤ 33 → ((j : ℕ) → j < 33 → frameAt k′ (base + j) ≡ frameAt k (base + j)) → Holds b k base S
+      → Holds b k′ base S
+  holds-same k k′ base [] l e h = tt
+  holds-same k k′ base (F ∷ S) l e (x, y, z) =
+      let q = e (length S) l in
+      (ap frameOf q ∙ x, subst (λ (f : Frame). Fine b f) (sym q) y, holds-same k k′ base S (omega arith) e z)
 
   -- a frame on top
   pub holds-more : (k : Stack) (base : ℕ) (f : Frame) (S : List frames.Frame) → Sized b k → base + length S < 297 → Fine b f → Holds b k base S

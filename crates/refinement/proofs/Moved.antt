@@ -30,11 +30,12 @@ use Rattle.settle.specs.Settle.{forksOf, fullOf, moverOf, bornOf, entryBy}
 use Rattle.engine.specs.Machine as engine
 use Rattle.engine.specs.Machine.{noHead, headAt, cellNumber, actedBy, Finished, youngOf, after}
 use Rattle.refinement.proofs.Meant.{Loaded, Sized, Lands}
+use Rattle.refinement.proofs.FrameLaws.{holds-same}
 use Rattle.refinement.proofs.Landing.{landed}
 use Rattle.refinement.proofs.States.{Kept, Headed, Related}
 use Rattle.refinement.proofs.Moves.{withYoung, moverIn, Mover, Born, Does}
 use Rattle.refinement.proofs.Moving.{few-threads}
-use Rattle.refinement.proofs.Depths.{found-full, found-at, holds-same}
+use Rattle.refinement.proofs.Depths.{found-full, found-at}
 use Rattle.refinement.proofs.RoomAfter.{youngDeep, room-after}
 
 -- the landing of the mover, and of the thread that it makes

@@ -30,6 +30,7 @@ use Rattle.refinement.proofs.Meant.{Goes}
 use Rattle.refinement.proofs.States.{Kept, Headed, Related}
 use Rattle.refinement.proofs.Looks.{Entered}
 
+-- what there is no room for
 abbrev pub roomMeant : Room → Option rooms.Room
 roomMeant room.Enough = none
 roomMeant room.NoThread = some rooms.Room.thread
@@ -37,6 +38,7 @@ roomMeant room.NoObject = some rooms.Room.object
 roomMeant room.NoKey = some rooms.Room.key
 roomMeant room.NoDepth = some rooms.Room.depth
 
+-- the threads, with a new one
 abbrev pub withYoung : List machine.Thread → Option machine.Thread → List machine.Thread
 withYoung xs none = xs
 withYoung xs (some y) = xs ++ (y ∷ [])

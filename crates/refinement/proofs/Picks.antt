@@ -25,7 +25,7 @@ use Rattle.settle.specs.declared.Answer.{Answer}
 use Rattle.settle.specs.declared.Answer.the-variants as answer
 use Rattle.settle.specs.Settle.{passesOf, forksOf, fullOf, depthBy, roomBy, answerOf}
 use Rattle.engine.specs.Machine as engine
-use Rattle.engine.specs.Machine.{headAt, cellNumber, lookAt, actedBy, Finished, finishOf, finishedBy, after}
+use Rattle.engine.specs.Machine.{headAt, cellNumber, metBy, actedBy, Finished, finishOf, finishedBy, after}
 use Rattle.refinement.proofs.Meant.{Loaded}
 use Rattle.refinement.proofs.States.{Related}
 use Rattle.refinement.proofs.Looks.{Written, Entered, MeetsBy}
@@ -33,6 +33,8 @@ use Rattle.refinement.proofs.Moves.{roomMeant, Mover, Does, DoesBy, Act
 use Rattle.refinement.proofs.Acts.{looks}
 use Rattle.refinement.proofs.RoomAfter.{step-moves}
 use Rattle.refinement.proofs.Moved.{landMover, landYoung, turnedBy, deep-after, related-after}
+
+-- ---- the answer
 
 -- what the code settled for a pick of thread p is what the abstract machine answers
 abbrev pub AnsweredBy : List ℕ → engine.Machine → machine.State → ℕ → Answer → Finished → Type 0
@@ -118,12 +120,9 @@ module _ {b ws rs : List ℕ} (loaded : Loaded b ws rs) {m : engine.Machine} {s 
 
 module _ (b ws rs : List ℕ) (ok : refusal b ≡ none) (loaded : Loaded b ws rs) (m : engine.Machine) (s : machine.State) (rel : Related b m s)
     (reach : Reached (tableOf b) (programOf b) s) (p : ℕ) (small : p < 8) where
-  abbrev seen : Sight
-  seen = lookAt (volatiles b) (m .tally .counts) (m .heads) (m .cells) (m .objects) p
-
   -- a pick that the code passes over is passed over
-  pub passes : passesOf (lookAt (volatiles b) (m .tally .counts) (m .heads) (m .cells) (m .objects) p) ≡ true → playing.step (tableOf b) s p ≡ playing.Answer.passed
-  passes e = passed-by b s p seen (headAt (m .heads) p .ready) (Ahead b m s p) (looks b ok m s rel reach p small) e
+  pub passes : passesOf (metBy (volatiles b) m p) ≡ true → playing.step (tableOf b) s p ≡ playing.Answer.passed
+  passes e = passed-by b s p (metBy (volatiles b) m p) (headAt (m .heads) p .ready) (Ahead b m s p) (looks b ok m s rel reach p small) e
 
   answered-by : (w : Sight) → MeetsBy w p (headAt (m .heads) p .ready) (machine.attempt (tableOf b) s p) (Ahead b m s p) → passesOf w ≡ false
       → AnsweredBy b m s p (settled ws rs (volatiles b) w m p .turn .answer) (settled ws rs (volatiles b) w m p)
@@ -139,7 +138,7 @@ module _ (b ws rs : List ℕ) (ok : refusal b ≡ none) (loaded : Loaded b ws rs
   answered-by sight.Lacking h e = (h .0, ap (playing.answer s p) (h .1), h .4)
 
   -- THE CODE'S ANSWER TO A PICK THAT IT DOES NOT PASS OVER IS THE ABSTRACT MACHINE'S
-  pub picks : passesOf (lookAt (volatiles b) (m .tally .counts) (m .heads) (m .cells) (m .objects) p) ≡ false
+  pub picks : passesOf (metBy (volatiles b) m p) ≡ false
       → AnsweredBy b m s p (finishedBy ws rs (volatiles b) m p .turn .answer) (finishedBy ws rs (volatiles b) m p)
   unfolding finishOf
-  picks e = answered-by seen (looks b ok m s rel reach p small) e
+  picks e = answered-by (metBy (volatiles b) m p) (looks b ok m s rel reach p small) e

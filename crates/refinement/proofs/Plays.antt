@@ -37,7 +37,7 @@ use Rattle.engine.specs.declared.Stop as code
 use Rattle.engine.specs.declared.Seen.{Seen}
 use Rattle.engine.specs.declared.Ran.{Ran}
 use Rattle.engine.specs.Machine as engine
-use Rattle.engine.specs.Machine.{headAt, lookAt, actedBy, finishedBy, seenAt, seenOf, stopped, logged, after, onAnswer, playOf, startOf}
+use Rattle.engine.specs.Machine.{headAt, metBy, actedBy, finishedBy, seenAt, seenOf, stopped, logged, after, onAnswer, playOf, startOf}
 use Rattle.refinement.proofs.Meant.{Loaded}
 use Rattle.refinement.proofs.States.{Related}
 use Rattle.refinement.proofs.Looks.{MeetsBy}
@@ -89,7 +89,7 @@ statuses b ok m s rel reach =
   where
     at : (p : ℕ) → p < 8 → statusOf (seenAt (volatiles b) (m .tally .counts) (m .heads) (m .cells) (m .objects) p) ≡ playing.status (machine.attempt (tableOf b) s p)
     at p h =
-        meets-status (lookAt (volatiles b) (m .tally .counts) (m .heads) (m .cells) (m .objects) p) p (headAt (m .heads) p .ready) (machine.attempt (tableOf b) s p) (Ahead b m s p)
+        meets-status (metBy (volatiles b) m p) p (headAt (m .heads) p .ready) (machine.attempt (tableOf b) s p) (Ahead b m s p)
         (looks b ok m s rel reach p h)
 
 -- ---- a play against a run
@@ -214,7 +214,7 @@ module _ (b ws rs : List ℕ) (ok : refusal b ≡ none) (loaded : Loaded b ws rs
         })
 
     -- one pick, and the rest
-    pick-plays : (x : Bool) → passesOf (lookAt (volatiles b) (m .tally .counts) (m .heads) (m .cells) (m .objects) p) ≡ x
+    pick-plays : (x : Bool) → passesOf (metBy (volatiles b) m p) ≡ x
         → PlaysAs b i (m .tally .moves) (m .tally .records) (m .log)
         (cond x (playOf ws rs (volatiles b) m ps (i + 1))
         (onAnswer (T .turn .answer) (playOf ws rs (volatiles b) (after m p (actedBy (volatiles b) m p) T) ps (i + 1))
@@ -241,13 +241,13 @@ module _ (b ws rs : List ℕ) (ok : refusal b ≡ none) (loaded : Loaded b ws rs
       along
       (λ (q : ℕ).
       PlaysAs b i (m .tally .moves) (m .tally .records) (m .log)
-      (cond (passesOf (lookAt (volatiles b) (m .tally .counts) (m .heads) (m .cells) (m .objects) q)) (playOf ws rs (volatiles b) m ps (i + 1))
+      (cond (passesOf (metBy (volatiles b) m q)) (playOf ws rs (volatiles b) m ps (i + 1))
       (onAnswer (finishedBy ws rs (volatiles b) m q .turn .answer) (playOf ws rs (volatiles b) (after m q (actedBy (volatiles b) m q) (finishedBy ws rs (volatiles b) m q)) ps (i + 1))
       (λ a. stopped (volatiles b) (logged m q (finishedBy ws rs (volatiles b) m q)) a i)))
       (playing.resume s (λ s. playing.run (tableOf b) s ps) (playing.step (tableOf b) s p)))
       (sym (mod-eq-of-lt {m = 8} (omega arith)))
       (pick-plays m s rel reach p (omega arith) ps i wide (λ m s rel reach wide. plays ps (i + 1) (λ j h. small (suc j) (omega arith)) m s rel reach wide)
-      (passesOf (lookAt (volatiles b) (m .tally .counts) (m .heads) (m .cells) (m .objects) p)) refl)
+      (passesOf (metBy (volatiles b) m p)) refl)
 
   -- ---- from the start
 

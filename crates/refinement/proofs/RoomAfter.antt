@@ -23,6 +23,7 @@ pub step-moves : (b : List ℕ) (s : machine.State) (p : ℕ) (v : machine.Move)
 unfolding playing.step playing.answer playing.noRoomFor
 step-moves b s p v x y e h k = ap (playing.answer s p) e ∙ ap₂ (λ (x y : Option rooms.Room). playing.withinRoom v (orElse x y)) h k
 
+-- whether a new thread has too many frames
 abbrev pub youngDeep : Option machine.Thread → Bool
 youngDeep none = false
 youngDeep (some y) = ltb 32 (height (y .code))

@@ -8,7 +8,6 @@ use mathlib.Core.Option.{some, none, Option·none-ne-some}
 use lib.ListN.{length, getD, set, getElem?, replicate, length-replicate, getD-replicate, List·getD-eq-default}
 use lib.Seq.{set-getD}
 use Rattle.keys.specs.Keys.{singleton}
-use Rattle.keys.specs.KeySet.{zeroSet}
 use Rattle.keys.proofs.KeySetLaws.{fits-zero, fits-empty, keys-zero}
 use Rattle.packed.specs.Format.{procedures, root, volatiles}
 use Rattle.packed.specs.Check.{refusal}
@@ -26,7 +25,7 @@ use Rattle.landing.specs.Landing.{Stack}
 use Rattle.state.specs.declared.Cell.{Cell}
 use Rattle.state.specs.declared.Object.{Object}
 use Rattle.state.specs.Acted.{countsOf}
-use Rattle.engine.specs.Machine.{noCell, noThing, headAt, cellFirst, startOf}
+use Rattle.engine.specs.Machine.{noCell, noThing, headAt, headOf, cellFirst, startOf}
 use Rattle.refinement.proofs.Meant.{Loaded, IsExpression, Stands}
 use Rattle.refinement.proofs.SlotLaws.{none-bound}
 use Rattle.refinement.proofs.States.{CellFits, memoryOf, Kept, Headed, Related}
@@ -93,7 +92,7 @@ module _ (b ws rs : List ℕ) (ok : refusal b ≡ none) (loaded : Loaded b ws rs
   )
 
   start-headed : (k : Stack)
-      → Headed b k (0 * 33) (record { ready = readyOf part.Run (getD rs 0 0) 0 0 0; depth = 0; object = 0; keys = zeroSet })
+      → Headed b k (0 * 33) (headOf (getD rs 0 0))
       (record { self = 0; code = frames.Found.here [] (frames.Ready.call 0 0 noSlots); keys = singleton 0 })
   start-headed k = record { stack = []; held = tt; depth = refl; shallow = omega arith; stands = start-stands; object = refl; keys = keys-zero; keys-fit = fits-zero }
 
