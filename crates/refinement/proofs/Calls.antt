@@ -26,7 +26,7 @@ use Rattle.refinement.proofs.Words.{Rest, rest-at}
 use Rattle.refinement.proofs.Descent.{list-more, list-end}
 use Rattle.refinement.proofs.Fuel.{left}
 use Rattle.refinement.proofs.Feeding.{call-unlogged}
-use Rattle.refinement.proofs.Operands.{Placed, Next, stays, want, child, lower}
+use Rattle.refinement.proofs.Operands.{Placed, Next, stays, want, child, less-one}
 
 -- ---- the root of a procedure
 
@@ -60,7 +60,7 @@ module _ {b ws rs : List ℕ} {k : Stack} {base : ℕ} {S : List frames.Frame} (
         n-fits = omega (arith, s .2);
         sorted = (l, (z .below, z .sorted, omega (arith, s .2)));
       }) w (child r) (e ∙ list-more (ordered b (c .right)) S (f .a) (slots (f .env)) (f .m) (f .n) (slots (f .args)) q)
-      (omega (arith, lower (c .right) (f .a) i n m (r .above) (r .below))) (omega (arith, lower (c .right) (f .a) j n m (z .above) (z .below))))
+      (less-one (c .right) m r) (less-one (c .right) m z))
   list-by f w l s e m (Rest.end p q) =
       rw p
       (stays c (goAt (readyOf part.Run (rootAt rs (f .m)) 0 0 (f .args))) (

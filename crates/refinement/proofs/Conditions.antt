@@ -1,10 +1,10 @@
 -- A step from a condition: it is true, or its first operand is wanted for a frame. Assumes nothing.
-use Prim.Native.Nat.{ℕ, suc, _+_, _≤_, _<_}
+use Prim.Native.Nat.{ℕ, suc, _≤_}
 use native.Mathlib.Omega.{arith}
 use mathlib.Core.Path.{_≡_, _∙_}
-use mathlib.Core.Bool.{Bool, true, false}
+use mathlib.Core.Bool.{Bool, true, false, false≢true}
 use mathlib.Core.List.{List, _∷_}
-use mathlib.Core.Option.{Option, some, none}
+use mathlib.Core.Option.{some, Option·none-ne-some, Option·some-injective}
 use lib.ListN.{length}
 use Rattle.packed.specs.Format.{terms}
 use Rattle.packed.specs.Trees.{Node, nodeAt}
@@ -23,15 +23,12 @@ use Rattle.refinement.proofs.Meant.{slots, closed, IsCondition}
 use Rattle.refinement.proofs.Words.{Condition, condition-at}
 use Rattle.refinement.proofs.Descent.{enter-truth, enter-not-true, enter-not, enter-and, enter-equal}
 use Rattle.refinement.proofs.Fuel.{left}
-use Rattle.refinement.proofs.Operands.{Placed, Next, stays, want, wantᶜ, child, childᶜ, lower, plain-fine}
+use Rattle.refinement.proofs.Operands.{Placed, Next, stays, want, wantᶜ, child, childᶜ, less, less-one, plain-fine}
 
 false-never : (t : Bool) → falseWhen t ≡ some true → ⊥
 unfolding falseWhen
-false-never true e = let z : _≡_ {A = ℕ} 0 1 = cc in omega arith
-false-never false e = let z : _≡_ {A = ℕ} 0 1 = cc in omega arith
-
-none-never : _≡_ {A = Option Bool} none (some true) → ⊥
-none-never e = let z : _≡_ {A = ℕ} 0 1 = cc in omega arith
+false-never true e = false≢true (Option·some-injective false true e)
+false-never false e = Option·none-ne-some true e
 
 module _ {b ws rs : List ℕ} {k : Stack} {base : ℕ} {S : List frames.Frame} (c : Placed b ws rs k base S) {n : ℕ} {X : frames.Found}
     (t e : ℕ) (w : Wellᶜ S) (s : IsCondition b t) (x : X ≡ enterᶜ (nodeAt b) (terms b) S (closed t e)) (l : left t ≤ suc n) where
@@ -48,15 +45,8 @@ module _ {b ws rs : List ℕ} {k : Stack} {base : ℕ} {S : List frames.Frame} (
   not-in i q (Condition.truth r o) = x ∙ enter-not-true (ordered b (c .right)) S t (slots e) q o
   not-in i q (Condition.not r o _) =
       x ∙ enter-not (ordered b (c .right)) S t (slots e) q (rw o) (λ z. false-never (isTrue (nodeAt b (firstOf (wordAt ws i)))) (rw o at z))
-  not-in i q (Condition.and r o _ _) = x ∙ enter-not (ordered b (c .right)) S t (slots e) q (rw o) (λ z. none-never (rw o at z))
-  not-in i q (Condition.equal r o _ _) = x ∙ enter-not (ordered b (c .right)) S t (slots e) q (rw o) (λ z. none-never (rw o at z))
-
-  -- a child takes a step less
-  less : (i : ℕ) → t < i → i < terms b → left i + 1 ≤ n
-  less i p q = lower (c .right) t i n l p q
-
-  less-one : (i : ℕ) → t < i → i < terms b → left i ≤ n
-  less-one i p q = omega (arith, less i p q)
+  not-in i q (Condition.and r o _ _) = x ∙ enter-not (ordered b (c .right)) S t (slots e) q (rw o) (λ z. Option·none-ne-some true (rw o at z))
+  not-in i q (Condition.equal r o _ _) = x ∙ enter-not (ordered b (c .right)) S t (slots e) q (rw o) (λ z. Option·none-ne-some true (rw o at z))
 
   run-by : Condition b t word → Next b ws k base n X (wantedOf ws (listedOf ws rs (runConditionOf (wordAt ws t) e)) (length S))
   unfolding runConditionOf runConditionBy
@@ -65,15 +55,15 @@ module _ {b ws rs : List ℕ} {k : Stack} {base : ℕ} {S : List frames.Frame} (
   run-by (Condition.not p q i) =
       rw p
       (wantᶜ c (framed kind.Not 0 0 0 e) (firstOf word) (plain-fine kind.Not 0 0 0 e (omega arith) (omega arith) (omega arith) tt) w (childᶜ i)
-      (not-in (firstOf word) q (condition-at b ws rs (c .right) (c .loaded) (firstOf word) (i .below) (i .sorted))) (less-one _ (i .above) (i .below)))
+      (not-in (firstOf word) q (condition-at b ws rs (c .right) (c .loaded) (firstOf word) (i .below) (i .sorted))) (less-one (c .right) l i))
   run-by (Condition.and p q i j) =
       rw p
       (wantᶜ c (framed kind.And (secondOf word) 0 0 e) (firstOf word) (plain-fine kind.And (secondOf word) 0 0 e (omega arith) (omega arith) (omega arith) (childᶜ j)) w (childᶜ i)
-      (x ∙ enter-and (ordered b (c .right)) S t (slots e) q) (less-one _ (i .above) (i .below)))
+      (x ∙ enter-and (ordered b (c .right)) S t (slots e) q) (less-one (c .right) l i))
   run-by (Condition.equal p q i j) =
       rw p
       (want c (framed kind.Equal1 (secondOf word) 0 0 e) (firstOf word) (plain-fine kind.Equal1 (secondOf word) 0 0 e (omega arith) (omega arith) (omega arith) (child j)) w (child i)
-      (x ∙ enter-equal (ordered b (c .right)) S t (slots e) q) (less-one _ (i .above) (i .below)) (less _ (j .above) (j .below)))
+      (x ∙ enter-equal (ordered b (c .right)) S t (slots e) q) (less-one (c .right) l i) (less (c .right) l j))
 
   pub run-condition-step : Next b ws k base n X (wantedOf ws (listedOf ws rs (runConditionOf (wordAt ws t) e)) (length S))
   run-condition-step = run-by (condition-at b ws rs (c .right) (c .loaded) t (s .0) (s .1))

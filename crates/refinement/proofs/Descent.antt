@@ -21,7 +21,7 @@ module _ {h : ℕ → Node} {N : ℕ} (o : Ordered h N) where
   unfolding enter
   enter-value S x v e = rw e
 
-  pub enter-other : (S : List Frame) (x : Closure) → valueIn h x ≡ none → enter h N S x ≡ down h N S x
+  enter-other : (S : List Frame) (x : Closure) → valueIn h x ≡ none → enter h N S x ≡ down h N S x
   unfolding enter
   enter-other S x e = rw e
 
@@ -29,7 +29,7 @@ module _ {h : ℕ → Node} {N : ℕ} (o : Ordered h N) where
   unfolding enterᶜ
   enter-truth S x v e = rw e
 
-  pub enter-otherᶜ : (S : List Frame) (x : Closure) → boolIn h x ≡ none → enterᶜ h N S x ≡ downᶜ h N S x
+  enter-otherᶜ : (S : List Frame) (x : Closure) → boolIn h x ≡ none → enterᶜ h N S x ≡ downᶜ h N S x
   unfolding enterᶜ
   enter-otherᶜ S x e = rw e
 

@@ -1,5 +1,5 @@
 -- A step from an expression: it is a value, or ready, or its first operand is wanted for a frame. Assumes nothing.
-use Prim.Native.Nat.{ℕ, suc, _+_, _≤_, _<_}
+use Prim.Native.Nat.{ℕ, suc, _≤_, _<_}
 use native.Mathlib.Omega.{arith}
 use mathlib.Core.Path.{_≡_, refl, sym, ap, _∙_}
 use mathlib.Core.List.{List}
@@ -25,7 +25,7 @@ use Rattle.refinement.proofs.Words.{Expression, expression-at}
 use Rattle.refinement.proofs.Values.{Valued, valued}
 use Rattle.refinement.proofs.Descent.{enter-value, enter-new, enter-while, enter-fork, enter-call, enter-read, enter-write, enter-let, enter-if, enter-join, enter-synch}
 use Rattle.refinement.proofs.Fuel.{left}
-use Rattle.refinement.proofs.Operands.{Placed, Next, stays, want, wantᶜ, child, childᶜ, lower, plain-fine}
+use Rattle.refinement.proofs.Operands.{Placed, Next, stays, want, wantᶜ, child, childᶜ, less, less-one, plain-fine}
 use Rattle.refinement.proofs.Calls.{list-step}
 
 null-value : (ws : List ℕ) (t e : ℕ) → tagOf (wordAt ws t) ≡ 0 → valueOf ws e t ≡ 0
@@ -52,13 +52,6 @@ module _ {b ws rs : List ℕ} {k : Stack} {base : ℕ} {S : List frames.Frame} (
   one : 1 ≤ n
   one = omega arith
 
-  -- a child takes a step less
-  less : (i : ℕ) → t < i → i < terms b → left i + 1 ≤ n
-  less i p q = lower (c .right) t i n l p q
-
-  less-one : (i : ℕ) → t < i → i < terms b → left i ≤ n
-  less-one i p q = omega (arith, less i p q)
-
   run-by : (valueOf ws e t < 32 → 2055 ≤ suc n) → Valued b ws t e → Expression b t word → Next b ws k base n X (wantedOf ws (listedOf ws rs (runOf (wordAt ws t) e)) (length S))
   unfolding runOf runBy simpleOf simpleBy
   run-by m v (Expression.null p q) =
@@ -72,38 +65,38 @@ module _ {b ws rs : List ℕ} {k : Stack} {base : ℕ} {S : List frames.Frame} (
   run-by m v (Expression.read p q i r) =
       rw p
       (want c (framed kind.Read 0 0 (fieldBits word) e) (firstOf word) (plain-fine kind.Read 0 0 (fieldBits word) e (omega arith) (omega arith) (omega arith) r)
-      w (child i) (x ∙ enter-read (ordered b (c .right)) S t (slots e) q) (less-one _ (i .above) (i .below)) one)
+      w (child i) (x ∙ enter-read (ordered b (c .right)) S t (slots e) q) (less-one (c .right) l i) one)
   run-by m v (Expression.write p q i r j) =
       rw p
       (want c (framed kind.Write1 (writeSecond word) 0 (fieldBits word) e) (firstOf word)
       (plain-fine kind.Write1 (writeSecond word) 0 (fieldBits word) e (omega arith) (omega arith) (omega arith) (r, child j))
-      w (child i) (x ∙ enter-write (ordered b (c .right)) S t (slots e) q) (less-one _ (i .above) (i .below)) (less _ (j .above) (j .below)))
+      w (child i) (x ∙ enter-write (ordered b (c .right)) S t (slots e) q) (less-one (c .right) l i) (less (c .right) l j))
   run-by m v (Expression.letIn p q r i j) =
       rw p
       (want c (letFrame (slotBits word) (letSecond word) e) (letFirst word)
       (record { a-fits = omega arith; b-fits = omega arith; m-fits = omega arith; n-fits = omega arith; sorted = (r, child j) })
-      w (child i) (x ∙ enter-let (ordered b (c .right)) S t (slots e) q) (less-one _ (i .above) (i .below)) one)
+      w (child i) (x ∙ enter-let (ordered b (c .right)) S t (slots e) q) (less-one (c .right) l i) one)
   run-by m v (Expression.if p q i j o) =
       rw p
       (wantᶜ c (framed kind.If (secondOf word) (thirdOf word) 0 e) (firstOf word)
       (plain-fine kind.If (secondOf word) (thirdOf word) 0 e (omega arith) (omega arith) (omega arith) (child j, child o))
-      w (childᶜ i) (x ∙ enter-if (ordered b (c .right)) S t (slots e) q) (less-one _ (i .above) (i .below)))
+      w (childᶜ i) (x ∙ enter-if (ordered b (c .right)) S t (slots e) q) (less-one (c .right) l i))
   run-by m v (Expression.while p q i j) =
       rw p (stays c (goAt (readyOf part.While (firstOf word) (secondOf word) 0 e)) (part.While, refl, (w, childᶜ i, child j, x ∙ enter-while (ordered b (c .right)) S t (slots e) q)) one)
   run-by m v (Expression.call p q r i o) =
       rw p
       (list-step c (framed kind.Call (listBits word) 0 (procedureBits word) e) w r (i .below, i .sorted, omega arith)
       (x ∙ enter-call (ordered b (c .right)) S t (slots e) q
-      ∙ ap (λ (σ : Slots). downᵃ (nodeAt b) (terms b) S (procedureBits word) 0 σ (closed (listBits word) e)) (sym none-bound)) (omega (arith, less (listBits word) (i .above) (i .below))))
+      ∙ ap (λ (σ : Slots). downᵃ (nodeAt b) (terms b) S (procedureBits word) 0 σ (closed (listBits word) e)) (sym none-bound)) (omega (arith, less (c .right) l i)))
   run-by m v (Expression.fork p q i) = rw p (stays c (goAt (readyOf part.Fork (firstOf word) 0 0 e)) (part.Fork, refl, (w, child i, x ∙ enter-fork (ordered b (c .right)) S t (slots e) q)) one)
   run-by m v (Expression.join p q i) =
       rw p
       (want c (framed kind.Join 0 0 0 e) (firstOf word) (plain-fine kind.Join 0 0 0 e (omega arith) (omega arith) (omega arith) tt)
-      w (child i) (x ∙ enter-join (ordered b (c .right)) S t (slots e) q) (less-one _ (i .above) (i .below)) one)
+      w (child i) (x ∙ enter-join (ordered b (c .right)) S t (slots e) q) (less-one (c .right) l i) one)
   run-by m v (Expression.synch p q i j) =
       rw p
       (want c (framed kind.Synch (secondOf word) 0 0 e) (firstOf word) (plain-fine kind.Synch (secondOf word) 0 0 e (omega arith) (omega arith) (omega arith) (child j))
-      w (child i) (x ∙ enter-synch (ordered b (c .right)) S t (slots e) q) (less-one _ (i .above) (i .below)) one)
+      w (child i) (x ∙ enter-synch (ordered b (c .right)) S t (slots e) q) (less-one (c .right) l i) one)
 
   pub run-step : (valueOf ws e t < 32 → 2055 ≤ suc n) → Next b ws k base n X (wantedOf ws (listedOf ws rs (runOf (wordAt ws t) e)) (length S))
   run-step m = run-by m (valued b ws rs (c .right) (c .loaded) t e s) (expression-at b ws rs (c .right) (c .loaded) t (s .0) (s .1))

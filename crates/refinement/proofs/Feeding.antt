@@ -30,7 +30,7 @@ use Rattle.refinement.proofs.SlotLaws.{bound, let-bound}
 module _ (b : List ℕ) where
   -- ---- moves that leave no record
 
-  pub let-unlogged : (x : Option ℕ) (v : ℕ) (y : Closure) (z : Closure) → closure (y .at) (putBound (y .slots) x v) ≡ z
+  let-unlogged : (x : Option ℕ) (v : ℕ) (y : Closure) (z : Closure) → closure (y .at) (putBound (y .slots) x v) ≡ z
       → Unlogged b (frames.Ready.letIn x v y) (frames.Result.run z)
   unfolding playing.noRoomBefore machine.act
   let-unlogged x v y z e = record {

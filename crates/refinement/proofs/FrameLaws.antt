@@ -1,7 +1,7 @@
 -- Frames in the stack: what is stored in a place is read back, and the other places stay as they were. Assumes nothing.
 use Prim.Native.Nat.{ℕ, _+_, _*_, _/_, _%_, _≤_, _<_}
 use native.Mathlib.Omega.{arith}
-use mathlib.Core.Path.{_≡_, refl, sym, _∙_, subst}
+use mathlib.Core.Path.{_≡_, refl, sym, ap, _∙_, subst}
 use mathlib.Core.Bool.{Bool, true, false, cond}
 use mathlib.Core.List.{List, [], _∷_}
 use lib.Dec.{ltb}
@@ -78,7 +78,7 @@ top-n : (n m b a c : ℕ) → c < 16 → n < 16 → top-of n m b a c / 536870912
 unfolding top-of
 top-n n m b a c h l = omega arith
 
-pub unpacked : (f : Frame) → f .a < 1024 → f .b < 1024 → f .m < 32 → f .n < 16 → unpackOf (packOf f .top) (packOf f .env) (packOf f .args) ≡ f
+unpacked : (f : Frame) → f .a < 1024 → f .b < 1024 → f .m < 32 → f .n < 16 → unpackOf (packOf f .top) (packOf f .env) (packOf f .args) ≡ f
 unfolding unpackOf packOf top-of
 unpacked f ha hb hm hn =
     let c = codeOf (f .kind) in
@@ -94,13 +94,13 @@ unpacked f ha hb hm hn =
 
 -- ---- a store
 
-pub read-other : (k : Stack) (i : ℕ) (f : Frame) (j : ℕ) → (j ≡ i → ⊥) → frameAt (storeAt k i f) j ≡ frameAt k j
+read-other : (k : Stack) (i : ℕ) (f : Frame) (j : ℕ) → (j ≡ i → ⊥) → frameAt (storeAt k i f) j ≡ frameAt k j
 unfolding unpackOf
 read-other k i f j h =
     rw (getD-set-other (k .tops) i j (packOf f .top) 0 h, getD-set-other (k .envs) i j (packOf f .env) 0 h, getD-set-other (k .args) i j (packOf f .args) 0 h)
 
 module _ (b : List ℕ) where
-  pub read-back : (k : Stack) (i : ℕ) (f : Frame) → Sized b k → i < 297 → Fine b f → frameAt (storeAt k i f) i ≡ f
+  read-back : (k : Stack) (i : ℕ) (f : Frame) → Sized b k → i < 297 → Fine b f → frameAt (storeAt k i f) i ≡ f
   read-back k i f s h n =
       let p : i < length (k .tops) = omega (arith, s .tops-size) in
       let q : i < length (k .envs) = omega (arith, s .envs-size) in
@@ -108,7 +108,7 @@ module _ (b : List ℕ) where
       rw (getD-set-same (k .tops) i (packOf f .top) 0 p, getD-set-same (k .envs) i (packOf f .env) 0 q, getD-set-same (k .args) i (packOf f .args) 0 r)
       (unpacked f (n .a-fits) (n .b-fits) (n .m-fits) (n .n-fits))
 
-  pub still-sized : (k : Stack) (i : ℕ) (f : Frame) → Sized b k → Sized b (storeAt k i f)
+  still-sized : (k : Stack) (i : ℕ) (f : Frame) → Sized b k → Sized b (storeAt k i f)
   still-sized k i f s = record {
     tops-size = length-set (k .tops) i (packOf f .top) ∙ s .tops-size;
     envs-size = length-set (k .envs) i (packOf f .env) ∙ s .envs-size;
@@ -116,12 +116,20 @@ module _ (b : List ℕ) where
   }
 
   -- a store past the frames leaves them
-  pub still-holds : (k : Stack) (base i : ℕ) (f : Frame) (S : List frames.Frame) → base + length S ≤ i → Holds b k base S → Holds b (storeAt k i f) base S
+  still-holds : (k : Stack) (base i : ℕ) (f : Frame) (S : List frames.Frame) → base + length S ≤ i → Holds b k base S → Holds b (storeAt k i f) base S
   still-holds k base i f [] h p = tt
   still-holds k base i f (F ∷ S) h p =
       let l : base + length S ≡ i → ⊥ = λ e. omega arith in
       let e = read-other k i f (base + length S) l in
       (subst (λ (g : Frame). frameOf g ≡ F) (sym e) (p .0), subst (Fine b) (sym e) (p .1), still-holds k base i f S (omega arith) (p .2))
+
+  -- frames that lie elsewhere stay
+  pub holds-same : (k k′ : Stack) (base : ℕ) (S : List frames.Frame) → length S ≤ 33 → ((j : ℕ) → j < 33 → frameAt k′ (base + j) ≡ frameAt k (base + j)) → Holds b k base S
+      → Holds b k′ base S
+  holds-same k k′ base [] l e h = tt
+  holds-same k k′ base (F ∷ S) l e (x, y, z) =
+      let q = e (length S) l in
+      (ap frameOf q ∙ x, subst (λ (f : Frame). Fine b f) (sym q) y, holds-same k k′ base S (omega arith) e z)
 
   -- a frame on top
   pub holds-more : (k : Stack) (base : ℕ) (f : Frame) (S : List frames.Frame) → Sized b k → base + length S < 297 → Fine b f → Holds b k base S

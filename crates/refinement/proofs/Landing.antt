@@ -3,7 +3,7 @@
 use Prim.Native.Nat.{ℕ, zero, suc, _+_, _-_, _≤_, _<_}
 use native.Mathlib.Omega.{arith}
 use mathlib.Core.Path.{_≡_, refl, sym, ap, _∙_, subst}
-use mathlib.Core.Bool.{Bool, true, false}
+use mathlib.Core.Bool.{Bool, true, false, true≢false}
 use mathlib.Core.List.{List}
 use mathlib.Core.Option.{none}
 use mathlib.Core.Logic.{_⊎_, inl, inr}
@@ -52,13 +52,13 @@ ended-by : (b : List ℕ) (k : Stack) (base : ℕ) (X : frames.Found) (S : List 
     → FoundBy b s (ended k g (length S)) base X
 ended-by b k base X S g stage.Full held few live p = p
 ended-by b k base X S g stage.At held few live p = (S, held, refl, few, p)
-ended-by b k base X S g stage.Run held few live p = let z : _≡_ {A = ℕ} 0 1 = cc in omega arith
-ended-by b k base X S g stage.RunCondition held few live p = let z : _≡_ {A = ℕ} 0 1 = cc in omega arith
-ended-by b k base X S g stage.Want held few live p = let z : _≡_ {A = ℕ} 0 1 = cc in omega arith
-ended-by b k base X S g stage.WantCondition held few live p = let z : _≡_ {A = ℕ} 0 1 = cc in omega arith
-ended-by b k base X S g stage.List held few live p = let z : _≡_ {A = ℕ} 0 1 = cc in omega arith
-ended-by b k base X S g stage.Value held few live p = let z : _≡_ {A = ℕ} 0 1 = cc in omega arith
-ended-by b k base X S g stage.Truth held few live p = let z : _≡_ {A = ℕ} 0 1 = cc in omega arith
+ended-by b k base X S g stage.Run held few live p = true≢false live
+ended-by b k base X S g stage.RunCondition held few live p = true≢false live
+ended-by b k base X S g stage.Want held few live p = true≢false live
+ended-by b k base X S g stage.WantCondition held few live p = true≢false live
+ended-by b k base X S g stage.List held few live p = true≢false live
+ended-by b k base X S g stage.Value held few live p = true≢false live
+ended-by b k base X S g stage.Truth held few live p = true≢false live
 
 -- ---- and on
 

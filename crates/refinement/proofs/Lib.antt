@@ -13,8 +13,23 @@ pub mod Conditions
 pub mod Steps
 pub mod Landing
 pub mod States
+mod Tests
+mod MemoryOf
+mod ThreadNumbers
+mod KeptLaws
 pub mod Looks
+mod Moves
+mod ChangeLaws
+mod Ended
+mod Moving
+mod FieldActs
+mod MonitorActs
+mod ObjectActs
+mod PlainActs
 pub mod Acts
+mod Depths
+mod RoomAfter
+mod Moved
 pub mod Picks
 pub mod Logs
 pub mod Starts

@@ -10,12 +10,13 @@ use lib.Dec.{eqb}
 use lib.ListN.{length, set, take, drop, length-append, length-set, take-append-drop}
 use lib.Seq.{length-take-le, take-at, drop-append-add, drop-drop, sets-eq}
 use borrow.Author.Tests.{eq-eqb, ne-eqb}
-use Rattle.records.specs.Record.{Kind, new, read, write, readv, writev, acquire, release, fork, join, lacksRead, lacksWrite, kindNumber, Record}
+use Rattle.records.specs.Record.{kindNumber, Record}
 use Rattle.records.specs.Packed.{packed, threeBytes, bytesOf}
+use Rattle.records.proofs.Tidy.{kind-number}
 use Rattle.rules.specs.Run.{logged}
 use Rattle.state.specs.declared.Entry.{Entry}
 use Rattle.tally.specs.Tally.{wordOf, logPut, recordsAfter}
-use Rattle.refinement.proofs.States.{test-true, test-false}
+use Rattle.refinement.proofs.Tests.{test-true, test-false}
 use Rattle.refinement.proofs.Looks.{Written, Entered}
 
 -- ---- bytes put over a list, from place i on
@@ -47,24 +48,11 @@ overlay-more l i t bs h =
 
 -- ---- a record
 
-kind-small : (k : Kind) → (0 < kindNumber k) × (kindNumber k < 16)
-kind-small new = omega arith
-kind-small read = omega arith
-kind-small write = omega arith
-kind-small readv = omega arith
-kind-small writev = omega arith
-kind-small acquire = omega arith
-kind-small release = omega arith
-kind-small fork = omega arith
-kind-small join = omega arith
-kind-small lacksRead = omega arith
-kind-small lacksWrite = omega arith
-
 word-packed : (p : ℕ) (e : Entry) (r : Record) → Written p e r → (wordOf p e ≡ packed r) × (wordOf p e < 16777216)
 unfolding packed
 word-packed p e r w =
-    let k = kind-small (r .kind) in
-    let kind : e .kind % 16 ≡ kindNumber (r .kind) = ap (λ (x : ℕ). x % 16) (w .kind) ∙ mod-eq-of-lt (k .1) in
+    let k = kind-number (r .kind) in
+    let kind : e .kind % 16 ≡ kindNumber (r .kind) = ap (λ (x : ℕ). x % 16) (w .kind) ∙ mod-eq-of-lt (omega (arith, k .1)) in
     let thread : p % 8 ≡ r .thread = mod-eq-of-lt (w .thread-fits) ∙ w .thread in
     let object : e .object % 32 ≡ r .object = mod-eq-of-lt (w .object-fits) ∙ w .object in
     let field : e .field % 32 ≡ r .field = mod-eq-of-lt (w .field-fits) ∙ w .field in
@@ -83,11 +71,11 @@ first-byte : (w v : ℕ) → w ≡ v → w < 16777216 → w / 65536 % 256 ≡ v 
 first-byte w v e h = omega arith
 
 -- an entry that is a record is put as its three bytes
-pub put-record : (l : List ℕ) (n p : ℕ) (e : Entry) (r : Record) → Written p e r → 3 * n + 3 ≤ length l → logPut l n p e ≡ overlay l (3 * n) (threeBytes (packed r))
+put-record : (l : List ℕ) (n p : ℕ) (e : Entry) (r : Record) → Written p e r → 3 * n + 3 ≤ length l → logPut l n p e ≡ overlay l (3 * n) (threeBytes (packed r))
 unfolding logPut overlay threeBytes
 put-record l n p e r w h =
     let q = word-packed p e r w in
-    test-false (eqb (e .kind) 0) l _ (ne-eqb (e .kind) 0 (λ z. let k = kind-small (r .kind) in let q = w .kind in omega arith))
+    test-false (eqb (e .kind) 0) l _ (ne-eqb (e .kind) 0 (λ z. let k = kind-number (r .kind) in let q = w .kind in omega arith))
     ∙ put-three l (n * 3) (n * 3 + 1) (n * 3 + 2) (3 * n) _ _ _ (omega arith) (omega arith) (omega arith) h
     ∙ ap₂ (λ (x v : ℕ). take (3 * n) l ++ (x ∷ v / 256 % 256 ∷ v % 256 ∷ []) ++ drop (3 * n + 3) l) (first-byte (wordOf p e) (packed r) (q .0) (q .1)) (q .0)
 
@@ -97,7 +85,7 @@ put-none l n p e h = (test-true (eqb (e .kind) 0) _ _ (eq-eqb (e .kind) 0 h), te
 
 pub record-counts : (n p : ℕ) (e : Entry) (r : Record) → Written p e r → recordsAfter n e ≡ n + 1
 unfolding recordsAfter
-record-counts n p e r w = test-false (eqb (e .kind) 0) _ _ (ne-eqb (e .kind) 0 (λ z. let k = kind-small (r .kind) in let q = w .kind in omega arith))
+record-counts n p e r w = test-false (eqb (e .kind) 0) _ _ (ne-eqb (e .kind) 0 (λ z. let k = kind-number (r .kind) in let q = w .kind in omega arith))
 
 -- an entry and the records after it
 pub put-logged : (l : List ℕ) (n p : ℕ) (e : Entry) (r : Option Record) (L : List Record) → Entered p e r → 3 * n + 3 ≤ length l

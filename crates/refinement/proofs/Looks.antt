@@ -41,7 +41,8 @@ use Rattle.look.specs.Look.{hasOf, objectOf}
 use Rattle.look.specs.Look as look
 use Rattle.settle.specs.Settle.{lackEntry}
 use Rattle.engine.specs.Machine.{noCell, noThing}
-use Rattle.refinement.proofs.States.{cellMeant, CellFits, memoryOf, memory-cell, memory-mask, Kept}
+use Rattle.refinement.proofs.States.{cellMeant, CellFits, memoryOf, Kept}
+use Rattle.refinement.proofs.MemoryOf.{memory-cell, memory-mask}
 
 -- ---- records
 
@@ -79,7 +80,7 @@ MeetsBy sight.Lacking p r A Z = (x : Record) × (A ≡ machine.Attempt.lacking x
 -- ---- what is read
 
 -- the bit of a field
-pub has-bit : (mask f : ℕ) → f < 32 → hasOf mask f ≡ eqb (maskBit mask f) 1
+has-bit : (mask f : ℕ) → f < 32 → hasOf mask f ≡ eqb (maskBit mask f) 1
 unfolding hasOf maskBit
 has-bit mask f h = ap (λ (x : ℕ). eqb (mask / 2 ^ (31 - x) % 2) 1) (mod-eq-of-lt h)
 

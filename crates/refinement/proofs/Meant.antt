@@ -1,10 +1,10 @@
 -- What the code's slots, frames, stacks and parts stand for in the abstract machine, for a plan b whose terms and roots are loaded as numbers.
 -- Assumes nothing.
-use Prim.Native.Nat.{ℕ, suc, _+_, _*_, _^_, _≤_, _<_}
+use Prim.Native.Nat.{ℕ, suc, _+_, _^_, _≤_, _<_}
 use mathlib.Core.Path.{_≡_}
 use mathlib.Core.Bool.{true, false}
 use mathlib.Core.List.{List, [], _∷_}
-use mathlib.Core.Option.{Option, none}
+use mathlib.Core.Option.{none}
 use mathlib.Core.Logic.{_⊎_}
 use lib.Dec.{eqb}
 use lib.ListN.{length, getD}
@@ -124,10 +124,10 @@ module _ (b : List ℕ) where
     pub needs-no-room : (s : machine.State) → playing.noRoomBefore s (machine.actᶜ (playing.tableOf b) S Q .rule) ≡ none
     pub acts : machine.actᶜ (playing.tableOf b) S Q .code ≡ code
 
-  abbrev pub Pure : List frames.Frame → frames.Result → frames.Found → Type 0
+  abbrev Pure : List frames.Frame → frames.Result → frames.Found → Type 0
   Pure S x X = (R : frames.Ready) × (X ≡ frames.Found.here S R) × Unlogged R x
 
-  abbrev pub Pureᶜ : List frames.Frame → frames.Found → frames.Found → Type 0
+  abbrev Pureᶜ : List frames.Frame → frames.Found → frames.Found → Type 0
   Pureᶜ S code X = (Q : frames.Readyᶜ) × (X ≡ frames.Found.hereᶜ S Q) × Unloggedᶜ S Q code
 
   -- part r, in the frames S, is what was found

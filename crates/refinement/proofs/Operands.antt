@@ -8,7 +8,7 @@ use mathlib.Core.List.{List, _∷_}
 use lib.Dec.{eqb}
 use lib.ListN.{length}
 use borrow.Author.Tests.{lt-ltb, le-ltb}
-use Rattle.packed.specs.Format.{terms, expression, condition}
+use Rattle.packed.specs.Format.{terms, expression, condition, Operand}
 use Rattle.packed.specs.Trees.{nodeAt}
 use Rattle.packed.proofs.Accepted.{Child, Accepted}
 use Rattle.machine.specs.Frames as frames
@@ -149,12 +149,13 @@ child c = (c .below, c .sorted)
 pub childᶜ : {b : List ℕ} {t i : ℕ} → Child b t condition i → IsCondition b i
 childᶜ c = (c .below, c .sorted)
 
-later : (t i : ℕ) → t < i → i < 1024 → left i + 2 ≤ left t
-later t i p q = omega arith
+-- a child takes a step less
+module _ {b : List ℕ} {t i : ℕ} {kind : Operand} {n : ℕ} (a : Accepted b) (l : left t ≤ suc n) (c : Child b t kind i) where
+  pub less : left i + 1 ≤ n
+  less = let few = a .few-terms in let p = c .above in let q = c .below in omega arith
 
--- a child leaves a step
-pub lower : {b : List ℕ} → Accepted b → (t i n : ℕ) → left t ≤ suc n → t < i → i < terms b → left i + 1 ≤ n
-lower a t i n l p q = omega (arith, later t i p (omega (arith, a .few-terms)))
+  pub less-one : left i ≤ n
+  less-one = omega (arith, less)
 
 -- a frame of a term's operands
 pub plain-fine : {b : List ℕ} (k : Kind) (i j m e : ℕ) → i < 1024 → j < 1024 → m < 32 → SortedBy b k (framed k i j m e) → Fine b (framed k i j m e)

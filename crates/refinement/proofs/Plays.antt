@@ -1,17 +1,16 @@
 -- The engine's play of a schedule on an accepted plan is the abstract machine's run, and so the defined one: the same stop, counts, states of threads and
--- log. That landing is right is taken as a hypothesis. Assumes nothing.
+-- log. Assumes nothing.
 use Prim.Native.Nat.{ℕ, suc, _+_, _*_, _≤_, _<_}
 use native.Mathlib.Nat.{mod-eq-of-lt, zero-add}
 use native.Mathlib.Omega.{arith}
 use mathlib.Core.Path.{_≡_, refl, sym, ap, ap₂, _∙_, subst as along}
 use mathlib.Core.Bool.{Bool, true, false, cond}
 use mathlib.Core.List.{List, [], _∷_, _++_, map}
-use mathlib.Core.Option.{some, none}
+use mathlib.Core.Option.{some, none, Option·none-ne-some}
 use lib.ListN.{length, getD, drop}
 use Rattle.packed.specs.Format.{volatiles}
 use Rattle.packed.specs.Trees.{programOf}
 use Rattle.packed.specs.Check.{refusal}
-use Rattle.packed.proofs.Accepted.{accepted}
 use Rattle.records.specs.Record.{Record}
 use Rattle.records.specs.Packed.{bytesOf}
 use Rattle.rules.specs.Room as rooms
@@ -38,12 +37,12 @@ use Rattle.engine.specs.declared.Stop as code
 use Rattle.engine.specs.declared.Seen.{Seen}
 use Rattle.engine.specs.declared.Ran.{Ran}
 use Rattle.engine.specs.Machine as engine
-use Rattle.tally.specs.Tally.{logPut, recordsAfter}
-use Rattle.engine.specs.Machine.{headAt, lookAt, actedBy, finishedBy, seenAt, seenOf, stopped, logged, after, onAnswer, playOf, startOf}
+use Rattle.engine.specs.Machine.{headAt, metBy, actedBy, finishedBy, seenAt, seenOf, stopped, logged, after, onAnswer, playOf, startOf}
 use Rattle.refinement.proofs.Meant.{Loaded}
 use Rattle.refinement.proofs.States.{Related}
 use Rattle.refinement.proofs.Looks.{MeetsBy}
-use Rattle.refinement.proofs.Acts.{roomMeant, Ahead, looks}
+use Rattle.refinement.proofs.Moves.{roomMeant, Ahead}
+use Rattle.refinement.proofs.Acts.{looks}
 use Rattle.refinement.proofs.Picks.{AnsweredBy, passes, picks}
 use Rattle.refinement.proofs.Starts.{start-related}
 use Rattle.refinement.proofs.Logs.{overlay, no-records, put-logged, put-none, put-last, record-counts, log-length, count-grows}
@@ -81,7 +80,7 @@ cons-same : {A : Type 0} {x y : A} {xs ys : List A} → x ≡ y → xs ≡ ys �
 cons-same {A} e h = ap₂ {C = List A} (λ x xs. x ∷ xs) e h
 
 -- what the code says of its threads is what they can do
-pub statuses : (b : List ℕ) → refusal b ≡ none → (m : engine.Machine) (s : machine.State) → Related b m s → Reached (tableOf b) (programOf b) s
+statuses : (b : List ℕ) → refusal b ≡ none → (m : engine.Machine) (s : machine.State) → Related b m s → Reached (tableOf b) (programOf b) s
     → map statusOf (seenOf (volatiles b) (m .tally .counts) (m .heads) (m .cells) (m .objects)) ≡ playing.statusesFrom (tableOf b) s 0 8
 unfolding seenOf playing.statusesFrom
 statuses b ok m s rel reach =
@@ -90,13 +89,13 @@ statuses b ok m s rel reach =
   where
     at : (p : ℕ) → p < 8 → statusOf (seenAt (volatiles b) (m .tally .counts) (m .heads) (m .cells) (m .objects) p) ≡ playing.status (machine.attempt (tableOf b) s p)
     at p h =
-        meets-status (lookAt (volatiles b) (m .tally .counts) (m .heads) (m .cells) (m .objects) p) p (headAt (m .heads) p .ready) (machine.attempt (tableOf b) s p) (Ahead b m s p)
+        meets-status (metBy (volatiles b) m p) p (headAt (m .heads) p .ready) (machine.attempt (tableOf b) s p) (Ahead b m s p)
         (looks b ok m s rel reach p h)
 
 -- ---- a play against a run
 
 -- what the room that the code names means; no run stops where there was enough
-abbrev pub roomOf : Room → rooms.Room
+abbrev roomOf : Room → rooms.Room
 roomOf room.Enough = rooms.Room.depth
 roomOf room.NoThread = rooms.Room.thread
 roomOf room.NoObject = rooms.Room.object
@@ -109,13 +108,13 @@ stopMeant stop.Race = Stop.race
 stopMeant (stop.NoRoom r) = Stop.noRoom (roomOf r)
 
 -- how the code says that it stopped
-abbrev pub StopMeans : code.Stop → Stop → Type 0
+abbrev StopMeans : code.Stop → Stop → Type 0
 StopMeans stop.End e = Stop.end ≡ e
 StopMeans stop.Race e = Stop.race ≡ e
 StopMeans (stop.NoRoom r) e = (w : rooms.Room) × (roomMeant r ≡ some w) × (Stop.noRoom w ≡ e)
 
 room-same : (r : Room) (w : rooms.Room) → roomMeant r ≡ some w → roomOf r ≡ w
-room-same room.Enough w e = absurd (let z : _≡_ {A = ℕ} 0 1 = cc in omega arith)
+room-same room.Enough w e = absurd (Option·none-ne-some w e)
 room-same room.NoThread w e = cc
 room-same room.NoObject w e = cc
 room-same room.NoKey w e = cc
@@ -127,20 +126,20 @@ stop-same stop.Race e h = h
 stop-same (stop.NoRoom r) e (w, k, h) = ap Stop.noRoom (room-same r w k) ∙ h
 
 -- the play P, from i picks, n moves, k records and the area l on, is the run R
-pub record PlaysAs (b : List ℕ) (i n k : ℕ) (l : List ℕ) (P : engine.Played) (R : playing.Run) : Type 0 where
-  pub stop : StopMeans (P .ran .stop) (R .stop)
-  pub picks : P .ran .picks ≡ i + R .picks
-  pub moves : P .ran .moves ≡ n + length (R .instances)
-  pub records : P .ran .records ≡ k + length (R .log)
-  pub threads : map statusOf (P .ran .threads) ≡ playing.statusesFrom (tableOf b) (R .final) 0 8
-  pub area : P .area ≡ overlay l (3 * k) (bytesOf (R .log))
+record PlaysAs (b : List ℕ) (i n k : ℕ) (l : List ℕ) (P : engine.Played) (R : playing.Run) : Type 0 where
+  stop : StopMeans (P .ran .stop) (R .stop)
+  picks : P .ran .picks ≡ i + R .picks
+  moves : P .ran .moves ≡ n + length (R .instances)
+  records : P .ran .records ≡ k + length (R .log)
+  threads : map statusOf (P .ran .threads) ≡ playing.statusesFrom (tableOf b) (R .final) 0 8
+  area : P .area ≡ overlay l (3 * k) (bytesOf (R .log))
 
 -- the outcome that the code's answer means
 abbrev pub outcomeMeant : Ran → Outcome
 outcomeMeant r = record { stop = stopMeant (r .stop); picks = r .picks; moves = r .moves; records = r .records; threads = map statusOf (r .threads) }
 
 -- every pick is 0 to 7
-abbrev pub Small : List ℕ → Type 0
+abbrev Small : List ℕ → Type 0
 Small ps = (j : ℕ) → j < length ps → getD ps j 0 ≤ 7
 
 outcome-same : {a a′ : Stop} {c c′ d d′ e e′ : ℕ} {l l′ : List Status} → a ≡ a′ → c ≡ c′ → d ≡ d′ → e ≡ e′ → l ≡ l′
@@ -215,7 +214,7 @@ module _ (b ws rs : List ℕ) (ok : refusal b ≡ none) (loaded : Loaded b ws rs
         })
 
     -- one pick, and the rest
-    pick-plays : (x : Bool) → passesOf (lookAt (volatiles b) (m .tally .counts) (m .heads) (m .cells) (m .objects) p) ≡ x
+    pick-plays : (x : Bool) → passesOf (metBy (volatiles b) m p) ≡ x
         → PlaysAs b i (m .tally .moves) (m .tally .records) (m .log)
         (cond x (playOf ws rs (volatiles b) m ps (i + 1))
         (onAnswer (T .turn .answer) (playOf ws rs (volatiles b) (after m p (actedBy (volatiles b) m p) T) ps (i + 1))
@@ -225,7 +224,7 @@ module _ (b ws rs : List ℕ) (ok : refusal b ≡ none) (loaded : Loaded b ws rs
     pick-plays false e = answered-plays (T .turn .answer) (picks b ws rs ok loaded m s rel reach p small e)
 
   -- THE CODE'S PLAY FROM A STATE IS THE ABSTRACT MACHINE'S RUN FROM WHAT IT STANDS FOR
-  pub plays : (ps : List ℕ) (i : ℕ) → Small ps → (m : engine.Machine) (s : machine.State) → Related b m s → Reached (tableOf b) (programOf b) s
+  plays : (ps : List ℕ) (i : ℕ) → Small ps → (m : engine.Machine) (s : machine.State) → Related b m s → Reached (tableOf b) (programOf b) s
       → 3 * (m .tally .records + length ps) ≤ length (m .log)
       → PlaysAs b i (m .tally .moves) (m .tally .records) (m .log) (playOf ws rs (volatiles b) m ps i) (playing.run (tableOf b) s ps)
   unfolding playOf playing.run playing.stopped
@@ -242,18 +241,18 @@ module _ (b ws rs : List ℕ) (ok : refusal b ≡ none) (loaded : Loaded b ws rs
       along
       (λ (q : ℕ).
       PlaysAs b i (m .tally .moves) (m .tally .records) (m .log)
-      (cond (passesOf (lookAt (volatiles b) (m .tally .counts) (m .heads) (m .cells) (m .objects) q)) (playOf ws rs (volatiles b) m ps (i + 1))
+      (cond (passesOf (metBy (volatiles b) m q)) (playOf ws rs (volatiles b) m ps (i + 1))
       (onAnswer (finishedBy ws rs (volatiles b) m q .turn .answer) (playOf ws rs (volatiles b) (after m q (actedBy (volatiles b) m q) (finishedBy ws rs (volatiles b) m q)) ps (i + 1))
       (λ a. stopped (volatiles b) (logged m q (finishedBy ws rs (volatiles b) m q)) a i)))
       (playing.resume s (λ s. playing.run (tableOf b) s ps) (playing.step (tableOf b) s p)))
       (sym (mod-eq-of-lt {m = 8} (omega arith)))
       (pick-plays m s rel reach p (omega arith) ps i wide (λ m s rel reach wide. plays ps (i + 1) (λ j h. small (suc j) (omega arith)) m s rel reach wide)
-      (passesOf (lookAt (volatiles b) (m .tally .counts) (m .heads) (m .cells) (m .objects) p)) refl)
+      (passesOf (metBy (volatiles b) m p)) refl)
 
   -- ---- from the start
 
   module _ (ps area : List ℕ) (small : Small ps) (wide : 3 * length ps ≤ length area) where
-    pub from-start : PlaysAs b 0 0 0 area (playOf ws rs (volatiles b) (startOf rs area) ps 0) (playing.runOf b ps)
+    from-start : PlaysAs b 0 0 0 area (playOf ws rs (volatiles b) (startOf rs area) ps 0) (playing.runOf b ps)
     unfolding startOf playing.runOf
     from-start = plays ps 0 small (startOf rs area) playing.start (start-related b ws rs ok loaded area) (start-reached b ok) (let e = zero-add (length ps) in omega arith)
 
@@ -262,7 +261,7 @@ module _ (b ws rs : List ℕ) (ok : refusal b ≡ none) (loaded : Loaded b ws rs
     overlay-start bs = ap (λ (k : ℕ). bs ++ drop k area) (zero-add (length bs))
 
     -- THE CODE'S PLAY IS THE ABSTRACT MACHINE'S RUN
-    pub plays-machine : (outcomeMeant (playOf ws rs (volatiles b) (startOf rs area) ps 0 .ran) ≡ playing.outcomeOf (tableOf b) (playing.runOf b ps))
+    plays-machine : (outcomeMeant (playOf ws rs (volatiles b) (startOf rs area) ps 0 .ran) ≡ playing.outcomeOf (tableOf b) (playing.runOf b ps))
         × (playOf ws rs (volatiles b) (startOf rs area) ps 0 .area ≡ overwrite (bytesOf (playing.runOf b ps .log)) area)
     unfolding playing.outcomeOf
     plays-machine =

@@ -1,17 +1,13 @@
 -- The engine's start stands for the abstract machine's. Assumes nothing.
-use Prim.Native.Nat.{ℕ, zero, suc, _*_, _/_, _%_, _^_, _<_}
-use native.Mathlib.Nat.{zero-div}
+use Prim.Native.Nat.{ℕ, zero, suc, _*_, _<_}
 use native.Mathlib.Omega.{arith}
 use native.Mathlib.Decide.{decLt}
-use mathlib.Core.Path.{_≡_, refl, sym, ap, ap₂, _∙_, fun-ext, subst as along}
-use mathlib.Core.Bool.{Bool, true, false}
+use mathlib.Core.Path.{_≡_, refl, sym, ap, ap₂, _∙_, subst as along}
 use mathlib.Core.List.{List, [], _∷_}
-use mathlib.Core.Option.{some, none}
-use lib.Dec.{ltb}
+use mathlib.Core.Option.{some, none, Option·none-ne-some}
 use lib.ListN.{length, getD, set, getElem?, replicate, length-replicate, getD-replicate, List·getD-eq-default}
 use lib.Seq.{set-getD}
 use Rattle.keys.specs.Keys.{singleton}
-use Rattle.keys.specs.KeySet.{zeroSet}
 use Rattle.keys.proofs.KeySetLaws.{fits-zero, fits-empty, keys-zero}
 use Rattle.packed.specs.Format.{procedures, root, volatiles}
 use Rattle.packed.specs.Check.{refusal}
@@ -24,28 +20,19 @@ use Rattle.machine.specs.Memory.{objectsOf}
 use Rattle.machine.specs.Machine as machine
 use Rattle.machine.specs.Playing as playing
 use Rattle.frames.specs.Parts.{Part as part}
-use Rattle.term_words.specs.Slots.{slotOf, choose}
 use Rattle.frames.specs.Going.{readyOf}
 use Rattle.landing.specs.Landing.{Stack}
 use Rattle.state.specs.declared.Cell.{Cell}
 use Rattle.state.specs.declared.Object.{Object}
 use Rattle.state.specs.Acted.{countsOf}
-use Rattle.engine.specs.Machine.{noCell, noThing, headAt, startOf}
+use Rattle.engine.specs.Machine.{noCell, noThing, headAt, headOf, cellFirst, startOf}
 use Rattle.refinement.proofs.Meant.{Loaded, IsExpression, Stands}
-use Rattle.refinement.proofs.States.{CellFits, freshCell, memoryOf, Kept, Headed, Related, kept-object}
-use Rattle.refinement.proofs.Acts.{no-fields, no-bit}
-
--- no slots
-slots-zero : slotOf 0 ≡ noSlots
-unfolding slotOf noSlots
-slots-zero = fun-ext (λ x. at x (ltb x 8))
-  where
-    at : (x : ℕ) (t : Bool) → choose t (0 / 2 ^ (x * 5) % 32) 0 ≡ 0
-    at x true = ap (λ (n : ℕ). n % 32) (zero-div (2 ^ (x * 5)))
-    at x false = refl
+use Rattle.refinement.proofs.SlotLaws.{none-bound}
+use Rattle.refinement.proofs.States.{CellFits, memoryOf, Kept, Headed, Related}
+use Rattle.refinement.proofs.KeptLaws.{kept-object, no-fields, no-bit}
 
 -- fresh cells, and objects of which the first is null, stand for the start's memory
-module _ (mask : ℕ) (cs : List Cell) (ts : List Object) (cells-size : length cs ≡ 1024) (new : (i : ℕ) → i < 1024 → getD cs i noCell ≡ freshCell)
+module _ (mask : ℕ) (cs : List Cell) (ts : List Object) (cells-size : length cs ≡ 1024) (new : (i : ℕ) → i < 1024 → getD cs i noCell ≡ cellFirst)
     (things-size : length ts ≡ 33) (null : getD ts 0 noThing ≡ noThing) where
   cell-fits : (i : ℕ) → CellFits (getD cs i noCell)
   cell-fits i = at (decLt i 1024)
@@ -98,14 +85,14 @@ module _ (b ws rs : List ℕ) (ok : refusal b ≡ none) (loaded : Loaded b ws rs
         record {
           rule = e-call;
           needs-no-room = λ s. refl;
-          acts = λ s p t. ap₂ (λ (t : ℕ) (ρ : Slots). machine.Act.does e-call none s (frames.Result.run (closure t ρ))) main-root (sym slots-zero);
+          acts = λ s p t. ap₂ (λ (t : ℕ) (ρ : Slots). machine.Act.does e-call none s (frames.Result.run (closure t ρ))) main-root (sym none-bound);
         },
       ),
     ),
   )
 
   start-headed : (k : Stack)
-      → Headed b k (0 * 33) (record { ready = readyOf part.Run (getD rs 0 0) 0 0 0; depth = 0; object = 0; keys = zeroSet })
+      → Headed b k (0 * 33) (headOf (getD rs 0 0))
       (record { self = 0; code = frames.Found.here [] (frames.Ready.call 0 0 noSlots); keys = singleton 0 })
   start-headed k = record { stack = []; held = tt; depth = refl; shallow = omega arith; stands = start-stands; object = refl; keys = keys-zero; keys-fit = fits-zero }
 
@@ -115,7 +102,7 @@ module _ (b ws rs : List ℕ) (ok : refusal b ≡ none) (loaded : Loaded b ws rs
   start-each area zero t h =
       let e : record { self = 0; code = frames.Found.here [] (frames.Ready.call 0 0 noSlots); keys = singleton 0 } ≡ t = cc in
       along (λ (t : machine.Thread). Headed b (startOf rs area .stack) (0 * 33) (headAt (startOf rs area .heads) 0) t) e (start-headed (startOf rs area .stack))
-  start-each area (suc p) t h = absurd (let z : _≡_ {A = ℕ} 0 1 = cc in omega arith)
+  start-each area (suc p) t h = absurd (Option·none-ne-some t h)
 
   pub start-related : (area : List ℕ) → Related b (startOf rs area) playing.start
   unfolding startOf
@@ -123,7 +110,7 @@ module _ (b ws rs : List ℕ) (ok : refusal b ≡ none) (loaded : Loaded b ws rs
     heads-size = refl;
     sized = record { tops-size = length-replicate {A = ℕ} 297 0; envs-size = length-replicate {A = ℕ} 297 0; args-size = length-replicate {A = ℕ} 297 0 };
     kept =
-        start-kept (volatiles b) (replicate 1024 freshCell) (replicate 33 noThing) (length-replicate 1024 freshCell)
-        (λ i h. getD-replicate 1024 i freshCell noCell h) (length-replicate 33 noThing) refl;
+        start-kept (volatiles b) (replicate 1024 cellFirst) (replicate 33 noThing) (length-replicate 1024 cellFirst)
+        (λ i h. getD-replicate 1024 i cellFirst noCell h) (length-replicate 33 noThing) refl;
     each = start-each area;
   }

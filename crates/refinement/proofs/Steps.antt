@@ -2,7 +2,7 @@
 use Prim.Native.Nat.{ℕ, suc, _+_, _-_, _≤_, _<_}
 use native.Mathlib.Omega.{arith}
 use mathlib.Core.Path.{_≡_, refl, sym, ap, _∙_, subst}
-use mathlib.Core.Bool.{true}
+use mathlib.Core.Bool.{true, false≢true}
 use mathlib.Core.List.{List, [], _∷_}
 use lib.Dec.{eqb, eqb·suc-zero}
 use lib.ListN.{length}
@@ -76,8 +76,8 @@ module _ {b ws rs : List ℕ} {k : Stack} {base n : ℕ} {X : frames.Found} wher
 
   step-by : (s : Stage) (g : Go) (S : List frames.Frame) → g .stage ≡ s → Placed b ws rs k base S → liveBy s ≡ true → GoesBy b s g S X → EnoughBy ws (suc n) s g
       → Next b ws k base n X (stepBy s ws rs g (length S) (frameAt k (topOf base (length S))))
-  step-by stage.Full g S z c live p q = let z : _≡_ {A = ℕ} 0 1 = cc in absurd (omega arith)
-  step-by stage.At g S z c live p q = let z : _≡_ {A = ℕ} 0 1 = cc in absurd (omega arith)
+  step-by stage.Full g S z c live p q = absurd (false≢true live)
+  step-by stage.At g S z c live p q = absurd (false≢true live)
   step-by stage.Run g S z c live p q = rw z (run-step c (g .i) (g .frame .env) (p .0) (p .1) (p .2) (q .0) (q .1))
   step-by stage.RunCondition g S z c live p q = rw z (run-condition-step c (g .i) (g .frame .env) (p .0) (p .1) (p .2) q)
   step-by stage.Want g S z c live p q = rw z (want c (g .frame) (g .i) (p .0) (p .1) (p .2) (p .3) (omega (arith, q .0)) (omega (arith, q .1)))

@@ -1,19 +1,19 @@
 -- A term by its word: the numbers that the code reads from the 40 bits are the operands of the term's node, and they fit. Assumes nothing.
-use Prim.Native.Nat.{ℕ, suc, _+_, _/_, _%_, _^_, _≤_, _<_}
+use Prim.Native.Nat.{ℕ, suc, _+_, _-_, _/_, _%_, _^_, _≤_, _<_}
 use native.Mathlib.Omega.{arith}
 use native.Mathlib.Decide.{ℕ-discrete}
-use mathlib.Core.Path.{_≡_, refl, sym, ap, _∙_, subst}
+use mathlib.Core.Path.{_≡_, sym, ap, _∙_, subst}
 use mathlib.Core.Bool.{false}
 use mathlib.Core.List.{List}
 use mathlib.Core.Logic.{_⊎_, inl, inr}
 use lib.Dec.{eqb}
 use lib.ListN.{getD}
-use Rattle.format.specs.Bits.{bitsAt}
-use Rattle.format.proofs.BitLaws.{field-of, first-of}
-use Rattle.packed.specs.Format.{procedures, terms, maskBit, fieldsFrom, expression, condition, list, width, table, layout, laidOut, termBit, tagAt, termAt}
+use Rattle.packed.specs.Format.{procedures, terms, maskBit, fieldsFrom, expression, condition, list, width, table, layout, tagAt, termAt}
 use Rattle.packed.specs.Trees.{Node, binderOf, nodes, nodeAt}
+use Rattle.packed.specs.Steps as packed
 use Rattle.packed.proofs.WellFormed.{count}
 use Rattle.packed.proofs.Accepted.{OfSort, Child, Fits, RightTerm, Accepted}
+use Rattle.packed.proofs.Reading.{tag-in, first-was, second-was, third-was}
 use Rattle.packed.proofs.Decoded.{node-is}
 use Rattle.machine.proofs.TreeLaws.{treeᵃ}
 use Rattle.machine.proofs.CallLists.{call-fits}
@@ -55,63 +55,54 @@ pub data Rest (b : List ℕ) (t w : ℕ) : Type 0 where
 
 -- ---- the operands
 
-no-bits : (b : List ℕ) (i : ℕ) → 0 ≡ bitsAt b i 0
-unfolding bitsAt
-no-bits b i = refl
+-- the operands of a term of tag k, in its word w
+abbrev firstIn : ℕ → ℕ → ℕ
+firstIn k w = w / 2 ^ (35 - width (layout k .first)) % 2 ^ width (layout k .first)
 
--- node and fits of a term of tag k, by values that are its bits
+abbrev secondIn : ℕ → ℕ → ℕ
+secondIn k w = w / 2 ^ (35 - (width (layout k .first) + width (layout k .second))) % 2 ^ width (layout k .second)
+
+abbrev thirdIn : ℕ → ℕ → ℕ
+thirdIn k w = w / 2 ^ (35 - (width (layout k .first) + width (layout k .second) + width (layout k .third))) % 2 ^ width (layout k .third)
+
+-- node and fits of a term of tag k, by the values of its operands
 record Known (b : List ℕ) (t k x y z : ℕ) : Type 0 where
   node : nodeAt b t ≡ getD nodes k (λ x y z. Node.unknown) x y z
   first : Fits b t (layout k .first) x
   second : Fits b t (layout k .second) y
   third : Fits b t (layout k .third) z
 
-module _ (b : List ℕ) (t k x y z : ℕ) (right : RightTerm b t) where
-  known-by : tagAt b t ≡ k → x ≡ termAt b t .value₁ → y ≡ termAt b t .value₂ → z ≡ termAt b t .value₃ → Known b t k x y z
-  known-by e p₁ p₂ p₃ = rw (p₁, p₂, p₃) (record {
-    node = node-is b t k e;
-    first = subst (λ (j : ℕ). Fits b t (layout j .first) (termAt b t .value₁)) e (right .first-fits);
-    second = subst (λ (j : ℕ). Fits b t (layout j .second) (termAt b t .value₂)) e (right .second-fits);
-    third = subst (λ (j : ℕ). Fits b t (layout j .third) (termAt b t .value₃)) e (right .third-fits);
-  })
+known-by : (b : List ℕ) (t k x y z : ℕ) → RightTerm b t → tagAt b t ≡ k → x ≡ termAt b t .value₁ → y ≡ termAt b t .value₂ → z ≡ termAt b t .value₃ → Known b t k x y z
+known-by b t k x y z right e p₁ p₂ p₃ = rw (p₁, p₂, p₃) (record {
+  node = node-is b t k e;
+  first = subst (λ (j : ℕ). Fits b t (layout j .first) (termAt b t .value₁)) e (right .first-fits);
+  second = subst (λ (j : ℕ). Fits b t (layout j .second) (termAt b t .value₂)) e (right .second-fits);
+  third = subst (λ (j : ℕ). Fits b t (layout j .third) (termAt b t .value₃)) e (right .third-fits);
+})
 
-  known : tagAt b t ≡ k → x ≡ bitsAt b (termBit b t + 5) (width (layout k .first)) → y ≡ bitsAt b (termBit b t + (5 + width (layout k .first))) (width (layout k .second))
-      → z ≡ bitsAt b (termBit b t + (5 + width (layout k .first) + width (layout k .second))) (width (layout k .third)) → Known b t k x y z
-  unfolding termAt laidOut
-  known e p₁ p₂ p₃ =
-      known-by e
-      (p₁ ∙ ap (λ (j : ℕ). bitsAt b (termBit b t + 5) (width (layout j .first))) (sym e))
-      (p₂ ∙ ap (λ (j : ℕ). bitsAt b (termBit b t + (5 + width (layout j .first))) (width (layout j .second))) (sym e))
-      (p₃ ∙ ap (λ (j : ℕ). bitsAt b (termBit b t + (5 + width (layout j .first) + width (layout j .second))) (width (layout j .third))) (sym e))
+-- a binder's operand is a slot, or 15 for none
+slot-sort : (x : ℕ) → ((x ≡ 15 → ⊥) → x ≤ 7) → (x < 8) ⊎ (x ≡ 15)
+slot-sort x f = at (ℕ-discrete x 15)
+  where
+    at : Dec (x ≡ 15) → (x < 8) ⊎ (x ≡ 15)
+    at (yes e) = inr e
+    at (no n) = let l = f n in inl (omega arith)
 
 module _ (b ws rs : List ℕ) (a : Accepted b) (loaded : Loaded b ws rs) (t : ℕ) (h : t < terms b) where
-  word-is : wordAt ws t ≡ bitsAt b (termBit b t) 40
-  unfolding wordAt
-  word-is = let m : t % 1024 ≡ t = omega (arith, a .few-terms) in rw m (loaded .words t h)
-
-  pub tag-is : tagOf (wordAt ws t) ≡ tagAt b t
-  unfolding tagAt
-  tag-is = ap (λ (w : ℕ). w / 34359738368) word-is ∙ sym (first-of b (termBit b t) 5 35)
-
-  -- the field of w bits after v bits
-  bits : (v w r : ℕ) → v + w + r ≡ 40 → wordAt ws t / 2 ^ r % 2 ^ w ≡ bitsAt b (termBit b t + v) w
-  bits v w r e = ap (λ (x : ℕ). x / 2 ^ r % 2 ^ w) (word-is ∙ ap (bitsAt b (termBit b t)) (sym e)) ∙ sym (field-of b (termBit b t) v w r)
-
-  tagged : (k : ℕ) → tagAt b t ≡ k → tagOf (wordAt ws t) ≡ k
-  tagged k e = tag-is ∙ e
-
   abbrev w : ℕ
   w = wordAt ws t
 
-  right : RightTerm b t
-  right = a .each-term t h
+  word-is : wordAt ws t ≡ packed.wordAt b t
+  unfolding wordAt packed.wordAt
+  word-is = let m : t % 1024 ≡ t = omega (arith, a .few-terms) in rw m (loaded .words t h)
 
-  slot-sort : (x : ℕ) → ((x ≡ 15 → ⊥) → x ≤ 7) → (x < 8) ⊎ (x ≡ 15)
-  slot-sort x f = at (ℕ-discrete x 15)
-    where
-      at : Dec (x ≡ 15) → (x < 8) ⊎ (x ≡ 15)
-      at (yes e) = inr e
-      at (no n) = let l = f n in inl (omega arith)
+  tagged : (k : ℕ) → tagAt b t ≡ k → tagOf w ≡ k
+  tagged k e = ap tagOf word-is ∙ sym (tag-in b t) ∙ e
+
+  known : (k : ℕ) → tagAt b t ≡ k → Known b t k (firstIn k w) (secondIn k w) (thirdIn k w)
+  known k e =
+      let q = tagged k e in
+      known-by b t k (firstIn k w) (secondIn k w) (thirdIn k w) (a .each-term t h) e (first-was b t w word-is k q) (second-was b t w word-is k q) (third-was b t w word-is k q)
 
   at-null : tagAt b t ≡ 0 → Expression b t w
   unfolding nodes
@@ -119,74 +110,50 @@ module _ (b ws rs : List ℕ) (a : Accepted b) (loaded : Loaded b ws rs) (t : �
 
   at-variable : tagAt b t ≡ 1 → Expression b t w
   unfolding nodes layout table
-  at-variable e =
-      let n = known b t 1 (slotBits w) 0 0 right e (bits 5 4 31 refl) (no-bits b _) (no-bits b _) in
-      Expression.variable (tagged 1 e) (n .node)
+  at-variable e = let n = known 1 e in Expression.variable (tagged 1 e) (n .node)
 
   at-new : tagAt b t ≡ 2 → Expression b t w
   unfolding nodes layout table
-  at-new e =
-      let n = known b t 2 (maskBits w) 0 0 right e (bits 5 32 3 refl) (no-bits b _) (no-bits b _) in
-      Expression.new (tagged 2 e) (n .node) (n .first .0)
+  at-new e = let n = known 2 e in Expression.new (tagged 2 e) (n .node) (n .first .0)
 
   at-read : tagAt b t ≡ 3 → Expression b t w
   unfolding nodes layout table
-  at-read e =
-      let n = known b t 3 (firstOf w) (fieldBits w) 0 right e (bits 5 10 25 refl) (bits 15 5 20 refl) (no-bits b _) in
-      Expression.read (tagged 3 e) (n .node) (n .first) (n .second .0)
+  at-read e = let n = known 3 e in Expression.read (tagged 3 e) (n .node) (n .first) (n .second .0)
 
   at-write : tagAt b t ≡ 4 → Expression b t w
   unfolding nodes layout table
-  at-write e =
-      let n = known b t 4 (firstOf w) (fieldBits w) (writeSecond w) right e (bits 5 10 25 refl) (bits 15 5 20 refl) (bits 20 10 10 refl) in
-      Expression.write (tagged 4 e) (n .node) (n .first) (n .second .0) (n .third)
+  at-write e = let n = known 4 e in Expression.write (tagged 4 e) (n .node) (n .first) (n .second .0) (n .third)
 
   at-let : tagAt b t ≡ 5 → Expression b t w
   unfolding nodes layout table
-  at-let e =
-      let n = known b t 5 (slotBits w) (letFirst w) (letSecond w) right e (bits 5 4 31 refl) (bits 9 10 21 refl) (bits 19 10 11 refl) in
-      Expression.letIn (tagged 5 e) (n .node) (slot-sort (slotBits w) (n .first)) (n .second) (n .third)
+  at-let e = let n = known 5 e in Expression.letIn (tagged 5 e) (n .node) (slot-sort (slotBits w) (n .first)) (n .second) (n .third)
 
   at-if : tagAt b t ≡ 6 → Expression b t w
   unfolding nodes layout table
-  at-if e =
-      let n = known b t 6 (firstOf w) (secondOf w) (thirdOf w) right e (bits 5 10 25 refl) (bits 15 10 15 refl) (bits 25 10 5 refl) in
-      Expression.if (tagged 6 e) (n .node) (n .first) (n .second) (n .third)
+  at-if e = let n = known 6 e in Expression.if (tagged 6 e) (n .node) (n .first) (n .second) (n .third)
 
   at-while : tagAt b t ≡ 7 → Expression b t w
   unfolding nodes layout table
-  at-while e =
-      let n = known b t 7 (firstOf w) (secondOf w) 0 right e (bits 5 10 25 refl) (bits 15 10 15 refl) (no-bits b _) in
-      Expression.while (tagged 7 e) (n .node) (n .first) (n .second)
-
-  call-list : tagAt b t ≡ 8 → bitsAt b (termBit b t + 10) 10 ≡ termAt b t .value₂
-  unfolding layout table termAt laidOut
-  call-list e = ap (λ (j : ℕ). bitsAt b (termBit b t + (5 + width (layout j .first))) (width (layout j .second))) (sym e)
+  at-while e = let n = known 7 e in Expression.while (tagged 7 e) (n .node) (n .first) (n .second)
 
   at-call : tagAt b t ≡ 8 → Expression b t w
   unfolding nodes layout table
   at-call e =
-      let n = known b t 8 (procedureBits w) (listBits w) 0 right e (bits 5 5 30 refl) (bits 10 10 20 refl) (no-bits b _) in
-      let q : listBits w ≡ termAt b t .value₂ = bits 10 10 20 refl ∙ call-list e in
+      let n = known 8 e in
+      let q : listBits w ≡ termAt b t .value₂ = second-was b t w word-is 8 (tagged 8 e) in
       Expression.call (tagged 8 e) (n .node) (n .first) (n .second) (rw q (call-fits b a t h e))
 
   at-fork : tagAt b t ≡ 9 → Expression b t w
   unfolding nodes layout table
-  at-fork e =
-      let n = known b t 9 (firstOf w) 0 0 right e (bits 5 10 25 refl) (no-bits b _) (no-bits b _) in
-      Expression.fork (tagged 9 e) (n .node) (n .first)
+  at-fork e = let n = known 9 e in Expression.fork (tagged 9 e) (n .node) (n .first)
 
   at-join : tagAt b t ≡ 10 → Expression b t w
   unfolding nodes layout table
-  at-join e =
-      let n = known b t 10 (firstOf w) 0 0 right e (bits 5 10 25 refl) (no-bits b _) (no-bits b _) in
-      Expression.join (tagged 10 e) (n .node) (n .first)
+  at-join e = let n = known 10 e in Expression.join (tagged 10 e) (n .node) (n .first)
 
   at-synch : tagAt b t ≡ 11 → Expression b t w
   unfolding nodes layout table
-  at-synch e =
-      let n = known b t 11 (firstOf w) (secondOf w) 0 right e (bits 5 10 25 refl) (bits 15 10 15 refl) (no-bits b _) in
-      Expression.synch (tagged 11 e) (n .node) (n .first) (n .second)
+  at-synch e = let n = known 11 e in Expression.synch (tagged 11 e) (n .node) (n .first) (n .second)
 
   at-truth : tagAt b t ≡ 12 → Condition b t w
   unfolding nodes
@@ -194,27 +161,19 @@ module _ (b ws rs : List ℕ) (a : Accepted b) (loaded : Loaded b ws rs) (t : �
 
   at-not : tagAt b t ≡ 13 → Condition b t w
   unfolding nodes layout table
-  at-not e =
-      let n = known b t 13 (firstOf w) 0 0 right e (bits 5 10 25 refl) (no-bits b _) (no-bits b _) in
-      Condition.not (tagged 13 e) (n .node) (n .first)
+  at-not e = let n = known 13 e in Condition.not (tagged 13 e) (n .node) (n .first)
 
   at-and : tagAt b t ≡ 14 → Condition b t w
   unfolding nodes layout table
-  at-and e =
-      let n = known b t 14 (firstOf w) (secondOf w) 0 right e (bits 5 10 25 refl) (bits 15 10 15 refl) (no-bits b _) in
-      Condition.and (tagged 14 e) (n .node) (n .first) (n .second)
+  at-and e = let n = known 14 e in Condition.and (tagged 14 e) (n .node) (n .first) (n .second)
 
   at-equal : tagAt b t ≡ 15 → Condition b t w
   unfolding nodes layout table
-  at-equal e =
-      let n = known b t 15 (firstOf w) (secondOf w) 0 right e (bits 5 10 25 refl) (bits 15 10 15 refl) (no-bits b _) in
-      Condition.equal (tagged 15 e) (n .node) (n .first) (n .second)
+  at-equal e = let n = known 15 e in Condition.equal (tagged 15 e) (n .node) (n .first) (n .second)
 
   at-more : tagAt b t ≡ 16 → Rest b t w
   unfolding nodes layout table
-  at-more e =
-      let n = known b t 16 (firstOf w) (secondOf w) 0 right e (bits 5 10 25 refl) (bits 15 10 15 refl) (no-bits b _) in
-      Rest.more (tagged 16 e) (n .node) (n .first) (n .second)
+  at-more e = let n = known 16 e in Rest.more (tagged 16 e) (n .node) (n .first) (n .second)
 
   at-end : tagAt b t ≡ 17 → Rest b t w
   unfolding nodes

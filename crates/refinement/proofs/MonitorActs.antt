@@ -1,0 +1,135 @@
+-- What the code does to enter or to leave a monitor is what the abstract machine's move does. Assumes nothing.
+use Prim.Native.Nat.{ℕ, _+_, _*_, _<_}
+use native.Mathlib.Nat.{mod-eq-of-lt}
+use native.Mathlib.Omega.{arith}
+use mathlib.Core.Path.{_≡_, refl, sym, ap, ap₂, _∙_, subst as along}
+use mathlib.Core.Bool.{Bool, true, false, cond}
+use mathlib.Core.List.{List, _∷_}
+use mathlib.Core.Option.{some}
+use lib.Dec.{eqb}
+use lib.ListN.{getD, set}
+use Rattle.keys.specs.declared.KeySet.{KeySet}
+use Rattle.keys.specs.Keys.{Keys, empty, isEmpty}
+use Rattle.keys.specs.KeySet.{keysOf, emptySet, joinOf, isEmptyOf}
+use Rattle.keys.proofs.KeySetLaws.{keys-empty, keys-is-empty, fits-empty, fits-join}
+use Rattle.packed.specs.Format.{volatiles, terms}
+use Rattle.packed.specs.Trees.{nodeAt}
+use Rattle.records.specs.Record.{entry}
+use Rattle.records.specs.Record as records
+use Rattle.rules.specs.State as rules
+use Rattle.rules.specs.Rules.{e-re-enter, e-acquire, e-release}
+use Rattle.rules.specs.Step.{forMonitor}
+use Rattle.machine.specs.Frames as frames
+use Rattle.machine.specs.Landing.{enter, up}
+use Rattle.machine.specs.Landing as land
+use Rattle.machine.specs.Machine as machine
+use Rattle.machine.specs.Playing.{tableOf}
+use Rattle.machine.specs.Playing as playing
+use Rattle.machine.proofs.Sorted.{Well}
+use Rattle.frames.specs.Parts.{Part as part}
+use Rattle.frames.specs.Going.{readyOf, goRun, goWant, goValue}
+use Rattle.state.specs.declared.Cell.{Cell}
+use Rattle.state.specs.declared.Counts.{Counts}
+use Rattle.look.specs.declared.Sight.the-variants as sight
+use Rattle.state.specs.declared.acted.Room.the-variants as room
+use Rattle.look.specs.Look.{objectBy, fieldBy, lookSynch}
+use Rattle.state.specs.Acted.{entryOf, nothing, cellOf, actedOf}
+use Rattle.monitors.specs.Monitors.{holdFrame, actSynch, actHold}
+use Rattle.engine.specs.Machine as engine
+use Rattle.engine.specs.Machine.{noCell, headAt}
+use Rattle.refinement.proofs.Meant.{closed, IsExpression}
+use Rattle.refinement.proofs.States.{cellMeant, CellFits, Kept, Headed, Related}
+use Rattle.refinement.proofs.Tests.{test-true, test-false}
+use Rattle.refinement.proofs.KeptLaws.{kept-changed, kept-past, kept-monitor}
+use Rattle.refinement.proofs.Looks.{MeetsBy, monitor-bit, monitor-cell, ready-there}
+use Rattle.refinement.proofs.Moves.{Mover, Acts}
+use Rattle.refinement.proofs.Moving.{headFor, unlearnt, learnt, joined, moved, plain, object-there, written, attempts}
+
+module _ {b : List ℕ} {m : engine.Machine} {s : machine.State} {p : ℕ} (mover : Mover b m s p) where
+  open engine.Machine m using (cells as cs, objects as ts)
+  open Mover mover using (ok, thread as t, there, reached as reach)
+  open Related (mover .related) using (kept as k)
+  open Headed (mover .headed) using (stack as S, object as same, keys as known, keys-fit as fits)
+
+  abbrev n : Counts
+  n = m .tally .counts
+
+  abbrev ks : KeySet
+  ks = headAt (m .heads) p .keys
+
+  abbrev self : ℕ
+  self = headAt (m .heads) p .object
+
+  -- a monitor is stored to
+  monitor-stored : (o i : ℕ) (c : Cell) (x : rules.Cell) → i ≡ o * 32 + 0 → cellMeant true c ≡ x → CellFits c → o < n .objects → o < 32
+      → Kept (volatiles b) (set cs i c) (set ts (n .objects) nothing) n (machine.storeMonitor s o x)
+  monitor-stored o i c x ei e fit o-there ho =
+      let z = kept-past (kept-monitor k o c (monitor-bit b ok) o-there ho fit) nothing in
+      let z₁ = along (λ (a : ℕ). Kept (volatiles b) (set cs a c) (set ts (n .objects) nothing) n (machine.storeMonitor s o (cellMeant true c))) (sym ei) z in
+      along (λ (x : rules.Cell). Kept (volatiles b) (set cs i c) (set ts (n .objects) nothing) n (machine.storeMonitor s o x)) e z₁
+
+  -- E-RE-ENTER, E-ACQUIRE
+  pub synch-meets : (o u w env i : ℕ) → i ≡ o * 32 + 0 → Well S → o < 32 → IsExpression b u → t .code ≡ frames.Found.here S (frames.Ready.synch o (closed u env))
+      → MeetsBy (lookSynch (headFor m p (readyOf part.Synch o u w env)) (getD cs i noCell)) p (readyOf part.Synch o u w env) (machine.attempt (tableOf b) s p)
+      (Acts mover (readyOf part.Synch o u w env) i (actSynch n (headFor m p (readyOf part.Synch o u w env)) (getD cs i noCell) o u env))
+  unfolding objectBy fieldBy lookSynch actSynch machine.act machine.synchAct machine.around machine.learn machine.storeMonitor playing.noRoomBefore land.go tableOf
+  synch-meets o u w env i ei well ho hu code =
+      by (isEmptyOf (c .keys)) (eqb (c .value) self) (sym (keys-is-empty (c .keys))) (ap (eqb (c .value)) (sym same))
+    where
+      c : Cell
+      c = getD cs i noCell
+
+      fit : CellFits c
+      fit = k .cells-fit i
+
+      o-there : o < n .objects
+      o-there = object-there mover o (ready-there b s p t reach there S (frames.Ready.synch o (closed u env)) code .0)
+
+      found : machine.monitor s o ≡ cellMeant true c
+      found = monitor-cell k o (monitor-bit b ok) o-there ho ∙ ap (λ (i : ℕ). cellMeant true (getD cs i noCell)) (sym ei)
+
+      c′ : Cell
+      c′ = cellOf self 0 emptySet
+
+      acted : machine.act (tableOf b) s p t (frames.Ready.synch o (closed u env)) ≡ machine.synchAct s p t o (closed u env) (cellMeant true c)
+      acted = ap (machine.synchAct s p t o (closed u env)) found
+
+      by : (x y : Bool) → isEmpty (keysOf (c .keys)) ≡ x → eqb (c .value) (t .self) ≡ y
+          → MeetsBy (cond x (cond y sight.Ready sight.Monitor) sight.Ready) p (readyOf part.Synch o u w env) (machine.attempt (tableOf b) s p)
+          (Acts mover (readyOf part.Synch o u w env) i (cond x
+          (actedOf room.Enough (goRun u env) n ks c (entryOf 0 0 0 0))
+          (actedOf room.Enough (goWant (holdFrame env o) u) n (joinOf ks (c .keys)) c′ (entryOf 6 o 0 0))))
+      by true true e q = (
+        _,
+        attempts mover (frames.Ready.synch o (closed u env)) code
+            (acted ∙ test-true (isEmpty (keysOf (c .keys))) _ _ e ∙ test-true (eqb (c .value) (t .self)) _ _ q),
+        plain mover _ i e-re-enter (enter (nodeAt b) (terms b) S (closed u env)) (goRun u env) refl (well, hu, refl),
+      )
+      by true false e q =
+          attempts mover (frames.Ready.synch o (closed u env)) code
+          (acted ∙ test-true (isEmpty (keysOf (c .keys))) _ _ e ∙ test-false (eqb (c .value) (t .self)) _ _ q)
+          ∙ ap (λ (o : ℕ). machine.Attempt.waiting (forMonitor o)) (sym (mod-eq-of-lt ho))
+      by false y e q = (
+        _,
+        attempts mover (frames.Ready.synch o (closed u env)) code (acted ∙ test-false (isEmpty (keysOf (c .keys))) _ _ e),
+        moved mover _ i e-acquire (some (entry records.Kind.acquire p o 0 0)) (machine.learn (machine.storeMonitor s o (rules.cell empty (t .self))) p (keysOf (c .keys)))
+            (enter (nodeAt b) (terms b) (frames.Frame.hold o ∷ S) (closed u env)) (goWant (holdFrame env o) u) n
+            (joinOf ks (c .keys)) c′ nothing (entryOf 6 o 0 0) refl (written mover records.Kind.acquire o 0 0 ho (omega arith) (omega arith)) refl
+            (record { a-fits = omega arith; b-fits = omega arith; m-fits = omega arith; n-fits = omega arith; sorted = ho }, well, hu, refl)
+            (fits-join fits (fit .keys)) (learnt mover (keysOf (c .keys)) _ (joined mover (c .keys) (fit .keys)))
+            (kept-changed (monitor-stored o i c′ _ ei (ap₂ rules.cell keys-empty same) (record { key = omega arith; keys = fits-empty }) o-there ho) p _ (λ x. refl)),
+      )
+
+  -- E-RELEASE
+  pub hold-meets : (o v w env i : ℕ) → i ≡ o * 32 + 0 → Well S → o < 32 → v < 32 → t .code ≡ frames.Found.here S (frames.Ready.hold o v)
+      → MeetsBy sight.Ready p (readyOf part.Hold o v w env) (machine.attempt (tableOf b) s p) (Acts mover (readyOf part.Hold o v w env) i (actHold n (headFor m p (readyOf part.Hold o v w env)) o v))
+  unfolding machine.act machine.around machine.storeMonitor playing.noRoomBefore land.go tableOf
+  hold-meets o v w env i ei well ho hv code = (
+    _,
+    attempts mover (frames.Ready.hold o v) code refl,
+    moved mover _ i e-release (some (entry records.Kind.release p o 0 0)) (machine.storeMonitor s o (rules.cell (t .keys) 0)) (up (nodeAt b) (terms b) S v) (goValue v) n
+        ks (cellOf 0 0 ks) nothing (entryOf 7 o 0 0) refl (written mover records.Kind.release o 0 0 ho (omega arith) (omega arith)) refl
+        (well, hv, refl) fits (unlearnt mover)
+        (monitor-stored o i (cellOf 0 0 ks) _ ei (ap (λ (K : Keys). rules.cell K 0) known) (record { key = omega arith; keys = fits })
+        (object-there mover o (ready-there b s p t reach there S (frames.Ready.hold o v) code .0)) ho),
+  )

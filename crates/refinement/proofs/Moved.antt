@@ -1,0 +1,283 @@
+-- After a move with room before it: the room that is left, and the state that the code's state then stands for. Assumes nothing.
+use Prim.Native.Nat.{ℕ, _+_, _*_, _%_, _≤_, _<_}
+use native.Mathlib.Nat.{mod-eq-of-lt}
+use native.Mathlib.Omega.{arith}
+use native.Mathlib.Decide.{ℕ-discrete, decLt}
+use mathlib.Core.Path.{_≡_, refl, sym, ap, ap₂, _∙_, subst as along}
+use mathlib.Core.Bool.{Bool, true, false, cond, _&&_, _||_}
+use mathlib.Core.List.{List, []}
+use mathlib.Core.Option.{Option, some, none, Option·none-ne-some}
+use mathlib.Core.Logic.{_⊎_, inl, inr}
+use lib.Dec.{ltb}
+use lib.ListN.{length, getD, set, getElem?, drop, length-set}
+use lib.Seq.{getD-set-same, getD-set-other}
+use Rattle.keys.specs.KeySet.{keysOf}
+use Rattle.packed.specs.Format.{volatiles}
+use Rattle.rules.specs.State.{changeAt}
+use Rattle.rules.specs.Room as rooms
+use Rattle.rules.proofs.StateLaws.{inside, added, change-same, change-other, change-length}
+use Rattle.machine.specs.Frames.{height}
+use Rattle.machine.specs.Machine as machine
+use Rattle.machine.specs.Playing as playing
+use Rattle.frames.specs.Going.{goFull}
+use Rattle.landing.specs.Landing.{Ended, ended, frameAt, landOf}
+use Rattle.state.specs.declared.Head.{Head}
+use Rattle.state.specs.declared.Counts.{Counts}
+use Rattle.state.specs.declared.acted.Acted.{Acted}
+use Rattle.settle.specs.declared.Answer.{Answer}
+use Rattle.settle.specs.declared.Answer.the-variants as answer
+use Rattle.settle.specs.Settle.{forksOf, fullOf, moverOf, bornOf, entryBy}
+use Rattle.engine.specs.Machine as engine
+use Rattle.engine.specs.Machine.{noHead, headAt, cellNumber, actedBy, Finished, youngOf, after}
+use Rattle.refinement.proofs.Meant.{Loaded, Sized, Lands}
+use Rattle.refinement.proofs.FrameLaws.{holds-same}
+use Rattle.refinement.proofs.Landing.{landed}
+use Rattle.refinement.proofs.States.{Kept, Headed, Related}
+use Rattle.refinement.proofs.Moves.{withYoung, moverIn, Mover, Born, Does}
+use Rattle.refinement.proofs.Moving.{few-threads}
+use Rattle.refinement.proofs.Depths.{found-full, found-at}
+use Rattle.refinement.proofs.RoomAfter.{youngDeep, room-after}
+
+-- the landing of the mover, and of the thread that it makes
+abbrev pub landMover : List ℕ → List ℕ → ℕ → engine.Machine → ℕ → Ended
+landMover ws rs mask m p = landOf 2100 ws rs (p * 33) (m .stack) (actedBy mask m p .go) (headAt (m .heads) p .depth % 33)
+
+abbrev pub landYoung : List ℕ → List ℕ → ℕ → engine.Machine → ℕ → Ended
+landYoung ws rs mask m p = youngOf ws rs (m .tally .counts) (headAt (m .heads) p) (actedBy mask m p) (landMover ws rs mask m p .stack)
+
+-- what the pick comes to, where its answer is z
+unfoldable pub turnedBy : List ℕ → List ℕ → ℕ → engine.Machine → ℕ → Answer → Finished
+turnedBy ws rs mask m p z =
+    record {
+      stack = landYoung ws rs mask m p .stack;
+      turn = record {
+        answer = z;
+        entry = entryBy z (headAt (m .heads) p .ready) (actedBy mask m p);
+        landed = landMover ws rs mask m p .landed;
+        born = landYoung ws rs mask m p .landed;
+      };
+    }
+
+-- the heads, where a thread was made and where none was
+young-size : (x : Bool) (l : List Head) (q : ℕ) (y : Head) → length (engine.withYoung x l q y) ≡ length l
+young-size true l q y = length-set l q y
+young-size false l q y = refl
+
+young-other : (x : Bool) (l : List Head) (i : ℕ) (y : Head) (q : ℕ) → (q ≡ i → ⊥) → headAt (engine.withYoung x l i y) q ≡ headAt l q
+young-other true l i y q e = getD-set-other l i q y noHead e
+young-other false l i y q e = refl
+
+module _ {b ws rs : List ℕ} (loaded : Loaded b ws rs) {m : engine.Machine} {s : machine.State} {p : ℕ} (mover : Mover b m s p) {v : machine.Move}
+    (D : Does mover (headAt (m .heads) p .ready) (cellNumber (headAt (m .heads) p .ready)) (actedBy (volatiles b) m p) v) where
+  open Mover mover using (ok, related as rel, reached as reach, thread as t, there, headed as H)
+
+  abbrev a : Acted
+  a = actedBy (volatiles b) m p
+
+  abbrev h : Head
+  h = headAt (m .heads) p
+
+  abbrev n : Counts
+  n = m .tally .counts
+
+  abbrev L : Ended
+  L = landMover ws rs (volatiles b) m p
+
+  abbrev Y : Ended
+  Y = landYoung ws rs (volatiles b) m p
+
+  abbrev youngFull : Bool
+  youngFull = forksOf a && fullOf (Y .landed)
+
+  -- the mover after its move, and the threads that were there
+  abbrev gone : machine.Thread → machine.Thread
+  gone = moverIn (D .code) (keysOf (a .keys))
+
+  abbrev olds : List machine.Thread
+  olds = changeAt (s .threads) p gone
+
+  few-objects : n .objects ≤ 32
+  few-objects = let x = rel .kept .objects-count in let y = reach .limits .counts .few-objects in omega arith
+
+  here : p < n .threads
+  here = let x = rel .kept .threads-count in let y = inside (s .threads) p t there in omega arith
+
+  lands : Lands b (m .stack) (p * 33) (D .code) L
+  lands =
+      let x = H .depth in
+      let y = H .shallow in
+      let e : h .depth % 33 ≡ h .depth = mod-eq-of-lt (omega arith) in
+      landed b ws rs ok loaded (p * 33) (m .stack) (rel .sized) (omega arith) (H .stack) (H .held) (a .go) (h .depth % 33)
+      (omega arith) (omega arith) (D .code) (D .goes)
+
+  -- the second landing: nothing, or the new thread's
+  record Second (young : Option machine.Thread) : Type 0 where
+    sized : Sized b (Y .stack)
+    others : (i : ℕ) → i < n .threads * 33 → frameAt (Y .stack) i ≡ frameAt (L .stack) i
+    full : youngFull ≡ youngDeep young
+    head : (y : machine.Thread) → young ≡ some y → youngFull ≡ false → Headed b (Y .stack) (n .threads * 33) (bornOf n h (Y .landed)) y
+
+  second : (young : Option machine.Thread) → Born mover (h .ready) a young → Second young
+  unfolding youngOf
+  second none k =
+      let q : Y ≡ ended (L .stack) goFull 0 = ap (λ (x : Bool). cond x (landOf 2100 ws rs (n .threads % 9 * 33) (L .stack) (engine.youngGo h) 0) (ended (L .stack) goFull 0)) k in
+      record {
+        sized = along (λ (E : Ended). Sized b (E .stack)) (sym q) (lands .sized);
+        others = λ i l. ap (λ (E : Ended). frameAt (E .stack) i) q;
+        full = ap (λ (x : Bool). x && fullOf (Y .landed)) k;
+        head = λ y z. absurd (Option·none-ne-some y z);
+      }
+  second (some y) (k, few, o, known, goes) =
+      let e : n .threads % 9 ≡ n .threads = mod-eq-of-lt (omega arith) in
+      let q : landOf 2100 ws rs (n .threads % 9 * 33) (L .stack) (engine.youngGo h) 0 ≡ Y =
+      ap (λ (x : Bool). cond x (landOf 2100 ws rs (n .threads % 9 * 33) (L .stack) (engine.youngGo h) 0) (ended (L .stack) goFull 0)) (sym k) in
+      let lands′ : Lands b (L .stack) (n .threads * 33) (y .code) Y =
+      along (λ (E : Ended). Lands b (L .stack) (n .threads * 33) (y .code) E) q
+      (along (λ (c : ℕ). Lands b (L .stack) (c * 33) (y .code) (landOf 2100 ws rs (n .threads % 9 * 33) (L .stack) (engine.youngGo h) 0)) e
+      (landed b ws rs ok loaded (n .threads % 9 * 33) (L .stack) (lands .sized) (omega arith) [] tt (engine.youngGo h) 0 refl (omega arith) (y .code) goes)) in
+      record {
+        sized = lands′ .sized;
+        others = λ i l. lands′ .others i (inl l);
+        full = ap (λ (x : Bool). x && fullOf (Y .landed)) k ∙ found-full b (Y .landed .stage) Y (n .threads * 33) (y .code) (lands′ .found);
+        head = λ y′ z f.
+            let same : y ≡ y′ = cc in
+            along (λ (y′ : machine.Thread). Headed b (Y .stack) (n .threads * 33) (bornOf n h (Y .landed)) y′) same
+            (let F = found-at b (Y .landed .stage) Y (n .threads * 33) (y .code) (lands′ .found) (ap (λ (x : Bool). x && fullOf (Y .landed)) (sym k) ∙ f) in
+            record { stack = F .0; held = F .1; depth = F .2; shallow = F .3; stands = F .4; object = o; keys = known; keys-fit = H .keys-fit });
+      }
+
+  -- ---- the room after the move
+
+  mover-there : getElem? olds p ≡ some (gone t)
+  mover-there = change-same (s .threads) p _ t there
+
+  two : Second (D .young)
+  two = second (D .young) (D .born)
+
+  mover-full : fullOf (L .landed) ≡ ltb 32 (height (D .code))
+  mover-full = found-full b (L .landed .stage) L (p * 33) (D .code) (lands .found)
+
+  pub deep-after : playing.noRoomAfter s p (v .state) ≡ cond (fullOf (L .landed) || youngFull) (some rooms.Room.depth) none
+  unfolding playing.noRoomAfter
+  deep-after =
+      ap (λ (xs : List machine.Thread). cond (playing.deepAt (getElem? xs p) || playing.anyDeep (drop (length (s .threads)) xs)) (some rooms.Room.depth) none) (D .threads)
+      ∙ room-after olds (D .young) _ p (length (s .threads)) (change-length (s .threads) p _) mover-there
+      ∙ ap₂ (λ (x y : Bool). cond (x || y) (some rooms.Room.depth) none) (sym mover-full) (sym (two .full))
+
+  -- ---- the state after the move
+
+  abbrev heads₁ : List Head
+  heads₁ = engine.withYoung (forksOf a) (m .heads) (n .threads % 9) (bornOf n h (Y .landed))
+
+  abbrev heads′ : List Head
+  heads′ = set heads₁ p (moverOf a h (L .landed))
+
+  mod-threads : n .threads % 9 ≡ n .threads
+  mod-threads = let x = few-threads mover in mod-eq-of-lt (omega arith)
+
+  -- the mover's head, a new thread's, and any other's
+  head-mover : headAt heads′ p ≡ moverOf a h (L .landed)
+  head-mover = getD-set-same heads₁ p (moverOf a h (L .landed)) noHead (let x = rel .heads-size in let y = young-size (forksOf a) (m .heads) (n .threads % 9) (bornOf n h (Y .landed)) in omega arith)
+
+  head-young : forksOf a ≡ true → headAt heads′ (n .threads) ≡ bornOf n h (Y .landed)
+  head-young k =
+      let l = here in
+      let z = few-threads mover in
+      let x = rel .heads-size in
+      getD-set-other heads₁ p (n .threads) (moverOf a h (L .landed)) noHead (λ e. omega arith)
+      ∙ ap (λ (i : ℕ). getD heads₁ i noHead) (sym mod-threads)
+      ∙ ap (λ (x : Bool). getD (engine.withYoung x (m .heads) (n .threads % 9) (bornOf n h (Y .landed))) (n .threads % 9) noHead) k
+      ∙ getD-set-same (m .heads) (n .threads % 9) (bornOf n h (Y .landed)) noHead (omega (arith, mod-threads))
+
+  head-other : (q : ℕ) → (q ≡ p → ⊥) → q < n .threads → headAt heads′ q ≡ headAt (m .heads) q
+  head-other q e l =
+      getD-set-other heads₁ p q (moverOf a h (L .landed)) noHead e ∙ young-other (forksOf a) (m .heads) (n .threads % 9) (bornOf n h (Y .landed)) q (λ x. omega (arith, mod-threads))
+
+  forked : (y : machine.Thread) → D .young ≡ some y → forksOf a ≡ true
+  forked y e = along (λ (young : Option machine.Thread). Born mover (h .ready) a young) e (D .born) .0
+
+  -- its frames are as they were, or as the first landing left them
+  mover-headed : fullOf (L .landed) ≡ false → Headed b (Y .stack) (p * 33) (moverOf a h (L .landed)) (gone t)
+  mover-headed f =
+      let F = found-at b (L .landed .stage) L (p * 33) (D .code) (lands .found) f in
+      let sh = F .3 in
+      let l = here in
+      record {
+        stack = F .0;
+        held = holds-same b (L .stack) (Y .stack) (p * 33) (F .0) (omega arith) (λ j i. two .others (p * 33 + j) (omega arith)) (F .1);
+        depth = F .2;
+        shallow = F .3;
+        stands = F .4;
+        object = H .object;
+        keys = refl;
+        keys-fit = D .keys-fit;
+      }
+
+  other-headed : (q : ℕ) (u : machine.Thread) → (q ≡ p → ⊥) → getElem? (s .threads) q ≡ some u → Headed b (Y .stack) (q * 33) (headAt (m .heads) q) u
+  other-headed q u e g =
+      let G = rel .each q u g in
+      let sh = G .shallow in
+      let l : q < n .threads = (let x = rel .kept .threads-count in let y = inside (s .threads) q u g in omega arith) in
+      record {
+        stack = G .stack;
+        held = holds-same b (m .stack) (Y .stack) (q * 33) (G .stack) (omega arith) (λ j i. two .others (q * 33 + j) (omega arith) ∙ lands .others (q * 33 + j) (apart q j e i)) (G .held);
+        depth = G .depth;
+        shallow = G .shallow;
+        stands = G .stands;
+        object = G .object;
+        keys = G .keys;
+        keys-fit = G .keys-fit;
+      }
+    where
+      apart : (q j : ℕ) → (q ≡ p → ⊥) → j < 33 → (q * 33 + j < p * 33) ⊎ (p * 33 + 33 ≤ q * 33 + j)
+      apart q j e l = by (decLt q p)
+        where
+          by : Dec (q < p) → (q * 33 + j < p * 33) ⊎ (p * 33 + 33 ≤ q * 33 + j)
+          by (yes h) = inl (omega arith)
+          by (no h) = inr (omega (arith, e, h))
+
+  each-after : (young : Option machine.Thread) → D .young ≡ young → fullOf (L .landed) ≡ false → youngFull ≡ false
+      → (q : ℕ) (u : machine.Thread) → getElem? (withYoung olds young) q ≡ some u
+      → Headed b (Y .stack) (q * 33) (headAt heads′ q) u
+  each-after young e fl fy q u g = by young e g
+    where
+      old : getElem? olds q ≡ some u → Headed b (Y .stack) (q * 33) (headAt heads′ q) u
+      old g = at (ℕ-discrete q p)
+        where
+          at : Dec (q ≡ p) → Headed b (Y .stack) (q * 33) (headAt heads′ q) u
+          at (yes e) =
+              let x : some (gone t) ≡ some u =
+              sym mover-there ∙ ap (getElem? olds) (sym e) ∙ g in
+              let y : gone t ≡ u = cc in
+              along (λ (u : machine.Thread). Headed b (Y .stack) (q * 33) (headAt heads′ q) u) y
+              (along (λ (q : ℕ). Headed b (Y .stack) (q * 33) (headAt heads′ q) (gone t)) (sym e)
+              (along (λ (h : Head). Headed b (Y .stack) (p * 33) h (gone t)) (sym head-mover) (mover-headed fl)))
+          at (no e) =
+              let g₁ = sym (change-other (s .threads) p gone q (λ x. e (sym x))) ∙ g in
+              let l : q < n .threads = (let x = rel .kept .threads-count in let y = inside (s .threads) q u g₁ in omega arith) in
+              along (λ (h : Head). Headed b (Y .stack) (q * 33) h u) (sym (head-other q e l)) (other-headed q u e g₁)
+
+      by : (young : Option machine.Thread) → D .young ≡ young → getElem? (withYoung olds young) q ≡ some u
+          → Headed b (Y .stack) (q * 33) (headAt heads′ q) u
+      by none e g = old g
+      by (some y) e g = at (added olds y q u g)
+        where
+          at : ((q < length olds) × (getElem? olds q ≡ some u))
+              ⊎ ((q ≡ length olds) × (y ≡ u)) → Headed b (Y .stack) (q * 33) (headAt heads′ q) u
+          at (inl (l, g)) = old g
+          at (inr (l, z)) =
+              let c : n .threads ≡ q = rel .kept .threads-count ∙ sym (l ∙ change-length (s .threads) p _) in
+              along (λ (u : machine.Thread). Headed b (Y .stack) (q * 33) (headAt heads′ q) u) z
+              (along (λ (q : ℕ). Headed b (Y .stack) (q * 33) (headAt heads′ q) y) c
+              (along (λ (h : Head). Headed b (Y .stack) (n .threads * 33) h y) (sym (head-young (forked y e))) (two .head y e fy)))
+
+  pub related-after : fullOf (L .landed) ≡ false → youngFull ≡ false → Related b (after m p a (turnedBy ws rs (volatiles b) m p answer.Moved)) (v .state)
+  unfolding turnedBy
+  related-after fl fy = record {
+    heads-size = length-set heads₁ p (moverOf a h (L .landed)) ∙ young-size (forksOf a) (m .heads) (n .threads % 9) (bornOf n h (Y .landed)) ∙ rel .heads-size;
+    sized = two .sized;
+    kept =
+        along (λ (i : ℕ). Kept (volatiles b) (set (m .cells) (cellNumber (h .ready)) (a .cell)) (set (m .objects) i (a .thing)) (a .counts) (v .state))
+        (sym (mod-eq-of-lt (let x = few-objects in omega arith))) (D .kept);
+    each = λ q u g. each-after (D .young) refl fl fy q u (ap (λ (xs : List machine.Thread). getElem? xs q) (sym (D .threads)) ∙ g);
+  }

@@ -1,0 +1,115 @@
+-- The parts of a move that any rule may have: keys learnt, a record entered, the thread gone on. Assumes nothing.
+use Prim.Native.Nat.{ℕ, _≤_, _<_}
+use native.Mathlib.Omega.{arith}
+use mathlib.Core.Path.{_≡_, refl, sym, ap, _∙_}
+use mathlib.Core.Bool.{false}
+use mathlib.Core.List.{List}
+use mathlib.Core.Option.{Option, none}
+use lib.Bits.{or-comm}
+use lib.Dec.{eqb}
+use lib.ListN.{length, getD, set}
+use Rattle.keys.specs.declared.KeySet.{KeySet}
+use Rattle.keys.specs.Keys.{Keys, union}
+use Rattle.keys.specs.KeySet.{keysOf, joinOf}
+use Rattle.keys.proofs.KeySetLaws.{Fits, keys-join}
+use Rattle.packed.specs.Format.{volatiles}
+use Rattle.records.specs.Record.{Record, entry}
+use Rattle.records.specs.Record as records
+use Rattle.rules.specs.State.{changeAt}
+use Rattle.rules.specs.Rules.{Rule}
+use Rattle.machine.specs.Frames as frames
+use Rattle.machine.specs.Machine as machine
+use Rattle.machine.specs.Playing.{tableOf}
+use Rattle.machine.specs.Playing as playing
+use Rattle.frames.specs.declared.go.Ready.{Ready}
+use Rattle.frames.specs.declared.go.Go.{Go}
+use Rattle.state.specs.declared.Head.{Head}
+use Rattle.state.specs.declared.Cell.{Cell}
+use Rattle.state.specs.declared.Object.{Object}
+use Rattle.state.specs.declared.Counts.{Counts}
+use Rattle.state.specs.declared.Entry.{Entry}
+use Rattle.state.specs.declared.acted.Room.the-variants as room
+use Rattle.state.specs.Acted.{entryOf, nothing, actedOf}
+use Rattle.engine.specs.Machine as engine
+use Rattle.engine.specs.Machine.{noCell, headAt}
+use Rattle.refinement.proofs.Meant.{Goes}
+use Rattle.refinement.proofs.States.{Kept, Headed, Related}
+use Rattle.refinement.proofs.KeptLaws.{kept-changed, kept-past, kept-same}
+use Rattle.refinement.proofs.Looks.{Written, Entered, attempt-act}
+use Rattle.refinement.proofs.Moves.{Mover, Acts}
+use Rattle.refinement.proofs.ChangeLaws.{change-agree, change-none, change-twice}
+
+-- a thread that knows the keys K
+abbrev knowing : Keys → machine.Thread → machine.Thread
+knowing K x = record { self = x .self; code = x .code; keys = K }
+
+-- thread p's head, were r its part
+abbrev pub headFor : engine.Machine → ℕ → Ready → Head
+headFor m p r = record { ready = r; depth = headAt (m .heads) p .depth; object = headAt (m .heads) p .object; keys = headAt (m .heads) p .keys }
+
+module _ {b : List ℕ} {m : engine.Machine} {s : machine.State} {p : ℕ} (mover : Mover b m s p) where
+  open engine.Machine m using (cells as cs, objects as ts)
+  open Mover mover using (thread as t, there, small, reached as reach)
+  open Related (mover .related) using (kept as k)
+  open Headed (mover .headed) using (stack as S, keys as known, keys-fit as fits)
+
+  abbrev n : Counts
+  n = m .tally .counts
+
+  abbrev ks : KeySet
+  ks = headAt (m .heads) p .keys
+
+  -- what is ready is tried
+  pub attempts : {A : machine.Act} (R : frames.Ready) → t .code ≡ frames.Found.here S R → machine.act (tableOf b) s p t R ≡ A → machine.attempt (tableOf b) s p ≡ machine.around (tableOf b) p S A
+  attempts R e h = attempt-act (tableOf b) s p t there S R _ e h
+
+  -- what the mover knows
+  pub unlearnt : s .threads ≡ changeAt (s .threads) p (knowing (keysOf ks))
+  unlearnt =
+      sym (change-none (s .threads) p)
+      ∙ change-agree (s .threads) p (λ x. x) (knowing (keysOf ks)) t there (ap (λ (K : Keys). knowing K t) (sym known))
+
+  pub learnt : (K L : Keys) → union K (t .keys) ≡ L
+      → changeAt (s .threads) p (λ x. record { self = x .self; code = x .code; keys = union K (x .keys) }) ≡ changeAt (s .threads) p (knowing L)
+  learnt K L e = change-agree (s .threads) p _ (knowing L) t there (ap (λ (K : Keys). knowing K t) e)
+
+  pub joined : (c : KeySet) → Fits c → union (keysOf c) (t .keys) ≡ keysOf (joinOf ks c)
+  unfolding union
+  joined c f = ap (union (keysOf c)) (sym known) ∙ or-comm (keysOf c) (keysOf ks) ∙ sym (keys-join fits f)
+
+  -- a move that forks no thread
+  pub moved : (r₀ : Ready) (i : ℕ) (R : Rule) (r : Option Record) (s′ : machine.State) (F : frames.Found) (g : Go) (n′ : Counts) (ks′ : KeySet) (c : Cell) (x : Object) (e : Entry)
+      → playing.noRoomBefore s R ≡ none → Entered p e r → eqb (e .kind) 8 ≡ false → Goes b g S F → Fits ks′
+      → s′ .threads ≡ changeAt (s .threads) p (knowing (keysOf ks′)) → Kept (volatiles b) (set cs i c) (set ts (n .objects) x) n′ s′
+      → Acts mover r₀ i (record { room = room.Enough; go = g; keys = ks′; cell = c; thing = x; counts = n′; entry = e }) (record { rule = R; entry = r; state = machine.become s′ p F })
+  unfolding machine.become
+  moved r₀ i R r s′ F g n′ ks′ c x e lack ent kind goes fit threads kept = record {
+    lacks = lack;
+    does = record {
+      entered = ent;
+      code = F;
+      goes = goes;
+      young = none;
+      born = kind;
+      threads =
+          ap (λ (xs : List machine.Thread). changeAt xs p (λ x. record { self = x .self; code = F; keys = x .keys })) threads
+          ∙ change-twice (s .threads) p (knowing (keysOf ks′)) (λ x. record { self = x .self; code = F; keys = x .keys });
+      keys-fit = fit;
+      kept = kept-changed kept p _ (λ x. refl);
+    };
+  }
+
+  -- a move that leaves the memory and the keys as they are, and no record
+  pub plain : (r₀ : Ready) (i : ℕ) (R : Rule) (F : frames.Found) (g : Go) → playing.noRoomBefore s R ≡ none → Goes b g S F
+      → Acts mover r₀ i (actedOf room.Enough g n ks (getD cs i noCell) (entryOf 0 0 0 0)) (record { rule = R; entry = none; state = machine.become s p F })
+  plain r₀ i R F g lack goes = moved r₀ i R none s F g n ks (getD cs i noCell) nothing (entryOf 0 0 0 0) lack refl refl goes fits unlearnt (kept-past (kept-same k i) nothing)
+
+  pub few-threads : n .threads ≤ 8
+  few-threads = let a = k .threads-count in let c = reach .limits .counts .few-threads in omega arith
+
+  pub object-there : (o : ℕ) → o < length (s .objects) → o < n .objects
+  object-there o h = let a = k .objects-count in omega arith
+
+  -- an entry is a record
+  pub written : (K : records.Kind) (o f v : ℕ) → o < 32 → f < 32 → v < 32 → Written p (entryOf (records.kindNumber K) o f v) (entry K p o f v)
+  written K o f v x y z = record { kind = refl; thread = refl; object = refl; field = refl; value = refl; thread-fits = small; object-fits = x; field-fits = y; value-fits = z }

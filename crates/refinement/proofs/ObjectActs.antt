@@ -1,0 +1,272 @@
+-- What the code does for a new object, a fork or a join is what the abstract machine's move does. Assumes nothing.
+use Prim.Native.Nat.{ℕ, _+_, _%_, _<_}
+use native.Mathlib.Nat.{mod-eq-of-lt}
+use native.Mathlib.Omega.{arith}
+use mathlib.Core.Path.{_≡_, refl, sym, ap, _∙_, subst as along}
+use mathlib.Core.Bool.{Bool, true, false, cond}
+use mathlib.Core.List.{List, [], _∷_, _++_}
+use mathlib.Core.Option.{Option, some, none}
+use mathlib.Core.Logic.{inl, inr}
+use lib.Dec.{eqb, leb}
+use lib.ListN.{length, getD, set, getElem?}
+use borrow.Author.Tests.{leb-false, lt-leb}
+use Rattle.keys.specs.declared.KeySet.{KeySet}
+use Rattle.keys.specs.Keys.{Keys, union}
+use Rattle.keys.specs.KeySet.{keysOf, joinOf}
+use Rattle.keys.proofs.KeySetLaws.{Fits, fits-join}
+use Rattle.packed.specs.Format.{volatiles, terms, maskBit, fieldsFrom}
+use Rattle.packed.specs.Trees.{nodeAt, programOf}
+use Rattle.records.specs.Record.{entry}
+use Rattle.records.specs.Record as records
+use Rattle.rules.specs.State.{changeAt}
+use Rattle.rules.specs.Rules.{e-new, e-join}
+use Rattle.rules.specs.Step.{forJoin, notThread}
+use Rattle.rules.proofs.StateLaws.{inside, length-added}
+use Rattle.machine.specs.Frames as frames
+use Rattle.machine.specs.Landing.{enter, up}
+use Rattle.machine.specs.Landing as land
+use Rattle.machine.specs.Machine as machine
+use Rattle.machine.specs.Playing.{tableOf}
+use Rattle.machine.specs.Playing as playing
+use Rattle.machine.proofs.Sorted.{Well}
+use Rattle.machine.proofs.Standing.{standing}
+use Rattle.frames.specs.Parts.{Part as part}
+use Rattle.frames.specs.Going.{readyOf, goValue}
+use Rattle.state.specs.declared.Head.{Head}
+use Rattle.state.specs.declared.Object.{Object}
+use Rattle.state.specs.declared.Counts.{Counts}
+use Rattle.look.specs.declared.Sight.{Sight}
+use Rattle.look.specs.declared.Sight.the-variants as sight
+use Rattle.state.specs.declared.acted.Room.the-variants as room
+use Rattle.look.specs.Look.{objectBy, fieldBy, lookJoin}
+use Rattle.state.specs.Acted.{entryOf, nothing, countsOf, actedOf}
+use Rattle.objects.specs.Objects.{actNew, actFork, actJoin}
+use Rattle.engine.specs.Machine as engine
+use Rattle.engine.specs.Machine.{noHead, noCell, noThing, headAt}
+use Rattle.refinement.proofs.Meant.{closed, IsExpression}
+use Rattle.refinement.proofs.States.{numberOf, Kept, Headed, Related}
+use Rattle.refinement.proofs.Tests.{test-true, test-false}
+use Rattle.refinement.proofs.ThreadNumbers.{Strange, strange-number, added-number, other-number, found-thread}
+use Rattle.refinement.proofs.KeptLaws.{kept-changed, kept-past, kept-object, kept-same, no-fields, no-bit}
+use Rattle.refinement.proofs.Looks.{Written, MeetsBy, ready-there}
+use Rattle.refinement.proofs.Moves.{Mover, Acts, moverIn}
+use Rattle.refinement.proofs.Moving.{headFor, unlearnt, learnt, joined, moved, few-threads, object-there, written, attempts}
+use Rattle.refinement.proofs.Ended.{joinBy, Ends, ends}
+use Rattle.refinement.proofs.ChangeLaws.{change-agree, change-before}
+
+module _ {b : List ℕ} {m : engine.Machine} {s : machine.State} {p : ℕ} (mover : Mover b m s p) where
+  open engine.Machine m using (cells as cs, objects as ts, heads as l)
+  open Mover mover using (thread as t, there, small, reached as reach)
+  open Related (mover .related) using (kept as k, each)
+  open Headed (mover .headed) using (stack as S, keys as known, keys-fit as fits)
+
+  abbrev n : Counts
+  n = m .tally .counts
+
+  abbrev ks : KeySet
+  ks = headAt (m .heads) p .keys
+
+  -- no thread has the next object for its own
+  strange : Strange (s .threads) (n .objects)
+  strange q u h e =
+      let z = standing (tableOf b) (programOf b) s q u reach h .self-there in
+      let c = k .objects-count in
+      omega arith
+
+  -- E-NEW
+  pub new-meets : (a b′ w env i : ℕ) → Well S → eqb (maskBit a 0) 1 ≡ false → t .code ≡ frames.Found.here S (frames.Ready.new (fieldsFrom a 0 32))
+      → MeetsBy sight.Ready p (readyOf part.New a b′ w env) (machine.attempt (tableOf b) s p) (Acts mover (readyOf part.New a b′ w env) i (actNew n (headFor m p (readyOf part.New a b′ w env)) (getD cs i noCell) a))
+  unfolding actNew machine.act machine.around machine.addObject playing.noRoomBefore land.go tableOf
+  new-meets a b′ w env i well out code = by (leb 32 (n .objects)) refl
+    where
+      count : n .objects ≡ length (s .objects)
+      count = k .objects-count
+
+      kept : n .objects < 32 → Kept (volatiles b) (set cs i (getD cs i noCell)) (set ts (n .objects) (record { mask = a; thread = 8 })) (countsOf (n .threads) (n .objects + 1) (n .keys)) (machine.addObject s (fieldsFrom a 0 32))
+      kept h =
+          kept-object (kept-same k i) (record { mask = a; thread = 8 }) (s .threads) (n .threads) h out (k .threads-count) (λ o l. refl)
+          (ap numberOf (sym (strange-number (s .threads) 0 (n .objects) strange)))
+
+      acted : machine.attempt (tableOf b) s p ≡ machine.around (tableOf b) p S (machine.act (tableOf b) s p t (frames.Ready.new (fieldsFrom a 0 32)))
+      acted = attempts mover (frames.Ready.new (fieldsFrom a 0 32)) code refl
+
+      by : (x : Bool) → leb 32 (n .objects) ≡ x
+          → (v : machine.Move) × (machine.attempt (tableOf b) s p ≡ machine.Attempt.moves v)
+          × Acts mover (readyOf part.New a b′ w env) i (cond x
+          (actedOf room.NoObject (goValue (n .objects)) n ks (getD cs i noCell) (entryOf 0 0 0 0))
+          (record {
+            room = room.Enough;
+            go = goValue (n .objects);
+            keys = ks;
+            cell = getD cs i noCell;
+            thing = record { mask = a; thread = 8 };
+            counts = countsOf (n .threads) (n .objects + 1) (n .keys);
+            entry = entryOf 1 (n .objects) 0 0;
+          })) v
+      by true e = (_, acted, record { lacks = test-true (leb 32 (length (s .objects))) _ _ (ap (leb 32) (sym count) ∙ e); does = tt })
+      by false e =
+          let h : n .objects < 32 = leb-false 32 (n .objects) e in (
+            _,
+            acted,
+            moved mover _ i e-new (some (entry records.Kind.new p (length (s .objects)) 0 0)) (machine.addObject s (fieldsFrom a 0 32)) (up (nodeAt b) (terms b) S (length (s .objects))) (goValue (n .objects))
+                (countsOf (n .threads) (n .objects + 1) (n .keys)) ks (getD cs i noCell) (record { mask = a; thread = 8 }) (entryOf 1 (n .objects) 0 0)
+                (test-false (leb 32 (length (s .objects))) _ _ (ap (leb 32) (sym count) ∙ e))
+                (along (λ (o : ℕ). Written p (entryOf 1 (n .objects) 0 0) (entry records.Kind.new p o 0 0)) count (written mover records.Kind.new (n .objects) 0 0 h (omega arith) (omega arith)))
+                refl (well, h, ap (up (nodeAt b) (terms b) S) (sym count)) fits (unlearnt mover) (kept h),
+          )
+
+  -- E-FORK
+  pub fork-meets : (u b′ w env i : ℕ) → Well S → IsExpression b u → t .code ≡ frames.Found.here S (frames.Ready.fork (closed u env))
+      → MeetsBy sight.Ready p (readyOf part.Fork u b′ w env) (machine.attempt (tableOf b) s p) (Acts mover (readyOf part.Fork u b′ w env) i (actFork n (headFor m p (readyOf part.Fork u b′ w env)) (getD cs i noCell)))
+  unfolding actFork machine.act machine.around machine.addObject machine.addThread machine.become playing.noRoomBefore land.go tableOf
+  fork-meets u b′ w env i well hu code = by (leb 8 (n .threads)) (leb 32 (n .objects)) refl refl
+    where
+      count : n .objects ≡ length (s .objects)
+      count = k .objects-count
+
+      count-threads : n .threads ≡ length (s .threads)
+      count-threads = k .threads-count
+
+      y : machine.Thread
+      y = record { self = length (s .objects); code = enter (nodeAt b) (terms b) [] (closed u env); keys = t .keys }
+
+      x : Object
+      x = record { mask = 0; thread = n .threads }
+
+      s′ : machine.State
+      s′ = machine.addThread (machine.addObject s []) y
+
+      F : frames.Found
+      F = up (nodeAt b) (terms b) S (length (s .objects))
+
+      n′ : Counts
+      n′ = countsOf (n .threads + 1) (n .objects + 1) (n .keys)
+
+      threads-after : machine.become s′ p F .threads ≡ changeAt (s .threads) p (moverIn F (keysOf ks)) ++ (y ∷ [])
+      threads-after =
+          change-before (s .threads) y p _ (inside (s .threads) p t there)
+          ∙ ap (λ (xs : List machine.Thread). xs ++ (y ∷ [])) (change-agree (s .threads) p _ (moverIn F (keysOf ks)) t there (ap (λ (K : Keys). moverIn F K t) (sym known)))
+
+      kept : n .objects < 32 → Kept (volatiles b) (set cs i (getD cs i noCell)) (set ts (n .objects) x) n′ s′
+      kept h =
+          along (λ (fs : List ℕ). Kept (volatiles b) (set cs i (getD cs i noCell)) (set ts (n .objects) x) n′ (machine.addThread (machine.addObject s fs) y)) no-fields
+          (kept-object (kept-same k i) x (s .threads ++ (y ∷ [])) (n .threads + 1) h no-bit (more (s .threads) y count-threads)
+          (λ o l. other-number (s .threads) y 0 o (λ e. omega arith))
+          (let z = added-number (s .threads) y 0 (n .objects) (sym count) strange in omega arith))
+        where
+          more : (xs : List machine.Thread) (y : machine.Thread) → n .threads ≡ length xs → n .threads + 1 ≡ length (xs ++ (y ∷ []))
+          more xs y e = let z = length-added xs y in omega arith
+
+      acted : machine.attempt (tableOf b) s p ≡ machine.around (tableOf b) p S (machine.act (tableOf b) s p t (frames.Ready.fork (closed u env)))
+      acted = attempts mover (frames.Ready.fork (closed u env)) code refl
+
+      by : (x₁ x₂ : Bool) → leb 8 (n .threads) ≡ x₁ → leb 32 (n .objects) ≡ x₂
+          → (v : machine.Move) × (machine.attempt (tableOf b) s p ≡ machine.Attempt.moves v)
+          × Acts mover (readyOf part.Fork u b′ w env) i (cond x₁
+          (actedOf room.NoThread (goValue (n .objects)) n ks (getD cs i noCell) (entryOf 0 0 0 0))
+          (cond x₂
+          (actedOf room.NoObject (goValue (n .objects)) n ks (getD cs i noCell) (entryOf 0 0 0 0))
+          (record {
+            room = room.Enough;
+            go = goValue (n .objects);
+            keys = ks;
+            cell = getD cs i noCell;
+            thing = x;
+            counts = n′;
+            entry = entryOf 8 (n .objects) (n .threads) 0;
+          }))) v
+      by true x₂ e₁ e₂ = (_, acted, record { lacks = test-true (leb 8 (length (s .threads))) _ _ (ap (leb 8) (sym count-threads) ∙ e₁); does = tt })
+      by false true e₁ e₂ = (
+        _,
+        acted,
+        record {
+          lacks = test-false (leb 8 (length (s .threads))) _ _ (ap (leb 8) (sym count-threads) ∙ e₁) ∙ test-true (leb 32 (length (s .objects))) _ _ (ap (leb 32) (sym count) ∙ e₂);
+          does = tt;
+        },
+      )
+      by false false e₁ e₂ =
+          let h : n .objects < 32 = leb-false 32 (n .objects) e₂ in
+          let g : n .threads < 8 = leb-false 8 (n .threads) e₁ in (
+            _,
+            acted,
+            record {
+              lacks = test-false (leb 8 (length (s .threads))) _ _ (ap (leb 8) (sym count-threads) ∙ e₁) ∙ test-false (leb 32 (length (s .objects))) _ _ (ap (leb 32) (sym count) ∙ e₂);
+              does = record {
+                entered = record {
+                  kind = refl;
+                  thread = refl;
+                  object = count;
+                  field = count-threads;
+                  value = refl;
+                  thread-fits = small;
+                  object-fits = h;
+                  field-fits = omega arith;
+                  value-fits = omega arith;
+                };
+                code = F;
+                goes = (well, h, ap (up (nodeAt b) (terms b) S) (sym count));
+                young = some y;
+                born = (refl, g, count, known, (tt, hu, refl));
+                threads = threads-after;
+                keys-fit = fits;
+                kept = kept-changed (kept h) p _ (λ x. refl);
+              };
+            },
+          )
+
+  -- E-JOIN
+  pub join-meets : (o b′ w env i j : ℕ) → j ≡ o → Well S → o < 32 → t .code ≡ frames.Found.here S (frames.Ready.join o)
+      → MeetsBy (lookJoin (getD ts j noThing) (getD l (getD ts j noThing .thread % 9) noHead .ready .part)) p (readyOf part.Join o b′ w env) (machine.attempt (tableOf b) s p)
+      (Acts mover (readyOf part.Join o b′ w env) i (actJoin n (headFor m p (readyOf part.Join o b′ w env)) (getD cs i noCell) (getD ts j noThing) (getD l (getD ts j noThing .thread % 9) noHead) o))
+  unfolding objectBy fieldBy lookJoin machine.act machine.joinAct machine.joinValue machine.around machine.learn playing.noRoomBefore land.go tableOf
+  join-meets o b′ w env i j ej well ho code =
+      by (machine.threadOf 0 (s .threads) o) refl
+      (ap (λ (j : ℕ). getD ts j noThing .thread) ej ∙ k .numbers o (object-there mover o (ready-there b s p t reach there S (frames.Ready.join o) code)))
+    where
+      -- thread a, whose head is q, is joined: the look says w₁
+      Sees : Sight → ℕ → Head → Type 0
+      Sees w₁ a q =
+          MeetsBy w₁ p (readyOf part.Join o b′ w env) (machine.attempt (tableOf b) s p)
+          (Acts mover (readyOf part.Join o b′ w env) i (actedOf room.Enough (goValue (q .ready .a)) n (joinOf ks (q .keys)) (getD cs i noCell) (entryOf 9 o a (q .ready .a))))
+
+      Goal : ℕ → Head → Type 0
+      Goal a q = Sees (cond (leb 8 a) sight.NoThread (joinBy (q .ready .part))) a q
+
+      acted : (x : Option machine.Numbered) → machine.threadOf 0 (s .threads) o ≡ x
+          → machine.attempt (tableOf b) s p ≡ machine.around (tableOf b) p S (machine.joinAct s p o x)
+      acted x e = attempts mover (frames.Ready.join o) code (ap (machine.joinAct s p o) e)
+
+      finish : (q : machine.Numbered) (h : Head) (w₁ : Sight) → machine.threadOf 0 (s .threads) o ≡ some q → q .number < 8
+          → keysOf (h .keys) ≡ q .thread .keys → Fits (h .keys) → Ends (h .ready .part) (h .ready .a) (q .thread .code) → joinBy (h .ready .part) ≡ w₁ → Sees w₁ (q .number) h
+      finish q h w₁ e lt eq fit (inl (j, f, v)) e₁ =
+          along (λ (w₁ : Sight). Sees w₁ (q .number) h) (sym j ∙ e₁) (
+            _,
+            acted (some q) e ∙ ap (λ (v : Option ℕ). machine.around (tableOf b) p S (machine.joinValue s p o q v)) f,
+            moved mover _ i e-join (some (entry records.Kind.join p o (q .number) (h .ready .a))) (machine.learn s p (q .thread .keys)) (up (nodeAt b) (terms b) S (h .ready .a)) (goValue (h .ready .a)) n
+                (joinOf ks (h .keys)) (getD cs i noCell) nothing (entryOf 9 o (q .number) (h .ready .a)) refl (written mover records.Kind.join o (q .number) (h .ready .a) ho (omega arith) v) refl
+                (well, v, refl) (fits-join fits fit) (learnt mover (q .thread .keys) _ (ap (λ (K : Keys). union K (t .keys)) (sym eq) ∙ joined mover (h .keys) fit))
+                (kept-changed (kept-past (kept-same k i) nothing) p _ (λ x. refl)),
+          )
+      finish q h w₁ e lt eq fit (inr (j, f)) e₁ =
+          along (λ (w₁ : Sight). Sees w₁ (q .number) h) (sym j ∙ e₁)
+          (acted (some q) e
+          ∙ ap (λ (v : Option ℕ). machine.around (tableOf b) p S (machine.joinValue s p o q v)) f
+          ∙ ap (λ (o : ℕ). machine.Attempt.waiting (forJoin o)) (sym (mod-eq-of-lt ho)))
+
+      by : (x : Option machine.Numbered) → machine.threadOf 0 (s .threads) o ≡ x → getD ts j noThing .thread ≡ numberOf x
+          → Goal (getD ts j noThing .thread) (getD l (getD ts j noThing .thread % 9) noHead)
+      by none e num =
+          along (λ (a : ℕ). Goal a (getD l (a % 9) noHead)) (sym num)
+          (acted none e ∙ ap (λ (o : ℕ). machine.Attempt.stuck (notThread o)) (sym (mod-eq-of-lt ho)))
+      by (some q) e num =
+          let f = found-thread (s .threads) 0 o q e in
+          let f₁ : q .number ≡ f .0 = omega (arith, f .1) in
+          let at : getElem? (s .threads) (q .number) ≡ some (q .thread) = ap (getElem? (s .threads)) f₁ ∙ f .2 in
+          let lt : q .number < 8 =
+          (let z = inside (s .threads) (q .number) (q .thread) at in let y = few-threads mover in let c = k .threads-count in omega arith) in
+          let H = each (q .number) (q .thread) at in
+          along (λ (a : ℕ). Goal a (getD l (a % 9) noHead)) (sym num)
+          (along (λ (z : ℕ). Goal (q .number) (getD l z noHead)) (sym (mod-eq-of-lt {m = 9} (omega arith)))
+          (along (λ (x : Bool). Sees (cond x sight.NoThread (joinBy (headAt l (q .number) .ready .part))) (q .number) (headAt l (q .number)))
+          (sym (lt-leb 8 (q .number) lt))
+          (finish q (headAt l (q .number)) _ e lt (H .keys) (H .keys-fit) (ends b (headAt l (q .number) .ready) (H .stack) (q .thread .code) (H .stands)) refl)))

@@ -1,0 +1,91 @@
+-- What the code does for a part that leaves no record is what the abstract machine's move does. Assumes nothing.
+use Prim.Native.Nat.{ℕ, _<_}
+use native.Mathlib.Omega.{arith}
+use mathlib.Core.Path.{_≡_, refl}
+use mathlib.Core.Bool.{true}
+use mathlib.Core.List.{List, _∷_}
+use mathlib.Core.Option.{none}
+use lib.ListN.{getD}
+use Rattle.keys.specs.declared.KeySet.{KeySet}
+use Rattle.packed.specs.Format.{terms}
+use Rattle.packed.specs.Trees.{nodeAt}
+use Rattle.packed.proofs.Accepted.{accepted}
+use Rattle.rules.specs.Rules.{e-while, e-if}
+use Rattle.machine.specs.Frames.{branches}
+use Rattle.machine.specs.Frames as frames
+use Rattle.machine.specs.Landing.{enter, enterᶜ}
+use Rattle.machine.specs.Landing as land
+use Rattle.machine.specs.Machine as machine
+use Rattle.machine.specs.Playing.{tableOf}
+use Rattle.machine.specs.Playing as playing
+use Rattle.machine.proofs.Sorted.{Well}
+use Rattle.frames.specs.declared.frame.Kind.the-variants as kind
+use Rattle.frames.specs.Parts.{Part as part}
+use Rattle.frames.specs.declared.go.Ready.{Ready}
+use Rattle.frames.specs.declared.go.Go.{Go}
+use Rattle.frames.specs.Frames.{framed}
+use Rattle.frames.specs.Going.{readyOf, goWant, goWantCondition}
+use Rattle.state.specs.declared.Counts.{Counts}
+use Rattle.look.specs.declared.Sight.the-variants as sight
+use Rattle.state.specs.declared.acted.Room.the-variants as room
+use Rattle.state.specs.Acted.{entryOf, actedOf}
+use Rattle.engine.specs.Machine as engine
+use Rattle.engine.specs.Machine.{noCell, headAt}
+use Rattle.refinement.proofs.Meant.{slots, closed, IsExpression, IsCondition, Goes, Unlogged}
+use Rattle.refinement.proofs.States.{Headed}
+use Rattle.refinement.proofs.Looks.{MeetsBy, attempt-condition}
+use Rattle.refinement.proofs.Moves.{Mover, Acts}
+use Rattle.refinement.proofs.Moving.{plain, attempts}
+
+module _ {b : List ℕ} {m : engine.Machine} {s : machine.State} {p : ℕ} (mover : Mover b m s p) where
+  open engine.Machine m using (cells as cs)
+  open Mover mover using (ok, thread as t, there)
+  open Headed (mover .headed) using (stack as S)
+
+  abbrev n : Counts
+  n = m .tally .counts
+
+  abbrev ks : KeySet
+  ks = headAt (m .heads) p .keys
+
+  -- a part that leaves no record and changes nothing but where its thread stands
+  pub pure-meets : (i : ℕ) (r : Ready) (x : frames.Result) (R : frames.Ready) (g : Go) → t .code ≡ frames.Found.here S R → Unlogged b R x
+      → Goes b g S (land.go (nodeAt b) (terms b) S x)
+      → MeetsBy sight.Ready p r (machine.attempt (tableOf b) s p) (Acts mover r i (actedOf room.Enough g n ks (getD cs i noCell) (entryOf 0 0 0 0)))
+  unfolding machine.around tableOf
+  pure-meets i r x R g code u goes =
+      (_, attempts mover R code (u .acts s p t), plain mover _ i (u .rule) (land.go (nodeAt b) (terms b) S x) g (u .needs-no-room s) goes)
+
+  pub condition-meets : (i : ℕ) (r : Ready) (Q : frames.Readyᶜ) (g : Go) → t .code ≡ frames.Found.hereᶜ S Q → playing.noRoomBefore s (machine.actᶜ (tableOf b) S Q .rule) ≡ none
+      → Goes b g S (machine.actᶜ (tableOf b) S Q .code)
+      → MeetsBy sight.Ready p r (machine.attempt (tableOf b) s p) (Acts mover r i (actedOf room.Enough g n ks (getD cs i noCell) (entryOf 0 0 0 0)))
+  condition-meets i r Q g code lack goes =
+      (_, attempt-condition (tableOf b) s p t there S Q code, plain mover _ i (machine.actᶜ (tableOf b) S Q .rule) (machine.actᶜ (tableOf b) S Q .code) g lack goes)
+
+  -- a while, and the turn of its body
+  loops : {a b′ : ℕ} → IsCondition b a → IsExpression b b′ → (a < 1024) × (b′ < 1024)
+  loops x y = let z = accepted b ok .few-terms in omega arith
+
+  pub while-meets : (a b′ w env i : ℕ) → Well S → IsCondition b a → IsExpression b b′ → t .code ≡ frames.Found.here S (frames.Ready.while (branches a b′ (slots env)))
+      → MeetsBy sight.Ready p (readyOf part.While a b′ w env) (machine.attempt (tableOf b) s p)
+      (Acts mover (readyOf part.While a b′ w env) i (actedOf room.Enough (goWantCondition (framed kind.Test a b′ 0 env) a) n ks (getD cs i noCell) (entryOf 0 0 0 0)))
+  unfolding machine.act machine.around playing.noRoomBefore land.go tableOf
+  while-meets a b′ w env i well hc he code =
+      let z = loops hc he in (
+        _,
+        attempts mover (frames.Ready.while (branches a b′ (slots env))) code refl,
+        plain mover _ i e-while (enterᶜ (nodeAt b) (terms b) (frames.Frame.whileTest (branches a b′ (slots env)) ∷ S) (closed a env)) (goWantCondition (framed kind.Test a b′ 0 env) a) refl
+            (record { a-fits = z .0; b-fits = z .1; m-fits = omega arith; n-fits = omega arith; sorted = (hc, he) }, well, hc, refl),
+      )
+
+  pub body-meets : (a b′ w env i : ℕ) → Well S → IsCondition b a → IsExpression b b′ → t .code ≡ frames.Found.here S (frames.Ready.whileTest true (branches a b′ (slots env)))
+      → MeetsBy sight.Ready p (readyOf part.Body a b′ w env) (machine.attempt (tableOf b) s p)
+      (Acts mover (readyOf part.Body a b′ w env) i (actedOf room.Enough (goWant (framed kind.Body a b′ 0 env) b′) n ks (getD cs i noCell) (entryOf 0 0 0 0)))
+  unfolding machine.act machine.choose machine.around playing.noRoomBefore land.go tableOf
+  body-meets a b′ w env i well hc he code =
+      let z = loops hc he in (
+        _,
+        attempts mover (frames.Ready.whileTest true (branches a b′ (slots env))) code refl,
+        plain mover _ i e-if (enter (nodeAt b) (terms b) (frames.Frame.whileBody (branches a b′ (slots env)) ∷ S) (closed b′ env)) (goWant (framed kind.Body a b′ 0 env) b′) refl
+            (record { a-fits = z .0; b-fits = z .1; m-fits = omega arith; n-fits = omega arith; sorted = (hc, he) }, well, he, refl),
+      )
