@@ -2,7 +2,7 @@
 use Prim.Native.Nat.{ℕ}
 use mathlib.Core.Bool.{cond}
 use Rattle.frames.specs.declared.frame.Kind.the-variants as kind
-use Rattle.frames.specs.Parts.{Part as part}
+use Rattle.frames.specs.Parts.{Part as part, isPart}
 use Rattle.frames.specs.declared.go.Ready.{Ready}
 use Rattle.frames.specs.declared.go.Go.{Go}
 use Rattle.frames.specs.Frames.{framed}
@@ -14,7 +14,6 @@ use Rattle.state.specs.declared.Counts.{Counts}
 use Rattle.state.specs.declared.acted.Room.the-variants as room
 use Rattle.state.specs.declared.acted.Acted.{Acted}
 use Rattle.state.specs.Acted.{goOn}
-use Rattle.look.specs.Look.{isPart}
 use Rattle.accesses.specs.Accesses.{actRead, actWrite}
 use Rattle.objects.specs.Objects.{actNew, actFork, actJoin}
 use Rattle.monitors.specs.Monitors.{actSynch, actHold}

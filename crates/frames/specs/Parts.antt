@@ -1,5 +1,7 @@
 -- The parts that move next, and their numbers: the machine that the code runs; no reader of the entries' promises needs it. Assumes nothing.
 use Prim.Native.Nat.{ℕ}
+use mathlib.Core.Bool.{Bool}
+use lib.Dec.{eqb}
 
 pub data Part : Type 0 where
   Done NoRule Run RunCondition Val Truth While Body Again New Read Write Fork Join Synch Hold : Part
@@ -21,3 +23,7 @@ numberOf Part.Fork = 12
 numberOf Part.Join = 13
 numberOf Part.Synch = 14
 numberOf Part.Hold = 15
+
+-- whether a number is a part's
+abbrev pub isPart : Part → ℕ → Bool
+isPart q p = eqb p (numberOf q)

@@ -3,17 +3,13 @@ use Prim.Native.Nat.{ℕ, _-_, _/_, _%_, _^_}
 use mathlib.Core.Bool.{Bool, true, cond}
 use lib.Dec.{eqb, leb}
 use Rattle.keys.specs.KeySet.{holdsOf, isEmptyOf}
-use Rattle.frames.specs.Parts.{Part, Part as part, numberOf}
+use Rattle.frames.specs.Parts.{Part as part, isPart}
 use Rattle.frames.specs.declared.go.Ready.{Ready}
 use Rattle.state.specs.declared.Head.{Head}
 use Rattle.state.specs.declared.Cell.{Cell}
 use Rattle.state.specs.declared.Object.{Object}
 use Rattle.look.specs.declared.Sight.{Sight}
 use Rattle.look.specs.declared.Sight.the-variants as sight
-
--- whether a number is a part's
-abbrev pub isPart : Part → ℕ → Bool
-isPart q p = eqb p (numberOf q)
 
 -- the object and the field that a part is about
 unfoldable pub objectBy : ℕ → ℕ → ℕ

@@ -3,7 +3,7 @@
 use Prim.Native.Nat.{ℕ}
 use mathlib.Core.Bool.{Bool, true, false, cond}
 use lib.Dec.{eqb}
-use Rattle.frames.specs.Parts.{Part as part}
+use Rattle.frames.specs.Parts.{Part as part, isPart}
 use Rattle.frames.specs.declared.go.Ready.{Ready}
 use Rattle.frames.specs.declared.go.Stage.{Stage}
 use Rattle.frames.specs.declared.go.Stage.the-variants as stage
@@ -19,7 +19,6 @@ use Rattle.state.specs.declared.acted.Acted.{Acted}
 use Rattle.settle.specs.declared.Answer.{Answer}
 use Rattle.settle.specs.declared.Answer.the-variants as answer
 use Rattle.state.specs.Acted.{entryOf}
-use Rattle.look.specs.Look.{isPart}
 
 abbrev pub passesOf : Sight → Bool
 passesOf sight.Absent = true

@@ -1,3 +1,4 @@
+-- `act_read` meets its contract. Assumes nothing.
 use mathlib.Core.Path.{sym, _∙_}
 use Rattle.accesses.specs.Accesses.{actRead}
 use borrow.Author.Needs.{needs}

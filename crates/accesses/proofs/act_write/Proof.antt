@@ -1,3 +1,4 @@
+-- `act_write` meets its contract. Assumes nothing.
 use mathlib.Core.Path.{sym, _∙_}
 use borrow.Author.Tests.{le-leb, lt-leb}
 use Rattle.accesses.specs.Accesses.{actWrite}

@@ -1,3 +1,4 @@
+-- `act` meets its contract. Assumes nothing.
 use borrow.Author.Tests.{ne-eqb}
 use Rattle.act.specs.Act.{actBy}
 use borrow.Author.Needs.{needs}

@@ -1,3 +1,4 @@
+-- `act_pure` meets its contract. Assumes nothing.
 use borrow.Author.Tests.{ne-eqb}
 use Rattle.act.specs.Act.{pureBy}
 use borrow.Author.Needs.{needs}

@@ -1,3 +1,4 @@
+-- `first_cell` meets its contract. Assumes nothing.
 use borrow.Author.Needs.{needs}
 use Rattle.engine.proofs.first_cell.Statement.{statement}
 use Rattle.engine.proofs.first_cell.Tie as tie

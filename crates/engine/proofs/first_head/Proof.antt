@@ -1,3 +1,4 @@
+-- `first_head` meets its contract. Assumes nothing.
 use borrow.Author.Needs.{needs}
 use Rattle.engine.proofs.first_head.Statement.{statement}
 use Rattle.engine.proofs.first_head.Tie as tie

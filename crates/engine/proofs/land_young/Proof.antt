@@ -1,3 +1,4 @@
+-- `land_young` meets its contract. Assumes nothing.
 use mathlib.Core.Path.{sym, _∙_}
 use Rattle.engine.specs.Machine.{youngOf}
 use borrow.Author.Needs.{needs}

@@ -1,3 +1,4 @@
+-- `sight_of` meets its contract. Assumes nothing.
 use borrow.Author.Tests.{le-leb, lt-leb}
 use borrow.Author.Needs.{needs}
 use Rattle.engine.proofs.sight_of.Statement.{statement}

@@ -1,3 +1,4 @@
+-- `stop_of` meets its contract. Assumes nothing.
 use borrow.Author.Needs.{needs}
 use Rattle.engine.proofs.stop_of.Statement.{statement}
 use Rattle.engine.proofs.stop_of.Tie as tie

@@ -1,3 +1,4 @@
+-- `end_at` meets its contract. Assumes nothing.
 use borrow.Author.Needs.{needs}
 use Rattle.landing.proofs.end_at.Statement.{statement}
 use Rattle.landing.proofs.end_at.Tie as tie

@@ -1,3 +1,4 @@
+-- `top` meets its contract. Assumes nothing.
 use borrow.Author.Tests.{eq-eqb, ne-eqb}
 use borrow.Author.Needs.{needs}
 use Rattle.landing.proofs.top.Statement.{statement}

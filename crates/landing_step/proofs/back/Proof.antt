@@ -1,3 +1,4 @@
+-- `back` meets its contract. Assumes nothing.
 use borrow.Author.Tests.{eq-eqb, ne-eqb}
 use Rattle.landing_step.specs.Down.{backOf}
 use borrow.Author.Needs.{needs}

@@ -1,3 +1,4 @@
+-- `back_condition` meets its contract. Assumes nothing.
 use borrow.Author.Tests.{eq-eqb, ne-eqb}
 use Rattle.landing_step.specs.Down.{backConditionOf}
 use borrow.Author.Needs.{needs}

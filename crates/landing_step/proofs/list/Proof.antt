@@ -1,3 +1,4 @@
+-- `list` meets its contract. Assumes nothing.
 use borrow.Author.Tests.{eq-eqb, ne-eqb}
 use Rattle.landing_step.specs.Down.{listOf, listBy}
 use borrow.Author.Needs.{needs}

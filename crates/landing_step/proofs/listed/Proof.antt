@@ -1,3 +1,4 @@
+-- `listed` meets its contract. Assumes nothing.
 use mathlib.Core.Path.{sym}
 use Rattle.landing_step.proofs.Others.{listed-other}
 use borrow.Author.Needs.{needs}

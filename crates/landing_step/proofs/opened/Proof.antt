@@ -1,3 +1,4 @@
+-- `opened` meets its contract. Assumes nothing.
 use mathlib.Core.Path.{sym}
 use Rattle.landing_step.proofs.Others.{opened-other}
 use borrow.Author.Needs.{needs}

@@ -1,3 +1,4 @@
+-- `push` meets its contract. Assumes nothing.
 use borrow.Author.Tests.{lt-ltb, le-ltb}
 use Rattle.landing_step.specs.Down.{pushOf}
 use borrow.Author.Needs.{needs}

@@ -1,3 +1,4 @@
+-- `root` meets its contract. Assumes nothing.
 use mathlib.Core.Path.{refl}
 use Rattle.landing_step.specs.Down.{rootAt}
 use borrow.Author.Needs.{needs}

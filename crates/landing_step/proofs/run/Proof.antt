@@ -1,3 +1,4 @@
+-- `run` meets its contract. Assumes nothing.
 use borrow.Author.Tests.{ne-eqb}
 use Rattle.landing_step.specs.Down.{runOf, runBy}
 use borrow.Author.Needs.{needs}

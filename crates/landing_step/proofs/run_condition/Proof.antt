@@ -1,3 +1,4 @@
+-- `run_condition` meets its contract. Assumes nothing.
 use borrow.Author.Tests.{ne-eqb}
 use Rattle.landing_step.specs.Down.{runConditionOf, runConditionBy}
 use borrow.Author.Needs.{needs}

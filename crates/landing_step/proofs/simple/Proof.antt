@@ -1,3 +1,4 @@
+-- `simple` meets its contract. Assumes nothing.
 use borrow.Author.Tests.{ne-eqb}
 use Rattle.landing_step.specs.Down.{simpleOf, simpleBy}
 use borrow.Author.Needs.{needs}

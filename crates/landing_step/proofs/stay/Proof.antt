@@ -1,3 +1,4 @@
+-- `stay` meets its contract. Assumes nothing.
 use borrow.Author.Needs.{needs}
 use Rattle.landing_step.proofs.stay.Statement.{statement}
 use Rattle.landing_step.proofs.stay.Tie as tie

@@ -1,3 +1,4 @@
+-- `step` meets its contract. Assumes nothing.
 use mathlib.Core.Path.{sym}
 use Rattle.landing_step.proofs.Others.{step-other}
 use Rattle.landing_step.specs.Down.{stepOf}

@@ -1,3 +1,4 @@
+-- `want` meets its contract. Assumes nothing.
 use borrow.Author.Tests.{lt-ltb, le-ltb}
 use Rattle.landing_step.specs.Down.{wantOf, wantBy}
 use borrow.Author.Needs.{needs}

@@ -1,3 +1,4 @@
+-- `want_condition` meets its contract. Assumes nothing.
 use borrow.Author.Tests.{lt-ltb, le-ltb}
 use Rattle.landing_step.specs.Down.{wantConditionOf, wantConditionBy}
 use borrow.Author.Needs.{needs}

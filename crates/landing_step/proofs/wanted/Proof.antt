@@ -1,3 +1,4 @@
+-- `wanted` meets its contract. Assumes nothing.
 use mathlib.Core.Path.{sym, _∙_}
 use Rattle.landing_step.proofs.Others.{wanted-other}
 use borrow.Author.Needs.{needs}

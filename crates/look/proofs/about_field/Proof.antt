@@ -1,3 +1,4 @@
+-- `about_field` meets its contract. Assumes nothing.
 use borrow.Author.Tests.{eq-eqb, ne-eqb}
 use Rattle.look.specs.Look.{aboutField}
 use Rattle.look.proofs.about_field.Statement.{statement}

@@ -1,3 +1,4 @@
+-- `has` meets its contract. Assumes nothing.
 use mathlib.Core.Path.{refl}
 use Rattle.look.specs.Look.{hasOf}
 use borrow.Author.Needs.{needs}

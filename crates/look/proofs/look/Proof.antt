@@ -1,3 +1,4 @@
+-- `look` meets its contract. Assumes nothing.
 use borrow.Author.Tests.{ne-eqb}
 use mathlib.Core.Path.{sym, _∙_}
 use Rattle.look.specs.Look.{aboutField, lookBy}

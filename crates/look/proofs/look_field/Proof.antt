@@ -1,3 +1,4 @@
+-- `look_field` meets its contract. Assumes nothing.
 use mathlib.Core.Path.{sym, _∙_}
 use borrow.Author.Tests.{not-true, not-false}
 use Rattle.look.specs.Look.{lookField}

@@ -1,3 +1,4 @@
+-- `look_join` meets its contract. Assumes nothing.
 use borrow.Author.Tests.{eq-eqb, ne-eqb, le-leb, lt-leb}
 use Rattle.look.specs.Look.{lookJoin}
 use Rattle.look.proofs.look_join.Statement.{statement}

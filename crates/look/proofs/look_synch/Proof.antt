@@ -1,3 +1,4 @@
+-- `look_synch` meets its contract. Assumes nothing.
 use mathlib.Core.Path.{sym, _∙_}
 use borrow.Author.Tests.{eq-eqb, ne-eqb}
 use Rattle.look.specs.Look.{lookSynch}

@@ -1,3 +1,4 @@
+-- `object_of` meets its contract. Assumes nothing.
 use borrow.Author.Tests.{ne-eqb}
 use native.Mathlib.Omega.{arith}
 use Rattle.look.specs.Look.{objectBy}

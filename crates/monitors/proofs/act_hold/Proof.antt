@@ -1,3 +1,4 @@
+-- `act_hold` meets its contract. Assumes nothing.
 use borrow.Author.Needs.{needs}
 use Rattle.monitors.proofs.act_hold.Statement.{statement}
 use Rattle.monitors.proofs.act_hold.Tie as tie

@@ -1,3 +1,4 @@
+-- `act_synch` meets its contract. Assumes nothing.
 use mathlib.Core.Path.{sym, _∙_}
 use Rattle.monitors.specs.Monitors.{actSynch}
 use borrow.Author.Needs.{needs}

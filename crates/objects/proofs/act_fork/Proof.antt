@@ -1,3 +1,4 @@
+-- `act_fork` meets its contract. Assumes nothing.
 use borrow.Author.Tests.{le-leb, lt-leb}
 use Rattle.objects.specs.Objects.{actFork}
 use borrow.Author.Needs.{needs}

@@ -1,3 +1,4 @@
+-- `act_join` meets its contract. Assumes nothing.
 use borrow.Author.Needs.{needs}
 use Rattle.objects.proofs.act_join.Statement.{statement}
 use Rattle.objects.proofs.act_join.Tie as tie

@@ -1,3 +1,4 @@
+-- `act_new` meets its contract. Assumes nothing.
 use borrow.Author.Tests.{le-leb, lt-leb}
 use Rattle.objects.specs.Objects.{actNew}
 use borrow.Author.Needs.{needs}

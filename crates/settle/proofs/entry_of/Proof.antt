@@ -1,3 +1,4 @@
+-- `entry_of` meets its contract. Assumes nothing.
 use borrow.Author.Needs.{needs}
 use Rattle.settle.proofs.entry_of.Statement.{statement}
 use Rattle.settle.proofs.entry_of.Tie as tie

@@ -1,3 +1,4 @@
+-- `full` meets its contract. Assumes nothing.
 use mathlib.Core.Path.{sym}
 use Rattle.settle.proofs.Others.{full-other}
 use borrow.Author.Needs.{needs}

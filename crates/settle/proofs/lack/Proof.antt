@@ -1,3 +1,4 @@
+-- `lack` meets its contract. Assumes nothing.
 use borrow.Author.Tests.{eq-eqb, ne-eqb}
 use Rattle.settle.specs.Settle.{lackBy}
 use borrow.Author.Needs.{needs}

@@ -1,3 +1,4 @@
+-- `collect` meets its contract. Assumes nothing.
 use borrow.Author.Needs.{needs}
 use Rattle.frames.proofs.frame.collect.Statement.{statement}
 use Rattle.frames.proofs.frame.collect.Tie as tie

@@ -1,3 +1,4 @@
+-- `pack` meets its contract. Assumes nothing.
 use Rattle.frames.specs.Frames.{packOf}
 use borrow.Author.Needs.{needs}
 use Rattle.frames.proofs.frame.pack.Statement.{statement}

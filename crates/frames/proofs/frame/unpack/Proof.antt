@@ -1,3 +1,4 @@
+-- `unpack` meets its contract. Assumes nothing.
 use Rattle.frames.specs.Frames.{unpackOf}
 use borrow.Author.Needs.{needs}
 use Rattle.frames.proofs.frame.unpack.Statement.{statement}

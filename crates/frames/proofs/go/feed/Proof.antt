@@ -1,3 +1,4 @@
+-- `feed` meets its contract. Assumes nothing.
 use Rattle.frames.specs.Going.{feedOf}
 use borrow.Author.Needs.{needs}
 use Rattle.frames.proofs.go.feed.Statement.{statement}

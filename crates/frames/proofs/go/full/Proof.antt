@@ -1,3 +1,4 @@
+-- `full` meets its contract. Assumes nothing.
 use borrow.Author.Needs.{needs}
 use Rattle.frames.proofs.go.full.Statement.{statement}
 use Rattle.frames.proofs.go.full.Tie as tie

@@ -1,3 +1,4 @@
+-- `run` meets its contract. Assumes nothing.
 use borrow.Author.Needs.{needs}
 use Rattle.frames.proofs.go.run.Statement.{statement}
 use Rattle.frames.proofs.go.run.Tie as tie

@@ -1,3 +1,4 @@
+-- `run_condition` meets its contract. Assumes nothing.
 use borrow.Author.Needs.{needs}
 use Rattle.frames.proofs.go.run_condition.Statement.{statement}
 use Rattle.frames.proofs.go.run_condition.Tie as tie

@@ -1,3 +1,4 @@
+-- `same` meets its contract. Assumes nothing.
 use borrow.Author.Tests.{eq-eqb, ne-eqb}
 use Rattle.frames.proofs.go.same.Statement.{statement}
 use Rattle.frames.proofs.go.same.Tie as tie

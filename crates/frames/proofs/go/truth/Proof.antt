@@ -1,3 +1,4 @@
+-- `truth` meets its contract. Assumes nothing.
 use borrow.Author.Needs.{needs}
 use Rattle.frames.proofs.go.truth.Statement.{statement}
 use Rattle.frames.proofs.go.truth.Tie as tie

@@ -1,3 +1,4 @@
+-- `value` meets its contract. Assumes nothing.
 use borrow.Author.Needs.{needs}
 use Rattle.frames.proofs.go.value.Statement.{statement}
 use Rattle.frames.proofs.go.value.Tie as tie

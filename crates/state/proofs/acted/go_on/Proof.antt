@@ -1,3 +1,4 @@
+-- `go_on` meets its contract. Assumes nothing.
 use borrow.Author.Needs.{needs}
 use Rattle.state.proofs.acted.go_on.Statement.{statement}
 use Rattle.state.proofs.acted.go_on.Tie as tie

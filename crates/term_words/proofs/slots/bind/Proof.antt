@@ -1,3 +1,4 @@
+-- `bind` meets its contract. Assumes nothing.
 use borrow.Author.Tests.{lt-ltb, le-ltb}
 use Prim.Native.Nat.{_%_}
 use native.Mathlib.Omega.{arith}

@@ -1,3 +1,4 @@
+-- `slot` meets its contract. Assumes nothing.
 use borrow.Author.Tests.{lt-ltb, le-ltb}
 use Rattle.term_words.specs.Slots.{slotOf}
 use borrow.Author.Needs.{needs}

@@ -1,3 +1,4 @@
+-- `unit` meets its contract. Assumes nothing.
 use Rattle.term_words.proofs.Units.{one-shl, unit-lt}
 use lib.Pow.{pow-pos}
 use Prim.Native.Nat.{_*_}

@@ -1,3 +1,4 @@
+-- `truth` meets its contract. Assumes nothing.
 use borrow.Author.Tests.{eq-eqb, ne-eqb}
 use Rattle.term_words.specs.Words.{truthOf, truthBy}
 use borrow.Author.Needs.{needs}

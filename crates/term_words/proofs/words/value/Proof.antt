@@ -1,3 +1,4 @@
+-- `value` meets its contract. Assumes nothing.
 use borrow.Author.Tests.{eq-eqb, ne-eqb}
 use Rattle.term_words.specs.Words.{valueOf, valueBy}
 use borrow.Author.Needs.{needs}

@@ -1,3 +1,4 @@
+-- `word` meets its contract. Assumes nothing.
 use mathlib.Core.Path.{refl}
 use Rattle.term_words.specs.Words.{wordAt}
 use borrow.Author.Needs.{needs}
