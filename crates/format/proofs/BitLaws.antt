@@ -1,11 +1,12 @@
--- Laws of bit fields: their bounds, fields in a row, a byte, five bytes, and a field of a number by a quotient and a remainder. Assumes nothing.
-use mathlib.Core.Path.{_≡_, ap, sym, _∙_}
+-- Laws of bit fields: their bounds, fields in a row, a byte, five bytes, bytes left out before them, and a field of a number by a quotient and a remainder. Assumes nothing.
+use mathlib.Core.Path.{_≡_, refl, ap, sym, _∙_}
 use mathlib.Core.List.{List}
 use Prim.Native.Nat.{ℕ, zero, suc, _+_, _-_, _*_, _/_, _%_, _^_, _≤_, _<_}
-use native.Mathlib.Nat.{add-zero, add-suc, add-assoc, mul-assoc, pow-suc, div-eq-of-lt, div-one}
+use native.Mathlib.Nat.{add-zero, add-suc, add-assoc, mul-assoc, one-mul, pow-suc, div-eq-of-lt, div-one, mod-eq-of-lt}
 use native.Mathlib.Omega.{arith}
-use lib.ListN.{getD}
-use lib.Pow.{high, low, shr-shr}
+use lib.ListN.{drop, getD}
+use lib.Pow.{high, low, pow-lt, shr-shr}
+use lib.Seq.{getD-drop}
 use Rattle.format.specs.Bits.{bitAt, bitsAt}
 
 pub bit-below : (l : List ℕ) (i : ℕ) → bitAt l i < 2
@@ -16,10 +17,6 @@ pub bits-below : (l : List ℕ) (p w : ℕ) → bitsAt l p w < 2 ^ w
 unfolding bitsAt
 bits-below l p zero = omega arith
 bits-below l p (suc w) = rw pow-suc (omega (arith, bits-below l p w, bit-below l (p + w)))
-
-pub one-bit : (l : List ℕ) (p : ℕ) → bitsAt l p 1 ≡ bitAt l p
-unfolding bitsAt
-one-bit l p = rw (add-zero p) (omega arith)
 
 -- bits in a row are the first of them, shifted, and the rest
 pub bits-add : (l : List ℕ) (p v w : ℕ) → bitsAt l p (v + w) ≡ bitsAt l p v * 2 ^ w + bitsAt l (p + v) w
@@ -41,6 +38,23 @@ field-of l p v w r =
 -- the first v bits
 pub first-of : (l : List ℕ) (p v r : ℕ) → bitsAt l p v ≡ bitsAt l p (v + r) / 2 ^ r
 first-of l p v r = sym (ap (λ (x : ℕ). x / 2 ^ r) (bits-add l p v r) ∙ high (bitsAt l p v) r (bits-below l (p + v) r))
+
+-- the code's shifted 1
+pub shl-one : (k : ℕ) → k < 64 → (1 * 2 ^ k) % 2 ^ 64 ≡ 2 ^ k
+shl-one k h = rw one-mul (mod-eq-of-lt (pow-lt {i = k} {j = 64} h))
+
+-- the bits of a list without its first k bytes
+bit-drop : (k : ℕ) (l : List ℕ) (i : ℕ) → bitAt (drop k l) i ≡ bitAt l (k * 8 + i)
+unfolding bitAt
+bit-drop k l i =
+    let q : (k * 8 + i) / 8 ≡ k + i / 8 = omega arith in
+    let m : (k * 8 + i) % 8 ≡ i % 8 = omega arith in
+    rw (q, m, getD-drop k l (i / 8) 0)
+
+pub bits-drop : (k : ℕ) (l : List ℕ) (i w : ℕ) → bitsAt (drop k l) i w ≡ bitsAt l (k * 8 + i) w
+unfolding bitsAt
+bits-drop k l i zero = refl
+bits-drop k l i (suc w) = rw (bits-drop k l i w, bit-drop k l (i + w), ← add-assoc (k * 8) i w)
 
 -- a byte
 bit-of : (l : List ℕ) (i j : ℕ) → j < 8 → bitAt l (i * 8 + j) ≡ getD l i 0 / 2 ^ (7 - j) % 2

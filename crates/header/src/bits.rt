@@ -21,7 +21,7 @@ pub fn half(s: &[u8], at: usize) -> usize
 }
 
 // The 32 bits from byte `at` on.
-pub fn quad(s: &[u8], at: usize) -> usize
+fn quad(s: &[u8], at: usize) -> usize
     requires { ⌜ at + 4 ≤ length (now s) ⌝ }
     ensures { λ r. ⌜ (r ≡ bitsAt (now (s .entry)) (at * 8) 32) × (r < 4294967296) ⌝ }
 {

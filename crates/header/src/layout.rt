@@ -1,34 +1,57 @@
-// The numbers of the header and of the procedures.
-use crate::bits;
+// The numbers of the header, of the mask and of the procedures, each by its place in document 01.
 ghost use mathlib.Core.Path.{_≡_};
 ghost use Prim.Native.Nat.{_+_, _*_, _≤_};
 ghost use lib.ListN.{length};
-ghost use Rattle.packed.specs.Format.{procedures, terms, parameters, root};
+ghost use Rattle.packed.specs.Format.{version, procedures, terms, headerSpare, volatiles, parameters, root};
+
+pub fn version(plan: &[u8]) -> usize
+    requires { ⌜ 8 ≤ length (now plan) ⌝ }
+    ensures { λ r. ⌜ r ≡ version (now (plan .entry)) ⌝ }
+{
+    bit_reader::field(plan, 0, 4)
+}
 
 pub fn procedures(plan: &[u8]) -> usize
     requires { ⌜ 8 ≤ length (now plan) ⌝ }
     ensures { λ r. ⌜ r ≡ procedures (now (plan .entry)) ⌝ }
 {
-    bits::half(plan, 0) / 64 % 64
+    bit_reader::field(plan, 4, 6)
 }
 
 pub fn terms(plan: &[u8]) -> usize
     requires { ⌜ 8 ≤ length (now plan) ⌝ }
     ensures { λ r. ⌜ r ≡ terms (now (plan .entry)) ⌝ }
 {
-    bits::quad(plan, 0) / 1024 % 4096
+    bit_reader::field(plan, 10, 12)
 }
 
+pub fn spare(plan: &[u8]) -> usize
+    requires { ⌜ 8 ≤ length (now plan) ⌝ }
+    ensures { λ r. ⌜ r ≡ headerSpare (now (plan .entry)) ⌝ }
+{
+    bit_reader::field(plan, 22, 10)
+}
+
+pub fn volatiles(plan: &[u8]) -> usize
+    requires { ⌜ 8 ≤ length (now plan) ⌝ }
+    ensures { λ r. ⌜ r ≡ volatiles (now (plan .entry)) ⌝ }
+{
+    bit_reader::field(plan, 32, 32)
+}
+
+// A procedure is read from the part of the plan that starts with it: in a slice of any length the place of a bit need not fit a `usize`.
 pub fn parameters(plan: &[u8], p: usize) -> usize
     requires { ⌜ 8 + 2 * p + 2 ≤ length (now plan) ⌝ }
     ensures { λ r. ⌜ r ≡ parameters (now (plan .entry)) p ⌝ }
 {
-    bits::half(plan, 8 + 2 * p) / 4096
+    let start = 8 + 2 * p;
+    bit_reader::field(&plan[start..], 0, 4)
 }
 
 pub fn root(plan: &[u8], p: usize) -> usize
     requires { ⌜ 8 + 2 * p + 2 ≤ length (now plan) ⌝ }
     ensures { λ r. ⌜ r ≡ root (now (plan .entry)) p ⌝ }
 {
-    bits::half(plan, 8 + 2 * p) % 4096
+    let start = 8 + 2 * p;
+    bit_reader::field(&plan[start..], 4, 12)
 }

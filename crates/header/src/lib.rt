@@ -1,6 +1,6 @@
 // Checks 1 to 3: the length, the header and the mask, the procedures.
-pub mod bits; // bits.rt: numbers of two, four and five bytes
-pub mod layout; // layout.rt: the numbers of the header and of the procedures
+pub mod bits; // bits.rt: numbers of two and five bytes
+pub mod layout; // layout.rt: the numbers of the header, of the mask and of the procedures
 
 ghost use mathlib.Core.Path.{_≡_};
 ghost use Prim.Native.Nat.{_+_, _*_, _≤_};
@@ -22,10 +22,12 @@ pub fn wrong_header(plan: &[u8]) -> bool
     requires { ⌜ 8 ≤ length (now plan) ⌝ }
     ensures { λ r. ⌜ r ≡ wrongHeader (now (plan .entry)) ⌝ }
 {
-    let h = bits::quad(plan, 0);
+    let version = layout::version(plan);
     let p = layout::procedures(plan);
     let n = layout::terms(plan);
-    if h / 268435456 != 1 {
+    let spare = layout::spare(plan);
+    let mask = layout::volatiles(plan);
+    if version != 1 {
         return true;
     }
     if p < 1 {
@@ -40,10 +42,10 @@ pub fn wrong_header(plan: &[u8]) -> bool
     if n > 1024 {
         return true;
     }
-    if h % 1024 != 0 {
+    if spare != 0 {
         return true;
     }
-    bits::wide(plan[4]) < 128
+    mask / 2147483648 % 2 != 1 // the top bit is field 0, the monitor
 }
 
 fn wrong_procedure(plan: &[u8], count: usize, p: usize) -> bool

@@ -1,24 +1,15 @@
--- The fields of a mask: its bits in the plan, and their count. Assumes nothing.
-use Prim.Native.Nat.{ℕ, zero, suc, _+_, _-_, _/_, _%_, _^_, _<_}
+-- The fields of a mask: their count. Assumes nothing.
+use Prim.Native.Nat.{ℕ, zero, suc, _+_, _-_, _/_, _%_, _^_}
 use native.Mathlib.Nat.{div-one}
 use native.Mathlib.Omega.{arith}
-use mathlib.Core.Path.{_≡_, refl, sym, _∙_}
+use mathlib.Core.Path.{_≡_, refl}
 use mathlib.Core.Bool.{Bool, true, false, cond}
-use mathlib.Core.List.{List, _∷_}
+use mathlib.Core.List.{_∷_}
 use lib.Dec.{eqb}
 use lib.ListN.{length}
 use lib.Pow.{shr-shr}
 use borrow.Author.Tests.{eqb-true, eqb-false}
-use Rattle.format.specs.Bits.{bitAt, bitsAt}
-use Rattle.format.proofs.BitLaws.{one-bit, field-of}
 use Rattle.packed.specs.Format.{maskBit, fieldsFrom}
-
--- field f of a mask that stands from bit i on is bit f of it
-pub field-bit : (b : List ℕ) (i f : ℕ) → f < 32 → maskBit (bitsAt b i 32) f ≡ bitAt b (i + f)
-unfolding maskBit
-field-bit b i f h =
-    let n : f + 1 + (31 - f) ≡ 32 = omega arith in
-    sym (rw n at (field-of b i f 1 (31 - f))) ∙ one-bit b (i + f)
 
 -- how many of the last n bits of a mask are set
 unfoldable pub onesOf : ℕ → ℕ → ℕ

@@ -1,22 +1,20 @@
--- What the bits of a plan say: fields of a number, the counts of the header, and a term as its 40 bits. Assumes nothing.
+-- What the bits of a plan say: numbers joined, a part of the plan, the tests of the header and the procedures, and a term as its 40 bits. Assumes nothing.
 use mathlib.Core.Path.{_≡_, refl, ap, sym, _∙_}
 use mathlib.Core.Bool.{Bool, true, false, _&&_, _||_, not}
 use mathlib.Core.List.{List, [], _∷_}
 use Prim.Native.Nat.{ℕ, zero, suc, _+_, _-_, _*_, _/_, _%_, _^_, _≤_, _<_}
-use native.Mathlib.Nat.{one-mul, mod-eq-of-lt, div-one, pow-suc}
-use native.Mathlib.Decide.{decLt}
+use native.Mathlib.Nat.{div-one, pow-suc}
 use native.Mathlib.Omega.{arith}
 use lib.Count.{ones, ones-step, ones-le}
 use lib.Dec.{ltb, leb, eqb, T, leb→le}
-use lib.ListN.{length, getD}
-use lib.Pow.{pow-lt}
-use borrow.Author.Tests.{lt-ltb, le-ltb}
-use Rattle.format.specs.Bits.{bitAt, bitsAt}
-use Rattle.format.proofs.BitLaws.{bits-below, bits-add, field-of, first-of}
+use lib.ListN.{length, take, drop, getD, length-drop}
+use lib.Seq.{take-all}
+use Rattle.format.specs.Bits.{bitsAt}
+use Rattle.format.proofs.BitLaws.{bits-below, bits-add, bits-drop, field-of, first-of}
 use Rattle.packed.specs.Format.{version, procedures, terms, parameters, root, headerSpare, volatiles, maskBit, fieldsFrom, absent, width, Row, operands, table, layout, Term, laidOut, termBit, tagAt, termAt}
 use Rattle.packed.specs.Refusals.{wrongHeader, wrongProcedure}
 use Rattle.packed.specs.Steps.{wordAt, inWord, termIn}
-use Rattle.packed.proofs.Fields.{onesOf, fields-count, field-bit}
+use Rattle.packed.proofs.Fields.{onesOf, fields-count}
 
 -- ---- bits
 
@@ -24,21 +22,13 @@ pub joined : (l : List ℕ) (p q v w x y : ℕ) → bitsAt l p v ≡ x → bitsA
 joined l p q v w x y e f h =
     bits-add l p v w ∙ ap (λ (n : ℕ). n * 2 ^ w + bitsAt l (p + v) w) e ∙ ap (λ (n : ℕ). x * 2 ^ w + bitsAt l n w) h ∙ ap (λ (n : ℕ). x * 2 ^ w + n) f
 
--- a field of a number of v + w + r bits
-pub part-of : (l : List ℕ) (p q v w r x : ℕ) → bitsAt l p (v + w + r) ≡ x → p + v ≡ q → bitsAt l q w ≡ x / 2 ^ r % 2 ^ w
-part-of l p q v w r x e h =
-    ap (λ (n : ℕ). bitsAt l n w) (sym h) ∙ field-of l p v w r ∙ ap (λ (n : ℕ). n / 2 ^ r % 2 ^ w) e
-
--- its first bits
-pub front-of : (l : List ℕ) (p q v r x : ℕ) → bitsAt l p (v + r) ≡ x → p ≡ q → bitsAt l q v ≡ x / 2 ^ r
-front-of l p q v r x e h = ap (λ (n : ℕ). bitsAt l n v) (sym h) ∙ first-of l p v r ∙ ap (λ (n : ℕ). n / 2 ^ r) e
-
--- its last bits
-pub back-of : (l : List ℕ) (p q v w x : ℕ) → bitsAt l p (v + w + 0) ≡ x → p + v ≡ q → bitsAt l q w ≡ x % 2 ^ w
-back-of l p q v w x e h = part-of l p q v w 0 x e h ∙ ap (λ (n : ℕ). n % 2 ^ w) (div-one x)
-
-pub shl-one : (k : ℕ) → k < 64 → (1 * 2 ^ k) % 2 ^ 64 ≡ 2 ^ k
-shl-one k h = rw one-mul (mod-eq-of-lt (pow-lt {i = k} {j = 64} h))
+-- the bits of the part of a list that starts with byte k
+pub part-bits : (l : List ℕ) (k i w q x : ℕ) → x ≡ bitsAt (take (length l - k) (drop k l)) i w → k * 8 + i ≡ q → x ≡ bitsAt l q w
+part-bits l k i w q x e h =
+    e
+    ∙ ap (λ (m : List ℕ). bitsAt m i w) (take-all (length l - k) (drop k l) (omega (arith, length-drop k l)))
+    ∙ bits-drop k l i w
+    ∙ ap (λ (p : ℕ). bitsAt l p w) h
 
 -- ---- the header
 
@@ -50,38 +40,17 @@ pub terms-lt : (b : List ℕ) → terms b < 4096
 unfolding terms
 terms-lt b = bits-below b 10 12
 
-pub version-of : (b : List ℕ) (h : ℕ) → h ≡ bitsAt b 0 32 → version b ≡ h / 268435456
-unfolding version
-version-of b h e = front-of b 0 0 4 28 h (sym e) refl
-
-pub spare-of : (b : List ℕ) (h : ℕ) → h ≡ bitsAt b 0 32 → headerSpare b ≡ h % 1024
-unfolding headerSpare
-spare-of b h e = back-of b 0 22 22 10 h (sym e) refl
-
-top-bit : (x : ℕ) → x < 256 → ltb x 128 ≡ not (eqb (x / 128 % 2) 1)
-top-bit x h = go (decLt x 128)
-  where
-    go : Dec (x < 128) → ltb x 128 ≡ not (eqb (x / 128 % 2) 1)
-    go (yes q) = let e : x / 128 % 2 ≡ 0 = omega arith in simp (e, lt-ltb _ _ q)
-    go (no q) = let e : x / 128 % 2 ≡ 1 = omega (arith, q) in simp (e, le-ltb x 128 (omega (arith, q)))
-
--- the bit of field 0 in the mask of volatile fields
-pub monitor-of : (b : List ℕ) → getD b 4 0 < 256 → ltb (getD b 4 0) 128 ≡ not (eqb (maskBit (volatiles b) 0) 1)
-unfolding volatiles bitAt
-monitor-of b h = top-bit (getD b 4 0) h ∙ ap (λ (n : ℕ). not (eqb n 1)) (sym (field-bit b 32 0 (omega arith)))
-
 -- the tests of check 2, on the header's numbers
-abbrev pub headerTests : ℕ → ℕ → ℕ → ℕ → Bool → Bool
-headerTests v p n s m = not (eqb v 1) || ltb p 1 || ltb 32 p || ltb n 1 || ltb 1024 n || not (eqb s 0) || m
+abbrev pub headerTests : ℕ → ℕ → ℕ → ℕ → ℕ → Bool
+headerTests v p n s m = not (eqb v 1) || ltb p 1 || ltb 32 p || ltb n 1 || ltb 1024 n || not (eqb s 0) || not (eqb (maskBit m 0) 1)
 
-are-tests : (b : List ℕ) → wrongHeader b ≡ headerTests (version b) (procedures b) (terms b) (headerSpare b) (not (eqb (maskBit (volatiles b) 0) 1))
+are-tests : (b : List ℕ) → wrongHeader b ≡ headerTests (version b) (procedures b) (terms b) (headerSpare b) (volatiles b)
 unfolding wrongHeader
 are-tests b = refl
 
-pub header-tests : (b : List ℕ) (h p n : ℕ) → h ≡ bitsAt b 0 32 → p ≡ procedures b → n ≡ terms b
-    → wrongHeader b ≡ headerTests (h / 268435456) p n (h % 1024) (not (eqb (maskBit (volatiles b) 0) 1))
-header-tests b h p n e f g =
-    are-tests b ∙ rw (version-of b h e, spare-of b h e, f, g)
+pub header-tests : (b : List ℕ) (v p n s m : ℕ) → v ≡ version b → p ≡ procedures b → n ≡ terms b → s ≡ headerSpare b → m ≡ volatiles b
+    → wrongHeader b ≡ headerTests v p n s m
+header-tests b v p n s m e f g h i = are-tests b ∙ rw (e, f, g, h, i)
 
 -- the tests of check 3, on a procedure's numbers
 procedure-are : (b : List ℕ) (p : ℕ) → wrongProcedure b p ≡ (ltb 8 (parameters b p) || (eqb p 0 && ltb 0 (parameters b p)) || leb (terms b) (root b p))

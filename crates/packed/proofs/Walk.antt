@@ -18,7 +18,7 @@ use Rattle.packed.specs.Trees.{Node, nodes, nodeOf, nodeAt, binderOf, ex
 use Rattle.packed.specs.Slots.{closed, closedᶜ, closedᵃ, bound}
 use Rattle.packed.specs.Refusals.{wrongOperand, usesUnboundSlot}
 use Rattle.packed.specs.Steps.{Right, Loaded, Ordered, Below, inWord, termIn, nodeIn, bitOf, slots, withSlot, treeIn, conditionIn, listIn, leafIn}
-use Rattle.packed.proofs.Reading.{shl-one}
+use Rattle.format.proofs.BitLaws.{shl-one}
 use Rattle.packed.proofs.Tags.{by-tag}
 use Rattle.packed.proofs.Decoded.{node-is}
 use Rattle.packed.proofs.TreeLaws.{treeE, treeC, treeL, lawE, lawC, lawL, expression-fuel}

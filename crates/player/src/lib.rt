@@ -7,7 +7,6 @@ ghost use mathlib.Core.Path.{_≡_};
 ghost use Rattle.rules.specs.Play.{played, areaAfter};
 ghost use Rattle.player.specs.Answer.{answered};
 use crate::outcome::Played;
-use header::bits;
 use header::layout;
 use plan::Checked;
 
@@ -25,7 +24,7 @@ pub fn play(plan: &[u8], schedule: &[u8], log: &mut [u8]) -> Played
     let count = layout::terms(plan);
     let words = load::words(plan, procs, count);
     let roots = load::roots(plan, procs);
-    let mask = bits::quad(plan, 4);
+    let mask = layout::volatiles(plan);
     let ran = engine::run(&words, &roots, mask, schedule, log);
     let outcome = outcome::outcome_of(ran);
     Played {

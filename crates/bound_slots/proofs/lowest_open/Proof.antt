@@ -8,7 +8,7 @@ use borrow.Author.Count.{below-more}
 use lib.Pow.{pow-pos}
 use Rattle.packed.specs.Refusals.{usesUnboundSlot}
 use Rattle.packed.specs.Slots.{closed}
-use Rattle.packed.proofs.Reading.{shl-one}
+use Rattle.format.proofs.BitLaws.{shl-one}
 use Rattle.packed.proofs.Lowest.{parameters-small, root-below, found, found-none}
 use Rattle.packed.proofs.Walk.{open-of, ordered, tree-is}
 use Rattle.bound_slots.proofs.lowest_open.Statement.{statement}

@@ -2,7 +2,7 @@
 use borrow.Author.Needs.{needs}
 use borrow.Author.Tests.{eq-eqb, ne-eqb}
 use Rattle.packed.specs.Steps.{withSlot}
-use Rattle.packed.proofs.Reading.{shl-one}
+use Rattle.format.proofs.BitLaws.{shl-one}
 use Rattle.bound_slots.proofs.with.Statement.{statement}
 use Rattle.bound_slots.proofs.with.Tie as tie
 

@@ -4,7 +4,7 @@ use mathlib.Core.Path.{_≡_, refl, sym, ap, _∙_}
 use mathlib.Core.List.{List}
 use lib.ListN.{length}
 use borrow.Author.Needs.{needs}
-use Rattle.packed.specs.Format.{procedures, terms, volatiles}
+use Rattle.packed.specs.Format.{procedures, terms}
 use Rattle.rules.specs.Play.{played, playedBy, areaAfter, areaBy, runOf}
 use Rattle.player.specs.Answer.{answered}
 use Rattle.player.specs.Loading.{Words, Roots}
@@ -16,7 +16,6 @@ use Rattle.player.proofs.play.Tie as tie
 use Rattle.player.proofs.play.Reads as reads
 use Rattle.player.proofs.play.Lts as lts
 use Rattle.engine.proofs.run.Reads as run-reads
-use Rattle.header.proofs.bits.quad.Reads as quad-reads
 use Rattle.header.proofs.layout.procedures.Reads as procedures-reads
 use Rattle.header.proofs.layout.terms.Reads as terms-reads
 use Rattle.player.proofs.load.roots.Reads as roots-reads
@@ -78,8 +77,8 @@ roots-requires c κs =
     (omega (arith, w .few-procedures), omega (arith, w .long))
 
 -- src/lib.rt:28:9
-quad-requires : tie.Need-quad-requires
-quad-requires c κs = let w = within (c .before .before .before .before) .long in omega arith
+volatiles-requires : tie.Need-volatiles-requires
+volatiles-requires c κs = let w = within (c .before .before .before .before) .long in omega arith
 
 -- src/lib.rt:29:9
 run-requires : tie.Need-run-requires
@@ -100,7 +99,7 @@ returns-2 c =
     let t = c .before .before .before .before .before .before .before .before .before .before .before .before in
     let w : Words (a .plan .now) (terms (a .plan .now)) (c .before .before .before .before .before .before .before .before .before .words .result) = λ i q. c .before .before .before .before .before .before .before .before .before .words .ensures i (omega (arith, c .before .before .before .before .before .before .before .before .before .before .terms .ensures)) in
     let r : Roots (a .plan .now) (procedures (a .plan .now)) (c .before .before .before .before .before .before .before .before .roots .result) = λ i q. c .before .before .before .before .before .before .before .before .roots .ensures i (omega (arith, c .before .before .before .before .before .before .before .before .before .before .before .procedures .ensures)) in
-    let m : c .before .before .before .before .before .before .before .quad .result ≡ volatiles (a .plan .now) = unfold volatiles in c .before .before .before .before .before .before .before .quad .ensures .0 in
+    let m = c .before .before .before .before .before .before .before .volatiles .ensures in
     let e = t .enum-told .given .1 in
     let h = c .before .before .before .before .before .before .before .before .before .before .before .before .before .before .refusal .ensures in
     let ws = c .before .before .before .before .before .before .before .before .before .words .result in
@@ -122,7 +121,7 @@ play-spec =
     terms-requires
     words-requires
     roots-requires
-    quad-requires
+    volatiles-requires
     run-requires
     outcome-of-requires
     same-length

@@ -1,25 +1,35 @@
 -- `parameters`: the first 4 bits of a procedure's 16.
-use mathlib.Core.Path.{sym}
 use Prim.Native.Nat.{_+_, _*_}
 use native.Mathlib.Omega.{arith}
-use Rattle.packed.proofs.Reading.{front-of}
+use Rattle.packed.proofs.Reading.{part-bits}
 use Rattle.packed.specs.Format.{parameters}
 use borrow.Author.Needs.{needs}
 use Rattle.header.proofs.layout.parameters.Statement.{statement}
 use Rattle.header.proofs.layout.parameters.Tie as tie
 
-mul-half : tie.Need-mul-half
-mul-half c = search needs
+mul-start : tie.Need-mul-start
+mul-start c = search needs
 
-add-half : tie.Need-add-half
-add-half c = search needs
+add-start : tie.Need-add-start
+add-start c = search needs
 
-half-requires : tie.Need-half-requires
-half-requires c κs = search needs
+sub-field : tie.Need-sub-field
+sub-field c = search needs
+
+part-field-start : tie.Need-part-field-start
+part-field-start c = search needs
+
+part-field-end : tie.Need-part-field-end
+part-field-end c = search needs
+
+field-requires : tie.Need-field-requires
+field-requires c κs = search needs
 
 returns : tie.Need-returns
 unfolding parameters
-returns c = let a = c .before .before .args in sym (front-of (a .plan .now) ((8 + 2 * a .p) * 8) (64 + 16 * a .p) 4 12 _ (sym (c .half .ensures .0)) (omega arith))
+returns c = let a = c .before .before .before .args in part-bits (a .plan .now) (8 + 2 * a .p) 0 4 (64 + 16 * a .p) _ (c .field .ensures) (omega arith)
 
 pub parameters-spec : {M : Type 1} → statement M
-parameters-spec = tie.close (tie.spec mul-half add-half half-requires returns)
+parameters-spec =
+    tie.close
+    (tie.spec mul-start add-start sub-field part-field-start part-field-end field-requires returns)
