@@ -4,7 +4,7 @@ pub mod Accepted
 pub mod Decoded
 pub mod Fields
 pub mod Reading
-pub mod Lowest
+pub mod Shown
 pub mod Tags
 pub mod SingleTerm
 pub mod SortLaws

@@ -11,11 +11,12 @@ use lib.Dec.{eqb}
 use lib.ListN.{getD, set, length-set, replicate, length-replicate}
 use lib.Seq.{getD-set-same, getD-set-other}
 use borrow.Author.Tests.{eq-eqb, ne-eqb}
+use Rattle.format.specs.Lowest.{Lowest}
+use Rattle.format.proofs.LowestLaws.{lowest-ext}
 use Rattle.packed.specs.Format.{procedures, terms, root, table, layout, laidOut, termAt, tagAt}
 use Rattle.packed.specs.Trees.{nodes, nodeOf, nodeAt}
 use Rattle.packed.specs.Refusals.{sumBelow, oneIf, wrongTerm, timesIn, timesNamed, notNamedOnce}
-use Rattle.packed.specs.Steps.{Lowest, Headed, Loaded, nodeIn, Child, childOf, childrenOf, moreOf, countAll, cap, rootTimes, allTimes, Counted, notOnce, inWord, lowerAll}
-use Rattle.packed.proofs.Lowest.{lowest-ext}
+use Rattle.packed.specs.Steps.{Headed, Loaded, nodeIn, Child, childOf, childrenOf, moreOf, countAll, cap, rootTimes, allTimes, Counted, notOnce, inWord, lowerAll}
 use Rattle.packed.proofs.Tags.{by-tag}
 use Rattle.packed.proofs.SingleTerm.{rowOf, node-in}
 use Rattle.packed.proofs.SortLaws.{Within, nodes-are, children-within, termOf, nodeOfTag}

@@ -10,13 +10,15 @@ use native.Mathlib.Omega.{arith}
 use lib.Dec.{ltb, leb, eqb}
 use lib.ListN.{getD}
 use borrow.Author.Tests.{lt-ltb, le-ltb, le-leb, lt-leb, eq-eqb, ne-eqb, leb-false}
+use Rattle.format.specs.Lowest.{Lowest}
+use Rattle.format.proofs.LowestLaws.{lowest-ext}
 use Rattle.packed.specs.Format.{procedures, terms, parameters, root, Operand, expression, condition, list, table, layout, laidOut, Term, termAt, tagAt}
 use Rattle.packed.specs.Trees.{Node, nodes, nodeOf, nodeAt}
 use Rattle.packed.specs.Refusals.{anyBelow, someOperand, wrongOperand, wrongTerm, misplaced, isChild, wronglySorted, wrongCall, listLength}
-use Rattle.packed.specs.Steps.{Lowest, Sized, Right, Loaded, wordAt, tagIn, nodeIn, termIn, Child, childOf, childrenOf, tagSort, wrongSort, lowerIf, lowerAll, misplacedRoot, misfits, faults}
+use Rattle.packed.specs.Steps.{Sized, Right, Loaded, wordAt, tagIn, nodeIn, termIn, Child, childOf, childrenOf, tagSort, wrongSort, lowerIf, lowerAll, misplacedRoot, misfits, faults}
 use Rattle.packed.proofs.Reading.{tag-in, tag-was, first-was, second-was, term-is}
 use Rattle.packed.proofs.Tags.{by-tag}
-use Rattle.packed.proofs.Lowest.{lowest-ext, parameters-small}
+use Rattle.packed.proofs.Shown.{parameters-small}
 use Rattle.packed.proofs.SingleTerm.{or-no, or-right, passes, child-between, second-between, first-is, second-is}
 
 -- ---- lists
