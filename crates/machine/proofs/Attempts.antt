@@ -11,6 +11,8 @@ use borrow.Author.Tests.{eqb-true}
 use Rattle.keys.specs.Keys.{Keys, subset, isEmpty}
 use Rattle.packed.specs.Syntax.{Expression, Condition, Procedure, Program, bind, bindParameters, substitute}
 use Rattle.packed.specs.Slots.{closed}
+use Rattle.packed.specs.Steps.{Descending}
+use Rattle.packed.proofs.TreeLaws.{tree, treeᶜ}
 use Rattle.rules.specs.Context.{Context, plug, plugᶜ, asLiteral}
 use Rattle.rules.specs.State.{Cell, Thread, State, Numbered, changeAt, monitorOf, fieldOf, learn, become, threadOf}
 use Rattle.rules.specs.Rules.{Rule, isVolatile, choose, e-call, e-let, e-if}
@@ -21,7 +23,6 @@ use Rattle.machine.specs.Frames.{Slots, Closure, Branches, closure, firs
 use Rattle.machine.specs.Landing.{upᶜ, enter, go}
 use Rattle.machine.specs.Machine as machine
 use Rattle.machine.specs.Machine.{Table}
-use Rattle.machine.proofs.TreeLaws.{Ordered, tree, treeᶜ}
 use Rattle.machine.proofs.Substitution.{every, firstSlots, first-length, let-put, let-nothing, let-nothingᶜ, call-slots}
 use Rattle.machine.proofs.Meaning.{expressionIn, whileIn, context, contextᶜ, redex, redexᶜ, mean, resultOf}
 use Rattle.machine.proofs.Onward.{whole-go, whole-up, whole-enter}
@@ -37,7 +38,7 @@ get-map f (x ∷ xs) (suc i) = get-map f xs i
 
 -- the table is a program's
 pub record Tabulates (table : Table) (g : Program) : Type 0 where
-  pub ordered : Ordered (table .node) (table .count)
+  pub ordered : Descending (table .node) (table .count)
   pub volatiles : (f : ℕ) → table .isVolatile f ≡ isVolatile g f
   pub bodies : (m : ℕ) (d : Procedure) → getElem? (g .procedures) m ≡ some d → d .body ≡ tree (table .node) (table .count) (table .root m)
   pub all-bound : (m : ℕ) (d : Procedure) → getElem? (g .procedures) m ≡ some d → T (closed (λ x. ltb x (d .parameters)) (d .body))

@@ -1,4 +1,3 @@
-pub mod TreeLaws
 pub mod Substitution
 pub mod PackedSlots
 pub mod MemoryLaws

@@ -3,7 +3,7 @@ use Prim.Native.Nat.{ℕ, suc, zero, _<_, _≤_}
 use mathlib.Core.Path.{_≡_, refl, sym, _∙_, ap}
 use mathlib.Core.List.{List, [], _∷_, _++_, reverse, reverse-append}
 use lib.ListN.{length, take, drop, getD, length-take, length-reverse, take-append-drop}
-use lib.Seq.{take-suc, take-length}
+use lib.Seq.{take-suc}
 use native.Mathlib.Omega.{arith}
 use Rattle.records.specs.Record.{Record}
 use Rattle.order.specs.Chains.{At}
@@ -15,10 +15,6 @@ past L n = reverse (take n L)
 pub past-zero : (L : List Record) → past L 0 ≡ []
 unfolding past
 past-zero L = refl
-
-pub past-all : (L : List Record) → past L (length L) ≡ reverse L
-unfolding past
-past-all L = ap reverse (take-length L)
 
 pub past-length : (L : List Record) (n : ℕ) → n ≤ length L → length (past L n) ≡ n
 unfolding past
@@ -39,11 +35,6 @@ pub at→getD : (L : List Record) (i : ℕ) (r d : Record) → At L i r → getD
 at→getD [] i r d h = absurd (let z : _≡_ {A = ℕ} 0 1 = cc in omega arith)
 at→getD (x ∷ L) zero r d h = cc
 at→getD (x ∷ L) (suc i) r d h = at→getD L i r d h
-
-pub getD→at : (L : List Record) (i : ℕ) (d : Record) → i < length L → At L i (getD L i d)
-getD→at [] i d b = absurd (omega arith)
-getD→at (x ∷ L) zero d b = refl
-getD→at (x ∷ L) (suc i) d b = getD→at L i d (omega arith)
 
 -- the log turned is its later records, the record and the record's past
 pub turned-at : (L : List Record) (j : ℕ) (r : Record) → At L j r → reverse L ≡ reverse (drop (suc j) L) ++ r ∷ past L j

@@ -248,16 +248,6 @@ module _ (b : List ℕ) where
 
 -- ---- the plan
 
--- a term of a sort, with at most n terms from it on, stands for its tree of that sort
-pub expression-stands : (b : List ℕ) → refusal b ≡ none → (n t : ℕ) → t < terms b → terms b ≤ t + n → OfSort expression (tagAt b t) → Stands (nodeAt b) t (expressionAt (nodeAt b) n t)
-expression-stands b h n t i q s = all-good b (accepted b h) n .expression-good t i q s .0
-
-pub condition-stands : (b : List ℕ) → refusal b ≡ none → (n t : ℕ) → t < terms b → terms b ≤ t + n → OfSort condition (tagAt b t) → Standsᶜ (nodeAt b) t (conditionAt (nodeAt b) n t)
-condition-stands b h n t i q s = all-good b (accepted b h) n .condition-good t i q s .0
-
-pub list-stands : (b : List ℕ) → refusal b ≡ none → (n t : ℕ) → t < terms b → terms b ≤ t + n → OfSort list (tagAt b t) → Standsᵃ (nodeAt b) t (argumentsAt (nodeAt b) n t)
-list-stands b h n t i q s = all-good b (accepted b h) n .list-good t i q s .0
-
 -- the tree of a root is what its term stands for
 pub stands : (b : List ℕ) → refusal b ≡ none → (p : ℕ) → p < procedures b → Stands (nodeAt b) (root b p) (treeAt b (root b p))
 stands b h p q = root-good b (accepted b h) p q .0

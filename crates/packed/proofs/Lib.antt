@@ -7,7 +7,12 @@ pub mod Reading
 pub mod Shown
 pub mod Tags
 pub mod SingleTerm
+pub mod Children
+pub mod ListLaws
 pub mod SortLaws
 pub mod NameLaws
 pub mod TreeLaws
+pub mod NodeOrder
+pub mod SlotMasks
+pub mod WalkSteps
 pub mod Walk

@@ -94,10 +94,14 @@ Below t (Node.list i j) = (t < i) × (t < j)
 Below t Node.listEnd = Unit {0}
 Below t Node.unknown = Unit {0}
 
--- every child comes after its parent, and there are no terms past the array
-pub record Ordered (words : List ℕ) : Type 0 where
-  pub below : (t : ℕ) → Below t (nodeIn words t)
-  pub ends : (t : ℕ) → 1024 ≤ t → getD words t 0 ≡ 0
+-- N nodes, in which every child comes after its parent, and nulls past them
+pub record Descending (h : ℕ → Node) (N : ℕ) : Type 0 where
+  pub past : (t : ℕ) → N ≤ t → h t ≡ Node.null
+  pub below : (t : ℕ) → Below t (h t)
+
+-- the nodes of the array
+abbrev pub Ordered : List ℕ → Type 0
+Ordered words = Descending (nodeIn words) 1024
 
 -- ---- check 4
 

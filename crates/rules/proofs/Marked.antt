@@ -6,7 +6,6 @@ use lib.ListN.{length, replicate, take}
 use Rattle.format.specs.Version.{v1}
 use Rattle.order.proofs.Judge.{unorderedIndexes}
 use Rattle.records.specs.Packed.{logOf}
-use Rattle.rules.specs.Run.{Outcome}
 use Rattle.rules.specs.Play.{Played, runOf, played, areaAfter}
 use Rattle.rules.specs.ShotList.{Expected, Shot, shots}
 

@@ -10,16 +10,16 @@ use mathlib.Core.Option.{Option, some, none}
 use lib.Dec.{T, eqb, eqb·zero-suc}
 use lib.ListN.{getElem?}
 use Rattle.format.specs.Version.{v1}
-use Rattle.keys.specs.Keys.{Keys, singleton, holds, isEmpty}
+use Rattle.keys.specs.Keys.{singleton, holds, isEmpty}
 use Rattle.keys.proofs.KeyLaws.{holds-singleton}
 use Rattle.order.proofs.KeySets.{onlyZero}
-use Rattle.order.proofs.KeyMachine.{start as startKeys, after}
+use Rattle.order.proofs.KeyMachine.{start as startKeys}
 use Rattle.order.proofs.EverySet.{WouldReach, every-set}
 use Rattle.packed.specs.Syntax.{Expression, Arguments, Program}
 use Rattle.packed.proofs.WellFormed.{WellFormedProgram}
 use Rattle.records.specs.Record.{Record}
 use Rattle.rules.specs.State.{Cell, Thread, State, start, fresh, freshObject, lookup, monitor}
-use Rattle.rules.specs.Rules.{isVolatile, LacksHere, LACKS-READ, LACKS-WRITE, Lacks, LACKS}
+use Rattle.rules.specs.Rules.{LACKS-READ, LACKS-WRITE, Lacks, LACKS}
 use Rattle.rules.specs.Run.{Run, logged, stopped, afterPass, afterMove, play}
 use Rattle.rules.specs.Execution.{Execution, ends, passes, lacks-key, no-room, moves}
 use Rattle.rules.proofs.KeyBridge.{keysOf}

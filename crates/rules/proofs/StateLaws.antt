@@ -240,14 +240,6 @@ pub monitor-there : (s : State) (o : ℕ) → o < length (s .objects) → (c : C
 unfolding monitor monitorOf
 monitor-there s o h = let x = there (s .objects) o h in (x .0 .monitor, ap monitorOf (x .1))
 
-pub lookup-inside : (s : State) (o f : ℕ) (c : Cell) → lookup s o f ≡ some c → o < length (s .objects)
-unfolding lookup fieldOf
-lookup-inside s o f c h = go (getElem? (s .objects) o) refl h
-  where
-    go : (x : Option Object) → getElem? (s .objects) o ≡ x → fieldOf x f ≡ some c → o < length (s .objects)
-    go none e h = absurd (let z : _≡_ {A = ℕ} 0 1 = cc in omega arith)
-    go (some x) e h = inside (s .objects) o x e
-
 -- ---- who a join finds
 
 pub found-thread : (ts : List Thread) (i o : ℕ) (q : Numbered) → threadOf i ts o ≡ some q → (j : ℕ) × (q .number ≡ i + j) × (getElem? ts j ≡ some (q .thread)) × (q .thread .self ≡ o)

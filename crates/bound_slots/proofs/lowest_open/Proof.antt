@@ -11,7 +11,8 @@ use Rattle.packed.specs.Refusals.{usesUnboundSlot}
 use Rattle.packed.specs.Slots.{closed}
 use Rattle.packed.proofs.Reading.{shl-one}
 use Rattle.packed.proofs.Shown.{parameters-small, root-below}
-use Rattle.packed.proofs.Walk.{open-of, ordered, tree-is}
+use Rattle.packed.proofs.NodeOrder.{ordered, tree-is}
+use Rattle.packed.proofs.SlotMasks.{open-of}
 use Rattle.bound_slots.proofs.lowest_open.Statement.{statement}
 use Rattle.bound_slots.proofs.lowest_open.Tie as tie
 
