@@ -37,7 +37,8 @@ use Rattle.effects.specs.declared.writes.Write.{Write}
 use Rattle.decoding.proofs.Decoded.{kind-is-kind}
 use Rattle.clocks.proofs.Filled.{zeros}
 use Rattle.effects.proofs.Accesses.{ltb-leb, written-new, written-old}
-use Rattle.judge.proofs.Table.{Fits, rowOf, heard-row, told-row, row-below, source-valid, target-valid, rowAt, Shows, sourcePort, targetPort, count-length, own-shows, heard-shows, moved-gathers, shows-step}
+use Rattle.judge.proofs.Table.{rowAt, Shows, count-length, own-shows, heard-shows, moved-gathers, shows-step}
+use Rattle.judge.proofs.PortTable.{Fits, rowOf, heard-row, told-row, row-below, source-valid, target-valid, sourcePort, targetPort}
 
 abbrev noWrite : Write
 noWrite = record { thread = 0; count = 0 }

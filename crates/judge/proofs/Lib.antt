@@ -1,3 +1,4 @@
 pub mod Refused
+pub mod PortTable
 pub mod Table
 pub mod Going

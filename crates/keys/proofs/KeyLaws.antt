@@ -3,7 +3,7 @@ use Prim.Native.Nat.{ℕ, zero, suc, _+_, _*_, _/_, _%_, _^_, _≤_, _<_, max}
 use native.Mathlib.Nat.{mod-lt, zero-lt-suc, pow-suc, mul-div-cancel, mul-mod-left, zero-max, div-div-eq-div-mul, pow-succ', div-one}
 use native.Mathlib.Omega.{arith}
 use mathlib.Core.Path.{_≡_, refl, sym, ap, ap₂, _∙_}
-use mathlib.Core.Bool.{Bool, true, false, _||_}
+use mathlib.Core.Bool.{Bool, true, false, _||_, false≢true}
 use lib.Bits.{bitOr, or-shr, or-mod, or-step, or-zero-l}
 use lib.Dec.{T, eqb, eqb·suc-suc, eqb·zero-suc, eqb·suc-zero}
 use borrow.Author.Tests.{eq-eqb, eqb-true}
@@ -99,7 +99,7 @@ some-key-in (suc n) K h z = go (K % 2) refl (mod-lt K (zero-lt-suc 1)) (λ b c. 
 -- a set that is not empty has a key
 pub some-key : (K : Keys) → isEmpty K ≡ false → (k : ℕ) × T (holds K k)
 unfolding isEmpty
-some-key K h = some-key-in K K (omega arith) (λ e. let z : false ≡ true = sym h ∙ eq-eqb K 0 e in let y : _≡_ {A = ℕ} 0 1 = cc in omega arith)
+some-key K h = some-key-in K K (omega arith) (λ e. false≢true (sym h ∙ eq-eqb K 0 e))
 
 -- an empty set has none
 pub no-key : (K : Keys) (k : ℕ) → isEmpty K ≡ true → T (holds K k) → ⊥

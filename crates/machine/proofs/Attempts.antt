@@ -15,7 +15,7 @@ use Rattle.packed.specs.Steps.{Descending}
 use Rattle.packed.proofs.TreeLaws.{tree, treeᶜ}
 use Rattle.rules.specs.Context.{Context, plug, plugᶜ, asLiteral}
 use Rattle.rules.specs.State.{Cell, Thread, State, Numbered, changeAt, monitorOf, fieldOf, learn, become, threadOf}
-use Rattle.rules.specs.Rules.{Rule, isVolatile, choose, e-call, e-let, e-if}
+use Rattle.rules.specs.Rules.{Rule, isVolatile, e-call, e-let, e-if}
 use Rattle.rules.specs.Step.{Stuck, Act, waits, sticks, lacks, does, callAct, readAct, writeAct, joinValue, joinAct, synchAct, holdAct, act, actᶜ, equalAct, Attempt, around, attemptAt, attemptBy, attempt}
 use Rattle.rules.proofs.Decompose.{whole, focus-whole, no-literal}
 use Rattle.rules.proofs.Progress.{Ruled}
@@ -124,15 +124,14 @@ module _ (table : Table) where
       join-value s p o q (machine.finishedWith (q .thread .code)) ∙ ap (joinValue (stateOf s) p o (numberedMeant q)) (sym (finished-of (q .thread .code)))
 
   choose-of : (b : Bool) (x y : Result)
-      → resultOf (table .node) (table .count) (machine.choose b x y) ≡ choose b (resultOf (table .node) (table .count) x) (resultOf (table .node) (table .count) y)
-  unfolding machine.choose choose
+      → resultOf (table .node) (table .count) (machine.choose b x y) ≡ cond b (resultOf (table .node) (table .count) x) (resultOf (table .node) (table .count) y)
+  unfolding machine.choose
   choose-of true x y = refl
   choose-of false x y = refl
 
   branch-of : (b : Bool) (x : Branches)
       → expressionIn (table .node) (table .count) (closure (cond b (x .first) (x .second)) (x .slots))
-      ≡ choose b (expressionIn (table .node) (table .count) (firstOf x)) (expressionIn (table .node) (table .count) (secondOf x))
-  unfolding choose
+      ≡ cond b (expressionIn (table .node) (table .count) (firstOf x)) (expressionIn (table .node) (table .count) (secondOf x))
   branch-of true x = refl
   branch-of false x = refl
 

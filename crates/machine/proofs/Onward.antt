@@ -11,7 +11,9 @@ use Rattle.packed.specs.Trees.{Node, expressionOf}
 use Rattle.packed.specs.Steps.{Descending}
 use Rattle.packed.proofs.TreeLaws.{tree-law}
 use Rattle.rules.specs.Context.{Context, top, literals, plug, plugᶜ, asLiteral, asBool, Redex, Redexᶜ, redexExpression, redexCondition, focus, focusᵃ}
-use Rattle.rules.proofs.Decompose.{found, foundᶜ, focus-plug, focus-plugᶜ, as-literal, as-bool, whole, whole-focus}
+use Rattle.rules.proofs.Decompose.{whole, whole-focus}
+use Rattle.rules.proofs.FocusPlug.{found, foundᶜ, focus-plug, focus-plugᶜ}
+use Rattle.rules.proofs.Back.{as-literal, as-bool}
 use Rattle.machine.specs.Frames.{Slots, put, Closure, closure, firstOf, secondOf, Frame, Ready, Result}
 use Rattle.machine.specs.Landing.{given, valueIn, boolIn, down, downᶜ, up, nowhere, upᶜ, enter, enterᶜ, go}
 use Rattle.machine.proofs.Substitution.{firstSlots, first-put}

@@ -3,7 +3,7 @@
 use Prim.Native.Nat.{ℕ, suc}
 use native.Mathlib.Omega.{arith}
 use mathlib.Core.Path.{_≡_, refl, sym, ap, subst}
-use mathlib.Core.Bool.{Bool, false}
+use mathlib.Core.Bool.{Bool, false, true≢false}
 use mathlib.Core.List.{List, [], _∷_, reverse, List·Memᴰ, List·Memᴰ·head, List·Memᴰ·not-nil, List·Memᴰ·eq-of-singleton}
 use mathlib.Core.Logic.{_↔_, Iff·trans, Iff·symm}
 use mathlib.Core.Option.{Option, some, none}
@@ -48,7 +48,7 @@ unfolding unorderedAt
 unordered-decided v L j = go (getElem? L j) refl
   where
     go : (m : Option Record) → getElem? L j ≡ m → T (lateOf v (past L j) m) ↔ Unordered v L j
-    go none e = (λ h. absurd h, λ u. let q = u .at-j in let z : _≡_ {A = ℕ} 0 1 = cc in omega arith)
+    go none e = (λ h. absurd h, λ u. let q = u .at-j in true≢false cc)
     go (some r) e = Iff·trans (late→unordered v r (past L j), unordered→late v r (past L j)) (subst (λ (n : ℕ). N.Unordered v (r ∷ past L j) n ↔ Unordered v L j) (sym size) here)
       where
         size : length (past L j) ≡ j
@@ -89,7 +89,7 @@ none-named v L e none m = refl
 none-named v L e (some j) m = absurd (List·Memᴰ·not-nil (subst (λ (l : List ℕ). List·Memᴰ j l) e (all-named v L (some j) .0 m)))
 
 pub one-named : (v : Version) (L : List Record) (i : ℕ) → unorderedIndexes v L ≡ i ∷ [] → (a : Option ℕ) → MayName v L a → a ≡ some i
-one-named v L i e none m = let q = all-named v L none .0 m in let z : _≡_ {A = ℕ} 0 1 = cc in absurd (omega arith)
+one-named v L i e none m = let q = all-named v L none .0 m in absurd (true≢false cc)
 one-named v L i e (some j) m = ap {B = Option ℕ} some (List·Memᴰ·eq-of-singleton (subst (λ (l : List ℕ). List·Memᴰ j l) e (all-named v L (some j) .0 m)))
 
 -- ---- the lowest

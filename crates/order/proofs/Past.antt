@@ -1,6 +1,7 @@
 -- The past of a record, newest first, in a log that is oldest first. Assumes nothing.
 use Prim.Native.Nat.{ℕ, suc, zero, _<_, _≤_}
 use mathlib.Core.Path.{_≡_, refl, sym, _∙_, ap}
+use mathlib.Core.Bool.{true≢false}
 use mathlib.Core.List.{List, [], _∷_, _++_, reverse, reverse-append}
 use lib.ListN.{length, take, drop, getD, length-take, length-reverse, take-append-drop}
 use lib.Seq.{take-suc}
@@ -27,12 +28,12 @@ past-suc L n d h = ap reverse (take-suc L n d h) ∙ reverse-append (take n L) (
 -- ---- at an index
 
 pub at-within : (L : List Record) (i : ℕ) (r : Record) → At L i r → i < length L
-at-within [] i r h = absurd (let z : _≡_ {A = ℕ} 0 1 = cc in omega arith)
+at-within [] i r h = absurd (true≢false cc)
 at-within (x ∷ L) zero r h = omega arith
 at-within (x ∷ L) (suc i) r h = let b = at-within L i r h in omega arith
 
 pub at→getD : (L : List Record) (i : ℕ) (r d : Record) → At L i r → getD L i d ≡ r
-at→getD [] i r d h = absurd (let z : _≡_ {A = ℕ} 0 1 = cc in omega arith)
+at→getD [] i r d h = absurd (true≢false cc)
 at→getD (x ∷ L) zero r d h = cc
 at→getD (x ∷ L) (suc i) r d h = at→getD L i r d h
 

@@ -3,7 +3,7 @@ use Prim.Native.Nat.{ℕ, zero, suc, _+_, _-_, _≤_, _<_}
 use native.Mathlib.Decide.{ℕ-discrete}
 use native.Mathlib.Omega.{arith}
 use mathlib.Core.Path.{_≡_, refl, ap, sym, subst, _∙_}
-use mathlib.Core.Bool.{Bool, _&&_}
+use mathlib.Core.Bool.{Bool, _&&_, true≢false}
 use mathlib.Core.List.{List}
 use mathlib.Core.Option.{some, none}
 use lib.Dec.{T, ltb, lit<}
@@ -30,7 +30,7 @@ procedures-from b p (suc n) (suc m) k h e = procedures-from b (suc p) n m k (ome
 
 from-inside : (b : List ℕ) (p n m : ℕ) (d : Procedure) → getElem? (proceduresFrom b p n) m ≡ some d → m < n
 unfolding proceduresFrom
-from-inside b p zero m d h = let z : _≡_ {A = ℕ} 0 1 = cc in absurd (omega arith)
+from-inside b p zero m d h = absurd (true≢false cc)
 from-inside b p (suc n) zero d h = omega arith
 from-inside b p (suc n) (suc m) d h = omega (arith, from-inside b (suc p) n m d h)
 

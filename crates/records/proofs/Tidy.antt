@@ -2,7 +2,7 @@
 use Prim.Native.Nat.{ℕ, zero, suc, _≤_, _<_}
 use native.Mathlib.Omega.{arith}
 use mathlib.Core.Path.{_≡_, refl, subst}
-use mathlib.Core.Bool.{false}
+use mathlib.Core.Bool.{false, true≢false}
 use mathlib.Core.List.{List, [], _∷_}
 use mathlib.Core.Option.{some, none}
 use lib.Dec.{T, leb}
@@ -31,7 +31,7 @@ abbrev pub LacksLast : List Record → Type 0
 LacksLast L = (i : ℕ) (r : Record) → getElem? L i ≡ some r → T (lacksKey (r .kind)) → suc i ≡ length L
 
 pub absent : {A : Type 0} {X : Type 0} (x : A) → none ≡ some x → X
-absent x e = let z : _≡_ {A = ℕ} 0 1 = cc in absurd (omega arith)
+absent x e = absurd (true≢false cc)
 
 pub present : {A : Type 0} {x y : A} → some x ≡ some y → x ≡ y
 present e = cc

@@ -3,7 +3,7 @@ use Prim.Native.Nat.{ℕ, suc, _<_, _≤_}
 use native.Mathlib.Omega.{arith}
 use native.Mathlib.Decide.{ℕ-discrete}
 use mathlib.Core.Path.{_≡_, refl, sym, ap, _∙_, subst as along}
-use mathlib.Core.Bool.{Bool, true, false, not}
+use mathlib.Core.Bool.{Bool, true, false, not, true≢false, false≢true}
 use mathlib.Core.List.{List}
 use mathlib.Core.Logic.{_⊎_, inl, inr}
 use mathlib.Core.Option.{Option, some, none}
@@ -137,7 +137,7 @@ module _ (g : Program) (s : State) (κ : KeyState) (A : Agrees g s κ) (o f : �
       plain′ o′ f′ v (inr (x, z)) = ap keysOf (lookup′ o′ f′ ∙ z) ∙ A .plain o′ f′ v ∙ ap singleton (sym (put₂-other (κ .plain) o f (κ .next) o′ f′ x))
 
       volat′ : (o′ f′ : ℕ) → isVolatile g f′ ≡ true → (k : ℕ) → ((o ≡ o′) × (f ≡ f′) × (lookup (store s o f c) o′ f′ ≡ some c)) ⊎ ((o ≡ o′ → f ≡ f′ → ⊥) × (lookup (store s o f c) o′ f′ ≡ lookup s o′ f′)) → κ .volatiles o′ f′ k ≡ holds (keysOf (lookup (useKey (store s o f c)) o′ f′)) k
-      volat′ o′ f′ v k (inl (x, y, z)) = let w : false ≡ true = sym vol ∙ ap (isVolatile g) y ∙ v in absurd (let q : _≡_ {A = ℕ} 0 1 = cc in omega arith)
+      volat′ o′ f′ v k (inl (x, y, z)) = absurd (false≢true (sym vol ∙ ap (isVolatile g) y ∙ v))
       volat′ o′ f′ v k (inr (x, z)) = A .volatiles o′ f′ v k ∙ ap (λ (e : Option Cell). holds (keysOf e) k) (sym (lookup′ o′ f′ ∙ z))
 
   -- a volatile field takes a set
@@ -155,7 +155,7 @@ module _ (g : Program) (s : State) (κ : KeyState) (A : Agrees g s κ) (o f : �
   }
     where
       plain′ : (o′ f′ : ℕ) → isVolatile g f′ ≡ false → ((o ≡ o′) × (f ≡ f′) × (lookup (store s o f c) o′ f′ ≡ some c)) ⊎ ((o ≡ o′ → f ≡ f′ → ⊥) × (lookup (store s o f c) o′ f′ ≡ lookup s o′ f′)) → keysOf (lookup (store s o f c) o′ f′) ≡ singleton (κ .plain o′ f′)
-      plain′ o′ f′ v (inl (x, y, z)) = let w : true ≡ false = sym vol ∙ ap (isVolatile g) y ∙ v in absurd (let q : _≡_ {A = ℕ} 0 1 = cc in omega arith)
+      plain′ o′ f′ v (inl (x, y, z)) = absurd (true≢false (sym vol ∙ ap (isVolatile g) y ∙ v))
       plain′ o′ f′ v (inr (x, z)) = ap keysOf z ∙ A .plain o′ f′ v
 
       volat′ : (o′ f′ : ℕ) → isVolatile g f′ ≡ true → (k : ℕ) → ((o ≡ o′) × (f ≡ f′) × (lookup (store s o f c) o′ f′ ≡ some c)) ⊎ ((o ≡ o′ → f ≡ f′ → ⊥) × (lookup (store s o f c) o′ f′ ≡ lookup s o′ f′)) → put₂ (κ .volatiles) o f a o′ f′ k ≡ holds (keysOf (lookup (store s o f c) o′ f′)) k
@@ -224,7 +224,7 @@ module _ (g : Program) (s : State) (κ : KeyState) (A : Agrees g s κ) (o : ℕ)
           let j : some c ≡ some c′ = sym z ∙ m in
           let y : c ≡ c′ = cc in
           let w : false ≡ true = sym full ∙ ap (λ (z : Cell). isEmpty (z .keys)) y ∙ e in
-          absurd (let q : _≡_ {A = ℕ} 0 1 = cc in omega arith)
+          absurd (true≢false cc)
       owner′ o′ c′ m e q u i v (inr (x, z)) = A .owner o′ c′ (sym z ∙ m) e q u i v
 
 -- ---- new objects and threads
@@ -260,7 +260,7 @@ agrees-new g s κ fs A = record {
         let j : some fresh ≡ some c = sym k ∙ m in
         let y : fresh ≡ c = cc in
         let w : false ≡ true = ap (λ (z : Cell). isEmpty (z .keys)) y ∙ e in
-        absurd (let q : _≡_ {A = ℕ} 0 1 = cc in omega arith)
+        absurd (true≢false cc)
 
 pub agrees-started : (g : Program) (s : State) (κ : KeyState) (u : Thread) (a : KeySet) → Agrees g s κ → ((k : ℕ) → a k ≡ holds (u .keys) k)
     → ((o : ℕ) (c : Cell) → monitor s o ≡ some c → isEmpty (c .keys) ≡ true → c .value ≡ u .self → ⊥) → Agrees g (addThread s u) (threadForked (length (s .threads)) a κ)

@@ -1,3 +1,5 @@
+pub mod FocusPlug
+pub mod Back
 pub mod Decompose
 pub mod Closing
 pub mod Placed

@@ -2,7 +2,7 @@
 use Prim.Native.Nat.{ℕ, suc, _<_, _≤_}
 use native.Mathlib.Omega.{arith}
 use mathlib.Core.Path.{_≡_, refl, sym, subst as along}
-use mathlib.Core.Bool.{Bool, true, false, cond}
+use mathlib.Core.Bool.{Bool, true, false, cond, true≢false}
 use mathlib.Core.List.{List, []}
 use mathlib.Core.Option.{Option, some, none}
 use lib.ListN.{length, getElem?}
@@ -52,7 +52,7 @@ below-when : (a b : ℕ) (k : Room) (r : Option Room) → cond (leb a b) (some k
 below-when a b k r h = go (leb a b) refl h
   where
     go : (x : Bool) → leb a b ≡ x → cond x (some k) r ≡ none → (b < a) × (r ≡ none)
-    go true e h = let z : _≡_ {A = ℕ} 0 1 = cc in absurd (omega arith)
+    go true e h = absurd (true≢false cc)
     go false e h = (nleb→lt a b (rw e tt), h)
 
 before-none : (a b : Option Room) → orElse a b ≡ none → a ≡ none

@@ -10,7 +10,7 @@ use Rattle.packed.specs.Syntax.{Expression, Condition, Procedure, Program, lite
 use Rattle.records.specs.Record.{Kind, Record, entry}
 use Rattle.rules.specs.Context.{Context, top, plug, plugᶜ, Redex, Redexᶜ, Focus, value, here, hereᶜ, focus, asLiteral}
 use Rattle.rules.specs.State.{Cell, cell, Thread, State, Numbered, freshObject, lookup, monitor, store, storeMonitor, addObject, learn, become, addThread, useKey, threadOf}
-use Rattle.rules.specs.Rules.{Rule, isVolatile, choose, e-call, e-let, e-if, e-while, e-notnottrue, e-andtrue, e-andfalse, e-equaltrue, e-equalfalse, e-new, e-read, e-write, e-readv, e-writev, e-fork, e-join, e-re-enter, e-acquire, e-release}
+use Rattle.rules.specs.Rules.{Rule, isVolatile, e-call, e-let, e-if, e-while, e-notnottrue, e-andtrue, e-andfalse, e-equaltrue, e-equalfalse, e-new, e-read, e-write, e-readv, e-writev, e-fork, e-join, e-re-enter, e-acquire, e-release}
 
 -- "waiting (monitor held by another, or join of an unfinished thread, itself included)", with the object
 pub data Wait : Type 0 where
@@ -91,13 +91,13 @@ holdAct s p t o v (some c) =
 
 -- the rules for expressions: thread p, which is t
 unfoldable pub act : Program → State → ℕ → Thread → Redex → Act
-unfolding callAct readAct writeAct joinAct synchAct holdAct bind substitute choose sequence freshObject addObject addThread lookup monitor threadOf
+unfolding callAct readAct writeAct joinAct synchAct holdAct bind substitute sequence freshObject addObject addThread lookup monitor threadOf
 act g s p t (Redex.variable x) = sticks noRule
 act g s p t (Redex.new fs) = does e-new (some (entry Kind.new p (length (s .objects)) 0 0)) (addObject s (freshObject fs)) (literal (length (s .objects)))
 act g s p t (Redex.read o f) = readAct g s p t o f (lookup s o f)
 act g s p t (Redex.write o f v) = writeAct g s p t o f v (lookup s o f)
 act g s p t (Redex.letIn x o e) = does e-let none s (substitute (bind x o) e)
-act g s p t (Redex.if b e e′) = does e-if none s (choose b e e′)
+act g s p t (Redex.if b e e′) = does e-if none s (cond b e e′)
 act g s p t (Redex.while c e) = does e-while none s (Expression.if c (sequence e (Expression.while c e)) (literal 0))
 act g s p t (Redex.call m os) = callAct s (getElem? (g .procedures) m) os
 act g s p t (Redex.fork e) =
