@@ -15,6 +15,7 @@ pub record Check : Type 0 where
   pub places : ℕ
   pub wrong : ℕ → Bool
 
+-- the check of number k over n places, of which those that pass the test are wrong
 abbrev pub check : ℕ → ℕ → (ℕ → Bool) → Check
 check k n f = record { number = k; places = n; wrong = f }
 
@@ -22,6 +23,7 @@ check k n f = record { number = k; places = n; wrong = f }
 abbrev pub checkWhole : ℕ → Bool → Check
 checkWhole k x = check k 1 (λ place. x)
 
+-- the first of two answers, if it is one, else the second
 unfoldable pub orElse : {A : Type 0} → Option A → Option A → Option A
 orElse (some x) o = some x
 orElse none o = o

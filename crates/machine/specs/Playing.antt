@@ -1,4 +1,4 @@
--- The machine that the code runs; no reader of the entries' promises needs it. Room, the answer to a pick, runs, the states of the threads, and the
+-- The abstract machine; no reader of the entries' promises needs it. Room, the answer to a pick, runs, the states of the threads, and the
 -- machine of a plan. Its names are those of the definitions that it follows: use them qualified. Assumes nothing.
 use Prim.Native.Nat.{ℕ, zero, suc}
 use mathlib.Core.Bool.{Bool, false, cond, _||_}

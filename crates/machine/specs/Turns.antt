@@ -1,4 +1,4 @@
--- The machine that the code runs; no reader of the entries' promises needs it. Landing in turns, as the code's loop makes it: where landing stands, and
+-- The abstract machine; no reader of the entries' promises needs it. Landing in turns, as the code's loop makes it: where landing stands, and
 -- one turn of it. h gives the nodes of a plan of N terms. Assumes nothing.
 use Prim.Native.Nat.{ℕ}
 use mathlib.Core.Bool.{Bool, true, false}

@@ -83,11 +83,13 @@ unfoldable pub deep : Thread → Bool
 unfolding depthOf focus
 deep t = ltb 32 (depthOf (focus top (t .expression)))
 
+-- a depth over 32 in a thread, if there is one
 unfoldable pub deepAt : Option Thread → Bool
 unfolding deep
 deepAt none = false
 deepAt (some t) = deep t
 
+-- a depth over 32 in one of these threads
 unfoldable pub anyDeep : List Thread → Bool
 unfolding deep
 anyDeep [] = false
@@ -111,6 +113,7 @@ pub data Answer : Type 0 where
   noRoom : Room → Answer  -- the run stops: no room
   moved : Move → Answer
 
+-- a move is made, or "the run stops at this pick, unmoved", for the room that it lacks
 unfoldable pub withinRoom : Move → Option Room → Answer
 withinRoom m none = moved m
 withinRoom m (some k) = noRoom k

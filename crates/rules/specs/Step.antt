@@ -113,6 +113,7 @@ pub record Actᶜ : Type 0 where
   pub rule : Rule
   pub result : Condition
 
+-- E-EQUALTRUE or E-EQUALFALSE, by whether the two objects are one
 unfoldable pub equalAct : Bool → Actᶜ
 unfolding bool
 equalAct true = record { rule = e-equaltrue; result = bool true }
@@ -148,12 +149,14 @@ around s p K (sticks r) = stuck r
 around s p K (lacks r) = lacking r
 around s p K (does R r s′ e) = moves (record { rule = R; entry = r; state = become s′ p (plug K e) })
 
+-- what thread p, which is t, can do where it moves next
 unfoldable pub attemptAt : Program → State → ℕ → Thread → Focus → Attempt
 unfolding around act actᶜ become plug
 attemptAt g s p t (value o) = finished o
 attemptAt g s p t (here K r) = around s p K (act g s p t r)
 attemptAt g s p t (hereᶜ K r) = moves (record { rule = actᶜ r .rule; entry = none; state = become s p (plugᶜ K (actᶜ r .result)) })
 
+-- what thread p can do, if it is there
 unfoldable pub attemptBy : Program → State → ℕ → Option Thread → Attempt
 unfolding attemptAt focus
 attemptBy g s p none = absent
