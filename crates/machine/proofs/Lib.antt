@@ -8,6 +8,8 @@ pub mod Levels
 pub mod Turns
 pub mod Heights
 pub mod Sorted
+pub mod StateMeaning
+pub mod MeantActs
 pub mod Attempts
 pub mod WellSorted
 pub mod Limits

@@ -17,7 +17,7 @@ use Rattle.packed.proofs.NodeOrder.{descending}
 use Rattle.packed.proofs.TreeLaws.{tree}
 use Rattle.rules.specs.Rules.{isVolatile}
 use Rattle.machine.specs.Playing.{tableOf}
-use Rattle.machine.proofs.Attempts.{Tabulates}
+use Rattle.machine.proofs.StateMeaning.{Tabulates}
 
 -- ---- a term's children come after it
 

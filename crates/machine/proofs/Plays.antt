@@ -17,10 +17,10 @@ use Rattle.machine.specs.Machine as machine
 use Rattle.machine.specs.Playing as playing
 use Rattle.machine.specs.Playing.{tableOf}
 use Rattle.machine.proofs.Substitution.{firstSlots}
-use Rattle.machine.proofs.Attempts.{stateOf}
 use Rattle.machine.proofs.Limits.{start-limits}
 use Rattle.machine.proofs.Runs.{Reached, step-reached, runMeant, run-of, run-reached, statuses-of}
 use Rattle.machine.proofs.PlanTable.{tabulates}
+use Rattle.machine.proofs.StateMeaning.{stateOf}
 
 start-of : (table : machine.Table) → start ≡ stateOf table playing.start
 unfolding start playing.start whole plug redexExpression literals firstSlots

@@ -11,8 +11,8 @@ use Rattle.rules.proofs.Invariant.{In, heldBy}
 use Rattle.machine.specs.Machine as machine
 use Rattle.machine.specs.Machine.{Table}
 use Rattle.machine.proofs.Meaning.{mean}
-use Rattle.machine.proofs.Attempts.{threadMeant, get-map}
 use Rattle.machine.proofs.Runs.{Reached}
+use Rattle.machine.proofs.StateMeaning.{threadMeant, get-map}
 
 -- thread t of state s. `Good` says of what is ready that its objects are there, its field is 1 to 31 and its procedure has its count of arguments,
 -- and the like of every frame.
