@@ -6,16 +6,16 @@ use mathlib.Core.Path.{_≡_, refl, sym, ap, _∙_, subst as along}
 use mathlib.Core.Bool.{Bool, true, false, cond, true≢false}
 use mathlib.Core.List.{List, [], _∷_}
 use mathlib.Core.Option.{Option, some, none}
-use lib.Dec.{eqb, leb}
+use lib.Dec.{eqb}
 use lib.ListN.{length, getElem?, drop}
-use borrow.Author.Tests.{ltb-false, leb-false}
-use Rattle.format.specs.Refusal.{orElse}
+use borrow.Author.Tests.{ltb-false}
 use Rattle.format.proofs.RefusalLaws.{neither}
 use Rattle.keys.specs.Keys.{Keys, empty, singleton, subset, isEmpty}
 use Rattle.rules.specs.State.{Cell, cell}
 use Rattle.rules.specs.Rules.{Rule, e-new, e-write, e-fork}
 use Rattle.rules.specs.Room.{Room}
 use Rattle.rules.proofs.StateLaws.{added-old, length-added, change-other, change-length}
+use Rattle.rules.proofs.RoomLaws.{room-for, both-none}
 use Rattle.machine.specs.Frames.{noSlots, Closure, Frame, Ready, Found, height}
 use Rattle.machine.specs.Landing.{go}
 use Rattle.machine.specs.Machine.{Thread, State, Numbered, Table, Act, waits, sticks, lacks, does, Move, Attempt, absent, finished, waiting, stuck, lacking, moves, store, storeMonitor, addObject, addThread, useKey, learn, become, lookup, monitor, threadOf, finishedWith, joinValue, joinAct, synchAct, readAct, writeAct, act, actᶜ, around, attemptAt, attemptBy, attempt}
@@ -68,14 +68,6 @@ module _ (R : Rule) (s : State) (p : ℕ) where
     counts = λ e k. let z = g .counts e k in record { few-objects = z .few-objects; few-threads = rw change-length (z .few-threads); few-keys = z .few-keys };
     others = λ q n l. change-other (s′ .threads) p _ q n ∙ g .others q n l;
   }
-
--- there is room where the test says so
-room-for : (k n : ℕ) (w : Room) (r : Option Room) → cond (leb k n) (some w) r ≡ none → (n < k) × (r ≡ none)
-room-for k n w r e = at (leb k n) refl e
-  where
-    at : (b : Bool) → leb k n ≡ b → cond b (some w) r ≡ none → (n < k) × (r ≡ none)
-    at true q e = absurd (true≢false cc)
-    at false q e = (leb-false k n q, e)
 
 module _ (s : State) (p : ℕ) where
   grows-key : Grows e-write s p (useKey s)
@@ -214,11 +206,6 @@ deep-past (suc n) (x ∷ xs) e zero t l h = absurd (omega arith)
 deep-past (suc n) (x ∷ xs) e (suc q) t l h = deep-past n xs e q t (omega arith) h
 
 -- ---- an admitted move
-
-both-none : (x y : Option Room) → orElse x y ≡ none → (x ≡ none) × (y ≡ none)
-unfolding orElse
-both-none none y e = (refl, e)
-both-none (some w) y e = absurd (true≢false cc)
 
 not-deep : (b : Bool) (w : Room) → cond b (some w) none ≡ none → b ≡ false
 not-deep true w e = absurd (true≢false cc)

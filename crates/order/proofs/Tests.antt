@@ -6,8 +6,9 @@ use mathlib.Core.Logic.{_⊎_, inl, inr, _↔_, ⊎-map}
 use lib.Dec.{T, T-not, eqb, eqb→eq, eqb-refl}
 use mir.Facts.{yes-eqb}
 use native.Mathlib.Decide.{ℕ-discrete}
-use Rattle.records.specs.Record.{Kind, new, read, write, readv, writev, acquire, release, fork, join, lacksRead, lacksWrite, kindNumber}
+use Rattle.records.specs.Record.{Kind, kindNumber}
 use Rattle.records.specs.Packed.{kindOf}
+use Rattle.records.proofs.Tidy.{kind-back}
 
 pub or← : (a b : Bool) → T a ⊎ T b → T (a || b)
 or← true b h = tt
@@ -43,22 +44,8 @@ differ {a} e h = T-not (eqb (kindNumber a) (kindNumber a)) (rw (← e) at h) (eq
 abbrev pub sameKind : Kind → Kind → Bool
 sameKind a b = eqb (kindNumber a) (kindNumber b)
 
-kindOf-number : (a : Kind) → kindOf (kindNumber a) ≡ a
-unfolding kindOf
-kindOf-number new = refl
-kindOf-number read = refl
-kindOf-number write = refl
-kindOf-number readv = refl
-kindOf-number writev = refl
-kindOf-number acquire = refl
-kindOf-number release = refl
-kindOf-number fork = refl
-kindOf-number join = refl
-kindOf-number lacksRead = refl
-kindOf-number lacksWrite = refl
-
 pub sameKind→ : (a b : Kind) → T (sameKind a b) → a ≡ b
-sameKind→ a b h = sym (kindOf-number a) ∙ ap kindOf (eqb→eq (kindNumber a) (kindNumber b) h) ∙ kindOf-number b
+sameKind→ a b h = sym (kind-back a) ∙ ap kindOf (eqb→eq (kindNumber a) (kindNumber b) h) ∙ kind-back b
 
 pub sameKind← : (a b : Kind) → a ≡ b → T (sameKind a b)
 sameKind← a b e = yes-eqb (ap kindNumber e)

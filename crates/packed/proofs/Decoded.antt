@@ -9,7 +9,6 @@ use mathlib.Core.Option.{some, none}
 use lib.Dec.{T, ltb, lit<}
 use lib.ListN.{getElem?, getD}
 use mir.Facts.{and-yes}
-use borrow.Author.Tests.{eq-eqb, ne-eqb}
 use Rattle.packed.specs.Syntax.{Expression, Condition, Arguments, Procedure}
 use Rattle.packed.specs.Format.{procedures, terms, parameters, root, expression, condition, list, table, layout, laidOut, tagAt, termAt}
 use Rattle.packed.specs.Trees.{Node, binderOf, nodes, nodeOf, nodeAt, Stands, Standsᶜ, Standsᵃ, expressionOf, conditionOf, argumentsOf, expressionAt, conditionAt, argumentsAt, treeAt, procedureAt, proceduresFrom, programOf}
@@ -18,6 +17,7 @@ use Rattle.packed.specs.Refusals.{listLength}
 use Rattle.packed.specs.Check.{refusal}
 use Rattle.packed.proofs.WellFormed.{count, Callable, WellFormed, WellFormedᶜ, WellFormedᵃ, WellFormedProgram}
 use Rattle.packed.proofs.Accepted.{OfSort, Child, Fits, RightTerm, Accepted, accepted}
+use Rattle.packed.proofs.ListLaws.{list-step, list-stop}
 
 infixr 30 _gives_then_
 -- ---- the procedures
@@ -72,15 +72,6 @@ callable b m k h e = (procedureAt b m, procedures-are b m h, e)
 pub node-is : (b : List ℕ) (t k : ℕ) → tagAt b t ≡ k → nodeAt b t ≡ getD nodes k (λ x y z. Node.unknown) (termAt b t .value₁) (termAt b t .value₂) (termAt b t .value₃)
 unfolding nodeAt nodeOf termAt laidOut
 node-is b t k e = ap (λ (i : ℕ). getD nodes i (λ x y z. Node.unknown) (termAt b t .value₁) (termAt b t .value₂) (termAt b t .value₃)) e
-
-list-longer : (b : List ℕ) (t m : ℕ) → tagAt b t ≡ 16 → listLength b (suc m) t ≡ suc (listLength b m (termAt b t .value₂))
-unfolding listLength
-list-longer b t m e = rw (eq-eqb (tagAt b t) 16 e)
-
-list-ends : (b : List ℕ) (t m : ℕ) → tagAt b t ≡ 17 → listLength b m t ≡ 0
-unfolding listLength
-list-ends b t zero e = refl
-list-ends b t (suc m) e = rw (ne-eqb (tagAt b t) 16 (λ q. omega arith))
 
 -- ---- a tree at its term
 
@@ -208,7 +199,7 @@ module _ (b : List ℕ) where
 
       longer : Child b t list y → tagAt b t ≡ 16 → (m : ℕ) → terms b ≤ t + m → suc (count (treeᵃ y)) ≡ listLength b m t
       longer q e zero h = absurd (omega arith)
-      longer q e (suc m) h = ap suc (goodᵃ y q .2 m (omega arith)) ∙ sym (list-longer b t m e)
+      longer q e (suc m) h = ap suc (goodᵃ y q .2 m (omega arith)) ∙ sym (list-step b m t e)
 
       lists : Cases (Row (λ m. Goodᵃ t (argumentsOf tree treeᵃ m))) 16 2
       unfolding nodes layout table argumentsOf closed
@@ -218,7 +209,7 @@ module _ (b : List ℕ) where
             (λ ρ c. let d = and-yes (closed ρ (tree x)) (closedᵃ ρ (treeᵃ y)) c in (good x p .1 ρ (d .0), goodᵃ y q .1 ρ (d .1))),
             longer q e,
           ))
-          then 17 gives (λ e p q r. (node-is b t 17 e, (λ ρ c. tt), λ m h. sym (list-ends b t m e)))
+          then 17 gives (λ e p q r. (node-is b t 17 e, (λ ρ c. tt), λ m h. sym (list-stop b m t (λ z. omega arith))))
           then done
 
       good-here : OfSort expression (tagAt b t) → Good t (expressionAt (nodeAt b) (suc n) t)

@@ -18,7 +18,7 @@ use Rattle.packed.specs.Trees.{nodes, nodeOf, nodeAt}
 use Rattle.packed.specs.Refusals.{sumBelow, oneIf, wrongTerm, timesIn, timesNamed, notNamedOnce}
 use Rattle.packed.specs.Steps.{Headed, Loaded, nodeIn, Child, childOf, childrenOf, moreOf, countAll, cap, rootTimes, allTimes, Counted, notOnce, inWord, lowerAll}
 use Rattle.packed.proofs.Tags.{by-tag, except}
-use Rattle.packed.proofs.SingleTerm.{rowOf, node-in}
+use Rattle.packed.proofs.SingleTerm.{rowOf, node-in, zeros-at}
 use Rattle.packed.proofs.Children.{Within, nodes-are, children-within, termOf, nodeOfTag}
 
 pub more-suc : (n : ℕ) → (n ≡ 0 → ⊥) → 2 ≡ moreOf n
@@ -40,11 +40,6 @@ cap-one (suc (suc n)) = sym (ne-eqb (suc (suc n)) 1 (λ q. omega arith))
 
 counted-ext : (f g : ℕ → ℕ) (c : List ℕ) → ((t : ℕ) → f t ≡ g t) → Counted f c → Counted g c
 counted-ext f g c e k = record { size = k .size; each = λ t h. k .each t h ∙ ap cap (e t) }
-
-zeros-at : (n t : ℕ) → _≡_ {A = ℕ} (getD (replicate n 0) t 0) 0
-zeros-at zero t = refl
-zeros-at (suc n) zero = refl
-zeros-at (suc n) (suc t) = zeros-at n t
 
 pub no-names : (b : List ℕ) → Counted (rootTimes b 0) (replicate 1024 0)
 unfolding rootTimes sumBelow cap

@@ -15,5 +15,6 @@ pub mod Executed
 pub mod Marked
 pub mod KeyBridge
 pub mod Bridge
+pub mod RoomLaws
 pub mod TidyRuns
 pub mod RunKeys

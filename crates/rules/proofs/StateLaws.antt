@@ -91,6 +91,24 @@ module _ {A : Type 0} where
   change-length (x ∷ xs) zero h = refl
   change-length (x ∷ xs) (suc i) h = ap suc (change-length xs i h)
 
+-- who stands at q after thread p, which was t, has changed
+pub who : (ts : List Thread) (p : ℕ) (h : Thread → Thread) (t : Thread) → getElem? ts p ≡ some t → (q : ℕ) (u : Thread) → getElem? (changeAt ts p h) q ≡ some u
+    → ((p ≡ q) × (h t ≡ u)) ⊎ ((p ≡ q → ⊥) × (getElem? ts q ≡ some u))
+who ts p h t at q u e = go (ℕ-discrete p q)
+  where
+    go : Dec (p ≡ q) → ((p ≡ q) × (h t ≡ u)) ⊎ ((p ≡ q → ⊥) × (getElem? ts q ≡ some u))
+    go (yes x) = let k : some (h t) ≡ some u = sym (change-same ts p h t at) ∙ ap (λ (a : ℕ). getElem? (changeAt ts p h) a) x ∙ e in inl (x, cc)
+    go (no x) = inr (x, sym (change-other ts p h q x) ∙ e)
+
+-- with whose self, where thread p's stays
+pub whose : (ts : List Thread) (p : ℕ) (h : Thread → Thread) (t : Thread) → getElem? ts p ≡ some t → h t .self ≡ t .self → (q : ℕ) (u : Thread) → getElem? (changeAt ts p h) q ≡ some u
+    → (v : Thread) × (getElem? ts q ≡ some v) × (u .self ≡ v .self)
+whose ts p h t at self q u e = go (who ts p h t at q u e)
+  where
+    go : ((p ≡ q) × (h t ≡ u)) ⊎ ((p ≡ q → ⊥) × (getElem? ts q ≡ some u)) → (v : Thread) × (getElem? ts q ≡ some v) × (u .self ≡ v .self)
+    go (inl (x, y)) = (t, rw (← x) at, ap (λ (z : Thread). z .self) (sym y) ∙ self)
+    go (inr (x, y)) = (u, y, refl)
+
 -- ---- fields of one object
 
 field-same : (xs : List Field) (f : ℕ) (c d : Cell) → findField xs f ≡ some d → findField (storeField xs f c) f ≡ some c
