@@ -1,10 +1,10 @@
 -- Laws of the lowest number at which a test passes: how it is found, and what it makes of a check. Assumes nothing.
 use mathlib.Core.Path.{_≡_, sym, _∙_}
 use mathlib.Core.Bool.{Bool, true, false}
-use mathlib.Core.Option.{some, none}
+use mathlib.Core.Option.{some, none, orElse}
 use Prim.Native.Nat.{ℕ, _≤_, _<_}
 use native.Mathlib.Omega.{arith}
-use Rattle.format.specs.Refusal.{lowest, orElse}
+use Rattle.format.specs.Refusal.{lowest}
 use Rattle.format.specs.Lowest.{Lowest}
 use Rattle.format.proofs.RefusalLaws.{none-below, at-first}
 

@@ -6,8 +6,8 @@ use mathlib.Core.Logic.{_↔_}
 use mathlib.Core.Path.{_≡_, refl, ap, sym, subst, _∙_}
 use mathlib.Core.Bool.{Bool, true, false, cond, _||_, true≢false}
 use mathlib.Core.List.{List, [], _∷_, _++_}
-use mathlib.Core.Option.{Option, some, none}
-use Rattle.format.specs.Refusal.{Refusal, Check, orElse, lowest, refuse, firstRefusal}
+use mathlib.Core.Option.{Option, some, none, orElse}
+use Rattle.format.specs.Refusal.{Refusal, Check, lowest, refuse, firstRefusal}
 
 -- ---- tests
 

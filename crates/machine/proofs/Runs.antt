@@ -3,10 +3,9 @@ use Prim.Native.Nat.{ℕ, zero, suc}
 use mathlib.Core.Path.{_≡_, refl, sym, ap, ap₂, _∙_}
 use mathlib.Core.Bool.{Bool, cond, _||_}
 use mathlib.Core.List.{List, [], _∷_, map}
-use mathlib.Core.Option.{Option, some, none, Option·map}
+use mathlib.Core.Option.{Option, some, none, Option·map, orElse}
 use lib.Dec.{ltb, leb}
 use lib.ListN.{length, getElem?, drop, length-map}
-use Rattle.format.specs.Refusal.{orElse}
 use Rattle.packed.specs.Syntax.{Program}
 use Rattle.packed.proofs.WellFormed.{WellFormedProgram}
 use Rattle.rules.specs.Context.{Focus, depthOf}

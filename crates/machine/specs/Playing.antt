@@ -3,10 +3,9 @@
 use Prim.Native.Nat.{ℕ, zero, suc}
 use mathlib.Core.Bool.{Bool, false, cond, _||_}
 use mathlib.Core.List.{List, [], _∷_}
-use mathlib.Core.Option.{Option, some, none}
+use mathlib.Core.Option.{Option, some, none, orElse}
 use lib.Dec.{eqb, ltb, leb}
 use lib.ListN.{length, getElem?, drop}
-use Rattle.format.specs.Refusal.{orElse}
 use Rattle.keys.specs.Keys.{singleton}
 use Rattle.packed.specs.Format.{terms, root, volatiles, maskBit}
 use Rattle.packed.specs.Trees.{nodeAt}

@@ -27,6 +27,11 @@ use Rattle.rules.proofs.FocusPlug.{found, foundᶜ}
 abbrev pub learnt : Thread → Keys → Thread
 learnt t W = record { self = t .self; expression = t .expression; keys = union W (t .keys) }
 
+-- where the mover stands, after what the rule did to the rest
+pub learnt-at : (s : State) (p : ℕ) (t : Thread) → getElem? (s .threads) p ≡ some t → (s₁ : State) (W : Keys) → s₁ .threads ≡ s .threads → getElem? (learn s₁ p W .threads) p ≡ some (learnt t W)
+unfolding learn
+learnt-at s p t ht s₁ W e = change-same (s₁ .threads) p _ t (rw e ht)
+
 -- thread p, which is t, is about to move x in K
 module _ (g : Program) (s : State) (p : ℕ) (t : Thread) (K : Context) (I : Inv g s) (at : getElem? (s .threads) p ≡ some t) (x : Redex) (h : t .expression ≡ plug K (redexExpression x)) where
   pub seen : focus top (t .expression) ≡ here K x
@@ -59,11 +64,6 @@ module _ (g : Program) (P : WellFormedProgram g) (s : State) (I : Inv g s) (p : 
       settle g s p t K I ht (Redex.call m os) he (substitute (bindParameters os) (d .body)) refl
       (filled g N (bindParameters os) _ unbound (covers-params N (d .parameters) os (placed g s p t K I ht (Redex.call m os) he .1 .1) hp) (d .body) (more g 1 N (I .null-there) _ (d .body) (P .bodies m d hd)))
 
-  -- a step back to where the mover stood, after what the rule did to the rest
-  learnt-at : (s₁ : State) (W : Keys) → s₁ .threads ≡ s .threads → getElem? (learn s₁ p W .threads) p ≡ some (learnt t W)
-  unfolding learn
-  learnt-at s₁ W e = change-same (s₁ .threads) p _ t (rw e ht)
-
   -- no thread has to release a monitor that is free
   free-of : (o : ℕ) (c : Cell) → monitor s o ≡ some c → isEmpty (c .keys) ≡ false → (q : ℕ) (u : Thread) → getElem? (s .threads) q ≡ some u → In o (owed u) → ⊥
   unfolding isEmpty
@@ -91,7 +91,7 @@ module _ (g : Program) (P : WellFormedProgram g) (s : State) (I : Inv g s) (p : 
       I₂ = inv-learn g s₁ p W t I₁ ht
 
       at₂ : getElem? (s₂ .threads) p ≡ some (learnt t W)
-      at₂ = learnt-at s₁ W refl
+      at₂ = learnt-at s p t ht s₁ W refl
 
       pl : Around g (length (s₂ .objects)) K × Ready g (length (s₂ .objects)) (Redex.synch o e)
       pl = placed g s₂ p (learnt t W) K I₂ at₂ (Redex.synch o e) he
@@ -106,7 +106,7 @@ module _ (g : Program) (P : WellFormedProgram g) (s : State) (I : Inv g s) (p : 
   -- a move that learns some keys, whichever they are
   settle-learn : (W : Keys) (x : Redex) (v : ℕ) → t .expression ≡ plug K (redexExpression x) → held x (pending K) ≡ pending K → v < N → Inv g (become (learn s p W) p (plug K (literal v)))
   unfolding learn
-  settle-learn W x v he q b = settle g (learn s p W) p (learnt t W) K (inv-learn g s p W t I ht) (learnt-at s W refl) x he (literal v) q b
+  settle-learn W x v he q b = settle g (learn s p W) p (learnt t W) K (inv-learn g s p W t I ht) (learnt-at s p t ht s W refl) x he (literal v) q b
 
   -- a plain write: a new key, stored and learnt
   kept-write : (o f v : ℕ) (c : Cell) → lookup s o f ≡ some c → t .expression ≡ plug K (redexExpression (Redex.write o f v))
@@ -116,7 +116,7 @@ module _ (g : Program) (P : WellFormedProgram g) (s : State) (I : Inv g s) (p : 
       let s₁ = store (useKey s) o f (record { keys = singleton (s .nextKey); value = v }) in
       let I₁ = inv-store g (useKey s) o f (record { keys = singleton (s .nextKey); value = v }) _ (inv-key g s I) h (placed g s p t K I ht (Redex.write o f v) he .1 .3) in
       let I₂ = inv-learn g s₁ p (singleton (s .nextKey)) t I₁ ht in
-      let at₂ = learnt-at s₁ (singleton (s .nextKey)) refl in
+      let at₂ = learnt-at s p t ht s₁ (singleton (s .nextKey)) refl in
       settle g (learn s₁ p (singleton (s .nextKey))) p (learnt t (singleton (s .nextKey))) K I₂ at₂ (Redex.write o f v) he (literal v) refl (placed g (learn s₁ p (singleton (s .nextKey))) p (learnt t (singleton (s .nextKey))) K I₂ at₂ (Redex.write o f v) he .1 .3)
 
   -- a write to a field, with whichever keys

@@ -2,10 +2,9 @@
 use Prim.Native.Nat.{ℕ, _<_}
 use mathlib.Core.Path.{_≡_, refl}
 use mathlib.Core.Bool.{Bool, true, false, cond, true≢false}
-use mathlib.Core.Option.{Option, some, none}
+use mathlib.Core.Option.{Option, some, none, orElse}
 use lib.Dec.{leb}
 use borrow.Author.Tests.{leb-false}
-use Rattle.format.specs.Refusal.{orElse}
 use Rattle.rules.specs.Room.{Room}
 
 -- there is room where the test says so

@@ -3,10 +3,9 @@ use Prim.Native.Nat.{ℕ}
 use mathlib.Core.Path.{_≡_}
 use mathlib.Core.Bool.{Bool, false, cond, _||_}
 use mathlib.Core.List.{List, [], _∷_}
-use mathlib.Core.Option.{Option, some, none}
+use mathlib.Core.Option.{Option, some, none, orElse}
 use lib.Dec.{ltb, leb}
 use lib.ListN.{length, getElem?, drop}
-use Rattle.format.specs.Refusal.{orElse}
 use Rattle.keys.specs.Keys.{empty}
 use Rattle.packed.specs.Syntax.{Expression, Program, literal}
 use Rattle.records.specs.Record.{Record}
