@@ -77,6 +77,8 @@ module _ (b : List ℕ) (procs n : ℕ) (r : Right b procs n) where
           let e : 9 + (n - 9) ≡ n = omega (arith, p) in
           same-test (listLength b 9 t) (listLength b n t) k q (rw e at (counted b 9 (n - 9) t))
 
+-- ---- what a call names
+
 call-is : (b : List ℕ) (t : ℕ) → tagAt b t ≡ 8 → wrongCall b t ≡ not (eqb (listLength b (terms b) (termAt b t .value₂)) (parameters b (termAt b t .value₁)))
 unfolding wrongCall
 call-is b t h = rw (eq-eqb (tagAt b t) 8 h)
