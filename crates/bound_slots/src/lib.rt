@@ -12,9 +12,10 @@ use terms::term::WRITTEN;
 ghost use mathlib.Core.Path.{_≡_};
 ghost use mathlib.Core.Bool.{_&&_};
 ghost use Prim.Native.Nat.{ℕ, _<_, _/_};
+ghost use Rattle.format.specs.Lowest.{Lowest};
 ghost use Rattle.packed.specs.Slots.{closed, closedᶜ, closedᵃ};
 ghost use Rattle.packed.specs.Refusals.{usesUnboundSlot};
-ghost use Rattle.packed.specs.Steps.{Right, Loaded, Lowest, bitOf, withSlot, slots, Ordered, tagIn, treeIn, conditionIn, listIn, leafIn};
+ghost use Rattle.packed.specs.Steps.{Right, Loaded, bitOf, withSlot, slots, Ordered, tagIn, treeIn, conditionIn, listIn, leafIn};
 ghost use Rattle.bound_slots.specs.Left.{told, seen, After};
 
 // What is left to see of an expression: nothing, and all slots are bound, or one is not; or the term of an index, with what is bound there.

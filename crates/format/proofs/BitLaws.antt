@@ -1,11 +1,11 @@
--- Laws of bit fields: their bounds, fields in a row, a byte, five bytes, bytes left out before them, and a field of a number by a quotient and a remainder. Assumes nothing.
+-- Laws of bit fields: their bounds, fields in a row, a byte, bytes left out before them, a field of a number by a quotient and a remainder, and bits past the end. Assumes nothing.
 use mathlib.Core.Path.{_≡_, refl, ap, sym, _∙_}
 use mathlib.Core.List.{List}
 use Prim.Native.Nat.{ℕ, zero, suc, _+_, _-_, _*_, _/_, _%_, _^_, _≤_, _<_}
 use native.Mathlib.Nat.{add-zero, add-suc, add-assoc, mul-assoc, one-mul, pow-suc, div-eq-of-lt, div-one, mod-eq-of-lt}
 use native.Mathlib.Omega.{arith}
-use lib.ListN.{drop, getD}
-use lib.Pow.{high, low, pow-lt, shr-shr}
+use lib.ListN.{length, drop, getD, List·getD-eq-default}
+use lib.Pow.{pow-pos, high, low, pow-lt, shr-shr}
 use lib.Seq.{getD-drop}
 use Rattle.format.specs.Bits.{bitAt, bitsAt}
 
@@ -83,7 +83,8 @@ byte-more l i n x h e =
     let at : i * 8 + n * 8 ≡ (i + n) * 8 = omega arith in
     bits-add l (i * 8) (n * 8) 8 ∙ ap (λ (y : ℕ). y * 256 + bitsAt l (i * 8 + n * 8) 8) e ∙ ap (λ (p : ℕ). x * 256 + bitsAt l p 8) at ∙ ap (λ (y : ℕ). x * 256 + y) (byte-at l (i + n) h)
 
--- the 40 bits of five bytes
-pub word-at : (l : List ℕ) (i : ℕ) → ((j : ℕ) → getD l j 0 < 256)
-    → bitsAt l (i * 8) 40 ≡ (((getD l i 0 * 256 + getD l (i + 1) 0) * 256 + getD l (i + 2) 0) * 256 + getD l (i + 3) 0) * 256 + getD l (i + 4) 0
-word-at l i h = byte-more l i 4 _ (h (i + 4)) (byte-more l i 3 _ (h (i + 3)) (byte-more l i 2 _ (h (i + 2)) (byte-more l i 1 _ (h (i + 1)) (byte-at l i (h i)))))
+-- past the end all bits are 0
+pub bits-past : (l : List ℕ) (p w : ℕ) → length l * 8 ≤ p → bitsAt l p w ≡ 0
+unfolding bitsAt bitAt
+bits-past l p zero h = refl
+bits-past l p (suc w) h = rw (bits-past l p w h, List·getD-eq-default l 0 {n = (p + w) / 8} (omega arith), div-eq-of-lt (pow-pos (7 - (p + w) % 8)))

@@ -4,10 +4,10 @@ use native.Mathlib.Decide.{ℕ-discrete}
 use native.Mathlib.Omega.{arith}
 use mathlib.Core.Logic.{_↔_}
 use mathlib.Core.Path.{_≡_, refl, ap, sym, subst, _∙_}
-use mathlib.Core.Bool.{Bool, true, false, cond, _||_}
+use mathlib.Core.Bool.{Bool, true, false, cond, _||_, true≢false}
 use mathlib.Core.List.{List, [], _∷_, _++_}
-use mathlib.Core.Option.{Option, some, none}
-use Rattle.format.specs.Refusal.{Refusal, Check, orElse, lowest, refuse, firstRefusal}
+use mathlib.Core.Option.{Option, some, none, orElse}
+use Rattle.format.specs.Refusal.{Refusal, Check, lowest, refuse, firstRefusal}
 
 -- ---- tests
 
@@ -17,7 +17,7 @@ neither true y h = (h, cc)
 neither false y h = (refl, h)
 
 unlike : {A : Type 0} {B : Type 0} {x : A} → _≡_ {A = Option A} none (some x) → B
-unlike h = let z : _≡_ {A = ℕ} 0 1 = cc in absurd (omega arith)
+unlike h = absurd (true≢false cc)
 
 -- ---- the lowest place
 

@@ -1,3 +1,4 @@
 pub mod Bits
 pub mod Refusal
+pub mod Lowest
 pub mod Version

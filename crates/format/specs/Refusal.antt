@@ -3,6 +3,8 @@ use Prim.Native.Nat.{ℕ, zero, suc}
 use mathlib.Core.Bool.{Bool, cond}
 use mathlib.Core.List.{List, [], _∷_}
 use mathlib.Core.Option.{Option, some, none}
+-- the first of two answers, or the second where the first is none: the library's, passed on
+unfoldable pub use mathlib.Core.Option.{orElse}
 
 -- "An answer is the number and a place"
 pub record Refusal : Type 0 where
@@ -15,16 +17,13 @@ pub record Check : Type 0 where
   pub places : ℕ
   pub wrong : ℕ → Bool
 
+-- the check of number k over n places, of which those that pass the test are wrong
 abbrev pub check : ℕ → ℕ → (ℕ → Bool) → Check
 check k n f = record { number = k; places = n; wrong = f }
 
 -- a check with the one place 0: "0 for every other number"
 abbrev pub checkWhole : ℕ → Bool → Check
 checkWhole k x = check k 1 (λ place. x)
-
-unfoldable pub orElse : {A : Type 0} → Option A → Option A → Option A
-orElse (some x) o = some x
-orElse none o = o
 
 -- the lowest of the numbers below n at which the test passes: "the lowest procedure", "the lowest term", "the lowest pick or record"
 unfoldable pub lowest : (ℕ → Bool) → ℕ → Option ℕ

@@ -1,7 +1,6 @@
 // The judge of a log (document 01, "The log and its order"): refusals 11 and 12, then one pass by clocks.
 mod pass; // pass.rt: the pass by clocks
 
-ghost use mathlib.Core.Path.{_≡_};
 ghost use Prim.Native.Nat.{_<_};
 ghost use Rattle.format.specs.Version.{v1, versionOf};
 ghost use Rattle.order.specs.Judge.{MayAnswer};

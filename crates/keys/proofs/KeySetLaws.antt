@@ -3,7 +3,7 @@ use Prim.Native.Nat.{ℕ, zero, suc, _+_, _-_, _*_, _/_, _%_, _^_, _<_}
 use native.Mathlib.Nat.{mul-assoc, mul-add-div-right, mul-add-mod-self-right, zero-mul, add-zero, zero-add, mul-comm, pow-suc, one-mul, mod-eq-of-lt}
 use native.Mathlib.Omega.{arith}
 use mathlib.Core.Path.{_≡_, refl, sym, ap, ap₂, _∙_}
-use mathlib.Core.Bool.{Bool, true, false, _&&_}
+use mathlib.Core.Bool.{Bool, true, _&&_, and-false}
 use mathlib.Core.List.{[], _∷_}
 use lib.Bits.{bitOr, or-block, or-lt, or-comm, or-zero-l, or-add-and, and-le-r}
 use lib.Dec.{eqb, eqb·suc-zero}
@@ -188,10 +188,6 @@ over-empty : (high low : ℕ) → eqb (over high low) 0 ≡ (eqb low 0 && eqb hi
 over-empty zero zero = refl
 over-empty zero (suc low) = ne-eqb (over 0 (suc low)) 0 (λ e. omega arith) ∙ ap (λ (b : Bool). b && true) (sym (eqb·suc-zero low))
 over-empty (suc high) low = ne-eqb (over (suc high) low) 0 (λ e. omega arith) ∙ sym (ap (λ (b : Bool). eqb low 0 && b) (eqb·suc-zero high) ∙ and-false (eqb low 0))
-  where
-    and-false : (b : Bool) → (b && false) ≡ false
-    and-false true = refl
-    and-false false = refl
 
 pub keys-is-empty : (s : KeySet) → isEmptyOf s ≡ isEmpty (keysOf s)
 unfolding keysOf isEmptyOf isEmpty

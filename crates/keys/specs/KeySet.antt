@@ -1,4 +1,5 @@
--- The code's key sets: the set that four words stand for, and the exact result of each method. Assumes nothing.
+-- The code's key sets, for inner contracts: the set that four words stand for, and the exact result of each method. No reader of the entries' promises
+-- needs them. Assumes nothing.
 use Prim.Native.Nat.{ℕ, _+_, _*_, _/_, _%_, _^_}
 use mathlib.Core.Path.{_≡_}
 use mathlib.Core.Bool.{Bool, _&&_}

@@ -4,7 +4,7 @@ use native.Mathlib.Omega.{arith}
 use native.Mathlib.Numerals.{add-one}
 use native.Mathlib.Decide.{decLt}
 use mathlib.Core.Path.{_≡_, refl, sym, _∙_}
-use mathlib.Core.Bool.{Bool, true, false, _&&_, _||_, not}
+use mathlib.Core.Bool.{Bool, _&&_, _||_, not, or-false}
 use mathlib.Core.List.{List}
 use lib.Dec.{eqb, ltb, leb}
 use lib.ListN.{length}
@@ -17,10 +17,6 @@ use Rattle.decoding.specs.declared.Columns.{Columns}
 use Rattle.decoding.proofs.Decoded.{kind-is-kind}
 
 -- ---- the columns of a kind
-
-or-false : (x : Bool) → (x || false) ≡ x
-or-false true = refl
-or-false false = refl
 
 pub columns-are : (k f v : ℕ) → 0 < k → k ≤ 11
     → (((ltb 1 k && ltb k 6 || ltb 9 k) && eqb f 0) || ((eqb k 8 || eqb k 9) && ltb 7 f) || ((eqb k 1 || eqb k 6 || eqb k 7) && not (eqb f 0))

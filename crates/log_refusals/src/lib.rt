@@ -2,9 +2,9 @@
 ghost use mathlib.Core.Path.{_≡_};
 ghost use Prim.Native.Nat.{_/_, _<_, _≤_};
 ghost use lib.ListN.{length};
-ghost use Rattle.records.specs.Packed.{kindOf};
+ghost use Rattle.format.specs.Lowest.{Lowest};
+ghost use Rattle.records.specs.Packed.{kindOf, recordCount};
 ghost use Rattle.records.specs.Refusals.{wrongLogLength, wrongColumns, wrongRecord};
-ghost use Rattle.log_refusals.specs.Lowest.{LowestWrong};
 
 // Refusal 11: the length is no multiple of 3, or over 12,288.
 pub fn wrong_length(log: &[u8]) -> bool
@@ -43,7 +43,7 @@ fn wrong_record(log: &[u8], i: usize) -> bool
 
 // The lowest record that refusal 12 finds wrong, or the count of records.
 pub fn lowest_wrong(log: &[u8]) -> usize
-    ensures { λ r. ⌜ LowestWrong (now (log .entry)) r ⌝ }
+    ensures { λ r. ⌜ Lowest (wrongRecord (now (log .entry))) (recordCount (now (log .entry))) r ⌝ }
 {
     let count = log.len() / 3;
     let mut i = 0;

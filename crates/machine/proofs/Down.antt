@@ -7,14 +7,15 @@ use mathlib.Core.List.{List}
 use mathlib.Core.Option.{Option, some, none}
 use Rattle.packed.specs.Syntax.{Expression, Condition, Arguments, substitute, substituteᶜ, substituteᵃ}
 use Rattle.packed.specs.Trees.{Node, expressionOf, conditionOf, argumentsOf}
+use Rattle.packed.specs.Steps.{Below, Descending}
+use Rattle.packed.proofs.TreeLaws.{tree, treeᶜ, treeᵃ, tree-law, tree-lawᶜ, tree-lawᵃ}
 use Rattle.rules.specs.Context.{asLiteral, asBool, isTruth, falseWhen, Focus, focus, focusᶜ, focusᵃ, onLiteral, onBool, onNot}
 use Rattle.machine.specs.Frames.{Slots, noSlots, put, Closure, closure, Frame, Found}
 use Rattle.machine.specs.Landing.{given, valueOf, isTrue, boolOf, valueIn, boolIn, foundNot, downBy, downByᶜ, downByᵃ, down, downᶜ, downᵃ}
-use Rattle.machine.proofs.TreeLaws.{Below, Ordered, tree, treeᶜ, treeᵃ, tree-law, tree-lawᶜ, tree-lawᵃ}
 use Rattle.machine.proofs.Substitution.{every, firstSlots, first-put}
 use Rattle.machine.proofs.Meaning.{expressionIn, conditionIn, argumentsIn, context, contextᶜ, mean}
 
-module _ (h : ℕ → Node) (N : ℕ) (o : Ordered h N) where
+module _ (h : ℕ → Node) (N : ℕ) (o : Descending h N) where
   -- ---- values
 
   value-law : (ρ : Slots) (x : Node) → asLiteral (substitute (every ρ) (expressionOf (tree h N) (treeᶜ h N) (treeᵃ h N) x)) ≡ valueOf ρ x

@@ -8,11 +8,11 @@ use mathlib.Core.List.{List, [], _∷_}
 use mathlib.Core.Option.{Option, some, none, Option·some-ne-none}
 use lib.ListN.{length}
 use Rattle.packed.specs.Trees.{Node}
+use Rattle.packed.specs.Steps.{Below, Descending}
 use Rattle.rules.specs.Context.{falseWhen}
 use Rattle.machine.specs.Frames.{Slots, noSlots, put, Closure, closure, Frame, Found, height}
 use Rattle.machine.specs.Landing.{given, valueOf, isTrue, boolOf, valueIn, boolIn, foundNot, downBy, downByᶜ, downByᵃ, down, downᶜ, downᵃ}
 use Rattle.machine.specs.Turns.{Going, Turn, ends, goes, goDown, goDownᶜ, goList, land, truthTurn, turn}
-use Rattle.machine.proofs.TreeLaws.{Below, Ordered}
 use Rattle.machine.proofs.Levels.{level, levelᶜ, levelᵃ, up-level}
 
 -- a condition that is true is true at its node
@@ -127,7 +127,7 @@ module _ (h : ℕ → Node) where
     at-leastᵃ ρ m n σ Node.listEnd b = omega arith
     at-leastᵃ ρ m n σ Node.unknown b = omega arith
 
-  module _ (N : ℕ) (o : Ordered h N) where
+  module _ (N : ℕ) (o : Descending h N) where
     -- past the end there are only values
     past-value : (x : Closure) → N ≤ x .at → valueIn h x ≡ none → ⊥
     unfolding valueIn valueOf

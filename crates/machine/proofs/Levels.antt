@@ -5,9 +5,9 @@ use mathlib.Core.Bool.{Bool, true, false}
 use mathlib.Core.List.{List, [], _∷_}
 use mathlib.Core.Option.{Option, some, none}
 use Rattle.packed.specs.Trees.{Node}
+use Rattle.packed.specs.Steps.{Below}
 use Rattle.machine.specs.Frames.{Slots, noSlots, put, Closure, closure, Frame, Found}
 use Rattle.machine.specs.Landing.{given, valueIn, boolIn, foundNot, downBy, downByᶜ, downByᵃ, upBy}
-use Rattle.machine.proofs.TreeLaws.{Below}
 
 module _ (h : ℕ → Node) {R R′ : Type 0} (Related : R → R′ → Type 0) (found : Found → R) (found′ : Found → R′) (hf : (F : Found) → Related (found F) (found′ F))
     (d c : List Frame → Closure → R) (l : List Frame → ℕ → ℕ → Slots → Closure → R)

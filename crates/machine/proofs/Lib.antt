@@ -1,4 +1,3 @@
-pub mod TreeLaws
 pub mod Substitution
 pub mod PackedSlots
 pub mod MemoryLaws
@@ -9,6 +8,8 @@ pub mod Levels
 pub mod Turns
 pub mod Heights
 pub mod Sorted
+pub mod StateMeaning
+pub mod MeantActs
 pub mod Attempts
 pub mod WellSorted
 pub mod Limits

@@ -3,19 +3,19 @@ use Prim.Native.Nat.{ℕ, zero, suc, _≤_, _<_}
 use native.Mathlib.Omega.{arith}
 use native.Mathlib.Decide.{ℕ-discrete, decLt}
 use mathlib.Core.Path.{_≡_, refl, sym, ap, _∙_, subst as along}
-use mathlib.Core.Bool.{Bool, true, false, cond}
+use mathlib.Core.Bool.{Bool, true, false, cond, true≢false}
 use mathlib.Core.List.{List, [], _∷_}
 use mathlib.Core.Option.{Option, some, none}
-use lib.Dec.{eqb, leb}
+use lib.Dec.{eqb}
 use lib.ListN.{length, getElem?, drop}
-use borrow.Author.Tests.{ltb-false, leb-false}
-use Rattle.format.specs.Refusal.{orElse}
+use borrow.Author.Tests.{ltb-false}
 use Rattle.format.proofs.RefusalLaws.{neither}
 use Rattle.keys.specs.Keys.{Keys, empty, singleton, subset, isEmpty}
 use Rattle.rules.specs.State.{Cell, cell}
 use Rattle.rules.specs.Rules.{Rule, e-new, e-write, e-fork}
 use Rattle.rules.specs.Room.{Room}
 use Rattle.rules.proofs.StateLaws.{added-old, length-added, change-other, change-length}
+use Rattle.rules.proofs.RoomLaws.{room-for, both-none}
 use Rattle.machine.specs.Frames.{noSlots, Closure, Frame, Ready, Found, height}
 use Rattle.machine.specs.Landing.{go}
 use Rattle.machine.specs.Machine.{Thread, State, Numbered, Table, Act, waits, sticks, lacks, does, Move, Attempt, absent, finished, waiting, stuck, lacking, moves, store, storeMonitor, addObject, addThread, useKey, learn, become, lookup, monitor, threadOf, finishedWith, joinValue, joinAct, synchAct, readAct, writeAct, act, actᶜ, around, attemptAt, attemptBy, attempt}
@@ -68,14 +68,6 @@ module _ (R : Rule) (s : State) (p : ℕ) where
     counts = λ e k. let z = g .counts e k in record { few-objects = z .few-objects; few-threads = rw change-length (z .few-threads); few-keys = z .few-keys };
     others = λ q n l. change-other (s′ .threads) p _ q n ∙ g .others q n l;
   }
-
--- there is room where the test says so
-room-for : (k n : ℕ) (w : Room) (r : Option Room) → cond (leb k n) (some w) r ≡ none → (n < k) × (r ≡ none)
-room-for k n w r e = at (leb k n) refl e
-  where
-    at : (b : Bool) → leb k n ≡ b → cond b (some w) r ≡ none → (n < k) × (r ≡ none)
-    at true q e = let z : _≡_ {A = ℕ} 0 1 = cc in absurd (omega arith)
-    at false q e = (leb-false k n q, e)
 
 module _ (s : State) (p : ℕ) where
   grows-key : Grows e-write s p (useKey s)
@@ -200,28 +192,23 @@ module _ (table : Table) (s : State) (p : ℕ) where
 
 deep-not : (t : Option Thread) → deepAt t ≡ false → (u : Thread) → t ≡ some u → height (u .code) ≤ 32
 unfolding deepAt deep
-deep-not none e u h = absurd (let z : _≡_ {A = ℕ} 0 1 = cc in omega arith)
+deep-not none e u h = absurd (true≢false cc)
 deep-not (some t) e u h = let q : t ≡ u = cc in along (λ (t : Thread). height (t .code) ≤ 32) q (ltb-false 32 (height (t .code)) e)
 
 deep-past : (n : ℕ) (xs : List Thread) → anyDeep (drop n xs) ≡ false → (q : ℕ) (t : Thread) → n ≤ q → getElem? xs q ≡ some t → height (t .code) ≤ 32
 unfolding anyDeep deep
-deep-past zero [] e q t l h = absurd (let z : _≡_ {A = ℕ} 0 1 = cc in omega arith)
+deep-past zero [] e q t l h = absurd (true≢false cc)
 deep-past zero (x ∷ xs) e zero t l h =
     let k : x ≡ t = cc in along (λ (t : Thread). height (t .code) ≤ 32) k (ltb-false 32 (height (x .code)) (neither (deep x) (anyDeep xs) e .0))
 deep-past zero (x ∷ xs) e (suc q) t l h = deep-past zero xs (neither (deep x) (anyDeep xs) e .1) q t (omega arith) h
-deep-past (suc n) [] e q t l h = absurd (let z : _≡_ {A = ℕ} 0 1 = cc in omega arith)
+deep-past (suc n) [] e q t l h = absurd (true≢false cc)
 deep-past (suc n) (x ∷ xs) e zero t l h = absurd (omega arith)
 deep-past (suc n) (x ∷ xs) e (suc q) t l h = deep-past n xs e q t (omega arith) h
 
 -- ---- an admitted move
 
-both-none : (x y : Option Room) → orElse x y ≡ none → (x ≡ none) × (y ≡ none)
-unfolding orElse
-both-none none y e = (refl, e)
-both-none (some w) y e = absurd (let z : _≡_ {A = ℕ} 0 1 = cc in omega arith)
-
 not-deep : (b : Bool) (w : Room) → cond b (some w) none ≡ none → b ≡ false
-not-deep true w e = absurd (let z : _≡_ {A = ℕ} 0 1 = cc in omega arith)
+not-deep true w e = absurd (true≢false cc)
 not-deep false w e = refl
 
 grown-limits : (R : Rule) (s : State) (p : ℕ) (s′ : State) → Grows R s p s′ → noRoomFor R s p s′ ≡ none → Limits s → Limits s′
@@ -240,15 +227,15 @@ grown-limits R s p s′ g e l =
 admit-limits : (s : State) (p : ℕ) (m m′ : Move) (k : Option Room) → noRoomFor (m .rule) s p (m .state) ≡ k → Grows (m .rule) s p (m .state) → Limits s → withinRoom m k ≡ moved m′ → Limits (m′ .state)
 unfolding withinRoom
 admit-limits s p m m′ none e g l h = let q : m ≡ m′ = cc in along (λ (m : Move). Limits (m .state)) q (grown-limits (m .rule) s p (m .state) g e l)
-admit-limits s p m m′ (some w) e g l h = absurd (let z : _≡_ {A = ℕ} 0 1 = cc in omega arith)
+admit-limits s p m m′ (some w) e g l h = absurd (true≢false cc)
 
 answer-limits : (s : State) (p : ℕ) (a : Attempt) (m : Move) → GrowsAttempt s p a → Limits s → answer s p a ≡ moved m → Limits (m .state)
 unfolding answer
-answer-limits s p absent m g l h = absurd (let z : _≡_ {A = ℕ} 0 1 = cc in omega arith)
-answer-limits s p (finished v) m g l h = absurd (let z : _≡_ {A = ℕ} 0 1 = cc in omega arith)
-answer-limits s p (waiting w) m g l h = absurd (let z : _≡_ {A = ℕ} 0 1 = cc in omega arith)
-answer-limits s p (stuck r) m g l h = absurd (let z : _≡_ {A = ℕ} 0 1 = cc in omega arith)
-answer-limits s p (lacking r) m g l h = absurd (let z : _≡_ {A = ℕ} 0 1 = cc in omega arith)
+answer-limits s p absent m g l h = absurd (true≢false cc)
+answer-limits s p (finished v) m g l h = absurd (true≢false cc)
+answer-limits s p (waiting w) m g l h = absurd (true≢false cc)
+answer-limits s p (stuck r) m g l h = absurd (true≢false cc)
+answer-limits s p (lacking r) m g l h = absurd (true≢false cc)
 answer-limits s p (moves m′) m g l h = admit-limits s p m′ m (noRoomFor (m′ .rule) s p (m′ .state)) refl g l h
 
 -- an admitted move keeps the limits
@@ -264,4 +251,4 @@ start-limits = record { counts = record { few-objects = omega arith; few-threads
     at zero t h =
         let e : record { self = 0; code = Found.here [] (Ready.call 0 0 noSlots); keys = singleton 0 } ≡ t = cc in
         along (λ (t : Thread). height (t .code) ≤ 32) e (omega arith)
-    at (suc q) t h = absurd (let z : _≡_ {A = ℕ} 0 1 = cc in omega arith)
+    at (suc q) t h = absurd (true≢false cc)

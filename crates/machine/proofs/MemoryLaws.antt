@@ -8,7 +8,7 @@ use mathlib.Core.Bool.{Bool, true, false, cond}
 use mathlib.Core.List.{List, [], _∷_, _++_}
 use mathlib.Core.Option.{some, none}
 use lib.Dec.{eqb}
-use lib.ListN.{length, getElem?}
+use lib.ListN.{getElem?}
 use borrow.Author.Tests.{eq-eqb, ne-eqb}
 use Rattle.packed.specs.Format.{maskBit, fieldsFrom}
 use Rattle.rules.specs.State.{Cell, Field, Object, fresh, freshFields, freshObject, changeAt, findField, storeField, fieldOf, monitorOf}
@@ -140,15 +140,6 @@ pub store-monitor-of : (M : Memory) (o : ℕ) (c : Cell) → objectsOf (storeCel
 unfolding objectsOf storeCell
 store-monitor-of M o c = objects-change M o 0 c _ (object-monitor M o c) 0 o (M .count) (omega arith)
 
-objects-length : (M : Memory) (i n : ℕ) → length (objectsFrom M i n) ≡ n
-unfolding objectsFrom
-objects-length M i zero = refl
-objects-length M i (suc n) = ap suc (objects-length M (suc i) n)
-
-pub count-of : (M : Memory) → length (objectsOf M) ≡ M .count
-unfolding objectsOf
-count-of M = objects-length M 0 (M .count)
-
 objects-get : (M : Memory) (i n j : ℕ) → j < n → getElem? (objectsFrom M i n) j ≡ some (objectAt M (i + j))
 unfolding objectsFrom
 objects-get M i zero j h = absurd (omega arith)
@@ -174,14 +165,6 @@ monitor-of M o h = rw (object-of M o h)
 -- no cell past the last object has been stored to
 abbrev pub FreshPast : Memory → Type 0
 FreshPast M = (a f : ℕ) → M .count ≤ a → M .cells a f ≡ fresh
-
-pub fresh-store : (M : Memory) (o f : ℕ) (c : Cell) → o < M .count → FreshPast M → FreshPast (storeCell M o f c)
-unfolding storeCell
-fresh-store M o f c h p a g q = rw (ne-eqb o a (λ e. omega arith)) (p a g q)
-
-pub fresh-add : (M : Memory) (m : ℕ) → FreshPast M → FreshPast (addMask M m)
-unfolding addMask
-fresh-add M m p a g q = p a g (omega arith)
 
 mask-other : (M : Memory) (m a : ℕ) → (M .count ≡ a → ⊥) → addMask M m .mask a ≡ M .mask a
 unfolding addMask

@@ -8,11 +8,14 @@ use mathlib.Core.List.{List, [], _∷_, _++_, append-nil, append-assoc}
 use mathlib.Core.Option.{Option, some, none}
 use Rattle.packed.specs.Syntax.{Expression, Condition, Arguments, literal, argument, bool, substitute}
 use Rattle.packed.specs.Trees.{Node, expressionOf}
+use Rattle.packed.specs.Steps.{Descending}
+use Rattle.packed.proofs.TreeLaws.{tree-law}
 use Rattle.rules.specs.Context.{Context, top, literals, plug, plugᶜ, asLiteral, asBool, Redex, Redexᶜ, redexExpression, redexCondition, focus, focusᵃ}
-use Rattle.rules.proofs.Decompose.{found, foundᶜ, focus-plug, focus-plugᶜ, as-literal, as-bool, whole, whole-focus}
+use Rattle.rules.proofs.Decompose.{whole, whole-focus}
+use Rattle.rules.proofs.FocusPlug.{found, foundᶜ, focus-plug, focus-plugᶜ}
+use Rattle.rules.proofs.Back.{as-literal, as-bool}
 use Rattle.machine.specs.Frames.{Slots, put, Closure, closure, firstOf, secondOf, Frame, Ready, Result}
 use Rattle.machine.specs.Landing.{given, valueIn, boolIn, down, downᶜ, up, nowhere, upᶜ, enter, enterᶜ, go}
-use Rattle.machine.proofs.TreeLaws.{Ordered, tree-law}
 use Rattle.machine.proofs.Substitution.{firstSlots, first-put}
 use Rattle.machine.proofs.Meaning.{expressionIn, conditionIn, argumentsIn, bodyIn, whileIn, turnIn, context, contextᶜ, redex, mean, resultOf}
 use Rattle.machine.proofs.Down.{value-in, bool-in, by-literal, down-focus, down-focusᶜ, down-focusᵃ}
@@ -22,7 +25,7 @@ unfolding focus literals
 focus-after K m vs [] es = rw append-nil
 focus-after K m vs (o ∷ os) es = focus-after K m (vs ++ (o ∷ [])) os es ∙ ap (λ (l : List ℕ). focusᵃ K m l es) (append-assoc vs (o ∷ []) os)
 
-module _ (h : ℕ → Node) (N : ℕ) (o : Ordered h N) where
+module _ (h : ℕ → Node) (N : ℕ) (o : Descending h N) where
   down-at : (S : List Frame) (x : Closure) → mean h N (down h N S x) ≡ focus (context h N S) (expressionIn h N x)
   down-at S x = down-focus h N o N S x (omega arith)
 

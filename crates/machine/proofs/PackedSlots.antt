@@ -1,6 +1,6 @@
--- Slots in one number: a value put into the number is put into its slots, and the number stays below its bound. Assumes nothing.
+-- Slots in one number: a value put into the number is put into its slots. Assumes nothing.
 use Prim.Native.Nat.{ℕ, zero, suc, _+_, _*_, _/_, _%_, _^_, _≤_, _<_}
-use native.Mathlib.Nat.{mul-assoc, div-div-eq-div-mul, div-one, zero-div, mul-comm}
+use native.Mathlib.Nat.{mul-assoc, div-div-eq-div-mul, div-one, mul-comm}
 use native.Mathlib.Omega.{arith}
 use native.Mathlib.Decide.{ℕ-discrete}
 use mathlib.Core.Path.{_≡_, refl, sym, ap, _∙_, fun-ext}
@@ -8,7 +8,7 @@ use mathlib.Core.Bool.{cond}
 use lib.Dec.{eqb}
 use lib.Pow.{pow-add}
 use borrow.Author.Tests.{eq-eqb, ne-eqb}
-use Rattle.machine.specs.Frames.{noSlots, put}
+use Rattle.machine.specs.Frames.{put}
 use Rattle.machine.specs.PackedSlots.{slotsIn, putIn}
 
 -- a slot's unit, one slot up
@@ -87,23 +87,3 @@ put-slot w x v h y = at (ℕ-discrete x y)
 -- a value put into the number is put into its slots
 pub put-in : (w x v : ℕ) → v < 32 → slotsIn (putIn w x v) ≡ put (slotsIn w) x v
 put-in w x v h = fun-ext (λ y. ap (λ (n : ℕ). slotsIn n y) (put-is w x v) ∙ put-slot w x v h y)
-
--- the number 0 holds null everywhere
-pub none-in : slotsIn 0 ≡ noSlots
-unfolding slotsIn noSlots
-none-in = fun-ext (λ y. ap (λ (n : ℕ). n % 32) (zero-div (2 ^ (5 * y))))
-
--- every slot is below 32
-pub slot-below : (w x : ℕ) → slotsIn w x < 32
-unfolding slotsIn
-slot-below w x = omega arith
-
-put-bound : (n w x v : ℕ) → w < 2 ^ (5 * n) → x < n → v < 32 → put-by w x v < 2 ^ (5 * n)
-unfolding put-by
-put-bound zero w x v h q r = absurd (omega arith)
-put-bound (suc n) w zero v h q r = rw unit-up (omega (arith, rw unit-up at h))
-put-bound (suc n) w (suc x) v h q r = rw unit-up (omega (arith, put-bound n (w / 32) x v (omega (arith, rw unit-up at h)) (omega arith) r))
-
--- eight slots are 40 bits
-pub put-below : (w x v : ℕ) → w < 2 ^ 40 → x < 8 → v < 32 → putIn w x v < 2 ^ 40
-put-below w x v h q r = rw put-is (put-bound 8 w x v h q r)

@@ -10,7 +10,6 @@ use Rattle.packed.proofs.Accepted.{accepted}
 use Rattle.packed.proofs.Decoded.{well-formed}
 use Rattle.rules.specs.Context.{literals, plug, redexExpression}
 use Rattle.rules.specs.State.{State, start}
-use Rattle.rules.specs.Step.{attempt}
 use Rattle.rules.specs.Run.{Run, run, play, Status, statusesFrom, outcomeOf}
 use Rattle.rules.proofs.Decompose.{whole}
 use Rattle.rules.proofs.Executed.{Reachable, reachable-start}
@@ -18,10 +17,10 @@ use Rattle.machine.specs.Machine as machine
 use Rattle.machine.specs.Playing as playing
 use Rattle.machine.specs.Playing.{tableOf}
 use Rattle.machine.proofs.Substitution.{firstSlots}
-use Rattle.machine.proofs.Attempts.{stateOf, attemptOf}
 use Rattle.machine.proofs.Limits.{start-limits}
-use Rattle.machine.proofs.Runs.{Reached, attempt-reached, step-reached, runMeant, run-of, run-reached, statuses-of}
+use Rattle.machine.proofs.Runs.{Reached, step-reached, runMeant, run-of, run-reached, statuses-of}
 use Rattle.machine.proofs.PlanTable.{tabulates}
+use Rattle.machine.proofs.StateMeaning.{stateOf}
 
 start-of : (table : machine.Table) → start ≡ stateOf table playing.start
 unfolding start playing.start whole plug redexExpression literals firstSlots
@@ -40,11 +39,6 @@ module _ (b : List ℕ) (h : refusal b ≡ none) where
   pub move-reached : (s : machine.State) (p : ℕ) (m : machine.Move) → Reached (tableOf b) (programOf b) s → playing.step (tableOf b) s p ≡ playing.Answer.moved m
       → Reached (tableOf b) (programOf b) (m .state)
   move-reached = step-reached (tableOf b) (programOf b) (well-formed b h) (tabulates b (accepted b h))
-
-  -- what a thread can do, in any such state
-  pub plays-attempt : (s : machine.State) (p : ℕ) → Reached (tableOf b) (programOf b) s
-      → attemptOf (tableOf b) (machine.attempt (tableOf b) s p) ≡ attempt (programOf b) (stateOf (tableOf b) s) p
-  plays-attempt = attempt-reached (tableOf b) (programOf b) (well-formed b h) (tabulates b (accepted b h))
 
   -- THE MACHINE'S RUN IS THE DEFINED RUN
   pub plays : (ps : List ℕ) → play (programOf b) ps ≡ runMeant (tableOf b) (playing.runOf b ps)

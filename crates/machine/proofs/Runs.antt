@@ -3,10 +3,9 @@ use Prim.Native.Nat.{ℕ, zero, suc}
 use mathlib.Core.Path.{_≡_, refl, sym, ap, ap₂, _∙_}
 use mathlib.Core.Bool.{Bool, cond, _||_}
 use mathlib.Core.List.{List, [], _∷_, map}
-use mathlib.Core.Option.{Option, some, none, Option·map}
+use mathlib.Core.Option.{Option, some, none, Option·map, orElse}
 use lib.Dec.{ltb, leb}
 use lib.ListN.{length, getElem?, drop, length-map}
-use Rattle.format.specs.Refusal.{orElse}
 use Rattle.packed.specs.Syntax.{Program}
 use Rattle.packed.proofs.WellFormed.{WellFormedProgram}
 use Rattle.rules.specs.Context.{Focus, depthOf}
@@ -24,9 +23,10 @@ use Rattle.machine.specs.Machine.{Table}
 use Rattle.machine.specs.Playing as playing
 use Rattle.machine.proofs.Meaning.{mean}
 use Rattle.machine.proofs.Sorted.{WellFound, depth-height}
-use Rattle.machine.proofs.Attempts.{Tabulates, threadMeant, stateOf, attemptOf, attempt-of, get-map}
+use Rattle.machine.proofs.Attempts.{attempt-of}
 use Rattle.machine.proofs.Limits.{Limits, step-limits}
 use Rattle.machine.proofs.WellSorted.{WellAll, WellAt, well-at, well-drop, WellAttempt, attempt-well}
+use Rattle.machine.proofs.StateMeaning.{Tabulates, threadMeant, stateOf, attemptOf, get-map}
 
 drop-map : {A B : Type 0} (f : A → B) (n : ℕ) (xs : List A) → drop n (map f xs) ≡ map f (drop n xs)
 drop-map f zero xs = refl

@@ -1,14 +1,9 @@
 -- What holds of each thread of the machine in every state that a run of an accepted plan comes to: what is ready to move is there. Assumes nothing.
 use Prim.Native.Nat.{ℕ, _<_}
-use mathlib.Core.Path.{_≡_, sym, ap, _∙_}
-use mathlib.Core.List.{List}
+use mathlib.Core.Path.{_≡_, ap, _∙_}
 use mathlib.Core.Option.{some, Option·map}
 use lib.ListN.{length, getElem?}
-use Rattle.packed.specs.Syntax.{Procedure, Program}
-use Rattle.packed.specs.Format.{procedures, parameters}
-use Rattle.packed.specs.Trees.{procedureAt, programOf}
-use Rattle.packed.proofs.WellFormed.{Callable}
-use Rattle.packed.proofs.Decoded.{procedures-inside}
+use Rattle.packed.specs.Syntax.{Program}
 use Rattle.rules.specs.State.{Cell, Thread, monitorOf, lookup, monitor}
 use Rattle.rules.proofs.Decompose.{focus-whole}
 use Rattle.rules.proofs.Placed.{Good, holds}
@@ -16,8 +11,8 @@ use Rattle.rules.proofs.Invariant.{In, heldBy}
 use Rattle.machine.specs.Machine as machine
 use Rattle.machine.specs.Machine.{Table}
 use Rattle.machine.proofs.Meaning.{mean}
-use Rattle.machine.proofs.Attempts.{threadMeant, get-map}
 use Rattle.machine.proofs.Runs.{Reached}
+use Rattle.machine.proofs.StateMeaning.{threadMeant, get-map}
 
 -- thread t of state s. `Good` says of what is ready that its objects are there, its field is 1 to 31 and its procedure has its count of arguments,
 -- and the like of every frame.
@@ -38,8 +33,3 @@ standing table g s p t r h =
 pub cell-there : (table : Table) (g : Program) (s : machine.State) → Reached table g s → (o f : ℕ) (c : Cell) → machine.lookup s o f ≡ some c → c .value < length (s .objects)
 unfolding machine.lookup lookup
 cell-there table g s r o f c h = r .reachable .invariant .cells o f c h
-
--- a call of an accepted plan has its procedure and its count of arguments
-pub callable-there : (b : List ℕ) (m n : ℕ) → Callable (programOf b) m n → (m < procedures b) × (parameters b m ≡ n)
-unfolding procedureAt
-callable-there b m n c = let k = procedures-inside b m (c .0) (c .1) in (k .0, ap (λ (d : Procedure). d .parameters) (sym (k .1)) ∙ c .2)

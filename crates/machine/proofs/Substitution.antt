@@ -6,12 +6,11 @@ use native.Mathlib.Decide.{ℕ-discrete}
 use mathlib.Core.Path.{_≡_, refl, sym, ap, _∙_, fun-ext}
 use mathlib.Core.Bool.{Bool, true, false, cond, _||_, _&&_}
 use mathlib.Core.List.{List, [], _∷_, _++_}
-use mathlib.Core.Option.{Option, some, none}
+use mathlib.Core.Option.{Option, some, none, orElse}
 use lib.Dec.{T, eqb, ltb, ltb→lt}
 use lib.ListN.{length, getElem?}
 use mir.Facts.{and-yes}
 use borrow.Author.Tests.{eq-eqb, ne-eqb}
-use Rattle.format.specs.Refusal.{orElse}
 use Rattle.packed.specs.Syntax.{Expression, Condition, Arguments, Environment, bind, bindParameters, without, valueOr, substitute, substituteᶜ, substituteᵃ}
 use Rattle.packed.specs.Slots.{bound, closed, closedᶜ, closedᵃ}
 use Rattle.rules.proofs.StateLaws.{added-old, added-new, length-added}

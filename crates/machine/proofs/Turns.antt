@@ -1,31 +1,19 @@
--- Landing in turns finds what landing finds, in a table of nodes in which children come after parents: a turn does not change what is found, it comes
--- nearer to the end, and what is no value is found under all the frames that are there. Assumes nothing.
-use Prim.Native.Nat.{ℕ, zero, suc, _+_, _-_, _≤_, _<_}
+-- Landing in turns finds what landing finds, in a table of nodes in which children come after parents: a turn does not change what is found, and
+-- what is no value is found under all the frames that are there. Assumes nothing.
+use Prim.Native.Nat.{ℕ, zero, suc, _+_, _≤_}
 use native.Mathlib.Omega.{arith}
-use native.Mathlib.Decide.{decLt}
 use mathlib.Core.Path.{_≡_, refl, _∙_}
 use mathlib.Core.Bool.{Bool, true, false}
 use mathlib.Core.List.{List, [], _∷_}
 use mathlib.Core.Option.{Option, some, none}
-use lib.ListN.{length}
 use Rattle.packed.specs.Trees.{Node}
-use Rattle.machine.specs.Frames.{Slots, Closure, Frame, Found, Result}
-use Rattle.machine.specs.Landing.{given, valueIn, boolIn, downBy, downByᶜ, downByᵃ, down, downᶜ, downᵃ, up, upᶜ, enter, enterᶜ, go}
-use Rattle.machine.specs.Turns.{Going, Turn, ends, goes, goDown, goDownᶜ, goList, begin, land, truthTurn, turn, landTurn}
-use Rattle.machine.proofs.TreeLaws.{Ordered}
+use Rattle.packed.specs.Steps.{Descending}
+use Rattle.machine.specs.Frames.{Slots, Closure, Frame, Found}
+use Rattle.machine.specs.Landing.{given, valueIn, boolIn, downBy, down, downᶜ, downᵃ, up, upᶜ, enter, enterᶜ}
+use Rattle.machine.specs.Turns.{Going, Turn, ends, goes, goDown, goDownᶜ, goList, land, truthTurn, turn, landTurn}
 use Rattle.machine.proofs.Levels.{level, levelᶜ, levelᵃ, up-level}
 
--- a rule's result begins where the machine goes on
-pub begin-go : (h : ℕ → Node) (N : ℕ) (S : List Frame) (r : Result) → go h N S r ≡ landTurn h N (begin S r)
-unfolding go landTurn begin
-begin-go h N S (Result.value v) = refl
-begin-go h N S (Result.run x) = refl
-begin-go h N S (Result.held o x) = refl
-begin-go h N S (Result.whileTest x) = refl
-begin-go h N S (Result.whileBody x) = refl
-begin-go h N S (Result.whileAgain x) = refl
-
-module _ (h : ℕ → Node) (N : ℕ) (o : Ordered h N) where
+module _ (h : ℕ → Node) (N : ℕ) (o : Descending h N) where
   -- ---- how far the way down is looked into does not matter
 
   mutual
@@ -115,73 +103,3 @@ module _ (h : ℕ → Node) (N : ℕ) (o : Ordered h N) where
       ∙ levelᵃ h Same ends (λ F. F) (λ F. refl)
       goDown goDownᶜ goList (λ S y. down h N S y) (λ S y. downᶜ h N S y) (λ S m n σ y. downᵃ h N S m n σ y)
       S (x .at) (λ F y b e. refl) (λ F y b e. refl) (λ m n σ y b. refl) (x .slots) m n σ (h (x .at)) (o .below (x .at))
-
-  -- ---- a turn comes nearer to the end
-
-  -- how many turns are left, at most
-  unfoldable pub left : List Frame → Going → ℕ
-  left S (Going.value v) = suc N
-  left S (Going.truth b) = suc N + length S
-  left S (Going.enter x) = suc (suc N) + length S
-  left S (Going.enterᶜ x) = suc (suc N) + length S
-  left S (Going.down x) = N - x .at
-  left S (Going.downᶜ x) = N - x .at
-  left S (Going.list m n σ x) = N - x .at
-
-  abbrev pub Nearer : ℕ → Turn → Type 0
-  Nearer k (ends F) = Unit {0}
-  Nearer k (goes S g) = left S g < k
-
-  given-nearer : {A : Type 0} (v : Option A) (S : List Frame) (k : A → Going) (g : Going) (n : ℕ) → ((a : A) → left S (k a) < n) → left S g < n
-      → Nearer n (given v (λ a. goes S (k a)) (goes S g))
-  given-nearer (some a) S k g n p q = p a
-  given-nearer none S k g n p q = q
-
-  truth-nearer : (S : List Frame) (b : Bool) → Nearer (suc N + length S) (truthTurn h N S b)
-  unfolding truthTurn left
-  truth-nearer [] b = tt
-  truth-nearer (Frame.if x ∷ S) b = tt
-  truth-nearer (Frame.and x ∷ S) b = tt
-  truth-nearer (Frame.not ∷ S) true = omega arith
-  truth-nearer (Frame.not ∷ S) false = tt
-  truth-nearer (Frame.whileTest x ∷ S) b = tt
-  truth-nearer (Frame.read f ∷ S) b = tt
-  truth-nearer (Frame.write₁ f x ∷ S) b = tt
-  truth-nearer (Frame.write₂ a f ∷ S) b = tt
-  truth-nearer (Frame.call m n σ x ∷ S) b = tt
-  truth-nearer (Frame.letIn x y ∷ S) b = tt
-  truth-nearer (Frame.synch x ∷ S) b = tt
-  truth-nearer (Frame.hold a ∷ S) b = tt
-  truth-nearer (Frame.join ∷ S) b = tt
-  truth-nearer (Frame.equal₁ x ∷ S) b = tt
-  truth-nearer (Frame.equal₂ a ∷ S) b = tt
-  truth-nearer (Frame.whileBody x ∷ S) b = tt
-
-  pub turn-nearer : (S : List Frame) (g : Going) → Nearer (left S g) (turn h N S g)
-  unfolding turn left
-  turn-nearer S (Going.value v) =
-      up-level h (λ (r s : Turn). Nearer (suc N) r) ends ends (λ F. tt) goDown goDownᶜ goList goDown goDownᶜ goList (λ S y e. omega arith) (λ S m n σ y. omega arith) S v
-  turn-nearer S (Going.truth b) = truth-nearer S b
-  turn-nearer S (Going.enter x) = given-nearer (valueIn h x) S Going.value (Going.down x) _ (λ v. omega arith) (omega arith)
-  turn-nearer S (Going.enterᶜ x) = given-nearer (boolIn h x) S Going.truth (Going.downᶜ x) _ (λ v. omega arith) (omega arith)
-  turn-nearer S (Going.down x) = at (decLt (x .at) N)
-    where
-      at : Dec (x .at < N) → Nearer (N - x .at) (downBy h ends goDown goDownᶜ goList (x .slots) S (h (x .at)))
-      at (yes l) =
-          level h (λ (r s : Turn). Nearer (N - x .at) r) ends ends (λ F. tt) goDown goDownᶜ goList goDown goDownᶜ goList S (x .at)
-          (λ F y b e. omega arith) (λ F y b e. omega arith) (λ m n σ y b. omega arith) (x .slots) (h (x .at)) (o .below (x .at))
-      at (no l) = rw (o .past (x .at) (omega arith)) tt
-  turn-nearer S (Going.downᶜ x) = at (decLt (x .at) N)
-    where
-      at : Dec (x .at < N) → Nearer (N - x .at) (downByᶜ h ends goDown goDownᶜ goList (x .slots) S (h (x .at)))
-      at (yes l) =
-          levelᶜ h (λ (r s : Turn). Nearer (N - x .at) r) ends ends (λ F. tt) goDown goDownᶜ goList goDown goDownᶜ goList S (x .at)
-          (λ F y b e. omega arith) (λ F y b e. omega arith) (λ m n σ y b. omega arith) (x .slots) (h (x .at)) (o .below (x .at))
-      at (no l) = rw (o .past (x .at) (omega arith)) tt
-  turn-nearer S (Going.list m n σ x) = at (decLt (x .at) N)
-    where
-      at : Dec (x .at < N) → Nearer (N - x .at) (downByᵃ h ends goDown goDownᶜ goList (x .slots) S m n σ (h (x .at)))
-      at (yes l) =
-          levelᵃ h (λ (r s : Turn). Nearer (N - x .at) r) ends ends (λ F. tt) goDown goDownᶜ goList goDown goDownᶜ goList S (x .at)
-          (λ F y b e. omega arith) (λ F y b e. omega arith) (λ m n σ y b. omega arith) (x .slots) m n σ (h (x .at)) (o .below (x .at))
-      at (no l) = rw (o .past (x .at) (omega arith)) tt

@@ -1,4 +1,4 @@
--- The machine that the code runs; no reader of the entries' promises needs it. Landing: from a term, a value or a rule's result to the next part that
+-- The abstract machine; no reader of the entries' promises needs it. Landing: from a term, a value or a rule's result to the next part that
 -- moves. h gives the nodes of a plan of N terms. A superscript c or a marks the same thing for conditions or for a call's list. Assumes nothing.
 use Prim.Native.Nat.{ℕ, zero, suc}
 use mathlib.Core.Bool.{Bool, true, false}

@@ -1,4 +1,4 @@
--- The machine that the code runs; no reader of the entries' promises needs it. Its state, and what a thread can do in it. Its names are those of the
+-- The abstract machine; no reader of the entries' promises needs it. Its state, and what a thread can do in it. Its names are those of the
 -- definitions that it follows: use them qualified. Assumes nothing.
 use Prim.Native.Nat.{ℕ, suc}
 use mathlib.Core.Bool.{Bool, true, false, cond}

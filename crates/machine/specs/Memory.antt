@@ -1,4 +1,4 @@
--- The machine that the code runs; no reader of the entries' promises needs it. Memory as the code holds it: a mask for each object, and a cell for each
+-- The abstract machine; no reader of the entries' promises needs it. Memory as the code holds it: a mask for each object, and a cell for each
 -- object and field, field 0 its monitor; and the objects that it stands for. Assumes nothing.
 use Prim.Native.Nat.{ℕ, zero, suc}
 use mathlib.Core.Bool.{cond, _&&_}

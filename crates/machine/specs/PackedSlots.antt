@@ -1,4 +1,4 @@
--- The machine that the code runs; no reader of the entries' promises needs it. Slots in one number, five bits to a slot, slot 0 lowest. Assumes nothing.
+-- The abstract machine; no reader of the entries' promises needs it. Slots in one number, five bits to a slot, slot 0 lowest. Assumes nothing.
 use Prim.Native.Nat.{ℕ, _+_, _-_, _*_, _/_, _%_, _^_}
 use Rattle.machine.specs.Frames.{Slots}
 

@@ -1,12 +1,11 @@
--- The machine that the code runs; no reader of the entries' promises needs it. Room, the answer to a pick, runs, the states of the threads, and the
+-- The abstract machine; no reader of the entries' promises needs it. Room, the answer to a pick, runs, the states of the threads, and the
 -- machine of a plan. Its names are those of the definitions that it follows: use them qualified. Assumes nothing.
 use Prim.Native.Nat.{ℕ, zero, suc}
 use mathlib.Core.Bool.{Bool, false, cond, _||_}
 use mathlib.Core.List.{List, [], _∷_}
-use mathlib.Core.Option.{Option, some, none}
+use mathlib.Core.Option.{Option, some, none, orElse}
 use lib.Dec.{eqb, ltb, leb}
 use lib.ListN.{length, getElem?, drop}
-use Rattle.format.specs.Refusal.{orElse}
 use Rattle.keys.specs.Keys.{singleton}
 use Rattle.packed.specs.Format.{terms, root, volatiles, maskBit}
 use Rattle.packed.specs.Trees.{nodeAt}

@@ -1,10 +1,10 @@
--- The machine that the code runs; no reader of the entries' promises needs it. Landing in turns, as the code's loop makes it: where landing stands, and
+-- The abstract machine; no reader of the entries' promises needs it. Landing in turns, as the code's loop makes it: where landing stands, and
 -- one turn of it. h gives the nodes of a plan of N terms. Assumes nothing.
 use Prim.Native.Nat.{ℕ}
 use mathlib.Core.Bool.{Bool, true, false}
 use mathlib.Core.List.{List, [], _∷_}
 use Rattle.packed.specs.Trees.{Node}
-use Rattle.machine.specs.Frames.{Slots, Closure, firstOf, secondOf, Frame, Ready, Readyᶜ, Found, Result}
+use Rattle.machine.specs.Frames.{Slots, Closure, Frame, Ready, Readyᶜ, Found}
 use Rattle.machine.specs.Landing
 use Rattle.machine.specs.Landing.{given, valueIn, boolIn, downBy, downByᶜ, downByᵃ, upBy, downᵃ, nowhere, up, upᶜ}
 
@@ -30,15 +30,6 @@ goDownᶜ S x = goes S (downᶜ x)
 
 abbrev pub goList : List Frame → ℕ → ℕ → Slots → Closure → Turn
 goList S m n σ x = goes S (list m n σ x)
-
--- where a rule's result begins
-unfoldable pub begin : List Frame → Result → Turn
-begin S (Result.value v) = goes S (value v)
-begin S (Result.run x) = goes S (enter x)
-begin S (Result.held o x) = goes (Frame.hold o ∷ S) (enter x)
-begin S (Result.whileTest x) = goes (Frame.whileTest x ∷ S) (enterᶜ (firstOf x))
-begin S (Result.whileBody x) = goes (Frame.whileBody x ∷ S) (enter (secondOf x))
-begin S (Result.whileAgain x) = ends (Found.here S (Ready.while x))
 
 module _ (h : ℕ → Node) (N : ℕ) where
   -- what landing finds

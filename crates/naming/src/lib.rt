@@ -14,8 +14,9 @@ ghost use mathlib.Core.Path.{_≡_};
 ghost use mathlib.Core.List.{[], _∷_};
 ghost use Prim.Native.Nat.{_≤_, _<_};
 ghost use lib.ListN.{replicate};
+ghost use Rattle.format.specs.Lowest.{Lowest};
 ghost use Rattle.packed.specs.Refusals.{wronglySorted};
-ghost use Rattle.packed.specs.Steps.{Right, Loaded, Lowest, nodeIn, childOf, childrenOf, lowerAll, countAll, moreOf, Counted, rootTimes, allTimes, misplacedRoot, notOnce};
+ghost use Rattle.packed.specs.Steps.{Right, Loaded, nodeIn, childOf, childrenOf, lowerAll, countAll, moreOf, Counted, rootTimes, allTimes, misplacedRoot, notOnce};
 
 // The count of a term that is named once more; two stands for more.
 fn once_more(times: u8) -> u8

@@ -6,10 +6,11 @@ use mathlib.Core.List.{List, [], _∷_}
 use mathlib.Core.Option.{Option, none, some}
 use mathlib.Core.Logic.{_⊎_, inl, inr}
 use lib.Dec.{T, eqb, eqb→eq}
+use mir.Facts.{and-yes, yes-and, or-yes, yes-eqb}
 use native.Mathlib.Omega.{arith}
 use Rattle.format.specs.Version.{Version, v0, v1}
 use Rattle.records.specs.Record.{Kind, new, read, write, readv, writev, acquire, release, fork, join, lacksRead, lacksWrite, Record, entry}
-use Rattle.order.proofs.Tests.{and→, and←, or→, or←, cond-true, cond-false, eq→eqb, sameKind, sameKind→, sameKind←}
+use Rattle.order.proofs.Tests.{or←, cond-true, cond-false, sameKind, sameKind→, sameKind←}
 use Rattle.order.proofs.Ports.{Port, ofThread, ofMonitor, ofVolatile, Feeds, Draws}
 
 -- how many records thread u has
@@ -68,26 +69,26 @@ orders← : (v : Version) → v ≡ v1 → T (volatileOrders v)
 orders← v e = rw e tt
 
 pub feeds→ : (v : Version) (r : Record) (p : Port) → T (feeds v r p) → Feeds v r p
-feeds→ v r (ofThread q) h = go (or→ (eqb (r .thread) q) (sameKind (r .kind) fork && eqb (r .field) q) h)
+feeds→ v r (ofThread q) h = go (or-yes (eqb (r .thread) q) (sameKind (r .kind) fork && eqb (r .field) q) h)
   where
     go : T (eqb (r .thread) q) ⊎ T (sameKind (r .kind) fork && eqb (r .field) q) → Feeds v r (ofThread q)
     go (inl e) = inl (eqb→eq (r .thread) q e)
-    go (inr e) = let d = and→ (sameKind (r .kind) fork) (eqb (r .field) q) e in inr (sameKind→ (r .kind) fork (d .0), eqb→eq (r .field) q (d .1))
-feeds→ v r (ofMonitor o) h = let d = and→ (sameKind (r .kind) release) (eqb (r .object) o) h in (sameKind→ (r .kind) release (d .0), eqb→eq (r .object) o (d .1))
+    go (inr e) = let d = and-yes (sameKind (r .kind) fork) (eqb (r .field) q) e in inr (sameKind→ (r .kind) fork (d .0), eqb→eq (r .field) q (d .1))
+feeds→ v r (ofMonitor o) h = let d = and-yes (sameKind (r .kind) release) (eqb (r .object) o) h in (sameKind→ (r .kind) release (d .0), eqb→eq (r .object) o (d .1))
 feeds→ v r (ofVolatile o f) h =
-    let d = and→ (volatileOrders v && sameKind (r .kind) writev && eqb (r .object) o) (eqb (r .field) f) h in
-    let e = and→ (volatileOrders v && sameKind (r .kind) writev) (eqb (r .object) o) (d .0) in
-    let g = and→ (volatileOrders v) (sameKind (r .kind) writev) (e .0) in
+    let d = and-yes (volatileOrders v && sameKind (r .kind) writev && eqb (r .object) o) (eqb (r .field) f) h in
+    let e = and-yes (volatileOrders v && sameKind (r .kind) writev) (eqb (r .object) o) (d .0) in
+    let g = and-yes (volatileOrders v) (sameKind (r .kind) writev) (e .0) in
     (orders→ v (g .0), sameKind→ (r .kind) writev (g .1), eqb→eq (r .object) o (e .1), eqb→eq (r .field) f (d .1))
 
 pub feeds← : (v : Version) (r : Record) (p : Port) → Feeds v r p → T (feeds v r p)
-feeds← v r (ofThread q) (inl e) = or← (eqb (r .thread) q) (sameKind (r .kind) fork && eqb (r .field) q) (inl (eq→eqb (r .thread) q e))
-feeds← v r (ofThread q) (inr (e, g)) = or← (eqb (r .thread) q) (sameKind (r .kind) fork && eqb (r .field) q) (inr (and← (sameKind (r .kind) fork) (eqb (r .field) q) (sameKind← (r .kind) fork e) (eq→eqb (r .field) q g)))
-feeds← v r (ofMonitor o) (e, g) = and← (sameKind (r .kind) release) (eqb (r .object) o) (sameKind← (r .kind) release e) (eq→eqb (r .object) o g)
+feeds← v r (ofThread q) (inl e) = or← (eqb (r .thread) q) (sameKind (r .kind) fork && eqb (r .field) q) (inl (yes-eqb e))
+feeds← v r (ofThread q) (inr (e, g)) = or← (eqb (r .thread) q) (sameKind (r .kind) fork && eqb (r .field) q) (inr (yes-and (sameKind (r .kind) fork) (eqb (r .field) q) (sameKind← (r .kind) fork e) (yes-eqb g)))
+feeds← v r (ofMonitor o) (e, g) = yes-and (sameKind (r .kind) release) (eqb (r .object) o) (sameKind← (r .kind) release e) (yes-eqb g)
 feeds← v r (ofVolatile o f) (c, e, g, h) =
-    and← (volatileOrders v && sameKind (r .kind) writev && eqb (r .object) o) (eqb (r .field) f)
-    (and← (volatileOrders v && sameKind (r .kind) writev) (eqb (r .object) o) (and← (volatileOrders v) (sameKind (r .kind) writev) (orders← v c) (sameKind← (r .kind) writev e)) (eq→eqb (r .object) o g))
-    (eq→eqb (r .field) f h)
+    yes-and (volatileOrders v && sameKind (r .kind) writev && eqb (r .object) o) (eqb (r .field) f)
+    (yes-and (volatileOrders v && sameKind (r .kind) writev) (eqb (r .object) o) (yes-and (volatileOrders v) (sameKind (r .kind) writev) (orders← v c) (sameKind← (r .kind) writev e)) (yes-eqb g))
+    (yes-eqb h)
 
 pub draws→ : (v : Version) (r : Record) (q : Port) → Draws v r q → (ofThread (r .thread) ≡ q) ⊎ (second v r ≡ some q)
 draws→ v r (ofThread q) (inl e) = inl (ap ofThread e)

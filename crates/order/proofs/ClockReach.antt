@@ -7,11 +7,11 @@ use mathlib.Core.Option.{Option, none, some}
 use mathlib.Core.Logic.{_⊎_, inl, inr}
 use lib.ListN.{length}
 use lib.Dec.{T, eqb, eqb→eq}
+use mir.Facts.{yes-eqb}
 use native.Mathlib.Omega.{arith}
 use native.Mathlib.Decide.{decLe}
 use Rattle.format.specs.Version.{Version}
 use Rattle.records.specs.Record.{Record}
-use Rattle.order.proofs.Tests.{eq→eqb}
 use Rattle.order.proofs.Ports.{Port, ofThread, Feeds, Draws}
 use Rattle.order.proofs.Flow.{Reach, kept, made, passed, reach-below}
 use Rattle.order.proofs.Clock.{count, feeds, second, reading, gather, clock, feeds→, feeds←, draws→, second-draws, clock-bound}
@@ -84,7 +84,7 @@ heard v r H q u c n h = go (draws→ v r q n)
 pub reach→clock : (v : Version) {H : List Record} {i u c : ℕ} {p : Port} → Nth H i u c → Reach v i H p → c ≤ clock v H p u
 reach→clock v (newest a e g) (kept x) = let b = reach-below x in absurd (omega arith)
 reach→clock v {u = u} {p = p} (newest {r = r} {H = H} a e g) (made _ o) =
-    rw g (up-own (feeds v r p) (eqb (r .thread) u) (clock v H p u) (max (clock v H (ofThread (r .thread)) u) (reading (clock v H) (second v r) u)) (count H u) (feeds← v r p o) (eq→eqb (r .thread) u a))
+    rw g (up-own (feeds v r p) (eqb (r .thread) u) (clock v H p u) (max (clock v H (ofThread (r .thread)) u) (reading (clock v H) (second v r) u)) (count H u) (feeds← v r p o) (yes-eqb a))
 reach→clock v (newest a e g) (passed n x o) = let b = reach-below x in absurd (omega arith)
 reach→clock v {u = u} {c = c} {p = p} (older {r = r} {H = H} y) (kept x) = up-kept (feeds v r p) c (clock v H p u) (gather v (clock v H) (count H) r u) (reach→clock v y x)
 reach→clock v (older y) (made e o) = let b = nth-below y in absurd (omega arith)

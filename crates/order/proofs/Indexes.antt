@@ -1,14 +1,12 @@
--- The numbers below a bound that pass a test: their list, and the lowest of them. Assumes nothing.
-use Prim.Native.Nat.{ℕ, zero, suc, _<_, _≤_}
+-- The list of the numbers below a bound that pass a test. Assumes nothing.
+use Prim.Native.Nat.{ℕ, zero, suc, _<_}
 use native.Mathlib.Omega.{arith}
-use native.Mathlib.Decide.{ℕ-discrete, decLe}
+use native.Mathlib.Decide.{ℕ-discrete}
 use mathlib.Core.Path.{_≡_, refl, sym, subst}
 use mathlib.Core.Bool.{Bool, true, false, cond}
 use mathlib.Core.List.{List, [], _∷_, _++_, List·Memᴰ, List·Memᴰ·head, List·Memᴰ·not-nil, List·Memᴰ·append-cases, List·Memᴰ·eq-of-singleton, Memᴰ·append-left, Memᴰ·append-right, Memᴰ·cast}
 use mathlib.Core.Logic.{_⊎_, inl, inr}
-use mathlib.Core.Option.{Option, some, none}
 use lib.Dec.{T}
-use Rattle.format.specs.Refusal.{lowest, orElse}
 
 -- in ascending order
 unfoldable pub indexesBelow : (ℕ → Bool) → ℕ → List ℕ
@@ -40,29 +38,3 @@ listed← f (suc n) j b h = go (ℕ-discrete j n) (λ c. listed← f n j c h)
     go : Dec (j ≡ n) → (j < n → List·Memᴰ j (indexesBelow f n)) → List·Memᴰ j (indexesBelow f n ++ cond (f n) (n ∷ []) [])
     go (yes e) ih = Memᴰ·append-right (indexesBelow f n) (Memᴰ·cast e (single← (f n) n (subst (λ (i : ℕ). T (f i)) e h)))
     go (no e) ih = Memᴰ·append-left (cond (f n) (n ∷ []) []) (ih (omega arith))
-
--- what `lowest` finds
-pub data Lowest (f : ℕ → Bool) (n : ℕ) : Option ℕ → Type 0 where
-  none-passes : ((i : ℕ) → i < n → T (f i) → ⊥) → Lowest f n none
-  passes : {i : ℕ} → i < n → T (f i) → ((m : ℕ) → T (f m) → i ≤ m) → Lowest f n (some i)
-
-pub lowest-is : (f : ℕ → Bool) (n : ℕ) → Lowest f n (lowest f n)
-unfolding lowest
-lowest-is f zero = none-passes (λ i b h. absurd (omega arith))
-lowest-is f (suc n) = go (f n) refl (lowest-is f n)
-  where
-    below : ((i : ℕ) → i < n → T (f i) → ⊥) → (m : ℕ) → T (f m) → n ≤ m
-    below g m h = at-least (decLe n m)
-      where
-        at-least : Dec (n ≤ m) → n ≤ m
-        at-least (yes b) = b
-        at-least (no b) = absurd (g m (omega arith) h)
-
-    go : (b : Bool) → f n ≡ b → {a : Option ℕ} → Lowest f n a → Lowest f (suc n) (orElse a (cond b (some n) none))
-    go true e (none-passes g) = passes {i = n} (omega arith) (rw e tt) (below g)
-    go false e (none-passes g) = none-passes (λ i b h. nowhere i (ℕ-discrete i n) b h)
-      where
-        nowhere : (i : ℕ) → Dec (i ≡ n) → i < suc n → T (f i) → ⊥
-        nowhere i (yes q) b h = subst (λ (c : Bool). T c) e (subst (λ (m : ℕ). T (f m)) q h)
-        nowhere i (no q) b h = g i (omega arith) h
-    go b e (passes {i = i} c h g) = passes {i = i} (omega arith) h g

@@ -1,9 +1,9 @@
 -- The judge, by the clocks, on any log, oldest first: which accesses are unordered, the lowest of them, and all that a judge may answer.
 -- Assumes nothing.
-use Prim.Native.Nat.{ℕ, suc, _≤_}
+use Prim.Native.Nat.{ℕ, suc}
 use native.Mathlib.Omega.{arith}
 use mathlib.Core.Path.{_≡_, refl, sym, ap, subst}
-use mathlib.Core.Bool.{Bool, false}
+use mathlib.Core.Bool.{Bool, false, true≢false}
 use mathlib.Core.List.{List, [], _∷_, reverse, List·Memᴰ, List·Memᴰ·head, List·Memᴰ·not-nil, List·Memᴰ·eq-of-singleton}
 use mathlib.Core.Logic.{_↔_, Iff·trans, Iff·symm}
 use mathlib.Core.Option.{Option, some, none}
@@ -11,6 +11,7 @@ use lib.Dec.{T}
 use lib.ListN.{length, drop, getElem?}
 use Rattle.format.specs.Refusal.{lowest}
 use Rattle.format.specs.Version.{Version}
+use Rattle.format.proofs.RefusalLaws.{lowest-none, lowest-some}
 use Rattle.records.specs.Record.{Record}
 use Rattle.order.specs.Chains.{Unordered}
 use Rattle.order.specs.Judge.{MayName, names, none-unordered}
@@ -19,7 +20,7 @@ use Rattle.order.proofs.Newest as N
 use Rattle.order.proofs.Late.{late, late→unordered, unordered→late}
 use Rattle.order.proofs.Past.{past, past-length, at-within, turned-at}
 use Rattle.order.proofs.Turned.{unordered↔}
-use Rattle.order.proofs.Indexes.{indexesBelow, listed→, listed←, Lowest, none-passes, passes, lowest-is}
+use Rattle.order.proofs.Indexes.{indexesBelow, listed→, listed←}
 
 -- the record, if there is one, is an unordered access after the past H
 abbrev pub lateOf : Version → List Record → Option Record → Bool
@@ -47,7 +48,7 @@ unfolding unorderedAt
 unordered-decided v L j = go (getElem? L j) refl
   where
     go : (m : Option Record) → getElem? L j ≡ m → T (lateOf v (past L j) m) ↔ Unordered v L j
-    go none e = (λ h. absurd h, λ u. let q = u .at-j in let z : _≡_ {A = ℕ} 0 1 = cc in omega arith)
+    go none e = (λ h. absurd h, λ u. let q = u .at-j in true≢false cc)
     go (some r) e = Iff·trans (late→unordered v r (past L j), unordered→late v r (past L j)) (subst (λ (n : ℕ). N.Unordered v (r ∷ past L j) n ↔ Unordered v L j) (sym size) here)
       where
         size : length (past L j) ≡ j
@@ -88,23 +89,15 @@ none-named v L e none m = refl
 none-named v L e (some j) m = absurd (List·Memᴰ·not-nil (subst (λ (l : List ℕ). List·Memᴰ j l) e (all-named v L (some j) .0 m)))
 
 pub one-named : (v : Version) (L : List Record) (i : ℕ) → unorderedIndexes v L ≡ i ∷ [] → (a : Option ℕ) → MayName v L a → a ≡ some i
-one-named v L i e none m = let q = all-named v L none .0 m in let z : _≡_ {A = ℕ} 0 1 = cc in absurd (omega arith)
+one-named v L i e none m = let q = all-named v L none .0 m in absurd (true≢false cc)
 one-named v L i e (some j) m = ap {B = Option ℕ} some (List·Memᴰ·eq-of-singleton (subst (λ (l : List ℕ). List·Memᴰ j l) e (all-named v L (some j) .0 m)))
 
 -- ---- the lowest
 
 pub judge-may : (v : Version) (L : List Record) → MayName v L (judge v L)
 unfolding judge
-judge-may v L = go (lowest-is (unorderedAt v L) (length L))
+judge-may v L = go (judge v L) refl
   where
-    go : {a : Option ℕ} → Lowest (unorderedAt v L) (length L) a → MayName v L a
-    go (none-passes n) = none-unordered (λ j u. n j (at-within L j (u .access) (u .at-j)) (unordered-decided v L j .1 u))
-    go (passes {i = i} b h g) = names (unordered-decided v L i .0 h)
-
-pub judge-lowest : (v : Version) (L : List Record) (i j : ℕ) → judge v L ≡ some i → Unordered v L j → i ≤ j
-unfolding judge
-judge-lowest v L i j e u = go (lowest-is (unorderedAt v L) (length L)) e
-  where
-    go : {a : Option ℕ} → Lowest (unorderedAt v L) (length L) a → a ≡ some i → i ≤ j
-    go (none-passes n) q = let z : _≡_ {A = ℕ} 0 1 = cc in absurd (omega arith)
-    go (passes {i = k} b h g) q = let s : k ≡ i = cc in let c = g j (unordered-decided v L j .1 u) in omega arith
+    go : (a : Option ℕ) → lowest (unorderedAt v L) (length L) ≡ a → MayName v L a
+    go none e = none-unordered (λ j u. subst T (lowest-none (unorderedAt v L) (length L) e j (at-within L j (u .access) (u .at-j))) (unordered-decided v L j .1 u))
+    go (some i) e = names (unordered-decided v L i .0 (subst T (sym (lowest-some (unorderedAt v L) (length L) i e .1)) tt))

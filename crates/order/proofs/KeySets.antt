@@ -4,7 +4,8 @@ use mathlib.Core.Path.{_≡_, sym, subst}
 use mathlib.Core.Bool.{Bool, false, _||_, _&&_, cond}
 use mathlib.Core.Logic.{_⊎_, inl, inr, _↔_}
 use lib.Dec.{T, eqb, eqb→eq, eqb-refl}
-use Rattle.order.proofs.Tests.{or→, or←, eq→eqb, and→, and←, cond-true, cond-false}
+use mir.Facts.{or-yes, yes-eqb, and-yes, yes-and}
+use Rattle.order.proofs.Tests.{or←, cond-true, cond-false}
 
 abbrev pub KeySet : Type 0
 KeySet = ℕ → Bool
@@ -24,11 +25,11 @@ onlyZero k = eqb k 0
 
 pub union↔ : (a b : KeySet) (k : ℕ) → T (union a b k) ↔ (T (a k) ⊎ T (b k))
 unfolding union
-union↔ a b k = (or→ (a k) (b k), or← (a k) (b k))
+union↔ a b k = (or-yes (a k) (b k), or← (a k) (b k))
 
 pub learn↔ : (n : ℕ) (a : KeySet) (k : ℕ) → T (learn n a k) ↔ (T (a k) ⊎ (k ≡ n))
 unfolding learn
-learn↔ n a k = (λ h. there (or→ (eqb k n) (a k) h), λ h. or← (eqb k n) (a k) (hither h))
+learn↔ n a k = (λ h. there (or-yes (eqb k n) (a k) h), λ h. or← (eqb k n) (a k) (hither h))
   where
     there : T (eqb k n) ⊎ T (a k) → T (a k) ⊎ (k ≡ n)
     there (inl e) = inr (eqb→eq k n e)
@@ -36,7 +37,7 @@ learn↔ n a k = (λ h. there (or→ (eqb k n) (a k) h), λ h. or← (eqb k n) (
 
     hither : T (a k) ⊎ (k ≡ n) → T (eqb k n) ⊎ T (a k)
     hither (inl x) = inr x
-    hither (inr e) = inl (eq→eqb k n e)
+    hither (inr e) = inl (yes-eqb e)
 
 pub noKeys→ : (k : ℕ) → T (noKeys k) → ⊥
 unfolding noKeys
@@ -44,7 +45,7 @@ noKeys→ k h = h
 
 pub onlyZero↔ : (k : ℕ) → T (onlyZero k) ↔ (k ≡ 0)
 unfolding onlyZero
-onlyZero↔ k = (eqb→eq k 0, eq→eqb k 0)
+onlyZero↔ k = (eqb→eq k 0, yes-eqb)
 
 -- ---- a family with one place changed
 
@@ -66,11 +67,11 @@ module _ {A : Type 0} where
 
   pub put₂-same : (g : ℕ → ℕ → A) (o f : ℕ) (a : A) → put₂ g o f a o f ≡ a
   unfolding put₂
-  put₂-same g o f a = cond-true (eqb o o && eqb f f) a (g o f) (and← (eqb o o) (eqb f f) (eqb-refl o) (eqb-refl f))
+  put₂-same g o f a = cond-true (eqb o o && eqb f f) a (g o f) (yes-and (eqb o o) (eqb f f) (eqb-refl o) (eqb-refl f))
 
   pub put₂-other : (g : ℕ → ℕ → A) (o f : ℕ) (a : A) (o′ f′ : ℕ) → (o ≡ o′ → f ≡ f′ → ⊥) → put₂ g o f a o′ f′ ≡ g o′ f′
   unfolding put₂
-  put₂-other g o f a o′ f′ n = cond-false (eqb o o′ && eqb f f′) a (g o′ f′) (λ h. let d = and→ (eqb o o′) (eqb f f′) h in n (eqb→eq o o′ (d .0)) (eqb→eq f f′ (d .1)))
+  put₂-other g o f a o′ f′ n = cond-false (eqb o o′ && eqb f f′) a (g o′ f′) (λ h. let d = and-yes (eqb o o′) (eqb f f′) h in n (eqb→eq o o′ (d .0)) (eqb→eq f f′ (d .1)))
 
 pub put-same↔ : (g : ℕ → KeySet) (t : ℕ) (a : KeySet) (k : ℕ) → T (put g t a t k) ↔ T (a k)
 put-same↔ g t a k = (subst (λ (b : KeySet). T (b k)) (put-same g t a), subst (λ (b : KeySet). T (b k)) (sym (put-same g t a)))

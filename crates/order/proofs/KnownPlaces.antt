@@ -1,10 +1,10 @@
 -- The invariant through one record: the key counter, the sets of volatile fields and of monitors. Assumes nothing.
 use Prim.Native.Nat.{ℕ, suc}
 use mathlib.Core.Path.{_≡_, refl, sym, subst, ap}
+use mathlib.Core.Bool.{true≢false}
 use mathlib.Core.List.{List, _∷_}
 use mathlib.Core.Logic.{_⊎_, inl, inr, _↔_, Iff·trans}
 use lib.Dec.{T}
-use native.Mathlib.Omega.{arith}
 use native.Mathlib.Decide.{ℕ-discrete}
 use Rattle.format.specs.Version.{Version, v0, v1}
 use Rattle.records.specs.Record.{Kind, new, read, write, readv, writev, acquire, release, fork, join, lacksRead, lacksWrite, Record, entry}
@@ -33,7 +33,7 @@ next-step v lacksRead t o f x s I = I .next-key
 next-step v lacksWrite t o f x s I = I .next-key
 
 v0≢v1 : v0 ≡ v1 → ⊥
-v0≢v1 e = let z : _≡_ {A = ℕ} 0 1 = cc in omega arith
+v0≢v1 e = true≢false cc
 
 -- the volatile fields
 volatile-still : (κ : Kind) (t o f x : ℕ) {H : List Record} (s : KeyState) → Invariant v1 H s → (κ ≡ writev → ⊥) → (o′ f′ k : ℕ) → T (s .volatiles o′ f′ k) ↔ Known v1 k (entry κ t o f x ∷ H) (ofVolatile o′ f′)

@@ -5,11 +5,12 @@ use mathlib.Core.Bool.{Bool, true, false, _&&_, not, cond}
 use mathlib.Core.List.{List, [], _∷_}
 use lib.ListN.{length}
 use lib.Dec.{T, T-not, not-T, eqb, leb, eqb→eq, leb→le, le→leb}
+use mir.Facts.{and-yes, yes-and, yes-eqb}
 use native.Mathlib.Omega.{arith}
 use Rattle.format.specs.Version.{Version}
 use Rattle.records.specs.Record.{write, Record, isPlain}
 use Rattle.order.specs.Chains.{Writes}
-use Rattle.order.proofs.Tests.{and→, and←, eq→eqb, sameKind, sameKind→, sameKind←}
+use Rattle.order.proofs.Tests.{sameKind, sameKind→, sameKind←}
 use Rattle.order.proofs.Newest.{Last, Never, never-start, never-more, last-here, last-more, last-once, Unordered}
 use Rattle.order.proofs.Ports.{ofThread}
 use Rattle.order.proofs.Access.{Unreached, unreached→unordered, unordered→unreached}
@@ -35,12 +36,12 @@ late v H r = isPlain (r .kind) && not (leb (lastTurn H (r .object) (r .field)) (
 
 pub isWriteOf→ : (r : Record) (o f : ℕ) → T (isWriteOf r o f) → Writes r o f
 isWriteOf→ r o f h =
-    let d = and→ (sameKind (r .kind) write && eqb (r .object) o) (eqb (r .field) f) h in
-    let e = and→ (sameKind (r .kind) write) (eqb (r .object) o) (d .0) in
+    let d = and-yes (sameKind (r .kind) write && eqb (r .object) o) (eqb (r .field) f) h in
+    let e = and-yes (sameKind (r .kind) write) (eqb (r .object) o) (d .0) in
     record { is-write = sameKind→ (r .kind) write (e .0); same-object = eqb→eq (r .object) o (e .1); same-field = eqb→eq (r .field) f (d .1) }
 
 pub isWriteOf← : (r : Record) (o f : ℕ) → Writes r o f → T (isWriteOf r o f)
-isWriteOf← r o f w = and← (sameKind (r .kind) write && eqb (r .object) o) (eqb (r .field) f) (and← (sameKind (r .kind) write) (eqb (r .object) o) (sameKind← (r .kind) write (w .is-write)) (eq→eqb (r .object) o (w .same-object))) (eq→eqb (r .field) f (w .same-field))
+isWriteOf← r o f w = yes-and (sameKind (r .kind) write && eqb (r .object) o) (eqb (r .field) f) (yes-and (sameKind (r .kind) write) (eqb (r .object) o) (sameKind← (r .kind) write (w .is-write)) (yes-eqb (w .same-object))) (yes-eqb (w .same-field))
 
 -- the last write of field f of o is the c-th record of thread u, or c is 0 and there is none
 pub data Stamp (H : List Record) (o f u c : ℕ) : Type 0 where
@@ -70,7 +71,7 @@ module _ (v : Version) (r : Record) (H : List Record) where
   late→unordered h = unreached→unordered v r H (go (stamp H (r .object) (r .field)))
     where
       parts : T (isPlain (r .kind)) × T (not (leb Turn Reading))
-      parts = and→ (isPlain (r .kind)) (not (leb Turn Reading)) h
+      parts = and-yes (isPlain (r .kind)) (not (leb Turn Reading)) h
 
       above : Turn ≤ Reading → ⊥
       above x = T-not (leb Turn Reading) (parts .1) (le→leb Turn Reading x)
@@ -80,7 +81,7 @@ module _ (v : Version) (r : Record) (H : List Record) where
       go (last i d y) = record { plain = parts .0; last = i; is-last = d; no-reach = λ x. above (reach→clock v y x) }
 
   pub unordered→late : Unordered v (r ∷ H) (length H) → T (late v H r)
-  unordered→late x = and← (isPlain (r .kind)) (not (leb Turn Reading)) (u .plain) (not-T (leb Turn Reading) (λ t. go (leb→le Turn Reading t) (stamp H (r .object) (r .field))))
+  unordered→late x = yes-and (isPlain (r .kind)) (not (leb Turn Reading)) (u .plain) (not-T (leb Turn Reading) (λ t. go (leb→le Turn Reading t) (stamp H (r .object) (r .field))))
     where
       u : Unreached v H r
       u = unordered→unreached v r H x

@@ -1,9 +1,10 @@
 -- The past of a record, newest first, in a log that is oldest first. Assumes nothing.
 use Prim.Native.Nat.{ℕ, suc, zero, _<_, _≤_}
 use mathlib.Core.Path.{_≡_, refl, sym, _∙_, ap}
+use mathlib.Core.Bool.{true≢false}
 use mathlib.Core.List.{List, [], _∷_, _++_, reverse, reverse-append}
 use lib.ListN.{length, take, drop, getD, length-take, length-reverse, take-append-drop}
-use lib.Seq.{take-suc, take-length}
+use lib.Seq.{take-suc}
 use native.Mathlib.Omega.{arith}
 use Rattle.records.specs.Record.{Record}
 use Rattle.order.specs.Chains.{At}
@@ -16,10 +17,6 @@ pub past-zero : (L : List Record) → past L 0 ≡ []
 unfolding past
 past-zero L = refl
 
-pub past-all : (L : List Record) → past L (length L) ≡ reverse L
-unfolding past
-past-all L = ap reverse (take-length L)
-
 pub past-length : (L : List Record) (n : ℕ) → n ≤ length L → length (past L n) ≡ n
 unfolding past
 past-length L n h = length-reverse (take n L) ∙ length-take n L ∙ omega arith
@@ -31,19 +28,14 @@ past-suc L n d h = ap reverse (take-suc L n d h) ∙ reverse-append (take n L) (
 -- ---- at an index
 
 pub at-within : (L : List Record) (i : ℕ) (r : Record) → At L i r → i < length L
-at-within [] i r h = absurd (let z : _≡_ {A = ℕ} 0 1 = cc in omega arith)
+at-within [] i r h = absurd (true≢false cc)
 at-within (x ∷ L) zero r h = omega arith
 at-within (x ∷ L) (suc i) r h = let b = at-within L i r h in omega arith
 
 pub at→getD : (L : List Record) (i : ℕ) (r d : Record) → At L i r → getD L i d ≡ r
-at→getD [] i r d h = absurd (let z : _≡_ {A = ℕ} 0 1 = cc in omega arith)
+at→getD [] i r d h = absurd (true≢false cc)
 at→getD (x ∷ L) zero r d h = cc
 at→getD (x ∷ L) (suc i) r d h = at→getD L i r d h
-
-pub getD→at : (L : List Record) (i : ℕ) (d : Record) → i < length L → At L i (getD L i d)
-getD→at [] i d b = absurd (omega arith)
-getD→at (x ∷ L) zero d b = refl
-getD→at (x ∷ L) (suc i) d b = getD→at L i d (omega arith)
 
 -- the log turned is its later records, the record and the record's past
 pub turned-at : (L : List Record) (j : ℕ) (r : Record) → At L j r → reverse L ≡ reverse (drop (suc j) L) ++ r ∷ past L j

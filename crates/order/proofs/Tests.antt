@@ -1,24 +1,14 @@
--- Tests as facts: and, or, equality of numbers, of kinds and of places. Assumes nothing.
+-- Tests as facts: or, choices, equality of kinds and of places. Assumes nothing.
 use Prim.Native.Nat.{ℕ}
-use mathlib.Core.Path.{_≡_, refl, sym, ap, _∙_, subst}
-use mathlib.Core.Bool.{Bool, true, false, not, cond, _&&_, _||_}
+use mathlib.Core.Path.{_≡_, refl, sym, ap, _∙_}
+use mathlib.Core.Bool.{Bool, true, false, not, cond, _||_}
 use mathlib.Core.Logic.{_⊎_, inl, inr, _↔_, ⊎-map}
 use lib.Dec.{T, T-not, eqb, eqb→eq, eqb-refl}
+use mir.Facts.{yes-eqb}
 use native.Mathlib.Decide.{ℕ-discrete}
-use Rattle.records.specs.Record.{Kind, new, read, write, readv, writev, acquire, release, fork, join, lacksRead, lacksWrite, kindNumber}
+use Rattle.records.specs.Record.{Kind, kindNumber}
 use Rattle.records.specs.Packed.{kindOf}
-
-pub and→ : (a b : Bool) → T (a && b) → T a × T b
-and→ true b h = (tt, h)
-and→ false b h = absurd h
-
-pub and← : (a b : Bool) → T a → T b → T (a && b)
-and← true b h g = g
-and← false b h g = absurd h
-
-pub or→ : (a b : Bool) → T (a || b) → T a ⊎ T b
-or→ true b h = inl tt
-or→ false b h = inr h
+use Rattle.records.proofs.Tidy.{kind-back}
 
 pub or← : (a b : Bool) → T a ⊎ T b → T (a || b)
 or← true b h = tt
@@ -37,9 +27,6 @@ pub cond-false : {A : Type 0} (b : Bool) (x y : A) → (T b → ⊥) → cond b 
 cond-false true x y h = absurd (h tt)
 cond-false false x y h = refl
 
-pub eq→eqb : (m n : ℕ) → m ≡ n → T (eqb m n)
-eq→eqb m n e = subst (λ (k : ℕ). T (eqb m k)) e (eqb-refl m)
-
 pub same-place : (o f o′ f′ : ℕ) → Dec ((o ≡ o′) × (f ≡ f′))
 same-place o f o′ f′ = go (ℕ-discrete o o′) (ℕ-discrete f f′)
   where
@@ -57,22 +44,8 @@ differ {a} e h = T-not (eqb (kindNumber a) (kindNumber a)) (rw (← e) at h) (eq
 abbrev pub sameKind : Kind → Kind → Bool
 sameKind a b = eqb (kindNumber a) (kindNumber b)
 
-kindOf-number : (a : Kind) → kindOf (kindNumber a) ≡ a
-unfolding kindOf
-kindOf-number new = refl
-kindOf-number read = refl
-kindOf-number write = refl
-kindOf-number readv = refl
-kindOf-number writev = refl
-kindOf-number acquire = refl
-kindOf-number release = refl
-kindOf-number fork = refl
-kindOf-number join = refl
-kindOf-number lacksRead = refl
-kindOf-number lacksWrite = refl
-
 pub sameKind→ : (a b : Kind) → T (sameKind a b) → a ≡ b
-sameKind→ a b h = sym (kindOf-number a) ∙ ap kindOf (eqb→eq (kindNumber a) (kindNumber b) h) ∙ kindOf-number b
+sameKind→ a b h = sym (kind-back a) ∙ ap kindOf (eqb→eq (kindNumber a) (kindNumber b) h) ∙ kind-back b
 
 pub sameKind← : (a b : Kind) → a ≡ b → T (sameKind a b)
-sameKind← a b e = eq→eqb (kindNumber a) (kindNumber b) (ap kindNumber e)
+sameKind← a b e = yes-eqb (ap kindNumber e)

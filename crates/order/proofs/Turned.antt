@@ -2,6 +2,7 @@
 use Prim.Native.Nat.{ℕ, zero, suc, _<_, _+_}
 use native.Mathlib.Omega.{arith}
 use mathlib.Core.Path.{_≡_, sym, ap, _∙_, subst}
+use mathlib.Core.Bool.{true≢false}
 use mathlib.Core.List.{List, [], _∷_, reverseAux, reverse}
 use mathlib.Core.Logic.{_⊎_, inl, inr, _↔_}
 use mathlib.Core.Option.{Option, some}
@@ -28,7 +29,7 @@ turned-old [] H i r a = a
 turned-old (x ∷ L) H i r a = turned-old L (x ∷ H) i r (N.back a)
 
 turned-to : (L H : List Record) (j : ℕ) (r : Record) → getElem? L j ≡ some r → (i : ℕ) → i ≡ length H + j → N.At (reverseAux L H) i r
-turned-to [] H j r q i e = absurd (let z : _≡_ {A = ℕ} 0 1 = cc in omega arith)
+turned-to [] H j r q i e = absurd (true≢false cc)
 turned-to (x ∷ L) H zero r q i e = let k : x ≡ r = cc in turned-old L (x ∷ H) i r (subst (λ (y : Record). N.At (y ∷ H) i r) (sym k) (N.here (omega arith)))
 turned-to (x ∷ L) H (suc j) r q i e = turned-to L (x ∷ H) j r q i (omega arith)
 

@@ -3,13 +3,12 @@ use Prim.Native.Nat.{ℕ, zero, suc, _+_, _-_, _≤_, _<_}
 use native.Mathlib.Decide.{ℕ-discrete}
 use native.Mathlib.Omega.{arith}
 use mathlib.Core.Path.{_≡_, refl, ap, sym, subst, _∙_}
-use mathlib.Core.Bool.{Bool, _&&_}
+use mathlib.Core.Bool.{Bool, _&&_, true≢false}
 use mathlib.Core.List.{List}
 use mathlib.Core.Option.{some, none}
 use lib.Dec.{T, ltb, lit<}
 use lib.ListN.{getElem?, getD}
 use mir.Facts.{and-yes}
-use borrow.Author.Tests.{eq-eqb, ne-eqb}
 use Rattle.packed.specs.Syntax.{Expression, Condition, Arguments, Procedure}
 use Rattle.packed.specs.Format.{procedures, terms, parameters, root, expression, condition, list, table, layout, laidOut, tagAt, termAt}
 use Rattle.packed.specs.Trees.{Node, binderOf, nodes, nodeOf, nodeAt, Stands, Standsᶜ, Standsᵃ, expressionOf, conditionOf, argumentsOf, expressionAt, conditionAt, argumentsAt, treeAt, procedureAt, proceduresFrom, programOf}
@@ -18,6 +17,7 @@ use Rattle.packed.specs.Refusals.{listLength}
 use Rattle.packed.specs.Check.{refusal}
 use Rattle.packed.proofs.WellFormed.{count, Callable, WellFormed, WellFormedᶜ, WellFormedᵃ, WellFormedProgram}
 use Rattle.packed.proofs.Accepted.{OfSort, Child, Fits, RightTerm, Accepted, accepted}
+use Rattle.packed.proofs.ListLaws.{list-step, list-stop}
 
 infixr 30 _gives_then_
 -- ---- the procedures
@@ -30,7 +30,7 @@ procedures-from b p (suc n) (suc m) k h e = procedures-from b (suc p) n m k (ome
 
 from-inside : (b : List ℕ) (p n m : ℕ) (d : Procedure) → getElem? (proceduresFrom b p n) m ≡ some d → m < n
 unfolding proceduresFrom
-from-inside b p zero m d h = let z : _≡_ {A = ℕ} 0 1 = cc in absurd (omega arith)
+from-inside b p zero m d h = absurd (true≢false cc)
 from-inside b p (suc n) zero d h = omega arith
 from-inside b p (suc n) (suc m) d h = omega (arith, from-inside b (suc p) n m d h)
 
@@ -72,15 +72,6 @@ callable b m k h e = (procedureAt b m, procedures-are b m h, e)
 pub node-is : (b : List ℕ) (t k : ℕ) → tagAt b t ≡ k → nodeAt b t ≡ getD nodes k (λ x y z. Node.unknown) (termAt b t .value₁) (termAt b t .value₂) (termAt b t .value₃)
 unfolding nodeAt nodeOf termAt laidOut
 node-is b t k e = ap (λ (i : ℕ). getD nodes i (λ x y z. Node.unknown) (termAt b t .value₁) (termAt b t .value₂) (termAt b t .value₃)) e
-
-list-longer : (b : List ℕ) (t m : ℕ) → tagAt b t ≡ 16 → listLength b (suc m) t ≡ suc (listLength b m (termAt b t .value₂))
-unfolding listLength
-list-longer b t m e = rw (eq-eqb (tagAt b t) 16 e)
-
-list-ends : (b : List ℕ) (t m : ℕ) → tagAt b t ≡ 17 → listLength b m t ≡ 0
-unfolding listLength
-list-ends b t zero e = refl
-list-ends b t (suc m) e = rw (ne-eqb (tagAt b t) 16 (λ q. omega arith))
 
 -- ---- a tree at its term
 
@@ -208,7 +199,7 @@ module _ (b : List ℕ) where
 
       longer : Child b t list y → tagAt b t ≡ 16 → (m : ℕ) → terms b ≤ t + m → suc (count (treeᵃ y)) ≡ listLength b m t
       longer q e zero h = absurd (omega arith)
-      longer q e (suc m) h = ap suc (goodᵃ y q .2 m (omega arith)) ∙ sym (list-longer b t m e)
+      longer q e (suc m) h = ap suc (goodᵃ y q .2 m (omega arith)) ∙ sym (list-step b m t e)
 
       lists : Cases (Row (λ m. Goodᵃ t (argumentsOf tree treeᵃ m))) 16 2
       unfolding nodes layout table argumentsOf closed
@@ -218,7 +209,7 @@ module _ (b : List ℕ) where
             (λ ρ c. let d = and-yes (closed ρ (tree x)) (closedᵃ ρ (treeᵃ y)) c in (good x p .1 ρ (d .0), goodᵃ y q .1 ρ (d .1))),
             longer q e,
           ))
-          then 17 gives (λ e p q r. (node-is b t 17 e, (λ ρ c. tt), λ m h. sym (list-ends b t m e)))
+          then 17 gives (λ e p q r. (node-is b t 17 e, (λ ρ c. tt), λ m h. sym (list-stop b m t (λ z. omega arith))))
           then done
 
       good-here : OfSort expression (tagAt b t) → Good t (expressionAt (nodeAt b) (suc n) t)
@@ -247,16 +238,6 @@ module _ (b : List ℕ) where
       enough n t = omega arith
 
 -- ---- the plan
-
--- a term of a sort, with at most n terms from it on, stands for its tree of that sort
-pub expression-stands : (b : List ℕ) → refusal b ≡ none → (n t : ℕ) → t < terms b → terms b ≤ t + n → OfSort expression (tagAt b t) → Stands (nodeAt b) t (expressionAt (nodeAt b) n t)
-expression-stands b h n t i q s = all-good b (accepted b h) n .expression-good t i q s .0
-
-pub condition-stands : (b : List ℕ) → refusal b ≡ none → (n t : ℕ) → t < terms b → terms b ≤ t + n → OfSort condition (tagAt b t) → Standsᶜ (nodeAt b) t (conditionAt (nodeAt b) n t)
-condition-stands b h n t i q s = all-good b (accepted b h) n .condition-good t i q s .0
-
-pub list-stands : (b : List ℕ) → refusal b ≡ none → (n t : ℕ) → t < terms b → terms b ≤ t + n → OfSort list (tagAt b t) → Standsᵃ (nodeAt b) t (argumentsAt (nodeAt b) n t)
-list-stands b h n t i q s = all-good b (accepted b h) n .list-good t i q s .0
 
 -- the tree of a root is what its term stands for
 pub stands : (b : List ℕ) → refusal b ≡ none → (p : ℕ) → p < procedures b → Stands (nodeAt b) (root b p) (treeAt b (root b p))

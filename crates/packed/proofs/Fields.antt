@@ -40,11 +40,3 @@ fields-ones m f (suc n) e = go (eqb (maskBit m f) 1) refl (fields-ones m (suc f)
 -- a mask names as many fields as it has bits set
 pub fields-count : (m : ℕ) → length (fieldsFrom m 0 32) ≡ onesOf 32 m
 fields-count m = fields-ones m 0 32 (omega arith)
-
-skip : (m f n : ℕ) → eqb (maskBit m f) 1 ≡ false → fieldsFrom m f (suc n) ≡ fieldsFrom m (suc f) n
-unfolding fieldsFrom
-skip m f n e = rw e
-
--- a mask that does not name field 0
-pub no-monitor : (m : ℕ) → eqb (maskBit m 0) 1 ≡ false → fieldsFrom m 0 32 ≡ fieldsFrom m 1 31
-no-monitor m h = skip m 0 31 h

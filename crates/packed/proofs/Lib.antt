@@ -4,10 +4,15 @@ pub mod Accepted
 pub mod Decoded
 pub mod Fields
 pub mod Reading
-pub mod Lowest
+pub mod Shown
 pub mod Tags
 pub mod SingleTerm
+pub mod Children
+pub mod ListLaws
 pub mod SortLaws
 pub mod NameLaws
 pub mod TreeLaws
+pub mod NodeOrder
+pub mod SlotMasks
+pub mod WalkSteps
 pub mod Walk

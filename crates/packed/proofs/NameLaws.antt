@@ -11,14 +11,15 @@ use lib.Dec.{eqb}
 use lib.ListN.{getD, set, length-set, replicate, length-replicate}
 use lib.Seq.{getD-set-same, getD-set-other}
 use borrow.Author.Tests.{eq-eqb, ne-eqb}
+use Rattle.format.specs.Lowest.{Lowest}
+use Rattle.format.proofs.LowestLaws.{lowest-ext}
 use Rattle.packed.specs.Format.{procedures, terms, root, table, layout, laidOut, termAt, tagAt}
 use Rattle.packed.specs.Trees.{nodes, nodeOf, nodeAt}
 use Rattle.packed.specs.Refusals.{sumBelow, oneIf, wrongTerm, timesIn, timesNamed, notNamedOnce}
-use Rattle.packed.specs.Steps.{Lowest, Headed, Loaded, nodeIn, Child, childOf, childrenOf, moreOf, countAll, cap, rootTimes, allTimes, Counted, notOnce, inWord, lowerAll}
-use Rattle.packed.proofs.Lowest.{lowest-ext}
-use Rattle.packed.proofs.Tags.{by-tag}
-use Rattle.packed.proofs.SingleTerm.{rowOf, node-in}
-use Rattle.packed.proofs.SortLaws.{Within, nodes-are, children-within, termOf, nodeOfTag}
+use Rattle.packed.specs.Steps.{Headed, Loaded, nodeIn, Child, childOf, childrenOf, moreOf, countAll, cap, rootTimes, allTimes, Counted, notOnce, inWord, lowerAll}
+use Rattle.packed.proofs.Tags.{by-tag, except}
+use Rattle.packed.proofs.SingleTerm.{rowOf, node-in, zeros-at}
+use Rattle.packed.proofs.Children.{Within, nodes-are, children-within, termOf, nodeOfTag}
 
 pub more-suc : (n : ℕ) → (n ≡ 0 → ⊥) → 2 ≡ moreOf n
 unfolding moreOf
@@ -39,11 +40,6 @@ cap-one (suc (suc n)) = sym (ne-eqb (suc (suc n)) 1 (λ q. omega arith))
 
 counted-ext : (f g : ℕ → ℕ) (c : List ℕ) → ((t : ℕ) → f t ≡ g t) → Counted f c → Counted g c
 counted-ext f g c e k = record { size = k .size; each = λ t h. k .each t h ∙ ap cap (e t) }
-
-zeros-at : (n t : ℕ) → _≡_ {A = ℕ} (getD (replicate n 0) t 0) 0
-zeros-at zero t = refl
-zeros-at (suc n) zero = refl
-zeros-at (suc n) (suc t) = zeros-at n t
 
 pub no-names : (b : List ℕ) → Counted (rootTimes b 0) (replicate 1024 0)
 unfolding rootTimes sumBelow cap
@@ -148,24 +144,4 @@ named ws t k best r c c′ e p q = rw (node-in ws t k e) (p, q)
 -- a tag without children
 pub no-children : (w k : ℕ) → (k ≡ 3 → ⊥) → (k ≡ 4 → ⊥) → (k ≡ 5 → ⊥) → (k ≡ 6 → ⊥) → (k ≡ 7 → ⊥) → (k ≡ 8 → ⊥) → (k ≡ 9 → ⊥) → (k ≡ 10 → ⊥) → (k ≡ 11 → ⊥) → (k ≡ 13 → ⊥) → (k ≡ 14 → ⊥) → (k ≡ 15 → ⊥) → (k ≡ 16 → ⊥) → childrenOf (rowOf k w) ≡ []
 unfolding childrenOf nodeOf inWord layout table nodes
-no-children w k =
-    by-tag (λ k. (k ≡ 3 → ⊥) → (k ≡ 4 → ⊥) → (k ≡ 5 → ⊥) → (k ≡ 6 → ⊥) → (k ≡ 7 → ⊥) → (k ≡ 8 → ⊥) → (k ≡ 9 → ⊥) → (k ≡ 10 → ⊥) → (k ≡ 11 → ⊥) → (k ≡ 13 → ⊥) → (k ≡ 14 → ⊥) → (k ≡ 15 → ⊥) → (k ≡ 16 → ⊥) → childrenOf (rowOf k w) ≡ [])
-    (λ h3 h4 h5 h6 h7 h8 h9 h10 h11 h13 h14 h15 h16. refl)
-    (λ h3 h4 h5 h6 h7 h8 h9 h10 h11 h13 h14 h15 h16. refl)
-    (λ h3 h4 h5 h6 h7 h8 h9 h10 h11 h13 h14 h15 h16. refl)
-    (λ h3 h4 h5 h6 h7 h8 h9 h10 h11 h13 h14 h15 h16. absurd (h3 refl))
-    (λ h3 h4 h5 h6 h7 h8 h9 h10 h11 h13 h14 h15 h16. absurd (h4 refl))
-    (λ h3 h4 h5 h6 h7 h8 h9 h10 h11 h13 h14 h15 h16. absurd (h5 refl))
-    (λ h3 h4 h5 h6 h7 h8 h9 h10 h11 h13 h14 h15 h16. absurd (h6 refl))
-    (λ h3 h4 h5 h6 h7 h8 h9 h10 h11 h13 h14 h15 h16. absurd (h7 refl))
-    (λ h3 h4 h5 h6 h7 h8 h9 h10 h11 h13 h14 h15 h16. absurd (h8 refl))
-    (λ h3 h4 h5 h6 h7 h8 h9 h10 h11 h13 h14 h15 h16. absurd (h9 refl))
-    (λ h3 h4 h5 h6 h7 h8 h9 h10 h11 h13 h14 h15 h16. absurd (h10 refl))
-    (λ h3 h4 h5 h6 h7 h8 h9 h10 h11 h13 h14 h15 h16. absurd (h11 refl))
-    (λ h3 h4 h5 h6 h7 h8 h9 h10 h11 h13 h14 h15 h16. refl)
-    (λ h3 h4 h5 h6 h7 h8 h9 h10 h11 h13 h14 h15 h16. absurd (h13 refl))
-    (λ h3 h4 h5 h6 h7 h8 h9 h10 h11 h13 h14 h15 h16. absurd (h14 refl))
-    (λ h3 h4 h5 h6 h7 h8 h9 h10 h11 h13 h14 h15 h16. absurd (h15 refl))
-    (λ h3 h4 h5 h6 h7 h8 h9 h10 h11 h13 h14 h15 h16. absurd (h16 refl))
-    (λ h3 h4 h5 h6 h7 h8 h9 h10 h11 h13 h14 h15 h16. refl)
-    (λ j h3 h4 h5 h6 h7 h8 h9 h10 h11 h13 h14 h15 h16. refl) k
+no-children w k = except (λ k. childrenOf (rowOf k w) ≡ []) (3 ∷ 4 ∷ 5 ∷ 6 ∷ 7 ∷ 8 ∷ 9 ∷ 10 ∷ 11 ∷ 13 ∷ 14 ∷ 15 ∷ 16 ∷ []) refl refl refl tt tt tt tt tt tt tt tt tt refl tt tt tt tt refl (λ j. refl) k

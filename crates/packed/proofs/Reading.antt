@@ -7,6 +7,7 @@ use native.Mathlib.Nat.{div-one, pow-suc}
 use native.Mathlib.Omega.{arith}
 use lib.Count.{ones, ones-step, ones-le}
 use lib.Dec.{ltb, leb, eqb, T, leb→le}
+use mir.Facts.{and-yes}
 use lib.ListN.{length, take, drop, getD, length-drop}
 use lib.Seq.{take-all}
 use Rattle.format.specs.Bits.{bitsAt}
@@ -83,10 +84,6 @@ monitor-bit v g h = let e : v / 2147483648 % 2 ≡ 1 = omega arith in simp e
 
 -- ---- a term as its 40 bits
 
-both : (x y : Bool) → T (x && y) → T x × T y
-both true y h = (tt, h)
-both false y h = absurd h
-
 -- the operands of every row fit the 35 bits after the tag: one test over all rows
 abbrev total : Row → ℕ
 total r = width (r .first) + width (r .second) + width (r .third)
@@ -98,8 +95,8 @@ rowsFit (r ∷ rs) = leb (total r) 35 && rowsFit rs
 rows-fit : (rs : List Row) (d : Row) (k : ℕ) → T (leb (total d) 35) → T (rowsFit rs) → total (getD rs k d) ≤ 35
 unfolding rowsFit
 rows-fit [] d k h f = leb→le _ _ h
-rows-fit (r ∷ rs) d zero h f = leb→le _ _ (both (leb (total r) 35) (rowsFit rs) f .0)
-rows-fit (r ∷ rs) d (suc k) h f = rows-fit rs d k h (both (leb (total r) 35) (rowsFit rs) f .1)
+rows-fit (r ∷ rs) d zero h f = leb→le _ _ (and-yes (leb (total r) 35) (rowsFit rs) f .0)
+rows-fit (r ∷ rs) d (suc k) h f = rows-fit rs d k h (and-yes (leb (total r) 35) (rowsFit rs) f .1)
 
 fits : (k : ℕ) → total (layout k) ≤ 35
 unfolding layout table rowsFit

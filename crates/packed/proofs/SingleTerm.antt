@@ -1,7 +1,7 @@
 -- Check 4: a term of the table, of its 40 bits, and the array of them. Assumes nothing.
 use mathlib.Core.Path.{_≡_, refl, ap, sym, _∙_}
-use mathlib.Core.Bool.{Bool, true, false, _||_}
-use mathlib.Core.List.{List}
+use mathlib.Core.Bool.{Bool, true, false, _||_, false≢true}
+use mathlib.Core.List.{List, [], _∷_}
 use Prim.Native.Nat.{ℕ, zero, suc, _/_, _<_}
 use native.Mathlib.Decide.{ℕ-discrete}
 use native.Mathlib.Omega.{arith}
@@ -15,7 +15,7 @@ use Rattle.packed.specs.Trees.{nodeOf, Node}
 use Rattle.packed.specs.Refusals.{wrongOperand, breaksTable, wrongTerm, isChild}
 use Rattle.packed.specs.Steps.{Sized, Loaded, wordAt, inWord, termIn, nodeIn}
 use Rattle.packed.proofs.Passing.{PassesTable, table-of}
-use Rattle.packed.proofs.Tags.{by-tag}
+use Rattle.packed.proofs.Tags.{except}
 use Rattle.packed.proofs.Reading.{term-is}
 
 -- ---- a term in its 40 bits
@@ -41,7 +41,7 @@ judged b procs n t w r x z e q h =
 
 -- ---- the array of the terms' 40 bits
 
-zeros-at : (n t : ℕ) → _≡_ {A = ℕ} (getD (replicate n 0) t 0) 0
+pub zeros-at : (n t : ℕ) → _≡_ {A = ℕ} (getD (replicate n 0) t 0) 0
 zeros-at zero t = refl
 zeros-at (suc n) zero = refl
 zeros-at (suc n) (suc t) = zeros-at n t
@@ -70,35 +70,7 @@ past-table procs n t w h = rw (lt-ltb 17 (w / 34359738368) h)
 
 -- none of the table's tags
 pub no-row : (k : ℕ) → (k ≡ 0 → ⊥) → (k ≡ 1 → ⊥) → (k ≡ 2 → ⊥) → (k ≡ 3 → ⊥) → (k ≡ 4 → ⊥) → (k ≡ 5 → ⊥) → (k ≡ 6 → ⊥) → (k ≡ 7 → ⊥) → (k ≡ 8 → ⊥) → (k ≡ 9 → ⊥) → (k ≡ 10 → ⊥) → (k ≡ 11 → ⊥) → (k ≡ 12 → ⊥) → (k ≡ 13 → ⊥) → (k ≡ 14 → ⊥) → (k ≡ 15 → ⊥) → (k ≡ 16 → ⊥) → (k ≡ 17 → ⊥) → 17 < k
-no-row k =
-    by-tag (λ k. (k ≡ 0 → ⊥) → (k ≡ 1 → ⊥) → (k ≡ 2 → ⊥) → (k ≡ 3 → ⊥) → (k ≡ 4 → ⊥) → (k ≡ 5 → ⊥) → (k ≡ 6 → ⊥) → (k ≡ 7 → ⊥) → (k ≡ 8 → ⊥) → (k ≡ 9 → ⊥) → (k ≡ 10 → ⊥) → (k ≡ 11 → ⊥) → (k ≡ 12 → ⊥) → (k ≡ 13 → ⊥) → (k ≡ 14 → ⊥) → (k ≡ 15 → ⊥) → (k ≡ 16 → ⊥) → (k ≡ 17 → ⊥) → 17 < k)
-    (λ h0 h1 h2 h3 h4 h5 h6 h7 h8 h9 h10 h11 h12 h13 h14 h15 h16 h17. absurd (h0 refl))
-    (λ h0 h1 h2 h3 h4 h5 h6 h7 h8 h9 h10 h11 h12 h13 h14 h15 h16 h17. absurd (h1 refl))
-    (λ h0 h1 h2 h3 h4 h5 h6 h7 h8 h9 h10 h11 h12 h13 h14 h15 h16 h17. absurd (h2 refl))
-    (λ h0 h1 h2 h3 h4 h5 h6 h7 h8 h9 h10 h11 h12 h13 h14 h15 h16 h17. absurd (h3 refl))
-    (λ h0 h1 h2 h3 h4 h5 h6 h7 h8 h9 h10 h11 h12 h13 h14 h15 h16 h17. absurd (h4 refl))
-    (λ h0 h1 h2 h3 h4 h5 h6 h7 h8 h9 h10 h11 h12 h13 h14 h15 h16 h17. absurd (h5 refl))
-    (λ h0 h1 h2 h3 h4 h5 h6 h7 h8 h9 h10 h11 h12 h13 h14 h15 h16 h17. absurd (h6 refl))
-    (λ h0 h1 h2 h3 h4 h5 h6 h7 h8 h9 h10 h11 h12 h13 h14 h15 h16 h17. absurd (h7 refl))
-    (λ h0 h1 h2 h3 h4 h5 h6 h7 h8 h9 h10 h11 h12 h13 h14 h15 h16 h17. absurd (h8 refl))
-    (λ h0 h1 h2 h3 h4 h5 h6 h7 h8 h9 h10 h11 h12 h13 h14 h15 h16 h17. absurd (h9 refl))
-    (λ h0 h1 h2 h3 h4 h5 h6 h7 h8 h9 h10 h11 h12 h13 h14 h15 h16 h17. absurd (h10 refl))
-    (λ h0 h1 h2 h3 h4 h5 h6 h7 h8 h9 h10 h11 h12 h13 h14 h15 h16 h17. absurd (h11 refl))
-    (λ h0 h1 h2 h3 h4 h5 h6 h7 h8 h9 h10 h11 h12 h13 h14 h15 h16 h17. absurd (h12 refl))
-    (λ h0 h1 h2 h3 h4 h5 h6 h7 h8 h9 h10 h11 h12 h13 h14 h15 h16 h17. absurd (h13 refl))
-    (λ h0 h1 h2 h3 h4 h5 h6 h7 h8 h9 h10 h11 h12 h13 h14 h15 h16 h17. absurd (h14 refl))
-    (λ h0 h1 h2 h3 h4 h5 h6 h7 h8 h9 h10 h11 h12 h13 h14 h15 h16 h17. absurd (h15 refl))
-    (λ h0 h1 h2 h3 h4 h5 h6 h7 h8 h9 h10 h11 h12 h13 h14 h15 h16 h17. absurd (h16 refl))
-    (λ h0 h1 h2 h3 h4 h5 h6 h7 h8 h9 h10 h11 h12 h13 h14 h15 h16 h17. absurd (h17 refl))
-    (λ j h0 h1 h2 h3 h4 h5 h6 h7 h8 h9 h10 h11 h12 h13 h14 h15 h16 h17. omega arith) k
-
-pub or-no : (x : Bool) → (x || false) ≡ x
-or-no true = refl
-or-no false = refl
-
-pub or-right : (x y z : Bool) → ((x || y) || z) ≡ (x || (y || z))
-or-right true y z = refl
-or-right false y z = refl
+no-row k = except (λ k. 17 < k) (0 ∷ 1 ∷ 2 ∷ 3 ∷ 4 ∷ 5 ∷ 6 ∷ 7 ∷ 8 ∷ 9 ∷ 10 ∷ 11 ∷ 12 ∷ 13 ∷ 14 ∷ 15 ∷ 16 ∷ 17 ∷ []) tt tt tt tt tt tt tt tt tt tt tt tt tt tt tt tt tt tt (λ j. omega arith) k
 
 pub tested : (procs n t w k : ℕ) (r : Bool) → w / 34359738368 ≡ k → r ≡ breaksTable procs n t (inWord w k (layout k)) → r ≡ breaksTable procs n t (termIn w)
 unfolding termIn
@@ -113,30 +85,36 @@ passes b t h = table-of (procedures b) (terms b) t (termAt b t) h
 between : (v t n : ℕ) → (leb v t || leb n v) ≡ false → (t < v) × (v < n)
 between v t n h = let p = neither (leb v t) (leb n v) h in (leb-false v t (p .0), leb-false n v (p .1))
 
-pub clash : {A : Type 0} → true ≡ false → A
-clash h = let z : _≡_ {A = ℕ} 0 1 = cc in absurd (omega arith)
-
 -- a child's index is greater than its parent's, and below the count
 pub child-between : (procs n t : ℕ) (kind : Operand) (v : ℕ) → wrongOperand procs n t kind v ≡ false → isChild kind ≡ true → (t < v) × (v < n)
-child-between procs n t absent v h k = clash (sym k)
-child-between procs n t slot v h k = clash (sym k)
-child-between procs n t binder v h k = clash (sym k)
-child-between procs n t mask v h k = clash (sym k)
-child-between procs n t fieldName v h k = clash (sym k)
-child-between procs n t procedure v h k = clash (sym k)
+child-between procs n t absent v h k = absurd (false≢true k)
+child-between procs n t slot v h k = absurd (false≢true k)
+child-between procs n t binder v h k = absurd (false≢true k)
+child-between procs n t mask v h k = absurd (false≢true k)
+child-between procs n t fieldName v h k = absurd (false≢true k)
+child-between procs n t procedure v h k = absurd (false≢true k)
 child-between procs n t expression v h k = between v t n h
 child-between procs n t condition v h k = between v t n h
 child-between procs n t list v h k = between v t n h
 
-module _ (b : List ℕ) (procs n t : ℕ) (z : Sized b procs n) (h : wrongTerm b t ≡ false) where
-  pub first-between : isChild (termAt b t .first) ≡ true → (t < termAt b t .value₁) × (termAt b t .value₁ < n)
-  first-between k = rw (z .terms-are) (child-between (procedures b) (terms b) t (termAt b t .first) (termAt b t .value₁) (passes b t h .first-right) k)
+-- an operand that is a child
+abbrev pub IfChild : (ℕ → Type 0) → Operand → ℕ → Type 0
+IfChild P kind v = isChild kind ≡ true → P v
 
-  pub second-between : isChild (termAt b t .second) ≡ true → (t < termAt b t .value₂) × (termAt b t .value₂ < n)
-  second-between k = rw (z .terms-are) (child-between (procedures b) (terms b) t (termAt b t .second) (termAt b t .value₂) (passes b t h .second-right) k)
+pub children-between : (b : List ℕ) (t : ℕ) → wrongTerm b t ≡ false
+    → IfChild (λ v. (t < v) × (v < terms b)) (layout (tagAt b t) .first) (termAt b t .value₁)
+    × IfChild (λ v. (t < v) × (v < terms b)) (layout (tagAt b t) .second) (termAt b t .value₂)
+    × IfChild (λ v. (t < v) × (v < terms b)) (layout (tagAt b t) .third) (termAt b t .value₃)
+unfolding termAt laidOut
+children-between b t h =
+    let f = passes b t h in (
+      child-between (procedures b) (terms b) t (layout (tagAt b t) .first) (termAt b t .value₁) (f .first-right),
+      child-between (procedures b) (terms b) t (layout (tagAt b t) .second) (termAt b t .value₂) (f .second-right),
+      child-between (procedures b) (terms b) t (layout (tagAt b t) .third) (termAt b t .value₃) (f .third-right),
+    )
 
-  pub third-between : isChild (termAt b t .third) ≡ true → (t < termAt b t .value₃) × (termAt b t .value₃ < n)
-  third-between k = rw (z .terms-are) (child-between (procedures b) (terms b) t (termAt b t .third) (termAt b t .value₃) (passes b t h .third-right) k)
+pub second-between : (b : List ℕ) (procs n t : ℕ) → Sized b procs n → wrongTerm b t ≡ false → isChild (termAt b t .second) ≡ true → (t < termAt b t .value₂) × (termAt b t .value₂ < n)
+second-between b procs n t z h k = rw (z .terms-are) (child-between (procedures b) (terms b) t (termAt b t .second) (termAt b t .value₂) (passes b t h .second-right) k)
 
 -- ---- kinds by tag
 
@@ -147,7 +125,3 @@ first-is b t k e = ap (λ (x : ℕ). layout x .first) e
 pub second-is : (b : List ℕ) (t k : ℕ) → tagAt b t ≡ k → termAt b t .second ≡ layout k .second
 unfolding termAt laidOut
 second-is b t k e = ap (λ (x : ℕ). layout x .second) e
-
-pub third-is : (b : List ℕ) (t k : ℕ) → tagAt b t ≡ k → termAt b t .third ≡ layout k .third
-unfolding termAt laidOut
-third-is b t k e = ap (λ (x : ℕ). layout x .third) e

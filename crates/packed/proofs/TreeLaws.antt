@@ -1,10 +1,28 @@
--- The tree of a term from the trees of its children: how far a tree is read makes no difference, since children come after their parents. Assumes nothing.
+-- What a table of nodes, in which children come after parents, gives for trees: how far a tree is looked into does not matter, so each is its node over
+-- the trees of its children. Assumes nothing.
 use Prim.Native.Nat.{ℕ, zero, suc, _+_, _-_, _≤_, _<_}
 use native.Mathlib.Omega.{arith}
 use mathlib.Core.Path.{_≡_, refl, _∙_}
 use Rattle.packed.specs.Syntax.{Expression, Condition, Arguments}
-use Rattle.packed.specs.Steps.{Below}
+use Rattle.packed.specs.Steps.{Below, Descending}
 use Rattle.packed.specs.Trees.{Node, expressionOf, conditionOf, argumentsOf, expressionAt, conditionAt, argumentsAt}
+
+-- ---- the trees
+
+module _ (h : ℕ → Node) (N : ℕ) where
+  unfoldable pub tree : ℕ → Expression
+  unfolding expressionAt
+  tree t = expressionAt h (N - t) t
+
+  unfoldable pub treeᶜ : ℕ → Condition
+  unfolding expressionAt
+  treeᶜ t = conditionAt h (N - t) t
+
+  unfoldable pub treeᵃ : ℕ → Arguments
+  unfolding expressionAt
+  treeᵃ t = argumentsAt h (N - t) t
+
+-- ---- what a node makes of its children's trees
 
 module _ (t : ℕ) (e e′ : ℕ → Expression) (c c′ : ℕ → Condition) (l l′ : ℕ → Arguments)
     (he : (i : ℕ) → t < i → e i ≡ e′ i) (hc : (i : ℕ) → t < i → c i ≡ c′ i) (hl : (i : ℕ) → t < i → l i ≡ l′ i) where
@@ -52,91 +70,81 @@ module _ (t : ℕ) (e e′ : ℕ → Expression) (c c′ : ℕ → Condition) (l
   condition-cong Node.listEnd b = refl
   condition-cong Node.unknown b = refl
 
-  list-cong : (x : Node) → Below t x → argumentsOf e l x ≡ argumentsOf e′ l′ x
+  arguments-cong : (x : Node) → Below t x → argumentsOf e l x ≡ argumentsOf e′ l′ x
   unfolding argumentsOf
-  list-cong Node.null b = refl
-  list-cong (Node.variable x) b = refl
-  list-cong (Node.new fs) b = refl
-  list-cong (Node.read i f) b = refl
-  list-cong (Node.write i f j) b = refl
-  list-cong (Node.letIn x i j) b = refl
-  list-cong (Node.if i j k) b = refl
-  list-cong (Node.while i j) b = refl
-  list-cong (Node.call m i) b = refl
-  list-cong (Node.fork i) b = refl
-  list-cong (Node.join i) b = refl
-  list-cong (Node.synch i j) b = refl
-  list-cong Node.truth b = refl
-  list-cong (Node.not i) b = refl
-  list-cong (Node.and i j) b = refl
-  list-cong (Node.equal i j) b = refl
-  list-cong (Node.list i j) b = rw (he i (b .0), hl j (b .1))
-  list-cong Node.listEnd b = refl
-  list-cong Node.unknown b = refl
+  arguments-cong Node.null b = refl
+  arguments-cong (Node.variable x) b = refl
+  arguments-cong (Node.new fs) b = refl
+  arguments-cong (Node.read i f) b = refl
+  arguments-cong (Node.write i f j) b = refl
+  arguments-cong (Node.letIn x i j) b = refl
+  arguments-cong (Node.if i j k) b = refl
+  arguments-cong (Node.while i j) b = refl
+  arguments-cong (Node.call m i) b = refl
+  arguments-cong (Node.fork i) b = refl
+  arguments-cong (Node.join i) b = refl
+  arguments-cong (Node.synch i j) b = refl
+  arguments-cong Node.truth b = refl
+  arguments-cong (Node.not i) b = refl
+  arguments-cong (Node.and i j) b = refl
+  arguments-cong (Node.equal i j) b = refl
+  arguments-cong (Node.list i j) b = rw (he i (b .0), hl j (b .1))
+  arguments-cong Node.listEnd b = refl
+  arguments-cong Node.unknown b = refl
 
-module _ (h : ℕ → Node) (N : ℕ) (past : (t : ℕ) → N ≤ t → h t ≡ Node.null) (below : (t : ℕ) → Below t (h t)) where
+-- ---- how far a tree is looked into
+
+module _ (h : ℕ → Node) (N : ℕ) (o : Descending h N) where
   mutual
     unfolding expressionAt
 
     pub expression-fuel : (n m t : ℕ) → N ≤ t + n → N ≤ t + m → expressionAt h n t ≡ expressionAt h m t
     expression-fuel zero zero t p q = refl
-    expression-fuel zero (suc m) t p q = rw (past t (omega arith))
-    expression-fuel (suc n) zero t p q = rw (past t (omega arith))
+    expression-fuel zero (suc m) t p q = rw (o .past t (omega arith))
+    expression-fuel (suc n) zero t p q = rw (o .past t (omega arith))
     expression-fuel (suc n) (suc m) t p q =
         expression-cong t (λ i. expressionAt h n i) (λ i. expressionAt h m i) (λ i. conditionAt h n i) (λ i. conditionAt h m i) (λ i. argumentsAt h n i) (λ i. argumentsAt h m i)
-        (λ i b. expression-fuel n m i (omega arith) (omega arith)) (λ i b. condition-fuel n m i (omega arith) (omega arith)) (λ i b. list-fuel n m i (omega arith) (omega arith))
-        (h t) (below t)
+        (λ i b. expression-fuel n m i (omega arith) (omega arith)) (λ i b. condition-fuel n m i (omega arith) (omega arith)) (λ i b. arguments-fuel n m i (omega arith) (omega arith))
+        (h t) (o .below t)
 
     condition-fuel : (n m t : ℕ) → N ≤ t + n → N ≤ t + m → conditionAt h n t ≡ conditionAt h m t
     condition-fuel zero zero t p q = refl
-    condition-fuel zero (suc m) t p q = rw (past t (omega arith))
-    condition-fuel (suc n) zero t p q = rw (past t (omega arith))
+    condition-fuel zero (suc m) t p q = rw (o .past t (omega arith))
+    condition-fuel (suc n) zero t p q = rw (o .past t (omega arith))
     condition-fuel (suc n) (suc m) t p q =
         condition-cong t (λ i. expressionAt h n i) (λ i. expressionAt h m i) (λ i. conditionAt h n i) (λ i. conditionAt h m i) (λ i. argumentsAt h n i) (λ i. argumentsAt h m i)
-        (λ i b. expression-fuel n m i (omega arith) (omega arith)) (λ i b. condition-fuel n m i (omega arith) (omega arith)) (λ i b. list-fuel n m i (omega arith) (omega arith))
-        (h t) (below t)
+        (λ i b. expression-fuel n m i (omega arith) (omega arith)) (λ i b. condition-fuel n m i (omega arith) (omega arith)) (λ i b. arguments-fuel n m i (omega arith) (omega arith))
+        (h t) (o .below t)
 
-    list-fuel : (n m t : ℕ) → N ≤ t + n → N ≤ t + m → argumentsAt h n t ≡ argumentsAt h m t
-    list-fuel zero zero t p q = refl
-    list-fuel zero (suc m) t p q = rw (past t (omega arith))
-    list-fuel (suc n) zero t p q = rw (past t (omega arith))
-    list-fuel (suc n) (suc m) t p q =
-        list-cong t (λ i. expressionAt h n i) (λ i. expressionAt h m i) (λ i. conditionAt h n i) (λ i. conditionAt h m i) (λ i. argumentsAt h n i) (λ i. argumentsAt h m i)
-        (λ i b. expression-fuel n m i (omega arith) (omega arith)) (λ i b. condition-fuel n m i (omega arith) (omega arith)) (λ i b. list-fuel n m i (omega arith) (omega arith))
-        (h t) (below t)
+    pub arguments-fuel : (n m t : ℕ) → N ≤ t + n → N ≤ t + m → argumentsAt h n t ≡ argumentsAt h m t
+    arguments-fuel zero zero t p q = refl
+    arguments-fuel zero (suc m) t p q = rw (o .past t (omega arith))
+    arguments-fuel (suc n) zero t p q = rw (o .past t (omega arith))
+    arguments-fuel (suc n) (suc m) t p q =
+        arguments-cong t (λ i. expressionAt h n i) (λ i. expressionAt h m i) (λ i. conditionAt h n i) (λ i. conditionAt h m i) (λ i. argumentsAt h n i) (λ i. argumentsAt h m i)
+        (λ i b. expression-fuel n m i (omega arith) (omega arith)) (λ i b. condition-fuel n m i (omega arith) (omega arith)) (λ i b. arguments-fuel n m i (omega arith) (omega arith))
+        (h t) (o .below t)
 
-  unfoldable pub treeE : ℕ → Expression
-  unfolding expressionAt
-  treeE t = expressionAt h (N - t) t
-
-  unfoldable pub treeC : ℕ → Condition
-  unfolding expressionAt
-  treeC t = conditionAt h (N - t) t
-
-  unfoldable pub treeL : ℕ → Arguments
-  unfolding expressionAt
-  treeL t = argumentsAt h (N - t) t
-
-  pub lawE : (t : ℕ) → treeE t ≡ expressionOf treeE treeC treeL (h t)
-  unfolding treeE treeC treeL
-  lawE t =
+  pub tree-law : (t : ℕ) → tree h N t ≡ expressionOf (tree h N) (treeᶜ h N) (treeᵃ h N) (h t)
+  unfolding tree treeᶜ treeᵃ
+  tree-law t =
       expression-fuel (N - t) (suc (N - t)) t (omega arith) (omega arith)
-      ∙ expression-cong t (λ i. expressionAt h (N - t) i) treeE (λ i. conditionAt h (N - t) i) treeC (λ i. argumentsAt h (N - t) i) treeL
-      (λ i b. expression-fuel (N - t) (N - i) i (omega arith) (omega arith)) (λ i b. condition-fuel (N - t) (N - i) i (omega arith) (omega arith)) (λ i b. list-fuel (N - t) (N - i) i (omega arith) (omega arith))
-      (h t) (below t)
+      ∙ expression-cong t (λ i. expressionAt h (N - t) i) (tree h N) (λ i. conditionAt h (N - t) i) (treeᶜ h N) (λ i. argumentsAt h (N - t) i) (treeᵃ h N)
+      (λ i b. expression-fuel (N - t) (N - i) i (omega arith) (omega arith)) (λ i b. condition-fuel (N - t) (N - i) i (omega arith) (omega arith)) (λ i b. arguments-fuel (N - t) (N - i) i (omega arith) (omega arith))
+      (h t) (o .below t)
 
-  pub lawC : (t : ℕ) → treeC t ≡ conditionOf treeE treeC (h t)
-  unfolding treeE treeC treeL
-  lawC t =
+  pub tree-lawᶜ : (t : ℕ) → treeᶜ h N t ≡ conditionOf (tree h N) (treeᶜ h N) (h t)
+  unfolding tree treeᶜ treeᵃ
+  tree-lawᶜ t =
       condition-fuel (N - t) (suc (N - t)) t (omega arith) (omega arith)
-      ∙ condition-cong t (λ i. expressionAt h (N - t) i) treeE (λ i. conditionAt h (N - t) i) treeC (λ i. argumentsAt h (N - t) i) treeL
-      (λ i b. expression-fuel (N - t) (N - i) i (omega arith) (omega arith)) (λ i b. condition-fuel (N - t) (N - i) i (omega arith) (omega arith)) (λ i b. list-fuel (N - t) (N - i) i (omega arith) (omega arith))
-      (h t) (below t)
+      ∙ condition-cong t (λ i. expressionAt h (N - t) i) (tree h N) (λ i. conditionAt h (N - t) i) (treeᶜ h N) (λ i. argumentsAt h (N - t) i) (treeᵃ h N)
+      (λ i b. expression-fuel (N - t) (N - i) i (omega arith) (omega arith)) (λ i b. condition-fuel (N - t) (N - i) i (omega arith) (omega arith)) (λ i b. arguments-fuel (N - t) (N - i) i (omega arith) (omega arith))
+      (h t) (o .below t)
 
-  pub lawL : (t : ℕ) → treeL t ≡ argumentsOf treeE treeL (h t)
-  unfolding treeE treeC treeL
-  lawL t =
-      list-fuel (N - t) (suc (N - t)) t (omega arith) (omega arith)
-      ∙ list-cong t (λ i. expressionAt h (N - t) i) treeE (λ i. conditionAt h (N - t) i) treeC (λ i. argumentsAt h (N - t) i) treeL
-      (λ i b. expression-fuel (N - t) (N - i) i (omega arith) (omega arith)) (λ i b. condition-fuel (N - t) (N - i) i (omega arith) (omega arith)) (λ i b. list-fuel (N - t) (N - i) i (omega arith) (omega arith))
-      (h t) (below t)
+  pub tree-lawᵃ : (t : ℕ) → treeᵃ h N t ≡ argumentsOf (tree h N) (treeᵃ h N) (h t)
+  unfolding tree treeᶜ treeᵃ
+  tree-lawᵃ t =
+      arguments-fuel (N - t) (suc (N - t)) t (omega arith) (omega arith)
+      ∙ arguments-cong t (λ i. expressionAt h (N - t) i) (tree h N) (λ i. conditionAt h (N - t) i) (treeᶜ h N) (λ i. argumentsAt h (N - t) i) (treeᵃ h N)
+      (λ i b. expression-fuel (N - t) (N - i) i (omega arith) (omega arith)) (λ i b. condition-fuel (N - t) (N - i) i (omega arith) (omega arith)) (λ i b. arguments-fuel (N - t) (N - i) i (omega arith) (omega arith))
+      (h t) (o .below t)

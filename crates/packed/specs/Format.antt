@@ -76,6 +76,7 @@ pub record Row : Type 0 where
   pub second : Operand
   pub third : Operand
 
+-- a row of these operands
 abbrev pub operands : Operand → Operand → Operand → Row
 operands a b c = record { first = a; second = b; third = c }
 
@@ -102,6 +103,7 @@ table =
     ∷ operands absent absent absent  -- 17 list end
     ∷ []
 
+-- the row of a tag: "operands in the order below"; a tag past the table, which check 4 refuses, has none
 unfoldable pub layout : ℕ → Row
 unfolding table
 layout tag = getD table tag (operands absent absent absent)
@@ -137,6 +139,7 @@ unfoldable pub termBit : List ℕ → ℕ → ℕ
 unfolding procedures
 termBit b t = (8 + 2 * procedures b + 5 * t) * 8
 
+-- "tag 5": the first five bits of term t
 unfoldable pub tagAt : List ℕ → ℕ → ℕ
 unfolding termBit bitsAt
 tagAt b t = bitsAt b (termBit b t) 5

@@ -18,6 +18,7 @@ unfoldable pub sumBelow : ℕ → (ℕ → ℕ) → ℕ
 sumBelow zero f = 0
 sumBelow (suc n) f = sumBelow n f + f n
 
+-- 1 where the test passes
 abbrev pub oneIf : Bool → ℕ
 oneIf true = 1
 oneIf false = 0
@@ -64,6 +65,7 @@ wrongOperand procedureCount n t expression v = leb v t || leb n v
 wrongOperand procedureCount n t condition v = leb v t || leb n v
 wrongOperand procedureCount n t list v = leb v t || leb n v
 
+-- the test passes at one of the three operands
 unfoldable pub someOperand : (Operand → ℕ → Bool) → Term → Bool
 someOperand f m = f (m .first) (m .value₁) || f (m .second) (m .value₂) || f (m .third) (m .value₃)
 
@@ -114,6 +116,7 @@ wronglySorted b t =
 
 -- ---- 6: "a term not named exactly once, by a parent or a procedure"
 
+-- an operand that names a child: e, c and list are term indexes
 abbrev pub isChild : Operand → Bool
 isChild absent = false
 isChild slot = false
@@ -129,6 +132,7 @@ isChild list = true
 unfoldable pub timesIn : Term → ℕ → ℕ
 timesIn m t = oneIf (isChild (m .first) && eqb (m .value₁) t) + oneIf (isChild (m .second) && eqb (m .value₂) t) + oneIf (isChild (m .third) && eqb (m .value₃) t)
 
+-- how often term t is named, "by a parent or a procedure"
 unfoldable pub timesNamed : List ℕ → ℕ → ℕ
 unfolding sumBelow timesIn procedures terms root termAt
 timesNamed b t = sumBelow (procedures b) (λ p. oneIf (eqb (root b p) t)) + sumBelow (terms b) (λ u. timesIn (termAt b u) t)

@@ -1,7 +1,7 @@
 -- Names for what the inner functions do: no reader of the entry's promise needs them. Assumes nothing.
 use Prim.Native.Nat.{ℕ, zero, suc, _+_, _-_, _*_, _/_, _%_, _^_, _≤_, _<_}
 use mathlib.Core.Path.{_≡_}
-use mathlib.Core.Bool.{Bool, true, false, cond, _&&_, _||_, not}
+use mathlib.Core.Bool.{Bool, false, cond, _&&_, _||_, not}
 use mathlib.Core.List.{List, [], _∷_}
 use lib.Bits.{bitOr}
 use lib.Dec.{eqb, ltb, leb}
@@ -11,12 +11,6 @@ use Rattle.packed.specs.Syntax.{Expression, Condition, Arguments}
 use Rattle.packed.specs.Format.{procedures, terms, root, expression, width, Row, layout, Term, termBit, tagAt, termAt}
 use Rattle.packed.specs.Trees.{Node, nodeOf, expressionOf, expressionAt, conditionAt, argumentsAt}
 use Rattle.packed.specs.Refusals.{anyBelow, sumBelow, oneIf, wrongProcedure, wrongTerm, misplaced, someOperand, wrongCall, timesIn}
-
--- r is the lowest of the numbers below n at which the test passes, or n
-pub record Lowest (f : ℕ → Bool) (n r : ℕ) : Type 0 where
-  pub within : r ≤ n
-  pub here : r < n → f r ≡ true
-  pub before : (k : ℕ) → k < r → f k ≡ false
 
 -- ---- what the checks so far have shown
 
@@ -100,10 +94,14 @@ Below t (Node.list i j) = (t < i) × (t < j)
 Below t Node.listEnd = Unit {0}
 Below t Node.unknown = Unit {0}
 
--- every child comes after its parent, and there are no terms past the array
-pub record Ordered (words : List ℕ) : Type 0 where
-  pub below : (t : ℕ) → Below t (nodeIn words t)
-  pub ends : (t : ℕ) → 1024 ≤ t → getD words t 0 ≡ 0
+-- N nodes, in which every child comes after its parent, and nulls past them
+pub record Descending (h : ℕ → Node) (N : ℕ) : Type 0 where
+  pub past : (t : ℕ) → N ≤ t → h t ≡ Node.null
+  pub below : (t : ℕ) → Below t (h t)
+
+-- the nodes of the array
+abbrev pub Ordered : List ℕ → Type 0
+Ordered words = Descending (nodeIn words) 1024
 
 -- ---- check 4
 

@@ -70,6 +70,7 @@ bind (some x) o y = cond (eqb x y) (some o) none
 unfoldable pub bindParameters : List ℕ → Environment
 bindParameters os y = getElem? os y
 
+-- the environment in the second operand of a let, where the slot that it binds is its own
 unfoldable pub without : Option ℕ → Environment → Environment
 without none ρ y = ρ y
 without (some x) ρ y = cond (eqb x y) none (ρ y)

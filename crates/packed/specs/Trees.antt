@@ -60,10 +60,12 @@ nodes =
     ∷ (λ x y z. listEnd)  -- 17 list end
     ∷ []
 
+-- the node of a term: its row of the table, over its operands
 unfoldable pub nodeOf : Term → Node
 unfolding nodes
 nodeOf m = getD nodes (m .tag) (λ x y z. unknown) (m .value₁) (m .value₂) (m .value₃)
 
+-- the node of term t of the plan
 unfoldable pub nodeAt : List ℕ → ℕ → Node
 unfolding nodeOf termAt
 nodeAt b t = nodeOf (termAt b t)
@@ -186,6 +188,7 @@ treeAt b t = expressionAt (nodeAt b) (terms b - t) t
 
 -- ---- the program
 
+-- procedure p: its parameters, and the tree of its root term
 unfoldable pub procedureAt : List ℕ → ℕ → Procedure
 unfolding parameters root treeAt
 procedureAt b p = record { parameters = parameters b p; body = treeAt b (root b p) }

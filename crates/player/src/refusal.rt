@@ -1,6 +1,6 @@
 // Refusals 1 to 10: of the plan, of the schedule, of the log area.
 ghost use lib.ListN.{length};
-ghost use Rattle.packed.specs.Steps.{Lowest};
+ghost use Rattle.format.specs.Lowest.{Lowest};
 ghost use Rattle.plan.specs.Answer.{answered};
 ghost use Rattle.rules.specs.Play.{wrongPick};
 ghost use Rattle.player.specs.Refused.{RefusedAs};

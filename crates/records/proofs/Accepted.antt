@@ -6,7 +6,7 @@ use mathlib.Core.Path.{_≡_, refl, sym, ap, _∙_, subst}
 use mathlib.Core.Bool.{Bool, true, false, _&&_, _||_, not}
 use mathlib.Core.List.{List, [], _∷_}
 use mathlib.Core.Option.{some, none}
-use lib.Dec.{T, eqb, ltb, leb, leb→le}
+use lib.Dec.{eqb, ltb, leb}
 use lib.ListN.{length, getD, getElem?}
 use lib.Seq.{ext-getD}
 use borrow.Author.Tests.{eq-eqb, ne-eqb, le-ltb, le-leb, eqb-true, eqb-false, ltb-false, leb-true, not-false}
@@ -165,16 +165,6 @@ log-record b i r e = go (decLt i (recordCount b))
 pub accepted-tidy : (b : List ℕ) → logRefusal b ≡ none → AllTidy (logOf b)
 accepted-tidy b e =
     all-tidy (logOf b) (λ i r q. let x = log-record b i r q in subst Tidy (x .1) (record-tidy b i (accepted b e .right i (x .0))))
-
--- and only its last record may lack its key
-pub accepted-lacks : (b : List ℕ) → logRefusal b ≡ none → LacksLast (logOf b)
-accepted-lacks b e i r q t =
-    let x = log-record b i r q in
-    let right : RightRecord b i = accepted b e .right i (x .0) in
-    let kind : r .kind ≡ kindOf (kindAt b i) = ap (λ (s : Record). s .kind) (sym (x .1) ∙ record-fields b i) in
-    let number : kindNumber (kindOf (kindAt b i)) ≡ kindAt b i = number-back (kindAt b i) (right .kind-least) (right .kind-most) in
-    let ten : T (leb 10 (kindAt b i)) = rw (kind, ← kind-lacks (kindOf (kindAt b i)), number) at t in
-    right .lacks-last (leb→le 10 (kindAt b i) ten) ∙ sym (count-log b)
 
 -- ---- from bytes to a log and back
 

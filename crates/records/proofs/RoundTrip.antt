@@ -3,7 +3,7 @@ use Prim.Native.Nat.{ℕ, zero, suc, _+_, _*_, _/_, _%_, _≤_, _<_}
 use native.Mathlib.Nat.{add-zero, zero-add}
 use native.Mathlib.Omega.{arith}
 use mathlib.Core.Path.{_≡_, refl, sym, ap, _∙_, subst}
-use mathlib.Core.List.{List, [], _∷_, _++_}
+use mathlib.Core.List.{List, [], _∷_}
 use mathlib.Core.Option.{some, none}
 use lib.ListN.{length, getD, getElem?}
 use Rattle.format.specs.Bits.{bitsAt}
@@ -33,11 +33,6 @@ byte-below (r ∷ L) h zero = omega (arith, packed-below r (h .0))
 byte-below (r ∷ L) h (suc zero) = omega arith
 byte-below (r ∷ L) h (suc (suc zero)) = omega arith
 byte-below (r ∷ L) h (suc (suc (suc j))) = byte-below L (h .1) j
-
-pub bytes-append : (L M : List Record) → bytesOf (L ++ M) ≡ bytesOf L ++ bytesOf M
-unfolding bytesOf
-bytes-append [] M = refl
-bytes-append (r ∷ L) M = rw (bytes-append L M)
 
 -- the 24 bits of three bytes
 pub word24 : (b : List ℕ) (i : ℕ) → getD b (3 * i) 0 < 256 → getD b (3 * i + 1) 0 < 256 → getD b (3 * i + 2) 0 < 256

@@ -2,8 +2,8 @@
 use Prim.Native.Nat.{ℕ, zero, suc, _≤_, _<_}
 use native.Mathlib.Omega.{arith}
 use mathlib.Core.Path.{_≡_, refl, subst}
-use mathlib.Core.Bool.{false}
-use mathlib.Core.List.{List, [], _∷_, _++_}
+use mathlib.Core.Bool.{false, true≢false}
+use mathlib.Core.List.{List, [], _∷_}
 use mathlib.Core.Option.{some, none}
 use lib.Dec.{T, leb}
 use lib.ListN.{length, getElem?}
@@ -31,7 +31,7 @@ abbrev pub LacksLast : List Record → Type 0
 LacksLast L = (i : ℕ) (r : Record) → getElem? L i ≡ some r → T (lacksKey (r .kind)) → suc i ≡ length L
 
 pub absent : {A : Type 0} {X : Type 0} (x : A) → none ≡ some x → X
-absent x e = let z : _≡_ {A = ℕ} 0 1 = cc in absurd (omega arith)
+absent x e = absurd (true≢false cc)
 
 pub present : {A : Type 0} {x y : A} → some x ≡ some y → x ≡ y
 present e = cc
@@ -45,10 +45,6 @@ tidy-at (s ∷ L) h (suc i) r e = tidy-at L (h .1) i r e
 pub all-tidy : (L : List Record) → ((i : ℕ) (r : Record) → getElem? L i ≡ some r → Tidy r) → AllTidy L
 all-tidy [] h = tt
 all-tidy (r ∷ L) h = (h 0 r refl, all-tidy L (λ i. h (suc i)))
-
-pub all-tidy-append : (L M : List Record) → AllTidy L → AllTidy M → AllTidy (L ++ M)
-all-tidy-append [] M h k = k
-all-tidy-append (r ∷ L) M h k = (h .0, all-tidy-append L M (h .1) k)
 
 -- ---- kinds and their numbers
 

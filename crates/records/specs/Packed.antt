@@ -25,14 +25,17 @@ bytesOf (r ∷ L) = threeBytes (packed r) ++ bytesOf L
 unfoldable pub kinds : List Kind
 kinds = new ∷ read ∷ write ∷ readv ∷ writev ∷ acquire ∷ release ∷ fork ∷ join ∷ lacksRead ∷ lacksWrite ∷ []
 
+-- the kind of a number
 unfoldable pub kindOf : ℕ → Kind
 unfolding kinds
 kindOf k = getD kinds (k - 1) new
 
+-- "kind 4": the first four bits of record i
 unfoldable pub kindAt : List ℕ → ℕ → ℕ
 unfolding bitsAt
 kindAt b i = bitsAt b (24 * i) 4
 
+-- "spare 2": the last two bits of record i
 unfoldable pub spareAt : List ℕ → ℕ → ℕ
 unfolding bitsAt
 spareAt b i = bitsAt b (24 * i + 22) 2
@@ -49,6 +52,7 @@ recordAt b i =
       value = bitsAt b (24 * i + 17) 5;
     }
 
+-- "A record has 24 bits": three bytes
 unfoldable pub recordCount : List ℕ → ℕ
 recordCount b = length b / 3
 

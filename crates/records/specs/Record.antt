@@ -28,6 +28,7 @@ pub record Record : Type 0 where
   pub field : ℕ
   pub value : ℕ
 
+-- a record of these columns: kind, thread, object, field, value
 abbrev pub entry : Kind → ℕ → ℕ → ℕ → ℕ → Record
 entry k p o f v = record { kind = k; thread = p; object = o; field = f; value = v }
 

@@ -6,11 +6,11 @@ use mathlib.Core.List.{List, _∷_}
 use mathlib.Core.Option.{Option, some, none}
 use lib.ListN.{length}
 use Rattle.packed.specs.Trees.{Node}
+use Rattle.packed.specs.Steps.{Descending as Ordered}
 use Rattle.rules.specs.Context.{falseWhen}
 use Rattle.machine.specs.Frames.{Slots, noSlots, Closure, closure, branches, Frame, Ready, Found, height}
 use Rattle.machine.specs.Landing.{given, valueOf, isTrue, boolOf, valueIn, boolIn, foundNot, upBy, downBy, downByᶜ, downByᵃ, down, downᶜ, downᵃ, up, upᶜ, enter, enterᶜ}
 use Rattle.machine.specs.Turns.{Going, Turn, ends, goDown, goDownᶜ, goList, land, turn, landTurn}
-use Rattle.machine.proofs.TreeLaws.{Ordered}
 use Rattle.machine.proofs.Turns.{turn-lands}
 use Rattle.machine.proofs.Heights.{turn-under}
 

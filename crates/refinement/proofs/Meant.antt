@@ -13,13 +13,13 @@ use Rattle.packed.specs.Format.{procedures, terms, root, expression, condition,
 use Rattle.packed.specs.Trees.{binderOf, nodeAt}
 use Rattle.packed.proofs.Accepted.{OfSort}
 use Rattle.packed.proofs.WellFormed.{count}
+use Rattle.packed.proofs.TreeLaws.{treeᵃ}
 use Rattle.rules.specs.Rules.{Rule}
 use Rattle.machine.specs.Frames.{Slots, Closure, closure, branches}
 use Rattle.machine.specs.Frames as frames
 use Rattle.machine.specs.Machine as machine
 use Rattle.machine.specs.Playing as playing
 use Rattle.machine.specs.Landing.{downᵃ, up, upᶜ, enter, enterᶜ}
-use Rattle.machine.proofs.TreeLaws.{treeᵃ}
 use Rattle.machine.proofs.Sorted.{Well, Wellᶜ}
 use Rattle.frames.specs.declared.frame.Kind.{Kind}
 use Rattle.frames.specs.declared.frame.Kind.the-variants as kind

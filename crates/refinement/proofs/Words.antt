@@ -15,7 +15,7 @@ use Rattle.packed.proofs.WellFormed.{count}
 use Rattle.packed.proofs.Accepted.{OfSort, Child, Fits, RightTerm, Accepted}
 use Rattle.packed.proofs.Reading.{tag-in, first-was, second-was, third-was}
 use Rattle.packed.proofs.Decoded.{node-is}
-use Rattle.machine.proofs.TreeLaws.{treeᵃ}
+use Rattle.packed.proofs.TreeLaws.{treeᵃ}
 use Rattle.machine.proofs.CallLists.{call-fits}
 use Rattle.term_words.specs.Words.{wordAt, tagOf, firstOf, secondOf, thirdOf, slotBits, fieldBits, writeSecond, letFirst, letSecond, procedureBits, listBits, maskBits}
 use Rattle.refinement.proofs.Meant.{Loaded}

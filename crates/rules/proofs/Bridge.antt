@@ -22,9 +22,9 @@ use Rattle.order.proofs.Known.{known-zero}
 use Rattle.order.proofs.Invariant.{invariant}
 use Rattle.rules.specs.Rules.{Rule, isVolatile, Converts, E-CALL, E-LET, E-IF, E-WHILE, E-NEW, E-READ, E-WRITE, E-READV, E-WRITEV, E-FORK, E-JOIN, E-RE-ENTER, E-ACQUIRE, E-RELEASE, Moves, EVAL, EVALᶜ}
 use Rattle.rules.specs.Run.{logged}
-use Rattle.rules.proofs.StateLaws.{inside, added-old, change-same, found-thread, new-monitors}
+use Rattle.rules.proofs.StateLaws.{inside, added-old, found-thread, new-monitors}
 use Rattle.rules.proofs.Invariant.{Inv, heldBy}
-use Rattle.rules.proofs.Preserved.{learnt}
+use Rattle.rules.proofs.Preserved.{learnt, learnt-at}
 use Rattle.rules.proofs.KeyBridge.{Agrees, keysOf, agrees-become, agrees-learn, agrees-keyed, agrees-told, agrees-seized, agrees-freed, agrees-new, agrees-started}
 
 -- the sets after the log, and a legal log
@@ -47,10 +47,6 @@ module _ (g : Program) (s : State) (I : Inv g s) (p : ℕ) (t : Thread) (ht : ge
   unfolding unionSet
   plus b W h k = ap₂ _||_ (A .knows p t ht k) (h k) ∙ or-comm (holds (t .keys) k) (holds W k) ∙ sym (holds-union W (t .keys) k)
 
-  at-learnt : (s₁ : State) (W : Keys) → s₁ .threads ≡ s .threads → getElem? (learn s₁ p W .threads) p ≡ some (learnt t W)
-  unfolding learn
-  at-learnt s₁ W e = change-same (s₁ .threads) p _ t (rw e ht)
-
   -- a plain field's one key
   pub its-key : (o f : ℕ) (c : Cell) → lookup s o f ≡ some c → isVolatile g f ≡ false → c .keys ≡ singleton (κ .plain o f)
   its-key o f c h v = sym (ap keysOf h) ∙ A .plain o f v
@@ -69,7 +65,7 @@ module _ (g : Program) (s : State) (I : Inv g s) (p : ℕ) (t : Thread) (ht : ge
       → Kept g (become (learn (store (useKey s) o f (record { keys = singleton (s .nextKey); value = v })) p (singleton (s .nextKey))) p e) (entry Kind.write p o f v ∷ H)
   unfolding store useKey
   kept-write w o f u v e h vol k = record {
-    agrees = agrees-become g (learn s₁ p (singleton (s .nextKey))) _ p e (learnt t (singleton (s .nextKey))) (at-learnt s₁ (singleton (s .nextKey)) refl) (agrees-learn g s₁ (plainKeyed o f κ) p (singleton (s .nextKey)) t (learnKey (κ .next) (κ .knows p)) ht new (agrees-keyed g s κ A o f d (cell (singleton w) u) h vol refl));
+    agrees = agrees-become g (learn s₁ p (singleton (s .nextKey))) _ p e (learnt t (singleton (s .nextKey))) (learnt-at s p t ht s₁ (singleton (s .nextKey)) refl) (agrees-learn g s₁ (plainKeyed o f κ) p (singleton (s .nextKey)) t (learnKey (κ .next) (κ .knows p)) ht new (agrees-keyed g s κ A o f d (cell (singleton w) u) h vol refl));
     legal = (J .legal, here-now, known w o f u h vol k);
   }
     where
@@ -110,7 +106,7 @@ module _ (g : Program) (s : State) (I : Inv g s) (p : ℕ) (t : Thread) (ht : ge
 
   kept-join : (o v : ℕ) (q : Numbered) (e : Expression) → threadOf 0 (s .threads) o ≡ some q → Kept g (become (learn s p (q .thread .keys)) p e) (entry Kind.join p o (q .number) v ∷ H)
   kept-join o v q e h = record {
-    agrees = agrees-become g (learn s p (q .thread .keys)) _ p e (learnt t (q .thread .keys)) (at-learnt s (q .thread .keys) refl) (agrees-learn g s κ p (q .thread .keys) t (unionSet (κ .knows p) (κ .knows (q .number))) ht (plus (κ .knows (q .number)) (q .thread .keys) (λ k. A .knows (q .number) (q .thread) there k)) A);
+    agrees = agrees-become g (learn s p (q .thread .keys)) _ p e (learnt t (q .thread .keys)) (learnt-at s p t ht s (q .thread .keys) refl) (agrees-learn g s κ p (q .thread .keys) t (unionSet (κ .knows p) (κ .knows (q .number))) ht (plus (κ .knows (q .number)) (q .thread .keys) (λ k. A .knows (q .number) (q .thread) there k)) A);
     legal = (J .legal, here-now, A .present (q .number) (q .thread) there);
   }
     where
@@ -121,7 +117,7 @@ module _ (g : Program) (s : State) (I : Inv g s) (p : ℕ) (t : Thread) (ht : ge
       → Kept g (become (learn (storeMonitor s o (record { keys = empty; value = t .self })) p (c .keys)) p e) (entry Kind.acquire p o 0 0 ∷ H)
   unfolding storeMonitor
   kept-acquire o c e m f = record {
-    agrees = agrees-become g (learn s₁ p (c .keys)) _ p e (learnt t (c .keys)) (at-learnt s₁ (c .keys) refl) (agrees-learn g s₁ (monitorTaken o p κ) p (c .keys) t (unionSet (κ .knows p) (κ .monitors o)) ht (plus (κ .monitors o) (c .keys) same) (agrees-seized g s κ A o (heldBy t) c m p refl (λ q u hu v. I .apart p q t u ht hu v)));
+    agrees = agrees-become g (learn s₁ p (c .keys)) _ p e (learnt t (c .keys)) (learnt-at s p t ht s₁ (c .keys) refl) (agrees-learn g s₁ (monitorTaken o p κ) p (c .keys) t (unionSet (κ .knows p) (κ .monitors o)) ht (plus (κ .monitors o) (c .keys) same) (agrees-seized g s κ A o (heldBy t) c m p refl (λ q u hu v. I .apart p q t u ht hu v)));
     legal = (J .legal, here-now, (some-key (c .keys) f .0, rw (same (some-key (c .keys) f .0)) (some-key (c .keys) f .1)));
   }
     where
@@ -166,7 +162,7 @@ module _ (g : Program) (s : State) (I : Inv g s) (p : ℕ) (t : Thread) (ht : ge
   bridged (E-READ x {o} {f} {v} h k vol) w = record { agrees = agrees-become g s κ p w t ht A; legal = (J .legal, here-now, known x o f v h vol k) }
   bridged (E-WRITE x {o} {f} {u} {v} h k vol) w = kept-write x o f u v w h vol k
   bridged (E-READV {o} {f} {v} {W} h vol) w = record {
-    agrees = agrees-become g (learn s p W) _ p w (learnt t W) (at-learnt s W refl) (agrees-learn g s κ p W t (unionSet (κ .knows p) (κ .volatiles o f)) ht (plus (κ .volatiles o f) W (λ k. A .volatiles o f vol k ∙ ap (λ (x : Option Cell). holds (keysOf x) k) h)) A);
+    agrees = agrees-become g (learn s p W) _ p w (learnt t W) (learnt-at s p t ht s W refl) (agrees-learn g s κ p W t (unionSet (κ .knows p) (κ .volatiles o f)) ht (plus (κ .volatiles o f) W (λ k. A .volatiles o f vol k ∙ ap (λ (x : Option Cell). holds (keysOf x) k) h)) A);
     legal = (J .legal, here-now, tt);
   }
   bridged (E-WRITEV {o} {f} {u} {v} {W} h vol) w = record {

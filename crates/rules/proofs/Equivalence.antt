@@ -4,7 +4,6 @@ use mathlib.Core.Path.{_≡_, refl, sym, ap, _∙_, subst as along}
 use mathlib.Core.Bool.{Bool, true, false, cond, true≢false}
 use mathlib.Core.List.{List}
 use mathlib.Core.Option.{Option, some, none, Option·some-ne-none}
-use native.Mathlib.Omega.{arith}
 use lib.Dec.{eqb}
 use lib.ListN.{length, getElem?}
 use borrow.Author.Tests.{eq-eqb, ne-eqb, eqb-true, eqb-false}
@@ -18,7 +17,9 @@ use Rattle.rules.specs.Step.{Stuck, missingField, notThread, noRule, equ
 use Rattle.rules.specs.Room.{Blocked, MONITOR-HELD, UNFINISHED, NO-FIELD-TO-READ, NO-FIELD-TO-WRITE, NO-THREAD, PassedOver, ABSENT, FINISHED, BLOCKED, Answer, answer, withinRoom, Room, noRoomFor, step}
 use Rattle.keys.proofs.KeyLaws.{subset-singleton}
 use Rattle.rules.proofs.OneKey.{OneKey, its-cell}
-use Rattle.rules.proofs.Decompose.{found, foundᶜ, whole, whole-focus, as-literal}
+use Rattle.rules.proofs.Decompose.{whole, whole-focus}
+use Rattle.rules.proofs.FocusPlug.{found, foundᶜ}
+use Rattle.rules.proofs.Back.{as-literal}
 
 -- ---- a rule of the relation is an act of the function
 
@@ -272,15 +273,15 @@ module _ (g : Program) (s : State) (I : OneKey g s) (p : ℕ) where
 admit-moved : (m m′ : Move) (k : Option Room) → withinRoom m k ≡ Answer.moved m′ → (m ≡ m′) × (k ≡ none)
 unfolding withinRoom
 admit-moved m m′ none h = (cc, refl)
-admit-moved m m′ (some k) h = let z : _≡_ {A = ℕ} 0 1 = cc in absurd (omega arith)
+admit-moved m m′ (some k) h = absurd (true≢false cc)
 
 answer-moved : (s : State) (p : ℕ) (a : Attempt) (m : Move) → answer s p a ≡ Answer.moved m → (a ≡ moves m) × (noRoomFor (m .rule) s p (m .state) ≡ none)
 unfolding answer
-answer-moved s p Attempt.absent m h = (let z : _≡_ {A = ℕ} 0 1 = cc in absurd (omega arith))
-answer-moved s p (Attempt.finished v) m h = (let z : _≡_ {A = ℕ} 0 1 = cc in absurd (omega arith))
-answer-moved s p (Attempt.waiting w) m h = (let z : _≡_ {A = ℕ} 0 1 = cc in absurd (omega arith))
-answer-moved s p (Attempt.stuck r) m h = (let z : _≡_ {A = ℕ} 0 1 = cc in absurd (omega arith))
-answer-moved s p (Attempt.lacking r) m h = let z : _≡_ {A = ℕ} 0 1 = cc in absurd (omega arith)
+answer-moved s p Attempt.absent m h = absurd (true≢false cc)
+answer-moved s p (Attempt.finished v) m h = absurd (true≢false cc)
+answer-moved s p (Attempt.waiting w) m h = absurd (true≢false cc)
+answer-moved s p (Attempt.stuck r) m h = absurd (true≢false cc)
+answer-moved s p (Attempt.lacking r) m h = absurd (true≢false cc)
 answer-moved s p (moves m′) m h =
     let a = admit-moved m′ m (noRoomFor (m′ .rule) s p (m′ .state)) h in
     (ap moves (a .0), ap (λ (x : Move). noRoomFor (x .rule) s p (x .state)) (sym (a .0)) ∙ a .1)

@@ -16,10 +16,11 @@ use Rattle.rules.specs.Rules.{Rule, Moves}
 use Rattle.rules.specs.Step.{Stuck, missingField, notThread, noRule, Move, Attempt, attempt}
 use Rattle.rules.specs.Room.{Blocked, MONITOR-HELD, UNFINISHED, NO-FIELD-TO-READ, NO-FIELD-TO-WRITE, NO-THREAD, PassedOver, ABSENT, FINISHED, BLOCKED, Room, noRoomFor, Answer, withinRoom, answer, step}
 use Rattle.rules.specs.Run.{Run, resume, run, play, stopped, afterPass, afterMove}
-use Rattle.rules.specs.Execution.{Execution, ends, passes, lacks-key, no-room, moves}
+use Rattle.rules.specs.Execution.{Execution, ends, passes, lacks-key, no-room, moves, moveCount}
+use Rattle.rules.specs.NewKeys.{Unused}
 use Rattle.rules.proofs.Invariant.{Inv}
 use Rattle.rules.proofs.OneKey.{OneKey, one-key-start, one-key-move}
-use Rattle.rules.proofs.NewKeys.{Unused, unused-start, unused-move}
+use Rattle.rules.proofs.NewKeys.{unused-start, unused-move}
 use Rattle.rules.proofs.Equivalence.{Unless, Described, described, complete, complete-lacks, complete-passed}
 use Rattle.rules.proofs.Preserved.{keeps}
 use Rattle.rules.proofs.Progress.{Ruled, ruled, inv-start}
@@ -90,13 +91,6 @@ executes-run g (no-room {s} {p = p} h e) = rw (complete g s p h, e)
 executes-run g (moves {s} {s′} {p} {ps} {r} {R} {e} h k x) = rw (complete g s p h, k) (ap (afterMove (record { rule = R; entry = e; state = s′ })) (executes-run g x))
 
 -- ---- the move count is the number of rule instances
-
-pub moveCount : {g : Program} {s : State} {ps : List ℕ} {r : Run} → Execution g s ps r → ℕ
-moveCount ends = 0
-moveCount (passes h x) = moveCount x
-moveCount (lacks-key h) = 0
-moveCount (no-room h e) = 0
-moveCount (moves h k x) = suc (moveCount x)
 
 pub moves-counted : {g : Program} {s : State} {ps : List ℕ} {r : Run} (x : Execution g s ps r) → length (r .instances) ≡ moveCount x
 unfolding moveCount stopped afterPass afterMove

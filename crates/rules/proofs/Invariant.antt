@@ -14,7 +14,7 @@ use Rattle.rules.specs.Context.{focus, top}
 use Rattle.rules.specs.State.{Cell, Thread, State, fresh, freshObject, lookup, monitor, store, storeMonitor, addObject, changeAt, learn, become, addThread, useKey}
 use Rattle.rules.proofs.Placed.{Good, holds, Landed}
 use Rattle.rules.proofs.MoreObjects.{good-more}
-use Rattle.rules.proofs.StateLaws.{added, length-added, change-same, change-other, change-length, store-same, store-other, store-monitor, lock-same, lock-other, lock-lookup, new-lookup, new-monitor, new-monitors}
+use Rattle.rules.proofs.StateLaws.{added, length-added, change-length, store-same, store-other, store-monitor, lock-same, lock-other, lock-lookup, new-lookup, new-monitor, new-monitors, who, whose}
 
 abbrev pub In : ℕ → List ℕ → Type 0
 In o [] = ⊥
@@ -162,28 +162,12 @@ module _ (g : Program) (s : State) (I : Inv g s) (p : ℕ) (h : Thread → Threa
   abbrev after : State
   after = record { objects = s .objects; threads = changeAt (s .threads) p h; nextKey = s .nextKey }
 
-  -- who stands at q now
-  who : (q : ℕ) (u : Thread) → getElem? (after .threads) q ≡ some u → ((p ≡ q) × (h t ≡ u)) ⊎ ((p ≡ q → ⊥) × (getElem? (s .threads) q ≡ some u))
-  who q u e = go (ℕ-discrete p q)
-    where
-      go : Dec (p ≡ q) → ((p ≡ q) × (h t ≡ u)) ⊎ ((p ≡ q → ⊥) × (getElem? (s .threads) q ≡ some u))
-      go (yes x) = let k : some (h t) ≡ some u = sym (change-same (s .threads) p h t at) ∙ ap (λ (a : ℕ). getElem? (after .threads) a) x ∙ e in inl (x, cc)
-      go (no x) = inr (x, sym (change-other (s .threads) p h q x) ∙ e)
-
-  -- with whose self
-  whose : (q : ℕ) (u : Thread) → getElem? (after .threads) q ≡ some u → (v : Thread) × (getElem? (s .threads) q ≡ some v) × (u .self ≡ v .self)
-  whose q u e = go (who q u e)
-    where
-      go : ((p ≡ q) × (h t ≡ u)) ⊎ ((p ≡ q → ⊥) × (getElem? (s .threads) q ≡ some u)) → (v : Thread) × (getElem? (s .threads) q ≡ some v) × (u .self ≡ v .self)
-      go (inl (x, y)) = (t, rw (← x) at, ap (λ (z : Thread). z .self) (sym y) ∙ self)
-      go (inr (x, y)) = (u, y, refl)
-
   pub inv-change : Sound g after (h t) → Inv g after
   unfolding monitor lookup
   inv-change d = record {
     null-there = I .null-there;
-    each = λ q u e. one (who q u e);
-    apart = λ q r u w e k x. let a = whose q u e in let b = whose r w k in I .apart q r (a .0) (b .0) (a .1) (b .1) (sym (a .2) ∙ x ∙ b .2);
+    each = λ q u e. one (who (s .threads) p h t at q u e);
+    apart = λ q r u w e k x. let a = whose (s .threads) p h t at self q u e in let b = whose (s .threads) p h t at self r w k in I .apart q r (a .0) (b .0) (a .1) (b .1) (sym (a .2) ∙ x ∙ b .2);
     cells = λ o f c e. I .cells o f c e;
     owners = λ o c e. I .owners o c e;
   }

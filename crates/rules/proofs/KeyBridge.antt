@@ -3,7 +3,7 @@ use Prim.Native.Nat.{ℕ, suc, _<_, _≤_}
 use native.Mathlib.Omega.{arith}
 use native.Mathlib.Decide.{ℕ-discrete}
 use mathlib.Core.Path.{_≡_, refl, sym, ap, _∙_, subst as along}
-use mathlib.Core.Bool.{Bool, true, false, not}
+use mathlib.Core.Bool.{Bool, true, false, not, true≢false, false≢true}
 use mathlib.Core.List.{List}
 use mathlib.Core.Logic.{_⊎_, inl, inr}
 use mathlib.Core.Option.{Option, some, none}
@@ -15,7 +15,7 @@ use Rattle.rules.specs.State.{Cell, Thread, State, fresh, freshObject, l
 use Rattle.order.proofs.KeySets.{KeySet, noKeys, put, put-same, put-other, put₂, put₂-same, put₂-other}
 use Rattle.order.proofs.KeyMachine.{KeyState, monitorTaken, threadKnows, plainKeyed, volatileKnows, monitorFreed, threadForked}
 use Rattle.rules.specs.Rules.{isVolatile}
-use Rattle.rules.proofs.StateLaws.{added, length-added, change-length, change-same, change-other, store-same, store-other, store-monitor, lock-same, lock-other, lock-lookup, new-lookup, new-monitors}
+use Rattle.rules.proofs.StateLaws.{added, length-added, change-length, store-same, store-other, store-monitor, lock-same, lock-other, lock-lookup, new-lookup, new-monitors, who, whose}
 use Rattle.keys.proofs.KeyLaws.{holds-empty}
 
 -- the keys of a place: a place that is not there is as good as fresh
@@ -39,20 +39,6 @@ module _ (g : Program) (s : State) (κ : KeyState) (A : Agrees g s κ) (p : ℕ)
   abbrev after : State
   after = record { objects = s .objects; threads = changeAt (s .threads) p h; nextKey = s .nextKey }
 
-  who : (q : ℕ) (u : Thread) → getElem? (after .threads) q ≡ some u → ((p ≡ q) × (h t ≡ u)) ⊎ ((p ≡ q → ⊥) × (getElem? (s .threads) q ≡ some u))
-  who q u e = go (ℕ-discrete p q)
-    where
-      go : Dec (p ≡ q) → ((p ≡ q) × (h t ≡ u)) ⊎ ((p ≡ q → ⊥) × (getElem? (s .threads) q ≡ some u))
-      go (yes x) = let k : some (h t) ≡ some u = sym (change-same (s .threads) p h t at) ∙ ap (λ (a : ℕ). getElem? (after .threads) a) x ∙ e in inl (x, cc)
-      go (no x) = inr (x, sym (change-other (s .threads) p h q x) ∙ e)
-
-  whose : (q : ℕ) (u : Thread) → getElem? (after .threads) q ≡ some u → (v : Thread) × (getElem? (s .threads) q ≡ some v) × (u .self ≡ v .self)
-  whose q u e = go (who q u e)
-    where
-      go : ((p ≡ q) × (h t ≡ u)) ⊎ ((p ≡ q → ⊥) × (getElem? (s .threads) q ≡ some u)) → (v : Thread) × (getElem? (s .threads) q ≡ some v) × (u .self ≡ v .self)
-      go (inl (x, y)) = (t, rw (← x) at, ap (λ (z : Thread). z .self) (sym y) ∙ self)
-      go (inr (x, y)) = (u, y, refl)
-
   same-count : length (changeAt (s .threads) p h) ≡ length (s .threads)
   same-count = change-length (s .threads) p h
 
@@ -60,13 +46,13 @@ module _ (g : Program) (s : State) (κ : KeyState) (A : Agrees g s κ) (p : ℕ)
   pub agrees-change : (a : KeySet) → ((k : ℕ) → a k ≡ holds (h t .keys) k) → Agrees g after (threadKnows p a κ)
   unfolding lookup monitor
   agrees-change a same = record {
-    present = λ q u e. let w = whose q u e in A .present q (w .0) (w .1);
+    present = λ q u e. let w = whose (s .threads) p h t at self q u e in A .present q (w .0) (w .1);
     absent = λ q l. A .absent q (omega (arith, same-count));
-    knows = λ q u e k. known q u k (who q u e);
+    knows = λ q u e k. known q u k (who (s .threads) p h t at q u e);
     plain = λ o f v. A .plain o f v;
     volatiles = λ o f v k. A .volatiles o f v k;
     monitors = λ o k. A .monitors o k;
-    owner = λ o c m e q u i v. let w = whose q u i in A .owner o c m e q (w .0) (w .1) (v ∙ w .2);
+    owner = λ o c m e q u i v. let w = whose (s .threads) p h t at self q u i in A .owner o c m e q (w .0) (w .1) (v ∙ w .2);
     next = A .next;
   }
     where
@@ -78,13 +64,13 @@ module _ (g : Program) (s : State) (κ : KeyState) (A : Agrees g s κ) (p : ℕ)
   pub agrees-keep : h t .keys ≡ t .keys → Agrees g after κ
   unfolding lookup monitor
   agrees-keep same = record {
-    present = λ q u e. let w = whose q u e in A .present q (w .0) (w .1);
+    present = λ q u e. let w = whose (s .threads) p h t at self q u e in A .present q (w .0) (w .1);
     absent = λ q l. A .absent q (omega (arith, same-count));
-    knows = λ q u e k. known q u k (who q u e);
+    knows = λ q u e k. known q u k (who (s .threads) p h t at q u e);
     plain = λ o f v. A .plain o f v;
     volatiles = λ o f v k. A .volatiles o f v k;
     monitors = λ o k. A .monitors o k;
-    owner = λ o c m e q u i v. let w = whose q u i in A .owner o c m e q (w .0) (w .1) (v ∙ w .2);
+    owner = λ o c m e q u i v. let w = whose (s .threads) p h t at self q u i in A .owner o c m e q (w .0) (w .1) (v ∙ w .2);
     next = A .next;
   }
     where
@@ -137,7 +123,7 @@ module _ (g : Program) (s : State) (κ : KeyState) (A : Agrees g s κ) (o f : �
       plain′ o′ f′ v (inr (x, z)) = ap keysOf (lookup′ o′ f′ ∙ z) ∙ A .plain o′ f′ v ∙ ap singleton (sym (put₂-other (κ .plain) o f (κ .next) o′ f′ x))
 
       volat′ : (o′ f′ : ℕ) → isVolatile g f′ ≡ true → (k : ℕ) → ((o ≡ o′) × (f ≡ f′) × (lookup (store s o f c) o′ f′ ≡ some c)) ⊎ ((o ≡ o′ → f ≡ f′ → ⊥) × (lookup (store s o f c) o′ f′ ≡ lookup s o′ f′)) → κ .volatiles o′ f′ k ≡ holds (keysOf (lookup (useKey (store s o f c)) o′ f′)) k
-      volat′ o′ f′ v k (inl (x, y, z)) = let w : false ≡ true = sym vol ∙ ap (isVolatile g) y ∙ v in absurd (let q : _≡_ {A = ℕ} 0 1 = cc in omega arith)
+      volat′ o′ f′ v k (inl (x, y, z)) = absurd (false≢true (sym vol ∙ ap (isVolatile g) y ∙ v))
       volat′ o′ f′ v k (inr (x, z)) = A .volatiles o′ f′ v k ∙ ap (λ (e : Option Cell). holds (keysOf e) k) (sym (lookup′ o′ f′ ∙ z))
 
   -- a volatile field takes a set
@@ -155,7 +141,7 @@ module _ (g : Program) (s : State) (κ : KeyState) (A : Agrees g s κ) (o f : �
   }
     where
       plain′ : (o′ f′ : ℕ) → isVolatile g f′ ≡ false → ((o ≡ o′) × (f ≡ f′) × (lookup (store s o f c) o′ f′ ≡ some c)) ⊎ ((o ≡ o′ → f ≡ f′ → ⊥) × (lookup (store s o f c) o′ f′ ≡ lookup s o′ f′)) → keysOf (lookup (store s o f c) o′ f′) ≡ singleton (κ .plain o′ f′)
-      plain′ o′ f′ v (inl (x, y, z)) = let w : true ≡ false = sym vol ∙ ap (isVolatile g) y ∙ v in absurd (let q : _≡_ {A = ℕ} 0 1 = cc in omega arith)
+      plain′ o′ f′ v (inl (x, y, z)) = absurd (true≢false (sym vol ∙ ap (isVolatile g) y ∙ v))
       plain′ o′ f′ v (inr (x, z)) = ap keysOf z ∙ A .plain o′ f′ v
 
       volat′ : (o′ f′ : ℕ) → isVolatile g f′ ≡ true → (k : ℕ) → ((o ≡ o′) × (f ≡ f′) × (lookup (store s o f c) o′ f′ ≡ some c)) ⊎ ((o ≡ o′ → f ≡ f′ → ⊥) × (lookup (store s o f c) o′ f′ ≡ lookup s o′ f′)) → put₂ (κ .volatiles) o f a o′ f′ k ≡ holds (keysOf (lookup (store s o f c) o′ f′)) k
@@ -224,7 +210,7 @@ module _ (g : Program) (s : State) (κ : KeyState) (A : Agrees g s κ) (o : ℕ)
           let j : some c ≡ some c′ = sym z ∙ m in
           let y : c ≡ c′ = cc in
           let w : false ≡ true = sym full ∙ ap (λ (z : Cell). isEmpty (z .keys)) y ∙ e in
-          absurd (let q : _≡_ {A = ℕ} 0 1 = cc in omega arith)
+          absurd (true≢false cc)
       owner′ o′ c′ m e q u i v (inr (x, z)) = A .owner o′ c′ (sym z ∙ m) e q u i v
 
 -- ---- new objects and threads
@@ -260,7 +246,7 @@ agrees-new g s κ fs A = record {
         let j : some fresh ≡ some c = sym k ∙ m in
         let y : fresh ≡ c = cc in
         let w : false ≡ true = ap (λ (z : Cell). isEmpty (z .keys)) y ∙ e in
-        absurd (let q : _≡_ {A = ℕ} 0 1 = cc in omega arith)
+        absurd (true≢false cc)
 
 pub agrees-started : (g : Program) (s : State) (κ : KeyState) (u : Thread) (a : KeySet) → Agrees g s κ → ((k : ℕ) → a k ≡ holds (u .keys) k)
     → ((o : ℕ) (c : Cell) → monitor s o ≡ some c → isEmpty (c .keys) ≡ true → c .value ≡ u .self → ⊥) → Agrees g (addThread s u) (threadForked (length (s .threads)) a κ)

@@ -1,3 +1,5 @@
+pub mod FocusPlug
+pub mod Back
 pub mod Decompose
 pub mod Closing
 pub mod Placed
@@ -13,5 +15,6 @@ pub mod Executed
 pub mod Marked
 pub mod KeyBridge
 pub mod Bridge
+pub mod RoomLaws
 pub mod TidyRuns
 pub mod RunKeys

@@ -3,7 +3,7 @@ use Prim.Native.Nat.{ℕ, zero, suc, _<_}
 use native.Mathlib.Omega.{arith}
 use native.Mathlib.Decide.{ℕ-discrete}
 use mathlib.Core.Path.{_≡_, refl, sym, ap, _∙_, subst as along}
-use mathlib.Core.Bool.{Bool, true, false, _||_}
+use mathlib.Core.Bool.{Bool, true, false, _||_, true≢false}
 use mathlib.Core.List.{List, []}
 use mathlib.Core.Logic.{_⊎_, inl, inr}
 use mathlib.Core.Option.{Option, some, none}
@@ -15,18 +15,8 @@ use Rattle.packed.specs.Syntax.{Expression, Arguments, Program}
 use Rattle.records.specs.Record.{Record}
 use Rattle.rules.specs.State.{Cell, cell, Thread, State, fresh, freshObject, lookup, monitor, store, storeMonitor, addObject, learn, become, addThread, useKey, start, changeAt}
 use Rattle.rules.specs.Rules.{Rule, Converts, E-CALL, E-LET, E-IF, E-WHILE, E-NEW, E-READ, E-WRITE, E-READV, E-WRITEV, E-FORK, E-JOIN, E-RE-ENTER, E-ACQUIRE, E-RELEASE, Moves, EVAL, EVALᶜ}
+use Rattle.rules.specs.NewKeys.{Below, Unused}
 use Rattle.rules.proofs.StateLaws.{added, changed, store-same, store-other, store-monitor, lock-same, lock-other, lock-lookup, new-lookup, new-monitors, found-thread}
-
--- every key of the set is below n
-abbrev pub Below : Keys → ℕ → Type 0
-Below K n = (k : ℕ) → T (holds K k) → k < n
-
--- the next key is in no set
-pub record Unused (s : State) : Type 0 where
-  pub threads : (p : ℕ) (t : Thread) → getElem? (s .threads) p ≡ some t → Below (t .keys) (s .nextKey)
-  pub fields : (o f : ℕ) (c : Cell) → lookup s o f ≡ some c → Below (c .keys) (s .nextKey)
-  pub monitors : (o : ℕ) (c : Cell) → monitor s o ≡ some c → Below (c .keys) (s .nextKey)
-  pub positive : 0 < s .nextKey
 
 below-singleton : (w n : ℕ) → w < n → Below (singleton w) n
 below-singleton w n h k t = let e : k ≡ w = eqb→eq k w (rw (holds-singleton w k) at t) in omega arith
@@ -189,12 +179,12 @@ unused-start = record {
   where
     one : (p : ℕ) (t : Thread) → getElem? (start .threads) p ≡ some t → Below (t .keys) 1
     one zero t h = let e : record { self = 0; expression = Expression.call 0 Arguments.end; keys = singleton 0 } ≡ t = cc in along (λ (z : Thread). Below (z .keys) 1) e (below-singleton 0 1 (omega arith))
-    one (suc p) t h = absurd (let z : _≡_ {A = ℕ} 0 1 = cc in omega arith)
+    one (suc p) t h = absurd (true≢false cc)
 
     nowhere : (o f : ℕ) (c : Cell) → lookup start o f ≡ some c → ⊥
-    nowhere zero f c h = let z : _≡_ {A = ℕ} 0 1 = cc in omega arith
-    nowhere (suc o) f c h = let z : _≡_ {A = ℕ} 0 1 = cc in omega arith
+    nowhere zero f c h = true≢false cc
+    nowhere (suc o) f c h = true≢false cc
 
     free : (o : ℕ) (c : Cell) → monitor start o ≡ some c → Below (c .keys) 1
     free zero c h = below-fresh c 1 (cc) (omega arith)
-    free (suc o) c h = absurd (let z : _≡_ {A = ℕ} 0 1 = cc in omega arith)
+    free (suc o) c h = absurd (true≢false cc)

@@ -1,9 +1,8 @@
 -- A plain field holds one key, in every state of every run. Assumes nothing.
 use Prim.Native.Nat.{ℕ}
-use native.Mathlib.Omega.{arith}
 use native.Mathlib.Decide.{ℕ-discrete}
 use mathlib.Core.Path.{_≡_, refl, sym, ap, _∙_, subst as along}
-use mathlib.Core.Bool.{true, false}
+use mathlib.Core.Bool.{false, true≢false}
 use mathlib.Core.List.{List, []}
 use mathlib.Core.Logic.{_⊎_, inl, inr}
 use mathlib.Core.Option.{Option, some, none}
@@ -31,8 +30,8 @@ unfolding start freshObject lookup
 one-key-start g = record { its = λ o f c h v. absurd (nowhere o f c h) }
   where
     nowhere : (o f : ℕ) (c : Cell) → lookup start o f ≡ some c → ⊥
-    nowhere ℕ.zero f c h = let z : _≡_ {A = ℕ} 0 1 = cc in omega arith
-    nowhere (ℕ.suc o) f c h = let z : _≡_ {A = ℕ} 0 1 = cc in omega arith
+    nowhere ℕ.zero f c h = true≢false cc
+    nowhere (ℕ.suc o) f c h = true≢false cc
 
 -- the same fields, the same keys
 same-fields : (g : Program) (s s′ : State) → ((o f : ℕ) → lookup s′ o f ≡ lookup s o f) → OneKey g s → OneKey g s′
@@ -73,7 +72,7 @@ module _ (g : Program) (s : State) (p : ℕ) (t : Thread) (I : OneKey g s) where
   kept (E-READ w h k v) = I
   kept (E-WRITE w {o} {f} {u} {v} h k vol) = same-fields g (store (useKey s) o f (cell (singleton (s .nextKey)) v)) _ (λ a b. refl) (stored g (useKey s) o f (cell (singleton (s .nextKey)) v) (cell (singleton w) u) h (λ n. (s .nextKey, refl)) (same-fields g s (useKey s) (λ a b. refl) I))
   kept (E-READV h v) = same-fields g s _ (λ a b. refl) I
-  kept (E-WRITEV {o} {f} {u} {v} {W} h vol) = stored g s o f (cell (union W (t .keys)) v) (cell W u) h (λ n. absurd (let z : true ≡ false = sym vol ∙ n in let y : _≡_ {A = ℕ} 0 1 = cc in omega arith)) I
+  kept (E-WRITEV {o} {f} {u} {v} {W} h vol) = stored g s o f (cell (union W (t .keys)) v) (cell W u) h (λ n. absurd (true≢false (sym vol ∙ n))) I
   kept E-FORK = same-fields g (addObject s (freshObject [])) _ (λ a b. refl) (added g s [] I)
   kept (E-JOIN h l) = same-fields g s _ (λ a b. refl) I
   kept (E-RE-ENTER h) = I

@@ -3,16 +3,17 @@
 use Prim.Native.Nat.{ℕ, suc, _<_, _+_}
 use native.Mathlib.Omega.{arith}
 use mathlib.Core.Path.{_≡_, refl, sym}
-use mathlib.Core.Bool.{Bool, true, false}
+use mathlib.Core.Bool.{Bool, true, false, true≢false}
 use mathlib.Core.List.{List, [], _∷_, _++_}
 use mathlib.Core.Option.{Option, some, none}
 use lib.ListN.{length, length-append}
 use Rattle.packed.specs.Syntax.{Expression, Condition, Arguments, literal, end, argument, Program, bool}
 use Rattle.packed.specs.Slots.{bound}
 use Rattle.rules.specs.Context.{Context, Contextᶜ, top, read, write₁, write₂, call, letIn, synch, hold, join, equal₁, equal₂, literals, plug, plugᶜ, Redex, Redexᶜ, Focus, value, here, hereᶜ, focus, focusᶜ, focusᵃ, asLiteral, asBool, redexExpression, onLiteral, onBool, onNot}
-use Rattle.rules.proofs.Decompose.{focus-plug, focus-plugᶜ, found, as-literal, as-bool}
 use Rattle.packed.proofs.WellFormed.{WellFormed, WellFormedᶜ, WellFormedᵃ, count, Callable, unbound}
 use Rattle.rules.proofs.Closing.{Below}
+use Rattle.rules.proofs.FocusPlug.{focus-plug, focus-plugᶜ, found}
+use Rattle.rules.proofs.Back.{as-literal, as-bool}
 
 abbrev pub Text : Program → ℕ → Expression → Type 0
 Text g n e = WellFormed g n unbound e
@@ -134,7 +135,7 @@ module _ (g : Program) (n : ℕ) where
 
   land-not : (K : Contextᶜ) (c : Condition) (b : Bool) → c ≡ bool b → asBool (Condition.not c) ≡ none → Aroundᶜ g n K → Lands (pendingᶜ K) (onNot K b)
   unfolding bool asBool
-  land-not K c true q h k = absurd (let z : _≡_ {A = ℕ} 0 1 = cc (rw q at h) in omega arith)
+  land-not K c true q h k = absurd (true≢false (cc (rw q at h)))
   land-not K c false q h k = record { good = (k, tt); theirs = refl }
 
   counted : (m k k′ : ℕ) → k ≡ k′ → Callable g m k → Callable g m k′
@@ -144,7 +145,7 @@ module _ (g : Program) (n : ℕ) where
     unfolding focus asLiteral asBool
 
     pub land : (K : Context) (e : Expression) → asLiteral e ≡ none → Around g n K → Text g n e → Lands (pending K) (focus K e)
-    land K (Expression.literal o) h k c = absurd (let z : _≡_ {A = ℕ} 0 1 = cc in omega arith)
+    land K (Expression.literal o) h k c = absurd (true≢false cc)
     land K (Expression.variable x) h k c = absurd c
     land K (Expression.new fs) h k c = record { good = (k, tt); theirs = refl }
     land K (Expression.read e f) h k c = land-lit (Lands (pending K)) (asLiteral e) _ _ (λ o q. record { good = (k, (c .0, c .1, text-lit e o q (c .2))); theirs = refl }) (λ q. land (read K f) e q (c .0, c .1, k) (c .2))
@@ -162,7 +163,7 @@ module _ (g : Program) (n : ℕ) where
     land K (Expression.hold o e) h k c = absurd c
 
     pub landᶜ : (K : Contextᶜ) (b : Condition) → asBool b ≡ none → Aroundᶜ g n K → Textᶜ g n b → Lands (pendingᶜ K) (focusᶜ K b)
-    landᶜ K Condition.truth h k c = absurd (let z : _≡_ {A = ℕ} 0 1 = cc in omega arith)
+    landᶜ K Condition.truth h k c = absurd (true≢false cc)
     landᶜ K (Condition.not b) h k c = land-bool (Lands (pendingᶜ K)) (asBool b) _ _ (λ x q. land-not K b x (as-bool b x q) h k) (λ q. landᶜ (Contextᶜ.not K) b q k c)
     landᶜ K (Condition.and b b′) h k c = land-bool (Lands (pendingᶜ K)) (asBool b) _ _ (λ x q. record { good = (k, c .1); theirs = refl }) (λ q. landᶜ (Contextᶜ.and K b′) b q (c .1, k) (c .0))
     landᶜ K (Condition.equal e e′) h k c =

@@ -3,7 +3,7 @@ use Prim.Native.Nat.{ℕ, _<_}
 use native.Mathlib.Omega.{arith}
 use native.Mathlib.Decide.{ℕ-discrete}
 use mathlib.Core.Path.{_≡_, refl, sym, ap, _∙_, subst as along}
-use mathlib.Core.Bool.{Bool, true, false}
+use mathlib.Core.Bool.{Bool, true, false, true≢false, cond}
 use mathlib.Core.List.{List, [], _∷_}
 use mathlib.Core.Logic.{inl, inr}
 use mathlib.Core.Option.{Option, some}
@@ -13,19 +13,24 @@ use Rattle.keys.specs.Keys.{Keys, empty, singleton, union, isEmpty}
 use Rattle.packed.specs.Syntax.{Expression, Condition, Arguments, literal, bind, bindParameters, substitute, Program, Procedure, bool, sequence}
 use Rattle.packed.specs.Slots.{bound}
 use Rattle.rules.specs.Context.{Context, Contextᶜ, Focus, focus, top, here, hold, plug, plugᶜ, Redex, Redexᶜ, redexExpression, redexCondition, literals}
-use Rattle.rules.proofs.Decompose.{found, foundᶜ}
 use Rattle.rules.specs.State.{Cell, cell, Thread, State, freshObject, lookup, monitor, store, storeMonitor, addObject, learn, become, addThread, useKey}
 use Rattle.records.specs.Record.{Record}
-use Rattle.rules.specs.Rules.{Rule, choose, Converts, E-CALL, E-LET, E-IF, E-WHILE, E-NEW, E-READ, E-WRITE, E-READV, E-WRITEV, E-FORK, E-JOIN, E-RE-ENTER, E-ACQUIRE, E-RELEASE, Convertsᶜ, E-NOTNOTTRUE, E-ANDTRUE, E-ANDFALSE, E-EQUALTRUE, E-EQUALFALSE, Moves, EVAL, EVALᶜ}
+use Rattle.rules.specs.Rules.{Rule, Converts, E-CALL, E-LET, E-IF, E-WHILE, E-NEW, E-READ, E-WRITE, E-READV, E-WRITEV, E-FORK, E-JOIN, E-RE-ENTER, E-ACQUIRE, E-RELEASE, Convertsᶜ, E-NOTNOTTRUE, E-ANDTRUE, E-ANDFALSE, E-EQUALTRUE, E-EQUALFALSE, Moves, EVAL, EVALᶜ}
 use Rattle.packed.proofs.WellFormed.{WellFormedProgram, unbound}
 use Rattle.rules.proofs.Closing.{more, filled, covers-one, covers-params}
 use Rattle.rules.proofs.Placed.{Landed, Text, Textᶜ, Around, Ready, Readyᶜ, Good, held, holds, pending, pendingᶜ, rise, riseᶜ}
 use Rattle.rules.proofs.StateLaws.{inside, added-old, change-same, lock-same, lock-other, found-thread}
 use Rattle.rules.proofs.Invariant.{In, Once, owed, heldBy, Sound, Inv, inv-store, inv-key, inv-lock, length-new, inv-new, inv-learn, inv-become, inv-thread}
+use Rattle.rules.proofs.FocusPlug.{found, foundᶜ}
 
 -- the thread after it learnt
 abbrev pub learnt : Thread → Keys → Thread
 learnt t W = record { self = t .self; expression = t .expression; keys = union W (t .keys) }
+
+-- where the mover stands, after what the rule did to the rest
+pub learnt-at : (s : State) (p : ℕ) (t : Thread) → getElem? (s .threads) p ≡ some t → (s₁ : State) (W : Keys) → s₁ .threads ≡ s .threads → getElem? (learn s₁ p W .threads) p ≡ some (learnt t W)
+unfolding learn
+learnt-at s p t ht s₁ W e = change-same (s₁ .threads) p _ t (rw e ht)
 
 -- thread p, which is t, is about to move x in K
 module _ (g : Program) (s : State) (p : ℕ) (t : Thread) (K : Context) (I : Inv g s) (at : getElem? (s .threads) p ≡ some t) (x : Redex) (h : t .expression ≡ plug K (redexExpression x)) where
@@ -59,11 +64,6 @@ module _ (g : Program) (P : WellFormedProgram g) (s : State) (I : Inv g s) (p : 
       settle g s p t K I ht (Redex.call m os) he (substitute (bindParameters os) (d .body)) refl
       (filled g N (bindParameters os) _ unbound (covers-params N (d .parameters) os (placed g s p t K I ht (Redex.call m os) he .1 .1) hp) (d .body) (more g 1 N (I .null-there) _ (d .body) (P .bodies m d hd)))
 
-  -- a step back to where the mover stood, after what the rule did to the rest
-  learnt-at : (s₁ : State) (W : Keys) → s₁ .threads ≡ s .threads → getElem? (learn s₁ p W .threads) p ≡ some (learnt t W)
-  unfolding learn
-  learnt-at s₁ W e = change-same (s₁ .threads) p _ t (rw e ht)
-
   -- no thread has to release a monitor that is free
   free-of : (o : ℕ) (c : Cell) → monitor s o ≡ some c → isEmpty (c .keys) ≡ false → (q : ℕ) (u : Thread) → getElem? (s .threads) q ≡ some u → In o (owed u) → ⊥
   unfolding isEmpty
@@ -71,7 +71,7 @@ module _ (g : Program) (P : WellFormedProgram g) (s : State) (I : Inv g s) (p : 
       let k : some c ≡ some (heldBy u) = sym m ∙ I .each q u hu .held o i in
       let j : c ≡ heldBy u = cc in
       let z : false ≡ true = sym e ∙ ap (λ (y : Cell). eqb (y .keys) 0) j in
-      let y : _≡_ {A = ℕ} 0 1 = cc in omega arith
+      true≢false cc
 
   kept-acquire : (o : ℕ) (e : Expression) (c : Cell) (W : Keys) → monitor s o ≡ some c → isEmpty (c .keys) ≡ false → t .expression ≡ plug K (Expression.synch (literal o) e)
       → Inv g (become (learn (storeMonitor s o (cell empty (t .self))) p W) p (plug K (Expression.hold o e)))
@@ -91,7 +91,7 @@ module _ (g : Program) (P : WellFormedProgram g) (s : State) (I : Inv g s) (p : 
       I₂ = inv-learn g s₁ p W t I₁ ht
 
       at₂ : getElem? (s₂ .threads) p ≡ some (learnt t W)
-      at₂ = learnt-at s₁ W refl
+      at₂ = learnt-at s p t ht s₁ W refl
 
       pl : Around g (length (s₂ .objects)) K × Ready g (length (s₂ .objects)) (Redex.synch o e)
       pl = placed g s₂ p (learnt t W) K I₂ at₂ (Redex.synch o e) he
@@ -106,7 +106,7 @@ module _ (g : Program) (P : WellFormedProgram g) (s : State) (I : Inv g s) (p : 
   -- a move that learns some keys, whichever they are
   settle-learn : (W : Keys) (x : Redex) (v : ℕ) → t .expression ≡ plug K (redexExpression x) → held x (pending K) ≡ pending K → v < N → Inv g (become (learn s p W) p (plug K (literal v)))
   unfolding learn
-  settle-learn W x v he q b = settle g (learn s p W) p (learnt t W) K (inv-learn g s p W t I ht) (learnt-at s W refl) x he (literal v) q b
+  settle-learn W x v he q b = settle g (learn s p W) p (learnt t W) K (inv-learn g s p W t I ht) (learnt-at s p t ht s W refl) x he (literal v) q b
 
   -- a plain write: a new key, stored and learnt
   kept-write : (o f v : ℕ) (c : Cell) → lookup s o f ≡ some c → t .expression ≡ plug K (redexExpression (Redex.write o f v))
@@ -116,7 +116,7 @@ module _ (g : Program) (P : WellFormedProgram g) (s : State) (I : Inv g s) (p : 
       let s₁ = store (useKey s) o f (record { keys = singleton (s .nextKey); value = v }) in
       let I₁ = inv-store g (useKey s) o f (record { keys = singleton (s .nextKey); value = v }) _ (inv-key g s I) h (placed g s p t K I ht (Redex.write o f v) he .1 .3) in
       let I₂ = inv-learn g s₁ p (singleton (s .nextKey)) t I₁ ht in
-      let at₂ = learnt-at s₁ (singleton (s .nextKey)) refl in
+      let at₂ = learnt-at s p t ht s₁ (singleton (s .nextKey)) refl in
       settle g (learn s₁ p (singleton (s .nextKey))) p (learnt t (singleton (s .nextKey))) K I₂ at₂ (Redex.write o f v) he (literal v) refl (placed g (learn s₁ p (singleton (s .nextKey))) p (learnt t (singleton (s .nextKey))) K I₂ at₂ (Redex.write o f v) he .1 .3)
 
   -- a write to a field, with whichever keys
@@ -211,8 +211,7 @@ module _ (g : Program) (P : WellFormedProgram g) (s : State) (I : Inv g s) (p : 
       at₂ : getElem? (s₂ .threads) p ≡ some t
       at₂ = added-old (s .threads) u p (inside (s .threads) p t ht) ∙ ht
 
-  choose-text : (b : Bool) (e e′ : Expression) → Text g N e → Text g N e′ → Text g N (choose b e e′)
-  unfolding choose
+  choose-text : (b : Bool) (e e′ : Expression) → Text g N e → Text g N e′ → Text g N (cond b e e′)
   choose-text true e e′ h k = h
   choose-text false e e′ h k = k
 
@@ -224,7 +223,7 @@ module _ (g : Program) (P : WellFormedProgram g) (s : State) (I : Inv g s) (p : 
       settle g s p t K I ht (Redex.letIn x o e) he (substitute (bind x o) e) refl (filled g N (bind x o) _ unbound (covers-one N x o (pl .1 .0)) e (pl .1 .1))
   kept (E-IF b {e} {e′}) he =
       let pl = placed g s p t K I ht (Redex.if b e e′) he in
-      settle g s p t K I ht (Redex.if b e e′) he (choose b e e′) refl (choose-text b e e′ (pl .1 .0) (pl .1 .1))
+      settle g s p t K I ht (Redex.if b e e′) he (cond b e e′) refl (choose-text b e e′ (pl .1 .0) (pl .1 .1))
   kept (E-WHILE {c} {e}) he =
       let pl = placed g s p t K I ht (Redex.while c e) he in
       settle g s p t K I ht (Redex.while c e) he _ refl (pl .1 .0, (pl .1 .1, (pl .1 .0, pl .1 .1)), I .null-there)

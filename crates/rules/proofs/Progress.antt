@@ -2,7 +2,7 @@
 use Prim.Native.Nat.{ℕ, zero, suc, _<_}
 use native.Mathlib.Omega.{arith}
 use mathlib.Core.Path.{_≡_, refl, subst as along}
-use mathlib.Core.Bool.{Bool, true, false, cond}
+use mathlib.Core.Bool.{Bool, true, false, cond, true≢false}
 use mathlib.Core.List.{List, []}
 use mathlib.Core.Logic.{inl, inr}
 use mathlib.Core.Option.{Option, some, none}
@@ -145,17 +145,17 @@ inv-start g P = record {
     one zero t h =
         let e : record { self = 0; expression = Expression.call 0 Arguments.end; keys = singleton 0 } ≡ t = cc in
         along (Sound g start) e (record { good = (tt, (P .main, tt)); self-there = omega arith; held = λ o i. absurd i; once = tt })
-    one (suc p) t h = absurd (let z : _≡_ {A = ℕ} 0 1 = cc in omega arith)
+    one (suc p) t h = absurd (true≢false cc)
 
     two : (p q : ℕ) (t u : Thread) → getElem? (start .threads) p ≡ some t → getElem? (start .threads) q ≡ some u → p ≡ q
     two zero zero t u h k = refl
-    two zero (suc q) t u h k = absurd (let z : _≡_ {A = ℕ} 0 1 = cc in omega arith)
-    two (suc p) q t u h k = absurd (let z : _≡_ {A = ℕ} 0 1 = cc in omega arith)
+    two zero (suc q) t u h k = absurd (true≢false cc)
+    two (suc p) q t u h k = absurd (true≢false cc)
 
     three : (o f : ℕ) (c : Cell) → lookup start o f ≡ some c → c .value < 1
-    three zero f c h = absurd (let z : _≡_ {A = ℕ} 0 1 = cc in omega arith)
-    three (suc o) f c h = absurd (let z : _≡_ {A = ℕ} 0 1 = cc in omega arith)
+    three zero f c h = absurd (true≢false cc)
+    three (suc o) f c h = absurd (true≢false cc)
 
     four : (o : ℕ) (c : Cell) → monitor start o ≡ some c → c .value < 1
     four zero c h = let e : fresh ≡ c = cc in along (λ (z : Cell). z .value < 1) e (omega arith)
-    four (suc o) c h = absurd (let z : _≡_ {A = ℕ} 0 1 = cc in omega arith)
+    four (suc o) c h = absurd (true≢false cc)

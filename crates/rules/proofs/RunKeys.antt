@@ -3,23 +3,23 @@
 use Prim.Native.Nat.{ℕ, zero, suc, _≤_}
 use native.Mathlib.Omega.{arith}
 use mathlib.Core.Path.{_≡_, refl, sym, ap, _∙_, subst as along}
-use mathlib.Core.Bool.{Bool, true, false, not}
+use mathlib.Core.Bool.{Bool, true, not, true≢false, false≢true}
 use mathlib.Core.List.{List, [], _∷_, reverseAux, reverse}
 use mathlib.Core.Logic.{_⊎_, _↔_}
 use mathlib.Core.Option.{Option, some, none}
 use lib.Dec.{T, eqb, eqb·zero-suc}
 use lib.ListN.{getElem?}
 use Rattle.format.specs.Version.{v1}
-use Rattle.keys.specs.Keys.{Keys, singleton, holds, isEmpty}
+use Rattle.keys.specs.Keys.{singleton, holds, isEmpty}
 use Rattle.keys.proofs.KeyLaws.{holds-singleton}
 use Rattle.order.proofs.KeySets.{onlyZero}
-use Rattle.order.proofs.KeyMachine.{start as startKeys, after}
+use Rattle.order.proofs.KeyMachine.{start as startKeys}
 use Rattle.order.proofs.EverySet.{WouldReach, every-set}
 use Rattle.packed.specs.Syntax.{Expression, Arguments, Program}
 use Rattle.packed.proofs.WellFormed.{WellFormedProgram}
 use Rattle.records.specs.Record.{Record}
 use Rattle.rules.specs.State.{Cell, Thread, State, start, fresh, freshObject, lookup, monitor}
-use Rattle.rules.specs.Rules.{isVolatile, LacksHere, LACKS-READ, LACKS-WRITE, Lacks, LACKS}
+use Rattle.rules.specs.Rules.{LACKS-READ, LACKS-WRITE, Lacks, LACKS}
 use Rattle.rules.specs.Run.{Run, logged, stopped, afterPass, afterMove, play}
 use Rattle.rules.specs.Execution.{Execution, ends, passes, lacks-key, no-room, moves}
 use Rattle.rules.proofs.KeyBridge.{keysOf}
@@ -53,7 +53,7 @@ kept-start g = record {
   where
     one : (p : ℕ) (t : Thread) → getElem? (start .threads) p ≡ some t → T (eqb 0 p)
     one zero t h = tt
-    one (suc p) t h = absurd (let z : _≡_ {A = ℕ} 0 1 = cc in omega arith)
+    one (suc p) t h = absurd (true≢false cc)
 
     no-other : (p : ℕ) → 1 ≤ p → T (not (eqb 0 p))
     no-other zero h = absurd (omega arith)
@@ -61,7 +61,7 @@ kept-start g = record {
 
     known : (p : ℕ) (t : Thread) → getElem? (start .threads) p ≡ some t → (k : ℕ) → eqb k 0 ≡ holds (t .keys) k
     known zero t h k = let e : record { self = 0; expression = Expression.call 0 Arguments.end; keys = singleton 0 } ≡ t = cc in sym (holds-singleton 0 k) ∙ ap (λ (z : Thread). holds (z .keys) k) e
-    known (suc p) t h k = absurd (let z : _≡_ {A = ℕ} 0 1 = cc in omega arith)
+    known (suc p) t h k = absurd (true≢false cc)
 
     nowhere : (o f : ℕ) → lookup start o f ≡ none
     nowhere zero f = refl
@@ -72,8 +72,8 @@ kept-start g = record {
     free (suc o) k = sym (holds-singleton 0 k)
 
     held : (o : ℕ) (c : Cell) → monitor start o ≡ some c → isEmpty (c .keys) ≡ true → ⊥
-    held zero c m e = let y : fresh ≡ c = cc in let w : false ≡ true = ap (λ (z : Cell). isEmpty (z .keys)) y ∙ e in let q : _≡_ {A = ℕ} 0 1 = cc in omega arith
-    held (suc o) c m e = let z : _≡_ {A = ℕ} 0 1 = cc in omega arith
+    held zero c m e = let y : fresh ≡ c = cc in false≢true (ap (λ (z : Cell). isEmpty (z .keys)) y ∙ e)
+    held (suc o) c m e = true≢false cc
 
 -- ---- whole runs
 

@@ -3,7 +3,7 @@ use Prim.Native.Nat.{ℕ, zero, suc, _<_, _≤_, _+_}
 use native.Mathlib.Omega.{arith}
 use native.Mathlib.Decide.{ℕ-discrete}
 use mathlib.Core.Path.{_≡_, refl, sym, ap, _∙_}
-use mathlib.Core.Bool.{Bool, true, false, cond}
+use mathlib.Core.Bool.{Bool, true, false, cond, true≢false}
 use mathlib.Core.List.{List, [], _∷_, _++_}
 use mathlib.Core.Logic.{_⊎_, inl, inr}
 use mathlib.Core.Option.{Option, some, none, Option·map}
@@ -21,7 +21,7 @@ module _ {A : Type 0} where
   there (x ∷ l) (suc i) h = there l i (omega arith)
 
   pub inside : (l : List A) (i : ℕ) (x : A) → getElem? l i ≡ some x → i < length l
-  inside [] i x h = absurd (let z : _≡_ {A = ℕ} 0 1 = cc in omega arith)
+  inside [] i x h = absurd (true≢false cc)
   inside (y ∷ l) zero x h = omega arith
   inside (y ∷ l) (suc i) x h = let b = inside l i x h in omega arith
 
@@ -45,7 +45,7 @@ module _ {A : Type 0} where
 
   pub added : (l : List A) (x : A) (i : ℕ) (u : A) → getElem? (l ++ (x ∷ [])) i ≡ some u → ((i < length l) × (getElem? l i ≡ some u)) ⊎ ((i ≡ length l) × (x ≡ u))
   added [] x zero u h = inr (refl, cc)
-  added [] x (suc i) u h = absurd (let z : _≡_ {A = ℕ} 0 1 = cc in omega arith)
+  added [] x (suc i) u h = absurd (true≢false cc)
   added (y ∷ l) x zero u h = inl (omega arith, h)
   added (y ∷ l) x (suc i) u h = up (added l x i u h)
     where
@@ -79,7 +79,7 @@ module _ {A : Type 0} where
   -- an element of the changed list is an old one, or an old one changed
   pub changed : (xs : List A) (i : ℕ) (h : A → A) (j : ℕ) (y : A) → getElem? (changeAt xs i h) j ≡ some y → (x : A) × (getElem? xs j ≡ some x) × ((x ≡ y) ⊎ (h x ≡ y))
   unfolding changeAt
-  changed [] i h j y e = absurd (let z : _≡_ {A = ℕ} 0 1 = cc in omega arith)
+  changed [] i h j y e = absurd (true≢false cc)
   changed (x ∷ xs) zero h zero y e = (x, refl, inr (cc))
   changed (x ∷ xs) zero h (suc j) y e = (y, e, inl refl)
   changed (x ∷ xs) (suc i) h zero y e = (x, refl, inl (cc))
@@ -91,11 +91,29 @@ module _ {A : Type 0} where
   change-length (x ∷ xs) zero h = refl
   change-length (x ∷ xs) (suc i) h = ap suc (change-length xs i h)
 
+-- who stands at q after thread p, which was t, has changed
+pub who : (ts : List Thread) (p : ℕ) (h : Thread → Thread) (t : Thread) → getElem? ts p ≡ some t → (q : ℕ) (u : Thread) → getElem? (changeAt ts p h) q ≡ some u
+    → ((p ≡ q) × (h t ≡ u)) ⊎ ((p ≡ q → ⊥) × (getElem? ts q ≡ some u))
+who ts p h t at q u e = go (ℕ-discrete p q)
+  where
+    go : Dec (p ≡ q) → ((p ≡ q) × (h t ≡ u)) ⊎ ((p ≡ q → ⊥) × (getElem? ts q ≡ some u))
+    go (yes x) = let k : some (h t) ≡ some u = sym (change-same ts p h t at) ∙ ap (λ (a : ℕ). getElem? (changeAt ts p h) a) x ∙ e in inl (x, cc)
+    go (no x) = inr (x, sym (change-other ts p h q x) ∙ e)
+
+-- with whose self, where thread p's stays
+pub whose : (ts : List Thread) (p : ℕ) (h : Thread → Thread) (t : Thread) → getElem? ts p ≡ some t → h t .self ≡ t .self → (q : ℕ) (u : Thread) → getElem? (changeAt ts p h) q ≡ some u
+    → (v : Thread) × (getElem? ts q ≡ some v) × (u .self ≡ v .self)
+whose ts p h t at self q u e = go (who ts p h t at q u e)
+  where
+    go : ((p ≡ q) × (h t ≡ u)) ⊎ ((p ≡ q → ⊥) × (getElem? ts q ≡ some u)) → (v : Thread) × (getElem? ts q ≡ some v) × (u .self ≡ v .self)
+    go (inl (x, y)) = (t, rw (← x) at, ap (λ (z : Thread). z .self) (sym y) ∙ self)
+    go (inr (x, y)) = (u, y, refl)
+
 -- ---- fields of one object
 
 field-same : (xs : List Field) (f : ℕ) (c d : Cell) → findField xs f ≡ some d → findField (storeField xs f c) f ≡ some c
 unfolding findField storeField
-field-same [] f c d h = absurd (let z : _≡_ {A = ℕ} 0 1 = cc in omega arith)
+field-same [] f c d h = absurd (true≢false cc)
 field-same (x ∷ xs) f c d h = go (eqb (x .name) f) refl (field-same xs f c d)
   where
     go : (b : Bool) → eqb (x .name) f ≡ b → (findField xs f ≡ some d → findField (storeField xs f c) f ≡ some c)
@@ -132,7 +150,7 @@ module _ (s : State) (o f : ℕ) (c : Cell) where
 
   put-in : (x : Option Object) (d : Cell) → fieldOf x f ≡ some d → fieldOf (Option·map put x) f ≡ some c
   unfolding fieldOf
-  put-in none d h = absurd (let z : _≡_ {A = ℕ} 0 1 = cc in omega arith)
+  put-in none d h = absurd (true≢false cc)
   put-in (some x) d h = field-same (x .fields) f c d h
 
   pub store-same : (d : Cell) → lookup s o f ≡ some d → lookup (store s o f c) o f ≡ some c
@@ -166,7 +184,7 @@ module _ (s : State) (o : ℕ) (c : Cell) where
 
   lock-in : (x : Option Object) (d : Cell) → monitorOf x ≡ some d → monitorOf (Option·map lock x) ≡ some c
   unfolding monitorOf
-  lock-in none d h = absurd (let z : _≡_ {A = ℕ} 0 1 = cc in omega arith)
+  lock-in none d h = absurd (true≢false cc)
   lock-in (some x) d h = refl
 
   pub lock-same : (d : Cell) → monitor s o ≡ some d → monitor (storeMonitor s o c) o ≡ some c
@@ -224,7 +242,7 @@ module _ (s : State) (fs : List ℕ) where
   new-monitor o c h = ap monitorOf (added-old (s .objects) (freshObject fs) o (in-range (getElem? (s .objects) o) refl h)) ∙ h
     where
       in-range : (x : Option Object) → getElem? (s .objects) o ≡ x → monitorOf x ≡ some c → o < length (s .objects)
-      in-range none e h = absurd (let z : _≡_ {A = ℕ} 0 1 = cc in omega arith)
+      in-range none e h = absurd (true≢false cc)
       in-range (some x) e h = inside (s .objects) o x e
 
   -- the monitors of the longer list
@@ -240,19 +258,11 @@ pub monitor-there : (s : State) (o : ℕ) → o < length (s .objects) → (c : C
 unfolding monitor monitorOf
 monitor-there s o h = let x = there (s .objects) o h in (x .0 .monitor, ap monitorOf (x .1))
 
-pub lookup-inside : (s : State) (o f : ℕ) (c : Cell) → lookup s o f ≡ some c → o < length (s .objects)
-unfolding lookup fieldOf
-lookup-inside s o f c h = go (getElem? (s .objects) o) refl h
-  where
-    go : (x : Option Object) → getElem? (s .objects) o ≡ x → fieldOf x f ≡ some c → o < length (s .objects)
-    go none e h = absurd (let z : _≡_ {A = ℕ} 0 1 = cc in omega arith)
-    go (some x) e h = inside (s .objects) o x e
-
 -- ---- who a join finds
 
 pub found-thread : (ts : List Thread) (i o : ℕ) (q : Numbered) → threadOf i ts o ≡ some q → (j : ℕ) × (q .number ≡ i + j) × (getElem? ts j ≡ some (q .thread)) × (q .thread .self ≡ o)
 unfolding threadOf
-found-thread [] i o q h = absurd (let z : _≡_ {A = ℕ} 0 1 = cc in omega arith)
+found-thread [] i o q h = absurd (true≢false cc)
 found-thread (x ∷ ts) i o q h = go (eqb (x .self) o) refl h (found-thread ts (suc i) o q)
   where
     go : (b : Bool) → eqb (x .self) o ≡ b → cond b (some (record { number = i; thread = x })) (threadOf (suc i) ts o) ≡ some q

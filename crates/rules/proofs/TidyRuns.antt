@@ -2,11 +2,11 @@
 use Prim.Native.Nat.{ℕ, suc, _<_, _≤_}
 use native.Mathlib.Omega.{arith}
 use mathlib.Core.Path.{_≡_, refl, sym, subst as along}
-use mathlib.Core.Bool.{Bool, true, false, cond}
+use mathlib.Core.Bool.{false}
 use mathlib.Core.List.{List, []}
 use mathlib.Core.Option.{Option, some, none}
 use lib.ListN.{length, getElem?}
-use lib.Dec.{eqb, leb, nleb→lt}
+use lib.Dec.{eqb}
 use borrow.Author.Tests.{ne-eqb, le-ltb}
 use Rattle.keys.specs.Keys.{singleton, empty}
 use Rattle.packed.specs.Syntax.{Program, Expression}
@@ -15,7 +15,6 @@ use Rattle.rules.specs.State.{Cell, Thread, State, start, freshObject, s
 use Rattle.records.specs.Record.{Record}
 use Rattle.rules.specs.Rules.{Rule, LacksHere, LACKS-READ, LACKS-WRITE, Lacks, LACKS, Converts, E-CALL, E-LET, E-IF, E-WHILE, E-NEW, E-READ, E-WRITE, E-READV, E-WRITEV, E-FORK, E-JOIN, E-RE-ENTER, E-ACQUIRE, E-RELEASE, Moves, EVAL, EVALᶜ}
 use Rattle.rules.specs.Room.{Room, noRoomBefore, noRoomAfter, noRoomFor}
-use Rattle.format.specs.Refusal.{orElse}
 use Rattle.rules.specs.Run.{Run, logged, stopped, afterPass, afterMove, play}
 use Rattle.packed.proofs.WellFormed.{WellFormedProgram}
 use Rattle.records.proofs.Tidy.{Tidy, AllTidy}
@@ -25,6 +24,7 @@ use Rattle.rules.proofs.Invariant.{Inv}
 use Rattle.rules.proofs.Preserved.{placed}
 use Rattle.rules.specs.Execution.{Execution, ends, passes, lacks-key, no-room, moves}
 use Rattle.rules.proofs.Executed.{Reachable, reachable-start, reachable-move, play-executes}
+use Rattle.rules.proofs.RoomLaws.{room-for, both-none}
 
 -- within the room: 8 threads, 32 objects, keys 0 to 255
 pub record Roomy (s : State) : Type 0 where
@@ -48,18 +48,6 @@ roomy-lock : (s : State) (o : ℕ) (c : Cell) → Roomy s → Roomy (storeMonito
 unfolding storeMonitor
 roomy-lock s o c z = let a = z .objects32 in record { threads8 = z .threads8; objects32 = along (λ (n : ℕ). n ≤ 32) (sym (change-length (s .objects) o _)) a; keys256 = z .keys256 }
 
-below-when : (a b : ℕ) (k : Room) (r : Option Room) → cond (leb a b) (some k) r ≡ none → (b < a) × (r ≡ none)
-below-when a b k r h = go (leb a b) refl h
-  where
-    go : (x : Bool) → leb a b ≡ x → cond x (some k) r ≡ none → (b < a) × (r ≡ none)
-    go true e h = let z : _≡_ {A = ℕ} 0 1 = cc in absurd (omega arith)
-    go false e h = (nleb→lt a b (rw e tt), h)
-
-before-none : (a b : Option Room) → orElse a b ≡ none → a ≡ none
-unfolding orElse
-before-none none b h = refl
-before-none (some k) b h = cc
-
 nonzero : (f : ℕ) → 0 < f → eqb f 0 ≡ false
 nonzero f h = ne-eqb f 0 (λ e. omega arith)
 
@@ -81,16 +69,16 @@ module _ (g : Program) (s : State) (I : Inv g s) (z : Roomy s) (p : ℕ) (t : Th
   fits E-LET l = z
   fits (E-IF b) l = z
   fits E-WHILE l = z
-  fits (E-NEW {fs}) l = let b = below-when 32 (length (s .objects)) Room.object none l .0 in record { threads8 = z .threads8; objects32 = omega (arith, length-added (s .objects) (freshObject fs)); keys256 = z .keys256 }
+  fits (E-NEW {fs}) l = let b = room-for 32 (length (s .objects)) Room.object none l .0 in record { threads8 = z .threads8; objects32 = omega (arith, length-added (s .objects) (freshObject fs)); keys256 = z .keys256 }
   fits (E-READ w h k vol) l = z
   fits (E-WRITE w {o} {f} {u} {v} h k vol) l =
-      let b = below-when 256 (s .nextKey) Room.key none l .0 in
+      let b = room-for 256 (s .nextKey) Room.key none l .0 in
       roomy-learn (store (useKey s) o f (record { keys = singleton (s .nextKey); value = v })) p (singleton (s .nextKey)) (roomy-store (useKey s) o f (record { keys = singleton (s .nextKey); value = v }) (record { threads8 = z .threads8; objects32 = z .objects32; keys256 = omega arith }))
   fits (E-READV {W = W} h vol) l = roomy-learn s p W z
   fits (E-WRITEV {o} {f} h vol) l = roomy-store s o f _ z
   fits (E-FORK {e}) l =
-      let b = below-when 8 (length (s .threads)) Room.thread _ l in
-      let d = below-when 32 (length (s .objects)) Room.object none (b .1) .0 in
+      let b = room-for 8 (length (s .threads)) Room.thread _ l in
+      let d = room-for 32 (length (s .objects)) Room.object none (b .1) .0 in
       let c = b .0 in
       record { threads8 = omega (arith, length-added (s .threads) (record { self = length (s .objects); expression = e; keys = t .keys })); objects32 = omega (arith, length-added (s .objects) (freshObject [])); keys256 = z .keys256 }
   fits (E-JOIN {q = q} h l′) l = roomy-learn s p (q .thread .keys) z
@@ -104,14 +92,14 @@ module _ (g : Program) (s : State) (I : Inv g s) (z : Roomy s) (p : ℕ) (t : Th
   tidy E-LET he l = tt
   tidy (E-IF b) he l = tt
   tidy E-WHILE he l = tt
-  tidy (E-NEW {fs}) he l = let b = below-when 32 (length (s .objects)) Room.object none l .0 in record { thread-below = three; object-below = b; field-below = omega arith; value-below = omega arith; columns = refl }
+  tidy (E-NEW {fs}) he l = let b = room-for 32 (length (s .objects)) Room.object none l .0 in record { thread-below = three; object-below = b; field-below = omega arith; value-below = omega arith; columns = refl }
   tidy (E-READ w {o} {f} {v} h k vol) he l = let q = placed g s p t K I ht (Redex.read o f) he .1 in record { thread-below = three; object-below = five o (q .2); field-below = q .1; value-below = five v (I .cells o f _ h); columns = nonzero f (q .0) }
   tidy (E-WRITE w {o} {f} {u} {v} h k vol) he l = let q = placed g s p t K I ht (Redex.write o f v) he .1 in record { thread-below = three; object-below = five o (q .2); field-below = q .1; value-below = five v (q .3); columns = nonzero f (q .0) }
   tidy (E-READV {o} {f} {v} h vol) he l = let q = placed g s p t K I ht (Redex.read o f) he .1 in record { thread-below = three; object-below = five o (q .2); field-below = q .1; value-below = five v (I .cells o f _ h); columns = nonzero f (q .0) }
   tidy (E-WRITEV {o} {f} {u} {v} h vol) he l = let q = placed g s p t K I ht (Redex.write o f v) he .1 in record { thread-below = three; object-below = five o (q .2); field-below = q .1; value-below = five v (q .3); columns = nonzero f (q .0) }
   tidy (E-FORK {e}) he l =
-      let b = below-when 8 (length (s .threads)) Room.thread _ l in
-      let d = below-when 32 (length (s .objects)) Room.object none (b .1) .0 in
+      let b = room-for 8 (length (s .threads)) Room.thread _ l in
+      let d = room-for 32 (length (s .objects)) Room.object none (b .1) .0 in
       let c = b .0 in
       record { thread-below = three; object-below = d; field-below = omega arith; value-below = omega arith; columns = rw (le-ltb 7 (length (s .threads)) (omega arith)) }
   tidy (E-JOIN {o} {v} {q} h l′) he l =
@@ -134,7 +122,7 @@ module _ (g : Program) (s : State) (I : Inv g s) (z : Roomy s) (p : ℕ) (t : Th
 pub tidy-move : (g : Program) (s : State) → Inv g s → Roomy s → (p : ℕ) {R : Rule} {r : Option Record} {s′ : State} → Moves g s p R r s′ → noRoomFor R s p s′ ≡ none → Roomy s′ × TidyOr r
 unfolding noRoomFor
 tidy-move g s I z p (EVAL K {t} {e} {e′} {R} {r} {s′} ht he c) l =
-    let b = before-none (noRoomBefore s R) (noRoomAfter s p (become s′ p (plug K e′))) l in
+    let b = both-none (noRoomBefore s R) (noRoomAfter s p (become s′ p (plug K e′))) l .0 in
     (roomy-become s′ p (plug K e′) (fits g s I z p t ht K c b), tidy g s I z p t ht K c he b)
 tidy-move g s I z p (EVALᶜ K {t} ht he k) l = (roomy-become s p _ z, tt)
 

@@ -137,12 +137,14 @@ asLiteral (Expression.join e) = none
 asLiteral (Expression.synch e e′) = none
 asLiteral (Expression.hold o e) = none
 
+-- the condition is `true`
 unfoldable pub isTruth : Condition → Bool
 isTruth Condition.truth = true
 isTruth (Condition.not c) = false
 isTruth (Condition.and c c′) = false
 isTruth (Condition.equal e e′) = false
 
+-- "`not true` is the value false": what `not` is of a condition that is `true`, or is not
 unfoldable pub falseWhen : Bool → Option Bool
 falseWhen true = some false
 falseWhen false = none

@@ -1,6 +1,6 @@
 -- Executions (document 001, definition 6.5), with the picks passed over and the stop: demand 2 of one run (README, "What is proved"): each move by a rule
 -- of the write keys, one rule to each move, every plain write a new key, nothing passed over, stuck or stopped except for document 01's reasons. Assumes nothing.
-use Prim.Native.Nat.{ℕ}
+use Prim.Native.Nat.{ℕ, suc}
 use mathlib.Core.Path.{_≡_}
 use mathlib.Core.List.{List, [], _∷_}
 use mathlib.Core.Option.{Option, some, none}
@@ -30,3 +30,11 @@ module _ (g : Program) where
     moves : {s s′ : State} {p : ℕ} {ps : List ℕ} {r : Run} {R : Rule} {e : Option Record}
         → Moves g s p R e s′ → noRoomFor R s p s′ ≡ none → Execution s′ ps r
         → Execution s (p ∷ ps) (afterMove (record { rule = R; entry = e; state = s′ }) r)
+
+-- how many moves an execution has: the number of its rule instances
+unfoldable pub moveCount : {g : Program} {s : State} {ps : List ℕ} {r : Run} → Execution g s ps r → ℕ
+moveCount ends = 0
+moveCount (passes h x) = moveCount x
+moveCount (lacks-key h) = 0
+moveCount (no-room h e) = 0
+moveCount (moves h k x) = suc (moveCount x)

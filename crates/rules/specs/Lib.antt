@@ -7,3 +7,5 @@ pub mod Run
 pub mod Execution
 pub mod Play
 pub mod ShotList
+pub mod Observed
+pub mod NewKeys

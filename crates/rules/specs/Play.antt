@@ -26,6 +26,7 @@ wrongPick schedule i = ltb 7 (getD schedule i 0)
 unfoldable pub shortArea : List ℕ → List ℕ → Bool
 shortArea schedule area = ltb (length area) (3 * length schedule)
 
+-- checks 1 to 10: "Checks run in the order of the numbers, each over the whole input."
 unfoldable pub playChecks : List ℕ → List ℕ → List ℕ → List Check
 unfolding checks tooManyPicks wrongPick shortArea
 playChecks plan schedule area =
@@ -35,6 +36,7 @@ playChecks plan schedule area =
     ∷ checkWhole 10 (shortArea schedule area)
     ∷ [])
 
+-- the refusal of a play, if there is one
 unfoldable pub playRefusal : List ℕ → List ℕ → List ℕ → Option Refusal
 unfolding playChecks firstRefusal
 playRefusal plan schedule area = firstRefusal (playChecks plan schedule area)
@@ -49,6 +51,7 @@ pub data Played : Type 0 where
   refused : Refusal → Played
   ran : Outcome → Played
 
+-- the answer, by the refusal
 unfoldable pub playedBy : List ℕ → List ℕ → Option Refusal → Played
 unfolding runOf outcomeOf programOf
 playedBy plan schedule (some r) = refused r

@@ -3,10 +3,9 @@ use Prim.Native.Nat.{ℕ}
 use mathlib.Core.Path.{_≡_}
 use mathlib.Core.Bool.{Bool, false, cond, _||_}
 use mathlib.Core.List.{List, [], _∷_}
-use mathlib.Core.Option.{Option, some, none}
+use mathlib.Core.Option.{Option, some, none, orElse}
 use lib.Dec.{ltb, leb}
 use lib.ListN.{length, getElem?, drop}
-use Rattle.format.specs.Refusal.{orElse}
 use Rattle.keys.specs.Keys.{empty}
 use Rattle.packed.specs.Syntax.{Expression, Program, literal}
 use Rattle.records.specs.Record.{Record}
@@ -83,11 +82,13 @@ unfoldable pub deep : Thread → Bool
 unfolding depthOf focus
 deep t = ltb 32 (depthOf (focus top (t .expression)))
 
+-- a depth over 32 in a thread, if there is one
 unfoldable pub deepAt : Option Thread → Bool
 unfolding deep
 deepAt none = false
 deepAt (some t) = deep t
 
+-- a depth over 32 in one of these threads
 unfoldable pub anyDeep : List Thread → Bool
 unfolding deep
 anyDeep [] = false
@@ -111,6 +112,7 @@ pub data Answer : Type 0 where
   noRoom : Room → Answer  -- the run stops: no room
   moved : Move → Answer
 
+-- a move is made, or "the run stops at this pick, unmoved", for the room that it lacks
 unfoldable pub withinRoom : Move → Option Room → Answer
 withinRoom m none = moved m
 withinRoom m (some k) = noRoom k

@@ -1,7 +1,7 @@
 -- The evaluation rules of document 001, figures 7 and 8, as document 01 changes them, one constructor to a rule. Assumes nothing.
 use Prim.Native.Nat.{ℕ}
 use mathlib.Core.Path.{_≡_}
-use mathlib.Core.Bool.{Bool, true, false}
+use mathlib.Core.Bool.{Bool, true, false, cond}
 use mathlib.Core.List.{List, []}
 use mathlib.Core.Option.{Option, some, none}
 use lib.Dec.{eqb}
@@ -23,11 +23,6 @@ unfoldable pub isVolatile : Program → ℕ → Bool
 unfolding maskBit
 isVolatile g f = eqb (maskBit (g .volatiles) f) 1
 
--- E-IF's e_c
-unfoldable pub choose : Bool → Expression → Expression → Expression
-choose true e e′ = e
-choose false e e′ = e′
-
 -- Figures 7 and 8: in program g and state s thread p, which is t, converts an expression into another; the rule, its record, and the state after it.
 -- "Reads and writes give the value read or written [..]. Fork gives the new thread's object, and its number as field; join gives the object, the thread
 -- number as field, and the result as value. Columns without a use are 0. Other moves leave no record."
@@ -39,7 +34,7 @@ module _ (g : Program) (s : State) (p : ℕ) (t : Thread) where
     E-LET : {x : Option ℕ} {o : ℕ} {e : Expression}
         → Converts (Expression.letIn x (literal o) e) e-let none s (substitute (bind x o) e)
     E-IF : (b : Bool) {e e′ : Expression}
-        → Converts (Expression.if (bool b) e e′) e-if none s (choose b e e′)
+        → Converts (Expression.if (bool b) e e′) e-if none s (cond b e e′)
     E-WHILE : {c : Condition} {e : Expression}
         → Converts (Expression.while c e) e-while none s (Expression.if c (sequence e (Expression.while c e)) (literal 0))
     -- "Objects [..] are numbered in order of creation"

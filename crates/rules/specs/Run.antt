@@ -29,13 +29,16 @@ unfoldable pub logged : Option Record → List Record → List Record
 logged none L = L
 logged (some r) L = r ∷ L
 
+-- a run after a pick that is passed over: one pick more "dealt with"
 unfoldable pub afterPass : Run → Run
 afterPass r = record { stop = r .stop; picks = suc (r .picks); instances = r .instances; log = r .log; final = r .final }
 
+-- a run after a move: one pick and one rule more, and the move's record before the others
 unfoldable pub afterMove : Move → Run → Run
 unfolding logged
 afterMove m r = record { stop = r .stop; picks = suc (r .picks); instances = m .rule ∷ r .instances; log = logged (m .entry) (r .log); final = r .final }
 
+-- a run that ends here, with these records
 unfoldable pub stopped : Stop → List Record → State → Run
 stopped e L s = record { stop = e; picks = 0; instances = []; log = L; final = s }
 

@@ -12,11 +12,13 @@ pub data Expected : Type 0 where
   refused : ℕ → ℕ → Expected
   ran : Outcome → List Record → List ℕ → List ℕ → Expected
 
+-- a case: its plan, its picks and what must come of them
 pub record Shot : Type 0 where
   pub plan : List ℕ
   pub picks : List ℕ
   pub expected : Expected
 
+-- an outcome: how the run ended, picks, moves, records, and the eight thread states
 abbrev pub outcome : Stop → ℕ → ℕ → ℕ → List Status → Outcome
 outcome e p m r ts = record { stop = e; picks = p; moves = m; records = r; threads = ts }
 

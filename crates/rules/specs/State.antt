@@ -13,9 +13,11 @@ pub record Cell : Type 0 where
   pub keys : Keys
   pub value : ℕ
 
+-- the location that holds this set and this value
 abbrev pub cell : Keys → ℕ → Cell
 cell W o = record { keys = W; value = o }
 
+-- a field of an object: its name and what it holds
 pub record Field : Type 0 where
   pub name : ℕ
   pub cell : Cell
@@ -41,11 +43,13 @@ pub record State : Type 0 where
 unfoldable pub fresh : Cell
 fresh = cell (singleton 0) 0
 
+-- the fields of a new object
 unfoldable pub freshFields : List ℕ → List Field
 unfolding fresh
 freshFields [] = []
 freshFields (f ∷ fs) = record { name = f; cell = fresh } ∷ freshFields fs
 
+-- a new object with these fields
 unfoldable pub freshObject : List ℕ → Object
 unfolding freshFields
 freshObject fs = record { monitor = fresh; fields = freshFields fs }
@@ -58,19 +62,23 @@ changeAt (x ∷ xs) (suc i) h = x ∷ changeAt xs i h
 
 -- ---- μ
 
+-- what field f holds, if it is among these
 unfoldable pub findField : List Field → ℕ → Option Cell
 findField [] f = none
 findField (x ∷ xs) f = cond (eqb (x .name) f) (some (x .cell)) (findField xs f)
 
+-- these fields, where field f, if it is among them, holds c
 unfoldable pub storeField : List Field → ℕ → Cell → List Field
 storeField [] f c = []
 storeField (x ∷ xs) f c = cond (eqb (x .name) f) (record { name = f; cell = c } ∷ xs) (x ∷ storeField xs f c)
 
+-- field f of an object, if there is one
 unfoldable pub fieldOf : Option Object → ℕ → Option Cell
 unfolding findField
 fieldOf none f = none
 fieldOf (some x) f = findField (x .fields) f
 
+-- the monitor of an object, if there is one
 unfoldable pub monitorOf : Option Object → Option Cell
 monitorOf none = none
 monitorOf (some x) = some (x .monitor)
@@ -103,6 +111,7 @@ storeMonitor s o c = record {
   nextKey = s .nextKey;
 }
 
+-- "Objects [..] are numbered in order of creation": one more object
 unfoldable pub addObject : State → Object → State
 addObject s x = record { objects = s .objects ++ (x ∷ []); threads = s .threads; nextKey = s .nextKey }
 
@@ -126,6 +135,7 @@ become s p e = record {
   nextKey = s .nextKey;
 }
 
+-- "threads are numbered in order of creation": one more thread
 unfoldable pub addThread : State → Thread → State
 addThread s x = record { objects = s .objects; threads = s .threads ++ (x ∷ []); nextKey = s .nextKey }
 

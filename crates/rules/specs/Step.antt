@@ -10,7 +10,7 @@ use Rattle.packed.specs.Syntax.{Expression, Condition, Procedure, Program, lite
 use Rattle.records.specs.Record.{Kind, Record, entry}
 use Rattle.rules.specs.Context.{Context, top, plug, plugᶜ, Redex, Redexᶜ, Focus, value, here, hereᶜ, focus, asLiteral}
 use Rattle.rules.specs.State.{Cell, cell, Thread, State, Numbered, freshObject, lookup, monitor, store, storeMonitor, addObject, learn, become, addThread, useKey, threadOf}
-use Rattle.rules.specs.Rules.{Rule, isVolatile, choose, e-call, e-let, e-if, e-while, e-notnottrue, e-andtrue, e-andfalse, e-equaltrue, e-equalfalse, e-new, e-read, e-write, e-readv, e-writev, e-fork, e-join, e-re-enter, e-acquire, e-release}
+use Rattle.rules.specs.Rules.{Rule, isVolatile, e-call, e-let, e-if, e-while, e-notnottrue, e-andtrue, e-andfalse, e-equaltrue, e-equalfalse, e-new, e-read, e-write, e-readv, e-writev, e-fork, e-join, e-re-enter, e-acquire, e-release}
 
 -- "waiting (monitor held by another, or join of an unfinished thread, itself included)", with the object
 pub data Wait : Type 0 where
@@ -91,13 +91,13 @@ holdAct s p t o v (some c) =
 
 -- the rules for expressions: thread p, which is t
 unfoldable pub act : Program → State → ℕ → Thread → Redex → Act
-unfolding callAct readAct writeAct joinAct synchAct holdAct bind substitute choose sequence freshObject addObject addThread lookup monitor threadOf
+unfolding callAct readAct writeAct joinAct synchAct holdAct bind substitute sequence freshObject addObject addThread lookup monitor threadOf
 act g s p t (Redex.variable x) = sticks noRule
 act g s p t (Redex.new fs) = does e-new (some (entry Kind.new p (length (s .objects)) 0 0)) (addObject s (freshObject fs)) (literal (length (s .objects)))
 act g s p t (Redex.read o f) = readAct g s p t o f (lookup s o f)
 act g s p t (Redex.write o f v) = writeAct g s p t o f v (lookup s o f)
 act g s p t (Redex.letIn x o e) = does e-let none s (substitute (bind x o) e)
-act g s p t (Redex.if b e e′) = does e-if none s (choose b e e′)
+act g s p t (Redex.if b e e′) = does e-if none s (cond b e e′)
 act g s p t (Redex.while c e) = does e-while none s (Expression.if c (sequence e (Expression.while c e)) (literal 0))
 act g s p t (Redex.call m os) = callAct s (getElem? (g .procedures) m) os
 act g s p t (Redex.fork e) =
@@ -113,6 +113,7 @@ pub record Actᶜ : Type 0 where
   pub rule : Rule
   pub result : Condition
 
+-- E-EQUALTRUE or E-EQUALFALSE, by whether the two objects are one
 unfoldable pub equalAct : Bool → Actᶜ
 unfolding bool
 equalAct true = record { rule = e-equaltrue; result = bool true }
@@ -148,12 +149,14 @@ around s p K (sticks r) = stuck r
 around s p K (lacks r) = lacking r
 around s p K (does R r s′ e) = moves (record { rule = R; entry = r; state = become s′ p (plug K e) })
 
+-- what thread p, which is t, can do where it moves next
 unfoldable pub attemptAt : Program → State → ℕ → Thread → Focus → Attempt
 unfolding around act actᶜ become plug
 attemptAt g s p t (value o) = finished o
 attemptAt g s p t (here K r) = around s p K (act g s p t r)
 attemptAt g s p t (hereᶜ K r) = moves (record { rule = actᶜ r .rule; entry = none; state = become s p (plugᶜ K (actᶜ r .result)) })
 
+-- what thread p can do, if it is there
 unfoldable pub attemptBy : Program → State → ℕ → Option Thread → Attempt
 unfolding attemptAt focus
 attemptBy g s p none = absent

@@ -17,9 +17,10 @@ ghost use mathlib.Core.Bool.{_&&_, _||_, not};
 ghost use Prim.Native.Nat.{_<_, _≤_, _/_, _%_};
 ghost use lib.Dec.{ltb, leb, eqb};
 ghost use lib.ListN.{replicate};
+ghost use Rattle.format.specs.Lowest.{Lowest};
 ghost use Rattle.packed.specs.Format.{binder, mask};
 ghost use Rattle.packed.specs.Refusals.{wrongOperand, breaksTable, wrongTerm};
-ghost use Rattle.packed.specs.Steps.{Headed, Lowest, Loaded, outside, termIn};
+ghost use Rattle.packed.specs.Steps.{Headed, Loaded, outside, termIn};
 
 // A child index not above its parent's, or not below the count.
 fn outside(v: usize, t: usize, count: usize) -> bool

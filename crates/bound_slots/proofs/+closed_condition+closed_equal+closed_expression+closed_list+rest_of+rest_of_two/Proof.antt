@@ -5,12 +5,15 @@ use native.Mathlib.Omega.{arith}
 use Prim.Native.Nat.{_+_, _*_, _-_, _/_, _%_, _≤_}
 use mathlib.Core.Bool.{Bool, true, _&&_}
 use lib.ListN.{getD}
+use borrow.Author.Tests.{not-true as not-yes, not-false as not-no}
 use Rattle.packed.specs.Format.{layout, table}
 use Rattle.packed.specs.Trees.{nodes, nodeOf, binderOf, expressionOf, conditionOf, argumentsOf}
 use Rattle.packed.specs.Slots.{closed, closedᶜ, closedᵃ, bound}
 use Rattle.packed.specs.Steps.{inWord, tagIn, slots, treeIn, conditionIn, listIn}
 use Rattle.bound_slots.specs.Left.{seen, After}
-use Rattle.packed.proofs.Walk.{expr-is, cond-is, list-is, row-below, leaf-is, bound-is, and-true, and-false, and-swap, and-no, and-three, and-none, not-yes, not-no, expr-rest, cond-rest, list-rest, mod-below, apart, inside, beyond, here, just}
+use Rattle.packed.proofs.Walk.{expr-is, cond-is, list-is, row-below, leaf-is, expr-rest, cond-rest, list-rest}
+use Rattle.packed.proofs.SlotMasks.{bound-is}
+use Rattle.packed.proofs.WalkSteps.{and-true, and-false, and-swap, and-no, and-three, and-none, mod-below, apart, inside, beyond, here, just}
 use Rattle.bound_slots.proofs.LeftLaws.{seen-told, after-told}
 use Prim.Native.Nat.{ℕ, _<_}
 use borrow.Fn.Kinds.{In}

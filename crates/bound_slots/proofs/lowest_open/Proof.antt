@@ -6,11 +6,13 @@ use Prim.Native.Nat.{ℕ, _-_, _≤_, _<_}
 use mathlib.Core.Bool.{false}
 use borrow.Author.Count.{below-more}
 use lib.Pow.{pow-pos}
+use Rattle.format.proofs.LowestLaws.{found, found-none}
 use Rattle.packed.specs.Refusals.{usesUnboundSlot}
 use Rattle.packed.specs.Slots.{closed}
 use Rattle.format.proofs.BitLaws.{shl-one}
-use Rattle.packed.proofs.Lowest.{parameters-small, root-below, found, found-none}
-use Rattle.packed.proofs.Walk.{open-of, ordered, tree-is}
+use Rattle.packed.proofs.Shown.{parameters-small, root-below}
+use Rattle.packed.proofs.NodeOrder.{ordered, tree-is}
+use Rattle.packed.proofs.SlotMasks.{open-of}
 use Rattle.bound_slots.proofs.lowest_open.Statement.{statement}
 use Rattle.bound_slots.proofs.lowest_open.Tie as tie
 

@@ -1,6 +1,6 @@
 -- `lowest_wrong_procedure`: the procedures so far are right.
+use Rattle.format.proofs.LowestLaws.{found, found-none}
 use Rattle.packed.specs.Refusals.{wrongProcedure}
-use Rattle.packed.proofs.Lowest.{found, found-none}
 use borrow.Author.Count.{below-more}
 use mathlib.Core.Bool.{false}
 use Prim.Native.Nat.{ℕ}

@@ -25,7 +25,7 @@ wrong-record-requires c κs = search needs
 
 returns : tie.Need-returns Inv-loop μ-loop
 unfolding recordCount
-returns c = record { within = omega arith; lower-right = c .before .before .before .loop .inv .2; is-wrong = λ h. sym (c .before .wrong-record .ensures) ∙ c .if1 .taken }
+returns c = record { within = omega arith; here = λ h. sym (c .before .wrong-record .ensures) ∙ c .if1 .taken; before = c .before .before .before .loop .inv .2 }
 
 add-i : tie.Need-add-i Inv-loop μ-loop
 add-i c = search needs
@@ -38,7 +38,7 @@ loop-again c = (omega arith, c .before .before .before .loop .inv .1, below-more
 
 returns-2 : tie.Need-returns-2 Inv-loop μ-loop
 unfolding recordCount
-returns-2 c = record { within = omega arith; lower-right = c .before .loop .inv .2; is-wrong = λ h. absurd (omega arith) }
+returns-2 c = record { within = omega arith; here = λ h. absurd (omega arith); before = c .before .loop .inv .2 }
 
 pub lowest-wrong-spec : {M : Type 1} → statement M
 lowest-wrong-spec =

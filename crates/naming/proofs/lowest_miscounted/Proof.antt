@@ -3,8 +3,8 @@ use mathlib.Core.Path.{_≡_}
 use Prim.Native.Nat.{ℕ, _-_, _<_, _≤_}
 use native.Mathlib.Omega.{arith}
 use borrow.Author.Tests.{eq-eqb, ne-eqb}
+use Rattle.format.proofs.LowestLaws.{found, found-none}
 use Rattle.packed.specs.Steps.{notOnce}
-use Rattle.packed.proofs.Lowest.{found, found-none}
 use borrow.Author.Count.{below-more}
 use mathlib.Core.Bool.{false}
 use borrow.Author.Needs.{needs}

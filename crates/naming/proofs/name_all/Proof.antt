@@ -4,7 +4,8 @@ use borrow.Author.Needs.{needs}
 use native.Mathlib.Omega.{arith}
 use Prim.Native.Nat.{_-_, _≤_}
 use native.Mathlib.Numerals.{add-one}
-use Rattle.packed.specs.Steps.{Lowest, Counted, faults, allTimes}
+use Rattle.format.specs.Lowest.{Lowest}
+use Rattle.packed.specs.Steps.{Counted, faults, allTimes}
 use Rattle.packed.proofs.SortLaws.{no-faults, one-term, all-faults}
 use Rattle.packed.proofs.NameLaws.{no-terms, term-step}
 use Rattle.naming.proofs.name_all.Statement.{statement}

@@ -4,8 +4,9 @@ use borrow.Author.Needs.{needs}
 use native.Mathlib.Omega.{arith}
 use Prim.Native.Nat.{_-_, _≤_}
 use native.Mathlib.Numerals.{add-one}
-use Rattle.packed.specs.Steps.{Lowest, Counted, misplacedRoot, rootTimes}
-use Rattle.packed.proofs.Lowest.{root-below}
+use Rattle.format.specs.Lowest.{Lowest}
+use Rattle.packed.specs.Steps.{Counted, misplacedRoot, rootTimes}
+use Rattle.packed.proofs.Shown.{root-below}
 use Rattle.packed.proofs.SortLaws.{no-root, one-root}
 use Rattle.packed.proofs.NameLaws.{no-names, root-step}
 use Rattle.naming.proofs.name_roots.Statement.{statement}

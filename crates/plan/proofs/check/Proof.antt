@@ -3,11 +3,12 @@ use mathlib.Core.Path.{_≡_, refl, sym, ap, _∙_}
 use borrow.Author.Needs.{needs}
 use mathlib.Core.Option.{some, none}
 use Rattle.format.specs.Refusal.{lowest, refuse}
+use Rattle.format.proofs.LowestLaws.{whole, whole-none, missed, struck}
 use Rattle.packed.specs.Format.{procedures, terms}
 use Rattle.packed.specs.Refusals.{wrongLength, wrongHeader, wrongProcedure, wrongTerm, wronglySorted, notNamedOnce, usesUnboundSlot}
-use Rattle.plan.specs.Answer.{answered}
-use Rattle.packed.proofs.Lowest.{whole, whole-none, missed, struck, chain, long-enough, make-sized, make-headed, make-right}
+use Rattle.packed.proofs.Shown.{chain, long-enough, make-sized, make-headed, make-right}
 use Rattle.packed.proofs.NameLaws.{all-names}
+use Rattle.plan.specs.Answer.{answered}
 use Rattle.plan.proofs.check.Statement.{statement}
 use Rattle.plan.proofs.check.Tie as tie
 

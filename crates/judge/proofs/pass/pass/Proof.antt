@@ -1,8 +1,8 @@
 -- `judge::pass::pass` meets its contract. The invariant is `Going`: the rows show the clocks, the writes are the last writes, no record so far is late. The
 -- measure is the count of records left. Assumes nothing.
-use Rattle.judge.proofs.Table.{rowAt}
-use Rattle.judge.proofs.Going.{Going, Here, going-start, short, known, source-below, target-below, own-few, heard-few, one-few, last-thread, names-late, next-by, none-named}
 use Rattle.format.specs.Version.{versionOf}
+use Rattle.judge.proofs.Table.{rowAt}
+use Rattle.judge.proofs.Going.{Going, going-start, one-few, none-named}
 use lib.ListN.{length}
 use native.Mathlib.Omega.{arith}
 use mathlib.Core.Path.{_≡_, refl, sym, _∙_}
@@ -10,6 +10,8 @@ use Prim.Native.Nat.{_-_, _/_, _≤_}
 use borrow.Author.Needs.{needs}
 use Rattle.judge.proofs.pass.pass.Statement.{statement}
 use Rattle.judge.proofs.pass.pass.Tie as tie
+use Rattle.judge.proofs.Here.{Here, short, known, source-below, target-below, own-few, heard-few, last-thread, names-late}
+use Rattle.judge.proofs.Next.{next-by}
 
 abbrev Inv-loop : tie.InvT-loop
 Inv-loop log version count ones rows₀ writes₀ i₀ rows writes i = (i ≤ count) × (count ≡ length log / 3) × Going (versionOf version) log i rows writes

@@ -5,8 +5,8 @@ use native.Mathlib.Omega.{arith}
 use Prim.Native.Nat.{suc, _+_, _-_, _<_, _≤_}
 use Rattle.packed.specs.Format.{termAt}
 use Rattle.packed.specs.Refusals.{listLength}
+use Rattle.packed.proofs.ListLaws.{list-stop, list-step, rest-between, next-is, no-next}
 use lib.ListN.{getD}
-use Rattle.packed.proofs.SortLaws.{list-stop, list-step, rest-between, next-is, no-next}
 use Rattle.naming.proofs.sorts.list_length.Statement.{statement}
 use Rattle.naming.proofs.sorts.list_length.Tie as tie
 

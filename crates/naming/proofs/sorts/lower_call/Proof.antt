@@ -8,7 +8,8 @@ use lib.ListN.{getD}
 use Rattle.packed.specs.Format.{tagAt}
 use Rattle.packed.specs.Steps.{wordAt}
 use Rattle.packed.proofs.Reading.{tag-was, tag-in}
-use Rattle.packed.proofs.SortLaws.{no-call, list-below, callee-below, called}
+use Rattle.packed.proofs.SortLaws.{no-call}
+use Rattle.packed.proofs.ListLaws.{list-below, callee-below, called}
 use Rattle.naming.proofs.sorts.lower_call.Statement.{statement}
 use Rattle.naming.proofs.sorts.lower_call.Tie as tie
 

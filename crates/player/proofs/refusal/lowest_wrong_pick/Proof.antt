@@ -6,7 +6,7 @@ use lib.ListN.{length, getD}
 use borrow.Author.Needs.{needs}
 use borrow.Author.Tests.{lt-ltb, le-ltb}
 use borrow.Author.Count.{below-more}
-use Rattle.packed.proofs.Lowest.{found, found-none}
+use Rattle.format.proofs.LowestLaws.{found, found-none}
 use Rattle.rules.specs.Play.{wrongPick}
 use Rattle.player.proofs.refusal.lowest_wrong_pick.Statement.{statement}
 use Rattle.player.proofs.refusal.lowest_wrong_pick.Tie as tie

@@ -8,7 +8,7 @@ use borrow.Author.Needs.{needs}
 use borrow.Author.Tests.{lt-ltb, le-ltb}
 use Rattle.format.specs.Refusal.{lowest, refuse}
 use Rattle.plan.specs.Answer.{answered}
-use Rattle.packed.proofs.Lowest.{whole, whole-none, missed, struck}
+use Rattle.format.proofs.LowestLaws.{whole, whole-none, missed, struck}
 use Rattle.rules.specs.Play.{tooManyPicks, wrongPick, shortArea}
 use Rattle.player.proofs.RefusalChain.{by-plan, by-later}
 use Rattle.player.proofs.refusal.refusal.Statement.{statement}

@@ -6,9 +6,9 @@ use Prim.Native.Nat.{ℕ, _-_, _≤_, _<_}
 use mathlib.Core.Bool.{true, false}
 use native.Mathlib.Numerals.{add-one}
 use borrow.Author.Count.{below-more}
+use Rattle.format.proofs.LowestLaws.{found, found-none}
 use Rattle.packed.specs.Refusals.{wrongTerm}
 use Rattle.packed.specs.Steps.{Loaded}
-use Rattle.packed.proofs.Lowest.{found, found-none}
 use Rattle.packed.proofs.SingleTerm.{judged, unloaded, loaded-more}
 use Rattle.terms.proofs.table.load.Statement.{statement}
 use Rattle.terms.proofs.table.load.Tie as tie

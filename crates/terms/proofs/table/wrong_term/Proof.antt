@@ -1,10 +1,11 @@
 -- `wrong_term`: each shape, by the tag, is a row of the table.
 use mathlib.Core.Path.{refl, _∙_}
+use mathlib.Core.Bool.{or-false as or-no}
 use borrow.Author.Needs.{needs}
 use Rattle.packed.specs.Format.{layout, table}
 use Rattle.packed.specs.Refusals.{breaksTable, someOperand}
 use Rattle.packed.specs.Steps.{inWord}
-use Rattle.packed.proofs.SingleTerm.{tested, past-table, no-row, or-no}
+use Rattle.packed.proofs.SingleTerm.{tested, past-table, no-row}
 use Prim.Native.Nat.{_/_}
 use Rattle.terms.proofs.table.wrong_term.Statement.{statement}
 use Rattle.terms.proofs.table.wrong_term.Tie as tie

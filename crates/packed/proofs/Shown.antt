@@ -1,50 +1,21 @@
--- The lowest number at which a test passes, and what a check of a whole plan shows to the next. Assumes nothing.
-use mathlib.Core.Path.{_≡_, refl, sym, _∙_}
-use mathlib.Core.Bool.{Bool, true, false, not}
+-- The answer, check by check, and what a check of a whole plan shows to the next. Assumes nothing.
+use mathlib.Core.Path.{_≡_, refl}
+use mathlib.Core.Bool.{false, not}
 use mathlib.Core.List.{List}
-use mathlib.Core.Option.{some, none}
+use mathlib.Core.Option.{none}
 use Prim.Native.Nat.{ℕ, _≤_, _<_}
 use native.Mathlib.Omega.{arith}
 use lib.Dec.{eqb, ltb}
 use lib.ListN.{length}
 use borrow.Author.Tests.{ltb-false}
-use Rattle.format.specs.Refusal.{lowest, orElse, refuse, firstRefusal}
-use Rattle.format.proofs.RefusalLaws.{neither, none-below, at-first}
+use Rattle.format.specs.Refusal.{lowest, refuse, firstRefusal}
+use Rattle.format.specs.Lowest.{Lowest}
+use Rattle.format.proofs.RefusalLaws.{neither}
 use Rattle.packed.specs.Format.{procedures, terms, parameters, root, planLength}
 use Rattle.packed.specs.Refusals.{wrongLength, wrongHeader, wrongProcedure, wrongTerm, wronglySorted, notNamedOnce, usesUnboundSlot}
 use Rattle.packed.specs.Check.{checks, refusal}
-use Rattle.packed.specs.Steps.{Lowest, Sized, Headed, Right}
+use Rattle.packed.specs.Steps.{Sized, Headed, Right}
 use Rattle.packed.proofs.Passing.{length-of, header-of, procedure-of}
-
-pub found : (f : ℕ → Bool) (n i : ℕ) → i < n → f i ≡ true → ((k : ℕ) → k < i → f k ≡ false) → Lowest f n i
-found f n i h e b = record { within = omega arith; here = λ q. e; before = b }
-
-pub found-none : (f : ℕ → Bool) (n i : ℕ) → i ≤ n → n ≤ i → ((k : ℕ) → k < i → f k ≡ false) → Lowest f n i
-found-none f n i h g b = record { within = h; here = λ q. absurd (omega arith); before = b }
-
-pub lowest-ext : (f g : ℕ → Bool) (n r : ℕ) → ((k : ℕ) → k < n → f k ≡ g k) → Lowest f n r → Lowest g n r
-lowest-ext f g n r e l =
-    record {
-      within = l .within;
-      here = λ h. sym (e r h) ∙ l .here h;
-      before = λ k h. let w = l .within in sym (e k (omega arith)) ∙ l .before k h;
-    }
-
--- ---- as the definitions have it
-
-pub missed : (f : ℕ → Bool) (n n′ r : ℕ) → n ≡ n′ → Lowest f n r → n ≤ r → lowest f n′ ≡ none
-missed f n n′ r e l h = none-below f n′ (λ k q. l .before k (omega arith))
-
-pub struck : (f : ℕ → Bool) (n n′ r : ℕ) → n ≡ n′ → Lowest f n r → r < n → lowest f n′ ≡ some r
-struck f n n′ r e l h = at-first f n′ r (omega arith) (l .here h) (l .before)
-
-pub whole : (x : Bool) → x ≡ true → lowest (λ place. x) 1 ≡ some 0
-unfolding lowest orElse
-whole x e = rw e
-
-pub whole-none : (x : Bool) → x ≡ false → lowest (λ place. x) 1 ≡ none
-unfolding lowest orElse
-whole-none x e = rw e
 
 -- the answer, check by check
 pub chain : (b : List ℕ) → refusal b

@@ -1,0 +1,168 @@
+-- Ports and their rows: the row that a record hears and the row that it tells are those of its ports. Assumes nothing.
+use Prim.Native.Nat.{ℕ, _<_}
+use native.Mathlib.Omega.{arith}
+use mathlib.Core.Path.{_≡_, refl, sym, ap}
+use mathlib.Core.Logic.{_⊎_, inl, inr}
+use mathlib.Core.Option.{Option, some, none}
+use Rattle.format.specs.Version.{Version, v0, v1}
+use Rattle.records.specs.Record.{Kind, new, read, write, readv, writev, acquire, release, fork, join, lacksRead, lacksWrite, Record, entry}
+use Rattle.order.proofs.Ports.{Port, ofThread, ofMonitor, ofVolatile, Feeds}
+use Rattle.order.proofs.Clock.{second, secondPort}
+use Rattle.effects.specs.Rows.{monitorRow, volatileRow, heardRow, toldRow}
+
+-- the row of a port
+abbrev pub rowOf : Port → ℕ
+rowOf (ofThread q) = q
+rowOf (ofMonitor o) = monitorRow o
+rowOf (ofVolatile o f) = volatileRow o f
+
+-- the port that a record feeds besides its thread's
+abbrev fedPort : Version → Kind → ℕ → ℕ → Option Port
+fedPort v new o f = none
+fedPort v read o f = none
+fedPort v write o f = none
+fedPort v0 readv o f = none
+fedPort v1 readv o f = none
+fedPort v0 writev o f = none
+fedPort v1 writev o f = some (ofVolatile o f)
+fedPort v acquire o f = none
+fedPort v release o f = some (ofMonitor o)
+fedPort v fork o f = some (ofThread f)
+fedPort v join o f = none
+fedPort v lacksRead o f = none
+fedPort v lacksWrite o f = none
+
+-- a second port, or the thread's
+abbrev pub portOr : ℕ → Option Port → Port
+portOr t none = ofThread t
+portOr t (some p) = p
+
+-- the row that a record hears is that of its second port
+pub heard-row : (v : Version) (k : Kind) (t o f : ℕ) → heardRow v k t o f ≡ rowOf (portOr t (secondPort v k o f))
+heard-row v new t o f = refl
+heard-row v read t o f = refl
+heard-row v write t o f = refl
+heard-row v0 readv t o f = refl
+heard-row v1 readv t o f = refl
+heard-row v0 writev t o f = refl
+heard-row v1 writev t o f = refl
+heard-row v acquire t o f = refl
+heard-row v release t o f = refl
+heard-row v fork t o f = refl
+heard-row v join t o f = refl
+heard-row v lacksRead t o f = refl
+heard-row v lacksWrite t o f = refl
+
+-- the row that it tells is that of the port that it feeds
+pub told-row : (v : Version) (k : Kind) (t o f : ℕ) → toldRow v k t o f ≡ rowOf (portOr t (fedPort v k o f))
+told-row v new t o f = refl
+told-row v read t o f = refl
+told-row v write t o f = refl
+told-row v0 readv t o f = refl
+told-row v1 readv t o f = refl
+told-row v0 writev t o f = refl
+told-row v1 writev t o f = refl
+told-row v acquire t o f = refl
+told-row v release t o f = refl
+told-row v fork t o f = refl
+told-row v join t o f = refl
+told-row v lacksRead t o f = refl
+told-row v lacksWrite t o f = refl
+
+abbrev pub Valid : Port → Type 0
+Valid (ofThread q) = q < 8
+Valid (ofMonitor o) = o < 32
+Valid (ofVolatile o f) = (o < 32) × (f < 32)
+
+pub row-below : (p : Port) → Valid p → rowOf p < 1064
+row-below (ofThread q) h = omega arith
+row-below (ofMonitor o) h = omega arith
+row-below (ofVolatile o f) h = omega arith
+
+-- each port has a row of its own
+pub row-once : (p q : Port) → Valid p → Valid q → rowOf p ≡ rowOf q → p ≡ q
+row-once (ofThread a) (ofThread b) x y e = ap ofThread e
+row-once (ofThread a) (ofMonitor b) x y e = absurd (omega arith)
+row-once (ofThread a) (ofVolatile b c) x y e = absurd (omega arith)
+row-once (ofMonitor a) (ofThread b) x y e = absurd (omega arith)
+row-once (ofMonitor a) (ofMonitor b) x y e = ap ofMonitor (omega arith)
+row-once (ofMonitor a) (ofVolatile b c) x y e = absurd (omega arith)
+row-once (ofVolatile a d) (ofThread b) x y e = absurd (omega arith)
+row-once (ofVolatile a d) (ofMonitor b) x y e = absurd (omega arith)
+row-once (ofVolatile a d) (ofVolatile b c) x y e =
+    let p : a ≡ b = omega arith in
+    let q : d ≡ c = omega arith in
+    rw (p, q)
+
+-- a record as refusal 12 leaves it
+pub record Fits (r : Record) : Type 0 where
+  pub thread-fits : r .thread < 8
+  pub object-fits : r .object < 32
+  pub field-fits : r .field < 32
+  pub fork-fits : r .kind ≡ fork → r .field < 8
+  pub join-fits : r .kind ≡ join → r .field < 8
+
+abbrev pub sourcePort : Version → Record → Port
+sourcePort v r = portOr (r .thread) (second v r)
+
+abbrev pub targetPort : Version → Record → Port
+targetPort v r = portOr (r .thread) (fedPort v (r .kind) (r .object) (r .field))
+
+source-by : (v : Version) (k : Kind) (t o f x : ℕ) → Fits (entry k t o f x) → Valid (portOr t (secondPort v k o f))
+source-by v new t o f x w = w .thread-fits
+source-by v read t o f x w = w .thread-fits
+source-by v write t o f x w = w .thread-fits
+source-by v0 readv t o f x w = w .thread-fits
+source-by v1 readv t o f x w = (w .object-fits, w .field-fits)
+source-by v0 writev t o f x w = w .thread-fits
+source-by v1 writev t o f x w = w .thread-fits
+source-by v acquire t o f x w = w .object-fits
+source-by v release t o f x w = w .thread-fits
+source-by v fork t o f x w = w .thread-fits
+source-by v join t o f x w = w .join-fits refl
+source-by v lacksRead t o f x w = w .thread-fits
+source-by v lacksWrite t o f x w = w .thread-fits
+
+pub source-valid : (v : Version) (r : Record) → Fits r → Valid (sourcePort v r)
+source-valid v r w = source-by v (r .kind) (r .thread) (r .object) (r .field) (r .value) w
+
+target-by : (v : Version) (k : Kind) (t o f x : ℕ) → Fits (entry k t o f x) → Valid (portOr t (fedPort v k o f))
+target-by v new t o f x w = w .thread-fits
+target-by v read t o f x w = w .thread-fits
+target-by v write t o f x w = w .thread-fits
+target-by v0 readv t o f x w = w .thread-fits
+target-by v1 readv t o f x w = w .thread-fits
+target-by v0 writev t o f x w = w .thread-fits
+target-by v1 writev t o f x w = (w .object-fits, w .field-fits)
+target-by v acquire t o f x w = w .thread-fits
+target-by v release t o f x w = w .object-fits
+target-by v fork t o f x w = w .fork-fits refl
+target-by v join t o f x w = w .thread-fits
+target-by v lacksRead t o f x w = w .thread-fits
+target-by v lacksWrite t o f x w = w .thread-fits
+
+pub target-valid : (v : Version) (r : Record) → Fits r → Valid (targetPort v r)
+target-valid v r w = target-by v (r .kind) (r .thread) (r .object) (r .field) (r .value) w
+
+-- the port is fed
+pub target-feeds : (v : Version) (k : Kind) (t o f x : ℕ) → Feeds v (entry k t o f x) (portOr t (fedPort v k o f))
+target-feeds v new t o f x = inl refl
+target-feeds v read t o f x = inl refl
+target-feeds v write t o f x = inl refl
+target-feeds v0 readv t o f x = inl refl
+target-feeds v1 readv t o f x = inl refl
+target-feeds v0 writev t o f x = inl refl
+target-feeds v1 writev t o f x = (refl, refl, refl, refl)
+target-feeds v acquire t o f x = inl refl
+target-feeds v release t o f x = (refl, refl)
+target-feeds v fork t o f x = inr (refl, refl)
+target-feeds v join t o f x = inl refl
+target-feeds v lacksRead t o f x = inl refl
+target-feeds v lacksWrite t o f x = inl refl
+
+-- and besides the thread's no other is
+pub fed-target : (v : Version) (r : Record) (p : Port) → Feeds v r p → (p ≡ ofThread (r .thread)) ⊎ (p ≡ targetPort v r)
+fed-target v r (ofThread q) (inl e) = inl (ap ofThread (sym e))
+fed-target v r (ofThread q) (inr (e, g)) = inr (rw (e, g))
+fed-target v r (ofMonitor o) (e, g) = inr (rw (e, g))
+fed-target v r (ofVolatile o f) (c, e, g, h) = inr (rw (c, e, g, h))

@@ -1,0 +1,139 @@
+-- What the state of the machine stands for, and what the parts of a move stand for, over the table of a program. Assumes nothing.
+use Prim.Native.Nat.{ℕ, zero, suc}
+use mathlib.Core.Path.{_≡_, refl, sym, ap, ap₂, _∙_}
+use mathlib.Core.Bool.{Bool, true, false, cond}
+use mathlib.Core.List.{List, [], _∷_, _++_, map}
+use mathlib.Core.Option.{Option, some, none, Option·map}
+use lib.Dec.{T, eqb, ltb}
+use lib.ListN.{getElem?}
+use Rattle.keys.specs.Keys.{Keys}
+use Rattle.packed.specs.Syntax.{Expression, Condition, Procedure, Program, bind, substitute}
+use Rattle.packed.specs.Slots.{closed}
+use Rattle.packed.specs.Steps.{Descending}
+use Rattle.packed.proofs.TreeLaws.{tree, treeᶜ}
+use Rattle.rules.specs.Context.{asLiteral}
+use Rattle.rules.specs.State.{Thread, State, Numbered, changeAt, learn, become, threadOf}
+use Rattle.rules.specs.Rules.{isVolatile}
+use Rattle.rules.specs.Step.{Act, waits, sticks, lacks, does, joinValue, joinAct, Attempt}
+use Rattle.rules.proofs.Decompose.{whole, no-literal}
+use Rattle.machine.specs.Frames.{Branches, closure, firstOf, secondOf, Found, Result}
+use Rattle.machine.specs.Machine as machine
+use Rattle.machine.specs.Machine.{Table}
+use Rattle.machine.proofs.Substitution.{let-nothing, let-nothingᶜ}
+use Rattle.machine.proofs.Meaning.{expressionIn, whileIn, mean, resultOf}
+
+pub map-added : {A B : Type 0} (f : A → B) (xs : List A) (x : A) → map f (xs ++ (x ∷ [])) ≡ map f xs ++ (f x ∷ [])
+map-added f [] x = refl
+map-added f (y ∷ xs) x = ap (λ l. f y ∷ l) (map-added f xs x)
+
+pub get-map : {A B : Type 0} (f : A → B) (xs : List A) (i : ℕ) → getElem? (map f xs) i ≡ Option·map f (getElem? xs i)
+get-map f [] i = refl
+get-map f (x ∷ xs) zero = refl
+get-map f (x ∷ xs) (suc i) = get-map f xs i
+
+-- the table is a program's
+pub record Tabulates (table : Table) (g : Program) : Type 0 where
+  pub ordered : Descending (table .node) (table .count)
+  pub volatiles : (f : ℕ) → table .isVolatile f ≡ isVolatile g f
+  pub bodies : (m : ℕ) (d : Procedure) → getElem? (g .procedures) m ≡ some d → d .body ≡ tree (table .node) (table .count) (table .root m)
+  pub all-bound : (m : ℕ) (d : Procedure) → getElem? (g .procedures) m ≡ some d → T (closed (λ x. ltb x (d .parameters)) (d .body))
+
+-- ---- what the machine's state stands for
+
+module _ (table : Table) where
+  abbrev pub meant : Found → Expression
+  meant F = whole (mean (table .node) (table .count) F)
+
+  abbrev pub threadMeant : machine.Thread → Thread
+  threadMeant x = record { self = x .self; expression = meant (x .code); keys = x .keys }
+
+  abbrev pub stateOf : machine.State → State
+  stateOf s = record { objects = s .objects; threads = map threadMeant (s .threads); nextKey = s .nextKey }
+
+  abbrev numberedMeant : machine.Numbered → Numbered
+  numberedMeant q = record { number = q .number; thread = threadMeant (q .thread) }
+
+  abbrev pub actOf : machine.Act → Act
+  actOf (machine.Act.waits w) = waits w
+  actOf (machine.Act.sticks r) = sticks r
+  actOf (machine.Act.lacks r) = lacks r
+  actOf (machine.Act.does R r s x) = does R r (stateOf s) (resultOf (table .node) (table .count) x)
+
+  abbrev pub attemptOf : machine.Attempt → Attempt
+  attemptOf machine.Attempt.absent = Attempt.absent
+  attemptOf (machine.Attempt.finished v) = Attempt.finished v
+  attemptOf (machine.Attempt.waiting w) = Attempt.waiting w
+  attemptOf (machine.Attempt.stuck r) = Attempt.stuck r
+  attemptOf (machine.Attempt.lacking r) = Attempt.lacking r
+  attemptOf (machine.Attempt.moves m) = Attempt.moves (record { rule = m .rule; entry = m .entry; state = stateOf (m .state) })
+
+  -- ---- the parts of a move
+
+  change-of : (xs : List machine.Thread) (p : ℕ) (k : machine.Thread → machine.Thread) (k′ : Thread → Thread)
+      → ((x : machine.Thread) → threadMeant (k x) ≡ k′ (threadMeant x)) → map threadMeant (changeAt xs p k) ≡ changeAt (map threadMeant xs) p k′
+  unfolding changeAt
+  change-of [] p k k′ q = refl
+  change-of (x ∷ xs) zero k k′ q = rw (q x)
+  change-of (x ∷ xs) (suc p) k k′ q = ap (λ (l : List Thread). threadMeant x ∷ l) (change-of xs p k k′ q)
+
+  pub learn-of : (s : machine.State) (p : ℕ) (W : Keys) → stateOf (machine.learn s p W) ≡ learn (stateOf s) p W
+  unfolding machine.learn learn
+  learn-of s p W = ap (λ (l : List Thread). record { objects = s .objects; threads = l; nextKey = s .nextKey }) (change-of (s .threads) p _ _ (λ x. refl))
+
+  pub become-of : (s : machine.State) (p : ℕ) (F : Found) (e : Expression) → meant F ≡ e → stateOf (machine.become s p F) ≡ become (stateOf s) p e
+  unfolding machine.become become
+  become-of s p F e q =
+      ap (λ (l : List Thread). record { objects = s .objects; threads = l; nextKey = s .nextKey })
+      (change-of (s .threads) p _ _ (λ x. ap (λ (e : Expression). record { self = x .self; expression = e; keys = x .keys }) q))
+
+  pub thread-of : (i : ℕ) (xs : List machine.Thread) (o : ℕ) → threadOf i (map threadMeant xs) o ≡ Option·map numberedMeant (machine.threadOf i xs o)
+  unfolding threadOf machine.threadOf
+  thread-of i [] o = refl
+  thread-of i (x ∷ xs) o = at (eqb (x .self) o) (thread-of (suc i) xs o)
+    where
+      at : (b : Bool) → threadOf (suc i) (map threadMeant xs) o ≡ Option·map numberedMeant (machine.threadOf (suc i) xs o)
+          → cond b (some (record { number = i; thread = threadMeant x })) (threadOf (suc i) (map threadMeant xs) o)
+          ≡ Option·map numberedMeant (cond b (some (record { number = i; thread = x })) (machine.threadOf (suc i) xs o))
+      at true q = refl
+      at false q = q
+
+  pub cond-of : (b b′ : Bool) (x y : machine.Act) (x′ y′ : Act) → b ≡ b′ → actOf x ≡ x′ → actOf y ≡ y′ → actOf (cond b x y) ≡ cond b′ x′ y′
+  cond-of true b′ x y x′ y′ q hx hy = rw (← q) hx
+  cond-of false b′ x y x′ y′ q hx hy = rw (← q) hy
+
+  finished-of : (F : Found) → asLiteral (meant F) ≡ machine.finishedWith F
+  unfolding whole machine.finishedWith asLiteral
+  finished-of (Found.value o) = refl
+  finished-of (Found.here S r) = no-literal (mean (table .node) (table .count) (Found.here S r)) tt
+  finished-of (Found.hereᶜ S r) = no-literal (mean (table .node) (table .count) (Found.hereᶜ S r)) tt
+
+  join-value : (s : machine.State) (p o : ℕ) (q : machine.Numbered) (v : Option ℕ) → actOf (machine.joinValue s p o q v) ≡ joinValue (stateOf s) p o (numberedMeant q) v
+  unfolding machine.joinValue joinValue
+  join-value s p o q none = refl
+  join-value s p o q (some v) = rw learn-of
+
+  pub join-of : (s : machine.State) (p o : ℕ) (q : Option machine.Numbered) → actOf (machine.joinAct s p o q) ≡ joinAct (stateOf s) p o (Option·map numberedMeant q)
+  unfolding machine.joinAct joinAct
+  join-of s p o none = refl
+  join-of s p o (some q) =
+      join-value s p o q (machine.finishedWith (q .thread .code)) ∙ ap (joinValue (stateOf s) p o (numberedMeant q)) (sym (finished-of (q .thread .code)))
+
+  pub choose-of : (b : Bool) (x y : Result)
+      → resultOf (table .node) (table .count) (machine.choose b x y) ≡ cond b (resultOf (table .node) (table .count) x) (resultOf (table .node) (table .count) y)
+  unfolding machine.choose
+  choose-of true x y = refl
+  choose-of false x y = refl
+
+  pub branch-of : (b : Bool) (x : Branches)
+      → expressionIn (table .node) (table .count) (closure (cond b (x .first) (x .second)) (x .slots))
+      ≡ cond b (expressionIn (table .node) (table .count) (firstOf x)) (expressionIn (table .node) (table .count) (secondOf x))
+  branch-of true x = refl
+  branch-of false x = refl
+
+  -- the loop after its body's value
+  pub again-of : (o : ℕ) (x : Branches) → whileIn (table .node) (table .count) x ≡ substitute (bind none o) (whileIn (table .node) (table .count) x)
+  unfolding substitute
+  again-of o x =
+      sym
+      (ap₂ (λ (c : Condition) (e : Expression). Expression.while c e) (let-nothingᶜ (x .slots) o (treeᶜ (table .node) (table .count) (x .first)))
+      (let-nothing (x .slots) o (tree (table .node) (table .count) (x .second))))

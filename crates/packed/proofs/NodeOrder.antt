@@ -1,0 +1,98 @@
+-- The nodes of a plan whose terms are right: children come after their parents, and past the last term there are nulls; so the array has the plan's trees.
+-- Assumes nothing.
+use mathlib.Core.Path.{_≡_, refl, sym, _∙_, fun-ext}
+use mathlib.Core.List.{List}
+use Prim.Native.Nat.{ℕ, _+_, _-_, _*_, _≤_, _<_}
+use native.Mathlib.Decide.{decLt}
+use native.Mathlib.Omega.{arith}
+use lib.ListN.{length}
+use Rattle.format.proofs.BitLaws.{bits-past}
+use Rattle.packed.specs.Format.{procedures, terms, planLength, table, layout, termBit, termAt, tagAt}
+use Rattle.packed.specs.Trees.{Node, nodes, nodeOf, nodeAt, treeAt}
+use Rattle.packed.specs.Steps.{Right, Loaded, Ordered, Descending, Below, inWord, termIn, nodeIn, treeIn}
+use Rattle.packed.proofs.Tags.{by-tag}
+use Rattle.packed.proofs.Decoded.{node-is}
+use Rattle.packed.proofs.TreeLaws.{expression-fuel}
+use Rattle.packed.proofs.SingleTerm.{IfChild, children-between}
+use Rattle.packed.proofs.Children.{nodeOfTag, nodes-are}
+
+-- ---- children come after their parents
+
+rows-below : (t x y z k : ℕ) → IfChild (λ v. t < v) (layout k .first) x → IfChild (λ v. t < v) (layout k .second) y → IfChild (λ v. t < v) (layout k .third) z → Below t (nodeOfTag k x y z)
+unfolding layout table nodes
+rows-below t x y z k =
+    by-tag (λ k. IfChild (λ v. t < v) (layout k .first) x → IfChild (λ v. t < v) (layout k .second) y → IfChild (λ v. t < v) (layout k .third) z → Below t (nodeOfTag k x y z))
+    (λ a b c. tt)
+    (λ a b c. tt)
+    (λ a b c. tt)
+    (λ a b c. a refl)
+    (λ a b c. (a refl, c refl))
+    (λ a b c. (b refl, c refl))
+    (λ a b c. (a refl, b refl, c refl))
+    (λ a b c. (a refl, b refl))
+    (λ a b c. b refl)
+    (λ a b c. a refl)
+    (λ a b c. a refl)
+    (λ a b c. (a refl, b refl))
+    (λ a b c. tt)
+    (λ a b c. a refl)
+    (λ a b c. (a refl, b refl))
+    (λ a b c. (a refl, b refl))
+    (λ a b c. (a refl, b refl))
+    (λ a b c. tt)
+    (λ j a b c. tt) k
+
+-- the children among a term's operands come after it
+abbrev pub Descends : List ℕ → ℕ → Type 0
+Descends b t =
+    IfChild (λ v. t < v) (layout (tagAt b t) .first) (termAt b t .value₁)
+    × IfChild (λ v. t < v) (layout (tagAt b t) .second) (termAt b t .value₂)
+    × IfChild (λ v. t < v) (layout (tagAt b t) .third) (termAt b t .value₃)
+
+pub descending : (b : List ℕ) → length b ≡ planLength b → ((t : ℕ) → t < terms b → Descends b t) → Descending (nodeAt b) (terms b)
+unfolding nodes tagAt termBit planLength
+descending b whole each = record { past = past; below = λ t. below t (decLt t (terms b)) }
+  where
+    far : (l p n t : ℕ) → l ≡ 8 + 2 * p + 5 * n → n ≤ t → l * 8 ≤ (8 + 2 * p + 5 * t) * 8
+    far l p n t e h = omega arith
+
+    past : (t : ℕ) → terms b ≤ t → nodeAt b t ≡ Node.null
+    past t h = node-is b t 0 (bits-past b (termBit b t) 5 (far (length b) (procedures b) (terms b) t whole h))
+
+    below : (t : ℕ) → Dec (t < terms b) → Below t (nodeAt b t)
+    below t (yes h) = let d = each t h in rw (node-is b t (tagAt b t) refl) (rows-below t _ _ _ (tagAt b t) (d .0) (d .1) (d .2))
+    below t (no h) = rw (past t (omega (arith, h))) tt
+
+right-descends : (b : List ℕ) (procs n : ℕ) → Right b procs n → Descending (nodeAt b) (terms b)
+unfolding planLength
+right-descends b procs n r = let z = r .headed .sized in descending b (z .long ∙ rw (z .procs-are, z .terms-are)) each
+  where
+    each : (t : ℕ) → t < terms b → Descends b t
+    each t h =
+        let f = children-between b t (r .terms-right t (rw (r .headed .sized .terms-are) h)) in
+        (λ c. f .0 c .0, λ c. f .1 c .0, λ c. f .2 c .0)
+
+-- ---- the array's nodes are the plan's, and their trees too
+
+module _ (b : List ℕ) (procs n : ℕ) (r : Right b procs n) (ws : List ℕ) (d : Loaded b n ws) where
+  all-nodes : nodeIn ws ≡ nodeAt b
+  unfolding nodeIn nodes nodeOf termIn inWord layout table
+  all-nodes = fun-ext (λ t. go t (decLt t n))
+    where
+      go : (t : ℕ) → Dec (t < n) → nodeIn ws t ≡ nodeAt b t
+      go t (yes h) = nodes-are b n ws d t h
+      go t (no h) = rw (d .rest t (omega (arith, h))) (sym (right-descends b procs n r .past t (let e = r .headed .sized .terms-are in omega (arith, h))))
+
+  pub ordered : Ordered ws
+  ordered =
+      let f = r .headed .few in
+      let e = r .headed .sized .terms-are in
+      let o = right-descends b procs n r in
+      rw all-nodes (record { past = λ t h. o .past t (omega arith); below = o .below })
+
+  pub tree-is : (t : ℕ) → treeIn ws t ≡ treeAt b t
+  unfolding treeIn treeAt
+  tree-is t =
+      let f = r .headed .few in
+      let e = r .headed .sized .terms-are in
+      rw all-nodes (expression-fuel (nodeAt b) (terms b) (right-descends b procs n r) (1024 - t) (terms b - t) t (omega arith) (omega arith))

@@ -1,0 +1,28 @@
+-- What comes of a case of the shot list, for any way to list the accesses that a judge of a log may name. Assumes nothing.
+use Prim.Native.Nat.{ℕ, _*_}
+use mathlib.Core.List.{List}
+use lib.ListN.{length, replicate, take}
+use Rattle.records.specs.Record.{Record}
+use Rattle.records.specs.Packed.{logOf}
+use Rattle.rules.specs.Play.{Played, runOf, played, areaAfter}
+use Rattle.rules.specs.ShotList.{Expected, Shot}
+
+-- a log area of just the length that is asked for
+unfoldable pub areaFor : List ℕ → List ℕ
+areaFor picks = replicate (3 * length picks) 0
+
+-- the bytes of the records that a play wrote
+unfoldable pub written : List ℕ → List ℕ → ℕ → List ℕ
+unfolding areaAfter areaFor
+written plan picks records = take (3 * records) (areaAfter plan picks (areaFor picks))
+
+-- what comes of a plan and picks, where the judge reads the bytes that the play wrote
+unfoldable pub observedOf : (List Record → List ℕ) → List ℕ → List ℕ → Played → Expected
+unfolding runOf written logOf
+observedOf unordered plan picks (Played.refused r) = Expected.refused (r .number) (r .place)
+observedOf unordered plan picks (Played.ran o) = Expected.ran o (runOf plan picks .log) (written plan picks (o .records)) (unordered (logOf (written plan picks (o .records))))
+
+-- what comes of a case
+unfoldable pub observed : (List Record → List ℕ) → Shot → Expected
+unfolding observedOf played areaFor
+observed unordered x = observedOf unordered (x .plan) (x .picks) (played (x .plan) (x .picks) (areaFor (x .picks)))
