@@ -22,7 +22,7 @@ same-length c = search needs
 returns : tie.Need-returns
 returns c =
     let p = c .before .before .before .before .play in
-    (p .ensures .0, (p .ensures .1, refused-agreed _ _ _ _ _ (c .enum-told2 .given .1)))
+    (p .ensures .0, (p .ensures .1 .0, refused-agreed _ _ _ _ _ (c .enum-told2 .given .1)))
 
 -- the records are few
 record-bytes-requires : tie.Need-record-bytes-requires
@@ -38,7 +38,7 @@ judge-part-requires c κs =
     let t = c .before .before .before in
     let a = t .before .before .before .before .before .before .before .before .before .args in
     let p = t .before .before .before .before .play in
-    let room = within (a .plan .now) (a .schedule .now) (a .log .now) (p .result) (p .ensures .0) (t .enum-told .given .1) (p .last .1 .1 .0) (p .ensures .1) in
+    let room = within (a .plan .now) (a .schedule .now) (a .log .now) (p .result) (p .ensures .0) (t .enum-told .given .1) (p .last .1 .1 .0) (p .ensures .1 .0) in
     (omega arith, room (c .before .record-bytes .result) (omega (arith, c .before .record-bytes .ensures)))
 
 same-length-2 : tie.Need-same-length-2
@@ -51,8 +51,8 @@ returns-2 c =
     let a = t .before .before .before .before .before .before .before .before .before .args in
     let p = t .before .before .before .before .play in
     let b = c .before .before .record-bytes in
-    let agreed = agreed-on (a .plan .now) (a .schedule .now) (a .log .now) (p .result) (p .ensures .0) (t .enum-told .given .1) (p .last .1 .1 .0) (p .ensures .1) in
-    (p .ensures .0, (p .ensures .1, agreed (c .judge-part .result) (b .result) (b .ensures) (c .judge-part .ensures)))
+    let agreed = agreed-on (a .plan .now) (a .schedule .now) (a .log .now) (p .result) (p .ensures .0) (t .enum-told .given .1) (p .last .1 .1 .0) (p .ensures .1 .0) in
+    (p .ensures .0, (p .ensures .1 .0, agreed (c .judge-part .result) (b .result) (b .ensures) (c .judge-part .ensures)))
 
 pub play-and-judge-spec : {M : Type 1} → statement M
 play-and-judge-spec =

@@ -9,7 +9,7 @@ use Rattle.rules.specs.Play.{played, playedBy, areaAfter, areaBy, runOf}
 use Rattle.player.specs.Answer.{answered}
 use Rattle.player.specs.Loading.{Words, Roots}
 use Rattle.player.specs.Outcomes.{outcomeBy}
-use Rattle.player.proofs.Passed.{Passed, Inside, inside, by-code}
+use Rattle.player.proofs.Passed.{Passed, Inside, inside, passed-refused, by-code}
 use Rattle.player.proofs.Entry.{refused-answer, refused-area, ran-answer, ran-area}
 use Rattle.player.proofs.play.Statement.{statement}
 use Rattle.player.proofs.play.Tie as tie
@@ -52,7 +52,11 @@ refused-requires c κs = search needs
 returns : tie.Need-returns
 returns c =
     let a = c .before .before .before .before .before .before .before .args in
-    (refused-answer (a .plan .now) (a .schedule .now) (a .log .now) _ (c .before .before .before .refusal .ensures) _ _ (c .before .enum-told2 .given .1) (c .refused .result) (c .refused .ensures), refused-area (a .plan .now) (a .schedule .now) (a .log .now) _ (c .before .before .before .refusal .ensures) _ _ (c .before .enum-told2 .given .1))
+    let h = c .before .before .before .refusal .ensures in
+    let e = c .before .enum-told2 .given .1 in (
+      refused-answer (a .plan .now) (a .schedule .now) (a .log .now) _ h _ _ e (c .refused .result) (c .refused .ensures .0),
+      (refused-area (a .plan .now) (a .schedule .now) (a .log .now) _ h _ _ e, λ k i q. c .refused .ensures .1),
+    )
 
 -- src/lib.rt:24:9
 procedures-requires : tie.Need-procedures-requires
@@ -106,7 +110,10 @@ returns-2 c =
     let ws = c .before .before .before .before .before .before .before .before .before .words .result in
     let rs = c .before .before .before .before .before .before .before .before .roots .result in (
       ran-answer (a .plan .now) (a .schedule .now) (a .log .now) _ h e ws rs w r _ m _ (c .outcome-of .ensures ∙ ap outcomeBy (c .before .before .before .run .ensures .0)),
-      c .before .before .before .run .ensures .1 ∙ ran-area (a .plan .now) (a .schedule .now) (a .log .now) _ h e ws rs w r _ m,
+      (
+        c .before .before .before .run .ensures .1 ∙ ran-area (a .plan .now) (a .schedule .now) (a .log .now) _ h e ws rs w r _ m,
+        λ k i q. passed-refused e q,
+      ),
     )
 
 pub play-spec : {M : Type 1} → statement M

@@ -64,7 +64,7 @@ part-print-run-end c =
     let p = c .before .before .before .before .before .before .play in
     let e = c .before .before .enum-told .given .1 in
     let r = c .before .record-bytes in
-    within (a .plan .now) (a .schedule .now) lentArea (p .result) (p .ensures .0) e (p .last .1 .1 .0) (p .ensures .1) (r .result) (omega (arith, r .ensures))
+    within (a .plan .now) (a .schedule .now) lentArea (p .result) (p .ensures .0) e (p .last .1 .1 .0) (p .ensures .1 .0) (r .result) (omega (arith, r .ensures))
 
 -- src/lib.rt:28:13
 print-run-requires : tie.Need-print-run-requires
@@ -102,7 +102,7 @@ returns-2 c =
     let p = c .before .before .before .before .before .before .before .before .before .before .before .play in
     let e = c .before .before .before .before .before .before .before .enum-told .given .1 in
     let r = c .before .before .before .before .before .before .record-bytes in
-    added-as (ran-text (a .plan .now) (a .schedule .now) (p .result) (p .ensures .0) e (p .last .1 .1 .0) (p .ensures .1) (r .result) (r .ensures)) (c .before .before .print-run .ensures)
+    added-as (ran-text (a .plan .now) (a .schedule .now) (p .result) (p .ensures .0) e (p .last .1 .1 .0) (p .ensures .1 .0) (r .result) (r .ensures)) (c .before .before .print-run .ensures)
 
 pub print-play-spec : {M : Type 1} → statement M
 print-play-spec =
