@@ -1,7 +1,7 @@
 // Demand 3: the stop for want of a key, the chains of the log and the judge agree. The theorem over the definitions is in specs/ and proofs/; here
 // is the play and the judge, one after the other, on one log area.
 ghost use mathlib.Core.Path.{_≡_};
-ghost use Prim.Native.Nat.{_*_, _-_, _≤_};
+ghost use Prim.Native.Nat.{_-_, _≤_};
 ghost use lib.ListN.{length, take, drop};
 ghost use Rattle.format.specs.Version.{v1};
 ghost use Rattle.order.specs.Judge.{MayAnswer};
@@ -17,14 +17,6 @@ use player::outcome::Played;
 pub struct PlayedAndJudged {
     pub played: Played,
     pub judgement: Judgement,
-}
-
-// The bytes of so many records.
-fn record_bytes(records: usize) -> usize
-    requires { ⌜ records ≤ 4096 ⌝ }
-    ensures { λ r. ⌜ r ≡ 3 * records ⌝ }
-{
-    3 * records
 }
 
 // The judge on a part of a log area, and on no other byte of it.
@@ -51,7 +43,7 @@ pub fn play_and_judge(plan: &[u8], schedule: &[u8], log: &mut [u8]) -> PlayedAnd
         };
     };
     let outcome = played.outcome;
-    let bytes = record_bytes(outcome.records);
+    let bytes = player::outcome::record_bytes(outcome.records);
     let judgement = judge_part(log, 0, bytes);
     PlayedAndJudged {
         played: played,

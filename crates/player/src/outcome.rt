@@ -1,4 +1,5 @@
 // What a play answers (document 01, "How a thread moves"): the outcome of a run, with the state of each of eight threads, or a refusal.
+ghost use Prim.Native.Nat.{_*_, _≤_};
 ghost use mathlib.Core.Path.{_≡_};
 ghost use Rattle.player.specs.Answer.{noRun};
 ghost use Rattle.player.specs.Outcomes.{roomBy, stopBy, stateBy, threadsBy, outcomeBy};
@@ -160,4 +161,12 @@ pub fn refused(checked: Checked) -> Played
         checked: checked,
         outcome: outcome,
     }
+}
+
+// The bytes of so many records.
+pub fn record_bytes(records: usize) -> usize
+    requires { ⌜ records ≤ 4096 ⌝ }
+    ensures { λ r. ⌜ r ≡ 3 * records ⌝ }
+{
+    3 * records
 }

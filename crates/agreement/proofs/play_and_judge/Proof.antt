@@ -2,7 +2,8 @@
 -- bytes, which are the run's records. Assumes nothing.
 use native.Mathlib.Omega.{arith}
 use borrow.Author.Needs.{needs}
-use Rattle.agreement.proofs.Entry.{few-records, within, agreed-on, refused-agreed}
+use Rattle.player.proofs.Ran.{few-records, within}
+use Rattle.agreement.proofs.Entry.{agreed-on, refused-agreed}
 use Rattle.agreement.proofs.play_and_judge.Statement.{statement}
 use Rattle.agreement.proofs.play_and_judge.Tie as tie
 

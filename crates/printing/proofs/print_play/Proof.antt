@@ -2,7 +2,7 @@
 use Prim.Native.Nat.{_-_}
 use native.Mathlib.Omega.{arith}
 use lib.ListN.{length-take}
-use Rattle.agreement.proofs.Entry.{few-records, within}
+use Rattle.player.proofs.Ran.{few-records, within}
 use Rattle.printing.specs.Printed.{lentArea}
 use Rattle.lines.proofs.Added.{added-as}
 use Rattle.lines.proofs.LineParts.{refusal-short}
@@ -15,7 +15,7 @@ use Rattle.printing.proofs.print_play.Lts as lts
 use Rattle.player.proofs.play.Reads as play-reads
 use Rattle.lines.proofs.put_refusal.Reads as put-refusal-reads
 use Rattle.printing.proofs.run.print_run.Reads as print-run-reads
-use Rattle.printing.proofs.run.record_bytes.Reads as record-bytes-reads
+use Rattle.player.proofs.outcome.record_bytes.Reads as record-bytes-reads
 
 -- src/lib.rt:20:47
 slice-aggregate-play : tie.Need-slice-aggregate-play
