@@ -1,6 +1,6 @@
 -- A play that is not refused, the log area that it leaves, and what the judge says of the records in it: what demand 3 says. Assumes nothing.
 use Prim.Native.Nat.{ℕ, _*_, _-_}
-use mathlib.Core.Path.{_≡_, refl, sym, ap, _∙_, subst as along}
+use mathlib.Core.Path.{_≡_, sym, ap, _∙_, subst as along}
 use mathlib.Core.List.{List}
 use lib.ListN.{length, take}
 use Rattle.format.specs.Version.{Version, v1}
@@ -8,10 +8,7 @@ use Rattle.order.specs.Judge.{named, MayAnswer}
 use Rattle.packed.specs.Trees.{programOf}
 use Rattle.plan.specs.declared.Checked.the-variants as checked
 use Rattle.records.specs.Packed.{bytesOf}
-use Rattle.rules.specs.Run as run
 use Rattle.rules.specs.Play.{played, areaAfter, runOf}
-use Rattle.player.specs.declared.outcome.Stop.{Stop}
-use Rattle.player.specs.declared.outcome.Stop.the-variants as stop
 use Rattle.player.specs.declared.outcome.Played.{Played}
 use Rattle.player.specs.Answer.{stopOf, answered}
 use Rattle.player.proofs.Passed.{passed-refused}
@@ -19,22 +16,19 @@ use Rattle.player.proofs.Ran.{passes, stop-is, records-are, begins}
 use Rattle.judge.specs.declared.Judgement.{Judgement}
 use Rattle.judge.specs.Answer as judge
 use Rattle.agreement.specs.Agreement.{stopIndex, Agreement}
-use Rattle.agreement.specs.AgreedOn.{lastRaced, AgreedOn}
+use Rattle.agreement.specs.AgreedOn.{AgreedOn}
 use Rattle.agreement.specs.declared.PlayedAndJudged.{PlayedAndJudged}
 use Rattle.agreement.proofs.Agreed.{accepted-version, agreement}
-
--- the stop that the code answers names the same record
-last-same : (s : Stop) (n : ℕ) (r : run.Run) → stopOf s ≡ r .stop → n ≡ length (r .log) → stopIndex (r .stop) (r .log) ≡ lastRaced s n
-unfolding stopOf
-last-same stop.End n r e l = rw (sym e) refl
-last-same stop.Race n r e l = rw (sym e, l) refl
-last-same (stop.NoRoom k) n r e l = rw (sym e) refl
 
 -- ---- a play that is not refused
 
 module _ (plan schedule area : List ℕ) (p : Played) (h : answered p ≡ played plan schedule area) (e : p .checked ≡ checked.Passed) where
   agrees-all : Agreement (programOf plan) schedule (runOf plan schedule)
   agrees-all = let a = passes plan schedule area p h e in agreement plan schedule (a .plan-passes) (a .few)
+
+  -- the stop and the count that the code answers name the same record
+  same-index : stopIndex (runOf plan schedule .stop) (length (runOf plan schedule .log)) ≡ stopIndex (stopOf (p .outcome .stop)) (p .outcome .records)
+  same-index = rw (stop-is plan schedule area p h e, records-are plan schedule area p h e)
 
   -- what the judge says of the first bytes of the log area that the play leaves
   module _ (after : List ℕ) (left : after ≡ areaAfter plan schedule area) (j : Judgement) (n : ℕ) (q : n ≡ 3 * p .outcome .records) (m : MayAnswer v1 (take (n - 0) after) (judge.answered j)) where
@@ -43,7 +37,7 @@ module _ (plan schedule area : List ℕ) (p : Played) (h : answered p ≡ played
         along (λ (v : Version). MayAnswer v (bytesOf (runOf plan schedule .log)) (judge.answered j)) (sym (accepted-version plan (passes plan schedule area p h e .plan-passes)))
         (along (λ (b : List ℕ). MayAnswer v1 b (judge.answered j)) (begins plan schedule area p h e after left n q) m)
 
-    named-stop : judge.answered j ≡ named (stopIndex (runOf plan schedule .stop) (runOf plan schedule .log))
+    named-stop : judge.answered j ≡ named (stopIndex (runOf plan schedule .stop) (length (runOf plan schedule .log)))
     named-stop = agrees-all .judged (judge.answered j) .0 may
 
     pub agreed-on : AgreedOn plan schedule (record { played = p; judgement = j })
@@ -51,7 +45,7 @@ module _ (plan schedule area : List ℕ) (p : Played) (h : answered p ≡ played
         record {
           chains = λ _. agrees-all;
           judged = λ _. named-stop;
-          agrees = λ _. named-stop ∙ ap named (last-same (p .outcome .stop) (p .outcome .records) (runOf plan schedule) (stop-is plan schedule area p h e) (records-are plan schedule area p h e));
+          agrees = λ _. named-stop ∙ ap named same-index;
         }
 
 -- ---- a play that is refused
