@@ -1,4 +1,5 @@
--- A play that is not refused, the log area that it leaves, and what the judge says of the records in it: what demand 3 says. Assumes nothing.
+-- What demand 3 says of a play that is not refused, by the log area that it leaves and by what the judge says of the records in it; and of a play that is
+-- refused. Assumes nothing.
 use Prim.Native.Nat.{ℕ, _*_, _-_}
 use mathlib.Core.Path.{_≡_, sym, ap, _∙_, subst as along}
 use mathlib.Core.List.{List}
@@ -14,10 +15,10 @@ use Rattle.player.specs.Answer.{stopOf, answered}
 use Rattle.player.proofs.Passed.{passed-refused}
 use Rattle.player.proofs.Ran.{passes, stop-is, records-are, begins}
 use Rattle.judge.specs.declared.Judgement.{Judgement}
+use Rattle.judge.specs.declared.Judgement.the-variants as judgement
 use Rattle.judge.specs.Answer as judge
 use Rattle.agreement.specs.Agreement.{stopIndex, Agreement}
 use Rattle.agreement.specs.AgreedOn.{AgreedOn}
-use Rattle.agreement.specs.declared.PlayedAndJudged.{PlayedAndJudged}
 use Rattle.agreement.proofs.Agreed.{accepted-version, agreement}
 
 -- ---- a play that is not refused
@@ -46,10 +47,16 @@ module _ (plan schedule area : List ℕ) (p : Played) (h : answered p ≡ played
           chains = λ _. agrees-all;
           judged = λ _. named-stop;
           agrees = λ _. named-stop ∙ ap named same-index;
+          refused = λ k i x. passed-refused e x;
         }
 
 -- ---- a play that is refused
 
--- of it nothing is said
-pub refused-agreed : (plan schedule : List ℕ) (r : PlayedAndJudged) (k i : ℕ) → r .played .checked ≡ checked.Refused k i → AgreedOn plan schedule r
-refused-agreed plan schedule r k i e = record { chains = λ q. passed-refused q e; judged = λ q. passed-refused q e; agrees = λ q. passed-refused q e }
+pub refused-agreed : (plan schedule : List ℕ) (p : Played) (k i : ℕ) → p .checked ≡ checked.Refused k i → AgreedOn plan schedule (record { played = p; judgement = judgement.Refused k i })
+refused-agreed plan schedule p k i e =
+    record {
+      chains = λ q. passed-refused q e;
+      judged = λ q. passed-refused q e;
+      agrees = λ q. passed-refused q e;
+      refused = λ l j q. let x : checked.Refused k i ≡ checked.Refused l j = sym e ∙ q in cc;
+    }

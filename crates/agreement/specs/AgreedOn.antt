@@ -1,4 +1,4 @@
--- Demand 3 of the running code: what the entry `play_and_judge` answers of a play that is not refused. Assumes nothing.
+-- Demand 3 of the running code: what the entry `play_and_judge` answers of a play, refused or not. Assumes nothing.
 use Prim.Native.Nat.{ℕ}
 use mathlib.Core.Path.{_≡_}
 use mathlib.Core.List.{List}
@@ -8,6 +8,7 @@ use Rattle.packed.specs.Trees.{programOf}
 use Rattle.plan.specs.declared.Checked.the-variants as checked
 use Rattle.rules.specs.Play.{runOf}
 use Rattle.player.specs.Answer.{stopOf}
+use Rattle.judge.specs.declared.Judgement.the-variants as judgement
 use Rattle.judge.specs.Answer.{answered}
 use Rattle.agreement.specs.Agreement.{stopIndex, Agreement}
 use Rattle.agreement.specs.declared.PlayedAndJudged.{PlayedAndJudged}
@@ -21,3 +22,5 @@ pub record AgreedOn (plan schedule : List ℕ) (r : PlayedAndJudged) : Type 0 wh
   pub judged : r .played .checked ≡ checked.Passed → answered (r .judgement) ≡ named (stopIndex (runOf plan schedule .stop) (length (runOf plan schedule .log)))
   -- the same by what the code answers of that run
   pub agrees : r .played .checked ≡ checked.Passed → answered (r .judgement) ≡ named (stopIndex (stopOf (r .played .outcome .stop)) (r .played .outcome .records))
+  -- "A refused play has no run": no judge is asked, and the judgement is the play's own refusal
+  pub refused : (k i : ℕ) → r .played .checked ≡ checked.Refused k i → r .judgement ≡ judgement.Refused k i
