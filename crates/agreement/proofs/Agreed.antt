@@ -1,8 +1,8 @@
 -- Demand 3, whole: every run of every accepted plan over any list of at most 4,096 picks agrees with its log. Assumes nothing.
-use Prim.Native.Nat.{ℕ, zero, suc, _-_, _<_, _≤_}
+use Prim.Native.Nat.{ℕ, _-_, _<_, _≤_}
 use native.Mathlib.Omega.{arith}
 use mathlib.Core.Path.{_≡_, refl, sym, ap, _∙_, subst as along}
-use mathlib.Core.List.{List, reverse}
+use mathlib.Core.List.{List}
 use mathlib.Core.Logic.{_↔_, Iff·symm, Iff·trans}
 use mathlib.Core.Option.{Option, some, none}
 use lib.Dec.{T}
@@ -41,7 +41,7 @@ module _ (v : Version) (r : Run) (n : LastLacks (r .stop) (r .log))
   stopped-there : (j : ℕ) → Unordered v (r .log) j → StoppedAt r j
   stopped-there j u = lacks-stopped r n j (u .access) (u .at-j) .0 (exact j (u .access) (u .at-j) (u .plain) .1 u)
 
-  named-stop : (a : Option ℕ) → MayName v (r .log) a → (e : Stop) → r .stop ≡ e → LastLacks e (r .log) → a ≡ stopIndex e (r .log)
+  named-stop : (a : Option ℕ) → MayName v (r .log) a → (e : Stop) → r .stop ≡ e → LastLacks e (r .log) → a ≡ stopIndex e (length (r .log))
   named-stop (some j) (names u) end q m = absurd (let y : end ≡ race = sym q ∙ stopped-there j u .raced in let z : _≡_ {A = ℕ} 0 1 = cc in omega arith)
   named-stop (some j) (names u) (noRoom k) q m = absurd (let y : noRoom k ≡ race = sym q ∙ stopped-there j u .raced in let z : _≡_ {A = ℕ} 0 1 = cc in omega arith)
   named-stop (some j) (names u) race q m = let b = stopped-there j u .is-last in ap {B = Option ℕ} some (omega arith)
@@ -55,17 +55,17 @@ module _ (v : Version) (r : Run) (n : LastLacks (r .stop) (r .log))
           let k = m .1 (length (r .log) - 1) (x .0) (x .1) .1 (omega arith) in
           f (length (r .log) - 1) (exact (length (r .log) - 1) (x .0) (x .1) (lacking-plain (x .0 .kind) k) .0 k)
 
-  named-only : (a : Option ℕ) → MayName v (r .log) a → a ≡ stopIndex (r .stop) (r .log)
+  named-only : (a : Option ℕ) → MayName v (r .log) a → a ≡ stopIndex (r .stop) (length (r .log))
   named-only a m = named-stop a m (r .stop) refl n
 
-  may-stop : MayName v (r .log) (stopIndex (r .stop) (r .log))
+  may-stop : MayName v (r .log) (stopIndex (r .stop) (length (r .log)))
   may-stop = along (MayName v (r .log)) (named-only (judge v (r .log)) (judge-may v (r .log))) (judge-may v (r .log))
 
   -- of the log in bytes, which are read back and not refused
-  judged-bytes : logOf (bytesOf (r .log)) ≡ r .log → logRefusal (bytesOf (r .log)) ≡ none → (a : Judged) → MayAnswer v (bytesOf (r .log)) a ↔ (a ≡ named (stopIndex (r .stop) (r .log)))
-  judged-bytes w c a = (only a, λ e. along (MayAnswer v (bytesOf (r .log))) (sym e) (judges c (along (λ (L : List Record). MayName v L (stopIndex (r .stop) (r .log))) (sym w) may-stop)))
+  judged-bytes : logOf (bytesOf (r .log)) ≡ r .log → logRefusal (bytesOf (r .log)) ≡ none → (a : Judged) → MayAnswer v (bytesOf (r .log)) a ↔ (a ≡ named (stopIndex (r .stop) (length (r .log))))
+  judged-bytes w c a = (only a, λ e. along (MayAnswer v (bytesOf (r .log))) (sym e) (judges c (along (λ (L : List Record). MayName v L (stopIndex (r .stop) (length (r .log)))) (sym w) may-stop)))
     where
-      only : (a : Judged) → MayAnswer v (bytesOf (r .log)) a → a ≡ named (stopIndex (r .stop) (r .log))
+      only : (a : Judged) → MayAnswer v (bytesOf (r .log)) a → a ≡ named (stopIndex (r .stop) (length (r .log)))
       only (Judged.refused x) (refuses e) = absurd (let z : _≡_ {A = ℕ} 0 1 = cc in omega arith)
       only (Judged.named a) (judges e m) = ap named (named-only a (along (λ (L : List Record). MayName v L a) w m))
 

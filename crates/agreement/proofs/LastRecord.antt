@@ -1,5 +1,5 @@
 -- Of a run's records the last alone may lack its key, and does exactly where the run stopped for it. Assumes nothing.
-use Prim.Native.Nat.{ℕ, zero, suc, _<_, _≤_}
+use Prim.Native.Nat.{ℕ, zero, suc, _<_}
 use native.Mathlib.Omega.{arith}
 use mathlib.Core.Path.{_≡_, refl, sym, ap, _∙_, subst as along}
 use mathlib.Core.Bool.{not}
@@ -12,7 +12,7 @@ use Rattle.order.specs.Chains.{At}
 use Rattle.packed.specs.Syntax.{Expression, Program}
 use Rattle.records.specs.Record.{Record, lacksKey}
 use Rattle.rules.specs.State.{Thread, State}
-use Rattle.rules.specs.Rules.{Rule, Converts, E-CALL, E-LET, E-IF, E-WHILE, E-NEW, E-READ, E-WRITE, E-READV, E-WRITEV, E-FORK, E-JOIN, E-RE-ENTER, E-ACQUIRE, E-RELEASE, Moves, EVAL, EVALᶜ, LacksHere, LACKS-READ, LACKS-WRITE, Lacks, LACKS}
+use Rattle.rules.specs.Rules.{Rule, Converts, E-CALL, E-LET, E-IF, E-WHILE, E-NEW, E-READ, E-WRITE, E-READV, E-WRITEV, E-FORK, E-JOIN, E-RE-ENTER, E-ACQUIRE, E-RELEASE, Moves, EVAL, EVALᶜ, LACKS-READ, LACKS-WRITE, Lacks, LACKS}
 use Rattle.rules.specs.Run.{Stop, end, race, noRoom, Run, logged, stopped, afterPass, afterMove}
 use Rattle.rules.specs.Execution.{Execution, ends, passes, lacks-key, no-room, moves}
 use Rattle.agreement.specs.Agreement.{StoppedAt}

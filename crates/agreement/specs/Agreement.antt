@@ -23,11 +23,11 @@ pub record StoppedAt (r : Run) (j : ℕ) : Type 0 where
   pub raced : r .stop ≡ race
   pub is-last : suc j ≡ length (r .log)
 
--- "which the judge names by its index, counted from 0"; "and none when the run did not stop so"
-abbrev pub stopIndex : Stop → List Record → Option ℕ
-stopIndex end L = none
-stopIndex race L = some (length L - 1)
-stopIndex (noRoom k) L = none
+-- "which the judge names by its index, counted from 0"; "and none when the run did not stop so": by the stop and the count of records
+abbrev pub stopIndex : Stop → ℕ → Option ℕ
+stopIndex end records = none
+stopIndex race records = some (records - 1)
+stopIndex (noRoom k) records = none
 
 -- of the run r of the picks on program g
 pub record Agreement (g : Program) (picks : List ℕ) (r : Run) : Type 0 where
@@ -43,4 +43,4 @@ pub record Agreement (g : Program) (picks : List ℕ) (r : Run) : Type 0 where
   pub as-written : logOf (bytesOf (r .log)) ≡ r .log
   pub not-refused : logRefusal (bytesOf (r .log)) ≡ none
   -- "and the judge, given only the log, names that access, and none when the run did not stop so"
-  pub judged : (a : Judged) → MayAnswer (g .version) (bytesOf (r .log)) a ↔ (a ≡ named (stopIndex (r .stop) (r .log)))
+  pub judged : (a : Judged) → MayAnswer (g .version) (bytesOf (r .log)) a ↔ (a ≡ named (stopIndex (r .stop) (length (r .log))))

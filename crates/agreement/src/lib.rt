@@ -1,30 +1,22 @@
 // Demand 3: the stop for want of a key, the chains of the log and the judge agree. The theorem over the definitions is in specs/ and proofs/; here
 // is the play and the judge, one after the other, on one log area.
 ghost use mathlib.Core.Path.{_≡_};
-ghost use Prim.Native.Nat.{_*_, _-_, _≤_};
+ghost use Prim.Native.Nat.{_-_, _≤_};
 ghost use lib.ListN.{length, take, drop};
 ghost use Rattle.format.specs.Version.{v1};
 ghost use Rattle.order.specs.Judge.{MayAnswer};
 ghost use Rattle.rules.specs.Play.{played, areaAfter};
-ghost use Rattle.player.specs.Answer.{answered};
+ghost use Rattle.player.specs.Answer.{answered, NoRunIfRefused};
 ghost use Rattle.judge.specs.Answer as judge;
 ghost use Rattle.agreement.specs.AgreedOn.{AgreedOn};
 use judge::Judgement;
 use plan::Checked;
 use player::outcome::Played;
 
-// What a play answers, and what the judge says of the records that it wrote.
+// What a play answers, and what the judge says of the records that it wrote, or the refusal of the play.
 pub struct PlayedAndJudged {
     pub played: Played,
     pub judgement: Judgement,
-}
-
-// The bytes of so many records.
-fn record_bytes(records: usize) -> usize
-    requires { ⌜ records ≤ 4096 ⌝ }
-    ensures { λ r. ⌜ r ≡ 3 * records ⌝ }
-{
-    3 * records
 }
 
 // The judge on a part of a log area, and on no other byte of it.
@@ -36,25 +28,31 @@ fn judge_part(area: &[u8], start: usize, end: usize) -> Judgement
 }
 
 // A schedule is played on a plan, and the judge gets just the run's records, the first bytes of the log area. A refused play has no run, and its
-// judgement, `Ordered`, has no meaning.
+// judgement is the play's own refusal.
 pub fn play_and_judge(plan: &[u8], schedule: &[u8], log: &mut [u8]) -> PlayedAndJudged
     ensures answer { λ r. ⌜ answered (r .played) ≡ played (now (plan .entry)) (now (schedule .entry)) (now (log .entry)) ⌝ }
     ensures area { λ r. ⌜ now (log .exit) ≡ areaAfter (now (plan .entry)) (now (schedule .entry)) (now (log .entry)) ⌝ }
     ensures agreed { λ r. ⌜ AgreedOn (now (plan .entry)) (now (schedule .entry)) r ⌝ }
+    ensures refused { λ r. ⌜ NoRunIfRefused (r .played) ⌝ }
 {
     let played = player::play(plan, schedule, log);
     let checked = played.checked;
-    let Checked::Passed = checked else {
-        return PlayedAndJudged {
-            played: played,
-            judgement: Judgement::Ordered,
-        };
-    };
     let outcome = played.outcome;
-    let bytes = record_bytes(outcome.records);
-    let judgement = judge_part(log, 0, bytes);
-    PlayedAndJudged {
-        played: played,
-        judgement: judgement,
+    match checked {
+        Checked::Refused { number, place } => PlayedAndJudged {
+            played: played,
+            judgement: Judgement::Refused {
+                number: number,
+                place: place,
+            },
+        },
+        Checked::Passed => {
+            let bytes = player::outcome::record_bytes(outcome.records);
+            let judgement = judge_part(log, 0, bytes);
+            PlayedAndJudged {
+                played: played,
+                judgement: judgement,
+            }
+        }
     }
 }

@@ -1,9 +1,8 @@
 -- The answer of a play that nothing refuses is the defined one. Assumes nothing.
-use Prim.Native.Nat.{ℕ, suc, _+_, _*_, _≤_, _<_}
+use Prim.Native.Nat.{ℕ}
 use native.Mathlib.Omega.{arith}
 use mathlib.Core.Path.{_≡_, refl, sym, ap, _∙_}
 use mathlib.Core.List.{List, [], _∷_, map}
-use mathlib.Core.Option.{Option, some, none}
 use lib.ListN.{length, length-map}
 use Rattle.packed.specs.Format.{procedures, terms, volatiles}
 use Rattle.packed.specs.Trees.{programOf}

@@ -2,9 +2,8 @@
 use Prim.Native.Nat.{ℕ}
 use mathlib.Core.Path.{_≡_, refl, sym, ap, _∙_}
 use mathlib.Core.List.{List}
-use mathlib.Core.Option.{Option, some, none}
+use mathlib.Core.Option.{some, none}
 use lib.ListN.{length}
-use Rattle.format.specs.Refusal.{Refusal}
 use Rattle.packed.specs.Format.{procedures, terms, volatiles}
 use Rattle.plan.specs.Answer as check
 use Rattle.plan.specs.declared.Checked.{Checked}
@@ -12,7 +11,6 @@ use Rattle.plan.specs.declared.Checked.the-variants as checked
 use Rattle.rules.specs.Run as run
 use Rattle.rules.specs.Play as play
 use Rattle.rules.specs.Play.{playRefusal, played, playedBy, areaAfter, areaBy, runOf}
-use Rattle.engine.specs.declared.Ran.{Ran}
 use Rattle.engine.specs.Machine.{playOf, startOf}
 use Rattle.player.specs.declared.outcome.Outcome.{Outcome}
 use Rattle.player.specs.declared.outcome.Played.{Played}

@@ -4,3 +4,4 @@ pub mod EightThreads
 pub mod Passed
 pub mod Answers
 pub mod Entry
+pub mod Ran

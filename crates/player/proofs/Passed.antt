@@ -33,6 +33,10 @@ refuse-none k none l e = (refl, e)
 whole-right : (x : Bool) → lowest (λ place. x) 1 ≡ none → x ≡ false
 whole-right x e = lowest-none (λ place. x) 1 e 0 (omega arith)
 
+-- what passes is not refused
+pub passed-refused : {A : Type 0} {r : Checked} {k i : ℕ} → r ≡ checked.Passed → r ≡ checked.Refused k i → A
+passed-refused e q = absurd (let z : _≡_ {A = ℕ} 0 1 = cc in omega arith)
+
 pub record Passed (plan schedule area : List ℕ) : Type 0 where
   pub plan-passes : refusal plan ≡ none
   pub few : length schedule ≤ 4096

@@ -1,6 +1,8 @@
 -- What the entry's answer says: document 01's words for each case. Assumes nothing.
-use mathlib.Core.List.{List, map}
-use Rattle.format.specs.Refusal.{Refusal}
+use Prim.Native.Nat.{ℕ}
+use mathlib.Core.Path.{_≡_}
+use mathlib.Core.List.{map}
+use lib.ListN.{replicate}
 use Rattle.rules.specs.Step as step
 use Rattle.rules.specs.Room as rules
 use Rattle.rules.specs.Run as run
@@ -67,3 +69,11 @@ answeredBy (checked.Refused k i) x = play.Played.refused (record { number = k; p
 unfoldable pub answered : Played → play.Played
 unfolding outcomeOf
 answered r = answeredBy (r .checked) (r .outcome)
+
+-- "A refused play has no run": no picks, no moves, no records, no threads
+abbrev pub noRun : Outcome
+noRun = record { stop = stop.End; picks = 0; moves = 0; records = 0; threads = replicate 8 (record { state = state.Absent }) }
+
+-- that is the outcome of a refused play
+abbrev pub NoRunIfRefused : Played → Type 0
+NoRunIfRefused r = (k i : ℕ) → r .checked ≡ checked.Refused k i → r .outcome ≡ noRun

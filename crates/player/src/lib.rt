@@ -5,7 +5,7 @@ mod refusal;
 
 ghost use mathlib.Core.Path.{_≡_};
 ghost use Rattle.rules.specs.Play.{played, areaAfter};
-ghost use Rattle.player.specs.Answer.{answered};
+ghost use Rattle.player.specs.Answer.{answered, NoRunIfRefused};
 use crate::outcome::Played;
 use header::layout;
 use plan::Checked;
@@ -15,6 +15,7 @@ use plan::Checked;
 pub fn play(plan: &[u8], schedule: &[u8], log: &mut [u8]) -> Played
     ensures answer { λ r. ⌜ answered r ≡ played (now (plan .entry)) (now (schedule .entry)) (now (log .entry)) ⌝ }
     ensures area { λ r. ⌜ now (log .exit) ≡ areaAfter (now (plan .entry)) (now (schedule .entry)) (now (log .entry)) ⌝ }
+    ensures refused { λ r. ⌜ NoRunIfRefused r ⌝ }
 {
     let checked = refusal::refusal(plan, schedule, log.len());
     let Checked::Passed = checked else {

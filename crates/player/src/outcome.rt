@@ -1,5 +1,7 @@
 // What a play answers (document 01, "How a thread moves"): the outcome of a run, with the state of each of eight threads, or a refusal.
+ghost use Prim.Native.Nat.{_*_, _≤_};
 ghost use mathlib.Core.Path.{_≡_};
+ghost use Rattle.player.specs.Answer.{noRun};
 ghost use Rattle.player.specs.Outcomes.{roomBy, stopBy, stateBy, threadsBy, outcomeBy};
 use engine::Ran;
 use engine::Seen;
@@ -55,7 +57,7 @@ pub struct Outcome {
     pub threads: [Thread; 8],
 }
 
-// What a play answers: what refused it, or that nothing did; then the run's outcome.
+// What a play answers: what refused it, or that nothing did; then the run's outcome, or that of no run.
 pub struct Played {
     pub checked: Checked,
     pub outcome: Outcome,
@@ -142,6 +144,7 @@ pub fn outcome_of(r: Ran) -> Outcome
 // A refused play has no run.
 pub fn refused(checked: Checked) -> Played
     ensures { λ r. ⌜ r .checked ≡ checked ⌝ }
+    ensures { λ r. ⌜ r .outcome ≡ noRun ⌝ }
 {
     let none = Thread {
         state: ThreadState::Absent,
@@ -158,4 +161,12 @@ pub fn refused(checked: Checked) -> Played
         checked: checked,
         outcome: outcome,
     }
+}
+
+// The bytes of so many records.
+pub fn record_bytes(records: usize) -> usize
+    requires { ⌜ records ≤ 4096 ⌝ }
+    ensures { λ r. ⌜ r ≡ 3 * records ⌝ }
+{
+    3 * records
 }

@@ -15,7 +15,7 @@ use Rattle.rules.specs.Play.{played, areaAfter, runOf}
 use Rattle.rules.proofs.TidyRuns.{tidy-play}
 use Rattle.player.specs.declared.outcome.Played.{Played}
 use Rattle.player.specs.Answer.{stopOf, outcomeOf, answeredBy, answered}
-use Rattle.agreement.proofs.Entry.{passes, begins}
+use Rattle.player.proofs.Ran.{passes, begins}
 use Rattle.lines.specs.Text.{recordLines, outcomeLine, refusalLine}
 use Rattle.printing.specs.Printed.{lentArea, answerText, playText}
 

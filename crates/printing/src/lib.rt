@@ -21,7 +21,7 @@ fn print_play(plan: &[u8], schedule: &[u8], area: &mut [u8]) -> usize
     match checked {
         Checked::Refused { number, place } => lines::put_refusal(area, 0, number, place),
         Checked::Passed => {
-            let end = run::record_bytes(outcome.records);
+            let end = player::outcome::record_bytes(outcome.records);
             let stop = outcome.stop;
             run::print_run(
                 &log[0..end],

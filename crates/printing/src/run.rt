@@ -1,6 +1,5 @@
 // The lines of a run: one for each record, and the outcome's.
-ghost use Prim.Native.Nat.{_*_, _≤_};
-ghost use mathlib.Core.Path.{_≡_};
+ghost use Prim.Native.Nat.{_≤_};
 ghost use mathlib.Core.List.{_++_};
 ghost use lib.ListN.{length};
 ghost use Rattle.records.specs.Packed.{logOf};
@@ -8,14 +7,6 @@ ghost use Rattle.player.specs.Answer.{stopOf};
 ghost use Rattle.lines.specs.Text.{recordLines, outcomeLine};
 ghost use Rattle.lines.specs.Wrote.{Wrote};
 use player::outcome::Stop;
-
-// The bytes of so many records.
-pub fn record_bytes(records: usize) -> usize
-    requires { ⌜ records ≤ 4096 ⌝ }
-    ensures { λ r. ⌜ r ≡ 3 * records ⌝ }
-{
-    3 * records
-}
 
 // A line for each record of a log. None is over 28 bytes.
 fn put_log(log: &[u8], area: &mut [u8]) -> usize

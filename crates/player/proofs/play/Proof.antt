@@ -1,15 +1,11 @@
-use Prim.Native.Nat.{ℕ, _+_, _*_, _≤_, _<_}
+-- `play` meets its contract. Assumes nothing.
 use native.Mathlib.Omega.{arith}
-use mathlib.Core.Path.{_≡_, refl, sym, ap, _∙_}
-use mathlib.Core.List.{List}
-use lib.ListN.{length}
+use mathlib.Core.Path.{ap, _∙_}
 use borrow.Author.Needs.{needs}
 use Rattle.packed.specs.Format.{procedures, terms}
-use Rattle.rules.specs.Play.{played, playedBy, areaAfter, areaBy, runOf}
-use Rattle.player.specs.Answer.{answered}
 use Rattle.player.specs.Loading.{Words, Roots}
 use Rattle.player.specs.Outcomes.{outcomeBy}
-use Rattle.player.proofs.Passed.{Passed, Inside, inside, by-code}
+use Rattle.player.proofs.Passed.{Passed, Inside, inside, passed-refused, by-code}
 use Rattle.player.proofs.Entry.{refused-answer, refused-area, ran-answer, ran-area}
 use Rattle.player.proofs.play.Statement.{statement}
 use Rattle.player.proofs.play.Tie as tie
@@ -32,36 +28,33 @@ told c = by-code _ _ _ (c .before .before .refusal .result) (c .before .before .
 within : (c : tie.After-enum-told) → Inside (c .before .before .before .before .before .before .args .plan .now)
 within c = inside _ (told c .plan-passes)
 
--- src/lib.rt:20:9
 refusal-requires : tie.Need-refusal-requires
 refusal-requires c κs = search needs
 
 enum-told : tie.Need-enum-told
 enum-told c = search needs
 
--- src/lib.rt:22:9
 enum-told-2 : tie.Need-enum-told-2
 enum-told-2 c = search needs
 
--- src/lib.rt:22:9
 refused-requires : tie.Need-refused-requires
 refused-requires c κs = search needs
 
--- src/lib.rt:22:9
 returns : tie.Need-returns
 returns c =
     let a = c .before .before .before .before .before .before .before .args in
-    (refused-answer (a .plan .now) (a .schedule .now) (a .log .now) _ (c .before .before .before .refusal .ensures) _ _ (c .before .enum-told2 .given .1) (c .refused .result) (c .refused .ensures), refused-area (a .plan .now) (a .schedule .now) (a .log .now) _ (c .before .before .before .refusal .ensures) _ _ (c .before .enum-told2 .given .1))
+    let h = c .before .before .before .refusal .ensures in
+    let e = c .before .enum-told2 .given .1 in (
+      refused-answer (a .plan .now) (a .schedule .now) (a .log .now) _ h _ _ e (c .refused .result) (c .refused .ensures .0),
+      (refused-area (a .plan .now) (a .schedule .now) (a .log .now) _ h _ _ e, λ k i q. c .refused .ensures .1),
+    )
 
--- src/lib.rt:24:9
 procedures-requires : tie.Need-procedures-requires
 procedures-requires c κs = let w = within c .long in omega arith
 
--- src/lib.rt:25:9
 terms-requires : tie.Need-terms-requires
 terms-requires c κs = let w = within (c .before) .long in omega arith
 
--- src/lib.rt:26:17
 words-requires : tie.Need-words-requires
 words-requires c κs =
     let w = within (c .before .before) in
@@ -69,30 +62,24 @@ words-requires c κs =
     let t = c .terms .ensures in
     (p, omega (arith, w .few-procedures), omega (arith, w .few-terms), omega (arith, w .long))
 
--- src/lib.rt:27:17
 roots-requires : tie.Need-roots-requires
 roots-requires c κs =
     let w = within (c .before .before .before) in
     let p = c .before .before .procedures .ensures in
     (omega (arith, w .few-procedures), omega (arith, w .long))
 
--- src/lib.rt:28:9
 volatiles-requires : tie.Need-volatiles-requires
 volatiles-requires c κs = let w = within (c .before .before .before .before) .long in omega arith
 
--- src/lib.rt:29:9
 run-requires : tie.Need-run-requires
 run-requires c κs = let t = told (c .before .before .before .before .before .before .before .before) in (t .few, omega (arith, t .wide))
 
--- src/lib.rt:30:9
 outcome-of-requires : tie.Need-outcome-of-requires
 outcome-of-requires c κs = search needs
 
--- src/lib.rt:16:1
 same-length : tie.Need-same-length
 same-length c = search needs
 
--- src/lib.rt:16:1
 returns-2 : tie.Need-returns-2
 returns-2 c =
     let a = c .before .before .before .before .before .before .before .before .before .before .before .before .before .before .before .before .before .before .args in
@@ -105,7 +92,10 @@ returns-2 c =
     let ws = c .before .before .before .before .before .before .before .before .before .words .result in
     let rs = c .before .before .before .before .before .before .before .before .roots .result in (
       ran-answer (a .plan .now) (a .schedule .now) (a .log .now) _ h e ws rs w r _ m _ (c .outcome-of .ensures ∙ ap outcomeBy (c .before .before .before .run .ensures .0)),
-      c .before .before .before .run .ensures .1 ∙ ran-area (a .plan .now) (a .schedule .now) (a .log .now) _ h e ws rs w r _ m,
+      (
+        c .before .before .before .run .ensures .1 ∙ ran-area (a .plan .now) (a .schedule .now) (a .log .now) _ h e ws rs w r _ m,
+        λ k i q. passed-refused e q,
+      ),
     )
 
 pub play-spec : {M : Type 1} → statement M

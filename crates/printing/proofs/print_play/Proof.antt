@@ -2,7 +2,7 @@
 use Prim.Native.Nat.{_-_}
 use native.Mathlib.Omega.{arith}
 use lib.ListN.{length-take}
-use Rattle.agreement.proofs.Entry.{few-records, within}
+use Rattle.player.proofs.Ran.{few-records, within}
 use Rattle.printing.specs.Printed.{lentArea}
 use Rattle.lines.proofs.Added.{added-as}
 use Rattle.lines.proofs.LineParts.{refusal-short}
@@ -15,7 +15,7 @@ use Rattle.printing.proofs.print_play.Lts as lts
 use Rattle.player.proofs.play.Reads as play-reads
 use Rattle.lines.proofs.put_refusal.Reads as put-refusal-reads
 use Rattle.printing.proofs.run.print_run.Reads as print-run-reads
-use Rattle.printing.proofs.run.record_bytes.Reads as record-bytes-reads
+use Rattle.player.proofs.outcome.record_bytes.Reads as record-bytes-reads
 
 -- src/lib.rt:20:47
 slice-aggregate-play : tie.Need-slice-aggregate-play
@@ -64,7 +64,7 @@ part-print-run-end c =
     let p = c .before .before .before .before .before .before .play in
     let e = c .before .before .enum-told .given .1 in
     let r = c .before .record-bytes in
-    within (a .plan .now) (a .schedule .now) lentArea (p .result) (p .ensures .0) e (p .last .1 .1 .0) (p .ensures .1) (r .result) (omega (arith, r .ensures))
+    within (a .plan .now) (a .schedule .now) lentArea (p .result) (p .ensures .0) e (p .last .1 .1 .0) (p .ensures .1 .0) (r .result) (omega (arith, r .ensures))
 
 -- src/lib.rt:28:13
 print-run-requires : tie.Need-print-run-requires
@@ -102,7 +102,7 @@ returns-2 c =
     let p = c .before .before .before .before .before .before .before .before .before .before .before .play in
     let e = c .before .before .before .before .before .before .before .enum-told .given .1 in
     let r = c .before .before .before .before .before .before .record-bytes in
-    added-as (ran-text (a .plan .now) (a .schedule .now) (p .result) (p .ensures .0) e (p .last .1 .1 .0) (p .ensures .1) (r .result) (r .ensures)) (c .before .before .print-run .ensures)
+    added-as (ran-text (a .plan .now) (a .schedule .now) (p .result) (p .ensures .0) e (p .last .1 .1 .0) (p .ensures .1 .0) (r .result) (r .ensures)) (c .before .before .print-run .ensures)
 
 pub print-play-spec : {M : Type 1} → statement M
 print-play-spec =

@@ -36,7 +36,7 @@ returns c =
     let e = c .before .before .checked .given .1 in
     let number = refused-number (a .plan .now) (a .schedule .now) (a .log .now) (p .result) (p .ensures .0) _ _ e in
     let bytes = refused-bytes (a .plan .now) (a .schedule .now) (a .log .now) (p .result) (p .ensures .0) _ _ e (a .out .now) in
-    (c .refusal .ensures ∙ number, (p .ensures .1, bytes))
+    (c .refusal .ensures ∙ number, (p .ensures .1 .0, bytes))
 
 same-length-2 : tie.Need-same-length-2
 same-length-2 c = search needs
@@ -48,7 +48,7 @@ returns-2 c =
     let e = c .before .before .before .enum-told .given .1 in
     let number = ran-number (a .plan .now) (a .schedule .now) (a .log .now) (p .result) (p .ensures .0) e in
     let bytes = ran-bytes (a .plan .now) (a .schedule .now) (a .log .now) (p .result) (p .ensures .0) e (a .out .now) in
-    (number, (p .ensures .1, c .write .ensures ∙ bytes))
+    (number, (p .ensures .1 .0, c .write .ensures ∙ bytes))
 
 pub ruqzhemil-play-spec : {M : Type 1} → statement M
 ruqzhemil-play-spec =

@@ -1,5 +1,6 @@
-use mathlib.Core.Path.{_≡_, refl, sym, ap, _∙_, subst}
-use Prim.Native.Nat.{ℕ, suc, _+_, _*_, _-_, _<_, _≤_}
+-- `roots` meets its contract. Assumes nothing.
+use mathlib.Core.Path.{_≡_, refl, _∙_}
+use Prim.Native.Nat.{_-_, _<_, _≤_}
 use native.Mathlib.Omega.{arith}
 use lib.ListN.{length, length-set}
 use borrow.Author.Needs.{needs}
@@ -16,11 +17,9 @@ Inv-loop plan procs all₀ p₀ all p = (p ≤ procs) × (length all ≡ 32) × 
 abbrev μ-loop : tie.MeasureT-loop
 μ-loop plan procs all₀ p₀ all p = procs - p
 
--- src/load.rt:31:5
 loop-holds : tie.Need-loop-holds Inv-loop μ-loop
 loop-holds c = (search needs, refl, λ i q. absurd (omega arith))
 
--- src/load.rt:32:18
 root-requires : tie.Need-root-requires Inv-loop μ-loop
 root-requires c κs = search needs
 

@@ -1,11 +1,12 @@
-use mathlib.Core.Path.{_≡_, refl, sym, ap, _∙_, subst}
-use Prim.Native.Nat.{ℕ, suc, _+_, _*_, _-_, _<_, _≤_}
+-- `words` meets its contract. Assumes nothing.
+use mathlib.Core.Path.{_≡_, refl, ap, _∙_}
+use Prim.Native.Nat.{ℕ, _+_, _*_, _-_, _<_, _≤_}
 use native.Mathlib.Omega.{arith}
 use mathlib.Core.List.{List}
 use lib.ListN.{length, length-set}
 use Rattle.format.specs.Bits.{bitsAt}
 use borrow.Author.Needs.{needs}
-use Rattle.packed.specs.Format.{procedures, terms, termBit}
+use Rattle.packed.specs.Format.{procedures, termBit}
 use Rattle.player.specs.Loading.{Words}
 use Rattle.player.proofs.Filled.{one-more}
 use Rattle.player.proofs.load.words.Statement.{statement}
@@ -23,11 +24,9 @@ Inv-loop plan procs count all₀ t₀ all t = (t ≤ count) × (length all ≡ 1
 abbrev μ-loop : tie.MeasureT-loop
 μ-loop plan procs count all₀ t₀ all t = count - t
 
--- src/load.rt:31:5
 loop-holds : tie.Need-loop-holds Inv-loop μ-loop
 loop-holds c = (search needs, refl, λ i q. absurd (omega arith))
 
--- src/load.rt:32:18
 mul-five : tie.Need-mul-five Inv-loop μ-loop
 mul-five c = search needs
 

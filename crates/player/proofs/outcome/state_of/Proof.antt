@@ -1,78 +1,61 @@
+-- `state_of` meets its contract. Assumes nothing.
 use borrow.Author.Needs.{needs}
 use Rattle.player.proofs.outcome.state_of.Statement.{statement}
 use Rattle.player.proofs.outcome.state_of.Tie as tie
 use Rattle.player.proofs.outcome.state_of.Reads as reads
 use Rattle.player.proofs.outcome.state_of.Lts as lts
 
--- src/outcome.rt:91:26
 enum-told : tie.Need-enum-told
 enum-told c = search needs
 
--- src/outcome.rt:92:28
 enum-told-2 : tie.Need-enum-told-2
 enum-told-2 c = search needs
 
--- src/outcome.rt:93:25
 enum-told-3 : tie.Need-enum-told-3
 enum-told-3 c = search needs
 
--- src/outcome.rt:94:48
 enum-told-4 : tie.Need-enum-told-4
 enum-told-4 c = search needs
 
--- src/outcome.rt:95:45
 enum-told-5 : tie.Need-enum-told-5
 enum-told-5 c = search needs
 
--- src/outcome.rt:96:46
 enum-told-6 : tie.Need-enum-told-6
 enum-told-6 c = search needs
 
--- src/outcome.rt:97:47
 enum-told-7 : tie.Need-enum-told-7
 enum-told-7 c = search needs
 
--- src/outcome.rt:98:26
 enum-told-8 : tie.Need-enum-told-8
 enum-told-8 c = search needs
 
--- src/outcome.rt:99:27
 enum-told-9 : tie.Need-enum-told-9
 enum-told-9 c = search needs
 
--- src/outcome.rt:85:1
 returns : tie.Need-returns
 returns c = search needs
 
--- src/outcome.rt:85:1
 returns-2 : tie.Need-returns-2
 returns-2 c = simp (c .enum-told2 .given .1)
 
--- src/outcome.rt:85:1
 returns-3 : tie.Need-returns-3
 returns-3 c = search needs
 
--- src/outcome.rt:85:1
 returns-4 : tie.Need-returns-4
 returns-4 c = simp (c .enum-told4 .given .1)
 
--- src/outcome.rt:85:1
 returns-5 : tie.Need-returns-5
 returns-5 c = simp (c .enum-told5 .given .1)
 
--- src/outcome.rt:85:1
 returns-6 : tie.Need-returns-6
 returns-6 c = simp (c .enum-told6 .given .1)
 
--- src/outcome.rt:85:1
 returns-7 : tie.Need-returns-7
 returns-7 c = simp (c .enum-told7 .given .1)
 
--- src/outcome.rt:85:1
 returns-8 : tie.Need-returns-8
 returns-8 c = search needs
 
--- src/outcome.rt:85:1
 returns-9 : tie.Need-returns-9
 returns-9 c = simp (c .enum-told9 .given .1)
 

@@ -1,9 +1,9 @@
-use Prim.Native.Nat.{ℕ, _+_, _-_, _≤_, _<_}
+-- `threads_of` meets its contract. Assumes nothing.
+use Prim.Native.Nat.{_+_, _-_, _≤_, _<_}
 use native.Mathlib.Omega.{arith}
-use mathlib.Core.Path.{_≡_, refl, sym, ap, _∙_}
+use mathlib.Core.Path.{_≡_, sym, ap, _∙_}
 use borrow.Author.Needs.{needs}
 use lib.ListN.{set}
-use Rattle.player.specs.declared.outcome.Thread.{Thread}
 use Rattle.player.specs.declared.outcome.ThreadState.{ThreadState}
 use Rattle.player.specs.Outcomes.{threadsBy}
 use Rattle.player.proofs.EightThreads.{threadsFrom, all-threads, one-thread, no-thread}
@@ -19,39 +19,30 @@ Inv-loop all r₀ p₀ r p = (p ≤ 8) × (threadsFrom all (8 - p) p r ≡ threa
 abbrev μ-loop : tie.MeasureT-loop
 μ-loop all r₀ p₀ r p = 8 - p
 
--- src/outcome.rt:110:5
 loop-holds : tie.Need-loop-holds Inv-loop μ-loop
 loop-holds c = (omega arith, all-threads _)
 
--- src/outcome.rt:111:17
 mul-s : tie.Need-mul-s Inv-loop μ-loop
 mul-s c = search needs
 
--- src/outcome.rt:111:17
 array-copy-out-s : tie.Need-array-copy-out-s Inv-loop μ-loop
 array-copy-out-s c = search needs
 
--- src/outcome.rt:112:13
 state-of-requires : tie.Need-state-of-requires Inv-loop μ-loop
 state-of-requires c κs = search needs
 
--- src/outcome.rt:113:9
 mul-r : tie.Need-mul-r Inv-loop μ-loop
 mul-r c = search needs
 
--- src/outcome.rt:113:9
 array-set-from-r : tie.Need-array-set-from-r Inv-loop μ-loop
 array-set-from-r c = search needs
 
--- src/outcome.rt:110:9
 add-p : tie.Need-add-p Inv-loop μ-loop
 add-p c = search needs
 
--- src/outcome.rt:110:5
 loop-less : tie.Need-loop-less Inv-loop μ-loop
 loop-less c = search needs
 
--- src/outcome.rt:110:5
 loop-again : tie.Need-loop-again Inv-loop μ-loop
 loop-again c =
     let l = c .before .before .before in
@@ -60,7 +51,6 @@ loop-again c =
     let h : p < 8 = c .before .before .loop-test .taken in
     (omega arith, ap (λ (x : ThreadState). threadsFrom all (8 - (p + 1)) (p + 1) (set (l .loop .r) p (record { state = x }))) (c .state-of .ensures) ∙ sym (one-thread all p (l .loop .r) h) ∙ l .loop .inv .1)
 
--- src/outcome.rt:103:1
 returns : tie.Need-returns Inv-loop μ-loop
 returns c =
     let l = c .before in

@@ -1,8 +1,9 @@
-use mathlib.Core.Path.{_≡_, refl, sym, ap, _∙_}
-use mathlib.Core.Bool.{true, false}
-use Prim.Native.Nat.{ℕ, suc, _+_, _-_, _<_, _≤_}
+-- `lowest_wrong_pick` meets its contract. Assumes nothing.
+use mathlib.Core.Path.{_≡_}
+use mathlib.Core.Bool.{false}
+use Prim.Native.Nat.{ℕ, _-_, _<_, _≤_}
 use native.Mathlib.Omega.{arith}
-use lib.ListN.{length, getD}
+use lib.ListN.{length}
 use borrow.Author.Needs.{needs}
 use borrow.Author.Tests.{lt-ltb, le-ltb}
 use borrow.Author.Count.{below-more}
@@ -17,33 +18,26 @@ Inv-loop schedule i₀ i = (i ≤ length schedule) × ((k : ℕ) → k < i → w
 abbrev μ-loop : tie.MeasureT-loop
 μ-loop schedule i₀ i = length schedule - i
 
--- src/refusal.rt:14:5
 loop-holds : tie.Need-loop-holds Inv-loop μ-loop
 loop-holds c = (search needs, λ k h. absurd (omega arith))
 
--- src/refusal.rt:15:12
 shared-slice-read-if1 : tie.Need-shared-slice-read-if1 Inv-loop μ-loop
 shared-slice-read-if1 c = search needs
 
--- src/refusal.rt:16:13
 returns : tie.Need-returns Inv-loop μ-loop
 unfolding wrongPick
 returns c = let l = c .before .before .before .loop in found (wrongPick (c .before .before .before .before .args .schedule .now)) _ _ (search needs) (lt-ltb 7 _ (c .if1 .taken)) (l .inv .1)
 
--- src/refusal.rt:18:9
 add-i : tie.Need-add-i Inv-loop μ-loop
 add-i c = search needs
 
--- src/refusal.rt:14:5
 loop-less : tie.Need-loop-less Inv-loop μ-loop
 loop-less c = search needs
 
--- src/refusal.rt:14:5
 loop-again : tie.Need-loop-again Inv-loop μ-loop
 unfolding wrongPick
 loop-again c = let l = c .before .before .before .loop in (search needs, below-more _ _ (l .inv .1) (le-ltb 7 _ (c .if1 .left)))
 
--- src/refusal.rt:10:1
 returns-2 : tie.Need-returns-2 Inv-loop μ-loop
 returns-2 c = let l = c .before .loop in found-none (wrongPick (c .before .before .args .schedule .now)) _ _ (search needs) (search needs) (l .inv .1)
 

@@ -1,8 +1,7 @@
+-- `refusal` meets its contract. Assumes nothing.
 use mathlib.Core.Path.{_≡_, refl, sym, ap, _∙_}
-use mathlib.Core.Bool.{true, false}
 use mathlib.Core.Option.{some, none}
-use Prim.Native.Nat.{ℕ, _*_}
-use native.Mathlib.Omega.{arith}
+use Prim.Native.Nat.{_*_}
 use lib.ListN.{length}
 use borrow.Author.Needs.{needs}
 use borrow.Author.Tests.{lt-ltb, le-ltb}
@@ -19,27 +18,22 @@ use Rattle.plan.proofs.check.Reads as check-reads
 use Rattle.plan.proofs.refused.Reads as refused-reads
 use Rattle.player.proofs.refusal.lowest_wrong_pick.Reads as lowest-wrong-pick-reads
 
--- src/refusal.rt:27:9
 check-requires : tie.Need-check-requires
 check-requires c κs = search needs
 
 enum-told : tie.Need-enum-told
 enum-told c = search needs
 
--- src/refusal.rt:29:9
 enum-told-2 : tie.Need-enum-told-2
 enum-told-2 c = search needs
 
--- src/refusal.rt:29:9
 returns : tie.Need-returns
 returns c a e =
     by-plan _ _ a _ _ _ (c .before .before .check .ensures) (c .enum-told2 .given .1)
 
--- src/refusal.rt:32:9
 refused-requires : tie.Need-refused-requires
 refused-requires c κs = search needs
 
--- src/refusal.rt:32:9
 returns-2 : tie.Need-returns-2
 unfolding answered refuse
 returns-2 c a e =
@@ -47,15 +41,12 @@ returns-2 c a e =
     let m8 : lowest (λ place. tooManyPicks s) 1 ≡ some 0 = whole (tooManyPicks s) (unfold tooManyPicks in lt-ltb 4096 _ (c .before .if1 .taken)) in
     by-later _ s a _ (c .refused .result) (c .before .before .before .before .check .ensures) (c .before .before .enum-told .given .1) (ap answered (c .refused .ensures) ∙ sym (rw m8))
 
--- src/refusal.rt:34:9
 lowest-wrong-pick-requires : tie.Need-lowest-wrong-pick-requires
 lowest-wrong-pick-requires c κs = search needs
 
--- src/refusal.rt:36:9
 refused-requires-2 : tie.Need-refused-requires-2
 refused-requires-2 c κs = search needs
 
--- src/refusal.rt:36:9
 returns-3 : tie.Need-returns-3
 unfolding answered refuse
 returns-3 c a e =
@@ -64,15 +55,12 @@ returns-3 c a e =
     let m9 : lowest (wrongPick s) (length s) ≡ some (c .before .before .lowest-wrong-pick .result) = struck (wrongPick s) (length s) (length s) _ refl (c .before .before .lowest-wrong-pick .ensures) (c .before .if2 .taken) in
     by-later _ s a _ (c .refused2 .result) (c .before .before .before .before .before .before .check .ensures) (c .before .before .before .before .enum-told .given .1) (ap answered (c .refused2 .ensures) ∙ sym (rw (m8, m9)))
 
--- src/refusal.rt:38:15
 mul-if3 : tie.Need-mul-if3
 mul-if3 c = search needs
 
--- src/refusal.rt:39:9
 refused-requires-3 : tie.Need-refused-requires-3
 refused-requires-3 c κs = search needs
 
--- src/refusal.rt:39:9
 returns-4 : tie.Need-returns-4
 unfolding answered refuse
 returns-4 c a e =
@@ -82,7 +70,6 @@ returns-4 c a e =
     let m10 : lowest (λ place. shortArea s a) 1 ≡ some 0 = whole (shortArea s a) (unfold shortArea in rw e (lt-ltb _ (3 * length s) (c .before .if3 .taken))) in
     by-later _ s a _ (c .refused3 .result) (c .before .before .before .before .before .before .before .check .ensures) (c .before .before .before .before .before .enum-told .given .1) (ap answered (c .refused3 .ensures) ∙ sym (rw (m8, m9, m10)))
 
--- src/refusal.rt:24:1
 returns-5 : tie.Need-returns-5
 unfolding answered refuse
 returns-5 c a e =

@@ -1,0 +1,84 @@
+-- A play that the entry does not refuse: its outcome is the run's, its records are few, and the log area begins with them. Assumes nothing.
+use Prim.Native.Nat.{ℕ, _*_, _-_, _≤_}
+use native.Mathlib.Nat.{sub-zero}
+use native.Mathlib.Omega.{arith}
+use mathlib.Core.Path.{_≡_, refl, sym, ap, _∙_}
+use mathlib.Core.List.{List, _++_}
+use mathlib.Core.Option.{Option, some, none}
+use lib.ListN.{length, length-append, take, drop}
+use lib.Seq.{take-append-seam}
+use Rattle.format.specs.Refusal.{Refusal}
+use Rattle.packed.specs.Trees.{programOf}
+use Rattle.packed.proofs.Decoded.{well-formed}
+use Rattle.plan.specs.declared.Checked.{Checked}
+use Rattle.plan.specs.declared.Checked.the-variants as checked
+use Rattle.records.specs.Packed.{bytesOf}
+use Rattle.records.proofs.RoundTrip.{length-bytes}
+use Rattle.rules.specs.Run as run
+use Rattle.rules.specs.Play as play
+use Rattle.rules.specs.Play.{playRefusal, played, playedBy, areaAfter, areaBy, overwrite, runOf}
+use Rattle.rules.proofs.TidyRuns.{tidy-play}
+use Rattle.player.specs.declared.outcome.Played.{Played}
+use Rattle.player.specs.Answer.{stopOf, outcomeOf, answeredBy, answered}
+use Rattle.player.proofs.Passed.{Passed, passed}
+
+-- the outcome of an answer that has one
+abbrev outcomeOr : run.Outcome → play.Played → run.Outcome
+outcomeOr other (play.Played.refused r) = other
+outcomeOr other (play.Played.ran o) = o
+
+module _ (plan schedule area : List ℕ) (p : Played) (h : answered p ≡ played plan schedule area) (e : p .checked ≡ checked.Passed) where
+  ran-is : play.Played.ran (outcomeOf (p .outcome)) ≡ playedBy plan schedule (playRefusal plan schedule area)
+  unfolding answered played
+  ran-is = ap (λ (y : Checked). answeredBy y (p .outcome)) (sym e) ∙ h
+
+  not-refused-by : (x : Option Refusal) → playRefusal plan schedule area ≡ x → playRefusal plan schedule area ≡ none
+  unfolding playedBy
+  not-refused-by none q = q
+  not-refused-by (some r) q =
+      let y : play.Played.ran (outcomeOf (p .outcome)) ≡ play.Played.refused r = ran-is ∙ ap (playedBy plan schedule) q in
+      absurd (let z : _≡_ {A = ℕ} 0 1 = cc in omega arith)
+
+  not-refused : playRefusal plan schedule area ≡ none
+  not-refused = not-refused-by (playRefusal plan schedule area) refl
+
+  pub passes : Passed plan schedule area
+  passes = passed plan schedule area not-refused
+
+  pub outcome-is : outcomeOf (p .outcome) ≡ run.outcomeOf (programOf plan) (runOf plan schedule)
+  unfolding playedBy
+  outcome-is = ap (outcomeOr (outcomeOf (p .outcome))) (ran-is ∙ ap (playedBy plan schedule) not-refused)
+
+  pub stop-is : stopOf (p .outcome .stop) ≡ runOf plan schedule .stop
+  unfolding outcomeOf run.outcomeOf
+  stop-is = ap (λ (o : run.Outcome). o .stop) outcome-is
+
+  pub records-are : p .outcome .records ≡ length (runOf plan schedule .log)
+  unfolding outcomeOf run.outcomeOf
+  records-are = ap (λ (o : run.Outcome). o .records) outcome-is
+
+  -- as few as the picks
+  pub few-records : p .outcome .records ≤ 4096
+  unfolding runOf
+  few-records = omega (arith, records-are, passes .few, tidy-play (programOf plan) (well-formed plan (passes .plan-passes)) schedule .few)
+
+  -- ---- the log area that it leaves
+
+  module _ (after : List ℕ) (left : after ≡ areaAfter plan schedule area) where
+    abbrev bytes : List ℕ
+    bytes = bytesOf (runOf plan schedule .log)
+
+    count : 3 * p .outcome .records ≡ length bytes
+    count = ap (λ (n : ℕ). 3 * n) records-are ∙ sym (length-bytes (runOf plan schedule .log))
+
+    after-is : after ≡ bytes ++ drop (length bytes) area
+    unfolding areaAfter areaBy overwrite
+    after-is = left ∙ ap (areaBy plan schedule area) not-refused
+
+    -- it has room for the records
+    pub within : (n : ℕ) → n ≤ 3 * p .outcome .records → n ≤ length after
+    within n q = omega (arith, q, count, ap (λ (l : List ℕ). length l) after-is, length-append bytes (drop (length bytes) area))
+
+    -- and begins with them
+    pub begins : (n : ℕ) → n ≡ 3 * p .outcome .records → take (n - 0) after ≡ bytesOf (runOf plan schedule .log)
+    begins n q = ap (λ (k : ℕ). take k after) (sub-zero n ∙ q ∙ count) ∙ ap (take (length bytes)) after-is ∙ take-append-seam bytes (drop (length bytes) area)
