@@ -6,7 +6,7 @@ use mathlib.Core.List.{List, _∷_}
 use mathlib.Core.Option.{Option, some, none}
 use lib.ListN.{length}
 use Rattle.packed.specs.Trees.{Node}
-use Rattle.packed.specs.Steps.{Descending as Ordered}
+use Rattle.packed.specs.Steps.{Descending}
 use Rattle.rules.specs.Context.{falseWhen}
 use Rattle.machine.specs.Frames.{Slots, noSlots, Closure, closure, branches, Frame, Ready, Found, height}
 use Rattle.machine.specs.Landing.{given, valueOf, isTrue, boolOf, valueIn, boolIn, foundNot, upBy, downBy, downByᶜ, downByᵃ, down, downᶜ, downᵃ, up, upᶜ, enter, enterᶜ}
@@ -14,7 +14,7 @@ use Rattle.machine.specs.Turns.{Going, Turn, ends, goDown, goDownᶜ, goList, l
 use Rattle.machine.proofs.Turns.{turn-lands}
 use Rattle.machine.proofs.Heights.{turn-under}
 
-module _ {h : ℕ → Node} {N : ℕ} (o : Ordered h N) where
+module _ {h : ℕ → Node} {N : ℕ} (o : Descending h N) where
   -- ---- values
 
   pub enter-value : (S : List Frame) (x : Closure) (v : ℕ) → valueIn h x ≡ some v → enter h N S x ≡ up h N S v

@@ -5,7 +5,7 @@ use native.Mathlib.Omega.{arith}
 use Prim.Native.Nat.{_+_, _*_, _-_, _/_, _%_, _≤_}
 use mathlib.Core.Bool.{Bool, true, _&&_}
 use lib.ListN.{getD}
-use borrow.Author.Tests.{not-true as not-yes, not-false as not-no}
+use borrow.Author.Tests.{not-true, not-false}
 use Rattle.packed.specs.Format.{layout, table}
 use Rattle.packed.specs.Trees.{nodes, nodeOf, binderOf, expressionOf, conditionOf, argumentsOf}
 use Rattle.packed.specs.Slots.{closed, closedᶜ, closedᵃ, bound}
@@ -234,7 +234,7 @@ closed-condition-returns : (t : ℕ) → closed-condition-lts.Need-returns (
   closed-equal.Post,
 ) (closed-condition-at t) closed-condition.Post closed-condition-Inv-loop closed-condition-μ-loop
 unfolding nodeOf inWord layout table nodes conditionOf closed
-closed-condition-returns t c = let s = c .before .before .before .before .before .before .before in let a = s .args in let ws = a .words .now in let o = s .pre .1 .0 in let ρ = slots (a .bound) in let l = c .before .before .before .before .before .before .loop in let w = getD ws (l .t) 0 in sym (ap (closedᶜ ρ) (cond-is ws o (l .t) 14 (c .before .before .before .before .match .keys2)) ∙ and-false (closedᶜ ρ (conditionIn ws (w / 33554432 % 1024))) _ (sym (c .before .closed-condition .ensures) ∙ not-yes _ (c .if2 .taken))) ∙ l .inv .2
+closed-condition-returns t c = let s = c .before .before .before .before .before .before .before in let a = s .args in let ws = a .words .now in let o = s .pre .1 .0 in let ρ = slots (a .bound) in let l = c .before .before .before .before .before .before .loop in let w = getD ws (l .t) 0 in sym (ap (closedᶜ ρ) (cond-is ws o (l .t) 14 (c .before .before .before .before .match .keys2)) ∙ and-false (closedᶜ ρ (conditionIn ws (w / 33554432 % 1024))) _ (sym (c .before .closed-condition .ensures) ∙ not-true _ (c .if2 .taken))) ∙ l .inv .2
 
 closed-condition-loop-less-3 : (t : ℕ) → closed-condition-lts.Need-loop-less-3 (
   closed-condition-below t,
@@ -252,7 +252,7 @@ closed-condition-loop-again-3 : (t : ℕ) → closed-condition-lts.Need-loop-aga
   closed-equal.Post,
 ) (closed-condition-at t) closed-condition.Post closed-condition-Inv-loop closed-condition-μ-loop
 unfolding nodeOf inWord layout table nodes conditionOf closed
-closed-condition-loop-again-3 t c = let s = c .before .before .before .before .before .before .before in let a = s .args in let ws = a .words .now in let o = s .pre .1 .0 in let ρ = slots (a .bound) in let l = c .before .before .before .before .before .before .loop in let w = getD ws (l .t) 0 in let b = row-below ws o (l .t) 14 (c .before .before .before .before .match .keys2) in (omega (arith, b .1, l .inv .0), mod-below _, sym (ap (closedᶜ ρ) (cond-is ws o (l .t) 14 (c .before .before .before .before .match .keys2)) ∙ and-true (closedᶜ ρ (conditionIn ws (w / 33554432 % 1024))) _ (sym (c .before .closed-condition .ensures) ∙ not-no _ (c .if2 .left))) ∙ l .inv .2)
+closed-condition-loop-again-3 t c = let s = c .before .before .before .before .before .before .before in let a = s .args in let ws = a .words .now in let o = s .pre .1 .0 in let ρ = slots (a .bound) in let l = c .before .before .before .before .before .before .loop in let w = getD ws (l .t) 0 in let b = row-below ws o (l .t) 14 (c .before .before .before .before .match .keys2) in (omega (arith, b .1, l .inv .0), mod-below _, sym (ap (closedᶜ ρ) (cond-is ws o (l .t) 14 (c .before .before .before .before .match .keys2)) ∙ and-true (closedᶜ ρ (conditionIn ws (w / 33554432 % 1024))) _ (sym (c .before .closed-condition .ensures) ∙ not-false _ (c .if2 .left))) ∙ l .inv .2)
 
 closed-condition-closed-equal-requires : (t : ℕ) → closed-condition-lts.Need-closed-equal-requires (
   closed-condition-below t,
@@ -526,7 +526,7 @@ closed-list-returns-2 : (t : ℕ) → closed-list-lts.Need-returns-2 (
   closed-expression.Post,
 ) (closed-list-at t) closed-list.Post closed-list-Inv-loop closed-list-μ-loop
 unfolding nodeOf inWord layout table nodes argumentsOf closed
-closed-list-returns-2 t c = let s = c .before .before .before .before .before in let a = s .args in let ws = a .words .now in let o = s .pre .1 .0 in let ρ = slots (a .bound) in let l = c .before .before .before .before .loop in let w = getD ws (l .t) 0 in sym (ap (closedᵃ ρ) (list-is ws o (l .t) 16 (c .before .before .if1 .left)) ∙ and-false (closed ρ (treeIn ws (w / 33554432 % 1024))) _ (sym (c .before .closed-expression .ensures) ∙ not-yes _ (c .if2 .taken))) ∙ l .inv .2
+closed-list-returns-2 t c = let s = c .before .before .before .before .before in let a = s .args in let ws = a .words .now in let o = s .pre .1 .0 in let ρ = slots (a .bound) in let l = c .before .before .before .before .loop in let w = getD ws (l .t) 0 in sym (ap (closedᵃ ρ) (list-is ws o (l .t) 16 (c .before .before .if1 .left)) ∙ and-false (closed ρ (treeIn ws (w / 33554432 % 1024))) _ (sym (c .before .closed-expression .ensures) ∙ not-true _ (c .if2 .taken))) ∙ l .inv .2
 
 closed-list-loop-less : (t : ℕ) → closed-list-lts.Need-loop-less (
   closed-expression-below t,
@@ -540,7 +540,7 @@ closed-list-loop-again : (t : ℕ) → closed-list-lts.Need-loop-again (
   closed-expression.Post,
 ) (closed-list-at t) closed-list.Post closed-list-Inv-loop closed-list-μ-loop
 unfolding nodeOf inWord layout table nodes argumentsOf closed
-closed-list-loop-again t c = let s = c .before .before .before .before .before in let a = s .args in let ws = a .words .now in let o = s .pre .1 .0 in let ρ = slots (a .bound) in let l = c .before .before .before .before .loop in let w = getD ws (l .t) 0 in let b = row-below ws o (l .t) 16 (c .before .before .if1 .left) in (omega (arith, b .1, l .inv .0), mod-below _, sym (ap (closedᵃ ρ) (list-is ws o (l .t) 16 (c .before .before .if1 .left)) ∙ and-true (closed ρ (treeIn ws (w / 33554432 % 1024))) _ (sym (c .before .closed-expression .ensures) ∙ not-no _ (c .if2 .left))) ∙ l .inv .2)
+closed-list-loop-again t c = let s = c .before .before .before .before .before in let a = s .args in let ws = a .words .now in let o = s .pre .1 .0 in let ρ = slots (a .bound) in let l = c .before .before .before .before .loop in let w = getD ws (l .t) 0 in let b = row-below ws o (l .t) 16 (c .before .before .if1 .left) in (omega (arith, b .1, l .inv .0), mod-below _, sym (ap (closedᵃ ρ) (list-is ws o (l .t) 16 (c .before .before .if1 .left)) ∙ and-true (closed ρ (treeIn ws (w / 33554432 % 1024))) _ (sym (c .before .closed-expression .ensures) ∙ not-false _ (c .if2 .left))) ∙ l .inv .2)
 
 rest-of-mul-w : (t : ℕ) → rest-of-lts.Need-mul-w (
   holds-reads.Asked,

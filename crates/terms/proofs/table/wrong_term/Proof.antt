@@ -1,6 +1,6 @@
 -- `wrong_term`: each shape, by the tag, is a row of the table.
 use mathlib.Core.Path.{refl, _∙_}
-use mathlib.Core.Bool.{or-false as or-no}
+use mathlib.Core.Bool.{or-false}
 use borrow.Author.Needs.{needs}
 use Rattle.packed.specs.Format.{layout, table}
 use Rattle.packed.specs.Refusals.{breaksTable, someOperand}
@@ -61,15 +61,15 @@ returns c = let a = c .before .args in tested (a .procs) (a .count) (a .t) (a .w
 
 returns-2 : tie.Need-returns-2
 unfolding breaksTable someOperand inWord layout table
-returns-2 c = let a = c .before .before .args in tested (a .procs) (a .count) (a .t) (a .w) 1 _ (c .before .match .keys2) (c .wrong-variable .ensures ∙ simp or-no)
+returns-2 c = let a = c .before .before .args in tested (a .procs) (a .count) (a .t) (a .w) 1 _ (c .before .match .keys2) (c .wrong-variable .ensures ∙ simp or-false)
 
 returns-3 : tie.Need-returns-3
 unfolding breaksTable someOperand inWord layout table
-returns-3 c = let a = c .before .before .args in tested (a .procs) (a .count) (a .t) (a .w) 2 _ (c .before .match .keys3) (c .wrong-new .ensures ∙ simp or-no)
+returns-3 c = let a = c .before .before .args in tested (a .procs) (a .count) (a .t) (a .w) 2 _ (c .before .match .keys3) (c .wrong-new .ensures ∙ simp or-false)
 
 returns-4 : tie.Need-returns-4
 unfolding breaksTable someOperand inWord layout table
-returns-4 c = let a = c .before .before .args in tested (a .procs) (a .count) (a .t) (a .w) 3 _ (c .before .match .keys4) (c .wrong-read .ensures ∙ simp or-no)
+returns-4 c = let a = c .before .before .args in tested (a .procs) (a .count) (a .t) (a .w) 3 _ (c .before .match .keys4) (c .wrong-read .ensures ∙ simp or-false)
 
 returns-5 : tie.Need-returns-5
 unfolding breaksTable someOperand inWord layout table
@@ -85,23 +85,23 @@ returns-7 c = let a = c .before .before .args in tested (a .procs) (a .count) (a
 
 returns-8 : tie.Need-returns-8
 unfolding breaksTable someOperand inWord layout table
-returns-8 c = let a = c .before .before .args in tested (a .procs) (a .count) (a .t) (a .w) 7 _ (c .before .match .keys8) (c .wrong-pair .ensures ∙ simp or-no)
+returns-8 c = let a = c .before .before .args in tested (a .procs) (a .count) (a .t) (a .w) 7 _ (c .before .match .keys8) (c .wrong-pair .ensures ∙ simp or-false)
 
 returns-9 : tie.Need-returns-9
 unfolding breaksTable someOperand inWord layout table
-returns-9 c = let a = c .before .before .args in tested (a .procs) (a .count) (a .t) (a .w) 8 _ (c .before .match .keys9) (c .wrong-call .ensures ∙ simp or-no)
+returns-9 c = let a = c .before .before .args in tested (a .procs) (a .count) (a .t) (a .w) 8 _ (c .before .match .keys9) (c .wrong-call .ensures ∙ simp or-false)
 
 returns-10 : tie.Need-returns-10
 unfolding breaksTable someOperand inWord layout table
-returns-10 c = let a = c .before .before .args in tested (a .procs) (a .count) (a .t) (a .w) 9 _ (c .before .match .keys10) (c .wrong-single .ensures ∙ simp or-no)
+returns-10 c = let a = c .before .before .args in tested (a .procs) (a .count) (a .t) (a .w) 9 _ (c .before .match .keys10) (c .wrong-single .ensures ∙ simp or-false)
 
 returns-11 : tie.Need-returns-11
 unfolding breaksTable someOperand inWord layout table
-returns-11 c = let a = c .before .before .args in tested (a .procs) (a .count) (a .t) (a .w) 10 _ (c .before .match .keys11) (c .wrong-single2 .ensures ∙ simp or-no)
+returns-11 c = let a = c .before .before .args in tested (a .procs) (a .count) (a .t) (a .w) 10 _ (c .before .match .keys11) (c .wrong-single2 .ensures ∙ simp or-false)
 
 returns-12 : tie.Need-returns-12
 unfolding breaksTable someOperand inWord layout table
-returns-12 c = let a = c .before .before .args in tested (a .procs) (a .count) (a .t) (a .w) 11 _ (c .before .match .keys12) (c .wrong-pair2 .ensures ∙ simp or-no)
+returns-12 c = let a = c .before .before .args in tested (a .procs) (a .count) (a .t) (a .w) 11 _ (c .before .match .keys12) (c .wrong-pair2 .ensures ∙ simp or-false)
 
 returns-13 : tie.Need-returns-13
 unfolding breaksTable someOperand inWord layout table
@@ -109,19 +109,19 @@ returns-13 c = let a = c .before .args in tested (a .procs) (a .count) (a .t) (a
 
 returns-14 : tie.Need-returns-14
 unfolding breaksTable someOperand inWord layout table
-returns-14 c = let a = c .before .before .args in tested (a .procs) (a .count) (a .t) (a .w) 13 _ (c .before .match .keys14) (c .wrong-single3 .ensures ∙ simp or-no)
+returns-14 c = let a = c .before .before .args in tested (a .procs) (a .count) (a .t) (a .w) 13 _ (c .before .match .keys14) (c .wrong-single3 .ensures ∙ simp or-false)
 
 returns-15 : tie.Need-returns-15
 unfolding breaksTable someOperand inWord layout table
-returns-15 c = let a = c .before .before .args in tested (a .procs) (a .count) (a .t) (a .w) 14 _ (c .before .match .keys15) (c .wrong-pair3 .ensures ∙ simp or-no)
+returns-15 c = let a = c .before .before .args in tested (a .procs) (a .count) (a .t) (a .w) 14 _ (c .before .match .keys15) (c .wrong-pair3 .ensures ∙ simp or-false)
 
 returns-16 : tie.Need-returns-16
 unfolding breaksTable someOperand inWord layout table
-returns-16 c = let a = c .before .before .args in tested (a .procs) (a .count) (a .t) (a .w) 15 _ (c .before .match .keys16) (c .wrong-pair4 .ensures ∙ simp or-no)
+returns-16 c = let a = c .before .before .args in tested (a .procs) (a .count) (a .t) (a .w) 15 _ (c .before .match .keys16) (c .wrong-pair4 .ensures ∙ simp or-false)
 
 returns-17 : tie.Need-returns-17
 unfolding breaksTable someOperand inWord layout table
-returns-17 c = let a = c .before .before .args in tested (a .procs) (a .count) (a .t) (a .w) 16 _ (c .before .match .keys17) (c .wrong-pair5 .ensures ∙ simp or-no)
+returns-17 c = let a = c .before .before .args in tested (a .procs) (a .count) (a .t) (a .w) 16 _ (c .before .match .keys17) (c .wrong-pair5 .ensures ∙ simp or-false)
 
 returns-18 : tie.Need-returns-18
 unfolding breaksTable someOperand inWord layout table
