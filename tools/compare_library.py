@@ -16,8 +16,7 @@ import subprocess
 import sys
 
 import interpreter
-
-FILL = 0xA5
+from interpreter import FILL, outcome_bytes
 
 
 def library(root):
@@ -35,11 +34,6 @@ def library(root):
 def lent(data):
     """Bytes as a pointer and a length."""
     return (ctypes.c_uint8 * max(1, len(data))).from_buffer_copy(data or b"\0"), ctypes.c_size_t(len(data))
-
-
-def out_bytes(want):
-    """The 32 bytes of an outcome."""
-    return interpreter.outcome_bytes(want) + bytes(1) + b"".join(map(interpreter.thread_bytes, want["states"]))
 
 
 def judged_right(lib, log, want):
@@ -61,10 +55,10 @@ def played_right(lib, case):
     checked = lib.ruqzhemil_check(*lent(plan))
     if "refused" in want:
         number, place = want["refused"]
-        right = got == number * 65536 + place and left == bytes([FILL]) * play["area"] and bytes(out) == bytes([FILL]) * 32
+        right = got == number * 65536 + place and left == bytes([FILL]) * play["area"] and bytes(out) == outcome_bytes(want)
         return right and checked == (got if number < 8 else 0)
     log = bytes.fromhex(want["log"])
-    right = got == 0 and checked == 0 and bytes(out) == out_bytes(want) and left == log + bytes([FILL]) * (play["area"] - len(log))
+    right = got == 0 and checked == 0 and bytes(out) == outcome_bytes(want) and left == log + bytes([FILL]) * (play["area"] - len(log))
     return right and judged_right(lib, log, want["judge"])
 
 

@@ -5,6 +5,7 @@ import json
 import subprocess
 import sys
 
+FILL = 0xA5  # what every lent area is filled with before a play
 OUTCOMES = ["end", "race", "no-thread", "no-object", "no-key", "no-depth"]
 STATES = {("absent",): 0, ("finished",): 1, ("ready",): 2, ("waiting", "monitor"): 3, ("waiting", "join"): 4, ("stuck", "field"): 5,
           ("stuck", "thread"): 6, ("lacking",): 7}
@@ -21,9 +22,11 @@ def thread_bytes(state):
 
 
 def outcome_bytes(want):
-    """The outcome, then picks, moves and records, high byte first."""
+    """The static library's 32 bytes of an outcome, which a refused play leaves as they were filled."""
+    if "refused" in want:
+        return bytes([FILL]) * 32
     counts = b"".join(want[name].to_bytes(2, "big") for name in ("picks", "moves", "records"))
-    return bytes([OUTCOMES.index(want["outcome"])]) + counts
+    return bytes([OUTCOMES.index(want["outcome"])]) + counts + bytes(1) + b"".join(map(thread_bytes, want["states"]))
 
 
 @contextlib.contextmanager

@@ -10,16 +10,15 @@ first.
   shots, runs, refused    plays: of document 01's shot list, those that run, those that are refused
   shot_logs, logs         logs for the judge: of the shot list, and any
 
-A play: lengths of plan, schedule and log area; what the judge says of the run (0 none, else the index and 1); the answer in 34 bytes (refusal and
-place; outcome, picks, moves, records; state, value or object, field of each thread); plan, schedule, records. A log: refusal and place; how many
-indices the judge may name, and each; the log.
+A play: lengths of plan, schedule and log area; what the judge says of the run (0 none, else the index and 1); the answer in 35 bytes (refusal and
+place; the static library's 32 bytes); plan, schedule, records. A log: refusal and place; how many indices the judge may name, and each; the log.
 """
 
 import collections
 import sys
 
 import interpreter
-from interpreter import OUTCOMES, STATES, outcome_bytes, state_words, thread_bytes
+from interpreter import OUTCOMES, STATES, outcome_bytes, state_words
 
 LONG = 6000  # bytes of a case from which on only a few are kept
 KEPT = {"refused": 45, "end": 330, "long": 10, "log": 260}  # of each number, of runs to the end, of long cases, of logs by their unordered accesses
@@ -32,11 +31,9 @@ def two(number):
 
 
 def answer_bytes(want):
-    """The answer to a play in 34 bytes."""
-    if "refused" in want:
-        number, place = want["refused"]
-        return bytes([number]) + two(place) + bytes(31)
-    return bytes(3) + outcome_bytes(want) + b"".join(map(thread_bytes, want["states"]))
+    """The answer to a play in 35 bytes."""
+    number, place = want.get("refused", (0, 0))
+    return bytes([number]) + two(place) + outcome_bytes(want)
 
 
 def play_bytes(plan, schedule, area, want):

@@ -1,18 +1,22 @@
-// One stored case of each kind, as tools/vectors.py writes it. Numbers of two bytes have the high byte first.
+// One stored case of each kind, as tools/vectors.py writes it, held to the entries of the static library. Numbers of two bytes have the high byte first.
 //
-// A case of a play: the lengths of plan, schedule and log area; what the judge says of the run, 0 for none, else the index and 1; the answer, 34 bytes;
-// then plan, schedule and records. A case of a log: the refusal's number, 0 for none, and its place; how many indices the judge may name, and each;
-// then the log.
-ghost use Prim.Native.Nat.{_≤_};
+// A case of a play: the lengths of plan, schedule and log area; what the judge says of the run, 0 for none, else the index and 1; the refusal's number,
+// 0 for a run, and its place; the 32 bytes for the outcome; then plan, schedule and records. A case of a log: the refusal's number, 0 for none, and its
+// place; how many indices the judge may name, and each; then the log.
+ghost use Prim.Native.Nat.{_+_, _≤_, _<_};
 ghost use lib.ListN.{length};
-use crate::answer;
 use header::bits;
-use judge::Judgement;
-use plan::Checked;
-use player::outcome::Played;
 
-// What every log area is filled with before a play.
+// What every lent area is filled with before a play.
 const FILL: u8 = 165;
+
+// A stored refusal as the library returns it, 0 for none.
+fn refusal_at(case: &[u8], at: usize) -> u64
+    requires { ⌜ at + 3 ≤ length (now case) ⌝ }
+    ensures { λ r. ⌜ r < 16777216 ⌝ }
+{
+    (bits::wide(case[at]) * 65536 + bits::half(case, at + 1)) as u64
+}
 
 // The end of a part of a case, which is no further than the case's end.
 fn part_end(case: &[u8], start: usize, size: usize) -> usize
@@ -44,69 +48,82 @@ fn begins(area: &[u8], records: &[u8]) -> bool {
     same
 }
 
+// Whether the bytes for the outcome are those stored.
+fn same_bytes(out: &[u8; 32], stored: &[u8]) -> bool
+    requires { ⌜ 32 ≤ length (now stored) ⌝ }
+{
+    let mut same = true;
+    for i in 0..32 {
+        same = same & (out[i] == stored[i]);
+    }
+    same
+}
+
 // A play with a log area of that size, or of the whole area.
-fn play_in(plan: &[u8], schedule: &[u8], area: &mut [u8], size: usize) -> Played {
+fn play_in(plan: &[u8], schedule: &[u8], area: &mut [u8], size: usize, out: &mut [u8; 32]) -> u64 {
     if size < area.len() {
-        player::play(plan, schedule, &mut area[..size])
+        ruqzhemil::ruqzhemil_play(plan, schedule, &mut area[..size], out)
     } else {
-        player::play(plan, schedule, area)
+        ruqzhemil::ruqzhemil_play(plan, schedule, area, out)
     }
 }
 
 // The answer to the plan alone: that of the play, for numbers 1 to 7.
 pub fn check_case(case: &[u8]) -> bool {
-    if case.len() < 42 {
+    if case.len() < 43 {
         return false;
     }
-    let end = part_end(case, 42, bits::half(case, 0));
-    let wanted = bits::wide(case[8]);
-    match plan::check(&case[42..end]) {
-        Checked::Refused { number, place } => (number == wanted) & (place == bits::half(case, 9)),
-        Checked::Passed => (wanted == 0) | (7 < wanted),
+    let end = part_end(case, 43, bits::half(case, 0));
+    let wanted = refusal_at(case, 8);
+    let got = ruqzhemil::ruqzhemil_check(&case[43..end]);
+    if wanted < 524288 {
+        got == wanted
+    } else {
+        got == 0
     }
 }
 
-// The answer to the play, and the whole log area.
+// The answer to the play, the 32 bytes and the whole log area.
 pub fn play_case(case: &[u8]) -> bool {
-    if case.len() < 42 {
+    if case.len() < 43 {
         return false;
     }
-    let end = part_end(case, 42, bits::half(case, 0));
+    let end = part_end(case, 43, bits::half(case, 0));
     let last = part_end(case, end, bits::half(case, 2));
     let mut area = [FILL; 16384];
-    let played = play_in(
-        &case[42..end],
+    let mut out = [FILL; 32];
+    let got = play_in(
+        &case[43..end],
         &case[end..last],
         &mut area,
         bits::half(case, 4),
+        &mut out,
     );
-    answer::same(played, &case[8..42]) & begins(&area, &case[last..])
+    (got == refusal_at(case, 8)) & same_bytes(&out, &case[11..43]) & begins(&area, &case[last..])
 }
 
 // The judge on the stored records of a run.
 pub fn run_case(case: &[u8]) -> bool {
-    if case.len() < 42 {
+    if case.len() < 43 {
         return false;
     }
-    let end = part_end(case, 42, bits::half(case, 0));
+    let end = part_end(case, 43, bits::half(case, 0));
     let last = part_end(case, end, bits::half(case, 2));
-    let wanted = bits::half(case, 6);
-    match judge::judge(&case[last..]) {
-        Judgement::Refused {
-            number: _,
-            place: _,
-        } => false,
-        Judgement::Ordered => wanted == 0,
-        Judgement::Unordered(i) => if wanted == 0 { false } else { i == wanted - 1 },
+    let wanted = bits::half(case, 6) as u64;
+    let got = ruqzhemil::ruqzhemil_judge(&case[last..]);
+    if wanted == 0 {
+        got == 0
+    } else {
+        got == 4294967295 + wanted
     }
 }
 
-// Whether an index is among those of two bytes each.
-fn listed(indices: &[u8], index: usize) -> bool {
+// Whether the judge's answer names an index among those of two bytes each.
+fn listed(indices: &[u8], got: u64) -> bool {
     let mut k = 0;
     let mut found = false;
     while k < indices.len() / 2 {
-        found = found | (bits::half(indices, 2 * k) == index);
+        found = found | (4294967296 + bits::half(indices, 2 * k) as u64 == got);
         k += 1;
     }
     found
@@ -118,10 +135,13 @@ pub fn log_case(case: &[u8]) -> bool {
         return false;
     }
     let end = part_end(case, 5, 2 * bits::half(case, 3));
-    let wanted = bits::wide(case[0]);
-    match judge::judge(&case[end..]) {
-        Judgement::Refused { number, place } => (number == wanted) & (place == bits::half(case, 1)),
-        Judgement::Ordered => (wanted == 0) & (end == 5),
-        Judgement::Unordered(i) => (wanted == 0) & listed(&case[5..end], i),
+    let wanted = refusal_at(case, 0);
+    let got = ruqzhemil::ruqzhemil_judge(&case[end..]);
+    if wanted != 0 {
+        return got == 8589934592 + wanted;
     }
+    if end == 5 {
+        return got == 0;
+    }
+    listed(&case[5..end], got)
 }

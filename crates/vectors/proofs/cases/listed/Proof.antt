@@ -4,15 +4,13 @@ use lib.ListN.{length}
 use borrow.Author.Needs.{needs}
 use Rattle.vectors.proofs.cases.listed.Statement.{statement}
 use Rattle.vectors.proofs.cases.listed.Tie as tie
-use Rattle.vectors.proofs.cases.listed.Reads as reads
 use Rattle.vectors.proofs.cases.listed.Lts as lts
-use Rattle.header.proofs.bits.half.Reads as half-reads
 
 abbrev Inv-loop : tie.InvT-loop
-Inv-loop indices index k₀ found₀ k found = k ≤ length indices / 2
+Inv-loop indices got k₀ found₀ k found = k ≤ length indices / 2
 
 abbrev μ-loop : tie.MeasureT-loop
-μ-loop indices index k₀ found₀ k found = length indices / 2 - k
+μ-loop indices got k₀ found₀ k found = length indices / 2 - k
 
 loop-holds : tie.Need-loop-holds Inv-loop μ-loop
 loop-holds c = search needs
@@ -22,6 +20,9 @@ mul-half c = search needs
 
 half-requires : tie.Need-half-requires Inv-loop μ-loop
 half-requires c κs = search needs
+
+add-found : tie.Need-add-found Inv-loop μ-loop
+add-found c = search needs
 
 add-k : tie.Need-add-k Inv-loop μ-loop
 add-k c = search needs
@@ -38,4 +39,4 @@ returns c = search needs
 pub listed-spec : {M : Type 1} → statement M
 listed-spec =
     tie.close
-    (tie.spec Inv-loop μ-loop loop-holds mul-half half-requires add-k loop-less loop-again returns)
+    (tie.spec Inv-loop μ-loop loop-holds mul-half half-requires add-found add-k loop-less loop-again returns)
