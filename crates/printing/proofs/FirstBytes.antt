@@ -15,7 +15,7 @@ use Rattle.packed.specs.Check.{refusal}
 use Rattle.records.specs.Record.{Record}
 use Rattle.rules.specs.Play.{tooManyPicks, playRefusal, played, playedBy, runOf}
 use Rattle.player.proofs.RefusalChain.{chain}
-use Rattle.lines.specs.Text.{refusalLine}
+use Rattle.last_lines.specs.Lines.{refusalLine}
 use Rattle.printing.specs.Printed.{lengthRead, planRead, scheduleRead, lentArea, answerText, playText, printed}
 use Rattle.printing.proofs.Inputs.{cut-text, cut-long, whole}
 

@@ -9,9 +9,9 @@ use lib.ListN.{length, take, drop, length-take, length-drop}
 use lib.Seq.{take-all}
 use borrow.Author.Tests.{lt-ltb, le-ltb}
 use Rattle.format.specs.Bits.{bitsAt}
-use Rattle.lines.specs.Text.{refusalLine}
+use Rattle.last_lines.specs.Lines.{refusalLine}
 use Rattle.printing.specs.Printed.{lengthRead, planRead, scheduleRead, cutShort, playText, printed}
-use Rattle.lines.specs.Wrote.{Wrote}
+use Rattle.text.specs.Wrote.{Wrote}
 
 or-true : (x : Bool) → (x || true) ≡ true
 or-true true = refl

@@ -1,4 +1,3 @@
-pub mod RecordText
 pub mod Answers
 pub mod Inputs
 pub mod FirstBytes

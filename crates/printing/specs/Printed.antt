@@ -8,7 +8,8 @@ use Rattle.format.specs.Bits.{bitsAt}
 use Rattle.format.specs.Refusal.{Refusal}
 use Rattle.records.specs.Record.{Record}
 use Rattle.rules.specs.Play.{Played, refused, ran, played, runOf}
-use Rattle.lines.specs.Text.{recordLines, outcomeLine, refusalLine}
+use Rattle.record_lines.specs.Lines.{recordLines}
+use Rattle.last_lines.specs.Lines.{outcomeLine, refusalLine}
 
 -- "a 16-bit plan length (high byte first)"
 unfoldable pub lengthRead : List ℕ → ℕ

@@ -1,11 +1,9 @@
 // The text of a shot list (document 01, "Shot list"): what the printing program writes for the bytes that it reads.
-mod run; // run.rt: the lines of a run
-
 ghost use Prim.Native.Nat.{_≤_, _<_};
 ghost use mathlib.Core.Path.{_≡_};
 ghost use lib.ListN.{length, take};
 ghost use Rattle.printing.specs.Printed.{playText, printed};
-ghost use Rattle.lines.specs.Wrote.{Wrote};
+ghost use Rattle.text.specs.Wrote.{Wrote};
 use header::bits;
 use plan::Checked;
 
@@ -19,17 +17,17 @@ fn print_play(plan: &[u8], schedule: &[u8], area: &mut [u8]) -> usize
     let checked = played.checked;
     let outcome = played.outcome;
     match checked {
-        Checked::Refused { number, place } => lines::put_refusal(area, 0, number, place),
+        Checked::Refused { number, place } => last_lines::put_refusal(area, 0, number, place),
         Checked::Passed => {
             let end = player::outcome::record_bytes(outcome.records);
             let stop = outcome.stop;
-            run::print_run(
+            run_lines::put_run(
+                area,
                 &log[0..end],
                 stop,
                 outcome.picks,
                 outcome.moves,
                 outcome.records,
-                area,
             )
         }
     }
@@ -46,15 +44,15 @@ pub fn shot_list(input: &[u8], area: &mut [u8]) -> usize
         return 0;
     }
     if input.len() < 2 {
-        return lines::put_refusal(area, 0, 1, 0);
+        return last_lines::put_refusal(area, 0, 1, 0);
     }
     let length = bits::half(input, 0);
     if length > 5192 {
-        return lines::put_refusal(area, 0, 1, 0);
+        return last_lines::put_refusal(area, 0, 1, 0);
     }
     let end = 2 + length;
     if input.len() < end {
-        return lines::put_refusal(area, 0, 1, 0);
+        return last_lines::put_refusal(area, 0, 1, 0);
     }
     print_play(&input[2..end], &input[end..], area)
 }
