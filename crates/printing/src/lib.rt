@@ -2,9 +2,8 @@
 ghost use Prim.Native.Nat.{_≤_, _<_};
 ghost use mathlib.Core.Path.{_≡_};
 ghost use lib.ListN.{length, take};
-ghost use Rattle.printing.specs.Printed.{playText, printed};
 ghost use Rattle.text.specs.Wrote.{Wrote};
-use header::bits;
+ghost use Rattle.printing.specs.Printed.{playText, printed};
 use plan::Checked;
 
 // A schedule is played on a plan.
@@ -43,16 +42,10 @@ pub fn shot_list(input: &[u8], area: &mut [u8]) -> usize
     if area.len() < 131072 {
         return 0;
     }
-    if input.len() < 2 {
+    if input_parts::cut_short(input) {
         return last_lines::put_refusal(area, 0, 1, 0);
     }
-    let length = bits::half(input, 0);
-    if length > 5192 {
-        return last_lines::put_refusal(area, 0, 1, 0);
-    }
-    let end = 2 + length;
-    if input.len() < end {
-        return last_lines::put_refusal(area, 0, 1, 0);
-    }
-    print_play(&input[2..end], &input[end..], area)
+    let plan = input_parts::plan_of(input);
+    let schedule = input_parts::schedule_of(input);
+    print_play(plan, schedule, area)
 }
