@@ -1,11 +1,12 @@
 -- The text for an input: cut short, or a plan and a schedule. Assumes nothing.
 use Prim.Native.Nat.{ℕ, _<_, _≤_}
 use native.Mathlib.Omega.{arith}
-use mathlib.Core.Path.{_≡_, ap, _∙_}
+use mathlib.Core.Path.{_≡_}
 use mathlib.Core.Bool.{true, false}
-use mathlib.Core.List.{List}
-use lib.ListN.{length, take, length-take}
+use mathlib.Core.List.{List, _++_}
+use lib.ListN.{length, drop}
 use Rattle.text.specs.Wrote.{Wrote}
+use Rattle.text.proofs.Added.{added-as, added-whole}
 use Rattle.last_lines.specs.Lines.{refusalLine}
 use Rattle.input_parts.specs.Input.{planRead, scheduleRead, cutShort}
 use Rattle.printing.specs.Printed.{playText, printed}
@@ -24,7 +25,7 @@ module _ (input : List ℕ) where
 
   -- what the entry promises of a text that is written
   pub finished : {before bytes after : List ℕ} {r : ℕ} → 131072 ≤ length before → bytes ≡ printed input → Wrote before 0 bytes after r
-      → (131072 ≤ length before → take r after ≡ printed input) × ((length before < 131072 → (r ≡ 0) × (after ≡ before)) × ((r ≤ length after) × (r ≡ length (take r after))))
+      → (131072 ≤ length before → (r ≡ length (printed input)) × (after ≡ printed input ++ drop r before)) × (length before < 131072 → (r ≡ 0) × (after ≡ before))
   finished {before} {bytes} {after} {r} big e w =
-      let n : r ≡ length (take r after) = omega (arith, w .next, ap length (w .text)) in
-      (λ q. w .text ∙ e, (λ q. absurd (omega arith), (omega (arith, n, length-take r after), n)))
+      let v : Wrote before 0 (printed input) after r = added-as e w in
+      (λ q. (omega (arith, v .next), added-whole v), λ q. absurd (omega arith))

@@ -1,7 +1,8 @@
 // The text of a shot list (document 01, "Shot list"): what the printing program writes for the bytes that it reads.
 ghost use Prim.Native.Nat.{_≤_, _<_};
 ghost use mathlib.Core.Path.{_≡_};
-ghost use lib.ListN.{length, take};
+ghost use mathlib.Core.List.{_++_};
+ghost use lib.ListN.{length, drop};
 ghost use Rattle.text.specs.Wrote.{Wrote};
 ghost use Rattle.printing.specs.Printed.{playText, printed};
 use plan::Checked;
@@ -32,12 +33,11 @@ fn print_play(plan: &[u8], schedule: &[u8], area: &mut [u8]) -> usize
     }
 }
 
-// A plan length of 16 bits, a plan and a schedule, as the program reads them. An area of 131,072 bytes or more then begins with the text, whose length
-// is the answer; a shorter one has no room for every text, and gets none.
+// A plan length of 16 bits, a plan and a schedule, as the program reads them. An area of 131,072 bytes or more then holds the text, whose length is the
+// answer, and after it its old bytes; a shorter one has no room for every text, and stays as it was.
 pub fn shot_list(input: &[u8], area: &mut [u8]) -> usize
-    ensures text { λ r. ⌜ (131072 ≤ length (now (area .entry)) → take r (now (area .exit)) ≡ printed (now (input .entry))) ⌝ }
+    ensures long { λ r. ⌜ (131072 ≤ length (now (area .entry)) → (r ≡ length (printed (now (input .entry)))) × (now (area .exit) ≡ printed (now (input .entry)) ++ drop r (now (area .entry)))) ⌝ }
     ensures short { λ r. ⌜ (length (now (area .entry)) < 131072 → (r ≡ 0) × (now (area .exit) ≡ now (area .entry))) ⌝ }
-    ensures counted { λ r. ⌜ (r ≤ length (now (area .exit))) × (r ≡ length (take r (now (area .exit)))) ⌝ }
 {
     if area.len() < 131072 {
         return 0;

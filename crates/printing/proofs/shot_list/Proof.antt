@@ -1,5 +1,4 @@
 -- `printing::shot_list` meets its contract. Assumes nothing.
-use Prim.Native.Nat.{zero-le}
 use native.Mathlib.Omega.{arith}
 use mathlib.Core.Path.{refl, sym, _∙_}
 use Rattle.last_lines.proofs.LineParts.{refusal-short}
@@ -9,7 +8,7 @@ use Rattle.printing.proofs.shot_list.Statement.{statement}
 use Rattle.printing.proofs.shot_list.Tie as tie
 
 returns : tie.Need-returns
-returns c = (λ q. absurd (omega arith), (λ q. (refl, refl), (zero-le, refl)))
+returns c = (λ q. absurd (omega arith), λ q. (refl, refl))
 
 cut-short-requires : tie.Need-cut-short-requires
 cut-short-requires c κs = search needs
