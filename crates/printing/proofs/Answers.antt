@@ -1,22 +1,22 @@
 -- The text of a play, by what the entry `play` answers and leaves in the log area. Assumes nothing.
-use Prim.Native.Nat.{ℕ, _*_, _-_, _≤_}
-use native.Mathlib.Omega.{arith}
-use mathlib.Core.Path.{_≡_, refl, sym, ap, _∙_}
+use Prim.Native.Nat.{ℕ, _*_, _-_}
+use mathlib.Core.Path.{_≡_, sym, ap, _∙_}
 use mathlib.Core.List.{List, _++_}
-use lib.ListN.{length, take}
+use lib.ListN.{take}
 use Rattle.plan.specs.declared.Checked.{Checked}
 use Rattle.plan.specs.declared.Checked.the-variants as checked
 use Rattle.packed.specs.Trees.{programOf}
 use Rattle.packed.proofs.Decoded.{well-formed}
 use Rattle.records.specs.Record.{Record}
-use Rattle.records.specs.Packed.{bytesOf, logOf}
+use Rattle.records.specs.Packed.{logOf}
 use Rattle.records.proofs.RoundTrip.{logOf-bytesOf}
 use Rattle.rules.specs.Play.{played, areaAfter, runOf}
 use Rattle.rules.proofs.TidyRuns.{tidy-play}
 use Rattle.player.specs.declared.outcome.Played.{Played}
 use Rattle.player.specs.Answer.{stopOf, outcomeOf, answeredBy, answered}
 use Rattle.player.proofs.Ran.{passes, begins}
-use Rattle.lines.specs.Text.{recordLines, outcomeLine, refusalLine}
+use Rattle.record_lines.specs.Lines.{recordLines}
+use Rattle.last_lines.specs.Lines.{outcomeLine, refusalLine}
 use Rattle.printing.specs.Printed.{lentArea, answerText, playText}
 
 module _ (plan schedule : List ℕ) (p : Played) (h : answered p ≡ played plan schedule lentArea) where

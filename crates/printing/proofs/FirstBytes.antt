@@ -15,9 +15,11 @@ use Rattle.packed.specs.Check.{refusal}
 use Rattle.records.specs.Record.{Record}
 use Rattle.rules.specs.Play.{tooManyPicks, playRefusal, played, playedBy, runOf}
 use Rattle.player.proofs.RefusalChain.{chain}
-use Rattle.lines.specs.Text.{refusalLine}
-use Rattle.printing.specs.Printed.{lengthRead, planRead, scheduleRead, lentArea, answerText, playText, printed}
-use Rattle.printing.proofs.Inputs.{cut-text, cut-long, whole}
+use Rattle.last_lines.specs.Lines.{refusalLine}
+use Rattle.input_parts.specs.Input.{lengthRead, planRead, scheduleRead}
+use Rattle.input_parts.proofs.Parts.{cut-long, not-cut}
+use Rattle.printing.specs.Printed.{lentArea, answerText, playText, printed}
+use Rattle.printing.proofs.Inputs.{cut-text, whole-text}
 
 -- ---- a schedule of over 4,096 picks: the plan's own refusal, or 8
 
@@ -82,11 +84,11 @@ module _ (input : List ℕ) where
         sym (cut-text front (cut-long front (omega (arith, same-length)))) ∙ cut-text input (cut-long input h)
     long-same false e =
         let h : lengthRead input ≤ 5192 = ltb-false 5192 (lengthRead input) e in
-        sym (whole front (omega (arith, same-length, size)) (omega (arith, same-length)))
+        sym (whole-text front (not-cut front (record { held = omega (arith, same-length, size); short = omega (arith, same-length) })))
         ∙ many-text (planRead front) (scheduleRead front) (omega (arith, picks-read front, same-length, size))
         ∙ ap (λ (p : List ℕ). tooMany (refusal p)) (same-plan (omega arith))
         ∙ sym (many-text (planRead input) (scheduleRead input) (omega (arith, picks-read input)))
-        ∙ whole input (omega arith) h
+        ∙ whole-text input (not-cut input (record { held = omega arith; short = h }))
 
   by-size : (over : Bool) → ltb 9291 (length input) ≡ over → printed front ≡ printed input
   by-size true e = long-same (ltb-true 9291 (length input) e) (ltb 5192 (lengthRead input)) refl

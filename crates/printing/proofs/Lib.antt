@@ -1,4 +1,4 @@
-pub mod RecordText
 pub mod Answers
 pub mod Inputs
 pub mod FirstBytes
+pub mod PrintedP

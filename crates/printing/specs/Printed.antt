@@ -1,33 +1,13 @@
 -- What the printing program writes for the bytes that it reads (document 01, "Shot list"). Assumes nothing.
-use Prim.Native.Nat.{ℕ, _+_}
-use mathlib.Core.Bool.{Bool, cond, _||_}
+use Prim.Native.Nat.{ℕ}
+use mathlib.Core.Bool.{cond}
 use mathlib.Core.List.{List, _++_}
-use lib.Dec.{ltb}
-use lib.ListN.{length, take, drop, replicate}
-use Rattle.format.specs.Bits.{bitsAt}
-use Rattle.format.specs.Refusal.{Refusal}
+use lib.ListN.{replicate}
 use Rattle.records.specs.Record.{Record}
 use Rattle.rules.specs.Play.{Played, refused, ran, played, runOf}
-use Rattle.lines.specs.Text.{recordLines, outcomeLine, refusalLine}
-
--- "a 16-bit plan length (high byte first)"
-unfoldable pub lengthRead : List ℕ → ℕ
-unfolding bitsAt
-lengthRead input = bitsAt input 0 16
-
--- "the plan, then the schedule"
-unfoldable pub planRead : List ℕ → List ℕ
-unfolding lengthRead
-planRead input = take (lengthRead input) (drop 2 input)
-
-unfoldable pub scheduleRead : List ℕ → List ℕ
-unfolding lengthRead
-scheduleRead input = drop (2 + lengthRead input) input
-
--- "Input that ends before the plan does, or a length over 5,192, is refusal 1."
-unfoldable pub cutShort : List ℕ → Bool
-unfolding lengthRead
-cutShort input = ltb (length input) (2 + lengthRead input) || ltb 5192 (lengthRead input)
+use Rattle.record_lines.specs.Lines.{recordLines}
+use Rattle.last_lines.specs.Lines.{outcomeLine, refusalLine}
+use Rattle.input_parts.specs.Input.{planRead, scheduleRead, cutShort}
 
 -- the log area that the program lends to the play: three bytes for each of 4,096 picks
 unfoldable pub lentArea : List ℕ

@@ -1,12 +1,10 @@
 // The text of a shot list (document 01, "Shot list"): what the printing program writes for the bytes that it reads.
-mod run; // run.rt: the lines of a run
-
 ghost use Prim.Native.Nat.{_≤_, _<_};
 ghost use mathlib.Core.Path.{_≡_};
-ghost use lib.ListN.{length, take};
+ghost use mathlib.Core.List.{_++_};
+ghost use lib.ListN.{length, drop};
+ghost use Rattle.text.specs.Wrote.{Wrote};
 ghost use Rattle.printing.specs.Printed.{playText, printed};
-ghost use Rattle.lines.specs.Wrote.{Wrote};
-use header::bits;
 use plan::Checked;
 
 // A schedule is played on a plan.
@@ -19,42 +17,35 @@ fn print_play(plan: &[u8], schedule: &[u8], area: &mut [u8]) -> usize
     let checked = played.checked;
     let outcome = played.outcome;
     match checked {
-        Checked::Refused { number, place } => lines::put_refusal(area, 0, number, place),
+        Checked::Refused { number, place } => last_lines::put_refusal(area, 0, number, place),
         Checked::Passed => {
             let end = player::outcome::record_bytes(outcome.records);
             let stop = outcome.stop;
-            run::print_run(
+            run_lines::put_run(
+                area,
                 &log[0..end],
                 stop,
                 outcome.picks,
                 outcome.moves,
                 outcome.records,
-                area,
             )
         }
     }
 }
 
-// A plan length of 16 bits, a plan and a schedule, as the program reads them. An area of 131,072 bytes or more then begins with the text, whose length
-// is the answer; a shorter one has no room for every text, and gets none.
+// A plan length of 16 bits, a plan and a schedule, as the program reads them. An area of 131,072 bytes or more then holds the text, whose length is the
+// answer, and after it its old bytes; a shorter one has no room for every text, and stays as it was.
 pub fn shot_list(input: &[u8], area: &mut [u8]) -> usize
-    ensures text { λ r. ⌜ (131072 ≤ length (now (area .entry)) → take r (now (area .exit)) ≡ printed (now (input .entry))) ⌝ }
+    ensures long { λ r. ⌜ (131072 ≤ length (now (area .entry)) → (r ≡ length (printed (now (input .entry)))) × (now (area .exit) ≡ printed (now (input .entry)) ++ drop r (now (area .entry)))) ⌝ }
     ensures short { λ r. ⌜ (length (now (area .entry)) < 131072 → (r ≡ 0) × (now (area .exit) ≡ now (area .entry))) ⌝ }
-    ensures counted { λ r. ⌜ (r ≤ length (now (area .exit))) × (r ≡ length (take r (now (area .exit)))) ⌝ }
 {
     if area.len() < 131072 {
         return 0;
     }
-    if input.len() < 2 {
-        return lines::put_refusal(area, 0, 1, 0);
+    if input_parts::cut_short(input) {
+        return last_lines::put_refusal(area, 0, 1, 0);
     }
-    let length = bits::half(input, 0);
-    if length > 5192 {
-        return lines::put_refusal(area, 0, 1, 0);
-    }
-    let end = 2 + length;
-    if input.len() < end {
-        return lines::put_refusal(area, 0, 1, 0);
-    }
-    print_play(&input[2..end], &input[end..], area)
+    let plan = input_parts::plan_of(input);
+    let schedule = input_parts::schedule_of(input);
+    print_play(plan, schedule, area)
 }

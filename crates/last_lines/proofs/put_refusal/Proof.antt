@@ -1,0 +1,49 @@
+-- `last_lines::put_refusal` meets its contract. Assumes nothing.
+use native.Mathlib.Omega.{arith}
+use Rattle.text.specs.Text.{ascii}
+use Rattle.text.proofs.Added.{added-more, added-as}
+use Rattle.last_lines.proofs.LineParts.{refusal-parts, refusal-length}
+use borrow.Author.Needs.{needs}
+use Rattle.last_lines.proofs.put_refusal.Statement.{statement}
+use Rattle.last_lines.proofs.put_refusal.Tie as tie
+
+slice-aggregate-put-word : tie.Need-slice-aggregate-put-word
+slice-aggregate-put-word c = search needs
+
+put-word-requires : tie.Need-put-word-requires
+unfolding ascii
+put-word-requires c κs = let a = c .before .before .before .args in omega (arith, refusal-length (record { number = a .number; place = a .place }))
+
+put-column-requires : tie.Need-put-column-requires
+unfolding ascii
+put-column-requires c κs = let a = c .before .before .before .before .before .before .before .args in omega (arith, refusal-length (record { number = a .number; place = a .place }))
+
+put-column-requires-2 : tie.Need-put-column-requires-2
+unfolding ascii
+put-column-requires-2 c κs = let a = c .before .before .before .before .before .before .before .before .before .before .before .args in omega (arith, refusal-length (record { number = a .number; place = a .place }))
+
+put-byte-requires : tie.Need-put-byte-requires
+unfolding ascii
+put-byte-requires c κs = let a = c .before .before .before .before .before .before .before .before .before .before .before .before .before .before .before .args in omega (arith, refusal-length (record { number = a .number; place = a .place }))
+
+same-length : tie.Need-same-length
+same-length c = search needs
+
+returns : tie.Need-returns
+unfolding ascii
+returns c =
+    let a = c .before .before .before .before .before .before .before .before .before .before .before .before .before .before .before .before .before .before .args in
+    added-as (refusal-parts (record { number = a .number; place = a .place }))
+    (added-more (added-more (added-more (c .before .before .before .before .before .before .before .before .before .before .before .before .before .before .put-word .ensures) (c .before .before .before .before .before .before .before .before .before .before .put-column .ensures)) (c .before .before .before .before .before .before .put-column2 .ensures)) (c .before .before .put-byte .ensures))
+
+pub put-refusal-spec : {M : Type 1} → statement M
+put-refusal-spec =
+    tie.close
+    (tie.spec
+    slice-aggregate-put-word
+    put-word-requires
+    put-column-requires
+    put-column-requires-2
+    put-byte-requires
+    same-length
+    returns)

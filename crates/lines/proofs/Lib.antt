@@ -1,4 +1,0 @@
-pub mod Decimals
-pub mod Added
-pub mod Words
-pub mod LineParts

@@ -1,0 +1,53 @@
+// The line of a record of a log (document 01, "Shot list"), written behind the text that is there.
+ghost use Prim.Native.Nat.{_+_, _≤_, _<_};
+ghost use lib.ListN.{length};
+ghost use Rattle.records.specs.Packed.{kindOf};
+ghost use Rattle.text.specs.Wrote.{Wrote};
+ghost use Rattle.record_lines.specs.Lines.{kindWord, recordLine};
+ghost use Rattle.record_lines.specs.Columns.{recordOf};
+use decoding::Columns;
+
+// The word of a kind of access, or new.
+fn put_access(area: &mut [u8], at: usize, kind: usize) -> usize
+    requires { ⌜ (at + length (kindWord (kindOf kind)) ≤ length (now area)) × (5 < kind → 11 < kind) ⌝ }
+    ensures { λ r. ⌜ Wrote (now (area .entry)) at (kindWord (kindOf kind)) (now (area .exit)) r ⌝ }
+{
+    match kind {
+        2 => text::put_word(area, at, b"read"),
+        3 => text::put_word(area, at, b"write"),
+        4 => text::put_word(area, at, b"readv"),
+        5 => text::put_word(area, at, b"writev"),
+        _ => text::put_word(area, at, b"new"),
+    }
+}
+
+// The word of a kind; a number that is no kind's is read as 1.
+fn put_kind(area: &mut [u8], at: usize, kind: usize) -> usize
+    requires { ⌜ at + length (kindWord (kindOf kind)) ≤ length (now area) ⌝ }
+    ensures { λ r. ⌜ Wrote (now (area .entry)) at (kindWord (kindOf kind)) (now (area .exit)) r ⌝ }
+{
+    match kind {
+        6 => text::put_word(area, at, b"acquire"),
+        7 => text::put_word(area, at, b"release"),
+        8 => text::put_word(area, at, b"fork"),
+        9 => text::put_word(area, at, b"join"),
+        10 => text::put_word(area, at, b"lacks-read"),
+        11 => text::put_word(area, at, b"lacks-write"),
+        _ => put_access(area, at, kind),
+    }
+}
+
+// Index, kind, thread, object, field, value.
+pub fn put_record(area: &mut [u8], at: usize, index: usize, r: Columns) -> usize
+    requires { ⌜ at + length (recordLine index (recordOf r)) ≤ length (now area) ⌝ }
+    ensures { λ n. ⌜ Wrote (now (area .entry)) at (recordLine index (recordOf r)) (now (area .exit)) n ⌝ }
+{
+    let at = text::put_number(area, at, index);
+    let at = text::put_byte(area, at, 32);
+    let at = put_kind(area, at, r.kind);
+    let at = text::put_column(area, at, r.thread);
+    let at = text::put_column(area, at, r.object);
+    let at = text::put_column(area, at, r.field);
+    let at = text::put_column(area, at, r.value);
+    text::put_byte(area, at, 10)
+}

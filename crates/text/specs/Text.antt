@@ -1,0 +1,28 @@
+-- Words, numbers and lines as the printing program writes them (document 01, "Shot list"). Assumes nothing.
+use Prim.Native.Nat.{ℕ, zero, suc, _+_, _/_, _%_}
+use Prim.Native.Char.{code}
+use Prim.Native.String as string
+use Prim.Native.String.{String}
+use mathlib.Core.Bool.{cond}
+use mathlib.Core.List.{List, [], _∷_, _++_}
+use lib.Dec.{ltb}
+
+-- the bytes of a word
+unfoldable pub ascii : String → List ℕ
+ascii string.[] = []
+ascii (string._∷_ c s) = code c ∷ ascii s
+
+-- the decimal digits of a number, no zero in front; 48 is the digit 0. Each digit uses up one of the steps.
+unfoldable pub decimalBy : ℕ → ℕ → List ℕ
+decimalBy zero n = []
+decimalBy (suc steps) n = cond (ltb n 10) ((48 + n) ∷ []) (decimalBy steps (n / 10) ++ ((48 + n % 10) ∷ []))
+
+unfoldable pub decimal : ℕ → List ℕ
+unfolding decimalBy
+decimal n = decimalBy (suc n) n
+
+-- columns parted by a space, ended by a line feed
+unfoldable pub line : List (List ℕ) → List ℕ
+line [] = 10 ∷ []
+line (w ∷ []) = w ++ (10 ∷ [])
+line (w ∷ (v ∷ ws)) = w ++ (32 ∷ line (v ∷ ws))
