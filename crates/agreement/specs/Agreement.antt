@@ -1,6 +1,5 @@
--- Demand 3 of one run, "a single claim about the whole list of picks of one play": "a plain access in the log is where the run stopped for want of its
--- key exactly when its field has an earlier plain write and no happens-before chain leads from the last such write to it; and the judge, given only
--- the log, names that access, and none when the run did not stop so". Assumes nothing.
+-- Demand 3 of one run (README, "What is proved"), "a single claim about the whole list of picks of one play" (document 01). Lines in quotation marks below
+-- are demand 3's, or document 01's words on it. Assumes nothing.
 use Prim.Native.Nat.{ℕ, suc, _-_, _<_}
 use mathlib.Core.Path.{_≡_}
 use mathlib.Core.List.{List}

@@ -97,6 +97,10 @@ pub record Finished : Type 0 where
   pub stack : Stack
   pub turn : Turn
 
+-- the landing of the mover
+abbrev pub moverEnded : List ℕ → List ℕ → ℕ → Head → Acted → Stack → Ended
+moverEnded ws rs p h a k = landOf 2100 ws rs (p * 33) k (a .go) (h .depth % 33)
+
 -- where a forked thread starts
 abbrev pub youngGo : Head → Go
 youngGo h = goRun (h .ready .a) (h .ready .env)
@@ -115,7 +119,7 @@ abbrev pub landBorn : List ℕ → List ℕ → Counts → Sight → Head → Ac
 landBorn ws rs n w h a x = settled w h a (x .landed) (youngOf ws rs n h a (x .stack))
 
 unfoldable pub finishOf : List ℕ → List ℕ → Counts → ℕ → Sight → Head → Acted → Stack → Finished
-finishOf ws rs n p w h a k = landBorn ws rs n w h a (landOf 2100 ws rs (p * 33) k (a .go) (h .depth % 33))
+finishOf ws rs n p w h a k = landBorn ws rs n w h a (moverEnded ws rs p h a k)
 
 -- what the machine's pick of thread p meets, does and comes to
 abbrev pub metBy : ℕ → Machine → ℕ → Sight

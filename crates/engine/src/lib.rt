@@ -3,7 +3,7 @@
 ghost use mathlib.Core.Path.{_≡_};
 ghost use Prim.Native.Nat.{_<_, _≤_, _+_, _*_};
 ghost use lib.ListN.{length};
-ghost use Rattle.engine.specs.Machine.{Placed, headOf, cellFirst, noThing, stopOf, youngOf, sightOf, seenBy, noneSeen, startOf, playOf};
+ghost use Rattle.engine.specs.Machine.{Placed, headOf, cellFirst, noThing, stopOf, moverEnded, youngOf, sightOf, seenBy, noneSeen, startOf, playOf};
 use frames::go;
 use frames::part;
 use keys::KeySet;
@@ -91,6 +91,24 @@ fn stop_of(a: Answer) -> Stop
         Answer::Race => Stop::Race,
         Answer::NoRoom(r) => Stop::NoRoom(r),
     }
+}
+
+// Lands the mover.
+fn land_mover(
+    words: &[usize; 1024],
+    roots: &[usize; 32],
+    tops: &mut [usize; 297],
+    envs: &mut [usize; 297],
+    args: &mut [usize; 297],
+    p: usize,
+    h: Head,
+    a: Acted,
+) -> Landed
+    requires { ⌜ p < 8 ⌝ }
+    ensures { λ r. ⌜ (record { stack = record { tops = now (tops .exit); envs = now (envs .exit); args = now (args .exit) }; landed = r }) ≡ moverEnded (now (words .entry)) (now (roots .entry)) p h a (record { tops = now (tops .entry); envs = now (envs .entry); args = now (args .entry) }) ⌝ }
+{
+    let go = a.go;
+    landing::land(words, roots, tops, envs, args, p * 33, go, h.depth % 33)
 }
 
 // Lands the thread that a fork makes; another move makes none.
@@ -199,17 +217,7 @@ pub fn run(
             continue;
         }
         let a = act::act(mask, n, h, c, t, other);
-        let go = a.go;
-        let l = landing::land(
-            words,
-            roots,
-            &mut tops,
-            &mut envs,
-            &mut args,
-            p * 33,
-            go,
-            h.depth % 33,
-        );
+        let l = land_mover(words, roots, &mut tops, &mut envs, &mut args, p, h, a);
         let b = land_young(words, roots, &mut tops, &mut envs, &mut args, n, h, a);
         let answer = settle::answer_to(w, a, l, b);
         let y = h.ready;

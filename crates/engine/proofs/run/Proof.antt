@@ -101,22 +101,22 @@ passed c = ap passesOf (sym (met (c .before))) ∙ sym (c .passes .ensures)
 
 -- what the pick does and comes to
 abbrev to-look : tie.After-entry-of Inv-loop μ-loop Inv-loop2 μ-loop2 → tie.After-look Inv-loop μ-loop Inv-loop2 μ-loop2
-to-look c = c .before .before .before .before .before .before .before .before .before .before .before .before .before .before .before .before
+to-look c = c .before .before .before .before .before .before .before .before .before .before .before .before .before .before
 
 abbrev from : tie.After-entry-of Inv-loop μ-loop Inv-loop2 μ-loop2 → tie.At-loop Inv-loop μ-loop Inv-loop2 μ-loop2
 from c = from-look (to-look c)
 
 abbrev deed : tie.After-entry-of Inv-loop μ-loop Inv-loop2 μ-loop2 → Acted
-deed c = c .before .before .before .before .before .before .before .before .before .before .before .before .before .act .result
+deed c = c .before .before .before .before .before .before .before .before .before .before .before .act .result
 
 abbrev mover-landed : tie.After-entry-of Inv-loop μ-loop Inv-loop2 μ-loop2 → Ended
-mover-landed c = record { stack = record { tops = c .before .before .before .before .before .before .before .land .last .1 .1 .0; envs = c .before .before .before .before .before .before .before .land .last .1 .1 .1 .0; args = c .before .before .before .before .before .before .before .land .last .1 .1 .1 .1 .0 }; landed = c .before .before .before .before .before .before .before .land .result }
+mover-landed c = record { stack = record { tops = c .before .before .before .before .before .before .before .land-mover .last .1 .1 .0; envs = c .before .before .before .before .before .before .before .land-mover .last .1 .1 .1 .0; args = c .before .before .before .before .before .before .before .land-mover .last .1 .1 .1 .1 .0 }; landed = c .before .before .before .before .before .before .before .land-mover .result }
 
 abbrev young-landed : tie.After-entry-of Inv-loop μ-loop Inv-loop2 μ-loop2 → Ended
 young-landed c = record { stack = record { tops = c .before .before .before .land-young .last .1 .1 .0; envs = c .before .before .before .land-young .last .1 .1 .1 .0; args = c .before .before .before .land-young .last .1 .1 .1 .1 .0 }; landed = c .before .before .before .land-young .result }
 
 abbrev turned : tie.After-entry-of Inv-loop μ-loop Inv-loop2 μ-loop2 → Turn
-turned c = record { answer = c .before .before .answer-to .result; entry = c .entry-of .result; landed = c .before .before .before .before .before .before .before .land .result; born = c .before .before .before .land-young .result }
+turned c = record { answer = c .before .before .answer-to .result; entry = c .entry-of .result; landed = c .before .before .before .before .before .before .before .land-mover .result; born = c .before .before .before .land-young .result }
 
 abbrev done : tie.After-entry-of Inv-loop μ-loop Inv-loop2 μ-loop2 → Finished
 done c = record { stack = young-landed c .stack; turn = turned c }
@@ -124,29 +124,29 @@ done c = record { stack = young-landed c .stack; turn = turned c }
 did : (c : tie.After-entry-of Inv-loop μ-loop Inv-loop2 μ-loop2) → deed c ≡ actedBy (mask (from c)) (machine (from c)) (pick (from c) % 8)
 did c =
     let l = from c in
-    let k = c .before .before .before .before .before .before .before .before .before .before .before .before .before .before .before .before .before .before .before .before .before .before .cell-of in
-    c .before .before .before .before .before .before .before .before .before .before .before .before .before .act .ensures ∙ acted (mask l) (l .loop .s .counts) (l .loop .heads) (l .loop .cells) (l .loop .objects) (pick l % 8) (k .result) (k .ensures)
+    let k = c .before .before .before .before .before .before .before .before .before .before .before .before .before .before .before .before .before .before .before .before .cell-of in
+    c .before .before .before .before .before .before .before .before .before .before .before .act .ensures ∙ acted (mask l) (l .loop .s .counts) (l .loop .heads) (l .loop .cells) (l .loop .objects) (pick l % 8) (k .result) (k .ensures)
 
 came : (c : tie.After-entry-of Inv-loop μ-loop Inv-loop2 μ-loop2) → done c ≡ finishedBy (words (from c)) (roots (from c)) (mask (from c)) (machine (from c)) (pick (from c) % 8)
 came c =
     let l = from c in
     let m = machine l in
     let p = pick l % 8 in
-    finished (words l) (roots l) (m .tally .counts) p (c .before .before .before .before .before .before .before .before .before .before .before .before .before .before .before .before .look .result) (headAt (m .heads) p) (deed c) (m .stack) (mover-landed c) (young-landed c) (turned c)
-    (c .before .before .before .before .before .before .before .land .ensures .0) (c .before .before .before .land-young .ensures) (simp (c .entry-of .ensures, c .before .before .answer-to .ensures))
+    finished (words l) (roots l) (m .tally .counts) p (c .before .before .before .before .before .before .before .before .before .before .before .before .before .before .look .result) (headAt (m .heads) p) (deed c) (m .stack) (mover-landed c) (young-landed c) (turned c)
+    (c .before .before .before .before .before .before .before .land-mover .ensures) (c .before .before .before .land-young .ensures) (simp (c .entry-of .ensures, c .before .before .answer-to .ensures))
     ∙ ap (λ (w : Sight). finishOf (words l) (roots l) (m .tally .counts) p w (headAt (m .heads) p) (deed c) (m .stack)) (met (to-look c))
     ∙ ap (λ (a : Acted). finishOf (words l) (roots l) (m .tally .counts) p (metBy (mask l) m p) (headAt (m .heads) p) a (m .stack)) (did c)
 
 stays : (c : tie.After-entry-of Inv-loop μ-loop Inv-loop2 μ-loop2) → passesOf (metBy (mask (from c)) (machine (from c)) (pick (from c) % 8)) ≡ false
-stays c = passed (c .before .before .before .before .before .before .before .before .before .before .before .before .before .before .before) ∙ c .before .before .before .before .before .before .before .before .before .before .before .before .before .before .if2 .left
+stays c = passed (c .before .before .before .before .before .before .before .before .before .before .before .before .before) ∙ c .before .before .before .before .before .before .before .before .before .before .before .before .if2 .left
 
 -- the heads, with a new thread's where one was made
 young : (c : tie.Joined3 Inv-loop μ-loop Inv-loop2 μ-loop2)
     → c .if3 .heads
-    ≡ withYoung (forksOf (deed (c .before .before .before .before .before .before .before .before))) (c .before .before .before .before .before .before .before .before .before .before .before .before .before .before .before .before .before .before .before .before .before .before .before .before .before .before .before .before .before .before .before .before .before .before .before .before .before .loop .heads) (c .before .before .before .before .before .before .before .before .before .before .before .before .before .before .before .before .before .before .before .before .before .before .before .before .before .before .before .before .before .before .before .before .before .before .before .before .before .loop .s .counts .threads % 9)
-    (bornOf (c .before .before .before .before .before .before .before .before .before .before .before .before .before .before .before .before .before .before .before .before .before .before .before .before .before .before .before .before .before .before .before .before .before .before .before .before .before .loop .s .counts) (headAt (c .before .before .before .before .before .before .before .before .before .before .before .before .before .before .before .before .before .before .before .before .before .before .before .before .before .before .before .before .before .before .before .before .before .before .before .before .before .loop .heads) (pick (c .before .before .before .before .before .before .before .before .before .before .before .before .before .before .before .before .before .before .before .before .before .before .before .before .before .before .before .before .before .before .before .before .before .before .before .before .before) % 8)) (c .before .before .before .before .before .before .before .before .before .before .before .land-young .result))
+    ≡ withYoung (forksOf (deed (c .before .before .before .before .before .before .before .before))) (c .before .before .before .before .before .before .before .before .before .before .before .before .before .before .before .before .before .before .before .before .before .before .before .before .before .before .before .before .before .before .before .before .before .before .before .loop .heads) (c .before .before .before .before .before .before .before .before .before .before .before .before .before .before .before .before .before .before .before .before .before .before .before .before .before .before .before .before .before .before .before .before .before .before .before .loop .s .counts .threads % 9)
+    (bornOf (c .before .before .before .before .before .before .before .before .before .before .before .before .before .before .before .before .before .before .before .before .before .before .before .before .before .before .before .before .before .before .before .before .before .before .before .loop .s .counts) (headAt (c .before .before .before .before .before .before .before .before .before .before .before .before .before .before .before .before .before .before .before .before .before .before .before .before .before .before .before .before .before .before .before .before .before .before .before .loop .heads) (pick (c .before .before .before .before .before .before .before .before .before .before .before .before .before .before .before .before .before .before .before .before .before .before .before .before .before .before .before .before .before .before .before .before .before .before .before) % 8)) (c .before .before .before .before .before .before .before .before .before .before .before .land-young .result))
 young c =
-    let l = c .before .before .before .before .before .before .before .before .before .before .before .before .before .before .before .before .before .before .before .before .before .before .before .before .before .before .before .before .before .before .before .before .before .before .before .before .before in
+    let l = c .before .before .before .before .before .before .before .before .before .before .before .before .before .before .before .before .before .before .before .before .before .before .before .before .before .before .before .before .before .before .before .before .before .before .before in
     let f = c .before .before .before .before .before .before .before .before in
     let y = bornOf (l .loop .s .counts) (headAt (l .loop .heads) (pick l % 8)) (c .before .before .before .before .before .before .before .before .before .before .before .land-young .result) in
     ⊎-elim (λ w. young-made (forksOf (deed f)) (l .loop .heads) _ (l .loop .s .counts .threads % 9) _ y (sym (c .before .forks .ensures) ∙ w .0 .taken) (w .1 .ensures) (w .3))
@@ -154,11 +154,11 @@ young c =
 
 -- a stop is the end of the run
 stopped-so : (c : tie.After-stop-of Inv-loop μ-loop Inv-loop2 μ-loop2)
-    → stopped (mask (c .before .before .before .before .before .before .before .before .before .before .before .before .before .before .before .before .before .before .before .before .before .before .before .before .before .before .before .before .before .before .before .before .before .before .before)) (logged (machine (c .before .before .before .before .before .before .before .before .before .before .before .before .before .before .before .before .before .before .before .before .before .before .before .before .before .before .before .before .before .before .before .before .before .before .before)) (pick (c .before .before .before .before .before .before .before .before .before .before .before .before .before .before .before .before .before .before .before .before .before .before .before .before .before .before .before .before .before .before .before .before .before .before .before) % 8) (done (c .before .before .before .before .before .before))) (stopOf (c .before .before .before .before .before .before .before .before .answer-to .result)) (c .before .before .before .before .before .before .before .before .before .before .before .before .before .before .before .before .before .before .before .before .before .before .before .before .before .before .before .before .before .before .before .before .before .before .before .loop .i) ≡ whole (c .before .before .before .before .before .before .before .before .before .before .before .before .before .before .before .before .before .before .before .before .before .before .before .before .before .before .before .before .before .before .before .before .before .before .before)
+    → stopped (mask (c .before .before .before .before .before .before .before .before .before .before .before .before .before .before .before .before .before .before .before .before .before .before .before .before .before .before .before .before .before .before .before .before .before)) (logged (machine (c .before .before .before .before .before .before .before .before .before .before .before .before .before .before .before .before .before .before .before .before .before .before .before .before .before .before .before .before .before .before .before .before .before)) (pick (c .before .before .before .before .before .before .before .before .before .before .before .before .before .before .before .before .before .before .before .before .before .before .before .before .before .before .before .before .before .before .before .before .before) % 8) (done (c .before .before .before .before .before .before))) (stopOf (c .before .before .before .before .before .before .before .before .answer-to .result)) (c .before .before .before .before .before .before .before .before .before .before .before .before .before .before .before .before .before .before .before .before .before .before .before .before .before .before .before .before .before .before .before .before .before .loop .i) ≡ whole (c .before .before .before .before .before .before .before .before .before .before .before .before .before .before .before .before .before .before .before .before .before .before .before .before .before .before .before .before .before .before .before .before .before)
 stopped-so c =
     let f = c .before .before .before .before .before .before in
-    let l = c .before .before .before .before .before .before .before .before .before .before .before .before .before .before .before .before .before .before .before .before .before .before .before .before .before .before .before .before .before .before .before .before .before .before .before in
-    sym (stops (words l) (roots l) (mask l) (machine l) (pick l) (later l) (l .loop .i) (done f) (c .before .before .before .before .before .before .before .before .answer-to .result) (c .before .match .keys2) (stays f) (came f) refl) ∙ rest (c .before .before .before .before .before .before .before .before .before .before .before .before .before .before .before .before .before .before .before .before .before .before .before .before .before .before .before .before .before .before .before .before .before .before)
+    let l = c .before .before .before .before .before .before .before .before .before .before .before .before .before .before .before .before .before .before .before .before .before .before .before .before .before .before .before .before .before .before .before .before .before in
+    sym (stops (words l) (roots l) (mask l) (machine l) (pick l) (later l) (l .loop .i) (done f) (c .before .before .before .before .before .before .before .before .answer-to .result) (c .before .match .keys2) (stays f) (came f) refl) ∙ rest (c .before .before .before .before .before .before .before .before .before .before .before .before .before .before .before .before .before .before .before .before .before .before .before .before .before .before .before .before .before .before .before .before)
 
 -- the loop was left at its end, or by a stop
 ended-so : (c : tie.Left-loop Inv-loop μ-loop Inv-loop2 μ-loop2)
@@ -191,33 +191,31 @@ ended-so c =
     let c13 : tie.After-passes Inv-loop μ-loop Inv-loop2 μ-loop2 = record { before = c12; passes = w .13 } in
     let c14 : tie.Else2 Inv-loop μ-loop Inv-loop2 μ-loop2 = record { before = c13; if2 = w .14 } in
     let c15 : tie.After-act Inv-loop μ-loop Inv-loop2 μ-loop2 = record { before = c14; act = w .15 } in
-    let c16 : tie.After-go Inv-loop μ-loop Inv-loop2 μ-loop2 = record { before = c15; go = w .16 } in
-    let c17 : tie.After-tops Inv-loop μ-loop Inv-loop2 μ-loop2 = record { before = c16; tops = w .17 } in
-    let c18 : tie.After-envs Inv-loop μ-loop Inv-loop2 μ-loop2 = record { before = c17; envs = w .18 } in
-    let c19 : tie.After-args2 Inv-loop μ-loop Inv-loop2 μ-loop2 = record { before = c18; args2 = w .19 } in
-    let c20 : tie.After-struct-known3 Inv-loop μ-loop Inv-loop2 μ-loop2 = record { before = c19; struct-known3 = w .20 } in
-    let c21 : tie.After-land Inv-loop μ-loop Inv-loop2 μ-loop2 = record { before = c20; land = w .21 } in
-    let c22 : tie.After-tops2 Inv-loop μ-loop Inv-loop2 μ-loop2 = record { before = c21; tops2 = w .22 } in
-    let c23 : tie.After-envs2 Inv-loop μ-loop Inv-loop2 μ-loop2 = record { before = c22; envs2 = w .23 } in
-    let c24 : tie.After-args3 Inv-loop μ-loop Inv-loop2 μ-loop2 = record { before = c23; args3 = w .24 } in
-    let c25 : tie.After-land-young Inv-loop μ-loop Inv-loop2 μ-loop2 = record { before = c24; land-young = w .25 } in
-    let c26 : tie.After-answer-to Inv-loop μ-loop Inv-loop2 μ-loop2 = record { before = c25; answer-to = w .26 } in
-    let c27 : tie.After-y Inv-loop μ-loop Inv-loop2 μ-loop2 = record { before = c26; y = w .27 } in
-    let c28 : tie.After-entry-of Inv-loop μ-loop Inv-loop2 μ-loop2 = record { before = c27; entry-of = w .28 } in
-    let c29 : tie.After-put-arg Inv-loop μ-loop Inv-loop2 μ-loop2 = record { before = c28; put-arg = w .29 } in
-    let c30 : tie.After-put Inv-loop μ-loop Inv-loop2 μ-loop2 = record { before = c29; put = w .30 } in
-    let c31 : tie.After-log Inv-loop μ-loop Inv-loop2 μ-loop2 = record { before = c30; log = w .31 } in
-    let c32 : tie.After-slice-known2 Inv-loop μ-loop Inv-loop2 μ-loop2 = record { before = c31; slice-known2 = w .32 } in
-    let c33 : tie.At-match-keys2 Inv-loop μ-loop Inv-loop2 μ-loop2 = record { before = c32; match = w .33 } in
-    let c34 : tie.After-stop-of Inv-loop μ-loop Inv-loop2 μ-loop2 = record { before = c33; stop-of = w .34 } in
-    let e = stopOf (w .26 .result) in
-    let r = tallyPut (l .loop .s) (w .28 .result) in
-    let o = logPut (l .loop .log) (l .loop .s .records) (pick l % 8) (w .28 .result) in
+    let c16 : tie.After-tops Inv-loop μ-loop Inv-loop2 μ-loop2 = record { before = c15; tops = w .16 } in
+    let c17 : tie.After-envs Inv-loop μ-loop Inv-loop2 μ-loop2 = record { before = c16; envs = w .17 } in
+    let c18 : tie.After-args2 Inv-loop μ-loop Inv-loop2 μ-loop2 = record { before = c17; args2 = w .18 } in
+    let c19 : tie.After-land-mover Inv-loop μ-loop Inv-loop2 μ-loop2 = record { before = c18; land-mover = w .19 } in
+    let c20 : tie.After-tops2 Inv-loop μ-loop Inv-loop2 μ-loop2 = record { before = c19; tops2 = w .20 } in
+    let c21 : tie.After-envs2 Inv-loop μ-loop Inv-loop2 μ-loop2 = record { before = c20; envs2 = w .21 } in
+    let c22 : tie.After-args3 Inv-loop μ-loop Inv-loop2 μ-loop2 = record { before = c21; args3 = w .22 } in
+    let c23 : tie.After-land-young Inv-loop μ-loop Inv-loop2 μ-loop2 = record { before = c22; land-young = w .23 } in
+    let c24 : tie.After-answer-to Inv-loop μ-loop Inv-loop2 μ-loop2 = record { before = c23; answer-to = w .24 } in
+    let c25 : tie.After-y Inv-loop μ-loop Inv-loop2 μ-loop2 = record { before = c24; y = w .25 } in
+    let c26 : tie.After-entry-of Inv-loop μ-loop Inv-loop2 μ-loop2 = record { before = c25; entry-of = w .26 } in
+    let c27 : tie.After-put-arg Inv-loop μ-loop Inv-loop2 μ-loop2 = record { before = c26; put-arg = w .27 } in
+    let c28 : tie.After-put Inv-loop μ-loop Inv-loop2 μ-loop2 = record { before = c27; put = w .28 } in
+    let c29 : tie.After-log Inv-loop μ-loop Inv-loop2 μ-loop2 = record { before = c28; log = w .29 } in
+    let c30 : tie.After-slice-known2 Inv-loop μ-loop Inv-loop2 μ-loop2 = record { before = c29; slice-known2 = w .30 } in
+    let c31 : tie.At-match-keys2 Inv-loop μ-loop Inv-loop2 μ-loop2 = record { before = c30; match = w .31 } in
+    let c32 : tie.After-stop-of Inv-loop μ-loop Inv-loop2 μ-loop2 = record { before = c31; stop-of = w .32 } in
+    let e = stopOf (w .24 .result) in
+    let r = tallyPut (l .loop .s) (w .26 .result) in
+    let o = logPut (l .loop .log) (l .loop .s .records) (pick l % 8) (w .26 .result) in
     let x : Played = record { ran = endOf e (l .loop .i) (mask l) r (l .loop .heads) (l .loop .cells) (l .loop .objects); area = o } in
-    let q : x ≡ whole l = stopped-so c34 in
-    ends-so (mask l) (l .loop .heads) (l .loop .cells) (l .loop .objects) (c .loop-test .stop) (w .34 .result) e (c .loop-test .dealt) (l .loop .i)
-    (c .loop-test .s) (w .30 .result) r (c .loop-test .log) (w .30 .last .0) o (whole l)
-    (w .37) (w .34 .ensures) (w .38) (w .36) (w .30 .ensures .0 .0) (w .35) (w .30 .ensures .1) q) (c .loop-test .came)
+    let q : x ≡ whole l = stopped-so c32 in
+    ends-so (mask l) (l .loop .heads) (l .loop .cells) (l .loop .objects) (c .loop-test .stop) (w .32 .result) e (c .loop-test .dealt) (l .loop .i)
+    (c .loop-test .s) (w .28 .result) r (c .loop-test .log) (w .28 .last .0) o (whole l)
+    (w .35) (w .32 .ensures) (w .36) (w .34) (w .28 .ensures .0 .0) (w .33) (w .28 .ensures .1) q) (c .loop-test .came)
 
 element-copy-out-first-head : tie.Need-element-copy-out-first-head Inv-loop μ-loop Inv-loop2 μ-loop2
 element-copy-out-first-head c = search needs
@@ -308,11 +306,8 @@ loop-again-2 c =
 act-requires : tie.Need-act-requires Inv-loop μ-loop Inv-loop2 μ-loop2
 act-requires c κs = search needs
 
-mul-land : tie.Need-mul-land Inv-loop μ-loop Inv-loop2 μ-loop2
-mul-land c = search needs
-
-land-requires : tie.Need-land-requires Inv-loop μ-loop Inv-loop2 μ-loop2
-land-requires c κs = search needs
+land-mover-requires : tie.Need-land-mover-requires Inv-loop μ-loop Inv-loop2 μ-loop2
+land-mover-requires c κs = search needs
 
 land-young-requires : tie.Need-land-young-requires Inv-loop μ-loop Inv-loop2 μ-loop2
 land-young-requires c κs = search needs
@@ -325,9 +320,9 @@ entry-of-requires c κs = search needs
 
 put-requires : tie.Need-put-requires Inv-loop μ-loop Inv-loop2 μ-loop2
 put-requires c κs =
-    let v = c .before .before .before .before .before .before .before .before .before .before .before .before .before .before .before .before .before .before .before .before .before .before .before .before .before .before .before .before .before .before .loop .inv in
-    let t = c .before .before .before .before .before .before .before .before .before .before .before .before .before .before .before .before .before .before .before .before .before .before .before .before .before .before .before .before .before .loop-test .taken in
-    let r = c .before .before .before .before .before .before .before .before .before .before .before .before .before .before .before .before .before .before .before .before .before .before .before .before .before .before .before .before .before .before .before .before .before .before .before .before .before .before .pre in
+    let v = c .before .before .before .before .before .before .before .before .before .before .before .before .before .before .before .before .before .before .before .before .before .before .before .before .before .before .before .before .loop .inv in
+    let t = c .before .before .before .before .before .before .before .before .before .before .before .before .before .before .before .before .before .before .before .before .before .before .before .before .before .before .before .loop-test .taken in
+    let r = c .before .before .before .before .before .before .before .before .before .before .before .before .before .before .before .before .before .before .before .before .before .before .before .before .before .before .before .before .before .before .before .before .before .before .before .before .pre in
     (omega (arith, v .0, v .3, v .4, t, r .0, r .1), omega (arith, v .0, v .3, t, r .0))
 
 enum-told : tie.Need-enum-told Inv-loop μ-loop Inv-loop2 μ-loop2
@@ -358,10 +353,10 @@ array-set-from-heads-2 : tie.Need-array-set-from-heads-2 Inv-loop μ-loop Inv-lo
 array-set-from-heads-2 c = search needs
 
 mul-cells : tie.Need-mul-cells Inv-loop μ-loop Inv-loop2 μ-loop2
-mul-cells c = record { fits = omega (arith, c .before .before .before .before .before .before .before .before .before .before .before .before .before .before .before .before .before .before .before .before .before .before .before .before .before .before .before .before .before .before .before .before .before .cell-of .ensures .inside) }
+mul-cells c = record { fits = omega (arith, c .before .before .before .before .before .before .before .before .before .before .before .before .before .before .before .before .before .before .before .before .before .before .before .before .before .before .before .before .before .before .before .cell-of .ensures .inside) }
 
 array-set-from-cells : tie.Need-array-set-from-cells Inv-loop μ-loop Inv-loop2 μ-loop2
-array-set-from-cells c = omega (arith, c .before .before .before .before .before .before .before .before .before .before .before .before .before .before .before .before .before .before .before .before .before .before .before .before .before .before .before .before .before .before .before .before .before .cell-of .ensures .inside)
+array-set-from-cells c = omega (arith, c .before .before .before .before .before .before .before .before .before .before .before .before .before .before .before .before .before .before .before .before .before .before .before .before .before .before .before .before .before .before .before .cell-of .ensures .inside)
 
 mul-objects : tie.Need-mul-objects Inv-loop μ-loop Inv-loop2 μ-loop2
 mul-objects c = search needs
@@ -371,24 +366,24 @@ array-set-from-objects c = search needs
 
 moved-requires : tie.Need-moved-requires Inv-loop μ-loop Inv-loop2 μ-loop2
 moved-requires c κs =
-    let l = c .before .before .before .before .before .before .before .before .before .before .before .before .before .before .before .before .before .before .before .before .before .before .before .before .before .before .before .before .before .before .before .before .before .before .before .before .before .before .before .before .before .before in
+    let l = c .before .before .before .before .before .before .before .before .before .before .before .before .before .before .before .before .before .before .before .before .before .before .before .before .before .before .before .before .before .before .before .before .before .before .before .before .before .before .before .before in
     let e : c .before .before .before .before .before .before .before .before .before .before .before .put .result .moves ≡ l .loop .s .moves = ap (λ (s : Tally). s .moves) (c .before .before .before .before .before .before .before .before .before .before .before .put .ensures .0 .0) in
-    omega (arith, e, l .loop .inv .0, l .loop .inv .2, c .before .before .before .before .before .before .before .before .before .before .before .before .before .before .before .before .before .before .before .before .before .before .before .before .before .before .before .before .before .before .before .before .before .before .before .before .before .before .before .before .before .loop-test .taken, c .before .before .before .before .before .before .before .before .before .before .before .before .before .before .before .before .before .before .before .before .before .before .before .before .before .before .before .before .before .before .before .before .before .before .before .before .before .before .before .before .before .before .before .before .before .before .before .before .before .before .pre .0)
+    omega (arith, e, l .loop .inv .0, l .loop .inv .2, c .before .before .before .before .before .before .before .before .before .before .before .before .before .before .before .before .before .before .before .before .before .before .before .before .before .before .before .before .before .before .before .before .before .before .before .before .before .before .before .loop-test .taken, c .before .before .before .before .before .before .before .before .before .before .before .before .before .before .before .before .before .before .before .before .before .before .before .before .before .before .before .before .before .before .before .before .before .before .before .before .before .before .before .before .before .before .before .before .before .before .before .before .pre .0)
 
 add-i-3 : tie.Need-add-i-3 Inv-loop μ-loop Inv-loop2 μ-loop2
-add-i-3 c = record { fits = omega (arith, c .before .before .before .before .before .before .before .before .before .before .before .before .before .before .before .before .before .before .before .before .before .before .before .before .before .before .before .before .before .before .before .before .before .before .before .before .before .before .before .before .before .before .loop-test .taken, c .before .before .before .before .before .before .before .before .before .before .before .before .before .before .before .before .before .before .before .before .before .before .before .before .before .before .before .before .before .before .before .before .before .before .before .before .before .before .before .before .before .before .before .loop .inv .0, c .before .before .before .before .before .before .before .before .before .before .before .before .before .before .before .before .before .before .before .before .before .before .before .before .before .before .before .before .before .before .before .before .before .before .before .before .before .before .before .before .before .before .before .before .before .before .before .before .before .before .before .pre .0) }
+add-i-3 c = record { fits = omega (arith, c .before .before .before .before .before .before .before .before .before .before .before .before .before .before .before .before .before .before .before .before .before .before .before .before .before .before .before .before .before .before .before .before .before .before .before .before .before .before .before .before .loop-test .taken, c .before .before .before .before .before .before .before .before .before .before .before .before .before .before .before .before .before .before .before .before .before .before .before .before .before .before .before .before .before .before .before .before .before .before .before .before .before .before .before .before .before .loop .inv .0, c .before .before .before .before .before .before .before .before .before .before .before .before .before .before .before .before .before .before .before .before .before .before .before .before .before .before .before .before .before .before .before .before .before .before .before .before .before .before .before .before .before .before .before .before .before .before .before .before .before .pre .0) }
 
 loop-less-3 : tie.Need-loop-less-3 Inv-loop μ-loop Inv-loop2 μ-loop2
-loop-less-3 c = omega (arith, c .before .before .before .before .before .before .before .before .before .before .before .before .before .before .before .before .before .before .before .before .before .before .before .before .before .before .before .before .before .before .before .before .before .before .before .before .before .before .before .before .before .before .loop-test .taken, c .before .before .before .before .before .before .before .before .before .before .before .before .before .before .before .before .before .before .before .before .before .before .before .before .before .before .before .before .before .before .before .before .before .before .before .before .before .before .before .before .before .before .before .loop .inv .0)
+loop-less-3 c = omega (arith, c .before .before .before .before .before .before .before .before .before .before .before .before .before .before .before .before .before .before .before .before .before .before .before .before .before .before .before .before .before .before .before .before .before .before .before .before .before .before .before .before .loop-test .taken, c .before .before .before .before .before .before .before .before .before .before .before .before .before .before .before .before .before .before .before .before .before .before .before .before .before .before .before .before .before .before .before .before .before .before .before .before .before .before .before .before .before .loop .inv .0)
 
 loop-again-3 : tie.Need-loop-again-3 Inv-loop μ-loop Inv-loop2 μ-loop2
 loop-again-3 c =
     let f = c .before .before .before .before .before .before .before .before .before .before .before .before .before .before in
     let l = from f in
     let v = l .loop .inv in
-    let t = c .before .before .before .before .before .before .before .before .before .before .before .before .before .before .before .before .before .before .before .before .before .before .before .before .before .before .before .before .before .before .before .before .before .before .before .before .before .before .before .before .before .before .loop-test .taken in
+    let t = c .before .before .before .before .before .before .before .before .before .before .before .before .before .before .before .before .before .before .before .before .before .before .before .before .before .before .before .before .before .before .before .before .before .before .before .before .before .before .before .before .loop-test .taken in
     let put = c .before .before .before .before .before .before .before .before .before .before .before .before .put in
-    let k = c .before .before .before .before .before .before .before .before .before .before .before .before .before .before .before .before .before .before .before .before .before .before .before .before .before .before .before .before .before .before .before .before .before .before .before .before .cell-of in
+    let k = c .before .before .before .before .before .before .before .before .before .before .before .before .before .before .before .before .before .before .before .before .before .before .before .before .before .before .before .before .before .before .before .before .before .before .cell-of in
     let j = c .before .before .before .before .before .before in
     let s : c .moved .result ≡ tallyMoved (tallyPut (l .loop .s) (f .entry-of .result)) (deed f .counts) = c .moved .ensures .0 ∙ ap (λ (s : Tally). tallyMoved s (deed f .counts)) (put .ensures .0 .0) in
     let moves : c .moved .result .moves ≡ l .loop .s .moves + 1 = ap (λ (s : Tally). s .moves) s in
@@ -401,7 +396,7 @@ loop-again-3 c =
       put .kept .0 ∙ v .4,
       ap (λ (x : Machine). playOf (words l) (roots l) (mask l) x (later l) (l .loop .i + 1)) e
           ∙ sym (goes (words l) (roots l) (mask l) (machine l) (pick l) (later l) (l .loop .i) (deed f) (done f) (stays f) (did f) (came f) (c .before .before .before .before .before .before .before .before .enum-told .given .1))
-          ∙ rest (c .before .before .before .before .before .before .before .before .before .before .before .before .before .before .before .before .before .before .before .before .before .before .before .before .before .before .before .before .before .before .before .before .before .before .before .before .before .before .before .before .before .before),
+          ∙ rest (c .before .before .before .before .before .before .before .before .before .before .before .before .before .before .before .before .before .before .before .before .before .before .before .before .before .before .before .before .before .before .before .before .before .before .before .before .before .before .before .before),
       v .6,
       v .7,
     )
@@ -482,7 +477,7 @@ loop2-again c =
     )
 
 same-length : tie.Need-same-length Inv-loop μ-loop Inv-loop2 μ-loop2
-same-length c = let l = left (c .before) in let v = l .before .loop .inv in ⊎-elim (λ w. ap length (w .1) ∙ v .4) (λ w. ap length (w .35) ∙ w .30 .kept .0 ∙ v .4) (l .loop-test .came)
+same-length c = let l = left (c .before) in let v = l .before .loop .inv in ⊎-elim (λ w. ap length (w .1) ∙ v .4) (λ w. ap length (w .33) ∙ w .28 .kept .0 ∙ v .4) (l .loop-test .came)
 
 returns : tie.Need-returns Inv-loop μ-loop Inv-loop2 μ-loop2
 returns c =
@@ -531,8 +526,7 @@ run-spec =
     loop-less-2
     loop-again-2
     act-requires
-    mul-land
-    land-requires
+    land-mover-requires
     land-young-requires
     answer-to-requires
     entry-of-requires
