@@ -22,10 +22,10 @@ use Rattle.refinement.proofs.Meant.{Loaded}
 use Rattle.refinement.proofs.Plays.{statusBy, stopMeant, outcomeMeant, plays-defined}
 use Rattle.refinement.proofs.Plays as plays
 use Rattle.player.specs.declared.outcome.Thread.{Thread}
-use Rattle.player.specs.Loading.{Words, Roots}
+use Rattle.loading.specs.Loading.{Words, Roots}
 use Rattle.player.specs.Outcomes.{stopBy, sightBy, stateBy, threadsBy, outcomeBy}
 use Rattle.player.specs.Answer.{roomOf, stopOf, waitOf, stuckOf, statusOf, outcomeOf}
-use Rattle.player.proofs.Passed.{Passed}
+use Rattle.play_refusals.proofs.Passed.{Passed}
 
 -- ---- the code's words mean what the refinement says
 

@@ -14,11 +14,11 @@ use Rattle.rules.specs.Play.{playRefusal, played, playedBy, areaAfter, areaBy, 
 use Rattle.engine.specs.Machine.{playOf, startOf}
 use Rattle.player.specs.declared.outcome.Outcome.{Outcome}
 use Rattle.player.specs.declared.outcome.Played.{Played}
-use Rattle.player.specs.Refused.{RefusedAs}
-use Rattle.player.specs.Loading.{Words, Roots}
+use Rattle.play_refusals.specs.Refused.{RefusedAs}
+use Rattle.loading.specs.Loading.{Words, Roots}
 use Rattle.player.specs.Outcomes.{outcomeBy}
 use Rattle.player.specs.Answer.{outcomeOf, answeredBy, answered}
-use Rattle.player.proofs.Passed.{Passed, by-code}
+use Rattle.play_refusals.proofs.Passed.{Passed, by-code}
 use Rattle.player.proofs.Answers.{outcome-defined, area-defined}
 
 module _ (plan schedule area : List ℕ) (x : Checked) (h : RefusedAs plan schedule (length area) (check.answered x)) where

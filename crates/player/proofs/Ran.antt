@@ -20,7 +20,7 @@ use Rattle.rules.specs.Play.{playRefusal, played, playedBy, areaAfter, areaBy, 
 use Rattle.rules.proofs.TidyRuns.{tidy-play}
 use Rattle.player.specs.declared.outcome.Played.{Played}
 use Rattle.player.specs.Answer.{stopOf, outcomeOf, answeredBy, answered}
-use Rattle.player.proofs.Passed.{Passed, passed}
+use Rattle.play_refusals.proofs.Passed.{Passed, passed}
 
 -- the outcome of an answer that has one
 abbrev outcomeOr : run.Outcome → play.Played → run.Outcome

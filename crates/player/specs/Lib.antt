@@ -1,4 +1,2 @@
 pub mod Answer
-pub mod Loading
-pub mod Refused
 pub mod Outcomes

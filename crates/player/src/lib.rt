@@ -1,7 +1,5 @@
 // The entry `play`: a schedule on a plan, its records into a log area.
-mod load;
 pub mod outcome;
-mod refusal;
 
 ghost use mathlib.Core.Path.{_≡_};
 ghost use Rattle.rules.specs.Play.{played, areaAfter};
@@ -17,14 +15,14 @@ pub fn play(plan: &[u8], schedule: &[u8], log: &mut [u8]) -> Played
     ensures area { λ r. ⌜ now (log .exit) ≡ areaAfter (now (plan .entry)) (now (schedule .entry)) (now (log .entry)) ⌝ }
     ensures refused { λ r. ⌜ NoRunIfRefused r ⌝ }
 {
-    let checked = refusal::refusal(plan, schedule, log.len());
+    let checked = play_refusals::refusal(plan, schedule, log.len());
     let Checked::Passed = checked else {
         return outcome::refused(checked);
     };
     let procs = layout::procedures(plan);
     let count = layout::terms(plan);
-    let words = load::words(plan, procs, count);
-    let roots = load::roots(plan, procs);
+    let words = loading::words(plan, procs, count);
+    let roots = loading::roots(plan, procs);
     let mask = layout::volatiles(plan);
     let ran = engine::run(&words, &roots, mask, schedule, log);
     let outcome = outcome::outcome_of(ran);

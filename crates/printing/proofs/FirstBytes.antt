@@ -14,7 +14,7 @@ use Rattle.format.specs.Refusal.{Refusal, orElse, lowest, refuse}
 use Rattle.packed.specs.Check.{refusal}
 use Rattle.records.specs.Record.{Record}
 use Rattle.rules.specs.Play.{tooManyPicks, playRefusal, played, playedBy, runOf}
-use Rattle.player.proofs.RefusalChain.{chain}
+use Rattle.play_refusals.proofs.RefusalChain.{chain}
 use Rattle.last_lines.specs.Lines.{refusalLine}
 use Rattle.input_parts.specs.Input.{lengthRead, planRead, scheduleRead}
 use Rattle.input_parts.proofs.Parts.{cut-long, not-cut}

@@ -13,7 +13,7 @@ use Rattle.rules.specs.Play as play
 use Rattle.rules.specs.Play.{playRefusal, played, playedBy, runOf}
 use Rattle.player.specs.declared.outcome.Played.{Played}
 use Rattle.player.specs.Answer.{outcomeOf, answeredBy, answered}
-use Rattle.player.proofs.Passed.{passed}
+use Rattle.play_refusals.proofs.Passed.{passed}
 use Rattle.numbers.specs.Numbers.{playNumber}
 use Rattle.numbers.specs.Small.{SmallRefusal}
 use Rattle.outcome_bytes.specs.Bytes.{outcomeBytes}

@@ -15,7 +15,7 @@ use Rattle.records.specs.Packed.{recordCount}
 use Rattle.records.specs.Refusals.{wrongLogLength, wrongRecord, logChecks, logRefusal}
 use Rattle.records.proofs.Accepted.{right-length}
 use Rattle.rules.specs.Play.{tooManyPicks, wrongPick, shortArea, playRefusal}
-use Rattle.player.proofs.RefusalChain.{chain, late}
+use Rattle.play_refusals.proofs.RefusalChain.{chain, late}
 use Rattle.numbers.specs.Small.{SmallRefusal, SmallCheck}
 
 abbrev AllWithin : List Check → Type 0

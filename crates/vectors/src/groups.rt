@@ -1,6 +1,5 @@
 // The cases of a file, each behind its length of two bytes, and how many of them differ.
 ghost use Prim.Native.Nat.{_≤_};
-use crate::cases;
 use header::bits;
 
 pub enum Group {
@@ -24,10 +23,10 @@ pub struct Tally {
 
 fn right(group: Group, case: &[u8]) -> bool {
     match group {
-        Group::Check => cases::check_case(case),
-        Group::Play => cases::play_case(case),
-        Group::Run => cases::run_case(case),
-        Group::Log => cases::log_case(case),
+        Group::Check => stored_cases::check_case(case),
+        Group::Play => stored_cases::play_case(case),
+        Group::Run => stored_cases::run_case(case),
+        Group::Log => stored_cases::log_case(case),
     }
 }
 

@@ -1,6 +1,5 @@
 // The test program: document 01's shot list and the stored cases of a second interpreter, held to the static library's check, play and judge. A line
 // for each group of cases, and a last line for all of them.
-mod cases; // cases.rt: one case of each kind
 mod groups; // groups.rt: the cases of a file
 
 use groups::Group;

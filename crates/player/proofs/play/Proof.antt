@@ -3,22 +3,12 @@ use native.Mathlib.Omega.{arith}
 use mathlib.Core.Path.{ap, _∙_}
 use borrow.Author.Needs.{needs}
 use Rattle.packed.specs.Format.{procedures, terms}
-use Rattle.player.specs.Loading.{Words, Roots}
+use Rattle.loading.specs.Loading.{Words, Roots}
 use Rattle.player.specs.Outcomes.{outcomeBy}
-use Rattle.player.proofs.Passed.{Passed, Inside, inside, passed-refused, by-code}
+use Rattle.play_refusals.proofs.Passed.{Passed, Inside, inside, passed-refused, by-code}
 use Rattle.player.proofs.Entry.{refused-answer, refused-area, ran-answer, ran-area}
 use Rattle.player.proofs.play.Statement.{statement}
 use Rattle.player.proofs.play.Tie as tie
-use Rattle.player.proofs.play.Reads as reads
-use Rattle.player.proofs.play.Lts as lts
-use Rattle.engine.proofs.run.Reads as run-reads
-use Rattle.header.proofs.layout.procedures.Reads as procedures-reads
-use Rattle.header.proofs.layout.terms.Reads as terms-reads
-use Rattle.player.proofs.load.roots.Reads as roots-reads
-use Rattle.player.proofs.load.words.Reads as words-reads
-use Rattle.player.proofs.outcome.outcome_of.Reads as outcome-of-reads
-use Rattle.player.proofs.outcome.refused.Reads as refused-reads
-use Rattle.player.proofs.refusal.refusal.Reads as refusal-reads
 
 -- nothing refuses the play
 told : (c : tie.After-enum-told) → Passed (c .before .before .before .before .before .before .args .plan .now) (c .before .before .before .before .before .before .args .schedule .now) (c .before .before .before .before .before .before .args .log .now)

@@ -3,10 +3,6 @@ use Rattle.player.specs.Outcomes.{outcomeBy}
 use borrow.Author.Needs.{needs}
 use Rattle.player.proofs.outcome.outcome_of.Statement.{statement}
 use Rattle.player.proofs.outcome.outcome_of.Tie as tie
-use Rattle.player.proofs.outcome.outcome_of.Reads as reads
-use Rattle.player.proofs.outcome.outcome_of.Lts as lts
-use Rattle.player.proofs.outcome.stop_of.Reads as stop-of-reads
-use Rattle.player.proofs.outcome.threads_of.Reads as threads-of-reads
 
 stop-of-requires : tie.Need-stop-of-requires
 stop-of-requires c κs = search needs

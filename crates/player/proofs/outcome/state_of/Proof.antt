@@ -2,8 +2,6 @@
 use borrow.Author.Needs.{needs}
 use Rattle.player.proofs.outcome.state_of.Statement.{statement}
 use Rattle.player.proofs.outcome.state_of.Tie as tie
-use Rattle.player.proofs.outcome.state_of.Reads as reads
-use Rattle.player.proofs.outcome.state_of.Lts as lts
 
 enum-told : tie.Need-enum-told
 enum-told c = search needs

@@ -2,9 +2,6 @@
 use borrow.Author.Needs.{needs}
 use Rattle.player.proofs.outcome.stop_of.Statement.{statement}
 use Rattle.player.proofs.outcome.stop_of.Tie as tie
-use Rattle.player.proofs.outcome.stop_of.Reads as reads
-use Rattle.player.proofs.outcome.stop_of.Lts as lts
-use Rattle.player.proofs.outcome.room_of.Reads as room-of-reads
 
 enum-told : tie.Need-enum-told
 enum-told c = search needs

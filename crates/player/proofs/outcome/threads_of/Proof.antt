@@ -9,9 +9,6 @@ use Rattle.player.specs.Outcomes.{threadsBy}
 use Rattle.player.proofs.EightThreads.{threadsFrom, all-threads, one-thread, no-thread}
 use Rattle.player.proofs.outcome.threads_of.Statement.{statement}
 use Rattle.player.proofs.outcome.threads_of.Tie as tie
-use Rattle.player.proofs.outcome.threads_of.Reads as reads
-use Rattle.player.proofs.outcome.threads_of.Lts as lts
-use Rattle.player.proofs.outcome.state_of.Reads as state-of-reads
 
 abbrev Inv-loop : tie.InvT-loop
 Inv-loop all r₀ p₀ r p = (p ≤ 8) × (threadsFrom all (8 - p) p r ≡ threadsBy all)

@@ -8,11 +8,6 @@ use lib.Seq.{length-take-le}
 use borrow.Author.Needs.{needs}
 use Rattle.vectors.proofs.groups.read_case.Statement.{statement}
 use Rattle.vectors.proofs.groups.read_case.Tie as tie
-use Rattle.vectors.proofs.groups.read_case.Reads as reads
-use Rattle.vectors.proofs.groups.read_case.Lts as lts
-use Rattle.io.proofs.large_buffer.Reads as large-buffer-reads
-use Rattle.io.proofs.read_full.Reads as read-full-reads
-use Rattle.vectors.proofs.groups.right.Reads as right-reads
 
 fits : (n : ℕ) (l : List ℕ) → 65536 ≡ length l → n ≤ 65535 → length (take n l) ≡ n
 fits n l e h = length-take-le n l (omega arith)

@@ -5,11 +5,6 @@ use mathlib.Core.Logic.{⊎-elim}
 use borrow.Author.Needs.{needs}
 use Rattle.vectors.proofs.groups.tally_of.Statement.{statement}
 use Rattle.vectors.proofs.groups.tally_of.Tie as tie
-use Rattle.vectors.proofs.groups.tally_of.Reads as reads
-use Rattle.vectors.proofs.groups.tally_of.Lts as lts
-use Rattle.libc.proofs.close.Reads as close-reads
-use Rattle.os.proofs.open_read.Reads as open-read-reads
-use Rattle.vectors.proofs.groups.next_case.Reads as next-case-reads
 
 abbrev Inv-loop : tie.InvT-loop
 Inv-loop path group fd cases₀ differ₀ left₀ cases differ left = (cases + left ≤ 1000000) × (differ ≤ cases)

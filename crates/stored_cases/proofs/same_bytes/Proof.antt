@@ -1,8 +1,8 @@
 -- `same_bytes` is safe and ends. Assumes nothing.
 use Prim.Native.Nat.{_≤_, _-_}
 use borrow.Author.Needs.{needs}
-use Rattle.vectors.proofs.cases.same_bytes.Statement.{statement}
-use Rattle.vectors.proofs.cases.same_bytes.Tie as tie
+use Rattle.stored_cases.proofs.same_bytes.Statement.{statement}
+use Rattle.stored_cases.proofs.same_bytes.Tie as tie
 
 abbrev Inv-loop : tie.InvT-loop
 Inv-loop out stored same₀ i₀ same i = i ≤ 32

@@ -16,8 +16,8 @@ use Rattle.plan.specs.declared.Checked.{Checked}
 use Rattle.plan.specs.declared.Checked.the-variants as checked
 use Rattle.packed.proofs.Accepted.{accepted}
 use Rattle.rules.specs.Play.{tooManyPicks, wrongPick, shortArea, playRefusal}
-use Rattle.player.specs.Refused.{RefusedAs}
-use Rattle.player.proofs.RefusalChain.{chain, late}
+use Rattle.play_refusals.specs.Refused.{RefusedAs}
+use Rattle.play_refusals.proofs.RefusalChain.{chain, late}
 
 -- neither is refused
 or-none : (a b : Option Refusal) → orElse a b ≡ none → (a ≡ none) × (b ≡ none)

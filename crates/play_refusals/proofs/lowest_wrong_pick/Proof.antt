@@ -9,8 +9,8 @@ use borrow.Author.Tests.{lt-ltb, le-ltb}
 use borrow.Author.Count.{below-more}
 use Rattle.format.proofs.LowestLaws.{found, found-none}
 use Rattle.rules.specs.Play.{wrongPick}
-use Rattle.player.proofs.refusal.lowest_wrong_pick.Statement.{statement}
-use Rattle.player.proofs.refusal.lowest_wrong_pick.Tie as tie
+use Rattle.play_refusals.proofs.lowest_wrong_pick.Statement.{statement}
+use Rattle.play_refusals.proofs.lowest_wrong_pick.Tie as tie
 
 abbrev Inv-loop : tie.InvT-loop
 Inv-loop schedule i₀ i = (i ≤ length schedule) × ((k : ℕ) → k < i → wrongPick schedule k ≡ false)

@@ -5,11 +5,10 @@ use native.Mathlib.Omega.{arith}
 use lib.ListN.{length, length-set}
 use borrow.Author.Needs.{needs}
 use Rattle.packed.specs.Format.{root}
-use Rattle.player.specs.Loading.{Roots}
-use Rattle.player.proofs.Filled.{one-more}
-use Rattle.player.proofs.load.roots.Statement.{statement}
-use Rattle.player.proofs.load.roots.Tie as tie
-use Rattle.header.proofs.layout.root.Reads as root-reads
+use Rattle.loading.specs.Loading.{Roots}
+use Rattle.loading.proofs.Filled.{one-more}
+use Rattle.loading.proofs.roots.Statement.{statement}
+use Rattle.loading.proofs.roots.Tie as tie
 
 abbrev Inv-loop : tie.InvT-loop
 Inv-loop plan procs all₀ p₀ all p = (p ≤ procs) × (length all ≡ 32) × Roots plan p all

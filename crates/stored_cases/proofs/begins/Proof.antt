@@ -1,11 +1,9 @@
--- `vectors::cases::begins` is safe and ends. Assumes nothing.
+-- `begins` is safe and ends. Assumes nothing.
 use Prim.Native.Nat.{_≤_, _-_}
 use lib.ListN.{length}
 use borrow.Author.Needs.{needs}
-use Rattle.vectors.proofs.cases.begins.Statement.{statement}
-use Rattle.vectors.proofs.cases.begins.Tie as tie
-use Rattle.vectors.proofs.cases.begins.Reads as reads
-use Rattle.vectors.proofs.cases.begins.Lts as lts
+use Rattle.stored_cases.proofs.begins.Statement.{statement}
+use Rattle.stored_cases.proofs.begins.Tie as tie
 
 abbrev Inv-loop : tie.InvT-loop
 Inv-loop area records i₀ same₀ i same = i ≤ length area

@@ -7,11 +7,10 @@ use lib.ListN.{length, length-set}
 use Rattle.format.specs.Bits.{bitsAt}
 use borrow.Author.Needs.{needs}
 use Rattle.packed.specs.Format.{procedures, termBit}
-use Rattle.player.specs.Loading.{Words}
-use Rattle.player.proofs.Filled.{one-more}
-use Rattle.player.proofs.load.words.Statement.{statement}
-use Rattle.player.proofs.load.words.Tie as tie
-use Rattle.header.proofs.bits.five.Reads as five-reads
+use Rattle.loading.specs.Loading.{Words}
+use Rattle.loading.proofs.Filled.{one-more}
+use Rattle.loading.proofs.words.Statement.{statement}
+use Rattle.loading.proofs.words.Tie as tie
 
 -- where a term begins, in bits
 place : (b : List ℕ) (m t : ℕ) → m ≡ procedures b → (8 + 2 * m + 5 * t) * 8 ≡ termBit b t

@@ -1,12 +1,10 @@
--- `vectors::cases::play_in` is safe. Assumes nothing.
+-- `play_in` is safe. Assumes nothing.
 use native.Mathlib.Omega.{arith}
 use mathlib.Core.Path.{sym}
 use lib.Seq.{length-take-le}
 use borrow.Author.Needs.{needs}
-use Rattle.vectors.proofs.cases.play_in.Statement.{statement}
-use Rattle.vectors.proofs.cases.play_in.Tie as tie
-use Rattle.vectors.proofs.cases.play_in.Reads as reads
-use Rattle.vectors.proofs.cases.play_in.Lts as lts
+use Rattle.stored_cases.proofs.play_in.Statement.{statement}
+use Rattle.stored_cases.proofs.play_in.Tie as tie
 
 slice-relend-prefix-ruqzhemil-play : tie.Need-slice-relend-prefix-ruqzhemil-play
 slice-relend-prefix-ruqzhemil-play c = search needs

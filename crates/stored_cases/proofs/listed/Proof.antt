@@ -1,10 +1,9 @@
--- `vectors::cases::listed` is safe and ends. Assumes nothing.
+-- `listed` is safe and ends. Assumes nothing.
 use Prim.Native.Nat.{_≤_, _-_, _/_}
 use lib.ListN.{length}
 use borrow.Author.Needs.{needs}
-use Rattle.vectors.proofs.cases.listed.Statement.{statement}
-use Rattle.vectors.proofs.cases.listed.Tie as tie
-use Rattle.vectors.proofs.cases.listed.Lts as lts
+use Rattle.stored_cases.proofs.listed.Statement.{statement}
+use Rattle.stored_cases.proofs.listed.Tie as tie
 
 abbrev Inv-loop : tie.InvT-loop
 Inv-loop indices got k₀ found₀ k found = k ≤ length indices / 2

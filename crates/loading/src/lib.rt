@@ -3,7 +3,7 @@ ghost use Prim.Native.Nat.{_≤_, _+_, _*_};
 ghost use mathlib.Core.Path.{_≡_};
 ghost use lib.ListN.{length};
 ghost use Rattle.packed.specs.Format.{procedures, root};
-ghost use Rattle.player.specs.Loading.{Words, Roots};
+ghost use Rattle.loading.specs.Loading.{Words, Roots};
 use header::bits;
 use header::layout;
 

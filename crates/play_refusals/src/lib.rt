@@ -1,9 +1,9 @@
-// Refusals 1 to 10: of the plan, of the schedule, of the log area.
+// Refusals 1 to 10 of a play: of the plan, of the schedule, of the log area.
 ghost use lib.ListN.{length};
 ghost use Rattle.format.specs.Lowest.{Lowest};
 ghost use Rattle.plan.specs.Answer.{answered};
 ghost use Rattle.rules.specs.Play.{wrongPick};
-ghost use Rattle.player.specs.Refused.{RefusedAs};
+ghost use Rattle.play_refusals.specs.Refused.{RefusedAs};
 use plan::Checked;
 
 // The lowest pick over 7, or the length.

@@ -9,14 +9,9 @@ use Rattle.format.specs.Refusal.{lowest, refuse}
 use Rattle.plan.specs.Answer.{answered}
 use Rattle.format.proofs.LowestLaws.{whole, whole-none, missed, struck}
 use Rattle.rules.specs.Play.{tooManyPicks, wrongPick, shortArea}
-use Rattle.player.proofs.RefusalChain.{by-plan, by-later}
-use Rattle.player.proofs.refusal.refusal.Statement.{statement}
-use Rattle.player.proofs.refusal.refusal.Tie as tie
-use Rattle.player.proofs.refusal.refusal.Reads as reads
-use Rattle.player.proofs.refusal.refusal.Lts as lts
-use Rattle.plan.proofs.check.Reads as check-reads
-use Rattle.plan.proofs.refused.Reads as refused-reads
-use Rattle.player.proofs.refusal.lowest_wrong_pick.Reads as lowest-wrong-pick-reads
+use Rattle.play_refusals.proofs.RefusalChain.{by-plan, by-later}
+use Rattle.play_refusals.proofs.refusal.Statement.{statement}
+use Rattle.play_refusals.proofs.refusal.Tie as tie
 
 check-requires : tie.Need-check-requires
 check-requires c κs = search needs

@@ -1,0 +1,2 @@
+pub mod RefusalChain
+pub mod Passed
