@@ -14,19 +14,15 @@ pub struct Columns {
     pub spare: usize,
 }
 
-// A byte as a number.
-fn wide(x: u8) -> usize
-    ensures { λ r. ⌜ r ≡ x ⌝ ∗ ⌜ r < 256 ⌝ }
-{
-    x as usize
-}
-
 // The 24 bits of record i.
 fn word_at(log: &[u8], i: usize) -> usize
     requires { ⌜ i < length (now log) / 3 ⌝ }
     ensures { λ r. ⌜ r ≡ bitsAt (now (log .entry)) (24 * i) 24 ⌝ ∗ ⌜ r < 16777216 ⌝ }
 {
-    (wide(log[3 * i]) * 256 + wide(log[3 * i + 1])) * 256 + wide(log[3 * i + 2])
+    let a = byte_numbers::wide(log[3 * i]);
+    let b = byte_numbers::wide(log[3 * i + 1]);
+    let c = byte_numbers::wide(log[3 * i + 2]);
+    (a * 256 + b) * 256 + c
 }
 
 // The columns of record i: kind 4 bits, thread 3, object 5, field 5, value 5, spare 2.

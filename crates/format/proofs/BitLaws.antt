@@ -27,6 +27,11 @@ bits-add l p v (suc w) =
     let m : bitsAt l p v * 2 ^ suc w ≡ bitsAt l p v * 2 ^ w * 2 = rw (pow-suc, mul-assoc) in
     rw add-suc (omega (arith, bits-add l p v w))
 
+-- two fields in a row, as numbers
+pub joined : (l : List ℕ) (p q v w x y : ℕ) → bitsAt l p v ≡ x → bitsAt l q w ≡ y → p + v ≡ q → bitsAt l p (v + w) ≡ x * 2 ^ w + y
+joined l p q v w x y e f h =
+    bits-add l p v w ∙ ap (λ (n : ℕ). n * 2 ^ w + bitsAt l (p + v) w) e ∙ ap (λ (n : ℕ). x * 2 ^ w + bitsAt l n w) h ∙ ap (λ (n : ℕ). x * 2 ^ w + n) f
+
 -- a field of w bits, with r bits after it
 pub field-of : (l : List ℕ) (p v w r : ℕ) → bitsAt l (p + v) w ≡ bitsAt l p (v + w + r) / 2 ^ r % 2 ^ w
 field-of l p v w r =

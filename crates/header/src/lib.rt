@@ -1,5 +1,4 @@
 // Checks 1 to 3: the length, the header and the mask, the procedures.
-pub mod bits; // bits.rt: numbers of two and five bytes
 pub mod layout; // layout.rt: the numbers of the header, of the mask and of the procedures
 
 ghost use mathlib.Core.Path.{_≡_};

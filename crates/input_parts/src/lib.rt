@@ -2,7 +2,6 @@
 ghost use mathlib.Core.Path.{_≡_};
 ghost use mathlib.Core.Bool.{false};
 ghost use Rattle.input_parts.specs.Input.{cutShort, planRead, scheduleRead};
-use header::bits;
 
 // Whether it ends before the plan does, or the length is over 5,192.
 pub fn cut_short(input: &[u8]) -> bool
@@ -11,7 +10,7 @@ pub fn cut_short(input: &[u8]) -> bool
     if input.len() < 2 {
         return true;
     }
-    let length = bits::half(input, 0);
+    let length = byte_numbers::half(input, 0);
     if length > 5192 {
         return true;
     }
@@ -22,7 +21,7 @@ pub fn plan_of(input: &[u8]) -> &[u8]
     requires { ⌜ cutShort (now input) ≡ false ⌝ }
     ensures { λ r. ⌜ now r ≡ planRead (now (input .entry)) ⌝ }
 {
-    let end = 2 + bits::half(input, 0);
+    let end = 2 + byte_numbers::half(input, 0);
     &input[2..end]
 }
 
@@ -30,6 +29,6 @@ pub fn schedule_of(input: &[u8]) -> &[u8]
     requires { ⌜ cutShort (now input) ≡ false ⌝ }
     ensures { λ r. ⌜ now r ≡ scheduleRead (now (input .entry)) ⌝ }
 {
-    let start = 2 + bits::half(input, 0);
+    let start = 2 + byte_numbers::half(input, 0);
     &input[start..]
 }

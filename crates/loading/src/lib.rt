@@ -4,7 +4,6 @@ ghost use mathlib.Core.Path.{_≡_};
 ghost use lib.ListN.{length};
 ghost use Rattle.packed.specs.Format.{procedures, root};
 ghost use Rattle.loading.specs.Loading.{Words, Roots};
-use header::bits;
 use header::layout;
 
 // The words of the first `count` terms.
@@ -15,7 +14,7 @@ pub fn words(plan: &[u8], procs: usize, count: usize) -> [usize; 1024]
     let mut all = [0usize; 1024];
     let mut t = 0;
     while t < count {
-        all[t] = bits::five(plan, 8 + 2 * procs + 5 * t);
+        all[t] = byte_numbers::five(plan, 8 + 2 * procs + 5 * t);
         t += 1;
     }
     all

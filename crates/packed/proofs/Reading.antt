@@ -1,4 +1,4 @@
--- What the bits of a plan say: numbers joined, a part of the plan, the tests of the header and the procedures, and a term as its 40 bits. Assumes nothing.
+-- What the bits of a plan say: a part of the plan, the tests of the header and the procedures, and a term as its 40 bits. Assumes nothing.
 use mathlib.Core.Path.{_≡_, refl, ap, sym, _∙_}
 use mathlib.Core.Bool.{Bool, true, false, _&&_, _||_, not}
 use mathlib.Core.List.{List, [], _∷_}
@@ -11,17 +11,13 @@ use mir.Facts.{and-yes}
 use lib.ListN.{length, take, drop, getD, length-drop}
 use lib.Seq.{take-all}
 use Rattle.format.specs.Bits.{bitsAt}
-use Rattle.format.proofs.BitLaws.{bits-below, bits-add, bits-drop, field-of, first-of}
+use Rattle.format.proofs.BitLaws.{bits-below, bits-drop, field-of, first-of}
 use Rattle.packed.specs.Format.{version, procedures, terms, parameters, root, headerSpare, volatiles, maskBit, fieldsFrom, absent, width, Row, operands, table, layout, Term, laidOut, termBit, tagAt, termAt}
 use Rattle.packed.specs.Refusals.{wrongHeader, wrongProcedure}
 use Rattle.packed.specs.Steps.{wordAt, inWord, termIn}
 use Rattle.packed.proofs.Fields.{onesOf, fields-count}
 
 -- ---- bits
-
-pub joined : (l : List ℕ) (p q v w x y : ℕ) → bitsAt l p v ≡ x → bitsAt l q w ≡ y → p + v ≡ q → bitsAt l p (v + w) ≡ x * 2 ^ w + y
-joined l p q v w x y e f h =
-    bits-add l p v w ∙ ap (λ (n : ℕ). n * 2 ^ w + bitsAt l (p + v) w) e ∙ ap (λ (n : ℕ). x * 2 ^ w + bitsAt l n w) h ∙ ap (λ (n : ℕ). x * 2 ^ w + n) f
 
 -- the bits of the part of a list that starts with byte k
 pub part-bits : (l : List ℕ) (k i w q x : ℕ) → x ≡ bitsAt (take (length l - k) (drop k l)) i w → k * 8 + i ≡ q → x ≡ bitsAt l q w

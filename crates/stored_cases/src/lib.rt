@@ -5,7 +5,6 @@
 // place; how many indices the judge may name, and each; then the log.
 ghost use Prim.Native.Nat.{_+_, _≤_, _<_};
 ghost use lib.ListN.{length};
-use header::bits;
 
 // What every lent area is filled with before a play.
 const FILL: u8 = 165;
@@ -15,7 +14,7 @@ fn refusal_at(case: &[u8], at: usize) -> u64
     requires { ⌜ at + 3 ≤ length (now case) ⌝ }
     ensures { λ r. ⌜ r < 16777216 ⌝ }
 {
-    (bits::wide(case[at]) * 65536 + bits::half(case, at + 1)) as u64
+    (byte_numbers::wide(case[at]) * 65536 + byte_numbers::half(case, at + 1)) as u64
 }
 
 // The end of a part of a case, which is no further than the case's end.
@@ -73,7 +72,7 @@ pub fn check_case(case: &[u8]) -> bool {
     if case.len() < 43 {
         return false;
     }
-    let end = part_end(case, 43, bits::half(case, 0));
+    let end = part_end(case, 43, byte_numbers::half(case, 0));
     let wanted = refusal_at(case, 8);
     let got = ruqzhemil::ruqzhemil_check(&case[43..end]);
     if wanted < 524288 {
@@ -88,15 +87,15 @@ pub fn play_case(case: &[u8]) -> bool {
     if case.len() < 43 {
         return false;
     }
-    let end = part_end(case, 43, bits::half(case, 0));
-    let last = part_end(case, end, bits::half(case, 2));
+    let end = part_end(case, 43, byte_numbers::half(case, 0));
+    let last = part_end(case, end, byte_numbers::half(case, 2));
     let mut area = [FILL; 16384];
     let mut out = [FILL; 32];
     let got = play_in(
         &case[43..end],
         &case[end..last],
         &mut area,
-        bits::half(case, 4),
+        byte_numbers::half(case, 4),
         &mut out,
     );
     (got == refusal_at(case, 8)) & same_bytes(&out, &case[11..43]) & begins(&area, &case[last..])
@@ -107,9 +106,9 @@ pub fn run_case(case: &[u8]) -> bool {
     if case.len() < 43 {
         return false;
     }
-    let end = part_end(case, 43, bits::half(case, 0));
-    let last = part_end(case, end, bits::half(case, 2));
-    let wanted = bits::half(case, 6) as u64;
+    let end = part_end(case, 43, byte_numbers::half(case, 0));
+    let last = part_end(case, end, byte_numbers::half(case, 2));
+    let wanted = byte_numbers::half(case, 6) as u64;
     let got = ruqzhemil::ruqzhemil_judge(&case[last..]);
     if wanted == 0 {
         got == 0
@@ -123,7 +122,7 @@ fn listed(indices: &[u8], got: u64) -> bool {
     let mut k = 0;
     let mut found = false;
     while k < indices.len() / 2 {
-        found = found | (4294967296 + bits::half(indices, 2 * k) as u64 == got);
+        found = found | (4294967296 + byte_numbers::half(indices, 2 * k) as u64 == got);
         k += 1;
     }
     found
@@ -134,7 +133,7 @@ pub fn log_case(case: &[u8]) -> bool {
     if case.len() < 5 {
         return false;
     }
-    let end = part_end(case, 5, 2 * bits::half(case, 3));
+    let end = part_end(case, 5, 2 * byte_numbers::half(case, 3));
     let wanted = refusal_at(case, 0);
     let got = ruqzhemil::ruqzhemil_judge(&case[end..]);
     if wanted != 0 {

@@ -1,5 +1,4 @@
 // The 40 bits of a term, and where its tag and its operands stand in them.
-use header::bits;
 ghost use mathlib.Core.Path.{_≡_};
 ghost use Prim.Native.Nat.{_+_, _*_, _≤_};
 ghost use lib.ListN.{length};
@@ -36,5 +35,5 @@ pub fn word_at(plan: &[u8], procs: usize, t: usize) -> usize
     requires { ⌜ (procs ≡ procedures (now plan)) × (8 + 2 * procs + 5 * t + 5 ≤ length (now plan)) ⌝ }
     ensures { λ r. ⌜ r ≡ wordAt (now (plan .entry)) t ⌝ }
 {
-    bits::five(plan, 8 + 2 * procs + 5 * t)
+    byte_numbers::five(plan, 8 + 2 * procs + 5 * t)
 }

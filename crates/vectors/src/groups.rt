@@ -1,6 +1,5 @@
 // The cases of a file, each behind its length of two bytes, and how many of them differ.
 ghost use Prim.Native.Nat.{_≤_};
-use header::bits;
 
 pub enum Group {
     Check,
@@ -55,7 +54,7 @@ fn next_case(fd: i32, group: Group) -> Next {
     if got == 1 {
         return Next::Wrong;
     }
-    read_case(fd, group, bits::half(&head, 0))
+    read_case(fd, group, byte_numbers::half(&head, 0))
 }
 
 // The tally of a file of the current folder, of no more than a million cases. A file that cannot be read counts as a case that differs.

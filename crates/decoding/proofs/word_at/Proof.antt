@@ -69,16 +69,16 @@ word-at-spec =
     mul-wide
     shared-slice-read-wide
     wide-requires
-    mul-result
     mul-wide-2
     add-wide
     shared-slice-read-wide-2
     wide-requires-2
-    add-result
-    mul-result-2
     mul-wide-3
     add-wide-2
     shared-slice-read-wide-3
     wide-requires-3
+    mul-result
+    add-result
+    mul-result-2
     add-result-2
     returns)

@@ -2,11 +2,10 @@
 use mathlib.Core.Path.{sym, _∙_}
 use Prim.Native.Nat.{_+_, _*_}
 use native.Mathlib.Omega.{arith}
-use Rattle.packed.proofs.Reading.{joined}
-use Rattle.format.proofs.BitLaws.{byte-at}
+use Rattle.format.proofs.BitLaws.{byte-at, joined}
 use borrow.Author.Needs.{needs}
-use Rattle.header.proofs.bits.five.Statement.{statement}
-use Rattle.header.proofs.bits.five.Tie as tie
+use Rattle.byte_numbers.proofs.five.Statement.{statement}
+use Rattle.byte_numbers.proofs.five.Tie as tie
 
 quad-requires : tie.Need-quad-requires
 quad-requires c κs = search needs

@@ -2,10 +2,10 @@
 use mathlib.Core.Path.{sym}
 use Prim.Native.Nat.{_+_, _*_}
 use native.Mathlib.Omega.{arith}
-use Rattle.packed.proofs.Reading.{joined}
+use Rattle.format.proofs.BitLaws.{joined}
 use borrow.Author.Needs.{needs}
-use Rattle.header.proofs.bits.quad.Statement.{statement}
-use Rattle.header.proofs.bits.quad.Tie as tie
+use Rattle.byte_numbers.proofs.quad.Statement.{statement}
+use Rattle.byte_numbers.proofs.quad.Tie as tie
 
 half-requires : tie.Need-half-requires
 half-requires c κs = search needs

@@ -2,12 +2,11 @@
 use mathlib.Core.Path.{sym}
 use Prim.Native.Nat.{ℕ, _+_, _*_, _<_}
 use native.Mathlib.Omega.{arith}
-use Rattle.packed.proofs.Reading.{joined}
-use Rattle.format.proofs.BitLaws.{byte-at}
+use Rattle.format.proofs.BitLaws.{byte-at, joined}
 use lib.ListN.{getD}
 use borrow.Author.Needs.{needs}
-use Rattle.header.proofs.bits.half.Statement.{statement}
-use Rattle.header.proofs.bits.half.Tie as tie
+use Rattle.byte_numbers.proofs.half.Statement.{statement}
+use Rattle.byte_numbers.proofs.half.Tie as tie
 
 shared-slice-read-wide : tie.Need-shared-slice-read-wide
 shared-slice-read-wide c = search needs
