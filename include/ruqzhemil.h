@@ -1,8 +1,8 @@
 /* Ruqzhemil: a verified checker of plans for relay test sets, as a static library.
  *
  * Each function takes any bytes, has no other condition, and returns the number that crates/numbers/specs/Numbers defines, with the bytes of
- * crates/outcome_bytes/specs/Bytes; the proofs of crates/ruqzhemil show it for every input. Functions keep no state between calls, have no global state and allocate nothing, so threads may
- * call them at the same time on areas of their own.
+ * crates/outcome_bytes/specs/Bytes; the proofs of crates/ruqzhemil show it for every input. Functions keep no state between calls, have no
+ * global state and allocate nothing, so threads may call them at the same time on areas of their own.
  *
  * No pointer is null, even where its length is 0. The areas of one call do not overlap, and no other thread writes to them meanwhile.
  *
