@@ -31,22 +31,24 @@ pub fn judge(log: &[u8]) -> u64 {
 fn bytes(outcome: &Outcome) -> [u8; 32] {
     let mut out = [0; 32];
     out[0] = outcome.word;
-    for (i, count) in [outcome.picks, outcome.moves, outcome.records].into_iter().enumerate() {
-        out[1 + 2 * i] = (count >> 8) as u8;
-        out[2 + 2 * i] = count as u8;
-    }
+    out[1..3].copy_from_slice(&(outcome.picks as u16).to_be_bytes());
+    out[3..5].copy_from_slice(&(outcome.moves as u16).to_be_bytes());
+    out[5..7].copy_from_slice(&(outcome.records as u16).to_be_bytes());
     for (t, state) in outcome.states.into_iter().enumerate() {
-        let three = match state {
-            State::Absent => [0, 0, 0],
-            State::Finished(value) => [1, value, 0],
-            State::Ready => [2, 0, 0],
-            State::WaitMonitor(object) => [3, object, 0],
-            State::WaitJoin(object) => [4, object, 0],
-            State::StuckField(object, field) => [5, object, field],
-            State::StuckThread(object) => [6, object, 0],
-            State::Lacking(object, field) => [7, object, field],
-        };
-        out[8 + 3 * t..11 + 3 * t].copy_from_slice(&three);
+        out[8 + 3 * t..11 + 3 * t].copy_from_slice(&thread_bytes(state));
     }
     out
+}
+
+fn thread_bytes(state: State) -> [u8; 3] {
+    match state {
+        State::Absent => [0, 0, 0],
+        State::Finished(value) => [1, value, 0],
+        State::Ready => [2, 0, 0],
+        State::WaitMonitor(object) => [3, object, 0],
+        State::WaitJoin(object) => [4, object, 0],
+        State::StuckField(object, field) => [5, object, field],
+        State::StuckThread(object) => [6, object, 0],
+        State::Lacking(object, field) => [7, object, field],
+    }
 }

@@ -134,18 +134,17 @@ fn actions(random: &mut Random, depth: usize) -> Tree {
     (0..more).fold(action(random, depth), |then, _| sequence(action(random, depth), then))
 }
 
+/// Actions, after some of the joins of the threads in slots 2 and on.
+fn joins(random: &mut Random, threads: usize) -> Tree {
+    let body = actions(random, 0);
+    (0..threads).fold(body, |then, t| if random.percent(40) { sequence(join(var(2 + t as u32)), then) } else { then })
+}
+
 /// Threads, up to eight and now and then more, that work on two shared objects and little else: many orderings, races and long logs.
 pub fn shared(random: &mut Random) -> Vec<u8> {
     let threads = random.below(9);
-    let mut body = actions(random, 0);
-    for t in 0..threads.min(6) {
-        if random.percent(40) {
-            body = sequence(join(var(2 + t as u32)), body);
-        }
-    }
-    for t in 0..threads {
-        body = bind(if t < 6 { 2 + t as u32 } else { 15 }, fork(actions(random, 0)), body);
-    }
+    let joined = joins(random, threads.min(6));
+    let body = (0..threads).fold(joined, |then, t| bind(if t < 6 { 2 + t as u32 } else { 15 }, fork(actions(random, 0)), then));
     let main = bind(0, plans::new(&[1, 2, 3]), bind(1, plans::new(&[1, 2, 3]), body));
     packed(MONITOR | 1 << 29 | if random.percent(30) { 1 << 28 } else { 0 }, &[(0, main)])
 }

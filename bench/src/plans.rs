@@ -94,8 +94,8 @@ pub enum Order {
     Mixed,
 }
 
-/// The packed plan. `random` is asked only where the order is mixed.
-pub fn pack(mask: u32, procedures: &[Procedure], order: Order, random: &mut Random) -> Vec<u8> {
+/// The 40 bits of each term and the root of each procedure. `random` is asked only where the order is mixed.
+fn numbered(procedures: &[Procedure], order: Order, random: &mut Random) -> (Vec<u64>, Vec<usize>) {
     let mut words: Vec<u64> = vec![];
     let mut roots = vec![0; procedures.len()];
     // what is still to be numbered, with the parent's term and the bits where its number goes, or the procedure whose root it is
@@ -116,13 +116,17 @@ pub fn pack(mask: u32, procedures: &[Procedure], order: Order, random: &mut Rand
         words.push(u64::from(x.tag) << 35 | u64::from(x.small) << small);
         left.extend(x.kids.iter().zip(kids).rev().map(|(k, bits)| (k, Some(number), *bits)));
     }
+    (words, roots)
+}
+
+/// The packed plan. `random` is asked only where the order is mixed.
+pub fn pack(mask: u32, procedures: &[Procedure], order: Order, random: &mut Random) -> Vec<u8> {
+    let (words, roots) = numbered(procedures, order, random);
     let header = 1 << 28 | (procedures.len() as u32 & 63) << 22 | (words.len() as u32 & 4095) << 10;
     let mut plan = header.to_be_bytes().to_vec();
     plan.extend(mask.to_be_bytes());
-    for (p, root) in roots.iter().enumerate() {
-        plan.extend(((procedures[p].0 as u16 & 15) << 12 | *root as u16 & 4095).to_be_bytes());
-    }
-    words.iter().for_each(|w| plan.extend(&w.to_be_bytes()[3..]));
+    plan.extend(procedures.iter().zip(roots).flat_map(|((parameters, _), root)| ((*parameters as u16 & 15) << 12 | root as u16 & 4095).to_be_bytes()));
+    plan.extend(words.iter().flat_map(|word| word.to_be_bytes().into_iter().skip(3)));
     plan
 }
 

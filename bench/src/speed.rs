@@ -23,14 +23,18 @@ fn best<const N: usize>(mut entries: [Entry; N]) -> [f64; N] {
         (100_000 / (began.elapsed().as_nanos() as usize + 1)).clamp(1, 200)
     });
     let mut best = [f64::MAX; N];
-    for _ in 0..ROUNDS {
-        for (i, entry) in entries.iter_mut().enumerate() {
-            let began = Instant::now();
-            (0..repeats[i]).for_each(|_| entry());
-            best[i] = best[i].min(began.elapsed().as_nanos() as f64 / repeats[i] as f64);
-        }
+    for round in 0..ROUNDS * N {
+        let i = round % N;
+        best[i] = best[i].min(mean(&mut entries[i], repeats[i]));
     }
     best
+}
+
+/// Nanoseconds of one of many calls.
+fn mean(entry: &mut Entry, repeats: usize) -> f64 {
+    let began = Instant::now();
+    (0..repeats).for_each(|_| entry());
+    began.elapsed().as_nanos() as f64 / repeats as f64
 }
 
 /// Two times in some unit, ours and theirs, and their ratio.

@@ -43,11 +43,15 @@ static void judge(const uint8_t *log, size_t length) {
     }
 }
 
+static void picks_line(const uint8_t *schedule, size_t picks) {
+    printf("picks");
+    for (size_t i = 0; i < picks; i++) printf(" %u", schedule[i]);
+}
+
 static void play(const uint8_t *schedule, size_t picks) {
     uint8_t log[21] = {0}, out[32];
     uint64_t refusal = ruqzhemil_play(plan, sizeof plan, schedule, picks, log, sizeof log, out);
-    printf("picks");
-    for (size_t i = 0; i < picks; i++) printf(" %u", schedule[i]);
+    picks_line(schedule, picks);
     if (refusal != 0) {
         printf(": refused %u %u\n", RUQZHEMIL_NUMBER(refusal), RUQZHEMIL_PLACE(refusal));
         return;
