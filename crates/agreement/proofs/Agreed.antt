@@ -2,6 +2,7 @@
 use Prim.Native.Nat.{ℕ, _-_, _<_, _≤_}
 use native.Mathlib.Omega.{arith}
 use mathlib.Core.Path.{_≡_, refl, sym, ap, _∙_, subst as along}
+use mathlib.Core.Bool.{true≢false}
 use mathlib.Core.List.{List}
 use mathlib.Core.Logic.{_↔_, Iff·symm, Iff·trans}
 use mathlib.Core.Option.{Option, some, none}
@@ -42,8 +43,8 @@ module _ (v : Version) (r : Run) (n : LastLacks (r .stop) (r .log))
   stopped-there j u = lacks-stopped r n j (u .access) (u .at-j) .0 (exact j (u .access) (u .at-j) (u .plain) .1 u)
 
   named-stop : (a : Option ℕ) → MayName v (r .log) a → (e : Stop) → r .stop ≡ e → LastLacks e (r .log) → a ≡ stopIndex e (length (r .log))
-  named-stop (some j) (names u) end q m = absurd (let y : end ≡ race = sym q ∙ stopped-there j u .raced in let z : _≡_ {A = ℕ} 0 1 = cc in omega arith)
-  named-stop (some j) (names u) (noRoom k) q m = absurd (let y : noRoom k ≡ race = sym q ∙ stopped-there j u .raced in let z : _≡_ {A = ℕ} 0 1 = cc in omega arith)
+  named-stop (some j) (names u) end q m = absurd (let y : end ≡ race = sym q ∙ stopped-there j u .raced in true≢false cc)
+  named-stop (some j) (names u) (noRoom k) q m = absurd (let y : noRoom k ≡ race = sym q ∙ stopped-there j u .raced in true≢false cc)
   named-stop (some j) (names u) race q m = let b = stopped-there j u .is-last in ap {B = Option ℕ} some (omega arith)
   named-stop none (none-unordered f) end q m = refl
   named-stop none (none-unordered f) (noRoom k) q m = refl
@@ -66,7 +67,7 @@ module _ (v : Version) (r : Run) (n : LastLacks (r .stop) (r .log))
   judged-bytes w c a = (only a, λ e. along (MayAnswer v (bytesOf (r .log))) (sym e) (judges c (along (λ (L : List Record). MayName v L (stopIndex (r .stop) (length (r .log)))) (sym w) may-stop)))
     where
       only : (a : Judged) → MayAnswer v (bytesOf (r .log)) a → a ≡ named (stopIndex (r .stop) (length (r .log)))
-      only (Judged.refused x) (refuses e) = absurd (let z : _≡_ {A = ℕ} 0 1 = cc in omega arith)
+      only (Judged.refused x) (refuses e) = absurd (true≢false cc)
       only (Judged.named a) (judges e m) = ap named (named-only a (along (λ (L : List Record). MayName v L a) w m))
 
 -- ---- runs

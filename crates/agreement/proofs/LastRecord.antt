@@ -2,7 +2,7 @@
 use Prim.Native.Nat.{ℕ, zero, suc, _<_}
 use native.Mathlib.Omega.{arith}
 use mathlib.Core.Path.{_≡_, refl, sym, ap, _∙_, subst as along}
-use mathlib.Core.Bool.{not}
+use mathlib.Core.Bool.{not, true≢false}
 use mathlib.Core.List.{List, [], _∷_}
 use mathlib.Core.Logic.{_↔_}
 use mathlib.Core.Option.{Option, some, none}
@@ -58,11 +58,11 @@ LastLacks (noRoom k) L = (j : ℕ) (x : Record) → At L j x → T (lacksKey (x 
 LastLacks race L = (0 < length L) × ((j : ℕ) (x : Record) → At L j x → T (lacksKey (x .kind)) ↔ (suc j ≡ length L))
 
 none-in-empty : (j : ℕ) (x : Record) → At [] j x → T (lacksKey (x .kind)) → ⊥
-none-in-empty j x h k = let z : _≡_ {A = ℕ} 0 1 = cc in omega arith
+none-in-empty j x h k = true≢false cc
 
 only-one : (r : Record) → T (lacksKey (r .kind)) → (j : ℕ) (x : Record) → At (r ∷ []) j x → T (lacksKey (x .kind)) ↔ (suc j ≡ 1)
 only-one r k zero x h = let e : r ≡ x = cc in (λ q. refl, λ q. along (λ (y : Record). T (lacksKey (y .kind))) e k)
-only-one r k (suc j) x h = absurd (let z : _≡_ {A = ℕ} 0 1 = cc in omega arith)
+only-one r k (suc j) x h = absurd (true≢false cc)
 
 not-first : (r x : Record) (L : List Record) → T (not (lacksKey (r .kind))) → At (r ∷ L) 0 x → T (lacksKey (x .kind)) → ⊥
 not-first r x L c h k = let e : r ≡ x = cc in T-not (lacksKey (r .kind)) c (along (λ (y : Record). T (lacksKey (y .kind))) (sym e) k)
@@ -94,7 +94,7 @@ last-lacks (moves {r = r} {e = e} h k x) = last-logged e (r .stop) (r .log) (com
 
 last-one : (r x : Record) (j : ℕ) → At (r ∷ []) j x → r ≡ x
 last-one r x zero h = cc
-last-one r x (suc j) h = absurd (let z : _≡_ {A = ℕ} 0 1 = cc in omega arith)
+last-one r x (suc j) h = absurd (true≢false cc)
 
 in-logged : (e : Option Record) (L : List Record) (j : ℕ) (x : Record) → 0 < length L → At (logged e L) j x → suc j ≡ length (logged e L) → (i : ℕ) × At L i x × (suc i ≡ length L)
 unfolding logged
@@ -109,10 +109,10 @@ some-logged x q = (rw q at (last-lacks x)) .0
 pub last-access : {g : Program} {s : State} {ps : List ℕ} {r : Run} → Execution g s ps r → r .stop ≡ race → (j : ℕ) (x : Record) → At (r .log) j x → suc j ≡ length (r .log)
     → (p : ℕ) × (getElem? ps (r .picks) ≡ some p) × Lacks g (r .final) p x
 unfolding stopped afterPass afterMove
-last-access ends q j x h l = absurd (let z : _≡_ {A = ℕ} 0 1 = cc in omega arith)
+last-access ends q j x h l = absurd (true≢false cc)
 last-access (passes o y) q j x h l = last-access y q j x h l
 last-access {g} (lacks-key {s} {p} {e = e} k) q j x h l = (p, refl, along (Lacks g s p) (last-one e x j h) k)
-last-access (no-room m k) q j x h l = absurd (let z : _≡_ {A = ℕ} 0 1 = cc in omega arith)
+last-access (no-room m k) q j x h l = absurd (true≢false cc)
 last-access (moves {r = r} {e = e} m k y) q j x h l = let i = in-logged e (r .log) j x (some-logged y q) h l in last-access y q (i .0) x (i .1) (i .2)
 
 -- ---- the stop
@@ -125,8 +125,8 @@ pub lacks-stopped : (r : Run) → LastLacks (r .stop) (r .log) → (j : ℕ) (x 
 lacks-stopped r n j x h = go (r .stop) refl n
   where
     go : (e : Stop) → r .stop ≡ e → LastLacks e (r .log) → T (lacksKey (x .kind)) ↔ StoppedAt r j
-    go end q n = (λ k. absurd (n j x h k), λ st. let y : end ≡ race = sym q ∙ st .raced in absurd (let z : _≡_ {A = ℕ} 0 1 = cc in omega arith))
-    go (noRoom k) q n = (λ l. absurd (n j x h l), λ st. let y : noRoom k ≡ race = sym q ∙ st .raced in absurd (let z : _≡_ {A = ℕ} 0 1 = cc in omega arith))
+    go end q n = (λ k. absurd (n j x h k), λ st. let y : end ≡ race = sym q ∙ st .raced in absurd (true≢false cc))
+    go (noRoom k) q n = (λ l. absurd (n j x h l), λ st. let y : noRoom k ≡ race = sym q ∙ st .raced in absurd (true≢false cc))
     go race q n = (λ k. record { raced = q; is-last = n .1 j x h .0 k }, λ st. n .1 j x h .1 (st .is-last))
 
 pub race-recorded : (r : Run) → LastLacks (r .stop) (r .log) → r .stop ≡ race → 0 < length (r .log)

@@ -1,10 +1,10 @@
 -- A thread's look and act, found by its cell's number; the threads at the end, seen one after the other. Assumes nothing.
 use mathlib.Core.Path.{_≡_, refl}
 use mathlib.Core.List.{List}
-use Prim.Native.Nat.{ℕ, zero, suc, _+_, _-_, _/_, _%_, _<_, _≤_}
-use native.Mathlib.Omega.{arith}
+use Prim.Native.Nat.{ℕ, _/_, _%_, _<_, _≤_}
 use borrow.Author.Tests.{le-leb, lt-leb}
 use lib.ListN.{getD, set, replicate}
+use Rattle.format.proofs.Turns.{turns}
 use Rattle.state.specs.declared.Head.{Head}
 use Rattle.state.specs.declared.Cell.{Cell}
 use Rattle.state.specs.declared.Object.{Object}
@@ -40,19 +40,10 @@ module _ (mask : ℕ) (n : Counts) (l : List Head) (cs : List Cell) (ts : List O
   unfolding lookAt
   absent p h = rw (le-leb _ _ h)
 
-  -- the next threads, as many as are left, put at their numbers
-  unfoldable pub seenFrom : ℕ → ℕ → List Seen → List Seen
-  seenFrom zero p all = all
-  seenFrom (suc left) p all = seenFrom left (p + 1) (set all p (seenAt mask n l cs ts p))
+  -- a thread put at its number
+  abbrev pub putSeen : ℕ → List Seen → List Seen
+  putSeen p all = set all p (seenAt mask n l cs ts p)
 
-  pub all-seen : seenFrom 8 0 (replicate 8 noneSeen) ≡ seenOf mask n l cs ts
-  unfolding seenFrom seenOf
+  pub all-seen : turns putSeen 8 0 (replicate 8 noneSeen) ≡ seenOf mask n l cs ts
+  unfolding turns seenOf
   all-seen = refl
-
-  pub one-more : (p : ℕ) (all : List Seen) → p < 8 → seenFrom (8 - p) p all ≡ seenFrom (8 - (p + 1)) (p + 1) (set all p (seenAt mask n l cs ts p))
-  unfolding seenFrom
-  one-more p all h = let q : 8 - p ≡ suc (8 - (p + 1)) = omega arith in rw q
-
-  pub none-left : (p : ℕ) (all : List Seen) → 8 - p ≡ 0 → seenFrom (8 - p) p all ≡ all
-  unfolding seenFrom
-  none-left p all q = rw q

@@ -1,3 +1,6 @@
 pub mod BitLaws
 pub mod RefusalLaws
 pub mod LowestLaws
+pub mod Filled
+pub mod Turns
+pub mod Ranges

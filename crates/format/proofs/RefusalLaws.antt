@@ -4,20 +4,23 @@ use native.Mathlib.Decide.{ℕ-discrete}
 use native.Mathlib.Omega.{arith}
 use mathlib.Core.Logic.{_↔_}
 use mathlib.Core.Path.{_≡_, refl, ap, sym, subst, _∙_}
-use mathlib.Core.Bool.{Bool, true, false, cond, _||_, true≢false}
+use mathlib.Core.Bool.{Bool, true, false, cond, _||_}
 use mathlib.Core.List.{List, [], _∷_, _++_}
-use mathlib.Core.Option.{Option, some, none, orElse}
+use mathlib.Core.Option.{Option, some, none, orElse, Option·none-ne-some}
 use Rattle.format.specs.Refusal.{Refusal, Check, lowest, refuse, firstRefusal}
 
--- ---- tests
+-- ---- two tests, two answers
 
 -- two tests of which none passes
 pub neither : (x y : Bool) → (x || y) ≡ false → (x ≡ false) × (y ≡ false)
 neither true y h = (h, cc)
 neither false y h = (refl, h)
 
-unlike : {A : Type 0} {B : Type 0} {x : A} → _≡_ {A = Option A} none (some x) → B
-unlike h = absurd (true≢false cc)
+-- two answers that are both none
+pub both-none : {A : Type 0} (x y : Option A) → orElse x y ≡ none → (x ≡ none) × (y ≡ none)
+unfolding orElse
+both-none none y e = (refl, e)
+both-none (some w) y e = absurd (Option·none-ne-some w (sym e))
 
 -- ---- the lowest place
 
@@ -41,8 +44,8 @@ lowest-none f zero h j q = absurd (omega arith)
 lowest-none f (suc n) h j q = go (λ e p. lowest-none f n e j p) (lowest f n) refl (f n) refl h
   where
     go : (lowest f n ≡ none → j < n → f j ≡ false) → (o : Option ℕ) → lowest f n ≡ o → (x : Bool) → f n ≡ x → orElse o (cond x (some n) none) ≡ none → f j ≡ false
-    go i (some k) e x g w = unlike (sym w)
-    go i none e true g w = unlike (sym w)
+    go i (some k) e x g w = absurd (Option·none-ne-some _ (sym w))
+    go i none e true g w = absurd (Option·none-ne-some _ (sym w))
     go i none e false g w = pick (ℕ-discrete j n)
       where
         pick : Dec (j ≡ n) → f j ≡ false
@@ -51,14 +54,14 @@ lowest-none f (suc n) h j q = go (λ e p. lowest-none f n e j p) (lowest f n) re
 
 pub lowest-some : (f : ℕ → Bool) (n i : ℕ) → lowest f n ≡ some i → (i < n) × (f i ≡ true) × ((j : ℕ) → j < i → f j ≡ false)
 unfolding lowest orElse
-lowest-some f zero i h = unlike h
+lowest-some f zero i h = absurd (Option·none-ne-some _ h)
 lowest-some f (suc n) i h = go (lowest-some f n i) (lowest f n) refl (f n) refl h
   where
     go : (lowest f n ≡ some i → (i < n) × (f i ≡ true) × ((j : ℕ) → j < i → f j ≡ false)) → (o : Option ℕ) → lowest f n ≡ o → (x : Bool) → f n ≡ x
         → orElse o (cond x (some n) none) ≡ some i → (i < suc n) × (f i ≡ true) × ((j : ℕ) → j < i → f j ≡ false)
     go r (some k) e x g w = let z = r (e ∙ w) in (omega (arith, z .0), z .1, z .2)
     go r none e true g w = let q : n ≡ i = cc in (omega arith, ap f (sym q) ∙ g, λ j p. lowest-none f n e j (omega arith))
-    go r none e false g w = unlike w
+    go r none e false g w = absurd (Option·none-ne-some _ w)
 
 -- ---- refusals as relations
 
@@ -92,7 +95,7 @@ tail-pass (and-then p q) = q
 
 to-first : (cs : List Check) (r : Refusal) → firstRefusal cs ≡ some r → First cs r
 unfolding firstRefusal refuse
-to-first [] r h = unlike h
+to-first [] r h = absurd (Option·none-ne-some _ h)
 to-first (c ∷ cs) r h = go (to-first cs r) (lowest (c .wrong) (c .places)) refl h
   where
     go : (firstRefusal cs ≡ some r → First cs r) → (o : Option ℕ) → lowest (c .wrong) (c .places) ≡ o → refuse (c .number) o (firstRefusal cs) ≡ some r → First (c ∷ cs) r
@@ -114,7 +117,7 @@ to-pass (c ∷ cs) h = go (to-pass cs) (lowest (c .wrong) (c .places)) refl h
   where
     go : (firstRefusal cs ≡ none → AllPass cs) → (o : Option ℕ) → lowest (c .wrong) (c .places) ≡ o → refuse (c .number) o (firstRefusal cs) ≡ none → AllPass (c ∷ cs)
     go i none e w = and-then (record { right = lowest-none (c .wrong) (c .places) e }) (i w)
-    go i (some k) e w = unlike (sym w)
+    go i (some k) e w = absurd (Option·none-ne-some _ (sym w))
 
 of-pass : {cs : List Check} → AllPass cs → firstRefusal cs ≡ none
 unfolding firstRefusal refuse

@@ -21,7 +21,7 @@ use Rattle.order.proofs.Judge.{unorderedAt, unordered-decided}
 use Rattle.clocks.specs.Rows.{clockOf, OneEach, Few}
 use Rattle.clocks.specs.declared.Row.{Row}
 use Rattle.effects.specs.declared.writes.Write.{Write}
-use Rattle.clocks.proofs.Filled.{zeros}
+use Rattle.format.proofs.Filled.{repeated, zeros}
 use Rattle.judge.proofs.Table.{rowAt, Shows}
 use Rattle.judge.proofs.PortTable.{rowOf}
 
@@ -48,19 +48,14 @@ pub record Going (v : Version) (b : List ℕ) (i : ℕ) (rows : List Row) (write
 
 -- ---- the start
 
-same-rows : {A : Type 0} (n j : ℕ) (x d : A) (P : A → Type 0) → P x → P d → P (getD (replicate n x) j d)
-same-rows zero j x d P p q = q
-same-rows (suc n) zero x d P p q = p
-same-rows (suc n) (suc j) x d P p q = same-rows n j x d P p q
-
 pub going-start : (v : Version) (b : List ℕ) → Going v b 0 (replicate 1064 (record { clocks = replicate 8 0 })) (replicate 1024 noWrite)
 unfolding Shows
 going-start v b =
     record {
       rows-long = length-replicate {A = Row} 1064 (record { clocks = replicate 8 0 });
       writes-long = length-replicate {A = Write} 1024 noWrite;
-      shows = λ p vp u h. rw (past-zero (logOf b)) (same-rows 1064 (rowOf p) (record { clocks = replicate 8 0 }) (record { clocks = [] }) (λ (r : Row). clockOf r u ≡ 0) (zeros 8 u) refl);
-      last-writes = λ o f h k. rw (past-zero (logOf b)) (same-rows 1024 (o * 32 + f) noWrite noWrite (λ (w : Write). w ≡ noWrite) refl refl);
+      shows = λ p vp u h. rw (past-zero (logOf b)) (repeated 1064 (rowOf p) (record { clocks = replicate 8 0 }) (record { clocks = [] }) (λ (r : Row). clockOf r u ≡ 0) (zeros 8 u) refl);
+      last-writes = λ o f h k. rw (past-zero (logOf b)) (repeated 1024 (o * 32 + f) noWrite noWrite (λ (w : Write). w ≡ noWrite) refl refl);
       last-threads = λ o f. rw (past-zero (logOf b)) (omega arith);
       none-late = λ j h. absurd (omega arith);
     }

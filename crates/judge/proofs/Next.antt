@@ -13,7 +13,7 @@ use borrow.Author.Tests.{eq-eqb, eqb-true, eqb-false}
 use Rattle.format.specs.Version.{Version}
 use Rattle.records.specs.Record.{Record, kindNumber}
 use Rattle.records.specs.Packed.{recordAt, logOf}
-use Rattle.records.proofs.Tidy.{number-back}
+use Rattle.records.proofs.KindNumbers.{number-back}
 use Rattle.order.proofs.Tests.{cond-true}
 use Rattle.order.proofs.Clock.{count}
 use Rattle.order.proofs.Late.{lastThread, isWriteOf, isWriteOf→}

@@ -1,5 +1,5 @@
 -- What the tests of refusal 12 mean. Assumes nothing.
-use Prim.Native.Nat.{ℕ, zero, suc, _+_, _/_, _<_, _≤_}
+use Prim.Native.Nat.{ℕ, _+_, _/_, _<_, _≤_}
 use native.Mathlib.Omega.{arith}
 use native.Mathlib.Numerals.{add-one}
 use native.Mathlib.Decide.{decLt}
@@ -12,30 +12,24 @@ use borrow.Author.Tests.{eq-eqb, ne-eqb, lt-ltb}
 use Rattle.records.specs.Packed.{kindOf, recordCount}
 use Rattle.records.specs.Refusals.{wrongColumns, wrongRecord}
 use Rattle.records.proofs.Accepted.{wrong-record}
+use Rattle.records.proofs.KindNumbers.{by-kind}
 use Rattle.decoding.specs.Columns.{ReadAt}
 use Rattle.decoding.specs.declared.Columns.{Columns}
 use Rattle.decoding.proofs.Decoded.{kind-is-kind}
 
 -- ---- the columns of a kind
 
-pub columns-are : (k f v : ℕ) → 0 < k → k ≤ 11
-    → (((ltb 1 k && ltb k 6 || ltb 9 k) && eqb f 0) || ((eqb k 8 || eqb k 9) && ltb 7 f) || ((eqb k 1 || eqb k 6 || eqb k 7) && not (eqb f 0))
-    || ((eqb k 1 || eqb k 6 || eqb k 7 || eqb k 8 || eqb k 10) && not (eqb v 0)))
-    ≡ wrongColumns (kindOf k) f v
+-- what the code tests of a kind's columns
+abbrev pub columnsTest : ℕ → ℕ → ℕ → Bool
+columnsTest k f v =
+    ((ltb 1 k && ltb k 6 || ltb 9 k) && eqb f 0) || ((eqb k 8 || eqb k 9) && ltb 7 f) || ((eqb k 1 || eqb k 6 || eqb k 7) && not (eqb f 0))
+    || ((eqb k 1 || eqb k 6 || eqb k 7 || eqb k 8 || eqb k 10) && not (eqb v 0))
+
+pub columns-are : (f v k : ℕ) → 0 < k → k ≤ 11 → columnsTest k f v ≡ wrongColumns (kindOf k) f v
 unfolding kindOf
-columns-are zero f v p q = absurd (omega arith)
-columns-are (suc zero) f v p q = refl
-columns-are (suc (suc zero)) f v p q = simp or-false
-columns-are (suc (suc (suc zero))) f v p q = simp or-false
-columns-are (suc (suc (suc (suc zero)))) f v p q = simp or-false
-columns-are (suc (suc (suc (suc (suc zero))))) f v p q = simp or-false
-columns-are (suc (suc (suc (suc (suc (suc zero)))))) f v p q = refl
-columns-are (suc (suc (suc (suc (suc (suc (suc zero))))))) f v p q = refl
-columns-are (suc (suc (suc (suc (suc (suc (suc (suc zero)))))))) f v p q = simp or-false
-columns-are (suc (suc (suc (suc (suc (suc (suc (suc (suc zero))))))))) f v p q = simp or-false
-columns-are (suc (suc (suc (suc (suc (suc (suc (suc (suc (suc zero)))))))))) f v p q = simp or-false
-columns-are (suc (suc (suc (suc (suc (suc (suc (suc (suc (suc (suc zero))))))))))) f v p q = simp or-false
-columns-are (suc (suc (suc (suc (suc (suc (suc (suc (suc (suc (suc (suc k)))))))))))) f v p q = absurd (omega arith)
+columns-are f v =
+    by-kind (λ k. columnsTest k f v ≡ wrongColumns (kindOf k) f v)
+    refl (simp or-false) (simp or-false) (simp or-false) (simp or-false) refl refl (simp or-false) (simp or-false) (simp or-false) (simp or-false)
 
 -- ---- a record
 

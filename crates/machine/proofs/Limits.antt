@@ -15,7 +15,8 @@ use Rattle.rules.specs.State.{Cell, cell}
 use Rattle.rules.specs.Rules.{Rule, e-new, e-write, e-fork}
 use Rattle.rules.specs.Room.{Room}
 use Rattle.rules.proofs.StateLaws.{added-old, length-added, change-other, change-length}
-use Rattle.rules.proofs.RoomLaws.{room-for, both-none}
+use Rattle.format.proofs.RefusalLaws.{both-none}
+use Rattle.rules.proofs.RoomLaws.{room-for}
 use Rattle.machine.specs.Frames.{noSlots, Closure, Frame, Ready, Found, height}
 use Rattle.machine.specs.Landing.{go}
 use Rattle.machine.specs.Machine.{Thread, State, Numbered, Table, Act, waits, sticks, lacks, does, Move, Attempt, absent, finished, waiting, stuck, lacking, moves, store, storeMonitor, addObject, addThread, useKey, learn, become, lookup, monitor, threadOf, finishedWith, joinValue, joinAct, synchAct, readAct, writeAct, act, actᶜ, around, attemptAt, attemptBy, attempt}

@@ -8,7 +8,7 @@ use mir.Facts.{yes-eqb}
 use native.Mathlib.Decide.{ℕ-discrete}
 use Rattle.records.specs.Record.{Kind, kindNumber}
 use Rattle.records.specs.Packed.{kindOf}
-use Rattle.records.proofs.Tidy.{kind-back}
+use Rattle.records.proofs.KindNumbers.{kind-back}
 
 pub or← : (a b : Bool) → T a ⊎ T b → T (a || b)
 or← true b h = tt

@@ -1,9 +1,10 @@
 -- The bytes of eight threads, put one thread after the other. Assumes nothing.
-use Prim.Native.Nat.{ℕ, zero, suc, _+_, _*_, _-_, _<_}
+use Prim.Native.Nat.{ℕ, zero, suc, _+_, _*_, _<_}
 use native.Mathlib.Omega.{arith}
 use mathlib.Core.Path.{_≡_, refl, sym, ap, _∙_, subst as along}
 use mathlib.Core.List.{List, [], _∷_, map}
 use lib.ListN.{length, length-map, getD, set, replicate}
+use Rattle.format.proofs.Turns.{turns}
 use Rattle.rules.specs.Run as run
 use Rattle.player.specs.declared.outcome.ThreadState.the-variants as state
 use Rattle.player.specs.declared.outcome.Thread.{Thread}
@@ -24,18 +25,9 @@ threadAt all p = statusOf (getD all p absent .state)
 abbrev pub putOne : List ℕ → ℕ → ThreadBytes → List ℕ
 putOne l p b = set (set (set l (8 + 3 * p) (b .state)) (9 + 3 * p) (b .named)) (10 + 3 * p) (b .field)
 
--- the next threads, as many as are left
-unfoldable pub putFrom : List Thread → ℕ → ℕ → List ℕ → List ℕ
-putFrom all zero p l = l
-putFrom all (suc left) p l = putFrom all left (p + 1) (putOne l p (threadBytes (threadAt all p)))
-
-pub one-thread : (all : List Thread) (p : ℕ) (l : List ℕ) → p < 8 → putFrom all (8 - p) p l ≡ putFrom all (8 - (p + 1)) (p + 1) (putOne l p (threadBytes (threadAt all p)))
-unfolding putFrom
-one-thread all p l h = let q : 8 - p ≡ suc (8 - (p + 1)) = omega arith in rw q
-
-pub no-thread : (all : List Thread) (p : ℕ) (l : List ℕ) → 8 - p ≡ 0 → putFrom all (8 - p) p l ≡ l
-unfolding putFrom
-no-thread all p l q = rw q
+-- the bytes of thread p, put
+abbrev pub putThread : List Thread → ℕ → List ℕ → List ℕ
+putThread all p l = putOne l p (threadBytes (threadAt all p))
 
 -- a list of n elements, spelled out
 unfoldable spell : {A : Type 0} → ℕ → (ℕ → A) → List A
@@ -53,10 +45,10 @@ abbrev bytesOf : run.Stop → ℕ → ℕ → ℕ → List Thread → List ℕ
 bytesOf s k m r all = outcomeBytes (record { stop = s; picks = k; moves = m; records = r; threads = map (λ (t : Thread). statusOf (t .state)) all })
 
 abbrev putAll : run.Stop → ℕ → ℕ → ℕ → List Thread → List ℕ
-putAll s k m r all = putFrom all 8 0 (headBytes (replicate 32 0) s k m r)
+putAll s k m r all = turns (putThread all) 8 0 (headBytes (replicate 32 0) s k m r)
 
 put-spelled : (s : run.Stop) (k m r : ℕ) (f : ℕ → Thread) → putAll s k m r (spell 8 f) ≡ bytesOf s k m r (spell 8 f)
-unfolding putFrom spell headBytes outcomeBytes allThreads
+unfolding turns spell headBytes outcomeBytes allThreads
 put-spelled s k m r f = refl
 
 -- the first eight bytes, then the eight threads
@@ -80,6 +72,6 @@ module _ (o : Outcome) (h : SmallOutcome (outcomeOf o)) where
   unfolding outcomeOf
   small-thread p q = each-small (o .threads) (h .threads) p (omega (arith, eight))
 
-  pub whole : putFrom (o .threads) 8 0 (headBytes (replicate 32 0) (stopOf (o .stop)) (o .picks) (o .moves) (o .records)) ≡ outcomeBytes (outcomeOf o)
+  pub whole : turns (putThread (o .threads)) 8 0 (headBytes (replicate 32 0) (stopOf (o .stop)) (o .picks) (o .moves) (o .records)) ≡ outcomeBytes (outcomeOf o)
   unfolding outcomeOf
   whole = all-threads (stopOf (o .stop)) (o .picks) (o .moves) (o .records) (o .threads) eight

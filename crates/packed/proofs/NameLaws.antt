@@ -18,7 +18,8 @@ use Rattle.packed.specs.Trees.{nodes, nodeOf, nodeAt}
 use Rattle.packed.specs.Refusals.{sumBelow, oneIf, wrongTerm, timesIn, timesNamed, notNamedOnce}
 use Rattle.packed.specs.Steps.{Headed, Loaded, nodeIn, Child, childOf, childrenOf, moreOf, countAll, cap, rootTimes, allTimes, Counted, notOnce, inWord, lowerAll}
 use Rattle.packed.proofs.Tags.{by-tag, except}
-use Rattle.packed.proofs.SingleTerm.{rowOf, node-in, zeros-at}
+use Rattle.format.proofs.Filled.{zeros}
+use Rattle.packed.proofs.SingleTerm.{rowOf, node-in}
 use Rattle.packed.proofs.Children.{Within, nodes-are, children-within, termOf, nodeOfTag}
 
 pub more-suc : (n : ℕ) → (n ≡ 0 → ⊥) → 2 ≡ moreOf n
@@ -43,7 +44,7 @@ counted-ext f g c e k = record { size = k .size; each = λ t h. k .each t h ∙ 
 
 pub no-names : (b : List ℕ) → Counted (rootTimes b 0) (replicate 1024 0)
 unfolding rootTimes sumBelow cap
-no-names b = record { size = length-replicate {A = ℕ} 1024 0; each = λ t h. zeros-at 1024 t }
+no-names b = record { size = length-replicate {A = ℕ} 1024 0; each = λ t h. zeros 1024 t }
 
 once-more : (f : ℕ → ℕ) (c : List ℕ) (v : ℕ) → Counted f c → v < 1024 → Counted (λ t. f t + oneIf (eqb v t)) (set c v (moreOf (getD c v 0)))
 once-more f c v k h =

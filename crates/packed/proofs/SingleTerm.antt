@@ -2,13 +2,13 @@
 use mathlib.Core.Path.{_≡_, refl, ap, sym, _∙_}
 use mathlib.Core.Bool.{Bool, true, false, _||_, false≢true}
 use mathlib.Core.List.{List, [], _∷_}
-use Prim.Native.Nat.{ℕ, zero, suc, _/_, _<_}
-use native.Mathlib.Decide.{ℕ-discrete}
+use Prim.Native.Nat.{ℕ, suc, _/_, _<_}
 use native.Mathlib.Omega.{arith}
 use lib.Dec.{leb}
 use lib.ListN.{getD, set, length-set, replicate, length-replicate}
-use lib.Seq.{getD-set-same, getD-set-other}
+use lib.Seq.{getD-set-other}
 use borrow.Author.Tests.{lt-ltb, leb-false}
+use Rattle.format.proofs.Filled.{zeros, filled}
 use Rattle.format.proofs.RefusalLaws.{neither}
 use Rattle.packed.specs.Format.{procedures, terms, Operand, absent, slot, binder, mask, fieldName, procedure, expression, condition, list, layout, laidOut, tagAt, termAt}
 use Rattle.packed.specs.Trees.{nodeOf, Node}
@@ -41,27 +41,18 @@ judged b procs n t w r x z e q h =
 
 -- ---- the array of the terms' 40 bits
 
-pub zeros-at : (n t : ℕ) → _≡_ {A = ℕ} (getD (replicate n 0) t 0) 0
-zeros-at zero t = refl
-zeros-at (suc n) zero = refl
-zeros-at (suc n) (suc t) = zeros-at n t
-
 pub unloaded : (b ws : List ℕ) → ws ≡ replicate 1024 0 → Loaded b 0 ws
 unloaded b ws e =
     rw e
-    record { size = length-replicate {A = ℕ} 1024 0; each = λ t h. absurd (omega arith); rest = λ t h. zeros-at 1024 t }
+    record { size = length-replicate {A = ℕ} 1024 0; each = λ t h. absurd (omega arith); rest = λ t h. zeros 1024 t }
 
 pub loaded-more : (b : List ℕ) (t : ℕ) (ws : List ℕ) (w : ℕ) → t < 1024 → w ≡ wordAt b t → Loaded b t ws → Loaded b (suc t) (set ws t w)
 loaded-more b t ws w h e l =
     record {
       size = length-set ws t w ∙ l .size;
-      each = λ i q. go i q (ℕ-discrete t i);
+      each = λ i q. filled {A = ℕ} ws t w 0 (λ (j x : ℕ). x ≡ wordAt b j) (let s = l .size in omega arith) (l .each) e i (omega arith);
       rest = λ i q. getD-set-other ws t i w 0 (λ z. omega arith) ∙ l .rest i (omega arith);
     }
-  where
-    go : (i : ℕ) → i < suc t → Dec (t ≡ i) → getD (set ws t w) i 0 ≡ wordAt b i
-    go i q (yes z) = rw (← z) (getD-set-same ws t w 0 (let s = l .size in omega arith) ∙ e)
-    go i q (no z) = getD-set-other ws t i w 0 (λ x. z (sym x)) ∙ l .each i (omega (arith, z))
 
 -- a tag past the table
 pub past-table : (procs n t w : ℕ) → 17 < w / 34359738368 → true ≡ breaksTable procs n t (termIn w)

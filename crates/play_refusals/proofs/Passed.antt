@@ -2,13 +2,12 @@
 use Prim.Native.Nat.{ℕ, _+_, _*_, _≤_, _<_}
 use native.Mathlib.Omega.{arith}
 use mathlib.Core.Path.{_≡_, refl, sym, ap, _∙_}
-use mathlib.Core.Bool.{Bool, false}
+use mathlib.Core.Bool.{true≢false}
 use mathlib.Core.List.{List}
-use mathlib.Core.Option.{Option, some, none}
+use mathlib.Core.Option.{none}
 use lib.ListN.{length, getD}
 use borrow.Author.Tests.{ltb-false}
-use Rattle.format.specs.Refusal.{Refusal, orElse, lowest, refuse}
-use Rattle.format.proofs.RefusalLaws.{lowest-none}
+use Rattle.format.proofs.RefusalLaws.{both-none, head-pass, tail-pass, none-is-pass}
 use Rattle.packed.specs.Format.{procedures, terms, planLength}
 use Rattle.packed.specs.Check.{refusal}
 use Rattle.plan.specs.Answer.{answered}
@@ -17,25 +16,11 @@ use Rattle.plan.specs.declared.Checked.the-variants as checked
 use Rattle.packed.proofs.Accepted.{accepted}
 use Rattle.rules.specs.Play.{tooManyPicks, wrongPick, shortArea, playRefusal}
 use Rattle.play_refusals.specs.Refused.{RefusedAs}
-use Rattle.play_refusals.proofs.RefusalChain.{chain, late}
-
--- neither is refused
-or-none : (a b : Option Refusal) → orElse a b ≡ none → (a ≡ none) × (b ≡ none)
-unfolding orElse
-or-none (some x) b e = absurd (let z : _≡_ {A = ℕ} 0 1 = cc in omega arith)
-or-none none b e = (refl, e)
-
-refuse-none : (k : ℕ) (o : Option ℕ) (l : Option Refusal) → refuse k o l ≡ none → (o ≡ none) × (l ≡ none)
-unfolding refuse
-refuse-none k (some i) l e = absurd (let z : _≡_ {A = ℕ} 0 1 = cc in omega arith)
-refuse-none k none l e = (refl, e)
-
-whole-right : (x : Bool) → lowest (λ place. x) 1 ≡ none → x ≡ false
-whole-right x e = lowest-none (λ place. x) 1 e 0 (omega arith)
+use Rattle.play_refusals.proofs.RefusalChain.{chain, lateChecks, late}
 
 -- what passes is not refused
 pub passed-refused : {A : Type 0} {r : Checked} {k i : ℕ} → r ≡ checked.Passed → r ≡ checked.Refused k i → A
-passed-refused e q = absurd (let z : _≡_ {A = ℕ} 0 1 = cc in omega arith)
+passed-refused e q = absurd (true≢false cc)
 
 pub record Passed (plan schedule area : List ℕ) : Type 0 where
   pub plan-passes : refusal plan ≡ none
@@ -46,15 +31,14 @@ pub record Passed (plan schedule area : List ℕ) : Type 0 where
 pub passed : (plan schedule area : List ℕ) → playRefusal plan schedule area ≡ none → Passed plan schedule area
 unfolding tooManyPicks wrongPick shortArea
 passed plan schedule area e =
-    let a = or-none (refusal plan) (late schedule area) (sym (chain plan schedule area) ∙ e) in
-    let x = refuse-none 8 (lowest (λ place. tooManyPicks schedule) 1) _ (a .1) in
-    let y = refuse-none 9 (lowest (wrongPick schedule) (length schedule)) _ (x .1) in
-    let z = refuse-none 10 (lowest (λ place. shortArea schedule area) 1) none (y .1) in
+    let a = both-none (refusal plan) (late schedule area) (sym (chain plan schedule area) ∙ e) in
+    let p = none-is-pass (lateChecks schedule area) .0 (a .1) in
+    let q = tail-pass p in
     record {
       plan-passes = a .0;
-      few = ltb-false 4096 (length schedule) (whole-right (tooManyPicks schedule) (x .0));
-      small = λ j h. ltb-false 7 (getD schedule j 0) (lowest-none (wrongPick schedule) (length schedule) (y .0) j h);
-      wide = ltb-false (length area) (3 * length schedule) (whole-right (shortArea schedule area) (z .0));
+      few = ltb-false 4096 (length schedule) (head-pass p .right 0 (omega arith));
+      small = λ j h. ltb-false 7 (getD schedule j 0) (head-pass q .right j h);
+      wide = ltb-false (length area) (3 * length schedule) (head-pass (tail-pass q) .right 0 (omega arith));
     }
 
 -- an accepted plan's numbers lie inside it

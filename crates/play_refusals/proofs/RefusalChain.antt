@@ -4,7 +4,7 @@ use mathlib.Core.Path.{_≡_, sym, ap, _∙_}
 use mathlib.Core.List.{List, [], _∷_}
 use mathlib.Core.Option.{Option, some, none}
 use lib.ListN.{length}
-use Rattle.format.specs.Refusal.{Refusal, check, checkWhole, orElse, lowest, refuse, firstRefusal}
+use Rattle.format.specs.Refusal.{Refusal, Check, check, checkWhole, orElse, firstRefusal}
 use Rattle.format.proofs.RefusalLaws.{refusal-append}
 use Rattle.packed.specs.Check.{checks, refusal}
 use Rattle.plan.specs.Answer.{answered}
@@ -12,20 +12,17 @@ use Rattle.plan.specs.declared.Checked.{Checked}
 use Rattle.plan.specs.declared.Checked.the-variants.{Passed, Refused}
 use Rattle.rules.specs.Play.{tooManyPicks, wrongPick, shortArea, playChecks, playRefusal}
 
-pub chain : (plan schedule area : List ℕ) → playRefusal plan schedule area
-    ≡ orElse (refusal plan)
-    (refuse 8 (lowest (λ place. tooManyPicks schedule) 1)
-    (refuse 9 (lowest (wrongPick schedule) (length schedule))
-    (refuse 10 (lowest (λ place. shortArea schedule area) 1) none)))
-unfolding playRefusal playChecks refusal firstRefusal
-chain plan schedule area = refusal-append (checks plan) (checkWhole 8 (tooManyPicks schedule) ∷ check 9 (length schedule) (wrongPick schedule) ∷ checkWhole 10 (shortArea schedule area) ∷ [])
-
 -- checks 8 to 10
+abbrev pub lateChecks : List ℕ → List ℕ → List Check
+lateChecks schedule area = checkWhole 8 (tooManyPicks schedule) ∷ check 9 (length schedule) (wrongPick schedule) ∷ checkWhole 10 (shortArea schedule area) ∷ []
+
+-- their refusal
 abbrev pub late : List ℕ → List ℕ → Option Refusal
-late schedule area =
-    refuse 8 (lowest (λ place. tooManyPicks schedule) 1)
-    (refuse 9 (lowest (wrongPick schedule) (length schedule))
-    (refuse 10 (lowest (λ place. shortArea schedule area) 1) none))
+late schedule area = firstRefusal (lateChecks schedule area)
+
+pub chain : (plan schedule area : List ℕ) → playRefusal plan schedule area ≡ orElse (refusal plan) (late schedule area)
+unfolding playRefusal playChecks refusal
+chain plan schedule area = refusal-append (checks plan) (lateChecks schedule area)
 
 -- the plan is refused
 pub by-plan : (plan schedule area : List ℕ) (r : Checked) (k i : ℕ) → answered r ≡ refusal plan → r ≡ Refused k i → answered r ≡ playRefusal plan schedule area

@@ -3,6 +3,7 @@ use Prim.Native.Nat.{ℕ, _*_, _-_, _≤_}
 use native.Mathlib.Nat.{sub-zero}
 use native.Mathlib.Omega.{arith}
 use mathlib.Core.Path.{_≡_, refl, sym, ap, _∙_}
+use mathlib.Core.Bool.{true≢false}
 use mathlib.Core.List.{List, _++_}
 use mathlib.Core.Option.{Option, some, none}
 use lib.ListN.{length, length-append, take, drop}
@@ -37,7 +38,7 @@ module _ (plan schedule area : List ℕ) (p : Played) (h : answered p ≡ played
   not-refused-by none q = q
   not-refused-by (some r) q =
       let y : play.Played.ran (outcomeOf (p .outcome)) ≡ play.Played.refused r = ran-is ∙ ap (playedBy plan schedule) q in
-      absurd (let z : _≡_ {A = ℕ} 0 1 = cc in omega arith)
+      absurd (true≢false cc)
 
   not-refused : playRefusal plan schedule area ≡ none
   not-refused = not-refused-by (playRefusal plan schedule area) refl

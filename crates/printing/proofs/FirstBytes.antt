@@ -10,7 +10,7 @@ use lib.ListN.{length, getD, take, drop, length-drop}
 use lib.Seq.{take-all, take-take, getD-take, length-take-le}
 use borrow.Author.Tests.{ltb-true, ltb-false, lt-ltb}
 use Rattle.format.specs.Bits.{bitAt, bitsAt}
-use Rattle.format.specs.Refusal.{Refusal, orElse, lowest, refuse}
+use Rattle.format.specs.Refusal.{Refusal, orElse, lowest, refuse, firstRefusal}
 use Rattle.packed.specs.Check.{refusal}
 use Rattle.records.specs.Record.{Record}
 use Rattle.rules.specs.Play.{tooManyPicks, playRefusal, played, playedBy, runOf}
@@ -31,7 +31,7 @@ tooMany (some r) = refusalLine r
 tooMany none = refusalLine eighth
 
 many-refused : (plan schedule area : List ℕ) → 4096 < length schedule → playRefusal plan schedule area ≡ orElse (refusal plan) (some eighth)
-unfolding tooManyPicks lowest orElse refuse
+unfolding tooManyPicks lowest orElse refuse firstRefusal
 many-refused plan schedule area h = chain plan schedule area ∙ simp (lt-ltb 4096 (length schedule) h)
 
 many-by : (plan schedule : List ℕ) (L : List Record) (o : Option Refusal) → answerText L (playedBy plan schedule (orElse o (some eighth))) ≡ tooMany o

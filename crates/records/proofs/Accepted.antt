@@ -5,7 +5,7 @@ use native.Mathlib.Decide.{decLt}
 use mathlib.Core.Path.{_≡_, refl, sym, ap, _∙_, subst}
 use mathlib.Core.Bool.{Bool, true, false, _&&_, _||_, not}
 use mathlib.Core.List.{List, [], _∷_}
-use mathlib.Core.Option.{some, none}
+use mathlib.Core.Option.{some, none, Option·none-ne-some, Option·some-injective}
 use lib.Dec.{eqb, ltb, leb}
 use lib.ListN.{length, getD, getElem?}
 use lib.Seq.{ext-getD}
@@ -16,7 +16,8 @@ use Rattle.records.specs.Record.{kindNumber, Record, lacksKey}
 use Rattle.records.specs.Packed.{packed, bytesOf, kindOf, kindAt, spareAt, recordAt, recordCount, logOf}
 use Rattle.records.specs.Refusals.{wrongLogLength, wrongColumns, wrongRecord, logChecks, logRefusal}
 use Rattle.format.proofs.RefusalLaws.{none-left, and-then, head-pass, tail-pass, none-is-pass, neither}
-use Rattle.records.proofs.Tidy.{Tidy, AllTidy, LacksLast, absent, present, tidy-at, all-tidy, kind-number, kind-lacks, number-back}
+use Rattle.records.proofs.KindNumbers.{kind-number, kind-lacks, number-back}
+use Rattle.records.proofs.Tidy.{Tidy, AllTidy, LacksLast, tidy-at, all-tidy}
 use Rattle.records.proofs.RoundTrip.{length-bytes, byte-below, word24, Placed, placed-word, bytes-placed, record-fields, kind-bits, spare-bits, kind-read, spare-read, record-back, count-log, log-element, log-past, count-bytes}
 
 -- ---- what refusal 12 finds no fault with
@@ -158,8 +159,8 @@ log-record : (b : List ℕ) (i : ℕ) (r : Record) → getElem? (logOf b) i ≡ 
 log-record b i r e = go (decLt i (recordCount b))
   where
     go : Dec (i < recordCount b) → (i < recordCount b) × (recordAt b i ≡ r)
-    go (yes h) = (h, present (sym (log-element b i h) ∙ e))
-    go (no h) = absent r (sym (log-past b i (omega arith)) ∙ e)
+    go (yes h) = (h, Option·some-injective _ r (sym (log-element b i h) ∙ e))
+    go (no h) = absurd (Option·none-ne-some r (sym (log-past b i (omega arith)) ∙ e))
 
 -- the records of a log that is not refused are tidy
 pub accepted-tidy : (b : List ℕ) → logRefusal b ≡ none → AllTidy (logOf b)

@@ -1,3 +1,4 @@
+pub mod KindNumbers
 pub mod Tidy
 pub mod RoundTrip
 pub mod Accepted

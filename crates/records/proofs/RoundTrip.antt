@@ -4,13 +4,14 @@ use native.Mathlib.Nat.{add-zero, zero-add}
 use native.Mathlib.Omega.{arith}
 use mathlib.Core.Path.{_≡_, refl, sym, ap, _∙_, subst}
 use mathlib.Core.List.{List, [], _∷_}
-use mathlib.Core.Option.{some, none}
+use mathlib.Core.Option.{some, none, Option·none-ne-some, Option·some-injective}
 use lib.ListN.{length, getD, getElem?}
 use Rattle.format.specs.Bits.{bitsAt}
 use Rattle.format.proofs.BitLaws.{field-of, first-of, byte-at, byte-more}
 use Rattle.records.specs.Record.{kindNumber, Record, entry}
 use Rattle.records.specs.Packed.{packed, bytesOf, kindOf, kindAt, spareAt, recordAt, recordCount, recordsFrom, logOf}
-use Rattle.records.proofs.Tidy.{Tidy, AllTidy, absent, present, tidy-at, kind-number, kind-back}
+use Rattle.records.proofs.KindNumbers.{kind-number, kind-back}
+use Rattle.records.proofs.Tidy.{Tidy, AllTidy, tidy-at}
 
 -- ---- the bytes of a log
 
@@ -62,8 +63,8 @@ first-placed r L = record { high = refl; middle = refl; low = refl }
 
 -- each record of a log stands at its place in the log's bytes
 pub bytes-placed : (L : List Record) (i : ℕ) (r : Record) → getElem? L i ≡ some r → Placed (bytesOf L) i r
-bytes-placed [] i r e = absent r e
-bytes-placed (s ∷ L) zero r e = subst (Placed (bytesOf (s ∷ L)) 0) (present e) (first-placed s L)
+bytes-placed [] i r e = absurd (Option·none-ne-some r e)
+bytes-placed (s ∷ L) zero r e = subst (Placed (bytesOf (s ∷ L)) 0) (Option·some-injective s r e) (first-placed s L)
 bytes-placed (s ∷ L) (suc i) r e =
     let p : Placed (bytesOf L) i r = bytes-placed L i r e in
     record {

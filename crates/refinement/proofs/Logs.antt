@@ -12,7 +12,7 @@ use lib.Seq.{length-take-le, take-at, drop-append-add, drop-drop, sets-eq}
 use borrow.Author.Tests.{eq-eqb, ne-eqb}
 use Rattle.records.specs.Record.{kindNumber, Record}
 use Rattle.records.specs.Packed.{packed, threeBytes, bytesOf}
-use Rattle.records.proofs.Tidy.{kind-number}
+use Rattle.records.proofs.KindNumbers.{kind-number}
 use Rattle.rules.specs.Run.{logged}
 use Rattle.state.specs.declared.Entry.{Entry}
 use Rattle.tally.specs.Tally.{wordOf, logPut, recordsAfter}

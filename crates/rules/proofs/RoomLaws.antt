@@ -2,7 +2,7 @@
 use Prim.Native.Nat.{ℕ, _<_}
 use mathlib.Core.Path.{_≡_, refl}
 use mathlib.Core.Bool.{Bool, true, false, cond, true≢false}
-use mathlib.Core.Option.{Option, some, none, orElse}
+use mathlib.Core.Option.{Option, some, none}
 use lib.Dec.{leb}
 use borrow.Author.Tests.{leb-false}
 use Rattle.rules.specs.Room.{Room}
@@ -14,8 +14,3 @@ room-for k n w r e = at (leb k n) refl e
     at : (b : Bool) → leb k n ≡ b → cond b (some w) r ≡ none → (n < k) × (r ≡ none)
     at true q e = absurd (true≢false cc)
     at false q e = (leb-false k n q, e)
-
-pub both-none : (x y : Option Room) → orElse x y ≡ none → (x ≡ none) × (y ≡ none)
-unfolding orElse
-both-none none y e = (refl, e)
-both-none (some w) y e = absurd (true≢false cc)

@@ -24,7 +24,8 @@ use Rattle.rules.proofs.Invariant.{Inv}
 use Rattle.rules.proofs.Preserved.{placed}
 use Rattle.rules.specs.Execution.{Execution, ends, passes, lacks-key, no-room, moves}
 use Rattle.rules.proofs.Executed.{Reachable, reachable-start, reachable-move, play-executes}
-use Rattle.rules.proofs.RoomLaws.{room-for, both-none}
+use Rattle.format.proofs.RefusalLaws.{both-none}
+use Rattle.rules.proofs.RoomLaws.{room-for}
 
 -- within the room: 8 threads, 32 objects, keys 0 to 255
 pub record Roomy (s : State) : Type 0 where

@@ -1,11 +1,10 @@
 -- The two ways that a play ends, as numbers and bytes. Assumes nothing.
 use Prim.Native.Nat.{ℕ, _+_, _*_}
-use native.Mathlib.Omega.{arith}
 use mathlib.Core.Path.{_≡_, refl, sym, ap, _∙_, subst as along}
+use mathlib.Core.Bool.{true≢false}
 use mathlib.Core.List.{List}
 use mathlib.Core.Option.{Option, some, none}
 use Rattle.format.specs.Refusal.{Refusal}
-use Rattle.packed.specs.Trees.{programOf}
 use Rattle.plan.specs.declared.Checked.{Checked}
 use Rattle.plan.specs.declared.Checked.the-variants as checked
 use Rattle.rules.specs.Run as run
@@ -13,7 +12,7 @@ use Rattle.rules.specs.Play as play
 use Rattle.rules.specs.Play.{playRefusal, played, playedBy, runOf}
 use Rattle.player.specs.declared.outcome.Played.{Played}
 use Rattle.player.specs.Answer.{outcomeOf, answeredBy, answered}
-use Rattle.play_refusals.proofs.Passed.{passed}
+use Rattle.player.proofs.Ran.{passes, outcome-is}
 use Rattle.numbers.specs.Numbers.{playNumber}
 use Rattle.numbers.specs.Small.{SmallRefusal}
 use Rattle.outcome_bytes.specs.Bytes.{outcomeBytes}
@@ -40,7 +39,7 @@ module _ (plan schedule area : List ℕ) (p : Played) (h : answered p ≡ played
             small-play plan schedule area (record { number = k; place = i }) (q ∙ ap some (sym w))
         go none q =
             let y : play.Played.refused (record { number = k; place = i }) ≡ playedBy plan schedule none = refused-is ∙ ap (playedBy plan schedule) q in
-            absurd (let w : _≡_ {A = ℕ} 0 1 = cc in omega arith)
+            absurd (true≢false cc)
 
     pub refused-number : k * 65536 + i ≡ playNumber (played plan schedule area)
     unfolding playNumber
@@ -57,18 +56,8 @@ module _ (plan schedule area : List ℕ) (p : Played) (h : answered p ≡ played
     ran-is = ap (λ (y : Checked). answeredBy y (p .outcome)) (sym e) ∙ h
 
     pub ran-small : SmallOutcome (outcomeOf (p .outcome))
-    unfolding played playedBy runOf
-    ran-small = go (playRefusal plan schedule area) refl
-      where
-        go : (o : Option Refusal) → playRefusal plan schedule area ≡ o → SmallOutcome (outcomeOf (p .outcome))
-        go (some r) q =
-            let y : play.Played.ran (outcomeOf (p .outcome)) ≡ play.Played.refused r = ran-is ∙ ap (playedBy plan schedule) q in
-            absurd (let w : _≡_ {A = ℕ} 0 1 = cc in omega arith)
-        go none q =
-            let y : play.Played.ran (outcomeOf (p .outcome)) ≡ play.Played.ran (run.outcomeOf (programOf plan) (runOf plan schedule)) = ran-is ∙ ap (playedBy plan schedule) q in
-            let w : outcomeOf (p .outcome) ≡ run.outcomeOf (programOf plan) (runOf plan schedule) = cc in
-            let a = passed plan schedule area q in
-            along (λ (x : run.Outcome). SmallOutcome x) (sym w) (small-outcome plan schedule (a .plan-passes) (a .few))
+    unfolding runOf
+    ran-small = let a = passes plan schedule area p h e in along (λ (x : run.Outcome). SmallOutcome x) (sym (outcome-is plan schedule area p h e)) (small-outcome plan schedule (a .plan-passes) (a .few))
 
     pub ran-number : 0 ≡ playNumber (played plan schedule area)
     unfolding playNumber

@@ -6,7 +6,7 @@ use mathlib.Core.List.{List, [], _∷_}
 use mathlib.Core.Option.{Option, some, none}
 use lib.ListN.{length}
 use borrow.Author.Tests.{ltb-false}
-use Rattle.format.specs.Refusal.{Refusal, Check, check, checkWhole, orElse, firstRefusal}
+use Rattle.format.specs.Refusal.{Refusal, Check, check, checkWhole, orElse}
 use Rattle.format.proofs.BitLaws.{bits-below}
 use Rattle.format.proofs.RefusalLaws.{First, here, later, some-is-first}
 use Rattle.packed.specs.Format.{procedures, terms}
@@ -14,8 +14,8 @@ use Rattle.packed.specs.Check.{checks, refusal}
 use Rattle.records.specs.Packed.{recordCount}
 use Rattle.records.specs.Refusals.{wrongLogLength, wrongRecord, logChecks, logRefusal}
 use Rattle.records.proofs.Accepted.{right-length}
-use Rattle.rules.specs.Play.{tooManyPicks, wrongPick, shortArea, playRefusal}
-use Rattle.play_refusals.proofs.RefusalChain.{chain, late}
+use Rattle.rules.specs.Play.{tooManyPicks, playRefusal}
+use Rattle.play_refusals.proofs.RefusalChain.{chain, lateChecks, late}
 use Rattle.numbers.specs.Small.{SmallRefusal, SmallCheck}
 
 abbrev AllWithin : List Check → Type 0
@@ -55,13 +55,6 @@ small-check b = go (refusal b) refl
 
 -- ---- of a play
 
-abbrev lateChecks : List ℕ → List ℕ → List Check
-lateChecks schedule area = checkWhole 8 (tooManyPicks schedule) ∷ check 9 (length schedule) (wrongPick schedule) ∷ checkWhole 10 (shortArea schedule area) ∷ []
-
-late-is : (schedule area : List ℕ) → firstRefusal (lateChecks schedule area) ≡ late schedule area
-unfolding firstRefusal
-late-is schedule area = refl
-
 small-late : (schedule area : List ℕ) {r : Refusal} → First (lateChecks schedule area) r → SmallRefusal r
 unfolding tooManyPicks
 small-late schedule area (here h) = (omega arith, let i = h .inside in omega arith)
@@ -74,7 +67,7 @@ small-play plan schedule area r e = go (refusal plan) refl (sym (chain plan sche
   where
     go : (o : Option Refusal) → refusal plan ≡ o → orElse o (late schedule area) ≡ some r → SmallRefusal r
     go (some x) q h = let y : x ≡ r = cc in small-plan plan r (q ∙ ap some y)
-    go none q h = small-late schedule area (some-is-first (lateChecks schedule area) r .0 (late-is schedule area ∙ h))
+    go none q h = small-late schedule area (some-is-first (lateChecks schedule area) r .0 h)
 
 -- ---- of a log
 

@@ -1,5 +1,5 @@
 -- `clocks::one_record` meets its contract: one 1 among zeros. Assumes nothing.
-use Rattle.clocks.proofs.Filled.{one-among}
+use Rattle.clocks.proofs.OneAmong.{one-among}
 use borrow.Author.Needs.{needs}
 use Rattle.clocks.proofs.one_record.Statement.{statement}
 use Rattle.clocks.proofs.one_record.Tie as tie

@@ -1,5 +1,5 @@
 -- `clocks::one_record_each` meets its contract. The invariant: the rows so far are as they should be. The measure is the count of rows left. Assumes nothing.
-use Rattle.clocks.proofs.Filled.{filled}
+use Rattle.format.proofs.Filled.{filled}
 use Rattle.clocks.specs.declared.Row.{Row}
 use Rattle.clocks.specs.Rows.{One, noRow}
 use lib.ListN.{length, getD, length-set, replicate, length-replicate}

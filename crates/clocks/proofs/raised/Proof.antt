@@ -1,5 +1,5 @@
 -- `clocks::raised` meets its contract. The invariant: the clocks so far are the higher of two. The measure is the count of clocks left. Assumes nothing.
-use Rattle.clocks.proofs.Filled.{filled}
+use Rattle.format.proofs.Filled.{filled}
 use Rattle.clocks.specs.Rows.{clockOf}
 use lib.ListN.{length, getD, length-set, length-replicate}
 use native.Mathlib.Omega.{arith}

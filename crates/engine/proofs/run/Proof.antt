@@ -8,6 +8,7 @@ use native.Mathlib.Numerals.{add-one}
 use native.Mathlib.Omega.{arith}
 use lib.ListN.{length, getD, set, drop, drop-of-length-le, replicate}
 use lib.Seq.{drop-cons}
+use Rattle.format.proofs.Turns.{turns, one-turn, no-turn}
 use Rattle.look.specs.declared.Sight.{Sight}
 use Rattle.state.specs.declared.acted.Acted.{Acted}
 use Rattle.settle.specs.Settle.{passesOf, forksOf, bornOf}
@@ -17,7 +18,7 @@ use Rattle.tally.specs.declared.Tally.{Tally}
 use Rattle.tally.specs.Tally.{tallyPut, tallyMoved, logPut}
 use Rattle.landing.specs.Landing.{Ended}
 use Rattle.engine.specs.Machine.{Machine, Turn, Finished, Played, noHead, noCell, noThing, headAt, metBy, actedBy, finishedBy, finishOf, stopOf, seenOf, endOf, stopped, logged, withYoung, startOf, playOf}
-use Rattle.engine.proofs.Looks.{present, absent, looked, acted, seen-so, seenFrom, all-seen, one-more, none-left}
+use Rattle.engine.proofs.Looks.{present, absent, looked, acted, seen-so, putSeen, all-seen}
 use Rattle.engine.proofs.Finishes.{finished}
 use Rattle.engine.proofs.Plays.{begins, skips, goes, stops, young-made, young-none, after-is, ends-as, ends-so}
 use borrow.Author.Needs.{needs}
@@ -34,7 +35,7 @@ abbrev μ-loop : tie.MeasureT-loop
 μ-loop words roots mask picks log₀ heads₀ cells₀ objects₀ tops₀ envs₀ args₀ s₀ stop₀ dealt₀ i₀ i-end log heads cells objects tops envs args s halt dealt i = length picks - i
 
 abbrev Inv-loop2 : tie.InvT-loop2
-Inv-loop2 words roots mask picks log heads cells objects s halt dealt n all₀ p₀ all p = (p ≤ 8) × (seenFrom mask n heads cells objects (8 - p) p all ≡ seenOf mask n heads cells objects)
+Inv-loop2 words roots mask picks log heads cells objects s halt dealt n all₀ p₀ all p = (p ≤ 8) × (turns (putSeen mask n heads cells objects) (8 - p) p all ≡ seenOf mask n heads cells objects)
 
 abbrev μ-loop2 : tie.MeasureT-loop2
 μ-loop2 words roots mask picks log heads cells objects s halt dealt n all₀ p₀ all p = 8 - p
@@ -416,7 +417,7 @@ loop2-holds c =
     let l = c .before .before in
     let m = l .before in (
       omega arith,
-      ap (λ (x : Seen). seenFrom (mask m) (l .loop-test .s .counts) (m .loop .heads) (m .loop .cells) (m .loop .objects) 8 0 (replicate 8 x)) (c .none-seen .ensures)
+      ap (λ (x : Seen). turns (putSeen (mask m) (l .loop-test .s .counts) (m .loop .heads) (m .loop .cells) (m .loop .objects)) 8 0 (replicate 8 x)) (c .none-seen .ensures)
           ∙ all-seen (mask m) (l .loop-test .s .counts) (m .loop .heads) (m .loop .cells) (m .loop .objects),
     )
 
@@ -472,8 +473,8 @@ loop2-again c =
     let h : p < 8 = c .before .before .before .before .before .before .before .loop2-test .taken in
     let e = c .seen-of .ensures ∙ seen-so (mask m) n (m .loop .heads) (m .loop .cells) (m .loop .objects) p (k .result) (k .ensures) in (
       omega arith,
-      ap (λ (x : Seen). seenFrom (mask m) n (m .loop .heads) (m .loop .cells) (m .loop .objects) (8 - (p + 1)) (p + 1) (set (l .loop2 .all) p x)) e
-          ∙ sym (one-more (mask m) n (m .loop .heads) (m .loop .cells) (m .loop .objects) p (l .loop2 .all) h) ∙ l .loop2 .inv .1,
+      ap (λ (x : Seen). turns (putSeen (mask m) n (m .loop .heads) (m .loop .cells) (m .loop .objects)) (8 - (p + 1)) (p + 1) (set (l .loop2 .all) p x)) e
+          ∙ sym (one-turn (putSeen (mask m) n (m .loop .heads) (m .loop .cells) (m .loop .objects)) 8 p (l .loop2 .all) h) ∙ l .loop2 .inv .1,
     )
 
 same-length : tie.Need-same-length Inv-loop μ-loop Inv-loop2 μ-loop2
@@ -486,7 +487,7 @@ returns c =
     let m = ended-at a in
     let z : 8 - a .loop2 .p ≡ 0 = omega arith in
     let q = ended-so l in
-    let e = sym (none-left (mask m) (l .loop-test .s .counts) (m .loop .heads) (m .loop .cells) (m .loop .objects) (a .loop2 .p) (a .loop2 .all) z) ∙ a .loop2 .inv .1 in (
+    let e = sym (no-turn (putSeen (mask m) (l .loop-test .s .counts) (m .loop .heads) (m .loop .cells) (m .loop .objects)) 8 (a .loop2 .p) (a .loop2 .all) z) ∙ a .loop2 .inv .1 in (
       ap (λ (x : List Seen). record { stop = l .loop-test .stop; picks = l .loop-test .dealt; moves = l .loop-test .s .moves; records = l .loop-test .s .records; threads = x }) e
           ∙ ap (λ (x : Played). x .ran) q,
       ap (λ (x : Played). x .area) q,

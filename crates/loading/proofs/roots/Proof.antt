@@ -1,12 +1,12 @@
 -- `roots` meets its contract. Assumes nothing.
 use mathlib.Core.Path.{_≡_, refl, _∙_}
-use Prim.Native.Nat.{_-_, _<_, _≤_}
+use Prim.Native.Nat.{ℕ, _-_, _<_, _≤_}
 use native.Mathlib.Omega.{arith}
 use lib.ListN.{length, length-set}
 use borrow.Author.Needs.{needs}
 use Rattle.packed.specs.Format.{root}
 use Rattle.loading.specs.Loading.{Roots}
-use Rattle.loading.proofs.Filled.{one-more}
+use Rattle.format.proofs.Filled.{filled}
 use Rattle.loading.proofs.roots.Statement.{statement}
 use Rattle.loading.proofs.roots.Tie as tie
 
@@ -38,7 +38,7 @@ loop-again : tie.Need-loop-again Inv-loop μ-loop
 loop-again c =
     let l = c .before .before .loop in
     let n : l .p < length (l .all) = rw (l .inv .1) (omega arith) in
-    (search needs, length-set (l .all) (l .p) _ ∙ l .inv .1, one-more (root (c .before .before .before .before .args .plan .now)) (l .all) (l .p) _ n (c .root .ensures) (l .inv .2))
+    (search needs, length-set (l .all) (l .p) _ ∙ l .inv .1, filled {A = ℕ} (l .all) (l .p) (c .root .result) 0 (λ (p x : ℕ). x ≡ root (c .before .before .before .before .args .plan .now) p) n (l .inv .2) (c .root .ensures))
 
 returns : tie.Need-returns Inv-loop μ-loop
 returns c i q = let l = c .before .loop in l .inv .2 i (omega arith)

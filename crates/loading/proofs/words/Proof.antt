@@ -8,7 +8,7 @@ use Rattle.format.specs.Bits.{bitsAt}
 use borrow.Author.Needs.{needs}
 use Rattle.packed.specs.Format.{procedures, termBit}
 use Rattle.loading.specs.Loading.{Words}
-use Rattle.loading.proofs.Filled.{one-more}
+use Rattle.format.proofs.Filled.{filled}
 use Rattle.loading.proofs.words.Statement.{statement}
 use Rattle.loading.proofs.words.Tie as tie
 
@@ -58,7 +58,7 @@ loop-again c =
     let a = c .before .before .before .before .args in
     let l = c .before .before .loop in
     let n : l .t < length (l .all) = rw (l .inv .1) (omega arith) in
-    (search needs, length-set (l .all) (l .t) _ ∙ l .inv .1, one-more (λ t. bitsAt (a .plan .now) (termBit (a .plan .now) t) 40) (l .all) (l .t) _ n (c .five .ensures .0 ∙ ap (λ (i : ℕ). bitsAt (a .plan .now) i 40) (place (a .plan .now) (a .procs) (l .t) (c .before .before .before .before .pre .0))) (l .inv .2))
+    (search needs, length-set (l .all) (l .t) _ ∙ l .inv .1, filled {A = ℕ} (l .all) (l .t) (c .five .result) 0 (λ (t x : ℕ). x ≡ bitsAt (a .plan .now) (termBit (a .plan .now) t) 40) n (l .inv .2) (c .five .ensures .0 ∙ ap (λ (i : ℕ). bitsAt (a .plan .now) i 40) (place (a .plan .now) (a .procs) (l .t) (c .before .before .before .before .pre .0))))
 
 returns : tie.Need-returns Inv-loop μ-loop
 returns c i q = let l = c .before .loop in l .inv .2 i (omega arith)

@@ -5,12 +5,13 @@ use Prim.Native.Nat.{_+_, _-_, _≤_, _<_}
 use native.Mathlib.Omega.{arith}
 use mathlib.Core.Path.{_≡_, refl, sym, ap, _∙_}
 use borrow.Author.Needs.{needs}
-use Rattle.outcome_bytes.proofs.Threads.{putOne, putFrom, one-thread, no-thread, small-thread, whole}
+use Rattle.format.proofs.Turns.{turns, one-turn, no-turn}
+use Rattle.outcome_bytes.proofs.Threads.{putOne, putThread, small-thread, whole}
 use Rattle.outcome_bytes.proofs.write.Statement.{statement}
 use Rattle.outcome_bytes.proofs.write.Tie as tie
 
 abbrev Inv-loop : tie.InvT-loop
-Inv-loop out₀ threads p₀ out p = (p ≤ 8) × (putFrom threads (8 - p) p out ≡ putFrom threads 8 0 out₀)
+Inv-loop out₀ threads p₀ out p = (p ≤ 8) × (turns (putThread threads) (8 - p) p out ≡ turns (putThread threads) 8 0 out₀)
 
 abbrev μ-loop : tie.MeasureT-loop
 μ-loop out₀ threads p₀ out p = 8 - p
@@ -70,7 +71,7 @@ loop-again c =
     let all = c .before .before .before .before .before .before .before .before .args .o .threads in
     let p = l .loop .p in
     let h : p < 8 = c .before .before .loop-test .taken in
-    (omega arith, ap (λ (b : ThreadBytes). putFrom all (8 - (p + 1)) (p + 1) (putOne (l .loop .out) p b)) (c .thread-bytes .ensures) ∙ sym (one-thread all p (l .loop .out) h) ∙ l .loop .inv .1)
+    (omega arith, ap (λ (b : ThreadBytes). turns (putThread all) (8 - (p + 1)) (p + 1) (putOne (l .loop .out) p b)) (c .thread-bytes .ensures) ∙ sym (one-turn (putThread all) 8 p (l .loop .out) h) ∙ l .loop .inv .1)
 
 returns : tie.Need-returns Inv-loop μ-loop
 returns c =
@@ -78,7 +79,7 @@ returns c =
     let s = c .before .before .before .before .before .before in
     let all = s .args .o .threads in
     let z : 8 - l .loop .p ≡ 0 = omega arith in
-    sym (no-thread all (l .loop .p) (l .loop .out) z) ∙ l .loop .inv .1 ∙ ap (putFrom all 8 0) (c .before .before .write-head .ensures) ∙ whole (s .args .o) (s .pre)
+    sym (no-turn (putThread all) 8 (l .loop .p) (l .loop .out) z) ∙ l .loop .inv .1 ∙ ap (turns (putThread all) 8 0) (c .before .before .write-head .ensures) ∙ whole (s .args .o) (s .pre)
 
 pub write-spec : {M : Type 1} → statement M
 write-spec =

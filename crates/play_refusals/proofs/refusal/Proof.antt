@@ -5,7 +5,7 @@ use Prim.Native.Nat.{_*_}
 use lib.ListN.{length}
 use borrow.Author.Needs.{needs}
 use borrow.Author.Tests.{lt-ltb, le-ltb}
-use Rattle.format.specs.Refusal.{lowest, refuse}
+use Rattle.format.specs.Refusal.{lowest, refuse, firstRefusal}
 use Rattle.plan.specs.Answer.{answered}
 use Rattle.format.proofs.LowestLaws.{whole, whole-none, missed, struck}
 use Rattle.rules.specs.Play.{tooManyPicks, wrongPick, shortArea}
@@ -30,7 +30,7 @@ refused-requires : tie.Need-refused-requires
 refused-requires c κs = search needs
 
 returns-2 : tie.Need-returns-2
-unfolding answered refuse
+unfolding answered refuse firstRefusal
 returns-2 c a e =
     let s = c .before .before .before .before .before .before .before .args .schedule .now in
     let m8 : lowest (λ place. tooManyPicks s) 1 ≡ some 0 = whole (tooManyPicks s) (unfold tooManyPicks in lt-ltb 4096 _ (c .before .if1 .taken)) in
@@ -43,7 +43,7 @@ refused-requires-2 : tie.Need-refused-requires-2
 refused-requires-2 c κs = search needs
 
 returns-3 : tie.Need-returns-3
-unfolding answered refuse
+unfolding answered refuse firstRefusal
 returns-3 c a e =
     let s = c .before .before .before .before .before .before .before .before .before .args .schedule .now in
     let m8 : lowest (λ place. tooManyPicks s) 1 ≡ none = whole-none (tooManyPicks s) (unfold tooManyPicks in le-ltb 4096 _ (c .before .before .before .if1 .left)) in
@@ -57,7 +57,7 @@ refused-requires-3 : tie.Need-refused-requires-3
 refused-requires-3 c κs = search needs
 
 returns-4 : tie.Need-returns-4
-unfolding answered refuse
+unfolding answered refuse firstRefusal
 returns-4 c a e =
     let s = c .before .before .before .before .before .before .before .before .before .before .args .schedule .now in
     let m8 : lowest (λ place. tooManyPicks s) 1 ≡ none = whole-none (tooManyPicks s) (unfold tooManyPicks in le-ltb 4096 _ (c .before .before .before .before .if1 .left)) in
@@ -66,7 +66,7 @@ returns-4 c a e =
     by-later _ s a _ (c .refused3 .result) (c .before .before .before .before .before .before .before .check .ensures) (c .before .before .before .before .before .enum-told .given .1) (ap answered (c .refused3 .ensures) ∙ sym (rw (m8, m9, m10)))
 
 returns-5 : tie.Need-returns-5
-unfolding answered refuse
+unfolding answered refuse firstRefusal
 returns-5 c a e =
     let s = c .before .before .before .before .before .before .before .before .before .args .schedule .now in
     let m8 : lowest (λ place. tooManyPicks s) 1 ≡ none = whole-none (tooManyPicks s) (unfold tooManyPicks in le-ltb 4096 _ (c .before .before .before .if1 .left)) in

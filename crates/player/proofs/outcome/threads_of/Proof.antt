@@ -4,14 +4,15 @@ use native.Mathlib.Omega.{arith}
 use mathlib.Core.Path.{_≡_, sym, ap, _∙_}
 use borrow.Author.Needs.{needs}
 use lib.ListN.{set}
+use Rattle.format.proofs.Turns.{turns, one-turn, no-turn}
 use Rattle.player.specs.declared.outcome.ThreadState.{ThreadState}
 use Rattle.player.specs.Outcomes.{threadsBy}
-use Rattle.player.proofs.EightThreads.{threadsFrom, all-threads, one-thread, no-thread}
+use Rattle.player.proofs.EightThreads.{putThread, all-threads}
 use Rattle.player.proofs.outcome.threads_of.Statement.{statement}
 use Rattle.player.proofs.outcome.threads_of.Tie as tie
 
 abbrev Inv-loop : tie.InvT-loop
-Inv-loop all r₀ p₀ r p = (p ≤ 8) × (threadsFrom all (8 - p) p r ≡ threadsBy all)
+Inv-loop all r₀ p₀ r p = (p ≤ 8) × (turns (putThread all) (8 - p) p r ≡ threadsBy all)
 
 abbrev μ-loop : tie.MeasureT-loop
 μ-loop all r₀ p₀ r p = 8 - p
@@ -46,13 +47,13 @@ loop-again c =
     let all = l .before .args .t1 in
     let p = l .loop .p in
     let h : p < 8 = c .before .before .loop-test .taken in
-    (omega arith, ap (λ (x : ThreadState). threadsFrom all (8 - (p + 1)) (p + 1) (set (l .loop .r) p (record { state = x }))) (c .state-of .ensures) ∙ sym (one-thread all p (l .loop .r) h) ∙ l .loop .inv .1)
+    (omega arith, ap (λ (x : ThreadState). turns (putThread all) (8 - (p + 1)) (p + 1) (set (l .loop .r) p (record { state = x }))) (c .state-of .ensures) ∙ sym (one-turn (putThread all) 8 p (l .loop .r) h) ∙ l .loop .inv .1)
 
 returns : tie.Need-returns Inv-loop μ-loop
 returns c =
     let l = c .before in
     let z : 8 - l .loop .p ≡ 0 = omega arith in
-    sym (no-thread (l .before .args .t1) (l .loop .p) (l .loop .r) z) ∙ l .loop .inv .1
+    sym (no-turn (putThread (l .before .args .t1)) 8 (l .loop .p) (l .loop .r) z) ∙ l .loop .inv .1
 
 pub threads-of-spec : {M : Type 1} → statement M
 threads-of-spec =
