@@ -1,5 +1,5 @@
 -- The accesses: which kinds are plain, and whether a record is held to be an unordered access. Assumes nothing.
-use Prim.Native.Nat.{ℕ, zero, suc, _<_, _≤_}
+use Prim.Native.Nat.{ℕ, _<_, _≤_}
 use native.Mathlib.Omega.{arith}
 use native.Mathlib.Decide.{decLt}
 use mathlib.Core.Path.{_≡_, refl}
@@ -8,6 +8,7 @@ use lib.Dec.{eqb, leb, ltb}
 use borrow.Author.Tests.{le-leb, lt-leb, lt-ltb, le-ltb, eq-eqb, ne-eqb}
 use Rattle.records.specs.Record.{isPlain}
 use Rattle.records.specs.Packed.{kindOf}
+use Rattle.records.proofs.KindNumbers.{by-kind}
 use Rattle.clocks.specs.Rows.{clockOf}
 use Rattle.effects.specs.Writes.{lateBy, writtenBy}
 use Rattle.decoding.specs.declared.Columns.{Columns}
@@ -16,19 +17,7 @@ use Rattle.effects.specs.declared.writes.Write.{Write}
 
 pub plain-is : (k : ℕ) → 0 < k → k ≤ 11 → (eqb k 2 || eqb k 3 || ltb 9 k) ≡ isPlain (kindOf k)
 unfolding kindOf
-plain-is zero p q = absurd (omega arith)
-plain-is (suc zero) p q = refl
-plain-is (suc (suc zero)) p q = refl
-plain-is (suc (suc (suc zero))) p q = refl
-plain-is (suc (suc (suc (suc zero)))) p q = refl
-plain-is (suc (suc (suc (suc (suc zero))))) p q = refl
-plain-is (suc (suc (suc (suc (suc (suc zero)))))) p q = refl
-plain-is (suc (suc (suc (suc (suc (suc (suc zero))))))) p q = refl
-plain-is (suc (suc (suc (suc (suc (suc (suc (suc zero)))))))) p q = refl
-plain-is (suc (suc (suc (suc (suc (suc (suc (suc (suc zero))))))))) p q = refl
-plain-is (suc (suc (suc (suc (suc (suc (suc (suc (suc (suc zero)))))))))) p q = refl
-plain-is (suc (suc (suc (suc (suc (suc (suc (suc (suc (suc (suc zero))))))))))) p q = refl
-plain-is (suc (suc (suc (suc (suc (suc (suc (suc (suc (suc (suc (suc k)))))))))))) p q = absurd (omega arith)
+plain-is = by-kind (λ k. (eqb k 2 || eqb k 3 || ltb 9 k) ≡ isPlain (kindOf k)) refl refl refl refl refl refl refl refl refl refl refl
 
 pub late-is-plain : (r : Columns) (own : Row) (last : Write) (x : Bool) → x ≡ isPlain (kindOf (r .kind)) → (x && ltb (clockOf own (last .thread)) (last .count)) ≡ lateBy r own last
 unfolding lateBy

@@ -1,77 +1,30 @@
 -- The rows that a record hears and tells, by its kind's number. Assumes nothing.
-use Prim.Native.Nat.{ℕ, zero, suc, _+_, _*_, _<_, _≤_}
-use native.Mathlib.Omega.{arith}
+use Prim.Native.Nat.{ℕ, _<_, _≤_}
 use mathlib.Core.Path.{_≡_, refl, _∙_}
 use mathlib.Core.Bool.{Bool, true, false, cond}
 use lib.Dec.{eqb}
-use Rattle.format.specs.Version.{v0, v1, versionOf}
-use Rattle.records.specs.Record.{readv, writev}
+use Rattle.format.specs.Version.{Version, v0, v1, versionOf}
 use Rattle.records.specs.Packed.{kindOf}
-use Rattle.effects.specs.Rows.{heardRow, toldRow, sourceRow, targetRow}
-use Rattle.decoding.specs.declared.Columns.{Columns}
+use Rattle.records.proofs.KindNumbers.{by-kind}
+use Rattle.effects.specs.Rows.{monitorRow, volatileRow, fieldRow, rowBy, heardRow, toldRow}
 
--- ---- the row that a record hears
-
-source-by : (d : Bool) (k t o f : ℕ) → 0 < k → k ≤ 11
-    → cond (eqb k 6) (8 + o) (cond (eqb k 9) f (cond (eqb k 4) (cond d (40 + (o * 32 + f)) t) t)) ≡ heardRow (cond d v1 v0) (kindOf k) t o f
-unfolding kindOf
-source-by d zero t o f p q = absurd (omega arith)
-source-by d (suc zero) t o f p q = refl
-source-by d (suc (suc zero)) t o f p q = refl
-source-by d (suc (suc (suc zero))) t o f p q = refl
-source-by d (suc (suc (suc (suc zero)))) t o f p q = go d
+-- the four choices of the code
+pub chosen : (monitor thread volatile n k t o f a b c x : ℕ) → a ≡ cond (eqb n 1) (volatileRow o f) t → b ≡ cond (eqb k volatile) a t → c ≡ cond (eqb k thread) f b → x ≡ cond (eqb k monitor) (monitorRow o) c
+    → x ≡ rowBy monitor thread volatile (versionOf n) k t o f
+unfolding versionOf
+chosen monitor thread volatile n k t o f a b c x e g h q = q ∙ rw (h, g, e, by-version (eqb n 1))
   where
-    go : (w : Bool) → cond w (40 + (o * 32 + f)) t ≡ heardRow (cond w v1 v0) readv t o f
-    go true = refl
-    go false = refl
-source-by d (suc (suc (suc (suc (suc zero))))) t o f p q = go d
-  where
-    go : (w : Bool) → t ≡ heardRow (cond w v1 v0) writev t o f
-    go true = refl
-    go false = refl
-source-by d (suc (suc (suc (suc (suc (suc zero)))))) t o f p q = refl
-source-by d (suc (suc (suc (suc (suc (suc (suc zero))))))) t o f p q = refl
-source-by d (suc (suc (suc (suc (suc (suc (suc (suc zero)))))))) t o f p q = refl
-source-by d (suc (suc (suc (suc (suc (suc (suc (suc (suc zero))))))))) t o f p q = refl
-source-by d (suc (suc (suc (suc (suc (suc (suc (suc (suc (suc zero)))))))))) t o f p q = refl
-source-by d (suc (suc (suc (suc (suc (suc (suc (suc (suc (suc (suc zero))))))))))) t o f p q = refl
-source-by d (suc (suc (suc (suc (suc (suc (suc (suc (suc (suc (suc (suc k)))))))))))) t o f p q = absurd (omega arith)
+    by-version : (d : Bool) → cond d (volatileRow o f) t ≡ fieldRow (cond d v1 v0) t o f
+    by-version true = refl
+    by-version false = refl
 
-pub source-chosen : (n : ℕ) (r : Columns) (a b c x : ℕ) → 0 < r .kind → r .kind ≤ 11 → a ≡ cond (eqb n 1) (40 + (r .object * 32 + r .field)) (r .thread)
-    → b ≡ cond (eqb (r .kind) 4) a (r .thread) → c ≡ cond (eqb (r .kind) 9) (r .field) b → x ≡ cond (eqb (r .kind) 6) (8 + r .object) c
-    → x ≡ sourceRow (versionOf n) r
-unfolding sourceRow versionOf
-source-chosen n r a b c x p q e g h k = k ∙ rw (h, g, e) (source-by (eqb n 1) (r .kind) (r .thread) (r .object) (r .field) p q)
+module _ (t o f : ℕ) where
+  pub heard : (v : Version) (k : ℕ) → 0 < k → k ≤ 11 → rowBy 6 9 4 v k t o f ≡ heardRow v (kindOf k) t o f
+  unfolding kindOf
+  heard v0 = by-kind (λ k. rowBy 6 9 4 v0 k t o f ≡ heardRow v0 (kindOf k) t o f) refl refl refl refl refl refl refl refl refl refl refl
+  heard v1 = by-kind (λ k. rowBy 6 9 4 v1 k t o f ≡ heardRow v1 (kindOf k) t o f) refl refl refl refl refl refl refl refl refl refl refl
 
--- ---- the row that a record tells
-
-target-by : (d : Bool) (k t o f : ℕ) → 0 < k → k ≤ 11
-    → cond (eqb k 7) (8 + o) (cond (eqb k 8) f (cond (eqb k 5) (cond d (40 + (o * 32 + f)) t) t)) ≡ toldRow (cond d v1 v0) (kindOf k) t o f
-unfolding kindOf
-target-by d zero t o f p q = absurd (omega arith)
-target-by d (suc zero) t o f p q = refl
-target-by d (suc (suc zero)) t o f p q = refl
-target-by d (suc (suc (suc zero))) t o f p q = refl
-target-by d (suc (suc (suc (suc zero)))) t o f p q = go d
-  where
-    go : (w : Bool) → t ≡ toldRow (cond w v1 v0) readv t o f
-    go true = refl
-    go false = refl
-target-by d (suc (suc (suc (suc (suc zero))))) t o f p q = go d
-  where
-    go : (w : Bool) → cond w (40 + (o * 32 + f)) t ≡ toldRow (cond w v1 v0) writev t o f
-    go true = refl
-    go false = refl
-target-by d (suc (suc (suc (suc (suc (suc zero)))))) t o f p q = refl
-target-by d (suc (suc (suc (suc (suc (suc (suc zero))))))) t o f p q = refl
-target-by d (suc (suc (suc (suc (suc (suc (suc (suc zero)))))))) t o f p q = refl
-target-by d (suc (suc (suc (suc (suc (suc (suc (suc (suc zero))))))))) t o f p q = refl
-target-by d (suc (suc (suc (suc (suc (suc (suc (suc (suc (suc zero)))))))))) t o f p q = refl
-target-by d (suc (suc (suc (suc (suc (suc (suc (suc (suc (suc (suc zero))))))))))) t o f p q = refl
-target-by d (suc (suc (suc (suc (suc (suc (suc (suc (suc (suc (suc (suc k)))))))))))) t o f p q = absurd (omega arith)
-
-pub target-chosen : (n : ℕ) (r : Columns) (a b c x : ℕ) → 0 < r .kind → r .kind ≤ 11 → a ≡ cond (eqb n 1) (40 + (r .object * 32 + r .field)) (r .thread)
-    → b ≡ cond (eqb (r .kind) 5) a (r .thread) → c ≡ cond (eqb (r .kind) 8) (r .field) b → x ≡ cond (eqb (r .kind) 7) (8 + r .object) c
-    → x ≡ targetRow (versionOf n) r
-unfolding targetRow versionOf
-target-chosen n r a b c x p q e g h k = k ∙ rw (h, g, e) (target-by (eqb n 1) (r .kind) (r .thread) (r .object) (r .field) p q)
+  pub told : (v : Version) (k : ℕ) → 0 < k → k ≤ 11 → rowBy 7 8 5 v k t o f ≡ toldRow v (kindOf k) t o f
+  unfolding kindOf
+  told v0 = by-kind (λ k. rowBy 7 8 5 v0 k t o f ≡ toldRow v0 (kindOf k) t o f) refl refl refl refl refl refl refl refl refl refl refl
+  told v1 = by-kind (λ k. rowBy 7 8 5 v1 k t o f ≡ toldRow v1 (kindOf k) t o f) refl refl refl refl refl refl refl refl refl refl refl

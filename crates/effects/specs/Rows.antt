@@ -1,5 +1,7 @@
 -- The two rows that a record hears and tells. No reader of the entries' promises needs it. Assumes nothing.
 use Prim.Native.Nat.{ℕ, _+_, _*_, _<_, _≤_}
+use mathlib.Core.Bool.{cond}
+use lib.Dec.{eqb}
 use Rattle.format.specs.Version.{Version, v0, v1}
 use Rattle.records.specs.Record.{Kind, new, read, write, readv, writev, acquire, release, fork, join, lacksRead, lacksWrite}
 use Rattle.records.specs.Packed.{kindOf}
@@ -20,6 +22,15 @@ monitorRow o = 8 + o
 -- the row of a volatile field
 abbrev pub volatileRow : ℕ → ℕ → ℕ
 volatileRow o f = 40 + (o * 32 + f)
+
+-- the row of a volatile field, or of thread t in the version in which volatile fields order nothing
+abbrev pub fieldRow : Version → ℕ → ℕ → ℕ → ℕ
+fieldRow v0 t o f = t
+fieldRow v1 t o f = volatileRow o f
+
+-- the row of what a record of thread t is about, by the kinds that are about a monitor, about a thread and about a volatile field, or its thread's
+abbrev pub rowBy : (monitor thread volatile : ℕ) → Version → ℕ → ℕ → ℕ → ℕ → ℕ
+rowBy monitor thread volatile v k t o f = cond (eqb k monitor) (monitorRow o) (cond (eqb k thread) f (cond (eqb k volatile) (fieldRow v t o f) t))
 
 -- the row that a record of thread t hears besides its thread's, or its thread's
 abbrev pub heardRow : Version → Kind → ℕ → ℕ → ℕ → ℕ

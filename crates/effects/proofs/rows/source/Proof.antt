@@ -1,47 +1,18 @@
 -- `effects::rows::source` meets its contract, kind by kind. Assumes nothing.
-use Rattle.effects.proofs.PortRows.{source-chosen}
-use native.Mathlib.Omega.{arith}
+use mathlib.Core.Path.{_∙_}
+use Rattle.format.specs.Version.{versionOf}
+use Rattle.effects.specs.Rows.{sourceRow}
+use Rattle.effects.proofs.PortRows.{heard}
 use borrow.Author.Needs.{needs}
 use Rattle.effects.proofs.rows.source.Statement.{statement}
 use Rattle.effects.proofs.rows.source.Tie as tie
 
-mul-choose : tie.Need-mul-choose
-mul-choose c = search needs
-
-add-choose : tie.Need-add-choose
-add-choose c = search needs
-
-add-choose-2 : tie.Need-add-choose-2
-add-choose-2 c = search needs
-
-choose-requires : tie.Need-choose-requires
-choose-requires c κs = search needs
-
-choose-requires-2 : tie.Need-choose-requires-2
-choose-requires-2 c κs = search needs
-
-choose-requires-3 : tie.Need-choose-requires-3
-choose-requires-3 c κs = search needs
-
-add-choose-3 : tie.Need-add-choose-3
-add-choose-3 c = search needs
-
-choose-requires-4 : tie.Need-choose-requires-4
-choose-requires-4 c κs = search needs
+row-by-requires : tie.Need-row-by-requires
+row-by-requires c κs = search needs
 
 returns : tie.Need-returns
-returns c = source-chosen (c .before .before .before .before .before .before .before .before .before .before .args .version) (c .before .before .before .before .before .before .before .before .before .before .args .columns) (c .before .before .before .before .before .before .before .choose .result) (c .before .before .before .before .before .choose2 .result) (c .before .before .before .choose3 .result) (c .choose4 .result) (omega arith) (omega arith) (c .before .before .before .before .before .before .before .choose .ensures) (c .before .before .before .before .before .choose2 .ensures) (c .before .before .before .choose3 .ensures) (c .choose4 .ensures)
+unfolding sourceRow
+returns c = let s = c .before in let r = s .args .columns in c .row-by .ensures ∙ heard (r .thread) (r .object) (r .field) (versionOf (s .args .version)) (r .kind) (s .pre .kind-least) (s .pre .kind-most)
 
 pub source-spec : {M : Type 1} → statement M
-source-spec =
-    tie.close
-    (tie.spec
-    mul-choose
-    add-choose
-    add-choose-2
-    choose-requires
-    choose-requires-2
-    choose-requires-3
-    add-choose-3
-    choose-requires-4
-    returns)
+source-spec = tie.close (tie.spec row-by-requires returns)
