@@ -3,8 +3,6 @@ use Prim.Native.Nat.{ℕ, _+_, _*_, _<_, _≤_}
 use mathlib.Core.Bool.{cond}
 use lib.Dec.{eqb}
 use Rattle.format.specs.Version.{Version, v0, v1}
-use Rattle.records.specs.Record.{Kind, new, read, write, readv, writev, acquire, release, fork, join, lacksRead, lacksWrite}
-use Rattle.records.specs.Packed.{kindOf}
 use Rattle.decoding.specs.declared.Columns.{Columns}
 
 -- what is known of the columns of a record of a log that is not refused
@@ -32,44 +30,10 @@ fieldRow v1 t o f = volatileRow o f
 abbrev pub rowBy : (monitor thread volatile : ℕ) → Version → ℕ → ℕ → ℕ → ℕ → ℕ
 rowBy monitor thread volatile v k t o f = cond (eqb k monitor) (monitorRow o) (cond (eqb k thread) f (cond (eqb k volatile) (fieldRow v t o f) t))
 
--- the row that a record of thread t hears besides its thread's, or its thread's
-abbrev pub heardRow : Version → Kind → ℕ → ℕ → ℕ → ℕ
-heardRow v new t o f = t
-heardRow v read t o f = t
-heardRow v write t o f = t
-heardRow v0 readv t o f = t
-heardRow v1 readv t o f = volatileRow o f
-heardRow v0 writev t o f = t
-heardRow v1 writev t o f = t
-heardRow v acquire t o f = monitorRow o
-heardRow v release t o f = t
-heardRow v fork t o f = t
-heardRow v join t o f = f
-heardRow v lacksRead t o f = t
-heardRow v lacksWrite t o f = t
-
--- the row that it tells besides its thread's, or its thread's
-abbrev pub toldRow : Version → Kind → ℕ → ℕ → ℕ → ℕ
-toldRow v new t o f = t
-toldRow v read t o f = t
-toldRow v write t o f = t
-toldRow v0 readv t o f = t
-toldRow v1 readv t o f = t
-toldRow v0 writev t o f = t
-toldRow v1 writev t o f = volatileRow o f
-toldRow v acquire t o f = t
-toldRow v release t o f = monitorRow o
-toldRow v fork t o f = f
-toldRow v join t o f = t
-toldRow v lacksRead t o f = t
-toldRow v lacksWrite t o f = t
-
--- the row that the record with these columns hears
+-- the row that the record with these columns hears: an acquire (6) the monitor's, a join (9) the thread's, a volatile read (4) the field's
 unfoldable pub sourceRow : Version → Columns → ℕ
-unfolding kindOf
-sourceRow v r = heardRow v (kindOf (r .kind)) (r .thread) (r .object) (r .field)
+sourceRow v r = rowBy 6 9 4 v (r .kind) (r .thread) (r .object) (r .field)
 
--- the row that it tells
+-- the row that it tells: a release (7) the monitor's, a fork (8) the thread's, a volatile write (5) the field's
 unfoldable pub targetRow : Version → Columns → ℕ
-unfolding kindOf
-targetRow v r = toldRow v (kindOf (r .kind)) (r .thread) (r .object) (r .field)
+targetRow v r = rowBy 7 8 5 v (r .kind) (r .thread) (r .object) (r .field)

@@ -86,11 +86,11 @@ module _ {v : Version} {b : List ℕ} {i : ℕ} {rows : List Row} {writes : List
 
   pub source-is : sourceRow v c ≡ rowOf (sourcePort v (recordAt b i))
   unfolding sourceRow
-  source-is = rw (R .thread-is, R .object-is, R .field-is, ← kind-here) (heard-row v (recordAt b i .kind) (recordAt b i .thread) (recordAt b i .object) (recordAt b i .field))
+  source-is = rw (R .thread-is, R .object-is, R .field-is, kind-here) (heard-row (recordAt b i .thread) (recordAt b i .object) (recordAt b i .field) v (c .kind) (known .kind-least) (known .kind-most))
 
   pub target-is : targetRow v c ≡ rowOf (targetPort v (recordAt b i))
   unfolding targetRow
-  target-is = rw (R .thread-is, R .object-is, R .field-is, ← kind-here) (told-row v (recordAt b i .kind) (recordAt b i .thread) (recordAt b i .object) (recordAt b i .field))
+  target-is = rw (R .thread-is, R .object-is, R .field-is, kind-here) (told-row (recordAt b i .thread) (recordAt b i .object) (recordAt b i .field) v (c .kind) (known .kind-least) (known .kind-most))
 
   pub source-below : (from : ℕ) → from ≡ sourceRow v c → from < 1064
   source-below from e = omega (arith, source-is, row-below (sourcePort v (recordAt b i)) (source-valid v (recordAt b i) fits))

@@ -1,14 +1,16 @@
 -- Ports and their rows: the row that a record hears and the row that it tells are those of its ports. Assumes nothing.
-use Prim.Native.Nat.{ℕ, _<_}
+use Prim.Native.Nat.{ℕ, _<_, _≤_}
 use native.Mathlib.Omega.{arith}
 use mathlib.Core.Path.{_≡_, refl, sym, ap}
 use mathlib.Core.Logic.{_⊎_, inl, inr}
 use mathlib.Core.Option.{Option, some, none}
 use Rattle.format.specs.Version.{Version, v0, v1}
 use Rattle.records.specs.Record.{Kind, new, read, write, readv, writev, acquire, release, fork, join, lacksRead, lacksWrite, Record, entry}
+use Rattle.records.specs.Packed.{kindOf}
+use Rattle.records.proofs.KindNumbers.{by-kind}
 use Rattle.order.proofs.Ports.{Port, ofThread, ofMonitor, ofVolatile, Feeds}
 use Rattle.order.proofs.Clock.{second, secondPort}
-use Rattle.effects.specs.Rows.{monitorRow, volatileRow, heardRow, toldRow}
+use Rattle.effects.specs.Rows.{monitorRow, volatileRow, rowBy}
 
 -- the row of a port
 abbrev pub rowOf : Port → ℕ
@@ -37,37 +39,17 @@ abbrev pub portOr : ℕ → Option Port → Port
 portOr t none = ofThread t
 portOr t (some p) = p
 
--- the row that a record hears is that of its second port
-pub heard-row : (v : Version) (k : Kind) (t o f : ℕ) → heardRow v k t o f ≡ rowOf (portOr t (secondPort v k o f))
-heard-row v new t o f = refl
-heard-row v read t o f = refl
-heard-row v write t o f = refl
-heard-row v0 readv t o f = refl
-heard-row v1 readv t o f = refl
-heard-row v0 writev t o f = refl
-heard-row v1 writev t o f = refl
-heard-row v acquire t o f = refl
-heard-row v release t o f = refl
-heard-row v fork t o f = refl
-heard-row v join t o f = refl
-heard-row v lacksRead t o f = refl
-heard-row v lacksWrite t o f = refl
+-- the row that a record hears is that of its second port, and the row that it tells that of the port that it feeds
+module _ (t o f : ℕ) where
+  pub heard-row : (v : Version) (k : ℕ) → 0 < k → k ≤ 11 → rowBy 6 9 4 v k t o f ≡ rowOf (portOr t (secondPort v (kindOf k) o f))
+  unfolding kindOf
+  heard-row v0 = by-kind (λ k. rowBy 6 9 4 v0 k t o f ≡ rowOf (portOr t (secondPort v0 (kindOf k) o f))) refl refl refl refl refl refl refl refl refl refl refl
+  heard-row v1 = by-kind (λ k. rowBy 6 9 4 v1 k t o f ≡ rowOf (portOr t (secondPort v1 (kindOf k) o f))) refl refl refl refl refl refl refl refl refl refl refl
 
--- the row that it tells is that of the port that it feeds
-pub told-row : (v : Version) (k : Kind) (t o f : ℕ) → toldRow v k t o f ≡ rowOf (portOr t (fedPort v k o f))
-told-row v new t o f = refl
-told-row v read t o f = refl
-told-row v write t o f = refl
-told-row v0 readv t o f = refl
-told-row v1 readv t o f = refl
-told-row v0 writev t o f = refl
-told-row v1 writev t o f = refl
-told-row v acquire t o f = refl
-told-row v release t o f = refl
-told-row v fork t o f = refl
-told-row v join t o f = refl
-told-row v lacksRead t o f = refl
-told-row v lacksWrite t o f = refl
+  pub told-row : (v : Version) (k : ℕ) → 0 < k → k ≤ 11 → rowBy 7 8 5 v k t o f ≡ rowOf (portOr t (fedPort v (kindOf k) o f))
+  unfolding kindOf
+  told-row v0 = by-kind (λ k. rowBy 7 8 5 v0 k t o f ≡ rowOf (portOr t (fedPort v0 (kindOf k) o f))) refl refl refl refl refl refl refl refl refl refl refl
+  told-row v1 = by-kind (λ k. rowBy 7 8 5 v1 k t o f ≡ rowOf (portOr t (fedPort v1 (kindOf k) o f))) refl refl refl refl refl refl refl refl refl refl refl
 
 abbrev pub Valid : Port → Type 0
 Valid (ofThread q) = q < 8

@@ -1,8 +1,5 @@
--- `effects::rows::target` meets its contract, kind by kind. Assumes nothing.
-use mathlib.Core.Path.{_∙_}
-use Rattle.format.specs.Version.{versionOf}
+-- `effects::rows::target` meets its contract. Assumes nothing.
 use Rattle.effects.specs.Rows.{targetRow}
-use Rattle.effects.proofs.PortRows.{told}
 use borrow.Author.Needs.{needs}
 use Rattle.effects.proofs.rows.target.Statement.{statement}
 use Rattle.effects.proofs.rows.target.Tie as tie
@@ -12,7 +9,7 @@ row-by-requires c κs = search needs
 
 returns : tie.Need-returns
 unfolding targetRow
-returns c = let s = c .before in let r = s .args .columns in c .row-by .ensures ∙ told (r .thread) (r .object) (r .field) (versionOf (s .args .version)) (r .kind) (s .pre .kind-least) (s .pre .kind-most)
+returns c = c .row-by .ensures
 
 pub target-spec : {M : Type 1} → statement M
 target-spec = tie.close (tie.spec row-by-requires returns)
