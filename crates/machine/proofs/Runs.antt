@@ -1,18 +1,18 @@
 -- The machine's runs, from a state that a run of a well-formed program comes to, are the defined runs. Assumes nothing.
 use Prim.Native.Nat.{ℕ, zero, suc}
 use mathlib.Core.Path.{_≡_, refl, sym, ap, ap₂, _∙_}
-use mathlib.Core.Bool.{Bool, cond, _||_}
+use mathlib.Core.Bool.{Bool, _||_}
 use mathlib.Core.List.{List, [], _∷_, map}
 use mathlib.Core.Option.{Option, some, none, Option·map, orElse}
-use lib.Dec.{ltb, leb}
+use lib.Dec.{ltb}
 use lib.ListN.{length, getElem?, drop, length-map}
 use Rattle.packed.specs.Syntax.{Program}
 use Rattle.packed.proofs.WellFormed.{WellFormedProgram}
 use Rattle.rules.specs.Context.{Focus, depthOf}
 use Rattle.rules.specs.State.{Thread, State}
-use Rattle.rules.specs.Rules.{Rule, e-call, e-let, e-if, e-while, e-notnottrue, e-andtrue, e-andfalse, e-equaltrue, e-equalfalse, e-new, e-read, e-write, e-readv, e-writev, e-fork, e-join, e-re-enter, e-acquire, e-release}
+use Rattle.rules.specs.Rules.{Rule}
 use Rattle.rules.specs.Step.{Attempt, Move, attempt}
-use Rattle.rules.specs.Room.{Room, noRoomBefore, deep, deepAt, anyDeep, noRoomAfter, noRoomFor, Answer, withinRoom, answer, step}
+use Rattle.rules.specs.Room.{Room, noRoomAmong, noRoomBefore, deep, deepAt, anyDeep, noRoomAfter, noRoomFor, Answer, withinRoom, answer, step}
 use Rattle.rules.specs.Run.{Run, afterPass, afterMove, resume, run, Status, status, statusesFrom}
 use Rattle.rules.proofs.Decompose.{focus-whole}
 use Rattle.rules.proofs.Progress.{ruled}
@@ -38,26 +38,7 @@ module _ (table : Table) where
 
   lack-before : (s : machine.State) (R : Rule) → noRoomBefore (stateOf table s) R ≡ playing.noRoomBefore s R
   unfolding noRoomBefore playing.noRoomBefore
-  lack-before s e-call = refl
-  lack-before s e-let = refl
-  lack-before s e-if = refl
-  lack-before s e-while = refl
-  lack-before s e-notnottrue = refl
-  lack-before s e-andtrue = refl
-  lack-before s e-andfalse = refl
-  lack-before s e-equaltrue = refl
-  lack-before s e-equalfalse = refl
-  lack-before s e-new = refl
-  lack-before s e-read = refl
-  lack-before s e-write = refl
-  lack-before s e-readv = refl
-  lack-before s e-writev = refl
-  lack-before s e-fork =
-      ap (λ (n : ℕ). cond (leb 8 n) (some Room.thread) (cond (leb 32 (length (s .objects))) (some Room.object) none)) (length-map (s .threads) (threadMeant table))
-  lack-before s e-join = refl
-  lack-before s e-re-enter = refl
-  lack-before s e-acquire = refl
-  lack-before s e-release = refl
+  lack-before s R = ap (λ (n : ℕ). noRoomAmong n (length (s .objects)) (s .nextKey) R) (length-map (s .threads) (threadMeant table))
 
   deep-of : (t : machine.Thread) → WellFound (t .code) → deep (threadMeant table t) ≡ playing.deep t
   unfolding deep playing.deep

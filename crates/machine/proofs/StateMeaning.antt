@@ -119,8 +119,7 @@ module _ (table : Table) where
       join-value s p o q (machine.finishedWith (q .thread .code)) ∙ ap (joinValue (stateOf s) p o (numberedMeant q)) (sym (finished-of (q .thread .code)))
 
   pub choose-of : (b : Bool) (x y : Result)
-      → resultOf (table .node) (table .count) (machine.choose b x y) ≡ cond b (resultOf (table .node) (table .count) x) (resultOf (table .node) (table .count) y)
-  unfolding machine.choose
+      → resultOf (table .node) (table .count) (cond b x y) ≡ cond b (resultOf (table .node) (table .count) x) (resultOf (table .node) (table .count) y)
   choose-of true x y = refl
   choose-of false x y = refl
 

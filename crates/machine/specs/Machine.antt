@@ -126,10 +126,6 @@ pub record Actᶜ : Type 0 where
   pub rule : Rule
   pub code : Found
 
-unfoldable pub choose : Bool → Result → Result → Result
-choose true x y = x
-choose false x y = y
-
 unfoldable pub joinValue : State → ℕ → ℕ → Numbered → Option ℕ → Act
 unfolding learn
 joinValue s p o q none = waits (forJoin o)
@@ -170,7 +166,7 @@ module _ (table : Table) where
 
   -- thread p, which is t. A call has its procedure and its count of arguments, and a hold its monitor: no run comes to another, and none is tested
   unfoldable pub act : State → ℕ → Thread → Ready → Act
-  unfolding readAct writeAct joinAct synchAct choose putBound enter addThread addObject storeMonitor threadOf lookup monitor
+  unfolding readAct writeAct joinAct synchAct putBound enter addThread addObject storeMonitor threadOf lookup monitor
   act s p t (Ready.new fs) = does e-new (some (entry Kind.new p (length (s .objects)) 0 0)) (addObject s fs) (Result.value (length (s .objects)))
   act s p t (Ready.read o f) = readAct s p t o f (lookup s o f)
   act s p t (Ready.write o f v) = writeAct s p t o f v (lookup s o f)
@@ -185,7 +181,7 @@ module _ (table : Table) where
   act s p t (Ready.join o) = joinAct s p o (threadOf 0 (s .threads) o)
   act s p t (Ready.synch o x) = synchAct s p t o x (monitor s o)
   act s p t (Ready.hold o v) = does e-release (some (entry Kind.release p o 0 0)) (storeMonitor s o (cell (t .keys) 0)) (Result.value v)
-  act s p t (Ready.whileTest b x) = does e-if none s (choose b (Result.whileBody x) (Result.value 0))
+  act s p t (Ready.whileTest b x) = does e-if none s (cond b (Result.whileBody x) (Result.value 0))
   act s p t (Ready.whileBody o x) = does e-let none s (Result.whileAgain x)
 
   unfoldable pub actᶜ : List Frame → Readyᶜ → Actᶜ

@@ -4,15 +4,15 @@ use Prim.Native.Nat.{ℕ, zero, suc}
 use mathlib.Core.Bool.{Bool, false, cond, _||_}
 use mathlib.Core.List.{List, [], _∷_}
 use mathlib.Core.Option.{Option, some, none, orElse}
-use lib.Dec.{eqb, ltb, leb}
+use lib.Dec.{eqb, ltb}
 use lib.ListN.{length, getElem?, drop}
 use Rattle.keys.specs.Keys.{singleton}
 use Rattle.packed.specs.Format.{terms, root, volatiles, maskBit}
 use Rattle.packed.specs.Trees.{nodeAt}
 use Rattle.records.specs.Record.{Record}
 use Rattle.rules.specs.State.{freshObject}
-use Rattle.rules.specs.Rules.{Rule, e-call, e-let, e-if, e-while, e-notnottrue, e-andtrue, e-andfalse, e-equaltrue, e-equalfalse, e-new, e-read, e-write, e-readv, e-writev, e-fork, e-join, e-re-enter, e-acquire, e-release}
-use Rattle.rules.specs.Room.{Room}
+use Rattle.rules.specs.Rules.{Rule}
+use Rattle.rules.specs.Room.{Room, noRoomAmong}
 use Rattle.rules.specs.Run.{Stop, end, logged, Status, Outcome}
 use Rattle.machine.specs.Frames.{noSlots, Ready, Found, height}
 use Rattle.machine.specs.Machine.{Thread, State, Table, Move, Attempt, absent, finished, waiting, stuck, lacking, moves, attempt}
@@ -20,25 +20,7 @@ use Rattle.machine.specs.Machine.{Thread, State, Table, Move, Attempt, a
 -- ---- room
 
 unfoldable pub noRoomBefore : State → Rule → Option Room
-noRoomBefore s e-call = none
-noRoomBefore s e-let = none
-noRoomBefore s e-if = none
-noRoomBefore s e-while = none
-noRoomBefore s e-notnottrue = none
-noRoomBefore s e-andtrue = none
-noRoomBefore s e-andfalse = none
-noRoomBefore s e-equaltrue = none
-noRoomBefore s e-equalfalse = none
-noRoomBefore s e-new = cond (leb 32 (length (s .objects))) (some Room.object) none
-noRoomBefore s e-read = none
-noRoomBefore s e-write = cond (leb 256 (s .nextKey)) (some Room.key) none
-noRoomBefore s e-readv = none
-noRoomBefore s e-writev = none
-noRoomBefore s e-fork = cond (leb 8 (length (s .threads))) (some Room.thread) (cond (leb 32 (length (s .objects))) (some Room.object) none)
-noRoomBefore s e-join = none
-noRoomBefore s e-re-enter = none
-noRoomBefore s e-acquire = none
-noRoomBefore s e-release = none
+noRoomBefore s = noRoomAmong (length (s .threads)) (length (s .objects)) (s .nextKey)
 
 -- more than 32 frames
 unfoldable pub deep : Thread → Bool

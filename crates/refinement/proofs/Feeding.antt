@@ -52,7 +52,7 @@ module _ (b : List ℕ) where
   }
 
   test-unlogged : (x : frames.Branches) → Unlogged b (frames.Ready.whileTest false x) (frames.Result.value 0)
-  unfolding playing.noRoomBefore machine.act machine.choose
+  unfolding playing.noRoomBefore machine.act
   test-unlogged x = record { rule = e-if; needs-no-room = λ s. refl; acts = λ s p t. refl }
 
   again-unlogged : (v : ℕ) (x : frames.Branches) → Unlogged b (frames.Ready.whileBody v x) (frames.Result.whileAgain x)

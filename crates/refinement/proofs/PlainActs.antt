@@ -81,7 +81,7 @@ module _ {b : List ℕ} {m : engine.Machine} {s : machine.State} {p : ℕ} (move
   pub body-meets : (a b′ w env i : ℕ) → Well S → IsCondition b a → IsExpression b b′ → t .code ≡ frames.Found.here S (frames.Ready.whileTest true (branches a b′ (slots env)))
       → MeetsBy sight.Ready p (readyOf part.Body a b′ w env) (machine.attempt (tableOf b) s p)
       (Acts mover (readyOf part.Body a b′ w env) i (actedOf room.Enough (goWant (framed kind.Body a b′ 0 env) b′) n ks (getD cs i noCell) (entryOf 0 0 0 0)))
-  unfolding machine.act machine.choose machine.around playing.noRoomBefore land.go tableOf
+  unfolding machine.act machine.around playing.noRoomBefore land.go tableOf
   body-meets a b′ w env i well hc he code =
       let z = loops hc he in (
         _,

@@ -13,7 +13,7 @@ use Rattle.packed.specs.Trees.{binderOf}
 use Rattle.machine.specs.Frames.{noSlots, put, putBound}
 use Rattle.machine.specs.PackedSlots.{slotsIn, putIn}
 use Rattle.machine.proofs.PackedSlots.{put-in}
-use Rattle.term_words.specs.Slots.{choose, slotOf, bindOf}
+use Rattle.term_words.specs.Slots.{slotOf, bindOf}
 
 slot-in : (e y : ℕ) → y < 8 → slotOf e y ≡ slotsIn e y
 unfolding slotOf slotsIn
@@ -43,7 +43,7 @@ pub none-bound : slotOf 0 ≡ noSlots
 unfolding slotOf noSlots
 none-bound = fun-ext (λ y. at (ltb y 8) y)
   where
-    at : (t : Bool) (y : ℕ) → choose t (0 / 2 ^ (y * 5) % 32) 0 ≡ 0
+    at : (t : Bool) (y : ℕ) → cond t (0 / 2 ^ (y * 5) % 32) 0 ≡ 0
     at true y = rw zero-div
     at false y = refl
 
@@ -70,6 +70,6 @@ pub slot-below : (e x : ℕ) → slotOf e x < 32
 unfolding slotOf
 slot-below e x = at (ltb x 8)
   where
-    at : (t : Bool) → choose t (e / 2 ^ (x * 5) % 32) 0 < 32
+    at : (t : Bool) → cond t (e / 2 ^ (x * 5) % 32) 0 < 32
     at true = omega arith
     at false = omega arith

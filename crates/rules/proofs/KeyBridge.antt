@@ -42,10 +42,14 @@ module _ (g : Program) (s : State) (κ : KeyState) (A : Agrees g s κ) (p : ℕ)
   same-count : length (changeAt (s .threads) p h) ≡ length (s .threads)
   same-count = change-length (s .threads) p h
 
-  -- the thread's set becomes a
-  pub agrees-change : (a : KeySet) → ((k : ℕ) → a k ≡ holds (h t .keys) k) → Agrees g after (threadKnows p a κ)
+  -- what thread q is after the change
+  abbrev Is : ℕ → Thread → Type 0
+  Is q u = ((p ≡ q) × (h t ≡ u)) ⊎ ((p ≡ q → ⊥) × (getElem? (s .threads) q ≡ some u))
+
+  agrees-when : (knows : ℕ → KeySet) → ((q : ℕ) (u : Thread) (k : ℕ) → Is q u → knows q k ≡ holds (u .keys) k)
+      → Agrees g after (record { present = κ .present; knows = knows; plain = κ .plain; volatiles = κ .volatiles; monitors = κ .monitors; owner = κ .owner; next = κ .next })
   unfolding lookup monitor
-  agrees-change a same = record {
+  agrees-when knows known = record {
     present = λ q u e. let w = whose (s .threads) p h t at self q u e in A .present q (w .0) (w .1);
     absent = λ q l. A .absent q (omega (arith, same-count));
     knows = λ q u e k. known q u k (who (s .threads) p h t at q u e);
@@ -55,26 +59,20 @@ module _ (g : Program) (s : State) (κ : KeyState) (A : Agrees g s κ) (p : ℕ)
     owner = λ o c m e q u i v. let w = whose (s .threads) p h t at self q u i in A .owner o c m e q (w .0) (w .1) (v ∙ w .2);
     next = A .next;
   }
+
+  -- the thread's set becomes a
+  pub agrees-change : (a : KeySet) → ((k : ℕ) → a k ≡ holds (h t .keys) k) → Agrees g after (threadKnows p a κ)
+  agrees-change a same = agrees-when (put (κ .knows) p a) known
     where
-      known : (q : ℕ) (u : Thread) (k : ℕ) → ((p ≡ q) × (h t ≡ u)) ⊎ ((p ≡ q → ⊥) × (getElem? (s .threads) q ≡ some u)) → put (κ .knows) p a q k ≡ holds (u .keys) k
+      known : (q : ℕ) (u : Thread) (k : ℕ) → Is q u → put (κ .knows) p a q k ≡ holds (u .keys) k
       known q u k (inl (x, y)) = ap (λ (b : ℕ). put (κ .knows) p a b k) (sym x) ∙ ap (λ (b : KeySet). b k) (put-same (κ .knows) p a) ∙ same k ∙ ap (λ (z : Thread). holds (z .keys) k) y
       known q u k (inr (x, y)) = ap (λ (b : KeySet). b k) (put-other (κ .knows) p a q x) ∙ A .knows q u y k
 
   -- its set stays
   pub agrees-keep : h t .keys ≡ t .keys → Agrees g after κ
-  unfolding lookup monitor
-  agrees-keep same = record {
-    present = λ q u e. let w = whose (s .threads) p h t at self q u e in A .present q (w .0) (w .1);
-    absent = λ q l. A .absent q (omega (arith, same-count));
-    knows = λ q u e k. known q u k (who (s .threads) p h t at q u e);
-    plain = λ o f v. A .plain o f v;
-    volatiles = λ o f v k. A .volatiles o f v k;
-    monitors = λ o k. A .monitors o k;
-    owner = λ o c m e q u i v. let w = whose (s .threads) p h t at self q u i in A .owner o c m e q (w .0) (w .1) (v ∙ w .2);
-    next = A .next;
-  }
+  agrees-keep same = agrees-when (κ .knows) known
     where
-      known : (q : ℕ) (u : Thread) (k : ℕ) → ((p ≡ q) × (h t ≡ u)) ⊎ ((p ≡ q → ⊥) × (getElem? (s .threads) q ≡ some u)) → κ .knows q k ≡ holds (u .keys) k
+      known : (q : ℕ) (u : Thread) (k : ℕ) → Is q u → κ .knows q k ≡ holds (u .keys) k
       known q u k (inl (x, y)) = A .knows q t (rw (← x) at) k ∙ ap (λ (W : Keys). holds W k) (sym same) ∙ ap (λ (z : Thread). holds (z .keys) k) y
       known q u k (inr (x, y)) = A .knows q u y k
 

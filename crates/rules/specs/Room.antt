@@ -54,28 +54,32 @@ module _ (s : State) (p : ℕ) where
 pub data Room : Type 0 where
   thread object key depth : Room
 
--- "fork with 8 threads present; new or fork with 32 objects present, null included; plain write with keys 0 to 255 all in use": the room that the
--- state before the move lacks
+-- "fork with 8 threads present; new or fork with 32 objects present, null included; plain write with keys 0 to 255 all in use": the room that a rule lacks,
+-- by how many threads, objects and keys there are
+abbrev pub noRoomAmong : (threads objects keys : ℕ) → Rule → Option Room
+noRoomAmong threads objects keys e-call = none
+noRoomAmong threads objects keys e-let = none
+noRoomAmong threads objects keys e-if = none
+noRoomAmong threads objects keys e-while = none
+noRoomAmong threads objects keys e-notnottrue = none
+noRoomAmong threads objects keys e-andtrue = none
+noRoomAmong threads objects keys e-andfalse = none
+noRoomAmong threads objects keys e-equaltrue = none
+noRoomAmong threads objects keys e-equalfalse = none
+noRoomAmong threads objects keys e-new = cond (leb 32 objects) (some Room.object) none
+noRoomAmong threads objects keys e-read = none
+noRoomAmong threads objects keys e-write = cond (leb 256 keys) (some Room.key) none
+noRoomAmong threads objects keys e-readv = none
+noRoomAmong threads objects keys e-writev = none
+noRoomAmong threads objects keys e-fork = cond (leb 8 threads) (some Room.thread) (cond (leb 32 objects) (some Room.object) none)
+noRoomAmong threads objects keys e-join = none
+noRoomAmong threads objects keys e-re-enter = none
+noRoomAmong threads objects keys e-acquire = none
+noRoomAmong threads objects keys e-release = none
+
+-- the room that the state before the move lacks
 unfoldable pub noRoomBefore : State → Rule → Option Room
-noRoomBefore s e-call = none
-noRoomBefore s e-let = none
-noRoomBefore s e-if = none
-noRoomBefore s e-while = none
-noRoomBefore s e-notnottrue = none
-noRoomBefore s e-andtrue = none
-noRoomBefore s e-andfalse = none
-noRoomBefore s e-equaltrue = none
-noRoomBefore s e-equalfalse = none
-noRoomBefore s e-new = cond (leb 32 (length (s .objects))) (some Room.object) none
-noRoomBefore s e-read = none
-noRoomBefore s e-write = cond (leb 256 (s .nextKey)) (some Room.key) none
-noRoomBefore s e-readv = none
-noRoomBefore s e-writev = none
-noRoomBefore s e-fork = cond (leb 8 (length (s .threads))) (some Room.thread) (cond (leb 32 (length (s .objects))) (some Room.object) none)
-noRoomBefore s e-join = none
-noRoomBefore s e-re-enter = none
-noRoomBefore s e-acquire = none
-noRoomBefore s e-release = none
+noRoomBefore s = noRoomAmong (length (s .threads)) (length (s .objects)) (s .nextKey)
 
 -- a depth over 32
 unfoldable pub deep : Thread → Bool
