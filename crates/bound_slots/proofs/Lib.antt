@@ -1,1 +1,7 @@
 pub mod LeftLaws
+pub mod TermParts
+pub mod Turns
+pub mod Conditions
+pub mod Expressions
+pub mod Lists
+pub mod Roots

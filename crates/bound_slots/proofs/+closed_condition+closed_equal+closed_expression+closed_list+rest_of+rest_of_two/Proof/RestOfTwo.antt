@@ -1,0 +1,44 @@
+-- `rest_of_two`: the second operand is seen here if it has no children, else the first.
+use mathlib.Core.Path.{sym, _∙_}
+use Prim.Native.Nat.{ℕ}
+use native.Mathlib.Omega.{arith}
+use Rattle.packed.proofs.WalkSteps.{just}
+use Rattle.bound_slots.proofs.Expressions.{leaf-closed, leaf-open, first-closed, first-open}
+use Rattle.bound_slots.proofs.rest_of_two.Reads.{Post}
+use Rattle.bound_slots.proofs.closed_expression.Reads as closed-expression
+use Rattle.bound_slots.proofs.closed_leaf.Reads as closed-leaf
+use Rattle.bound_slots.proofs.+closed_condition+closed_equal+closed_expression+closed_list+rest_of+rest_of_two.Proof.Measures.{rest-of-two-at, closed-expression-below}
+use Rattle.bound_slots.proofs.+closed_condition+closed_equal+closed_expression+closed_list+rest_of+rest_of_two.Lts-rest_of_two as lts
+
+module _ (span : ℕ) where
+  abbrev callees : lts.Claims
+  callees = (closed-leaf.Asked, closed-leaf.Learnt, closed-expression-below span, closed-expression.Post)
+
+  mul-w : lts.Need-mul-w callees (rest-of-two-at span) Post
+  mul-w c = let h = c .pre .1 .1 .1 in omega arith
+
+  element-copy-out-w : lts.Need-element-copy-out-w callees (rest-of-two-at span) Post
+  element-copy-out-w c = let h = c .pre .1 .1 .1 in omega arith
+
+  closed-leaf-requires : lts.Need-closed-leaf-requires callees (rest-of-two-at span) Post
+  closed-leaf-requires c κs = c .if1 .taken
+
+  returns : lts.Need-returns callees (rest-of-two-at span) Post
+  returns c = let s = c .before .before .before .before in leaf-closed _ (s .pre .1 .0) _ _ _ _ (c .before .before .if1 .taken) (c .before .closed-leaf .ensures) (s .pre .1 .1 .0) (c .if2 .taken)
+
+  returns-2 : lts.Need-returns-2 callees (rest-of-two-at span) Post
+  returns-2 c = leaf-open _ (c .before .before .before .before .pre .1 .0) _ _ _ _ (c .before .before .if1 .taken) (c .before .closed-leaf .ensures) (c .if2 .left)
+
+  closed-expression-requires : lts.Need-closed-expression-requires callees (rest-of-two-at span) Post
+  closed-expression-requires c κs = let s = c .before .before in (just span (s .args .x) (s .pre .0), (s .pre .1 .0, s .pre .1 .1 .0))
+
+  returns-3 : lts.Need-returns-3 callees (rest-of-two-at span) Post
+  returns-3 c = let s = c .before .before .before .before in first-closed _ (s .pre .1 .0) _ _ _ _ (s .pre .1 .1 .1) (sym (c .before .closed-expression .ensures) ∙ c .if3 .taken)
+
+  returns-4 : lts.Need-returns-4 callees (rest-of-two-at span) Post
+  returns-4 c = first-open _ (c .before .before .before .before .pre .1 .0) _ _ _ _ (sym (c .before .closed-expression .ensures) ∙ c .if3 .left)
+
+  pub rest-of-two : {M : Type 1} → lts.Closed callees (rest-of-two-at span) Post M
+  rest-of-two =
+      lts.spec callees (rest-of-two-at span) Post mul-w element-copy-out-w closed-leaf-requires returns returns-2
+      closed-expression-requires returns-3 returns-4
