@@ -216,14 +216,14 @@ fn closed_list(words: &[usize; 1024], from: usize, bound: usize) -> bool
     }
 }
 
-// The lowest procedure whose root uses an unbound slot, or `procs`.
-pub fn lowest_open(plan: &[u8], procs: usize, count: usize, words: &[usize; 1024]) -> usize
-    requires { ⌜ Right (now plan) procs count ⌝ }
+// The lowest procedure whose root uses an unbound slot, or `procedures`.
+pub fn lowest_open(plan: &[u8], procedures: usize, count: usize, words: &[usize; 1024]) -> usize
+    requires { ⌜ Right (now plan) procedures count ⌝ }
     requires { ⌜ Loaded (now plan) count (now words) ⌝ }
-    ensures { λ r. ⌜ Lowest (usesUnboundSlot (now (plan .entry))) procs r ⌝ }
+    ensures { λ r. ⌜ Lowest (usesUnboundSlot (now (plan .entry))) procedures r ⌝ }
 {
     let mut p = 0;
-    while p < procs {
+    while p < procedures {
         let bound = (1usize << layout::parameters(plan, p)) - 1;
         if !closed_expression(words, layout::root(plan, p), bound) {
             return p;

@@ -62,13 +62,13 @@ fn wrong_procedure(plan: &[u8], count: usize, p: usize) -> bool
     layout::root(plan, p) >= count
 }
 
-// The lowest procedure that is wrong, or `procs`.
-pub fn lowest_wrong_procedure(plan: &[u8], procs: usize, count: usize) -> usize
-    requires { ⌜ Sized (now plan) procs count ⌝ }
-    ensures { λ r. ⌜ Lowest (wrongProcedure (now (plan .entry))) procs r ⌝ }
+// The lowest procedure that is wrong, or `procedures`.
+pub fn lowest_wrong_procedure(plan: &[u8], procedures: usize, count: usize) -> usize
+    requires { ⌜ Sized (now plan) procedures count ⌝ }
+    ensures { λ r. ⌜ Lowest (wrongProcedure (now (plan .entry))) procedures r ⌝ }
 {
     let mut p = 0;
-    while p < procs {
+    while p < procedures {
         if wrong_procedure(plan, count, p) {
             return p;
         }

@@ -2,32 +2,33 @@
 ghost use Prim.Native.Nat.{_≤_, _+_, _*_};
 ghost use mathlib.Core.Path.{_≡_};
 ghost use lib.ListN.{length};
-ghost use Rattle.packed.specs.Format.{procedures, root};
+ghost use Rattle.packed.specs.Format;
+ghost use Rattle.packed.specs.Format.{root};
 ghost use Rattle.loading.specs.Loading.{Words, Roots};
 use header::layout;
 
 // The words of the first `count` terms.
-pub fn words(plan: &[u8], procs: usize, count: usize) -> [usize; 1024]
-    requires { ⌜ (procs ≡ procedures (now plan)) × (procs ≤ 32) × (count ≤ 1024) × (8 + 2 * procs + 5 * count ≤ length (now plan)) ⌝ }
+pub fn words(plan: &[u8], procedures: usize, count: usize) -> [usize; 1024]
+    requires { ⌜ (procedures ≡ Format.procedures (now plan)) × (procedures ≤ 32) × (count ≤ 1024) × (8 + 2 * procedures + 5 * count ≤ length (now plan)) ⌝ }
     ensures { λ r. ⌜ Words (now (plan .entry)) count r ⌝ }
 {
     let mut all = [0usize; 1024];
     let mut t = 0;
     while t < count {
-        all[t] = byte_numbers::five(plan, 8 + 2 * procs + 5 * t);
+        all[t] = byte_numbers::five(plan, 8 + 2 * procedures + 5 * t);
         t += 1;
     }
     all
 }
 
 // The roots of the procedures.
-pub fn roots(plan: &[u8], procs: usize) -> [usize; 32]
-    requires { ⌜ (procs ≤ 32) × (8 + 2 * procs ≤ length (now plan)) ⌝ }
-    ensures { λ r. ⌜ Roots (now (plan .entry)) procs r ⌝ }
+pub fn roots(plan: &[u8], procedures: usize) -> [usize; 32]
+    requires { ⌜ (procedures ≤ 32) × (8 + 2 * procedures ≤ length (now plan)) ⌝ }
+    ensures { λ r. ⌜ Roots (now (plan .entry)) procedures r ⌝ }
 {
     let mut all = [0usize; 32];
     let mut p = 0;
-    while p < procs {
+    while p < procedures {
         all[p] = layout::root(plan, p);
         p += 1;
     }

@@ -93,20 +93,20 @@ fn name_children(words: &[usize; 1024], times: &mut [u8; 1024], t: usize, best: 
 // Each procedure names its root.
 fn name_roots(
     plan: &[u8],
-    procs: usize,
+    procedures: usize,
     count: usize,
     words: &[usize; 1024],
     times: &mut [u8; 1024],
 ) -> usize
-    requires { ⌜ Right (now plan) procs count ⌝ }
+    requires { ⌜ Right (now plan) procedures count ⌝ }
     requires { ⌜ Loaded (now plan) count (now words) ⌝ }
     requires { ⌜ now times ≡ replicate 1024 0 ⌝ }
-    ensures { λ r. ⌜ Lowest (misplacedRoot (now (plan .entry)) procs) count r ⌝ }
-    ensures { λ r. ⌜ Counted (rootTimes (now (plan .entry)) procs) (now (times .exit)) ⌝ }
+    ensures { λ r. ⌜ Lowest (misplacedRoot (now (plan .entry)) procedures) count r ⌝ }
+    ensures { λ r. ⌜ Counted (rootTimes (now (plan .entry)) procedures) (now (times .exit)) ⌝ }
 {
     let mut best = count;
     let mut p = 0;
-    while p < procs {
+    while p < procedures {
         best = name(words, times, 1, layout::root(plan, p), best);
         p += 1;
     }
@@ -116,22 +116,22 @@ fn name_roots(
 // The lowest wrongly sorted term, or the count; `times`, which came as zeros, says how often each term is named.
 pub fn name_all(
     plan: &[u8],
-    procs: usize,
+    procedures: usize,
     count: usize,
     words: &[usize; 1024],
     times: &mut [u8; 1024],
 ) -> usize
-    requires { ⌜ Right (now plan) procs count ⌝ }
+    requires { ⌜ Right (now plan) procedures count ⌝ }
     requires { ⌜ Loaded (now plan) count (now words) ⌝ }
     requires { ⌜ now times ≡ replicate 1024 0 ⌝ }
     ensures { λ r. ⌜ Lowest (wronglySorted (now (plan .entry))) count r ⌝ }
     ensures { λ r. ⌜ Counted (allTimes (now (plan .entry)) count) (now (times .exit)) ⌝ }
 {
-    let mut best = name_roots(plan, procs, count, words, times);
+    let mut best = name_roots(plan, procedures, count, words, times);
     let mut t = 0;
     while t < count {
         let least = name_children(words, times, t, best);
-        best = sorts::lower_call(plan, procs, count, words, t, least);
+        best = sorts::lower_call(plan, procedures, count, words, t, least);
         t += 1;
     }
     best

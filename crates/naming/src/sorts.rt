@@ -31,8 +31,14 @@ pub fn lower(words: &[usize; 1024], sort: usize, index: usize, best: usize) -> u
 }
 
 // The terms of tag 16 from term `from` on, up to the first other tag; counted to nine at most, one more than any parameters.
-fn list_length(plan: &[u8], procs: usize, count: usize, words: &[usize; 1024], from: usize) -> usize
-    requires { ⌜ Right (now plan) procs count ⌝ }
+fn list_length(
+    plan: &[u8],
+    procedures: usize,
+    count: usize,
+    words: &[usize; 1024],
+    from: usize,
+) -> usize
+    requires { ⌜ Right (now plan) procedures count ⌝ }
     requires { ⌜ Loaded (now plan) count (now words) ⌝ }
     requires { ⌜ from < count ⌝ }
     ensures { λ r. ⌜ r ≡ listLength (now (plan .entry)) 9 from ⌝ }
@@ -53,13 +59,13 @@ fn list_length(plan: &[u8], procs: usize, count: usize, words: &[usize; 1024], f
 // The lower of `best` and term `t`, if that is a call whose list is not as long as the parameters.
 pub fn lower_call(
     plan: &[u8],
-    procs: usize,
+    procedures: usize,
     count: usize,
     words: &[usize; 1024],
     t: usize,
     best: usize,
 ) -> usize
-    requires { ⌜ Right (now plan) procs count ⌝ }
+    requires { ⌜ Right (now plan) procedures count ⌝ }
     requires { ⌜ Loaded (now plan) count (now words) ⌝ }
     requires { ⌜ t < count ⌝ }
     ensures { λ r. ⌜ r ≡ lowerIf (wrongCall (now (plan .entry)) t) t best ⌝ }
@@ -68,7 +74,7 @@ pub fn lower_call(
     if w / TAG != 8 {
         return best;
     }
-    let n = list_length(plan, procs, count, words, w / ARGUMENTS % 1024);
+    let n = list_length(plan, procedures, count, words, w / ARGUMENTS % 1024);
     if n == layout::parameters(plan, w / PROCEDURE % 32) {
         return best;
     }

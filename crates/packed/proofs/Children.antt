@@ -56,9 +56,9 @@ rows-within n x y z k =
     (λ a b c. tt)
     (λ j a b c. tt) k
 
-pub children-within : (b : List ℕ) (procs n u : ℕ) → Sized b procs n → wrongTerm b u ≡ false → Within n (childrenOf (nodeAt b u))
+pub children-within : (b : List ℕ) (procedures n u : ℕ) → Sized b procedures n → wrongTerm b u ≡ false → Within n (childrenOf (nodeAt b u))
 unfolding termAt laidOut nodeAt nodeOf
-children-within b procs n u z h =
+children-within b procedures n u z h =
     let f = children-between b u h in
     rw (z .terms-are) (rows-within (terms b) _ _ _ (tagAt b u) (λ c. f .0 c .1) (λ c. f .1 c .1) (λ c. f .2 c .1))
 

@@ -9,7 +9,8 @@ use native.Mathlib.Decide.{decLt, ℕ-discrete}
 use native.Mathlib.Omega.{arith}
 use lib.Dec.{eqb}
 use borrow.Author.Tests.{eq-eqb, ne-eqb, leb-false}
-use Rattle.packed.specs.Format.{procedures, terms, parameters, Operand, table, layout, termAt, tagAt}
+use Rattle.packed.specs.Format
+use Rattle.packed.specs.Format.{terms, parameters, Operand, table, layout, termAt, tagAt}
 use Rattle.packed.specs.Refusals.{wrongOperand, isChild, wrongCall, listLength}
 use Rattle.packed.specs.Steps.{Right, wordAt}
 use Rattle.packed.proofs.Reading.{tag-in, tag-was, first-was, second-was}
@@ -43,11 +44,11 @@ counted b (suc f) g t = rw suc-add (go (counted b f g (termAt b t .value₂)) (�
         (⊎-elim (λ q. inl (ap suc q)) (λ q. inr (ap suc (q .0), omega (arith, q .1))) i)
     go i (no n) = inl (list-stop b (suc f) t n ∙ sym (list-stop b (suc (f + g)) t n))
 
-module _ (b : List ℕ) (procs n : ℕ) (r : Right b procs n) where
+module _ (b : List ℕ) (procedures n : ℕ) (r : Right b procedures n) where
   -- the rest of a list begins further on
   pub rest-between : (t : ℕ) → t < n → tagAt b t ≡ 16 → (t < termAt b t .value₂) × (termAt b t .value₂ < n)
   unfolding layout table
-  rest-between t h e = second-between b procs n t (r .headed .sized) (r .terms-right t h) (ap isChild (second-is b t 16 e))
+  rest-between t h e = second-between b procedures n t (r .headed .sized) (r .terms-right t h) (ap isChild (second-is b t 16 e))
 
   -- a list has no more terms than there are from its first on
   within : (f g t : ℕ) → t < n → n ≤ t + f → listLength b f t ≡ listLength b (f + g) t
@@ -83,7 +84,7 @@ call-is : (b : List ℕ) (t : ℕ) → tagAt b t ≡ 8 → wrongCall b t ≡ not
 unfolding wrongCall
 call-is b t h = rw (eq-eqb (tagAt b t) 8 h)
 
-module _ (b : List ℕ) (procs n t : ℕ) (r : Right b procs n) (h : t < n) (w : ℕ) (e : w ≡ wordAt b t) (k : tagAt b t ≡ 8) where
+module _ (b : List ℕ) (procedures n t : ℕ) (r : Right b procedures n) (h : t < n) (w : ℕ) (e : w ≡ wordAt b t) (k : tagAt b t ≡ 8) where
   key : w / 34359738368 ≡ 8
   key = ap (λ (v : ℕ). v / 34359738368) e ∙ sym (tag-in b t) ∙ k
 
@@ -93,26 +94,26 @@ module _ (b : List ℕ) (procs n t : ℕ) (r : Right b procs n) (h : t < n) (w :
 
   pub list-below : w / 1048576 % 1024 < n
   unfolding layout table
-  list-below = rw list-at (second-between b procs n t (r .headed .sized) (r .terms-right t h) (ap isChild (second-is b t 8 k)) .1)
+  list-below = rw list-at (second-between b procedures n t (r .headed .sized) (r .terms-right t h) (ap isChild (second-is b t 8 k)) .1)
 
   callee-at : w / 1073741824 % 32 ≡ termAt b t .value₁
   unfolding layout table
   callee-at = first-was b t w e 8 key
 
-  pub callee-below : w / 1073741824 % 32 < procs
+  pub callee-below : w / 1073741824 % 32 < procedures
   unfolding layout table
   callee-below =
       let f = passes b t (r .terms-right t h) .first-right in
-      rw (callee-at, r .headed .sized .procs-are)
-      (leb-false (procedures b) (termAt b t .value₁) (sym (ap (λ (o : Operand). wrongOperand (procedures b) (terms b) t o (termAt b t .value₁)) (first-is b t 8 k)) ∙ f))
+      rw (callee-at, r .headed .sized .procedures-are)
+      (leb-false (Format.procedures b) (termAt b t .value₁) (sym (ap (λ (o : Operand). wrongOperand (Format.procedures b) (terms b) t o (termAt b t .value₁)) (first-is b t 8 k)) ∙ f))
 
   -- counted to nine, against the parameters
   pub called : (l p : ℕ) → l ≡ listLength b 9 (w / 1048576 % 1024) → p ≡ parameters b (w / 1073741824 % 32) → not (eqb l p) ≡ wrongCall b t
   called l p el ep =
       let v = w / 1048576 % 1024 in
       let m = w / 1073741824 % 32 in
-      let q : parameters b m ≤ 8 = parameters-small b procs n m (r .headed) callee-below in
-      let x : eqb l p ≡ eqb (listLength b (terms b) v) (parameters b m) = rw (el, ep) (nine b procs n r v (parameters b m) list-below q) in
+      let q : parameters b m ≤ 8 = parameters-small b procedures n m (r .headed) callee-below in
+      let x : eqb l p ≡ eqb (listLength b (terms b) v) (parameters b m) = rw (el, ep) (nine b procedures n r v (parameters b m) list-below q) in
       let y : eqb (listLength b (terms b) v) (parameters b m) ≡ eqb (listLength b (terms b) (termAt b t .value₂)) (parameters b (termAt b t .value₁)) = rw (list-at, callee-at) in
       ap not (x ∙ y) ∙ sym (call-is b t k)
 

@@ -13,7 +13,8 @@ use lib.Seq.{getD-set-same, getD-set-other}
 use borrow.Author.Tests.{eq-eqb, ne-eqb}
 use Rattle.format.specs.Lowest.{Lowest}
 use Rattle.format.proofs.LowestLaws.{lowest-ext}
-use Rattle.packed.specs.Format.{procedures, terms, root, table, layout, laidOut, termAt, tagAt}
+use Rattle.packed.specs.Format
+use Rattle.packed.specs.Format.{terms, root, table, layout, laidOut, termAt, tagAt}
 use Rattle.packed.specs.Trees.{nodes, nodeOf, nodeAt}
 use Rattle.packed.specs.Refusals.{sumBelow, oneIf, wrongTerm, timesIn, timesNamed, notNamedOnce}
 use Rattle.packed.specs.Steps.{Headed, Loaded, nodeIn, Child, childOf, childrenOf, moreOf, countAll, cap, rootTimes, allTimes, Counted, notOnce, inWord, lowerAll}
@@ -73,9 +74,9 @@ count-all (x ∷ ks) f c z k =
     counted-ext (λ t. g t + timesOf ks t) (λ t. f t + timesOf (x ∷ ks) t) _ (λ t. omega arith)
     (count-all ks g (set c (x .index) (moreOf (getD c (x .index) 0))) (z .1) (once-more f c (x .index) k (z .0)))
 
-pub no-terms : (b : List ℕ) (procs : ℕ) (c : List ℕ) → procs ≡ procedures b → Counted (rootTimes b procs) c → Counted (allTimes b 0) c
+pub no-terms : (b : List ℕ) (procedures : ℕ) (c : List ℕ) → procedures ≡ Format.procedures b → Counted (rootTimes b procedures) c → Counted (allTimes b 0) c
 unfolding rootTimes allTimes sumBelow
-no-terms b procs c e k = counted-ext _ _ c (λ t. rw e (sym (add-zero _))) k
+no-terms b procedures c e k = counted-ext _ _ c (λ t. rw e (sym (add-zero _))) k
 
 pub root-step : (b : List ℕ) (p v : ℕ) (c c′ : List ℕ) → v ≡ root b p → root b p < 1024 → c′ ≡ countAll (childOf 1 v ∷ []) c → Counted (rootTimes b p) c
     → Counted (rootTimes b (suc p)) c′
@@ -118,15 +119,15 @@ within-more n m [] h z = tt
 within-more n m (k ∷ ks) h z = (omega (arith, z .0), within-more n m ks h (z .1))
 
 -- the counts of a term's children, each once more
-pub term-step : (b : List ℕ) (procs n u : ℕ) (ws c c′ : List ℕ) → Loaded b n ws → Headed b procs n → wrongTerm b u ≡ false → u < n
+pub term-step : (b : List ℕ) (procedures n u : ℕ) (ws c c′ : List ℕ) → Loaded b n ws → Headed b procedures n → wrongTerm b u ≡ false → u < n
     → c′ ≡ countAll (childrenOf (nodeIn ws u)) c → Counted (allTimes b u) c → Counted (allTimes b (suc u)) c′
 unfolding allTimes sumBelow
-term-step b procs n u ws c c′ d z h q e k =
+term-step b procedures n u ws c c′ d z h q e k =
     let ks = childrenOf (nodeAt b u) in
     let i : nodeIn ws u ≡ nodeAt b u = nodes-are b n ws d u q in
     rw (e, i)
     (counted-ext (λ t. allTimes b u t + timesOf ks t) (allTimes b (suc u)) _ (λ t. omega (arith, term-times b u t))
-    (count-all ks (allTimes b u) c (within-more n 1024 ks (z .few) (children-within b procs n u (z .sized) h)) k))
+    (count-all ks (allTimes b u) c (within-more n 1024 ks (z .few) (children-within b procedures n u (z .sized) h)) k))
 
 -- the lowest that is not counted once is the lowest that is not named once
 pub all-names : (b : List ℕ) (n r : ℕ) (c : List ℕ) → n ≡ terms b → n ≤ 1024 → Counted (allTimes b n) c → Lowest (notOnce c) n r → Lowest (notNamedOnce b) n r

@@ -7,7 +7,8 @@ use native.Mathlib.Decide.{decLt}
 use native.Mathlib.Omega.{arith}
 use lib.ListN.{length}
 use Rattle.format.proofs.BitLaws.{bits-past}
-use Rattle.packed.specs.Format.{procedures, terms, planLength, table, layout, termBit, termAt, tagAt}
+use Rattle.packed.specs.Format
+use Rattle.packed.specs.Format.{terms, planLength, table, layout, termBit, termAt, tagAt}
 use Rattle.packed.specs.Trees.{Node, nodes, nodeOf, nodeAt, treeAt}
 use Rattle.packed.specs.Steps.{Right, Loaded, Ordered, Descending, Below, inWord, termIn, nodeIn, treeIn}
 use Rattle.packed.proofs.Tags.{by-tag}
@@ -57,15 +58,15 @@ descending b whole each = record { past = past; below = λ t. below t (decLt t (
     far l p n t e h = omega arith
 
     past : (t : ℕ) → terms b ≤ t → nodeAt b t ≡ Node.null
-    past t h = node-is b t 0 (bits-past b (termBit b t) 5 (far (length b) (procedures b) (terms b) t whole h))
+    past t h = node-is b t 0 (bits-past b (termBit b t) 5 (far (length b) (Format.procedures b) (terms b) t whole h))
 
     below : (t : ℕ) → Dec (t < terms b) → Below t (nodeAt b t)
     below t (yes h) = let d = each t h in rw (node-is b t (tagAt b t) refl) (rows-below t _ _ _ (tagAt b t) (d .0) (d .1) (d .2))
     below t (no h) = rw (past t (omega (arith, h))) tt
 
-right-descends : (b : List ℕ) (procs n : ℕ) → Right b procs n → Descending (nodeAt b) (terms b)
+right-descends : (b : List ℕ) (procedures n : ℕ) → Right b procedures n → Descending (nodeAt b) (terms b)
 unfolding planLength
-right-descends b procs n r = let z = r .headed .sized in descending b (z .long ∙ rw (z .procs-are, z .terms-are)) each
+right-descends b procedures n r = let z = r .headed .sized in descending b (z .long ∙ rw (z .procedures-are, z .terms-are)) each
   where
     each : (t : ℕ) → t < terms b → Descends b t
     each t h =
@@ -74,20 +75,20 @@ right-descends b procs n r = let z = r .headed .sized in descending b (z .long �
 
 -- ---- the array's nodes are the plan's, and their trees too
 
-module _ (b : List ℕ) (procs n : ℕ) (r : Right b procs n) (ws : List ℕ) (d : Loaded b n ws) where
+module _ (b : List ℕ) (procedures n : ℕ) (r : Right b procedures n) (ws : List ℕ) (d : Loaded b n ws) where
   all-nodes : nodeIn ws ≡ nodeAt b
   unfolding nodeIn nodes nodeOf termIn inWord layout table
   all-nodes = fun-ext (λ t. go t (decLt t n))
     where
       go : (t : ℕ) → Dec (t < n) → nodeIn ws t ≡ nodeAt b t
       go t (yes h) = nodes-are b n ws d t h
-      go t (no h) = rw (d .rest t (omega (arith, h))) (sym (right-descends b procs n r .past t (let e = r .headed .sized .terms-are in omega (arith, h))))
+      go t (no h) = rw (d .rest t (omega (arith, h))) (sym (right-descends b procedures n r .past t (let e = r .headed .sized .terms-are in omega (arith, h))))
 
   pub ordered : Ordered ws
   ordered =
       let f = r .headed .few in
       let e = r .headed .sized .terms-are in
-      let o = right-descends b procs n r in
+      let o = right-descends b procedures n r in
       rw all-nodes (record { past = λ t h. o .past t (omega arith); below = o .below })
 
   pub tree-is : (t : ℕ) → treeIn ws t ≡ treeAt b t
@@ -95,4 +96,4 @@ module _ (b : List ℕ) (procs n : ℕ) (r : Right b procs n) (ws : List ℕ) (d
   tree-is t =
       let f = r .headed .few in
       let e = r .headed .sized .terms-are in
-      rw all-nodes (expression-fuel (nodeAt b) (terms b) (right-descends b procs n r) (1024 - t) (terms b - t) t (omega arith) (omega arith))
+      rw all-nodes (expression-fuel (nodeAt b) (terms b) (right-descends b procedures n r) (1024 - t) (terms b - t) t (omega arith) (omega arith))

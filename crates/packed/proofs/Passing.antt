@@ -10,7 +10,8 @@ use lib.Dec.{eqb, ltb, leb, lit<}
 use lib.ListN.{length}
 use borrow.Author.Tests.{ltb-false, leb-false, eqb-true, eq-eqb, not-false}
 use Rattle.format.proofs.RefusalLaws.{head-pass, tail-pass, none-is-pass, neither}
-use Rattle.packed.specs.Format.{version, procedures, terms, headerSpare, volatiles, maskBit, parameters, root, planLength, Operand, expression, Term, tagAt, termAt}
+use Rattle.packed.specs.Format
+use Rattle.packed.specs.Format.{version, terms, headerSpare, volatiles, maskBit, parameters, root, planLength, Operand, expression, Term, tagAt, termAt}
 use Rattle.packed.specs.Refusals.{anyBelow, wrongLength, wrongHeader, wrongProcedure, wrongOperand, someOperand, breaksTable, wrongTerm, misplaced, listLength, wrongCall, wronglySorted, notNamedOnce, usesUnboundSlot}
 use Rattle.packed.specs.Check.{checks, refusal}
 
@@ -47,9 +48,9 @@ header-tests v p n s m h =
     )
 
 pub header-of : (b : List ℕ) → wrongHeader b ≡ false
-    → (version b ≡ 1) × (1 ≤ procedures b) × (procedures b ≤ 32) × (1 ≤ terms b) × (terms b ≤ 1024) × (headerSpare b ≡ 0) × (maskBit (volatiles b) 0 ≡ 1)
+    → (version b ≡ 1) × (1 ≤ Format.procedures b) × (Format.procedures b ≤ 32) × (1 ≤ terms b) × (terms b ≤ 1024) × (headerSpare b ≡ 0) × (maskBit (volatiles b) 0 ≡ 1)
 unfolding wrongHeader
-header-of b h = header-tests (version b) (procedures b) (terms b) (headerSpare b) (maskBit (volatiles b) 0) h
+header-of b h = header-tests (version b) (Format.procedures b) (terms b) (headerSpare b) (maskBit (volatiles b) 0) h
 
 pub procedure-of : (b : List ℕ) (p : ℕ) → wrongProcedure b p ≡ false → (parameters b p ≤ 8) × ((eqb p 0 && ltb 0 (parameters b p)) ≡ false) × (root b p < terms b)
 unfolding wrongProcedure
@@ -62,11 +63,11 @@ procedure-of b p h =
 -- ---- 4: single terms
 
 -- the tests of check 4 that term m passes as term t
-pub record PassesTable (procs n t : ℕ) (m : Term) : Type 0 where
+pub record PassesTable (procedures n t : ℕ) (m : Term) : Type 0 where
   pub tag-small : m .tag ≤ 17
-  pub first-right : wrongOperand procs n t (m .first) (m .value₁) ≡ false
-  pub second-right : wrongOperand procs n t (m .second) (m .value₂) ≡ false
-  pub third-right : wrongOperand procs n t (m .third) (m .value₃) ≡ false
+  pub first-right : wrongOperand procedures n t (m .first) (m .value₁) ≡ false
+  pub second-right : wrongOperand procedures n t (m .second) (m .value₂) ≡ false
+  pub third-right : wrongOperand procedures n t (m .third) (m .value₃) ≡ false
   pub spare-zero : m .spare ≡ 0
 
 -- no operand of term m passes a test
@@ -80,13 +81,13 @@ of-operands f m h =
     let h₁ = neither (f (m .first) (m .value₁)) (f (m .second) (m .value₂)) (h₂ .0) in
     (h₁ .0, h₁ .1, h₂ .1)
 
-pub table-of : (procs n t : ℕ) (m : Term) → breaksTable procs n t m ≡ false → PassesTable procs n t m
+pub table-of : (procedures n t : ℕ) (m : Term) → breaksTable procedures n t m ≡ false → PassesTable procedures n t m
 unfolding breaksTable
-table-of procs n t m h =
-    let x = someOperand (wrongOperand procs n t) m in
+table-of procedures n t m h =
+    let x = someOperand (wrongOperand procedures n t) m in
     let h₂ = neither (ltb 17 (m .tag) || x) (not (eqb (m .spare) 0)) h in
     let h₁ = neither (ltb 17 (m .tag)) x (h₂ .0) in
-    let f = of-operands (wrongOperand procs n t) m (h₁ .1) in
+    let f = of-operands (wrongOperand procedures n t) m (h₁ .1) in
     record {
       tag-small = ltb-false 17 (m .tag) (h₁ .0);
       first-right = f .0;
@@ -111,14 +112,14 @@ at-itself v x h = rw (eq-eqb v v refl) at h
 
 -- the three tests of check 5 that term t passes
 pub record Sorted (b : List ℕ) (t : ℕ) : Type 0 where
-  pub as-root : (p : ℕ) → p < procedures b → (eqb (root b p) t && misplaced expression (tagAt b t)) ≡ false
+  pub as-root : (p : ℕ) → p < Format.procedures b → (eqb (root b p) t && misplaced expression (tagAt b t)) ≡ false
   pub as-child : (u : ℕ) → u < terms b → someOperand (λ kind v. eqb v t && misplaced kind (tagAt b t)) (termAt b u) ≡ false
   pub as-call : wrongCall b t ≡ false
 
 pub sorted-of : (b : List ℕ) (t : ℕ) → wronglySorted b t ≡ false → Sorted b t
 unfolding wronglySorted
 sorted-of b t h =
-    let x = anyBelow (procedures b) (λ p. eqb (root b p) t && misplaced expression (tagAt b t)) in
+    let x = anyBelow (Format.procedures b) (λ p. eqb (root b p) t && misplaced expression (tagAt b t)) in
     let y = anyBelow (terms b) (λ u. someOperand (λ kind v. eqb v t && misplaced kind (tagAt b t)) (termAt b u)) in
     let h₂ = neither (x || y) (wrongCall b t) h in
     let h₁ = neither x y (h₂ .0) in
@@ -137,11 +138,11 @@ call-of b t h e =
 pub record AllRight (b : List ℕ) : Type 0 where
   pub right₁ : wrongLength b ≡ false
   pub right₂ : wrongHeader b ≡ false
-  pub right₃ : (p : ℕ) → p < procedures b → wrongProcedure b p ≡ false
+  pub right₃ : (p : ℕ) → p < Format.procedures b → wrongProcedure b p ≡ false
   pub right₄ : (t : ℕ) → t < terms b → wrongTerm b t ≡ false
   pub right₅ : (t : ℕ) → t < terms b → wronglySorted b t ≡ false
   pub right₆ : (t : ℕ) → t < terms b → notNamedOnce b t ≡ false
-  pub right₇ : (p : ℕ) → p < procedures b → usesUnboundSlot b p ≡ false
+  pub right₇ : (p : ℕ) → p < Format.procedures b → usesUnboundSlot b p ≡ false
 
 pub all-right : (b : List ℕ) → refusal b ≡ none → AllRight b
 unfolding refusal checks

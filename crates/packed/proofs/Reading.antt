@@ -12,7 +12,8 @@ use lib.ListN.{length, take, drop, getD, length-drop}
 use lib.Seq.{take-all}
 use Rattle.format.specs.Bits.{bitsAt}
 use Rattle.format.proofs.BitLaws.{bits-below, bits-drop, field-of, first-of}
-use Rattle.packed.specs.Format.{version, procedures, terms, parameters, root, headerSpare, volatiles, maskBit, fieldsFrom, absent, width, Row, operands, table, layout, Term, laidOut, termBit, tagAt, termAt}
+use Rattle.packed.specs.Format
+use Rattle.packed.specs.Format.{version, terms, parameters, root, headerSpare, volatiles, maskBit, fieldsFrom, absent, width, Row, operands, table, layout, Term, laidOut, termBit, tagAt, termAt}
 use Rattle.packed.specs.Refusals.{wrongHeader, wrongProcedure}
 use Rattle.packed.specs.Steps.{wordAt, inWord, termIn}
 use Rattle.packed.proofs.Fields.{onesOf, fields-count}
@@ -29,8 +30,8 @@ part-bits l k i w q x e h =
 
 -- ---- the header
 
-pub procedures-lt : (b : List ℕ) → procedures b < 64
-unfolding procedures
+pub procedures-lt : (b : List ℕ) → Format.procedures b < 64
+unfolding Format.procedures
 procedures-lt b = bits-below b 4 6
 
 pub terms-lt : (b : List ℕ) → terms b < 4096
@@ -41,11 +42,11 @@ terms-lt b = bits-below b 10 12
 abbrev pub headerTests : ℕ → ℕ → ℕ → ℕ → ℕ → Bool
 headerTests v p n s m = not (eqb v 1) || ltb p 1 || ltb 32 p || ltb n 1 || ltb 1024 n || not (eqb s 0) || not (eqb (maskBit m 0) 1)
 
-are-tests : (b : List ℕ) → wrongHeader b ≡ headerTests (version b) (procedures b) (terms b) (headerSpare b) (volatiles b)
+are-tests : (b : List ℕ) → wrongHeader b ≡ headerTests (version b) (Format.procedures b) (terms b) (headerSpare b) (volatiles b)
 unfolding wrongHeader
 are-tests b = refl
 
-pub header-tests : (b : List ℕ) (v p n s m : ℕ) → v ≡ version b → p ≡ procedures b → n ≡ terms b → s ≡ headerSpare b → m ≡ volatiles b
+pub header-tests : (b : List ℕ) (v p n s m : ℕ) → v ≡ version b → p ≡ Format.procedures b → n ≡ terms b → s ≡ headerSpare b → m ≡ volatiles b
     → wrongHeader b ≡ headerTests v p n s m
 header-tests b v p n s m e f g h i = are-tests b ∙ rw (e, f, g, h, i)
 
@@ -117,9 +118,9 @@ laid b i k r h =
     let s : bitsAt b (i + (5 + a₁ + a₂ + a₃)) (35 - (a₁ + a₂ + a₃)) ≡ bitsAt b i 40 % 2 ^ (35 - (a₁ + a₂ + a₃)) = back40 b i (5 + a₁ + a₂ + a₃) (35 - (a₁ + a₂ + a₃)) (omega arith) in
     rw (x, y, z, s)
 
-pub word-is : (b : List ℕ) (procs t w : ℕ) → procs ≡ procedures b → w ≡ bitsAt b ((8 + 2 * procs + 5 * t) * 8) 40 → w ≡ wordAt b t
+pub word-is : (b : List ℕ) (procedures t w : ℕ) → procedures ≡ Format.procedures b → w ≡ bitsAt b ((8 + 2 * procedures + 5 * t) * 8) 40 → w ≡ wordAt b t
 unfolding wordAt termBit
-word-is b procs t w e f = f ∙ rw e
+word-is b procedures t w e f = f ∙ rw e
 
 pub tag-in : (b : List ℕ) (t : ℕ) → tagAt b t ≡ wordAt b t / 34359738368
 unfolding tagAt wordAt

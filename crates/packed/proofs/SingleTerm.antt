@@ -10,7 +10,8 @@ use lib.Seq.{getD-set-other}
 use borrow.Author.Tests.{lt-ltb, leb-false}
 use Rattle.format.proofs.Filled.{zeros, filled}
 use Rattle.format.proofs.RefusalLaws.{neither}
-use Rattle.packed.specs.Format.{procedures, terms, Operand, absent, slot, binder, mask, fieldName, procedure, expression, condition, list, layout, laidOut, tagAt, termAt}
+use Rattle.packed.specs.Format
+use Rattle.packed.specs.Format.{terms, Operand, absent, slot, binder, mask, fieldName, procedure, expression, condition, list, layout, laidOut, tagAt, termAt}
 use Rattle.packed.specs.Trees.{nodeOf, Node}
 use Rattle.packed.specs.Refusals.{wrongOperand, breaksTable, wrongTerm, isChild}
 use Rattle.packed.specs.Steps.{Sized, Loaded, wordAt, inWord, termIn, nodeIn}
@@ -33,10 +34,10 @@ unfolding nodeIn
 node-in ws t k e = row-is (getD ws t 0) k e
 
 -- the term of the 40 bits, tested as the plan's term is
-pub judged : (b : List ℕ) (procs n t w : ℕ) (r x : Bool) → Sized b procs n → w ≡ wordAt b t → r ≡ breaksTable procs n t (termIn w) → r ≡ x → wrongTerm b t ≡ x
+pub judged : (b : List ℕ) (procedures n t w : ℕ) (r x : Bool) → Sized b procedures n → w ≡ wordAt b t → r ≡ breaksTable procedures n t (termIn w) → r ≡ x → wrongTerm b t ≡ x
 unfolding wrongTerm
-judged b procs n t w r x z e q h =
-    let f : breaksTable procs n t (termIn w) ≡ breaksTable (procedures b) (terms b) t (termAt b t) = rw (z .procs-are, z .terms-are, e) (ap (breaksTable (procedures b) (terms b) t) (sym (term-is b t))) in
+judged b procedures n t w r x z e q h =
+    let f : breaksTable procedures n t (termIn w) ≡ breaksTable (Format.procedures b) (terms b) t (termAt b t) = rw (z .procedures-are, z .terms-are, e) (ap (breaksTable (Format.procedures b) (terms b) t) (sym (term-is b t))) in
     sym f ∙ sym q ∙ h
 
 -- ---- the array of the terms' 40 bits
@@ -55,38 +56,38 @@ loaded-more b t ws w h e l =
     }
 
 -- a tag past the table
-pub past-table : (procs n t w : ℕ) → 17 < w / 34359738368 → true ≡ breaksTable procs n t (termIn w)
+pub past-table : (procedures n t w : ℕ) → 17 < w / 34359738368 → true ≡ breaksTable procedures n t (termIn w)
 unfolding breaksTable termIn inWord
-past-table procs n t w h = rw (lt-ltb 17 (w / 34359738368) h)
+past-table procedures n t w h = rw (lt-ltb 17 (w / 34359738368) h)
 
 -- none of the table's tags
 pub no-row : (k : ℕ) → (k ≡ 0 → ⊥) → (k ≡ 1 → ⊥) → (k ≡ 2 → ⊥) → (k ≡ 3 → ⊥) → (k ≡ 4 → ⊥) → (k ≡ 5 → ⊥) → (k ≡ 6 → ⊥) → (k ≡ 7 → ⊥) → (k ≡ 8 → ⊥) → (k ≡ 9 → ⊥) → (k ≡ 10 → ⊥) → (k ≡ 11 → ⊥) → (k ≡ 12 → ⊥) → (k ≡ 13 → ⊥) → (k ≡ 14 → ⊥) → (k ≡ 15 → ⊥) → (k ≡ 16 → ⊥) → (k ≡ 17 → ⊥) → 17 < k
 no-row k = except (λ k. 17 < k) (0 ∷ 1 ∷ 2 ∷ 3 ∷ 4 ∷ 5 ∷ 6 ∷ 7 ∷ 8 ∷ 9 ∷ 10 ∷ 11 ∷ 12 ∷ 13 ∷ 14 ∷ 15 ∷ 16 ∷ 17 ∷ []) tt tt tt tt tt tt tt tt tt tt tt tt tt tt tt tt tt tt (λ j. omega arith) k
 
-pub tested : (procs n t w k : ℕ) (r : Bool) → w / 34359738368 ≡ k → r ≡ breaksTable procs n t (inWord w k (layout k)) → r ≡ breaksTable procs n t (termIn w)
+pub tested : (procedures n t w k : ℕ) (r : Bool) → w / 34359738368 ≡ k → r ≡ breaksTable procedures n t (inWord w k (layout k)) → r ≡ breaksTable procedures n t (termIn w)
 unfolding termIn
-tested procs n t w k r e q = q ∙ sym (ap (λ (j : ℕ). breaksTable procs n t (inWord w j (layout j))) e)
+tested procedures n t w k r e q = q ∙ sym (ap (λ (j : ℕ). breaksTable procedures n t (inWord w j (layout j))) e)
 
 -- ---- what is right of a term that passes
 
-pub passes : (b : List ℕ) (t : ℕ) → wrongTerm b t ≡ false → PassesTable (procedures b) (terms b) t (termAt b t)
+pub passes : (b : List ℕ) (t : ℕ) → wrongTerm b t ≡ false → PassesTable (Format.procedures b) (terms b) t (termAt b t)
 unfolding wrongTerm
-passes b t h = table-of (procedures b) (terms b) t (termAt b t) h
+passes b t h = table-of (Format.procedures b) (terms b) t (termAt b t) h
 
 between : (v t n : ℕ) → (leb v t || leb n v) ≡ false → (t < v) × (v < n)
 between v t n h = let p = neither (leb v t) (leb n v) h in (leb-false v t (p .0), leb-false n v (p .1))
 
 -- a child's index is greater than its parent's, and below the count
-pub child-between : (procs n t : ℕ) (kind : Operand) (v : ℕ) → wrongOperand procs n t kind v ≡ false → isChild kind ≡ true → (t < v) × (v < n)
-child-between procs n t absent v h k = absurd (false≢true k)
-child-between procs n t slot v h k = absurd (false≢true k)
-child-between procs n t binder v h k = absurd (false≢true k)
-child-between procs n t mask v h k = absurd (false≢true k)
-child-between procs n t fieldName v h k = absurd (false≢true k)
-child-between procs n t procedure v h k = absurd (false≢true k)
-child-between procs n t expression v h k = between v t n h
-child-between procs n t condition v h k = between v t n h
-child-between procs n t list v h k = between v t n h
+pub child-between : (procedures n t : ℕ) (kind : Operand) (v : ℕ) → wrongOperand procedures n t kind v ≡ false → isChild kind ≡ true → (t < v) × (v < n)
+child-between procedures n t absent v h k = absurd (false≢true k)
+child-between procedures n t slot v h k = absurd (false≢true k)
+child-between procedures n t binder v h k = absurd (false≢true k)
+child-between procedures n t mask v h k = absurd (false≢true k)
+child-between procedures n t fieldName v h k = absurd (false≢true k)
+child-between procedures n t procedure v h k = absurd (false≢true k)
+child-between procedures n t expression v h k = between v t n h
+child-between procedures n t condition v h k = between v t n h
+child-between procedures n t list v h k = between v t n h
 
 -- an operand that is a child
 abbrev pub IfChild : (ℕ → Type 0) → Operand → ℕ → Type 0
@@ -99,13 +100,13 @@ pub children-between : (b : List ℕ) (t : ℕ) → wrongTerm b t ≡ false
 unfolding termAt laidOut
 children-between b t h =
     let f = passes b t h in (
-      child-between (procedures b) (terms b) t (layout (tagAt b t) .first) (termAt b t .value₁) (f .first-right),
-      child-between (procedures b) (terms b) t (layout (tagAt b t) .second) (termAt b t .value₂) (f .second-right),
-      child-between (procedures b) (terms b) t (layout (tagAt b t) .third) (termAt b t .value₃) (f .third-right),
+      child-between (Format.procedures b) (terms b) t (layout (tagAt b t) .first) (termAt b t .value₁) (f .first-right),
+      child-between (Format.procedures b) (terms b) t (layout (tagAt b t) .second) (termAt b t .value₂) (f .second-right),
+      child-between (Format.procedures b) (terms b) t (layout (tagAt b t) .third) (termAt b t .value₃) (f .third-right),
     )
 
-pub second-between : (b : List ℕ) (procs n t : ℕ) → Sized b procs n → wrongTerm b t ≡ false → isChild (termAt b t .second) ≡ true → (t < termAt b t .value₂) × (termAt b t .value₂ < n)
-second-between b procs n t z h k = rw (z .terms-are) (child-between (procedures b) (terms b) t (termAt b t .second) (termAt b t .value₂) (passes b t h .second-right) k)
+pub second-between : (b : List ℕ) (procedures n t : ℕ) → Sized b procedures n → wrongTerm b t ≡ false → isChild (termAt b t .second) ≡ true → (t < termAt b t .value₂) × (termAt b t .value₂ < n)
+second-between b procedures n t z h k = rw (z .terms-are) (child-between (Format.procedures b) (terms b) t (termAt b t .second) (termAt b t .value₂) (passes b t h .second-right) k)
 
 -- ---- kinds by tag
 

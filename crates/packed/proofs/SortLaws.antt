@@ -10,7 +10,8 @@ use lib.Dec.{ltb, leb, eqb}
 use borrow.Author.Tests.{lt-ltb, le-ltb, le-leb, lt-leb, eq-eqb, ne-eqb}
 use Rattle.format.specs.Lowest.{Lowest}
 use Rattle.format.proofs.LowestLaws.{lowest-ext}
-use Rattle.packed.specs.Format.{procedures, terms, root, expression, table, layout, laidOut, termAt, tagAt}
+use Rattle.packed.specs.Format
+use Rattle.packed.specs.Format.{terms, root, expression, table, layout, laidOut, termAt, tagAt}
 use Rattle.packed.specs.Trees.{nodes, nodeOf, nodeAt}
 use Rattle.packed.specs.Refusals.{anyBelow, someOperand, wrongTerm, misplaced, wronglySorted, wrongCall}
 use Rattle.packed.specs.Steps.{Sized, Loaded, tagIn, nodeIn, Child, childOf, childrenOf, tagSort, wrongSort, lowerIf, lowerAll, misplacedRoot, misfits, faults}
@@ -163,22 +164,22 @@ or-end false false true false y = refl
 or-end false false false true y = refl
 or-end false false false false y = refl
 
-pub no-faults : (b : List ℕ) (procs n r : ℕ) → procs ≡ procedures b → Lowest (misplacedRoot b procs) n r → Lowest (faults b 0) n r
+pub no-faults : (b : List ℕ) (procedures n r : ℕ) → procedures ≡ Format.procedures b → Lowest (misplacedRoot b procedures) n r → Lowest (faults b 0) n r
 unfolding misplacedRoot faults misfits anyBelow
-no-faults b procs n r e l = lowest-ext (misplacedRoot b procs) (faults b 0) n r (λ k h. rw e (sym (or-false _ ∙ or-false _))) l
+no-faults b procedures n r e l = lowest-ext (misplacedRoot b procedures) (faults b 0) n r (λ k h. rw e (sym (or-false _ ∙ or-false _))) l
 
 -- the children of one more term, and the term as a call
-pub one-term : (b : List ℕ) (procs u n : ℕ) (ws : List ℕ) (best least r : ℕ) → Loaded b n ws → Sized b procs n → wrongTerm b u ≡ false → u < n
+pub one-term : (b : List ℕ) (procedures u n : ℕ) (ws : List ℕ) (best least r : ℕ) → Loaded b n ws → Sized b procedures n → wrongTerm b u ≡ false → u < n
     → least ≡ lowerAll ws (childrenOf (nodeIn ws u)) best → r ≡ lowerIf (wrongCall b u) u least → Lowest (faults b u) n best → Lowest (faults b (suc u)) n r
 unfolding faults misfits anyBelow
-one-term b procs u n ws best least r d z h q e e′ l =
+one-term b procedures u n ws best least r d z h q e e′ l =
     let ks = childrenOf (nodeAt b u) in
     let k : nodeIn ws u ≡ nodeAt b u = nodes-are b n ws d u q in
     let f : ℕ → Bool = λ t. faults b u t || strays b ks t in
-    let first : Lowest f n least = rw (e, k) (lower-all b n ws d ks (faults b u) best (children-within b procs n u z h) l) in
+    let first : Lowest f n least = rw (e, k) (lower-all b n ws d ks (faults b u) best (children-within b procedures n u z h) l) in
     rw e′
     (lower-step f (faults b (suc u)) (wrongCall b) n u least
-    (λ t. rw (term-strays b u t) (or-end (anyBelow (procedures b) (λ p. eqb (root b p) t && misplaced expression (tagAt b t))) (anyBelow u (λ i. someOperand (λ kind v. eqb v t && misplaced kind (tagAt b t)) (termAt b i))) (anyBelow u (λ i. eqb i t && wrongCall b t)) (strays b ks t) (eqb u t && wrongCall b t)))
+    (λ t. rw (term-strays b u t) (or-end (anyBelow (Format.procedures b) (λ p. eqb (root b p) t && misplaced expression (tagAt b t))) (anyBelow u (λ i. someOperand (λ kind v. eqb v t && misplaced kind (tagAt b t)) (termAt b i))) (anyBelow u (λ i. eqb i t && wrongCall b t)) (strays b ks t) (eqb u t && wrongCall b t)))
     first (λ c. q))
 
 -- ---- calls

@@ -8,28 +8,29 @@ use lib.Dec.{eqb, ltb, leb}
 use lib.ListN.{length, getD, set}
 use Rattle.format.specs.Bits.{bitsAt}
 use Rattle.packed.specs.Syntax.{Expression, Condition, Arguments}
-use Rattle.packed.specs.Format.{procedures, terms, root, expression, width, Row, layout, Term, termBit, tagAt, termAt}
+use Rattle.packed.specs.Format
+use Rattle.packed.specs.Format.{terms, root, expression, width, Row, layout, Term, termBit, tagAt, termAt}
 use Rattle.packed.specs.Trees.{Node, nodeOf, expressionOf, expressionAt, conditionAt, argumentsAt}
 use Rattle.packed.specs.Refusals.{anyBelow, sumBelow, oneIf, wrongProcedure, wrongTerm, misplaced, someOperand, wrongCall, timesIn}
 
 -- ---- what the checks so far have shown
 
 -- check 1: a plan of the right length, with these numbers of procedures and terms
-pub record Sized (b : List ℕ) (procs n : ℕ) : Type 0 where
-  pub procs-are : procs ≡ procedures b
+pub record Sized (b : List ℕ) (procedures n : ℕ) : Type 0 where
+  pub procedures-are : procedures ≡ Format.procedures b
   pub terms-are : n ≡ terms b
-  pub long : length b ≡ 8 + 2 * procs + 5 * n
+  pub long : length b ≡ 8 + 2 * procedures + 5 * n
 
 -- checks 1 to 3
-pub record Headed (b : List ℕ) (procs n : ℕ) : Type 0 where
-  pub sized : Sized b procs n
+pub record Headed (b : List ℕ) (procedures n : ℕ) : Type 0 where
+  pub sized : Sized b procedures n
   pub some-term : 1 ≤ n
   pub few : n ≤ 1024
-  pub procs-right : (p : ℕ) → p < procs → wrongProcedure b p ≡ false
+  pub procedures-right : (p : ℕ) → p < procedures → wrongProcedure b p ≡ false
 
 -- checks 1 to 4
-pub record Right (b : List ℕ) (procs n : ℕ) : Type 0 where
-  pub headed : Headed b procs n
+pub record Right (b : List ℕ) (procedures n : ℕ) : Type 0 where
+  pub headed : Headed b procedures n
   pub terms-right : (t : ℕ) → t < n → wrongTerm b t ≡ false
 
 -- ---- a term taken apart
@@ -172,7 +173,7 @@ misplacedRoot b n t = anyBelow n (λ p. eqb (root b p) t && misplaced expression
 unfoldable pub misfits : List ℕ → ℕ → ℕ → Bool
 unfolding anyBelow someOperand
 misfits b u t =
-    anyBelow (procedures b) (λ p. eqb (root b p) t && misplaced expression (tagAt b t))
+    anyBelow (Format.procedures b) (λ p. eqb (root b p) t && misplaced expression (tagAt b t))
     || anyBelow u (λ i. someOperand (λ kind v. eqb v t && misplaced kind (tagAt b t)) (termAt b i))
 
 -- that, or a wrong call of the first u terms
@@ -205,7 +206,7 @@ rootTimes b n t = sumBelow n (λ p. oneIf (eqb (root b p) t))
 
 -- how often the procedures and the first n terms name term t
 unfoldable pub allTimes : List ℕ → ℕ → ℕ → ℕ
-allTimes b n t = sumBelow (procedures b) (λ p. oneIf (eqb (root b p) t)) + sumBelow n (λ u. timesIn (termAt b u) t)
+allTimes b n t = sumBelow (Format.procedures b) (λ p. oneIf (eqb (root b p) t)) + sumBelow n (λ u. timesIn (termAt b u) t)
 
 -- the counts of an array are these, no further than two
 pub record Counted (f : ℕ → ℕ) (counts : List ℕ) : Type 0 where

@@ -27,19 +27,19 @@ pub fn check(plan: &[u8]) -> Checked
     if header::wrong_header(plan) {
         return refused(2, 0);
     }
-    let procs = layout::procedures(plan);
+    let procedures = layout::procedures(plan);
     let count = layout::terms(plan);
-    let p = header::lowest_wrong_procedure(plan, procs, count);
-    if p < procs {
+    let p = header::lowest_wrong_procedure(plan, procedures, count);
+    if p < procedures {
         return refused(3, p);
     }
     let mut words = [0usize; 1024];
-    let t = table::load(plan, procs, count, &mut words);
+    let t = table::load(plan, procedures, count, &mut words);
     if t < count {
         return refused(4, t);
     }
     let mut times = [0u8; 1024];
-    let misplaced = naming::name_all(plan, procs, count, &words, &mut times);
+    let misplaced = naming::name_all(plan, procedures, count, &words, &mut times);
     let miscounted = naming::lowest_miscounted(&times, count);
     if misplaced < count {
         return refused(5, misplaced);
@@ -47,8 +47,8 @@ pub fn check(plan: &[u8]) -> Checked
     if miscounted < count {
         return refused(6, miscounted);
     }
-    let p = bound_slots::lowest_open(plan, procs, count, &words);
-    if p < procs {
+    let p = bound_slots::lowest_open(plan, procedures, count, &words);
+    if p < procedures {
         return refused(7, p);
     }
     Checked::Passed

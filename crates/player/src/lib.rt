@@ -19,10 +19,10 @@ pub fn play(plan: &[u8], schedule: &[u8], log: &mut [u8]) -> Played
     let Checked::Passed = checked else {
         return outcome::refused(checked);
     };
-    let procs = layout::procedures(plan);
+    let procedures = layout::procedures(plan);
     let count = layout::terms(plan);
-    let words = loading::words(plan, procs, count);
-    let roots = loading::roots(plan, procs);
+    let words = loading::words(plan, procedures, count);
+    let roots = loading::roots(plan, procedures);
     let mask = layout::volatiles(plan);
     let ran = engine::run(&words, &roots, mask, schedule, log);
     let outcome = outcome::outcome_of(ran);

@@ -121,10 +121,10 @@ fn wrong_pair(w: usize, t: usize, count: usize) -> bool
 }
 
 // A call: a procedure and a list.
-fn wrong_call(w: usize, t: usize, procs: usize, count: usize) -> bool
-    ensures { λ r. ⌜ r ≡ ((leb procs (w / 1073741824 % 32) || outside count t (w / 1048576 % 1024)) || not (eqb (w % 1048576) 0)) ⌝ }
+fn wrong_call(w: usize, t: usize, procedures: usize, count: usize) -> bool
+    ensures { λ r. ⌜ r ≡ ((leb procedures (w / 1073741824 % 32) || outside count t (w / 1048576 % 1024)) || not (eqb (w % 1048576) 0)) ⌝ }
 {
-    if w / PROCEDURE % 32 >= procs {
+    if w / PROCEDURE % 32 >= procedures {
         return true;
     }
     outside(w / ARGUMENTS % 1024, t, count) || w % ARGUMENTS != 0
@@ -138,8 +138,8 @@ fn wrong_single(w: usize, t: usize, count: usize) -> bool
 }
 
 // The table of terms: `w`, the 40 bits of term `t`, is wrong by its tag.
-fn wrong_term(w: usize, t: usize, procs: usize, count: usize) -> bool
-    ensures { λ r. ⌜ r ≡ breaksTable procs count t (termIn w) ⌝ }
+fn wrong_term(w: usize, t: usize, procedures: usize, count: usize) -> bool
+    ensures { λ r. ⌜ r ≡ breaksTable procedures count t (termIn w) ⌝ }
 {
     match w / TAG {
         0 => w % TAG != 0,
@@ -150,7 +150,7 @@ fn wrong_term(w: usize, t: usize, procs: usize, count: usize) -> bool
         5 => wrong_let(w, t, count),
         6 => wrong_if(w, t, count),
         7 => wrong_pair(w, t, count),
-        8 => wrong_call(w, t, procs, count),
+        8 => wrong_call(w, t, procedures, count),
         9 => wrong_single(w, t, count),
         10 => wrong_single(w, t, count),
         11 => wrong_pair(w, t, count),
@@ -165,16 +165,16 @@ fn wrong_term(w: usize, t: usize, procs: usize, count: usize) -> bool
 }
 
 // The lowest wrong term, or the count: then every term's 40 bits are in `words`, which came as zeros.
-pub fn load(plan: &[u8], procs: usize, count: usize, words: &mut [usize; 1024]) -> usize
-    requires { ⌜ Headed (now plan) procs count ⌝ }
+pub fn load(plan: &[u8], procedures: usize, count: usize, words: &mut [usize; 1024]) -> usize
+    requires { ⌜ Headed (now plan) procedures count ⌝ }
     requires { ⌜ now words ≡ replicate 1024 0 ⌝ }
     ensures { λ r. ⌜ Lowest (wrongTerm (now (plan .entry))) count r ⌝ }
     ensures { λ r. ⌜ (count ≤ r → Loaded (now (plan .entry)) count (now (words .exit))) ⌝ }
 {
     let mut t = 0;
     while t < count {
-        let w = term::word_at(plan, procs, t);
-        if wrong_term(w, t, procs, count) {
+        let w = term::word_at(plan, procedures, t);
+        if wrong_term(w, t, procedures, count) {
             return t;
         }
         words[t] = w;

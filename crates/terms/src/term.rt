@@ -2,7 +2,7 @@
 ghost use mathlib.Core.Path.{_≡_};
 ghost use Prim.Native.Nat.{_+_, _*_, _≤_};
 ghost use lib.ListN.{length};
-ghost use Rattle.packed.specs.Format.{procedures};
+ghost use Rattle.packed.specs.Format;
 ghost use Rattle.packed.specs.Steps.{wordAt};
 
 // Where the tag and the operands end in the 40 bits of a term: the power of two that is the place of their last bit.
@@ -31,9 +31,9 @@ pub const BODY: usize = 2048; // the term after that
 pub const ARGUMENTS: usize = 1048576; // the list after a procedure
 
 // The 40 bits of term `t`.
-pub fn word_at(plan: &[u8], procs: usize, t: usize) -> usize
-    requires { ⌜ (procs ≡ procedures (now plan)) × (8 + 2 * procs + 5 * t + 5 ≤ length (now plan)) ⌝ }
+pub fn word_at(plan: &[u8], procedures: usize, t: usize) -> usize
+    requires { ⌜ (procedures ≡ Format.procedures (now plan)) × (8 + 2 * procedures + 5 * t + 5 ≤ length (now plan)) ⌝ }
     ensures { λ r. ⌜ r ≡ wordAt (now (plan .entry)) t ⌝ }
 {
-    byte_numbers::five(plan, 8 + 2 * procs + 5 * t)
+    byte_numbers::five(plan, 8 + 2 * procedures + 5 * t)
 }

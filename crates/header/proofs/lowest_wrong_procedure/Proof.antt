@@ -12,10 +12,10 @@ use Rattle.header.proofs.lowest_wrong_procedure.Statement.{statement}
 use Rattle.header.proofs.lowest_wrong_procedure.Tie as tie
 
 abbrev Inv-loop : tie.InvT-loop
-Inv-loop plan procs count p₀ p = (p ≤ procs) × ((k : ℕ) → k < p → wrongProcedure plan k ≡ false)
+Inv-loop plan procedures count p₀ p = (p ≤ procedures) × ((k : ℕ) → k < p → wrongProcedure plan k ≡ false)
 
 abbrev μ-loop : tie.MeasureT-loop
-μ-loop plan procs count p₀ p = procs - p
+μ-loop plan procedures count p₀ p = procedures - p
 
 loop-holds : tie.Need-loop-holds Inv-loop μ-loop
 loop-holds c = (search needs, λ k h. absurd (omega arith))

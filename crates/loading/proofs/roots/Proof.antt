@@ -11,10 +11,10 @@ use Rattle.loading.proofs.roots.Statement.{statement}
 use Rattle.loading.proofs.roots.Tie as tie
 
 abbrev Inv-loop : tie.InvT-loop
-Inv-loop plan procs all₀ p₀ all p = (p ≤ procs) × (length all ≡ 32) × Roots plan p all
+Inv-loop plan procedures all₀ p₀ all p = (p ≤ procedures) × (length all ≡ 32) × Roots plan p all
 
 abbrev μ-loop : tie.MeasureT-loop
-μ-loop plan procs all₀ p₀ all p = procs - p
+μ-loop plan procedures all₀ p₀ all p = procedures - p
 
 loop-holds : tie.Need-loop-holds Inv-loop μ-loop
 loop-holds c = (search needs, refl, λ i q. absurd (omega arith))

@@ -6,22 +6,23 @@ use mathlib.Core.List.{List}
 use lib.ListN.{length, length-set}
 use Rattle.format.specs.Bits.{bitsAt}
 use borrow.Author.Needs.{needs}
-use Rattle.packed.specs.Format.{procedures, termBit}
+use Rattle.packed.specs.Format
+use Rattle.packed.specs.Format.{termBit}
 use Rattle.loading.specs.Loading.{Words}
 use Rattle.format.proofs.Filled.{filled}
 use Rattle.loading.proofs.words.Statement.{statement}
 use Rattle.loading.proofs.words.Tie as tie
 
 -- where a term begins, in bits
-place : (b : List ℕ) (m t : ℕ) → m ≡ procedures b → (8 + 2 * m + 5 * t) * 8 ≡ termBit b t
+place : (b : List ℕ) (m t : ℕ) → m ≡ Format.procedures b → (8 + 2 * m + 5 * t) * 8 ≡ termBit b t
 unfolding termBit
 place b m t e = rw e refl
 
 abbrev Inv-loop : tie.InvT-loop
-Inv-loop plan procs count all₀ t₀ all t = (t ≤ count) × (length all ≡ 1024) × Words plan t all
+Inv-loop plan procedures count all₀ t₀ all t = (t ≤ count) × (length all ≡ 1024) × Words plan t all
 
 abbrev μ-loop : tie.MeasureT-loop
-μ-loop plan procs count all₀ t₀ all t = count - t
+μ-loop plan procedures count all₀ t₀ all t = count - t
 
 loop-holds : tie.Need-loop-holds Inv-loop μ-loop
 loop-holds c = (search needs, refl, λ i q. absurd (omega arith))
@@ -58,7 +59,7 @@ loop-again c =
     let a = c .before .before .before .before .args in
     let l = c .before .before .loop in
     let n : l .t < length (l .all) = rw (l .inv .1) (omega arith) in
-    (search needs, length-set (l .all) (l .t) _ ∙ l .inv .1, filled {A = ℕ} (l .all) (l .t) (c .five .result) 0 (λ (t x : ℕ). x ≡ bitsAt (a .plan .now) (termBit (a .plan .now) t) 40) n (l .inv .2) (c .five .ensures .0 ∙ ap (λ (i : ℕ). bitsAt (a .plan .now) i 40) (place (a .plan .now) (a .procs) (l .t) (c .before .before .before .before .pre .0))))
+    (search needs, length-set (l .all) (l .t) _ ∙ l .inv .1, filled {A = ℕ} (l .all) (l .t) (c .five .result) 0 (λ (t x : ℕ). x ≡ bitsAt (a .plan .now) (termBit (a .plan .now) t) 40) n (l .inv .2) (c .five .ensures .0 ∙ ap (λ (i : ℕ). bitsAt (a .plan .now) i 40) (place (a .plan .now) (a .procedures) (l .t) (c .before .before .before .before .pre .0))))
 
 returns : tie.Need-returns Inv-loop μ-loop
 returns c i q = let l = c .before .loop in l .inv .2 i (omega arith)

@@ -12,16 +12,16 @@ use Rattle.naming.proofs.name_all.Statement.{statement}
 use Rattle.naming.proofs.name_all.Tie as tie
 
 abbrev Inv-loop : tie.InvT-loop
-Inv-loop plan procs count words times₀ best₀ t₀ times best t = (t ≤ count) × Lowest (faults plan t) count best × Counted (allTimes plan t) times
+Inv-loop plan procedures count words times₀ best₀ t₀ times best t = (t ≤ count) × Lowest (faults plan t) count best × Counted (allTimes plan t) times
 
 abbrev μ-loop : tie.MeasureT-loop
-μ-loop plan procs count words times₀ best₀ t₀ times best t = count - t
+μ-loop plan procedures count words times₀ best₀ t₀ times best t = count - t
 
 name-roots-requires : tie.Need-name-roots-requires Inv-loop μ-loop
 name-roots-requires c κs = c .before .before .pre
 
 loop-holds : tie.Need-loop-holds Inv-loop μ-loop
-loop-holds c = let s = c .before .before .before in let a = s .args in let b = a .plan .now in let r = s .pre .0 in let d = s .pre .1 .0 in let e = r .headed .sized .procs-are in (search needs, no-faults b (a .procs) (a .count) _ e (c .name-roots .ensures .0), no-terms b (a .procs) _ e (c .name-roots .ensures .1))
+loop-holds c = let s = c .before .before .before in let a = s .args in let b = a .plan .now in let r = s .pre .0 in let d = s .pre .1 .0 in let e = r .headed .sized .procedures-are in (search needs, no-faults b (a .procedures) (a .count) _ e (c .name-roots .ensures .0), no-terms b (a .procedures) _ e (c .name-roots .ensures .1))
 
 name-children-requires : tie.Need-name-children-requires Inv-loop μ-loop
 name-children-requires c κs = let s = c .before .before .before .before .before .before in let a = s .args in let b = a .plan .now in let r = s .pre .0 in let d = s .pre .1 .0 in let f = r .headed .few in omega arith
@@ -36,7 +36,7 @@ loop-less : tie.Need-loop-less Inv-loop μ-loop
 loop-less c = search needs
 
 loop-again : tie.Need-loop-again Inv-loop μ-loop
-loop-again c = let s = c .before .before .before .before .before .before .before .before in let a = s .args in let b = a .plan .now in let r = s .pre .0 in let d = s .pre .1 .0 in let l = c .before .before .before .before .loop in let h = c .before .before .before .loop-test .taken in let right = r .terms-right (l .t) h in let k = c .before .name-children in (search needs, rw add-one (one-term b (a .procs) (l .t) (a .count) (a .words .now) (l .best) (k .result) (c .lower-call .result) d (r .headed .sized) right h (k .ensures .0) (c .lower-call .ensures) (l .inv .1)), rw add-one (term-step b (a .procs) (a .count) (l .t) (a .words .now) (l .times) _ d (r .headed) right h (k .ensures .1) (l .inv .2)))
+loop-again c = let s = c .before .before .before .before .before .before .before .before in let a = s .args in let b = a .plan .now in let r = s .pre .0 in let d = s .pre .1 .0 in let l = c .before .before .before .before .loop in let h = c .before .before .before .loop-test .taken in let right = r .terms-right (l .t) h in let k = c .before .name-children in (search needs, rw add-one (one-term b (a .procedures) (l .t) (a .count) (a .words .now) (l .best) (k .result) (c .lower-call .result) d (r .headed .sized) right h (k .ensures .0) (c .lower-call .ensures) (l .inv .1)), rw add-one (term-step b (a .procedures) (a .count) (l .t) (a .words .now) (l .times) _ d (r .headed) right h (k .ensures .1) (l .inv .2)))
 
 returns : tie.Need-returns Inv-loop μ-loop
 returns c = let s = c .before .before .before .before .before in let a = s .args in let b = a .plan .now in let r = s .pre .0 in let d = s .pre .1 .0 in let l = c .before .loop in let e : l .t ≡ a .count = omega arith in (all-faults b (a .count) (l .best) (r .headed .sized .terms-are) (rw e at (l .inv .1)), rw e at (l .inv .2))

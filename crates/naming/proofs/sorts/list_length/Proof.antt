@@ -11,10 +11,10 @@ use Rattle.naming.proofs.sorts.list_length.Statement.{statement}
 use Rattle.naming.proofs.sorts.list_length.Tie as tie
 
 abbrev Inv-loop : tie.InvT-loop
-Inv-loop plan procs count words from n₀ t₀ n t = (n ≤ 9) × (t < count) × (n + listLength plan (9 - n) t ≡ listLength plan 9 from)
+Inv-loop plan procedures count words from n₀ t₀ n t = (n ≤ 9) × (t < count) × (n + listLength plan (9 - n) t ≡ listLength plan 9 from)
 
 abbrev μ-loop : tie.MeasureT-loop
-μ-loop plan procs count words from n₀ t₀ n t = 9 - n
+μ-loop plan procedures count words from n₀ t₀ n t = 9 - n
 
 loop-holds : tie.Need-loop-holds Inv-loop μ-loop
 loop-holds c = (search needs, c .pre .1 .1, omega arith)
@@ -35,7 +35,7 @@ loop-less : tie.Need-loop-less Inv-loop μ-loop
 loop-less c = search needs
 
 loop-again : tie.Need-loop-again Inv-loop μ-loop
-loop-again c = let a = c .before .before .before .before .args in let l = c .before .before .before .loop in let b = a .plan .now in let w = getD (a .words .now) (l .t) 0 in let e = next-is b (l .t) w (c .before .before .before .before .pre .1 .0 .each (l .t) (l .inv .1)) (c .if1 .left) in let k : 9 - l .n ≡ suc (9 - (l .n + 1)) = omega arith in let s : listLength b (9 - l .n) (l .t) ≡ suc (listLength b (9 - (l .n + 1)) (termAt b (l .t) .value₂)) = rw k (list-step b (9 - (l .n + 1)) (l .t) (e .0)) in (search needs, rw (e .1) (rest-between b (a .procs) (a .count) (c .before .before .before .before .pre .0) (l .t) (l .inv .1) (e .0) .1), rw (e .1) (omega (arith, s, l .inv .2)))
+loop-again c = let a = c .before .before .before .before .args in let l = c .before .before .before .loop in let b = a .plan .now in let w = getD (a .words .now) (l .t) 0 in let e = next-is b (l .t) w (c .before .before .before .before .pre .1 .0 .each (l .t) (l .inv .1)) (c .if1 .left) in let k : 9 - l .n ≡ suc (9 - (l .n + 1)) = omega arith in let s : listLength b (9 - l .n) (l .t) ≡ suc (listLength b (9 - (l .n + 1)) (termAt b (l .t) .value₂)) = rw k (list-step b (9 - (l .n + 1)) (l .t) (e .0)) in (search needs, rw (e .1) (rest-between b (a .procedures) (a .count) (c .before .before .before .before .pre .0) (l .t) (l .inv .1) (e .0) .1), rw (e .1) (omega (arith, s, l .inv .2)))
 
 returns-2 : tie.Need-returns-2 Inv-loop μ-loop
 unfolding listLength
