@@ -25,23 +25,23 @@ enum Rest {
     At(usize, usize),
 }
 
-// Slot x is bound.
-fn holds(bound: usize, x: usize) -> bool
-    requires { ⌜ x < 64 ⌝ }
-    ensures { λ r. ⌜ r ≡ bitOf bound x ⌝ }
+// This slot is bound.
+fn holds(bound: usize, slot: usize) -> bool
+    requires { ⌜ slot < 64 ⌝ }
+    ensures { λ r. ⌜ r ≡ bitOf bound slot ⌝ }
 {
-    (bound >> x) % 2 == 1
+    (bound >> slot) % 2 == 1
 }
 
 // What is bound in a let's second operand; slot 15 binds nothing.
-fn with(bound: usize, x: usize) -> usize
-    requires { ⌜ x < 64 ⌝ }
-    ensures { λ r. ⌜ r ≡ withSlot bound x ⌝ }
+fn with(bound: usize, slot: usize) -> usize
+    requires { ⌜ slot < 64 ⌝ }
+    ensures { λ r. ⌜ r ≡ withSlot bound slot ⌝ }
 {
-    if x == 15 {
+    if slot == 15 {
         bound
     } else {
-        bound | (1usize << x)
+        bound | (1usize << slot)
     }
 }
 
@@ -53,70 +53,76 @@ fn told(closed: bool) -> Rest
 }
 
 // A term without children, by its 40 bits.
-fn closed_leaf(w: usize, bound: usize) -> bool
-    requires { ⌜ w / 34359738368 < 3 ⌝ }
-    ensures { λ r. ⌜ r ≡ closed (slots bound) (leafIn w) ⌝ }
+fn closed_leaf(word: usize, bound: usize) -> bool
+    requires { ⌜ word / 34359738368 < 3 ⌝ }
+    ensures { λ r. ⌜ r ≡ closed (slots bound) (leafIn word) ⌝ }
 {
-    if w / TAG != 1 {
+    if word / TAG != 1 {
         return true;
     }
-    holds(bound, w / SLOT % 16)
+    holds(bound, word / SLOT % 16)
 }
 
 // Two operands, of which one is seen here and the other is left: the second is seen here if it has no children, else the first.
-fn rest_of_two(words: &[usize; 1024], x: usize, bound: usize, y: usize, inner: usize) -> Rest
+fn rest_of_two(
+    words: &[usize; 1024],
+    first: usize,
+    bound: usize,
+    second: usize,
+    inner: usize,
+) -> Rest
     requires { ⌜ Ordered (now words) ⌝ }
-    requires { ⌜ (x < 1024) × (y < 1024) ⌝ }
-    ensures { λ r. ⌜ seen (now (words .entry)) r ≡ (closed (slots bound) (treeIn (now (words .entry)) x) && closed (slots inner) (treeIn (now (words .entry)) y)) ⌝ }
-    ensures { λ r. ⌜ ((s : ℕ) → s < x → s < y → After s r) ⌝ }
+    requires { ⌜ (first < 1024) × (second < 1024) ⌝ }
+    ensures { λ r. ⌜ seen (now (words .entry)) r ≡ (closed (slots bound) (treeIn (now (words .entry)) first) && closed (slots inner) (treeIn (now (words .entry)) second)) ⌝ }
+    ensures { λ r. ⌜ ((term : ℕ) → term < first → term < second → After term r) ⌝ }
 {
-    let w = words[y];
-    if w / TAG < 3 {
-        if closed_leaf(w, inner) {
-            return Rest::At(x, bound);
+    let word = words[second];
+    if word / TAG < 3 {
+        if closed_leaf(word, inner) {
+            return Rest::At(first, bound);
         }
         return Rest::Open;
     }
-    if closed_expression(words, x, bound) {
-        return Rest::At(y, inner);
+    if closed_expression(words, first, bound) {
+        return Rest::At(second, inner);
     }
     Rest::Open
 }
 
 // An expression, taken apart once.
-fn rest_of(words: &[usize; 1024], t: usize, bound: usize) -> Rest
+fn rest_of(words: &[usize; 1024], term: usize, bound: usize) -> Rest
     requires { ⌜ Ordered (now words) ⌝ }
-    requires { ⌜ t < 1024 ⌝ }
-    ensures { λ r. ⌜ seen (now (words .entry)) r ≡ closed (slots bound) (treeIn (now (words .entry)) t) ⌝ }
-    ensures { λ r. ⌜ After t r ⌝ }
+    requires { ⌜ term < 1024 ⌝ }
+    ensures { λ r. ⌜ seen (now (words .entry)) r ≡ closed (slots bound) (treeIn (now (words .entry)) term) ⌝ }
+    ensures { λ r. ⌜ After term r ⌝ }
 {
-    let w = words[t];
-    let x = w / FIRST % 1024;
-    let y = w / SECOND % 1024;
-    match w / TAG {
-        1 => told(holds(bound, w / SLOT % 16)),
-        3 => Rest::At(x, bound),
-        4 => rest_of_two(words, x, bound, w / WRITTEN % 1024, bound),
+    let word = words[term];
+    let first = word / FIRST % 1024;
+    let second = word / SECOND % 1024;
+    match word / TAG {
+        1 => told(holds(bound, word / SLOT % 16)),
+        3 => Rest::At(first, bound),
+        4 => rest_of_two(words, first, bound, word / WRITTEN % 1024, bound),
         5 => {
-            let inner = with(bound, w / SLOT % 16);
-            rest_of_two(words, w / VALUE % 1024, bound, w / BODY % 1024, inner)
+            let inner = with(bound, word / SLOT % 16);
+            rest_of_two(words, word / VALUE % 1024, bound, word / BODY % 1024, inner)
         }
         6 => {
-            if closed_condition(words, x, bound) {
-                return rest_of_two(words, y, bound, w / THIRD % 1024, bound);
+            if closed_condition(words, first, bound) {
+                return rest_of_two(words, second, bound, word / THIRD % 1024, bound);
             }
             Rest::Open
         }
         7 => {
-            if closed_condition(words, x, bound) {
-                return Rest::At(y, bound);
+            if closed_condition(words, first, bound) {
+                return Rest::At(second, bound);
             }
             Rest::Open
         }
-        8 => told(closed_list(words, w / ARGUMENTS % 1024, bound)),
-        9 => Rest::At(x, bound),
-        10 => Rest::At(x, bound),
-        11 => rest_of_two(words, x, bound, y, bound),
+        8 => told(closed_list(words, word / ARGUMENTS % 1024, bound)),
+        9 => Rest::At(first, bound),
+        10 => Rest::At(first, bound),
+        11 => rest_of_two(words, first, bound, second, bound),
         _ => Rest::Closed,
     }
 }
@@ -127,15 +133,15 @@ fn closed_expression(words: &[usize; 1024], from: usize, outer: usize) -> bool
     requires { ⌜ from < 1024 ⌝ }
     ensures { λ r. ⌜ r ≡ closed (slots outer) (treeIn (now (words .entry)) from) ⌝ }
 {
-    let mut t = from;
+    let mut term = from;
     let mut bound = outer;
     loop {
-        let rest = rest_of(words, t, bound);
+        let rest = rest_of(words, term, bound);
         match rest {
             Rest::Closed => return true,
             Rest::Open => return false,
             Rest::At(next, inner) => {
-                t = next;
+                term = next;
                 bound = inner;
             }
         }
@@ -143,23 +149,23 @@ fn closed_expression(words: &[usize; 1024], from: usize, outer: usize) -> bool
 }
 
 // The two operands of an `equal`.
-fn closed_equal(words: &[usize; 1024], t: usize, bound: usize) -> bool
+fn closed_equal(words: &[usize; 1024], term: usize, bound: usize) -> bool
     requires { ⌜ Ordered (now words) ⌝ }
-    requires { ⌜ (t < 1024) × (tagIn (now words) t ≡ 15) ⌝ }
-    ensures { λ r. ⌜ r ≡ closedᶜ (slots bound) (conditionIn (now (words .entry)) t) ⌝ }
+    requires { ⌜ (term < 1024) × (tagIn (now words) term ≡ 15) ⌝ }
+    ensures { λ r. ⌜ r ≡ closedᶜ (slots bound) (conditionIn (now (words .entry)) term) ⌝ }
 {
-    let w = words[t];
-    let x = w / FIRST % 1024;
-    let y = w / SECOND % 1024;
-    let v = words[y];
-    if v / TAG < 3 {
-        if closed_leaf(v, bound) {
-            return closed_expression(words, x, bound);
+    let word = words[term];
+    let first = word / FIRST % 1024;
+    let second = word / SECOND % 1024;
+    let second_word = words[second];
+    if second_word / TAG < 3 {
+        if closed_leaf(second_word, bound) {
+            return closed_expression(words, first, bound);
         }
         return false;
     }
-    if closed_expression(words, x, bound) {
-        return closed_expression(words, y, bound);
+    if closed_expression(words, first, bound) {
+        return closed_expression(words, second, bound);
     }
     false
 }
@@ -170,28 +176,28 @@ fn closed_condition(words: &[usize; 1024], from: usize, bound: usize) -> bool
     requires { ⌜ from < 1024 ⌝ }
     ensures { λ r. ⌜ r ≡ closedᶜ (slots bound) (conditionIn (now (words .entry)) from) ⌝ }
 {
-    let mut t = from;
+    let mut term = from;
     loop {
-        let w = words[t];
-        let x = w / FIRST % 1024;
-        let y = w / SECOND % 1024;
-        match w / TAG {
+        let word = words[term];
+        let first = word / FIRST % 1024;
+        let second = word / SECOND % 1024;
+        match word / TAG {
             13 => {
-                t = x;
+                term = first;
                 continue;
             }
             14 => {
-                if words[y] / TAG == 12 {
-                    t = x;
+                if words[second] / TAG == 12 {
+                    term = first;
                     continue;
                 }
-                if !closed_condition(words, x, bound) {
+                if !closed_condition(words, first, bound) {
                     return false;
                 }
-                t = y;
+                term = second;
                 continue;
             }
-            15 => return closed_equal(words, t, bound),
+            15 => return closed_equal(words, term, bound),
             _ => return true,
         }
     }
@@ -203,16 +209,16 @@ fn closed_list(words: &[usize; 1024], from: usize, bound: usize) -> bool
     requires { ⌜ from < 1024 ⌝ }
     ensures { λ r. ⌜ r ≡ closedᵃ (slots bound) (listIn (now (words .entry)) from) ⌝ }
 {
-    let mut t = from;
+    let mut term = from;
     loop {
-        let w = words[t];
-        if w / TAG != 16 {
+        let word = words[term];
+        if word / TAG != 16 {
             return true;
         }
-        if !closed_expression(words, w / FIRST % 1024, bound) {
+        if !closed_expression(words, word / FIRST % 1024, bound) {
             return false;
         }
-        t = w / SECOND % 1024;
+        term = word / SECOND % 1024;
     }
 }
 
@@ -222,13 +228,13 @@ pub fn lowest_open(plan: &[u8], procedures: usize, count: usize, words: &[usize;
     requires { ⌜ Loaded (now plan) count (now words) ⌝ }
     ensures { λ r. ⌜ Lowest (usesUnboundSlot (now (plan .entry))) procedures r ⌝ }
 {
-    let mut p = 0;
-    while p < procedures {
-        let bound = (1usize << layout::parameters(plan, p)) - 1;
-        if !closed_expression(words, layout::root(plan, p), bound) {
-            return p;
+    let mut procedure = 0;
+    while procedure < procedures {
+        let bound = (1usize << layout::parameters(plan, procedure)) - 1;
+        if !closed_expression(words, layout::root(plan, procedure), bound) {
+            return procedure;
         }
-        p += 1;
+        procedure += 1;
     }
-    p
+    procedure
 }

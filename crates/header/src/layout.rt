@@ -40,18 +40,18 @@ pub fn volatiles(plan: &[u8]) -> usize
 }
 
 // A procedure is read from the part of the plan that starts with it: in a slice of any length the place of a bit need not fit a `usize`.
-pub fn parameters(plan: &[u8], p: usize) -> usize
-    requires { ⌜ 8 + 2 * p + 2 ≤ length (now plan) ⌝ }
-    ensures { λ r. ⌜ r ≡ parameters (now (plan .entry)) p ⌝ }
+pub fn parameters(plan: &[u8], procedure: usize) -> usize
+    requires { ⌜ 8 + 2 * procedure + 2 ≤ length (now plan) ⌝ }
+    ensures { λ r. ⌜ r ≡ parameters (now (plan .entry)) procedure ⌝ }
 {
-    let start = 8 + 2 * p;
+    let start = 8 + 2 * procedure;
     bit_reader::field(&plan[start..], 0, 4)
 }
 
-pub fn root(plan: &[u8], p: usize) -> usize
-    requires { ⌜ 8 + 2 * p + 2 ≤ length (now plan) ⌝ }
-    ensures { λ r. ⌜ r ≡ root (now (plan .entry)) p ⌝ }
+pub fn root(plan: &[u8], procedure: usize) -> usize
+    requires { ⌜ 8 + 2 * procedure + 2 ≤ length (now plan) ⌝ }
+    ensures { λ r. ⌜ r ≡ root (now (plan .entry)) procedure ⌝ }
 {
-    let start = 8 + 2 * p;
+    let start = 8 + 2 * procedure;
     bit_reader::field(&plan[start..], 4, 12)
 }

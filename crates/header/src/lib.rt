@@ -23,23 +23,23 @@ pub fn wrong_header(plan: &[u8]) -> bool
     ensures { λ r. ⌜ r ≡ wrongHeader (now (plan .entry)) ⌝ }
 {
     let version = layout::version(plan);
-    let p = layout::procedures(plan);
-    let n = layout::terms(plan);
+    let procedures = layout::procedures(plan);
+    let count = layout::terms(plan);
     let spare = layout::spare(plan);
     let mask = layout::volatiles(plan);
     if version != 1 {
         return true;
     }
-    if p < 1 {
+    if procedures < 1 {
         return true;
     }
-    if p > 32 {
+    if procedures > 32 {
         return true;
     }
-    if n < 1 {
+    if count < 1 {
         return true;
     }
-    if n > 1024 {
+    if count > 1024 {
         return true;
     }
     if spare != 0 {
@@ -48,18 +48,18 @@ pub fn wrong_header(plan: &[u8]) -> bool
     mask / 2147483648 % 2 != 1 // the top bit is field 0, the monitor
 }
 
-fn wrong_procedure(plan: &[u8], count: usize, p: usize) -> bool
-    requires { ⌜ (count ≡ terms (now plan)) × (8 + 2 * p + 2 ≤ length (now plan)) ⌝ }
-    ensures { λ r. ⌜ r ≡ wrongProcedure (now (plan .entry)) p ⌝ }
+fn wrong_procedure(plan: &[u8], count: usize, procedure: usize) -> bool
+    requires { ⌜ (count ≡ terms (now plan)) × (8 + 2 * procedure + 2 ≤ length (now plan)) ⌝ }
+    ensures { λ r. ⌜ r ≡ wrongProcedure (now (plan .entry)) procedure ⌝ }
 {
-    let k = layout::parameters(plan, p);
-    if k > 8 {
+    let parameters = layout::parameters(plan, procedure);
+    if parameters > 8 {
         return true;
     }
-    if p == 0 && k > 0 {
+    if procedure == 0 && parameters > 0 {
         return true;
     }
-    layout::root(plan, p) >= count
+    layout::root(plan, procedure) >= count
 }
 
 // The lowest procedure that is wrong, or `procedures`.
@@ -67,12 +67,12 @@ pub fn lowest_wrong_procedure(plan: &[u8], procedures: usize, count: usize) -> u
     requires { ⌜ Sized (now plan) procedures count ⌝ }
     ensures { λ r. ⌜ Lowest (wrongProcedure (now (plan .entry))) procedures r ⌝ }
 {
-    let mut p = 0;
-    while p < procedures {
-        if wrong_procedure(plan, count, p) {
-            return p;
+    let mut procedure = 0;
+    while procedure < procedures {
+        if wrong_procedure(plan, count, procedure) {
+            return procedure;
         }
-        p += 1;
+        procedure += 1;
     }
-    p
+    procedure
 }

@@ -13,10 +13,10 @@ pub fn words(plan: &[u8], procedures: usize, count: usize) -> [usize; 1024]
     ensures { λ r. ⌜ Words (now (plan .entry)) count r ⌝ }
 {
     let mut all = [0usize; 1024];
-    let mut t = 0;
-    while t < count {
-        all[t] = byte_numbers::five(plan, 8 + 2 * procedures + 5 * t);
-        t += 1;
+    let mut term = 0;
+    while term < count {
+        all[term] = byte_numbers::five(plan, 8 + 2 * procedures + 5 * term);
+        term += 1;
     }
     all
 }
@@ -27,10 +27,10 @@ pub fn roots(plan: &[u8], procedures: usize) -> [usize; 32]
     ensures { λ r. ⌜ Roots (now (plan .entry)) procedures r ⌝ }
 {
     let mut all = [0usize; 32];
-    let mut p = 0;
-    while p < procedures {
-        all[p] = layout::root(plan, p);
-        p += 1;
+    let mut procedure = 0;
+    while procedure < procedures {
+        all[procedure] = layout::root(plan, procedure);
+        procedure += 1;
     }
     all
 }

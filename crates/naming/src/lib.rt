@@ -42,50 +42,58 @@ fn name(
     sorts::lower(words, sort, index, best)
 }
 
-// Two names, one after the other.
+// Two names, one after the other: `left`, where the table wants the sort `first`, and `right`, where it wants `second`.
 fn name_two(
     words: &[usize; 1024],
     times: &mut [u8; 1024],
     first: usize,
-    x: usize,
+    left: usize,
     second: usize,
-    y: usize,
+    right: usize,
     best: usize,
 ) -> usize
-    requires { ⌜ (x < 1024) × (y < 1024) ⌝ }
-    ensures { λ r. ⌜ r ≡ lowerAll (now (words .entry)) (childOf first x ∷ childOf second y ∷ []) best ⌝ }
-    ensures { λ r. ⌜ now (times .exit) ≡ countAll (childOf first x ∷ childOf second y ∷ []) (now (times .entry)) ⌝ }
+    requires { ⌜ (left < 1024) × (right < 1024) ⌝ }
+    ensures { λ r. ⌜ r ≡ lowerAll (now (words .entry)) (childOf first left ∷ childOf second right ∷ []) best ⌝ }
+    ensures { λ r. ⌜ now (times .exit) ≡ countAll (childOf first left ∷ childOf second right ∷ []) (now (times .entry)) ⌝ }
 {
-    let least = name(words, times, first, x, best);
-    name(words, times, second, y, least)
+    let least = name(words, times, first, left, best);
+    name(words, times, second, right, least)
 }
 
-// Term `t` names its children.
-fn name_children(words: &[usize; 1024], times: &mut [u8; 1024], t: usize, best: usize) -> usize
-    requires { ⌜ t < 1024 ⌝ }
-    ensures { λ r. ⌜ r ≡ lowerAll (now (words .entry)) (childrenOf (nodeIn (now (words .entry)) t)) best ⌝ }
-    ensures { λ r. ⌜ now (times .exit) ≡ countAll (childrenOf (nodeIn (now (words .entry)) t)) (now (times .entry)) ⌝ }
+// A term names its children.
+fn name_children(words: &[usize; 1024], times: &mut [u8; 1024], term: usize, best: usize) -> usize
+    requires { ⌜ term < 1024 ⌝ }
+    ensures { λ r. ⌜ r ≡ lowerAll (now (words .entry)) (childrenOf (nodeIn (now (words .entry)) term)) best ⌝ }
+    ensures { λ r. ⌜ now (times .exit) ≡ countAll (childrenOf (nodeIn (now (words .entry)) term)) (now (times .entry)) ⌝ }
 {
-    let w = words[t];
-    let x = w / FIRST % 1024;
-    let y = w / SECOND % 1024;
-    match w / TAG {
-        3 => name(words, times, 1, x, best),
-        4 => name_two(words, times, 1, x, 1, w / WRITTEN % 1024, best),
-        5 => name_two(words, times, 1, w / VALUE % 1024, 1, w / BODY % 1024, best),
+    let word = words[term];
+    let first = word / FIRST % 1024;
+    let second = word / SECOND % 1024;
+    match word / TAG {
+        3 => name(words, times, 1, first, best),
+        4 => name_two(words, times, 1, first, 1, word / WRITTEN % 1024, best),
+        5 => name_two(
+            words,
+            times,
+            1,
+            word / VALUE % 1024,
+            1,
+            word / BODY % 1024,
+            best,
+        ),
         6 => {
-            let least = name(words, times, 2, x, best);
-            name_two(words, times, 1, y, 1, w / THIRD % 1024, least)
+            let least = name(words, times, 2, first, best);
+            name_two(words, times, 1, second, 1, word / THIRD % 1024, least)
         }
-        7 => name_two(words, times, 2, x, 1, y, best),
-        8 => name(words, times, 3, w / ARGUMENTS % 1024, best),
-        9 => name(words, times, 1, x, best),
-        10 => name(words, times, 1, x, best),
-        11 => name_two(words, times, 1, x, 1, y, best),
-        13 => name(words, times, 2, x, best),
-        14 => name_two(words, times, 2, x, 2, y, best),
-        15 => name_two(words, times, 1, x, 1, y, best),
-        16 => name_two(words, times, 1, x, 3, y, best),
+        7 => name_two(words, times, 2, first, 1, second, best),
+        8 => name(words, times, 3, word / ARGUMENTS % 1024, best),
+        9 => name(words, times, 1, first, best),
+        10 => name(words, times, 1, first, best),
+        11 => name_two(words, times, 1, first, 1, second, best),
+        13 => name(words, times, 2, first, best),
+        14 => name_two(words, times, 2, first, 2, second, best),
+        15 => name_two(words, times, 1, first, 1, second, best),
+        16 => name_two(words, times, 1, first, 3, second, best),
         _ => best,
     }
 }
@@ -105,10 +113,10 @@ fn name_roots(
     ensures { λ r. ⌜ Counted (rootTimes (now (plan .entry)) procedures) (now (times .exit)) ⌝ }
 {
     let mut best = count;
-    let mut p = 0;
-    while p < procedures {
-        best = name(words, times, 1, layout::root(plan, p), best);
-        p += 1;
+    let mut procedure = 0;
+    while procedure < procedures {
+        best = name(words, times, 1, layout::root(plan, procedure), best);
+        procedure += 1;
     }
     best
 }
@@ -128,11 +136,11 @@ pub fn name_all(
     ensures { λ r. ⌜ Counted (allTimes (now (plan .entry)) count) (now (times .exit)) ⌝ }
 {
     let mut best = name_roots(plan, procedures, count, words, times);
-    let mut t = 0;
-    while t < count {
-        let least = name_children(words, times, t, best);
-        best = sorts::lower_call(plan, procedures, count, words, t, least);
-        t += 1;
+    let mut term = 0;
+    while term < count {
+        let least = name_children(words, times, term, best);
+        best = sorts::lower_call(plan, procedures, count, words, term, least);
+        term += 1;
     }
     best
 }
@@ -142,12 +150,12 @@ pub fn lowest_miscounted(times: &[u8; 1024], count: usize) -> usize
     requires { ⌜ count ≤ 1024 ⌝ }
     ensures { λ r. ⌜ Lowest (notOnce (now (times .entry))) count r ⌝ }
 {
-    let mut t = 0;
-    while t < count {
-        if times[t] != 1 {
-            return t;
+    let mut term = 0;
+    while term < count {
+        if times[term] != 1 {
+            return term;
         }
-        t += 1;
+        term += 1;
     }
-    t
+    term
 }

@@ -43,40 +43,40 @@ fn list_length(
     requires { ⌜ from < count ⌝ }
     ensures { λ r. ⌜ r ≡ listLength (now (plan .entry)) 9 from ⌝ }
 {
-    let mut n = 0;
-    let mut t = from;
-    while n < 9 {
-        let w = words[t];
-        if w / TAG != 16 {
-            return n;
+    let mut length = 0;
+    let mut term = from;
+    while length < 9 {
+        let word = words[term];
+        if word / TAG != 16 {
+            return length;
         }
-        t = w / SECOND % 1024;
-        n += 1;
+        term = word / SECOND % 1024;
+        length += 1;
     }
-    n
+    length
 }
 
-// The lower of `best` and term `t`, if that is a call whose list is not as long as the parameters.
+// The lower of `best` and the term, if that is a call whose list is not as long as the parameters.
 pub fn lower_call(
     plan: &[u8],
     procedures: usize,
     count: usize,
     words: &[usize; 1024],
-    t: usize,
+    term: usize,
     best: usize,
 ) -> usize
     requires { ⌜ Right (now plan) procedures count ⌝ }
     requires { ⌜ Loaded (now plan) count (now words) ⌝ }
-    requires { ⌜ t < count ⌝ }
-    ensures { λ r. ⌜ r ≡ lowerIf (wrongCall (now (plan .entry)) t) t best ⌝ }
+    requires { ⌜ term < count ⌝ }
+    ensures { λ r. ⌜ r ≡ lowerIf (wrongCall (now (plan .entry)) term) term best ⌝ }
 {
-    let w = words[t];
-    if w / TAG != 8 {
+    let word = words[term];
+    if word / TAG != 8 {
         return best;
     }
-    let n = list_length(plan, procedures, count, words, w / ARGUMENTS % 1024);
-    if n == layout::parameters(plan, w / PROCEDURE % 32) {
+    let length = list_length(plan, procedures, count, words, word / ARGUMENTS % 1024);
+    if length == layout::parameters(plan, word / PROCEDURE % 32) {
         return best;
     }
-    if t < best { t } else { best }
+    if term < best { term } else { best }
 }

@@ -29,14 +29,14 @@ pub fn check(plan: &[u8]) -> Checked
     }
     let procedures = layout::procedures(plan);
     let count = layout::terms(plan);
-    let p = header::lowest_wrong_procedure(plan, procedures, count);
-    if p < procedures {
-        return refused(3, p);
+    let procedure = header::lowest_wrong_procedure(plan, procedures, count);
+    if procedure < procedures {
+        return refused(3, procedure);
     }
     let mut words = [0usize; 1024];
-    let t = table::load(plan, procedures, count, &mut words);
-    if t < count {
-        return refused(4, t);
+    let term = table::load(plan, procedures, count, &mut words);
+    if term < count {
+        return refused(4, term);
     }
     let mut times = [0u8; 1024];
     let misplaced = naming::name_all(plan, procedures, count, &words, &mut times);
@@ -47,9 +47,9 @@ pub fn check(plan: &[u8]) -> Checked
     if miscounted < count {
         return refused(6, miscounted);
     }
-    let p = bound_slots::lowest_open(plan, procedures, count, &words);
-    if p < procedures {
-        return refused(7, p);
+    let procedure = bound_slots::lowest_open(plan, procedures, count, &words);
+    if procedure < procedures {
+        return refused(7, procedure);
     }
     Checked::Passed
 }

@@ -31,9 +31,9 @@ pub fn refusal(plan: &[u8], schedule: &[u8], area: usize) -> Checked
     if schedule.len() > 4096 {
         return plan::refused(8, 0);
     }
-    let i = lowest_wrong_pick(schedule);
-    if i < schedule.len() {
-        return plan::refused(9, i);
+    let pick = lowest_wrong_pick(schedule);
+    if pick < schedule.len() {
+        return plan::refused(9, pick);
     }
     if area < 3 * schedule.len() {
         return plan::refused(10, 0);

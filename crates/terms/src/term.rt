@@ -30,10 +30,10 @@ pub const BODY: usize = 2048; // the term after that
 
 pub const ARGUMENTS: usize = 1048576; // the list after a procedure
 
-// The 40 bits of term `t`.
-pub fn word_at(plan: &[u8], procedures: usize, t: usize) -> usize
-    requires { ⌜ (procedures ≡ Format.procedures (now plan)) × (8 + 2 * procedures + 5 * t + 5 ≤ length (now plan)) ⌝ }
-    ensures { λ r. ⌜ r ≡ wordAt (now (plan .entry)) t ⌝ }
+// The 40 bits of a term.
+pub fn word_at(plan: &[u8], procedures: usize, term: usize) -> usize
+    requires { ⌜ (procedures ≡ Format.procedures (now plan)) × (8 + 2 * procedures + 5 * term + 5 ≤ length (now plan)) ⌝ }
+    ensures { λ r. ⌜ r ≡ wordAt (now (plan .entry)) term ⌝ }
 {
-    byte_numbers::five(plan, 8 + 2 * procedures + 5 * t)
+    byte_numbers::five(plan, 8 + 2 * procedures + 5 * term)
 }

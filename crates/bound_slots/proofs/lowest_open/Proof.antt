@@ -12,10 +12,10 @@ use Rattle.bound_slots.proofs.lowest_open.Statement.{statement}
 use Rattle.bound_slots.proofs.lowest_open.Tie as tie
 
 abbrev Inv-loop : tie.InvT-loop
-Inv-loop plan procedures count words p₀ p = (p ≤ procedures) × ((k : ℕ) → k < p → usesUnboundSlot plan k ≡ false)
+Inv-loop plan procedures count words procedure₀ procedure = (procedure ≤ procedures) × ((k : ℕ) → k < procedure → usesUnboundSlot plan k ≡ false)
 
 abbrev μ-loop : tie.MeasureT-loop
-μ-loop plan procedures count words p₀ p = procedures - p
+μ-loop plan procedures count words procedure₀ procedure = procedures - procedure
 
 loop-holds : tie.Need-loop-holds Inv-loop μ-loop
 loop-holds c = (search needs, λ k h. absurd (omega arith))
@@ -38,7 +38,7 @@ closed-expression-requires c κs = let s = c .before .before .before .before .be
 -- the procedure of this turn
 seen :
     (c : tie.After-closed-expression Inv-loop μ-loop) →
-    usesUnboundSlot (c .before .before .before .before .before .before .args .plan .now) (c .before .before .before .before .loop .p) ≡ not (c .closed-expression .result)
+    usesUnboundSlot (c .before .before .before .before .before .before .args .plan .now) (c .before .before .before .before .loop .procedure) ≡ not (c .closed-expression .result)
 seen c =
     let s = c .before .before .before .before .before .before in
     opens (s .pre .0) _ (c .before .before .before .loop-test .taken) (s .pre .1) (c .before .root .ensures) (c .before .before .parameters .ensures) (c .closed-expression .ensures)
@@ -46,8 +46,8 @@ seen c =
 returns : tie.Need-returns Inv-loop μ-loop
 returns c = found _ _ _ (c .before .before .before .before .loop-test .taken) (seen (c .before) ∙ c .if1 .taken) (c .before .before .before .before .before .loop .inv .1)
 
-add-p : tie.Need-add-p Inv-loop μ-loop
-add-p c = search needs
+add-procedure : tie.Need-add-procedure Inv-loop μ-loop
+add-procedure c = search needs
 
 loop-less : tie.Need-loop-less Inv-loop μ-loop
 loop-less c = search needs
@@ -71,7 +71,7 @@ lowest-open-spec =
     root-requires
     closed-expression-requires
     returns
-    add-p
+    add-procedure
     loop-less
     loop-again
     returns-2)

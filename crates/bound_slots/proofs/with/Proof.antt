@@ -15,7 +15,7 @@ returns c = simp (eq-eqb _ _ (c .if1 .taken))
 
 returns-2 : tie.Need-returns-2
 unfolding withSlot
-returns-2 c = simp (ne-eqb _ _ (c .if1 .left), shl-one (c .before .args .x) (c .before .pre))
+returns-2 c = simp (ne-eqb _ _ (c .if1 .left), shl-one (c .before .args .slot) (c .before .pre))
 
 pub with-spec : {M : Type 1} → statement M
 with-spec = tie.close (tie.spec shl-result returns returns-2)

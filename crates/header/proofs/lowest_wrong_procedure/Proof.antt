@@ -12,10 +12,10 @@ use Rattle.header.proofs.lowest_wrong_procedure.Statement.{statement}
 use Rattle.header.proofs.lowest_wrong_procedure.Tie as tie
 
 abbrev Inv-loop : tie.InvT-loop
-Inv-loop plan procedures count p₀ p = (p ≤ procedures) × ((k : ℕ) → k < p → wrongProcedure plan k ≡ false)
+Inv-loop plan procedures count procedure₀ procedure = (procedure ≤ procedures) × ((k : ℕ) → k < procedure → wrongProcedure plan k ≡ false)
 
 abbrev μ-loop : tie.MeasureT-loop
-μ-loop plan procedures count p₀ p = procedures - p
+μ-loop plan procedures count procedure₀ procedure = procedures - procedure
 
 loop-holds : tie.Need-loop-holds Inv-loop μ-loop
 loop-holds c = (search needs, λ k h. absurd (omega arith))
@@ -26,8 +26,8 @@ wrong-procedure-requires c κs = search needs
 returns : tie.Need-returns Inv-loop μ-loop
 returns c = found (wrongProcedure (c .before .before .before .before .before .args .plan .now)) _ _ (c .before .before .loop-test .taken) (sym (c .before .wrong-procedure .ensures) ∙ c .if1 .taken) (c .before .before .before .loop .inv .1)
 
-add-p : tie.Need-add-p Inv-loop μ-loop
-add-p c = search needs
+add-procedure : tie.Need-add-procedure Inv-loop μ-loop
+add-procedure c = search needs
 
 loop-less : tie.Need-loop-less Inv-loop μ-loop
 loop-less c = search needs
@@ -47,7 +47,7 @@ lowest-wrong-procedure-spec =
     loop-holds
     wrong-procedure-requires
     returns
-    add-p
+    add-procedure
     loop-less
     loop-again
     returns-2)

@@ -17,7 +17,7 @@ returns c =
     let s = c .before .before .before in
     let a = s .args in
     let k = c .before .parameters in
-    sym (procedure-tests (a .plan .now) (a .p) (k .result) (a .count) (root (a .plan .now) (a .p)) (k .ensures) (s .pre .0) refl ∙ rw (lt-ltb 8 (k .result) (c .if1 .taken)))
+    sym (procedure-tests (a .plan .now) (a .procedure) (k .result) (a .count) (root (a .plan .now) (a .procedure)) (k .ensures) (s .pre .0) refl ∙ rw (lt-ltb 8 (k .result) (c .if1 .taken)))
 
 returns-2 : tie.Need-returns-2
 returns-2 c =
@@ -25,8 +25,8 @@ returns-2 c =
     let a = s .args in
     let k = c .before .before .before .parameters in
     sym
-    (procedure-tests (a .plan .now) (a .p) (k .result) (a .count) (root (a .plan .now) (a .p)) (k .ensures) (s .pre .0) refl
-    ∙ rw (le-ltb 8 (k .result) (c .before .before .if1 .left), eq-eqb (a .p) 0 (c .before .if2 .taken), c .if3 .taken))
+    (procedure-tests (a .plan .now) (a .procedure) (k .result) (a .count) (root (a .plan .now) (a .procedure)) (k .ensures) (s .pre .0) refl
+    ∙ rw (le-ltb 8 (k .result) (c .before .before .if1 .left), eq-eqb (a .procedure) 0 (c .before .if2 .taken), c .if3 .taken))
 
 root-requires : tie.Need-root-requires
 root-requires c κs = c .before .before .before .before .pre .1
@@ -36,10 +36,10 @@ returns-3 c =
     let s = c .before .before .before .before .before in
     let a = s .args in
     let k = c .before .before .before .parameters in
-    let m : (eqb (a .p) 0 && ltb 0 (k .result)) ≡ false =
-    ⊎-elim (λ w. rw (eq-eqb (a .p) 0 (w .0 .taken), w .1 .left)) (λ w. rw (ne-eqb (a .p) 0 (w .left))) (c .before .if2 .came) in
+    let m : (eqb (a .procedure) 0 && ltb 0 (k .result)) ≡ false =
+    ⊎-elim (λ w. rw (eq-eqb (a .procedure) 0 (w .0 .taken), w .1 .left)) (λ w. rw (ne-eqb (a .procedure) 0 (w .left))) (c .before .if2 .came) in
     sym
-    (procedure-tests (a .plan .now) (a .p) (k .result) (a .count) (c .root .result) (k .ensures) (s .pre .0) (c .root .ensures)
+    (procedure-tests (a .plan .now) (a .procedure) (k .result) (a .count) (c .root .result) (k .ensures) (s .pre .0) (c .root .ensures)
     ∙ rw (le-ltb 8 (k .result) (c .before .before .if1 .left), m))
 
 pub wrong-procedure-spec : {M : Type 1} → statement M

@@ -11,10 +11,10 @@ use Rattle.loading.proofs.roots.Statement.{statement}
 use Rattle.loading.proofs.roots.Tie as tie
 
 abbrev Inv-loop : tie.InvT-loop
-Inv-loop plan procedures all₀ p₀ all p = (p ≤ procedures) × (length all ≡ 32) × Roots plan p all
+Inv-loop plan procedures all₀ procedure₀ all procedure = (procedure ≤ procedures) × (length all ≡ 32) × Roots plan procedure all
 
 abbrev μ-loop : tie.MeasureT-loop
-μ-loop plan procedures all₀ p₀ all p = procedures - p
+μ-loop plan procedures all₀ procedure₀ all procedure = procedures - procedure
 
 loop-holds : tie.Need-loop-holds Inv-loop μ-loop
 loop-holds c = (search needs, refl, λ i q. absurd (omega arith))
@@ -28,8 +28,8 @@ mul-all c = search needs
 array-write-all : tie.Need-array-write-all Inv-loop μ-loop
 array-write-all c = search needs
 
-add-p : tie.Need-add-p Inv-loop μ-loop
-add-p c = search needs
+add-procedure : tie.Need-add-procedure Inv-loop μ-loop
+add-procedure c = search needs
 
 loop-less : tie.Need-loop-less Inv-loop μ-loop
 loop-less c = search needs
@@ -37,8 +37,8 @@ loop-less c = search needs
 loop-again : tie.Need-loop-again Inv-loop μ-loop
 loop-again c =
     let l = c .before .before .loop in
-    let n : l .p < length (l .all) = rw (l .inv .1) (omega arith) in
-    (search needs, length-set (l .all) (l .p) _ ∙ l .inv .1, filled {A = ℕ} (l .all) (l .p) (c .root .result) 0 (λ (p x : ℕ). x ≡ root (c .before .before .before .before .args .plan .now) p) n (l .inv .2) (c .root .ensures))
+    let n : l .procedure < length (l .all) = rw (l .inv .1) (omega arith) in
+    (search needs, length-set (l .all) (l .procedure) _ ∙ l .inv .1, filled {A = ℕ} (l .all) (l .procedure) (c .root .result) 0 (λ (p x : ℕ). x ≡ root (c .before .before .before .before .args .plan .now) p) n (l .inv .2) (c .root .ensures))
 
 returns : tie.Need-returns Inv-loop μ-loop
 returns c i q = let l = c .before .loop in l .inv .2 i (omega arith)
@@ -53,7 +53,7 @@ roots-spec =
     root-requires
     mul-all
     array-write-all
-    add-p
+    add-procedure
     loop-less
     loop-again
     returns)

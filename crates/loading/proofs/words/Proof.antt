@@ -19,10 +19,10 @@ unfolding termBit
 place b m t e = rw e refl
 
 abbrev Inv-loop : tie.InvT-loop
-Inv-loop plan procedures count all₀ t₀ all t = (t ≤ count) × (length all ≡ 1024) × Words plan t all
+Inv-loop plan procedures count all₀ term₀ all term = (term ≤ count) × (length all ≡ 1024) × Words plan term all
 
 abbrev μ-loop : tie.MeasureT-loop
-μ-loop plan procedures count all₀ t₀ all t = count - t
+μ-loop plan procedures count all₀ term₀ all term = count - term
 
 loop-holds : tie.Need-loop-holds Inv-loop μ-loop
 loop-holds c = (search needs, refl, λ i q. absurd (omega arith))
@@ -48,8 +48,8 @@ mul-all c = search needs
 array-write-all : tie.Need-array-write-all Inv-loop μ-loop
 array-write-all c = search needs
 
-add-t : tie.Need-add-t Inv-loop μ-loop
-add-t c = search needs
+add-term : tie.Need-add-term Inv-loop μ-loop
+add-term c = search needs
 
 loop-less : tie.Need-loop-less Inv-loop μ-loop
 loop-less c = search needs
@@ -58,8 +58,8 @@ loop-again : tie.Need-loop-again Inv-loop μ-loop
 loop-again c =
     let a = c .before .before .before .before .args in
     let l = c .before .before .loop in
-    let n : l .t < length (l .all) = rw (l .inv .1) (omega arith) in
-    (search needs, length-set (l .all) (l .t) _ ∙ l .inv .1, filled {A = ℕ} (l .all) (l .t) (c .five .result) 0 (λ (t x : ℕ). x ≡ bitsAt (a .plan .now) (termBit (a .plan .now) t) 40) n (l .inv .2) (c .five .ensures .0 ∙ ap (λ (i : ℕ). bitsAt (a .plan .now) i 40) (place (a .plan .now) (a .procedures) (l .t) (c .before .before .before .before .pre .0))))
+    let n : l .term < length (l .all) = rw (l .inv .1) (omega arith) in
+    (search needs, length-set (l .all) (l .term) _ ∙ l .inv .1, filled {A = ℕ} (l .all) (l .term) (c .five .result) 0 (λ (t x : ℕ). x ≡ bitsAt (a .plan .now) (termBit (a .plan .now) t) 40) n (l .inv .2) (c .five .ensures .0 ∙ ap (λ (i : ℕ). bitsAt (a .plan .now) i 40) (place (a .plan .now) (a .procedures) (l .term) (c .before .before .before .before .pre .0))))
 
 returns : tie.Need-returns Inv-loop μ-loop
 returns c i q = let l = c .before .loop in l .inv .2 i (omega arith)
@@ -78,7 +78,7 @@ words-spec =
     five-requires
     mul-all
     array-write-all
-    add-t
+    add-term
     loop-less
     loop-again
     returns)

@@ -12,10 +12,10 @@ use Rattle.naming.proofs.lowest_miscounted.Statement.{statement}
 use Rattle.naming.proofs.lowest_miscounted.Tie as tie
 
 abbrev Inv-loop : tie.InvT-loop
-Inv-loop times count t₀ t = (t ≤ count) × ((k : ℕ) → k < t → notOnce times k ≡ false)
+Inv-loop times count term₀ term = (term ≤ count) × ((k : ℕ) → k < term → notOnce times k ≡ false)
 
 abbrev μ-loop : tie.MeasureT-loop
-μ-loop times count t₀ t = count - t
+μ-loop times count term₀ term = count - term
 
 loop-holds : tie.Need-loop-holds Inv-loop μ-loop
 loop-holds c = (search needs, λ k h. absurd (omega arith))
@@ -27,8 +27,8 @@ returns : tie.Need-returns Inv-loop μ-loop
 unfolding notOnce
 returns c = found (notOnce (c .before .before .before .before .args .times .now)) _ _ (c .before .before .loop-test .taken) (simp (ne-eqb _ _ (c .if1 .taken))) (c .before .before .before .loop .inv .1)
 
-add-t : tie.Need-add-t Inv-loop μ-loop
-add-t c = search needs
+add-term : tie.Need-add-term Inv-loop μ-loop
+add-term c = search needs
 
 loop-less : tie.Need-loop-less Inv-loop μ-loop
 loop-less c = search needs
@@ -49,7 +49,7 @@ lowest-miscounted-spec =
     loop-holds
     element-copy-out-if1
     returns
-    add-t
+    add-term
     loop-less
     loop-again
     returns-2)

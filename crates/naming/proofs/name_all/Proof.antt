@@ -12,10 +12,10 @@ use Rattle.naming.proofs.name_all.Statement.{statement}
 use Rattle.naming.proofs.name_all.Tie as tie
 
 abbrev Inv-loop : tie.InvT-loop
-Inv-loop plan procedures count words times₀ best₀ t₀ times best t = (t ≤ count) × Lowest (faults plan t) count best × Counted (allTimes plan t) times
+Inv-loop plan procedures count words times₀ best₀ term₀ times best term = (term ≤ count) × Lowest (faults plan term) count best × Counted (allTimes plan term) times
 
 abbrev μ-loop : tie.MeasureT-loop
-μ-loop plan procedures count words times₀ best₀ t₀ times best t = count - t
+μ-loop plan procedures count words times₀ best₀ term₀ times best term = count - term
 
 name-roots-requires : tie.Need-name-roots-requires Inv-loop μ-loop
 name-roots-requires c κs = c .before .before .pre
@@ -29,17 +29,17 @@ name-children-requires c κs = let s = c .before .before .before .before .before
 lower-call-requires : tie.Need-lower-call-requires Inv-loop μ-loop
 lower-call-requires c κs = let s = c .before .before .before .before .before .before .before in let a = s .args in let b = a .plan .now in let r = s .pre .0 in let d = s .pre .1 .0 in (r, (d, c .before .before .loop-test .taken))
 
-add-t : tie.Need-add-t Inv-loop μ-loop
-add-t c = search needs
+add-term : tie.Need-add-term Inv-loop μ-loop
+add-term c = search needs
 
 loop-less : tie.Need-loop-less Inv-loop μ-loop
 loop-less c = search needs
 
 loop-again : tie.Need-loop-again Inv-loop μ-loop
-loop-again c = let s = c .before .before .before .before .before .before .before .before in let a = s .args in let b = a .plan .now in let r = s .pre .0 in let d = s .pre .1 .0 in let l = c .before .before .before .before .loop in let h = c .before .before .before .loop-test .taken in let right = r .terms-right (l .t) h in let k = c .before .name-children in (search needs, rw add-one (one-term b (a .procedures) (l .t) (a .count) (a .words .now) (l .best) (k .result) (c .lower-call .result) d (r .headed .sized) right h (k .ensures .0) (c .lower-call .ensures) (l .inv .1)), rw add-one (term-step b (a .procedures) (a .count) (l .t) (a .words .now) (l .times) _ d (r .headed) right h (k .ensures .1) (l .inv .2)))
+loop-again c = let s = c .before .before .before .before .before .before .before .before in let a = s .args in let b = a .plan .now in let r = s .pre .0 in let d = s .pre .1 .0 in let l = c .before .before .before .before .loop in let h = c .before .before .before .loop-test .taken in let right = r .terms-right (l .term) h in let k = c .before .name-children in (search needs, rw add-one (one-term b (a .procedures) (l .term) (a .count) (a .words .now) (l .best) (k .result) (c .lower-call .result) d (r .headed .sized) right h (k .ensures .0) (c .lower-call .ensures) (l .inv .1)), rw add-one (term-step b (a .procedures) (a .count) (l .term) (a .words .now) (l .times) _ d (r .headed) right h (k .ensures .1) (l .inv .2)))
 
 returns : tie.Need-returns Inv-loop μ-loop
-returns c = let s = c .before .before .before .before .before in let a = s .args in let b = a .plan .now in let r = s .pre .0 in let d = s .pre .1 .0 in let l = c .before .loop in let e : l .t ≡ a .count = omega arith in (all-faults b (a .count) (l .best) (r .headed .sized .terms-are) (rw e at (l .inv .1)), rw e at (l .inv .2))
+returns c = let s = c .before .before .before .before .before in let a = s .args in let b = a .plan .now in let r = s .pre .0 in let d = s .pre .1 .0 in let l = c .before .loop in let e : l .term ≡ a .count = omega arith in (all-faults b (a .count) (l .best) (r .headed .sized .terms-are) (rw e at (l .inv .1)), rw e at (l .inv .2))
 
 pub name-all-spec : {M : Type 1} → statement M
 name-all-spec =
@@ -51,7 +51,7 @@ name-all-spec =
     loop-holds
     name-children-requires
     lower-call-requires
-    add-t
+    add-term
     loop-less
     loop-again
     returns)

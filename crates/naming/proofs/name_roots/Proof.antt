@@ -13,10 +13,10 @@ use Rattle.naming.proofs.name_roots.Statement.{statement}
 use Rattle.naming.proofs.name_roots.Tie as tie
 
 abbrev Inv-loop : tie.InvT-loop
-Inv-loop plan procedures count words times₀ best₀ p₀ times best p = (p ≤ procedures) × Lowest (misplacedRoot plan p) count best × Counted (rootTimes plan p) times
+Inv-loop plan procedures count words times₀ best₀ procedure₀ times best procedure = (procedure ≤ procedures) × Lowest (misplacedRoot plan procedure) count best × Counted (rootTimes plan procedure) times
 
 abbrev μ-loop : tie.MeasureT-loop
-μ-loop plan procedures count words times₀ best₀ p₀ times best p = procedures - p
+μ-loop plan procedures count words times₀ best₀ procedure₀ times best procedure = procedures - procedure
 
 loop-holds : tie.Need-loop-holds Inv-loop μ-loop
 loop-holds c = (search needs, no-root (c .before .args .plan .now) _, rw (c .before .pre .1 .1) (no-names (c .before .args .plan .now)))
@@ -25,19 +25,19 @@ root-requires : tie.Need-root-requires Inv-loop μ-loop
 root-requires c κs = let s = c .before .before .before .before .pre .0 .headed .sized in omega (arith, s)
 
 name-requires : tie.Need-name-requires Inv-loop μ-loop
-name-requires c κs = let a = c .before .before .before .before .before .args in let z = c .before .before .before .before .before .pre .0 .headed in let f = z .few in omega (arith, c .root .ensures, root-below (a .plan .now) (a .procedures) (a .count) (c .before .before .before .loop .p) z (c .before .before .loop-test .taken))
+name-requires c κs = let a = c .before .before .before .before .before .args in let z = c .before .before .before .before .before .pre .0 .headed in let f = z .few in omega (arith, c .root .ensures, root-below (a .plan .now) (a .procedures) (a .count) (c .before .before .before .loop .procedure) z (c .before .before .loop-test .taken))
 
-add-p : tie.Need-add-p Inv-loop μ-loop
-add-p c = search needs
+add-procedure : tie.Need-add-procedure Inv-loop μ-loop
+add-procedure c = search needs
 
 loop-less : tie.Need-loop-less Inv-loop μ-loop
 loop-less c = search needs
 
 loop-again : tie.Need-loop-again Inv-loop μ-loop
-loop-again c = let a = c .before .before .before .before .before .before .args in let b = a .plan .now in let z = c .before .before .before .before .before .before .pre in let f = z .0 .headed .few in let l = c .before .before .before .before .loop in let h = root-below b (a .procedures) (a .count) (l .p) (z .0 .headed) (c .before .before .before .loop-test .taken) in let e = c .before .root .ensures in (search needs, rw add-one (one-root b (l .p) (a .count) (a .words .now) (l .best) (c .before .root .result) _ (z .1 .0) e h (c .name .ensures .0) (l .inv .1)), rw add-one (root-step b (l .p) (c .before .root .result) (l .times) _ e (omega (arith, h)) (c .name .ensures .1) (l .inv .2)))
+loop-again c = let a = c .before .before .before .before .before .before .args in let b = a .plan .now in let z = c .before .before .before .before .before .before .pre in let f = z .0 .headed .few in let l = c .before .before .before .before .loop in let h = root-below b (a .procedures) (a .count) (l .procedure) (z .0 .headed) (c .before .before .before .loop-test .taken) in let e = c .before .root .ensures in (search needs, rw add-one (one-root b (l .procedure) (a .count) (a .words .now) (l .best) (c .before .root .result) _ (z .1 .0) e h (c .name .ensures .0) (l .inv .1)), rw add-one (root-step b (l .procedure) (c .before .root .result) (l .times) _ e (omega (arith, h)) (c .name .ensures .1) (l .inv .2)))
 
 returns : tie.Need-returns Inv-loop μ-loop
-returns c = let a = c .before .before .before .args in let l = c .before .loop in let e : l .p ≡ a .procedures = omega arith in (rw e at (l .inv .1), rw e at (l .inv .2))
+returns c = let a = c .before .before .before .args in let l = c .before .loop in let e : l .procedure ≡ a .procedures = omega arith in (rw e at (l .inv .1), rw e at (l .inv .2))
 
 pub name-roots-spec : {M : Type 1} → statement M
 name-roots-spec =
@@ -48,7 +48,7 @@ name-roots-spec =
     loop-holds
     root-requires
     name-requires
-    add-p
+    add-procedure
     loop-less
     loop-again
     returns)

@@ -12,10 +12,10 @@ use Rattle.bound_slots.proofs.+closed_condition+closed_equal+closed_exp
 use Rattle.bound_slots.proofs.+closed_condition+closed_equal+closed_expression+closed_list+rest_of+rest_of_two.Lts-closed_condition as lts
 
 abbrev Inv : lts.InvT-loop
-Inv words from bound t₀ t = Left words (conditionsOf words (slots bound)) from t
+Inv words from bound term₀ term = Left words (conditionsOf words (slots bound)) from term
 
 abbrev μ : lts.MeasureT-loop
-μ words from bound t₀ t = 1024 - t
+μ words from bound term₀ term = 1024 - term
 
 module _ (span : ℕ) where
   abbrev callees : lts.Claims
@@ -24,11 +24,11 @@ module _ (span : ℕ) where
   loop-holds : lts.Need-loop-holds callees (closed-condition-at span) Post Inv μ
   loop-holds c = start (c .pre .1 .0) (c .pre .1 .1)
 
-  mul-w : lts.Need-mul-w callees (closed-condition-at span) Post Inv μ
-  mul-w c = let h = c .loop .inv .within in omega arith
+  mul-word : lts.Need-mul-word callees (closed-condition-at span) Post Inv μ
+  mul-word c = let h = c .loop .inv .within in omega arith
 
-  element-copy-out-w : lts.Need-element-copy-out-w callees (closed-condition-at span) Post Inv μ
-  element-copy-out-w c = let h = c .loop .inv .within in omega arith
+  element-copy-out-word : lts.Need-element-copy-out-word callees (closed-condition-at span) Post Inv μ
+  element-copy-out-word c = let h = c .loop .inv .within in omega arith
 
   loop-less : lts.Need-loop-less callees (closed-condition-at span) Post Inv μ
   loop-less c = past-not _ _ (c .before .before .loop .inv) (c .match .keys1) .0
@@ -71,6 +71,6 @@ module _ (span : ℕ) where
 
   pub closed-condition : {M : Type 1} → lts.Closed callees (closed-condition-at span) Post M
   closed-condition =
-      lts.spec callees (closed-condition-at span) Post Inv μ loop-holds mul-w element-copy-out-w loop-less loop-again
+      lts.spec callees (closed-condition-at span) Post Inv μ loop-holds mul-word element-copy-out-word loop-less loop-again
       mul-if1 element-copy-out-if1 loop-less-2 loop-again-2 closed-condition-requires returns loop-less-3 loop-again-3
       closed-equal-requires returns-2 returns-3

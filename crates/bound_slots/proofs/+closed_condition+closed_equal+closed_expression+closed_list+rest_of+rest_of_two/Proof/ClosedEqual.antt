@@ -13,17 +13,17 @@ module _ (span : ℕ) where
   abbrev callees : lts.Claims
   callees = (closed-leaf.Asked, closed-leaf.Learnt, closed-expression-below span, closed-expression.Post)
 
-  mul-w : lts.Need-mul-w callees (closed-equal-at span) Post
-  mul-w c = let h = c .pre .1 .1 .0 in omega arith
+  mul-word : lts.Need-mul-word callees (closed-equal-at span) Post
+  mul-word c = let h = c .pre .1 .1 .0 in omega arith
 
-  element-copy-out-w : lts.Need-element-copy-out-w callees (closed-equal-at span) Post
-  element-copy-out-w c = let h = c .pre .1 .1 .0 in omega arith
+  element-copy-out-word : lts.Need-element-copy-out-word callees (closed-equal-at span) Post
+  element-copy-out-word c = let h = c .pre .1 .1 .0 in omega arith
 
-  mul-v : lts.Need-mul-v callees (closed-equal-at span) Post
-  mul-v c = omega arith
+  mul-second-word : lts.Need-mul-second-word callees (closed-equal-at span) Post
+  mul-second-word c = omega arith
 
-  element-copy-out-v : lts.Need-element-copy-out-v callees (closed-equal-at span) Post
-  element-copy-out-v c = omega arith
+  element-copy-out-second-word : lts.Need-element-copy-out-second-word callees (closed-equal-at span) Post
+  element-copy-out-second-word c = omega arith
 
   closed-leaf-requires : lts.Need-closed-leaf-requires callees (closed-equal-at span) Post
   closed-leaf-requires c κs = c .if1 .taken
@@ -51,6 +51,6 @@ module _ (span : ℕ) where
 
   pub closed-equal : {M : Type 1} → lts.Closed callees (closed-equal-at span) Post M
   closed-equal =
-      lts.spec callees (closed-equal-at span) Post mul-w element-copy-out-w mul-v element-copy-out-v
+      lts.spec callees (closed-equal-at span) Post mul-word element-copy-out-word mul-second-word element-copy-out-second-word
       closed-leaf-requires closed-expression-requires returns returns-2 closed-expression-requires-2
       closed-expression-requires-3 returns-3 returns-4

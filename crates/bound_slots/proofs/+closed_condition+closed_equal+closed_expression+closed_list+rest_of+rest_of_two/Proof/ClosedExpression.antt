@@ -13,10 +13,10 @@ use Rattle.bound_slots.proofs.+closed_condition+closed_equal+closed_exp
 use Rattle.bound_slots.proofs.+closed_condition+closed_equal+closed_expression+closed_list+rest_of+rest_of_two.Lts-closed_expression as lts
 
 abbrev Inv : lts.InvT-loop
-Inv words from outer t₀ bound₀ t bound = (from ≤ t) × (t < 1024) × (closed (slots bound) (treeIn words t) ≡ closed (slots outer) (treeIn words from))
+Inv words from outer term₀ bound₀ term bound = (from ≤ term) × (term < 1024) × (closed (slots bound) (treeIn words term) ≡ closed (slots outer) (treeIn words from))
 
 abbrev μ : lts.MeasureT-loop
-μ words from outer t₀ bound₀ t bound = 1024 - t
+μ words from outer term₀ bound₀ term bound = 1024 - term
 
 module _ (span : ℕ) where
   abbrev callees : lts.Claims
@@ -26,7 +26,7 @@ module _ (span : ℕ) where
   loop-holds c = (omega arith, c .pre .1 .1, refl)
 
   rest-of-requires : lts.Need-rest-of-requires callees (closed-expression-at span) Post Inv μ
-  rest-of-requires c κs = let s = c .before in let l = c .loop in (here span (s .args .from) (l .t) (s .pre .0) (l .inv .0), (s .pre .1 .0, l .inv .1))
+  rest-of-requires c κs = let s = c .before in let l = c .loop in (here span (s .args .from) (l .term) (s .pre .0) (l .inv .0), (s .pre .1 .0, l .inv .1))
 
   enum-told : lts.Need-enum-told callees (closed-expression-at span) Post Inv μ
   enum-told c = search needs
@@ -54,7 +54,7 @@ module _ (span : ℕ) where
       let l = c .before .before .before .before .loop in
       let r = c .before .before .before .rest-of .ensures in
       let e = c .before .rest .given .1 in
-      let q = subst (After (l .t)) e (r .1) in
+      let q = subst (After (l .term)) e (r .1) in
       (omega (arith, q .0, l .inv .0), q .1, sym (ap (seen _) e) ∙ r .0 ∙ l .inv .2)
 
   pub closed-expression : {M : Type 1} → lts.Closed callees (closed-expression-at span) Post M

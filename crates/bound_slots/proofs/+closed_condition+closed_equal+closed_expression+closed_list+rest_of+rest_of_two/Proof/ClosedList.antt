@@ -12,10 +12,10 @@ use Rattle.bound_slots.proofs.+closed_condition+closed_equal+closed_exp
 use Rattle.bound_slots.proofs.+closed_condition+closed_equal+closed_expression+closed_list+rest_of+rest_of_two.Lts-closed_list as lts
 
 abbrev Inv : lts.InvT-loop
-Inv words from bound t₀ t = Left words (listsOf words (slots bound)) from t
+Inv words from bound term₀ term = Left words (listsOf words (slots bound)) from term
 
 abbrev μ : lts.MeasureT-loop
-μ words from bound t₀ t = 1024 - t
+μ words from bound term₀ term = 1024 - term
 
 module _ (span : ℕ) where
   abbrev callees : lts.Claims
@@ -24,11 +24,11 @@ module _ (span : ℕ) where
   loop-holds : lts.Need-loop-holds callees (closed-list-at span) Post Inv μ
   loop-holds c = start (c .pre .1 .0) (c .pre .1 .1)
 
-  mul-w : lts.Need-mul-w callees (closed-list-at span) Post Inv μ
-  mul-w c = let h = c .loop .inv .within in omega arith
+  mul-word : lts.Need-mul-word callees (closed-list-at span) Post Inv μ
+  mul-word c = let h = c .loop .inv .within in omega arith
 
-  element-copy-out-w : lts.Need-element-copy-out-w callees (closed-list-at span) Post Inv μ
-  element-copy-out-w c = let h = c .loop .inv .within in omega arith
+  element-copy-out-word : lts.Need-element-copy-out-word callees (closed-list-at span) Post Inv μ
+  element-copy-out-word c = let h = c .loop .inv .within in omega arith
 
   returns : lts.Need-returns callees (closed-list-at span) Post Inv μ
   returns c = ended _ _ (c .before .before .loop .inv) (c .if1 .taken)
@@ -47,5 +47,5 @@ module _ (span : ℕ) where
 
   pub closed-list : {M : Type 1} → lts.Closed callees (closed-list-at span) Post M
   closed-list =
-      lts.spec callees (closed-list-at span) Post Inv μ loop-holds mul-w element-copy-out-w returns
+      lts.spec callees (closed-list-at span) Post Inv μ loop-holds mul-word element-copy-out-word returns
       closed-expression-requires returns-2 loop-less loop-again

@@ -31,11 +31,11 @@ module _ (span : ℕ) where
     closed-list.Post,
   )
 
-  mul-w : lts.Need-mul-w callees (rest-of-at span) Post
-  mul-w c = let h = c .pre .1 .1 in omega arith
+  mul-word : lts.Need-mul-word callees (rest-of-at span) Post
+  mul-word c = let h = c .pre .1 .1 in omega arith
 
-  element-copy-out-w : lts.Need-element-copy-out-w callees (rest-of-at span) Post
-  element-copy-out-w c = let h = c .pre .1 .1 in omega arith
+  element-copy-out-word : lts.Need-element-copy-out-word callees (rest-of-at span) Post
+  element-copy-out-word c = let h = c .pre .1 .1 in omega arith
 
   holds-requires : lts.Need-holds-requires callees (rest-of-at span) Post
   holds-requires c κs = omega arith
@@ -111,7 +111,7 @@ module _ (span : ℕ) where
 
   pub rest-of : {M : Type 1} → lts.Closed callees (rest-of-at span) Post M
   rest-of =
-      lts.spec callees (rest-of-at span) Post mul-w element-copy-out-w holds-requires told-requires
+      lts.spec callees (rest-of-at span) Post mul-word element-copy-out-word holds-requires told-requires
       rest-of-two-requires with-requires rest-of-two-requires-2 closed-condition-requires rest-of-two-requires-3
       returns closed-condition-requires-2 returns-2 closed-list-requires told-requires-2 rest-of-two-requires-4
       returns-3 returns-4 returns-5 returns-6 returns-7 returns-8 returns-9 returns-10 returns-11 returns-12

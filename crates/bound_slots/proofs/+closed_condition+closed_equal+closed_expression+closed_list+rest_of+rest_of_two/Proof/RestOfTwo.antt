@@ -14,11 +14,11 @@ module _ (span : ℕ) where
   abbrev callees : lts.Claims
   callees = (closed-leaf.Asked, closed-leaf.Learnt, closed-expression-below span, closed-expression.Post)
 
-  mul-w : lts.Need-mul-w callees (rest-of-two-at span) Post
-  mul-w c = let h = c .pre .1 .1 .1 in omega arith
+  mul-word : lts.Need-mul-word callees (rest-of-two-at span) Post
+  mul-word c = let h = c .pre .1 .1 .1 in omega arith
 
-  element-copy-out-w : lts.Need-element-copy-out-w callees (rest-of-two-at span) Post
-  element-copy-out-w c = let h = c .pre .1 .1 .1 in omega arith
+  element-copy-out-word : lts.Need-element-copy-out-word callees (rest-of-two-at span) Post
+  element-copy-out-word c = let h = c .pre .1 .1 .1 in omega arith
 
   closed-leaf-requires : lts.Need-closed-leaf-requires callees (rest-of-two-at span) Post
   closed-leaf-requires c κs = c .if1 .taken
@@ -30,7 +30,7 @@ module _ (span : ℕ) where
   returns-2 c = leaf-open _ (c .before .before .before .before .pre .1 .0) _ _ _ _ (c .before .before .if1 .taken) (c .before .closed-leaf .ensures) (c .if2 .left)
 
   closed-expression-requires : lts.Need-closed-expression-requires callees (rest-of-two-at span) Post
-  closed-expression-requires c κs = let s = c .before .before in (just span (s .args .x) (s .pre .0), (s .pre .1 .0, s .pre .1 .1 .0))
+  closed-expression-requires c κs = let s = c .before .before in (just span (s .args .first) (s .pre .0), (s .pre .1 .0, s .pre .1 .1 .0))
 
   returns-3 : lts.Need-returns-3 callees (rest-of-two-at span) Post
   returns-3 c = let s = c .before .before .before .before in first-closed _ (s .pre .1 .0) _ _ _ _ (s .pre .1 .1 .1) (sym (c .before .closed-expression .ensures) ∙ c .if3 .taken)
@@ -40,5 +40,5 @@ module _ (span : ℕ) where
 
   pub rest-of-two : {M : Type 1} → lts.Closed callees (rest-of-two-at span) Post M
   rest-of-two =
-      lts.spec callees (rest-of-two-at span) Post mul-w element-copy-out-w closed-leaf-requires returns returns-2
+      lts.spec callees (rest-of-two-at span) Post mul-word element-copy-out-word closed-leaf-requires returns returns-2
       closed-expression-requires returns-3 returns-4

@@ -11,35 +11,35 @@ use Rattle.naming.proofs.sorts.list_length.Statement.{statement}
 use Rattle.naming.proofs.sorts.list_length.Tie as tie
 
 abbrev Inv-loop : tie.InvT-loop
-Inv-loop plan procedures count words from n₀ t₀ n t = (n ≤ 9) × (t < count) × (n + listLength plan (9 - n) t ≡ listLength plan 9 from)
+Inv-loop plan procedures count words from length₀ term₀ length term = (length ≤ 9) × (term < count) × (length + listLength plan (9 - length) term ≡ listLength plan 9 from)
 
 abbrev μ-loop : tie.MeasureT-loop
-μ-loop plan procedures count words from n₀ t₀ n t = 9 - n
+μ-loop plan procedures count words from length₀ term₀ length term = 9 - length
 
 loop-holds : tie.Need-loop-holds Inv-loop μ-loop
 loop-holds c = (search needs, c .pre .1 .1, omega arith)
 
-mul-w : tie.Need-mul-w Inv-loop μ-loop
-mul-w c = let f = c .before .before .pre .0 .headed .few in omega arith
+mul-word : tie.Need-mul-word Inv-loop μ-loop
+mul-word c = let f = c .before .before .pre .0 .headed .few in omega arith
 
-element-copy-out-w : tie.Need-element-copy-out-w Inv-loop μ-loop
-element-copy-out-w c = let f = c .before .before .pre .0 .headed .few in omega arith
+element-copy-out-word : tie.Need-element-copy-out-word Inv-loop μ-loop
+element-copy-out-word c = let f = c .before .before .pre .0 .headed .few in omega arith
 
 returns : tie.Need-returns Inv-loop μ-loop
-returns c = let a = c .before .before .before .before .args in let l = c .before .before .before .loop in omega (arith, l .inv .2, list-stop (a .plan .now) (9 - l .n) (l .t) (no-next (a .plan .now) (l .t) (getD (a .words .now) (l .t) 0) (c .before .before .before .before .pre .1 .0 .each (l .t) (l .inv .1)) (c .if1 .taken)))
+returns c = let a = c .before .before .before .before .args in let l = c .before .before .before .loop in omega (arith, l .inv .2, list-stop (a .plan .now) (9 - l .length) (l .term) (no-next (a .plan .now) (l .term) (getD (a .words .now) (l .term) 0) (c .before .before .before .before .pre .1 .0 .each (l .term) (l .inv .1)) (c .if1 .taken)))
 
-add-n : tie.Need-add-n Inv-loop μ-loop
-add-n c = search needs
+add-length : tie.Need-add-length Inv-loop μ-loop
+add-length c = search needs
 
 loop-less : tie.Need-loop-less Inv-loop μ-loop
 loop-less c = search needs
 
 loop-again : tie.Need-loop-again Inv-loop μ-loop
-loop-again c = let a = c .before .before .before .before .args in let l = c .before .before .before .loop in let b = a .plan .now in let w = getD (a .words .now) (l .t) 0 in let e = next-is b (l .t) w (c .before .before .before .before .pre .1 .0 .each (l .t) (l .inv .1)) (c .if1 .left) in let k : 9 - l .n ≡ suc (9 - (l .n + 1)) = omega arith in let s : listLength b (9 - l .n) (l .t) ≡ suc (listLength b (9 - (l .n + 1)) (termAt b (l .t) .value₂)) = rw k (list-step b (9 - (l .n + 1)) (l .t) (e .0)) in (search needs, rw (e .1) (rest-between b (a .procedures) (a .count) (c .before .before .before .before .pre .0) (l .t) (l .inv .1) (e .0) .1), rw (e .1) (omega (arith, s, l .inv .2)))
+loop-again c = let a = c .before .before .before .before .args in let l = c .before .before .before .loop in let b = a .plan .now in let w = getD (a .words .now) (l .term) 0 in let e = next-is b (l .term) w (c .before .before .before .before .pre .1 .0 .each (l .term) (l .inv .1)) (c .if1 .left) in let k : 9 - l .length ≡ suc (9 - (l .length + 1)) = omega arith in let s : listLength b (9 - l .length) (l .term) ≡ suc (listLength b (9 - (l .length + 1)) (termAt b (l .term) .value₂)) = rw k (list-step b (9 - (l .length + 1)) (l .term) (e .0)) in (search needs, rw (e .1) (rest-between b (a .procedures) (a .count) (c .before .before .before .before .pre .0) (l .term) (l .inv .1) (e .0) .1), rw (e .1) (omega (arith, s, l .inv .2)))
 
 returns-2 : tie.Need-returns-2 Inv-loop μ-loop
 unfolding listLength
-returns-2 c = let l = c .before .loop in let z : 9 - l .n ≡ 0 = omega arith in let q : listLength (c .before .before .args .plan .now) (9 - l .n) (l .t) ≡ 0 = rw z in omega (arith, l .inv .2, q)
+returns-2 c = let l = c .before .loop in let z : 9 - l .length ≡ 0 = omega arith in let q : listLength (c .before .before .args .plan .now) (9 - l .length) (l .term) ≡ 0 = rw z in omega (arith, l .inv .2, q)
 
 pub list-length-spec : {M : Type 1} → statement M
 list-length-spec =
@@ -48,10 +48,10 @@ list-length-spec =
     Inv-loop
     μ-loop
     loop-holds
-    mul-w
-    element-copy-out-w
+    mul-word
+    element-copy-out-word
     returns
-    add-n
+    add-length
     loop-less
     loop-again
     returns-2)

@@ -57,78 +57,78 @@ wrong-pair-requires-5 c κs = search needs
 
 returns : tie.Need-returns
 unfolding breaksTable someOperand inWord layout table
-returns c = let a = c .before .args in tested (a .procedures) (a .count) (a .t) (a .w) 0 _ (c .match .keys1) refl
+returns c = let a = c .before .args in tested (a .procedures) (a .count) (a .term) (a .word) 0 _ (c .match .keys1) refl
 
 returns-2 : tie.Need-returns-2
 unfolding breaksTable someOperand inWord layout table
-returns-2 c = let a = c .before .before .args in tested (a .procedures) (a .count) (a .t) (a .w) 1 _ (c .before .match .keys2) (c .wrong-variable .ensures ∙ simp or-false)
+returns-2 c = let a = c .before .before .args in tested (a .procedures) (a .count) (a .term) (a .word) 1 _ (c .before .match .keys2) (c .wrong-variable .ensures ∙ simp or-false)
 
 returns-3 : tie.Need-returns-3
 unfolding breaksTable someOperand inWord layout table
-returns-3 c = let a = c .before .before .args in tested (a .procedures) (a .count) (a .t) (a .w) 2 _ (c .before .match .keys3) (c .wrong-new .ensures ∙ simp or-false)
+returns-3 c = let a = c .before .before .args in tested (a .procedures) (a .count) (a .term) (a .word) 2 _ (c .before .match .keys3) (c .wrong-new .ensures ∙ simp or-false)
 
 returns-4 : tie.Need-returns-4
 unfolding breaksTable someOperand inWord layout table
-returns-4 c = let a = c .before .before .args in tested (a .procedures) (a .count) (a .t) (a .w) 3 _ (c .before .match .keys4) (c .wrong-read .ensures ∙ simp or-false)
+returns-4 c = let a = c .before .before .args in tested (a .procedures) (a .count) (a .term) (a .word) 3 _ (c .before .match .keys4) (c .wrong-read .ensures ∙ simp or-false)
 
 returns-5 : tie.Need-returns-5
 unfolding breaksTable someOperand inWord layout table
-returns-5 c = let a = c .before .before .args in tested (a .procedures) (a .count) (a .t) (a .w) 4 _ (c .before .match .keys5) (c .wrong-write .ensures)
+returns-5 c = let a = c .before .before .args in tested (a .procedures) (a .count) (a .term) (a .word) 4 _ (c .before .match .keys5) (c .wrong-write .ensures)
 
 returns-6 : tie.Need-returns-6
 unfolding breaksTable someOperand inWord layout table
-returns-6 c = let a = c .before .before .args in tested (a .procedures) (a .count) (a .t) (a .w) 5 _ (c .before .match .keys6) (c .wrong-let .ensures)
+returns-6 c = let a = c .before .before .args in tested (a .procedures) (a .count) (a .term) (a .word) 5 _ (c .before .match .keys6) (c .wrong-let .ensures)
 
 returns-7 : tie.Need-returns-7
 unfolding breaksTable someOperand inWord layout table
-returns-7 c = let a = c .before .before .args in tested (a .procedures) (a .count) (a .t) (a .w) 6 _ (c .before .match .keys7) (c .wrong-if .ensures)
+returns-7 c = let a = c .before .before .args in tested (a .procedures) (a .count) (a .term) (a .word) 6 _ (c .before .match .keys7) (c .wrong-if .ensures)
 
 returns-8 : tie.Need-returns-8
 unfolding breaksTable someOperand inWord layout table
-returns-8 c = let a = c .before .before .args in tested (a .procedures) (a .count) (a .t) (a .w) 7 _ (c .before .match .keys8) (c .wrong-pair .ensures ∙ simp or-false)
+returns-8 c = let a = c .before .before .args in tested (a .procedures) (a .count) (a .term) (a .word) 7 _ (c .before .match .keys8) (c .wrong-pair .ensures ∙ simp or-false)
 
 returns-9 : tie.Need-returns-9
 unfolding breaksTable someOperand inWord layout table
-returns-9 c = let a = c .before .before .args in tested (a .procedures) (a .count) (a .t) (a .w) 8 _ (c .before .match .keys9) (c .wrong-call .ensures ∙ simp or-false)
+returns-9 c = let a = c .before .before .args in tested (a .procedures) (a .count) (a .term) (a .word) 8 _ (c .before .match .keys9) (c .wrong-call .ensures ∙ simp or-false)
 
 returns-10 : tie.Need-returns-10
 unfolding breaksTable someOperand inWord layout table
-returns-10 c = let a = c .before .before .args in tested (a .procedures) (a .count) (a .t) (a .w) 9 _ (c .before .match .keys10) (c .wrong-single .ensures ∙ simp or-false)
+returns-10 c = let a = c .before .before .args in tested (a .procedures) (a .count) (a .term) (a .word) 9 _ (c .before .match .keys10) (c .wrong-single .ensures ∙ simp or-false)
 
 returns-11 : tie.Need-returns-11
 unfolding breaksTable someOperand inWord layout table
-returns-11 c = let a = c .before .before .args in tested (a .procedures) (a .count) (a .t) (a .w) 10 _ (c .before .match .keys11) (c .wrong-single2 .ensures ∙ simp or-false)
+returns-11 c = let a = c .before .before .args in tested (a .procedures) (a .count) (a .term) (a .word) 10 _ (c .before .match .keys11) (c .wrong-single2 .ensures ∙ simp or-false)
 
 returns-12 : tie.Need-returns-12
 unfolding breaksTable someOperand inWord layout table
-returns-12 c = let a = c .before .before .args in tested (a .procedures) (a .count) (a .t) (a .w) 11 _ (c .before .match .keys12) (c .wrong-pair2 .ensures ∙ simp or-false)
+returns-12 c = let a = c .before .before .args in tested (a .procedures) (a .count) (a .term) (a .word) 11 _ (c .before .match .keys12) (c .wrong-pair2 .ensures ∙ simp or-false)
 
 returns-13 : tie.Need-returns-13
 unfolding breaksTable someOperand inWord layout table
-returns-13 c = let a = c .before .args in tested (a .procedures) (a .count) (a .t) (a .w) 12 _ (c .match .keys13) refl
+returns-13 c = let a = c .before .args in tested (a .procedures) (a .count) (a .term) (a .word) 12 _ (c .match .keys13) refl
 
 returns-14 : tie.Need-returns-14
 unfolding breaksTable someOperand inWord layout table
-returns-14 c = let a = c .before .before .args in tested (a .procedures) (a .count) (a .t) (a .w) 13 _ (c .before .match .keys14) (c .wrong-single3 .ensures ∙ simp or-false)
+returns-14 c = let a = c .before .before .args in tested (a .procedures) (a .count) (a .term) (a .word) 13 _ (c .before .match .keys14) (c .wrong-single3 .ensures ∙ simp or-false)
 
 returns-15 : tie.Need-returns-15
 unfolding breaksTable someOperand inWord layout table
-returns-15 c = let a = c .before .before .args in tested (a .procedures) (a .count) (a .t) (a .w) 14 _ (c .before .match .keys15) (c .wrong-pair3 .ensures ∙ simp or-false)
+returns-15 c = let a = c .before .before .args in tested (a .procedures) (a .count) (a .term) (a .word) 14 _ (c .before .match .keys15) (c .wrong-pair3 .ensures ∙ simp or-false)
 
 returns-16 : tie.Need-returns-16
 unfolding breaksTable someOperand inWord layout table
-returns-16 c = let a = c .before .before .args in tested (a .procedures) (a .count) (a .t) (a .w) 15 _ (c .before .match .keys16) (c .wrong-pair4 .ensures ∙ simp or-false)
+returns-16 c = let a = c .before .before .args in tested (a .procedures) (a .count) (a .term) (a .word) 15 _ (c .before .match .keys16) (c .wrong-pair4 .ensures ∙ simp or-false)
 
 returns-17 : tie.Need-returns-17
 unfolding breaksTable someOperand inWord layout table
-returns-17 c = let a = c .before .before .args in tested (a .procedures) (a .count) (a .t) (a .w) 16 _ (c .before .match .keys17) (c .wrong-pair5 .ensures ∙ simp or-false)
+returns-17 c = let a = c .before .before .args in tested (a .procedures) (a .count) (a .term) (a .word) 16 _ (c .before .match .keys17) (c .wrong-pair5 .ensures ∙ simp or-false)
 
 returns-18 : tie.Need-returns-18
 unfolding breaksTable someOperand inWord layout table
-returns-18 c = let a = c .before .args in tested (a .procedures) (a .count) (a .t) (a .w) 17 _ (c .match .keys18) refl
+returns-18 c = let a = c .before .args in tested (a .procedures) (a .count) (a .term) (a .word) 17 _ (c .match .keys18) refl
 
 returns-19 : tie.Need-returns-19
-returns-19 c = let a = c .before .args in past-table (a .procedures) (a .count) (a .t) (a .w) (no-row (a .w / 34359738368) (c .match .rest .0 .0 .0 .0 .0 .0 .0 .0 .0 .0 .0 .0 .0 .0 .0 .0 .0 .1) (c .match .rest .0 .0 .0 .0 .0 .0 .0 .0 .0 .0 .0 .0 .0 .0 .0 .0 .1) (c .match .rest .0 .0 .0 .0 .0 .0 .0 .0 .0 .0 .0 .0 .0 .0 .0 .1) (c .match .rest .0 .0 .0 .0 .0 .0 .0 .0 .0 .0 .0 .0 .0 .0 .1) (c .match .rest .0 .0 .0 .0 .0 .0 .0 .0 .0 .0 .0 .0 .0 .1) (c .match .rest .0 .0 .0 .0 .0 .0 .0 .0 .0 .0 .0 .0 .1) (c .match .rest .0 .0 .0 .0 .0 .0 .0 .0 .0 .0 .0 .1) (c .match .rest .0 .0 .0 .0 .0 .0 .0 .0 .0 .0 .1) (c .match .rest .0 .0 .0 .0 .0 .0 .0 .0 .0 .1) (c .match .rest .0 .0 .0 .0 .0 .0 .0 .0 .1) (c .match .rest .0 .0 .0 .0 .0 .0 .0 .1) (c .match .rest .0 .0 .0 .0 .0 .0 .1) (c .match .rest .0 .0 .0 .0 .0 .1) (c .match .rest .0 .0 .0 .0 .1) (c .match .rest .0 .0 .0 .1) (c .match .rest .0 .0 .1) (c .match .rest .0 .1) (c .match .rest .1))
+returns-19 c = let a = c .before .args in past-table (a .procedures) (a .count) (a .term) (a .word) (no-row (a .word / 34359738368) (c .match .rest .0 .0 .0 .0 .0 .0 .0 .0 .0 .0 .0 .0 .0 .0 .0 .0 .0 .1) (c .match .rest .0 .0 .0 .0 .0 .0 .0 .0 .0 .0 .0 .0 .0 .0 .0 .0 .1) (c .match .rest .0 .0 .0 .0 .0 .0 .0 .0 .0 .0 .0 .0 .0 .0 .0 .1) (c .match .rest .0 .0 .0 .0 .0 .0 .0 .0 .0 .0 .0 .0 .0 .0 .1) (c .match .rest .0 .0 .0 .0 .0 .0 .0 .0 .0 .0 .0 .0 .0 .1) (c .match .rest .0 .0 .0 .0 .0 .0 .0 .0 .0 .0 .0 .0 .1) (c .match .rest .0 .0 .0 .0 .0 .0 .0 .0 .0 .0 .0 .1) (c .match .rest .0 .0 .0 .0 .0 .0 .0 .0 .0 .0 .1) (c .match .rest .0 .0 .0 .0 .0 .0 .0 .0 .0 .1) (c .match .rest .0 .0 .0 .0 .0 .0 .0 .0 .1) (c .match .rest .0 .0 .0 .0 .0 .0 .0 .1) (c .match .rest .0 .0 .0 .0 .0 .0 .1) (c .match .rest .0 .0 .0 .0 .0 .1) (c .match .rest .0 .0 .0 .0 .1) (c .match .rest .0 .0 .0 .1) (c .match .rest .0 .0 .1) (c .match .rest .0 .1) (c .match .rest .1))
 
 pub wrong-term-spec : {M : Type 1} → statement M
 wrong-term-spec =

@@ -23,7 +23,7 @@ returns : tie.Need-returns
 returns c =
     let s = c .before .before in
     let a = s .args in
-    word-is (a .plan .now) (a .procedures) (a .t) (c .five .result) (s .pre .0) (c .five .ensures .0)
+    word-is (a .plan .now) (a .procedures) (a .term) (c .five .result) (s .pre .0) (c .five .ensures .0)
 
 pub word-at-spec : {M : Type 1} → statement M
 word-at-spec = tie.close (tie.spec mul-five add-five mul-five-2 add-five-2 five-requires returns)
