@@ -16,10 +16,10 @@ fn bytes_at(plan: &[u8], start: usize, count: usize) -> usize
     ensures { λ r. ⌜ r ≡ bitsAt (now (plan .entry)) (start * 8) (count * 8) ⌝ }
 {
     let mut value: usize = 0;
-    let mut n = 0;
-    while n < count {
-        value = value * 256 + plan[start + n] as usize;
-        n += 1;
+    let mut index = 0;
+    while index < count {
+        value = value * 256 + plan[start + index] as usize;
+        index += 1;
     }
     value
 }
@@ -44,11 +44,11 @@ pub fn at_bit<'a>(plan: &'a [u8], at: usize) -> Reader<'a>
 }
 
 // The `width` bits where the reader stands.
-pub fn take<'a>(r: Reader<'a>, width: usize) -> usize
-    requires { ⌜ (r .at + width ≤ 8 * length (now (r .plan))) × (width ≤ 40) ⌝ }
-    ensures { λ n. ⌜ n ≡ bitsAt (now (r .entry .plan)) (r .entry .at) width ⌝ }
+pub fn take<'a>(reader: Reader<'a>, width: usize) -> usize
+    requires { ⌜ (reader .at + width ≤ 8 * length (now (reader .plan))) × (width ≤ 40) ⌝ }
+    ensures { λ n. ⌜ n ≡ bitsAt (now (reader .entry .plan)) (reader .entry .at) width ⌝ }
 {
-    bits_at(r.plan, r.at, width)
+    bits_at(reader.plan, reader.at, width)
 }
 
 // The `width` bits from bit `at` of the plan on. Its parameters are plain, so whoever calls it needs no proof by hand.

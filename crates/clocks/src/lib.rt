@@ -8,10 +8,10 @@ pub struct Row {
 }
 
 // The higher of two clocks.
-fn higher(a: u16, b: u16) -> u16
-    ensures { λ r. ⌜ r ≡ max a b ⌝ }
+fn higher(one: u16, other: u16) -> u16
+    ensures { λ r. ⌜ r ≡ max one other ⌝ }
 {
-    if a < b { b } else { a }
+    if one < other { other } else { one }
 }
 
 // The row that is told what another row knows.

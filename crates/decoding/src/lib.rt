@@ -14,23 +14,23 @@ pub struct Columns {
     pub spare: usize,
 }
 
-// The 24 bits of record i.
-fn word_at(log: &[u8], i: usize) -> usize
-    requires { ⌜ i < length (now log) / 3 ⌝ }
-    ensures { λ r. ⌜ r ≡ bitsAt (now (log .entry)) (24 * i) 24 ⌝ ∗ ⌜ r < 16777216 ⌝ }
+// The 24 bits of the record at an index.
+fn word_at(log: &[u8], index: usize) -> usize
+    requires { ⌜ index < length (now log) / 3 ⌝ }
+    ensures { λ r. ⌜ r ≡ bitsAt (now (log .entry)) (24 * index) 24 ⌝ ∗ ⌜ r < 16777216 ⌝ }
 {
-    let a = byte_numbers::wide(log[3 * i]);
-    let b = byte_numbers::wide(log[3 * i + 1]);
-    let c = byte_numbers::wide(log[3 * i + 2]);
-    (a * 256 + b) * 256 + c
+    let first = byte_numbers::wide(log[3 * index]);
+    let second = byte_numbers::wide(log[3 * index + 1]);
+    let third = byte_numbers::wide(log[3 * index + 2]);
+    (first * 256 + second) * 256 + third
 }
 
-// The columns of record i: kind 4 bits, thread 3, object 5, field 5, value 5, spare 2.
-pub fn columns_at(log: &[u8], i: usize) -> Columns
-    requires { ⌜ i < length (now log) / 3 ⌝ }
-    ensures { λ r. ⌜ ReadAt (now (log .entry)) i r ⌝ }
+// The columns of the record at an index: kind 4 bits, thread 3, object 5, field 5, value 5, spare 2.
+pub fn columns_at(log: &[u8], index: usize) -> Columns
+    requires { ⌜ index < length (now log) / 3 ⌝ }
+    ensures { λ r. ⌜ ReadAt (now (log .entry)) index r ⌝ }
 {
-    let word = word_at(log, i);
+    let word = word_at(log, index);
     Columns {
         kind: word / 1048576,
         thread: word / 131072 % 8,

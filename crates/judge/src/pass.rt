@@ -23,15 +23,15 @@ pub fn pass(log: &[u8], version: usize) -> Judgement
     };
     let mut rows = [no_row; 1064];
     let mut writes = [no_write; 1024];
-    let mut i = 0;
-    while i < count {
-        let columns = decoding::columns_at(log, i);
+    let mut index = 0;
+    while index < count {
+        let columns = decoding::columns_at(log, index);
         let thread = columns.thread;
         let place = columns.object * 32 + columns.field;
         let own = rows[thread];
         let last = writes[place];
         if effects::writes::late(columns, own, last) {
-            return Judgement::Unordered(i);
+            return Judgement::Unordered(index);
         }
         let from = effects::rows::source(version, columns);
         let to = effects::rows::target(version, columns);
@@ -45,7 +45,7 @@ pub fn pass(log: &[u8], version: usize) -> Judgement
         rows[to] = told;
         let last_now = effects::writes::written(columns, moved, last);
         writes[place] = last_now;
-        i += 1;
+        index += 1;
     }
     Judgement::Ordered
 }

@@ -37,14 +37,14 @@ impl KeySet {
     }
 
     // The word that has the key's bit.
-    fn word(self, k: u8) -> u64
-        ensures { λ r. ⌜ r ≡ wordOf self k ⌝ }
+    fn word(self, key: u8) -> u64
+        ensures { λ r. ⌜ r ≡ wordOf self key ⌝ }
     {
-        if k < 64 {
+        if key < 64 {
             self.w0
-        } else if k < 128 {
+        } else if key < 128 {
             self.w1
-        } else if k < 192 {
+        } else if key < 192 {
             self.w2
         } else {
             self.w3
@@ -52,28 +52,28 @@ impl KeySet {
     }
 
     // Whether the key is in the set.
-    pub fn holds(self, k: u8) -> bool
-        ensures { λ r. ⌜ Told r (holdsOf self k) (holds (keysOf self) k) ⌝ }
+    pub fn holds(self, key: u8) -> bool
+        ensures { λ r. ⌜ Told r (holdsOf self key) (holds (keysOf self) key) ⌝ }
     {
-        (self.word(k) >> (k % 64)) % 2 == 1
+        (self.word(key) >> (key % 64)) % 2 == 1
     }
 
     // The set with one key more.
-    pub fn learn(self, k: u8) -> KeySet
-        ensures { λ r. ⌜ Made r (learnOf self k) (union (singleton k) (keysOf self)) ⌝ }
+    pub fn learn(self, key: u8) -> KeySet
+        ensures { λ r. ⌜ Made r (learnOf self key) (union (singleton key) (keysOf self)) ⌝ }
     {
-        let b = 1u64 << (k % 64);
-        let mut r = self;
-        if k < 64 {
-            r.w0 = r.w0 | b;
-        } else if k < 128 {
-            r.w1 = r.w1 | b;
-        } else if k < 192 {
-            r.w2 = r.w2 | b;
+        let bit = 1u64 << (key % 64);
+        let mut more = self;
+        if key < 64 {
+            more.w0 = more.w0 | bit;
+        } else if key < 128 {
+            more.w1 = more.w1 | bit;
+        } else if key < 192 {
+            more.w2 = more.w2 | bit;
         } else {
-            r.w3 = r.w3 | b;
+            more.w3 = more.w3 | bit;
         }
-        r
+        more
     }
 
     // The keys of both sets.

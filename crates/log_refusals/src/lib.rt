@@ -27,14 +27,14 @@ fn wrong_columns(kind: usize, field: usize, value: usize) -> bool
     wrong_field | (no_value & (value != 0))
 }
 
-// Refusal 12 at record i.
-fn wrong_record(log: &[u8], i: usize) -> bool
-    requires { ⌜ i < length (now log) / 3 ⌝ }
-    ensures { λ r. ⌜ r ≡ wrongRecord (now (log .entry)) i ⌝ }
+// Refusal 12 at the record of an index.
+fn wrong_record(log: &[u8], index: usize) -> bool
+    requires { ⌜ index < length (now log) / 3 ⌝ }
+    ensures { λ r. ⌜ r ≡ wrongRecord (now (log .entry)) index ⌝ }
 {
-    let columns = decoding::columns_at(log, i);
+    let columns = decoding::columns_at(log, index);
     let kind = columns.kind;
-    let last = i + 1 == log.len() / 3;
+    let last = index + 1 == log.len() / 3;
     let no_kind = (kind == 0) | (11 < kind);
     let lacks_early = (10 <= kind) & !last;
     let wrong = wrong_columns(kind, columns.field, columns.value);
@@ -46,12 +46,12 @@ pub fn lowest_wrong(log: &[u8]) -> usize
     ensures { λ r. ⌜ Lowest (wrongRecord (now (log .entry))) (recordCount (now (log .entry))) r ⌝ }
 {
     let count = log.len() / 3;
-    let mut i = 0;
-    while i < count {
-        if wrong_record(log, i) {
-            return i;
+    let mut index = 0;
+    while index < count {
+        if wrong_record(log, index) {
+            return index;
         }
-        i += 1;
+        index += 1;
     }
-    i
+    index
 }

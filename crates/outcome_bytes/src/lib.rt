@@ -40,17 +40,17 @@ fn stop_byte(stop: Stop) -> u8
     }
 }
 
-fn high(n: usize) -> u8
-    requires { ⌜ n < 65536 ⌝ }
-    ensures { λ r. ⌜ r ≡ n / 256 ⌝ }
+fn high(number: usize) -> u8
+    requires { ⌜ number < 65536 ⌝ }
+    ensures { λ r. ⌜ r ≡ number / 256 ⌝ }
 {
-    (n / 256) as u8
+    (number / 256) as u8
 }
 
-fn low(n: usize) -> u8
-    ensures { λ r. ⌜ r ≡ n % 256 ⌝ }
+fn low(number: usize) -> u8
+    ensures { λ r. ⌜ r ≡ number % 256 ⌝ }
 {
-    (n % 256) as u8
+    (number % 256) as u8
 }
 
 fn named(state: u8, named: usize, field: usize) -> ThreadBytes
@@ -64,21 +64,21 @@ fn named(state: u8, named: usize, field: usize) -> ThreadBytes
     }
 }
 
-fn waiting_bytes(w: Wait) -> ThreadBytes
-    requires { ⌜ SmallStatus (statusOf (ThreadState.Waiting w)) ⌝ }
-    ensures { λ r. ⌜ r ≡ threadBytes (statusOf (ThreadState.Waiting w)) ⌝ }
+fn waiting_bytes(wait: Wait) -> ThreadBytes
+    requires { ⌜ SmallStatus (statusOf (ThreadState.Waiting wait)) ⌝ }
+    ensures { λ r. ⌜ r ≡ threadBytes (statusOf (ThreadState.Waiting wait)) ⌝ }
 {
-    match w {
+    match wait {
         Wait::Monitor { object } => named(3, object, 0),
         Wait::Join { object } => named(4, object, 0),
     }
 }
 
-fn stuck_bytes(w: Stuck) -> ThreadBytes
-    requires { ⌜ SmallStatus (statusOf (ThreadState.Stuck w)) ⌝ }
-    ensures { λ r. ⌜ r ≡ threadBytes (statusOf (ThreadState.Stuck w)) ⌝ }
+fn stuck_bytes(stuck: Stuck) -> ThreadBytes
+    requires { ⌜ SmallStatus (statusOf (ThreadState.Stuck stuck)) ⌝ }
+    ensures { λ r. ⌜ r ≡ threadBytes (statusOf (ThreadState.Stuck stuck)) ⌝ }
 {
-    match w {
+    match stuck {
         Stuck::Field { object, field } => named(5, object, field),
         Stuck::Thread { object } => named(6, object, 0),
     }
@@ -92,8 +92,8 @@ fn thread_bytes(state: ThreadState) -> ThreadBytes
         ThreadState::Absent => named(0, 0, 0),
         ThreadState::Finished { value } => named(1, value, 0),
         ThreadState::Ready => named(2, 0, 0),
-        ThreadState::Waiting(w) => waiting_bytes(w),
-        ThreadState::Stuck(w) => stuck_bytes(w),
+        ThreadState::Waiting(reason) => waiting_bytes(reason),
+        ThreadState::Stuck(reason) => stuck_bytes(reason),
         ThreadState::Lacking { object, field } => named(7, object, field),
     }
 }
@@ -113,20 +113,20 @@ fn write_head(out: &mut [u8; 32], stop: Stop, picks: usize, moves: usize, record
 }
 
 // All 32 bytes of an outcome.
-pub fn write(out: &mut [u8; 32], o: Outcome)
-    requires { ⌜ SmallOutcome (outcomeOf o) ⌝ }
-    ensures { λ r. ⌜ now (out .exit) ≡ outcomeBytes (outcomeOf o) ⌝ }
+pub fn write(out: &mut [u8; 32], outcome: Outcome)
+    requires { ⌜ SmallOutcome (outcomeOf outcome) ⌝ }
+    ensures { λ r. ⌜ now (out .exit) ≡ outcomeBytes (outcomeOf outcome) ⌝ }
 {
-    let stop = o.stop;
-    let threads = o.threads;
+    let stop = outcome.stop;
+    let threads = outcome.threads;
     *out = [0u8; 32];
-    write_head(out, stop, o.picks, o.moves, o.records);
-    for p in 0..8 {
-        let thread = threads[p];
+    write_head(out, stop, outcome.picks, outcome.moves, outcome.records);
+    for number in 0..8 {
+        let thread = threads[number];
         let state = thread.state;
         let bytes = thread_bytes(state);
-        out[8 + 3 * p] = bytes.state;
-        out[9 + 3 * p] = bytes.named;
-        out[10 + 3 * p] = bytes.field;
+        out[8 + 3 * number] = bytes.state;
+        out[9 + 3 * number] = bytes.named;
+        out[10 + 3 * number] = bytes.field;
     }
 }

@@ -38,16 +38,16 @@ fn put_kind(area: &mut [u8], at: usize, kind: usize) -> usize
 }
 
 // Index, kind, thread, object, field, value.
-pub fn put_record(area: &mut [u8], at: usize, index: usize, r: Columns) -> usize
-    requires { ⌜ at + length (recordLine index (recordOf r)) ≤ length (now area) ⌝ }
-    ensures { λ n. ⌜ Wrote (now (area .entry)) at (recordLine index (recordOf r)) (now (area .exit)) n ⌝ }
+pub fn put_record(area: &mut [u8], at: usize, index: usize, columns: Columns) -> usize
+    requires { ⌜ at + length (recordLine index (recordOf columns)) ≤ length (now area) ⌝ }
+    ensures { λ n. ⌜ Wrote (now (area .entry)) at (recordLine index (recordOf columns)) (now (area .exit)) n ⌝ }
 {
     let at = text::put_number(area, at, index);
     let at = text::put_byte(area, at, 32);
-    let at = put_kind(area, at, r.kind);
-    let at = text::put_column(area, at, r.thread);
-    let at = text::put_column(area, at, r.object);
-    let at = text::put_column(area, at, r.field);
-    let at = text::put_column(area, at, r.value);
+    let at = put_kind(area, at, columns.kind);
+    let at = text::put_column(area, at, columns.thread);
+    let at = text::put_column(area, at, columns.object);
+    let at = text::put_column(area, at, columns.field);
+    let at = text::put_column(area, at, columns.value);
     text::put_byte(area, at, 10)
 }

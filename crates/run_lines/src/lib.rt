@@ -15,11 +15,11 @@ fn put_log(area: &mut [u8], log: &[u8]) -> usize
     ensures { λ r. ⌜ Wrote (now (area .entry)) 0 (recordLines 0 (logOf (now (log .entry)))) (now (area .exit)) r ⌝ ∗ ⌜ r ≤ 114688 ⌝ }
 {
     let mut at = 0;
-    let mut i = 0;
-    while i < log.len() / 3 {
-        let r = decoding::columns_at(log, i);
-        at = record_lines::put_record(area, at, i, r);
-        i += 1;
+    let mut index = 0;
+    while index < log.len() / 3 {
+        let columns = decoding::columns_at(log, index);
+        at = record_lines::put_record(area, at, index, columns);
+        index += 1;
     }
     at
 }

@@ -5,8 +5,8 @@ use libc::STDOUT_FILENO;
 // The first 9,291 bytes decide what is written: a length, a plan of at most 5,192 bytes, and one pick more than a schedule may have.
 fn main() {
     let mut input = [0u8; 9291];
-    let n = io::read_full(STDIN_FILENO, &mut input);
+    let size = io::read_full(STDIN_FILENO, &mut input);
     let mut text = [0u8; 131072];
-    let length = printing::shot_list(&input[..n], &mut text);
+    let length = printing::shot_list(&input[..size], &mut text);
     io::write_all(STDOUT_FILENO, &text[..length]);
 }

@@ -34,15 +34,15 @@ fn begins(area: &[u8], records: &[u8]) -> bool {
     if area.len() < records.len() {
         return false;
     }
-    let mut i = 0;
+    let mut index = 0;
     let mut same = true;
-    while i < area.len() {
-        if i < records.len() {
-            same = same & (area[i] == records[i]);
+    while index < area.len() {
+        if index < records.len() {
+            same = same & (area[index] == records[index]);
         } else {
-            same = same & (area[i] == FILL);
+            same = same & (area[index] == FILL);
         }
-        i += 1;
+        index += 1;
     }
     same
 }
@@ -52,8 +52,8 @@ fn same_bytes(out: &[u8; 32], stored: &[u8]) -> bool
     requires { ⌜ 32 ≤ length (now stored) ⌝ }
 {
     let mut same = true;
-    for i in 0..32 {
-        same = same & (out[i] == stored[i]);
+    for index in 0..32 {
+        same = same & (out[index] == stored[index]);
     }
     same
 }
@@ -119,11 +119,11 @@ pub fn run_case(case: &[u8]) -> bool {
 
 // Whether the judge's answer names an index among those of two bytes each.
 fn listed(indices: &[u8], got: u64) -> bool {
-    let mut k = 0;
+    let mut number = 0;
     let mut found = false;
-    while k < indices.len() / 2 {
-        found = found | (4294967296 + byte_numbers::half(indices, 2 * k) as u64 == got);
-        k += 1;
+    while number < indices.len() / 2 {
+        found = found | (4294967296 + byte_numbers::half(indices, 2 * number) as u64 == got);
+        number += 1;
     }
     found
 }

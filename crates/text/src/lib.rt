@@ -18,31 +18,31 @@ pub fn put_word(area: &mut [u8], at: usize, word: &[u8]) -> usize
     ensures { λ r. ⌜ Wrote (now (area .entry)) at (now (word .entry)) (now (area .exit)) r ⌝ }
 {
     let mut next = at;
-    let mut i = 0;
-    while i < word.len() {
-        next = put_byte(area, next, word[i]);
-        i += 1;
+    let mut index = 0;
+    while index < word.len() {
+        next = put_byte(area, next, word[index]);
+        index += 1;
     }
     next
 }
 
 // The decimal digits of a number, no zero in front.
-pub fn put_number(area: &mut [u8], at: usize, n: usize) -> usize
-    requires { ⌜ at + length (decimal n) ≤ length (now area) ⌝ }
-    ensures { λ r. ⌜ Wrote (now (area .entry)) at (decimal n) (now (area .exit)) r ⌝ }
+pub fn put_number(area: &mut [u8], at: usize, number: usize) -> usize
+    requires { ⌜ at + length (decimal number) ≤ length (now area) ⌝ }
+    ensures { λ r. ⌜ Wrote (now (area .entry)) at (decimal number) (now (area .exit)) r ⌝ }
 {
-    if n < 10 {
-        return put_byte(area, at, 48 + n as u8);
+    if number < 10 {
+        return put_byte(area, at, 48 + number as u8);
     }
-    let next = put_number(area, at, n / 10);
-    put_byte(area, next, 48 + (n % 10) as u8)
+    let next = put_number(area, at, number / 10);
+    put_byte(area, next, 48 + (number % 10) as u8)
 }
 
 // A space and a number.
-pub fn put_column(area: &mut [u8], at: usize, n: usize) -> usize
-    requires { ⌜ at + length (32 ∷ decimal n) ≤ length (now area) ⌝ }
-    ensures { λ r. ⌜ Wrote (now (area .entry)) at (32 ∷ decimal n) (now (area .exit)) r ⌝ }
+pub fn put_column(area: &mut [u8], at: usize, number: usize) -> usize
+    requires { ⌜ at + length (32 ∷ decimal number) ≤ length (now area) ⌝ }
+    ensures { λ r. ⌜ Wrote (now (area .entry)) at (32 ∷ decimal number) (now (area .exit)) r ⌝ }
 {
     let next = put_byte(area, at, 32);
-    put_number(area, next, n)
+    put_number(area, next, number)
 }

@@ -34,8 +34,8 @@ fn read_case(fd: i32, group: Group, size: usize) -> Next
     requires { ⌜ size ≤ 65535 ⌝ }
 {
     let mut buffer = io::large_buffer();
-    let n = io::read_full(fd, &mut buffer[..size]);
-    if n < size {
+    let got = io::read_full(fd, &mut buffer[..size]);
+    if got < size {
         return Next::Wrong;
     }
     if right(group, &buffer[..size]) {
@@ -70,8 +70,8 @@ pub fn tally_of(path: &[u8], group: Group) -> Tally {
     let mut differ: u64 = 0;
     let mut left: u64 = 1000000;
     while left > 0 {
-        let x = next_case(fd, group);
-        match x {
+        let next = next_case(fd, group);
+        match next {
             Next::Right => {
                 cases += 1;
             }
@@ -93,9 +93,9 @@ pub fn tally_of(path: &[u8], group: Group) -> Tally {
 }
 
 // Both tallies together; no count of cases comes near the end of 64 bits.
-pub fn both(a: Tally, b: Tally) -> Tally {
+pub fn both(first: Tally, second: Tally) -> Tally {
     Tally {
-        cases: std::num::wrapping_add_u64(a.cases, b.cases),
-        differ: std::num::wrapping_add_u64(a.differ, b.differ),
+        cases: std::num::wrapping_add_u64(first.cases, second.cases),
+        differ: std::num::wrapping_add_u64(first.differ, second.differ),
     }
 }

@@ -6,11 +6,11 @@ use groups::Group;
 use groups::Tally;
 use libc::STDOUT_FILENO;
 
-fn print(name: &[u8], t: Tally) {
+fn print(name: &[u8], tally: Tally) {
     io::write_all(STDOUT_FILENO, name);
-    io::print_decimal(STDOUT_FILENO, t.cases);
+    io::print_decimal(STDOUT_FILENO, tally.cases);
     io::write_all(STDOUT_FILENO, b" cases, ");
-    io::print_decimal(STDOUT_FILENO, t.differ);
+    io::print_decimal(STDOUT_FILENO, tally.differ);
     io::write_all(STDOUT_FILENO, b" differ\n");
 }
 

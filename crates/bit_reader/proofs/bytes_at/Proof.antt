@@ -25,7 +25,7 @@ unfolding bitsAt
 loop-holds c = (search needs, refl)
 
 mul-value : tie.Need-mul-value Inv-loop μ-loop
-mul-value c = let a = c .before .before .args in omega (arith, small (a .plan .now) (a .start * 8) (c .before .loop .n) (omega arith))
+mul-value c = let a = c .before .before .args in omega (arith, small (a .plan .now) (a .start * 8) (c .before .loop .index) (omega arith))
 
 add-value : tie.Need-add-value Inv-loop μ-loop
 add-value c = search needs
@@ -34,15 +34,15 @@ shared-slice-read-value : tie.Need-shared-slice-read-value Inv-loop μ-loop
 shared-slice-read-value c = search needs
 
 cast-value : tie.Need-cast-value Inv-loop μ-loop
-cast-value c = omega (arith, c .shared-slice-known .given (c .before .before .before .args .start + c .before .before .loop .n))
+cast-value c = omega (arith, c .shared-slice-known .given (c .before .before .before .args .start + c .before .before .loop .index))
 
 add-value-2 : tie.Need-add-value-2 Inv-loop μ-loop
 add-value-2 c =
     let a = c .before .before .before .args in
-    omega (arith, small (a .plan .now) (a .start * 8) (c .before .before .loop .n) (omega arith), c .shared-slice-known .given (a .start + c .before .before .loop .n))
+    omega (arith, small (a .plan .now) (a .start * 8) (c .before .before .loop .index) (omega arith), c .shared-slice-known .given (a .start + c .before .before .loop .index))
 
-add-n : tie.Need-add-n Inv-loop μ-loop
-add-n c = search needs
+add-index : tie.Need-add-index Inv-loop μ-loop
+add-index c = search needs
 
 loop-less : tie.Need-loop-less Inv-loop μ-loop
 loop-less c = search needs
@@ -51,14 +51,14 @@ loop-again : tie.Need-loop-again Inv-loop μ-loop
 loop-again c =
     let a = c .before .before .before .args in
     let l = c .before .before .loop in
-    let more : l .n * 8 + 8 ≡ (l .n + 1) * 8 = omega arith in
-    (search needs, sym (ap (bitsAt (a .plan .now) (a .start * 8)) (sym more) ∙ byte-more (a .plan .now) (a .start) (l .n) (l .value) ((c .shared-slice-known .given (a .start + l .n)) .fits) (sym (l .inv .1))))
+    let more : l .index * 8 + 8 ≡ (l .index + 1) * 8 = omega arith in
+    (search needs, sym (ap (bitsAt (a .plan .now) (a .start * 8)) (sym more) ∙ byte-more (a .plan .now) (a .start) (l .index) (l .value) ((c .shared-slice-known .given (a .start + l .index)) .fits) (sym (l .inv .1))))
 
 returns : tie.Need-returns Inv-loop μ-loop
 returns c =
     let a = c .before .before .args in
     let l = c .before .loop in
-    let all : l .n ≡ a .count = omega arith in
+    let all : l .index ≡ a .count = omega arith in
     l .inv .1 ∙ ap (λ (n : ℕ). bitsAt (a .plan .now) (a .start * 8) (n * 8)) all
 
 pub bytes-at-spec : {M : Type 1} → statement M
@@ -73,7 +73,7 @@ bytes-at-spec =
     shared-slice-read-value
     cast-value
     add-value-2
-    add-n
+    add-index
     loop-less
     loop-again
     returns)

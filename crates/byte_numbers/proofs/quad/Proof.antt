@@ -25,7 +25,7 @@ add-result c = search needs
 returns : tie.Need-returns
 returns c =
     let a = c .before .before .before .args in (
-      sym (joined (a .s .now) (a .at * 8) ((a .at + 2) * 8) 16 16 _ _ (sym (c .before .half .ensures .0)) (sym (c .half2 .ensures .0)) (omega arith)),
+      sym (joined (a .bytes .now) (a .at * 8) ((a .at + 2) * 8) 16 16 _ _ (sym (c .before .half .ensures .0)) (sym (c .half2 .ensures .0)) (omega arith)),
       omega arith,
     )
 

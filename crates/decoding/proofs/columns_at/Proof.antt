@@ -14,7 +14,7 @@ returns : tie.Need-returns
 returns c =
     let st = c .before .before in
     let b : List ℕ = st .args .log .now in
-    let i : ℕ = st .args .i in
+    let i : ℕ = st .args .index in
     let w = c .word-at .ensures in
     record {
       kind-is = omega (arith, kind-of-word b i);

@@ -56,7 +56,7 @@ returns : tie.Need-returns
 returns c =
     let st = c .before .before .before .before .before .before .before in
     let b : List ℕ = st .args .log .now in
-    let i : ℕ = st .args .i in
+    let i : ℕ = st .args .index in
     let x = c .before .before .before .before .wide .ensures in
     let y = c .before .before .wide2 .ensures in
     let z = c .wide3 .ensures in

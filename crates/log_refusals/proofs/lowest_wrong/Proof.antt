@@ -27,8 +27,8 @@ returns : tie.Need-returns Inv-loop μ-loop
 unfolding recordCount
 returns c = record { within = omega arith; here = λ h. sym (c .before .wrong-record .ensures) ∙ c .if1 .taken; before = c .before .before .before .loop .inv .2 }
 
-add-i : tie.Need-add-i Inv-loop μ-loop
-add-i c = search needs
+add-index : tie.Need-add-index Inv-loop μ-loop
+add-index c = search needs
 
 loop-less : tie.Need-loop-less Inv-loop μ-loop
 loop-less c = search needs
@@ -49,7 +49,7 @@ lowest-wrong-spec =
     loop-holds
     wrong-record-requires
     returns
-    add-i
+    add-index
     loop-less
     loop-again
     returns-2)

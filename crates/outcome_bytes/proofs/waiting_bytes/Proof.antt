@@ -6,29 +6,29 @@ use borrow.Author.Needs.{needs}
 use Rattle.outcome_bytes.proofs.waiting_bytes.Statement.{statement}
 use Rattle.outcome_bytes.proofs.waiting_bytes.Tie as tie
 
-enum-known-w : tie.Need-enum-known-w
-enum-known-w c = search needs
+enum-known-wait : tie.Need-enum-known-wait
+enum-known-wait c = search needs
 
 named-requires : tie.Need-named-requires
 unfolding statusOf waitOf
-named-requires c κs = let h = rw (c .before .w .given .1) at (c .before .before .before .pre) in (omega arith, omega arith)
+named-requires c κs = let h = rw (c .before .wait .given .1) at (c .before .before .before .pre) in (omega arith, omega arith)
 
-enum-known-w-2 : tie.Need-enum-known-w-2
-enum-known-w-2 c = search needs
+enum-known-wait-2 : tie.Need-enum-known-wait-2
+enum-known-wait-2 c = search needs
 
 named-requires-2 : tie.Need-named-requires-2
 unfolding statusOf waitOf
-named-requires-2 c κs = let h = rw (c .before .w2 .given .1) at (c .before .before .before .pre) in (omega arith, omega arith)
+named-requires-2 c κs = let h = rw (c .before .wait2 .given .1) at (c .before .before .before .pre) in (omega arith, omega arith)
 
 returns : tie.Need-returns
 unfolding threadBytes statusOf waitOf
-returns c = simp (c .named .ensures, c .before .before .w .given .1)
+returns c = simp (c .named .ensures, c .before .before .wait .given .1)
 
 returns-2 : tie.Need-returns-2
 unfolding threadBytes statusOf waitOf
-returns-2 c = simp (c .named2 .ensures, c .before .before .w2 .given .1)
+returns-2 c = simp (c .named2 .ensures, c .before .before .wait2 .given .1)
 
 pub waiting-bytes-spec : {M : Type 1} → statement M
 waiting-bytes-spec =
     tie.close
-    (tie.spec enum-known-w named-requires enum-known-w-2 named-requires-2 returns returns-2)
+    (tie.spec enum-known-wait named-requires enum-known-wait-2 named-requires-2 returns returns-2)

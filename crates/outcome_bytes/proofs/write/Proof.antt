@@ -30,7 +30,7 @@ array-copy-out-thread : tie.Need-array-copy-out-thread Inv-loop μ-loop
 array-copy-out-thread c = search needs
 
 thread-bytes-requires : tie.Need-thread-bytes-requires Inv-loop μ-loop
-thread-bytes-requires c κs = let s = c .before .before .before .before .before .before .before in small-thread (s .args .o) (s .pre) (c .before .before .loop .p) (c .before .loop-test .taken)
+thread-bytes-requires c κs = let s = c .before .before .before .before .before .before .before in small-thread (s .args .outcome) (s .pre) (c .before .before .loop .number) (c .before .loop-test .taken)
 
 mul-out : tie.Need-mul-out Inv-loop μ-loop
 mul-out c = search needs
@@ -59,8 +59,8 @@ add-out-3 c = search needs
 element-write-out-3 : tie.Need-element-write-out-3 Inv-loop μ-loop
 element-write-out-3 c = search needs
 
-add-p : tie.Need-add-p Inv-loop μ-loop
-add-p c = search needs
+add-number : tie.Need-add-number Inv-loop μ-loop
+add-number c = search needs
 
 loop-less : tie.Need-loop-less Inv-loop μ-loop
 loop-less c = search needs
@@ -68,8 +68,8 @@ loop-less c = search needs
 loop-again : tie.Need-loop-again Inv-loop μ-loop
 loop-again c =
     let l = c .before .before .before in
-    let all = c .before .before .before .before .before .before .before .before .args .o .threads in
-    let p = l .loop .p in
+    let all = c .before .before .before .before .before .before .before .before .args .outcome .threads in
+    let p = l .loop .number in
     let h : p < 8 = c .before .before .loop-test .taken in
     (omega arith, ap (λ (b : ThreadBytes). turns (putThread all) (8 - (p + 1)) (p + 1) (putOne (l .loop .out) p b)) (c .thread-bytes .ensures) ∙ sym (one-turn (putThread all) 8 p (l .loop .out) h) ∙ l .loop .inv .1)
 
@@ -77,9 +77,9 @@ returns : tie.Need-returns Inv-loop μ-loop
 returns c =
     let l = c .before in
     let s = c .before .before .before .before .before .before in
-    let all = s .args .o .threads in
-    let z : 8 - l .loop .p ≡ 0 = omega arith in
-    sym (no-turn (putThread all) 8 (l .loop .p) (l .loop .out) z) ∙ l .loop .inv .1 ∙ ap (turns (putThread all) 8 0) (c .before .before .write-head .ensures) ∙ whole (s .args .o) (s .pre)
+    let all = s .args .outcome .threads in
+    let z : 8 - l .loop .number ≡ 0 = omega arith in
+    sym (no-turn (putThread all) 8 (l .loop .number) (l .loop .out) z) ∙ l .loop .inv .1 ∙ ap (turns (putThread all) 8 0) (c .before .before .write-head .ensures) ∙ whole (s .args .outcome) (s .pre)
 
 pub write-spec : {M : Type 1} → statement M
 write-spec =
@@ -101,7 +101,7 @@ write-spec =
     mul-out-3
     add-out-3
     element-write-out-3
-    add-p
+    add-number
     loop-less
     loop-again
     returns)

@@ -8,28 +8,28 @@ use Rattle.record_lines.proofs.put_record.Statement.{statement}
 use Rattle.record_lines.proofs.put_record.Tie as tie
 
 put-number-requires : tie.Need-put-number-requires
-put-number-requires c κs = let a = c .before .before .args in omega (arith, record-length (a .index) (recordOf (a .r)))
+put-number-requires c κs = let a = c .before .before .args in omega (arith, record-length (a .index) (recordOf (a .columns)))
 
 put-byte-requires : tie.Need-put-byte-requires
-put-byte-requires c κs = let a = c .before .before .before .before .before .before .args in omega (arith, record-length (a .index) (recordOf (a .r)))
+put-byte-requires c κs = let a = c .before .before .before .before .before .before .args in omega (arith, record-length (a .index) (recordOf (a .columns)))
 
 put-kind-requires : tie.Need-put-kind-requires
-put-kind-requires c κs = let a = c .before .before .before .before .before .before .before .before .before .before .args in omega (arith, record-length (a .index) (recordOf (a .r)))
+put-kind-requires c κs = let a = c .before .before .before .before .before .before .before .before .before .before .args in omega (arith, record-length (a .index) (recordOf (a .columns)))
 
 put-column-requires : tie.Need-put-column-requires
-put-column-requires c κs = let a = c .before .before .before .before .before .before .before .before .before .before .before .before .before .before .args in omega (arith, record-length (a .index) (recordOf (a .r)))
+put-column-requires c κs = let a = c .before .before .before .before .before .before .before .before .before .before .before .before .before .before .args in omega (arith, record-length (a .index) (recordOf (a .columns)))
 
 put-column-requires-2 : tie.Need-put-column-requires-2
-put-column-requires-2 c κs = let a = c .before .before .before .before .before .before .before .before .before .before .before .before .before .before .before .before .before .before .args in omega (arith, record-length (a .index) (recordOf (a .r)))
+put-column-requires-2 c κs = let a = c .before .before .before .before .before .before .before .before .before .before .before .before .before .before .before .before .before .before .args in omega (arith, record-length (a .index) (recordOf (a .columns)))
 
 put-column-requires-3 : tie.Need-put-column-requires-3
-put-column-requires-3 c κs = let a = c .before .before .before .before .before .before .before .before .before .before .before .before .before .before .before .before .before .before .before .before .before .before .args in omega (arith, record-length (a .index) (recordOf (a .r)))
+put-column-requires-3 c κs = let a = c .before .before .before .before .before .before .before .before .before .before .before .before .before .before .before .before .before .before .before .before .before .before .args in omega (arith, record-length (a .index) (recordOf (a .columns)))
 
 put-column-requires-4 : tie.Need-put-column-requires-4
-put-column-requires-4 c κs = let a = c .before .before .before .before .before .before .before .before .before .before .before .before .before .before .before .before .before .before .before .before .before .before .before .before .before .before .args in omega (arith, record-length (a .index) (recordOf (a .r)))
+put-column-requires-4 c κs = let a = c .before .before .before .before .before .before .before .before .before .before .before .before .before .before .before .before .before .before .before .before .before .before .before .before .before .before .args in omega (arith, record-length (a .index) (recordOf (a .columns)))
 
 put-byte-requires-2 : tie.Need-put-byte-requires-2
-put-byte-requires-2 c κs = let a = c .before .before .before .before .before .before .before .before .before .before .before .before .before .before .before .before .before .before .before .before .before .before .before .before .before .before .before .before .before .before .args in omega (arith, record-length (a .index) (recordOf (a .r)))
+put-byte-requires-2 c κs = let a = c .before .before .before .before .before .before .before .before .before .before .before .before .before .before .before .before .before .before .before .before .before .before .before .before .before .before .before .before .before .before .args in omega (arith, record-length (a .index) (recordOf (a .columns)))
 
 same-length : tie.Need-same-length
 same-length c = search needs
@@ -37,7 +37,7 @@ same-length c = search needs
 returns : tie.Need-returns
 returns c =
     let a = c .before .before .before .before .before .before .before .before .before .before .before .before .before .before .before .before .before .before .before .before .before .before .before .before .before .before .before .before .before .before .before .before .before .args in
-    added-as (record-parts (a .index) (recordOf (a .r)))
+    added-as (record-parts (a .index) (recordOf (a .columns)))
     (added-more (added-more (added-more (added-more (added-more (added-more (added-more (c .before .before .before .before .before .before .before .before .before .before .before .before .before .before .before .before .before .before .before .before .before .before .before .before .before .before .before .before .before .before .put-number .ensures) (c .before .before .before .before .before .before .before .before .before .before .before .before .before .before .before .before .before .before .before .before .before .before .before .before .before .before .put-byte .ensures)) (c .before .before .before .before .before .before .before .before .before .before .before .before .before .before .before .before .before .before .before .before .before .before .put-kind .ensures)) (c .before .before .before .before .before .before .before .before .before .before .before .before .before .before .before .before .before .before .put-column .ensures)) (c .before .before .before .before .before .before .before .before .before .before .before .before .before .before .put-column2 .ensures)) (c .before .before .before .before .before .before .before .before .before .before .put-column3 .ensures)) (c .before .before .before .before .before .before .put-column4 .ensures)) (c .before .before .put-byte2 .ensures))
 
 pub put-record-spec : {M : Type 1} → statement M

@@ -32,10 +32,10 @@ put-record-requires : tie.Need-put-record-requires Inv-loop μ-loop
 put-record-requires c κs =
     let l = c .before .before .before .loop in
     let r = c .before .columns-at in
-    omega (arith, l .inv .1, l .inv .2 .kept, line-short (c .before .before .before .before .before .before .args .log .now) (l .i) (r .result) (omega arith) (r .ensures))
+    omega (arith, l .inv .1, l .inv .2 .kept, line-short (c .before .before .before .before .before .before .args .log .now) (l .index) (r .result) (omega arith) (r .ensures))
 
-add-i : tie.Need-add-i Inv-loop μ-loop
-add-i c = search needs
+add-index : tie.Need-add-index Inv-loop μ-loop
+add-index c = search needs
 
 loop-less : tie.Need-loop-less Inv-loop μ-loop
 loop-less c = search needs
@@ -46,8 +46,8 @@ loop-again c =
     let r = c .before .before .before .before .columns-at in
     let p = c .before .before .put-record in
     let b = c .before .before .before .before .before .before .before .before .before .args .log .now in
-    let short = line-short b (l .i) (r .result) (omega arith) (r .ensures) in
-    let e = ap (λ (x : Record). recordLines 0 (recordsFrom b 0 (l .i)) ++ recordLine (l .i) x) (columns-are b (l .i) (r .result) (r .ensures)) ∙ sym (text-more b (l .i)) in
+    let short = line-short b (l .index) (r .result) (omega arith) (r .ensures) in
+    let e = ap (λ (x : Record). recordLines 0 (recordsFrom b 0 (l .index)) ++ recordLine (l .index) x) (columns-are b (l .index) (r .result) (r .ensures)) ∙ sym (text-more b (l .index)) in
     (search needs, omega (arith, l .inv .1, p .ensures .next, short), rw add-one (added-as e (added-more (l .inv .2) (p .ensures))))
 
 same-length : tie.Need-same-length Inv-loop μ-loop
@@ -58,7 +58,7 @@ unfolding logOf recordCount
 returns c =
     let l = c .before .loop in
     let b = c .before .before .before .before .args .log .now in
-    let whole : l .i ≡ length b / 3 = omega arith in
+    let whole : l .index ≡ length b / 3 = omega arith in
     (added-as (ap (λ (k : ℕ). recordLines 0 (recordsFrom b 0 k)) whole) (l .inv .2), omega arith)
 
 pub put-log-spec : {M : Type 1} → statement M
@@ -70,7 +70,7 @@ put-log-spec =
     loop-holds
     columns-at-requires
     put-record-requires
-    add-i
+    add-index
     loop-less
     loop-again
     same-length

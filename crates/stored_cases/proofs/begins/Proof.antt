@@ -26,8 +26,8 @@ shared-slice-read-same-2 c = search needs
 shared-slice-read-same-3 : tie.Need-shared-slice-read-same-3 Inv-loop μ-loop
 shared-slice-read-same-3 c = search needs
 
-add-i : tie.Need-add-i Inv-loop μ-loop
-add-i c = search needs
+add-index : tie.Need-add-index Inv-loop μ-loop
+add-index c = search needs
 
 loop-less : tie.Need-loop-less Inv-loop μ-loop
 loop-less c = search needs
@@ -49,7 +49,7 @@ begins-spec =
     shared-slice-read-same
     shared-slice-read-same-2
     shared-slice-read-same-3
-    add-i
+    add-index
     loop-less
     loop-again
     returns-2)

@@ -23,8 +23,8 @@ half-requires c κs = search needs
 add-found : tie.Need-add-found Inv-loop μ-loop
 add-found c = search needs
 
-add-k : tie.Need-add-k Inv-loop μ-loop
-add-k c = search needs
+add-number : tie.Need-add-number Inv-loop μ-loop
+add-number c = search needs
 
 loop-less : tie.Need-loop-less Inv-loop μ-loop
 loop-less c = search needs
@@ -38,4 +38,4 @@ returns c = search needs
 pub listed-spec : {M : Type 1} → statement M
 listed-spec =
     tie.close
-    (tie.spec Inv-loop μ-loop loop-holds mul-half half-requires add-found add-k loop-less loop-again returns)
+    (tie.spec Inv-loop μ-loop loop-holds mul-half half-requires add-found add-number loop-less loop-again returns)

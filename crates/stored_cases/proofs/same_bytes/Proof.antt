@@ -19,8 +19,8 @@ element-copy-out-same c = search needs
 shared-slice-read-same : tie.Need-shared-slice-read-same Inv-loop μ-loop
 shared-slice-read-same c = search needs
 
-add-i : tie.Need-add-i Inv-loop μ-loop
-add-i c = search needs
+add-index : tie.Need-add-index Inv-loop μ-loop
+add-index c = search needs
 
 loop-less : tie.Need-loop-less Inv-loop μ-loop
 loop-less c = search needs
@@ -34,4 +34,4 @@ returns c = search needs
 pub same-bytes-spec : {M : Type 1} → statement M
 same-bytes-spec =
     tie.close
-    (tie.spec Inv-loop μ-loop loop-holds element-copy-out-same shared-slice-read-same add-i loop-less loop-again returns)
+    (tie.spec Inv-loop μ-loop loop-holds element-copy-out-same shared-slice-read-same add-index loop-less loop-again returns)

@@ -26,10 +26,10 @@ shared-slice-read-put-byte c = search needs
 put-byte-requires : tie.Need-put-byte-requires Inv-loop μ-loop
 put-byte-requires c κs =
     let l = c .before .before .before .loop in
-    omega (arith, l .inv .1 .next, l .inv .1 .kept, length-take-le (l .i) (c .before .before .before .before .before .before .args .word .now) (l .inv .0))
+    omega (arith, l .inv .1 .next, l .inv .1 .kept, length-take-le (l .index) (c .before .before .before .before .before .before .args .word .now) (l .inv .0))
 
-add-i : tie.Need-add-i Inv-loop μ-loop
-add-i c = search needs
+add-index : tie.Need-add-index Inv-loop μ-loop
+add-index c = search needs
 
 loop-less : tie.Need-loop-less Inv-loop μ-loop
 loop-less c = search needs
@@ -38,13 +38,13 @@ loop-again : tie.Need-loop-again Inv-loop μ-loop
 loop-again c =
     let l = c .before .before .before .before .before .before .loop in
     let w = c .before .before .before .before .before .before .before .before .before .args .word .now in
-    (search needs, rw add-one (added-as (sym (take-suc w (l .i) 0 (c .before .before .before .before .before .loop-test .taken))) (added-more (l .inv .1) (c .before .before .put-byte .ensures))))
+    (search needs, rw add-one (added-as (sym (take-suc w (l .index) 0 (c .before .before .before .before .before .loop-test .taken))) (added-more (l .inv .1) (c .before .before .put-byte .ensures))))
 
 same-length : tie.Need-same-length Inv-loop μ-loop
 same-length c = c .before .loop .inv .1 .kept
 
 returns : tie.Need-returns Inv-loop μ-loop
-returns c = let l = c .before .loop in added-as (take-all (l .i) _ (c .loop-test .left)) (l .inv .1)
+returns c = let l = c .before .loop in added-as (take-all (l .index) _ (c .loop-test .left)) (l .inv .1)
 
 pub put-word-spec : {M : Type 1} → statement M
 put-word-spec =
@@ -55,7 +55,7 @@ put-word-spec =
     loop-holds
     shared-slice-read-put-byte
     put-byte-requires
-    add-i
+    add-index
     loop-less
     loop-again
     same-length

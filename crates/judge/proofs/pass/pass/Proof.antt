@@ -21,7 +21,7 @@ abbrev μ-loop : tie.MeasureT-loop
 
 -- what is known of a record once its columns are read
 here : (p : tie.After-columns-at Inv-loop μ-loop)
-    → Here (versionOf (p .before .before .before .before .before .args .version)) (p .before .before .before .before .before .args .log .now) (p .before .before .loop .i) (p .before .before .loop .rows) (p .before .before .loop .writes) (p .columns-at .result)
+    → Here (versionOf (p .before .before .before .before .before .args .version)) (p .before .before .before .before .before .args .log .now) (p .before .before .loop .index) (p .before .before .loop .rows) (p .before .before .loop .writes) (p .columns-at .result)
 here p = record { accepted-log = p .before .before .before .before .before .pre; below = omega arith; read = p .columns-at .ensures; going = p .before .before .loop .inv .2 }
 
 one-record-each-requires : tie.Need-one-record-each-requires Inv-loop μ-loop
@@ -111,8 +111,8 @@ mul-writes c = search needs
 array-set-from-writes : tie.Need-array-set-from-writes Inv-loop μ-loop
 array-set-from-writes c = search needs
 
-add-i : tie.Need-add-i Inv-loop μ-loop
-add-i c = omega (arith, short (here (c .before .before .before .before .before .before .before .before .before .before .before .before .before .before)))
+add-index : tie.Need-add-index Inv-loop μ-loop
+add-index c = omega (arith, short (here (c .before .before .before .before .before .before .before .before .before .before .before .before .before .before)))
 
 loop-less : tie.Need-loop-less Inv-loop μ-loop
 loop-less c = search needs
@@ -131,7 +131,7 @@ loop-again c =
     )
 
 returns-2 : tie.Need-returns-2 Inv-loop μ-loop
-returns-2 c = none-named (versionOf (c .before .before .before .before .args .version)) (c .before .before .before .before .args .log .now) (c .before .loop .i) (c .before .loop .rows) (c .before .loop .writes) (c .before .before .before .before .pre) (c .before .loop .inv .2) (omega arith)
+returns-2 c = none-named (versionOf (c .before .before .before .before .args .version)) (c .before .before .before .before .args .log .now) (c .before .loop .index) (c .before .loop .rows) (c .before .loop .writes) (c .before .before .before .before .pre) (c .before .loop .inv .2) (omega arith)
 
 pub pass-spec : {M : Type 1} → statement M
 pass-spec =
@@ -167,7 +167,7 @@ pass-spec =
     written-requires
     mul-writes
     array-set-from-writes
-    add-i
+    add-index
     loop-less
     loop-again
     returns-2)

@@ -5,11 +5,11 @@ use Rattle.keys.proofs.KeySetLaws.{made, learn-word, keys-learn}
 use Rattle.keys.proofs.KeySet.learn.Statement.{statement}
 use Rattle.keys.proofs.KeySet.learn.Tie as tie
 
-cast-b : tie.Need-cast-b
-cast-b c = search needs
+cast-bit : tie.Need-cast-bit
+cast-bit c = search needs
 
-shl-b : tie.Need-shl-b
-shl-b c = search needs
+shl-bit : tie.Need-shl-bit
+shl-bit c = search needs
 
 returns : tie.Need-returns
 returns c = made (learn-word _ _ 0 (omega arith)) (keys-learn _ (omega arith) (search needs))
@@ -24,4 +24,4 @@ returns-4 : tie.Need-returns-4
 returns-4 c = made (learn-word _ _ 3 (omega arith)) (keys-learn _ (omega arith) (search needs))
 
 pub learn-spec : {M : Type 1} → statement M
-learn-spec = tie.close (tie.spec cast-b shl-b returns returns-2 returns-3 returns-4)
+learn-spec = tie.close (tie.spec cast-bit shl-bit returns returns-2 returns-3 returns-4)
