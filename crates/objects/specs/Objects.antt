@@ -10,21 +10,13 @@ use Rattle.state.specs.declared.Object.{Object}
 use Rattle.state.specs.declared.Counts.{Counts}
 use Rattle.state.specs.declared.acted.Room.the-variants as room
 use Rattle.state.specs.declared.acted.Acted.{Acted}
-use Rattle.state.specs.Acted.{entryOf, countsOf, actedOf, goOn}
+use Rattle.state.specs.Acted.{entryOf, countsOf, actedWith, actedOf, goOn}
 
 unfoldable pub actNew : Counts → Head → Cell → ℕ → Acted
 actNew n h c mask =
     cond (leb 32 (n .objects))
     (goOn room.NoObject (goValue (n .objects)) n h c)
-    (record {
-      room = room.Enough;
-      go = goValue (n .objects);
-      keys = h .keys;
-      cell = c;
-      thing = record { mask = mask; thread = 8 };
-      counts = countsOf (n .threads) (n .objects + 1) (n .keys);
-      entry = entryOf 1 (n .objects) 0 0;
-    })
+    (actedWith room.Enough (goValue (n .objects)) (countsOf (n .threads) (n .objects + 1) (n .keys)) (h .keys) c (entryOf 1 (n .objects) 0 0) mask 8)
 
 unfoldable pub actFork : Counts → Head → Cell → Acted
 actFork n h c =
@@ -32,15 +24,7 @@ actFork n h c =
     (goOn room.NoThread (goValue (n .objects)) n h c)
     (cond (leb 32 (n .objects))
     (goOn room.NoObject (goValue (n .objects)) n h c)
-    (record {
-      room = room.Enough;
-      go = goValue (n .objects);
-      keys = h .keys;
-      cell = c;
-      thing = record { mask = 0; thread = n .threads };
-      counts = countsOf (n .threads + 1) (n .objects + 1) (n .keys);
-      entry = entryOf 8 (n .objects) (n .threads) 0;
-    }))
+    (actedWith room.Enough (goValue (n .objects)) (countsOf (n .threads + 1) (n .objects + 1) (n .keys)) (h .keys) c (entryOf 8 (n .objects) (n .threads) 0) 0 (n .threads)))
 
 abbrev pub actJoin : Counts → Head → Cell → Object → Head → ℕ → Acted
 actJoin n h c t q o = actedOf room.Enough (goValue (q .ready .a)) n (joinOf (h .keys) (q .keys)) c (entryOf 9 o (t .thread) (q .ready .a))

@@ -9,6 +9,7 @@ use state::Object;
 use state::acted::Acted;
 use state::acted::Room;
 use state::acted::acted_of;
+use state::acted::acted_with;
 use state::acted::entry;
 use state::acted::go_on;
 
@@ -21,25 +22,13 @@ pub fn act_new(n: Counts, h: Head, c: Cell, mask: usize) -> Acted
     }
     let ks = h.keys;
     let e = entry(1, o, 0, 0);
-    let t = Object {
-        mask: mask,
-        thread: 8,
-    };
     let m = Counts {
         threads: n.threads,
         objects: o + 1,
         keys: n.keys,
     };
     let g = go::value(o);
-    Acted {
-        room: Room::Enough,
-        go: g,
-        keys: ks,
-        cell: c,
-        thing: t,
-        counts: m,
-        entry: e,
-    }
+    acted_with(Room::Enough, g, m, ks, c, e, mask, 8)
 }
 
 pub fn act_fork(n: Counts, h: Head, c: Cell) -> Acted
@@ -55,22 +44,13 @@ pub fn act_fork(n: Counts, h: Head, c: Cell) -> Acted
     }
     let ks = h.keys;
     let e = entry(8, o, q, 0);
-    let t = Object { mask: 0, thread: q };
     let m = Counts {
         threads: q + 1,
         objects: o + 1,
         keys: n.keys,
     };
     let g = go::value(o);
-    Acted {
-        room: Room::Enough,
-        go: g,
-        keys: ks,
-        cell: c,
-        thing: t,
-        counts: m,
-        entry: e,
-    }
+    acted_with(Room::Enough, g, m, ks, c, e, 0, q)
 }
 
 pub fn act_join(n: Counts, h: Head, c: Cell, t: Object, other: Head, o: usize) -> Acted

@@ -16,8 +16,11 @@ entryOf k o f v = record { kind = k; object = o; field = f; value = v }
 abbrev pub noEntry : Entry
 noEntry = entryOf 0 0 0 0
 
+abbrev pub thingOf : ℕ → ℕ → Object
+thingOf mask q = record { mask = mask; thread = q }
+
 abbrev pub nothing : Object
-nothing = record { mask = 0; thread = 8 }
+nothing = thingOf 0 8
 
 abbrev pub cellOf : ℕ → ℕ → KeySet → Cell
 cellOf v k ks = record { value = v; key = k; keys = ks }
@@ -25,8 +28,12 @@ cellOf v k ks = record { value = v; key = k; keys = ks }
 abbrev pub countsOf : ℕ → ℕ → ℕ → Counts
 countsOf t o k = record { threads = t; objects = o; keys = k }
 
+-- a move, with the fields and the thread of the object that it makes
+abbrev pub actedWith : Room → Go → Counts → KeySet → Cell → Entry → ℕ → ℕ → Acted
+actedWith r g n ks c e mask q = record { room = r; go = g; keys = ks; cell = c; thing = thingOf mask q; counts = n; entry = e }
+
 abbrev pub actedOf : Room → Go → Counts → KeySet → Cell → Entry → Acted
-actedOf r g n ks c e = record { room = r; go = g; keys = ks; cell = c; thing = nothing; counts = n; entry = e }
+actedOf r g n ks c e = actedWith r g n ks c e 0 8
 
 abbrev pub goOn : Room → Go → Counts → Head → Cell → Acted
 goOn r g n h c = actedOf r g n (h .keys) c noEntry

@@ -1,6 +1,6 @@
 // What a move does to the state, by value.
 ghost use mathlib.Core.Path.{_≡_};
-ghost use Rattle.state.specs.Acted.{entryOf, actedOf, goOn};
+ghost use Rattle.state.specs.Acted.{entryOf, actedWith, actedOf, goOn};
 use crate::Cell;
 use crate::Counts;
 use crate::Entry;
@@ -40,11 +40,23 @@ pub fn entry(kind: usize, object: usize, field: usize, value: usize) -> Entry
     }
 }
 
-// A move that makes nothing.
-pub fn acted_of(room: Room, g: Go, n: Counts, ks: KeySet, c: Cell, e: Entry) -> Acted
-    ensures { λ r. ⌜ r ≡ actedOf room g n ks c e ⌝ }
+// A move, with the fields and the thread of the object that it makes.
+pub fn acted_with(
+    room: Room,
+    g: Go,
+    n: Counts,
+    ks: KeySet,
+    c: Cell,
+    e: Entry,
+    mask: usize,
+    thread: usize,
+) -> Acted
+    ensures { λ r. ⌜ r ≡ actedWith room g n ks c e mask thread ⌝ }
 {
-    let t = Object { mask: 0, thread: 8 };
+    let t = Object {
+        mask: mask,
+        thread: thread,
+    };
     Acted {
         room: room,
         go: g,
@@ -54,6 +66,13 @@ pub fn acted_of(room: Room, g: Go, n: Counts, ks: KeySet, c: Cell, e: Entry) -> 
         counts: n,
         entry: e,
     }
+}
+
+// A move that makes nothing.
+pub fn acted_of(room: Room, g: Go, n: Counts, ks: KeySet, c: Cell, e: Entry) -> Acted
+    ensures { λ r. ⌜ r ≡ actedOf room g n ks c e ⌝ }
+{
+    acted_with(room, g, n, ks, c, e, 0, 8)
 }
 
 // A move that only goes on elsewhere.

@@ -28,18 +28,21 @@ returns-2 c = simp (c .go-on2 .ensures, c .before .value2 .ensures, lt-leb _ _ (
 entry-requires : tie.Need-entry-requires
 entry-requires c κs = search needs
 
+add-t15 : tie.Need-add-t15
+add-t15 c = search needs
+
 add-t16 : tie.Need-add-t16
 add-t16 c = search needs
-
-add-t17 : tie.Need-add-t17
-add-t17 c = search needs
 
 value-requires-3 : tie.Need-value-requires-3
 value-requires-3 c κs = search needs
 
+acted-with-requires : tie.Need-acted-with-requires
+acted-with-requires c κs = search needs
+
 returns-3 : tie.Need-returns-3
 unfolding actFork
-returns-3 c = simp (c .value3 .ensures, c .before .entry .ensures, lt-leb _ _ (c .before .before .before .before .if1 .left), lt-leb _ _ (c .before .before .before .if2 .left))
+returns-3 c = simp (c .acted-with .ensures, c .before .value3 .ensures, c .before .before .entry .ensures, lt-leb _ _ (c .before .before .before .before .before .if1 .left), lt-leb _ _ (c .before .before .before .before .if2 .left))
 
 pub act-fork-spec : {M : Type 1} → statement M
 act-fork-spec =
@@ -52,7 +55,8 @@ act-fork-spec =
     go-on-requires-2
     returns-2
     entry-requires
+    add-t15
     add-t16
-    add-t17
     value-requires-3
+    acted-with-requires
     returns-3)

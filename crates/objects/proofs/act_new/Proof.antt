@@ -18,15 +18,18 @@ returns c = simp (c .go-on .ensures, c .before .value .ensures, le-leb _ _ (c .b
 entry-requires : tie.Need-entry-requires
 entry-requires c κs = search needs
 
-add-t14 : tie.Need-add-t14
-add-t14 c = search needs
+add-t13 : tie.Need-add-t13
+add-t13 c = search needs
 
 value-requires-2 : tie.Need-value-requires-2
 value-requires-2 c κs = search needs
 
+acted-with-requires : tie.Need-acted-with-requires
+acted-with-requires c κs = search needs
+
 returns-2 : tie.Need-returns-2
 unfolding actNew
-returns-2 c = simp (c .value2 .ensures, c .before .entry .ensures, lt-leb _ _ (c .before .before .before .if1 .left))
+returns-2 c = simp (c .acted-with .ensures, c .before .value2 .ensures, c .before .before .entry .ensures, lt-leb _ _ (c .before .before .before .before .if1 .left))
 
 pub act-new-spec : {M : Type 1} → statement M
 act-new-spec =
@@ -36,6 +39,7 @@ act-new-spec =
     go-on-requires
     returns
     entry-requires
-    add-t14
+    add-t13
     value-requires-2
+    acted-with-requires
     returns-2)
