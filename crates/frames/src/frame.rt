@@ -40,10 +40,10 @@ pub struct Packed {
     pub args: usize,
 }
 
-fn code(k: Kind) -> usize
-    ensures { λ r. ⌜ (r ≡ codeOf k) × (r < 15) ⌝ }
+fn code(kind: Kind) -> usize
+    ensures { λ r. ⌜ (r ≡ codeOf kind) × (r < 15) ⌝ }
 {
-    match k {
+    match kind {
         Kind::Read => 0,
         Kind::Write1 => 1,
         Kind::Write2 => 2,
@@ -62,10 +62,10 @@ fn code(k: Kind) -> usize
     }
 }
 
-fn kind_of(n: usize) -> Kind
-    ensures { λ r. ⌜ r ≡ kindOf n ⌝ }
+fn kind_of(code: usize) -> Kind
+    ensures { λ r. ⌜ r ≡ kindOf code ⌝ }
 {
-    match n {
+    match code {
         0 => Kind::Read,
         1 => Kind::Write1,
         2 => Kind::Write2,
@@ -85,104 +85,106 @@ fn kind_of(n: usize) -> Kind
     }
 }
 
-pub fn pack(f: Frame) -> Packed
-    ensures { λ r. ⌜ r ≡ packOf f ⌝ }
+pub fn pack(frame: Frame) -> Packed
+    ensures { λ r. ⌜ r ≡ packOf frame ⌝ }
 {
-    let k = f.kind;
-    let c = code(k);
+    let kind = frame.kind;
+    let code = code(kind);
     Packed {
-        top: (((f.n % 16 * 32 + f.m % 32) * 1024 + f.b % 1024) * 1024 + f.a % 1024) * 16 + c,
-        env: f.env,
-        args: f.args,
+        top: (((frame.n % 16 * 32 + frame.m % 32) * 1024 + frame.b % 1024) * 1024 + frame.a % 1024)
+            * 16
+            + code,
+        env: frame.env,
+        args: frame.args,
     }
 }
 
-pub fn unpack(top: usize, env: usize, args: usize) -> Frame
-    ensures { λ r. ⌜ r ≡ unpackOf top env args ⌝ }
+pub fn unpack(top: usize, environment: usize, arguments: usize) -> Frame
+    ensures { λ r. ⌜ r ≡ unpackOf top environment arguments ⌝ }
 {
-    let k = kind_of(top % 16);
+    let kind = kind_of(top % 16);
     Frame {
-        kind: k,
+        kind: kind,
         a: top / 16 % 1024,
         b: top / 16384 % 1024,
         m: top / 16777216 % 32,
         n: top / 536870912 % 16,
-        env: env,
-        args: args,
+        env: environment,
+        args: arguments,
     }
 }
 
-pub fn frame_of(k: Kind, a: usize, b: usize, m: usize, env: usize) -> Frame
-    ensures { λ r. ⌜ r ≡ framed k a b m env ⌝ }
+pub fn frame_of(kind: Kind, first: usize, second: usize, member: usize, environment: usize) -> Frame
+    ensures { λ r. ⌜ r ≡ framed kind first second member environment ⌝ }
 {
     Frame {
-        kind: k,
-        a: a,
-        b: b,
-        m: m,
+        kind: kind,
+        a: first,
+        b: second,
+        m: member,
         n: 0,
-        env: env,
+        env: environment,
         args: 0,
     }
 }
 
-// The frame of a let that binds slot x in term j.
-pub fn let_frame(x: usize, j: usize, env: usize) -> Frame
-    ensures { λ r. ⌜ r ≡ letFrame x j env ⌝ }
+// The frame of a let that binds the slot in the term.
+pub fn let_frame(slot: usize, term: usize, environment: usize) -> Frame
+    ensures { λ r. ⌜ r ≡ letFrame slot term environment ⌝ }
 {
     Frame {
         kind: Kind::Let,
-        a: j,
+        a: term,
         b: 0,
         m: 0,
-        n: x,
-        env: env,
+        n: slot,
+        env: environment,
         args: 0,
     }
 }
 
 // The frame of a second operand, which holds the value of the first.
-pub fn second_frame(k: Kind, f: Frame, v: usize) -> Frame
-    ensures { λ r. ⌜ r ≡ secondFrame k f v ⌝ }
+pub fn second_frame(kind: Kind, frame: Frame, value: usize) -> Frame
+    ensures { λ r. ⌜ r ≡ secondFrame kind frame value ⌝ }
 {
     Frame {
-        kind: k,
+        kind: kind,
         a: 0,
         b: 0,
-        m: f.m,
+        m: frame.m,
         n: 0,
-        env: f.env,
-        args: v,
+        env: frame.env,
+        args: value,
     }
 }
 
 // A call's frame with one value more.
-pub fn collect(f: Frame, v: usize) -> Frame
-    ensures { λ r. ⌜ r ≡ collected f v ⌝ }
+pub fn collect(frame: Frame, value: usize) -> Frame
+    ensures { λ r. ⌜ r ≡ collected frame value ⌝ }
 {
-    let more = slots::bind(f.args, f.n, v);
+    let more = slots::bind(frame.args, frame.n, value);
     Frame {
         kind: Kind::Call,
-        a: f.a,
+        a: frame.a,
         b: 0,
-        m: f.m,
-        n: f.n % 16 + 1,
-        env: f.env,
+        m: frame.m,
+        n: frame.n % 16 + 1,
+        env: frame.env,
         args: more,
     }
 }
 
-// A call's frame with the rest of its list at term j.
-pub fn rest(f: Frame, j: usize) -> Frame
-    ensures { λ r. ⌜ r ≡ restOf f j ⌝ }
+// A call's frame with the rest of its list at the term.
+pub fn rest(frame: Frame, term: usize) -> Frame
+    ensures { λ r. ⌜ r ≡ restOf frame term ⌝ }
 {
     Frame {
         kind: Kind::Call,
-        a: j,
+        a: term,
         b: 0,
-        m: f.m,
-        n: f.n,
-        env: f.env,
-        args: f.args,
+        m: frame.m,
+        n: frame.n,
+        env: frame.env,
+        args: frame.args,
     }
 }

@@ -36,103 +36,107 @@ pub struct Go {
     pub stage: Stage,
 }
 
-pub fn ready_of(part: usize, a: usize, b: usize, c: usize, env: usize) -> Ready
-    ensures { λ r. ⌜ r ≡ readyAt part a b c env ⌝ }
+pub fn ready_of(part: usize, first: usize, second: usize, third: usize, environment: usize) -> Ready
+    ensures { λ r. ⌜ r ≡ readyAt part first second third environment ⌝ }
 {
     Ready {
         part: part,
-        a: a,
-        b: b,
-        c: c,
-        env: env,
+        a: first,
+        b: second,
+        c: third,
+        env: environment,
     }
 }
 
-fn go_of(stage: Stage, f: Frame, i: usize) -> Go
-    ensures { λ r. ⌜ r ≡ goOf stage f i ⌝ }
+fn go_of(stage: Stage, frame: Frame, operand: usize) -> Go
+    ensures { λ r. ⌜ r ≡ goOf stage frame operand ⌝ }
 {
     Go {
-        i: i,
-        frame: f,
+        i: operand,
+        frame: frame,
         stage: stage,
     }
 }
 
 // Landing has ended at a part that moves.
-pub fn at(r: Ready) -> Go
-    ensures { λ x. ⌜ x ≡ goAt r ⌝ }
+pub fn at(ready: Ready) -> Go
+    ensures { λ x. ⌜ x ≡ goAt ready ⌝ }
 {
-    let f = Frame {
+    let frame = Frame {
         kind: Kind::Read,
-        a: r.a,
-        b: r.b,
-        m: r.part,
+        a: ready.a,
+        b: ready.b,
+        m: ready.part,
         n: 0,
-        env: r.env,
-        args: r.c,
+        env: ready.env,
+        args: ready.c,
     };
-    go_of(Stage::At, f, 0)
+    go_of(Stage::At, frame, 0)
 }
 
 // The part where landing has ended.
-pub fn ready_in(g: Go) -> Ready
-    ensures { λ x. ⌜ x ≡ readyIn g ⌝ }
+pub fn ready_in(go: Go) -> Ready
+    ensures { λ x. ⌜ x ≡ readyIn go ⌝ }
 {
-    let f = g.frame;
-    ready_of(f.m, f.a, f.b, f.args, f.env)
+    let frame = go.frame;
+    ready_of(frame.m, frame.a, frame.b, frame.args, frame.env)
 }
 
-// Down from expression t with these slots.
-pub fn run(t: usize, env: usize) -> Go
-    ensures { λ x. ⌜ x ≡ goRun t env ⌝ }
-{
-    go_of(Stage::Run, frame::frame_of(Kind::Read, 0, 0, 0, env), t)
-}
-
-// Down from condition t with these slots.
-pub fn run_condition(t: usize, env: usize) -> Go
-    ensures { λ x. ⌜ x ≡ goRunCondition t env ⌝ }
+// Down from an expression with these slots.
+pub fn run(term: usize, environment: usize) -> Go
+    ensures { λ x. ⌜ x ≡ goRun term environment ⌝ }
 {
     go_of(
-        Stage::RunCondition,
-        frame::frame_of(Kind::Read, 0, 0, 0, env),
-        t,
+        Stage::Run,
+        frame::frame_of(Kind::Read, 0, 0, 0, environment),
+        term,
     )
 }
 
-// A frame that wants the value of expression i.
-pub fn want(f: Frame, i: usize) -> Go
-    ensures { λ x. ⌜ x ≡ goWant f i ⌝ }
+// Down from a condition with these slots.
+pub fn run_condition(term: usize, environment: usize) -> Go
+    ensures { λ x. ⌜ x ≡ goRunCondition term environment ⌝ }
 {
-    go_of(Stage::Want, f, i)
+    go_of(
+        Stage::RunCondition,
+        frame::frame_of(Kind::Read, 0, 0, 0, environment),
+        term,
+    )
 }
 
-// A frame that wants the value of condition i.
-pub fn want_condition(f: Frame, i: usize) -> Go
-    ensures { λ x. ⌜ x ≡ goWantCondition f i ⌝ }
+// A frame that wants the value of an expression.
+pub fn want(frame: Frame, term: usize) -> Go
+    ensures { λ x. ⌜ x ≡ goWant frame term ⌝ }
 {
-    go_of(Stage::WantCondition, f, i)
+    go_of(Stage::Want, frame, term)
+}
+
+// A frame that wants the value of a condition.
+pub fn want_condition(frame: Frame, term: usize) -> Go
+    ensures { λ x. ⌜ x ≡ goWantCondition frame term ⌝ }
+{
+    go_of(Stage::WantCondition, frame, term)
 }
 
 // A call's frame, at the rest of its list.
-pub fn list(f: Frame) -> Go
-    ensures { λ x. ⌜ x ≡ goList f ⌝ }
+pub fn list(frame: Frame) -> Go
+    ensures { λ x. ⌜ x ≡ goList frame ⌝ }
 {
-    go_of(Stage::List, f, 0)
+    go_of(Stage::List, frame, 0)
 }
 
 // A value on its way up.
-pub fn value(v: usize) -> Go
-    ensures { λ x. ⌜ x ≡ goValue v ⌝ }
+pub fn value(value: usize) -> Go
+    ensures { λ x. ⌜ x ≡ goValue value ⌝ }
 {
-    go_of(Stage::Value, frame::frame_of(Kind::Read, 0, 0, 0, 0), v)
+    go_of(Stage::Value, frame::frame_of(Kind::Read, 0, 0, 0, 0), value)
 }
 
 // A condition's value on its way up, 0 false and 1 true.
-pub fn truth(b: usize) -> Go
-    ensures { λ x. ⌜ x ≡ goTruth b ⌝ }
+pub fn truth(truth: usize) -> Go
+    ensures { λ x. ⌜ x ≡ goTruth truth ⌝ }
 {
-    go_of(Stage::Truth, frame::frame_of(Kind::Read, 0, 0, 0, 0), b)
+    go_of(Stage::Truth, frame::frame_of(Kind::Read, 0, 0, 0, 0), truth)
 }
 
 // No room for a frame.
@@ -143,29 +147,35 @@ pub fn full() -> Go
 }
 
 // 1 where two values are the same object, else 0.
-fn same(v: usize, w: usize) -> usize
-    ensures { λ r. ⌜ r ≡ sameOf v w ⌝ }
+fn same(value: usize, other: usize) -> usize
+    ensures { λ r. ⌜ r ≡ sameOf value other ⌝ }
 {
-    if v == w { 1 } else { 0 }
+    if value == other { 1 } else { 0 }
 }
 
 // What a frame does with the value of its operand.
-pub fn feed(f: Frame, v: usize) -> Go
-    ensures { λ r. ⌜ r ≡ feedOf f v ⌝ }
+pub fn feed(frame: Frame, value: usize) -> Go
+    ensures { λ r. ⌜ r ≡ feedOf frame value ⌝ }
 {
-    let k = f.kind;
-    match k {
-        Kind::Read => at(ready_of(part::READ, v, f.m, 0, 0)),
-        Kind::Write1 => want(frame::second_frame(Kind::Write2, f, v), f.a),
-        Kind::Write2 => at(ready_of(part::WRITE, f.args, f.m, v, 0)),
-        Kind::Call => list(frame::collect(f, v)),
-        Kind::Let => at(ready_of(part::RUN, f.a, 0, 0, slots::bind(f.env, f.n, v))),
-        Kind::Synch => at(ready_of(part::SYNCH, v, f.a, 0, f.env)),
-        Kind::Hold => at(ready_of(part::HOLD, f.args, v, 0, 0)),
-        Kind::Join => at(ready_of(part::JOIN, v, 0, 0, 0)),
-        Kind::Equal1 => want(frame::second_frame(Kind::Equal2, f, v), f.a),
-        Kind::Equal2 => at(ready_of(part::TRUTH, same(f.args, v), 0, 0, 0)),
-        Kind::Body => at(ready_of(part::AGAIN, f.a, f.b, 0, f.env)),
+    let kind = frame.kind;
+    match kind {
+        Kind::Read => at(ready_of(part::READ, value, frame.m, 0, 0)),
+        Kind::Write1 => want(frame::second_frame(Kind::Write2, frame, value), frame.a),
+        Kind::Write2 => at(ready_of(part::WRITE, frame.args, frame.m, value, 0)),
+        Kind::Call => list(frame::collect(frame, value)),
+        Kind::Let => at(ready_of(
+            part::RUN,
+            frame.a,
+            0,
+            0,
+            slots::bind(frame.env, frame.n, value),
+        )),
+        Kind::Synch => at(ready_of(part::SYNCH, value, frame.a, 0, frame.env)),
+        Kind::Hold => at(ready_of(part::HOLD, frame.args, value, 0, 0)),
+        Kind::Join => at(ready_of(part::JOIN, value, 0, 0, 0)),
+        Kind::Equal1 => want(frame::second_frame(Kind::Equal2, frame, value), frame.a),
+        Kind::Equal2 => at(ready_of(part::TRUTH, same(frame.args, value), 0, 0, 0)),
+        Kind::Body => at(ready_of(part::AGAIN, frame.a, frame.b, 0, frame.env)),
         Kind::If => at(ready_of(part::NO_RULE, 0, 0, 0, 0)),
         Kind::And => at(ready_of(part::NO_RULE, 0, 0, 0, 0)),
         Kind::Not => at(ready_of(part::NO_RULE, 0, 0, 0, 0)),
@@ -174,20 +184,20 @@ pub fn feed(f: Frame, v: usize) -> Go
 }
 
 // What a frame does with a condition's value, where it is an `if` or a loop's test.
-fn feed_if(f: Frame, b: usize) -> Go
-    ensures { λ r. ⌜ r ≡ feedIfOf f b ⌝ }
+fn feed_if(frame: Frame, truth: usize) -> Go
+    ensures { λ r. ⌜ r ≡ feedIfOf frame truth ⌝ }
 {
-    let k = f.kind;
-    match k {
+    let kind = frame.kind;
+    match kind {
         Kind::If => {
-            if b == 1 {
-                return at(ready_of(part::RUN, f.a, 0, 0, f.env));
+            if truth == 1 {
+                return at(ready_of(part::RUN, frame.a, 0, 0, frame.env));
             }
-            at(ready_of(part::RUN, f.b, 0, 0, f.env))
+            at(ready_of(part::RUN, frame.b, 0, 0, frame.env))
         }
         Kind::Test => {
-            if b == 1 {
-                return at(ready_of(part::BODY, f.a, f.b, 0, f.env));
+            if truth == 1 {
+                return at(ready_of(part::BODY, frame.a, frame.b, 0, frame.env));
             }
             at(ready_of(part::VAL, 0, 0, 0, 0))
         }
@@ -196,23 +206,23 @@ fn feed_if(f: Frame, b: usize) -> Go
 }
 
 // What a frame does with a condition's value.
-pub fn feed_condition(f: Frame, b: usize) -> Go
-    ensures { λ r. ⌜ r ≡ feedConditionOf f b ⌝ }
+pub fn feed_condition(frame: Frame, truth: usize) -> Go
+    ensures { λ r. ⌜ r ≡ feedConditionOf frame truth ⌝ }
 {
-    let k = f.kind;
-    match k {
+    let kind = frame.kind;
+    match kind {
         Kind::And => {
-            if b == 1 {
-                return at(ready_of(part::RUN_CONDITION, f.a, 0, 0, f.env));
+            if truth == 1 {
+                return at(ready_of(part::RUN_CONDITION, frame.a, 0, 0, frame.env));
             }
             at(ready_of(part::TRUTH, 0, 0, 0, 0))
         }
         Kind::Not => {
-            if b == 1 {
-                return truth(0);
+            if truth == 1 {
+                return crate::go::truth(0);
             }
             at(ready_of(part::TRUTH, 1, 0, 0, 0))
         }
-        _ => feed_if(f, b),
+        _ => feed_if(frame, truth),
     }
 }

@@ -17,24 +17,24 @@ pub struct Landed {
     pub stage: Stage,
 }
 
-pub fn end_at(g: Go, depth: usize) -> Landed
-    ensures { λ r. ⌜ r ≡ landedOf g depth ⌝ }
+pub fn end_at(go: Go, depth: usize) -> Landed
+    ensures { λ r. ⌜ r ≡ landedOf go depth ⌝ }
 {
-    let s = g.stage;
-    let r = go::ready_in(g);
+    let stage = go.stage;
+    let ready = go::ready_in(go);
     Landed {
-        ready: r,
+        ready: ready,
         depth: depth,
-        stage: s,
+        stage: stage,
     }
 }
 
 // Whether landing goes on.
-fn live(g: Go) -> bool
-    ensures { λ r. ⌜ r ≡ liveOf g ⌝ }
+fn live(go: Go) -> bool
+    ensures { λ r. ⌜ r ≡ liveOf go ⌝ }
 {
-    let s = g.stage;
-    match s {
+    let stage = go.stage;
+    match stage {
         Stage::At => false,
         Stage::Full => false,
         Stage::Run => true,
@@ -48,14 +48,14 @@ fn live(g: Go) -> bool
 }
 
 // The place of the top frame, of a thread whose places start at base.
-fn top(base: usize, d: usize) -> usize
-    requires { ⌜ (base ≤ 264) × (d ≤ 32) ⌝ }
-    ensures { λ r. ⌜ (r ≡ topOf base d) × (r < 297) ⌝ }
+fn top(base: usize, depth: usize) -> usize
+    requires { ⌜ (base ≤ 264) × (depth ≤ 32) ⌝ }
+    ensures { λ r. ⌜ (r ≡ topOf base depth) × (r < 297) ⌝ }
 {
-    if d == 0 {
+    if depth == 0 {
         return base;
     }
-    base + (d - 1)
+    base + (depth - 1)
 }
 
 // Steps until the part that moves next is found, or there is no room. A landing has fewer than 2,100 steps.
@@ -63,38 +63,38 @@ pub fn land(
     words: &[usize; 1024],
     roots: &[usize; 32],
     tops: &mut [usize; 297],
-    envs: &mut [usize; 297],
-    args: &mut [usize; 297],
+    environments: &mut [usize; 297],
+    arguments: &mut [usize; 297],
     base: usize,
     from: Go,
     depth: usize,
 ) -> Landed
     requires { ⌜ (base ≤ 264) × (depth ≤ 32) ⌝ }
-    ensures { λ r. ⌜ (record { stack = record { tops = now (tops .exit); envs = now (envs .exit); args = now (args .exit) }; landed = r }) ≡ landOf 2100 (now (words .entry)) (now (roots .entry)) base (record { tops = now (tops .entry); envs = now (envs .entry); args = now (args .entry) }) from depth ⌝ }
+    ensures { λ r. ⌜ (record { stack = record { tops = now (tops .exit); envs = now (environments .exit); args = now (arguments .exit) }; landed = r }) ≡ landOf 2100 (now (words .entry)) (now (roots .entry)) base (record { tops = now (tops .entry); envs = now (environments .entry); args = now (arguments .entry) }) from depth ⌝ }
     ensures { λ r. ⌜ r .depth ≤ 32 ⌝ }
 {
-    let mut g = from;
-    let mut d = depth;
+    let mut go = from;
+    let mut depth = depth;
     let mut left: usize = 2100;
     while 0 < left {
-        if !live(g) {
-            return end_at(g, d);
+        if !live(go) {
+            return end_at(go, depth);
         }
-        let k = top(base, d);
-        let f = frame::unpack(tops[k], envs[k], args[k]);
-        let m = landing_step::step(words, roots, g, d, f);
-        let h = m.frame;
-        if m.at < m.depth {
-            let w = frame::pack(h);
-            let j = base + m.at;
-            tops[j] = w.top;
-            envs[j] = w.env;
-            args[j] = w.args;
+        let place = top(base, depth);
+        let frame = frame::unpack(tops[place], environments[place], arguments[place]);
+        let turn = landing_step::step(words, roots, go, depth, frame);
+        let pushed = turn.frame;
+        if turn.at < turn.depth {
+            let packed = frame::pack(pushed);
+            let above = base + turn.at;
+            tops[above] = packed.top;
+            environments[above] = packed.env;
+            arguments[above] = packed.args;
         }
-        let next = m.go;
-        g = next;
-        d = m.depth;
+        let next = turn.go;
+        go = next;
+        depth = turn.depth;
         left -= 1;
     }
-    end_at(go::full(), d)
+    end_at(go::full(), depth)
 }

@@ -20,203 +20,219 @@ pub struct Turn {
 }
 
 // No frame more.
-fn stay(g: Go, depth: usize) -> Turn
-    ensures { λ r. ⌜ r ≡ stayOf g depth ⌝ }
+fn stay(go: Go, depth: usize) -> Turn
+    ensures { λ r. ⌜ r ≡ stayOf go depth ⌝ }
 {
-    let f = frame::frame_of(Kind::Read, 0, 0, 0, 0);
+    let frame = frame::frame_of(Kind::Read, 0, 0, 0, 0);
     Turn {
-        go: g,
+        go: go,
         depth: depth,
         at: depth,
-        frame: f,
+        frame: frame,
     }
 }
 
 // A frame more, if there is room for it.
-fn push(g: Go, depth: usize, f: Frame) -> Turn
-    ensures { λ r. ⌜ r ≡ pushOf g depth f ⌝ }
+fn push(go: Go, depth: usize, frame: Frame) -> Turn
+    ensures { λ r. ⌜ r ≡ pushOf go depth frame ⌝ }
 {
     if depth < 32 {
         return Turn {
-            go: g,
+            go: go,
             depth: depth + 1,
             at: depth,
-            frame: f,
+            frame: frame,
         };
     }
     stay(go::full(), depth)
 }
 
-// A frame that wants the value of expression i: fed at once where i needs no move.
-fn want(words: &[usize; 1024], f: Frame, i: usize, d: usize) -> Turn
-    ensures { λ r. ⌜ r ≡ wantOf (now (words .entry)) f i d ⌝ }
+// A frame that wants the value of an expression: fed at once where that needs no move.
+fn want(words: &[usize; 1024], frame: Frame, term: usize, depth: usize) -> Turn
+    ensures { λ r. ⌜ r ≡ wantOf (now (words .entry)) frame term depth ⌝ }
 {
-    let v = words::value(words, f.env, i);
-    if v < 32 {
-        return stay(go::feed(f, v), d);
+    let value = words::value(words, frame.env, term);
+    if value < 32 {
+        return stay(go::feed(frame, value), depth);
     }
-    push(go::run(i, f.env), d, f)
+    push(go::run(term, frame.env), depth, frame)
 }
 
-// The same of condition i.
-fn want_condition(words: &[usize; 1024], f: Frame, i: usize, d: usize) -> Turn
-    ensures { λ r. ⌜ r ≡ wantConditionOf (now (words .entry)) f i d ⌝ }
+// The same of a condition.
+fn want_condition(words: &[usize; 1024], frame: Frame, term: usize, depth: usize) -> Turn
+    ensures { λ r. ⌜ r ≡ wantConditionOf (now (words .entry)) frame term depth ⌝ }
 {
-    let b = words::truth(words, i);
-    if b < 2 {
-        return stay(go::feed_condition(f, b), d);
+    let truth = words::truth(words, term);
+    if truth < 2 {
+        return stay(go::feed_condition(frame, truth), depth);
     }
-    push(go::run_condition(i, f.env), d, f)
+    push(go::run_condition(term, frame.env), depth, frame)
 }
 
-// The root of procedure m; an index over 31 wraps.
-fn root(roots: &[usize; 32], m: usize) -> usize
-    ensures { λ r. ⌜ r ≡ rootAt (now (roots .entry)) m ⌝ }
+// The root of a procedure; an index over 31 wraps.
+fn root(roots: &[usize; 32], procedure: usize) -> usize
+    ensures { λ r. ⌜ r ≡ rootAt (now (roots .entry)) procedure ⌝ }
 {
-    roots[m % 32]
+    roots[procedure % 32]
 }
 
 // The rest of a call's list: the next operand, or the call.
-fn list(words: &[usize; 1024], roots: &[usize; 32], f: Frame) -> Go
-    ensures { λ r. ⌜ r ≡ listOf (now (words .entry)) (now (roots .entry)) f ⌝ }
+fn list(words: &[usize; 1024], roots: &[usize; 32], frame: Frame) -> Go
+    ensures { λ r. ⌜ r ≡ listOf (now (words .entry)) (now (roots .entry)) frame ⌝ }
 {
-    let w = words::word(words, f.a);
-    if words::tag(w) == 16 {
-        return go::want(frame::rest(f, words::second(w)), words::first(w));
+    let word = words::word(words, frame.a);
+    if words::tag(word) == 16 {
+        return go::want(frame::rest(frame, words::second(word)), words::first(word));
     }
-    let t = root(roots, f.m);
-    go::at(go::ready_of(part::RUN, t, 0, 0, f.args))
+    let term = root(roots, frame.m);
+    go::at(go::ready_of(part::RUN, term, 0, 0, frame.args))
 }
 
 // Down from an expression whose operands need no look: a value, `new`, `while`, `fork`.
-fn simple(w: usize, env: usize) -> Go
-    ensures { λ r. ⌜ r ≡ simpleOf w env ⌝ }
+fn simple(word: usize, environment: usize) -> Go
+    ensures { λ r. ⌜ r ≡ simpleOf word environment ⌝ }
 {
-    let k = words::tag(w);
-    match k {
-        2 => go::at(go::ready_of(part::NEW, words::mask_of(w), 0, 0, 0)),
-        7 => go::at(go::ready_of(part::WHILE, words::first(w), words::second(w), 0, env)),
-        9 => go::at(go::ready_of(part::FORK, words::first(w), 0, 0, env)),
+    let tag = words::tag(word);
+    match tag {
+        2 => go::at(go::ready_of(part::NEW, words::mask_of(word), 0, 0, 0)),
+        7 => go::at(go::ready_of(
+            part::WHILE,
+            words::first(word),
+            words::second(word),
+            0,
+            environment,
+        )),
+        9 => go::at(go::ready_of(part::FORK, words::first(word), 0, 0, environment)),
         0 => go::value(0),
-        1 => go::value(slots::slot(env, words::slot_of(w))),
+        1 => go::value(slots::slot(environment, words::slot_of(word))),
         _ => go::at(go::ready_of(part::NO_RULE, 0, 0, 0, 0)),
     }
 }
 
 // Down from an expression.
-fn run(w: usize, env: usize) -> Go
-    ensures { λ r. ⌜ r ≡ runOf w env ⌝ }
+fn run(word: usize, environment: usize) -> Go
+    ensures { λ r. ⌜ r ≡ runOf word environment ⌝ }
 {
-    let k = words::tag(w);
-    let a = words::first(w);
-    let b = words::second(w);
-    let f = words::field_of(w);
-    match k {
-        3 => go::want(frame::frame_of(Kind::Read, 0, 0, f, env), a),
-        4 => go::want(
-            frame::frame_of(Kind::Write1, words::write_second(w), 0, f, env),
-            a,
-        ),
+    let tag = words::tag(word);
+    let first = words::first(word);
+    let second = words::second(word);
+    let field = words::field_of(word);
+    match tag {
+        3 => go::want(frame::frame_of(Kind::Read, 0, 0, field, environment), first),
+        4 => {
+            let value = words::write_second(word);
+            let frame = frame::frame_of(Kind::Write1, value, 0, field, environment);
+            go::want(frame, first)
+        }
         5 => go::want(
-            frame::let_frame(words::slot_of(w), words::let_second(w), env),
-            words::let_first(w),
+            frame::let_frame(words::slot_of(word), words::let_second(word), environment),
+            words::let_first(word),
         ),
-        6 => go::want_condition(frame::frame_of(Kind::If, b, words::third(w), 0, env), a),
+        6 => go::want_condition(
+            frame::frame_of(Kind::If, second, words::third(word), 0, environment),
+            first,
+        ),
         8 => go::list(frame::frame_of(
             Kind::Call,
-            words::list_of(w),
+            words::list_of(word),
             0,
-            words::procedure_of(w),
-            env,
+            words::procedure_of(word),
+            environment,
         )),
-        10 => go::want(frame::frame_of(Kind::Join, 0, 0, 0, env), a),
-        11 => go::want(frame::frame_of(Kind::Synch, b, 0, 0, env), a),
-        _ => simple(w, env),
+        10 => go::want(frame::frame_of(Kind::Join, 0, 0, 0, environment), first),
+        11 => go::want(
+            frame::frame_of(Kind::Synch, second, 0, 0, environment),
+            first,
+        ),
+        _ => simple(word, environment),
     }
 }
 
 // Down from a condition.
-fn run_condition(w: usize, env: usize) -> Go
-    ensures { λ r. ⌜ r ≡ runConditionOf w env ⌝ }
+fn run_condition(word: usize, environment: usize) -> Go
+    ensures { λ r. ⌜ r ≡ runConditionOf word environment ⌝ }
 {
-    let k = words::tag(w);
-    let a = words::first(w);
-    let b = words::second(w);
-    match k {
+    let tag = words::tag(word);
+    let first = words::first(word);
+    let second = words::second(word);
+    match tag {
         12 => go::truth(1),
-        13 => go::want_condition(frame::frame_of(Kind::Not, 0, 0, 0, env), a),
-        14 => go::want_condition(frame::frame_of(Kind::And, b, 0, 0, env), a),
-        15 => go::want(frame::frame_of(Kind::Equal1, b, 0, 0, env), a),
+        13 => go::want_condition(frame::frame_of(Kind::Not, 0, 0, 0, environment), first),
+        14 => go::want_condition(frame::frame_of(Kind::And, second, 0, 0, environment), first),
+        15 => go::want(
+            frame::frame_of(Kind::Equal1, second, 0, 0, environment),
+            first,
+        ),
         _ => go::at(go::ready_of(part::NO_RULE, 0, 0, 0, 0)),
     }
 }
 
 // A way down is taken: its term is opened.
-fn opened(words: &[usize; 1024], g: Go) -> Go
-    ensures { λ r. ⌜ r ≡ openedOf (now (words .entry)) g ⌝ }
+fn opened(words: &[usize; 1024], go: Go) -> Go
+    ensures { λ r. ⌜ r ≡ openedOf (now (words .entry)) go ⌝ }
 {
-    let h = g.frame;
-    let s = g.stage;
-    match s {
-        Stage::Run => run(words::word(words, g.i), h.env),
-        Stage::RunCondition => run_condition(words::word(words, g.i), h.env),
-        _ => g,
+    let frame = go.frame;
+    let stage = go.stage;
+    match stage {
+        Stage::Run => run(words::word(words, go.i), frame.env),
+        Stage::RunCondition => run_condition(words::word(words, go.i), frame.env),
+        _ => go,
     }
 }
 
 // A call's list is gone into.
-fn listed(words: &[usize; 1024], roots: &[usize; 32], g: Go) -> Go
-    ensures { λ r. ⌜ r ≡ listedOf (now (words .entry)) (now (roots .entry)) g ⌝ }
+fn listed(words: &[usize; 1024], roots: &[usize; 32], go: Go) -> Go
+    ensures { λ r. ⌜ r ≡ listedOf (now (words .entry)) (now (roots .entry)) go ⌝ }
 {
-    let h = g.frame;
-    let s = g.stage;
-    match s {
-        Stage::List => list(words, roots, h),
-        _ => g,
+    let frame = go.frame;
+    let stage = go.stage;
+    match stage {
+        Stage::List => list(words, roots, frame),
+        _ => go,
     }
 }
 
 // A frame that wants an operand is fed, or set down.
-fn wanted(words: &[usize; 1024], g: Go, d: usize) -> Turn
-    ensures { λ r. ⌜ r ≡ wantedOf (now (words .entry)) g d ⌝ }
+fn wanted(words: &[usize; 1024], go: Go, depth: usize) -> Turn
+    ensures { λ r. ⌜ r ≡ wantedOf (now (words .entry)) go depth ⌝ }
 {
-    let h = g.frame;
-    let s = g.stage;
-    match s {
-        Stage::Want => want(words, h, g.i, d),
-        Stage::WantCondition => want_condition(words, h, g.i, d),
-        _ => stay(g, d),
+    let frame = go.frame;
+    let stage = go.stage;
+    match stage {
+        Stage::Want => want(words, frame, go.i, depth),
+        Stage::WantCondition => want_condition(words, frame, go.i, depth),
+        _ => stay(go, depth),
     }
 }
 
 // A value goes up into the top frame.
-fn back(f: Frame, v: usize, d: usize) -> Turn
-    ensures { λ r. ⌜ r ≡ backOf f v d ⌝ }
+fn back(frame: Frame, value: usize, depth: usize) -> Turn
+    ensures { λ r. ⌜ r ≡ backOf frame value depth ⌝ }
 {
-    if d == 0 {
-        return stay(go::at(go::ready_of(part::DONE, v, 0, 0, 0)), d);
+    if depth == 0 {
+        return stay(go::at(go::ready_of(part::DONE, value, 0, 0, 0)), depth);
     }
-    stay(go::feed(f, v), d - 1)
+    stay(go::feed(frame, value), depth - 1)
 }
 
 // A condition's value goes up into the top frame.
-fn back_condition(f: Frame, b: usize, d: usize) -> Turn
-    ensures { λ r. ⌜ r ≡ backConditionOf f b d ⌝ }
+fn back_condition(frame: Frame, truth: usize, depth: usize) -> Turn
+    ensures { λ r. ⌜ r ≡ backConditionOf frame truth depth ⌝ }
 {
-    if d == 0 {
-        return stay(go::at(go::ready_of(part::NO_RULE, 0, 0, 0, 0)), d);
+    if depth == 0 {
+        return stay(go::at(go::ready_of(part::NO_RULE, 0, 0, 0, 0)), depth);
     }
-    stay(go::feed_condition(f, b), d - 1)
+    stay(go::feed_condition(frame, truth), depth - 1)
 }
 
 // One step of landing, with the top frame. A way down goes through its three functions one after the other, so that each has one caller.
-pub fn step(words: &[usize; 1024], roots: &[usize; 32], g: Go, d: usize, f: Frame) -> Turn
-    ensures { λ r. ⌜ r ≡ stepOf (now (words .entry)) (now (roots .entry)) g d f ⌝ }
+pub fn step(words: &[usize; 1024], roots: &[usize; 32], go: Go, depth: usize, frame: Frame) -> Turn
+    ensures { λ r. ⌜ r ≡ stepOf (now (words .entry)) (now (roots .entry)) go depth frame ⌝ }
 {
-    let s = g.stage;
-    match s {
-        Stage::Value => back(f, g.i, d),
-        Stage::Truth => back_condition(f, g.i, d),
-        _ => wanted(words, listed(words, roots, opened(words, g)), d),
+    let stage = go.stage;
+    match stage {
+        Stage::Value => back(frame, go.i, depth),
+        Stage::Truth => back_condition(frame, go.i, depth),
+        _ => wanted(words, listed(words, roots, opened(words, go)), depth),
     }
 }

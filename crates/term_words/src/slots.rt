@@ -3,31 +3,31 @@ ghost use mathlib.Core.Path.{_≡_};
 ghost use Prim.Native.Nat.{_<_};
 ghost use Rattle.term_words.specs.Slots.{unitOf, slotOf, bindOf};
 
-// What one in slot x is worth, for x under 8.
-fn unit(x: usize) -> usize
-    requires { ⌜ x < 8 ⌝ }
-    ensures { λ r. ⌜ (r ≡ unitOf x) × (0 < r) × (r < 68719476736) ⌝ }
+// What one in a slot under 8 is worth.
+fn unit(slot: usize) -> usize
+    requires { ⌜ slot < 8 ⌝ }
+    ensures { λ r. ⌜ (r ≡ unitOf slot) × (0 < r) × (r < 68719476736) ⌝ }
 {
-    1usize << (x * 5)
+    1usize << (slot * 5)
 }
 
-pub fn slot(env: usize, x: usize) -> usize
-    ensures { λ r. ⌜ r ≡ slotOf env x ⌝ }
+pub fn slot(environment: usize, slot: usize) -> usize
+    ensures { λ r. ⌜ r ≡ slotOf environment slot ⌝ }
 {
-    if x < 8 {
-        return (env >> (x * 5)) % 32;
+    if slot < 8 {
+        return (environment >> (slot * 5)) % 32;
     }
     0
 }
 
-// The slots with v in slot x; x over 7 binds nothing.
-pub fn bind(env: usize, x: usize, v: usize) -> usize
-    ensures { λ r. ⌜ r ≡ bindOf env x v ⌝ }
+// The slots with the value in this slot; a slot over 7 binds nothing.
+pub fn bind(environment: usize, slot: usize, value: usize) -> usize
+    ensures { λ r. ⌜ r ≡ bindOf environment slot value ⌝ }
 {
-    if x < 8 {
-        let e = env % 1099511627776;
-        let u = unit(x);
-        return e - (e / u) % 32 * u + v % 32 * u;
+    if slot < 8 {
+        let slots = environment % 1099511627776;
+        let unit = unit(slot);
+        return slots - (slots / unit) % 32 * unit + value % 32 * unit;
     }
-    env
+    environment
 }

@@ -15,15 +15,15 @@ use Rattle.landing.proofs.land.Statement.{statement}
 use Rattle.landing.proofs.land.Tie as tie
 
 abbrev Inv-loop : tie.InvT-loop
-Inv-loop words roots tops₀ envs₀ args₀ base depth g₀ d₀ left₀ tops envs args g d left =
-    (left ≤ 2100) × (d ≤ 32) × (base ≤ 264) × (landOf left words roots base (record { tops = tops; envs = envs; args = args }) g d ≡ landOf left₀ words roots base (record { tops = tops₀; envs = envs₀; args = args₀ }) g₀ d₀)
+Inv-loop words roots tops₀ environments₀ arguments₀ base from-depth go₀ depth₀ left₀ tops environments arguments go depth left =
+    (left ≤ 2100) × (depth ≤ 32) × (base ≤ 264) × (landOf left words roots base (record { tops = tops; envs = environments; args = arguments }) go depth ≡ landOf left₀ words roots base (record { tops = tops₀; envs = environments₀; args = arguments₀ }) go₀ depth₀)
 
 abbrev μ-loop : tie.MeasureT-loop
-μ-loop words roots tops₀ envs₀ args₀ base depth g₀ d₀ left₀ tops envs args g d left = left
+μ-loop words roots tops₀ environments₀ arguments₀ base from-depth go₀ depth₀ left₀ tops environments arguments go depth left = left
 
 -- where a turn begins: the frames, the step from there
 abbrev stack : tie.At-loop Inv-loop μ-loop → Stack
-stack c = record { tops = c .loop .tops; envs = c .loop .envs; args = c .loop .args }
+stack c = record { tops = c .loop .tops; envs = c .loop .environments; args = c .loop .arguments }
 
 abbrev words : tie.At-loop Inv-loop μ-loop → List ℕ
 words c = c .before .args .words .now
@@ -35,7 +35,7 @@ abbrev base : tie.At-loop Inv-loop μ-loop → ℕ
 base c = c .before .args .base
 
 abbrev turn : tie.At-loop Inv-loop μ-loop → Turn
-turn c = turnAt (words c) (roots c) (base c) (stack c) (c .loop .g) (c .loop .d)
+turn c = turnAt (words c) (roots c) (base c) (stack c) (c .loop .go) (c .loop .depth)
 
 inside : (c : tie.After-step Inv-loop μ-loop) → Within (c .step .result)
 inside c = rw (c .step .ensures) (step-in _ _ _ _ _ (c .before .before .before .before .before .before .before .before .before .loop .inv .1))
@@ -49,7 +49,7 @@ place c = omega (arith, inside (c .before .before .before .before .before), c .b
 
 -- the frames after the step
 keeps : (c : tie.Joined2 Inv-loop μ-loop)
-    → _≡_ {A = Stack} (record { tops = c .if2 .tops; envs = c .if2 .envs; args = c .if2 .args }) (stored (stack (c .before .before .before .before .before .before .before .before .before .before .before .before)) (base (c .before .before .before .before .before .before .before .before .before .before .before .before)) (c .before .before .before .step .result))
+    → _≡_ {A = Stack} (record { tops = c .if2 .tops; envs = c .if2 .environments; args = c .if2 .arguments }) (stored (stack (c .before .before .before .before .before .before .before .before .before .before .before .before)) (base (c .before .before .before .before .before .before .before .before .before .before .before .before)) (c .before .before .before .step .result))
 keeps c =
     ⊎-elim (λ w. simp (w .3, w .4, w .5, w .1 .ensures, lt-ltb _ _ (w .0 .taken))) (λ w. simp (w .1, w .2, w .3, le-ltb _ _ (w .0 .left))) (c .if2 .came)
 
@@ -65,8 +65,8 @@ end-at-requires c κs = search needs
 returns : tie.Need-returns Inv-loop μ-loop
 returns c =
     let l = c .before .before .before .before in
-    let e : liveOf (l .loop .g) ≡ false = sym (c .before .before .live .ensures) ∙ not-true _ (c .before .if1 .taken) in (
-      simp (c .end-at .ensures) (sym (halts (l .loop .left) (words l) (roots l) (base l) (stack l) (l .loop .g) (l .loop .d) (c .before .before .before .loop-test .taken) e) ∙ l .loop .inv .3),
+    let e : liveOf (l .loop .go) ≡ false = sym (c .before .before .live .ensures) ∙ not-true _ (c .before .if1 .taken) in (
+      simp (c .end-at .ensures) (sym (halts (l .loop .left) (words l) (roots l) (base l) (stack l) (l .loop .go) (l .loop .depth) (c .before .before .before .loop-test .taken) e) ∙ l .loop .inv .3),
       simp (c .end-at .ensures) (l .loop .inv .1),
     )
 
@@ -100,8 +100,8 @@ step-requires c κs = search needs
 pack-requires : tie.Need-pack-requires Inv-loop μ-loop
 pack-requires c κs = search needs
 
-add-j : tie.Need-add-j Inv-loop μ-loop
-add-j c = record { fits = omega (arith, place c) }
+add-above : tie.Need-add-above Inv-loop μ-loop
+add-above c = record { fits = omega (arith, place c) }
 
 mul-tops : tie.Need-mul-tops Inv-loop μ-loop
 mul-tops c = record { fits = omega (arith, place c) }
@@ -109,17 +109,17 @@ mul-tops c = record { fits = omega (arith, place c) }
 element-write-tops : tie.Need-element-write-tops Inv-loop μ-loop
 element-write-tops c = place c
 
-mul-envs : tie.Need-mul-envs Inv-loop μ-loop
-mul-envs c = record { fits = omega (arith, place c) }
+mul-environments : tie.Need-mul-environments Inv-loop μ-loop
+mul-environments c = record { fits = omega (arith, place c) }
 
-element-write-envs : tie.Need-element-write-envs Inv-loop μ-loop
-element-write-envs c = place c
+element-write-environments : tie.Need-element-write-environments Inv-loop μ-loop
+element-write-environments c = place c
 
-mul-args : tie.Need-mul-args Inv-loop μ-loop
-mul-args c = record { fits = omega (arith, place c) }
+mul-arguments : tie.Need-mul-arguments Inv-loop μ-loop
+mul-arguments c = record { fits = omega (arith, place c) }
 
-element-write-args : tie.Need-element-write-args Inv-loop μ-loop
-element-write-args c = place c
+element-write-arguments : tie.Need-element-write-arguments Inv-loop μ-loop
+element-write-arguments c = place c
 
 sub-left : tie.Need-sub-left Inv-loop μ-loop
 sub-left c = omega (arith, c .before .before .before .before .before .before .before .before .before .before .before .before .loop-test .taken)
@@ -132,11 +132,11 @@ loop-again c =
     let l = c .before .before .before .before .before .before .before .before .before .before .before .before .before in
     let s = c .before .before .before .before in
     let r = s .step .result in
-    let e : liveOf (l .loop .g) ≡ true = sym (c .before .before .before .before .before .before .before .before .before .before .before .live .ensures) ∙ not-false _ (c .before .before .before .before .before .before .before .before .before .before .if1 .left) in
-    let q : _ ≡ landOf (l .loop .left) (words l) (roots l) (base l) (stack l) (l .loop .g) (l .loop .d) =
+    let e : liveOf (l .loop .go) ≡ true = sym (c .before .before .before .before .before .before .before .before .before .before .before .live .ensures) ∙ not-false _ (c .before .before .before .before .before .before .before .before .before .before .if1 .left) in
+    let q : _ ≡ landOf (l .loop .left) (words l) (roots l) (base l) (stack l) (l .loop .go) (l .loop .depth) =
     ap (λ (k : Stack). landOf (l .loop .left - 1) (words l) (roots l) (base l) k (r .go) (r .depth)) (keeps (c .before))
     ∙ ap (λ (r : Turn). landOf (l .loop .left - 1) (words l) (roots l) (base l) (stored (stack l) (base l) r) (r .go) (r .depth)) (took s)
-    ∙ sym (goes (l .loop .left) (words l) (roots l) (base l) (stack l) (l .loop .g) (l .loop .d) (c .before .before .before .before .before .before .before .before .before .before .before .before .loop-test .taken) e) in
+    ∙ sym (goes (l .loop .left) (words l) (roots l) (base l) (stack l) (l .loop .go) (l .loop .depth) (c .before .before .before .before .before .before .before .before .before .before .before .before .loop-test .taken) e) in
     (omega (arith, l .loop .inv .0), inside s .0, l .loop .inv .2, q ∙ l .loop .inv .3)
 
 full-requires : tie.Need-full-requires Inv-loop μ-loop
@@ -149,7 +149,7 @@ returns-2 : tie.Need-returns-2 Inv-loop μ-loop
 returns-2 c =
     let l = c .before .before .before in
     let z : l .loop .left ≡ 0 = omega (arith, c .before .before .loop-test .left) in (
-      simp (c .end-at2 .ensures, c .before .full .ensures) (sym (spent (l .loop .left) (words l) (roots l) (base l) (stack l) (l .loop .g) (l .loop .d) z) ∙ l .loop .inv .3),
+      simp (c .end-at2 .ensures, c .before .full .ensures) (sym (spent (l .loop .left) (words l) (roots l) (base l) (stack l) (l .loop .go) (l .loop .depth) z) ∙ l .loop .inv .3),
       simp (c .end-at2 .ensures) (l .loop .inv .1),
     )
 
@@ -173,13 +173,13 @@ land-spec =
     unpack-requires
     step-requires
     pack-requires
-    add-j
+    add-above
     mul-tops
     element-write-tops
-    mul-envs
-    element-write-envs
-    mul-args
-    element-write-args
+    mul-environments
+    element-write-environments
+    mul-arguments
+    element-write-arguments
     sub-left
     loop-less
     loop-again

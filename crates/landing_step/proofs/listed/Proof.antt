@@ -15,7 +15,7 @@ returns : tie.Need-returns
 returns c = simp (c .list .ensures, c .before .enum-told .given .1)
 
 returns-2 : tie.Need-returns-2
-returns-2 c = let a = c .before .before .args in sym (listed-other (a .g .stage) (a .words .now) (a .roots .now) (a .g) (c .match .keys2))
+returns-2 c = let a = c .before .before .args in sym (listed-other (a .go .stage) (a .words .now) (a .roots .now) (a .go) (c .match .keys2))
 
 pub listed-spec : {M : Type 1} → statement M
 listed-spec = tie.close (tie.spec enum-told list-requires returns returns-2)

@@ -30,7 +30,7 @@ returns-2 : tie.Need-returns-2
 returns-2 c = simp (c .run-condition .ensures, c .before .word2 .ensures, c .before .before .enum-told2 .given .1)
 
 returns-3 : tie.Need-returns-3
-returns-3 c = let a = c .before .before .args in sym (opened-other (a .g .stage) (a .words .now) (a .g) (c .match .keys3))
+returns-3 c = let a = c .before .before .args in sym (opened-other (a .go .stage) (a .words .now) (a .go) (c .match .keys3))
 
 pub opened-spec : {M : Type 1} → statement M
 opened-spec =

@@ -15,16 +15,16 @@ div-result : tie.Need-div-result
 div-result c = omega arith
 
 mul-result : tie.Need-mul-result
-mul-result c = record { fits = omega (arith, held-le (c .before .before .args .env % 1099511627776) (c .unit .result)) }
+mul-result c = record { fits = omega (arith, held-le (c .before .before .args .environment % 1099511627776) (c .unit .result)) }
 
 sub-result : tie.Need-sub-result
-sub-result c = held-le (c .before .before .args .env % 1099511627776) (c .unit .result)
+sub-result c = held-le (c .before .before .args .environment % 1099511627776) (c .unit .result)
 
 mul-result-2 : tie.Need-mul-result-2
-mul-result-2 c = record { fits = omega (arith, new-le (c .before .before .args .v) (c .unit .result)) }
+mul-result-2 c = record { fits = omega (arith, new-le (c .before .before .args .value) (c .unit .result)) }
 
 add-result : tie.Need-add-result
-add-result c = record { fits = omega (arith, new-le (c .before .before .args .v) (c .unit .result)) }
+add-result c = record { fits = omega (arith, new-le (c .before .before .args .value) (c .unit .result)) }
 
 returns : tie.Need-returns
 unfolding bindOf
