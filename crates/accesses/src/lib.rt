@@ -8,51 +8,64 @@ use state::Head;
 use state::acted::Acted;
 use state::acted::Room;
 use state::acted::acted_of;
+use state::acted::cell_of;
 use state::acted::entry;
 use state::acted::go_on;
 
-pub fn act_read(mask: usize, n: Counts, h: Head, c: Cell, o: usize, f: usize) -> Acted
-    ensures { λ r. ⌜ r ≡ actRead mask n h c o f ⌝ }
+pub fn act_read(
+    mask: usize,
+    counts: Counts,
+    head: Head,
+    cell: Cell,
+    object: usize,
+    field: usize,
+) -> Acted
+    ensures { λ r. ⌜ r ≡ actRead mask counts head cell object field ⌝ }
 {
-    let ks = h.keys;
-    let g = go::value(c.value);
-    if look::has(mask, f) {
-        let cs = c.keys;
-        let all = ks.join(cs);
-        return acted_of(Room::Enough, g, n, all, c, entry(4, o, f, c.value));
+    let keys = head.keys;
+    let go = go::value(cell.value);
+    if look::has(mask, field) {
+        let cell_keys = cell.keys;
+        let all = keys.join(cell_keys);
+        let entry = entry(4, object, field, cell.value);
+        return acted_of(Room::Enough, go, counts, all, cell, entry);
     }
-    acted_of(Room::Enough, g, n, ks, c, entry(2, o, f, c.value))
+    let entry = entry(2, object, field, cell.value);
+    acted_of(Room::Enough, go, counts, keys, cell, entry)
 }
 
-pub fn act_write(mask: usize, n: Counts, h: Head, c: Cell, o: usize, f: usize, v: usize) -> Acted
-    ensures { λ r. ⌜ r ≡ actWrite mask n h c o f v ⌝ }
+pub fn act_write(
+    mask: usize,
+    counts: Counts,
+    head: Head,
+    cell: Cell,
+    object: usize,
+    field: usize,
+    value: usize,
+) -> Acted
+    ensures { λ r. ⌜ r ≡ actWrite mask counts head cell object field value ⌝ }
 {
-    let ks = h.keys;
-    let cs = c.keys;
-    if look::has(mask, f) {
-        let all = cs.join(ks);
-        let d = Cell {
-            value: v,
-            key: c.key,
-            keys: all,
-        };
-        return acted_of(Room::Enough, go::value(v), n, ks, d, entry(5, o, f, v));
+    let keys = head.keys;
+    let cell_keys = cell.keys;
+    let go = go::value(value);
+    if look::has(mask, field) {
+        let all = cell_keys.join(keys);
+        let changed = cell_of(value, cell.key, all);
+        let entry = entry(5, object, field, value);
+        return acted_of(Room::Enough, go, counts, keys, changed, entry);
     }
-    let k = n.keys;
-    if 256 <= k {
-        return go_on(Room::NoKey, go::value(v), n, h, c);
+    let next = counts.keys;
+    if 256 <= next {
+        return go_on(Room::NoKey, go, counts, head, cell);
     }
-    let key = k as u8;
-    let known = ks.learn(key);
-    let d = Cell {
-        value: v,
-        key: key,
-        keys: cs,
+    let key = next as u8;
+    let known = keys.learn(key);
+    let changed = cell_of(value, key, cell_keys);
+    let counted = Counts {
+        threads: counts.threads,
+        objects: counts.objects,
+        keys: next + 1,
     };
-    let m = Counts {
-        threads: n.threads,
-        objects: n.objects,
-        keys: k + 1,
-    };
-    acted_of(Room::Enough, go::value(v), m, known, d, entry(3, o, f, v))
+    let entry = entry(3, object, field, value);
+    acted_of(Room::Enough, go, counted, known, changed, entry)
 }

@@ -15,37 +15,43 @@ use state::acted::Acted;
 use state::acted::Room;
 
 // Where a move that leaves no record goes on.
-fn act_pure(h: Head) -> Go
-    ensures { λ r. ⌜ r ≡ actPure h ⌝ }
+fn act_pure(head: Head) -> Go
+    ensures { λ r. ⌜ r ≡ actPure head ⌝ }
 {
-    let r = h.ready;
-    let p = r.part;
-    match p {
-        part::RUN => go::run(r.a, r.env),
-        part::RUN_CONDITION => go::run_condition(r.a, r.env),
-        part::VAL => go::value(r.a),
-        part::TRUTH => go::truth(r.a),
-        part::WHILE => go::want_condition(frame::frame_of(Kind::Test, r.a, r.b, 0, r.env), r.a),
-        part::BODY => go::want(frame::frame_of(Kind::Body, r.a, r.b, 0, r.env), r.b),
-        part::AGAIN => go::at(go::ready_of(part::WHILE, r.a, r.b, 0, r.env)),
+    let ready = head.ready;
+    let part = ready.part;
+    match part {
+        part::RUN => go::run(ready.a, ready.env),
+        part::RUN_CONDITION => go::run_condition(ready.a, ready.env),
+        part::VAL => go::value(ready.a),
+        part::TRUTH => go::truth(ready.a),
+        part::WHILE => go::want_condition(
+            frame::frame_of(Kind::Test, ready.a, ready.b, 0, ready.env),
+            ready.a,
+        ),
+        part::BODY => go::want(
+            frame::frame_of(Kind::Body, ready.a, ready.b, 0, ready.env),
+            ready.b,
+        ),
+        part::AGAIN => go::at(go::ready_of(part::WHILE, ready.a, ready.b, 0, ready.env)),
         _ => go::full(),
     }
 }
 
 // What the move of a thread that can move does.
-pub fn act(mask: usize, n: Counts, h: Head, c: Cell, t: Object, other: Head) -> Acted
-    ensures { λ r. ⌜ r ≡ actOf mask n h c t other ⌝ }
+pub fn act(mask: usize, counts: Counts, head: Head, cell: Cell, thing: Object, other: Head) -> Acted
+    ensures { λ r. ⌜ r ≡ actOf mask counts head cell thing other ⌝ }
 {
-    let r = h.ready;
-    let p = r.part;
-    match p {
-        part::NEW => objects::act_new(n, h, c, r.a),
-        part::READ => accesses::act_read(mask, n, h, c, r.a, r.b),
-        part::WRITE => accesses::act_write(mask, n, h, c, r.a, r.b, r.c),
-        part::FORK => objects::act_fork(n, h, c),
-        part::JOIN => objects::act_join(n, h, c, t, other, r.a),
-        part::SYNCH => monitors::act_synch(n, h, c, r.a, r.b, r.env),
-        part::HOLD => monitors::act_hold(n, h, r.a, r.b),
-        _ => acted::go_on(Room::Enough, act_pure(h), n, h, c),
+    let ready = head.ready;
+    let part = ready.part;
+    match part {
+        part::NEW => objects::act_new(counts, head, cell, ready.a),
+        part::READ => accesses::act_read(mask, counts, head, cell, ready.a, ready.b),
+        part::WRITE => accesses::act_write(mask, counts, head, cell, ready.a, ready.b, ready.c),
+        part::FORK => objects::act_fork(counts, head, cell),
+        part::JOIN => objects::act_join(counts, head, cell, thing, other, ready.a),
+        part::SYNCH => monitors::act_synch(counts, head, cell, ready.a, ready.b, ready.env),
+        part::HOLD => monitors::act_hold(counts, head, ready.a, ready.b),
+        _ => acted::go_on(Room::Enough, act_pure(head), counts, head, cell),
     }
 }

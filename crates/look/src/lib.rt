@@ -22,59 +22,59 @@ pub enum Sight {
 }
 
 // The object that the part is about; 0 where it is about none.
-pub fn object_of(r: Ready) -> usize
-    ensures { λ x. ⌜ (x ≡ objectOf r) × (x < 32) ⌝ }
+pub fn object_of(ready: Ready) -> usize
+    ensures { λ x. ⌜ (x ≡ objectOf ready) × (x < 32) ⌝ }
 {
-    let p = r.part;
-    match p {
-        part::READ => r.a % 32,
-        part::WRITE => r.a % 32,
-        part::JOIN => r.a % 32,
-        part::SYNCH => r.a % 32,
-        part::HOLD => r.a % 32,
+    let part = ready.part;
+    match part {
+        part::READ => ready.a % 32,
+        part::WRITE => ready.a % 32,
+        part::JOIN => ready.a % 32,
+        part::SYNCH => ready.a % 32,
+        part::HOLD => ready.a % 32,
         _ => 0,
     }
 }
 
 // The field that the part is about; 0, the monitor, where it is about none.
-pub fn field_of(r: Ready) -> usize
-    ensures { λ x. ⌜ (x ≡ fieldOf r) × (x < 32) ⌝ }
+pub fn field_of(ready: Ready) -> usize
+    ensures { λ x. ⌜ (x ≡ fieldOf ready) × (x < 32) ⌝ }
 {
-    let p = r.part;
-    match p {
-        part::READ => r.b % 32,
-        part::WRITE => r.b % 32,
+    let part = ready.part;
+    match part {
+        part::READ => ready.b % 32,
+        part::WRITE => ready.b % 32,
         _ => 0,
     }
 }
 
-// Whether the mask, whose top bit is field 0, has field f.
-pub fn has(mask: usize, f: usize) -> bool
-    ensures { λ r. ⌜ r ≡ hasOf mask f ⌝ }
+// Whether the mask, whose top bit is field 0, has the field.
+pub fn has(mask: usize, field: usize) -> bool
+    ensures { λ r. ⌜ r ≡ hasOf mask field ⌝ }
 {
-    (mask >> (31 - f % 32)) % 2 == 1
+    (mask >> (31 - field % 32)) % 2 == 1
 }
 
-fn look_field(mask: usize, h: Head, c: Cell, t: Object, f: usize) -> Sight
-    ensures { λ r. ⌜ r ≡ lookField mask h c t f ⌝ }
+fn look_field(mask: usize, head: Head, cell: Cell, thing: Object, field: usize) -> Sight
+    ensures { λ r. ⌜ r ≡ lookField mask head cell thing field ⌝ }
 {
-    if !has(t.mask, f) {
+    if !has(thing.mask, field) {
         return Sight::NoField;
     }
-    if has(mask, f) {
+    if has(mask, field) {
         return Sight::Ready;
     }
-    let ks = h.keys;
-    if ks.holds(c.key) {
+    let keys = head.keys;
+    if keys.holds(cell.key) {
         return Sight::Ready;
     }
     Sight::Lacking
 }
 
-fn look_join(t: Object, other: usize) -> Sight
-    ensures { λ r. ⌜ r ≡ lookJoin t other ⌝ }
+fn look_join(thing: Object, other: usize) -> Sight
+    ensures { λ r. ⌜ r ≡ lookJoin thing other ⌝ }
 {
-    if 8 <= t.thread {
+    if 8 <= thing.thread {
         return Sight::NoThread;
     }
     if other == part::DONE {
@@ -84,12 +84,12 @@ fn look_join(t: Object, other: usize) -> Sight
     }
 }
 
-fn look_synch(h: Head, c: Cell) -> Sight
-    ensures { λ r. ⌜ r ≡ lookSynch h c ⌝ }
+fn look_synch(head: Head, cell: Cell) -> Sight
+    ensures { λ r. ⌜ r ≡ lookSynch head cell ⌝ }
 {
-    let ks = c.keys;
-    if ks.is_empty() {
-        if c.value != h.object {
+    let keys = cell.keys;
+    if keys.is_empty() {
+        if cell.value != head.object {
             return Sight::Monitor;
         }
     }
@@ -97,30 +97,30 @@ fn look_synch(h: Head, c: Cell) -> Sight
 }
 
 // Whether the part reads or writes a field.
-fn about_field(p: usize) -> bool
-    ensures { λ r. ⌜ r ≡ aboutField p ⌝ }
+fn about_field(part: usize) -> bool
+    ensures { λ r. ⌜ r ≡ aboutField part ⌝ }
 {
-    if p == part::READ {
+    if part == part::READ {
         return true;
     }
-    p == part::WRITE
+    part == part::WRITE
 }
 
-// What a present thread's next pick meets: h is its head, c and t the cell and the object that its part is about, other the part of the thread that
-// t stands for.
-pub fn look(mask: usize, h: Head, c: Cell, t: Object, other: usize) -> Sight
-    ensures { λ r. ⌜ r ≡ lookOf mask h c t other ⌝ }
+// What a present thread's next pick meets, by its head, the cell and the object that its part is about, and the part of the thread that the object
+// stands for.
+pub fn look(mask: usize, head: Head, cell: Cell, thing: Object, other: usize) -> Sight
+    ensures { λ r. ⌜ r ≡ lookOf mask head cell thing other ⌝ }
 {
-    let r = h.ready;
-    let p = r.part;
-    if about_field(p) {
-        return look_field(mask, h, c, t, r.b);
+    let ready = head.ready;
+    let part = ready.part;
+    if about_field(part) {
+        return look_field(mask, head, cell, thing, ready.b);
     }
-    match p {
+    match part {
         part::DONE => Sight::Finished,
         part::NO_RULE => Sight::NoRule,
-        part::JOIN => look_join(t, other),
-        part::SYNCH => look_synch(h, c),
+        part::JOIN => look_join(thing, other),
+        part::SYNCH => look_synch(head, cell),
         _ => Sight::Ready,
     }
 }

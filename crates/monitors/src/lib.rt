@@ -11,44 +11,48 @@ use state::Head;
 use state::acted::Acted;
 use state::acted::Room;
 use state::acted::acted_of;
+use state::acted::cell_of;
 use state::acted::entry;
 use state::acted::go_on;
 
-pub fn act_synch(n: Counts, h: Head, c: Cell, o: usize, at: usize, env: usize) -> Acted
-    ensures { λ r. ⌜ r ≡ actSynch n h c o at env ⌝ }
+pub fn act_synch(
+    counts: Counts,
+    head: Head,
+    cell: Cell,
+    object: usize,
+    term: usize,
+    environment: usize,
+) -> Acted
+    ensures { λ r. ⌜ r ≡ actSynch counts head cell object term environment ⌝ }
 {
-    let ks = h.keys;
-    let cs = c.keys;
-    if cs.is_empty() {
-        return go_on(Room::Enough, go::run(at, env), n, h, c);
+    let keys = head.keys;
+    let cell_keys = cell.keys;
+    if cell_keys.is_empty() {
+        return go_on(Room::Enough, go::run(term, environment), counts, head, cell);
     }
-    let all = ks.join(cs);
+    let all = keys.join(cell_keys);
     let none = KeySet::new();
-    let d = Cell {
-        value: h.object,
-        key: 0,
-        keys: none,
-    };
-    let f = Frame {
+    let changed = cell_of(head.object, 0, none);
+    let frame = Frame {
         kind: Kind::Hold,
         a: 0,
         b: 0,
         m: 0,
         n: 0,
-        env: env,
-        args: o,
+        env: environment,
+        args: object,
     };
-    acted_of(Room::Enough, go::want(f, at), n, all, d, entry(6, o, 0, 0))
+    let go = go::want(frame, term);
+    let entry = entry(6, object, 0, 0);
+    acted_of(Room::Enough, go, counts, all, changed, entry)
 }
 
-pub fn act_hold(n: Counts, h: Head, o: usize, v: usize) -> Acted
-    ensures { λ r. ⌜ r ≡ actHold n h o v ⌝ }
+pub fn act_hold(counts: Counts, head: Head, object: usize, value: usize) -> Acted
+    ensures { λ r. ⌜ r ≡ actHold counts head object value ⌝ }
 {
-    let ks = h.keys;
-    let d = Cell {
-        value: 0,
-        key: 0,
-        keys: ks,
-    };
-    acted_of(Room::Enough, go::value(v), n, ks, d, entry(7, o, 0, 0))
+    let keys = head.keys;
+    let changed = cell_of(0, 0, keys);
+    let go = go::value(value);
+    let entry = entry(7, object, 0, 0);
+    acted_of(Room::Enough, go, counts, keys, changed, entry)
 }

@@ -13,60 +13,62 @@ use state::acted::acted_with;
 use state::acted::entry;
 use state::acted::go_on;
 
-pub fn act_new(n: Counts, h: Head, c: Cell, mask: usize) -> Acted
-    ensures { λ r. ⌜ r ≡ actNew n h c mask ⌝ }
+pub fn act_new(counts: Counts, head: Head, cell: Cell, mask: usize) -> Acted
+    ensures { λ r. ⌜ r ≡ actNew counts head cell mask ⌝ }
 {
-    let o = n.objects;
-    if 32 <= o {
-        return go_on(Room::NoObject, go::value(o), n, h, c);
+    let object = counts.objects;
+    if 32 <= object {
+        return go_on(Room::NoObject, go::value(object), counts, head, cell);
     }
-    let ks = h.keys;
-    let e = entry(1, o, 0, 0);
-    let m = Counts {
-        threads: n.threads,
-        objects: o + 1,
-        keys: n.keys,
+    let keys = head.keys;
+    let entry = entry(1, object, 0, 0);
+    let counted = Counts {
+        threads: counts.threads,
+        objects: object + 1,
+        keys: counts.keys,
     };
-    let g = go::value(o);
-    acted_with(Room::Enough, g, m, ks, c, e, mask, 8)
+    let go = go::value(object);
+    acted_with(Room::Enough, go, counted, keys, cell, entry, mask, 8)
 }
 
-pub fn act_fork(n: Counts, h: Head, c: Cell) -> Acted
-    ensures { λ r. ⌜ r ≡ actFork n h c ⌝ }
+pub fn act_fork(counts: Counts, head: Head, cell: Cell) -> Acted
+    ensures { λ r. ⌜ r ≡ actFork counts head cell ⌝ }
 {
-    let q = n.threads;
-    let o = n.objects;
-    if 8 <= q {
-        return go_on(Room::NoThread, go::value(o), n, h, c);
+    let thread = counts.threads;
+    let object = counts.objects;
+    if 8 <= thread {
+        return go_on(Room::NoThread, go::value(object), counts, head, cell);
     }
-    if 32 <= o {
-        return go_on(Room::NoObject, go::value(o), n, h, c);
+    if 32 <= object {
+        return go_on(Room::NoObject, go::value(object), counts, head, cell);
     }
-    let ks = h.keys;
-    let e = entry(8, o, q, 0);
-    let m = Counts {
-        threads: q + 1,
-        objects: o + 1,
-        keys: n.keys,
+    let keys = head.keys;
+    let entry = entry(8, object, thread, 0);
+    let counted = Counts {
+        threads: thread + 1,
+        objects: object + 1,
+        keys: counts.keys,
     };
-    let g = go::value(o);
-    acted_with(Room::Enough, g, m, ks, c, e, 0, q)
+    let go = go::value(object);
+    acted_with(Room::Enough, go, counted, keys, cell, entry, 0, thread)
 }
 
-pub fn act_join(n: Counts, h: Head, c: Cell, t: Object, other: Head, o: usize) -> Acted
-    ensures { λ r. ⌜ r ≡ actJoin n h c t other o ⌝ }
+pub fn act_join(
+    counts: Counts,
+    head: Head,
+    cell: Cell,
+    thing: Object,
+    other: Head,
+    object: usize,
+) -> Acted
+    ensures { λ r. ⌜ r ≡ actJoin counts head cell thing other object ⌝ }
 {
-    let ks = h.keys;
-    let os = other.keys;
-    let all = ks.join(os);
-    let r = other.ready;
-    let v = r.a;
-    acted_of(
-        Room::Enough,
-        go::value(v),
-        n,
-        all,
-        c,
-        entry(9, o, t.thread, v),
-    )
+    let keys = head.keys;
+    let other_keys = other.keys;
+    let all = keys.join(other_keys);
+    let ready = other.ready;
+    let value = ready.a;
+    let go = go::value(value);
+    let entry = entry(9, object, thing.thread, value);
+    acted_of(Room::Enough, go, counts, all, cell, entry)
 }

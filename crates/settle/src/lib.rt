@@ -22,10 +22,10 @@ pub enum Answer {
 }
 
 // Whether a pick that meets this is passed over.
-pub fn passes(s: Sight) -> bool
-    ensures { λ r. ⌜ r ≡ passesOf s ⌝ }
+pub fn passes(sight: Sight) -> bool
+    ensures { λ r. ⌜ r ≡ passesOf sight ⌝ }
 {
-    match s {
+    match sight {
         Sight::Ready => false,
         Sight::Lacking => false,
         Sight::Absent => true,
@@ -39,42 +39,42 @@ pub fn passes(s: Sight) -> bool
 }
 
 // The record of an access that lacks its key.
-fn lack(r: Ready) -> Entry
-    ensures { λ e. ⌜ e ≡ lackEntry r ⌝ }
+fn lack(ready: Ready) -> Entry
+    ensures { λ r. ⌜ r ≡ lackEntry ready ⌝ }
 {
-    if r.part == part::WRITE {
-        return acted::entry(11, r.a, r.b, r.c);
+    if ready.part == part::WRITE {
+        return acted::entry(11, ready.a, ready.b, ready.c);
     }
-    acted::entry(10, r.a, r.b, 0)
+    acted::entry(10, ready.a, ready.b, 0)
 }
 
 // Whether the move makes a thread.
-pub fn forks(a: Acted) -> bool
-    ensures { λ r. ⌜ r ≡ forksOf a ⌝ }
+pub fn forks(acted: Acted) -> bool
+    ensures { λ r. ⌜ r ≡ forksOf acted ⌝ }
 {
-    let e = a.entry;
-    e.kind == 8
+    let entry = acted.entry;
+    entry.kind == 8
 }
 
-fn full(l: Landed) -> bool
-    ensures { λ r. ⌜ r ≡ fullOf l ⌝ }
+fn full(landed: Landed) -> bool
+    ensures { λ r. ⌜ r ≡ fullOf landed ⌝ }
 {
-    let s = l.stage;
-    match s {
+    let stage = landed.stage;
+    match stage {
         Stage::Full => true,
         _ => false,
     }
 }
 
 // The answer to a move that has room for what it makes, by its landings: of a fork, the new thread's counts too.
-fn depth_answer(a: Acted, l: Landed, b: Landed) -> Answer
-    ensures { λ r. ⌜ r ≡ depthBy (fullOf l) (forksOf a) (fullOf b) ⌝ }
+fn depth_answer(acted: Acted, landed: Landed, young: Landed) -> Answer
+    ensures { λ r. ⌜ r ≡ depthBy (fullOf landed) (forksOf acted) (fullOf young) ⌝ }
 {
-    if full(l) {
+    if full(landed) {
         return Answer::NoRoom(Room::NoDepth);
     }
-    if forks(a) {
-        if full(b) {
+    if forks(acted) {
+        if full(young) {
             return Answer::NoRoom(Room::NoDepth);
         }
     }
@@ -82,12 +82,12 @@ fn depth_answer(a: Acted, l: Landed, b: Landed) -> Answer
 }
 
 // The answer to a move that lacks no key.
-fn room_answer(a: Acted, l: Landed, b: Landed) -> Answer
-    ensures { λ r. ⌜ r ≡ roomBy (a .room) (depthBy (fullOf l) (forksOf a) (fullOf b)) ⌝ }
+fn room_answer(acted: Acted, landed: Landed, young: Landed) -> Answer
+    ensures { λ r. ⌜ r ≡ roomBy (acted .room) (depthBy (fullOf landed) (forksOf acted) (fullOf young)) ⌝ }
 {
-    let room = a.room;
+    let room = acted.room;
     match room {
-        Room::Enough => depth_answer(a, l, b),
+        Room::Enough => depth_answer(acted, landed, young),
         Room::NoThread => Answer::NoRoom(Room::NoThread),
         Room::NoObject => Answer::NoRoom(Room::NoObject),
         Room::NoKey => Answer::NoRoom(Room::NoKey),
@@ -96,51 +96,51 @@ fn room_answer(a: Acted, l: Landed, b: Landed) -> Answer
 }
 
 // The answer to a pick that is not passed over.
-pub fn answer_to(s: Sight, a: Acted, l: Landed, b: Landed) -> Answer
-    ensures { λ r. ⌜ r ≡ answerOf s a l b ⌝ }
+pub fn answer_to(sight: Sight, acted: Acted, landed: Landed, young: Landed) -> Answer
+    ensures { λ r. ⌜ r ≡ answerOf sight acted landed young ⌝ }
 {
-    match s {
+    match sight {
         Sight::Lacking => Answer::Race,
-        _ => room_answer(a, l, b),
+        _ => room_answer(acted, landed, young),
     }
 }
 
 // The mover after its move.
-pub fn mover(a: Acted, h: Head, l: Landed) -> Head
-    ensures { λ r. ⌜ r ≡ moverOf a h l ⌝ }
+pub fn mover(acted: Acted, head: Head, landed: Landed) -> Head
+    ensures { λ r. ⌜ r ≡ moverOf acted head landed ⌝ }
 {
-    let x = l.ready;
-    let ks = a.keys;
+    let ready = landed.ready;
+    let keys = acted.keys;
     Head {
-        ready: x,
-        depth: l.depth,
-        object: h.object,
-        keys: ks,
+        ready: ready,
+        depth: landed.depth,
+        object: head.object,
+        keys: keys,
     }
 }
 
 // The thread that a fork starts: its object is the next one, its keys are its maker's.
-pub fn born(n: Counts, h: Head, b: Landed) -> Head
-    ensures { λ r. ⌜ r ≡ bornOf n h b ⌝ }
+pub fn born(counts: Counts, head: Head, young: Landed) -> Head
+    ensures { λ r. ⌜ r ≡ bornOf counts head young ⌝ }
 {
-    let x = b.ready;
-    let ks = h.keys;
+    let ready = young.ready;
+    let keys = head.keys;
     Head {
-        ready: x,
-        depth: b.depth,
-        object: n.objects,
-        keys: ks,
+        ready: ready,
+        depth: young.depth,
+        object: counts.objects,
+        keys: keys,
     }
 }
 
 // The record that a pick leaves: the move's, or that of the access that lacks its key, or none.
-pub fn entry_of(w: Answer, r: Ready, a: Acted) -> Entry
-    ensures { λ e. ⌜ e ≡ entryBy w r a ⌝ }
+pub fn entry_of(answer: Answer, ready: Ready, acted: Acted) -> Entry
+    ensures { λ r. ⌜ r ≡ entryBy answer ready acted ⌝ }
 {
-    let e = a.entry;
-    match w {
-        Answer::Moved => e,
-        Answer::Race => lack(r),
+    let entry = acted.entry;
+    match answer {
+        Answer::Moved => entry,
+        Answer::Race => lack(ready),
         Answer::NoRoom(_) => acted::entry(0, 0, 0, 0),
     }
 }

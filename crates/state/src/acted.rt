@@ -1,6 +1,6 @@
 // What a move does to the state, by value.
 ghost use mathlib.Core.Path.{_≡_};
-ghost use Rattle.state.specs.Acted.{entryOf, actedWith, actedOf, goOn};
+ghost use Rattle.state.specs.Acted.{entryOf, cellOf, actedWith, actedOf, goOn};
 use crate::Cell;
 use crate::Counts;
 use crate::Entry;
@@ -40,45 +40,55 @@ pub fn entry(kind: usize, object: usize, field: usize, value: usize) -> Entry
     }
 }
 
+pub fn cell_of(value: usize, key: u8, keys: KeySet) -> Cell
+    ensures { λ r. ⌜ r ≡ cellOf value key keys ⌝ }
+{
+    Cell {
+        value: value,
+        key: key,
+        keys: keys,
+    }
+}
+
 // A move, with the fields and the thread of the object that it makes.
 pub fn acted_with(
     room: Room,
-    g: Go,
-    n: Counts,
-    ks: KeySet,
-    c: Cell,
-    e: Entry,
+    go: Go,
+    counts: Counts,
+    keys: KeySet,
+    cell: Cell,
+    entry: Entry,
     mask: usize,
     thread: usize,
 ) -> Acted
-    ensures { λ r. ⌜ r ≡ actedWith room g n ks c e mask thread ⌝ }
+    ensures { λ r. ⌜ r ≡ actedWith room go counts keys cell entry mask thread ⌝ }
 {
-    let t = Object {
+    let thing = Object {
         mask: mask,
         thread: thread,
     };
     Acted {
         room: room,
-        go: g,
-        keys: ks,
-        cell: c,
-        thing: t,
-        counts: n,
-        entry: e,
+        go: go,
+        keys: keys,
+        cell: cell,
+        thing: thing,
+        counts: counts,
+        entry: entry,
     }
 }
 
 // A move that makes nothing.
-pub fn acted_of(room: Room, g: Go, n: Counts, ks: KeySet, c: Cell, e: Entry) -> Acted
-    ensures { λ r. ⌜ r ≡ actedOf room g n ks c e ⌝ }
+pub fn acted_of(room: Room, go: Go, counts: Counts, keys: KeySet, cell: Cell, entry: Entry) -> Acted
+    ensures { λ r. ⌜ r ≡ actedOf room go counts keys cell entry ⌝ }
 {
-    acted_with(room, g, n, ks, c, e, 0, 8)
+    acted_with(room, go, counts, keys, cell, entry, 0, 8)
 }
 
 // A move that only goes on elsewhere.
-pub fn go_on(room: Room, g: Go, n: Counts, h: Head, c: Cell) -> Acted
-    ensures { λ r. ⌜ r ≡ goOn room g n h c ⌝ }
+pub fn go_on(room: Room, go: Go, counts: Counts, head: Head, cell: Cell) -> Acted
+    ensures { λ r. ⌜ r ≡ goOn room go counts head cell ⌝ }
 {
-    let ks = h.keys;
-    acted_of(room, g, n, ks, c, entry(0, 0, 0, 0))
+    let keys = head.keys;
+    acted_of(room, go, counts, keys, cell, entry(0, 0, 0, 0))
 }

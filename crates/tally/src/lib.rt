@@ -29,38 +29,39 @@ pub fn first() -> Tally
     }
 }
 
-// Writes thread p's record and counts it; kind 0 is none.
-pub fn put(log: &mut [u8], s: Tally, p: usize, e: Entry) -> Tally
-    requires { ⌜ (s .records * 3 + 3 ≤ length (now log)) × (s .records ≤ 4096) ⌝ }
-    ensures { λ r. ⌜ (r ≡ tallyPut s e) × (r .records ≤ s .records + 1) ⌝ }
-    ensures { λ r. ⌜ now (log .exit) ≡ logPut (now (log .entry)) (s .records) p e ⌝ }
+// Writes the thread's record and counts it; kind 0 is none.
+pub fn put(log: &mut [u8], tally: Tally, thread: usize, entry: Entry) -> Tally
+    requires { ⌜ (tally .records * 3 + 3 ≤ length (now log)) × (tally .records ≤ 4096) ⌝ }
+    ensures { λ r. ⌜ (r ≡ tallyPut tally entry) × (r .records ≤ tally .records + 1) ⌝ }
+    ensures { λ r. ⌜ now (log .exit) ≡ logPut (now (log .entry)) (tally .records) thread entry ⌝ }
 {
-    let kind = e.kind;
+    let kind = entry.kind;
     if kind == 0 {
-        return s;
+        return tally;
     }
-    let w = (((kind % 16 * 8 + p % 8) * 32 + e.object % 32) * 32 + e.field % 32) * 128
-        + e.value % 32 * 4;
-    let at = s.records * 3;
-    log[at] = (w / 65536 % 256) as u8;
-    log[at + 1] = (w / 256 % 256) as u8;
-    log[at + 2] = (w % 256) as u8;
-    let n = s.counts;
+    let word = (((kind % 16 * 8 + thread % 8) * 32 + entry.object % 32) * 32 + entry.field % 32)
+        * 128
+        + entry.value % 32 * 4;
+    let at = tally.records * 3;
+    log[at] = (word / 65536 % 256) as u8;
+    log[at + 1] = (word / 256 % 256) as u8;
+    log[at + 2] = (word % 256) as u8;
+    let counts = tally.counts;
     Tally {
-        counts: n,
-        moves: s.moves,
-        records: s.records + 1,
+        counts: counts,
+        moves: tally.moves,
+        records: tally.records + 1,
     }
 }
 
 // The counts after a move.
-pub fn moved(s: Tally, n: Counts) -> Tally
-    requires { ⌜ s .moves ≤ 4096 ⌝ }
-    ensures { λ r. ⌜ (r ≡ tallyMoved s n) × (r .moves ≤ s .moves + 1) ⌝ }
+pub fn moved(tally: Tally, counts: Counts) -> Tally
+    requires { ⌜ tally .moves ≤ 4096 ⌝ }
+    ensures { λ r. ⌜ (r ≡ tallyMoved tally counts) × (r .moves ≤ tally .moves + 1) ⌝ }
 {
     Tally {
-        counts: n,
-        moves: s.moves + 1,
-        records: s.records,
+        counts: counts,
+        moves: tally.moves + 1,
+        records: tally.records,
     }
 }

@@ -6,14 +6,17 @@ use borrow.Author.Needs.{needs}
 use Rattle.accesses.proofs.act_write.Statement.{statement}
 use Rattle.accesses.proofs.act_write.Tie as tie
 
+value-requires : tie.Need-value-requires
+value-requires c κs = search needs
+
 has-requires : tie.Need-has-requires
 has-requires c κs = search needs
 
 join-requires : tie.Need-join-requires
 join-requires c κs = search needs
 
-value-requires : tie.Need-value-requires
-value-requires c κs = search needs
+cell-of-requires : tie.Need-cell-of-requires
+cell-of-requires c κs = search needs
 
 entry-requires : tie.Need-entry-requires
 entry-requires c κs = search needs
@@ -23,17 +26,14 @@ acted-of-requires c κs = search needs
 
 returns : tie.Need-returns
 unfolding actWrite
-returns c = simp (c .acted-of .ensures, c .before .entry .ensures, c .before .before .value .ensures, c .before .before .before .join .ensures .exact, sym (c .before .before .before .before .before .has .ensures) ∙ c .before .before .before .before .if1 .taken)
-
-value-requires-2 : tie.Need-value-requires-2
-value-requires-2 c κs = search needs
+returns c = simp (c .acted-of .ensures, c .before .entry .ensures, c .before .before .cell-of .ensures, c .before .before .before .join .ensures .exact, c .before .before .before .before .before .before .value .ensures, sym (c .before .before .before .before .before .has .ensures) ∙ c .before .before .before .before .if1 .taken)
 
 go-on-requires : tie.Need-go-on-requires
 go-on-requires c κs = search needs
 
 returns-2 : tie.Need-returns-2
 unfolding actWrite
-returns-2 c = simp (c .go-on .ensures, c .before .value2 .ensures, sym (c .before .before .before .before .has .ensures) ∙ c .before .before .before .if1 .left, le-leb _ _ (c .before .before .if2 .taken))
+returns-2 c = simp (c .go-on .ensures, c .before .before .before .before .value .ensures, sym (c .before .before .before .has .ensures) ∙ c .before .before .if1 .left, le-leb _ _ (c .before .if2 .taken))
 
 cast-key : tie.Need-cast-key
 cast-key c = search needs
@@ -41,11 +41,11 @@ cast-key c = search needs
 learn-requires : tie.Need-learn-requires
 learn-requires c κs = search needs
 
+cell-of-requires-2 : tie.Need-cell-of-requires-2
+cell-of-requires-2 c κs = search needs
+
 add-t24 : tie.Need-add-t24
 add-t24 c = search needs
-
-value-requires-3 : tie.Need-value-requires-3
-value-requires-3 c κs = search needs
 
 entry-requires-2 : tie.Need-entry-requires-2
 entry-requires-2 c κs = search needs
@@ -55,25 +55,25 @@ acted-of-requires-2 c κs = search needs
 
 returns-3 : tie.Need-returns-3
 unfolding actWrite
-returns-3 c = simp (c .acted-of2 .ensures, c .before .entry2 .ensures, c .before .before .value3 .ensures, c .before .before .before .learn .ensures .exact, sym (c .before .before .before .before .before .before .has .ensures) ∙ c .before .before .before .before .before .if1 .left, lt-leb _ _ (c .before .before .before .before .if2 .left))
+returns-3 c = simp (c .acted-of2 .ensures, c .before .entry2 .ensures, c .before .before .cell-of2 .ensures, c .before .before .before .learn .ensures .exact, c .before .before .before .before .before .before .before .value .ensures, sym (c .before .before .before .before .before .before .has .ensures) ∙ c .before .before .before .before .before .if1 .left, lt-leb _ _ (c .before .before .before .before .if2 .left))
 
 pub act-write-spec : {M : Type 1} → statement M
 act-write-spec =
     tie.close
     (tie.spec
+    value-requires
     has-requires
     join-requires
-    value-requires
+    cell-of-requires
     entry-requires
     acted-of-requires
     returns
-    value-requires-2
     go-on-requires
     returns-2
     cast-key
     learn-requires
+    cell-of-requires-2
     add-t24
-    value-requires-3
     entry-requires-2
     acted-of-requires-2
     returns-3)

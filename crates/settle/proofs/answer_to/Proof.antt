@@ -18,7 +18,7 @@ returns c = simp (c .enum-told .given .1)
 
 returns-2 : tie.Need-returns-2
 unfolding answerOf
-returns-2 c = c .room-answer .ensures ∙ sym (answer-other (c .before .before .args .s) _ (c .before .match .keys2))
+returns-2 c = c .room-answer .ensures ∙ sym (answer-other (c .before .before .args .sight) _ (c .before .match .keys2))
 
 pub answer-to-spec : {M : Type 1} → statement M
 answer-to-spec = tie.close (tie.spec enum-told room-answer-requires returns returns-2)

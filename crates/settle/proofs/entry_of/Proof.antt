@@ -25,7 +25,7 @@ returns-2 : tie.Need-returns-2
 returns-2 c = simp (c .lack .ensures, c .before .enum-told2 .given .1)
 
 returns-3 : tie.Need-returns-3
-returns-3 c = simp (c .entry .ensures, c .before .enum-told3 .given .1)
+returns-3 c = simp (c .entry2 .ensures, c .before .enum-told3 .given .1)
 
 pub entry-of-spec : {M : Type 1} → statement M
 entry-of-spec =

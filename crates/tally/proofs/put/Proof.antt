@@ -11,32 +11,32 @@ returns : tie.Need-returns
 unfolding recordsAfter logPut
 returns c = let t = eq-eqb _ _ (c .if1 .taken) in ((simp t, omega arith), simp t)
 
-mul-w : tie.Need-mul-w
-mul-w c = search needs
+mul-word : tie.Need-mul-word
+mul-word c = search needs
 
-add-w : tie.Need-add-w
-add-w c = search needs
+add-word : tie.Need-add-word
+add-word c = search needs
 
-mul-w-2 : tie.Need-mul-w-2
-mul-w-2 c = search needs
+mul-word-2 : tie.Need-mul-word-2
+mul-word-2 c = search needs
 
-add-w-2 : tie.Need-add-w-2
-add-w-2 c = search needs
+add-word-2 : tie.Need-add-word-2
+add-word-2 c = search needs
 
-mul-w-3 : tie.Need-mul-w-3
-mul-w-3 c = search needs
+mul-word-3 : tie.Need-mul-word-3
+mul-word-3 c = search needs
 
-add-w-3 : tie.Need-add-w-3
-add-w-3 c = search needs
+add-word-3 : tie.Need-add-word-3
+add-word-3 c = search needs
 
-mul-w-4 : tie.Need-mul-w-4
-mul-w-4 c = search needs
+mul-word-4 : tie.Need-mul-word-4
+mul-word-4 c = search needs
 
-mul-w-5 : tie.Need-mul-w-5
-mul-w-5 c = search needs
+mul-word-5 : tie.Need-mul-word-5
+mul-word-5 c = search needs
 
-add-w-4 : tie.Need-add-w-4
-add-w-4 c = search needs
+add-word-4 : tie.Need-add-word-4
+add-word-4 c = search needs
 
 mul-at : tie.Need-mul-at
 mul-at c = search needs
@@ -80,15 +80,15 @@ put-spec =
     tie.close
     (tie.spec
     returns
-    mul-w
-    add-w
-    mul-w-2
-    add-w-2
-    mul-w-3
-    add-w-3
-    mul-w-4
-    mul-w-5
-    add-w-4
+    mul-word
+    add-word
+    mul-word-2
+    add-word-2
+    mul-word-3
+    add-word-3
+    mul-word-4
+    mul-word-5
+    add-word-4
     mul-at
     cast-log
     slice-write-log
