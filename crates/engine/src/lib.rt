@@ -74,22 +74,22 @@ fn first_object() -> Object
 }
 
 // The cell that the thread's part is about, 32 to an object.
-fn cell_of(h: Head) -> usize
-    ensures { λ r. ⌜ Placed (h .ready) r ⌝ }
+fn cell_of(head: Head) -> usize
+    ensures { λ r. ⌜ Placed (head .ready) r ⌝ }
 {
-    let x = h.ready;
-    let o = look::object_of(x);
-    let f = look::field_of(x);
-    o * 32 + f
+    let ready = head.ready;
+    let object = look::object_of(ready);
+    let field = look::field_of(ready);
+    object * 32 + field
 }
 
-fn stop_of(a: Answer) -> Stop
-    ensures { λ r. ⌜ r ≡ stopOf a ⌝ }
+fn stop_of(answer: Answer) -> Stop
+    ensures { λ r. ⌜ r ≡ stopOf answer ⌝ }
 {
-    match a {
+    match answer {
         Answer::Moved => Stop::End,
         Answer::Race => Stop::Race,
-        Answer::NoRoom(r) => Stop::NoRoom(r),
+        Answer::NoRoom(room) => Stop::NoRoom(room),
     }
 }
 
@@ -98,17 +98,26 @@ fn land_mover(
     words: &[usize; 1024],
     roots: &[usize; 32],
     tops: &mut [usize; 297],
-    envs: &mut [usize; 297],
-    args: &mut [usize; 297],
-    p: usize,
-    h: Head,
-    a: Acted,
+    environments: &mut [usize; 297],
+    arguments: &mut [usize; 297],
+    thread: usize,
+    head: Head,
+    acted: Acted,
 ) -> Landed
-    requires { ⌜ p < 8 ⌝ }
-    ensures { λ r. ⌜ (record { stack = record { tops = now (tops .exit); envs = now (envs .exit); args = now (args .exit) }; landed = r }) ≡ moverEnded (now (words .entry)) (now (roots .entry)) p h a (record { tops = now (tops .entry); envs = now (envs .entry); args = now (args .entry) }) ⌝ }
+    requires { ⌜ thread < 8 ⌝ }
+    ensures { λ r. ⌜ (record { stack = record { tops = now (tops .exit); envs = now (environments .exit); args = now (arguments .exit) }; landed = r }) ≡ moverEnded (now (words .entry)) (now (roots .entry)) thread head acted (record { tops = now (tops .entry); envs = now (environments .entry); args = now (arguments .entry) }) ⌝ }
 {
-    let go = a.go;
-    landing::land(words, roots, tops, envs, args, p * 33, go, h.depth % 33)
+    let go = acted.go;
+    landing::land(
+        words,
+        roots,
+        tops,
+        environments,
+        arguments,
+        thread * 33,
+        go,
+        head.depth % 33,
+    )
 }
 
 // Lands the thread that a fork makes; another move makes none.
@@ -116,53 +125,70 @@ fn land_young(
     words: &[usize; 1024],
     roots: &[usize; 32],
     tops: &mut [usize; 297],
-    envs: &mut [usize; 297],
-    args: &mut [usize; 297],
-    n: Counts,
-    h: Head,
-    a: Acted,
+    environments: &mut [usize; 297],
+    arguments: &mut [usize; 297],
+    counts: Counts,
+    head: Head,
+    acted: Acted,
 ) -> Landed
-    ensures { λ r. ⌜ (record { stack = record { tops = now (tops .exit); envs = now (envs .exit); args = now (args .exit) }; landed = r }) ≡ youngOf (now (words .entry)) (now (roots .entry)) n h a (record { tops = now (tops .entry); envs = now (envs .entry); args = now (args .entry) }) ⌝ }
+    ensures { λ r. ⌜ (record { stack = record { tops = now (tops .exit); envs = now (environments .exit); args = now (arguments .exit) }; landed = r }) ≡ youngOf (now (words .entry)) (now (roots .entry)) counts head acted (record { tops = now (tops .entry); envs = now (environments .entry); args = now (arguments .entry) }) ⌝ }
 {
-    if settle::forks(a) {
-        let x = h.ready;
-        let start = go::run(x.a, x.env);
-        return landing::land(words, roots, tops, envs, args, n.threads % 9 * 33, start, 0);
+    if settle::forks(acted) {
+        let ready = head.ready;
+        let start = go::run(ready.a, ready.env);
+        return landing::land(
+            words,
+            roots,
+            tops,
+            environments,
+            arguments,
+            counts.threads % 9 * 33,
+            start,
+            0,
+        );
     }
     landing::end_at(go::full(), 0)
 }
 
-// What thread p's next pick meets, an absent thread's included.
-fn sight_of(mask: usize, n: Counts, p: usize, h: Head, c: Cell, t: Object, other: Head) -> Sight
-    ensures { λ r. ⌜ r ≡ sightOf mask n p h c t other ⌝ }
+// What a thread's next pick meets, an absent thread's included.
+fn sight_of(
+    mask: usize,
+    counts: Counts,
+    thread: usize,
+    head: Head,
+    cell: Cell,
+    thing: Object,
+    other: Head,
+) -> Sight
+    ensures { λ r. ⌜ r ≡ sightOf mask counts thread head cell thing other ⌝ }
 {
-    if n.threads <= p {
+    if counts.threads <= thread {
         return Sight::Absent;
     }
-    let x = other.ready;
-    look::look(mask, h, c, t, x.part)
+    let ready = other.ready;
+    look::look(mask, head, cell, thing, ready.part)
 }
 
-// The same with the numbers of its part; k is the cell that the part is about.
+// The same with the numbers of its part, and the number of the cell that the part is about.
 fn seen_of(
     mask: usize,
-    n: Counts,
-    p: usize,
-    k: usize,
-    h: Head,
-    c: Cell,
-    t: Object,
+    counts: Counts,
+    thread: usize,
+    number: usize,
+    head: Head,
+    cell: Cell,
+    thing: Object,
     other: Head,
 ) -> Seen
-    ensures { λ r. ⌜ r ≡ seenBy mask n p k h c t other ⌝ }
+    ensures { λ r. ⌜ r ≡ seenBy mask counts thread number head cell thing other ⌝ }
 {
-    let w = sight_of(mask, n, p, h, c, t, other);
-    let x = h.ready;
+    let sight = sight_of(mask, counts, thread, head, cell, thing, other);
+    let ready = head.ready;
     Seen {
-        sight: w,
-        value: x.a,
-        object: k / 32,
-        field: k % 32,
+        sight: sight,
+        value: ready.a,
+        object: number / 32,
+        field: number % 32,
     }
 }
 
@@ -195,68 +221,86 @@ pub fn run(
     let mut cells = [first_cell(); 1024];
     let mut objects = [first_object(); 33];
     let mut tops = [0usize; 297];
-    let mut envs = [0usize; 297];
-    let mut args = [0usize; 297];
-    let mut s = tally::first();
+    let mut environments = [0usize; 297];
+    let mut arguments = [0usize; 297];
+    let mut tally = tally::first();
     let mut stop = Stop::End;
     let mut dealt = picks.len();
     for i in 0..picks.len() {
-        let p = (picks[i] % 8) as usize;
-        let n = s.counts;
-        if n.threads <= p {
+        let thread = (picks[i] % 8) as usize;
+        let counts = tally.counts;
+        if counts.threads <= thread {
             continue;
         }
-        let h = heads[p];
-        let k = cell_of(h);
-        let c = cells[k];
-        let t = objects[k / 32];
-        let other = heads[t.thread % 9];
-        let x = other.ready;
-        let w = look::look(mask, h, c, t, x.part);
-        if settle::passes(w) {
+        let head = heads[thread];
+        let number = cell_of(head);
+        let cell = cells[number];
+        let thing = objects[number / 32];
+        let other = heads[thing.thread % 9];
+        let other_ready = other.ready;
+        let sight = look::look(mask, head, cell, thing, other_ready.part);
+        if settle::passes(sight) {
             continue;
         }
-        let a = act::act(mask, n, h, c, t, other);
-        let l = land_mover(words, roots, &mut tops, &mut envs, &mut args, p, h, a);
-        let b = land_young(words, roots, &mut tops, &mut envs, &mut args, n, h, a);
-        let answer = settle::answer_to(w, a, l, b);
-        let y = h.ready;
-        let e = settle::entry_of(answer, y, a);
-        s = tally::put(&mut *log, s, p, e);
+        let acted = act::act(mask, counts, head, cell, thing, other);
+        let landed = land_mover(
+            words,
+            roots,
+            &mut tops,
+            &mut environments,
+            &mut arguments,
+            thread,
+            head,
+            acted,
+        );
+        let young = land_young(
+            words,
+            roots,
+            &mut tops,
+            &mut environments,
+            &mut arguments,
+            counts,
+            head,
+            acted,
+        );
+        let answer = settle::answer_to(sight, acted, landed, young);
+        let ready = head.ready;
+        let entry = settle::entry_of(answer, ready, acted);
+        tally = tally::put(&mut *log, tally, thread, entry);
         let Answer::Moved = answer else {
             stop = stop_of(answer);
             dealt = i;
             break;
         };
-        if settle::forks(a) {
-            let young = settle::born(n, h, b);
-            heads[n.threads % 9] = young;
+        if settle::forks(acted) {
+            let born = settle::born(counts, head, young);
+            heads[counts.threads % 9] = born;
         }
-        let mover = settle::mover(a, h, l);
-        let cell = a.cell;
-        let thing = a.thing;
-        heads[p] = mover;
-        cells[k] = cell;
-        objects[n.objects % 33] = thing;
-        let m = a.counts;
-        s = tally::moved(s, m);
+        let mover = settle::mover(acted, head, landed);
+        let changed = acted.cell;
+        let made = acted.thing;
+        heads[thread] = mover;
+        cells[number] = changed;
+        objects[counts.objects % 33] = made;
+        let counted = acted.counts;
+        tally = tally::moved(tally, counted);
     }
-    let n = s.counts;
+    let counts = tally.counts;
     let mut all = [none_seen(); 8];
-    for p in 0..8 {
-        let h = heads[p];
-        let k = cell_of(h);
-        let c = cells[k];
-        let t = objects[k / 32];
-        let other = heads[t.thread % 9];
-        let seen = seen_of(mask, n, p, k, h, c, t, other);
-        all[p] = seen;
+    for thread in 0..8 {
+        let head = heads[thread];
+        let number = cell_of(head);
+        let cell = cells[number];
+        let thing = objects[number / 32];
+        let other = heads[thing.thread % 9];
+        let seen = seen_of(mask, counts, thread, number, head, cell, thing, other);
+        all[thread] = seen;
     }
     Ran {
         stop: stop,
         picks: dealt,
-        moves: s.moves,
-        records: s.records,
+        moves: tally.moves,
+        records: tally.records,
         threads: all,
     }
 }

@@ -63,10 +63,10 @@ pub struct Played {
     pub outcome: Outcome,
 }
 
-fn room_of(r: Room) -> NoRoom
-    ensures { λ x. ⌜ x ≡ roomBy r ⌝ }
+fn room_of(room: Room) -> NoRoom
+    ensures { λ x. ⌜ x ≡ roomBy room ⌝ }
 {
-    match r {
+    match room {
         Room::NoThread => NoRoom::Thread,
         Room::NoObject => NoRoom::Object,
         Room::NoKey => NoRoom::Key,
@@ -75,37 +75,37 @@ fn room_of(r: Room) -> NoRoom
     }
 }
 
-fn stop_of(s: engine::Stop) -> Stop
-    ensures { λ x. ⌜ x ≡ stopBy s ⌝ }
+fn stop_of(stop: engine::Stop) -> Stop
+    ensures { λ x. ⌜ x ≡ stopBy stop ⌝ }
 {
-    match s {
+    match stop {
         engine::Stop::End => Stop::End,
         engine::Stop::Race => Stop::Race,
-        engine::Stop::NoRoom(r) => Stop::NoRoom(room_of(r)),
+        engine::Stop::NoRoom(room) => Stop::NoRoom(room_of(room)),
     }
 }
 
 // The state of a thread whose next pick would meet this. No accepted plan comes to a part without a rule.
-fn state_of(s: Seen) -> ThreadState
-    ensures { λ x. ⌜ x ≡ stateBy s ⌝ }
+fn state_of(seen: Seen) -> ThreadState
+    ensures { λ x. ⌜ x ≡ stateBy seen ⌝ }
 {
-    let w = s.sight;
-    let o = s.object;
-    match w {
+    let sight = seen.sight;
+    let object = seen.object;
+    match sight {
         Sight::Absent => ThreadState::Absent,
-        Sight::Finished => ThreadState::Finished { value: s.value },
+        Sight::Finished => ThreadState::Finished { value: seen.value },
         Sight::Ready => ThreadState::Ready,
-        Sight::Monitor => ThreadState::Waiting(Wait::Monitor { object: o }),
-        Sight::Join => ThreadState::Waiting(Wait::Join { object: o }),
+        Sight::Monitor => ThreadState::Waiting(Wait::Monitor { object: object }),
+        Sight::Join => ThreadState::Waiting(Wait::Join { object: object }),
         Sight::NoField => ThreadState::Stuck(Stuck::Field {
-            object: o,
-            field: s.field,
+            object: object,
+            field: seen.field,
         }),
-        Sight::NoThread => ThreadState::Stuck(Stuck::Thread { object: o }),
+        Sight::NoThread => ThreadState::Stuck(Stuck::Thread { object: object }),
         Sight::NoRule => ThreadState::Ready,
         Sight::Lacking => ThreadState::Lacking {
-            object: o,
-            field: s.field,
+            object: object,
+            field: seen.field,
         },
     }
 }
@@ -116,27 +116,27 @@ fn threads_of(all: [Seen; 8]) -> [Thread; 8]
     let none = Thread {
         state: ThreadState::Absent,
     };
-    let mut r = [none; 8];
-    for p in 0..8 {
-        let s = all[p];
-        let state = state_of(s);
-        r[p] = Thread { state: state };
+    let mut threads = [none; 8];
+    for thread in 0..8 {
+        let seen = all[thread];
+        let state = state_of(seen);
+        threads[thread] = Thread { state: state };
     }
-    r
+    threads
 }
 
-pub fn outcome_of(r: Ran) -> Outcome
-    ensures { λ x. ⌜ x ≡ outcomeBy r ⌝ }
+pub fn outcome_of(ran: Ran) -> Outcome
+    ensures { λ x. ⌜ x ≡ outcomeBy ran ⌝ }
 {
-    let s = r.stop;
-    let all = r.threads;
-    let stop = stop_of(s);
+    let ended = ran.stop;
+    let all = ran.threads;
+    let stop = stop_of(ended);
     let threads = threads_of(all);
     Outcome {
         stop: stop,
-        picks: r.picks,
-        moves: r.moves,
-        records: r.records,
+        picks: ran.picks,
+        moves: ran.moves,
+        records: ran.records,
         threads: threads,
     }
 }

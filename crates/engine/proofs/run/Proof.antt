@@ -26,19 +26,19 @@ use Rattle.engine.proofs.run.Statement.{statement}
 use Rattle.engine.proofs.run.Tie as tie
 
 abbrev Inv-loop : tie.InvT-loop
-Inv-loop words roots mask picks log₀ heads₀ cells₀ objects₀ tops₀ envs₀ args₀ s₀ stop₀ dealt₀ i₀ i-end log heads cells objects tops envs args s halt dealt i =
-    (i-end ≡ length picks) × (i ≤ length picks) × (s .moves ≤ i) × (s .records ≤ i) × (length log ≡ length log₀)
-    × (playOf words roots mask (record { heads = heads; cells = cells; objects = objects; stack = record { tops = tops; envs = envs; args = args }; tally = s; log = log }) (drop i picks) i ≡ playOf words roots mask (startOf roots log₀) picks 0)
+Inv-loop words roots mask picks log₀ heads₀ cells₀ objects₀ tops₀ environments₀ arguments₀ tally₀ stop₀ dealt₀ i₀ i-end log heads cells objects tops environments arguments tally halt dealt i =
+    (i-end ≡ length picks) × (i ≤ length picks) × (tally .moves ≤ i) × (tally .records ≤ i) × (length log ≡ length log₀)
+    × (playOf words roots mask (record { heads = heads; cells = cells; objects = objects; stack = record { tops = tops; envs = environments; args = arguments }; tally = tally; log = log }) (drop i picks) i ≡ playOf words roots mask (startOf roots log₀) picks 0)
     × (halt ≡ stop.End) × (dealt ≡ length picks)
 
 abbrev μ-loop : tie.MeasureT-loop
-μ-loop words roots mask picks log₀ heads₀ cells₀ objects₀ tops₀ envs₀ args₀ s₀ stop₀ dealt₀ i₀ i-end log heads cells objects tops envs args s halt dealt i = length picks - i
+μ-loop words roots mask picks log₀ heads₀ cells₀ objects₀ tops₀ environments₀ arguments₀ tally₀ stop₀ dealt₀ i₀ i-end log heads cells objects tops environments arguments tally halt dealt i = length picks - i
 
 abbrev Inv-loop2 : tie.InvT-loop2
-Inv-loop2 words roots mask picks log heads cells objects s halt dealt n all₀ p₀ all p = (p ≤ 8) × (turns (putSeen mask n heads cells objects) (8 - p) p all ≡ seenOf mask n heads cells objects)
+Inv-loop2 words roots mask picks log heads cells objects tally halt dealt counts all₀ thread₀ all thread = (thread ≤ 8) × (turns (putSeen mask counts heads cells objects) (8 - thread) thread all ≡ seenOf mask counts heads cells objects)
 
 abbrev μ-loop2 : tie.MeasureT-loop2
-μ-loop2 words roots mask picks log heads cells objects s halt dealt n all₀ p₀ all p = 8 - p
+μ-loop2 words roots mask picks log heads cells objects tally halt dealt counts all₀ thread₀ all thread = 8 - thread
 
 -- where a turn begins: the plan, the picks, the machine
 abbrev start : tie.At-loop Inv-loop μ-loop Inv-loop2 μ-loop2 → tie.Start Inv-loop μ-loop Inv-loop2 μ-loop2
@@ -65,8 +65,8 @@ machine c =
       heads = c .loop .heads;
       cells = c .loop .cells;
       objects = c .loop .objects;
-      stack = record { tops = c .loop .tops; envs = c .loop .envs; args = c .loop .args };
-      tally = c .loop .s;
+      stack = record { tops = c .loop .tops; envs = c .loop .environments; args = c .loop .arguments };
+      tally = c .loop .tally;
       log = c .loop .log;
     }
 
@@ -93,9 +93,9 @@ met c =
     let l = from-look c in
     let k = c .before .before .before .before .before .before .cell-of in
     c .look .ensures
-    ∙ present (mask l) (l .loop .s .counts) (pick l % 8) (headAt (l .loop .heads) (pick l % 8)) (getD (l .loop .cells) (k .result) noCell) (getD (l .loop .objects) (k .result / 32) noThing)
+    ∙ present (mask l) (l .loop .tally .counts) (pick l % 8) (headAt (l .loop .heads) (pick l % 8)) (getD (l .loop .cells) (k .result) noCell) (getD (l .loop .objects) (k .result / 32) noThing)
     (getD (l .loop .heads) (getD (l .loop .objects) (k .result / 32) noThing .thread % 9) noHead) (c .before .before .before .before .before .before .before .before .if1 .left)
-    ∙ looked (mask l) (l .loop .s .counts) (l .loop .heads) (l .loop .cells) (l .loop .objects) (pick l % 8) (k .result) (k .ensures)
+    ∙ looked (mask l) (l .loop .tally .counts) (l .loop .heads) (l .loop .cells) (l .loop .objects) (pick l % 8) (k .result) (k .ensures)
 
 passed : (c : tie.After-passes Inv-loop μ-loop Inv-loop2 μ-loop2) → passesOf (metBy (mask (from-look (c .before))) (machine (from-look (c .before))) (pick (from-look (c .before)) % 8)) ≡ c .passes .result
 passed c = ap passesOf (sym (met (c .before))) ∙ sym (c .passes .ensures)
@@ -126,7 +126,7 @@ did : (c : tie.After-entry-of Inv-loop μ-loop Inv-loop2 μ-loop2) → deed c �
 did c =
     let l = from c in
     let k = c .before .before .before .before .before .before .before .before .before .before .before .before .before .before .before .before .before .before .before .before .cell-of in
-    c .before .before .before .before .before .before .before .before .before .before .before .act .ensures ∙ acted (mask l) (l .loop .s .counts) (l .loop .heads) (l .loop .cells) (l .loop .objects) (pick l % 8) (k .result) (k .ensures)
+    c .before .before .before .before .before .before .before .before .before .before .before .act .ensures ∙ acted (mask l) (l .loop .tally .counts) (l .loop .heads) (l .loop .cells) (l .loop .objects) (pick l % 8) (k .result) (k .ensures)
 
 came : (c : tie.After-entry-of Inv-loop μ-loop Inv-loop2 μ-loop2) → done c ≡ finishedBy (words (from c)) (roots (from c)) (mask (from c)) (machine (from c)) (pick (from c) % 8)
 came c =
@@ -144,14 +144,14 @@ stays c = passed (c .before .before .before .before .before .before .before .bef
 -- the heads, with a new thread's where one was made
 young : (c : tie.Joined3 Inv-loop μ-loop Inv-loop2 μ-loop2)
     → c .if3 .heads
-    ≡ withYoung (forksOf (deed (c .before .before .before .before .before .before .before .before))) (c .before .before .before .before .before .before .before .before .before .before .before .before .before .before .before .before .before .before .before .before .before .before .before .before .before .before .before .before .before .before .before .before .before .before .before .loop .heads) (c .before .before .before .before .before .before .before .before .before .before .before .before .before .before .before .before .before .before .before .before .before .before .before .before .before .before .before .before .before .before .before .before .before .before .before .loop .s .counts .threads % 9)
-    (bornOf (c .before .before .before .before .before .before .before .before .before .before .before .before .before .before .before .before .before .before .before .before .before .before .before .before .before .before .before .before .before .before .before .before .before .before .before .loop .s .counts) (headAt (c .before .before .before .before .before .before .before .before .before .before .before .before .before .before .before .before .before .before .before .before .before .before .before .before .before .before .before .before .before .before .before .before .before .before .before .loop .heads) (pick (c .before .before .before .before .before .before .before .before .before .before .before .before .before .before .before .before .before .before .before .before .before .before .before .before .before .before .before .before .before .before .before .before .before .before .before) % 8)) (c .before .before .before .before .before .before .before .before .before .before .before .land-young .result))
+    ≡ withYoung (forksOf (deed (c .before .before .before .before .before .before .before .before))) (c .before .before .before .before .before .before .before .before .before .before .before .before .before .before .before .before .before .before .before .before .before .before .before .before .before .before .before .before .before .before .before .before .before .before .before .loop .heads) (c .before .before .before .before .before .before .before .before .before .before .before .before .before .before .before .before .before .before .before .before .before .before .before .before .before .before .before .before .before .before .before .before .before .before .before .loop .tally .counts .threads % 9)
+    (bornOf (c .before .before .before .before .before .before .before .before .before .before .before .before .before .before .before .before .before .before .before .before .before .before .before .before .before .before .before .before .before .before .before .before .before .before .before .loop .tally .counts) (headAt (c .before .before .before .before .before .before .before .before .before .before .before .before .before .before .before .before .before .before .before .before .before .before .before .before .before .before .before .before .before .before .before .before .before .before .before .loop .heads) (pick (c .before .before .before .before .before .before .before .before .before .before .before .before .before .before .before .before .before .before .before .before .before .before .before .before .before .before .before .before .before .before .before .before .before .before .before) % 8)) (c .before .before .before .before .before .before .before .before .before .before .before .land-young .result))
 young c =
     let l = c .before .before .before .before .before .before .before .before .before .before .before .before .before .before .before .before .before .before .before .before .before .before .before .before .before .before .before .before .before .before .before .before .before .before .before in
     let f = c .before .before .before .before .before .before .before .before in
-    let y = bornOf (l .loop .s .counts) (headAt (l .loop .heads) (pick l % 8)) (c .before .before .before .before .before .before .before .before .before .before .before .land-young .result) in
-    ⊎-elim (λ w. young-made (forksOf (deed f)) (l .loop .heads) _ (l .loop .s .counts .threads % 9) _ y (sym (c .before .forks .ensures) ∙ w .0 .taken) (w .1 .ensures) (w .3))
-    (λ w. young-none (forksOf (deed f)) (l .loop .heads) _ (l .loop .s .counts .threads % 9) y (sym (c .before .forks .ensures) ∙ w .0 .left) (w .1)) (c .if3 .came)
+    let y = bornOf (l .loop .tally .counts) (headAt (l .loop .heads) (pick l % 8)) (c .before .before .before .before .before .before .before .before .before .before .before .land-young .result) in
+    ⊎-elim (λ w. young-made (forksOf (deed f)) (l .loop .heads) _ (l .loop .tally .counts .threads % 9) _ y (sym (c .before .forks .ensures) ∙ w .0 .taken) (w .1 .ensures) (w .3))
+    (λ w. young-none (forksOf (deed f)) (l .loop .heads) _ (l .loop .tally .counts .threads % 9) y (sym (c .before .forks .ensures) ∙ w .0 .left) (w .1)) (c .if3 .came)
 
 -- a stop is the end of the run
 stopped-so : (c : tie.After-stop-of Inv-loop μ-loop Inv-loop2 μ-loop2)
@@ -164,7 +164,7 @@ stopped-so c =
 -- the loop was left at its end, or by a stop
 ended-so : (c : tie.Left-loop Inv-loop μ-loop Inv-loop2 μ-loop2)
     → _≡_ {A = Played} (record {
-      ran = endOf (c .loop-test .stop) (c .loop-test .dealt) (mask (c .before)) (c .loop-test .s) (c .before .loop .heads) (c .before .loop .cells) (c .before .loop .objects);
+      ran = endOf (c .loop-test .stop) (c .loop-test .dealt) (mask (c .before)) (c .loop-test .tally) (c .before .loop .heads) (c .before .loop .cells) (c .before .loop .objects);
       area = c .loop-test .log;
     }) (whole (c .before))
 unfolding playOf
@@ -178,30 +178,30 @@ ended-so c =
     ends-as (mask l) (l .loop .heads) (l .loop .cells) (l .loop .objects) _ _ _ _ _ _ _ _ (w .3 ∙ v .6) (w .4 ∙ i) (w .2) (w .1) ∙ q) (λ w.
     let c0 : tie.In-loop Inv-loop μ-loop Inv-loop2 μ-loop2 = record { before = l; loop-test = w .0 } in
     let c1 : tie.After-shared-slice-known2 Inv-loop μ-loop Inv-loop2 μ-loop2 = record { before = c0; shared-slice-known2 = w .1 } in
-    let c2 : tie.After-n Inv-loop μ-loop Inv-loop2 μ-loop2 = record { before = c1; n = w .2 } in
+    let c2 : tie.After-counts Inv-loop μ-loop Inv-loop2 μ-loop2 = record { before = c1; counts = w .2 } in
     let c3 : tie.After-struct-known Inv-loop μ-loop Inv-loop2 μ-loop2 = record { before = c2; struct-known = w .3 } in
     let c4 : tie.Else1 Inv-loop μ-loop Inv-loop2 μ-loop2 = record { before = c3; if1 = w .4 } in
-    let c5 : tie.After-h Inv-loop μ-loop Inv-loop2 μ-loop2 = record { before = c4; h = w .5 } in
+    let c5 : tie.After-head Inv-loop μ-loop Inv-loop2 μ-loop2 = record { before = c4; head = w .5 } in
     let c6 : tie.After-cell-of Inv-loop μ-loop Inv-loop2 μ-loop2 = record { before = c5; cell-of = w .6 } in
-    let c7 : tie.After-c Inv-loop μ-loop Inv-loop2 μ-loop2 = record { before = c6; c = w .7 } in
-    let c8 : tie.After-t Inv-loop μ-loop Inv-loop2 μ-loop2 = record { before = c7; t = w .8 } in
+    let c7 : tie.After-cell Inv-loop μ-loop Inv-loop2 μ-loop2 = record { before = c6; cell = w .7 } in
+    let c8 : tie.After-thing Inv-loop μ-loop Inv-loop2 μ-loop2 = record { before = c7; thing = w .8 } in
     let c9 : tie.After-struct-known2 Inv-loop μ-loop Inv-loop2 μ-loop2 = record { before = c8; struct-known2 = w .9 } in
     let c10 : tie.After-other Inv-loop μ-loop Inv-loop2 μ-loop2 = record { before = c9; other = w .10 } in
-    let c11 : tie.After-x Inv-loop μ-loop Inv-loop2 μ-loop2 = record { before = c10; x = w .11 } in
+    let c11 : tie.After-other-ready Inv-loop μ-loop Inv-loop2 μ-loop2 = record { before = c10; other-ready = w .11 } in
     let c12 : tie.After-look Inv-loop μ-loop Inv-loop2 μ-loop2 = record { before = c11; look = w .12 } in
     let c13 : tie.After-passes Inv-loop μ-loop Inv-loop2 μ-loop2 = record { before = c12; passes = w .13 } in
     let c14 : tie.Else2 Inv-loop μ-loop Inv-loop2 μ-loop2 = record { before = c13; if2 = w .14 } in
     let c15 : tie.After-act Inv-loop μ-loop Inv-loop2 μ-loop2 = record { before = c14; act = w .15 } in
     let c16 : tie.After-tops Inv-loop μ-loop Inv-loop2 μ-loop2 = record { before = c15; tops = w .16 } in
-    let c17 : tie.After-envs Inv-loop μ-loop Inv-loop2 μ-loop2 = record { before = c16; envs = w .17 } in
-    let c18 : tie.After-args2 Inv-loop μ-loop Inv-loop2 μ-loop2 = record { before = c17; args2 = w .18 } in
+    let c17 : tie.After-environments Inv-loop μ-loop Inv-loop2 μ-loop2 = record { before = c16; environments = w .17 } in
+    let c18 : tie.After-arguments Inv-loop μ-loop Inv-loop2 μ-loop2 = record { before = c17; arguments = w .18 } in
     let c19 : tie.After-land-mover Inv-loop μ-loop Inv-loop2 μ-loop2 = record { before = c18; land-mover = w .19 } in
     let c20 : tie.After-tops2 Inv-loop μ-loop Inv-loop2 μ-loop2 = record { before = c19; tops2 = w .20 } in
-    let c21 : tie.After-envs2 Inv-loop μ-loop Inv-loop2 μ-loop2 = record { before = c20; envs2 = w .21 } in
-    let c22 : tie.After-args3 Inv-loop μ-loop Inv-loop2 μ-loop2 = record { before = c21; args3 = w .22 } in
+    let c21 : tie.After-environments2 Inv-loop μ-loop Inv-loop2 μ-loop2 = record { before = c20; environments2 = w .21 } in
+    let c22 : tie.After-arguments2 Inv-loop μ-loop Inv-loop2 μ-loop2 = record { before = c21; arguments2 = w .22 } in
     let c23 : tie.After-land-young Inv-loop μ-loop Inv-loop2 μ-loop2 = record { before = c22; land-young = w .23 } in
     let c24 : tie.After-answer-to Inv-loop μ-loop Inv-loop2 μ-loop2 = record { before = c23; answer-to = w .24 } in
-    let c25 : tie.After-y Inv-loop μ-loop Inv-loop2 μ-loop2 = record { before = c24; y = w .25 } in
+    let c25 : tie.After-ready Inv-loop μ-loop Inv-loop2 μ-loop2 = record { before = c24; ready = w .25 } in
     let c26 : tie.After-entry-of Inv-loop μ-loop Inv-loop2 μ-loop2 = record { before = c25; entry-of = w .26 } in
     let c27 : tie.After-put-arg Inv-loop μ-loop Inv-loop2 μ-loop2 = record { before = c26; put-arg = w .27 } in
     let c28 : tie.After-put Inv-loop μ-loop Inv-loop2 μ-loop2 = record { before = c27; put = w .28 } in
@@ -210,12 +210,12 @@ ended-so c =
     let c31 : tie.At-match-keys2 Inv-loop μ-loop Inv-loop2 μ-loop2 = record { before = c30; match = w .31 } in
     let c32 : tie.After-stop-of Inv-loop μ-loop Inv-loop2 μ-loop2 = record { before = c31; stop-of = w .32 } in
     let e = stopOf (w .24 .result) in
-    let r = tallyPut (l .loop .s) (w .26 .result) in
-    let o = logPut (l .loop .log) (l .loop .s .records) (pick l % 8) (w .26 .result) in
+    let r = tallyPut (l .loop .tally) (w .26 .result) in
+    let o = logPut (l .loop .log) (l .loop .tally .records) (pick l % 8) (w .26 .result) in
     let x : Played = record { ran = endOf e (l .loop .i) (mask l) r (l .loop .heads) (l .loop .cells) (l .loop .objects); area = o } in
     let q : x ≡ whole l = stopped-so c32 in
     ends-so (mask l) (l .loop .heads) (l .loop .cells) (l .loop .objects) (c .loop-test .stop) (w .32 .result) e (c .loop-test .dealt) (l .loop .i)
-    (c .loop-test .s) (w .28 .result) r (c .loop-test .log) (w .28 .last .0) o (whole l)
+    (c .loop-test .tally) (w .28 .result) r (c .loop-test .log) (w .28 .last .0) o (whole l)
     (w .35) (w .32 .ensures) (w .36) (w .34) (w .28 .ensures .0 .0) (w .33) (w .28 .ensures .1) q) (c .loop-test .came)
 
 element-copy-out-first-head : tie.Need-element-copy-out-first-head Inv-loop μ-loop Inv-loop2 μ-loop2
@@ -238,11 +238,11 @@ loop-holds c =
     let r = c .before .before .before .before .before .before .before in
     (refl, omega arith, rw (c .first .ensures) (omega arith), rw (c .first .ensures) (omega arith), refl, begins (r .args .words .now) (r .args .roots .now) (r .args .mask) (r .args .picks .now) (r .args .log .now) _ _ _ _ (c .before .before .before .first-head .ensures) (c .before .before .first-cell .ensures) (c .before .first-object .ensures) (c .first .ensures), refl, refl)
 
-shared-slice-read-p : tie.Need-shared-slice-read-p Inv-loop μ-loop Inv-loop2 μ-loop2
-shared-slice-read-p c = search needs
+shared-slice-read-thread : tie.Need-shared-slice-read-thread Inv-loop μ-loop Inv-loop2 μ-loop2
+shared-slice-read-thread c = search needs
 
-cast-p : tie.Need-cast-p Inv-loop μ-loop Inv-loop2 μ-loop2
-cast-p c = search needs
+cast-thread : tie.Need-cast-thread Inv-loop μ-loop Inv-loop2 μ-loop2
+cast-thread c = search needs
 
 add-i : tie.Need-add-i Inv-loop μ-loop Inv-loop2 μ-loop2
 add-i c = record { fits = omega (arith, c .before .before .before .before .loop-test .taken, c .before .before .before .before .before .before .before .before .before .before .before .before .before .pre .0) }
@@ -255,29 +255,29 @@ loop-again c =
     let l = c .before .before .before .before .before in
     let v = l .loop .inv in
     let t = c .before .before .before .before .loop-test .taken in
-    let e = absent (mask l) (l .loop .s .counts) (l .loop .heads) (l .loop .cells) (l .loop .objects) (pick l % 8) (c .if1 .taken) in
+    let e = absent (mask l) (l .loop .tally .counts) (l .loop .heads) (l .loop .cells) (l .loop .objects) (pick l % 8) (c .if1 .taken) in
     (v .0, omega arith, omega arith, omega arith, v .4, sym (skips (words l) (roots l) (mask l) (machine l) (pick l) (later l) (l .loop .i) (ap passesOf e)) ∙ rest (c .before .before .before .before), v .6, v .7)
 
-mul-h : tie.Need-mul-h Inv-loop μ-loop Inv-loop2 μ-loop2
-mul-h c = search needs
+mul-head : tie.Need-mul-head Inv-loop μ-loop Inv-loop2 μ-loop2
+mul-head c = search needs
 
-array-copy-out-h : tie.Need-array-copy-out-h Inv-loop μ-loop Inv-loop2 μ-loop2
-array-copy-out-h c = search needs
+array-copy-out-head : tie.Need-array-copy-out-head Inv-loop μ-loop Inv-loop2 μ-loop2
+array-copy-out-head c = search needs
 
 cell-of-requires : tie.Need-cell-of-requires Inv-loop μ-loop Inv-loop2 μ-loop2
 cell-of-requires c κs = search needs
 
-mul-c : tie.Need-mul-c Inv-loop μ-loop Inv-loop2 μ-loop2
-mul-c c = search needs
+mul-cell : tie.Need-mul-cell Inv-loop μ-loop Inv-loop2 μ-loop2
+mul-cell c = search needs
 
-array-copy-out-c : tie.Need-array-copy-out-c Inv-loop μ-loop Inv-loop2 μ-loop2
-array-copy-out-c c = search needs
+array-copy-out-cell : tie.Need-array-copy-out-cell Inv-loop μ-loop Inv-loop2 μ-loop2
+array-copy-out-cell c = search needs
 
-mul-t : tie.Need-mul-t Inv-loop μ-loop Inv-loop2 μ-loop2
-mul-t c = search needs
+mul-thing : tie.Need-mul-thing Inv-loop μ-loop Inv-loop2 μ-loop2
+mul-thing c = search needs
 
-array-copy-out-t : tie.Need-array-copy-out-t Inv-loop μ-loop Inv-loop2 μ-loop2
-array-copy-out-t c = search needs
+array-copy-out-thing : tie.Need-array-copy-out-thing Inv-loop μ-loop Inv-loop2 μ-loop2
+array-copy-out-thing c = search needs
 
 mul-other : tie.Need-mul-other Inv-loop μ-loop Inv-loop2 μ-loop2
 mul-other c = search needs
@@ -368,7 +368,7 @@ array-set-from-objects c = search needs
 moved-requires : tie.Need-moved-requires Inv-loop μ-loop Inv-loop2 μ-loop2
 moved-requires c κs =
     let l = c .before .before .before .before .before .before .before .before .before .before .before .before .before .before .before .before .before .before .before .before .before .before .before .before .before .before .before .before .before .before .before .before .before .before .before .before .before .before .before .before in
-    let e : c .before .before .before .before .before .before .before .before .before .before .before .put .result .moves ≡ l .loop .s .moves = ap (λ (s : Tally). s .moves) (c .before .before .before .before .before .before .before .before .before .before .before .put .ensures .0 .0) in
+    let e : c .before .before .before .before .before .before .before .before .before .before .before .put .result .moves ≡ l .loop .tally .moves = ap (λ (s : Tally). s .moves) (c .before .before .before .before .before .before .before .before .before .before .before .put .ensures .0 .0) in
     omega (arith, e, l .loop .inv .0, l .loop .inv .2, c .before .before .before .before .before .before .before .before .before .before .before .before .before .before .before .before .before .before .before .before .before .before .before .before .before .before .before .before .before .before .before .before .before .before .before .before .before .before .before .loop-test .taken, c .before .before .before .before .before .before .before .before .before .before .before .before .before .before .before .before .before .before .before .before .before .before .before .before .before .before .before .before .before .before .before .before .before .before .before .before .before .before .before .before .before .before .before .before .before .before .before .before .pre .0)
 
 add-i-3 : tie.Need-add-i-3 Inv-loop μ-loop Inv-loop2 μ-loop2
@@ -386,8 +386,8 @@ loop-again-3 c =
     let put = c .before .before .before .before .before .before .before .before .before .before .before .before .put in
     let k = c .before .before .before .before .before .before .before .before .before .before .before .before .before .before .before .before .before .before .before .before .before .before .before .before .before .before .before .before .before .before .before .before .before .before .cell-of in
     let j = c .before .before .before .before .before .before in
-    let s : c .moved .result ≡ tallyMoved (tallyPut (l .loop .s) (f .entry-of .result)) (deed f .counts) = c .moved .ensures .0 ∙ ap (λ (s : Tally). tallyMoved s (deed f .counts)) (put .ensures .0 .0) in
-    let moves : c .moved .result .moves ≡ l .loop .s .moves + 1 = ap (λ (s : Tally). s .moves) s in
+    let s : c .moved .result ≡ tallyMoved (tallyPut (l .loop .tally) (f .entry-of .result)) (deed f .counts) = c .moved .ensures .0 ∙ ap (λ (s : Tally). tallyMoved s (deed f .counts)) (put .ensures .0 .0) in
+    let moves : c .moved .result .moves ≡ l .loop .tally .moves + 1 = ap (λ (s : Tally). s .moves) s in
     let records : c .moved .result .records ≡ put .result .records = ap (λ (s : Tally). s .records) (c .moved .ensures .0) in
     let e = after-is (machine l) (pick l % 8) (deed f) (done f) (k .result) (j .if3 .heads) (c .before .before .before .before .before .mover .result) (c .moved .result) (put .last .0) (k .ensures .cell) (young j) (c .before .before .before .before .before .mover .ensures) s (put .ensures .1) in (
       v .0,
@@ -417,30 +417,30 @@ loop2-holds c =
     let l = c .before .before in
     let m = l .before in (
       omega arith,
-      ap (λ (x : Seen). turns (putSeen (mask m) (l .loop-test .s .counts) (m .loop .heads) (m .loop .cells) (m .loop .objects)) 8 0 (replicate 8 x)) (c .none-seen .ensures)
-          ∙ all-seen (mask m) (l .loop-test .s .counts) (m .loop .heads) (m .loop .cells) (m .loop .objects),
+      ap (λ (x : Seen). turns (putSeen (mask m) (l .loop-test .tally .counts) (m .loop .heads) (m .loop .cells) (m .loop .objects)) 8 0 (replicate 8 x)) (c .none-seen .ensures)
+          ∙ all-seen (mask m) (l .loop-test .tally .counts) (m .loop .heads) (m .loop .cells) (m .loop .objects),
     )
 
-mul-h-2 : tie.Need-mul-h-2 Inv-loop μ-loop Inv-loop2 μ-loop2
-mul-h-2 c = search needs
+mul-head-2 : tie.Need-mul-head-2 Inv-loop μ-loop Inv-loop2 μ-loop2
+mul-head-2 c = search needs
 
-array-copy-out-h-2 : tie.Need-array-copy-out-h-2 Inv-loop μ-loop Inv-loop2 μ-loop2
-array-copy-out-h-2 c = search needs
+array-copy-out-head-2 : tie.Need-array-copy-out-head-2 Inv-loop μ-loop Inv-loop2 μ-loop2
+array-copy-out-head-2 c = search needs
 
 cell-of-requires-2 : tie.Need-cell-of-requires-2 Inv-loop μ-loop Inv-loop2 μ-loop2
 cell-of-requires-2 c κs = search needs
 
-mul-c-2 : tie.Need-mul-c-2 Inv-loop μ-loop Inv-loop2 μ-loop2
-mul-c-2 c = search needs
+mul-cell-2 : tie.Need-mul-cell-2 Inv-loop μ-loop Inv-loop2 μ-loop2
+mul-cell-2 c = search needs
 
-array-copy-out-c-2 : tie.Need-array-copy-out-c-2 Inv-loop μ-loop Inv-loop2 μ-loop2
-array-copy-out-c-2 c = search needs
+array-copy-out-cell-2 : tie.Need-array-copy-out-cell-2 Inv-loop μ-loop Inv-loop2 μ-loop2
+array-copy-out-cell-2 c = search needs
 
-mul-t-2 : tie.Need-mul-t-2 Inv-loop μ-loop Inv-loop2 μ-loop2
-mul-t-2 c = search needs
+mul-thing-2 : tie.Need-mul-thing-2 Inv-loop μ-loop Inv-loop2 μ-loop2
+mul-thing-2 c = search needs
 
-array-copy-out-t-2 : tie.Need-array-copy-out-t-2 Inv-loop μ-loop Inv-loop2 μ-loop2
-array-copy-out-t-2 c = search needs
+array-copy-out-thing-2 : tie.Need-array-copy-out-thing-2 Inv-loop μ-loop Inv-loop2 μ-loop2
+array-copy-out-thing-2 c = search needs
 
 mul-other-2 : tie.Need-mul-other-2 Inv-loop μ-loop Inv-loop2 μ-loop2
 mul-other-2 c = search needs
@@ -457,8 +457,8 @@ mul-all c = search needs
 array-set-from-all : tie.Need-array-set-from-all Inv-loop μ-loop Inv-loop2 μ-loop2
 array-set-from-all c = search needs
 
-add-p : tie.Need-add-p Inv-loop μ-loop Inv-loop2 μ-loop2
-add-p c = search needs
+add-thread : tie.Need-add-thread Inv-loop μ-loop Inv-loop2 μ-loop2
+add-thread c = search needs
 
 loop2-less : tie.Need-loop2-less Inv-loop μ-loop Inv-loop2 μ-loop2
 loop2-less c = search needs
@@ -467,8 +467,8 @@ loop2-again : tie.Need-loop2-again Inv-loop μ-loop Inv-loop2 μ-loop2
 loop2-again c =
     let l = c .before .before .before .before .before .before .before .before in
     let m = ended-at l in
-    let n = left l .loop-test .s .counts in
-    let p = l .loop2 .p in
+    let n = left l .loop-test .tally .counts in
+    let p = l .loop2 .thread in
     let k = c .before .before .before .before .before .cell-of2 in
     let h : p < 8 = c .before .before .before .before .before .before .before .loop2-test .taken in
     let e = c .seen-of .ensures ∙ seen-so (mask m) n (m .loop .heads) (m .loop .cells) (m .loop .objects) p (k .result) (k .ensures) in (
@@ -485,10 +485,10 @@ returns c =
     let a = c .before in
     let l = left a in
     let m = ended-at a in
-    let z : 8 - a .loop2 .p ≡ 0 = omega arith in
+    let z : 8 - a .loop2 .thread ≡ 0 = omega arith in
     let q = ended-so l in
-    let e = sym (no-turn (putSeen (mask m) (l .loop-test .s .counts) (m .loop .heads) (m .loop .cells) (m .loop .objects)) 8 (a .loop2 .p) (a .loop2 .all) z) ∙ a .loop2 .inv .1 in (
-      ap (λ (x : List Seen). record { stop = l .loop-test .stop; picks = l .loop-test .dealt; moves = l .loop-test .s .moves; records = l .loop-test .s .records; threads = x }) e
+    let e = sym (no-turn (putSeen (mask m) (l .loop-test .tally .counts) (m .loop .heads) (m .loop .cells) (m .loop .objects)) 8 (a .loop2 .thread) (a .loop2 .all) z) ∙ a .loop2 .inv .1 in (
+      ap (λ (x : List Seen). record { stop = l .loop-test .stop; picks = l .loop-test .dealt; moves = l .loop-test .tally .moves; records = l .loop-test .tally .records; threads = x }) e
           ∙ ap (λ (x : Played). x .ran) q,
       ap (λ (x : Played). x .area) q,
     )
@@ -507,18 +507,18 @@ run-spec =
     first-object-requires
     first-requires
     loop-holds
-    shared-slice-read-p
-    cast-p
+    shared-slice-read-thread
+    cast-thread
     add-i
     loop-less
     loop-again
-    mul-h
-    array-copy-out-h
+    mul-head
+    array-copy-out-head
     cell-of-requires
-    mul-c
-    array-copy-out-c
-    mul-t
-    array-copy-out-t
+    mul-cell
+    array-copy-out-cell
+    mul-thing
+    array-copy-out-thing
     mul-other
     array-copy-out-other
     look-requires
@@ -551,19 +551,19 @@ run-spec =
     loop-again-3
     none-seen-requires
     loop2-holds
-    mul-h-2
-    array-copy-out-h-2
+    mul-head-2
+    array-copy-out-head-2
     cell-of-requires-2
-    mul-c-2
-    array-copy-out-c-2
-    mul-t-2
-    array-copy-out-t-2
+    mul-cell-2
+    array-copy-out-cell-2
+    mul-thing-2
+    array-copy-out-thing-2
     mul-other-2
     array-copy-out-other-2
     seen-of-requires
     mul-all
     array-set-from-all
-    add-p
+    add-thread
     loop2-less
     loop2-again
     same-length

@@ -12,31 +12,31 @@ use Rattle.player.proofs.outcome.threads_of.Statement.{statement}
 use Rattle.player.proofs.outcome.threads_of.Tie as tie
 
 abbrev Inv-loop : tie.InvT-loop
-Inv-loop all r₀ p₀ r p = (p ≤ 8) × (turns (putThread all) (8 - p) p r ≡ threadsBy all)
+Inv-loop all threads₀ thread₀ threads thread = (thread ≤ 8) × (turns (putThread all) (8 - thread) thread threads ≡ threadsBy all)
 
 abbrev μ-loop : tie.MeasureT-loop
-μ-loop all r₀ p₀ r p = 8 - p
+μ-loop all threads₀ thread₀ threads thread = 8 - thread
 
 loop-holds : tie.Need-loop-holds Inv-loop μ-loop
 loop-holds c = (omega arith, all-threads _)
 
-mul-s : tie.Need-mul-s Inv-loop μ-loop
-mul-s c = search needs
+mul-seen : tie.Need-mul-seen Inv-loop μ-loop
+mul-seen c = search needs
 
-array-copy-out-s : tie.Need-array-copy-out-s Inv-loop μ-loop
-array-copy-out-s c = search needs
+array-copy-out-seen : tie.Need-array-copy-out-seen Inv-loop μ-loop
+array-copy-out-seen c = search needs
 
 state-of-requires : tie.Need-state-of-requires Inv-loop μ-loop
 state-of-requires c κs = search needs
 
-mul-r : tie.Need-mul-r Inv-loop μ-loop
-mul-r c = search needs
+mul-threads : tie.Need-mul-threads Inv-loop μ-loop
+mul-threads c = search needs
 
-array-set-from-r : tie.Need-array-set-from-r Inv-loop μ-loop
-array-set-from-r c = search needs
+array-set-from-threads : tie.Need-array-set-from-threads Inv-loop μ-loop
+array-set-from-threads c = search needs
 
-add-p : tie.Need-add-p Inv-loop μ-loop
-add-p c = search needs
+add-thread : tie.Need-add-thread Inv-loop μ-loop
+add-thread c = search needs
 
 loop-less : tie.Need-loop-less Inv-loop μ-loop
 loop-less c = search needs
@@ -45,15 +45,15 @@ loop-again : tie.Need-loop-again Inv-loop μ-loop
 loop-again c =
     let l = c .before .before .before in
     let all = l .before .args .t1 in
-    let p = l .loop .p in
+    let p = l .loop .thread in
     let h : p < 8 = c .before .before .loop-test .taken in
-    (omega arith, ap (λ (x : ThreadState). turns (putThread all) (8 - (p + 1)) (p + 1) (set (l .loop .r) p (record { state = x }))) (c .state-of .ensures) ∙ sym (one-turn (putThread all) 8 p (l .loop .r) h) ∙ l .loop .inv .1)
+    (omega arith, ap (λ (x : ThreadState). turns (putThread all) (8 - (p + 1)) (p + 1) (set (l .loop .threads) p (record { state = x }))) (c .state-of .ensures) ∙ sym (one-turn (putThread all) 8 p (l .loop .threads) h) ∙ l .loop .inv .1)
 
 returns : tie.Need-returns Inv-loop μ-loop
 returns c =
     let l = c .before in
-    let z : 8 - l .loop .p ≡ 0 = omega arith in
-    sym (no-turn (putThread (l .before .args .t1)) 8 (l .loop .p) (l .loop .r) z) ∙ l .loop .inv .1
+    let z : 8 - l .loop .thread ≡ 0 = omega arith in
+    sym (no-turn (putThread (l .before .args .t1)) 8 (l .loop .thread) (l .loop .threads) z) ∙ l .loop .inv .1
 
 pub threads-of-spec : {M : Type 1} → statement M
 threads-of-spec =
@@ -62,12 +62,12 @@ threads-of-spec =
     Inv-loop
     μ-loop
     loop-holds
-    mul-s
-    array-copy-out-s
+    mul-seen
+    array-copy-out-seen
     state-of-requires
-    mul-r
-    array-set-from-r
-    add-p
+    mul-threads
+    array-set-from-threads
+    add-thread
     loop-less
     loop-again
     returns)
