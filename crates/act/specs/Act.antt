@@ -21,13 +21,13 @@ use Rattle.monitors.specs.Monitors.{actSynch, actHold}
 -- where a move that leaves no record goes on, by its part p
 unfoldable pub pureBy : ℕ → Ready → Go
 pureBy p r =
-    cond (isPart part.Run p) (goRun (r .a) (r .env))
-    (cond (isPart part.RunCondition p) (goRunCondition (r .a) (r .env))
-    (cond (isPart part.Val p) (goValue (r .a))
-    (cond (isPart part.Truth p) (goTruth (r .a))
-    (cond (isPart part.While p) (goWantCondition (framed kind.Test (r .a) (r .b) 0 (r .env)) (r .a))
-    (cond (isPart part.Body p) (goWant (framed kind.Body (r .a) (r .b) 0 (r .env)) (r .b))
-    (cond (isPart part.Again p) (goAt (readyOf part.While (r .a) (r .b) 0 (r .env))) goFull))))))
+    cond (isPart part.Run p) (goRun (r .first) (r .environment))
+    (cond (isPart part.RunCondition p) (goRunCondition (r .first) (r .environment))
+    (cond (isPart part.Val p) (goValue (r .first))
+    (cond (isPart part.Truth p) (goTruth (r .first))
+    (cond (isPart part.While p) (goWantCondition (framed kind.Test (r .first) (r .second) 0 (r .environment)) (r .first))
+    (cond (isPart part.Body p) (goWant (framed kind.Body (r .first) (r .second) 0 (r .environment)) (r .second))
+    (cond (isPart part.Again p) (goAt (readyOf part.While (r .first) (r .second) 0 (r .environment))) goFull))))))
 
 abbrev pub actPure : Head → Go
 actPure h = pureBy (h .ready .part) (h .ready)
@@ -35,13 +35,13 @@ actPure h = pureBy (h .ready .part) (h .ready)
 -- what the move of part p does
 unfoldable pub actBy : ℕ → ℕ → Counts → Head → Cell → Object → Head → Acted
 actBy p mask n h c t q =
-    cond (isPart part.New p) (actNew n h c (h .ready .a))
-    (cond (isPart part.Read p) (actRead mask n h c (h .ready .a) (h .ready .b))
-    (cond (isPart part.Write p) (actWrite mask n h c (h .ready .a) (h .ready .b) (h .ready .c))
+    cond (isPart part.New p) (actNew n h c (h .ready .first))
+    (cond (isPart part.Read p) (actRead mask n h c (h .ready .first) (h .ready .second))
+    (cond (isPart part.Write p) (actWrite mask n h c (h .ready .first) (h .ready .second) (h .ready .third))
     (cond (isPart part.Fork p) (actFork n h c)
-    (cond (isPart part.Join p) (actJoin n h c t q (h .ready .a))
-    (cond (isPart part.Synch p) (actSynch n h c (h .ready .a) (h .ready .b) (h .ready .env))
-    (cond (isPart part.Hold p) (actHold n h (h .ready .a) (h .ready .b)) (goOn room.Enough (actPure h) n h c)))))))
+    (cond (isPart part.Join p) (actJoin n h c t q (h .ready .first))
+    (cond (isPart part.Synch p) (actSynch n h c (h .ready .first) (h .ready .second) (h .ready .environment))
+    (cond (isPart part.Hold p) (actHold n h (h .ready .first) (h .ready .second)) (goOn room.Enough (actPure h) n h c)))))))
 
 abbrev pub actOf : ℕ → Counts → Head → Cell → Object → Head → Acted
 actOf mask n h c t q = actBy (h .ready .part) mask n h c t q

@@ -21,19 +21,25 @@ fn act_pure(head: Head) -> Go
     let ready = head.ready;
     let part = ready.part;
     match part {
-        part::RUN => go::run(ready.a, ready.env),
-        part::RUN_CONDITION => go::run_condition(ready.a, ready.env),
-        part::VAL => go::value(ready.a),
-        part::TRUTH => go::truth(ready.a),
+        part::RUN => go::run(ready.first, ready.environment),
+        part::RUN_CONDITION => go::run_condition(ready.first, ready.environment),
+        part::VAL => go::value(ready.first),
+        part::TRUTH => go::truth(ready.first),
         part::WHILE => go::want_condition(
-            frame::frame_of(Kind::Test, ready.a, ready.b, 0, ready.env),
-            ready.a,
+            frame::frame_of(Kind::Test, ready.first, ready.second, 0, ready.environment),
+            ready.first,
         ),
         part::BODY => go::want(
-            frame::frame_of(Kind::Body, ready.a, ready.b, 0, ready.env),
-            ready.b,
+            frame::frame_of(Kind::Body, ready.first, ready.second, 0, ready.environment),
+            ready.second,
         ),
-        part::AGAIN => go::at(go::ready_of(part::WHILE, ready.a, ready.b, 0, ready.env)),
+        part::AGAIN => go::at(go::ready_of(
+            part::WHILE,
+            ready.first,
+            ready.second,
+            0,
+            ready.environment,
+        )),
         _ => go::full(),
     }
 }
@@ -45,13 +51,28 @@ pub fn act(mask: usize, counts: Counts, head: Head, cell: Cell, thing: Object, o
     let ready = head.ready;
     let part = ready.part;
     match part {
-        part::NEW => objects::act_new(counts, head, cell, ready.a),
-        part::READ => accesses::act_read(mask, counts, head, cell, ready.a, ready.b),
-        part::WRITE => accesses::act_write(mask, counts, head, cell, ready.a, ready.b, ready.c),
+        part::NEW => objects::act_new(counts, head, cell, ready.first),
+        part::READ => accesses::act_read(mask, counts, head, cell, ready.first, ready.second),
+        part::WRITE => accesses::act_write(
+            mask,
+            counts,
+            head,
+            cell,
+            ready.first,
+            ready.second,
+            ready.third,
+        ),
         part::FORK => objects::act_fork(counts, head, cell),
-        part::JOIN => objects::act_join(counts, head, cell, thing, other, ready.a),
-        part::SYNCH => monitors::act_synch(counts, head, cell, ready.a, ready.b, ready.env),
-        part::HOLD => monitors::act_hold(counts, head, ready.a, ready.b),
+        part::JOIN => objects::act_join(counts, head, cell, thing, other, ready.first),
+        part::SYNCH => monitors::act_synch(
+            counts,
+            head,
+            cell,
+            ready.first,
+            ready.second,
+            ready.environment,
+        ),
+        part::HOLD => monitors::act_hold(counts, head, ready.first, ready.second),
         _ => acted::go_on(Room::Enough, act_pure(head), counts, head, cell),
     }
 }

@@ -30,7 +30,7 @@ module _ (mask : ℕ) (n : Counts) (l : List Head) (cs : List Cell) (ts : List O
     unfolding actAt
     acted = rw (q .object, q .cell)
 
-    pub seen : (w : Sight) → w ≡ lookAt mask n l cs ts p → record { sight = w; value = headAt l p .ready .a; object = k / 32; field = k % 32 } ≡ seenAt mask n l cs ts p
+    pub seen : (w : Sight) → w ≡ lookAt mask n l cs ts p → record { sight = w; value = headAt l p .ready .first; object = k / 32; field = k % 32 } ≡ seenAt mask n l cs ts p
     seen w e = rw (e, q .object, q .field)
 
     pub seen-so : seenBy mask n p k (headAt l p) (getD cs k noCell) (getD ts (k / 32) noThing) (getD l (getD ts (k / 32) noThing .thread % 9) noHead) ≡ seenAt mask n l cs ts p

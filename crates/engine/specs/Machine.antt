@@ -103,7 +103,7 @@ moverEnded ws rs p h a k = landOf 2100 ws rs (p * 33) k (a .go) (h .depth % 33)
 
 -- where a forked thread starts
 abbrev pub youngGo : Head → Go
-youngGo h = goRun (h .ready .a) (h .ready .env)
+youngGo h = goRun (h .ready .first) (h .ready .environment)
 
 -- the landing of the thread that a fork makes; another move makes none
 unfoldable pub youngOf : List ℕ → List ℕ → Counts → Head → Acted → Stack → Ended
@@ -137,11 +137,11 @@ abbrev pub noneSeen : Seen
 noneSeen = record { sight = sight.Absent; value = 0; object = 0; field = 0 }
 
 abbrev pub seenBy : ℕ → Counts → ℕ → ℕ → Head → Cell → Object → Head → Seen
-seenBy mask n p k h c t q = record { sight = sightOf mask n p h c t q; value = h .ready .a; object = k / 32; field = k % 32 }
+seenBy mask n p k h c t q = record { sight = sightOf mask n p h c t q; value = h .ready .first; object = k / 32; field = k % 32 }
 
 abbrev pub seenAt : ℕ → Counts → List Head → List Cell → List Object → ℕ → Seen
 seenAt mask n l cs ts p =
-    record { sight = lookAt mask n l cs ts p; value = headAt l p .ready .a; object = objectOf (headAt l p .ready); field = fieldOf (headAt l p .ready) }
+    record { sight = lookAt mask n l cs ts p; value = headAt l p .ready .first; object = objectOf (headAt l p .ready); field = fieldOf (headAt l p .ready) }
 
 unfoldable pub seenOf : ℕ → Counts → List Head → List Cell → List Object → List Seen
 seenOf mask n l cs ts =
@@ -220,7 +220,7 @@ startOf rs l =
       heads = replicate 9 (headOf (getD rs 0 0));
       cells = replicate 1024 cellFirst;
       objects = replicate 33 noThing;
-      stack = record { tops = replicate 297 0; envs = replicate 297 0; args = replicate 297 0 };
+      stack = record { tops = replicate 297 0; environments = replicate 297 0; arguments = replicate 297 0 };
       tally = tallyFirst;
       log = l;
     }

@@ -105,7 +105,7 @@ fn land_mover(
     acted: Acted,
 ) -> Landed
     requires { ⌜ thread < 8 ⌝ }
-    ensures { λ r. ⌜ (record { stack = record { tops = now (tops .exit); envs = now (environments .exit); args = now (arguments .exit) }; landed = r }) ≡ moverEnded (now (words .entry)) (now (roots .entry)) thread head acted (record { tops = now (tops .entry); envs = now (environments .entry); args = now (arguments .entry) }) ⌝ }
+    ensures { λ r. ⌜ (record { stack = record { tops = now (tops .exit); environments = now (environments .exit); arguments = now (arguments .exit) }; landed = r }) ≡ moverEnded (now (words .entry)) (now (roots .entry)) thread head acted (record { tops = now (tops .entry); environments = now (environments .entry); arguments = now (arguments .entry) }) ⌝ }
 {
     let go = acted.go;
     landing::land(
@@ -131,11 +131,11 @@ fn land_young(
     head: Head,
     acted: Acted,
 ) -> Landed
-    ensures { λ r. ⌜ (record { stack = record { tops = now (tops .exit); envs = now (environments .exit); args = now (arguments .exit) }; landed = r }) ≡ youngOf (now (words .entry)) (now (roots .entry)) counts head acted (record { tops = now (tops .entry); envs = now (environments .entry); args = now (arguments .entry) }) ⌝ }
+    ensures { λ r. ⌜ (record { stack = record { tops = now (tops .exit); environments = now (environments .exit); arguments = now (arguments .exit) }; landed = r }) ≡ youngOf (now (words .entry)) (now (roots .entry)) counts head acted (record { tops = now (tops .entry); environments = now (environments .entry); arguments = now (arguments .entry) }) ⌝ }
 {
     if settle::forks(acted) {
         let ready = head.ready;
-        let start = go::run(ready.a, ready.env);
+        let start = go::run(ready.first, ready.environment);
         return landing::land(
             words,
             roots,
@@ -186,7 +186,7 @@ fn seen_of(
     let ready = head.ready;
     Seen {
         sight: sight,
-        value: ready.a,
+        value: ready.first,
         object: number / 32,
         field: number % 32,
     }

@@ -36,34 +36,34 @@ kindOf n = getD kinds n kind.Read
 unfoldable pub packOf : Frame → Packed
 packOf f =
     record {
-      top = (((f .n % 16 * 32 + f .m % 32) * 1024 + f .b % 1024) * 1024 + f .a % 1024) * 16 + codeOf (f .kind);
-      env = f .env;
-      args = f .args;
+      top = (((f .count % 16 * 32 + f .member % 32) * 1024 + f .second % 1024) * 1024 + f .first % 1024) * 16 + codeOf (f .kind);
+      environment = f .environment;
+      arguments = f .arguments;
     }
 
 unfoldable pub unpackOf : ℕ → ℕ → ℕ → Frame
-unpackOf top env args =
+unpackOf top environment arguments =
     record {
       kind = kindOf (top % 16);
-      a = top / 16 % 1024;
-      b = top / 16384 % 1024;
-      m = top / 16777216 % 32;
-      n = top / 536870912 % 16;
-      env = env;
-      args = args;
+      first = top / 16 % 1024;
+      second = top / 16384 % 1024;
+      member = top / 16777216 % 32;
+      count = top / 536870912 % 16;
+      environment = environment;
+      arguments = arguments;
     }
 
 abbrev pub framed : Kind → ℕ → ℕ → ℕ → ℕ → Frame
-framed k a b m env = record { kind = k; a = a; b = b; m = m; n = 0; env = env; args = 0 }
+framed k a b m environment = record { kind = k; first = a; second = b; member = m; count = 0; environment = environment; arguments = 0 }
 
 abbrev pub letFrame : ℕ → ℕ → ℕ → Frame
-letFrame x j env = record { kind = kind.Let; a = j; b = 0; m = 0; n = x; env = env; args = 0 }
+letFrame x j environment = record { kind = kind.Let; first = j; second = 0; member = 0; count = x; environment = environment; arguments = 0 }
 
 abbrev pub secondFrame : Kind → Frame → ℕ → Frame
-secondFrame k f v = record { kind = k; a = 0; b = 0; m = f .m; n = 0; env = f .env; args = v }
+secondFrame k f v = record { kind = k; first = 0; second = 0; member = f .member; count = 0; environment = f .environment; arguments = v }
 
 abbrev pub collected : Frame → ℕ → Frame
-collected f v = record { kind = kind.Call; a = f .a; b = 0; m = f .m; n = f .n % 16 + 1; env = f .env; args = bindOf (f .args) (f .n) v }
+collected f v = record { kind = kind.Call; first = f .first; second = 0; member = f .member; count = f .count % 16 + 1; environment = f .environment; arguments = bindOf (f .arguments) (f .count) v }
 
 abbrev pub restOf : Frame → ℕ → Frame
-restOf f j = record { kind = kind.Call; a = j; b = 0; m = f .m; n = f .n; env = f .env; args = f .args }
+restOf f j = record { kind = kind.Call; first = j; second = 0; member = f .member; count = f .count; environment = f .environment; arguments = f .arguments }

@@ -16,29 +16,29 @@ use Rattle.frames.specs.declared.go.Go.{Go}
 use Rattle.frames.specs.Frames.{framed, secondFrame, collected}
 
 abbrev pub readyAt : ℕ → ℕ → ℕ → ℕ → ℕ → Ready
-readyAt p a b c env = record { part = p; a = a; b = b; c = c; env = env }
+readyAt p a b c environment = record { part = p; first = a; second = b; third = c; environment = environment }
 
 abbrev pub readyOf : Part → ℕ → ℕ → ℕ → ℕ → Ready
-readyOf p a b c env = readyAt (numberOf p) a b c env
+readyOf p a b c environment = readyAt (numberOf p) a b c environment
 
 abbrev pub noRule : Ready
 noRule = readyOf part.NoRule 0 0 0 0
 
 abbrev pub goOf : Stage → Frame → ℕ → Go
-goOf s f i = record { stage = s; frame = f; i = i }
+goOf s f i = record { stage = s; frame = f; operand = i }
 
 abbrev pub goAt : Ready → Go
-goAt r = goOf stage.At (record { kind = kind.Read; a = r .a; b = r .b; m = r .part; n = 0; env = r .env; args = r .c }) 0
+goAt r = goOf stage.At (record { kind = kind.Read; first = r .first; second = r .second; member = r .part; count = 0; environment = r .environment; arguments = r .third }) 0
 
 -- the part where landing has ended
 abbrev pub readyIn : Go → Ready
-readyIn g = readyAt (g .frame .m) (g .frame .a) (g .frame .b) (g .frame .args) (g .frame .env)
+readyIn g = readyAt (g .frame .member) (g .frame .first) (g .frame .second) (g .frame .arguments) (g .frame .environment)
 
 abbrev pub goRun : ℕ → ℕ → Go
-goRun t env = goOf stage.Run (framed kind.Read 0 0 0 env) t
+goRun t environment = goOf stage.Run (framed kind.Read 0 0 0 environment) t
 
 abbrev pub goRunCondition : ℕ → ℕ → Go
-goRunCondition t env = goOf stage.RunCondition (framed kind.Read 0 0 0 env) t
+goRunCondition t environment = goOf stage.RunCondition (framed kind.Read 0 0 0 environment) t
 
 abbrev pub goWant : Frame → ℕ → Go
 goWant f i = goOf stage.Want f i
@@ -64,21 +64,21 @@ sameOf v w = cond (eqb v w) 1 0
 -- ---- a value goes into a frame
 
 abbrev pub feedBy : Kind → Frame → ℕ → Go
-feedBy kind.Read f v = goAt (readyOf part.Read v (f .m) 0 0)
-feedBy kind.Write1 f v = goWant (secondFrame kind.Write2 f v) (f .a)
-feedBy kind.Write2 f v = goAt (readyOf part.Write (f .args) (f .m) v 0)
+feedBy kind.Read f v = goAt (readyOf part.Read v (f .member) 0 0)
+feedBy kind.Write1 f v = goWant (secondFrame kind.Write2 f v) (f .first)
+feedBy kind.Write2 f v = goAt (readyOf part.Write (f .arguments) (f .member) v 0)
 feedBy kind.Call f v = goList (collected f v)
-feedBy kind.Let f v = goAt (readyOf part.Run (f .a) 0 0 (bindOf (f .env) (f .n) v))
-feedBy kind.Synch f v = goAt (readyOf part.Synch v (f .a) 0 (f .env))
-feedBy kind.Hold f v = goAt (readyOf part.Hold (f .args) v 0 0)
+feedBy kind.Let f v = goAt (readyOf part.Run (f .first) 0 0 (bindOf (f .environment) (f .count) v))
+feedBy kind.Synch f v = goAt (readyOf part.Synch v (f .first) 0 (f .environment))
+feedBy kind.Hold f v = goAt (readyOf part.Hold (f .arguments) v 0 0)
 feedBy kind.Join f v = goAt (readyOf part.Join v 0 0 0)
-feedBy kind.Equal1 f v = goWant (secondFrame kind.Equal2 f v) (f .a)
-feedBy kind.Equal2 f v = goAt (readyOf part.Truth (sameOf (f .args) v) 0 0 0)
+feedBy kind.Equal1 f v = goWant (secondFrame kind.Equal2 f v) (f .first)
+feedBy kind.Equal2 f v = goAt (readyOf part.Truth (sameOf (f .arguments) v) 0 0 0)
 feedBy kind.If f v = goAt noRule
 feedBy kind.And f v = goAt noRule
 feedBy kind.Not f v = goAt noRule
 feedBy kind.Test f v = goAt noRule
-feedBy kind.Body f v = goAt (readyOf part.Again (f .a) (f .b) 0 (f .env))
+feedBy kind.Body f v = goAt (readyOf part.Again (f .first) (f .second) 0 (f .environment))
 
 unfoldable pub feedOf : Frame → ℕ → Go
 feedOf f v = feedBy (f .kind) f v
@@ -94,10 +94,10 @@ feedIfBy kind.Hold f b = goAt noRule
 feedIfBy kind.Join f b = goAt noRule
 feedIfBy kind.Equal1 f b = goAt noRule
 feedIfBy kind.Equal2 f b = goAt noRule
-feedIfBy kind.If f b = cond (eqb b 1) (goAt (readyOf part.Run (f .a) 0 0 (f .env))) (goAt (readyOf part.Run (f .b) 0 0 (f .env)))
+feedIfBy kind.If f b = cond (eqb b 1) (goAt (readyOf part.Run (f .first) 0 0 (f .environment))) (goAt (readyOf part.Run (f .second) 0 0 (f .environment)))
 feedIfBy kind.And f b = goAt noRule
 feedIfBy kind.Not f b = goAt noRule
-feedIfBy kind.Test f b = cond (eqb b 1) (goAt (readyOf part.Body (f .a) (f .b) 0 (f .env))) (goAt (readyOf part.Val 0 0 0 0))
+feedIfBy kind.Test f b = cond (eqb b 1) (goAt (readyOf part.Body (f .first) (f .second) 0 (f .environment))) (goAt (readyOf part.Val 0 0 0 0))
 feedIfBy kind.Body f b = goAt noRule
 
 unfoldable pub feedIfOf : Frame → ℕ → Go
@@ -115,7 +115,7 @@ feedConditionBy kind.Join f b = feedIfOf f b
 feedConditionBy kind.Equal1 f b = feedIfOf f b
 feedConditionBy kind.Equal2 f b = feedIfOf f b
 feedConditionBy kind.If f b = feedIfOf f b
-feedConditionBy kind.And f b = cond (eqb b 1) (goAt (readyOf part.RunCondition (f .a) 0 0 (f .env))) (goAt (readyOf part.Truth 0 0 0 0))
+feedConditionBy kind.And f b = cond (eqb b 1) (goAt (readyOf part.RunCondition (f .first) 0 0 (f .environment))) (goAt (readyOf part.Truth 0 0 0 0))
 feedConditionBy kind.Not f b = cond (eqb b 1) (goTruth 0) (goAt (readyOf part.Truth 1 0 0 0))
 feedConditionBy kind.Test f b = feedIfOf f b
 feedConditionBy kind.Body f b = feedIfOf f b

@@ -22,22 +22,35 @@ pub enum Kind {
     Body,
 }
 
-// A construct: terms a and b, field or procedure m, slot or count n, the slots, and a value or the values collected.
+// A construct: terms `first` and `second`, a field or a procedure `member`, a slot or a count `count`, the slots `environment`, and a value or the
+// values collected `arguments`. Each kind has the slots, and besides:
+//   Read                member: the field
+//   Write1              first: the value's term; member: the field
+//   Write2              member: the field; arguments: the object
+//   Call                first: the rest of the list; member: the procedure; count and arguments: the values collected
+//   Let                 first: the term that has the binding; count: the slot
+//   Synch               first: the body
+//   Hold                arguments: the object
+//   Equal1, And         first: the right side
+//   Equal2              arguments: the value of the left side
+//   If                  first and second: the two branches
+//   Test, Body          first and second: the condition and the body of a loop
+//   Join, Not           nothing
 pub struct Frame {
-    pub a: usize,
-    pub b: usize,
-    pub m: usize,
-    pub n: usize,
-    pub env: usize,
-    pub args: usize,
+    pub first: usize,
+    pub second: usize,
+    pub member: usize,
+    pub count: usize,
+    pub environment: usize,
+    pub arguments: usize,
     pub kind: Kind,
 }
 
 // The three numbers of a frame.
 pub struct Packed {
     pub top: usize,
-    pub env: usize,
-    pub args: usize,
+    pub environment: usize,
+    pub arguments: usize,
 }
 
 fn code(kind: Kind) -> usize
@@ -91,11 +104,12 @@ pub fn pack(frame: Frame) -> Packed
     let kind = frame.kind;
     let code = code(kind);
     Packed {
-        top: (((frame.n % 16 * 32 + frame.m % 32) * 1024 + frame.b % 1024) * 1024 + frame.a % 1024)
+        top: (((frame.count % 16 * 32 + frame.member % 32) * 1024 + frame.second % 1024) * 1024
+            + frame.first % 1024)
             * 16
             + code,
-        env: frame.env,
-        args: frame.args,
+        environment: frame.environment,
+        arguments: frame.arguments,
     }
 }
 
@@ -105,12 +119,12 @@ pub fn unpack(top: usize, environment: usize, arguments: usize) -> Frame
     let kind = kind_of(top % 16);
     Frame {
         kind: kind,
-        a: top / 16 % 1024,
-        b: top / 16384 % 1024,
-        m: top / 16777216 % 32,
-        n: top / 536870912 % 16,
-        env: environment,
-        args: arguments,
+        first: top / 16 % 1024,
+        second: top / 16384 % 1024,
+        member: top / 16777216 % 32,
+        count: top / 536870912 % 16,
+        environment: environment,
+        arguments: arguments,
     }
 }
 
@@ -119,12 +133,12 @@ pub fn frame_of(kind: Kind, first: usize, second: usize, member: usize, environm
 {
     Frame {
         kind: kind,
-        a: first,
-        b: second,
-        m: member,
-        n: 0,
-        env: environment,
-        args: 0,
+        first: first,
+        second: second,
+        member: member,
+        count: 0,
+        environment: environment,
+        arguments: 0,
     }
 }
 
@@ -134,12 +148,12 @@ pub fn let_frame(slot: usize, term: usize, environment: usize) -> Frame
 {
     Frame {
         kind: Kind::Let,
-        a: term,
-        b: 0,
-        m: 0,
-        n: slot,
-        env: environment,
-        args: 0,
+        first: term,
+        second: 0,
+        member: 0,
+        count: slot,
+        environment: environment,
+        arguments: 0,
     }
 }
 
@@ -149,12 +163,12 @@ pub fn second_frame(kind: Kind, frame: Frame, value: usize) -> Frame
 {
     Frame {
         kind: kind,
-        a: 0,
-        b: 0,
-        m: frame.m,
-        n: 0,
-        env: frame.env,
-        args: value,
+        first: 0,
+        second: 0,
+        member: frame.member,
+        count: 0,
+        environment: frame.environment,
+        arguments: value,
     }
 }
 
@@ -162,15 +176,15 @@ pub fn second_frame(kind: Kind, frame: Frame, value: usize) -> Frame
 pub fn collect(frame: Frame, value: usize) -> Frame
     ensures { λ r. ⌜ r ≡ collected frame value ⌝ }
 {
-    let more = slots::bind(frame.args, frame.n, value);
+    let more = slots::bind(frame.arguments, frame.count, value);
     Frame {
         kind: Kind::Call,
-        a: frame.a,
-        b: 0,
-        m: frame.m,
-        n: frame.n % 16 + 1,
-        env: frame.env,
-        args: more,
+        first: frame.first,
+        second: 0,
+        member: frame.member,
+        count: frame.count % 16 + 1,
+        environment: frame.environment,
+        arguments: more,
     }
 }
 
@@ -180,11 +194,11 @@ pub fn rest(frame: Frame, term: usize) -> Frame
 {
     Frame {
         kind: Kind::Call,
-        a: term,
-        b: 0,
-        m: frame.m,
-        n: frame.n,
-        env: frame.env,
-        args: frame.args,
+        first: term,
+        second: 0,
+        member: frame.member,
+        count: frame.count,
+        environment: frame.environment,
+        arguments: frame.arguments,
     }
 }

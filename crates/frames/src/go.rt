@@ -7,13 +7,22 @@ use crate::frame::Kind;
 use crate::part;
 use term_words::slots;
 
-// The part with its numbers: a value, an object, a term or a mask a; a field, a term or a value b; a value c; the slots.
+// The part with its numbers, and the slots `environment` where it has terms. By part:
+//   DONE, VAL, TRUTH            first: the value
+//   RUN, RUN_CONDITION, FORK    first: the term
+//   WHILE, BODY, AGAIN          first and second: the condition and the body
+//   NEW                         first: the mask of its fields
+//   READ, WRITE                 first: the object; second: the field; of a write, third: the value
+//   JOIN                        first: the object
+//   SYNCH                       first: the object; second: the body
+//   HOLD                        first: the object; second: the value
+//   NO_RULE                     nothing
 pub struct Ready {
     pub part: usize,
-    pub a: usize,
-    pub b: usize,
-    pub c: usize,
-    pub env: usize,
+    pub first: usize,
+    pub second: usize,
+    pub third: usize,
+    pub environment: usize,
 }
 
 // Landing goes down from an expression or a condition, wants an operand for a frame, goes through a call's list, carries a value up, or has ended.
@@ -29,9 +38,10 @@ pub enum Stage {
     Truth,
 }
 
-// A stage with its numbers: i is a term or a value; the slots of a way down are the frame's. Where landing has ended, the frame's numbers are the part's.
+// A stage with its numbers: `operand` is a term or a value; the slots of a way down are the frame's. Where landing has ended, the frame's numbers are
+// the part's.
 pub struct Go {
-    pub i: usize,
+    pub operand: usize,
     pub frame: Frame,
     pub stage: Stage,
 }
@@ -41,10 +51,10 @@ pub fn ready_of(part: usize, first: usize, second: usize, third: usize, environm
 {
     Ready {
         part: part,
-        a: first,
-        b: second,
-        c: third,
-        env: environment,
+        first: first,
+        second: second,
+        third: third,
+        environment: environment,
     }
 }
 
@@ -52,7 +62,7 @@ fn go_of(stage: Stage, frame: Frame, operand: usize) -> Go
     ensures { λ r. ⌜ r ≡ goOf stage frame operand ⌝ }
 {
     Go {
-        i: operand,
+        operand: operand,
         frame: frame,
         stage: stage,
     }
@@ -64,12 +74,12 @@ pub fn at(ready: Ready) -> Go
 {
     let frame = Frame {
         kind: Kind::Read,
-        a: ready.a,
-        b: ready.b,
-        m: ready.part,
-        n: 0,
-        env: ready.env,
-        args: ready.c,
+        first: ready.first,
+        second: ready.second,
+        member: ready.part,
+        count: 0,
+        environment: ready.environment,
+        arguments: ready.third,
     };
     go_of(Stage::At, frame, 0)
 }
@@ -79,7 +89,13 @@ pub fn ready_in(go: Go) -> Ready
     ensures { λ x. ⌜ x ≡ readyIn go ⌝ }
 {
     let frame = go.frame;
-    ready_of(frame.m, frame.a, frame.b, frame.args, frame.env)
+    ready_of(
+        frame.member,
+        frame.first,
+        frame.second,
+        frame.arguments,
+        frame.environment,
+    )
 }
 
 // Down from an expression with these slots.
@@ -159,23 +175,23 @@ pub fn feed(frame: Frame, value: usize) -> Go
 {
     let kind = frame.kind;
     match kind {
-        Kind::Read => at(ready_of(part::READ, value, frame.m, 0, 0)),
-        Kind::Write1 => want(frame::second_frame(Kind::Write2, frame, value), frame.a),
-        Kind::Write2 => at(ready_of(part::WRITE, frame.args, frame.m, value, 0)),
+        Kind::Read => at(ready_of(part::READ, value, frame.member, 0, 0)),
+        Kind::Write1 => want(frame::second_frame(Kind::Write2, frame, value), frame.first),
+        Kind::Write2 => at(ready_of(part::WRITE, frame.arguments, frame.member, value, 0)),
         Kind::Call => list(frame::collect(frame, value)),
         Kind::Let => at(ready_of(
             part::RUN,
-            frame.a,
+            frame.first,
             0,
             0,
-            slots::bind(frame.env, frame.n, value),
+            slots::bind(frame.environment, frame.count, value),
         )),
-        Kind::Synch => at(ready_of(part::SYNCH, value, frame.a, 0, frame.env)),
-        Kind::Hold => at(ready_of(part::HOLD, frame.args, value, 0, 0)),
+        Kind::Synch => at(ready_of(part::SYNCH, value, frame.first, 0, frame.environment)),
+        Kind::Hold => at(ready_of(part::HOLD, frame.arguments, value, 0, 0)),
         Kind::Join => at(ready_of(part::JOIN, value, 0, 0, 0)),
-        Kind::Equal1 => want(frame::second_frame(Kind::Equal2, frame, value), frame.a),
-        Kind::Equal2 => at(ready_of(part::TRUTH, same(frame.args, value), 0, 0, 0)),
-        Kind::Body => at(ready_of(part::AGAIN, frame.a, frame.b, 0, frame.env)),
+        Kind::Equal1 => want(frame::second_frame(Kind::Equal2, frame, value), frame.first),
+        Kind::Equal2 => at(ready_of(part::TRUTH, same(frame.arguments, value), 0, 0, 0)),
+        Kind::Body => at(ready_of(part::AGAIN, frame.first, frame.second, 0, frame.environment)),
         Kind::If => at(ready_of(part::NO_RULE, 0, 0, 0, 0)),
         Kind::And => at(ready_of(part::NO_RULE, 0, 0, 0, 0)),
         Kind::Not => at(ready_of(part::NO_RULE, 0, 0, 0, 0)),
@@ -191,13 +207,13 @@ fn feed_if(frame: Frame, truth: usize) -> Go
     match kind {
         Kind::If => {
             if truth == 1 {
-                return at(ready_of(part::RUN, frame.a, 0, 0, frame.env));
+                return at(ready_of(part::RUN, frame.first, 0, 0, frame.environment));
             }
-            at(ready_of(part::RUN, frame.b, 0, 0, frame.env))
+            at(ready_of(part::RUN, frame.second, 0, 0, frame.environment))
         }
         Kind::Test => {
             if truth == 1 {
-                return at(ready_of(part::BODY, frame.a, frame.b, 0, frame.env));
+                return at(ready_of(part::BODY, frame.first, frame.second, 0, frame.environment));
             }
             at(ready_of(part::VAL, 0, 0, 0, 0))
         }
@@ -213,7 +229,7 @@ pub fn feed_condition(frame: Frame, truth: usize) -> Go
     match kind {
         Kind::And => {
             if truth == 1 {
-                return at(ready_of(part::RUN_CONDITION, frame.a, 0, 0, frame.env));
+                return at(ready_of(part::RUN_CONDITION, frame.first, 0, 0, frame.environment));
             }
             at(ready_of(part::TRUTH, 0, 0, 0, 0))
         }

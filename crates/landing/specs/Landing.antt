@@ -34,8 +34,8 @@ topOf base d = cond (eqb d 0) base (base + (d - 1))
 -- the frames of all threads
 pub record Stack : Type 0 where
   pub tops : List ℕ
-  pub envs : List ℕ
-  pub args : List ℕ
+  pub environments : List ℕ
+  pub arguments : List ℕ
 
 pub record Ended : Type 0 where
   pub stack : Stack
@@ -48,14 +48,14 @@ abbrev pub ended : Stack → Go → ℕ → Ended
 ended k g d = record { stack = k; landed = landedOf g d }
 
 abbrev pub frameAt : Stack → ℕ → Frame
-frameAt k i = unpackOf (getD (k .tops) i 0) (getD (k .envs) i 0) (getD (k .args) i 0)
+frameAt k i = unpackOf (getD (k .tops) i 0) (getD (k .environments) i 0) (getD (k .arguments) i 0)
 
 abbrev pub storeAt : Stack → ℕ → Frame → Stack
 storeAt k i f =
     record {
       tops = set (k .tops) i (packOf f .top);
-      envs = set (k .envs) i (packOf f .env);
-      args = set (k .args) i (packOf f .args);
+      environments = set (k .environments) i (packOf f .environment);
+      arguments = set (k .arguments) i (packOf f .arguments);
     }
 
 abbrev pub turnAt : List ℕ → List ℕ → ℕ → Stack → Go → ℕ → Turn

@@ -70,7 +70,7 @@ pub fn land(
     depth: usize,
 ) -> Landed
     requires { ⌜ (base ≤ 264) × (depth ≤ 32) ⌝ }
-    ensures { λ r. ⌜ (record { stack = record { tops = now (tops .exit); envs = now (environments .exit); args = now (arguments .exit) }; landed = r }) ≡ landOf 2100 (now (words .entry)) (now (roots .entry)) base (record { tops = now (tops .entry); envs = now (environments .entry); args = now (arguments .entry) }) from depth ⌝ }
+    ensures { λ r. ⌜ (record { stack = record { tops = now (tops .exit); environments = now (environments .exit); arguments = now (arguments .exit) }; landed = r }) ≡ landOf 2100 (now (words .entry)) (now (roots .entry)) base (record { tops = now (tops .entry); environments = now (environments .entry); arguments = now (arguments .entry) }) from depth ⌝ }
     ensures { λ r. ⌜ r .depth ≤ 32 ⌝ }
 {
     let mut go = from;
@@ -88,8 +88,8 @@ pub fn land(
             let packed = frame::pack(pushed);
             let above = base + turn.at;
             tops[above] = packed.top;
-            environments[above] = packed.env;
-            arguments[above] = packed.args;
+            environments[above] = packed.environment;
+            arguments[above] = packed.arguments;
         }
         let next = turn.go;
         go = next;

@@ -32,19 +32,19 @@ push-in g d f h = by (decLt d 32)
 
 want-in : (ws : List ℕ) (f : Frame) (i d : ℕ) → d ≤ 32 → Within (wantOf ws f i d)
 unfolding wantOf wantBy
-want-in ws f i d h = either-in (ltb (valueOf ws (f .env) i) 32) _ _ (h, h) (push-in (goRun i (f .env)) d f h)
+want-in ws f i d h = either-in (ltb (valueOf ws (f .environment) i) 32) _ _ (h, h) (push-in (goRun i (f .environment)) d f h)
 
 want-condition-in : (ws : List ℕ) (f : Frame) (i d : ℕ) → d ≤ 32 → Within (wantConditionOf ws f i d)
 unfolding wantConditionOf wantConditionBy
-want-condition-in ws f i d h = either-in (ltb (truthOf ws i) 2) _ _ (h, h) (push-in (goRunCondition i (f .env)) d f h)
+want-condition-in ws f i d h = either-in (ltb (truthOf ws i) 2) _ _ (h, h) (push-in (goRunCondition i (f .environment)) d f h)
 
 wanted-in : (s : Stage) (ws : List ℕ) (g : Go) (d : ℕ) → d ≤ 32 → Within (wantedBy s ws g d)
 wanted-in stage.Full ws g d h = (h, h)
 wanted-in stage.At ws g d h = (h, h)
 wanted-in stage.Run ws g d h = (h, h)
 wanted-in stage.RunCondition ws g d h = (h, h)
-wanted-in stage.Want ws g d h = want-in ws (g .frame) (g .i) d h
-wanted-in stage.WantCondition ws g d h = want-condition-in ws (g .frame) (g .i) d h
+wanted-in stage.Want ws g d h = want-in ws (g .frame) (g .operand) d h
+wanted-in stage.WantCondition ws g d h = want-condition-in ws (g .frame) (g .operand) d h
 wanted-in stage.List ws g d h = (h, h)
 wanted-in stage.Value ws g d h = (h, h)
 wanted-in stage.Truth ws g d h = (h, h)
@@ -71,8 +71,8 @@ step-by-in stage.RunCondition ws rs g d f h = down-in ws rs g d h
 step-by-in stage.Want ws rs g d f h = down-in ws rs g d h
 step-by-in stage.WantCondition ws rs g d f h = down-in ws rs g d h
 step-by-in stage.List ws rs g d f h = down-in ws rs g d h
-step-by-in stage.Value ws rs g d f h = back-in f (g .i) d h
-step-by-in stage.Truth ws rs g d f h = back-condition-in f (g .i) d h
+step-by-in stage.Value ws rs g d f h = back-in f (g .operand) d h
+step-by-in stage.Truth ws rs g d f h = back-condition-in f (g .operand) d h
 
 pub step-in : (ws rs : List ℕ) (g : Go) (d : ℕ) (f : Frame) → d ≤ 32 → Within (stepOf ws rs g d f)
 unfolding stepOf

@@ -24,15 +24,15 @@ pushOf g d f = cond (ltb d 32) (record { go = g; depth = d + 1; at = d; frame = 
 
 unfoldable pub wantBy : ℕ → Frame → ℕ → ℕ → Turn
 unfolding pushOf
-wantBy v f i d = cond (ltb v 32) (stayOf (feedOf f v) d) (pushOf (goRun i (f .env)) d f)
+wantBy v f i d = cond (ltb v 32) (stayOf (feedOf f v) d) (pushOf (goRun i (f .environment)) d f)
 
 unfoldable pub wantOf : List ℕ → Frame → ℕ → ℕ → Turn
 unfolding wantBy
-wantOf ws f i d = wantBy (valueOf ws (f .env) i) f i d
+wantOf ws f i d = wantBy (valueOf ws (f .environment) i) f i d
 
 unfoldable pub wantConditionBy : ℕ → Frame → ℕ → ℕ → Turn
 unfolding pushOf
-wantConditionBy b f i d = cond (ltb b 2) (stayOf (feedConditionOf f b) d) (pushOf (goRunCondition i (f .env)) d f)
+wantConditionBy b f i d = cond (ltb b 2) (stayOf (feedConditionOf f b) d) (pushOf (goRunCondition i (f .environment)) d f)
 
 unfoldable pub wantConditionOf : List ℕ → Frame → ℕ → ℕ → Turn
 unfolding wantConditionBy
@@ -42,60 +42,60 @@ unfoldable pub rootAt : List ℕ → ℕ → ℕ
 rootAt rs m = getD rs (m % 32) 0
 
 unfoldable pub listBy : List ℕ → ℕ → Frame → Go
-listBy rs w f = cond (eqb (tagOf w) 16) (goWant (restOf f (secondOf w)) (firstOf w)) (goAt (readyOf part.Run (rootAt rs (f .m)) 0 0 (f .args)))
+listBy rs w f = cond (eqb (tagOf w) 16) (goWant (restOf f (secondOf w)) (firstOf w)) (goAt (readyOf part.Run (rootAt rs (f .member)) 0 0 (f .arguments)))
 
 unfoldable pub listOf : List ℕ → List ℕ → Frame → Go
 unfolding listBy
-listOf ws rs f = listBy rs (wordAt ws (f .a)) f
+listOf ws rs f = listBy rs (wordAt ws (f .first)) f
 
 -- an expression whose operands need no look, by its tag k
 unfoldable pub simpleBy : ℕ → ℕ → ℕ → Go
-simpleBy k w env =
+simpleBy k w environment =
     cond (eqb k 2) (goAt (readyOf part.New (maskBits w) 0 0 0))
-    (cond (eqb k 7) (goAt (readyOf part.While (firstOf w) (secondOf w) 0 env))
-    (cond (eqb k 9) (goAt (readyOf part.Fork (firstOf w) 0 0 env))
+    (cond (eqb k 7) (goAt (readyOf part.While (firstOf w) (secondOf w) 0 environment))
+    (cond (eqb k 9) (goAt (readyOf part.Fork (firstOf w) 0 0 environment))
     (cond (eqb k 0) (goValue 0)
-    (cond (eqb k 1) (goValue (slotOf env (slotBits w))) (goAt noRule)))))
+    (cond (eqb k 1) (goValue (slotOf environment (slotBits w))) (goAt noRule)))))
 
 unfoldable pub simpleOf : ℕ → ℕ → Go
 unfolding simpleBy
-simpleOf w env = simpleBy (tagOf w) w env
+simpleOf w environment = simpleBy (tagOf w) w environment
 
 -- an expression, by its tag k
 unfoldable pub runBy : ℕ → ℕ → ℕ → Go
 unfolding simpleOf
-runBy k w env =
-    cond (eqb k 3) (goWant (framed kind.Read 0 0 (fieldBits w) env) (firstOf w))
-    (cond (eqb k 4) (goWant (framed kind.Write1 (writeSecond w) 0 (fieldBits w) env) (firstOf w))
-    (cond (eqb k 5) (goWant (letFrame (slotBits w) (letSecond w) env) (letFirst w))
-    (cond (eqb k 6) (goWantCondition (framed kind.If (secondOf w) (thirdOf w) 0 env) (firstOf w))
-    (cond (eqb k 8) (goList (framed kind.Call (listBits w) 0 (procedureBits w) env))
-    (cond (eqb k 10) (goWant (framed kind.Join 0 0 0 env) (firstOf w))
-    (cond (eqb k 11) (goWant (framed kind.Synch (secondOf w) 0 0 env) (firstOf w)) (simpleOf w env)))))))
+runBy k w environment =
+    cond (eqb k 3) (goWant (framed kind.Read 0 0 (fieldBits w) environment) (firstOf w))
+    (cond (eqb k 4) (goWant (framed kind.Write1 (writeSecond w) 0 (fieldBits w) environment) (firstOf w))
+    (cond (eqb k 5) (goWant (letFrame (slotBits w) (letSecond w) environment) (letFirst w))
+    (cond (eqb k 6) (goWantCondition (framed kind.If (secondOf w) (thirdOf w) 0 environment) (firstOf w))
+    (cond (eqb k 8) (goList (framed kind.Call (listBits w) 0 (procedureBits w) environment))
+    (cond (eqb k 10) (goWant (framed kind.Join 0 0 0 environment) (firstOf w))
+    (cond (eqb k 11) (goWant (framed kind.Synch (secondOf w) 0 0 environment) (firstOf w)) (simpleOf w environment)))))))
 
 unfoldable pub runOf : ℕ → ℕ → Go
 unfolding runBy
-runOf w env = runBy (tagOf w) w env
+runOf w environment = runBy (tagOf w) w environment
 
 -- a condition, by its tag k
 unfoldable pub runConditionBy : ℕ → ℕ → ℕ → Go
-runConditionBy k w env =
+runConditionBy k w environment =
     cond (eqb k 12) (goTruth 1)
-    (cond (eqb k 13) (goWantCondition (framed kind.Not 0 0 0 env) (firstOf w))
-    (cond (eqb k 14) (goWantCondition (framed kind.And (secondOf w) 0 0 env) (firstOf w))
-    (cond (eqb k 15) (goWant (framed kind.Equal1 (secondOf w) 0 0 env) (firstOf w)) (goAt noRule))))
+    (cond (eqb k 13) (goWantCondition (framed kind.Not 0 0 0 environment) (firstOf w))
+    (cond (eqb k 14) (goWantCondition (framed kind.And (secondOf w) 0 0 environment) (firstOf w))
+    (cond (eqb k 15) (goWant (framed kind.Equal1 (secondOf w) 0 0 environment) (firstOf w)) (goAt noRule))))
 
 unfoldable pub runConditionOf : ℕ → ℕ → Go
 unfolding runConditionBy
-runConditionOf w env = runConditionBy (tagOf w) w env
+runConditionOf w environment = runConditionBy (tagOf w) w environment
 
 -- ---- a way down, in three parts
 
 abbrev pub openedBy : Stage → List ℕ → Go → Go
 openedBy stage.Full ws g = g
 openedBy stage.At ws g = g
-openedBy stage.Run ws g = runOf (wordAt ws (g .i)) (g .frame .env)
-openedBy stage.RunCondition ws g = runConditionOf (wordAt ws (g .i)) (g .frame .env)
+openedBy stage.Run ws g = runOf (wordAt ws (g .operand)) (g .frame .environment)
+openedBy stage.RunCondition ws g = runConditionOf (wordAt ws (g .operand)) (g .frame .environment)
 openedBy stage.Want ws g = g
 openedBy stage.WantCondition ws g = g
 openedBy stage.List ws g = g
@@ -124,8 +124,8 @@ wantedBy stage.Full ws g d = stayOf g d
 wantedBy stage.At ws g d = stayOf g d
 wantedBy stage.Run ws g d = stayOf g d
 wantedBy stage.RunCondition ws g d = stayOf g d
-wantedBy stage.Want ws g d = wantOf ws (g .frame) (g .i) d
-wantedBy stage.WantCondition ws g d = wantConditionOf ws (g .frame) (g .i) d
+wantedBy stage.Want ws g d = wantOf ws (g .frame) (g .operand) d
+wantedBy stage.WantCondition ws g d = wantConditionOf ws (g .frame) (g .operand) d
 wantedBy stage.List ws g d = stayOf g d
 wantedBy stage.Value ws g d = stayOf g d
 wantedBy stage.Truth ws g d = stayOf g d
@@ -154,8 +154,8 @@ stepBy stage.RunCondition ws rs g d f = downOf ws rs g d
 stepBy stage.Want ws rs g d f = downOf ws rs g d
 stepBy stage.WantCondition ws rs g d f = downOf ws rs g d
 stepBy stage.List ws rs g d f = downOf ws rs g d
-stepBy stage.Value ws rs g d f = backOf f (g .i) d
-stepBy stage.Truth ws rs g d f = backConditionOf f (g .i) d
+stepBy stage.Value ws rs g d f = backOf f (g .operand) d
+stepBy stage.Truth ws rs g d f = backConditionOf f (g .operand) d
 
 unfoldable pub stepOf : List ℕ → List ℕ → Go → ℕ → Frame → Turn
 stepOf ws rs g d f = stepBy (g .stage) ws rs g d f

@@ -51,11 +51,11 @@ fn push(go: Go, depth: usize, frame: Frame) -> Turn
 fn want(words: &[usize; 1024], frame: Frame, term: usize, depth: usize) -> Turn
     ensures { λ r. ⌜ r ≡ wantOf (now (words .entry)) frame term depth ⌝ }
 {
-    let value = words::value(words, frame.env, term);
+    let value = words::value(words, frame.environment, term);
     if value < 32 {
         return stay(go::feed(frame, value), depth);
     }
-    push(go::run(term, frame.env), depth, frame)
+    push(go::run(term, frame.environment), depth, frame)
 }
 
 // The same of a condition.
@@ -66,7 +66,7 @@ fn want_condition(words: &[usize; 1024], frame: Frame, term: usize, depth: usize
     if truth < 2 {
         return stay(go::feed_condition(frame, truth), depth);
     }
-    push(go::run_condition(term, frame.env), depth, frame)
+    push(go::run_condition(term, frame.environment), depth, frame)
 }
 
 // The root of a procedure; an index over 31 wraps.
@@ -80,12 +80,12 @@ fn root(roots: &[usize; 32], procedure: usize) -> usize
 fn list(words: &[usize; 1024], roots: &[usize; 32], frame: Frame) -> Go
     ensures { λ r. ⌜ r ≡ listOf (now (words .entry)) (now (roots .entry)) frame ⌝ }
 {
-    let word = words::word(words, frame.a);
+    let word = words::word(words, frame.first);
     if words::tag(word) == 16 {
         return go::want(frame::rest(frame, words::second(word)), words::first(word));
     }
-    let term = root(roots, frame.m);
-    go::at(go::ready_of(part::RUN, term, 0, 0, frame.args))
+    let term = root(roots, frame.member);
+    go::at(go::ready_of(part::RUN, term, 0, 0, frame.arguments))
 }
 
 // Down from an expression whose operands need no look: a value, `new`, `while`, `fork`.
@@ -174,8 +174,8 @@ fn opened(words: &[usize; 1024], go: Go) -> Go
     let frame = go.frame;
     let stage = go.stage;
     match stage {
-        Stage::Run => run(words::word(words, go.i), frame.env),
-        Stage::RunCondition => run_condition(words::word(words, go.i), frame.env),
+        Stage::Run => run(words::word(words, go.operand), frame.environment),
+        Stage::RunCondition => run_condition(words::word(words, go.operand), frame.environment),
         _ => go,
     }
 }
@@ -199,8 +199,8 @@ fn wanted(words: &[usize; 1024], go: Go, depth: usize) -> Turn
     let frame = go.frame;
     let stage = go.stage;
     match stage {
-        Stage::Want => want(words, frame, go.i, depth),
-        Stage::WantCondition => want_condition(words, frame, go.i, depth),
+        Stage::Want => want(words, frame, go.operand, depth),
+        Stage::WantCondition => want_condition(words, frame, go.operand, depth),
         _ => stay(go, depth),
     }
 }
@@ -231,8 +231,8 @@ pub fn step(words: &[usize; 1024], roots: &[usize; 32], go: Go, depth: usize, fr
 {
     let stage = go.stage;
     match stage {
-        Stage::Value => back(frame, go.i, depth),
-        Stage::Truth => back_condition(frame, go.i, depth),
+        Stage::Value => back(frame, go.operand, depth),
+        Stage::Truth => back_condition(frame, go.operand, depth),
         _ => wanted(words, listed(words, roots, opened(words, go)), depth),
     }
 }

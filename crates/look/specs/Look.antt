@@ -18,13 +18,13 @@ objectBy p a =
     (cond (isPart part.Write p) (a % 32) (cond (isPart part.Join p) (a % 32) (cond (isPart part.Synch p) (a % 32) (cond (isPart part.Hold p) (a % 32) 0))))
 
 abbrev pub objectOf : Ready → ℕ
-objectOf r = objectBy (r .part) (r .a)
+objectOf r = objectBy (r .part) (r .first)
 
 unfoldable pub fieldBy : ℕ → ℕ → ℕ
 fieldBy p b = cond (isPart part.Read p) (b % 32) (cond (isPart part.Write p) (b % 32) 0)
 
 abbrev pub fieldOf : Ready → ℕ
-fieldOf r = fieldBy (r .part) (r .b)
+fieldOf r = fieldBy (r .part) (r .second)
 
 -- the mask's top bit, of 32, is field 0
 unfoldable pub hasOf : ℕ → ℕ → Bool
@@ -45,7 +45,7 @@ aboutField p = cond (isPart part.Read p) true (isPart part.Write p)
 -- what the pick of a thread with part p meets
 unfoldable pub lookBy : ℕ → ℕ → Head → Cell → Object → ℕ → Sight
 lookBy p mask h c t q =
-    cond (aboutField p) (lookField mask h c t (h .ready .b))
+    cond (aboutField p) (lookField mask h c t (h .ready .second))
     (cond (isPart part.Done p) sight.Finished
     (cond (isPart part.NoRule p) sight.NoRule (cond (isPart part.Join p) (lookJoin t q) (cond (isPart part.Synch p) (lookSynch h c) sight.Ready))))
 

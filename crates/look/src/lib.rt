@@ -27,11 +27,11 @@ pub fn object_of(ready: Ready) -> usize
 {
     let part = ready.part;
     match part {
-        part::READ => ready.a % 32,
-        part::WRITE => ready.a % 32,
-        part::JOIN => ready.a % 32,
-        part::SYNCH => ready.a % 32,
-        part::HOLD => ready.a % 32,
+        part::READ => ready.first % 32,
+        part::WRITE => ready.first % 32,
+        part::JOIN => ready.first % 32,
+        part::SYNCH => ready.first % 32,
+        part::HOLD => ready.first % 32,
         _ => 0,
     }
 }
@@ -42,8 +42,8 @@ pub fn field_of(ready: Ready) -> usize
 {
     let part = ready.part;
     match part {
-        part::READ => ready.b % 32,
-        part::WRITE => ready.b % 32,
+        part::READ => ready.second % 32,
+        part::WRITE => ready.second % 32,
         _ => 0,
     }
 }
@@ -114,7 +114,7 @@ pub fn look(mask: usize, head: Head, cell: Cell, thing: Object, other: usize) ->
     let ready = head.ready;
     let part = ready.part;
     if about_field(part) {
-        return look_field(mask, head, cell, thing, ready.b);
+        return look_field(mask, head, cell, thing, ready.second);
     }
     match part {
         part::DONE => Sight::Finished,

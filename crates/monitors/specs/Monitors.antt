@@ -13,13 +13,13 @@ use Rattle.state.specs.declared.acted.Acted.{Acted}
 use Rattle.state.specs.Acted.{entryOf, cellOf, actedOf, goOn}
 
 abbrev pub holdFrame : ℕ → ℕ → Frame
-holdFrame env o = record { kind = kind.Hold; a = 0; b = 0; m = 0; n = 0; env = env; args = o }
+holdFrame environment o = record { kind = kind.Hold; first = 0; second = 0; member = 0; count = 0; environment = environment; arguments = o }
 
 unfoldable pub actSynch : Counts → Head → Cell → ℕ → ℕ → ℕ → Acted
-actSynch n h c o t env =
+actSynch n h c o t environment =
     cond (isEmptyOf (c .keys))
-    (goOn room.Enough (goRun t env) n h c)
-    (actedOf room.Enough (goWant (holdFrame env o) t) n (joinOf (h .keys) (c .keys)) (cellOf (h .object) 0 emptySet) (entryOf 6 o 0 0))
+    (goOn room.Enough (goRun t environment) n h c)
+    (actedOf room.Enough (goWant (holdFrame environment o) t) n (joinOf (h .keys) (c .keys)) (cellOf (h .object) 0 emptySet) (entryOf 6 o 0 0))
 
 abbrev pub actHold : Counts → Head → ℕ → ℕ → Acted
 actHold n h o v = actedOf room.Enough (goValue v) n (h .keys) (cellOf 0 0 (h .keys)) (entryOf 7 o 0 0)

@@ -35,12 +35,12 @@ pub fn act_synch(
     let changed = cell_of(head.object, 0, none);
     let frame = Frame {
         kind: Kind::Hold,
-        a: 0,
-        b: 0,
-        m: 0,
-        n: 0,
-        env: environment,
-        args: object,
+        first: 0,
+        second: 0,
+        member: 0,
+        count: 0,
+        environment: environment,
+        arguments: object,
     };
     let go = go::want(frame, term);
     let entry = entry(6, object, 0, 0);

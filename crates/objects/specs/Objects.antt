@@ -27,4 +27,4 @@ actFork n h c =
     (actedWith room.Enough (goValue (n .objects)) (countsOf (n .threads + 1) (n .objects + 1) (n .keys)) (h .keys) c (entryOf 8 (n .objects) (n .threads) 0) 0 (n .threads)))
 
 abbrev pub actJoin : Counts → Head → Cell → Object → Head → ℕ → Acted
-actJoin n h c t q o = actedOf room.Enough (goValue (q .ready .a)) n (joinOf (h .keys) (q .keys)) c (entryOf 9 o (t .thread) (q .ready .a))
+actJoin n h c t q o = actedOf room.Enough (goValue (q .ready .first)) n (joinOf (h .keys) (q .keys)) c (entryOf 9 o (t .thread) (q .ready .first))

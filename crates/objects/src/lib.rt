@@ -67,7 +67,7 @@ pub fn act_join(
     let other_keys = other.keys;
     let all = keys.join(other_keys);
     let ready = other.ready;
-    let value = ready.a;
+    let value = ready.first;
     let go = go::value(value);
     let entry = entry(9, object, thing.thread, value);
     acted_of(Room::Enough, go, counts, all, cell, entry)

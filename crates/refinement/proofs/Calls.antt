@@ -45,13 +45,13 @@ root-fits {b} a loaded m l =
     (subst (λ (t : ℕ). t < terms b) (sym e) (u .root-below), subst (λ (t : ℕ). OfSort expression (tagAt b t)) (sym e) (u .root-sorted))
 
 module _ {b ws rs : List ℕ} {k : Stack} {base : ℕ} {S : List frames.Frame} (c : Placed b ws rs k base S) {n : ℕ} {X : frames.Found} where
-  list-by : (f : Frame) → Well S → f .m < procedures b → IsRest b (f .n) (f .a) → X ≡ downᵃ (nodeAt b) (terms b) S (f .m) (f .n) (slots (f .args)) (closed (f .a) (f .env))
-      → left (f .a) ≤ suc n → Rest b (f .a) (wordAt ws (f .a)) → Next b ws k base n X (wantedOf ws (listOf ws rs f) (length S))
+  list-by : (f : Frame) → Well S → f .member < procedures b → IsRest b (f .count) (f .first) → X ≡ downᵃ (nodeAt b) (terms b) S (f .member) (f .count) (slots (f .arguments)) (closed (f .first) (f .environment))
+      → left (f .first) ≤ suc n → Rest b (f .first) (wordAt ws (f .first)) → Next b ws k base n X (wantedOf ws (listOf ws rs f) (length S))
   unfolding listOf listBy
   list-by f w l s e m (Rest.more p q r z) =
-      let i = firstOf (wordAt ws (f .a)) in
-      let j = secondOf (wordAt ws (f .a)) in
-      let u = list-left (nodeAt b) (terms b) (ordered b (c .right)) (f .a) i j q in
+      let i = firstOf (wordAt ws (f .first)) in
+      let j = secondOf (wordAt ws (f .first)) in
+      let u = list-left (nodeAt b) (terms b) (ordered b (c .right)) (f .first) i j q in
       rw p
       (want c (restOf f j) i (record {
         a-fits = omega arith;
@@ -59,26 +59,26 @@ module _ {b ws rs : List ℕ} {k : Stack} {base : ℕ} {S : List frames.Frame} (
         m-fits = omega (arith, c .right .few-procedures);
         n-fits = omega (arith, s .2);
         sorted = (l, (z .below, z .sorted, omega (arith, s .2)));
-      }) w (child r) (e ∙ list-more (ordered b (c .right)) S (f .a) (slots (f .env)) (f .m) (f .n) (slots (f .args)) q)
+      }) w (child r) (e ∙ list-more (ordered b (c .right)) S (f .first) (slots (f .environment)) (f .member) (f .count) (slots (f .arguments)) q)
       (less-one (c .right) m r) (less-one (c .right) m z))
   list-by f w l s e m (Rest.end p q) =
       rw p
-      (stays c (goAt (readyOf part.Run (rootAt rs (f .m)) 0 0 (f .args))) (
+      (stays c (goAt (readyOf part.Run (rootAt rs (f .member)) 0 0 (f .arguments))) (
         part.Run,
         refl,
         (
           w,
-          root-fits (c .right) (c .loaded) (f .m) l,
+          root-fits (c .right) (c .loaded) (f .member) l,
           (
-            frames.Ready.call (f .m) (f .n) (slots (f .args)),
-            e ∙ list-end (ordered b (c .right)) S (f .a) (slots (f .env)) (f .m) (f .n) (slots (f .args)) q,
-            call-unlogged b (f .m) (f .n) (slots (f .args)) (closed (rootAt rs (f .m)) (f .args))
-                (ap (λ (t : ℕ). closure t (slots (f .args))) (root-table b (f .m) ∙ sym (root-is (c .right) (c .loaded) (f .m) l))),
+            frames.Ready.call (f .member) (f .count) (slots (f .arguments)),
+            e ∙ list-end (ordered b (c .right)) S (f .first) (slots (f .environment)) (f .member) (f .count) (slots (f .arguments)) q,
+            call-unlogged b (f .member) (f .count) (slots (f .arguments)) (closed (rootAt rs (f .member)) (f .arguments))
+                (ap (λ (t : ℕ). closure t (slots (f .arguments))) (root-table b (f .member) ∙ sym (root-is (c .right) (c .loaded) (f .member) l))),
           ),
         ),
       )
       (omega arith))
 
-  pub list-step : (f : Frame) → Well S → f .m < procedures b → IsRest b (f .n) (f .a) → X ≡ downᵃ (nodeAt b) (terms b) S (f .m) (f .n) (slots (f .args)) (closed (f .a) (f .env))
-      → left (f .a) ≤ suc n → Next b ws k base n X (wantedOf ws (listOf ws rs f) (length S))
-  list-step f w l s e m = list-by f w l s e m (rest-at b ws rs (c .right) (c .loaded) (f .a) (s .0) (s .1))
+  pub list-step : (f : Frame) → Well S → f .member < procedures b → IsRest b (f .count) (f .first) → X ≡ downᵃ (nodeAt b) (terms b) S (f .member) (f .count) (slots (f .arguments)) (closed (f .first) (f .environment))
+      → left (f .first) ≤ suc n → Next b ws k base n X (wantedOf ws (listOf ws rs f) (length S))
+  list-step f w l s e m = list-by f w l s e m (rest-at b ws rs (c .right) (c .loaded) (f .first) (s .0) (s .1))

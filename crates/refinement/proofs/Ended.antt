@@ -29,24 +29,24 @@ ends-hereᶜ : (P : Part) (a : ℕ) (X : frames.Found) (S : List frames.Frame) (
 unfolding machine.finishedWith
 ends-hereᶜ P a X S Q j e = inr (j, ap machine.finishedWith e)
 
-stands-ends : (b : List ℕ) (P : Part) (r : Ready) (S : List frames.Frame) (X : frames.Found) → StandsBy b P r S X → Ends (partNumber P) (r .a) X
+stands-ends : (b : List ℕ) (P : Part) (r : Ready) (S : List frames.Frame) (X : frames.Found) → StandsBy b P r S X → Ends (partNumber P) (r .first) X
 unfolding machine.finishedWith
 stands-ends b part.Done r S X h = inl (refl, ap machine.finishedWith (h .1), h .2)
 stands-ends b part.NoRule r S X h = absurd h
-stands-ends b part.Run r S X h = ends-here part.Run (r .a) X S _ refl (h .2 .1)
-stands-ends b part.RunCondition r S X h = ends-hereᶜ part.RunCondition (r .a) X S _ refl (h .2)
-stands-ends b part.Val r S X h = ends-here part.Val (r .a) X S _ refl (h .2 .1)
-stands-ends b part.Truth r S X h = ends-hereᶜ part.Truth (r .a) X S _ refl (h .2 .1)
-stands-ends b part.While r S X h = ends-here part.While (r .a) X S _ refl (h .3)
-stands-ends b part.Body r S X h = ends-here part.Body (r .a) X S _ refl (h .3)
-stands-ends b part.Again r S X h = ends-here part.Again (r .a) X S _ refl (h .3 .1)
-stands-ends b part.New r S X h = ends-here part.New (r .a) X S _ refl (h .3)
-stands-ends b part.Read r S X h = ends-here part.Read (r .a) X S _ refl (h .4)
-stands-ends b part.Write r S X h = ends-here part.Write (r .a) X S _ refl (h .5)
-stands-ends b part.Fork r S X h = ends-here part.Fork (r .a) X S _ refl (h .2)
-stands-ends b part.Join r S X h = ends-here part.Join (r .a) X S _ refl (h .2)
-stands-ends b part.Synch r S X h = ends-here part.Synch (r .a) X S _ refl (h .3)
-stands-ends b part.Hold r S X h = ends-here part.Hold (r .a) X S _ refl (h .3)
+stands-ends b part.Run r S X h = ends-here part.Run (r .first) X S _ refl (h .2 .1)
+stands-ends b part.RunCondition r S X h = ends-hereᶜ part.RunCondition (r .first) X S _ refl (h .2)
+stands-ends b part.Val r S X h = ends-here part.Val (r .first) X S _ refl (h .2 .1)
+stands-ends b part.Truth r S X h = ends-hereᶜ part.Truth (r .first) X S _ refl (h .2 .1)
+stands-ends b part.While r S X h = ends-here part.While (r .first) X S _ refl (h .3)
+stands-ends b part.Body r S X h = ends-here part.Body (r .first) X S _ refl (h .3)
+stands-ends b part.Again r S X h = ends-here part.Again (r .first) X S _ refl (h .3 .1)
+stands-ends b part.New r S X h = ends-here part.New (r .first) X S _ refl (h .3)
+stands-ends b part.Read r S X h = ends-here part.Read (r .first) X S _ refl (h .4)
+stands-ends b part.Write r S X h = ends-here part.Write (r .first) X S _ refl (h .5)
+stands-ends b part.Fork r S X h = ends-here part.Fork (r .first) X S _ refl (h .2)
+stands-ends b part.Join r S X h = ends-here part.Join (r .first) X S _ refl (h .2)
+stands-ends b part.Synch r S X h = ends-here part.Synch (r .first) X S _ refl (h .3)
+stands-ends b part.Hold r S X h = ends-here part.Hold (r .first) X S _ refl (h .3)
 
-pub ends : (b : List ℕ) (r : Ready) (S : List frames.Frame) (X : frames.Found) → Stands b r S X → Ends (r .part) (r .a) X
-ends b r S X (P, e, h) = along (λ (q : ℕ). Ends q (r .a) X) (sym e) (stands-ends b P r S X h)
+pub ends : (b : List ℕ) (r : Ready) (S : List frames.Frame) (X : frames.Found) → Stands b r S X → Ends (r .part) (r .first) X
+ends b r S X (P, e, h) = along (λ (q : ℕ). Ends q (r .first) X) (sym e) (stands-ends b P r S X h)

@@ -95,19 +95,19 @@ module _ (b : List ℕ) where
   -- ---- a value
 
   module _ (S : List frames.Frame) (X : frames.Found) where
-    second-fine : (k : Kind) (f : Frame) (v : ℕ) → f .m < 32 → SortedBy b k (secondFrame k f v) → Fine b (secondFrame k f v)
+    second-fine : (k : Kind) (f : Frame) (v : ℕ) → f .member < 32 → SortedBy b k (secondFrame k f v) → Fine b (secondFrame k f v)
     second-fine k f v l s = record { a-fits = omega arith; b-fits = omega arith; m-fits = l; n-fits = omega arith; sorted = s }
 
-    feed-by : (k : Kind) (f : Frame) (v : ℕ) → f .m < 32 → f .n < 16 → SortedBy b k f → v < 32 → Well (frameBy k f ∷ S)
+    feed-by : (k : Kind) (f : Frame) (v : ℕ) → f .member < 32 → f .count < 16 → SortedBy b k f → v < 32 → Well (frameBy k f ∷ S)
         → X ≡ up (nodeAt b) (terms b) (frameBy k f ∷ S) v → Goes b (feedBy k f v) S X
     unfolding up upBy enter
     feed-by kind.Read f v hm hn s l w e = (part.Read, refl, (w, l, s, hm, e))
     feed-by kind.Write1 f v hm hn s l w e = (second-fine kind.Write2 f v hm (s .0, l), w, s .1, e)
     feed-by kind.Write2 f v hm hn s l w e = (part.Write, refl, (w, s .1, s .0, hm, l, e))
     feed-by kind.Call f v hm hn s l w e =
-        let q : f .n % 16 + 1 ≡ suc (f .n) = omega arith in
-        let r : f .n < 8 = omega (arith, s .1 .2) in
-        (w, refl, s .0, rw q (s .1), rw (q, bound (f .args) (f .n) v r l) e)
+        let q : f .count % 16 + 1 ≡ suc (f .count) = omega arith in
+        let r : f .count < 8 = omega (arith, s .1 .2) in
+        (w, refl, s .0, rw q (s .1), rw (q, bound (f .arguments) (f .count) v r l) e)
     feed-by kind.Let f v hm hn s l w e = (
       part.Run,
       refl,
@@ -115,9 +115,9 @@ module _ (b : List ℕ) where
         w,
         s .1,
         (
-          frames.Ready.letIn (binderOf (f .n)) v (closed (f .a) (f .env)),
+          frames.Ready.letIn (binderOf (f .count)) v (closed (f .first) (f .environment)),
           e,
-          let-unlogged (binderOf (f .n)) v (closed (f .a) (f .env)) (closed (f .a) (bindOf (f .env) (f .n) v)) (ap (λ (ρ : Slots). closure (f .a) ρ) (sym (let-bound (f .env) (f .n) v (s .0) l))),
+          let-unlogged (binderOf (f .count)) v (closed (f .first) (f .environment)) (closed (f .first) (bindOf (f .environment) (f .count) v)) (ap (λ (ρ : Slots). closure (f .first) ρ) (sym (let-bound (f .environment) (f .count) v (s .0) l))),
         ),
       ),
     )
@@ -125,13 +125,13 @@ module _ (b : List ℕ) where
     feed-by kind.Hold f v hm hn s l w e = (part.Hold, refl, (w, s, l, e))
     feed-by kind.Join f v hm hn s l w e = (part.Join, refl, (w, l, e))
     feed-by kind.Equal1 f v hm hn s l w e = (second-fine kind.Equal2 f v hm l, w, s, e)
-    feed-by kind.Equal2 f v hm hn s l w e = (part.Truth, refl, (w, same-small (f .args) v, (frames.Readyᶜ.equal (f .args) v, e, equal-unlogged S (f .args) v)))
+    feed-by kind.Equal2 f v hm hn s l w e = (part.Truth, refl, (w, same-small (f .arguments) v, (frames.Readyᶜ.equal (f .arguments) v, e, equal-unlogged S (f .arguments) v)))
     feed-by kind.If f v hm hn s l w e = absurd w
     feed-by kind.And f v hm hn s l w e = absurd w
     feed-by kind.Not f v hm hn s l w e = absurd w
     feed-by kind.Test f v hm hn s l w e = absurd w
     feed-by kind.Body f v hm hn s l w e =
-        (part.Again, refl, (w, s .0, s .1, (frames.Ready.whileBody v (branches (f .a) (f .b) (slots (f .env))), e, again-unlogged v (branches (f .a) (f .b) (slots (f .env))))))
+        (part.Again, refl, (w, s .0, s .1, (frames.Ready.whileBody v (branches (f .first) (f .second) (slots (f .environment))), e, again-unlogged v (branches (f .first) (f .second) (slots (f .environment))))))
 
     -- an expression's value
     pub feed-goes : (f : Frame) (v : ℕ) → Fine b f → v < 32 → Well (frameOf f ∷ S) → X ≡ up (nodeAt b) (terms b) (frameOf f ∷ S) v → Goes b (feedOf f v) S X
@@ -162,14 +162,14 @@ module _ (b : List ℕ) where
     feed-condition-by kind.Equal1 f x q s l w e = absurd w
     feed-condition-by kind.Equal2 f x q s l w e = absurd w
     feed-condition-by kind.If f x q s l w e =
-        let y = branches (f .a) (f .b) (slots (f .env)) in
+        let y = branches (f .first) (f .second) (slots (f .environment)) in
         kind-if kind.If f x q
-        (choose-goes (eqb x 1) (goAt (readyOf part.Run (f .a) 0 0 (f .env))) (goAt (readyOf part.Run (f .b) 0 0 (f .env)))
+        (choose-goes (eqb x 1) (goAt (readyOf part.Run (f .first) 0 0 (f .environment))) (goAt (readyOf part.Run (f .second) 0 0 (f .environment)))
         (λ t. (part.Run, refl, (w, s .0, (frames.Ready.if true y, e ∙ ap (upᶜ (nodeAt b) (terms b) (frames.Frame.if y ∷ S)) t, if-unlogged true y))))
         (λ t. (part.Run, refl, (w, s .1, (frames.Ready.if false y, e ∙ ap (upᶜ (nodeAt b) (terms b) (frames.Frame.if y ∷ S)) t, if-unlogged false y)))))
     feed-condition-by kind.And f x q s l w e =
-        let y = closed (f .a) (f .env) in
-        choose-goes (eqb x 1) (goAt (readyOf part.RunCondition (f .a) 0 0 (f .env))) (goAt (readyOf part.Truth 0 0 0 0))
+        let y = closed (f .first) (f .environment) in
+        choose-goes (eqb x 1) (goAt (readyOf part.RunCondition (f .first) 0 0 (f .environment))) (goAt (readyOf part.Truth 0 0 0 0))
         (λ t. (part.RunCondition, refl, (w, s, e ∙ ap (upᶜ (nodeAt b) (terms b) (frames.Frame.and y ∷ S)) t)))
         (λ t. (part.Truth, refl, (w, omega arith, (frames.Readyᶜ.and false y, e ∙ ap (upᶜ (nodeAt b) (terms b) (frames.Frame.and y ∷ S)) t, and-unlogged S y))))
     feed-condition-by kind.Not f x q s l w e =
@@ -177,9 +177,9 @@ module _ (b : List ℕ) where
         (λ t. (w, omega arith, e ∙ ap (upᶜ (nodeAt b) (terms b) (frames.Frame.not ∷ S)) t))
         (λ t. (part.Truth, refl, (w, omega arith, (frames.Readyᶜ.notFalse, e ∙ ap (upᶜ (nodeAt b) (terms b) (frames.Frame.not ∷ S)) t, not-unlogged S))))
     feed-condition-by kind.Test f x q s l w e =
-        let y = branches (f .a) (f .b) (slots (f .env)) in
+        let y = branches (f .first) (f .second) (slots (f .environment)) in
         kind-if kind.Test f x q
-        (choose-goes (eqb x 1) (goAt (readyOf part.Body (f .a) (f .b) 0 (f .env))) (goAt (readyOf part.Val 0 0 0 0))
+        (choose-goes (eqb x 1) (goAt (readyOf part.Body (f .first) (f .second) 0 (f .environment))) (goAt (readyOf part.Val 0 0 0 0))
         (λ t. (part.Body, refl, (w, s .0, s .1, e ∙ ap (upᶜ (nodeAt b) (terms b) (frames.Frame.whileTest y ∷ S)) t)))
         (λ t. (part.Val, refl, (w, refl, (frames.Ready.whileTest false y, e ∙ ap (upᶜ (nodeAt b) (terms b) (frames.Frame.whileTest y ∷ S)) t, test-unlogged y)))))
     feed-condition-by kind.Body f x q s l w e = absurd w

@@ -67,11 +67,11 @@ module _ {b : List ℕ} {m : engine.Machine} {s : machine.State} {p : ℕ} (move
       ∙ ap₂ (λ (i j : ℕ). cond (hasOf (getD ts j noThing .mask) f) (some (cellMeant (hasOf (volatiles b) f) (getD cs i noCell))) none) (sym ei) (sym ej)
 
   -- E-READ, E-READV
-  pub read-meets : (o f w env i j : ℕ) → i ≡ o * 32 + f → j ≡ o → Well S → o < 32 → 0 < f → f < 32 → t .code ≡ frames.Found.here S (frames.Ready.read o f)
-      → MeetsBy (lookField (volatiles b) (headFor m p (readyOf part.Read o f w env)) (getD cs i noCell) (getD ts j noThing) f) p (readyOf part.Read o f w env) (machine.attempt (tableOf b) s p)
-      (Acts mover (readyOf part.Read o f w env) i (actRead (volatiles b) n (headFor m p (readyOf part.Read o f w env)) (getD cs i noCell) o f))
+  pub read-meets : (o f w environment i j : ℕ) → i ≡ o * 32 + f → j ≡ o → Well S → o < 32 → 0 < f → f < 32 → t .code ≡ frames.Found.here S (frames.Ready.read o f)
+      → MeetsBy (lookField (volatiles b) (headFor m p (readyOf part.Read o f w environment)) (getD cs i noCell) (getD ts j noThing) f) p (readyOf part.Read o f w environment) (machine.attempt (tableOf b) s p)
+      (Acts mover (readyOf part.Read o f w environment) i (actRead (volatiles b) n (headFor m p (readyOf part.Read o f w environment)) (getD cs i noCell) o f))
   unfolding objectBy fieldBy lackBy lookField actRead machine.act machine.readAct machine.around machine.learn playing.noRoomBefore land.go tableOf
-  read-meets o f w env i j ei ej well ho zf hf code =
+  read-meets o f w environment i j ei ej well ho zf hf code =
       by (hasOf (getD ts j noThing .mask) f) (hasOf (volatiles b) f) (holdsOf ks (c .key)) (field-found o f i j ei ej o-there ho zf hf) (volatile-bit b f hf) (one-key c ks (t .keys) fit fits known)
     where
       c : Cell
@@ -91,8 +91,8 @@ module _ {b : List ℕ} {m : engine.Machine} {s : machine.State} {p : ℕ} (move
           omega arith
 
       by : (x y z : Bool) → machine.lookup s o f ≡ cond x (some (cellMeant y c)) none → tableOf b .isVolatile f ≡ y → subset (cellMeant false c .keys) (t .keys) ≡ z
-          → MeetsBy (cond x (cond y sight.Ready (cond z sight.Ready sight.Lacking)) sight.NoField) p (readyOf part.Read o f w env) (machine.attempt (tableOf b) s p)
-          (Acts mover (readyOf part.Read o f w env) i (cond y
+          → MeetsBy (cond x (cond y sight.Ready (cond z sight.Ready sight.Lacking)) sight.NoField) p (readyOf part.Read o f w environment) (machine.attempt (tableOf b) s p)
+          (Acts mover (readyOf part.Read o f w environment) i (cond y
           (actedOf room.Enough (goValue (c .value)) n (joinOf ks (c .keys)) c (entryOf 4 o f (c .value)))
           (actedOf room.Enough (goValue (c .value)) n ks c (entryOf 2 o f (c .value)))))
       by false y z e v q =
@@ -124,11 +124,11 @@ module _ {b : List ℕ} {m : engine.Machine} {s : machine.State} {p : ℕ} (move
       )
 
   -- E-WRITE, E-WRITEV
-  pub write-meets : (o f w env i j : ℕ) → i ≡ o * 32 + f → j ≡ o → Well S → o < 32 → 0 < f → f < 32 → w < 32 → t .code ≡ frames.Found.here S (frames.Ready.write o f w)
-      → MeetsBy (lookField (volatiles b) (headFor m p (readyOf part.Write o f w env)) (getD cs i noCell) (getD ts j noThing) f) p (readyOf part.Write o f w env) (machine.attempt (tableOf b) s p)
-      (Acts mover (readyOf part.Write o f w env) i (actWrite (volatiles b) n (headFor m p (readyOf part.Write o f w env)) (getD cs i noCell) o f w))
+  pub write-meets : (o f w environment i j : ℕ) → i ≡ o * 32 + f → j ≡ o → Well S → o < 32 → 0 < f → f < 32 → w < 32 → t .code ≡ frames.Found.here S (frames.Ready.write o f w)
+      → MeetsBy (lookField (volatiles b) (headFor m p (readyOf part.Write o f w environment)) (getD cs i noCell) (getD ts j noThing) f) p (readyOf part.Write o f w environment) (machine.attempt (tableOf b) s p)
+      (Acts mover (readyOf part.Write o f w environment) i (actWrite (volatiles b) n (headFor m p (readyOf part.Write o f w environment)) (getD cs i noCell) o f w))
   unfolding objectBy fieldBy lackBy lookField actWrite machine.act machine.writeAct machine.around machine.learn machine.store machine.useKey playing.noRoomBefore land.go tableOf
-  write-meets o f w env i j ei ej well ho zf hf hw code =
+  write-meets o f w environment i j ei ej well ho zf hf hw code =
       by (hasOf (getD ts j noThing .mask) f) (hasOf (volatiles b) f) (holdsOf ks (c .key)) (leb 256 (n .keys)) (field-found o f i j ei ej o-there ho zf hf) refl (volatile-bit b f hf) (one-key c ks (t .keys) fit fits known) refl
     where
       c : Cell
@@ -151,8 +151,8 @@ module _ {b : List ℕ} {m : engine.Machine} {s : machine.State} {p : ℕ} (move
 
       by : (x y z u : Bool) → machine.lookup s o f ≡ cond x (some (cellMeant y c)) none → hasOf (volatiles b) f ≡ y → tableOf b .isVolatile f ≡ y
           → subset (cellMeant false c .keys) (t .keys) ≡ z → leb 256 (n .keys) ≡ u
-          → MeetsBy (cond x (cond y sight.Ready (cond z sight.Ready sight.Lacking)) sight.NoField) p (readyOf part.Write o f w env) (machine.attempt (tableOf b) s p)
-          (Acts mover (readyOf part.Write o f w env) i (cond y
+          → MeetsBy (cond x (cond y sight.Ready (cond z sight.Ready sight.Lacking)) sight.NoField) p (readyOf part.Write o f w environment) (machine.attempt (tableOf b) s p)
+          (Acts mover (readyOf part.Write o f w environment) i (cond y
           (actedOf room.Enough (goValue w) n ks (cellOf w (c .key) (joinOf (c .keys) ks)) (entryOf 5 o f w))
           (cond u
           (actedOf room.NoKey (goValue w) n ks c (entryOf 0 0 0 0))

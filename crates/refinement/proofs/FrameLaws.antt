@@ -78,18 +78,18 @@ top-n : (n m b a c : ℕ) → c < 16 → n < 16 → top-of n m b a c / 536870912
 unfolding top-of
 top-n n m b a c h l = omega arith
 
-unpacked : (f : Frame) → f .a < 1024 → f .b < 1024 → f .m < 32 → f .n < 16 → unpackOf (packOf f .top) (packOf f .env) (packOf f .args) ≡ f
+unpacked : (f : Frame) → f .first < 1024 → f .second < 1024 → f .member < 32 → f .count < 16 → unpackOf (packOf f .top) (packOf f .environment) (packOf f .arguments) ≡ f
 unfolding unpackOf packOf top-of
 unpacked f ha hb hm hn =
     let c = codeOf (f .kind) in
     let s = code-small (f .kind) in
     rw (
-      top-code (f .n) (f .m) (f .b) (f .a) c s,
+      top-code (f .count) (f .member) (f .second) (f .first) c s,
       code-kind (f .kind),
-      top-a (f .n) (f .m) (f .b) (f .a) c s ha,
-      top-b (f .n) (f .m) (f .b) (f .a) c s hb,
-      top-m (f .n) (f .m) (f .b) (f .a) c s hm,
-      top-n (f .n) (f .m) (f .b) (f .a) c s hn,
+      top-a (f .count) (f .member) (f .second) (f .first) c s ha,
+      top-b (f .count) (f .member) (f .second) (f .first) c s hb,
+      top-m (f .count) (f .member) (f .second) (f .first) c s hm,
+      top-n (f .count) (f .member) (f .second) (f .first) c s hn,
     )
 
 -- ---- a store
@@ -97,22 +97,22 @@ unpacked f ha hb hm hn =
 read-other : (k : Stack) (i : ℕ) (f : Frame) (j : ℕ) → (j ≡ i → ⊥) → frameAt (storeAt k i f) j ≡ frameAt k j
 unfolding unpackOf
 read-other k i f j h =
-    rw (getD-set-other (k .tops) i j (packOf f .top) 0 h, getD-set-other (k .envs) i j (packOf f .env) 0 h, getD-set-other (k .args) i j (packOf f .args) 0 h)
+    rw (getD-set-other (k .tops) i j (packOf f .top) 0 h, getD-set-other (k .environments) i j (packOf f .environment) 0 h, getD-set-other (k .arguments) i j (packOf f .arguments) 0 h)
 
 module _ (b : List ℕ) where
   read-back : (k : Stack) (i : ℕ) (f : Frame) → Sized b k → i < 297 → Fine b f → frameAt (storeAt k i f) i ≡ f
   read-back k i f s h n =
       let p : i < length (k .tops) = omega (arith, s .tops-size) in
-      let q : i < length (k .envs) = omega (arith, s .envs-size) in
-      let r : i < length (k .args) = omega (arith, s .args-size) in
-      rw (getD-set-same (k .tops) i (packOf f .top) 0 p, getD-set-same (k .envs) i (packOf f .env) 0 q, getD-set-same (k .args) i (packOf f .args) 0 r)
+      let q : i < length (k .environments) = omega (arith, s .environments-size) in
+      let r : i < length (k .arguments) = omega (arith, s .arguments-size) in
+      rw (getD-set-same (k .tops) i (packOf f .top) 0 p, getD-set-same (k .environments) i (packOf f .environment) 0 q, getD-set-same (k .arguments) i (packOf f .arguments) 0 r)
       (unpacked f (n .a-fits) (n .b-fits) (n .m-fits) (n .n-fits))
 
   still-sized : (k : Stack) (i : ℕ) (f : Frame) → Sized b k → Sized b (storeAt k i f)
   still-sized k i f s = record {
     tops-size = length-set (k .tops) i (packOf f .top) ∙ s .tops-size;
-    envs-size = length-set (k .envs) i (packOf f .env) ∙ s .envs-size;
-    args-size = length-set (k .args) i (packOf f .args) ∙ s .args-size;
+    environments-size = length-set (k .environments) i (packOf f .environment) ∙ s .environments-size;
+    arguments-size = length-set (k .arguments) i (packOf f .arguments) ∙ s .arguments-size;
   }
 
   -- a store past the frames leaves them

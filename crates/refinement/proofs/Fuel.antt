@@ -60,20 +60,20 @@ module _ (ws : List ℕ) (n : ℕ) where
   abbrev pub EnoughBy : Stage → Go → Type 0
   EnoughBy stage.Full g = 1 ≤ n
   EnoughBy stage.At g = 1 ≤ n
-  EnoughBy stage.Run g = (left (g .i) ≤ n) × (valueOf ws (g .frame .env) (g .i) < 32 → 2055 ≤ n)
-  EnoughBy stage.RunCondition g = left (g .i) ≤ n
-  EnoughBy stage.Want g = (left (g .i) < n) × (needs (g .frame .kind) (g .frame .a) < n)
-  EnoughBy stage.WantCondition g = left (g .i) < n
-  EnoughBy stage.List g = left (g .frame .a) ≤ n
+  EnoughBy stage.Run g = (left (g .operand) ≤ n) × (valueOf ws (g .frame .environment) (g .operand) < 32 → 2055 ≤ n)
+  EnoughBy stage.RunCondition g = left (g .operand) ≤ n
+  EnoughBy stage.Want g = (left (g .operand) < n) × (needs (g .frame .kind) (g .frame .first) < n)
+  EnoughBy stage.WantCondition g = left (g .operand) < n
+  EnoughBy stage.List g = left (g .frame .first) ≤ n
   EnoughBy stage.Value g = 2054 ≤ n
-  EnoughBy stage.Truth g = g .i + 2 ≤ n
+  EnoughBy stage.Truth g = g .operand + 2 ≤ n
 
   abbrev pub Enough : Go → Type 0
   Enough g = EnoughBy (g .stage) g
 
   -- ---- what a frame does with a value
 
-  feed-by : (k : Kind) (f : Frame) (v : ℕ) → needs k (f .a) ≤ n → Enough (feedBy k f v)
+  feed-by : (k : Kind) (f : Frame) (v : ℕ) → needs k (f .first) ≤ n → Enough (feedBy k f v)
   feed-by kind.Read f v h = h
   feed-by kind.Write1 f v h = (omega arith, omega arith)
   feed-by kind.Write2 f v h = h
@@ -90,7 +90,7 @@ module _ (ws : List ℕ) (n : ℕ) where
   feed-by kind.Test f v h = h
   feed-by kind.Body f v h = h
 
-  pub feed-enough : (f : Frame) (v : ℕ) → needs (f .kind) (f .a) ≤ n → Enough (feedOf f v)
+  pub feed-enough : (f : Frame) (v : ℕ) → needs (f .kind) (f .first) ≤ n → Enough (feedOf f v)
   unfolding feedOf
   feed-enough f v h = feed-by (f .kind) f v h
 
@@ -109,10 +109,10 @@ module _ (ws : List ℕ) (n : ℕ) where
   feed-if-by kind.Join f x h = h
   feed-if-by kind.Equal1 f x h = h
   feed-if-by kind.Equal2 f x h = h
-  feed-if-by kind.If f x h = either (eqb x 1) (goAt (readyOf part.Run (f .a) 0 0 (f .env))) (goAt (readyOf part.Run (f .b) 0 0 (f .env))) h h
+  feed-if-by kind.If f x h = either (eqb x 1) (goAt (readyOf part.Run (f .first) 0 0 (f .environment))) (goAt (readyOf part.Run (f .second) 0 0 (f .environment))) h h
   feed-if-by kind.And f x h = h
   feed-if-by kind.Not f x h = h
-  feed-if-by kind.Test f x h = either (eqb x 1) (goAt (readyOf part.Body (f .a) (f .b) 0 (f .env))) (goAt (readyOf part.Val 0 0 0 0)) h h
+  feed-if-by kind.Test f x h = either (eqb x 1) (goAt (readyOf part.Body (f .first) (f .second) 0 (f .environment))) (goAt (readyOf part.Val 0 0 0 0)) h h
   feed-if-by kind.Body f x h = h
 
   feed-if : (f : Frame) (x : ℕ) → 1 ≤ n → Enough (feedIfOf f x)
@@ -131,7 +131,7 @@ module _ (ws : List ℕ) (n : ℕ) where
   feed-condition-by kind.Equal1 f x h l = feed-if f x l
   feed-condition-by kind.Equal2 f x h l = feed-if f x l
   feed-condition-by kind.If f x h l = feed-if f x l
-  feed-condition-by kind.And f x h l = either (eqb x 1) (goAt (readyOf part.RunCondition (f .a) 0 0 (f .env))) (goAt (readyOf part.Truth 0 0 0 0)) l l
+  feed-condition-by kind.And f x h l = either (eqb x 1) (goAt (readyOf part.RunCondition (f .first) 0 0 (f .environment))) (goAt (readyOf part.Truth 0 0 0 0)) l l
   feed-condition-by kind.Not f x h l = at (eqb x 1) (λ e. omega (arith, eqb-true x 1 e))
     where
       at : (t : Bool) → (t ≡ true → 2 ≤ n) → Enough (cond t (goTruth 0) (goAt (readyOf part.Truth 1 0 0 0)))

@@ -68,7 +68,7 @@ Entered p e (some r) = Written p e r
 -- thread p, at part r, sees w; where it is ready, Z holds of its move
 abbrev pub MeetsBy : Sight → ℕ → Ready → machine.Attempt → (machine.Move → Type 0) → Type 0
 MeetsBy sight.Absent p r A Z = A ≡ machine.Attempt.absent
-MeetsBy sight.Finished p r A Z = A ≡ machine.Attempt.finished (r .a)
+MeetsBy sight.Finished p r A Z = A ≡ machine.Attempt.finished (r .first)
 MeetsBy sight.Ready p r A Z = (v : machine.Move) × (A ≡ machine.Attempt.moves v) × Z v
 MeetsBy sight.Monitor p r A Z = A ≡ machine.Attempt.waiting (forMonitor (objectOf r))
 MeetsBy sight.Join p r A Z = A ≡ machine.Attempt.waiting (forJoin (objectOf r))

@@ -49,21 +49,21 @@ abbrev pub closed : ℕ → ℕ → Closure
 closed t e = closure t (slots e)
 
 abbrev pub frameBy : Kind → Frame → frames.Frame
-frameBy kind.Read f = frames.Frame.read (f .m)
-frameBy kind.Write1 f = frames.Frame.write₁ (f .m) (closed (f .a) (f .env))
-frameBy kind.Write2 f = frames.Frame.write₂ (f .args) (f .m)
-frameBy kind.Call f = frames.Frame.call (f .m) (f .n) (slots (f .args)) (closed (f .a) (f .env))
-frameBy kind.Let f = frames.Frame.letIn (binderOf (f .n)) (closed (f .a) (f .env))
-frameBy kind.Synch f = frames.Frame.synch (closed (f .a) (f .env))
-frameBy kind.Hold f = frames.Frame.hold (f .args)
+frameBy kind.Read f = frames.Frame.read (f .member)
+frameBy kind.Write1 f = frames.Frame.write₁ (f .member) (closed (f .first) (f .environment))
+frameBy kind.Write2 f = frames.Frame.write₂ (f .arguments) (f .member)
+frameBy kind.Call f = frames.Frame.call (f .member) (f .count) (slots (f .arguments)) (closed (f .first) (f .environment))
+frameBy kind.Let f = frames.Frame.letIn (binderOf (f .count)) (closed (f .first) (f .environment))
+frameBy kind.Synch f = frames.Frame.synch (closed (f .first) (f .environment))
+frameBy kind.Hold f = frames.Frame.hold (f .arguments)
 frameBy kind.Join f = frames.Frame.join
-frameBy kind.Equal1 f = frames.Frame.equal₁ (closed (f .a) (f .env))
-frameBy kind.Equal2 f = frames.Frame.equal₂ (f .args)
-frameBy kind.If f = frames.Frame.if (branches (f .a) (f .b) (slots (f .env)))
-frameBy kind.And f = frames.Frame.and (closed (f .a) (f .env))
+frameBy kind.Equal1 f = frames.Frame.equal₁ (closed (f .first) (f .environment))
+frameBy kind.Equal2 f = frames.Frame.equal₂ (f .arguments)
+frameBy kind.If f = frames.Frame.if (branches (f .first) (f .second) (slots (f .environment)))
+frameBy kind.And f = frames.Frame.and (closed (f .first) (f .environment))
 frameBy kind.Not f = frames.Frame.not
-frameBy kind.Test f = frames.Frame.whileTest (branches (f .a) (f .b) (slots (f .env)))
-frameBy kind.Body f = frames.Frame.whileBody (branches (f .a) (f .b) (slots (f .env)))
+frameBy kind.Test f = frames.Frame.whileTest (branches (f .first) (f .second) (slots (f .environment)))
+frameBy kind.Body f = frames.Frame.whileBody (branches (f .first) (f .second) (slots (f .environment)))
 
 -- the frame that a code frame stands for
 abbrev pub frameOf : Frame → frames.Frame
@@ -82,28 +82,28 @@ module _ (b : List ℕ) where
   IsRest n t = (t < terms b) × OfSort list (tagAt b t) × (n + count (treeᵃ (nodeAt b) (terms b) t) ≤ 8)
 
   abbrev pub SortedBy : Kind → Frame → Type 0
-  SortedBy kind.Read f = (0 < f .m)
-  SortedBy kind.Write1 f = (0 < f .m) × IsExpression (f .a)
-  SortedBy kind.Write2 f = (0 < f .m) × (f .args < 32)
-  SortedBy kind.Call f = (f .m < procedures b) × IsRest (suc (f .n)) (f .a)
-  SortedBy kind.Let f = ((f .n < 8) ⊎ (f .n ≡ 15)) × IsExpression (f .a)
-  SortedBy kind.Synch f = IsExpression (f .a)
-  SortedBy kind.Hold f = f .args < 32
+  SortedBy kind.Read f = (0 < f .member)
+  SortedBy kind.Write1 f = (0 < f .member) × IsExpression (f .first)
+  SortedBy kind.Write2 f = (0 < f .member) × (f .arguments < 32)
+  SortedBy kind.Call f = (f .member < procedures b) × IsRest (suc (f .count)) (f .first)
+  SortedBy kind.Let f = ((f .count < 8) ⊎ (f .count ≡ 15)) × IsExpression (f .first)
+  SortedBy kind.Synch f = IsExpression (f .first)
+  SortedBy kind.Hold f = f .arguments < 32
   SortedBy kind.Join f = Unit {0}
-  SortedBy kind.Equal1 f = IsExpression (f .a)
-  SortedBy kind.Equal2 f = f .args < 32
-  SortedBy kind.If f = IsExpression (f .a) × IsExpression (f .b)
-  SortedBy kind.And f = IsCondition (f .a)
+  SortedBy kind.Equal1 f = IsExpression (f .first)
+  SortedBy kind.Equal2 f = f .arguments < 32
+  SortedBy kind.If f = IsExpression (f .first) × IsExpression (f .second)
+  SortedBy kind.And f = IsCondition (f .first)
   SortedBy kind.Not f = Unit {0}
-  SortedBy kind.Test f = IsCondition (f .a) × IsExpression (f .b)
-  SortedBy kind.Body f = IsCondition (f .a) × IsExpression (f .b)
+  SortedBy kind.Test f = IsCondition (f .first) × IsExpression (f .second)
+  SortedBy kind.Body f = IsCondition (f .first) × IsExpression (f .second)
 
   -- a frame that the code can hold: its numbers fit, its terms are of the right sort
   pub record Fine (f : Frame) : Type 0 where
-    pub a-fits : f .a < 1024
-    pub b-fits : f .b < 1024
-    pub m-fits : f .m < 32
-    pub n-fits : f .n < 16
+    pub a-fits : f .first < 1024
+    pub b-fits : f .second < 1024
+    pub m-fits : f .member < 32
+    pub n-fits : f .count < 16
     pub sorted : SortedBy (f .kind) f
 
   -- the frames from place `base` on stand for S, the innermost last
@@ -132,22 +132,22 @@ module _ (b : List ℕ) where
 
   -- part r, in the frames S, is what was found
   abbrev pub StandsBy : Part → Ready → List frames.Frame → frames.Found → Type 0
-  StandsBy part.Done r S X = (S ≡ []) × (X ≡ frames.Found.value (r .a)) × (r .a < 32)
+  StandsBy part.Done r S X = (S ≡ []) × (X ≡ frames.Found.value (r .first)) × (r .first < 32)
   StandsBy part.NoRule r S X = ⊥
-  StandsBy part.Run r S X = Well S × IsExpression (r .a) × Pure S (frames.Result.run (closed (r .a) (r .env))) X
-  StandsBy part.RunCondition r S X = Wellᶜ S × IsCondition (r .a) × (X ≡ frames.Found.hereᶜ S (frames.Readyᶜ.and true (closed (r .a) (r .env))))
-  StandsBy part.Val r S X = Well S × (r .a ≡ 0) × Pure S (frames.Result.value 0) X
-  StandsBy part.Truth r S X = Wellᶜ S × (r .a < 2) × Pureᶜ S (upᶜ (nodeAt b) (terms b) S (eqb (r .a) 1)) X
-  StandsBy part.While r S X = Well S × IsCondition (r .a) × IsExpression (r .b) × (X ≡ frames.Found.here S (frames.Ready.while (branches (r .a) (r .b) (slots (r .env)))))
-  StandsBy part.Body r S X = Well S × IsCondition (r .a) × IsExpression (r .b) × (X ≡ frames.Found.here S (frames.Ready.whileTest true (branches (r .a) (r .b) (slots (r .env)))))
-  StandsBy part.Again r S X = Well S × IsCondition (r .a) × IsExpression (r .b) × Pure S (frames.Result.whileAgain (branches (r .a) (r .b) (slots (r .env)))) X
-  StandsBy part.New r S X = Well S × (r .a < 2 ^ 32) × (eqb (maskBit (r .a) 0) 1 ≡ false) × (X ≡ frames.Found.here S (frames.Ready.new (fieldsFrom (r .a) 0 32)))
-  StandsBy part.Read r S X = Well S × (r .a < 32) × (0 < r .b) × (r .b < 32) × (X ≡ frames.Found.here S (frames.Ready.read (r .a) (r .b)))
-  StandsBy part.Write r S X = Well S × (r .a < 32) × (0 < r .b) × (r .b < 32) × (r .c < 32) × (X ≡ frames.Found.here S (frames.Ready.write (r .a) (r .b) (r .c)))
-  StandsBy part.Fork r S X = Well S × IsExpression (r .a) × (X ≡ frames.Found.here S (frames.Ready.fork (closed (r .a) (r .env))))
-  StandsBy part.Join r S X = Well S × (r .a < 32) × (X ≡ frames.Found.here S (frames.Ready.join (r .a)))
-  StandsBy part.Synch r S X = Well S × (r .a < 32) × IsExpression (r .b) × (X ≡ frames.Found.here S (frames.Ready.synch (r .a) (closed (r .b) (r .env))))
-  StandsBy part.Hold r S X = Well S × (r .a < 32) × (r .b < 32) × (X ≡ frames.Found.here S (frames.Ready.hold (r .a) (r .b)))
+  StandsBy part.Run r S X = Well S × IsExpression (r .first) × Pure S (frames.Result.run (closed (r .first) (r .environment))) X
+  StandsBy part.RunCondition r S X = Wellᶜ S × IsCondition (r .first) × (X ≡ frames.Found.hereᶜ S (frames.Readyᶜ.and true (closed (r .first) (r .environment))))
+  StandsBy part.Val r S X = Well S × (r .first ≡ 0) × Pure S (frames.Result.value 0) X
+  StandsBy part.Truth r S X = Wellᶜ S × (r .first < 2) × Pureᶜ S (upᶜ (nodeAt b) (terms b) S (eqb (r .first) 1)) X
+  StandsBy part.While r S X = Well S × IsCondition (r .first) × IsExpression (r .second) × (X ≡ frames.Found.here S (frames.Ready.while (branches (r .first) (r .second) (slots (r .environment)))))
+  StandsBy part.Body r S X = Well S × IsCondition (r .first) × IsExpression (r .second) × (X ≡ frames.Found.here S (frames.Ready.whileTest true (branches (r .first) (r .second) (slots (r .environment)))))
+  StandsBy part.Again r S X = Well S × IsCondition (r .first) × IsExpression (r .second) × Pure S (frames.Result.whileAgain (branches (r .first) (r .second) (slots (r .environment)))) X
+  StandsBy part.New r S X = Well S × (r .first < 2 ^ 32) × (eqb (maskBit (r .first) 0) 1 ≡ false) × (X ≡ frames.Found.here S (frames.Ready.new (fieldsFrom (r .first) 0 32)))
+  StandsBy part.Read r S X = Well S × (r .first < 32) × (0 < r .second) × (r .second < 32) × (X ≡ frames.Found.here S (frames.Ready.read (r .first) (r .second)))
+  StandsBy part.Write r S X = Well S × (r .first < 32) × (0 < r .second) × (r .second < 32) × (r .third < 32) × (X ≡ frames.Found.here S (frames.Ready.write (r .first) (r .second) (r .third)))
+  StandsBy part.Fork r S X = Well S × IsExpression (r .first) × (X ≡ frames.Found.here S (frames.Ready.fork (closed (r .first) (r .environment))))
+  StandsBy part.Join r S X = Well S × (r .first < 32) × (X ≡ frames.Found.here S (frames.Ready.join (r .first)))
+  StandsBy part.Synch r S X = Well S × (r .first < 32) × IsExpression (r .second) × (X ≡ frames.Found.here S (frames.Ready.synch (r .first) (closed (r .second) (r .environment))))
+  StandsBy part.Hold r S X = Well S × (r .first < 32) × (r .second < 32) × (X ≡ frames.Found.here S (frames.Ready.hold (r .first) (r .second)))
 
   abbrev pub Stands : Ready → List frames.Frame → frames.Found → Type 0
   Stands r S X = (P : Part) × (r .part ≡ numberOf P) × StandsBy P r S X
@@ -158,13 +158,13 @@ module _ (b : List ℕ) where
   abbrev pub GoesBy : Stage → Go → List frames.Frame → frames.Found → Type 0
   GoesBy stage.Full g S X = 32 < frames.height X
   GoesBy stage.At g S X = Stands (readyIn g) S X
-  GoesBy stage.Run g S X = Well S × IsExpression (g .i) × (X ≡ enter (nodeAt b) (terms b) S (closed (g .i) (g .frame .env)))
-  GoesBy stage.RunCondition g S X = Wellᶜ S × IsCondition (g .i) × (X ≡ enterᶜ (nodeAt b) (terms b) S (closed (g .i) (g .frame .env)))
-  GoesBy stage.Want g S X = Fine (g .frame) × Well (frameOf (g .frame) ∷ S) × IsExpression (g .i) × (X ≡ enter (nodeAt b) (terms b) (frameOf (g .frame) ∷ S) (closed (g .i) (g .frame .env)))
-  GoesBy stage.WantCondition g S X = Fine (g .frame) × Wellᶜ (frameOf (g .frame) ∷ S) × IsCondition (g .i) × (X ≡ enterᶜ (nodeAt b) (terms b) (frameOf (g .frame) ∷ S) (closed (g .i) (g .frame .env)))
-  GoesBy stage.List g S X = Well S × (g .frame .kind ≡ kind.Call) × (g .frame .m < procedures b) × IsRest (g .frame .n) (g .frame .a) × (X ≡ downᵃ (nodeAt b) (terms b) S (g .frame .m) (g .frame .n) (slots (g .frame .args)) (closed (g .frame .a) (g .frame .env)))
-  GoesBy stage.Value g S X = Well S × (g .i < 32) × (X ≡ up (nodeAt b) (terms b) S (g .i))
-  GoesBy stage.Truth g S X = Wellᶜ S × (g .i < 2) × (X ≡ upᶜ (nodeAt b) (terms b) S (eqb (g .i) 1))
+  GoesBy stage.Run g S X = Well S × IsExpression (g .operand) × (X ≡ enter (nodeAt b) (terms b) S (closed (g .operand) (g .frame .environment)))
+  GoesBy stage.RunCondition g S X = Wellᶜ S × IsCondition (g .operand) × (X ≡ enterᶜ (nodeAt b) (terms b) S (closed (g .operand) (g .frame .environment)))
+  GoesBy stage.Want g S X = Fine (g .frame) × Well (frameOf (g .frame) ∷ S) × IsExpression (g .operand) × (X ≡ enter (nodeAt b) (terms b) (frameOf (g .frame) ∷ S) (closed (g .operand) (g .frame .environment)))
+  GoesBy stage.WantCondition g S X = Fine (g .frame) × Wellᶜ (frameOf (g .frame) ∷ S) × IsCondition (g .operand) × (X ≡ enterᶜ (nodeAt b) (terms b) (frameOf (g .frame) ∷ S) (closed (g .operand) (g .frame .environment)))
+  GoesBy stage.List g S X = Well S × (g .frame .kind ≡ kind.Call) × (g .frame .member < procedures b) × IsRest (g .frame .count) (g .frame .first) × (X ≡ downᵃ (nodeAt b) (terms b) S (g .frame .member) (g .frame .count) (slots (g .frame .arguments)) (closed (g .frame .first) (g .frame .environment)))
+  GoesBy stage.Value g S X = Well S × (g .operand < 32) × (X ≡ up (nodeAt b) (terms b) S (g .operand))
+  GoesBy stage.Truth g S X = Wellᶜ S × (g .operand < 2) × (X ≡ upᶜ (nodeAt b) (terms b) S (eqb (g .operand) 1))
 
   abbrev pub Goes : Go → List frames.Frame → frames.Found → Type 0
   Goes g S X = GoesBy (g .stage) g S X
@@ -172,8 +172,8 @@ module _ (b : List ℕ) where
   -- a stack of the code: room for nine threads of 33 frames
   pub record Sized (k : Stack) : Type 0 where
     pub tops-size : length (k .tops) ≡ 297
-    pub envs-size : length (k .envs) ≡ 297
-    pub args-size : length (k .args) ≡ 297
+    pub environments-size : length (k .environments) ≡ 297
+    pub arguments-size : length (k .arguments) ≡ 297
 
   -- where landing ended: the part that moves next is found, in frames that the stack holds; or there is no room for the frames
   abbrev pub FoundBy : Stage → Ended → ℕ → frames.Found → Type 0

@@ -69,11 +69,11 @@ module _ {b : List ℕ} {m : engine.Machine} {s : machine.State} {p : ℕ} (move
       along (λ (x : rules.Cell). Kept (volatiles b) (set cs i c) (set ts (n .objects) nothing) n (machine.storeMonitor s o x)) e z₁
 
   -- E-RE-ENTER, E-ACQUIRE
-  pub synch-meets : (o u w env i : ℕ) → i ≡ o * 32 + 0 → Well S → o < 32 → IsExpression b u → t .code ≡ frames.Found.here S (frames.Ready.synch o (closed u env))
-      → MeetsBy (lookSynch (headFor m p (readyOf part.Synch o u w env)) (getD cs i noCell)) p (readyOf part.Synch o u w env) (machine.attempt (tableOf b) s p)
-      (Acts mover (readyOf part.Synch o u w env) i (actSynch n (headFor m p (readyOf part.Synch o u w env)) (getD cs i noCell) o u env))
+  pub synch-meets : (o u w environment i : ℕ) → i ≡ o * 32 + 0 → Well S → o < 32 → IsExpression b u → t .code ≡ frames.Found.here S (frames.Ready.synch o (closed u environment))
+      → MeetsBy (lookSynch (headFor m p (readyOf part.Synch o u w environment)) (getD cs i noCell)) p (readyOf part.Synch o u w environment) (machine.attempt (tableOf b) s p)
+      (Acts mover (readyOf part.Synch o u w environment) i (actSynch n (headFor m p (readyOf part.Synch o u w environment)) (getD cs i noCell) o u environment))
   unfolding objectBy fieldBy lookSynch actSynch machine.act machine.synchAct machine.around machine.learn machine.storeMonitor playing.noRoomBefore land.go tableOf
-  synch-meets o u w env i ei well ho hu code =
+  synch-meets o u w environment i ei well ho hu code =
       by (isEmptyOf (c .keys)) (eqb (c .value) self) (sym (keys-is-empty (c .keys))) (ap (eqb (c .value)) (sym same))
     where
       c : Cell
@@ -83,7 +83,7 @@ module _ {b : List ℕ} {m : engine.Machine} {s : machine.State} {p : ℕ} (move
       fit = k .cells-fit i
 
       o-there : o < n .objects
-      o-there = object-there mover o (ready-there b s p t reach there S (frames.Ready.synch o (closed u env)) code .0)
+      o-there = object-there mover o (ready-there b s p t reach there S (frames.Ready.synch o (closed u environment)) code .0)
 
       found : machine.monitor s o ≡ cellMeant true c
       found = monitor-cell k o (monitor-bit b ok) o-there ho ∙ ap (λ (i : ℕ). cellMeant true (getD cs i noCell)) (sym ei)
@@ -91,29 +91,29 @@ module _ {b : List ℕ} {m : engine.Machine} {s : machine.State} {p : ℕ} (move
       c′ : Cell
       c′ = cellOf self 0 emptySet
 
-      acted : machine.act (tableOf b) s p t (frames.Ready.synch o (closed u env)) ≡ machine.synchAct s p t o (closed u env) (cellMeant true c)
-      acted = ap (machine.synchAct s p t o (closed u env)) found
+      acted : machine.act (tableOf b) s p t (frames.Ready.synch o (closed u environment)) ≡ machine.synchAct s p t o (closed u environment) (cellMeant true c)
+      acted = ap (machine.synchAct s p t o (closed u environment)) found
 
       by : (x y : Bool) → isEmpty (keysOf (c .keys)) ≡ x → eqb (c .value) (t .self) ≡ y
-          → MeetsBy (cond x (cond y sight.Ready sight.Monitor) sight.Ready) p (readyOf part.Synch o u w env) (machine.attempt (tableOf b) s p)
-          (Acts mover (readyOf part.Synch o u w env) i (cond x
-          (actedOf room.Enough (goRun u env) n ks c (entryOf 0 0 0 0))
-          (actedOf room.Enough (goWant (holdFrame env o) u) n (joinOf ks (c .keys)) c′ (entryOf 6 o 0 0))))
+          → MeetsBy (cond x (cond y sight.Ready sight.Monitor) sight.Ready) p (readyOf part.Synch o u w environment) (machine.attempt (tableOf b) s p)
+          (Acts mover (readyOf part.Synch o u w environment) i (cond x
+          (actedOf room.Enough (goRun u environment) n ks c (entryOf 0 0 0 0))
+          (actedOf room.Enough (goWant (holdFrame environment o) u) n (joinOf ks (c .keys)) c′ (entryOf 6 o 0 0))))
       by true true e q = (
         _,
-        attempts mover (frames.Ready.synch o (closed u env)) code
+        attempts mover (frames.Ready.synch o (closed u environment)) code
             (acted ∙ test-true (isEmpty (keysOf (c .keys))) _ _ e ∙ test-true (eqb (c .value) (t .self)) _ _ q),
-        plain mover _ i e-re-enter (enter (nodeAt b) (terms b) S (closed u env)) (goRun u env) refl (well, hu, refl),
+        plain mover _ i e-re-enter (enter (nodeAt b) (terms b) S (closed u environment)) (goRun u environment) refl (well, hu, refl),
       )
       by true false e q =
-          attempts mover (frames.Ready.synch o (closed u env)) code
+          attempts mover (frames.Ready.synch o (closed u environment)) code
           (acted ∙ test-true (isEmpty (keysOf (c .keys))) _ _ e ∙ test-false (eqb (c .value) (t .self)) _ _ q)
           ∙ ap (λ (o : ℕ). machine.Attempt.waiting (forMonitor o)) (sym (mod-eq-of-lt ho))
       by false y e q = (
         _,
-        attempts mover (frames.Ready.synch o (closed u env)) code (acted ∙ test-false (isEmpty (keysOf (c .keys))) _ _ e),
+        attempts mover (frames.Ready.synch o (closed u environment)) code (acted ∙ test-false (isEmpty (keysOf (c .keys))) _ _ e),
         moved mover _ i e-acquire (some (entry records.Kind.acquire p o 0 0)) (machine.learn (machine.storeMonitor s o (rules.cell empty (t .self))) p (keysOf (c .keys)))
-            (enter (nodeAt b) (terms b) (frames.Frame.hold o ∷ S) (closed u env)) (goWant (holdFrame env o) u) n
+            (enter (nodeAt b) (terms b) (frames.Frame.hold o ∷ S) (closed u environment)) (goWant (holdFrame environment o) u) n
             (joinOf ks (c .keys)) c′ nothing (entryOf 6 o 0 0) refl (written mover records.Kind.acquire o 0 0 ho (omega arith) (omega arith)) refl
             (record { a-fits = omega arith; b-fits = omega arith; m-fits = omega arith; n-fits = omega arith; sorted = ho }, well, hu, refl)
             (fits-join fits (fit .keys)) (learnt mover (keysOf (c .keys)) _ (joined mover (c .keys) (fit .keys)))
@@ -121,10 +121,10 @@ module _ {b : List ℕ} {m : engine.Machine} {s : machine.State} {p : ℕ} (move
       )
 
   -- E-RELEASE
-  pub hold-meets : (o v w env i : ℕ) → i ≡ o * 32 + 0 → Well S → o < 32 → v < 32 → t .code ≡ frames.Found.here S (frames.Ready.hold o v)
-      → MeetsBy sight.Ready p (readyOf part.Hold o v w env) (machine.attempt (tableOf b) s p) (Acts mover (readyOf part.Hold o v w env) i (actHold n (headFor m p (readyOf part.Hold o v w env)) o v))
+  pub hold-meets : (o v w environment i : ℕ) → i ≡ o * 32 + 0 → Well S → o < 32 → v < 32 → t .code ≡ frames.Found.here S (frames.Ready.hold o v)
+      → MeetsBy sight.Ready p (readyOf part.Hold o v w environment) (machine.attempt (tableOf b) s p) (Acts mover (readyOf part.Hold o v w environment) i (actHold n (headFor m p (readyOf part.Hold o v w environment)) o v))
   unfolding machine.act machine.around machine.storeMonitor playing.noRoomBefore land.go tableOf
-  hold-meets o v w env i ei well ho hv code = (
+  hold-meets o v w environment i ei well ho hv code = (
     _,
     attempts mover (frames.Ready.hold o v) code refl,
     moved mover _ i e-release (some (entry records.Kind.release p o 0 0)) (machine.storeMonitor s o (rules.cell (t .keys) 0)) (up (nodeAt b) (terms b) S v) (goValue v) n

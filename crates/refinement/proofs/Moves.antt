@@ -62,7 +62,7 @@ module _ {b : List ℕ} {m : engine.Machine} {s : machine.State} {p : ℕ} (move
   abbrev pub Born : Ready → Acted → Option machine.Thread → Type 0
   Born r a none = forksOf a ≡ false
   Born r a (some y) =
-      (forksOf a ≡ true) × (m .tally .counts .threads < 8) × (m .tally .counts .objects ≡ y .self) × (keysOf (headAt (m .heads) p .keys) ≡ y .keys) × Goes b (goRun (r .a) (r .env)) [] (y .code)
+      (forksOf a ≡ true) × (m .tally .counts .threads < 8) × (m .tally .counts .objects ≡ y .self) × (keysOf (headAt (m .heads) p .keys) ≡ y .keys) × Goes b (goRun (r .first) (r .environment)) [] (y .code)
 
   -- the thread, at part r, makes the move v: a is what the code does, with cell i
   pub record Does (r : Ready) (i : ℕ) (a : Acted) (v : machine.Move) : Type 0 where

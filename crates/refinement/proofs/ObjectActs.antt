@@ -74,10 +74,10 @@ module _ {b : List ℕ} {m : engine.Machine} {s : machine.State} {p : ℕ} (move
       omega arith
 
   -- E-NEW
-  pub new-meets : (a b′ w env i : ℕ) → Well S → eqb (maskBit a 0) 1 ≡ false → t .code ≡ frames.Found.here S (frames.Ready.new (fieldsFrom a 0 32))
-      → MeetsBy sight.Ready p (readyOf part.New a b′ w env) (machine.attempt (tableOf b) s p) (Acts mover (readyOf part.New a b′ w env) i (actNew n (headFor m p (readyOf part.New a b′ w env)) (getD cs i noCell) a))
+  pub new-meets : (a b′ w environment i : ℕ) → Well S → eqb (maskBit a 0) 1 ≡ false → t .code ≡ frames.Found.here S (frames.Ready.new (fieldsFrom a 0 32))
+      → MeetsBy sight.Ready p (readyOf part.New a b′ w environment) (machine.attempt (tableOf b) s p) (Acts mover (readyOf part.New a b′ w environment) i (actNew n (headFor m p (readyOf part.New a b′ w environment)) (getD cs i noCell) a))
   unfolding actNew machine.act machine.around machine.addObject playing.noRoomBefore land.go tableOf
-  new-meets a b′ w env i well out code = by (leb 32 (n .objects)) refl
+  new-meets a b′ w environment i well out code = by (leb 32 (n .objects)) refl
     where
       count : n .objects ≡ length (s .objects)
       count = k .objects-count
@@ -92,7 +92,7 @@ module _ {b : List ℕ} {m : engine.Machine} {s : machine.State} {p : ℕ} (move
 
       by : (x : Bool) → leb 32 (n .objects) ≡ x
           → (v : machine.Move) × (machine.attempt (tableOf b) s p ≡ machine.Attempt.moves v)
-          × Acts mover (readyOf part.New a b′ w env) i (cond x
+          × Acts mover (readyOf part.New a b′ w environment) i (cond x
           (actedOf room.NoObject (goValue (n .objects)) n ks (getD cs i noCell) (entryOf 0 0 0 0))
           (record {
             room = room.Enough;
@@ -116,10 +116,10 @@ module _ {b : List ℕ} {m : engine.Machine} {s : machine.State} {p : ℕ} (move
           )
 
   -- E-FORK
-  pub fork-meets : (u b′ w env i : ℕ) → Well S → IsExpression b u → t .code ≡ frames.Found.here S (frames.Ready.fork (closed u env))
-      → MeetsBy sight.Ready p (readyOf part.Fork u b′ w env) (machine.attempt (tableOf b) s p) (Acts mover (readyOf part.Fork u b′ w env) i (actFork n (headFor m p (readyOf part.Fork u b′ w env)) (getD cs i noCell)))
+  pub fork-meets : (u b′ w environment i : ℕ) → Well S → IsExpression b u → t .code ≡ frames.Found.here S (frames.Ready.fork (closed u environment))
+      → MeetsBy sight.Ready p (readyOf part.Fork u b′ w environment) (machine.attempt (tableOf b) s p) (Acts mover (readyOf part.Fork u b′ w environment) i (actFork n (headFor m p (readyOf part.Fork u b′ w environment)) (getD cs i noCell)))
   unfolding actFork machine.act machine.around machine.addObject machine.addThread machine.become playing.noRoomBefore land.go tableOf
-  fork-meets u b′ w env i well hu code = by (leb 8 (n .threads)) (leb 32 (n .objects)) refl refl
+  fork-meets u b′ w environment i well hu code = by (leb 8 (n .threads)) (leb 32 (n .objects)) refl refl
     where
       count : n .objects ≡ length (s .objects)
       count = k .objects-count
@@ -128,7 +128,7 @@ module _ {b : List ℕ} {m : engine.Machine} {s : machine.State} {p : ℕ} (move
       count-threads = k .threads-count
 
       y : machine.Thread
-      y = record { self = length (s .objects); code = enter (nodeAt b) (terms b) [] (closed u env); keys = t .keys }
+      y = record { self = length (s .objects); code = enter (nodeAt b) (terms b) [] (closed u environment); keys = t .keys }
 
       x : Object
       x = record { mask = 0; thread = n .threads }
@@ -157,12 +157,12 @@ module _ {b : List ℕ} {m : engine.Machine} {s : machine.State} {p : ℕ} (move
           more : (xs : List machine.Thread) (y : machine.Thread) → n .threads ≡ length xs → n .threads + 1 ≡ length (xs ++ (y ∷ []))
           more xs y e = let z = length-added xs y in omega arith
 
-      acted : machine.attempt (tableOf b) s p ≡ machine.around (tableOf b) p S (machine.act (tableOf b) s p t (frames.Ready.fork (closed u env)))
-      acted = attempts mover (frames.Ready.fork (closed u env)) code refl
+      acted : machine.attempt (tableOf b) s p ≡ machine.around (tableOf b) p S (machine.act (tableOf b) s p t (frames.Ready.fork (closed u environment)))
+      acted = attempts mover (frames.Ready.fork (closed u environment)) code refl
 
       by : (x₁ x₂ : Bool) → leb 8 (n .threads) ≡ x₁ → leb 32 (n .objects) ≡ x₂
           → (v : machine.Move) × (machine.attempt (tableOf b) s p ≡ machine.Attempt.moves v)
-          × Acts mover (readyOf part.Fork u b′ w env) i (cond x₁
+          × Acts mover (readyOf part.Fork u b′ w environment) i (cond x₁
           (actedOf room.NoThread (goValue (n .objects)) n ks (getD cs i noCell) (entryOf 0 0 0 0))
           (cond x₂
           (actedOf room.NoObject (goValue (n .objects)) n ks (getD cs i noCell) (entryOf 0 0 0 0))
@@ -215,19 +215,19 @@ module _ {b : List ℕ} {m : engine.Machine} {s : machine.State} {p : ℕ} (move
           )
 
   -- E-JOIN
-  pub join-meets : (o b′ w env i j : ℕ) → j ≡ o → Well S → o < 32 → t .code ≡ frames.Found.here S (frames.Ready.join o)
-      → MeetsBy (lookJoin (getD ts j noThing) (getD l (getD ts j noThing .thread % 9) noHead .ready .part)) p (readyOf part.Join o b′ w env) (machine.attempt (tableOf b) s p)
-      (Acts mover (readyOf part.Join o b′ w env) i (actJoin n (headFor m p (readyOf part.Join o b′ w env)) (getD cs i noCell) (getD ts j noThing) (getD l (getD ts j noThing .thread % 9) noHead) o))
+  pub join-meets : (o b′ w environment i j : ℕ) → j ≡ o → Well S → o < 32 → t .code ≡ frames.Found.here S (frames.Ready.join o)
+      → MeetsBy (lookJoin (getD ts j noThing) (getD l (getD ts j noThing .thread % 9) noHead .ready .part)) p (readyOf part.Join o b′ w environment) (machine.attempt (tableOf b) s p)
+      (Acts mover (readyOf part.Join o b′ w environment) i (actJoin n (headFor m p (readyOf part.Join o b′ w environment)) (getD cs i noCell) (getD ts j noThing) (getD l (getD ts j noThing .thread % 9) noHead) o))
   unfolding objectBy fieldBy lookJoin machine.act machine.joinAct machine.joinValue machine.around machine.learn playing.noRoomBefore land.go tableOf
-  join-meets o b′ w env i j ej well ho code =
+  join-meets o b′ w environment i j ej well ho code =
       by (machine.threadOf 0 (s .threads) o) refl
       (ap (λ (j : ℕ). getD ts j noThing .thread) ej ∙ k .numbers o (object-there mover o (ready-there b s p t reach there S (frames.Ready.join o) code)))
     where
       -- thread a, whose head is q, is joined: the look says w₁
       Sees : Sight → ℕ → Head → Type 0
       Sees w₁ a q =
-          MeetsBy w₁ p (readyOf part.Join o b′ w env) (machine.attempt (tableOf b) s p)
-          (Acts mover (readyOf part.Join o b′ w env) i (actedOf room.Enough (goValue (q .ready .a)) n (joinOf ks (q .keys)) (getD cs i noCell) (entryOf 9 o a (q .ready .a))))
+          MeetsBy w₁ p (readyOf part.Join o b′ w environment) (machine.attempt (tableOf b) s p)
+          (Acts mover (readyOf part.Join o b′ w environment) i (actedOf room.Enough (goValue (q .ready .first)) n (joinOf ks (q .keys)) (getD cs i noCell) (entryOf 9 o a (q .ready .first))))
 
       Goal : ℕ → Head → Type 0
       Goal a q = Sees (cond (leb 8 a) sight.NoThread (joinBy (q .ready .part))) a q
@@ -237,13 +237,13 @@ module _ {b : List ℕ} {m : engine.Machine} {s : machine.State} {p : ℕ} (move
       acted x e = attempts mover (frames.Ready.join o) code (ap (machine.joinAct s p o) e)
 
       finish : (q : machine.Numbered) (h : Head) (w₁ : Sight) → machine.threadOf 0 (s .threads) o ≡ some q → q .number < 8
-          → keysOf (h .keys) ≡ q .thread .keys → Fits (h .keys) → Ends (h .ready .part) (h .ready .a) (q .thread .code) → joinBy (h .ready .part) ≡ w₁ → Sees w₁ (q .number) h
+          → keysOf (h .keys) ≡ q .thread .keys → Fits (h .keys) → Ends (h .ready .part) (h .ready .first) (q .thread .code) → joinBy (h .ready .part) ≡ w₁ → Sees w₁ (q .number) h
       finish q h w₁ e lt eq fit (inl (j, f, v)) e₁ =
           along (λ (w₁ : Sight). Sees w₁ (q .number) h) (sym j ∙ e₁) (
             _,
             acted (some q) e ∙ ap (λ (v : Option ℕ). machine.around (tableOf b) p S (machine.joinValue s p o q v)) f,
-            moved mover _ i e-join (some (entry records.Kind.join p o (q .number) (h .ready .a))) (machine.learn s p (q .thread .keys)) (up (nodeAt b) (terms b) S (h .ready .a)) (goValue (h .ready .a)) n
-                (joinOf ks (h .keys)) (getD cs i noCell) nothing (entryOf 9 o (q .number) (h .ready .a)) refl (written mover records.Kind.join o (q .number) (h .ready .a) ho (omega arith) v) refl
+            moved mover _ i e-join (some (entry records.Kind.join p o (q .number) (h .ready .first))) (machine.learn s p (q .thread .keys)) (up (nodeAt b) (terms b) S (h .ready .first)) (goValue (h .ready .first)) n
+                (joinOf ks (h .keys)) (getD cs i noCell) nothing (entryOf 9 o (q .number) (h .ready .first)) refl (written mover records.Kind.join o (q .number) (h .ready .first) ho (omega arith) v) refl
                 (well, v, refl) (fits-join fits fit) (learnt mover (q .thread .keys) _ (ap (λ (K : Keys). union K (t .keys)) (sym eq) ∙ joined mover (h .keys) fit))
                 (kept-changed (kept-past (kept-same k i) nothing) p _ (λ x. refl)),
           )

@@ -51,11 +51,11 @@ pub record Next (b ws : List ℕ) (k : Stack) (base n : ℕ) (X : frames.Found) 
 
 -- ---- the code, case by case
 
-want-value : (ws : List ℕ) (f : Frame) (i d : ℕ) → valueOf ws (f .env) i < 32 → stayOf (feedOf f (valueOf ws (f .env) i)) d ≡ wantOf ws f i d
+want-value : (ws : List ℕ) (f : Frame) (i d : ℕ) → valueOf ws (f .environment) i < 32 → stayOf (feedOf f (valueOf ws (f .environment) i)) d ≡ wantOf ws f i d
 unfolding wantOf wantBy
-want-value ws f i d l = rw (lt-ltb (valueOf ws (f .env) i) 32 l)
+want-value ws f i d l = rw (lt-ltb (valueOf ws (f .environment) i) 32 l)
 
-want-other : (ws : List ℕ) (f : Frame) (i d : ℕ) → valueOf ws (f .env) i ≡ 32 → pushOf (goRun i (f .env)) d f ≡ wantOf ws f i d
+want-other : (ws : List ℕ) (f : Frame) (i d : ℕ) → valueOf ws (f .environment) i ≡ 32 → pushOf (goRun i (f .environment)) d f ≡ wantOf ws f i d
 unfolding wantOf wantBy
 want-other ws f i d e = rw e
 
@@ -63,7 +63,7 @@ want-truth : (ws : List ℕ) (f : Frame) (i d : ℕ) → truthOf ws i < 2 → st
 unfolding wantConditionOf wantConditionBy
 want-truth ws f i d l = rw (lt-ltb (truthOf ws i) 2 l)
 
-want-otherᶜ : (ws : List ℕ) (f : Frame) (i d : ℕ) → truthOf ws i ≡ 2 → pushOf (goRunCondition i (f .env)) d f ≡ wantConditionOf ws f i d
+want-otherᶜ : (ws : List ℕ) (f : Frame) (i d : ℕ) → truthOf ws i ≡ 2 → pushOf (goRunCondition i (f .environment)) d f ≡ wantConditionOf ws f i d
 unfolding wantConditionOf wantConditionBy
 want-otherᶜ ws f i d e = rw e
 
@@ -111,35 +111,35 @@ module _ {b ws rs : List ℕ} {k : Stack} {base : ℕ} {S : List frames.Frame} (
       at (no m) = subst (Next b ws k base n X) (push-full g (length S) f (omega arith)) (stays goFull (omega arith) l)
 
   -- an operand, which is an expression
-  pub want : (f : Frame) (i : ℕ) → Fine b f → Well (frameOf f ∷ S) → IsExpression b i → X ≡ enter (nodeAt b) (terms b) (frameOf f ∷ S) (closed i (f .env))
-      → left i ≤ n → needs (f .kind) (f .a) ≤ n → Next b ws k base n X (wantOf ws f i (length S))
-  want f i fine w s e l m = at (valued b ws rs (c .right) (c .loaded) i (f .env) s)
+  pub want : (f : Frame) (i : ℕ) → Fine b f → Well (frameOf f ∷ S) → IsExpression b i → X ≡ enter (nodeAt b) (terms b) (frameOf f ∷ S) (closed i (f .environment))
+      → left i ≤ n → needs (f .kind) (f .first) ≤ n → Next b ws k base n X (wantOf ws f i (length S))
+  want f i fine w s e l m = at (valued b ws rs (c .right) (c .loaded) i (f .environment) s)
     where
-      at : Valued b ws i (f .env) → Next b ws k base n X (wantOf ws f i (length S))
+      at : Valued b ws i (f .environment) → Next b ws k base n X (wantOf ws f i (length S))
       at (Valued.value p q) =
-          let v = valueOf ws (f .env) i in
+          let v = valueOf ws (f .environment) i in
           subst (Next b ws k base n X) (want-value ws f i (length S) p)
-          (stays (feedOf f v) (feed-goes b S X f v fine p w (e ∙ enter-value (ordered b (c .right)) (frameOf f ∷ S) (closed i (f .env)) v q)) (feed-enough ws n f v m))
+          (stays (feedOf f v) (feed-goes b S X f v fine p w (e ∙ enter-value (ordered b (c .right)) (frameOf f ∷ S) (closed i (f .environment)) v q)) (feed-enough ws n f v m))
       at (Valued.other p q) =
-          let deep = under (ordered b (c .right)) (frameOf f ∷ S) (closed i (f .env)) q in
+          let deep = under (ordered b (c .right)) (frameOf f ∷ S) (closed i (f .environment)) q in
           subst (Next b ws k base n X) (want-other ws f i (length S) p)
-          (push (goRun i (f .env)) f fine (w, s, e) (l, λ r. absurd (omega arith)) (subst (λ (X : frames.Found). length (frameOf f ∷ S) ≤ frames.height X) (sym e) deep) (omega arith))
+          (push (goRun i (f .environment)) f fine (w, s, e) (l, λ r. absurd (omega arith)) (subst (λ (X : frames.Found). length (frameOf f ∷ S) ≤ frames.height X) (sym e) deep) (omega arith))
 
   -- an operand, which is a condition
-  pub wantᶜ : (f : Frame) (i : ℕ) → Fine b f → Wellᶜ (frameOf f ∷ S) → IsCondition b i → X ≡ enterᶜ (nodeAt b) (terms b) (frameOf f ∷ S) (closed i (f .env))
+  pub wantᶜ : (f : Frame) (i : ℕ) → Fine b f → Wellᶜ (frameOf f ∷ S) → IsCondition b i → X ≡ enterᶜ (nodeAt b) (terms b) (frameOf f ∷ S) (closed i (f .environment))
       → left i ≤ n → Next b ws k base n X (wantConditionOf ws f i (length S))
-  wantᶜ f i fine w s e l = at (tested b ws rs (c .right) (c .loaded) i (f .env) s)
+  wantᶜ f i fine w s e l = at (tested b ws rs (c .right) (c .loaded) i (f .environment) s)
     where
-      at : Tested b ws i (f .env) → Next b ws k base n X (wantConditionOf ws f i (length S))
+      at : Tested b ws i (f .environment) → Next b ws k base n X (wantConditionOf ws f i (length S))
       at (Tested.value p q) =
           let v = truthOf ws i in
           subst (Next b ws k base n X) (want-truth ws f i (length S) p)
-          (stays (feedConditionOf f v) (feed-condition-goes b S X f v fine p w (e ∙ enter-truth (ordered b (c .right)) (frameOf f ∷ S) (closed i (f .env)) (eqb v 1) q))
+          (stays (feedConditionOf f v) (feed-condition-goes b S X f v fine p w (e ∙ enter-truth (ordered b (c .right)) (frameOf f ∷ S) (closed i (f .environment)) (eqb v 1) q))
           (feed-condition-enough ws n f v (omega arith)))
       at (Tested.other p q) =
-          let deep = underᶜ (ordered b (c .right)) (frameOf f ∷ S) (closed i (f .env)) q in
+          let deep = underᶜ (ordered b (c .right)) (frameOf f ∷ S) (closed i (f .environment)) q in
           subst (Next b ws k base n X) (want-otherᶜ ws f i (length S) p)
-          (push (goRunCondition i (f .env)) f fine (w, s, e) l (subst (λ (X : frames.Found). length (frameOf f ∷ S) ≤ frames.height X) (sym e) deep) (omega arith))
+          (push (goRunCondition i (f .environment)) f fine (w, s, e) l (subst (λ (X : frames.Found). length (frameOf f ∷ S) ≤ frames.height X) (sym e) deep) (omega arith))
 
 -- ---- children
 

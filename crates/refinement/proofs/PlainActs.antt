@@ -66,26 +66,26 @@ module _ {b : List ℕ} {m : engine.Machine} {s : machine.State} {p : ℕ} (move
   loops : {a b′ : ℕ} → IsCondition b a → IsExpression b b′ → (a < 1024) × (b′ < 1024)
   loops x y = let z = accepted b ok .few-terms in omega arith
 
-  pub while-meets : (a b′ w env i : ℕ) → Well S → IsCondition b a → IsExpression b b′ → t .code ≡ frames.Found.here S (frames.Ready.while (branches a b′ (slots env)))
-      → MeetsBy sight.Ready p (readyOf part.While a b′ w env) (machine.attempt (tableOf b) s p)
-      (Acts mover (readyOf part.While a b′ w env) i (actedOf room.Enough (goWantCondition (framed kind.Test a b′ 0 env) a) n ks (getD cs i noCell) (entryOf 0 0 0 0)))
+  pub while-meets : (a b′ w environment i : ℕ) → Well S → IsCondition b a → IsExpression b b′ → t .code ≡ frames.Found.here S (frames.Ready.while (branches a b′ (slots environment)))
+      → MeetsBy sight.Ready p (readyOf part.While a b′ w environment) (machine.attempt (tableOf b) s p)
+      (Acts mover (readyOf part.While a b′ w environment) i (actedOf room.Enough (goWantCondition (framed kind.Test a b′ 0 environment) a) n ks (getD cs i noCell) (entryOf 0 0 0 0)))
   unfolding machine.act machine.around playing.noRoomBefore land.go tableOf
-  while-meets a b′ w env i well hc he code =
+  while-meets a b′ w environment i well hc he code =
       let z = loops hc he in (
         _,
-        attempts mover (frames.Ready.while (branches a b′ (slots env))) code refl,
-        plain mover _ i e-while (enterᶜ (nodeAt b) (terms b) (frames.Frame.whileTest (branches a b′ (slots env)) ∷ S) (closed a env)) (goWantCondition (framed kind.Test a b′ 0 env) a) refl
+        attempts mover (frames.Ready.while (branches a b′ (slots environment))) code refl,
+        plain mover _ i e-while (enterᶜ (nodeAt b) (terms b) (frames.Frame.whileTest (branches a b′ (slots environment)) ∷ S) (closed a environment)) (goWantCondition (framed kind.Test a b′ 0 environment) a) refl
             (record { a-fits = z .0; b-fits = z .1; m-fits = omega arith; n-fits = omega arith; sorted = (hc, he) }, well, hc, refl),
       )
 
-  pub body-meets : (a b′ w env i : ℕ) → Well S → IsCondition b a → IsExpression b b′ → t .code ≡ frames.Found.here S (frames.Ready.whileTest true (branches a b′ (slots env)))
-      → MeetsBy sight.Ready p (readyOf part.Body a b′ w env) (machine.attempt (tableOf b) s p)
-      (Acts mover (readyOf part.Body a b′ w env) i (actedOf room.Enough (goWant (framed kind.Body a b′ 0 env) b′) n ks (getD cs i noCell) (entryOf 0 0 0 0)))
+  pub body-meets : (a b′ w environment i : ℕ) → Well S → IsCondition b a → IsExpression b b′ → t .code ≡ frames.Found.here S (frames.Ready.whileTest true (branches a b′ (slots environment)))
+      → MeetsBy sight.Ready p (readyOf part.Body a b′ w environment) (machine.attempt (tableOf b) s p)
+      (Acts mover (readyOf part.Body a b′ w environment) i (actedOf room.Enough (goWant (framed kind.Body a b′ 0 environment) b′) n ks (getD cs i noCell) (entryOf 0 0 0 0)))
   unfolding machine.act machine.around playing.noRoomBefore land.go tableOf
-  body-meets a b′ w env i well hc he code =
+  body-meets a b′ w environment i well hc he code =
       let z = loops hc he in (
         _,
-        attempts mover (frames.Ready.whileTest true (branches a b′ (slots env))) code refl,
-        plain mover _ i e-if (enter (nodeAt b) (terms b) (frames.Frame.whileBody (branches a b′ (slots env)) ∷ S) (closed b′ env)) (goWant (framed kind.Body a b′ 0 env) b′) refl
+        attempts mover (frames.Ready.whileTest true (branches a b′ (slots environment))) code refl,
+        plain mover _ i e-if (enter (nodeAt b) (terms b) (frames.Frame.whileBody (branches a b′ (slots environment)) ∷ S) (closed b′ environment)) (goWant (framed kind.Body a b′ 0 environment) b′) refl
             (record { a-fits = z .0; b-fits = z .1; m-fits = omega arith; n-fits = omega arith; sorted = (hc, he) }, well, he, refl),
       )

@@ -64,7 +64,7 @@ statusBy sight.Lacking v o f = Status.lacking o f
 abbrev pub statusOf : Seen → Status
 statusOf x = statusBy (x .sight) (x .value) (x .object) (x .field)
 
-meets-status : (w : Sight) (p : ℕ) (r : Ready) (A : machine.Attempt) (Z : machine.Move → Type 0) → MeetsBy w p r A Z → statusBy w (r .a) (objectOf r) (look.fieldOf r) ≡ playing.status A
+meets-status : (w : Sight) (p : ℕ) (r : Ready) (A : machine.Attempt) (Z : machine.Move → Type 0) → MeetsBy w p r A Z → statusBy w (r .first) (objectOf r) (look.fieldOf r) ≡ playing.status A
 unfolding playing.status
 meets-status sight.Absent p r A Z h = ap playing.status (sym h)
 meets-status sight.Finished p r A Z h = ap playing.status (sym h)

@@ -58,7 +58,7 @@ module _ {b ws rs : List ℕ} {k : Stack} {base n : ℕ} {X : frames.Found} wher
       (subst (Next b ws k base n X) (back-more f v (length S))
       (stays (outer c) (feedOf f v)
       (feed-goes b S X f v (c .held .1) l (subst (λ (F : frames.Frame). Well (F ∷ S)) (sym e) w) (x ∙ ap (λ (F : frames.Frame). up (nodeAt b) (terms b) (F ∷ S) v) (sym e)))
-      (feed-enough ws n f v (omega (arith, needs-most (f .kind) (f .a))))))
+      (feed-enough ws n f v (omega (arith, needs-most (f .kind) (f .first))))))
 
   back-stepᶜ : (S : List frames.Frame) → Placed b ws rs k base S → (v : ℕ) → v < 2 → Wellᶜ S → X ≡ upᶜ (nodeAt b) (terms b) S (eqb v 1) → v + 2 ≤ suc n
       → Next b ws k base n X (backConditionOf (frameAt k (topOf base (length S))) v (length S))
@@ -78,13 +78,13 @@ module _ {b ws rs : List ℕ} {k : Stack} {base n : ℕ} {X : frames.Found} wher
       → Next b ws k base n X (stepBy s ws rs g (length S) (frameAt k (topOf base (length S))))
   step-by stage.Full g S z c live p q = absurd (false≢true live)
   step-by stage.At g S z c live p q = absurd (false≢true live)
-  step-by stage.Run g S z c live p q = rw z (run-step c (g .i) (g .frame .env) (p .0) (p .1) (p .2) (q .0) (q .1))
-  step-by stage.RunCondition g S z c live p q = rw z (run-condition-step c (g .i) (g .frame .env) (p .0) (p .1) (p .2) q)
-  step-by stage.Want g S z c live p q = rw z (want c (g .frame) (g .i) (p .0) (p .1) (p .2) (p .3) (omega (arith, q .0)) (omega (arith, q .1)))
-  step-by stage.WantCondition g S z c live p q = rw z (wantᶜ c (g .frame) (g .i) (p .0) (p .1) (p .2) (p .3) (omega arith))
+  step-by stage.Run g S z c live p q = rw z (run-step c (g .operand) (g .frame .environment) (p .0) (p .1) (p .2) (q .0) (q .1))
+  step-by stage.RunCondition g S z c live p q = rw z (run-condition-step c (g .operand) (g .frame .environment) (p .0) (p .1) (p .2) q)
+  step-by stage.Want g S z c live p q = rw z (want c (g .frame) (g .operand) (p .0) (p .1) (p .2) (p .3) (omega (arith, q .0)) (omega (arith, q .1)))
+  step-by stage.WantCondition g S z c live p q = rw z (wantᶜ c (g .frame) (g .operand) (p .0) (p .1) (p .2) (p .3) (omega arith))
   step-by stage.List g S z c live p q = rw z (list-step c (g .frame) (p .0) (p .2) (p .3) (p .4) q)
-  step-by stage.Value g S z c live p q = back-step S c (g .i) (p .1) (p .0) (p .2) q
-  step-by stage.Truth g S z c live p q = back-stepᶜ S c (g .i) (p .1) (p .0) (p .2) q
+  step-by stage.Value g S z c live p q = back-step S c (g .operand) (p .1) (p .0) (p .2) q
+  step-by stage.Truth g S z c live p q = back-stepᶜ S c (g .operand) (p .1) (p .0) (p .2) q
 
   pub step : (g : Go) (S : List frames.Frame) → Placed b ws rs k base S → liveBy (g .stage) ≡ true → Goes b g S X → Enough ws (suc n) g
       → Next b ws k base n X (stepOf ws rs g (length S) (frameAt k (topOf base (length S))))

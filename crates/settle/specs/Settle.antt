@@ -33,7 +33,7 @@ passesOf sight.Lacking = false
 
 -- the record of an access that lacks its key, by its part p
 unfoldable pub lackBy : ℕ → Ready → Entry
-lackBy p r = cond (isPart part.Write p) (entryOf 11 (r .a) (r .b) (r .c)) (entryOf 10 (r .a) (r .b) 0)
+lackBy p r = cond (isPart part.Write p) (entryOf 11 (r .first) (r .second) (r .third)) (entryOf 10 (r .first) (r .second) 0)
 
 abbrev pub lackEntry : Ready → Entry
 lackEntry r = lackBy (r .part) r

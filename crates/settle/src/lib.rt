@@ -43,9 +43,9 @@ fn lack(ready: Ready) -> Entry
     ensures { λ r. ⌜ r ≡ lackEntry ready ⌝ }
 {
     if ready.part == part::WRITE {
-        return acted::entry(11, ready.a, ready.b, ready.c);
+        return acted::entry(11, ready.first, ready.second, ready.third);
     }
-    acted::entry(10, ready.a, ready.b, 0)
+    acted::entry(10, ready.first, ready.second, 0)
 }
 
 // Whether the move makes a thread.

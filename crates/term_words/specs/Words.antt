@@ -47,10 +47,10 @@ maskBits w = w / 8 % 4294967296
 
 -- the value of an expression's word, 32 where it needs a move
 unfoldable pub valueBy : ℕ → ℕ → ℕ
-valueBy env w = cond (eqb (tagOf w) 0) 0 (cond (eqb (tagOf w) 1) (slotOf env (slotBits w)) 32)
+valueBy environment w = cond (eqb (tagOf w) 0) 0 (cond (eqb (tagOf w) 1) (slotOf environment (slotBits w)) 32)
 
 unfoldable pub valueOf : List ℕ → ℕ → ℕ → ℕ
-valueOf ws env t = valueBy env (wordAt ws t)
+valueOf ws environment t = valueBy environment (wordAt ws t)
 
 -- the value of a condition, 0 false and 1 true, 2 where it needs a move
 unfoldable pub truthBy : List ℕ → ℕ → ℕ

@@ -28,7 +28,7 @@ use Rattle.engine.proofs.run.Tie as tie
 abbrev Inv-loop : tie.InvT-loop
 Inv-loop words roots mask picks log₀ heads₀ cells₀ objects₀ tops₀ environments₀ arguments₀ tally₀ stop₀ dealt₀ i₀ i-end log heads cells objects tops environments arguments tally halt dealt i =
     (i-end ≡ length picks) × (i ≤ length picks) × (tally .moves ≤ i) × (tally .records ≤ i) × (length log ≡ length log₀)
-    × (playOf words roots mask (record { heads = heads; cells = cells; objects = objects; stack = record { tops = tops; envs = environments; args = arguments }; tally = tally; log = log }) (drop i picks) i ≡ playOf words roots mask (startOf roots log₀) picks 0)
+    × (playOf words roots mask (record { heads = heads; cells = cells; objects = objects; stack = record { tops = tops; environments = environments; arguments = arguments }; tally = tally; log = log }) (drop i picks) i ≡ playOf words roots mask (startOf roots log₀) picks 0)
     × (halt ≡ stop.End) × (dealt ≡ length picks)
 
 abbrev μ-loop : tie.MeasureT-loop
@@ -65,7 +65,7 @@ machine c =
       heads = c .loop .heads;
       cells = c .loop .cells;
       objects = c .loop .objects;
-      stack = record { tops = c .loop .tops; envs = c .loop .environments; args = c .loop .arguments };
+      stack = record { tops = c .loop .tops; environments = c .loop .environments; arguments = c .loop .arguments };
       tally = c .loop .tally;
       log = c .loop .log;
     }
@@ -111,10 +111,10 @@ abbrev deed : tie.After-entry-of Inv-loop μ-loop Inv-loop2 μ-loop2 → Acted
 deed c = c .before .before .before .before .before .before .before .before .before .before .before .act .result
 
 abbrev mover-landed : tie.After-entry-of Inv-loop μ-loop Inv-loop2 μ-loop2 → Ended
-mover-landed c = record { stack = record { tops = c .before .before .before .before .before .before .before .land-mover .last .1 .1 .0; envs = c .before .before .before .before .before .before .before .land-mover .last .1 .1 .1 .0; args = c .before .before .before .before .before .before .before .land-mover .last .1 .1 .1 .1 .0 }; landed = c .before .before .before .before .before .before .before .land-mover .result }
+mover-landed c = record { stack = record { tops = c .before .before .before .before .before .before .before .land-mover .last .1 .1 .0; environments = c .before .before .before .before .before .before .before .land-mover .last .1 .1 .1 .0; arguments = c .before .before .before .before .before .before .before .land-mover .last .1 .1 .1 .1 .0 }; landed = c .before .before .before .before .before .before .before .land-mover .result }
 
 abbrev young-landed : tie.After-entry-of Inv-loop μ-loop Inv-loop2 μ-loop2 → Ended
-young-landed c = record { stack = record { tops = c .before .before .before .land-young .last .1 .1 .0; envs = c .before .before .before .land-young .last .1 .1 .1 .0; args = c .before .before .before .land-young .last .1 .1 .1 .1 .0 }; landed = c .before .before .before .land-young .result }
+young-landed c = record { stack = record { tops = c .before .before .before .land-young .last .1 .1 .0; environments = c .before .before .before .land-young .last .1 .1 .1 .0; arguments = c .before .before .before .land-young .last .1 .1 .1 .1 .0 }; landed = c .before .before .before .land-young .result }
 
 abbrev turned : tie.After-entry-of Inv-loop μ-loop Inv-loop2 μ-loop2 → Turn
 turned c = record { answer = c .before .before .answer-to .result; entry = c .entry-of .result; landed = c .before .before .before .before .before .before .before .land-mover .result; born = c .before .before .before .land-young .result }

@@ -16,14 +16,14 @@ use Rattle.landing.proofs.land.Tie as tie
 
 abbrev Inv-loop : tie.InvT-loop
 Inv-loop words roots tops₀ environments₀ arguments₀ base from-depth go₀ depth₀ left₀ tops environments arguments go depth left =
-    (left ≤ 2100) × (depth ≤ 32) × (base ≤ 264) × (landOf left words roots base (record { tops = tops; envs = environments; args = arguments }) go depth ≡ landOf left₀ words roots base (record { tops = tops₀; envs = environments₀; args = arguments₀ }) go₀ depth₀)
+    (left ≤ 2100) × (depth ≤ 32) × (base ≤ 264) × (landOf left words roots base (record { tops = tops; environments = environments; arguments = arguments }) go depth ≡ landOf left₀ words roots base (record { tops = tops₀; environments = environments₀; arguments = arguments₀ }) go₀ depth₀)
 
 abbrev μ-loop : tie.MeasureT-loop
 μ-loop words roots tops₀ environments₀ arguments₀ base from-depth go₀ depth₀ left₀ tops environments arguments go depth left = left
 
 -- where a turn begins: the frames, the step from there
 abbrev stack : tie.At-loop Inv-loop μ-loop → Stack
-stack c = record { tops = c .loop .tops; envs = c .loop .environments; args = c .loop .arguments }
+stack c = record { tops = c .loop .tops; environments = c .loop .environments; arguments = c .loop .arguments }
 
 abbrev words : tie.At-loop Inv-loop μ-loop → List ℕ
 words c = c .before .args .words .now
@@ -49,7 +49,7 @@ place c = omega (arith, inside (c .before .before .before .before .before), c .b
 
 -- the frames after the step
 keeps : (c : tie.Joined2 Inv-loop μ-loop)
-    → _≡_ {A = Stack} (record { tops = c .if2 .tops; envs = c .if2 .environments; args = c .if2 .arguments }) (stored (stack (c .before .before .before .before .before .before .before .before .before .before .before .before)) (base (c .before .before .before .before .before .before .before .before .before .before .before .before)) (c .before .before .before .step .result))
+    → _≡_ {A = Stack} (record { tops = c .if2 .tops; environments = c .if2 .environments; arguments = c .if2 .arguments }) (stored (stack (c .before .before .before .before .before .before .before .before .before .before .before .before)) (base (c .before .before .before .before .before .before .before .before .before .before .before .before)) (c .before .before .before .step .result))
 keeps c =
     ⊎-elim (λ w. simp (w .3, w .4, w .5, w .1 .ensures, lt-ltb _ _ (w .0 .taken))) (λ w. simp (w .1, w .2, w .3, le-ltb _ _ (w .0 .left))) (c .if2 .came)
 
