@@ -54,10 +54,10 @@ module _ {b ws rs : List ℕ} {k : Stack} {base : ℕ} {S : List frames.Frame} (
       let u = list-left (nodeAt b) (terms b) (ordered b (c .right)) (f .first) i j q in
       rw p
       (want c (restOf f j) i (record {
-        a-fits = omega arith;
-        b-fits = omega arith;
-        m-fits = omega (arith, c .right .few-procedures);
-        n-fits = omega (arith, s .2);
+        first-fits = omega arith;
+        second-fits = omega arith;
+        member-fits = omega (arith, c .right .few-procedures);
+        count-fits = omega (arith, s .2);
         sorted = (l, (z .below, z .sorted, omega (arith, s .2)));
       }) w (child r) (e ∙ list-more (ordered b (c .right)) S (f .first) (slots (f .environment)) (f .member) (f .count) (slots (f .arguments)) q)
       (less-one (c .right) m r) (less-one (c .right) m z))

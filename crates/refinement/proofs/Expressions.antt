@@ -74,7 +74,7 @@ module _ {b ws rs : List ℕ} {k : Stack} {base : ℕ} {S : List frames.Frame} (
   run-by m v (Expression.letIn p q r i j) =
       rw p
       (want c (letFrame (slotBits word) (letSecond word) e) (letFirst word)
-      (record { a-fits = omega arith; b-fits = omega arith; m-fits = omega arith; n-fits = omega arith; sorted = (r, child j) })
+      (record { first-fits = omega arith; second-fits = omega arith; member-fits = omega arith; count-fits = omega arith; sorted = (r, child j) })
       w (child i) (x ∙ enter-let (ordered b (c .right)) S t (slots e) q) (less-one (c .right) l i) one)
   run-by m v (Expression.if p q i j o) =
       rw p

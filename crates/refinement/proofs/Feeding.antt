@@ -96,7 +96,7 @@ module _ (b : List ℕ) where
 
   module _ (S : List frames.Frame) (X : frames.Found) where
     second-fine : (k : Kind) (f : Frame) (v : ℕ) → f .member < 32 → SortedBy b k (secondFrame k f v) → Fine b (secondFrame k f v)
-    second-fine k f v l s = record { a-fits = omega arith; b-fits = omega arith; m-fits = l; n-fits = omega arith; sorted = s }
+    second-fine k f v l s = record { first-fits = omega arith; second-fits = omega arith; member-fits = l; count-fits = omega arith; sorted = s }
 
     feed-by : (k : Kind) (f : Frame) (v : ℕ) → f .member < 32 → f .count < 16 → SortedBy b k f → v < 32 → Well (frameBy k f ∷ S)
         → X ≡ up (nodeAt b) (terms b) (frameBy k f ∷ S) v → Goes b (feedBy k f v) S X
@@ -136,7 +136,7 @@ module _ (b : List ℕ) where
     -- an expression's value
     pub feed-goes : (f : Frame) (v : ℕ) → Fine b f → v < 32 → Well (frameOf f ∷ S) → X ≡ up (nodeAt b) (terms b) (frameOf f ∷ S) v → Goes b (feedOf f v) S X
     unfolding feedOf
-    feed-goes f v n l w e = feed-by (f .kind) f v (n .m-fits) (n .n-fits) (n .sorted) l w e
+    feed-goes f v n l w e = feed-by (f .kind) f v (n .member-fits) (n .count-fits) (n .sorted) l w e
 
     -- ---- a condition's value
 

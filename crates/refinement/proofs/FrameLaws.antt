@@ -62,21 +62,21 @@ top-code : (n m b a c : ℕ) → c < 16 → top-of n m b a c % 16 ≡ c
 unfolding top-of
 top-code n m b a c h = omega arith
 
-top-a : (n m b a c : ℕ) → c < 16 → a < 1024 → top-of n m b a c / 16 % 1024 ≡ a
+top-first : (n m b a c : ℕ) → c < 16 → a < 1024 → top-of n m b a c / 16 % 1024 ≡ a
 unfolding top-of
-top-a n m b a c h l = omega arith
+top-first n m b a c h l = omega arith
 
-top-b : (n m b a c : ℕ) → c < 16 → b < 1024 → top-of n m b a c / 16384 % 1024 ≡ b
+top-second : (n m b a c : ℕ) → c < 16 → b < 1024 → top-of n m b a c / 16384 % 1024 ≡ b
 unfolding top-of
-top-b n m b a c h l = omega arith
+top-second n m b a c h l = omega arith
 
-top-m : (n m b a c : ℕ) → c < 16 → m < 32 → top-of n m b a c / 16777216 % 32 ≡ m
+top-member : (n m b a c : ℕ) → c < 16 → m < 32 → top-of n m b a c / 16777216 % 32 ≡ m
 unfolding top-of
-top-m n m b a c h l = omega arith
+top-member n m b a c h l = omega arith
 
-top-n : (n m b a c : ℕ) → c < 16 → n < 16 → top-of n m b a c / 536870912 % 16 ≡ n
+top-count : (n m b a c : ℕ) → c < 16 → n < 16 → top-of n m b a c / 536870912 % 16 ≡ n
 unfolding top-of
-top-n n m b a c h l = omega arith
+top-count n m b a c h l = omega arith
 
 unpacked : (f : Frame) → f .first < 1024 → f .second < 1024 → f .member < 32 → f .count < 16 → unpackOf (packOf f .top) (packOf f .environment) (packOf f .arguments) ≡ f
 unfolding unpackOf packOf top-of
@@ -86,10 +86,10 @@ unpacked f ha hb hm hn =
     rw (
       top-code (f .count) (f .member) (f .second) (f .first) c s,
       code-kind (f .kind),
-      top-a (f .count) (f .member) (f .second) (f .first) c s ha,
-      top-b (f .count) (f .member) (f .second) (f .first) c s hb,
-      top-m (f .count) (f .member) (f .second) (f .first) c s hm,
-      top-n (f .count) (f .member) (f .second) (f .first) c s hn,
+      top-first (f .count) (f .member) (f .second) (f .first) c s ha,
+      top-second (f .count) (f .member) (f .second) (f .first) c s hb,
+      top-member (f .count) (f .member) (f .second) (f .first) c s hm,
+      top-count (f .count) (f .member) (f .second) (f .first) c s hn,
     )
 
 -- ---- a store
@@ -106,7 +106,7 @@ module _ (b : List ℕ) where
       let q : i < length (k .environments) = omega (arith, s .environments-size) in
       let r : i < length (k .arguments) = omega (arith, s .arguments-size) in
       rw (getD-set-same (k .tops) i (packOf f .top) 0 p, getD-set-same (k .environments) i (packOf f .environment) 0 q, getD-set-same (k .arguments) i (packOf f .arguments) 0 r)
-      (unpacked f (n .a-fits) (n .b-fits) (n .m-fits) (n .n-fits))
+      (unpacked f (n .first-fits) (n .second-fits) (n .member-fits) (n .count-fits))
 
   still-sized : (k : Stack) (i : ℕ) (f : Frame) → Sized b k → Sized b (storeAt k i f)
   still-sized k i f s = record {

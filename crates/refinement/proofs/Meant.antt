@@ -100,10 +100,10 @@ module _ (b : List ℕ) where
 
   -- a frame that the code can hold: its numbers fit, its terms are of the right sort
   pub record Fine (f : Frame) : Type 0 where
-    pub a-fits : f .first < 1024
-    pub b-fits : f .second < 1024
-    pub m-fits : f .member < 32
-    pub n-fits : f .count < 16
+    pub first-fits : f .first < 1024
+    pub second-fits : f .second < 1024
+    pub member-fits : f .member < 32
+    pub count-fits : f .count < 16
     pub sorted : SortedBy (f .kind) f
 
   -- the frames from place `base` on stand for S, the innermost last

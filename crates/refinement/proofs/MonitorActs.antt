@@ -115,7 +115,7 @@ module _ {b : List ℕ} {m : engine.Machine} {s : machine.State} {p : ℕ} (move
         moved mover _ i e-acquire (some (entry records.Kind.acquire p o 0 0)) (machine.learn (machine.storeMonitor s o (rules.cell empty (t .self))) p (keysOf (c .keys)))
             (enter (nodeAt b) (terms b) (frames.Frame.hold o ∷ S) (closed u environment)) (goWant (holdFrame environment o) u) n
             (joinOf ks (c .keys)) c′ nothing (entryOf 6 o 0 0) refl (written mover records.Kind.acquire o 0 0 ho (omega arith) (omega arith)) refl
-            (record { a-fits = omega arith; b-fits = omega arith; m-fits = omega arith; n-fits = omega arith; sorted = ho }, well, hu, refl)
+            (record { first-fits = omega arith; second-fits = omega arith; member-fits = omega arith; count-fits = omega arith; sorted = ho }, well, hu, refl)
             (fits-join fits (fit .keys)) (learnt mover (keysOf (c .keys)) _ (joined mover (c .keys) (fit .keys)))
             (kept-changed (monitor-stored o i c′ _ ei (ap₂ rules.cell keys-empty same) (record { key = omega arith; keys = fits-empty }) o-there ho) p _ (λ x. refl)),
       )

@@ -159,4 +159,4 @@ module _ {b : List ℕ} {t i : ℕ} {kind : Operand} {n : ℕ} (a : Accepted b) 
 
 -- a frame of a term's operands
 pub plain-fine : {b : List ℕ} (k : Kind) (i j m e : ℕ) → i < 1024 → j < 1024 → m < 32 → SortedBy b k (framed k i j m e) → Fine b (framed k i j m e)
-plain-fine k i j m e p q r s = record { a-fits = p; b-fits = q; m-fits = r; n-fits = omega arith; sorted = s }
+plain-fine k i j m e p q r s = record { first-fits = p; second-fits = q; member-fits = r; count-fits = omega arith; sorted = s }

@@ -75,7 +75,7 @@ module _ {b : List ℕ} {m : engine.Machine} {s : machine.State} {p : ℕ} (move
         _,
         attempts mover (frames.Ready.while (branches a b′ (slots environment))) code refl,
         plain mover _ i e-while (enterᶜ (nodeAt b) (terms b) (frames.Frame.whileTest (branches a b′ (slots environment)) ∷ S) (closed a environment)) (goWantCondition (framed kind.Test a b′ 0 environment) a) refl
-            (record { a-fits = z .0; b-fits = z .1; m-fits = omega arith; n-fits = omega arith; sorted = (hc, he) }, well, hc, refl),
+            (record { first-fits = z .0; second-fits = z .1; member-fits = omega arith; count-fits = omega arith; sorted = (hc, he) }, well, hc, refl),
       )
 
   pub body-meets : (a b′ w environment i : ℕ) → Well S → IsCondition b a → IsExpression b b′ → t .code ≡ frames.Found.here S (frames.Ready.whileTest true (branches a b′ (slots environment)))
@@ -87,5 +87,5 @@ module _ {b : List ℕ} {m : engine.Machine} {s : machine.State} {p : ℕ} (move
         _,
         attempts mover (frames.Ready.whileTest true (branches a b′ (slots environment))) code refl,
         plain mover _ i e-if (enter (nodeAt b) (terms b) (frames.Frame.whileBody (branches a b′ (slots environment)) ∷ S) (closed b′ environment)) (goWant (framed kind.Body a b′ 0 environment) b′) refl
-            (record { a-fits = z .0; b-fits = z .1; m-fits = omega arith; n-fits = omega arith; sorted = (hc, he) }, well, he, refl),
+            (record { first-fits = z .0; second-fits = z .1; member-fits = omega arith; count-fits = omega arith; sorted = (hc, he) }, well, he, refl),
       )
