@@ -8,7 +8,7 @@ use state::Head;
 use state::acted::Acted;
 use state::acted::Room;
 use state::acted::acted_of;
-use state::acted::cell_of;
+use state::acted::cell_with;
 use state::acted::entry;
 use state::acted::go_on;
 
@@ -50,7 +50,7 @@ pub fn act_write(
     let go = go::value(value);
     if look::has(mask, field) {
         let all = cell_keys.join(keys);
-        let changed = cell_of(value, cell.key, all);
+        let changed = cell_with(value, cell.key, all);
         let entry = entry(5, object, field, value);
         return acted_of(Room::Enough, go, counts, keys, changed, entry);
     }
@@ -60,7 +60,7 @@ pub fn act_write(
     }
     let key = next as u8;
     let known = keys.learn(key);
-    let changed = cell_of(value, key, cell_keys);
+    let changed = cell_with(value, key, cell_keys);
     let counted = Counts {
         threads: counts.threads,
         objects: counts.objects,

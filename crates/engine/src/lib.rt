@@ -16,6 +16,7 @@ use state::Head;
 use state::Object;
 use state::acted::Acted;
 use state::acted::Room;
+use state::acted::cell_with;
 
 // How a run ended: with its picks, for want of a key, or for want of room.
 pub enum Stop {
@@ -58,12 +59,7 @@ fn first_head(root: usize) -> Head
 fn first_cell() -> Cell
     ensures { λ r. ⌜ r ≡ cellFirst ⌝ }
 {
-    let one = KeySet::zero();
-    Cell {
-        value: 0,
-        key: 0,
-        keys: one,
-    }
+    cell_with(0, 0, KeySet::zero())
 }
 
 // No fields; the first object stands for thread 0.

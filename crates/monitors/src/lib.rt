@@ -11,7 +11,7 @@ use state::Head;
 use state::acted::Acted;
 use state::acted::Room;
 use state::acted::acted_of;
-use state::acted::cell_of;
+use state::acted::cell_with;
 use state::acted::entry;
 use state::acted::go_on;
 
@@ -32,7 +32,7 @@ pub fn act_synch(
     }
     let all = keys.join(cell_keys);
     let none = KeySet::new();
-    let changed = cell_of(head.object, 0, none);
+    let changed = cell_with(head.object, 0, none);
     let frame = Frame {
         kind: Kind::Hold,
         first: 0,
@@ -51,7 +51,7 @@ pub fn act_hold(counts: Counts, head: Head, object: usize, value: usize) -> Acte
     ensures { λ r. ⌜ r ≡ actHold counts head object value ⌝ }
 {
     let keys = head.keys;
-    let changed = cell_of(0, 0, keys);
+    let changed = cell_with(0, 0, keys);
     let go = go::value(value);
     let entry = entry(7, object, 0, 0);
     acted_of(Room::Enough, go, counts, keys, changed, entry)

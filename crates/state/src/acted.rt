@@ -40,7 +40,7 @@ pub fn entry(kind: usize, object: usize, field: usize, value: usize) -> Entry
     }
 }
 
-pub fn cell_of(value: usize, key: u8, keys: KeySet) -> Cell
+pub fn cell_with(value: usize, key: u8, keys: KeySet) -> Cell
     ensures { λ r. ⌜ r ≡ cellOf value key keys ⌝ }
 {
     Cell {

@@ -15,8 +15,8 @@ has-requires c κs = search needs
 join-requires : tie.Need-join-requires
 join-requires c κs = search needs
 
-cell-of-requires : tie.Need-cell-of-requires
-cell-of-requires c κs = search needs
+cell-with-requires : tie.Need-cell-with-requires
+cell-with-requires c κs = search needs
 
 entry-requires : tie.Need-entry-requires
 entry-requires c κs = search needs
@@ -26,7 +26,7 @@ acted-of-requires c κs = search needs
 
 returns : tie.Need-returns
 unfolding actWrite
-returns c = simp (c .acted-of .ensures, c .before .entry .ensures, c .before .before .cell-of .ensures, c .before .before .before .join .ensures .exact, c .before .before .before .before .before .before .value .ensures, sym (c .before .before .before .before .before .has .ensures) ∙ c .before .before .before .before .if1 .taken)
+returns c = simp (c .acted-of .ensures, c .before .entry .ensures, c .before .before .cell-with .ensures, c .before .before .before .join .ensures .exact, c .before .before .before .before .before .before .value .ensures, sym (c .before .before .before .before .before .has .ensures) ∙ c .before .before .before .before .if1 .taken)
 
 go-on-requires : tie.Need-go-on-requires
 go-on-requires c κs = search needs
@@ -41,8 +41,8 @@ cast-key c = search needs
 learn-requires : tie.Need-learn-requires
 learn-requires c κs = search needs
 
-cell-of-requires-2 : tie.Need-cell-of-requires-2
-cell-of-requires-2 c κs = search needs
+cell-with-requires-2 : tie.Need-cell-with-requires-2
+cell-with-requires-2 c κs = search needs
 
 add-t24 : tie.Need-add-t24
 add-t24 c = search needs
@@ -55,7 +55,7 @@ acted-of-requires-2 c κs = search needs
 
 returns-3 : tie.Need-returns-3
 unfolding actWrite
-returns-3 c = simp (c .acted-of2 .ensures, c .before .entry2 .ensures, c .before .before .cell-of2 .ensures, c .before .before .before .learn .ensures .exact, c .before .before .before .before .before .before .before .value .ensures, sym (c .before .before .before .before .before .before .has .ensures) ∙ c .before .before .before .before .before .if1 .left, lt-leb _ _ (c .before .before .before .before .if2 .left))
+returns-3 c = simp (c .acted-of2 .ensures, c .before .entry2 .ensures, c .before .before .cell-with2 .ensures, c .before .before .before .learn .ensures .exact, c .before .before .before .before .before .before .before .value .ensures, sym (c .before .before .before .before .before .before .has .ensures) ∙ c .before .before .before .before .before .if1 .left, lt-leb _ _ (c .before .before .before .before .if2 .left))
 
 pub act-write-spec : {M : Type 1} → statement M
 act-write-spec =
@@ -64,7 +64,7 @@ act-write-spec =
     value-requires
     has-requires
     join-requires
-    cell-of-requires
+    cell-with-requires
     entry-requires
     acted-of-requires
     returns
@@ -72,7 +72,7 @@ act-write-spec =
     returns-2
     cast-key
     learn-requires
-    cell-of-requires-2
+    cell-with-requires-2
     add-t24
     entry-requires-2
     acted-of-requires-2

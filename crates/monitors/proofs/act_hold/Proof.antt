@@ -3,8 +3,8 @@ use borrow.Author.Needs.{needs}
 use Rattle.monitors.proofs.act_hold.Statement.{statement}
 use Rattle.monitors.proofs.act_hold.Tie as tie
 
-cell-of-requires : tie.Need-cell-of-requires
-cell-of-requires c κs = search needs
+cell-with-requires : tie.Need-cell-with-requires
+cell-with-requires c κs = search needs
 
 value-requires : tie.Need-value-requires
 value-requires c κs = search needs
@@ -16,7 +16,7 @@ acted-of-requires : tie.Need-acted-of-requires
 acted-of-requires c κs = search needs
 
 returns : tie.Need-returns
-returns c = simp (c .acted-of .ensures, c .before .entry .ensures, c .before .before .value .ensures, c .before .before .before .cell-of .ensures)
+returns c = simp (c .acted-of .ensures, c .before .entry .ensures, c .before .before .value .ensures, c .before .before .before .cell-with .ensures)
 
 pub act-hold-spec : {M : Type 1} → statement M
-act-hold-spec = tie.close (tie.spec cell-of-requires value-requires entry-requires acted-of-requires returns)
+act-hold-spec = tie.close (tie.spec cell-with-requires value-requires entry-requires acted-of-requires returns)

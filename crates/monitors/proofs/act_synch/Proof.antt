@@ -24,8 +24,8 @@ join-requires c κs = search needs
 new-requires : tie.Need-new-requires
 new-requires c κs = search needs
 
-cell-of-requires : tie.Need-cell-of-requires
-cell-of-requires c κs = search needs
+cell-with-requires : tie.Need-cell-with-requires
+cell-with-requires c κs = search needs
 
 want-requires : tie.Need-want-requires
 want-requires c κs = search needs
@@ -38,7 +38,7 @@ acted-of-requires c κs = search needs
 
 returns-2 : tie.Need-returns-2
 unfolding actSynch
-returns-2 c = simp (c .acted-of .ensures, c .before .entry .ensures, c .before .before .want .ensures, c .before .before .before .cell-of .ensures, c .before .before .before .before .new .ensures .exact, c .before .before .before .before .before .join .ensures .exact, sym (c .before .before .before .before .before .before .before .is-empty .ensures .exact) ∙ c .before .before .before .before .before .before .if1 .left)
+returns-2 c = simp (c .acted-of .ensures, c .before .entry .ensures, c .before .before .want .ensures, c .before .before .before .cell-with .ensures, c .before .before .before .before .new .ensures .exact, c .before .before .before .before .before .join .ensures .exact, sym (c .before .before .before .before .before .before .before .is-empty .ensures .exact) ∙ c .before .before .before .before .before .before .if1 .left)
 
 pub act-synch-spec : {M : Type 1} → statement M
 act-synch-spec =
@@ -50,7 +50,7 @@ act-synch-spec =
     returns
     join-requires
     new-requires
-    cell-of-requires
+    cell-with-requires
     want-requires
     entry-requires
     acted-of-requires
