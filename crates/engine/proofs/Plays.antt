@@ -26,7 +26,7 @@ module _ (ws rs : List ℕ) (mask : ℕ) where
         heads = replicate 9 h;
         cells = replicate 1024 c;
         objects = replicate 33 t;
-        stack = record { tops = replicate 297 0; environments = replicate 297 0; arguments = replicate 297 0 };
+        stack = replicate 891 0;
         tally = s;
         log = l;
       }

@@ -220,7 +220,7 @@ startOf rs l =
       heads = replicate 9 (headOf (getD rs 0 0));
       cells = replicate 1024 cellFirst;
       objects = replicate 33 noThing;
-      stack = record { tops = replicate 297 0; environments = replicate 297 0; arguments = replicate 297 0 };
+      stack = replicate 891 0;
       tally = tallyFirst;
       log = l;
     }

@@ -1,5 +1,5 @@
 // The run of a schedule over a loaded plan. `run` owns flat arrays of small structs, 32 cells to an object, the monitor at field 0; the frames lie in
-// arrays of numbers that only landing touches. What is made is stored past the present ones, and counts once it is counted.
+// an array of numbers that only landing touches. What is made is stored past the present ones, and counts once it is counted.
 ghost use mathlib.Core.Path.{_≡_};
 ghost use Prim.Native.Nat.{_<_, _≤_, _+_, _*_};
 ghost use lib.ListN.{length};
@@ -93,55 +93,33 @@ fn stop_of(answer: Answer) -> Stop
 fn land_mover(
     words: &[usize; 1024],
     roots: &[usize; 32],
-    tops: &mut [usize; 297],
-    environments: &mut [usize; 297],
-    arguments: &mut [usize; 297],
+    stack: &mut [usize; 891],
     thread: usize,
     head: Head,
     acted: Acted,
 ) -> Landed
     requires { ⌜ thread < 8 ⌝ }
-    ensures { λ r. ⌜ (record { stack = record { tops = now (tops .exit); environments = now (environments .exit); arguments = now (arguments .exit) }; landed = r }) ≡ moverEnded (now (words .entry)) (now (roots .entry)) thread head acted (record { tops = now (tops .entry); environments = now (environments .entry); arguments = now (arguments .entry) }) ⌝ }
+    ensures { λ r. ⌜ (record { stack = now (stack .exit); landed = r }) ≡ moverEnded (now (words .entry)) (now (roots .entry)) thread head acted (now (stack .entry)) ⌝ }
 {
     let go = acted.go;
-    landing::land(
-        words,
-        roots,
-        tops,
-        environments,
-        arguments,
-        thread * 33,
-        go,
-        head.depth % 33,
-    )
+    landing::land(words, roots, stack, thread * 33, go, head.depth % 33)
 }
 
 // Lands the thread that a fork makes; another move makes none.
 fn land_young(
     words: &[usize; 1024],
     roots: &[usize; 32],
-    tops: &mut [usize; 297],
-    environments: &mut [usize; 297],
-    arguments: &mut [usize; 297],
+    stack: &mut [usize; 891],
     counts: Counts,
     head: Head,
     acted: Acted,
 ) -> Landed
-    ensures { λ r. ⌜ (record { stack = record { tops = now (tops .exit); environments = now (environments .exit); arguments = now (arguments .exit) }; landed = r }) ≡ youngOf (now (words .entry)) (now (roots .entry)) counts head acted (record { tops = now (tops .entry); environments = now (environments .entry); arguments = now (arguments .entry) }) ⌝ }
+    ensures { λ r. ⌜ (record { stack = now (stack .exit); landed = r }) ≡ youngOf (now (words .entry)) (now (roots .entry)) counts head acted (now (stack .entry)) ⌝ }
 {
     if settle::forks(acted) {
         let ready = head.ready;
         let start = go::run(ready.first, ready.environment);
-        return landing::land(
-            words,
-            roots,
-            tops,
-            environments,
-            arguments,
-            counts.threads % 9 * 33,
-            start,
-            0,
-        );
+        return landing::land(words, roots, stack, counts.threads % 9 * 33, start, 0);
     }
     landing::end_at(go::full(), 0)
 }
@@ -216,9 +194,7 @@ pub fn run(
     let mut heads = [first_head(roots[0]); 9];
     let mut cells = [first_cell(); 1024];
     let mut objects = [first_object(); 33];
-    let mut tops = [0usize; 297];
-    let mut environments = [0usize; 297];
-    let mut arguments = [0usize; 297];
+    let mut stack = [0usize; 891];
     let mut tally = tally::first();
     let mut stop = Stop::End;
     let mut dealt = picks.len();
@@ -239,26 +215,8 @@ pub fn run(
             continue;
         }
         let acted = act::act(mask, counts, head, cell, thing, other);
-        let landed = land_mover(
-            words,
-            roots,
-            &mut tops,
-            &mut environments,
-            &mut arguments,
-            thread,
-            head,
-            acted,
-        );
-        let young = land_young(
-            words,
-            roots,
-            &mut tops,
-            &mut environments,
-            &mut arguments,
-            counts,
-            head,
-            acted,
-        );
+        let landed = land_mover(words, roots, &mut stack, thread, head, acted);
+        let young = land_young(words, roots, &mut stack, counts, head, acted);
         let answer = settle::answer_to(sight, acted, landed, young);
         let ready = head.ready;
         let entry = settle::entry_of(answer, ready, acted);

@@ -1,5 +1,5 @@
 -- Landing: steps until the part that moves next is found. The machine that the code runs; no reader of the entries' promises needs it. Assumes nothing.
-use Prim.Native.Nat.{ℕ, zero, suc, _+_, _-_}
+use Prim.Native.Nat.{ℕ, zero, suc, _+_, _-_, _*_}
 use mathlib.Core.Bool.{Bool, true, false, cond}
 use mathlib.Core.List.{List}
 use lib.Dec.{eqb, ltb}
@@ -31,11 +31,9 @@ liveOf g = liveBy (g .stage)
 abbrev pub topOf : ℕ → ℕ → ℕ
 topOf base d = cond (eqb d 0) base (base + (d - 1))
 
--- the frames of all threads
-pub record Stack : Type 0 where
-  pub tops : List ℕ
-  pub environments : List ℕ
-  pub arguments : List ℕ
+-- the frames of all threads, three numbers to a frame
+abbrev pub Stack : Type 0
+Stack = List ℕ
 
 pub record Ended : Type 0 where
   pub stack : Stack
@@ -48,15 +46,10 @@ abbrev pub ended : Stack → Go → ℕ → Ended
 ended k g d = record { stack = k; landed = landedOf g d }
 
 abbrev pub frameAt : Stack → ℕ → Frame
-frameAt k i = unpackOf (getD (k .tops) i 0) (getD (k .environments) i 0) (getD (k .arguments) i 0)
+frameAt k i = unpackOf (getD k (i * 3) 0) (getD k (i * 3 + 1) 0) (getD k (i * 3 + 2) 0)
 
 abbrev pub storeAt : Stack → ℕ → Frame → Stack
-storeAt k i f =
-    record {
-      tops = set (k .tops) i (packOf f .top);
-      environments = set (k .environments) i (packOf f .environment);
-      arguments = set (k .arguments) i (packOf f .arguments);
-    }
+storeAt k i f = set (set (set k (i * 3) (packOf f .top)) (i * 3 + 1) (packOf f .environment)) (i * 3 + 2) (packOf f .arguments)
 
 abbrev pub turnAt : List ℕ → List ℕ → ℕ → Stack → Go → ℕ → Turn
 turnAt ws rs base k g d = stepOf ws rs g d (frameAt k (topOf base d))

@@ -1,5 +1,5 @@
-// Landing: steps until the part that moves next is found. The frames of all threads lie in three lent arrays of numbers, 33 places to a thread, of
-// which the last is never part of the stack.
+// Landing: steps until the part that moves next is found. The frames of all threads lie in one lent array, three numbers to a frame, 33 places to a
+// thread, of which the last is never part of the stack.
 ghost use mathlib.Core.Path.{_≡_};
 ghost use mathlib.Core.Bool.{true, false};
 ghost use Prim.Native.Nat.{_<_, _≤_};
@@ -62,15 +62,13 @@ fn top(base: usize, depth: usize) -> usize
 pub fn land(
     words: &[usize; 1024],
     roots: &[usize; 32],
-    tops: &mut [usize; 297],
-    environments: &mut [usize; 297],
-    arguments: &mut [usize; 297],
+    stack: &mut [usize; 891],
     base: usize,
     from: Go,
     depth: usize,
 ) -> Landed
     requires { ⌜ (base ≤ 264) × (depth ≤ 32) ⌝ }
-    ensures { λ r. ⌜ (record { stack = record { tops = now (tops .exit); environments = now (environments .exit); arguments = now (arguments .exit) }; landed = r }) ≡ landOf 2100 (now (words .entry)) (now (roots .entry)) base (record { tops = now (tops .entry); environments = now (environments .entry); arguments = now (arguments .entry) }) from depth ⌝ }
+    ensures { λ r. ⌜ (record { stack = now (stack .exit); landed = r }) ≡ landOf 2100 (now (words .entry)) (now (roots .entry)) base (now (stack .entry)) from depth ⌝ }
     ensures { λ r. ⌜ r .depth ≤ 32 ⌝ }
 {
     let mut go = from;
@@ -80,16 +78,16 @@ pub fn land(
         if !live(go) {
             return end_at(go, depth);
         }
-        let place = top(base, depth);
-        let frame = frame::unpack(tops[place], environments[place], arguments[place]);
+        let place = top(base, depth) * 3;
+        let frame = frame::unpack(stack[place], stack[place + 1], stack[place + 2]);
         let turn = landing_step::step(words, roots, go, depth, frame);
         let pushed = turn.frame;
         if turn.at < turn.depth {
             let packed = frame::pack(pushed);
-            let above = base + turn.at;
-            tops[above] = packed.top;
-            environments[above] = packed.environment;
-            arguments[above] = packed.arguments;
+            let above = (base + turn.at) * 3;
+            stack[above] = packed.top;
+            stack[above + 1] = packed.environment;
+            stack[above + 2] = packed.arguments;
         }
         let next = turn.go;
         go = next;

@@ -6,7 +6,7 @@ use mathlib.Core.Bool.{Bool, true, false, cond}
 use mathlib.Core.List.{List, [], _∷_}
 use lib.Dec.{ltb}
 use borrow.Author.Tests.{lt-ltb, le-ltb}
-use lib.ListN.{length, length-set}
+use lib.ListN.{length, getD, set, length-set}
 use lib.Seq.{getD-set-same, getD-set-other}
 use Rattle.machine.specs.Frames as frames
 use Rattle.frames.specs.declared.frame.Kind.{Kind}
@@ -94,26 +94,41 @@ unpacked f ha hb hm hn =
 
 -- ---- a store
 
+elsewhere : (k : Stack) (i : ℕ) (f : Frame) (j : ℕ) → (j ≡ i * 3 → ⊥) → (j ≡ i * 3 + 1 → ⊥) → (j ≡ i * 3 + 2 → ⊥) → getD (storeAt k i f) j 0 ≡ getD k j 0
+elsewhere k i f j p q r =
+    getD-set-other (set (set k (i * 3) (packOf f .top)) (i * 3 + 1) (packOf f .environment)) (i * 3 + 2) j (packOf f .arguments) 0 r
+    ∙ getD-set-other (set k (i * 3) (packOf f .top)) (i * 3 + 1) j (packOf f .environment) 0 q
+    ∙ getD-set-other k (i * 3) j (packOf f .top) 0 p
+
 read-other : (k : Stack) (i : ℕ) (f : Frame) (j : ℕ) → (j ≡ i → ⊥) → frameAt (storeAt k i f) j ≡ frameAt k j
 unfolding unpackOf
 read-other k i f j h =
-    rw (getD-set-other (k .tops) i j (packOf f .top) 0 h, getD-set-other (k .environments) i j (packOf f .environment) 0 h, getD-set-other (k .arguments) i j (packOf f .arguments) 0 h)
+    rw (
+      elsewhere k i f (j * 3) (λ e. h (omega (arith, e))) (λ e. omega (arith, e)) (λ e. omega (arith, e)),
+      elsewhere k i f (j * 3 + 1) (λ e. omega (arith, e)) (λ e. h (omega (arith, e))) (λ e. omega (arith, e)),
+      elsewhere k i f (j * 3 + 2) (λ e. omega (arith, e)) (λ e. omega (arith, e)) (λ e. h (omega (arith, e))),
+    )
 
 module _ (b : List ℕ) where
   read-back : (k : Stack) (i : ℕ) (f : Frame) → Sized b k → i < 297 → Fine b f → frameAt (storeAt k i f) i ≡ f
   read-back k i f s h n =
-      let p : i < length (k .tops) = omega (arith, s .tops-size) in
-      let q : i < length (k .environments) = omega (arith, s .environments-size) in
-      let r : i < length (k .arguments) = omega (arith, s .arguments-size) in
-      rw (getD-set-same (k .tops) i (packOf f .top) 0 p, getD-set-same (k .environments) i (packOf f .environment) 0 q, getD-set-same (k .arguments) i (packOf f .arguments) 0 r)
-      (unpacked f (n .first-fits) (n .second-fits) (n .member-fits) (n .count-fits))
+      let k₁ = set k (i * 3) (packOf f .top) in
+      let k₂ = set k₁ (i * 3 + 1) (packOf f .environment) in
+      let p : i * 3 < length k = omega (arith, s) in
+      let q : i * 3 + 1 < length k₁ = omega (arith, s, length-set k (i * 3) (packOf f .top)) in
+      let r : i * 3 + 2 < length k₂ = omega (arith, s, length-set k (i * 3) (packOf f .top), length-set k₁ (i * 3 + 1) (packOf f .environment)) in
+      let top : getD (storeAt k i f) (i * 3) 0 ≡ packOf f .top =
+      getD-set-other k₂ (i * 3 + 2) (i * 3) (packOf f .arguments) 0 (λ e. omega (arith, e)) ∙ getD-set-other k₁ (i * 3 + 1) (i * 3) (packOf f .environment) 0 (λ e. omega (arith, e))
+      ∙ getD-set-same k (i * 3) (packOf f .top) 0 p in
+      let slots : getD (storeAt k i f) (i * 3 + 1) 0 ≡ packOf f .environment =
+      getD-set-other k₂ (i * 3 + 2) (i * 3 + 1) (packOf f .arguments) 0 (λ e. omega (arith, e)) ∙ getD-set-same k₁ (i * 3 + 1) (packOf f .environment) 0 q in
+      rw (top, slots, getD-set-same k₂ (i * 3 + 2) (packOf f .arguments) 0 r) (unpacked f (n .first-fits) (n .second-fits) (n .member-fits) (n .count-fits))
 
   still-sized : (k : Stack) (i : ℕ) (f : Frame) → Sized b k → Sized b (storeAt k i f)
-  still-sized k i f s = record {
-    tops-size = length-set (k .tops) i (packOf f .top) ∙ s .tops-size;
-    environments-size = length-set (k .environments) i (packOf f .environment) ∙ s .environments-size;
-    arguments-size = length-set (k .arguments) i (packOf f .arguments) ∙ s .arguments-size;
-  }
+  still-sized k i f s =
+      let k₁ = set k (i * 3) (packOf f .top) in
+      let k₂ = set k₁ (i * 3 + 1) (packOf f .environment) in
+      length-set k₂ (i * 3 + 2) (packOf f .arguments) ∙ length-set k₁ (i * 3 + 1) (packOf f .environment) ∙ length-set k (i * 3) (packOf f .top) ∙ s
 
   -- a store past the frames leaves them
   still-holds : (k : Stack) (base i : ℕ) (f : Frame) (S : List frames.Frame) → base + length S ≤ i → Holds b k base S → Holds b (storeAt k i f) base S

@@ -169,11 +169,9 @@ module _ (b : List ℕ) where
   abbrev pub Goes : Go → List frames.Frame → frames.Found → Type 0
   Goes g S X = GoesBy (g .stage) g S X
 
-  -- a stack of the code: room for nine threads of 33 frames
-  pub record Sized (k : Stack) : Type 0 where
-    pub tops-size : length (k .tops) ≡ 297
-    pub environments-size : length (k .environments) ≡ 297
-    pub arguments-size : length (k .arguments) ≡ 297
+  -- a stack of the code: room for nine threads of 33 frames, of three numbers each
+  abbrev pub Sized : Stack → Type 0
+  Sized k = length k ≡ 891
 
   -- where landing ended: the part that moves next is found, in frames that the stack holds; or there is no room for the frames
   abbrev pub FoundBy : Stage → Ended → ℕ → frames.Found → Type 0

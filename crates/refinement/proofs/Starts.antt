@@ -108,7 +108,7 @@ module _ (b ws rs : List ℕ) (ok : refusal b ≡ none) (loaded : Loaded b ws rs
   unfolding startOf
   start-related area = record {
     heads-size = refl;
-    sized = record { tops-size = length-replicate {A = ℕ} 297 0; environments-size = length-replicate {A = ℕ} 297 0; arguments-size = length-replicate {A = ℕ} 297 0 };
+    sized = length-replicate {A = ℕ} 891 0;
     kept =
         start-kept (volatiles b) (replicate 1024 cellFirst) (replicate 33 noThing) (length-replicate 1024 cellFirst)
         (λ i h. getD-replicate 1024 i cellFirst noCell h) (length-replicate 33 noThing) refl;

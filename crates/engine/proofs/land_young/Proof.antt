@@ -19,7 +19,7 @@ land-requires c κs = search needs
 
 returns : tie.Need-returns
 unfolding youngOf
-returns c = c .land .ensures .0 ∙ simp (c .before .before .before .before .before .run .ensures, sym (c .before .before .before .before .before .before .before .before .forks .ensures) ∙ c .before .before .before .before .before .before .before .if1 .taken)
+returns c = c .land .ensures .0 ∙ simp (c .before .before .before .run .ensures, sym (c .before .before .before .before .before .before .forks .ensures) ∙ c .before .before .before .before .before .if1 .taken)
 
 full-requires : tie.Need-full-requires
 full-requires c κs = search needs

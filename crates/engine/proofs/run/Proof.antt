@@ -26,13 +26,13 @@ use Rattle.engine.proofs.run.Statement.{statement}
 use Rattle.engine.proofs.run.Tie as tie
 
 abbrev Inv-loop : tie.InvT-loop
-Inv-loop words roots mask picks log₀ heads₀ cells₀ objects₀ tops₀ environments₀ arguments₀ tally₀ stop₀ dealt₀ i₀ i-end log heads cells objects tops environments arguments tally halt dealt i =
+Inv-loop words roots mask picks log₀ heads₀ cells₀ objects₀ stack₀ tally₀ stop₀ dealt₀ i₀ i-end log heads cells objects stack tally halt dealt i =
     (i-end ≡ length picks) × (i ≤ length picks) × (tally .moves ≤ i) × (tally .records ≤ i) × (length log ≡ length log₀)
-    × (playOf words roots mask (record { heads = heads; cells = cells; objects = objects; stack = record { tops = tops; environments = environments; arguments = arguments }; tally = tally; log = log }) (drop i picks) i ≡ playOf words roots mask (startOf roots log₀) picks 0)
+    × (playOf words roots mask (record { heads = heads; cells = cells; objects = objects; stack = stack; tally = tally; log = log }) (drop i picks) i ≡ playOf words roots mask (startOf roots log₀) picks 0)
     × (halt ≡ stop.End) × (dealt ≡ length picks)
 
 abbrev μ-loop : tie.MeasureT-loop
-μ-loop words roots mask picks log₀ heads₀ cells₀ objects₀ tops₀ environments₀ arguments₀ tally₀ stop₀ dealt₀ i₀ i-end log heads cells objects tops environments arguments tally halt dealt i = length picks - i
+μ-loop words roots mask picks log₀ heads₀ cells₀ objects₀ stack₀ tally₀ stop₀ dealt₀ i₀ i-end log heads cells objects stack tally halt dealt i = length picks - i
 
 abbrev Inv-loop2 : tie.InvT-loop2
 Inv-loop2 words roots mask picks log heads cells objects tally halt dealt counts all₀ thread₀ all thread = (thread ≤ 8) × (turns (putSeen mask counts heads cells objects) (8 - thread) thread all ≡ seenOf mask counts heads cells objects)
@@ -65,7 +65,7 @@ machine c =
       heads = c .loop .heads;
       cells = c .loop .cells;
       objects = c .loop .objects;
-      stack = record { tops = c .loop .tops; environments = c .loop .environments; arguments = c .loop .arguments };
+      stack = c .loop .stack;
       tally = c .loop .tally;
       log = c .loop .log;
     }
@@ -102,22 +102,22 @@ passed c = ap passesOf (sym (met (c .before))) ∙ sym (c .passes .ensures)
 
 -- what the pick does and comes to
 abbrev to-look : tie.After-entry-of Inv-loop μ-loop Inv-loop2 μ-loop2 → tie.After-look Inv-loop μ-loop Inv-loop2 μ-loop2
-to-look c = c .before .before .before .before .before .before .before .before .before .before .before .before .before .before
+to-look c = c .before .before .before .before .before .before .before .before .before .before
 
 abbrev from : tie.After-entry-of Inv-loop μ-loop Inv-loop2 μ-loop2 → tie.At-loop Inv-loop μ-loop Inv-loop2 μ-loop2
 from c = from-look (to-look c)
 
 abbrev deed : tie.After-entry-of Inv-loop μ-loop Inv-loop2 μ-loop2 → Acted
-deed c = c .before .before .before .before .before .before .before .before .before .before .before .act .result
+deed c = c .before .before .before .before .before .before .before .act .result
 
 abbrev mover-landed : tie.After-entry-of Inv-loop μ-loop Inv-loop2 μ-loop2 → Ended
-mover-landed c = record { stack = record { tops = c .before .before .before .before .before .before .before .land-mover .last .1 .1 .0; environments = c .before .before .before .before .before .before .before .land-mover .last .1 .1 .1 .0; arguments = c .before .before .before .before .before .before .before .land-mover .last .1 .1 .1 .1 .0 }; landed = c .before .before .before .before .before .before .before .land-mover .result }
+mover-landed c = record { stack = c .before .before .before .before .before .land-mover .last .1 .1 .0; landed = c .before .before .before .before .before .land-mover .result }
 
 abbrev young-landed : tie.After-entry-of Inv-loop μ-loop Inv-loop2 μ-loop2 → Ended
-young-landed c = record { stack = record { tops = c .before .before .before .land-young .last .1 .1 .0; environments = c .before .before .before .land-young .last .1 .1 .1 .0; arguments = c .before .before .before .land-young .last .1 .1 .1 .1 .0 }; landed = c .before .before .before .land-young .result }
+young-landed c = record { stack = c .before .before .before .land-young .last .1 .1 .0; landed = c .before .before .before .land-young .result }
 
 abbrev turned : tie.After-entry-of Inv-loop μ-loop Inv-loop2 μ-loop2 → Turn
-turned c = record { answer = c .before .before .answer-to .result; entry = c .entry-of .result; landed = c .before .before .before .before .before .before .before .land-mover .result; born = c .before .before .before .land-young .result }
+turned c = record { answer = c .before .before .answer-to .result; entry = c .entry-of .result; landed = c .before .before .before .before .before .land-mover .result; born = c .before .before .before .land-young .result }
 
 abbrev done : tie.After-entry-of Inv-loop μ-loop Inv-loop2 μ-loop2 → Finished
 done c = record { stack = young-landed c .stack; turn = turned c }
@@ -125,29 +125,29 @@ done c = record { stack = young-landed c .stack; turn = turned c }
 did : (c : tie.After-entry-of Inv-loop μ-loop Inv-loop2 μ-loop2) → deed c ≡ actedBy (mask (from c)) (machine (from c)) (pick (from c) % 8)
 did c =
     let l = from c in
-    let k = c .before .before .before .before .before .before .before .before .before .before .before .before .before .before .before .before .before .before .before .before .cell-of in
-    c .before .before .before .before .before .before .before .before .before .before .before .act .ensures ∙ acted (mask l) (l .loop .tally .counts) (l .loop .heads) (l .loop .cells) (l .loop .objects) (pick l % 8) (k .result) (k .ensures)
+    let k = c .before .before .before .before .before .before .before .before .before .before .before .before .before .before .before .before .cell-of in
+    c .before .before .before .before .before .before .before .act .ensures ∙ acted (mask l) (l .loop .tally .counts) (l .loop .heads) (l .loop .cells) (l .loop .objects) (pick l % 8) (k .result) (k .ensures)
 
 came : (c : tie.After-entry-of Inv-loop μ-loop Inv-loop2 μ-loop2) → done c ≡ finishedBy (words (from c)) (roots (from c)) (mask (from c)) (machine (from c)) (pick (from c) % 8)
 came c =
     let l = from c in
     let m = machine l in
     let p = pick l % 8 in
-    finished (words l) (roots l) (m .tally .counts) p (c .before .before .before .before .before .before .before .before .before .before .before .before .before .before .look .result) (headAt (m .heads) p) (deed c) (m .stack) (mover-landed c) (young-landed c) (turned c)
-    (c .before .before .before .before .before .before .before .land-mover .ensures) (c .before .before .before .land-young .ensures) (simp (c .entry-of .ensures, c .before .before .answer-to .ensures))
+    finished (words l) (roots l) (m .tally .counts) p (c .before .before .before .before .before .before .before .before .before .before .look .result) (headAt (m .heads) p) (deed c) (m .stack) (mover-landed c) (young-landed c) (turned c)
+    (c .before .before .before .before .before .land-mover .ensures) (c .before .before .before .land-young .ensures) (simp (c .entry-of .ensures, c .before .before .answer-to .ensures))
     ∙ ap (λ (w : Sight). finishOf (words l) (roots l) (m .tally .counts) p w (headAt (m .heads) p) (deed c) (m .stack)) (met (to-look c))
     ∙ ap (λ (a : Acted). finishOf (words l) (roots l) (m .tally .counts) p (metBy (mask l) m p) (headAt (m .heads) p) a (m .stack)) (did c)
 
 stays : (c : tie.After-entry-of Inv-loop μ-loop Inv-loop2 μ-loop2) → passesOf (metBy (mask (from c)) (machine (from c)) (pick (from c) % 8)) ≡ false
-stays c = passed (c .before .before .before .before .before .before .before .before .before .before .before .before .before) ∙ c .before .before .before .before .before .before .before .before .before .before .before .before .if2 .left
+stays c = passed (c .before .before .before .before .before .before .before .before .before) ∙ c .before .before .before .before .before .before .before .before .if2 .left
 
 -- the heads, with a new thread's where one was made
 young : (c : tie.Joined3 Inv-loop μ-loop Inv-loop2 μ-loop2)
     → c .if3 .heads
-    ≡ withYoung (forksOf (deed (c .before .before .before .before .before .before .before .before))) (c .before .before .before .before .before .before .before .before .before .before .before .before .before .before .before .before .before .before .before .before .before .before .before .before .before .before .before .before .before .before .before .before .before .before .before .loop .heads) (c .before .before .before .before .before .before .before .before .before .before .before .before .before .before .before .before .before .before .before .before .before .before .before .before .before .before .before .before .before .before .before .before .before .before .before .loop .tally .counts .threads % 9)
-    (bornOf (c .before .before .before .before .before .before .before .before .before .before .before .before .before .before .before .before .before .before .before .before .before .before .before .before .before .before .before .before .before .before .before .before .before .before .before .loop .tally .counts) (headAt (c .before .before .before .before .before .before .before .before .before .before .before .before .before .before .before .before .before .before .before .before .before .before .before .before .before .before .before .before .before .before .before .before .before .before .before .loop .heads) (pick (c .before .before .before .before .before .before .before .before .before .before .before .before .before .before .before .before .before .before .before .before .before .before .before .before .before .before .before .before .before .before .before .before .before .before .before) % 8)) (c .before .before .before .before .before .before .before .before .before .before .before .land-young .result))
+    ≡ withYoung (forksOf (deed (c .before .before .before .before .before .before .before .before))) (c .before .before .before .before .before .before .before .before .before .before .before .before .before .before .before .before .before .before .before .before .before .before .before .before .before .before .before .before .before .before .before .loop .heads) (c .before .before .before .before .before .before .before .before .before .before .before .before .before .before .before .before .before .before .before .before .before .before .before .before .before .before .before .before .before .before .before .loop .tally .counts .threads % 9)
+    (bornOf (c .before .before .before .before .before .before .before .before .before .before .before .before .before .before .before .before .before .before .before .before .before .before .before .before .before .before .before .before .before .before .before .loop .tally .counts) (headAt (c .before .before .before .before .before .before .before .before .before .before .before .before .before .before .before .before .before .before .before .before .before .before .before .before .before .before .before .before .before .before .before .loop .heads) (pick (c .before .before .before .before .before .before .before .before .before .before .before .before .before .before .before .before .before .before .before .before .before .before .before .before .before .before .before .before .before .before .before) % 8)) (c .before .before .before .before .before .before .before .before .before .before .before .land-young .result))
 young c =
-    let l = c .before .before .before .before .before .before .before .before .before .before .before .before .before .before .before .before .before .before .before .before .before .before .before .before .before .before .before .before .before .before .before .before .before .before .before in
+    let l = c .before .before .before .before .before .before .before .before .before .before .before .before .before .before .before .before .before .before .before .before .before .before .before .before .before .before .before .before .before .before .before in
     let f = c .before .before .before .before .before .before .before .before in
     let y = bornOf (l .loop .tally .counts) (headAt (l .loop .heads) (pick l % 8)) (c .before .before .before .before .before .before .before .before .before .before .before .land-young .result) in
     ⊎-elim (λ w. young-made (forksOf (deed f)) (l .loop .heads) _ (l .loop .tally .counts .threads % 9) _ y (sym (c .before .forks .ensures) ∙ w .0 .taken) (w .1 .ensures) (w .3))
@@ -155,11 +155,11 @@ young c =
 
 -- a stop is the end of the run
 stopped-so : (c : tie.After-stop-of Inv-loop μ-loop Inv-loop2 μ-loop2)
-    → stopped (mask (c .before .before .before .before .before .before .before .before .before .before .before .before .before .before .before .before .before .before .before .before .before .before .before .before .before .before .before .before .before .before .before .before .before)) (logged (machine (c .before .before .before .before .before .before .before .before .before .before .before .before .before .before .before .before .before .before .before .before .before .before .before .before .before .before .before .before .before .before .before .before .before)) (pick (c .before .before .before .before .before .before .before .before .before .before .before .before .before .before .before .before .before .before .before .before .before .before .before .before .before .before .before .before .before .before .before .before .before) % 8) (done (c .before .before .before .before .before .before))) (stopOf (c .before .before .before .before .before .before .before .before .answer-to .result)) (c .before .before .before .before .before .before .before .before .before .before .before .before .before .before .before .before .before .before .before .before .before .before .before .before .before .before .before .before .before .before .before .before .before .loop .i) ≡ whole (c .before .before .before .before .before .before .before .before .before .before .before .before .before .before .before .before .before .before .before .before .before .before .before .before .before .before .before .before .before .before .before .before .before)
+    → stopped (mask (c .before .before .before .before .before .before .before .before .before .before .before .before .before .before .before .before .before .before .before .before .before .before .before .before .before .before .before .before .before)) (logged (machine (c .before .before .before .before .before .before .before .before .before .before .before .before .before .before .before .before .before .before .before .before .before .before .before .before .before .before .before .before .before)) (pick (c .before .before .before .before .before .before .before .before .before .before .before .before .before .before .before .before .before .before .before .before .before .before .before .before .before .before .before .before .before) % 8) (done (c .before .before .before .before .before .before))) (stopOf (c .before .before .before .before .before .before .before .before .answer-to .result)) (c .before .before .before .before .before .before .before .before .before .before .before .before .before .before .before .before .before .before .before .before .before .before .before .before .before .before .before .before .before .loop .i) ≡ whole (c .before .before .before .before .before .before .before .before .before .before .before .before .before .before .before .before .before .before .before .before .before .before .before .before .before .before .before .before .before)
 stopped-so c =
     let f = c .before .before .before .before .before .before in
-    let l = c .before .before .before .before .before .before .before .before .before .before .before .before .before .before .before .before .before .before .before .before .before .before .before .before .before .before .before .before .before .before .before .before .before in
-    sym (stops (words l) (roots l) (mask l) (machine l) (pick l) (later l) (l .loop .i) (done f) (c .before .before .before .before .before .before .before .before .answer-to .result) (c .before .match .keys2) (stays f) (came f) refl) ∙ rest (c .before .before .before .before .before .before .before .before .before .before .before .before .before .before .before .before .before .before .before .before .before .before .before .before .before .before .before .before .before .before .before .before)
+    let l = c .before .before .before .before .before .before .before .before .before .before .before .before .before .before .before .before .before .before .before .before .before .before .before .before .before .before .before .before .before in
+    sym (stops (words l) (roots l) (mask l) (machine l) (pick l) (later l) (l .loop .i) (done f) (c .before .before .before .before .before .before .before .before .answer-to .result) (c .before .match .keys2) (stays f) (came f) refl) ∙ rest (c .before .before .before .before .before .before .before .before .before .before .before .before .before .before .before .before .before .before .before .before .before .before .before .before .before .before .before .before)
 
 -- the loop was left at its end, or by a stop
 ended-so : (c : tie.Left-loop Inv-loop μ-loop Inv-loop2 μ-loop2)
@@ -192,31 +192,27 @@ ended-so c =
     let c13 : tie.After-passes Inv-loop μ-loop Inv-loop2 μ-loop2 = record { before = c12; passes = w .13 } in
     let c14 : tie.Else2 Inv-loop μ-loop Inv-loop2 μ-loop2 = record { before = c13; if2 = w .14 } in
     let c15 : tie.After-act Inv-loop μ-loop Inv-loop2 μ-loop2 = record { before = c14; act = w .15 } in
-    let c16 : tie.After-tops Inv-loop μ-loop Inv-loop2 μ-loop2 = record { before = c15; tops = w .16 } in
-    let c17 : tie.After-environments Inv-loop μ-loop Inv-loop2 μ-loop2 = record { before = c16; environments = w .17 } in
-    let c18 : tie.After-arguments Inv-loop μ-loop Inv-loop2 μ-loop2 = record { before = c17; arguments = w .18 } in
-    let c19 : tie.After-land-mover Inv-loop μ-loop Inv-loop2 μ-loop2 = record { before = c18; land-mover = w .19 } in
-    let c20 : tie.After-tops2 Inv-loop μ-loop Inv-loop2 μ-loop2 = record { before = c19; tops2 = w .20 } in
-    let c21 : tie.After-environments2 Inv-loop μ-loop Inv-loop2 μ-loop2 = record { before = c20; environments2 = w .21 } in
-    let c22 : tie.After-arguments2 Inv-loop μ-loop Inv-loop2 μ-loop2 = record { before = c21; arguments2 = w .22 } in
-    let c23 : tie.After-land-young Inv-loop μ-loop Inv-loop2 μ-loop2 = record { before = c22; land-young = w .23 } in
-    let c24 : tie.After-answer-to Inv-loop μ-loop Inv-loop2 μ-loop2 = record { before = c23; answer-to = w .24 } in
-    let c25 : tie.After-ready Inv-loop μ-loop Inv-loop2 μ-loop2 = record { before = c24; ready = w .25 } in
-    let c26 : tie.After-entry-of Inv-loop μ-loop Inv-loop2 μ-loop2 = record { before = c25; entry-of = w .26 } in
-    let c27 : tie.After-put-arg Inv-loop μ-loop Inv-loop2 μ-loop2 = record { before = c26; put-arg = w .27 } in
-    let c28 : tie.After-put Inv-loop μ-loop Inv-loop2 μ-loop2 = record { before = c27; put = w .28 } in
-    let c29 : tie.After-log Inv-loop μ-loop Inv-loop2 μ-loop2 = record { before = c28; log = w .29 } in
-    let c30 : tie.After-slice-known2 Inv-loop μ-loop Inv-loop2 μ-loop2 = record { before = c29; slice-known2 = w .30 } in
-    let c31 : tie.At-match-keys2 Inv-loop μ-loop Inv-loop2 μ-loop2 = record { before = c30; match = w .31 } in
-    let c32 : tie.After-stop-of Inv-loop μ-loop Inv-loop2 μ-loop2 = record { before = c31; stop-of = w .32 } in
-    let e = stopOf (w .24 .result) in
-    let r = tallyPut (l .loop .tally) (w .26 .result) in
-    let o = logPut (l .loop .log) (l .loop .tally .records) (pick l % 8) (w .26 .result) in
+    let c16 : tie.After-stack Inv-loop μ-loop Inv-loop2 μ-loop2 = record { before = c15; stack = w .16 } in
+    let c17 : tie.After-land-mover Inv-loop μ-loop Inv-loop2 μ-loop2 = record { before = c16; land-mover = w .17 } in
+    let c18 : tie.After-stack2 Inv-loop μ-loop Inv-loop2 μ-loop2 = record { before = c17; stack2 = w .18 } in
+    let c19 : tie.After-land-young Inv-loop μ-loop Inv-loop2 μ-loop2 = record { before = c18; land-young = w .19 } in
+    let c20 : tie.After-answer-to Inv-loop μ-loop Inv-loop2 μ-loop2 = record { before = c19; answer-to = w .20 } in
+    let c21 : tie.After-ready Inv-loop μ-loop Inv-loop2 μ-loop2 = record { before = c20; ready = w .21 } in
+    let c22 : tie.After-entry-of Inv-loop μ-loop Inv-loop2 μ-loop2 = record { before = c21; entry-of = w .22 } in
+    let c23 : tie.After-put-arg Inv-loop μ-loop Inv-loop2 μ-loop2 = record { before = c22; put-arg = w .23 } in
+    let c24 : tie.After-put Inv-loop μ-loop Inv-loop2 μ-loop2 = record { before = c23; put = w .24 } in
+    let c25 : tie.After-log Inv-loop μ-loop Inv-loop2 μ-loop2 = record { before = c24; log = w .25 } in
+    let c26 : tie.After-slice-known2 Inv-loop μ-loop Inv-loop2 μ-loop2 = record { before = c25; slice-known2 = w .26 } in
+    let c27 : tie.At-match-keys2 Inv-loop μ-loop Inv-loop2 μ-loop2 = record { before = c26; match = w .27 } in
+    let c28 : tie.After-stop-of Inv-loop μ-loop Inv-loop2 μ-loop2 = record { before = c27; stop-of = w .28 } in
+    let e = stopOf (w .20 .result) in
+    let r = tallyPut (l .loop .tally) (w .22 .result) in
+    let o = logPut (l .loop .log) (l .loop .tally .records) (pick l % 8) (w .22 .result) in
     let x : Played = record { ran = endOf e (l .loop .i) (mask l) r (l .loop .heads) (l .loop .cells) (l .loop .objects); area = o } in
-    let q : x ≡ whole l = stopped-so c32 in
-    ends-so (mask l) (l .loop .heads) (l .loop .cells) (l .loop .objects) (c .loop-test .stop) (w .32 .result) e (c .loop-test .dealt) (l .loop .i)
-    (c .loop-test .tally) (w .28 .result) r (c .loop-test .log) (w .28 .last .0) o (whole l)
-    (w .35) (w .32 .ensures) (w .36) (w .34) (w .28 .ensures .0 .0) (w .33) (w .28 .ensures .1) q) (c .loop-test .came)
+    let q : x ≡ whole l = stopped-so c28 in
+    ends-so (mask l) (l .loop .heads) (l .loop .cells) (l .loop .objects) (c .loop-test .stop) (w .28 .result) e (c .loop-test .dealt) (l .loop .i)
+    (c .loop-test .tally) (w .24 .result) r (c .loop-test .log) (w .24 .last .0) o (whole l)
+    (w .31) (w .28 .ensures) (w .32) (w .30) (w .24 .ensures .0 .0) (w .29) (w .24 .ensures .1) q) (c .loop-test .came)
 
 element-copy-out-first-head : tie.Need-element-copy-out-first-head Inv-loop μ-loop Inv-loop2 μ-loop2
 element-copy-out-first-head c = search needs
@@ -321,9 +317,9 @@ entry-of-requires c κs = search needs
 
 put-requires : tie.Need-put-requires Inv-loop μ-loop Inv-loop2 μ-loop2
 put-requires c κs =
-    let v = c .before .before .before .before .before .before .before .before .before .before .before .before .before .before .before .before .before .before .before .before .before .before .before .before .before .before .before .before .loop .inv in
-    let t = c .before .before .before .before .before .before .before .before .before .before .before .before .before .before .before .before .before .before .before .before .before .before .before .before .before .before .before .loop-test .taken in
-    let r = c .before .before .before .before .before .before .before .before .before .before .before .before .before .before .before .before .before .before .before .before .before .before .before .before .before .before .before .before .before .before .before .before .before .before .before .before .pre in
+    let v = c .before .before .before .before .before .before .before .before .before .before .before .before .before .before .before .before .before .before .before .before .before .before .before .before .loop .inv in
+    let t = c .before .before .before .before .before .before .before .before .before .before .before .before .before .before .before .before .before .before .before .before .before .before .before .loop-test .taken in
+    let r = c .before .before .before .before .before .before .before .before .before .before .before .before .before .before .before .before .before .before .before .before .before .before .before .before .before .before .before .before .before .before .before .before .pre in
     (omega (arith, v .0, v .3, v .4, t, r .0, r .1), omega (arith, v .0, v .3, t, r .0))
 
 enum-told : tie.Need-enum-told Inv-loop μ-loop Inv-loop2 μ-loop2
@@ -354,10 +350,10 @@ array-set-from-heads-2 : tie.Need-array-set-from-heads-2 Inv-loop μ-loop Inv-lo
 array-set-from-heads-2 c = search needs
 
 mul-cells : tie.Need-mul-cells Inv-loop μ-loop Inv-loop2 μ-loop2
-mul-cells c = record { fits = omega (arith, c .before .before .before .before .before .before .before .before .before .before .before .before .before .before .before .before .before .before .before .before .before .before .before .before .before .before .before .before .before .before .before .cell-of .ensures .inside) }
+mul-cells c = record { fits = omega (arith, c .before .before .before .before .before .before .before .before .before .before .before .before .before .before .before .before .before .before .before .before .before .before .before .before .before .before .before .cell-of .ensures .inside) }
 
 array-set-from-cells : tie.Need-array-set-from-cells Inv-loop μ-loop Inv-loop2 μ-loop2
-array-set-from-cells c = omega (arith, c .before .before .before .before .before .before .before .before .before .before .before .before .before .before .before .before .before .before .before .before .before .before .before .before .before .before .before .before .before .before .before .cell-of .ensures .inside)
+array-set-from-cells c = omega (arith, c .before .before .before .before .before .before .before .before .before .before .before .before .before .before .before .before .before .before .before .before .before .before .before .before .before .before .before .cell-of .ensures .inside)
 
 mul-objects : tie.Need-mul-objects Inv-loop μ-loop Inv-loop2 μ-loop2
 mul-objects c = search needs
@@ -367,24 +363,24 @@ array-set-from-objects c = search needs
 
 moved-requires : tie.Need-moved-requires Inv-loop μ-loop Inv-loop2 μ-loop2
 moved-requires c κs =
-    let l = c .before .before .before .before .before .before .before .before .before .before .before .before .before .before .before .before .before .before .before .before .before .before .before .before .before .before .before .before .before .before .before .before .before .before .before .before .before .before .before .before in
+    let l = c .before .before .before .before .before .before .before .before .before .before .before .before .before .before .before .before .before .before .before .before .before .before .before .before .before .before .before .before .before .before .before .before .before .before .before .before in
     let e : c .before .before .before .before .before .before .before .before .before .before .before .put .result .moves ≡ l .loop .tally .moves = ap (λ (s : Tally). s .moves) (c .before .before .before .before .before .before .before .before .before .before .before .put .ensures .0 .0) in
-    omega (arith, e, l .loop .inv .0, l .loop .inv .2, c .before .before .before .before .before .before .before .before .before .before .before .before .before .before .before .before .before .before .before .before .before .before .before .before .before .before .before .before .before .before .before .before .before .before .before .before .before .before .before .loop-test .taken, c .before .before .before .before .before .before .before .before .before .before .before .before .before .before .before .before .before .before .before .before .before .before .before .before .before .before .before .before .before .before .before .before .before .before .before .before .before .before .before .before .before .before .before .before .before .before .before .before .pre .0)
+    omega (arith, e, l .loop .inv .0, l .loop .inv .2, c .before .before .before .before .before .before .before .before .before .before .before .before .before .before .before .before .before .before .before .before .before .before .before .before .before .before .before .before .before .before .before .before .before .before .before .loop-test .taken, c .before .before .before .before .before .before .before .before .before .before .before .before .before .before .before .before .before .before .before .before .before .before .before .before .before .before .before .before .before .before .before .before .before .before .before .before .before .before .before .before .before .before .before .before .pre .0)
 
 add-i-3 : tie.Need-add-i-3 Inv-loop μ-loop Inv-loop2 μ-loop2
-add-i-3 c = record { fits = omega (arith, c .before .before .before .before .before .before .before .before .before .before .before .before .before .before .before .before .before .before .before .before .before .before .before .before .before .before .before .before .before .before .before .before .before .before .before .before .before .before .before .before .loop-test .taken, c .before .before .before .before .before .before .before .before .before .before .before .before .before .before .before .before .before .before .before .before .before .before .before .before .before .before .before .before .before .before .before .before .before .before .before .before .before .before .before .before .before .loop .inv .0, c .before .before .before .before .before .before .before .before .before .before .before .before .before .before .before .before .before .before .before .before .before .before .before .before .before .before .before .before .before .before .before .before .before .before .before .before .before .before .before .before .before .before .before .before .before .before .before .before .before .pre .0) }
+add-i-3 c = record { fits = omega (arith, c .before .before .before .before .before .before .before .before .before .before .before .before .before .before .before .before .before .before .before .before .before .before .before .before .before .before .before .before .before .before .before .before .before .before .before .before .loop-test .taken, c .before .before .before .before .before .before .before .before .before .before .before .before .before .before .before .before .before .before .before .before .before .before .before .before .before .before .before .before .before .before .before .before .before .before .before .before .before .loop .inv .0, c .before .before .before .before .before .before .before .before .before .before .before .before .before .before .before .before .before .before .before .before .before .before .before .before .before .before .before .before .before .before .before .before .before .before .before .before .before .before .before .before .before .before .before .before .before .pre .0) }
 
 loop-less-3 : tie.Need-loop-less-3 Inv-loop μ-loop Inv-loop2 μ-loop2
-loop-less-3 c = omega (arith, c .before .before .before .before .before .before .before .before .before .before .before .before .before .before .before .before .before .before .before .before .before .before .before .before .before .before .before .before .before .before .before .before .before .before .before .before .before .before .before .before .loop-test .taken, c .before .before .before .before .before .before .before .before .before .before .before .before .before .before .before .before .before .before .before .before .before .before .before .before .before .before .before .before .before .before .before .before .before .before .before .before .before .before .before .before .before .loop .inv .0)
+loop-less-3 c = omega (arith, c .before .before .before .before .before .before .before .before .before .before .before .before .before .before .before .before .before .before .before .before .before .before .before .before .before .before .before .before .before .before .before .before .before .before .before .before .loop-test .taken, c .before .before .before .before .before .before .before .before .before .before .before .before .before .before .before .before .before .before .before .before .before .before .before .before .before .before .before .before .before .before .before .before .before .before .before .before .before .loop .inv .0)
 
 loop-again-3 : tie.Need-loop-again-3 Inv-loop μ-loop Inv-loop2 μ-loop2
 loop-again-3 c =
     let f = c .before .before .before .before .before .before .before .before .before .before .before .before .before .before in
     let l = from f in
     let v = l .loop .inv in
-    let t = c .before .before .before .before .before .before .before .before .before .before .before .before .before .before .before .before .before .before .before .before .before .before .before .before .before .before .before .before .before .before .before .before .before .before .before .before .before .before .before .before .loop-test .taken in
+    let t = c .before .before .before .before .before .before .before .before .before .before .before .before .before .before .before .before .before .before .before .before .before .before .before .before .before .before .before .before .before .before .before .before .before .before .before .before .loop-test .taken in
     let put = c .before .before .before .before .before .before .before .before .before .before .before .before .put in
-    let k = c .before .before .before .before .before .before .before .before .before .before .before .before .before .before .before .before .before .before .before .before .before .before .before .before .before .before .before .before .before .before .before .before .before .before .cell-of in
+    let k = c .before .before .before .before .before .before .before .before .before .before .before .before .before .before .before .before .before .before .before .before .before .before .before .before .before .before .before .before .before .before .cell-of in
     let j = c .before .before .before .before .before .before in
     let s : c .moved .result ≡ tallyMoved (tallyPut (l .loop .tally) (f .entry-of .result)) (deed f .counts) = c .moved .ensures .0 ∙ ap (λ (s : Tally). tallyMoved s (deed f .counts)) (put .ensures .0 .0) in
     let moves : c .moved .result .moves ≡ l .loop .tally .moves + 1 = ap (λ (s : Tally). s .moves) s in
@@ -397,7 +393,7 @@ loop-again-3 c =
       put .kept .0 ∙ v .4,
       ap (λ (x : Machine). playOf (words l) (roots l) (mask l) x (later l) (l .loop .i + 1)) e
           ∙ sym (goes (words l) (roots l) (mask l) (machine l) (pick l) (later l) (l .loop .i) (deed f) (done f) (stays f) (did f) (came f) (c .before .before .before .before .before .before .before .before .enum-told .given .1))
-          ∙ rest (c .before .before .before .before .before .before .before .before .before .before .before .before .before .before .before .before .before .before .before .before .before .before .before .before .before .before .before .before .before .before .before .before .before .before .before .before .before .before .before .before),
+          ∙ rest (c .before .before .before .before .before .before .before .before .before .before .before .before .before .before .before .before .before .before .before .before .before .before .before .before .before .before .before .before .before .before .before .before .before .before .before .before),
       v .6,
       v .7,
     )
@@ -478,7 +474,7 @@ loop2-again c =
     )
 
 same-length : tie.Need-same-length Inv-loop μ-loop Inv-loop2 μ-loop2
-same-length c = let l = left (c .before) in let v = l .before .loop .inv in ⊎-elim (λ w. ap length (w .1) ∙ v .4) (λ w. ap length (w .33) ∙ w .28 .kept .0 ∙ v .4) (l .loop-test .came)
+same-length c = let l = left (c .before) in let v = l .before .loop .inv in ⊎-elim (λ w. ap length (w .1) ∙ v .4) (λ w. ap length (w .29) ∙ w .24 .kept .0 ∙ v .4) (l .loop-test .came)
 
 returns : tie.Need-returns Inv-loop μ-loop Inv-loop2 μ-loop2
 returns c =

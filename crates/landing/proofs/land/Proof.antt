@@ -15,15 +15,15 @@ use Rattle.landing.proofs.land.Statement.{statement}
 use Rattle.landing.proofs.land.Tie as tie
 
 abbrev Inv-loop : tie.InvT-loop
-Inv-loop words roots tops₀ environments₀ arguments₀ base from-depth go₀ depth₀ left₀ tops environments arguments go depth left =
-    (left ≤ 2100) × (depth ≤ 32) × (base ≤ 264) × (landOf left words roots base (record { tops = tops; environments = environments; arguments = arguments }) go depth ≡ landOf left₀ words roots base (record { tops = tops₀; environments = environments₀; arguments = arguments₀ }) go₀ depth₀)
+Inv-loop words roots stack₀ base from-depth go₀ depth₀ left₀ stack go depth left =
+    (left ≤ 2100) × (depth ≤ 32) × (base ≤ 264) × (landOf left words roots base stack go depth ≡ landOf left₀ words roots base stack₀ go₀ depth₀)
 
 abbrev μ-loop : tie.MeasureT-loop
-μ-loop words roots tops₀ environments₀ arguments₀ base from-depth go₀ depth₀ left₀ tops environments arguments go depth left = left
+μ-loop words roots stack₀ base from-depth go₀ depth₀ left₀ stack go depth left = left
 
 -- where a turn begins: the frames, the step from there
 abbrev stack : tie.At-loop Inv-loop μ-loop → Stack
-stack c = record { tops = c .loop .tops; environments = c .loop .environments; arguments = c .loop .arguments }
+stack c = c .loop .stack
 
 abbrev words : tie.At-loop Inv-loop μ-loop → List ℕ
 words c = c .before .args .words .now
@@ -49,9 +49,9 @@ place c = omega (arith, inside (c .before .before .before .before .before), c .b
 
 -- the frames after the step
 keeps : (c : tie.Joined2 Inv-loop μ-loop)
-    → _≡_ {A = Stack} (record { tops = c .if2 .tops; environments = c .if2 .environments; arguments = c .if2 .arguments }) (stored (stack (c .before .before .before .before .before .before .before .before .before .before .before .before)) (base (c .before .before .before .before .before .before .before .before .before .before .before .before)) (c .before .before .before .step .result))
+    → c .if2 .stack ≡ stored (stack (c .before .before .before .before .before .before .before .before .before .before .before .before)) (base (c .before .before .before .before .before .before .before .before .before .before .before .before)) (c .before .before .before .step .result)
 keeps c =
-    ⊎-elim (λ w. simp (w .3, w .4, w .5, w .1 .ensures, lt-ltb _ _ (w .0 .taken))) (λ w. simp (w .1, w .2, w .3, le-ltb _ _ (w .0 .left))) (c .if2 .came)
+    ⊎-elim (λ w. simp (w .3, w .1 .ensures, lt-ltb _ _ (w .0 .taken))) (λ w. simp (w .1, le-ltb _ _ (w .0 .left))) (c .if2 .came)
 
 loop-holds : tie.Need-loop-holds Inv-loop μ-loop
 loop-holds c = (omega arith, c .pre .1, c .pre .0, refl)
@@ -73,17 +73,26 @@ returns c =
 top-requires : tie.Need-top-requires Inv-loop μ-loop
 top-requires c κs = search needs
 
+mul-place : tie.Need-mul-place Inv-loop μ-loop
+mul-place c = search needs
+
 mul-unpack : tie.Need-mul-unpack Inv-loop μ-loop
 mul-unpack c = search needs
 
 element-copy-out-unpack : tie.Need-element-copy-out-unpack Inv-loop μ-loop
 element-copy-out-unpack c = search needs
 
+add-unpack : tie.Need-add-unpack Inv-loop μ-loop
+add-unpack c = search needs
+
 mul-unpack-2 : tie.Need-mul-unpack-2 Inv-loop μ-loop
 mul-unpack-2 c = search needs
 
 element-copy-out-unpack-2 : tie.Need-element-copy-out-unpack-2 Inv-loop μ-loop
 element-copy-out-unpack-2 c = search needs
+
+add-unpack-2 : tie.Need-add-unpack-2 Inv-loop μ-loop
+add-unpack-2 c = search needs
 
 mul-unpack-3 : tie.Need-mul-unpack-3 Inv-loop μ-loop
 mul-unpack-3 c = search needs
@@ -103,23 +112,32 @@ pack-requires c κs = search needs
 add-above : tie.Need-add-above Inv-loop μ-loop
 add-above c = record { fits = omega (arith, place c) }
 
-mul-tops : tie.Need-mul-tops Inv-loop μ-loop
-mul-tops c = record { fits = omega (arith, place c) }
+mul-above : tie.Need-mul-above Inv-loop μ-loop
+mul-above c = record { fits = omega (arith, place c) }
 
-element-write-tops : tie.Need-element-write-tops Inv-loop μ-loop
-element-write-tops c = place c
+mul-stack : tie.Need-mul-stack Inv-loop μ-loop
+mul-stack c = record { fits = omega (arith, place c) }
 
-mul-environments : tie.Need-mul-environments Inv-loop μ-loop
-mul-environments c = record { fits = omega (arith, place c) }
+element-write-stack : tie.Need-element-write-stack Inv-loop μ-loop
+element-write-stack c = omega (arith, place c)
 
-element-write-environments : tie.Need-element-write-environments Inv-loop μ-loop
-element-write-environments c = place c
+add-stack : tie.Need-add-stack Inv-loop μ-loop
+add-stack c = record { fits = omega (arith, place c) }
 
-mul-arguments : tie.Need-mul-arguments Inv-loop μ-loop
-mul-arguments c = record { fits = omega (arith, place c) }
+mul-stack-2 : tie.Need-mul-stack-2 Inv-loop μ-loop
+mul-stack-2 c = record { fits = omega (arith, place c) }
 
-element-write-arguments : tie.Need-element-write-arguments Inv-loop μ-loop
-element-write-arguments c = place c
+element-write-stack-2 : tie.Need-element-write-stack-2 Inv-loop μ-loop
+element-write-stack-2 c = omega (arith, place c)
+
+add-stack-2 : tie.Need-add-stack-2 Inv-loop μ-loop
+add-stack-2 c = record { fits = omega (arith, place c) }
+
+mul-stack-3 : tie.Need-mul-stack-3 Inv-loop μ-loop
+mul-stack-3 c = record { fits = omega (arith, place c) }
+
+element-write-stack-3 : tie.Need-element-write-stack-3 Inv-loop μ-loop
+element-write-stack-3 c = omega (arith, place c)
 
 sub-left : tie.Need-sub-left Inv-loop μ-loop
 sub-left c = omega (arith, c .before .before .before .before .before .before .before .before .before .before .before .before .loop-test .taken)
@@ -164,22 +182,28 @@ land-spec =
     end-at-requires
     returns
     top-requires
+    mul-place
     mul-unpack
     element-copy-out-unpack
+    add-unpack
     mul-unpack-2
     element-copy-out-unpack-2
+    add-unpack-2
     mul-unpack-3
     element-copy-out-unpack-3
     unpack-requires
     step-requires
     pack-requires
     add-above
-    mul-tops
-    element-write-tops
-    mul-environments
-    element-write-environments
-    mul-arguments
-    element-write-arguments
+    mul-above
+    mul-stack
+    element-write-stack
+    add-stack
+    mul-stack-2
+    element-write-stack-2
+    add-stack-2
+    mul-stack-3
+    element-write-stack-3
     sub-left
     loop-less
     loop-again
