@@ -1,34 +1,22 @@
--- The answer, check by check, and what a check of a whole plan shows to the next. Assumes nothing.
-use mathlib.Core.Path.{_≡_, refl}
+-- What a check of a whole plan shows to the next. Assumes nothing.
+use mathlib.Core.Path.{_≡_}
 use mathlib.Core.Bool.{false, not}
 use mathlib.Core.List.{List}
 use mathlib.Core.Option.{none}
 use Prim.Native.Nat.{ℕ, _≤_, _<_}
 use native.Mathlib.Omega.{arith}
 use lib.Dec.{eqb, ltb}
-use lib.ListN.{length}
+use lib.ListN.{length, take}
 use borrow.Author.Tests.{ltb-false}
-use Rattle.format.specs.Refusal.{lowest, refuse, firstRefusal}
+use Rattle.format.specs.Refusal.{firstRefusal}
 use Rattle.format.specs.Lowest.{Lowest}
-use Rattle.format.proofs.RefusalLaws.{neither}
+use Rattle.format.proofs.RefusalLaws.{neither, head-pass, tail-pass, none-is-pass}
 use Rattle.packed.specs.Format
 use Rattle.packed.specs.Format.{terms, parameters, root, planLength}
-use Rattle.packed.specs.Refusals.{wrongLength, wrongHeader, wrongProcedure, wrongTerm, wronglySorted, notNamedOnce, usesUnboundSlot}
-use Rattle.packed.specs.Check.{checks, refusal}
+use Rattle.packed.specs.Refusals.{wrongLength, wrongTerm}
+use Rattle.packed.specs.Check.{checks}
 use Rattle.packed.specs.Steps.{Sized, Headed, Right}
 use Rattle.packed.proofs.Passing.{length-of, header-of, procedure-of}
-
--- the answer, check by check
-pub chain : (b : List ℕ) → refusal b
-    ≡ refuse 1 (lowest (λ place. wrongLength b) 1)
-    (refuse 2 (lowest (λ place. wrongHeader b) 1)
-    (refuse 3 (lowest (wrongProcedure b) (Format.procedures b))
-    (refuse 4 (lowest (wrongTerm b) (terms b))
-    (refuse 5 (lowest (wronglySorted b) (terms b))
-    (refuse 6 (lowest (notNamedOnce b) (terms b))
-    (refuse 7 (lowest (usesUnboundSlot b) (Format.procedures b)) none))))))
-unfolding refusal checks firstRefusal
-chain b = refl
 
 -- ---- what a check that finds nothing gives to the next
 
@@ -40,11 +28,19 @@ pub make-sized : (b : List ℕ) (procedures n : ℕ) → wrongLength b ≡ false
 unfolding planLength
 make-sized b procedures n h p q = record { procedures-are = p; terms-are = q; long = rw (p, q) (length-of b h) }
 
-pub make-headed : (b : List ℕ) (procedures n r : ℕ) → Sized b procedures n → wrongHeader b ≡ false → Lowest (wrongProcedure b) procedures r → procedures ≤ r → Headed b procedures n
-make-headed b procedures n r z h l p =
-    let k = header-of b h in
-    let e = z .terms-are in
-    record { sized = z; some-term = omega (arith, k .3); few = omega (arith, k .4); procedures-right = λ i q. l .before i (omega arith) }
+-- checks 1 to 3 find nothing
+pub make-headed : (b : List ℕ) (procedures n : ℕ) → procedures ≡ Format.procedures b → n ≡ terms b → firstRefusal (take 3 (checks b)) ≡ none → Headed b procedures n
+unfolding checks
+make-headed b procedures n p q h =
+    let one = none-is-pass (take 3 (checks b)) .0 h in
+    let two = tail-pass one in
+    let k = header-of b (head-pass two .right 0 (omega arith)) in
+    record {
+      sized = make-sized b procedures n (head-pass one .right 0 (omega arith)) p q;
+      some-term = omega (arith, k .3);
+      few = omega (arith, k .4);
+      procedures-right = λ i l. head-pass (tail-pass two) .right i (omega arith);
+    }
 
 pub make-right : (b : List ℕ) (procedures n s : ℕ) → Headed b procedures n → Lowest (wrongTerm b) n s → n ≤ s → Right b procedures n
 make-right b procedures n s h l q = record { headed = h; terms-right = λ i p. l .before i (omega arith) }

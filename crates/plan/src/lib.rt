@@ -2,7 +2,11 @@
 use header::layout;
 use terms::table;
 ghost use mathlib.Core.Path.{_≡_};
-ghost use Rattle.packed.specs.Check.{refusal};
+ghost use lib.ListN.{take, drop, replicate};
+ghost use Rattle.format.specs.Refusal.{firstRefusal};
+ghost use Rattle.packed.specs.Check.{checks, refusal};
+ghost use Rattle.packed.specs.Format.{terms};
+ghost use Rattle.packed.specs.Steps.{Right, Loaded};
 ghost use Rattle.plan.specs.Answer.{answered};
 
 // What the check answers: the plan passes, or document 01's number and place of the refusal.
@@ -17,9 +21,9 @@ pub fn refused(number: usize, place: usize) -> Checked
     Checked::Refused { number, place }
 }
 
-// The checks run in the order of their numbers; the answer is the first that finds a fault, at its lowest place.
-pub fn check(plan: &[u8]) -> Checked
-    ensures { λ r. ⌜ answered r ≡ refusal (now (plan .entry)) ⌝ }
+// Refusals 1 to 3: the length, the header and the mask, the procedures.
+fn check_header(plan: &[u8]) -> Checked
+    ensures { λ r. ⌜ answered r ≡ firstRefusal (take 3 (checks (now (plan .entry)))) ⌝ }
 {
     if header::wrong_length(plan) {
         return refused(1, 0);
@@ -33,13 +37,17 @@ pub fn check(plan: &[u8]) -> Checked
     if procedure < procedures {
         return refused(3, procedure);
     }
-    let mut words = [0usize; 1024];
-    let term = table::load(plan, procedures, count, &mut words);
-    if term < count {
-        return refused(4, term);
-    }
+    Checked::Passed
+}
+
+// Refusals 5 to 7, of a plan whose terms are right and in `words`.
+fn check_trees(plan: &[u8], procedures: usize, count: usize, words: &[usize; 1024]) -> Checked
+    requires { ⌜ Right (now plan) procedures count ⌝ }
+    requires { ⌜ Loaded (now plan) count (now words) ⌝ }
+    ensures { λ r. ⌜ answered r ≡ firstRefusal (drop 4 (checks (now (plan .entry)))) ⌝ }
+{
     let mut times = [0u8; 1024];
-    let misplaced = naming::name_all(plan, procedures, count, &words, &mut times);
+    let misplaced = naming::name_all(plan, procedures, count, words, &mut times);
     let miscounted = naming::lowest_miscounted(&times, count);
     if misplaced < count {
         return refused(5, misplaced);
@@ -47,9 +55,37 @@ pub fn check(plan: &[u8]) -> Checked
     if miscounted < count {
         return refused(6, miscounted);
     }
-    let procedure = bound_slots::lowest_open(plan, procedures, count, &words);
+    let procedure = bound_slots::lowest_open(plan, procedures, count, words);
     if procedure < procedures {
         return refused(7, procedure);
     }
     Checked::Passed
+}
+
+// The checks run in the order of their numbers; the answer is the first that finds a fault, at its lowest place. Where none does, every term's 40 bits
+// are then in `words`, which came as zeros.
+pub fn load(plan: &[u8], words: &mut [usize; 1024]) -> Checked
+    requires { ⌜ now words ≡ replicate 1024 0 ⌝ }
+    ensures { λ r. ⌜ answered r ≡ refusal (now (plan .entry)) ⌝ }
+    ensures { λ r. ⌜ (r ≡ Checked.Passed → Loaded (now (plan .entry)) (terms (now (plan .entry))) (now (words .exit))) ⌝ }
+{
+    let checked = check_header(plan);
+    let Checked::Passed = checked else {
+        return checked;
+    };
+    let procedures = layout::procedures(plan);
+    let count = layout::terms(plan);
+    let term = table::load(plan, procedures, count, words);
+    if term < count {
+        return refused(4, term);
+    }
+    check_trees(plan, procedures, count, words)
+}
+
+// The entry `check`.
+pub fn check(plan: &[u8]) -> Checked
+    ensures { λ r. ⌜ answered r ≡ refusal (now (plan .entry)) ⌝ }
+{
+    let mut words = [0usize; 1024];
+    load(plan, &mut words)
 }

@@ -1,6 +1,9 @@
 // Refusals 1 to 10 of a play: of the plan, of the schedule, of the log area.
-ghost use lib.ListN.{length};
+ghost use mathlib.Core.Path.{_≡_};
+ghost use lib.ListN.{length, replicate};
 ghost use Rattle.format.specs.Lowest.{Lowest};
+ghost use Rattle.packed.specs.Format.{terms};
+ghost use Rattle.packed.specs.Steps.{Loaded};
 ghost use Rattle.plan.specs.Answer.{answered};
 ghost use Rattle.rules.specs.Play.{wrongPick};
 ghost use Rattle.play_refusals.specs.Refused.{RefusedAs};
@@ -20,11 +23,13 @@ fn lowest_wrong_pick(schedule: &[u8]) -> usize
     i
 }
 
-// What refuses a play with a log area of this length, if anything does.
-pub fn refusal(plan: &[u8], schedule: &[u8], area: usize) -> Checked
+// What refuses a play with a log area of this length, if anything does. Where nothing does, every term's 40 bits are then in `words`, which came as zeros.
+pub fn refusal(plan: &[u8], schedule: &[u8], area: usize, words: &mut [usize; 1024]) -> Checked
+    requires { ⌜ now words ≡ replicate 1024 0 ⌝ }
     ensures { λ r. ⌜ RefusedAs (now (plan .entry)) (now (schedule .entry)) area (answered r) ⌝ }
+    ensures { λ r. ⌜ (r ≡ Checked.Passed → Loaded (now (plan .entry)) (terms (now (plan .entry))) (now (words .exit))) ⌝ }
 {
-    let checked = plan::check(plan);
+    let checked = plan::load(plan, words);
     let Checked::Passed = checked else {
         return checked;
     };

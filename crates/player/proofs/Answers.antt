@@ -18,11 +18,12 @@ use Rattle.engine.specs.declared.Stop.the-variants as stop
 use Rattle.engine.specs.declared.Seen.{Seen}
 use Rattle.engine.specs.declared.Ran.{Ran}
 use Rattle.engine.specs.Machine.{playOf, startOf}
-use Rattle.refinement.proofs.Meant.{Loaded}
+use Rattle.refinement.proofs.Meant as meant
 use Rattle.refinement.proofs.Plays.{statusBy, stopMeant, outcomeMeant, plays-defined}
 use Rattle.refinement.proofs.Plays as plays
 use Rattle.player.specs.declared.outcome.Thread.{Thread}
-use Rattle.loading.specs.Loading.{Words, Roots}
+use Rattle.packed.specs.Steps.{wordAt, Loaded}
+use Rattle.player.specs.Roots.{Roots}
 use Rattle.player.specs.Outcomes.{stopBy, sightBy, stateBy, threadsBy, outcomeBy}
 use Rattle.player.specs.Answer.{roomOf, stopOf, waitOf, stuckOf, statusOf, outcomeOf}
 use Rattle.play_refusals.proofs.Passed.{Passed}
@@ -74,9 +75,10 @@ outcome-same r n = λ i. record { stop = stop-same (r .stop) i; picks = r .picks
 
 -- ---- the run
 
-module _ (plan schedule area ws rs : List ℕ) (pass : Passed plan schedule area) (words : Words plan (terms plan) ws) (roots : Roots plan (procedures plan) rs) where
-  loaded : Loaded plan ws rs
-  loaded = record { words = words; roots = roots }
+module _ (plan schedule area ws rs : List ℕ) (pass : Passed plan schedule area) (words : Loaded plan (terms plan) ws) (roots : Roots plan (procedures plan) rs) where
+  loaded : meant.Loaded plan ws rs
+  unfolding wordAt
+  loaded = record { words = words .each; roots = roots }
 
   defined : (outcomeMeant (playOf ws rs (volatiles plan) (startOf rs area) schedule 0 .ran) ≡ run.outcomeOf (programOf plan) (run.play (programOf plan) schedule))
       × (playOf ws rs (volatiles plan) (startOf rs area) schedule 0 .area ≡ play.overwrite (bytesOf (run.play (programOf plan) schedule .log)) area)

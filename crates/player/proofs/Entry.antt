@@ -15,7 +15,8 @@ use Rattle.engine.specs.Machine.{playOf, startOf}
 use Rattle.player.specs.declared.outcome.Outcome.{Outcome}
 use Rattle.player.specs.declared.outcome.Played.{Played}
 use Rattle.play_refusals.specs.Refused.{RefusedAs}
-use Rattle.loading.specs.Loading.{Words, Roots}
+use Rattle.packed.specs.Steps.{Loaded}
+use Rattle.player.specs.Roots.{Roots}
 use Rattle.player.specs.Outcomes.{outcomeBy}
 use Rattle.player.specs.Answer.{outcomeOf, answeredBy, answered}
 use Rattle.play_refusals.proofs.Passed.{Passed, by-code}
@@ -37,7 +38,7 @@ module _ (plan schedule area : List ℕ) (x : Checked) (h : RefusedAs plan sched
     refused-area = sym (ap (areaBy plan schedule area) refusal-is)
 
   -- not refused
-  module _ (e : x ≡ checked.Passed) (ws rs : List ℕ) (words : Words plan (terms plan) ws) (roots : Roots plan (procedures plan) rs) (mask : ℕ) (m : mask ≡ volatiles plan) where
+  module _ (e : x ≡ checked.Passed) (ws rs : List ℕ) (words : Loaded plan (terms plan) ws) (roots : Roots plan (procedures plan) rs) (mask : ℕ) (m : mask ≡ volatiles plan) where
     pass : Passed plan schedule area
     pass = by-code plan schedule area x h e
 

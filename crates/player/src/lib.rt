@@ -1,12 +1,29 @@
 // The entry `play`: a schedule on a plan, its records into a log area.
 pub mod outcome;
 
+ghost use Prim.Native.Nat.{_≤_, _+_, _*_};
 ghost use mathlib.Core.Path.{_≡_};
+ghost use lib.ListN.{length};
 ghost use Rattle.rules.specs.Play.{played, areaAfter};
 ghost use Rattle.player.specs.Answer.{answered, NoRunIfRefused};
+ghost use Rattle.player.specs.Roots.{Roots};
 use crate::outcome::Played;
 use header::layout;
 use plan::Checked;
+
+// The roots of the procedures.
+fn roots(plan: &[u8], procedures: usize) -> [usize; 32]
+    requires { ⌜ (procedures ≤ 32) × (8 + 2 * procedures ≤ length (now plan)) ⌝ }
+    ensures { λ r. ⌜ Roots (now (plan .entry)) procedures r ⌝ }
+{
+    let mut all = [0usize; 32];
+    let mut procedure = 0;
+    while procedure < procedures {
+        all[procedure] = layout::root(plan, procedure);
+        procedure += 1;
+    }
+    all
+}
 
 // Every plan, schedule and log area gets document 01's answer: a refusal of number 1 to 10 with its place, and no byte of the area changed; or the
 // run's outcome, and an area that begins with the run's records and is otherwise as it was.
@@ -15,14 +32,13 @@ pub fn play(plan: &[u8], schedule: &[u8], log: &mut [u8]) -> Played
     ensures area { λ r. ⌜ now (log .exit) ≡ areaAfter (now (plan .entry)) (now (schedule .entry)) (now (log .entry)) ⌝ }
     ensures refused { λ r. ⌜ NoRunIfRefused r ⌝ }
 {
-    let checked = play_refusals::refusal(plan, schedule, log.len());
+    let mut words = [0usize; 1024];
+    let checked = play_refusals::refusal(plan, schedule, log.len(), &mut words);
     let Checked::Passed = checked else {
         return outcome::refused(checked);
     };
     let procedures = layout::procedures(plan);
-    let count = layout::terms(plan);
-    let words = loading::words(plan, procedures, count);
-    let roots = loading::roots(plan, procedures);
+    let roots = roots(plan, procedures);
     let mask = layout::volatiles(plan);
     let ran = engine::run(&words, &roots, mask, schedule, log);
     let outcome = outcome::outcome_of(ran);

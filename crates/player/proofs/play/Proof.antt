@@ -1,9 +1,9 @@
 -- `play` meets its contract. Assumes nothing.
 use native.Mathlib.Omega.{arith}
-use mathlib.Core.Path.{ap, _∙_}
+use mathlib.Core.Path.{refl, ap, _∙_}
 use borrow.Author.Needs.{needs}
-use Rattle.packed.specs.Format.{procedures, terms}
-use Rattle.loading.specs.Loading.{Words, Roots}
+use Rattle.packed.specs.Format.{procedures}
+use Rattle.player.specs.Roots.{Roots}
 use Rattle.player.specs.Outcomes.{outcomeBy}
 use Rattle.play_refusals.proofs.Passed.{Passed, Inside, inside, passed-refused, by-code}
 use Rattle.player.proofs.Entry.{refused-answer, refused-area, ran-answer, ran-area}
@@ -11,15 +11,15 @@ use Rattle.player.proofs.play.Statement.{statement}
 use Rattle.player.proofs.play.Tie as tie
 
 -- nothing refuses the play
-told : (c : tie.After-enum-told) → Passed (c .before .before .before .before .before .before .args .plan .now) (c .before .before .before .before .before .before .args .schedule .now) (c .before .before .before .before .before .before .args .log .now)
-told c = by-code _ _ _ (c .before .before .refusal .result) (c .before .before .refusal .ensures) (c .enum-told .given .1)
+told : (c : tie.After-enum-told) → Passed (c .before .before .before .before .before .before .before .args .plan .now) (c .before .before .before .before .before .before .before .args .schedule .now) (c .before .before .before .before .before .before .before .args .log .now)
+told c = by-code _ _ _ (c .before .before .refusal .result) (c .before .before .refusal .ensures .0) (c .enum-told .given .1)
 
 -- so the plan's numbers lie inside it
-within : (c : tie.After-enum-told) → Inside (c .before .before .before .before .before .before .args .plan .now)
+within : (c : tie.After-enum-told) → Inside (c .before .before .before .before .before .before .before .args .plan .now)
 within c = inside _ (told c .plan-passes)
 
 refusal-requires : tie.Need-refusal-requires
-refusal-requires c κs = search needs
+refusal-requires c κs = refl
 
 enum-told : tie.Need-enum-told
 enum-told c = search needs
@@ -32,8 +32,8 @@ refused-requires c κs = search needs
 
 returns : tie.Need-returns
 returns c =
-    let a = c .before .before .before .before .before .before .before .args in
-    let h = c .before .before .before .refusal .ensures in
+    let a = c .before .before .before .before .before .before .before .before .args in
+    let h = c .before .before .before .refusal .ensures .0 in
     let e = c .before .enum-told2 .given .1 in (
       refused-answer (a .plan .now) (a .schedule .now) (a .log .now) _ h _ _ e (c .refused .result) (c .refused .ensures .0),
       (refused-area (a .plan .now) (a .schedule .now) (a .log .now) _ h _ _ e, λ k i q. c .refused .ensures .1),
@@ -42,27 +42,17 @@ returns c =
 procedures-requires : tie.Need-procedures-requires
 procedures-requires c κs = let w = within c .long in omega arith
 
-terms-requires : tie.Need-terms-requires
-terms-requires c κs = let w = within (c .before) .long in omega arith
-
-words-requires : tie.Need-words-requires
-words-requires c κs =
-    let w = within (c .before .before) in
-    let p = c .before .procedures .ensures in
-    let t = c .terms .ensures in
-    (p, omega (arith, w .few-procedures), omega (arith, w .few-terms), omega (arith, w .long))
-
 roots-requires : tie.Need-roots-requires
 roots-requires c κs =
-    let w = within (c .before .before .before) in
-    let p = c .before .before .procedures .ensures in
+    let w = within (c .before) in
+    let p = c .procedures .ensures in
     (omega (arith, w .few-procedures), omega (arith, w .long))
 
 volatiles-requires : tie.Need-volatiles-requires
-volatiles-requires c κs = let w = within (c .before .before .before .before) .long in omega arith
+volatiles-requires c κs = let w = within (c .before .before) .long in omega arith
 
 run-requires : tie.Need-run-requires
-run-requires c κs = let t = told (c .before .before .before .before .before .before .before .before) in (t .few, omega (arith, t .wide))
+run-requires c κs = let t = told (c .before .before .before .before .before .before) in (t .few, omega (arith, t .wide))
 
 outcome-of-requires : tie.Need-outcome-of-requires
 outcome-of-requires c κs = search needs
@@ -72,18 +62,15 @@ same-length c = search needs
 
 returns-2 : tie.Need-returns-2
 returns-2 c =
-    let a = c .before .before .before .before .before .before .before .before .before .before .before .before .before .before .before .before .before .before .args in
-    let t = c .before .before .before .before .before .before .before .before .before .before .before .before in
-    let w : Words (a .plan .now) (terms (a .plan .now)) (c .before .before .before .before .before .before .before .before .before .words .result) = λ i q. c .before .before .before .before .before .before .before .before .before .words .ensures i (omega (arith, c .before .before .before .before .before .before .before .before .before .before .terms .ensures)) in
-    let r : Roots (a .plan .now) (procedures (a .plan .now)) (c .before .before .before .before .before .before .before .before .roots .result) = λ i q. c .before .before .before .before .before .before .before .before .roots .ensures i (omega (arith, c .before .before .before .before .before .before .before .before .before .before .before .procedures .ensures)) in
-    let m = c .before .before .before .before .before .before .before .volatiles .ensures in
-    let e = t .enum-told .given .1 in
-    let h = c .before .before .before .before .before .before .before .before .before .before .before .before .before .before .refusal .ensures in
-    let ws = c .before .before .before .before .before .before .before .before .before .words .result in
-    let rs = c .before .before .before .before .before .before .before .before .roots .result in (
-      ran-answer (a .plan .now) (a .schedule .now) (a .log .now) _ h e ws rs w r _ m _ (c .outcome-of .ensures ∙ ap outcomeBy (c .before .before .before .run .ensures .0)),
+    let a = c .before .before .before .before .before .before .before .before .before .before .before .before .before .before .before .before .before .args in
+    let e = c .before .before .before .before .before .before .before .before .before .before .enum-told .given .1 in
+    let x = c .before .before .before .before .before .before .before .before .before .before .before .before .refusal in
+    let w = x .ensures .1 e in
+    let r : Roots (a .plan .now) (procedures (a .plan .now)) (c .before .before .before .before .before .before .before .before .roots .result) = λ i q. c .before .before .before .before .before .before .before .before .roots .ensures i (omega (arith, c .before .before .before .before .before .before .before .before .before .procedures .ensures)) in
+    let m = c .before .before .before .before .before .before .before .volatiles .ensures in (
+      ran-answer (a .plan .now) (a .schedule .now) (a .log .now) _ (x .ensures .0) e _ _ w r _ m _ (c .outcome-of .ensures ∙ ap outcomeBy (c .before .before .before .run .ensures .0)),
       (
-        c .before .before .before .run .ensures .1 ∙ ran-area (a .plan .now) (a .schedule .now) (a .log .now) _ h e ws rs w r _ m,
+        c .before .before .before .run .ensures .1 ∙ ran-area (a .plan .now) (a .schedule .now) (a .log .now) _ (x .ensures .0) e _ _ w r _ m,
         λ k i q. passed-refused e q,
       ),
     )
@@ -98,8 +85,6 @@ play-spec =
     refused-requires
     returns
     procedures-requires
-    terms-requires
-    words-requires
     roots-requires
     volatiles-requires
     run-requires

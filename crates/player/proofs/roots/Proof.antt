@@ -5,10 +5,10 @@ use native.Mathlib.Omega.{arith}
 use lib.ListN.{length, length-set}
 use borrow.Author.Needs.{needs}
 use Rattle.packed.specs.Format.{root}
-use Rattle.loading.specs.Loading.{Roots}
+use Rattle.player.specs.Roots.{Roots}
 use Rattle.format.proofs.Filled.{filled}
-use Rattle.loading.proofs.roots.Statement.{statement}
-use Rattle.loading.proofs.roots.Tie as tie
+use Rattle.player.proofs.roots.Statement.{statement}
+use Rattle.player.proofs.roots.Tie as tie
 
 abbrev Inv-loop : tie.InvT-loop
 Inv-loop plan procedures all₀ procedure₀ all procedure = (procedure ≤ procedures) × (length all ≡ 32) × Roots plan procedure all

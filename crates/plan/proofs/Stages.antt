@@ -1,0 +1,47 @@
+-- The answer to a plan, stage by stage: checks 1 to 3, check 4, checks 5 to 7. Assumes nothing.
+use Prim.Native.Nat.{ℕ}
+use mathlib.Core.Path.{_≡_, sym, ap, _∙_, subst}
+use mathlib.Core.List.{List}
+use mathlib.Core.Option.{some, none}
+use lib.ListN.{take, drop}
+use Rattle.format.specs.Refusal.{orElse, lowest, refuse, firstRefusal}
+use Rattle.format.proofs.RefusalLaws.{refusal-append}
+use Rattle.packed.specs.Format.{terms}
+use Rattle.packed.specs.Refusals.{wrongTerm}
+use Rattle.packed.specs.Check.{checks, refusal}
+use Rattle.packed.specs.Steps.{Loaded}
+use Rattle.plan.specs.Answer.{answered}
+use Rattle.plan.specs.declared.Checked.{Checked}
+use Rattle.plan.specs.declared.Checked.the-variants.{Passed, Refused}
+
+module _ (b : List ℕ) where
+  stages : refusal b ≡ orElse (firstRefusal (take 3 (checks b))) (refuse 4 (lowest (wrongTerm b) (terms b)) (firstRefusal (drop 4 (checks b))))
+  unfolding refusal checks firstRefusal
+  stages = refusal-append (take 3 (checks b)) (drop 3 (checks b))
+
+  -- one of checks 1 to 3 refuses
+  pub by-header : (r : Checked) (k i : ℕ) → answered r ≡ firstRefusal (take 3 (checks b)) → r ≡ Refused k i → answered r ≡ refusal b
+  unfolding answered orElse
+  by-header r k i e q =
+      let s : firstRefusal (take 3 (checks b)) ≡ some (record { number = k; place = i }) = sym e ∙ ap answered q in
+      ap answered q ∙ sym (stages ∙ rw s)
+
+  -- none of them does
+  module _ (h : Checked) (e : answered h ≡ firstRefusal (take 3 (checks b))) (q : h ≡ Passed) where
+    pub headed : firstRefusal (take 3 (checks b)) ≡ none
+    unfolding answered
+    headed = sym e ∙ ap answered q
+
+    -- check 4 does
+    pub by-term : (i : ℕ) (r : Checked) → lowest (wrongTerm b) (terms b) ≡ some i → r ≡ Refused 4 i → answered r ≡ refusal b
+    unfolding answered orElse refuse
+    by-term i r l p = ap answered p ∙ sym (stages ∙ rw (headed, l))
+
+    -- the others are left
+    pub by-trees : (r : Checked) → lowest (wrongTerm b) (terms b) ≡ none → answered r ≡ firstRefusal (drop 4 (checks b)) → answered r ≡ refusal b
+    unfolding orElse refuse
+    by-trees r l p = p ∙ sym (stages ∙ rw (headed, l))
+
+-- the count of terms by another name
+pub loaded-as : {b words : List ℕ} {n m : ℕ} → n ≡ m → Loaded b n words → Loaded b m words
+loaded-as {b} {words} e l = subst (λ (k : ℕ). Loaded b k words) e l

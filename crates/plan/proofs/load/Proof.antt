@@ -1,0 +1,79 @@
+-- `load`: the answer of the definition, stage by stage; where nothing is refused, the terms are loaded.
+use mathlib.Core.Path.{_≡_, refl}
+use mathlib.Core.Bool.{true≢false}
+use mathlib.Core.Option.{some, none}
+use native.Mathlib.Omega.{arith}
+use borrow.Author.Needs.{needs}
+use Rattle.format.specs.Refusal.{lowest}
+use Rattle.format.proofs.LowestLaws.{missed, struck}
+use Rattle.packed.specs.Format.{terms}
+use Rattle.packed.specs.Refusals.{wrongTerm}
+use Rattle.packed.specs.Steps.{Headed}
+use Rattle.packed.proofs.Shown.{make-headed, make-right}
+use Rattle.plan.proofs.Stages.{by-header, headed, by-term, by-trees, loaded-as}
+use Rattle.plan.proofs.load.Statement.{statement}
+use Rattle.plan.proofs.load.Tie as tie
+
+-- what checks 1 to 3 have shown
+shown : (c : tie.After-terms) → Headed (c .before .before .before .before .before .before .args .plan .now) (c .before .procedures .result) (c .terms .result)
+shown c = make-headed _ _ _ (c .before .procedures .ensures) (c .terms .ensures) (headed _ _ (c .before .before .before .before .check-header .ensures) (c .before .before .enum-told .given .1))
+
+check-header-requires : tie.Need-check-header-requires
+check-header-requires c κs = search needs
+
+enum-told : tie.Need-enum-told
+enum-told c = search needs
+
+enum-told-2 : tie.Need-enum-told-2
+enum-told-2 c = search needs
+
+returns : tie.Need-returns
+returns c = (by-header _ _ _ _ (c .before .before .check-header .ensures) (c .enum-told2 .given .1), λ q. absurd (true≢false cc))
+
+procedures-requires : tie.Need-procedures-requires
+procedures-requires c κs = let s = make-headed (c .before .before .before .before .args .plan .now) _ _ refl refl (headed _ _ (c .before .before .check-header .ensures) (c .enum-told .given .1)) .sized in omega (arith, s .long)
+
+terms-requires : tie.Need-terms-requires
+terms-requires c κs = let s = make-headed (c .before .before .before .before .before .args .plan .now) _ _ refl refl (headed _ _ (c .before .before .before .check-header .ensures) (c .before .enum-told .given .1)) .sized in omega (arith, s .long)
+
+load-requires : tie.Need-load-requires
+load-requires c κs = (shown (c .before), c .before .before .before .before .before .before .before .pre)
+
+refused-requires : tie.Need-refused-requires
+refused-requires c κs = search needs
+
+returns-2 : tie.Need-returns-2
+returns-2 c =
+    let b = c .before .before .before .before .before .before .before .before .before .before .args .plan .now in
+    let m4 : lowest (wrongTerm b) (terms b) ≡ some (c .before .before .load .result) = struck (wrongTerm b) _ (terms b) _ (c .before .before .before .before .terms .ensures) (c .before .before .load .ensures .0) (c .before .if1 .taken) in
+    (by-term b _ (c .before .before .before .before .before .before .before .before .check-header .ensures) (c .before .before .before .before .before .before .enum-told .given .1) _ _ m4 (c .refused .ensures), λ q. absurd (let z = c .refused .ensures in true≢false cc))
+
+check-trees-requires : tie.Need-check-trees-requires
+check-trees-requires c κs =
+    let l = c .before .before .load in
+    let h = shown (c .before .before .before .before) in
+    (make-right _ _ _ _ h (l .ensures .0) (c .before .if1 .left), l .ensures .1 (c .before .if1 .left))
+
+returns-3 : tie.Need-returns-3
+returns-3 c =
+    let b = c .before .before .before .before .before .before .before .before .before .before .before .args .plan .now in
+    let l = c .before .before .before .load in
+    let n = c .before .before .before .before .before .terms .ensures in
+    let m4 : lowest (wrongTerm b) (terms b) ≡ none = missed (wrongTerm b) _ (terms b) _ n (l .ensures .0) (c .before .before .if1 .left) in
+    (by-trees b _ (c .before .before .before .before .before .before .before .before .before .check-header .ensures) (c .before .before .before .before .before .before .before .enum-told .given .1) _ m4 (c .check-trees .ensures), λ q. loaded-as n (l .ensures .1 (c .before .before .if1 .left)))
+
+pub load-spec : {M : Type 1} → statement M
+load-spec =
+    tie.close
+    (tie.spec
+    check-header-requires
+    enum-told
+    enum-told-2
+    returns
+    procedures-requires
+    terms-requires
+    load-requires
+    refused-requires
+    returns-2
+    check-trees-requires
+    returns-3)
