@@ -1,9 +1,10 @@
 -- The walk of a condition, and of the two operands of an `equal`. Assumes nothing.
 use mathlib.Core.Path.{_≡_, refl, ap, sym, _∙_}
 use mathlib.Core.Bool.{Bool, true, false, _&&_}
-use mathlib.Core.List.{List}
+use mathlib.Core.List.{List, [], _∷_}
 use Prim.Native.Nat.{ℕ, _+_, _-_, _*_, _/_, _<_}
 use lib.ListN.{getD}
+use Rattle.format.proofs.Ranges.{NoneOf}
 use Rattle.packed.specs.Format.{layout, table}
 use Rattle.packed.specs.Trees.{nodes, nodeOf, conditionOf}
 use Rattle.packed.specs.Slots.{closed, closedᶜ}
@@ -49,8 +50,8 @@ module _ (words : List ℕ) (ρ : ℕ → Bool) {from t : ℕ} (l : Left words (
   unfolding tagIn
   equal-call h e = (here _ from t h (l .after), (l .ordered, (l .within, e)))
 
-  pub childless : (((Unit {0} × (Tagged words t 13 → ⊥)) × (Tagged words t 14 → ⊥)) × (Tagged words t 15 → ⊥)) → true ≡ conditionsOf words ρ from
-  childless (((u, a), b), d) = sym (ap (closedᶜ ρ) (cond-is words (l .ordered) t _ refl) ∙ cond-rest (treeIn words) (conditionIn words) (listIn words) ρ _ _ a b d) ∙ l .same
+  pub childless : NoneOf (getD words t 0 / 34359738368) (15 ∷ 14 ∷ 13 ∷ []) → true ≡ conditionsOf words ρ from
+  childless n = sym (ap (closedᶜ ρ) (cond-is words (l .ordered) t _ refl) ∙ cond-rest (treeIn words) (conditionIn words) (listIn words) ρ _ _ n) ∙ l .same
 
 -- ---- an `equal`
 

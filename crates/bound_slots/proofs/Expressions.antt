@@ -1,9 +1,10 @@
 -- What is left to see of an expression, by its tag. Assumes nothing.
 use mathlib.Core.Path.{_≡_, refl, ap, sym, _∙_}
 use mathlib.Core.Bool.{Bool, true, false, _&&_}
-use mathlib.Core.List.{List}
+use mathlib.Core.List.{List, [], _∷_}
 use Prim.Native.Nat.{ℕ, _+_, _-_, _*_, _/_, _%_, _<_}
 use lib.ListN.{getD}
+use Rattle.format.proofs.Ranges.{NoneOf}
 use Rattle.packed.specs.Format.{layout, table}
 use Rattle.packed.specs.Trees.{nodes, nodeOf, binderOf, expressionOf}
 use Rattle.packed.specs.Slots.{closed, closedᶜ, closedᵃ, bound}
@@ -134,7 +135,9 @@ module _ (words : List ℕ) (o : Ordered words) (t m : ℕ) where
 
   pub if-left : (r : Rest) → Tagged words t 6 → closedᶜ (slots m) (conditionIn words (firstOf words t)) ≡ true → Two words (secondOf words t) m (thirdOf words t) m r → Answer r
   unfolding nodeOf inWord layout table nodes expressionOf closed
-  if-left r e h b = let k = row-below words o t 6 e in rest-of r _ _ _ _ b (k .1) (k .2) (and-three _ _ _ h ∙ sym (ap (closed (slots m)) (expr-is words o t 6 e)))
+  if-left r e h b =
+      let k = row-below words o t 6 e in
+      rest-of r _ _ _ _ b (k .1) (k .2) (and-three _ _ _ h ∙ sym (ap (closed (slots m)) (expr-is words o t 6 e)))
 
   pub if-open : Tagged words t 6 → closedᶜ (slots m) (conditionIn words (firstOf words t)) ≡ false → Answer Open
   unfolding seen nodeOf inWord layout table nodes expressionOf closed
@@ -164,10 +167,6 @@ module _ (words : List ℕ) (o : Ordered words) (t m : ℕ) where
   unfolding nodeOf inWord layout table nodes expressionOf closed
   synch-left r e b = let k = row-below words o t 11 e in rest-of r _ _ _ _ b (k .0) (k .1) (sym (ap (closed (slots m)) (expr-is words o t 11 e)))
 
-  abbrev Not : ℕ → Type 0
-  Not k = Tagged words t k → ⊥
-
-  pub nothing-left : ((((((((((Unit {0} × Not 1) × Not 3) × Not 4) × Not 5) × Not 6) × Not 7) × Not 8) × Not 9) × Not 10) × Not 11) → Answer Closed
+  pub nothing-left : NoneOf (getD words t 0 / 34359738368) (11 ∷ 10 ∷ 9 ∷ 8 ∷ 7 ∷ 6 ∷ 5 ∷ 4 ∷ 3 ∷ 1 ∷ []) → Answer Closed
   unfolding seen
-  nothing-left ((((((((((u, n1), n3), n4), n5), n6), n7), n8), n9), n10), n11) =
-      (sym (ap (closed (slots m)) (expr-is words o t _ refl) ∙ expr-rest (treeIn words) (conditionIn words) (listIn words) (slots m) _ _ n1 n3 n9 n10 n4 n5 n6 n7 n8 n11), tt)
+  nothing-left n = (sym (ap (closed (slots m)) (expr-is words o t _ refl) ∙ expr-rest (treeIn words) (conditionIn words) (listIn words) (slots m) _ _ n), tt)

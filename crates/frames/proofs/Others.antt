@@ -1,8 +1,7 @@
--- A number that is none of 0, 1, .. is past them, and what the arms that name no kind say. Assumes nothing.
+-- What the arms that name no kind say. Assumes nothing.
 use mathlib.Core.Path.{_≡_, refl}
 use mathlib.Core.List.{[], _∷_}
-use Prim.Native.Nat.{ℕ, suc, _≤_}
-use native.Mathlib.Omega.{arith}
+use Prim.Native.Nat.{ℕ}
 use types.Run.{OneOf, miss}
 use denote.Enum.Declared.{tagOf}
 use Rattle.frames.proofs.frame.Kind as kind-type
@@ -10,9 +9,6 @@ use Rattle.frames.specs.declared.frame.Kind.{Kind}
 use Rattle.frames.specs.declared.frame.Kind.the-variants as kind
 use Rattle.frames.specs.declared.frame.Frame.{Frame}
 use Rattle.frames.specs.Going.{noRule, goAt, feedIfBy, feedIfOf, feedConditionBy}
-
-pub next : {k n : ℕ} → k ≤ n → (n ≡ k → ⊥) → suc k ≤ n
-next h r = omega arith
 
 pub if-other : (x : Kind) (f : Frame) (b : ℕ) → OneOf (0 ∷ 1 ∷ 2 ∷ 3 ∷ 4 ∷ 5 ∷ 6 ∷ 7 ∷ 8 ∷ 9 ∷ 11 ∷ 12 ∷ 14 ∷ []) (tagOf kind-type.the-type x) → feedIfBy x f b ≡ goAt noRule
 if-other kind.Read f b h = refl

@@ -144,7 +144,9 @@ objects-get : (M : Memory) (i n j : ℕ) → j < n → getElem? (objectsFrom M i
 unfolding objectsFrom
 objects-get M i zero j h = absurd (omega arith)
 objects-get M i (suc n) zero h = let e : i + 0 ≡ i = omega arith in rw e
-objects-get M i (suc n) (suc j) h = let e : suc i + j ≡ i + suc j = omega arith in objects-get M (suc i) n j (omega arith) ∙ ap (λ (a : ℕ). some (objectAt M a)) e
+objects-get M i (suc n) (suc j) h =
+    let e : suc i + j ≡ i + suc j = omega arith in
+    objects-get M (suc i) n j (omega arith) ∙ ap (λ (a : ℕ). some (objectAt M a)) e
 
 object-of : (M : Memory) (o : ℕ) → o < M .count → getElem? (objectsOf M) o ≡ some (objectAt M o)
 unfolding objectsOf

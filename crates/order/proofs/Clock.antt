@@ -74,7 +74,9 @@ feeds→ v r (ofThread q) h = go (or-yes (eqb (r .thread) q) (sameKind (r .kind)
     go : T (eqb (r .thread) q) ⊎ T (sameKind (r .kind) fork && eqb (r .field) q) → Feeds v r (ofThread q)
     go (inl e) = inl (eqb→eq (r .thread) q e)
     go (inr e) = let d = and-yes (sameKind (r .kind) fork) (eqb (r .field) q) e in inr (sameKind→ (r .kind) fork (d .0), eqb→eq (r .field) q (d .1))
-feeds→ v r (ofMonitor o) h = let d = and-yes (sameKind (r .kind) release) (eqb (r .object) o) h in (sameKind→ (r .kind) release (d .0), eqb→eq (r .object) o (d .1))
+feeds→ v r (ofMonitor o) h =
+    let d = and-yes (sameKind (r .kind) release) (eqb (r .object) o) h in
+    (sameKind→ (r .kind) release (d .0), eqb→eq (r .object) o (d .1))
 feeds→ v r (ofVolatile o f) h =
     let d = and-yes (volatileOrders v && sameKind (r .kind) writev && eqb (r .object) o) (eqb (r .field) f) h in
     let e = and-yes (volatileOrders v && sameKind (r .kind) writev) (eqb (r .object) o) (d .0) in

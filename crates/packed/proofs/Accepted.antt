@@ -100,7 +100,9 @@ fits-of : (b : List ℕ) (t : ℕ) (kind : Operand) (v : ℕ) → v < 2 ^ width 
 fits-of b t absent v w h s = omega arith
 fits-of b t slot v w h s = ltb-false 7 v h
 fits-of b t binder v w h s = λ q. ltb-false 7 v (sym (and-true (ltb 7 v)) ∙ (rw (ne-eqb v 15 q) at h))
-fits-of b t mask v w h s = let p = neither (eqb (maskBit v 0) 1) (ltb 8 (length (fieldsFrom v 0 32))) h in (p .0, ltb-false 8 (length (fieldsFrom v 0 32)) (p .1))
+fits-of b t mask v w h s =
+    let p = neither (eqb (maskBit v 0) 1) (ltb 8 (length (fieldsFrom v 0 32))) h in
+    (p .0, ltb-false 8 (length (fieldsFrom v 0 32)) (p .1))
 fits-of b t fieldName v w h s = (omega (arith, eqb-false v 0 h), omega arith)
 fits-of b t procedure v w h s = leb-false (procedures b) v h
 fits-of b t expression v w h s = child-of b t expression v h s

@@ -65,4 +65,4 @@ children-within b procedures n u z h =
 -- every tag but 16 ends a list
 pub list-ends : (e : ℕ → Expression) (l : ℕ → Arguments) (x y z k : ℕ) → (k ≡ 16 → ⊥) → argumentsOf e l (nodeOfTag k x y z) ≡ Arguments.end
 unfolding nodes argumentsOf
-list-ends e l x y z k = except (λ k. argumentsOf e l (nodeOfTag k x y z) ≡ Arguments.end) (16 ∷ []) refl refl refl refl refl refl refl refl refl refl refl refl refl refl refl refl tt refl (λ j. refl) k
+list-ends e l x y z k h = except (λ k. argumentsOf e l (nodeOfTag k x y z) ≡ Arguments.end) (16 ∷ []) refl refl refl refl refl refl refl refl refl refl refl refl refl refl refl refl tt refl (λ j. refl) k (tt, h)

@@ -226,7 +226,9 @@ module _ (b : List ℕ) where
 
   all-good : Accepted b → (n : ℕ) → AllGood n
   all-good a zero = record { expression-good = λ t h q s. absurd (omega arith); condition-good = λ t h q s. absurd (omega arith); list-good = λ t h q s. absurd (omega arith) }
-  all-good a (suc n) = let ih = all-good a n in record { expression-good = λ t. good-here t a n ih; condition-good = λ t. goodᶜ-here t a n ih; list-good = λ t. goodᵃ-here t a n ih }
+  all-good a (suc n) =
+      let ih = all-good a n in
+      record { expression-good = λ t. good-here t a n ih; condition-good = λ t. goodᶜ-here t a n ih; list-good = λ t. goodᵃ-here t a n ih }
 
   root-good : Accepted b → (p : ℕ) → p < procedures b → Good (root b p) (treeAt b (root b p))
   unfolding treeAt

@@ -20,6 +20,7 @@ use Rattle.packed.specs.Refusals.{sumBelow, oneIf, wrongTerm, timesIn, t
 use Rattle.packed.specs.Steps.{Headed, Loaded, nodeIn, Child, childOf, childrenOf, moreOf, countAll, cap, rootTimes, allTimes, Counted, notOnce, inWord, lowerAll}
 use Rattle.packed.proofs.Tags.{by-tag, except}
 use Rattle.format.proofs.Filled.{zeros}
+use Rattle.format.proofs.Ranges.{NoneOf}
 use Rattle.packed.proofs.SingleTerm.{rowOf, node-in}
 use Rattle.packed.proofs.Children.{Within, nodes-are, children-within, termOf, nodeOfTag}
 
@@ -144,6 +145,6 @@ pub named : (ws : List ℕ) (t k best r : ℕ) (c c′ : List ℕ) → getD ws t
 named ws t k best r c c′ e p q = rw (node-in ws t k e) (p, q)
 
 -- a tag without children
-pub no-children : (w k : ℕ) → (k ≡ 3 → ⊥) → (k ≡ 4 → ⊥) → (k ≡ 5 → ⊥) → (k ≡ 6 → ⊥) → (k ≡ 7 → ⊥) → (k ≡ 8 → ⊥) → (k ≡ 9 → ⊥) → (k ≡ 10 → ⊥) → (k ≡ 11 → ⊥) → (k ≡ 13 → ⊥) → (k ≡ 14 → ⊥) → (k ≡ 15 → ⊥) → (k ≡ 16 → ⊥) → childrenOf (rowOf k w) ≡ []
+pub no-children : (w k : ℕ) → NoneOf k (16 ∷ 15 ∷ 14 ∷ 13 ∷ 11 ∷ 10 ∷ 9 ∷ 8 ∷ 7 ∷ 6 ∷ 5 ∷ 4 ∷ 3 ∷ []) → childrenOf (rowOf k w) ≡ []
 unfolding childrenOf nodeOf inWord layout table nodes
-no-children w k = except (λ k. childrenOf (rowOf k w) ≡ []) (3 ∷ 4 ∷ 5 ∷ 6 ∷ 7 ∷ 8 ∷ 9 ∷ 10 ∷ 11 ∷ 13 ∷ 14 ∷ 15 ∷ 16 ∷ []) refl refl refl tt tt tt tt tt tt tt tt tt refl tt tt tt tt refl (λ j. refl) k
+no-children w k = except (λ k. childrenOf (rowOf k w) ≡ []) (16 ∷ 15 ∷ 14 ∷ 13 ∷ 11 ∷ 10 ∷ 9 ∷ 8 ∷ 7 ∷ 6 ∷ 5 ∷ 4 ∷ 3 ∷ []) refl refl refl tt tt tt tt tt tt tt tt tt refl tt tt tt tt refl (λ j. refl) k

@@ -1,7 +1,7 @@
 -- Check 4: a term of the table, of its 40 bits, and the array of them. Assumes nothing.
 use mathlib.Core.Path.{_≡_, ap, sym, _∙_}
 use mathlib.Core.Bool.{Bool, true, false, _||_, false≢true}
-use mathlib.Core.List.{List, [], _∷_}
+use mathlib.Core.List.{List}
 use Prim.Native.Nat.{ℕ, suc, _/_, _<_}
 use native.Mathlib.Omega.{arith}
 use lib.Dec.{leb}
@@ -16,7 +16,6 @@ use Rattle.packed.specs.Trees.{nodeOf, Node}
 use Rattle.packed.specs.Refusals.{wrongOperand, breaksTable, wrongTerm, isChild}
 use Rattle.packed.specs.Steps.{Sized, Loaded, wordAt, inWord, termIn, nodeIn}
 use Rattle.packed.proofs.Passing.{PassesTable, table-of}
-use Rattle.packed.proofs.Tags.{except}
 use Rattle.packed.proofs.Reading.{term-is}
 
 -- ---- a term in its 40 bits
@@ -59,10 +58,6 @@ loaded-more b t ws w h e l =
 pub past-table : (procedures n t w : ℕ) → 17 < w / 34359738368 → true ≡ breaksTable procedures n t (termIn w)
 unfolding breaksTable termIn inWord
 past-table procedures n t w h = rw (lt-ltb 17 (w / 34359738368) h)
-
--- none of the table's tags
-pub no-row : (k : ℕ) → (k ≡ 0 → ⊥) → (k ≡ 1 → ⊥) → (k ≡ 2 → ⊥) → (k ≡ 3 → ⊥) → (k ≡ 4 → ⊥) → (k ≡ 5 → ⊥) → (k ≡ 6 → ⊥) → (k ≡ 7 → ⊥) → (k ≡ 8 → ⊥) → (k ≡ 9 → ⊥) → (k ≡ 10 → ⊥) → (k ≡ 11 → ⊥) → (k ≡ 12 → ⊥) → (k ≡ 13 → ⊥) → (k ≡ 14 → ⊥) → (k ≡ 15 → ⊥) → (k ≡ 16 → ⊥) → (k ≡ 17 → ⊥) → 17 < k
-no-row k = except (λ k. 17 < k) (0 ∷ 1 ∷ 2 ∷ 3 ∷ 4 ∷ 5 ∷ 6 ∷ 7 ∷ 8 ∷ 9 ∷ 10 ∷ 11 ∷ 12 ∷ 13 ∷ 14 ∷ 15 ∷ 16 ∷ 17 ∷ []) tt tt tt tt tt tt tt tt tt tt tt tt tt tt tt tt tt tt (λ j. omega arith) k
 
 pub tested : (procedures n t w k : ℕ) (r : Bool) → w / 34359738368 ≡ k → r ≡ breaksTable procedures n t (inWord w k (layout k)) → r ≡ breaksTable procedures n t (termIn w)
 unfolding termIn

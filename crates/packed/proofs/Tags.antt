@@ -2,12 +2,12 @@
 use Prim.Native.Nat.{ℕ, zero, suc, _-_, _<_}
 use native.Mathlib.Decide.{decLt}
 use native.Mathlib.Omega.{arith}
-use mathlib.Core.Path.{_≡_, subst}
+use mathlib.Core.Path.{subst}
 use mathlib.Core.Bool.{Bool, cond}
 use mathlib.Core.List.{List, [], _∷_}
 use lib.Dec.{eqb}
 use borrow.Author.Tests.{ne-eqb}
-use Rattle.format.proofs.Ranges.{EachOf, by-range}
+use Rattle.format.proofs.Ranges.{EachOf, by-range, NoneOf}
 
 -- the number j past n, which computes by its first n steps
 abbrev pub past : ℕ → ℕ → ℕ
@@ -32,18 +32,9 @@ abbrev pub Unless : (ℕ → Type 0) → List ℕ → ℕ → Type 0
 Unless P [] k = P k
 Unless P (j ∷ js) k = cond (eqb k j) (Unit {0}) (Unless P js k)
 
--- if k is none of these
-abbrev pub Apart : (ℕ → Type 0) → List ℕ → ℕ → Type 0
-Apart P [] k = P k
-Apart P (j ∷ js) k = (k ≡ j → ⊥) → Apart P js k
+met : (P : ℕ → Type 0) (js : List ℕ) (k : ℕ) → Unless P js k → NoneOf k js → P k
+met P [] k u n = u
+met P (j ∷ js) k u n = met P js k (subst (λ (x : Bool). cond x (Unit {0}) (Unless P js k)) (ne-eqb k j (n .1)) u) (n .0)
 
-met : (P : ℕ → Type 0) (js : List ℕ) (k : ℕ) → Unless P js k → Apart P js k
-met P [] k u = u
-met P (j ∷ js) k u = λ h. met P js k (subst (λ (x : Bool). cond x (Unit {0}) (Unless P js k)) (ne-eqb k j h) u)
-
-given : (P : ℕ → Type 0) (js : List ℕ) (k : ℕ) → P k → Apart P js k
-given P [] k p = p
-given P (j ∷ js) k p = λ h. given P js k p
-
-pub except : (P : ℕ → Type 0) (js : List ℕ) → EachOf (Unless P js) 0 18 (((j : ℕ) → P (past 18 j)) → (k : ℕ) → Apart P js k)
-except P js = by-range (Unless P js) 0 18 _ (λ all more. any-tag (Apart P js) (λ k h. met P js k (all k (omega arith) h)) (λ j. given P js (past 18 j) (more j)))
+pub except : (P : ℕ → Type 0) (js : List ℕ) → EachOf (Unless P js) 0 18 (((j : ℕ) → P (past 18 j)) → (k : ℕ) → NoneOf k js → P k)
+except P js = by-range (Unless P js) 0 18 _ (λ all more. any-tag (λ k. NoneOf k js → P k) (λ k h. met P js k (all k (omega arith) h)) (λ j n. more j))

@@ -178,7 +178,9 @@ unused-start = record {
 }
   where
     one : (p : ℕ) (t : Thread) → getElem? (start .threads) p ≡ some t → Below (t .keys) 1
-    one zero t h = let e : record { self = 0; expression = Expression.call 0 Arguments.end; keys = singleton 0 } ≡ t = cc in along (λ (z : Thread). Below (z .keys) 1) e (below-singleton 0 1 (omega arith))
+    one zero t h =
+        let e : record { self = 0; expression = Expression.call 0 Arguments.end; keys = singleton 0 } ≡ t = cc in
+        along (λ (z : Thread). Below (z .keys) 1) e (below-singleton 0 1 (omega arith))
     one (suc p) t h = absurd (true≢false cc)
 
     nowhere : (o f : ℕ) (c : Cell) → lookup start o f ≡ some c → ⊥

@@ -35,19 +35,27 @@ pub record Roomy (s : State) : Type 0 where
 
 pub roomy-become : (s : State) (p : ℕ) (e : Expression) → Roomy s → Roomy (become s p e)
 unfolding become
-roomy-become s p e z = let a = z .threads8 in record { threads8 = omega (arith, change-length (s .threads) p (λ x. record { self = x .self; expression = e; keys = x .keys })); objects32 = z .objects32; keys256 = z .keys256 }
+roomy-become s p e z =
+    let a = z .threads8 in
+    record { threads8 = omega (arith, change-length (s .threads) p (λ x. record { self = x .self; expression = e; keys = x .keys })); objects32 = z .objects32; keys256 = z .keys256 }
 
 roomy-learn : (s : State) (p W : ℕ) → Roomy s → Roomy (learn s p W)
 unfolding learn
-roomy-learn s p W z = let a = z .threads8 in record { threads8 = along (λ (n : ℕ). n ≤ 8) (sym (change-length (s .threads) p _)) a; objects32 = z .objects32; keys256 = z .keys256 }
+roomy-learn s p W z =
+    let a = z .threads8 in
+    record { threads8 = along (λ (n : ℕ). n ≤ 8) (sym (change-length (s .threads) p _)) a; objects32 = z .objects32; keys256 = z .keys256 }
 
 roomy-store : (s : State) (o f : ℕ) (c : Cell) → Roomy s → Roomy (store s o f c)
 unfolding store
-roomy-store s o f c z = let a = z .objects32 in record { threads8 = z .threads8; objects32 = along (λ (n : ℕ). n ≤ 32) (sym (change-length (s .objects) o _)) a; keys256 = z .keys256 }
+roomy-store s o f c z =
+    let a = z .objects32 in
+    record { threads8 = z .threads8; objects32 = along (λ (n : ℕ). n ≤ 32) (sym (change-length (s .objects) o _)) a; keys256 = z .keys256 }
 
 roomy-lock : (s : State) (o : ℕ) (c : Cell) → Roomy s → Roomy (storeMonitor s o c)
 unfolding storeMonitor
-roomy-lock s o c z = let a = z .objects32 in record { threads8 = z .threads8; objects32 = along (λ (n : ℕ). n ≤ 32) (sym (change-length (s .objects) o _)) a; keys256 = z .keys256 }
+roomy-lock s o c z =
+    let a = z .objects32 in
+    record { threads8 = z .threads8; objects32 = along (λ (n : ℕ). n ≤ 32) (sym (change-length (s .objects) o _)) a; keys256 = z .keys256 }
 
 nonzero : (f : ℕ) → 0 < f → eqb f 0 ≡ false
 nonzero f h = ne-eqb f 0 (λ e. omega arith)
@@ -70,7 +78,9 @@ module _ (g : Program) (s : State) (I : Inv g s) (z : Roomy s) (p : ℕ) (t : Th
   fits E-LET l = z
   fits (E-IF b) l = z
   fits E-WHILE l = z
-  fits (E-NEW {fs}) l = let b = room-for 32 (length (s .objects)) Room.object none l .0 in record { threads8 = z .threads8; objects32 = omega (arith, length-added (s .objects) (freshObject fs)); keys256 = z .keys256 }
+  fits (E-NEW {fs}) l =
+      let b = room-for 32 (length (s .objects)) Room.object none l .0 in
+      record { threads8 = z .threads8; objects32 = omega (arith, length-added (s .objects) (freshObject fs)); keys256 = z .keys256 }
   fits (E-READ w h k vol) l = z
   fits (E-WRITE w {o} {f} {u} {v} h k vol) l =
       let b = room-for 256 (s .nextKey) Room.key none l .0 in
@@ -93,11 +103,21 @@ module _ (g : Program) (s : State) (I : Inv g s) (z : Roomy s) (p : ℕ) (t : Th
   tidy E-LET he l = tt
   tidy (E-IF b) he l = tt
   tidy E-WHILE he l = tt
-  tidy (E-NEW {fs}) he l = let b = room-for 32 (length (s .objects)) Room.object none l .0 in record { thread-below = three; object-below = b; field-below = omega arith; value-below = omega arith; columns = refl }
-  tidy (E-READ w {o} {f} {v} h k vol) he l = let q = placed g s p t K I ht (Redex.read o f) he .1 in record { thread-below = three; object-below = five o (q .2); field-below = q .1; value-below = five v (I .cells o f _ h); columns = nonzero f (q .0) }
-  tidy (E-WRITE w {o} {f} {u} {v} h k vol) he l = let q = placed g s p t K I ht (Redex.write o f v) he .1 in record { thread-below = three; object-below = five o (q .2); field-below = q .1; value-below = five v (q .3); columns = nonzero f (q .0) }
-  tidy (E-READV {o} {f} {v} h vol) he l = let q = placed g s p t K I ht (Redex.read o f) he .1 in record { thread-below = three; object-below = five o (q .2); field-below = q .1; value-below = five v (I .cells o f _ h); columns = nonzero f (q .0) }
-  tidy (E-WRITEV {o} {f} {u} {v} h vol) he l = let q = placed g s p t K I ht (Redex.write o f v) he .1 in record { thread-below = three; object-below = five o (q .2); field-below = q .1; value-below = five v (q .3); columns = nonzero f (q .0) }
+  tidy (E-NEW {fs}) he l =
+      let b = room-for 32 (length (s .objects)) Room.object none l .0 in
+      record { thread-below = three; object-below = b; field-below = omega arith; value-below = omega arith; columns = refl }
+  tidy (E-READ w {o} {f} {v} h k vol) he l =
+      let q = placed g s p t K I ht (Redex.read o f) he .1 in
+      record { thread-below = three; object-below = five o (q .2); field-below = q .1; value-below = five v (I .cells o f _ h); columns = nonzero f (q .0) }
+  tidy (E-WRITE w {o} {f} {u} {v} h k vol) he l =
+      let q = placed g s p t K I ht (Redex.write o f v) he .1 in
+      record { thread-below = three; object-below = five o (q .2); field-below = q .1; value-below = five v (q .3); columns = nonzero f (q .0) }
+  tidy (E-READV {o} {f} {v} h vol) he l =
+      let q = placed g s p t K I ht (Redex.read o f) he .1 in
+      record { thread-below = three; object-below = five o (q .2); field-below = q .1; value-below = five v (I .cells o f _ h); columns = nonzero f (q .0) }
+  tidy (E-WRITEV {o} {f} {u} {v} h vol) he l =
+      let q = placed g s p t K I ht (Redex.write o f v) he .1 in
+      record { thread-below = three; object-below = five o (q .2); field-below = q .1; value-below = five v (q .3); columns = nonzero f (q .0) }
   tidy (E-FORK {e}) he l =
       let b = room-for 8 (length (s .threads)) Room.thread _ l in
       let d = room-for 32 (length (s .objects)) Room.object none (b .1) .0 in
@@ -116,8 +136,12 @@ module _ (g : Program) (s : State) (I : Inv g s) (z : Roomy s) (p : ℕ) (t : Th
 
   tidy-lacks : {e : Expression} {r : Record} → LacksHere g s p t e r → t .expression ≡ plug K e → Tidy r
   unfolding redexExpression
-  tidy-lacks (LACKS-READ w {o} {f} h k vol) he = let q = placed g s p t K I ht (Redex.read o f) he .1 in record { thread-below = three; object-below = five o (q .2); field-below = q .1; value-below = omega arith; columns = rw (nonzero f (q .0)) }
-  tidy-lacks (LACKS-WRITE w {o} {f} {v = x} h k vol) he = let q = placed g s p t K I ht (Redex.write o f x) he .1 in record { thread-below = three; object-below = five o (q .2); field-below = q .1; value-below = five x (q .3); columns = nonzero f (q .0) }
+  tidy-lacks (LACKS-READ w {o} {f} h k vol) he =
+      let q = placed g s p t K I ht (Redex.read o f) he .1 in
+      record { thread-below = three; object-below = five o (q .2); field-below = q .1; value-below = omega arith; columns = rw (nonzero f (q .0)) }
+  tidy-lacks (LACKS-WRITE w {o} {f} {v = x} h k vol) he =
+      let q = placed g s p t K I ht (Redex.write o f x) he .1 in
+      record { thread-below = three; object-below = five o (q .2); field-below = q .1; value-below = five x (q .3); columns = nonzero f (q .0) }
 
 -- a pick's move
 pub tidy-move : (g : Program) (s : State) → Inv g s → Roomy s → (p : ℕ) {R : Rule} {r : Option Record} {s′ : State} → Moves g s p R r s′ → noRoomFor R s p s′ ≡ none → Roomy s′ × TidyOr r

@@ -57,7 +57,9 @@ module _ (plan schedule area : List ℕ) (p : Played) (h : answered p ≡ played
 
     pub ran-small : SmallOutcome (outcomeOf (p .outcome))
     unfolding runOf
-    ran-small = let a = passes plan schedule area p h e in along (λ (x : run.Outcome). SmallOutcome x) (sym (outcome-is plan schedule area p h e)) (small-outcome plan schedule (a .plan-passes) (a .few))
+    ran-small =
+        let a = passes plan schedule area p h e in
+        along (λ (x : run.Outcome). SmallOutcome x) (sym (outcome-is plan schedule area p h e)) (small-outcome plan schedule (a .plan-passes) (a .few))
 
     pub ran-number : 0 ≡ playNumber (played plan schedule area)
     unfolding playNumber

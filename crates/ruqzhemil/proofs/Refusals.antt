@@ -58,7 +58,9 @@ small-check b = go (refusal b) refl
 small-late : (schedule area : List ℕ) {r : Refusal} → First (lateChecks schedule area) r → SmallRefusal r
 unfolding tooManyPicks
 small-late schedule area (here h) = (omega arith, let i = h .inside in omega arith)
-small-late schedule area (later p (here h)) = let n : length schedule ≤ 4096 = ltb-false 4096 (length schedule) (p .right 0 (omega arith)) in (omega arith, let i = h .inside in omega arith)
+small-late schedule area (later p (here h)) =
+    let n : length schedule ≤ 4096 = ltb-false 4096 (length schedule) (p .right 0 (omega arith)) in
+    (omega arith, let i = h .inside in omega arith)
 small-late schedule area (later p (later q (here h))) = (omega arith, let i = h .inside in omega arith)
 
 pub small-play : (plan schedule area : List ℕ) (r : Refusal) → playRefusal plan schedule area ≡ some r → SmallRefusal r

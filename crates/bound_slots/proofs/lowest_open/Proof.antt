@@ -33,7 +33,9 @@ root-requires : tie.Need-root-requires Inv-loop μ-loop
 root-requires c κs = let s = c .before .before .before .before in there (s .pre .0) _ (c .before .loop-test .taken)
 
 closed-expression-requires : tie.Need-closed-expression-requires Inv-loop μ-loop
-closed-expression-requires c κs = let s = c .before .before .before .before .before in root-call (s .pre .0) _ (c .before .before .loop-test .taken) (s .pre .1) (c .root .ensures)
+closed-expression-requires c κs =
+    let s = c .before .before .before .before .before in
+    root-call (s .pre .0) _ (c .before .before .loop-test .taken) (s .pre .1) (c .root .ensures)
 
 -- the procedure of this turn
 seen :

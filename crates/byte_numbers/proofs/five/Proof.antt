@@ -26,7 +26,10 @@ add-result : tie.Need-add-result
 add-result c = search needs
 
 returns : tie.Need-returns
-returns c = let a = c .before .before .before .before .args in let g = (c .before .shared-slice-known2 .given (a .at + 4)) .fits in (sym (joined (a .bytes .now) (a .at * 8) ((a .at + 4) * 8) 32 8 _ _ (sym (c .before .before .quad .ensures .0)) (byte-at (a .bytes .now) (a .at + 4) g ∙ sym (c .wide .ensures .0)) (omega arith)), omega arith)
+returns c =
+    let a = c .before .before .before .before .args in
+    let g = (c .before .shared-slice-known2 .given (a .at + 4)) .fits in
+    (sym (joined (a .bytes .now) (a .at * 8) ((a .at + 4) * 8) 32 8 _ _ (sym (c .before .before .quad .ensures .0)) (byte-at (a .bytes .now) (a .at + 4) g ∙ sym (c .wide .ensures .0)) (omega arith)), omega arith)
 
 pub five-spec : {M : Type 1} → statement M
 five-spec =

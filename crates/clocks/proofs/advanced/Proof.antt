@@ -40,7 +40,10 @@ element-copy-out-clocks : tie.Need-element-copy-out-clocks Inv-loop μ-loop
 element-copy-out-clocks c = search needs
 
 add-clocks : tie.Need-add-clocks Inv-loop μ-loop
-add-clocks c = let l = c .before .before .before .before .before .loop in let st = c .before .before .before .before .before .before in omega (arith, c .before .higher .ensures, st .pre .0 .most (l .thread) (omega arith), st .pre .1 .0 .most (l .thread) (omega arith), st .pre .1 .1 .most (l .thread) (omega arith))
+add-clocks c =
+    let l = c .before .before .before .before .before .loop in
+    let st = c .before .before .before .before .before .before in
+    omega (arith, c .before .higher .ensures, st .pre .0 .most (l .thread) (omega arith), st .pre .1 .0 .most (l .thread) (omega arith), st .pre .1 .1 .most (l .thread) (omega arith))
 
 mul-clocks-2 : tie.Need-mul-clocks-2 Inv-loop μ-loop
 mul-clocks-2 c = search needs

@@ -85,8 +85,11 @@ rest c =
     rw e at (l .loop .inv .5)
 
 -- what the pick meets, and whether it is passed over
+abbrev in-look : tie.After-look Inv-loop μ-loop Inv-loop2 μ-loop2 → tie.In-loop Inv-loop μ-loop Inv-loop2 μ-loop2
+in-look c = c .before .before .before .before .before .before .before .before .before .before .before .before
+
 abbrev from-look : tie.After-look Inv-loop μ-loop Inv-loop2 μ-loop2 → tie.At-loop Inv-loop μ-loop Inv-loop2 μ-loop2
-from-look c = c .before .before .before .before .before .before .before .before .before .before .before .before .before
+from-look c = in-look c .before
 
 met : (c : tie.After-look Inv-loop μ-loop Inv-loop2 μ-loop2) → c .look .result ≡ metBy (mask (from-look c)) (machine (from-look c)) (pick (from-look c) % 8)
 met c =
@@ -104,8 +107,14 @@ passed c = ap passesOf (sym (met (c .before))) ∙ sym (c .passes .ensures)
 abbrev to-look : tie.After-entry-of Inv-loop μ-loop Inv-loop2 μ-loop2 → tie.After-look Inv-loop μ-loop Inv-loop2 μ-loop2
 to-look c = c .before .before .before .before .before .before .before .before .before .before
 
+abbrev inside : tie.After-entry-of Inv-loop μ-loop Inv-loop2 μ-loop2 → tie.In-loop Inv-loop μ-loop Inv-loop2 μ-loop2
+inside c = in-look (to-look c)
+
 abbrev from : tie.After-entry-of Inv-loop μ-loop Inv-loop2 μ-loop2 → tie.At-loop Inv-loop μ-loop Inv-loop2 μ-loop2
-from c = from-look (to-look c)
+from c = inside c .before
+
+abbrev placed : tie.After-entry-of Inv-loop μ-loop Inv-loop2 μ-loop2 → tie.After-cell-of Inv-loop μ-loop Inv-loop2 μ-loop2
+placed c = c .before .before .before .before .before .before .before .before .before .before .before .before .before .before .before .before
 
 abbrev deed : tie.After-entry-of Inv-loop μ-loop Inv-loop2 μ-loop2 → Acted
 deed c = c .before .before .before .before .before .before .before .act .result
@@ -125,7 +134,7 @@ done c = record { stack = young-landed c .stack; turn = turned c }
 did : (c : tie.After-entry-of Inv-loop μ-loop Inv-loop2 μ-loop2) → deed c ≡ actedBy (mask (from c)) (machine (from c)) (pick (from c) % 8)
 did c =
     let l = from c in
-    let k = c .before .before .before .before .before .before .before .before .before .before .before .before .before .before .before .before .cell-of in
+    let k = placed c .cell-of in
     c .before .before .before .before .before .before .before .act .ensures ∙ acted (mask l) (l .loop .tally .counts) (l .loop .heads) (l .loop .cells) (l .loop .objects) (pick l % 8) (k .result) (k .ensures)
 
 came : (c : tie.After-entry-of Inv-loop μ-loop Inv-loop2 μ-loop2) → done c ≡ finishedBy (words (from c)) (roots (from c)) (mask (from c)) (machine (from c)) (pick (from c) % 8)
@@ -141,25 +150,31 @@ came c =
 stays : (c : tie.After-entry-of Inv-loop μ-loop Inv-loop2 μ-loop2) → passesOf (metBy (mask (from c)) (machine (from c)) (pick (from c) % 8)) ≡ false
 stays c = passed (c .before .before .before .before .before .before .before .before .before) ∙ c .before .before .before .before .before .before .before .before .if2 .left
 
+abbrev joined : tie.Joined3 Inv-loop μ-loop Inv-loop2 μ-loop2 → tie.After-entry-of Inv-loop μ-loop Inv-loop2 μ-loop2
+joined c = c .before .before .before .before .before .before .before .before
+
 -- the heads, with a new thread's where one was made
 young : (c : tie.Joined3 Inv-loop μ-loop Inv-loop2 μ-loop2)
     → c .if3 .heads
-    ≡ withYoung (forksOf (deed (c .before .before .before .before .before .before .before .before))) (c .before .before .before .before .before .before .before .before .before .before .before .before .before .before .before .before .before .before .before .before .before .before .before .before .before .before .before .before .before .before .before .loop .heads) (c .before .before .before .before .before .before .before .before .before .before .before .before .before .before .before .before .before .before .before .before .before .before .before .before .before .before .before .before .before .before .before .loop .tally .counts .threads % 9)
-    (bornOf (c .before .before .before .before .before .before .before .before .before .before .before .before .before .before .before .before .before .before .before .before .before .before .before .before .before .before .before .before .before .before .before .loop .tally .counts) (headAt (c .before .before .before .before .before .before .before .before .before .before .before .before .before .before .before .before .before .before .before .before .before .before .before .before .before .before .before .before .before .before .before .loop .heads) (pick (c .before .before .before .before .before .before .before .before .before .before .before .before .before .before .before .before .before .before .before .before .before .before .before .before .before .before .before .before .before .before .before) % 8)) (c .before .before .before .before .before .before .before .before .before .before .before .land-young .result))
+    ≡ withYoung (forksOf (deed (joined c))) (from (joined c) .loop .heads) (from (joined c) .loop .tally .counts .threads % 9)
+    (bornOf (from (joined c) .loop .tally .counts) (headAt (from (joined c) .loop .heads) (pick (from (joined c)) % 8)) (joined c .before .before .before .land-young .result))
 young c =
-    let l = c .before .before .before .before .before .before .before .before .before .before .before .before .before .before .before .before .before .before .before .before .before .before .before .before .before .before .before .before .before .before .before in
-    let f = c .before .before .before .before .before .before .before .before in
-    let y = bornOf (l .loop .tally .counts) (headAt (l .loop .heads) (pick l % 8)) (c .before .before .before .before .before .before .before .before .before .before .before .land-young .result) in
+    let l = from (joined c) in
+    let f = joined c in
+    let y = bornOf (l .loop .tally .counts) (headAt (l .loop .heads) (pick l % 8)) (joined c .before .before .before .land-young .result) in
     ⊎-elim (λ w. young-made (forksOf (deed f)) (l .loop .heads) _ (l .loop .tally .counts .threads % 9) _ y (sym (c .before .forks .ensures) ∙ w .0 .taken) (w .1 .ensures) (w .3))
     (λ w. young-none (forksOf (deed f)) (l .loop .heads) _ (l .loop .tally .counts .threads % 9) y (sym (c .before .forks .ensures) ∙ w .0 .left) (w .1)) (c .if3 .came)
 
+abbrev stopping : tie.After-stop-of Inv-loop μ-loop Inv-loop2 μ-loop2 → tie.After-entry-of Inv-loop μ-loop Inv-loop2 μ-loop2
+stopping c = c .before .before .before .before .before .before
+
 -- a stop is the end of the run
 stopped-so : (c : tie.After-stop-of Inv-loop μ-loop Inv-loop2 μ-loop2)
-    → stopped (mask (c .before .before .before .before .before .before .before .before .before .before .before .before .before .before .before .before .before .before .before .before .before .before .before .before .before .before .before .before .before)) (logged (machine (c .before .before .before .before .before .before .before .before .before .before .before .before .before .before .before .before .before .before .before .before .before .before .before .before .before .before .before .before .before)) (pick (c .before .before .before .before .before .before .before .before .before .before .before .before .before .before .before .before .before .before .before .before .before .before .before .before .before .before .before .before .before) % 8) (done (c .before .before .before .before .before .before))) (stopOf (c .before .before .before .before .before .before .before .before .answer-to .result)) (c .before .before .before .before .before .before .before .before .before .before .before .before .before .before .before .before .before .before .before .before .before .before .before .before .before .before .before .before .before .loop .i) ≡ whole (c .before .before .before .before .before .before .before .before .before .before .before .before .before .before .before .before .before .before .before .before .before .before .before .before .before .before .before .before .before)
+    → stopped (mask (from (stopping c))) (logged (machine (from (stopping c))) (pick (from (stopping c)) % 8) (done (stopping c))) (stopOf (stopping c .before .before .answer-to .result)) (from (stopping c) .loop .i) ≡ whole (from (stopping c))
 stopped-so c =
-    let f = c .before .before .before .before .before .before in
-    let l = c .before .before .before .before .before .before .before .before .before .before .before .before .before .before .before .before .before .before .before .before .before .before .before .before .before .before .before .before .before in
-    sym (stops (words l) (roots l) (mask l) (machine l) (pick l) (later l) (l .loop .i) (done f) (c .before .before .before .before .before .before .before .before .answer-to .result) (c .before .match .keys2) (stays f) (came f) refl) ∙ rest (c .before .before .before .before .before .before .before .before .before .before .before .before .before .before .before .before .before .before .before .before .before .before .before .before .before .before .before .before)
+    let f = stopping c in
+    let l = from (stopping c) in
+    sym (stops (words l) (roots l) (mask l) (machine l) (pick l) (later l) (l .loop .i) (done f) (stopping c .before .before .answer-to .result) (c .before .match .keys2) (stays f) (came f) refl) ∙ rest (inside (stopping c))
 
 -- the loop was left at its end, or by a stop
 ended-so : (c : tie.Left-loop Inv-loop μ-loop Inv-loop2 μ-loop2)
@@ -288,17 +303,17 @@ passes-requires : tie.Need-passes-requires Inv-loop μ-loop Inv-loop2 μ-loop2
 passes-requires c κs = search needs
 
 add-i-2 : tie.Need-add-i-2 Inv-loop μ-loop Inv-loop2 μ-loop2
-add-i-2 c = record { fits = omega (arith, c .before .before .before .before .before .before .before .before .before .before .before .before .before .before .loop-test .taken, c .before .before .before .before .before .before .before .before .before .before .before .before .before .before .before .before .before .before .before .before .before .before .before .pre .0) }
+add-i-2 c = record { fits = omega (arith, in-look (c .before .before) .loop-test .taken, start (from-look (c .before .before)) .pre .0) }
 
 loop-less-2 : tie.Need-loop-less-2 Inv-loop μ-loop Inv-loop2 μ-loop2
-loop-less-2 c = omega (arith, c .before .before .before .before .before .before .before .before .before .before .before .before .before .before .loop-test .taken, c .before .before .before .before .before .before .before .before .before .before .before .before .before .before .before .loop .inv .0)
+loop-less-2 c = omega (arith, in-look (c .before .before) .loop-test .taken, from-look (c .before .before) .loop .inv .0)
 
 loop-again-2 : tie.Need-loop-again-2 Inv-loop μ-loop Inv-loop2 μ-loop2
 loop-again-2 c =
-    let l = c .before .before .before .before .before .before .before .before .before .before .before .before .before .before .before in
+    let l = from-look (c .before .before) in
     let v = l .loop .inv in
     let t = c .before .before .before .before .before .before .before .before .before .before .before .before .before .before .loop-test .taken in
-    (v .0, omega arith, omega arith, omega arith, v .4, sym (skips (words l) (roots l) (mask l) (machine l) (pick l) (later l) (l .loop .i) (passed (c .before) ∙ c .if2 .taken)) ∙ rest (c .before .before .before .before .before .before .before .before .before .before .before .before .before .before), v .6, v .7)
+    (v .0, omega arith, omega arith, omega arith, v .4, sym (skips (words l) (roots l) (mask l) (machine l) (pick l) (later l) (l .loop .i) (passed (c .before) ∙ c .if2 .taken)) ∙ rest (in-look (c .before .before)), v .6, v .7)
 
 act-requires : tie.Need-act-requires Inv-loop μ-loop Inv-loop2 μ-loop2
 act-requires c κs = search needs
@@ -319,7 +334,7 @@ put-requires : tie.Need-put-requires Inv-loop μ-loop Inv-loop2 μ-loop2
 put-requires c κs =
     let v = c .before .before .before .before .before .before .before .before .before .before .before .before .before .before .before .before .before .before .before .before .before .before .before .before .loop .inv in
     let t = c .before .before .before .before .before .before .before .before .before .before .before .before .before .before .before .before .before .before .before .before .before .before .before .loop-test .taken in
-    let r = c .before .before .before .before .before .before .before .before .before .before .before .before .before .before .before .before .before .before .before .before .before .before .before .before .before .before .before .before .before .before .before .before .pre in
+    let r = start (from (c .before)) .pre in
     (omega (arith, v .0, v .3, v .4, t, r .0, r .1), omega (arith, v .0, v .3, t, r .0))
 
 enum-told : tie.Need-enum-told Inv-loop μ-loop Inv-loop2 μ-loop2
@@ -350,10 +365,10 @@ array-set-from-heads-2 : tie.Need-array-set-from-heads-2 Inv-loop μ-loop Inv-lo
 array-set-from-heads-2 c = search needs
 
 mul-cells : tie.Need-mul-cells Inv-loop μ-loop Inv-loop2 μ-loop2
-mul-cells c = record { fits = omega (arith, c .before .before .before .before .before .before .before .before .before .before .before .before .before .before .before .before .before .before .before .before .before .before .before .before .before .before .before .cell-of .ensures .inside) }
+mul-cells c = record { fits = omega (arith, placed (c .before .before .before .before .before .before .before .before .before .before .before) .cell-of .ensures .inside) }
 
 array-set-from-cells : tie.Need-array-set-from-cells Inv-loop μ-loop Inv-loop2 μ-loop2
-array-set-from-cells c = omega (arith, c .before .before .before .before .before .before .before .before .before .before .before .before .before .before .before .before .before .before .before .before .before .before .before .before .before .before .before .cell-of .ensures .inside)
+array-set-from-cells c = omega (arith, placed (c .before .before .before .before .before .before .before .before .before .before .before) .cell-of .ensures .inside)
 
 mul-objects : tie.Need-mul-objects Inv-loop μ-loop Inv-loop2 μ-loop2
 mul-objects c = search needs
@@ -363,24 +378,27 @@ array-set-from-objects c = search needs
 
 moved-requires : tie.Need-moved-requires Inv-loop μ-loop Inv-loop2 μ-loop2
 moved-requires c κs =
-    let l = c .before .before .before .before .before .before .before .before .before .before .before .before .before .before .before .before .before .before .before .before .before .before .before .before .before .before .before .before .before .before .before .before .before .before .before .before in
+    let f = c .before .before .before .before .before .before .before .before .before .before .before .before .before in
+    let l = from f in
     let e : c .before .before .before .before .before .before .before .before .before .before .before .put .result .moves ≡ l .loop .tally .moves = ap (λ (s : Tally). s .moves) (c .before .before .before .before .before .before .before .before .before .before .before .put .ensures .0 .0) in
-    omega (arith, e, l .loop .inv .0, l .loop .inv .2, c .before .before .before .before .before .before .before .before .before .before .before .before .before .before .before .before .before .before .before .before .before .before .before .before .before .before .before .before .before .before .before .before .before .before .before .loop-test .taken, c .before .before .before .before .before .before .before .before .before .before .before .before .before .before .before .before .before .before .before .before .before .before .before .before .before .before .before .before .before .before .before .before .before .before .before .before .before .before .before .before .before .before .before .before .pre .0)
+    omega (arith, e, l .loop .inv .0, l .loop .inv .2, inside f .loop-test .taken, start l .pre .0)
 
 add-i-3 : tie.Need-add-i-3 Inv-loop μ-loop Inv-loop2 μ-loop2
-add-i-3 c = record { fits = omega (arith, c .before .before .before .before .before .before .before .before .before .before .before .before .before .before .before .before .before .before .before .before .before .before .before .before .before .before .before .before .before .before .before .before .before .before .before .before .loop-test .taken, c .before .before .before .before .before .before .before .before .before .before .before .before .before .before .before .before .before .before .before .before .before .before .before .before .before .before .before .before .before .before .before .before .before .before .before .before .before .loop .inv .0, c .before .before .before .before .before .before .before .before .before .before .before .before .before .before .before .before .before .before .before .before .before .before .before .before .before .before .before .before .before .before .before .before .before .before .before .before .before .before .before .before .before .before .before .before .before .pre .0) }
+add-i-3 c =
+    let f = c .before .before .before .before .before .before .before .before .before .before .before .before .before .before in
+    record { fits = omega (arith, inside f .loop-test .taken, from f .loop .inv .0, start (from f) .pre .0) }
 
 loop-less-3 : tie.Need-loop-less-3 Inv-loop μ-loop Inv-loop2 μ-loop2
-loop-less-3 c = omega (arith, c .before .before .before .before .before .before .before .before .before .before .before .before .before .before .before .before .before .before .before .before .before .before .before .before .before .before .before .before .before .before .before .before .before .before .before .before .loop-test .taken, c .before .before .before .before .before .before .before .before .before .before .before .before .before .before .before .before .before .before .before .before .before .before .before .before .before .before .before .before .before .before .before .before .before .before .before .before .before .loop .inv .0)
+loop-less-3 c = let f = c .before .before .before .before .before .before .before .before .before .before .before .before .before .before in omega (arith, inside f .loop-test .taken, from f .loop .inv .0)
 
 loop-again-3 : tie.Need-loop-again-3 Inv-loop μ-loop Inv-loop2 μ-loop2
 loop-again-3 c =
     let f = c .before .before .before .before .before .before .before .before .before .before .before .before .before .before in
     let l = from f in
     let v = l .loop .inv in
-    let t = c .before .before .before .before .before .before .before .before .before .before .before .before .before .before .before .before .before .before .before .before .before .before .before .before .before .before .before .before .before .before .before .before .before .before .before .before .loop-test .taken in
+    let t = inside f .loop-test .taken in
     let put = c .before .before .before .before .before .before .before .before .before .before .before .before .put in
-    let k = c .before .before .before .before .before .before .before .before .before .before .before .before .before .before .before .before .before .before .before .before .before .before .before .before .before .before .before .before .before .before .cell-of in
+    let k = placed f .cell-of in
     let j = c .before .before .before .before .before .before in
     let s : c .moved .result ≡ tallyMoved (tallyPut (l .loop .tally) (f .entry-of .result)) (deed f .counts) = c .moved .ensures .0 ∙ ap (λ (s : Tally). tallyMoved s (deed f .counts)) (put .ensures .0 .0) in
     let moves : c .moved .result .moves ≡ l .loop .tally .moves + 1 = ap (λ (s : Tally). s .moves) s in
@@ -393,7 +411,7 @@ loop-again-3 c =
       put .kept .0 ∙ v .4,
       ap (λ (x : Machine). playOf (words l) (roots l) (mask l) x (later l) (l .loop .i + 1)) e
           ∙ sym (goes (words l) (roots l) (mask l) (machine l) (pick l) (later l) (l .loop .i) (deed f) (done f) (stays f) (did f) (came f) (c .before .before .before .before .before .before .before .before .enum-told .given .1))
-          ∙ rest (c .before .before .before .before .before .before .before .before .before .before .before .before .before .before .before .before .before .before .before .before .before .before .before .before .before .before .before .before .before .before .before .before .before .before .before .before),
+          ∙ rest (inside f),
       v .6,
       v .7,
     )
@@ -474,7 +492,10 @@ loop2-again c =
     )
 
 same-length : tie.Need-same-length Inv-loop μ-loop Inv-loop2 μ-loop2
-same-length c = let l = left (c .before) in let v = l .before .loop .inv in ⊎-elim (λ w. ap length (w .1) ∙ v .4) (λ w. ap length (w .29) ∙ w .24 .kept .0 ∙ v .4) (l .loop-test .came)
+same-length c =
+    let l = left (c .before) in
+    let v = l .before .loop .inv in
+    ⊎-elim (λ w. ap length (w .1) ∙ v .4) (λ w. ap length (w .29) ∙ w .24 .kept .0 ∙ v .4) (l .loop-test .came)
 
 returns : tie.Need-returns Inv-loop μ-loop Inv-loop2 μ-loop2
 returns c =

@@ -37,7 +37,9 @@ returns-2 c = simp (c .back-condition .ensures, c .before .enum-told2 .given .1)
 
 returns-3 : tie.Need-returns-3
 unfolding stepOf
-returns-3 c = let a = c .before .before .before .before .args in simp (c .wanted .ensures, c .before .listed .ensures, c .before .before .opened .ensures) (sym (step-other (a .go .stage) (a .words .now) (a .roots .now) (a .go) (a .depth) (a .frame) (c .before .before .before .match .keys3)))
+returns-3 c =
+    let a = c .before .before .before .before .args in
+    simp (c .wanted .ensures, c .before .listed .ensures, c .before .before .opened .ensures) (sym (step-other (a .go .stage) (a .words .now) (a .roots .now) (a .go) (a .depth) (a .frame) (c .before .before .before .match .keys3)))
 
 pub step-spec : {M : Type 1} → statement M
 step-spec =

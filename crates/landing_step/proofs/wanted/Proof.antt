@@ -27,7 +27,9 @@ returns-2 : tie.Need-returns-2
 returns-2 c = simp (c .want-condition .ensures, c .before .enum-told2 .given .1)
 
 returns-3 : tie.Need-returns-3
-returns-3 c = let a = c .before .before .before .args in c .stay .ensures ∙ sym (wanted-other (a .go .stage) (a .words .now) (a .go) (a .depth) (c .before .match .keys3))
+returns-3 c =
+    let a = c .before .before .before .args in
+    c .stay .ensures ∙ sym (wanted-other (a .go .stage) (a .words .now) (a .go) (a .depth) (c .before .match .keys3))
 
 pub wanted-spec : {M : Type 1} → statement M
 wanted-spec =

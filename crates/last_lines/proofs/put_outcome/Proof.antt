@@ -11,16 +11,24 @@ put-stop-requires : tie.Need-put-stop-requires
 put-stop-requires c κs = let a = c .before .before .args in omega (arith, outcome-length (stopOf (a .stop)) (a .picks) (a .moves) (a .records))
 
 put-column-requires : tie.Need-put-column-requires
-put-column-requires c κs = let a = c .before .before .before .before .before .before .args in omega (arith, outcome-length (stopOf (a .stop)) (a .picks) (a .moves) (a .records))
+put-column-requires c κs =
+    let a = c .before .before .before .before .before .before .args in
+    omega (arith, outcome-length (stopOf (a .stop)) (a .picks) (a .moves) (a .records))
 
 put-column-requires-2 : tie.Need-put-column-requires-2
-put-column-requires-2 c κs = let a = c .before .before .before .before .before .before .before .before .before .before .args in omega (arith, outcome-length (stopOf (a .stop)) (a .picks) (a .moves) (a .records))
+put-column-requires-2 c κs =
+    let a = c .before .before .before .before .before .before .before .before .before .before .args in
+    omega (arith, outcome-length (stopOf (a .stop)) (a .picks) (a .moves) (a .records))
 
 put-column-requires-3 : tie.Need-put-column-requires-3
-put-column-requires-3 c κs = let a = c .before .before .before .before .before .before .before .before .before .before .before .before .before .before .args in omega (arith, outcome-length (stopOf (a .stop)) (a .picks) (a .moves) (a .records))
+put-column-requires-3 c κs =
+    let a = c .before .before .before .before .before .before .before .before .before .before .before .before .before .before .args in
+    omega (arith, outcome-length (stopOf (a .stop)) (a .picks) (a .moves) (a .records))
 
 put-byte-requires : tie.Need-put-byte-requires
-put-byte-requires c κs = let a = c .before .before .before .before .before .before .before .before .before .before .before .before .before .before .before .before .before .before .args in omega (arith, outcome-length (stopOf (a .stop)) (a .picks) (a .moves) (a .records))
+put-byte-requires c κs =
+    let a = c .before .before .before .before .before .before .before .before .before .before .before .before .before .before .before .before .before .before .args in
+    omega (arith, outcome-length (stopOf (a .stop)) (a .picks) (a .moves) (a .records))
 
 same-length : tie.Need-same-length
 same-length c = search needs

@@ -16,15 +16,21 @@ put-word-requires c κs = let a = c .before .before .before .args in omega (arit
 
 put-column-requires : tie.Need-put-column-requires
 unfolding ascii
-put-column-requires c κs = let a = c .before .before .before .before .before .before .before .args in omega (arith, refusal-length (record { number = a .number; place = a .place }))
+put-column-requires c κs =
+    let a = c .before .before .before .before .before .before .before .args in
+    omega (arith, refusal-length (record { number = a .number; place = a .place }))
 
 put-column-requires-2 : tie.Need-put-column-requires-2
 unfolding ascii
-put-column-requires-2 c κs = let a = c .before .before .before .before .before .before .before .before .before .before .before .args in omega (arith, refusal-length (record { number = a .number; place = a .place }))
+put-column-requires-2 c κs =
+    let a = c .before .before .before .before .before .before .before .before .before .before .before .args in
+    omega (arith, refusal-length (record { number = a .number; place = a .place }))
 
 put-byte-requires : tie.Need-put-byte-requires
 unfolding ascii
-put-byte-requires c κs = let a = c .before .before .before .before .before .before .before .before .before .before .before .before .before .before .before .args in omega (arith, refusal-length (record { number = a .number; place = a .place }))
+put-byte-requires c κs =
+    let a = c .before .before .before .before .before .before .before .before .before .before .before .before .before .before .before .args in
+    omega (arith, refusal-length (record { number = a .number; place = a .place }))
 
 same-length : tie.Need-same-length
 same-length c = search needs

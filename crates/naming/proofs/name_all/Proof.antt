@@ -21,13 +21,33 @@ name-roots-requires : tie.Need-name-roots-requires Inv-loop μ-loop
 name-roots-requires c κs = c .before .before .pre
 
 loop-holds : tie.Need-loop-holds Inv-loop μ-loop
-loop-holds c = let s = c .before .before .before in let a = s .args in let b = a .plan .now in let r = s .pre .0 in let d = s .pre .1 .0 in let e = r .headed .sized .procedures-are in (search needs, no-faults b (a .procedures) (a .count) _ e (c .name-roots .ensures .0), no-terms b (a .procedures) _ e (c .name-roots .ensures .1))
+loop-holds c =
+    let s = c .before .before .before in
+    let a = s .args in
+    let b = a .plan .now in
+    let r = s .pre .0 in
+    let d = s .pre .1 .0 in
+    let e = r .headed .sized .procedures-are in
+    (search needs, no-faults b (a .procedures) (a .count) _ e (c .name-roots .ensures .0), no-terms b (a .procedures) _ e (c .name-roots .ensures .1))
 
 name-children-requires : tie.Need-name-children-requires Inv-loop μ-loop
-name-children-requires c κs = let s = c .before .before .before .before .before .before in let a = s .args in let b = a .plan .now in let r = s .pre .0 in let d = s .pre .1 .0 in let f = r .headed .few in omega arith
+name-children-requires c κs =
+    let s = c .before .before .before .before .before .before in
+    let a = s .args in
+    let b = a .plan .now in
+    let r = s .pre .0 in
+    let d = s .pre .1 .0 in
+    let f = r .headed .few in
+    omega arith
 
 lower-call-requires : tie.Need-lower-call-requires Inv-loop μ-loop
-lower-call-requires c κs = let s = c .before .before .before .before .before .before .before in let a = s .args in let b = a .plan .now in let r = s .pre .0 in let d = s .pre .1 .0 in (r, (d, c .before .before .loop-test .taken))
+lower-call-requires c κs =
+    let s = c .before .before .before .before .before .before .before in
+    let a = s .args in
+    let b = a .plan .now in
+    let r = s .pre .0 in
+    let d = s .pre .1 .0 in
+    (r, (d, c .before .before .loop-test .taken))
 
 add-term : tie.Need-add-term Inv-loop μ-loop
 add-term c = search needs
@@ -36,10 +56,28 @@ loop-less : tie.Need-loop-less Inv-loop μ-loop
 loop-less c = search needs
 
 loop-again : tie.Need-loop-again Inv-loop μ-loop
-loop-again c = let s = c .before .before .before .before .before .before .before .before in let a = s .args in let b = a .plan .now in let r = s .pre .0 in let d = s .pre .1 .0 in let l = c .before .before .before .before .loop in let h = c .before .before .before .loop-test .taken in let right = r .terms-right (l .term) h in let k = c .before .name-children in (search needs, rw add-one (one-term b (a .procedures) (l .term) (a .count) (a .words .now) (l .best) (k .result) (c .lower-call .result) d (r .headed .sized) right h (k .ensures .0) (c .lower-call .ensures) (l .inv .1)), rw add-one (term-step b (a .procedures) (a .count) (l .term) (a .words .now) (l .times) _ d (r .headed) right h (k .ensures .1) (l .inv .2)))
+loop-again c =
+    let s = c .before .before .before .before .before .before .before .before in
+    let a = s .args in
+    let b = a .plan .now in
+    let r = s .pre .0 in
+    let d = s .pre .1 .0 in
+    let l = c .before .before .before .before .loop in
+    let h = c .before .before .before .loop-test .taken in
+    let right = r .terms-right (l .term) h in
+    let k = c .before .name-children in
+    (search needs, rw add-one (one-term b (a .procedures) (l .term) (a .count) (a .words .now) (l .best) (k .result) (c .lower-call .result) d (r .headed .sized) right h (k .ensures .0) (c .lower-call .ensures) (l .inv .1)), rw add-one (term-step b (a .procedures) (a .count) (l .term) (a .words .now) (l .times) _ d (r .headed) right h (k .ensures .1) (l .inv .2)))
 
 returns : tie.Need-returns Inv-loop μ-loop
-returns c = let s = c .before .before .before .before .before in let a = s .args in let b = a .plan .now in let r = s .pre .0 in let d = s .pre .1 .0 in let l = c .before .loop in let e : l .term ≡ a .count = omega arith in (all-faults b (a .count) (l .best) (r .headed .sized .terms-are) (rw e at (l .inv .1)), rw e at (l .inv .2))
+returns c =
+    let s = c .before .before .before .before .before in
+    let a = s .args in
+    let b = a .plan .now in
+    let r = s .pre .0 in
+    let d = s .pre .1 .0 in
+    let l = c .before .loop in
+    let e : l .term ≡ a .count = omega arith in
+    (all-faults b (a .count) (l .best) (r .headed .sized .terms-are) (rw e at (l .inv .1)), rw e at (l .inv .2))
 
 pub name-all-spec : {M : Type 1} → statement M
 name-all-spec =

@@ -25,7 +25,11 @@ root-requires : tie.Need-root-requires Inv-loop μ-loop
 root-requires c κs = let s = c .before .before .before .before .pre .0 .headed .sized in omega (arith, s)
 
 name-requires : tie.Need-name-requires Inv-loop μ-loop
-name-requires c κs = let a = c .before .before .before .before .before .args in let z = c .before .before .before .before .before .pre .0 .headed in let f = z .few in omega (arith, c .root .ensures, root-below (a .plan .now) (a .procedures) (a .count) (c .before .before .before .loop .procedure) z (c .before .before .loop-test .taken))
+name-requires c κs =
+    let a = c .before .before .before .before .before .args in
+    let z = c .before .before .before .before .before .pre .0 .headed in
+    let f = z .few in
+    omega (arith, c .root .ensures, root-below (a .plan .now) (a .procedures) (a .count) (c .before .before .before .loop .procedure) z (c .before .before .loop-test .taken))
 
 add-procedure : tie.Need-add-procedure Inv-loop μ-loop
 add-procedure c = search needs
@@ -34,10 +38,22 @@ loop-less : tie.Need-loop-less Inv-loop μ-loop
 loop-less c = search needs
 
 loop-again : tie.Need-loop-again Inv-loop μ-loop
-loop-again c = let a = c .before .before .before .before .before .before .args in let b = a .plan .now in let z = c .before .before .before .before .before .before .pre in let f = z .0 .headed .few in let l = c .before .before .before .before .loop in let h = root-below b (a .procedures) (a .count) (l .procedure) (z .0 .headed) (c .before .before .before .loop-test .taken) in let e = c .before .root .ensures in (search needs, rw add-one (one-root b (l .procedure) (a .count) (a .words .now) (l .best) (c .before .root .result) _ (z .1 .0) e h (c .name .ensures .0) (l .inv .1)), rw add-one (root-step b (l .procedure) (c .before .root .result) (l .times) _ e (omega (arith, h)) (c .name .ensures .1) (l .inv .2)))
+loop-again c =
+    let a = c .before .before .before .before .before .before .args in
+    let b = a .plan .now in
+    let z = c .before .before .before .before .before .before .pre in
+    let f = z .0 .headed .few in
+    let l = c .before .before .before .before .loop in
+    let h = root-below b (a .procedures) (a .count) (l .procedure) (z .0 .headed) (c .before .before .before .loop-test .taken) in
+    let e = c .before .root .ensures in
+    (search needs, rw add-one (one-root b (l .procedure) (a .count) (a .words .now) (l .best) (c .before .root .result) _ (z .1 .0) e h (c .name .ensures .0) (l .inv .1)), rw add-one (root-step b (l .procedure) (c .before .root .result) (l .times) _ e (omega (arith, h)) (c .name .ensures .1) (l .inv .2)))
 
 returns : tie.Need-returns Inv-loop μ-loop
-returns c = let a = c .before .before .before .args in let l = c .before .loop in let e : l .procedure ≡ a .procedures = omega arith in (rw e at (l .inv .1), rw e at (l .inv .2))
+returns c =
+    let a = c .before .before .before .args in
+    let l = c .before .loop in
+    let e : l .procedure ≡ a .procedures = omega arith in
+    (rw e at (l .inv .1), rw e at (l .inv .2))
 
 pub name-roots-spec : {M : Type 1} → statement M
 name-roots-spec =

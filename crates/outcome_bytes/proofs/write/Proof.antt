@@ -30,7 +30,9 @@ array-copy-out-thread : tie.Need-array-copy-out-thread Inv-loop μ-loop
 array-copy-out-thread c = search needs
 
 thread-bytes-requires : tie.Need-thread-bytes-requires Inv-loop μ-loop
-thread-bytes-requires c κs = let s = c .before .before .before .before .before .before .before in small-thread (s .args .outcome) (s .pre) (c .before .before .loop .number) (c .before .loop-test .taken)
+thread-bytes-requires c κs =
+    let s = c .before .before .before .before .before .before .before in
+    small-thread (s .args .outcome) (s .pre) (c .before .before .loop .number) (c .before .loop-test .taken)
 
 mul-out : tie.Need-mul-out Inv-loop μ-loop
 mul-out c = search needs

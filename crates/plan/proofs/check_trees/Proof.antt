@@ -15,7 +15,9 @@ use Rattle.plan.proofs.check_trees.Tie as tie
 
 -- the lowest term that is not named once
 named-once : (c : tie.After-lowest-miscounted) → Lowest (notNamedOnce (c .before .before .before .before .before .args .plan .now)) (c .before .before .before .before .before .args .count) (c .lowest-miscounted .result)
-named-once c = let h = c .before .before .before .before .before .pre .0 .headed in all-names _ _ _ _ (h .sized .terms-are) (h .few) (c .before .before .name-all .ensures .1) (c .lowest-miscounted .ensures)
+named-once c =
+    let h = c .before .before .before .before .before .pre .0 .headed in
+    all-names _ _ _ _ (h .sized .terms-are) (h .few) (c .before .before .name-all .ensures .1) (c .lowest-miscounted .ensures)
 
 name-all-requires : tie.Need-name-all-requires
 name-all-requires c κs = let s = c .before .before in (s .pre .0, (s .pre .1, refl))

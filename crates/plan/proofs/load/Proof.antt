@@ -31,10 +31,14 @@ returns : tie.Need-returns
 returns c = (by-header _ _ _ _ (c .before .before .check-header .ensures) (c .enum-told2 .given .1), λ q. absurd (true≢false cc))
 
 procedures-requires : tie.Need-procedures-requires
-procedures-requires c κs = let s = make-headed (c .before .before .before .before .args .plan .now) _ _ refl refl (headed _ _ (c .before .before .check-header .ensures) (c .enum-told .given .1)) .sized in omega (arith, s .long)
+procedures-requires c κs =
+    let s = make-headed (c .before .before .before .before .args .plan .now) _ _ refl refl (headed _ _ (c .before .before .check-header .ensures) (c .enum-told .given .1)) .sized in
+    omega (arith, s .long)
 
 terms-requires : tie.Need-terms-requires
-terms-requires c κs = let s = make-headed (c .before .before .before .before .before .args .plan .now) _ _ refl refl (headed _ _ (c .before .before .before .check-header .ensures) (c .before .enum-told .given .1)) .sized in omega (arith, s .long)
+terms-requires c κs =
+    let s = make-headed (c .before .before .before .before .before .args .plan .now) _ _ refl refl (headed _ _ (c .before .before .before .check-header .ensures) (c .before .enum-told .given .1)) .sized in
+    omega (arith, s .long)
 
 load-requires : tie.Need-load-requires
 load-requires c κs = (shown (c .before), c .before .before .before .before .before .before .before .pre)

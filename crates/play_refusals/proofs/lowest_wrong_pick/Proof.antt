@@ -26,7 +26,9 @@ shared-slice-read-if1 c = search needs
 
 returns : tie.Need-returns Inv-loop μ-loop
 unfolding wrongPick
-returns c = let l = c .before .before .before .loop in found (wrongPick (c .before .before .before .before .args .schedule .now)) _ _ (search needs) (lt-ltb 7 _ (c .if1 .taken)) (l .inv .1)
+returns c =
+    let l = c .before .before .before .loop in
+    found (wrongPick (c .before .before .before .before .args .schedule .now)) _ _ (search needs) (lt-ltb 7 _ (c .if1 .taken)) (l .inv .1)
 
 add-i : tie.Need-add-i Inv-loop μ-loop
 add-i c = search needs

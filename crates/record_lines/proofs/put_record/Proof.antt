@@ -14,31 +14,52 @@ put-byte-requires : tie.Need-put-byte-requires
 put-byte-requires c κs = let a = c .before .before .before .before .before .before .args in omega (arith, record-length (a .index) (recordOf (a .columns)))
 
 put-kind-requires : tie.Need-put-kind-requires
-put-kind-requires c κs = let a = c .before .before .before .before .before .before .before .before .before .before .args in omega (arith, record-length (a .index) (recordOf (a .columns)))
+put-kind-requires c κs =
+    let a = c .before .before .before .before .before .before .before .before .before .before .args in
+    omega (arith, record-length (a .index) (recordOf (a .columns)))
 
 put-column-requires : tie.Need-put-column-requires
-put-column-requires c κs = let a = c .before .before .before .before .before .before .before .before .before .before .before .before .before .before .args in omega (arith, record-length (a .index) (recordOf (a .columns)))
+put-column-requires c κs =
+    let a = c .before .before .before .before .before .before .before .before .before .before .before .before .before .before .args in
+    omega (arith, record-length (a .index) (recordOf (a .columns)))
 
 put-column-requires-2 : tie.Need-put-column-requires-2
-put-column-requires-2 c κs = let a = c .before .before .before .before .before .before .before .before .before .before .before .before .before .before .before .before .before .before .args in omega (arith, record-length (a .index) (recordOf (a .columns)))
+put-column-requires-2 c κs =
+    let a = c .before .before .before .before .before .before .before .before .before .before .before .before .before .before .before .before .before .before .args in
+    omega (arith, record-length (a .index) (recordOf (a .columns)))
 
 put-column-requires-3 : tie.Need-put-column-requires-3
-put-column-requires-3 c κs = let a = c .before .before .before .before .before .before .before .before .before .before .before .before .before .before .before .before .before .before .before .before .before .before .args in omega (arith, record-length (a .index) (recordOf (a .columns)))
+put-column-requires-3 c κs =
+    let a = c .before .before .before .before .before .before .before .before .before .before .before .before .before .before .before .before .before .before .before .before .before .before .args in
+    omega (arith, record-length (a .index) (recordOf (a .columns)))
 
 put-column-requires-4 : tie.Need-put-column-requires-4
-put-column-requires-4 c κs = let a = c .before .before .before .before .before .before .before .before .before .before .before .before .before .before .before .before .before .before .before .before .before .before .before .before .before .before .args in omega (arith, record-length (a .index) (recordOf (a .columns)))
+put-column-requires-4 c κs =
+    let a = c .before .before .before .before .before .before .before .before .before .before .before .before .before .before .before .before .before .before .before .before .before .before .before .before .before .before .args in
+    omega (arith, record-length (a .index) (recordOf (a .columns)))
 
 put-byte-requires-2 : tie.Need-put-byte-requires-2
-put-byte-requires-2 c κs = let a = c .before .before .before .before .before .before .before .before .before .before .before .before .before .before .before .before .before .before .before .before .before .before .before .before .before .before .before .before .before .before .args in omega (arith, record-length (a .index) (recordOf (a .columns)))
+put-byte-requires-2 c κs =
+    let a = c .before .before .before .before .before .before .before .before .before .before .before .before .before .before .before .before .before .before .before .before .before .before .before .before .before .before .before .before .before .before .args in
+    omega (arith, record-length (a .index) (recordOf (a .columns)))
 
 same-length : tie.Need-same-length
 same-length c = search needs
 
 returns : tie.Need-returns
 returns c =
-    let a = c .before .before .before .before .before .before .before .before .before .before .before .before .before .before .before .before .before .before .before .before .before .before .before .before .before .before .before .before .before .before .before .before .before .args in
+    let last = c .before .before in
+    let value = last .before .before .before .before in
+    let field = value .before .before .before .before in
+    let object = field .before .before .before .before in
+    let thread = object .before .before .before .before in
+    let kind = thread .before .before .before .before in
+    let space = kind .before .before .before .before in
+    let index = space .before .before .before .before in
+    let a = index .before .before .before .args in
     added-as (record-parts (a .index) (recordOf (a .columns)))
-    (added-more (added-more (added-more (added-more (added-more (added-more (added-more (c .before .before .before .before .before .before .before .before .before .before .before .before .before .before .before .before .before .before .before .before .before .before .before .before .before .before .before .before .before .before .put-number .ensures) (c .before .before .before .before .before .before .before .before .before .before .before .before .before .before .before .before .before .before .before .before .before .before .before .before .before .before .put-byte .ensures)) (c .before .before .before .before .before .before .before .before .before .before .before .before .before .before .before .before .before .before .before .before .before .before .put-kind .ensures)) (c .before .before .before .before .before .before .before .before .before .before .before .before .before .before .before .before .before .before .put-column .ensures)) (c .before .before .before .before .before .before .before .before .before .before .before .before .before .before .put-column2 .ensures)) (c .before .before .before .before .before .before .before .before .before .before .put-column3 .ensures)) (c .before .before .before .before .before .before .put-column4 .ensures)) (c .before .before .put-byte2 .ensures))
+    (added-more (added-more (added-more (added-more (added-more (added-more (added-more (index .put-number .ensures) (space .put-byte .ensures)) (kind .put-kind .ensures))
+    (thread .put-column .ensures)) (object .put-column2 .ensures)) (field .put-column3 .ensures)) (value .put-column4 .ensures)) (last .put-byte2 .ensures))
 
 pub put-record-spec : {M : Type 1} → statement M
 put-record-spec =

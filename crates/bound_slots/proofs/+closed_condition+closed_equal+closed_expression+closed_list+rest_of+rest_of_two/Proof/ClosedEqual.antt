@@ -32,10 +32,14 @@ module _ (span : ℕ) where
   closed-expression-requires c κs = let s = c .before .before .before .before .before in equal-first _ (s .pre .1 .0) _ (s .pre .1 .1 .1) (s .pre .0)
 
   returns : lts.Need-returns callees (closed-equal-at span) Post
-  returns c = let s = c .before .before .before .before .before .before in c .closed-expression .ensures ∙ leaf-bound _ (s .pre .1 .0) _ (s .pre .1 .1 .1) _ (c .before .before .before .if1 .taken) (c .before .before .closed-leaf .ensures) (c .before .if2 .taken)
+  returns c =
+      let s = c .before .before .before .before .before .before in
+      c .closed-expression .ensures ∙ leaf-bound _ (s .pre .1 .0) _ (s .pre .1 .1 .1) _ (c .before .before .before .if1 .taken) (c .before .before .closed-leaf .ensures) (c .before .if2 .taken)
 
   returns-2 : lts.Need-returns-2 callees (closed-equal-at span) Post
-  returns-2 c = let s = c .before .before .before .before .before in leaf-unbound _ (s .pre .1 .0) _ (s .pre .1 .1 .1) _ (c .before .before .if1 .taken) (c .before .closed-leaf .ensures) (c .if2 .left)
+  returns-2 c =
+      let s = c .before .before .before .before .before in
+      leaf-unbound _ (s .pre .1 .0) _ (s .pre .1 .1 .1) _ (c .before .before .if1 .taken) (c .before .closed-leaf .ensures) (c .if2 .left)
 
   closed-expression-requires-2 : lts.Need-closed-expression-requires-2 callees (closed-equal-at span) Post
   closed-expression-requires-2 c κs = let s = c .before .before .before in equal-first _ (s .pre .1 .0) _ (s .pre .1 .1 .1) (s .pre .0)
@@ -44,10 +48,14 @@ module _ (span : ℕ) where
   closed-expression-requires-3 c κs = let s = c .before .before .before .before .before in equal-second _ (s .pre .1 .0) _ (s .pre .1 .1 .1) (s .pre .0)
 
   returns-3 : lts.Need-returns-3 callees (closed-equal-at span) Post
-  returns-3 c = let s = c .before .before .before .before .before .before in c .closed-expression3 .ensures ∙ first-bound _ (s .pre .1 .0) _ (s .pre .1 .1 .1) _ (sym (c .before .before .closed-expression2 .ensures) ∙ c .before .if3 .taken)
+  returns-3 c =
+      let s = c .before .before .before .before .before .before in
+      c .closed-expression3 .ensures ∙ first-bound _ (s .pre .1 .0) _ (s .pre .1 .1 .1) _ (sym (c .before .before .closed-expression2 .ensures) ∙ c .before .if3 .taken)
 
   returns-4 : lts.Need-returns-4 callees (closed-equal-at span) Post
-  returns-4 c = let s = c .before .before .before .before .before in first-unbound _ (s .pre .1 .0) _ (s .pre .1 .1 .1) _ (sym (c .before .closed-expression2 .ensures) ∙ c .if3 .left)
+  returns-4 c =
+      let s = c .before .before .before .before .before in
+      first-unbound _ (s .pre .1 .0) _ (s .pre .1 .1 .1) _ (sym (c .before .closed-expression2 .ensures) ∙ c .if3 .left)
 
   pub closed-equal : {M : Type 1} → lts.Closed callees (closed-equal-at span) Post M
   closed-equal =

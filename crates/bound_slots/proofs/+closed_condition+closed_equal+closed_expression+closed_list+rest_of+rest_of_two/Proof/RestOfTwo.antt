@@ -24,7 +24,9 @@ module _ (span : ℕ) where
   closed-leaf-requires c κs = c .if1 .taken
 
   returns : lts.Need-returns callees (rest-of-two-at span) Post
-  returns c = let s = c .before .before .before .before in leaf-closed _ (s .pre .1 .0) _ _ _ _ (c .before .before .if1 .taken) (c .before .closed-leaf .ensures) (s .pre .1 .1 .0) (c .if2 .taken)
+  returns c =
+      let s = c .before .before .before .before in
+      leaf-closed _ (s .pre .1 .0) _ _ _ _ (c .before .before .if1 .taken) (c .before .closed-leaf .ensures) (s .pre .1 .1 .0) (c .if2 .taken)
 
   returns-2 : lts.Need-returns-2 callees (rest-of-two-at span) Post
   returns-2 c = leaf-open _ (c .before .before .before .before .pre .1 .0) _ _ _ _ (c .before .before .if1 .taken) (c .before .closed-leaf .ensures) (c .if2 .left)
@@ -33,7 +35,9 @@ module _ (span : ℕ) where
   closed-expression-requires c κs = let s = c .before .before in (just span (s .args .first) (s .pre .0), (s .pre .1 .0, s .pre .1 .1 .0))
 
   returns-3 : lts.Need-returns-3 callees (rest-of-two-at span) Post
-  returns-3 c = let s = c .before .before .before .before in first-closed _ (s .pre .1 .0) _ _ _ _ (s .pre .1 .1 .1) (sym (c .before .closed-expression .ensures) ∙ c .if3 .taken)
+  returns-3 c =
+      let s = c .before .before .before .before in
+      first-closed _ (s .pre .1 .0) _ _ _ _ (s .pre .1 .1 .1) (sym (c .before .closed-expression .ensures) ∙ c .if3 .taken)
 
   returns-4 : lts.Need-returns-4 callees (rest-of-two-at span) Post
   returns-4 c = first-open _ (c .before .before .before .before .pre .1 .0) _ _ _ _ (sym (c .before .closed-expression .ensures) ∙ c .if3 .left)

@@ -1,10 +1,8 @@
 -- `kind_of` meets its contract. Assumes nothing.
 use mathlib.Core.Path.{sym}
-use Prim.Native.Nat.{_≤_}
-use native.Mathlib.Omega.{arith}
 use lib.ListN.{List·getD-eq-default}
 use Rattle.frames.specs.Frames.{kindOf, kinds}
-use Rattle.frames.proofs.Others.{next}
+use Rattle.format.proofs.Ranges.{past-all}
 use Rattle.frames.specs.declared.frame.Kind.the-variants as kind
 use Rattle.frames.proofs.frame.kind_of.Statement.{statement}
 use Rattle.frames.proofs.frame.kind_of.Tie as tie
@@ -71,7 +69,7 @@ returns-15 c = rw (c .match .keys15)
 
 returns-16 : tie.Need-returns-16
 unfolding kindOf
-returns-16 c = let z : 0 ≤ c .before .args .code = omega arith in let h : 15 ≤ c .before .args .code = next (next (next (next (next (next (next (next (next (next (next (next (next (next (next z (c .match .rest .0 .0 .0 .0 .0 .0 .0 .0 .0 .0 .0 .0 .0 .0 .1)) (c .match .rest .0 .0 .0 .0 .0 .0 .0 .0 .0 .0 .0 .0 .0 .1)) (c .match .rest .0 .0 .0 .0 .0 .0 .0 .0 .0 .0 .0 .0 .1)) (c .match .rest .0 .0 .0 .0 .0 .0 .0 .0 .0 .0 .0 .1)) (c .match .rest .0 .0 .0 .0 .0 .0 .0 .0 .0 .0 .1)) (c .match .rest .0 .0 .0 .0 .0 .0 .0 .0 .0 .1)) (c .match .rest .0 .0 .0 .0 .0 .0 .0 .0 .1)) (c .match .rest .0 .0 .0 .0 .0 .0 .0 .1)) (c .match .rest .0 .0 .0 .0 .0 .0 .1)) (c .match .rest .0 .0 .0 .0 .0 .1)) (c .match .rest .0 .0 .0 .0 .1)) (c .match .rest .0 .0 .0 .1)) (c .match .rest .0 .0 .1)) (c .match .rest .0 .1)) (c .match .rest .1) in sym (List·getD-eq-default kinds kind.Read h)
+returns-16 c = sym (List·getD-eq-default kinds kind.Read (past-all 15 _ (c .match .rest)))
 
 pub kind-of-spec : {M : Type 1} → statement M
 kind-of-spec =

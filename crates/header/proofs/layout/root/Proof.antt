@@ -27,7 +27,9 @@ field-requires c κs = search needs
 
 returns : tie.Need-returns
 unfolding root
-returns c = let a = c .before .before .before .args in part-bits (a .plan .now) (8 + 2 * a .procedure) 4 12 (68 + 16 * a .procedure) _ (c .field .ensures) (omega arith)
+returns c =
+    let a = c .before .before .before .args in
+    part-bits (a .plan .now) (8 + 2 * a .procedure) 4 12 (68 + 16 * a .procedure) _ (c .field .ensures) (omega arith)
 
 pub root-spec : {M : Type 1} → statement M
 root-spec =

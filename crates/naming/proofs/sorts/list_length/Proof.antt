@@ -26,7 +26,10 @@ element-copy-out-word : tie.Need-element-copy-out-word Inv-loop μ-loop
 element-copy-out-word c = let f = c .before .before .pre .0 .headed .few in omega arith
 
 returns : tie.Need-returns Inv-loop μ-loop
-returns c = let a = c .before .before .before .before .args in let l = c .before .before .before .loop in omega (arith, l .inv .2, list-stop (a .plan .now) (9 - l .length) (l .term) (no-next (a .plan .now) (l .term) (getD (a .words .now) (l .term) 0) (c .before .before .before .before .pre .1 .0 .each (l .term) (l .inv .1)) (c .if1 .taken)))
+returns c =
+    let a = c .before .before .before .before .args in
+    let l = c .before .before .before .loop in
+    omega (arith, l .inv .2, list-stop (a .plan .now) (9 - l .length) (l .term) (no-next (a .plan .now) (l .term) (getD (a .words .now) (l .term) 0) (c .before .before .before .before .pre .1 .0 .each (l .term) (l .inv .1)) (c .if1 .taken)))
 
 add-length : tie.Need-add-length Inv-loop μ-loop
 add-length c = search needs
@@ -35,11 +38,23 @@ loop-less : tie.Need-loop-less Inv-loop μ-loop
 loop-less c = search needs
 
 loop-again : tie.Need-loop-again Inv-loop μ-loop
-loop-again c = let a = c .before .before .before .before .args in let l = c .before .before .before .loop in let b = a .plan .now in let w = getD (a .words .now) (l .term) 0 in let e = next-is b (l .term) w (c .before .before .before .before .pre .1 .0 .each (l .term) (l .inv .1)) (c .if1 .left) in let k : 9 - l .length ≡ suc (9 - (l .length + 1)) = omega arith in let s : listLength b (9 - l .length) (l .term) ≡ suc (listLength b (9 - (l .length + 1)) (termAt b (l .term) .value₂)) = rw k (list-step b (9 - (l .length + 1)) (l .term) (e .0)) in (search needs, rw (e .1) (rest-between b (a .procedures) (a .count) (c .before .before .before .before .pre .0) (l .term) (l .inv .1) (e .0) .1), rw (e .1) (omega (arith, s, l .inv .2)))
+loop-again c =
+    let a = c .before .before .before .before .args in
+    let l = c .before .before .before .loop in
+    let b = a .plan .now in
+    let w = getD (a .words .now) (l .term) 0 in
+    let e = next-is b (l .term) w (c .before .before .before .before .pre .1 .0 .each (l .term) (l .inv .1)) (c .if1 .left) in
+    let k : 9 - l .length ≡ suc (9 - (l .length + 1)) = omega arith in
+    let s : listLength b (9 - l .length) (l .term) ≡ suc (listLength b (9 - (l .length + 1)) (termAt b (l .term) .value₂)) = rw k (list-step b (9 - (l .length + 1)) (l .term) (e .0)) in
+    (search needs, rw (e .1) (rest-between b (a .procedures) (a .count) (c .before .before .before .before .pre .0) (l .term) (l .inv .1) (e .0) .1), rw (e .1) (omega (arith, s, l .inv .2)))
 
 returns-2 : tie.Need-returns-2 Inv-loop μ-loop
 unfolding listLength
-returns-2 c = let l = c .before .loop in let z : 9 - l .length ≡ 0 = omega arith in let q : listLength (c .before .before .args .plan .now) (9 - l .length) (l .term) ≡ 0 = rw z in omega (arith, l .inv .2, q)
+returns-2 c =
+    let l = c .before .loop in
+    let z : 9 - l .length ≡ 0 = omega arith in
+    let q : listLength (c .before .before .args .plan .now) (9 - l .length) (l .term) ≡ 0 = rw z in
+    omega (arith, l .inv .2, q)
 
 pub list-length-spec : {M : Type 1} → statement M
 list-length-spec =

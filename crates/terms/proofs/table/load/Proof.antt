@@ -29,7 +29,10 @@ wrong-term-requires : tie.Need-wrong-term-requires Inv-loop μ-loop
 wrong-term-requires c κs = search needs
 
 returns : tie.Need-returns Inv-loop μ-loop
-returns c = let a = c .before .before .before .before .before .before .args in let l = c .before .before .before .before .loop in (found (wrongTerm (a .plan .now)) _ _ (c .before .before .before .loop-test .taken) (judged (a .plan .now) (a .procedures) (a .count) (l .term) (c .before .before .word-at .result) (c .before .wrong-term .result) true (c .before .before .before .before .before .before .pre .0 .sized) (c .before .before .word-at .ensures) (c .before .wrong-term .ensures) (c .if1 .taken)) (l .inv .1), λ q. absurd (omega arith))
+returns c =
+    let a = c .before .before .before .before .before .before .args in
+    let l = c .before .before .before .before .loop in
+    (found (wrongTerm (a .plan .now)) _ _ (c .before .before .before .loop-test .taken) (judged (a .plan .now) (a .procedures) (a .count) (l .term) (c .before .before .word-at .result) (c .before .wrong-term .result) true (c .before .before .before .before .before .before .pre .0 .sized) (c .before .before .word-at .ensures) (c .before .wrong-term .ensures) (c .if1 .taken)) (l .inv .1), λ q. absurd (omega arith))
 
 mul-words : tie.Need-mul-words Inv-loop μ-loop
 mul-words c = let f = c .before .before .before .before .before .before .pre .0 .few in omega arith
@@ -44,10 +47,18 @@ loop-less : tie.Need-loop-less Inv-loop μ-loop
 loop-less c = search needs
 
 loop-again : tie.Need-loop-again Inv-loop μ-loop
-loop-again c = let a = c .before .before .before .before .before .before .args in let l = c .before .before .before .before .loop in let f = c .before .before .before .before .before .before .pre .0 .few in (search needs, below-more _ _ (l .inv .1) (judged (a .plan .now) (a .procedures) (a .count) (l .term) (c .before .before .word-at .result) (c .before .wrong-term .result) false (c .before .before .before .before .before .before .pre .0 .sized) (c .before .before .word-at .ensures) (c .before .wrong-term .ensures) (c .if1 .left)), rw add-one (loaded-more (a .plan .now) (l .term) (l .words) (c .before .before .word-at .result) (omega arith) (c .before .before .word-at .ensures) (l .inv .2)))
+loop-again c =
+    let a = c .before .before .before .before .before .before .args in
+    let l = c .before .before .before .before .loop in
+    let f = c .before .before .before .before .before .before .pre .0 .few in
+    (search needs, below-more _ _ (l .inv .1) (judged (a .plan .now) (a .procedures) (a .count) (l .term) (c .before .before .word-at .result) (c .before .wrong-term .result) false (c .before .before .before .before .before .before .pre .0 .sized) (c .before .before .word-at .ensures) (c .before .wrong-term .ensures) (c .if1 .left)), rw add-one (loaded-more (a .plan .now) (l .term) (l .words) (c .before .before .word-at .result) (omega arith) (c .before .before .word-at .ensures) (l .inv .2)))
 
 returns-2 : tie.Need-returns-2 Inv-loop μ-loop
-returns-2 c = let a = c .before .before .before .args in let l = c .before .loop in let e : l .term ≡ a .count = omega arith in (found-none (wrongTerm (a .plan .now)) _ _ (search needs) (search needs) (l .inv .1), λ q. rw e at (l .inv .2))
+returns-2 c =
+    let a = c .before .before .before .args in
+    let l = c .before .loop in
+    let e : l .term ≡ a .count = omega arith in
+    (found-none (wrongTerm (a .plan .now)) _ _ (search needs) (search needs) (l .inv .1), λ q. rw e at (l .inv .2))
 
 pub load-spec : {M : Type 1} → statement M
 load-spec =

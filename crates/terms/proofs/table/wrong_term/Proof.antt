@@ -5,8 +5,8 @@ use borrow.Author.Needs.{needs}
 use Rattle.packed.specs.Format.{layout, table}
 use Rattle.packed.specs.Refusals.{breaksTable, someOperand}
 use Rattle.packed.specs.Steps.{inWord}
-use Rattle.packed.proofs.SingleTerm.{tested, past-table, no-row}
-use Prim.Native.Nat.{_/_}
+use Rattle.format.proofs.Ranges.{past-all}
+use Rattle.packed.proofs.SingleTerm.{tested, past-table}
 use Rattle.terms.proofs.table.wrong_term.Statement.{statement}
 use Rattle.terms.proofs.table.wrong_term.Tie as tie
 
@@ -61,15 +61,21 @@ returns c = let a = c .before .args in tested (a .procedures) (a .count) (a .ter
 
 returns-2 : tie.Need-returns-2
 unfolding breaksTable someOperand inWord layout table
-returns-2 c = let a = c .before .before .args in tested (a .procedures) (a .count) (a .term) (a .word) 1 _ (c .before .match .keys2) (c .wrong-variable .ensures ∙ simp or-false)
+returns-2 c =
+    let a = c .before .before .args in
+    tested (a .procedures) (a .count) (a .term) (a .word) 1 _ (c .before .match .keys2) (c .wrong-variable .ensures ∙ simp or-false)
 
 returns-3 : tie.Need-returns-3
 unfolding breaksTable someOperand inWord layout table
-returns-3 c = let a = c .before .before .args in tested (a .procedures) (a .count) (a .term) (a .word) 2 _ (c .before .match .keys3) (c .wrong-new .ensures ∙ simp or-false)
+returns-3 c =
+    let a = c .before .before .args in
+    tested (a .procedures) (a .count) (a .term) (a .word) 2 _ (c .before .match .keys3) (c .wrong-new .ensures ∙ simp or-false)
 
 returns-4 : tie.Need-returns-4
 unfolding breaksTable someOperand inWord layout table
-returns-4 c = let a = c .before .before .args in tested (a .procedures) (a .count) (a .term) (a .word) 3 _ (c .before .match .keys4) (c .wrong-read .ensures ∙ simp or-false)
+returns-4 c =
+    let a = c .before .before .args in
+    tested (a .procedures) (a .count) (a .term) (a .word) 3 _ (c .before .match .keys4) (c .wrong-read .ensures ∙ simp or-false)
 
 returns-5 : tie.Need-returns-5
 unfolding breaksTable someOperand inWord layout table
@@ -85,23 +91,33 @@ returns-7 c = let a = c .before .before .args in tested (a .procedures) (a .coun
 
 returns-8 : tie.Need-returns-8
 unfolding breaksTable someOperand inWord layout table
-returns-8 c = let a = c .before .before .args in tested (a .procedures) (a .count) (a .term) (a .word) 7 _ (c .before .match .keys8) (c .wrong-pair .ensures ∙ simp or-false)
+returns-8 c =
+    let a = c .before .before .args in
+    tested (a .procedures) (a .count) (a .term) (a .word) 7 _ (c .before .match .keys8) (c .wrong-pair .ensures ∙ simp or-false)
 
 returns-9 : tie.Need-returns-9
 unfolding breaksTable someOperand inWord layout table
-returns-9 c = let a = c .before .before .args in tested (a .procedures) (a .count) (a .term) (a .word) 8 _ (c .before .match .keys9) (c .wrong-call .ensures ∙ simp or-false)
+returns-9 c =
+    let a = c .before .before .args in
+    tested (a .procedures) (a .count) (a .term) (a .word) 8 _ (c .before .match .keys9) (c .wrong-call .ensures ∙ simp or-false)
 
 returns-10 : tie.Need-returns-10
 unfolding breaksTable someOperand inWord layout table
-returns-10 c = let a = c .before .before .args in tested (a .procedures) (a .count) (a .term) (a .word) 9 _ (c .before .match .keys10) (c .wrong-single .ensures ∙ simp or-false)
+returns-10 c =
+    let a = c .before .before .args in
+    tested (a .procedures) (a .count) (a .term) (a .word) 9 _ (c .before .match .keys10) (c .wrong-single .ensures ∙ simp or-false)
 
 returns-11 : tie.Need-returns-11
 unfolding breaksTable someOperand inWord layout table
-returns-11 c = let a = c .before .before .args in tested (a .procedures) (a .count) (a .term) (a .word) 10 _ (c .before .match .keys11) (c .wrong-single2 .ensures ∙ simp or-false)
+returns-11 c =
+    let a = c .before .before .args in
+    tested (a .procedures) (a .count) (a .term) (a .word) 10 _ (c .before .match .keys11) (c .wrong-single2 .ensures ∙ simp or-false)
 
 returns-12 : tie.Need-returns-12
 unfolding breaksTable someOperand inWord layout table
-returns-12 c = let a = c .before .before .args in tested (a .procedures) (a .count) (a .term) (a .word) 11 _ (c .before .match .keys12) (c .wrong-pair2 .ensures ∙ simp or-false)
+returns-12 c =
+    let a = c .before .before .args in
+    tested (a .procedures) (a .count) (a .term) (a .word) 11 _ (c .before .match .keys12) (c .wrong-pair2 .ensures ∙ simp or-false)
 
 returns-13 : tie.Need-returns-13
 unfolding breaksTable someOperand inWord layout table
@@ -109,26 +125,36 @@ returns-13 c = let a = c .before .args in tested (a .procedures) (a .count) (a .
 
 returns-14 : tie.Need-returns-14
 unfolding breaksTable someOperand inWord layout table
-returns-14 c = let a = c .before .before .args in tested (a .procedures) (a .count) (a .term) (a .word) 13 _ (c .before .match .keys14) (c .wrong-single3 .ensures ∙ simp or-false)
+returns-14 c =
+    let a = c .before .before .args in
+    tested (a .procedures) (a .count) (a .term) (a .word) 13 _ (c .before .match .keys14) (c .wrong-single3 .ensures ∙ simp or-false)
 
 returns-15 : tie.Need-returns-15
 unfolding breaksTable someOperand inWord layout table
-returns-15 c = let a = c .before .before .args in tested (a .procedures) (a .count) (a .term) (a .word) 14 _ (c .before .match .keys15) (c .wrong-pair3 .ensures ∙ simp or-false)
+returns-15 c =
+    let a = c .before .before .args in
+    tested (a .procedures) (a .count) (a .term) (a .word) 14 _ (c .before .match .keys15) (c .wrong-pair3 .ensures ∙ simp or-false)
 
 returns-16 : tie.Need-returns-16
 unfolding breaksTable someOperand inWord layout table
-returns-16 c = let a = c .before .before .args in tested (a .procedures) (a .count) (a .term) (a .word) 15 _ (c .before .match .keys16) (c .wrong-pair4 .ensures ∙ simp or-false)
+returns-16 c =
+    let a = c .before .before .args in
+    tested (a .procedures) (a .count) (a .term) (a .word) 15 _ (c .before .match .keys16) (c .wrong-pair4 .ensures ∙ simp or-false)
 
 returns-17 : tie.Need-returns-17
 unfolding breaksTable someOperand inWord layout table
-returns-17 c = let a = c .before .before .args in tested (a .procedures) (a .count) (a .term) (a .word) 16 _ (c .before .match .keys17) (c .wrong-pair5 .ensures ∙ simp or-false)
+returns-17 c =
+    let a = c .before .before .args in
+    tested (a .procedures) (a .count) (a .term) (a .word) 16 _ (c .before .match .keys17) (c .wrong-pair5 .ensures ∙ simp or-false)
 
 returns-18 : tie.Need-returns-18
 unfolding breaksTable someOperand inWord layout table
 returns-18 c = let a = c .before .args in tested (a .procedures) (a .count) (a .term) (a .word) 17 _ (c .match .keys18) refl
 
 returns-19 : tie.Need-returns-19
-returns-19 c = let a = c .before .args in past-table (a .procedures) (a .count) (a .term) (a .word) (no-row (a .word / 34359738368) (c .match .rest .0 .0 .0 .0 .0 .0 .0 .0 .0 .0 .0 .0 .0 .0 .0 .0 .0 .1) (c .match .rest .0 .0 .0 .0 .0 .0 .0 .0 .0 .0 .0 .0 .0 .0 .0 .0 .1) (c .match .rest .0 .0 .0 .0 .0 .0 .0 .0 .0 .0 .0 .0 .0 .0 .0 .1) (c .match .rest .0 .0 .0 .0 .0 .0 .0 .0 .0 .0 .0 .0 .0 .0 .1) (c .match .rest .0 .0 .0 .0 .0 .0 .0 .0 .0 .0 .0 .0 .0 .1) (c .match .rest .0 .0 .0 .0 .0 .0 .0 .0 .0 .0 .0 .0 .1) (c .match .rest .0 .0 .0 .0 .0 .0 .0 .0 .0 .0 .0 .1) (c .match .rest .0 .0 .0 .0 .0 .0 .0 .0 .0 .0 .1) (c .match .rest .0 .0 .0 .0 .0 .0 .0 .0 .0 .1) (c .match .rest .0 .0 .0 .0 .0 .0 .0 .0 .1) (c .match .rest .0 .0 .0 .0 .0 .0 .0 .1) (c .match .rest .0 .0 .0 .0 .0 .0 .1) (c .match .rest .0 .0 .0 .0 .0 .1) (c .match .rest .0 .0 .0 .0 .1) (c .match .rest .0 .0 .0 .1) (c .match .rest .0 .0 .1) (c .match .rest .0 .1) (c .match .rest .1))
+returns-19 c =
+    let a = c .before .args in
+    past-table (a .procedures) (a .count) (a .term) (a .word) (past-all 18 _ (c .match .rest))
 
 pub wrong-term-spec : {M : Type 1} → statement M
 wrong-term-spec =
