@@ -21,7 +21,7 @@ actRead mask n h c o f =
 unfoldable pub actWrite : ℕ → Counts → Head → Cell → ℕ → ℕ → ℕ → Acted
 actWrite mask n h c o f v =
     cond (hasOf mask f)
-    (actedOf room.Enough (goValue v) n (h .keys) (cellOf v (c .key) (joinOf (c .keys) (h .keys))) (entryOf 5 o f v))
+    (actedOf room.Enough (goValue v) n (h .keys) (cellOf v 0 (joinOf (c .keys) (h .keys))) (entryOf 5 o f v))
     (cond (leb 256 (n .keys))
     (goOn room.NoKey (goValue v) n h c)
     (actedOf room.Enough (goValue v) (countsOf (n .threads) (n .objects) (n .keys + 1)) (learnOf (h .keys) (n .keys)) (cellOf v (n .keys) (c .keys)) (entryOf 3 o f v)))

@@ -23,14 +23,15 @@ pub fn act_read(
     ensures { λ r. ⌜ r ≡ actRead mask counts head cell object field ⌝ }
 {
     let keys = head.keys;
-    let go = go::value(cell.value);
+    let value = cell.value as usize;
+    let go = go::value(value);
     if look::has(mask, field) {
         let cell_keys = cell.keys;
         let all = keys.join(cell_keys);
-        let entry = entry(4, object, field, cell.value);
+        let entry = entry(4, object, field, value);
         return acted_of(Room::Enough, go, counts, all, cell, entry);
     }
-    let entry = entry(2, object, field, cell.value);
+    let entry = entry(2, object, field, value);
     acted_of(Room::Enough, go, counts, keys, cell, entry)
 }
 
@@ -50,7 +51,7 @@ pub fn act_write(
     let go = go::value(value);
     if look::has(mask, field) {
         let all = cell_keys.join(keys);
-        let changed = cell_with(value, cell.key, all);
+        let changed = cell_with(value, 0, all);
         let entry = entry(5, object, field, value);
         return acted_of(Room::Enough, go, counts, keys, changed, entry);
     }

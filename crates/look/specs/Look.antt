@@ -31,7 +31,7 @@ unfoldable pub hasOf : ℕ → ℕ → Bool
 hasOf mask f = eqb (mask / 2 ^ (31 - f % 32) % 2) 1
 
 unfoldable pub lookField : ℕ → Head → Cell → Object → ℕ → Sight
-lookField mask h c t f = cond (hasOf (t .mask) f) (cond (hasOf mask f) sight.Ready (cond (holdsOf (h .keys) (c .key)) sight.Ready sight.Lacking)) sight.NoField
+lookField mask h c t f = cond (hasOf (t .mask) f) (cond (hasOf mask f) sight.Ready (cond (holdsOf (h .keys) (c .key % 256)) sight.Ready sight.Lacking)) sight.NoField
 
 unfoldable pub lookJoin : Object → ℕ → Sight
 lookJoin t q = cond (leb 8 (t .thread)) sight.NoThread (cond (isPart part.Done q) sight.Ready sight.Join)

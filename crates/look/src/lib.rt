@@ -65,7 +65,7 @@ fn look_field(mask: usize, head: Head, cell: Cell, thing: Object, field: usize) 
         return Sight::Ready;
     }
     let keys = head.keys;
-    if keys.holds(cell.key) {
+    if keys.holds((cell.key % 256) as u8) {
         return Sight::Ready;
     }
     Sight::Lacking
@@ -89,7 +89,7 @@ fn look_synch(head: Head, cell: Cell) -> Sight
 {
     let keys = cell.keys;
     if keys.is_empty() {
-        if cell.value != head.object {
+        if cell.value as usize != head.object {
             return Sight::Monitor;
         }
     }

@@ -1,5 +1,5 @@
 -- What the code does for a read or a write of a field is what the abstract machine's move does. Assumes nothing.
-use Prim.Native.Nat.{ℕ, _+_, _*_, _<_}
+use Prim.Native.Nat.{ℕ, _+_, _*_, _%_, _<_}
 use native.Mathlib.Nat.{mod-eq-of-lt}
 use native.Mathlib.Omega.{arith}
 use mathlib.Core.Path.{_≡_, refl, sym, ap, ap₂, _∙_, subst as along}
@@ -72,7 +72,7 @@ module _ {b : List ℕ} {m : engine.Machine} {s : machine.State} {p : ℕ} (move
       (Acts mover (readyOf part.Read o f w environment) i (actRead (volatiles b) n (headFor m p (readyOf part.Read o f w environment)) (getD cs i noCell) o f))
   unfolding objectBy fieldBy lackBy lookField actRead machine.act machine.readAct machine.around machine.learn playing.noRoomBefore land.go tableOf
   read-meets o f w environment i j ei ej well ho zf hf code =
-      by (hasOf (getD ts j noThing .mask) f) (hasOf (volatiles b) f) (holdsOf ks (c .key)) (field-found o f i j ei ej o-there ho zf hf) (volatile-bit b f hf) (one-key c ks (t .keys) fit fits known)
+      by (hasOf (getD ts j noThing .mask) f) (hasOf (volatiles b) f) (holdsOf ks (c .key % 256)) (field-found o f i j ei ej o-there ho zf hf) (volatile-bit b f hf) (one-key c ks (t .keys) fit fits known)
     where
       c : Cell
       c = getD cs i noCell
@@ -129,7 +129,7 @@ module _ {b : List ℕ} {m : engine.Machine} {s : machine.State} {p : ℕ} (move
       (Acts mover (readyOf part.Write o f w environment) i (actWrite (volatiles b) n (headFor m p (readyOf part.Write o f w environment)) (getD cs i noCell) o f w))
   unfolding objectBy fieldBy lackBy lookField actWrite machine.act machine.writeAct machine.around machine.learn machine.store machine.useKey playing.noRoomBefore land.go tableOf
   write-meets o f w environment i j ei ej well ho zf hf hw code =
-      by (hasOf (getD ts j noThing .mask) f) (hasOf (volatiles b) f) (holdsOf ks (c .key)) (leb 256 (n .keys)) (field-found o f i j ei ej o-there ho zf hf) refl (volatile-bit b f hf) (one-key c ks (t .keys) fit fits known) refl
+      by (hasOf (getD ts j noThing .mask) f) (hasOf (volatiles b) f) (holdsOf ks (c .key % 256)) (leb 256 (n .keys)) (field-found o f i j ei ej o-there ho zf hf) refl (volatile-bit b f hf) (one-key c ks (t .keys) fit fits known) refl
     where
       c : Cell
       c = getD cs i noCell
@@ -153,7 +153,7 @@ module _ {b : List ℕ} {m : engine.Machine} {s : machine.State} {p : ℕ} (move
           → subset (cellMeant false c .keys) (t .keys) ≡ z → leb 256 (n .keys) ≡ u
           → MeetsBy (cond x (cond y sight.Ready (cond z sight.Ready sight.Lacking)) sight.NoField) p (readyOf part.Write o f w environment) (machine.attempt (tableOf b) s p)
           (Acts mover (readyOf part.Write o f w environment) i (cond y
-          (actedOf room.Enough (goValue w) n ks (cellOf w (c .key) (joinOf (c .keys) ks)) (entryOf 5 o f w))
+          (actedOf room.Enough (goValue w) n ks (cellOf w 0 (joinOf (c .keys) ks)) (entryOf 5 o f w))
           (cond u
           (actedOf room.NoKey (goValue w) n ks c (entryOf 0 0 0 0))
           (actedOf room.Enough (goValue w) (countsOf (n .threads) (n .objects) (n .keys + 1)) (learnOf ks (n .keys)) (cellOf w (n .keys) (c .keys)) (entryOf 3 o f w)))))
@@ -164,11 +164,11 @@ module _ {b : List ℕ} {m : engine.Machine} {s : machine.State} {p : ℕ} (move
         _,
         attempts mover (frames.Ready.write o f w) code (ap (machine.writeAct (tableOf b) s p t o f w) e ∙ test-true (tableOf b .isVolatile f) _ _ v),
         moved mover _ i e-writev (some (entry records.Kind.writev p o f w)) (machine.store s o f (rules.cell (union (keysOf (c .keys)) (t .keys)) w)) (up (nodeAt b) (terms b) S w) (goValue w) n
-            ks (cellOf w (c .key) (joinOf (c .keys) ks)) nothing (entryOf 5 o f w) refl (written mover records.Kind.writev o f w ho hf hw) refl
+            ks (cellOf w 0 (joinOf (c .keys) ks)) nothing (entryOf 5 o f w) refl (written mover records.Kind.writev o f w ho hf hw) refl
             (well, hw, refl) fits (unlearnt mover)
-            (stored true (cellOf w (c .key) (joinOf (c .keys) ks)) _ g
-            (ap (λ (K : Keys). rules.cell K w) (keys-join (fit .keys) fits ∙ ap (union (keysOf (c .keys))) known))
-            (record { key = fit .key; keys = fits-join (fit .keys) fits }) refl k),
+            (stored true (cellOf w 0 (joinOf (c .keys) ks)) _ g
+            (ap₂ rules.cell (keys-join (fit .keys) fits ∙ ap (union (keysOf (c .keys))) known) (mod-eq-of-lt hw))
+            (record { key = omega arith; keys = fits-join (fit .keys) fits }) refl k),
       )
       by true false true true e g v q r = (
         _,
@@ -189,7 +189,7 @@ module _ {b : List ℕ} {m : engine.Machine} {s : machine.State} {p : ℕ} (move
                 (learnt mover (singleton (s .nextKey)) _
                 (ap₂ (λ (a : ℕ) (K : Keys). union (singleton a) K) (sym (k .keys-count)) (sym known) ∙ sym (keys-learn (n .keys) room-left fits)))
                 (kept-changed
-                (stored false (cellOf w (n .keys) (c .keys)) _ g (ap (λ (a : ℕ). rules.cell (singleton a) w) (k .keys-count)) (record { key = room-left; keys = fit .keys }) refl (kept-key k))
+                (stored false (cellOf w (n .keys) (c .keys)) _ g (ap₂ (λ (a v : ℕ). rules.cell (singleton a) v) (k .keys-count) (mod-eq-of-lt hw)) (record { key = room-left; keys = fit .keys }) refl (kept-key k))
                 p _ (λ x. refl)),
           )
       by true false false u e g v q r = (

@@ -157,5 +157,5 @@ ready-there b s p t r there S R e =
     (standing (tableOf b) (programOf b) s p t r there .good) .1
 
 -- a plain field's one key
-pub one-key : (c : Cell) (ks : KeySet) (K : Keys) → CellFits c → Fits ks → keysOf ks ≡ K → subset (cellMeant false c .keys) K ≡ holdsOf ks (c .key)
-one-key c ks K f g e = subset-singleton (c .key) K ∙ ap (λ (L : Keys). holds L (c .key)) (sym e) ∙ sym (keys-holds (c .key) (f .key) g)
+pub one-key : (c : Cell) (ks : KeySet) (K : Keys) → CellFits c → Fits ks → keysOf ks ≡ K → subset (cellMeant false c .keys) K ≡ holdsOf ks (c .key % 256)
+one-key c ks K f g e = subset-singleton (c .key) K ∙ ap (λ (L : Keys). holds L (c .key)) (sym e) ∙ sym (keys-holds (c .key) (f .key) g) ∙ ap (holdsOf ks) (sym (mod-eq-of-lt (f .key)))

@@ -1,5 +1,5 @@
 -- What the code does to enter or to leave a monitor is what the abstract machine's move does. Assumes nothing.
-use Prim.Native.Nat.{ℕ, _+_, _*_, _<_}
+use Prim.Native.Nat.{ℕ, _+_, _*_, _%_, _<_}
 use native.Mathlib.Nat.{mod-eq-of-lt}
 use native.Mathlib.Omega.{arith}
 use mathlib.Core.Path.{_≡_, refl, sym, ap, ap₂, _∙_, subst as along}
@@ -13,7 +13,7 @@ use Rattle.keys.specs.Keys.{Keys, empty, isEmpty}
 use Rattle.keys.specs.KeySet.{keysOf, emptySet, joinOf, isEmptyOf}
 use Rattle.keys.proofs.KeySetLaws.{keys-empty, keys-is-empty, fits-empty, fits-join}
 use Rattle.packed.specs.Format.{volatiles, terms}
-use Rattle.packed.specs.Trees.{nodeAt}
+use Rattle.packed.specs.Trees.{nodeAt, programOf}
 use Rattle.records.specs.Record.{entry}
 use Rattle.records.specs.Record as records
 use Rattle.rules.specs.State as rules
@@ -25,6 +25,7 @@ use Rattle.machine.specs.Landing as land
 use Rattle.machine.specs.Machine as machine
 use Rattle.machine.specs.Playing.{tableOf}
 use Rattle.machine.specs.Playing as playing
+use Rattle.machine.proofs.Standing.{standing}
 use Rattle.machine.proofs.Sorted.{Well}
 use Rattle.frames.specs.Parts.{Part as part}
 use Rattle.frames.specs.Going.{readyOf, goRun, goWant, goValue}
@@ -88,6 +89,9 @@ module _ {b : List ℕ} {m : engine.Machine} {s : machine.State} {p : ℕ} (move
       found : machine.monitor s o ≡ cellMeant true c
       found = monitor-cell k o (monitor-bit b ok) o-there ho ∙ ap (λ (i : ℕ). cellMeant true (getD cs i noCell)) (sym ei)
 
+      self-fits : t .self < 32
+      self-fits = let z = standing (tableOf b) (programOf b) s p t reach there .self-there in let l = reach .limits .counts .few-objects in omega arith
+
       c′ : Cell
       c′ = cellOf self 0 emptySet
 
@@ -117,7 +121,7 @@ module _ {b : List ℕ} {m : engine.Machine} {s : machine.State} {p : ℕ} (move
             (joinOf ks (c .keys)) c′ nothing (entryOf 6 o 0 0) refl (written mover records.Kind.acquire o 0 0 ho (omega arith) (omega arith)) refl
             (record { first-fits = omega arith; second-fits = omega arith; member-fits = omega arith; count-fits = omega arith; sorted = ho }, well, hu, refl)
             (fits-join fits (fit .keys)) (learnt mover (keysOf (c .keys)) _ (joined mover (c .keys) (fit .keys)))
-            (kept-changed (monitor-stored o i c′ _ ei (ap₂ rules.cell keys-empty same) (record { key = omega arith; keys = fits-empty }) o-there ho) p _ (λ x. refl)),
+            (kept-changed (monitor-stored o i c′ _ ei (ap₂ rules.cell keys-empty (ap (λ (a : ℕ). a % 32) same ∙ mod-eq-of-lt self-fits)) (record { key = omega arith; keys = fits-empty }) o-there ho) p _ (λ x. refl)),
       )
 
   -- E-RELEASE

@@ -1,5 +1,5 @@
 -- What a move does to the state, by value. The machine that the code runs; no reader of the entries' promises needs it. Assumes nothing.
-use Prim.Native.Nat.{ℕ}
+use Prim.Native.Nat.{ℕ, _%_}
 use Rattle.keys.specs.declared.KeySet.{KeySet}
 use Rattle.frames.specs.declared.go.Go.{Go}
 use Rattle.state.specs.declared.Head.{Head}
@@ -23,7 +23,7 @@ abbrev pub nothing : Object
 nothing = thingOf 0 8
 
 abbrev pub cellOf : ℕ → ℕ → KeySet → Cell
-cellOf v k ks = record { value = v; key = k; keys = ks }
+cellOf v k ks = record { keys = ks; value = v % 32; key = k }
 
 abbrev pub countsOf : ℕ → ℕ → ℕ → Counts
 countsOf t o k = record { threads = t; objects = o; keys = k }

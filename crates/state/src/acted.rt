@@ -44,9 +44,9 @@ pub fn cell_with(value: usize, key: u8, keys: KeySet) -> Cell
     ensures { λ r. ⌜ r ≡ cellOf value key keys ⌝ }
 {
     Cell {
-        value: value,
-        key: key,
         keys: keys,
+        value: (value % 32) as u32,
+        key: key as u32,
     }
 }
 

@@ -12,11 +12,12 @@ pub struct Head {
     pub keys: KeySet,
 }
 
-// A field or a monitor: its value, the set of a volatile field or a monitor, the one key of a plain field.
+// A field or a monitor: the set of a volatile field or a monitor, its value, the one key of a plain field. Two numbers of 32 bits fill a word: a run
+// has 1,024 cells, and filling them is most of a play without picks.
 pub struct Cell {
-    pub value: usize,
     pub keys: KeySet,
-    pub key: u8,
+    pub value: u32,
+    pub key: u32,
 }
 
 // An object's fields, and the number of the thread that it stands for, 8 if none.

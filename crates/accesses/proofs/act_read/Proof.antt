@@ -5,6 +5,9 @@ use borrow.Author.Needs.{needs}
 use Rattle.accesses.proofs.act_read.Statement.{statement}
 use Rattle.accesses.proofs.act_read.Tie as tie
 
+cast-value : tie.Need-cast-value
+cast-value c = search needs
+
 value-requires : tie.Need-value-requires
 value-requires c κs = search needs
 
@@ -38,6 +41,7 @@ pub act-read-spec : {M : Type 1} → statement M
 act-read-spec =
     tie.close
     (tie.spec
+    cast-value
     value-requires
     has-requires
     join-requires

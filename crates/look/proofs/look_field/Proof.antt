@@ -20,18 +20,21 @@ returns-2 : tie.Need-returns-2
 unfolding lookField
 returns-2 c = simp (sym (c .before .before .before .has .ensures) ∙ not-false _ (c .before .before .if1 .left), sym (c .before .has2 .ensures) ∙ c .if2 .taken)
 
+cast-holds : tie.Need-cast-holds
+cast-holds c = search needs
+
 holds-requires : tie.Need-holds-requires
 holds-requires c κs = search needs
 
 returns-3 : tie.Need-returns-3
 unfolding lookField
-returns-3 c = simp (sym (c .before .before .before .before .before .before .has .ensures) ∙ not-false _ (c .before .before .before .before .before .if1 .left), sym (c .before .before .before .before .has2 .ensures) ∙ c .before .before .before .if2 .left, sym (c .before .holds .ensures .exact) ∙ c .if3 .taken)
+returns-3 c = simp (sym (c .before .before .before .before .before .before .before .has .ensures) ∙ not-false _ (c .before .before .before .before .before .before .if1 .left), sym (c .before .before .before .before .before .has2 .ensures) ∙ c .before .before .before .before .if2 .left, sym (c .before .holds .ensures .exact) ∙ c .if3 .taken)
 
 returns-4 : tie.Need-returns-4
 unfolding lookField
-returns-4 c = simp (sym (c .before .before .before .before .before .before .has .ensures) ∙ not-false _ (c .before .before .before .before .before .if1 .left), sym (c .before .before .before .before .has2 .ensures) ∙ c .before .before .before .if2 .left, sym (c .before .holds .ensures .exact) ∙ c .if3 .left)
+returns-4 c = simp (sym (c .before .before .before .before .before .before .before .has .ensures) ∙ not-false _ (c .before .before .before .before .before .before .if1 .left), sym (c .before .before .before .before .before .has2 .ensures) ∙ c .before .before .before .before .if2 .left, sym (c .before .holds .ensures .exact) ∙ c .if3 .left)
 
 pub look-field-spec : {M : Type 1} → statement M
 look-field-spec =
     tie.close
-    (tie.spec has-requires returns has-requires-2 returns-2 holds-requires returns-3 returns-4)
+    (tie.spec has-requires returns has-requires-2 returns-2 cast-holds holds-requires returns-3 returns-4)

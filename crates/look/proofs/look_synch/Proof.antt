@@ -9,6 +9,9 @@ use Rattle.look.proofs.look_synch.Tie as tie
 is-empty-requires : tie.Need-is-empty-requires
 is-empty-requires c κs = search needs
 
+cast-if2 : tie.Need-cast-if2
+cast-if2 c = search needs
+
 returns : tie.Need-returns
 unfolding lookSynch
 returns c = simp (sym (c .before .before .before .before .is-empty .ensures .exact) ∙ c .before .before .before .if1 .taken, ne-eqb _ _ (c .if2 .taken))
@@ -22,4 +25,4 @@ unfolding lookSynch
 returns-3 c = simp (sym (c .before .is-empty .ensures .exact) ∙ c .if1 .left)
 
 pub look-synch-spec : {M : Type 1} → statement M
-look-synch-spec = tie.close (tie.spec is-empty-requires returns returns-2 returns-3)
+look-synch-spec = tie.close (tie.spec is-empty-requires cast-if2 returns returns-2 returns-3)
