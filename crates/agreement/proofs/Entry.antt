@@ -12,7 +12,7 @@ use Rattle.records.specs.Packed.{bytesOf}
 use Rattle.rules.specs.Play.{played, areaAfter, runOf}
 use Rattle.player.specs.declared.outcome.Played.{Played}
 use Rattle.player.specs.Answer.{stopOf, answered}
-use Rattle.play_refusals.proofs.Passed.{passed-refused}
+use Rattle.plan.proofs.Stages.{passed-refused}
 use Rattle.player.proofs.Ran.{passes, stop-is, records-are, begins}
 use Rattle.judge.specs.declared.Judgement.{Judgement}
 use Rattle.judge.specs.declared.Judgement.the-variants as judgement

@@ -2,7 +2,6 @@
 use Prim.Native.Nat.{ℕ, _+_, _*_, _≤_, _<_}
 use native.Mathlib.Omega.{arith}
 use mathlib.Core.Path.{_≡_, refl, sym, ap, _∙_}
-use mathlib.Core.Bool.{true≢false}
 use mathlib.Core.List.{List}
 use mathlib.Core.Option.{none}
 use lib.ListN.{length, getD}
@@ -17,10 +16,6 @@ use Rattle.packed.proofs.Accepted.{accepted}
 use Rattle.rules.specs.Play.{tooManyPicks, wrongPick, shortArea, playRefusal}
 use Rattle.play_refusals.specs.Refused.{RefusedAs}
 use Rattle.play_refusals.proofs.RefusalChain.{chain, lateChecks, late}
-
--- what passes is not refused
-pub passed-refused : {A : Type 0} {r : Checked} {k i : ℕ} → r ≡ checked.Passed → r ≡ checked.Refused k i → A
-passed-refused e q = absurd (true≢false cc)
 
 pub record Passed (plan schedule area : List ℕ) : Type 0 where
   pub plan-passes : refusal plan ≡ none

@@ -1,13 +1,14 @@
 -- The refusal of a play: the plan's, or that of the first of checks 8 to 10 that finds a fault. Assumes nothing.
 use Prim.Native.Nat.{ℕ}
-use mathlib.Core.Path.{_≡_, sym, ap, _∙_}
+use mathlib.Core.Path.{_≡_, sym, _∙_}
 use mathlib.Core.List.{List, [], _∷_}
-use mathlib.Core.Option.{Option, some, none}
+use mathlib.Core.Option.{Option}
 use lib.ListN.{length}
 use Rattle.format.specs.Refusal.{Refusal, Check, check, checkWhole, orElse, firstRefusal}
 use Rattle.format.proofs.RefusalLaws.{refusal-append}
 use Rattle.packed.specs.Check.{checks, refusal}
 use Rattle.plan.specs.Answer.{answered}
+use Rattle.plan.proofs.Stages.{refused-first, passed-first}
 use Rattle.plan.specs.declared.Checked.{Checked}
 use Rattle.plan.specs.declared.Checked.the-variants.{Passed, Refused}
 use Rattle.rules.specs.Play.{tooManyPicks, wrongPick, shortArea, playChecks, playRefusal}
@@ -26,14 +27,8 @@ chain plan schedule area = refusal-append (checks plan) (lateChecks schedule are
 
 -- the plan is refused
 pub by-plan : (plan schedule area : List ℕ) (r : Checked) (k i : ℕ) → answered r ≡ refusal plan → r ≡ Refused k i → answered r ≡ playRefusal plan schedule area
-unfolding answered orElse
-by-plan plan schedule area r k i e q =
-    let s : refusal plan ≡ some (record { number = k; place = i }) = sym e ∙ ap answered q in
-    ap answered q ∙ sym (chain plan schedule area ∙ rw s)
+by-plan plan schedule area r k i e q = refused-first _ _ r k i e q ∙ sym (chain plan schedule area)
 
 -- the plan passes
 pub by-later : (plan schedule area : List ℕ) (r r′ : Checked) → answered r ≡ refusal plan → r ≡ Passed → answered r′ ≡ late schedule area → answered r′ ≡ playRefusal plan schedule area
-unfolding answered orElse
-by-later plan schedule area r r′ e q h =
-    let s : refusal plan ≡ none = sym e ∙ ap answered q in
-    h ∙ sym (chain plan schedule area ∙ rw s)
+by-later plan schedule area r r′ e q h = passed-first _ _ r r′ e q h ∙ sym (chain plan schedule area)

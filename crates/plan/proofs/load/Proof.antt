@@ -1,6 +1,5 @@
 -- `load`: the answer of the definition, stage by stage; where nothing is refused, the terms are loaded.
 use mathlib.Core.Path.{_≡_, refl}
-use mathlib.Core.Bool.{true≢false}
 use mathlib.Core.Option.{some, none}
 use native.Mathlib.Omega.{arith}
 use borrow.Author.Needs.{needs}
@@ -10,7 +9,7 @@ use Rattle.packed.specs.Format.{terms}
 use Rattle.packed.specs.Refusals.{wrongTerm}
 use Rattle.packed.specs.Steps.{Headed}
 use Rattle.packed.proofs.Shown.{make-headed, make-right}
-use Rattle.plan.proofs.Stages.{by-header, headed, by-term, by-trees, loaded-as}
+use Rattle.plan.proofs.Stages.{passed-refused, by-header, headed, by-term, by-trees, loaded-as}
 use Rattle.plan.proofs.load.Statement.{statement}
 use Rattle.plan.proofs.load.Tie as tie
 
@@ -28,7 +27,7 @@ enum-told-2 : tie.Need-enum-told-2
 enum-told-2 c = search needs
 
 returns : tie.Need-returns
-returns c = (by-header _ _ _ _ (c .before .before .check-header .ensures) (c .enum-told2 .given .1), λ q. absurd (true≢false cc))
+returns c = (by-header _ _ _ _ (c .before .before .check-header .ensures) (c .enum-told2 .given .1), λ q. passed-refused q (c .enum-told2 .given .1))
 
 procedures-requires : tie.Need-procedures-requires
 procedures-requires c κs =
@@ -50,7 +49,7 @@ returns-2 : tie.Need-returns-2
 returns-2 c =
     let b = c .before .before .before .before .before .before .before .before .before .before .args .plan .now in
     let m4 : lowest (wrongTerm b) (terms b) ≡ some (c .before .before .load .result) = struck (wrongTerm b) _ (terms b) _ (c .before .before .before .before .terms .ensures) (c .before .before .load .ensures .0) (c .before .if1 .taken) in
-    (by-term b _ (c .before .before .before .before .before .before .before .before .check-header .ensures) (c .before .before .before .before .before .before .enum-told .given .1) _ _ m4 (c .refused .ensures), λ q. absurd (let z = c .refused .ensures in true≢false cc))
+    (by-term b _ (c .before .before .before .before .before .before .before .before .check-header .ensures) (c .before .before .before .before .before .before .enum-told .given .1) _ _ m4 (c .refused .ensures), λ q. passed-refused q (c .refused .ensures))
 
 check-trees-requires : tie.Need-check-trees-requires
 check-trees-requires c κs =

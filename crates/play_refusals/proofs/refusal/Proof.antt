@@ -10,7 +10,7 @@ use Rattle.plan.specs.Answer.{answered}
 use Rattle.format.proofs.LowestLaws.{whole, whole-none, missed, struck}
 use Rattle.rules.specs.Play.{tooManyPicks, wrongPick, shortArea}
 use Rattle.play_refusals.proofs.RefusalChain.{by-plan, by-later}
-use Rattle.play_refusals.proofs.Passed.{passed-refused}
+use Rattle.plan.proofs.Stages.{passed-refused}
 use Rattle.play_refusals.proofs.refusal.Statement.{statement}
 use Rattle.play_refusals.proofs.refusal.Tie as tie
 
