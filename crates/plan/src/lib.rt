@@ -55,9 +55,9 @@ fn check_trees(plan: &[u8], procedures: usize, count: usize, words: &[usize; 102
     if miscounted < count {
         return refused(6, miscounted);
     }
-    let procedure = bound_slots::lowest_open(plan, procedures, count, words);
-    if procedure < procedures {
-        return refused(7, procedure);
+    let open = bound_slots::lowest_open(plan, procedures, count, words);
+    if open < procedures {
+        return refused(7, open);
     }
     Checked::Passed
 }
