@@ -5,7 +5,7 @@ use mathlib.Core.Path.{_≡_, sym, ap, _∙_, subst as along}
 use mathlib.Core.List.{List}
 use lib.ListN.{length, take}
 use Rattle.format.specs.Version.{Version, v1}
-use Rattle.order.specs.Judge.{named, MayAnswer}
+use Rattle.order.specs.Judge.{named, Answers}
 use Rattle.packed.specs.Trees.{programOf}
 use Rattle.plan.specs.declared.Checked.the-variants as checked
 use Rattle.records.specs.Packed.{bytesOf}
@@ -32,14 +32,14 @@ module _ (plan schedule area : List ℕ) (p : Played) (h : answered p ≡ played
   same-index = rw (stop-is plan schedule area p h e, records-are plan schedule area p h e)
 
   -- what the judge says of the first bytes of the log area that the play leaves
-  module _ (after : List ℕ) (left : after ≡ areaAfter plan schedule area) (j : Judgement) (n : ℕ) (q : n ≡ 3 * p .outcome .records) (m : MayAnswer v1 (take (n - 0) after) (judge.answered j)) where
-    may : MayAnswer (programOf plan .version) (bytesOf (runOf plan schedule .log)) (judge.answered j)
-    may =
-        along (λ (v : Version). MayAnswer v (bytesOf (runOf plan schedule .log)) (judge.answered j)) (sym (accepted-version plan (passes plan schedule area p h e .plan-passes)))
-        (along (λ (b : List ℕ). MayAnswer v1 b (judge.answered j)) (begins plan schedule area p h e after left n q) m)
+  module _ (after : List ℕ) (left : after ≡ areaAfter plan schedule area) (j : Judgement) (n : ℕ) (q : n ≡ 3 * p .outcome .records) (m : Answers v1 (take (n - 0) after) (judge.answered j)) where
+    answers : Answers (programOf plan .version) (bytesOf (runOf plan schedule .log)) (judge.answered j)
+    answers =
+        along (λ (v : Version). Answers v (bytesOf (runOf plan schedule .log)) (judge.answered j)) (sym (accepted-version plan (passes plan schedule area p h e .plan-passes)))
+        (along (λ (b : List ℕ). Answers v1 b (judge.answered j)) (begins plan schedule area p h e after left n q) m)
 
     named-stop : judge.answered j ≡ named (stopIndex (runOf plan schedule .stop) (length (runOf plan schedule .log)))
-    named-stop = agrees-all .judged (judge.answered j) .0 may
+    named-stop = agrees-all .judged (judge.answered j) .0 answers
 
     pub agreed-on : AgreedOn plan schedule (record { played = p; judgement = j })
     agreed-on =

@@ -16,7 +16,7 @@ use Rattle.agreement.specs.declared.PlayedAndJudged.{PlayedAndJudged}
 -- of the answer r to a play of the schedule on the plan
 pub record AgreedOn (plan schedule : List ℕ) (r : PlayedAndJudged) : Type 0 where
   -- "a plain access in the log is where the run stopped for want of its key exactly when its field has an earlier plain write and no happens-before
-  -- chain leads from the last such write to it": the run that was played, its log, and every answer that a judge may give to it
+  -- chain leads from the last such write to it": the run that was played, its log, and what the judge answers to it
   pub chains : r .played .checked ≡ checked.Passed → Agreement (programOf plan) schedule (runOf plan schedule)
   -- "and the judge, given only the log, names that access, and none when the run did not stop so": the judgement that the code came to, by that run
   pub judged : r .played .checked ≡ checked.Passed → answered (r .judgement) ≡ named (stopIndex (runOf plan schedule .stop) (length (runOf plan schedule .log)))

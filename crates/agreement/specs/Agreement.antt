@@ -8,7 +8,7 @@ use mathlib.Core.Option.{Option, some, none}
 use lib.Dec.{T}
 use lib.ListN.{length, getElem?}
 use Rattle.order.specs.Chains.{At, Unordered}
-use Rattle.order.specs.Judge.{Judged, named, MayAnswer}
+use Rattle.order.specs.Judge.{Judged, named, Answers}
 use Rattle.packed.specs.Syntax.{Program}
 use Rattle.records.specs.Record.{Record, isPlain, lacksKey}
 use Rattle.records.specs.Packed.{bytesOf, logOf}
@@ -42,4 +42,4 @@ pub record Agreement (g : Program) (picks : List ℕ) (r : Run) : Type 0 where
   pub as-written : logOf (bytesOf (r .log)) ≡ r .log
   pub not-refused : logRefusal (bytesOf (r .log)) ≡ none
   -- "and the judge, given only the log, names that access, and none when the run did not stop so"
-  pub judged : (a : Judged) → MayAnswer (g .version) (bytesOf (r .log)) a ↔ (a ≡ named (stopIndex (r .stop) (length (r .log))))
+  pub judged : (a : Judged) → Answers (g .version) (bytesOf (r .log)) a ↔ (a ≡ named (stopIndex (r .stop) (length (r .log))))

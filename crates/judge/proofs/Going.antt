@@ -13,7 +13,7 @@ use Rattle.records.specs.Record.{Record}
 use Rattle.records.specs.Packed.{recordCount, logOf}
 use Rattle.records.specs.Refusals.{logRefusal}
 use Rattle.records.proofs.RoundTrip.{count-log}
-use Rattle.order.specs.Judge.{MayAnswer, named, judges, none-unordered}
+use Rattle.order.specs.Judge.{Answers, named, judges, names-none}
 use Rattle.order.proofs.Clock.{count}
 use Rattle.order.proofs.Late.{lastThread, lastTurn}
 use Rattle.order.proofs.Past.{past, past-zero, at-within}
@@ -61,11 +61,11 @@ going-start v b =
     }
 
 -- the whole log is passed
-pub none-named : (v : Version) (b : List ℕ) (i : ℕ) (rows : List Row) (writes : List Write) → logRefusal b ≡ none → Going v b i rows writes → length b / 3 ≤ i → MayAnswer v b (named none)
+pub none-named : (v : Version) (b : List ℕ) (i : ℕ) (rows : List Row) (writes : List Write) → logRefusal b ≡ none → Going v b i rows writes → length b / 3 ≤ i → Answers v b (named none)
 unfolding recordCount
 none-named v b i rows writes ok G h =
     judges ok
-    (none-unordered
+    (names-none
     (λ j u.
     let below : j < length (logOf b) = at-within (logOf b) j (u .access) (u .at-j) in
     let late-here : T (unorderedAt v (logOf b) j) = unordered-decided v (logOf b) j .1 u in

@@ -15,12 +15,12 @@ use Rattle.records.specs.Packed.{kindOf, recordAt, recordCount, logOf}
 use Rattle.records.specs.Refusals.{wrongColumns, logRefusal}
 use Rattle.records.proofs.RoundTrip.{count-log, log-element}
 use Rattle.records.proofs.Accepted.{RightRecord, accepted}
-use Rattle.order.specs.Judge.{MayAnswer, named, judges, names}
+use Rattle.order.specs.Judge.{Answers, named, judges}
 use Rattle.order.proofs.Ports.{ofThread}
 use Rattle.order.proofs.Clock.{count, clock, clock-bound}
 use Rattle.order.proofs.Late.{late, lastThread, lastTurn}
 use Rattle.order.proofs.Past.{past-suc, past-length, at→getD}
-use Rattle.order.proofs.Judge.{unorderedAt, unordered-decided}
+use Rattle.order.proofs.Judge.{unorderedAt, named-at}
 use Rattle.decoding.specs.Columns.{ReadAt}
 use Rattle.clocks.specs.Rows.{clockOf, Few}
 use Rattle.effects.specs.Rows.{Known, sourceRow, targetRow}
@@ -138,5 +138,5 @@ module _ {v : Version} {b : List ℕ} {i : ℕ} {rows : List Row} {writes : List
       ∙ ap (λ (d : Bool). isPlain (recordAt b i .kind) && d) (ltb-leb (clock v (before b i) (ofThread (recordAt b i .thread)) (lastThread (before b i) (recordAt b i .object) (recordAt b i .field))) (lastTurn (before b i) (recordAt b i .object) (recordAt b i .field))))
 
   -- what the pass answers
-  pub names-late : true ≡ lateBy c (rowAt rows (c .thread)) last → MayAnswer v b (named (some i))
-  names-late e = judges (N .accepted-log) (names (unordered-decided v (logOf b) i .0 (rw (unordered-is, ← late-is, ← e) tt)))
+  pub names-late : true ≡ lateBy c (rowAt rows (c .thread)) last → Answers v b (named (some i))
+  names-late e = judges (N .accepted-log) (named-at v (logOf b) i (rw (unordered-is, ← late-is, ← e) tt) (G .none-late))

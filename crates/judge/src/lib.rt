@@ -3,30 +3,29 @@ mod pass; // pass.rt: the pass by clocks
 
 ghost use Prim.Native.Nat.{_<_};
 ghost use Rattle.format.specs.Version.{v1, versionOf};
-ghost use Rattle.order.specs.Judge.{MayAnswer};
+ghost use Rattle.order.specs.Judge.{Answers};
 ghost use Rattle.judge.specs.Answer.{answered};
 
 // What the judge answers to a log.
 pub enum Judgement {
     // The log is refused: document 01's number of the refusal, and its place.
     Refused { number: usize, place: usize },
-    // The record with this index, from 0, is an unordered access.
+    // The record with this index, from 0, is the first unordered access.
     Unordered(usize),
     // The log has no unordered access.
     Ordered,
 }
 
-// The answer to any bytes. The choice among several unordered accesses is the program's; every choice is the index of an unordered access of
-// that log, and for a log not refused the answer is none, `Ordered`, exactly when it has no such access.
+// The answer to any bytes: the refusal, or the lowest index of an unordered access, or, where the log has no such access, none, `Ordered`.
 pub fn judge(log: &[u8]) -> Judgement
-    ensures { λ r. ⌜ MayAnswer v1 (now (log .entry)) (answered r) ⌝ }
+    ensures { λ r. ⌜ Answers v1 (now (log .entry)) (answered r) ⌝ }
 {
     judge_version(log, 1)
 }
 
 // The same for a log of a version: 1, or 0, in which volatile fields order nothing.
 fn judge_version(log: &[u8], version: usize) -> Judgement
-    ensures { λ r. ⌜ MayAnswer (versionOf version) (now (log .entry)) (answered r) ⌝ }
+    ensures { λ r. ⌜ Answers (versionOf version) (now (log .entry)) (answered r) ⌝ }
 {
     if log_refusals::wrong_length(log) {
         return Judgement::Refused {

@@ -3,7 +3,7 @@ ghost use mathlib.Core.Path.{_≡_};
 ghost use mathlib.Core.Option.{none};
 ghost use Rattle.format.specs.Version.{versionOf};
 ghost use Rattle.records.specs.Refusals.{logRefusal};
-ghost use Rattle.order.specs.Judge.{MayAnswer};
+ghost use Rattle.order.specs.Judge.{Answers};
 ghost use Rattle.judge.specs.Answer.{answered};
 use crate::Judgement;
 use clocks::Row;
@@ -12,7 +12,7 @@ use effects::writes::Write;
 // The judge's answer to a log that is not refused, by its version.
 pub fn pass(log: &[u8], version: usize) -> Judgement
     requires { ⌜ logRefusal (now log) ≡ none ⌝ }
-    ensures { λ r. ⌜ MayAnswer (versionOf version) (now (log .entry)) (answered r) ⌝ }
+    ensures { λ r. ⌜ Answers (versionOf version) (now (log .entry)) (answered r) ⌝ }
 {
     let count = log.len() / 3;
     let ones = clocks::one_record_each();

@@ -5,7 +5,7 @@ use mathlib.Core.List.{List}
 use mathlib.Core.Option.{Option, some, none}
 use Rattle.format.specs.Refusal.{Refusal}
 use Rattle.format.specs.Version.{v1}
-use Rattle.order.specs.Judge.{Judged, refused, named, MayAnswer}
+use Rattle.order.specs.Judge.{Judged, refused, named, Answers}
 use Rattle.rules.specs.Play as play
 
 -- a refusal: number * 65536 + place
@@ -22,14 +22,14 @@ unfoldable pub playNumber : play.Played → ℕ
 playNumber (play.Played.ran o) = 0
 playNumber (play.Played.refused r) = refusalNumber r
 
--- judge: 0 for none, 2^32 + index for an unordered access, 2 * 2^32 + number * 65536 + place for a refusal
+-- judge: 0 for none, 2^32 + index for the first unordered access, 2 * 2^32 + number * 65536 + place for a refusal
 unfoldable pub judgeNumber : Judged → ℕ
 judgeNumber (named none) = 0
 judgeNumber (named (some j)) = 2 ^ 32 + j
 judgeNumber (refused r) = 2 * 2 ^ 32 + refusalNumber r
 
--- the judge may return the number of any answer that a judge may give to the log: which of several unordered accesses is the program's choice
-pub record MayReturn (log : List ℕ) (n : ℕ) : Type 0 where
+-- the judge returns the number of its answer to the log
+pub record JudgeReturns (log : List ℕ) (n : ℕ) : Type 0 where
   pub answer : Judged
-  pub allowed : MayAnswer v1 log answer
+  pub answers : Answers v1 log answer
   pub numbered : n ≡ judgeNumber answer

@@ -1,26 +1,26 @@
--- The judge, by the clocks, on any log, oldest first: which accesses are unordered, the lowest of them, and all that a judge may answer.
+-- The judge, by the clocks, on any log, oldest first: which accesses are unordered, and that the lowest of them, or none, is the one answer.
 -- Assumes nothing.
-use Prim.Native.Nat.{ℕ, suc}
+use Prim.Native.Nat.{ℕ, suc, _<_, _≤_}
 use native.Mathlib.Omega.{arith}
 use mathlib.Core.Path.{_≡_, refl, sym, ap, subst}
 use mathlib.Core.Bool.{Bool, false, true≢false}
-use mathlib.Core.List.{List, [], _∷_, reverse, List·Memᴰ, List·Memᴰ·head, List·Memᴰ·not-nil, List·Memᴰ·eq-of-singleton}
+use mathlib.Core.List.{List, _∷_, reverse}
 use mathlib.Core.Logic.{_↔_, Iff·trans, Iff·symm}
 use mathlib.Core.Option.{Option, some, none}
 use lib.Dec.{T}
 use lib.ListN.{length, drop, getElem?}
+use native.Mathlib.Decide.{decLe}
 use Rattle.format.specs.Refusal.{lowest}
 use Rattle.format.specs.Version.{Version}
 use Rattle.format.proofs.RefusalLaws.{lowest-none, lowest-some}
 use Rattle.records.specs.Record.{Record}
 use Rattle.order.specs.Chains.{Unordered}
-use Rattle.order.specs.Judge.{MayName, names, none-unordered}
+use Rattle.order.specs.Judge.{Names, names-first, names-none, Judged, refused, named, Answers, refuses, judges}
 use Rattle.order.proofs.Newest.{unordered-append}
 use Rattle.order.proofs.Newest as N
 use Rattle.order.proofs.Late.{late, late→unordered, unordered→late}
 use Rattle.order.proofs.Past.{past, past-length, at-within, turned-at}
 use Rattle.order.proofs.Turned.{unordered↔}
-use Rattle.order.proofs.Indexes.{indexesBelow, listed→, listed←}
 
 -- the record, if there is one, is an unordered access after the past H
 abbrev pub lateOf : Version → List Record → Option Record → Bool
@@ -31,11 +31,6 @@ lateOf v H (some r) = late v H r
 unfoldable pub unorderedAt : Version → List Record → ℕ → Bool
 unfolding past
 unorderedAt v L j = lateOf v (past L j) (getElem? L j)
-
--- the indexes of the unordered accesses, ascending
-unfoldable pub unorderedIndexes : Version → List Record → List ℕ
-unfolding indexesBelow unorderedAt
-unorderedIndexes v L = indexesBelow (unorderedAt v L) (length L)
 
 -- the lowest index of an unordered access, or none
 unfoldable pub judge : Version → List Record → Option ℕ
@@ -57,47 +52,50 @@ unordered-decided v L j = go (getElem? L j) refl
         here : N.Unordered v (r ∷ past L j) j ↔ Unordered v L j
         here = Iff·trans (Iff·symm (unordered-append (reverse (drop (suc j) L)) (r ∷ past L j) j (omega (arith, size)))) (subst (λ (H : List Record). N.Unordered v H j ↔ Unordered v L j) (turned-at L j r e) (unordered↔ v L j))
 
-pub unordered-listed : (v : Version) (L : List Record) (j : ℕ) → List·Memᴰ j (unorderedIndexes v L) ↔ Unordered v L j
-unfolding unorderedIndexes
-unordered-listed v L j = (λ m. unordered-decided v L j .0 (listed→ (unorderedAt v L) (length L) j m .1), λ u. listed← (unorderedAt v L) (length L) j (at-within L j (u .access) (u .at-j)) (unordered-decided v L j .1 u))
+-- ---- the answer
 
--- ---- what a judge may answer
+-- "every choice is the index of an unordered access of that log"
+pub named-unordered : {v : Version} {L : List Record} {j : ℕ} → Names v L (some j) → Unordered v L j
+named-unordered (names-first u low) = u
 
--- an answer by the list of indexes
-abbrev pub Listed : List ℕ → Option ℕ → Type 0
-Listed js none = js ≡ []
-Listed js (some j) = List·Memᴰ j js
-
-empty : {A : Type 0} (l : List A) → ((a : A) → List·Memᴰ a l → ⊥) → l ≡ []
-empty [] n = refl
-empty (a ∷ l) n = absurd (n a (List·Memᴰ·head refl))
-
-all-named→ : (v : Version) (L : List Record) (a : Option ℕ) → MayName v L a → Listed (unorderedIndexes v L) a
-all-named→ v L none (none-unordered n) = empty (unorderedIndexes v L) (λ j m. n j (unordered-listed v L j .0 m))
-all-named→ v L (some j) (names u) = unordered-listed v L j .1 u
-
-all-named← : (v : Version) (L : List Record) (a : Option ℕ) → Listed (unorderedIndexes v L) a → MayName v L a
-all-named← v L none e = none-unordered (λ j u. List·Memᴰ·not-nil (subst (λ (l : List ℕ). List·Memᴰ j l) e (unordered-listed v L j .1 u)))
-all-named← v L (some j) m = names (unordered-listed v L j .0 m)
-
--- the answers are the listed indexes, or none where none is listed
-pub all-named : (v : Version) (L : List Record) (a : Option ℕ) → MayName v L a ↔ Listed (unorderedIndexes v L) a
-all-named v L a = (all-named→ v L a, all-named← v L a)
-
-pub none-named : (v : Version) (L : List Record) → unorderedIndexes v L ≡ [] → (a : Option ℕ) → MayName v L a → a ≡ none
-none-named v L e none m = refl
-none-named v L e (some j) m = absurd (List·Memᴰ·not-nil (subst (λ (l : List ℕ). List·Memᴰ j l) e (all-named v L (some j) .0 m)))
-
-pub one-named : (v : Version) (L : List Record) (i : ℕ) → unorderedIndexes v L ≡ i ∷ [] → (a : Option ℕ) → MayName v L a → a ≡ some i
-one-named v L i e none m = let q = all-named v L none .0 m in absurd (true≢false cc)
-one-named v L i e (some j) m = ap {B = Option ℕ} some (List·Memᴰ·eq-of-singleton (subst (λ (l : List ℕ). List·Memᴰ j l) e (all-named v L (some j) .0 m)))
-
--- ---- the lowest
-
-pub judge-may : (v : Version) (L : List Record) → MayName v L (judge v L)
-unfolding judge
-judge-may v L = go (judge v L) refl
+-- "the answer is none exactly when it has no such access"
+pub none-named : (v : Version) (L : List Record) → Names v L none ↔ ((j : ℕ) → Unordered v L j → ⊥)
+none-named v L = (go, names-none)
   where
-    go : (a : Option ℕ) → lowest (unorderedAt v L) (length L) ≡ a → MayName v L a
-    go none e = none-unordered (λ j u. subst T (lowest-none (unorderedAt v L) (length L) e j (at-within L j (u .access) (u .at-j))) (unordered-decided v L j .1 u))
-    go (some i) e = names (unordered-decided v L i .0 (subst T (sym (lowest-some (unorderedAt v L) (length L) i e .1)) tt))
+    go : Names v L none → (j : ℕ) → Unordered v L j → ⊥
+    go (names-none n) = n
+
+-- at most one answer
+pub names-once : {v : Version} {L : List Record} (a b : Option ℕ) → Names v L a → Names v L b → a ≡ b
+names-once (some i) (some j) (names-first u p) (names-first w q) = let x = p j w in let y = q i u in ap {B = Option ℕ} some (omega arith)
+names-once (some i) none (names-first u p) (names-none n) = absurd (n i u)
+names-once none (some j) (names-none n) (names-first w q) = absurd (n j w)
+names-once none none m n = refl
+
+-- the same of a log in bytes
+pub answers-once : {v : Version} {b : List ℕ} (x y : Judged) → Answers v b x → Answers v b y → x ≡ y
+answers-once (refused r) (refused s) (refuses e) (refuses g) = cc
+answers-once (refused r) (named a) (refuses e) (judges g m) = absurd (true≢false cc)
+answers-once (named a) (refused s) (judges e m) (refuses g) = absurd (true≢false cc)
+answers-once (named a) (named c) (judges e m) (judges g n) = ap named (names-once a c m n)
+
+-- the lowest access that the test finds is the lowest unordered one
+pub named-at : (v : Version) (L : List Record) (i : ℕ) → T (unorderedAt v L i) → ((j : ℕ) → j < i → unorderedAt v L j ≡ false) → Names v L (some i)
+named-at v L i h low = names-first (unordered-decided v L i .0 h) (λ j u. go j u (decLe i j))
+  where
+    go : (j : ℕ) → Unordered v L j → Dec (i ≤ j) → i ≤ j
+    go j u (yes k) = k
+    go j u (no k) = absurd (subst T (low j (omega arith)) (unordered-decided v L j .1 u))
+
+-- the judge can be computed
+pub judge-names : (v : Version) (L : List Record) → Names v L (judge v L)
+unfolding judge
+judge-names v L = go (judge v L) refl
+  where
+    go : (a : Option ℕ) → lowest (unorderedAt v L) (length L) ≡ a → Names v L a
+    go none e = names-none (λ j u. subst T (lowest-none (unorderedAt v L) (length L) e j (at-within L j (u .access) (u .at-j))) (unordered-decided v L j .1 u))
+    go (some i) e = let z = lowest-some (unorderedAt v L) (length L) i e in named-at v L i (subst T (sym (z .1)) tt) (z .2)
+
+-- and what it computes is the answer
+pub names-computed : (v : Version) (L : List Record) (a : Option ℕ) → Names v L a ↔ (a ≡ judge v L)
+names-computed v L a = (λ m. names-once a (judge v L) m (judge-names v L), λ e. subst (Names v L) (sym e) (judge-names v L))

@@ -20,6 +20,5 @@ pub mod Past
 pub mod Turned
 pub mod Agree
 pub mod EverySet
-pub mod Indexes
 pub mod Judge
 pub mod Samples

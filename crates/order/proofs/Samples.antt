@@ -6,7 +6,7 @@ use Rattle.format.specs.Version.{v0, v1}
 use Rattle.records.specs.Record.{new, read, write, readv, writev, acquire, release, fork, lacksRead, Record, entry}
 use Rattle.order.proofs.KeySets.{union, learn, noKeys, onlyZero, put, put₂}
 use Rattle.order.proofs.KeyMachine.{start, Legal}
-use Rattle.order.proofs.Judge.{unorderedIndexes, judge}
+use Rattle.order.proofs.Judge.{judge}
 
 -- plan P with picks 0 0 0 0 0 1 0
 abbrev logA : List Record
@@ -15,14 +15,6 @@ logA = entry new 0 1 0 0 ∷ entry fork 0 2 1 0 ∷ entry write 1 1 1 0 ∷ entr
 -- plan P with picks 0 0 0 0 0 0 1
 abbrev logB : List Record
 logB = entry new 0 1 0 0 ∷ entry fork 0 2 1 0 ∷ entry read 0 1 1 0 ∷ entry write 1 1 1 0 ∷ []
-
-indexes-A : unorderedIndexes v1 logA ≡ 3 ∷ []
-unfolding unorderedIndexes
-indexes-A = refl
-
-indexes-B : unorderedIndexes v1 logB ≡ []
-unfolding unorderedIndexes
-indexes-B = refl
 
 judge-A : judge v1 logA ≡ some 3
 unfolding judge
@@ -44,13 +36,21 @@ legal-B = ((((tt, tt, tt), tt, tt), tt, tt), tt, tt)
 abbrev logV : List Record
 logV = entry new 0 1 0 0 ∷ entry fork 0 2 1 0 ∷ entry write 0 1 1 1 ∷ entry writev 0 1 2 1 ∷ entry readv 1 1 2 1 ∷ entry write 1 1 1 0 ∷ []
 
-indexes-V1 : unorderedIndexes v1 logV ≡ []
-unfolding unorderedIndexes
-indexes-V1 = refl
+judge-V1 : judge v1 logV ≡ none
+unfolding judge
+judge-V1 = refl
 
-indexes-V0 : unorderedIndexes v0 logV ≡ 5 ∷ []
-unfolding unorderedIndexes
-indexes-V0 = refl
+judge-V0 : judge v0 logV ≡ some 5
+unfolding judge
+judge-V0 = refl
+
+-- two unordered accesses: the lower one is named
+abbrev logE : List Record
+logE = entry write 0 1 1 0 ∷ entry read 1 1 1 0 ∷ entry read 2 1 1 0 ∷ []
+
+judge-E : judge v1 logE ≡ some 1
+unfolding judge
+judge-E = refl
 
 -- a monitor taken and left twice
 abbrev logM : List Record

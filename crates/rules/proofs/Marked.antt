@@ -2,11 +2,11 @@
 use mathlib.Core.Path.{_≡_, refl}
 use mathlib.Core.List.{map}
 use Rattle.format.specs.Version.{v1}
-use Rattle.order.proofs.Judge.{unorderedIndexes}
+use Rattle.order.proofs.Judge.{judge}
 use Rattle.rules.specs.ShotList.{Shot, shots}
 use Rattle.rules.specs.Observed.{observed}
 
--- every marked case comes out as the list says; that a judge may name just these indexes is `all-named`
-pub marked : map (observed (unorderedIndexes v1)) shots ≡ map (λ (x : Shot). x .expected) shots
-unfolding observed shots unorderedIndexes
+-- every marked case comes out as the list says; that what is computed is the judge's one answer is `names-computed`
+pub marked : map (observed (judge v1)) shots ≡ map (λ (x : Shot). x .expected) shots
+unfolding observed shots judge
 marked = refl
