@@ -28,27 +28,40 @@ abbrev outcomeOr : run.Outcome → play.Played → run.Outcome
 outcomeOr other (play.Played.refused r) = other
 outcomeOr other (play.Played.ran o) = o
 
-module _ (plan schedule area : List ℕ) (p : Played) (h : answered p ≡ played plan schedule area) (e : p .checked ≡ checked.Passed) where
-  ran-is : play.Played.ran (outcomeOf (p .outcome)) ≡ playedBy plan schedule (playRefusal plan schedule area)
-  unfolding answered played
-  ran-is = ap (λ (y : Checked). answeredBy y (p .outcome)) (sym e) ∙ h
-
+-- what has run, by the definitions alone
+module _ (plan schedule area : List ℕ) (o : run.Outcome) (h : play.Played.ran o ≡ played plan schedule area) where
   not-refused-by : (x : Option Refusal) → playRefusal plan schedule area ≡ x → playRefusal plan schedule area ≡ none
-  unfolding playedBy
+  unfolding played playedBy
   not-refused-by none q = q
   not-refused-by (some r) q =
-      let y : play.Played.ran (outcomeOf (p .outcome)) ≡ play.Played.refused r = ran-is ∙ ap (playedBy plan schedule) q in
+      let y : play.Played.ran o ≡ play.Played.refused r = h ∙ ap (playedBy plan schedule) q in
       absurd (true≢false cc)
 
-  not-refused : playRefusal plan schedule area ≡ none
+  pub not-refused : playRefusal plan schedule area ≡ none
   not-refused = not-refused-by (playRefusal plan schedule area) refl
 
+  pub ran-passed : Passed plan schedule area
+  ran-passed = passed plan schedule area not-refused
+
+  pub ran-outcome : o ≡ run.outcomeOf (programOf plan) (runOf plan schedule)
+  unfolding played playedBy
+  ran-outcome = ap (outcomeOr o) (h ∙ ap (playedBy plan schedule) not-refused)
+
+  pub ran-area : areaAfter plan schedule area ≡ overwrite (bytesOf (runOf plan schedule .log)) area
+  unfolding areaAfter areaBy
+  ran-area = ap (areaBy plan schedule area) not-refused
+
+-- what the entry answers
+module _ (plan schedule area : List ℕ) (p : Played) (h : answered p ≡ played plan schedule area) (e : p .checked ≡ checked.Passed) where
+  pub ran-is : play.Played.ran (outcomeOf (p .outcome)) ≡ played plan schedule area
+  unfolding answered
+  ran-is = ap (λ (y : Checked). answeredBy y (p .outcome)) (sym e) ∙ h
+
   pub passes : Passed plan schedule area
-  passes = passed plan schedule area not-refused
+  passes = ran-passed plan schedule area (outcomeOf (p .outcome)) ran-is
 
   pub outcome-is : outcomeOf (p .outcome) ≡ run.outcomeOf (programOf plan) (runOf plan schedule)
-  unfolding playedBy
-  outcome-is = ap (outcomeOr (outcomeOf (p .outcome))) (ran-is ∙ ap (playedBy plan schedule) not-refused)
+  outcome-is = ran-outcome plan schedule area (outcomeOf (p .outcome)) ran-is
 
   pub stop-is : stopOf (p .outcome .stop) ≡ runOf plan schedule .stop
   unfolding outcomeOf run.outcomeOf
@@ -73,8 +86,8 @@ module _ (plan schedule area : List ℕ) (p : Played) (h : answered p ≡ played
     count = ap (λ (n : ℕ). 3 * n) records-are ∙ sym (length-bytes (runOf plan schedule .log))
 
     after-is : after ≡ bytes ++ drop (length bytes) area
-    unfolding areaAfter areaBy overwrite
-    after-is = left ∙ ap (areaBy plan schedule area) not-refused
+    unfolding overwrite
+    after-is = left ∙ ran-area plan schedule area (outcomeOf (p .outcome)) ran-is
 
     -- it has room for the records
     pub within : (n : ℕ) → n ≤ 3 * p .outcome .records → n ≤ length after

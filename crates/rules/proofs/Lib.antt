@@ -11,7 +11,9 @@ pub mod NewKeys
 pub mod Equivalence
 pub mod Preserved
 pub mod Progress
+pub mod ThreadStates
 pub mod Executed
+pub mod RunAppend
 pub mod Marked
 pub mod KeyBridge
 pub mod Bridge

@@ -8,6 +8,7 @@ use Rattle.player.specs.Outcomes.{outcomeBy}
 use Rattle.plan.proofs.Stages.{passed-refused}
 use Rattle.play_refusals.proofs.Passed.{Passed, Inside, inside, by-code}
 use Rattle.player.proofs.Entry.{refused-answer, refused-area, ran-answer, ran-area}
+use Rattle.player.proofs.Executed.{ran-whole}
 use Rattle.player.proofs.play.Statement.{statement}
 use Rattle.player.proofs.play.Tie as tie
 
@@ -37,7 +38,10 @@ returns c =
     let h = c .before .before .before .refusal .ensures .0 in
     let e = c .before .enum-told2 .given .1 in (
       refused-answer (a .plan .now) (a .schedule .now) (a .log .now) _ h _ _ e (c .refused .result) (c .refused .ensures .0),
-      (refused-area (a .plan .now) (a .schedule .now) (a .log .now) _ h _ _ e, λ k i q. c .refused .ensures .1),
+      (
+        refused-area (a .plan .now) (a .schedule .now) (a .log .now) _ h _ _ e,
+        (λ k i q. c .refused .ensures .1, λ q. passed-refused q (c .refused .ensures .0 ∙ e)),
+      ),
     )
 
 procedures-requires : tie.Need-procedures-requires
@@ -68,13 +72,10 @@ returns-2 c =
     let x = c .before .before .before .before .before .before .before .before .before .before .before .before .refusal in
     let w = x .ensures .1 e in
     let r : Roots (a .plan .now) (procedures (a .plan .now)) (c .before .before .before .before .before .before .before .before .roots .result) = λ i q. c .before .before .before .before .before .before .before .before .roots .ensures i (omega (arith, c .before .before .before .before .before .before .before .before .before .procedures .ensures)) in
-    let m = c .before .before .before .before .before .before .before .volatiles .ensures in (
-      ran-answer (a .plan .now) (a .schedule .now) (a .log .now) _ (x .ensures .0) e _ _ w r _ m _ (c .outcome-of .ensures ∙ ap outcomeBy (c .before .before .before .run .ensures .0)),
-      (
-        c .before .before .before .run .ensures .1 ∙ ran-area (a .plan .now) (a .schedule .now) (a .log .now) _ (x .ensures .0) e _ _ w r _ m,
-        λ k i q. passed-refused e q,
-      ),
-    )
+    let m = c .before .before .before .before .before .before .before .volatiles .ensures in
+    ran-whole (a .plan .now) (a .schedule .now) (a .log .now) _ _ e
+    (ran-answer (a .plan .now) (a .schedule .now) (a .log .now) _ (x .ensures .0) e _ _ w r _ m _ (c .outcome-of .ensures ∙ ap outcomeBy (c .before .before .before .run .ensures .0)))
+    (c .before .before .before .run .ensures .1 ∙ ran-area (a .plan .now) (a .schedule .now) (a .log .now) _ (x .ensures .0) e _ _ w r _ m)
 
 pub play-spec : {M : Type 1} → statement M
 play-spec =
