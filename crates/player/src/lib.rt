@@ -9,7 +9,7 @@ ghost use Rattle.player.specs.Answer.{answered, NoRunIfRefused};
 ghost use Rattle.player.specs.Roots.{Roots};
 use crate::outcome::Played;
 use header::layout;
-use plan::Checked;
+use refusals::Checked;
 
 // The roots of the procedures.
 fn roots(plan: &[u8], procedures: usize) -> [usize; 32]
