@@ -13,6 +13,7 @@ pub mod Preserved
 pub mod Progress
 pub mod Executed
 pub mod Marked
+pub mod Depths
 pub mod KeyBridge
 pub mod Bridge
 pub mod RoomLaws
