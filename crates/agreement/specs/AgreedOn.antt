@@ -5,7 +5,7 @@ use mathlib.Core.List.{List}
 use lib.ListN.{length}
 use Rattle.order.specs.Judge.{named}
 use Rattle.packed.specs.Trees.{programOf}
-use Rattle.plan.specs.declared.Checked.the-variants as checked
+use Rattle.refusals.specs.declared.Checked.the-variants as checked
 use Rattle.rules.specs.Play.{runOf}
 use Rattle.player.specs.Answer.{stopOf}
 use Rattle.judge.specs.declared.Judgement.the-variants as judgement

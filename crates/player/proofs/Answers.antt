@@ -4,11 +4,11 @@ use native.Mathlib.Omega.{arith}
 use mathlib.Core.Path.{_≡_, refl, sym, ap, _∙_}
 use mathlib.Core.List.{List, [], _∷_, map}
 use lib.ListN.{length, length-map}
+use Rattle.format.specs.Area.{overwrite}
 use Rattle.packed.specs.Format.{procedures, terms, volatiles}
 use Rattle.packed.specs.Trees.{programOf}
 use Rattle.records.specs.Packed.{bytesOf}
 use Rattle.rules.specs.Run as run
-use Rattle.rules.specs.Play as play
 use Rattle.state.specs.declared.acted.Room.{Room}
 use Rattle.state.specs.declared.acted.Room.the-variants as room
 use Rattle.look.specs.declared.Sight.{Sight}
@@ -81,7 +81,7 @@ module _ (plan schedule area ws rs : List ℕ) (pass : Passed plan schedule area
   loaded = record { words = words .each; roots = roots }
 
   defined : (outcomeMeant (playOf ws rs (volatiles plan) (startOf rs area) schedule 0 .ran) ≡ run.outcomeOf (programOf plan) (run.play (programOf plan) schedule))
-      × (playOf ws rs (volatiles plan) (startOf rs area) schedule 0 .area ≡ play.overwrite (bytesOf (run.play (programOf plan) schedule .log)) area)
+      × (playOf ws rs (volatiles plan) (startOf rs area) schedule 0 .area ≡ overwrite (bytesOf (run.play (programOf plan) schedule .log)) area)
   defined = plays-defined plan ws rs (pass .plan-passes) loaded schedule area (pass .small) (pass .wide)
 
   eight : length (playOf ws rs (volatiles plan) (startOf rs area) schedule 0 .ran .threads) ≡ 8
@@ -93,5 +93,5 @@ module _ (plan schedule area ws rs : List ℕ) (pass : Passed plan schedule area
   outcome-defined = outcome-same _ eight ∙ defined .0
 
   -- the log area
-  pub area-defined : playOf ws rs (volatiles plan) (startOf rs area) schedule 0 .area ≡ play.overwrite (bytesOf (run.play (programOf plan) schedule .log)) area
+  pub area-defined : playOf ws rs (volatiles plan) (startOf rs area) schedule 0 .area ≡ overwrite (bytesOf (run.play (programOf plan) schedule .log)) area
   area-defined = defined .1

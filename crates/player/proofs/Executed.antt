@@ -3,8 +3,8 @@ use Prim.Native.Nat.{ℕ}
 use mathlib.Core.Path.{_≡_, sym, _∙_, subst as along}
 use mathlib.Core.List.{List}
 use Rattle.packed.specs.Trees.{programOf}
-use Rattle.plan.specs.declared.Checked.the-variants as checked
-use Rattle.plan.proofs.Stages.{passed-refused}
+use Rattle.refusals.specs.declared.Checked.the-variants as checked
+use Rattle.refusals.proofs.Stages.{passed-refused}
 use Rattle.rules.specs.Run as run
 use Rattle.rules.specs.Executed.{Executed}
 use Rattle.rules.specs.Play as play

@@ -4,20 +4,21 @@ use native.Mathlib.Nat.{sub-zero}
 use native.Mathlib.Omega.{arith}
 use mathlib.Core.Path.{_≡_, refl, sym, ap, _∙_}
 use mathlib.Core.Bool.{true≢false}
-use mathlib.Core.List.{List, _++_}
+use mathlib.Core.List.{List}
 use mathlib.Core.Option.{Option, some, none}
-use lib.ListN.{length, length-append, take, drop}
-use lib.Seq.{take-append-seam}
+use lib.ListN.{length, take}
 use Rattle.format.specs.Refusal.{Refusal}
+use Rattle.format.specs.Area.{overwrite}
+use Rattle.format.proofs.AreaLaws.{overwrite-first, overwrite-covers}
 use Rattle.packed.specs.Trees.{programOf}
 use Rattle.packed.proofs.Decoded.{well-formed}
-use Rattle.plan.specs.declared.Checked.{Checked}
-use Rattle.plan.specs.declared.Checked.the-variants as checked
+use Rattle.refusals.specs.declared.Checked.{Checked}
+use Rattle.refusals.specs.declared.Checked.the-variants as checked
 use Rattle.records.specs.Packed.{bytesOf}
 use Rattle.records.proofs.RoundTrip.{length-bytes}
 use Rattle.rules.specs.Run as run
 use Rattle.rules.specs.Play as play
-use Rattle.rules.specs.Play.{playRefusal, played, playedBy, areaAfter, areaBy, overwrite, runOf}
+use Rattle.rules.specs.Play.{playRefusal, played, playedBy, areaAfter, areaBy, runOf}
 use Rattle.rules.proofs.TidyRuns.{tidy-play}
 use Rattle.player.specs.declared.outcome.Played.{Played}
 use Rattle.player.specs.Answer.{stopOf, outcomeOf, answeredBy, answered}
@@ -85,14 +86,13 @@ module _ (plan schedule area : List ℕ) (p : Played) (h : answered p ≡ played
     count : 3 * p .outcome .records ≡ length bytes
     count = ap (λ (n : ℕ). 3 * n) records-are ∙ sym (length-bytes (runOf plan schedule .log))
 
-    after-is : after ≡ bytes ++ drop (length bytes) area
-    unfolding overwrite
+    after-is : after ≡ overwrite bytes area
     after-is = left ∙ ran-area plan schedule area (outcomeOf (p .outcome)) ran-is
 
     -- it has room for the records
     pub within : (n : ℕ) → n ≤ 3 * p .outcome .records → n ≤ length after
-    within n q = omega (arith, q, count, ap (λ (l : List ℕ). length l) after-is, length-append bytes (drop (length bytes) area))
+    within n q = omega (arith, q, count, ap (λ (l : List ℕ). length l) after-is, overwrite-covers bytes area)
 
     -- and begins with them
     pub begins : (n : ℕ) → n ≡ 3 * p .outcome .records → take (n - 0) after ≡ bytesOf (runOf plan schedule .log)
-    begins n q = ap (λ (k : ℕ). take k after) (sub-zero n ∙ q ∙ count) ∙ ap (take (length bytes)) after-is ∙ take-append-seam bytes (drop (length bytes) area)
+    begins n q = ap (λ (k : ℕ). take k after) (sub-zero n ∙ q ∙ count) ∙ ap (take (length bytes)) after-is ∙ overwrite-first bytes area

@@ -20,8 +20,8 @@ use Rattle.player.specs.declared.outcome.ThreadState.the-variants as sta
 use Rattle.player.specs.declared.outcome.Thread.{Thread}
 use Rattle.player.specs.declared.outcome.Outcome.{Outcome}
 use Rattle.player.specs.declared.outcome.Played.{Played}
-use Rattle.plan.specs.declared.Checked.{Checked}
-use Rattle.plan.specs.declared.Checked.the-variants as checked
+use Rattle.refusals.specs.declared.Checked.{Checked}
+use Rattle.refusals.specs.declared.Checked.the-variants as checked
 
 -- "no room (thread, object, key, depth)"
 unfoldable pub roomOf : NoRoom → rules.Room

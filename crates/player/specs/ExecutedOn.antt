@@ -3,11 +3,11 @@ use Prim.Native.Nat.{ℕ}
 use mathlib.Core.Path.{_≡_}
 use mathlib.Core.List.{List}
 use Rattle.packed.specs.Trees.{programOf}
-use Rattle.plan.specs.declared.Checked.the-variants as checked
+use Rattle.refusals.specs.declared.Checked.the-variants as checked
 use Rattle.records.specs.Record.{Record}
 use Rattle.records.specs.Packed.{bytesOf}
 use Rattle.rules.specs.Executed.{Executed}
-use Rattle.rules.specs.Play.{overwrite}
+use Rattle.format.specs.Area.{overwrite}
 use Rattle.player.specs.declared.outcome.Played.{Played}
 use Rattle.player.specs.Answer.{outcomeOf}
 

@@ -10,7 +10,7 @@ ghost use Rattle.player.specs.ExecutedOn.{ExecutedIfPassed};
 ghost use Rattle.player.specs.Roots.{Roots};
 use crate::outcome::Played;
 use header::layout;
-use plan::Checked;
+use refusals::Checked;
 
 // The roots of the procedures.
 fn roots(plan: &[u8], procedures: usize) -> [usize; 32]

@@ -6,7 +6,7 @@ ghost use Rattle.player.specs.Outcomes.{roomBy, stopBy, stateBy, threads
 use engine::Ran;
 use engine::Seen;
 use look::Sight;
-use plan::Checked;
+use refusals::Checked;
 use state::acted::Room;
 
 // No room for a thread, an object, a key or a depth.

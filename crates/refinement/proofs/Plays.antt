@@ -16,7 +16,7 @@ use Rattle.records.specs.Packed.{bytesOf}
 use Rattle.rules.specs.Room as rooms
 use Rattle.rules.specs.Step.{forMonitor, forJoin, missingField, notThread}
 use Rattle.rules.specs.Run.{Stop, Status, Outcome, play, outcomeOf}
-use Rattle.rules.specs.Play.{overwrite}
+use Rattle.format.specs.Area.{overwrite}
 use Rattle.machine.specs.Machine as machine
 use Rattle.machine.specs.Playing.{tableOf}
 use Rattle.machine.specs.Playing as playing

@@ -15,6 +15,7 @@ pub mod ThreadStates
 pub mod Executed
 pub mod RunAppend
 pub mod Marked
+pub mod Depths
 pub mod KeyBridge
 pub mod Bridge
 pub mod RoomLaws

@@ -4,7 +4,7 @@ ghost use Rattle.packed.specs.Check.{refusal};
 ghost use Rattle.rules.specs.Play.{played, areaAfter};
 ghost use Rattle.numbers.specs.Numbers.{checkNumber, playNumber, JudgeReturns};
 ghost use Rattle.ruqzhemil.specs.Bytes.{outAfter};
-use plan::Checked;
+use refusals::Checked;
 
 // 0 for a plan that passes; else the refusal, number * 65536 + place.
 #[no_mangle]

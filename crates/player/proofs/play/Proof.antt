@@ -5,7 +5,7 @@ use borrow.Author.Needs.{needs}
 use Rattle.packed.specs.Format.{procedures}
 use Rattle.player.specs.Roots.{Roots}
 use Rattle.player.specs.Outcomes.{outcomeBy}
-use Rattle.plan.proofs.Stages.{passed-refused}
+use Rattle.refusals.proofs.Stages.{passed-refused}
 use Rattle.play_refusals.proofs.Passed.{Passed, Inside, inside, by-code}
 use Rattle.player.proofs.Entry.{refused-answer, refused-area, ran-answer, ran-area}
 use Rattle.player.proofs.Executed.{ran-whole}
