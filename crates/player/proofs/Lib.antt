@@ -1,4 +1,3 @@
-pub mod EightThreads
 pub mod Answers
 pub mod Entry
 pub mod Ran

@@ -1,4 +1,3 @@
 pub mod Answer
 pub mod ExecutedOn
-pub mod Outcomes
 pub mod Roots

@@ -11,6 +11,7 @@ ghost use Rattle.player.specs.Roots.{Roots};
 use crate::outcome::Played;
 use header::layout;
 use refusals::Checked;
+use state::Setting;
 
 // The roots of the procedures.
 fn roots(plan: &[u8], procedures: usize) -> [usize; 32]
@@ -42,8 +43,8 @@ pub fn play(plan: &[u8], schedule: &[u8], log: &mut [u8]) -> Played
     let procedures = layout::procedures(plan);
     let roots = roots(plan, procedures);
     let mask = layout::volatiles(plan);
-    let ran = engine::run(&words, &roots, mask, schedule, log);
-    let outcome = outcome::outcome_of(ran);
+    let setting = Setting { mask: mask };
+    let outcome = engine::run(&words, &roots, setting, schedule, log);
     Played {
         checked: checked,
         outcome: outcome,
