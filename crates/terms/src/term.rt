@@ -1,6 +1,6 @@
 // The 40 bits of a term, and where its tag and its operands stand in them.
 ghost use mathlib.Core.Path.{_≡_};
-ghost use Prim.Native.Nat.{_+_, _*_, _≤_};
+ghost use Prim.Native.Nat.{_+_, _*_, _<_, _≤_};
 ghost use lib.ListN.{length};
 ghost use Rattle.packed.specs.Format;
 ghost use Rattle.packed.specs.Steps.{wordAt};
@@ -32,8 +32,8 @@ pub const ARGUMENTS: usize = 1048576; // the list after a procedure
 
 // The 40 bits of a term.
 pub fn word_at(plan: &[u8], procedures: usize, term: usize) -> usize
-    requires { ⌜ (procedures ≡ Format.procedures (now plan)) × (8 + 2 * procedures + 5 * term + 5 ≤ length (now plan)) ⌝ }
+    requires { ⌜ (procedures ≡ Format.procedures (now plan)) × (term < 1024) × (8 + 2 * procedures + 5 * term + 5 ≤ length (now plan)) ⌝ }
     ensures { λ r. ⌜ r ≡ wordAt (now (plan .entry)) term ⌝ }
 {
-    byte_numbers::five(plan, 8 + 2 * procedures + 5 * term)
+    bit_reader::field(plan, (8 + 2 * procedures + 5 * term) * 8, 40)
 }

@@ -1,6 +1,7 @@
 -- `lower_call`: a list counted to nine is as long as the parameters, or not.
 use mathlib.Core.Path.{_≡_, sym, ap, _∙_}
 use native.Mathlib.Omega.{arith}
+use borrow.Author.Needs.{needs}
 use borrow.Author.Tests.{lt-ltb, le-ltb, eq-eqb, ne-eqb}
 use Prim.Native.Nat.{_/_}
 use mathlib.Core.Bool.{not}
@@ -54,7 +55,7 @@ parameters-requires c κs =
     let k : tagAt b (a .term) ≡ 8 = tag-was b (a .term) w e 8 (c .before .if1 .left) in
     let q = callee-below b (a .procedures) (a .count) (a .term) r h w e k in
     let z = r .headed .sized in
-    omega (arith, q, z)
+    (search needs, omega (arith, q, z))
 
 returns-2 : tie.Need-returns-2
 returns-2 c =
