@@ -5,8 +5,6 @@ use borrow.Fn.Kinds.{PK, In}
 use borrow.Fn.PlainCycle.{Measures, is, falls, and}
 use Rattle.bound_slots.proofs.closed_condition.Kinds as closed-condition-kinds
 use Rattle.bound_slots.proofs.closed_condition.Reads as closed-condition
-use Rattle.bound_slots.proofs.closed_equal.Kinds as closed-equal-kinds
-use Rattle.bound_slots.proofs.closed_equal.Reads as closed-equal
 use Rattle.bound_slots.proofs.closed_expression.Kinds as closed-expression-kinds
 use Rattle.bound_slots.proofs.closed_expression.Reads as closed-expression
 use Rattle.bound_slots.proofs.closed_list.Kinds as closed-list-kinds
@@ -32,15 +30,6 @@ closed-condition-at = At closed-condition-kinds.ps μ-closed-condition closed-co
 
 abbrev pub closed-condition-below : ℕ → In 1 closed-condition-kinds.ps
 closed-condition-below = Below closed-condition-kinds.ps μ-closed-condition closed-condition.Pre
-
-abbrev pub μ-closed-equal : Measures 1 closed-equal-kinds.ps ℕ
-μ-closed-equal κs a = 3 * (1024 - a .1 .0)
-
-abbrev pub closed-equal-at : ℕ → In 1 closed-equal-kinds.ps
-closed-equal-at = At closed-equal-kinds.ps μ-closed-equal closed-equal.Pre
-
-abbrev pub closed-equal-below : ℕ → In 1 closed-equal-kinds.ps
-closed-equal-below = Below closed-equal-kinds.ps μ-closed-equal closed-equal.Pre
 
 abbrev pub μ-closed-expression : Measures 1 closed-expression-kinds.ps ℕ
 μ-closed-expression κs a = 3 * (1024 - a .1 .0) + 1

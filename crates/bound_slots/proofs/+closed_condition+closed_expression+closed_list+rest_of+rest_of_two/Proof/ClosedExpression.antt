@@ -9,8 +9,8 @@ use Rattle.packed.proofs.WalkSteps.{here}
 use Rattle.bound_slots.specs.Left.{seen, After}
 use Rattle.bound_slots.proofs.closed_expression.Reads.{Post}
 use Rattle.bound_slots.proofs.rest_of.Reads as rest-of
-use Rattle.bound_slots.proofs.+closed_condition+closed_equal+closed_expression+closed_list+rest_of+rest_of_two.Proof.Measures.{closed-expression-at, rest-of-below}
-use Rattle.bound_slots.proofs.+closed_condition+closed_equal+closed_expression+closed_list+rest_of+rest_of_two.Lts-closed_expression as lts
+use Rattle.bound_slots.proofs.+closed_condition+closed_expression+closed_list+rest_of+rest_of_two.Proof.Measures.{closed-expression-at, rest-of-below}
+use Rattle.bound_slots.proofs.+closed_condition+closed_expression+closed_list+rest_of+rest_of_two.Lts-closed_expression as lts
 
 abbrev Inv : lts.InvT-loop
 Inv words from outer term₀ bound₀ term bound = (from ≤ term) × (term < 1024) × (closed (slots bound) (treeIn words term) ≡ closed (slots outer) (treeIn words from))
