@@ -2,7 +2,7 @@
 use Prim.Native.Nat.{ℕ, _+_}
 use mathlib.Core.Bool.{cond}
 use lib.Dec.{leb}
-use Rattle.keys.specs.KeySet.{learnOf, joinOf}
+use Rattle.keys.specs.KeySet.{learnOf, joinOf, joinedOf}
 use Rattle.frames.specs.Going.{goValue}
 use Rattle.state.specs.declared.Head.{Head}
 use Rattle.state.specs.declared.Cell.{Cell}
@@ -12,13 +12,13 @@ use Rattle.run_outcome.specs.declared.NoRoom.the-variants as room
 use Rattle.state.specs.declared.Setting.{Setting}
 use Rattle.state.specs.declared.acted.Act.{Act}
 use Rattle.state.specs.declared.acted.Act.the-variants as act
-use Rattle.state.specs.Acted.{entryOf, cellOf, countsOf, actedOf}
+use Rattle.state.specs.Acted.{entryOf, cellOf, countsOf, actedOf, heardOf}
 use Rattle.look.specs.Look.{hasOf}
 
 unfoldable pub actRead : Setting → Counts → Head → Cell → ℕ → ℕ → Act
 actRead g n h c o f =
     cond (hasOf (g .mask) f)
-    (actedOf (goValue (c .value)) n (joinOf (h .keys) (c .keys)) c (entryOf (kindNumber Kind.readv) o f (c .value)))
+    (heardOf (goValue (c .value)) n (joinedOf (h .keys) (c .keys)) c (entryOf (kindNumber Kind.readv) o f (c .value)))
     (actedOf (goValue (c .value)) n (h .keys) c (entryOf (kindNumber Kind.read) o f (c .value)))
 
 unfoldable pub actWrite : Setting → Counts → Head → Cell → ℕ → ℕ → ℕ → Act

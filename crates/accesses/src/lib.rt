@@ -12,6 +12,7 @@ use state::acted::Act;
 use state::acted::acted_of;
 use state::acted::cell_with;
 use state::acted::entry;
+use state::acted::heard;
 
 pub fn act_read(
     setting: Setting,
@@ -28,9 +29,9 @@ pub fn act_read(
     let go = go::value(value);
     if look::has(setting.mask, field) {
         let cell_keys = cell.keys;
-        let all = keys.join(cell_keys);
+        let joined = keys.join(cell_keys);
         let entry = entry(kind::VOLATILE_READ, object, field, value);
-        return acted_of(go, counts, all, cell, entry);
+        return heard(go, counts, joined, cell, entry);
     }
     let entry = entry(kind::READ, object, field, value);
     acted_of(go, counts, keys, cell, entry)
@@ -51,7 +52,8 @@ pub fn act_write(
     let cell_keys = cell.keys;
     let go = go::value(value);
     if look::has(setting.mask, field) {
-        let all = cell_keys.join(keys);
+        let joined = cell_keys.join(keys);
+        let all = joined.keys;
         let changed = cell_with(value, 0, all);
         let entry = entry(kind::VOLATILE_WRITE, object, field, value);
         return acted_of(go, counts, keys, changed, entry);

@@ -16,7 +16,7 @@ use Rattle.outcome_bytes.specs.Small.{SmallStatus, AllSmall, SmallOutcom
 use Rattle.outcome_bytes.specs.Parts.{headBytes}
 
 abbrev pub absent : Thread
-absent = record { state = state.Absent }
+absent = record { state = state.Absent; learnt = 0 }
 
 -- thread p
 abbrev pub threadAt : List Thread → ℕ → run.Status
@@ -42,7 +42,7 @@ spelled (suc n) [] e = absurd (omega arith)
 spelled (suc n) (x ∷ l) e = ap (λ (t : List Thread). x ∷ t) (spelled n l (omega arith))
 
 abbrev bytesOf : run.Stop → ℕ → ℕ → ℕ → List Thread → List ℕ
-bytesOf s k m r all = outcomeBytes (record { stop = s; picks = k; moves = m; records = r; threads = map (λ (t : Thread). statusOf (t .state)) all })
+bytesOf s k m r all = outcomeBytes (record { stop = s; picks = k; moves = m; records = r; threads = map (λ (t : Thread). statusOf (t .state)) all; totals = map (λ (t : Thread). t .learnt) all })
 
 abbrev putAll : run.Stop → ℕ → ℕ → ℕ → List Thread → List ℕ
 putAll s k m r all = turns (putThread all) 8 0 (headBytes (replicate 32 0) s k m r)
