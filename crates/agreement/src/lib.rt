@@ -4,7 +4,7 @@ ghost use mathlib.Core.Path.{_≡_};
 ghost use Prim.Native.Nat.{_-_, _≤_};
 ghost use lib.ListN.{length, take, drop};
 ghost use Rattle.format.specs.Version.{v1};
-ghost use Rattle.order.specs.Judge.{MayAnswer};
+ghost use Rattle.order.specs.Judge.{Answers};
 ghost use Rattle.rules.specs.Play.{played, areaAfter};
 ghost use Rattle.player.specs.Answer.{answered, NoRunIfRefused};
 ghost use Rattle.judge.specs.Answer as judge;
@@ -22,7 +22,7 @@ pub struct PlayedAndJudged {
 // The judge on a part of a log area, and on no other byte of it.
 fn judge_part(area: &[u8], start: usize, end: usize) -> Judgement
     requires { ⌜ (start ≤ end) × (end ≤ length (now area)) ⌝ }
-    ensures { λ r. ⌜ MayAnswer v1 (take (end - start) (drop start (now (area .entry)))) (judge.answered r) ⌝ }
+    ensures { λ r. ⌜ Answers v1 (take (end - start) (drop start (now (area .entry)))) (judge.answered r) ⌝ }
 {
     judge::judge(&area[start..end])
 }

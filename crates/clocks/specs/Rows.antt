@@ -1,9 +1,9 @@
 -- Rows of eight clocks. No reader of the entries' promises needs it. Assumes nothing.
-use Prim.Native.Nat.{ℕ, _+_, _<_, _≤_, max}
+use Prim.Native.Nat.{ℕ, zero, suc, _+_, _<_, _≤_, max}
 use mathlib.Core.Path.{_≡_}
-use mathlib.Core.Bool.{cond}
+use mathlib.Core.Bool.{Bool, false, _||_, cond}
 use mathlib.Core.List.{List, []}
-use lib.Dec.{eqb}
+use lib.Dec.{eqb, ltb}
 use lib.ListN.{getD}
 use Rattle.clocks.specs.declared.Row.{Row}
 
@@ -34,3 +34,8 @@ pub record OneEach (rows : List Row) : Type 0 where
 -- a log has at most 4,096 records, so that before the last of them no clock is over 4,095
 pub record Few (r : Row) : Type 0 where
   pub most : (u : ℕ) → u < 8 → clockOf r u ≤ 4095
+
+-- of the first n clocks of a row, one is lower than that of one of two others
+unfoldable pub lowerOf : ℕ → Row → Row → Row → Bool
+lowerOf zero own a b = false
+lowerOf (suc n) own a b = lowerOf n own a b || ltb (clockOf own n) (max (clockOf a n) (clockOf b n))

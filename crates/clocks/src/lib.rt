@@ -1,7 +1,7 @@
 // Rows of eight clocks. A row's clock of thread u says how many of u's records have reached what the row is of.
 ghost use mathlib.Core.Path.{_≡_};
 ghost use Prim.Native.Nat.{_<_, max};
-ghost use Rattle.clocks.specs.Rows.{Raised, Advanced, One, OneEach, Few};
+ghost use Rattle.clocks.specs.Rows.{Raised, Advanced, One, OneEach, Few, lowerOf};
 
 pub struct Row {
     pub clocks: [u16; 8],
@@ -40,6 +40,20 @@ pub fn advanced(own: Row, heard: Row, one: Row) -> Row
         thread += 1;
     }
     Row { clocks: clocks }
+}
+
+// One of the eight clocks of a row is lower than that of one of two others: what the two know has not all reached it.
+pub fn lower(own: Row, one: Row, other: Row) -> bool
+    ensures { λ r. ⌜ r ≡ lowerOf 8 own one other ⌝ }
+{
+    let mut found = false;
+    let mut thread = 0;
+    while thread < 8 {
+        let high = higher(one.clocks[thread], other.clocks[thread]);
+        found = found | (own.clocks[thread] < high);
+        thread += 1;
+    }
+    found
 }
 
 // The row with one record of a thread, and none of the others.

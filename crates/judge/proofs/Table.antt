@@ -93,7 +93,7 @@ source-reads : (c : Port → ℕ → ℕ) (t u : ℕ) (m : Option Port) → max 
 source-reads c t u none = omega arith
 source-reads c t u (some p) = refl
 
-module _ (v : Version) (r : Record) (H : List Record) (rows : List Row) (fits : Fits r) (long : length rows ≡ 1064) (S : Shows v H rows) where
+module _ (v : Version) (r : Record) (H : List Record) (rows : List Row) (fits : Fits r) (long : length rows ≡ 3112) (S : Shows v H rows) where
   abbrev from : ℕ
   from = rowOf (sourcePort v r)
 

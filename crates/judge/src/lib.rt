@@ -3,7 +3,7 @@ mod pass; // pass.rt: the pass by clocks
 
 ghost use Prim.Native.Nat.{_<_};
 ghost use Rattle.format.specs.Version.{v1, versionOf};
-ghost use Rattle.order.specs.Judge.{MayAnswer};
+ghost use Rattle.order.specs.Judge.{Answers};
 ghost use Rattle.judge.specs.Answer.{answered};
 
 // What the judge answers to a log.
@@ -16,17 +16,17 @@ pub enum Judgement {
     Ordered,
 }
 
-// The answer to any bytes. The choice among several unordered accesses is the program's; every choice is the index of an unordered access of
-// that log, and for a log not refused the answer is none, `Ordered`, exactly when it has no such access.
+// The answer to any bytes: for a log not refused the lowest index of a plain access with no chain from an earlier one that it conflicts with, or none,
+// `Ordered`, exactly when it has no such access.
 pub fn judge(log: &[u8]) -> Judgement
-    ensures { λ r. ⌜ MayAnswer v1 (now (log .entry)) (answered r) ⌝ }
+    ensures { λ r. ⌜ Answers v1 (now (log .entry)) (answered r) ⌝ }
 {
     judge_version(log, 1)
 }
 
 // The same for a log of a version: 1, or 0, in which volatile fields order nothing.
 fn judge_version(log: &[u8], version: usize) -> Judgement
-    ensures { λ r. ⌜ MayAnswer (versionOf version) (now (log .entry)) (answered r) ⌝ }
+    ensures { λ r. ⌜ Answers (versionOf version) (now (log .entry)) (answered r) ⌝ }
 {
     if log_refusals::wrong_length(log) {
         return Judgement::Refused {

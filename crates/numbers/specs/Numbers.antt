@@ -5,7 +5,7 @@ use mathlib.Core.List.{List}
 use mathlib.Core.Option.{Option, some, none}
 use Rattle.format.specs.Refusal.{Refusal}
 use Rattle.format.specs.Version.{v1}
-use Rattle.order.specs.Judge.{Judged, refused, named, MayAnswer}
+use Rattle.order.specs.Judge.{Judged, refused, named, Answers}
 use Rattle.rules.specs.Play as play
 
 -- a refusal: number * 65536 + place
@@ -28,8 +28,8 @@ judgeNumber (named none) = 0
 judgeNumber (named (some j)) = 2 ^ 32 + j
 judgeNumber (refused r) = 2 * 2 ^ 32 + refusalNumber r
 
--- the judge may return the number of any answer that a judge may give to the log: which of several unordered accesses is the program's choice
+-- the judge returns the number of its answer to the log, which is one
 pub record MayReturn (log : List ℕ) (n : ℕ) : Type 0 where
   pub answer : Judged
-  pub allowed : MayAnswer v1 log answer
+  pub allowed : Answers v1 log answer
   pub numbered : n ≡ judgeNumber answer

@@ -1,6 +1,7 @@
--- What comes of a case of the shot list, for any way to list the accesses that a judge of a log may name. Assumes nothing.
+-- What comes of a case of the shot list, for any judge of logs. Assumes nothing.
 use Prim.Native.Nat.{ℕ, _*_}
 use mathlib.Core.List.{List}
+use mathlib.Core.Option.{Option}
 use lib.ListN.{length, replicate, take}
 use Rattle.records.specs.Record.{Record}
 use Rattle.records.specs.Packed.{logOf}
@@ -17,12 +18,12 @@ unfolding areaAfter areaFor
 written plan picks records = take (3 * records) (areaAfter plan picks (areaFor picks))
 
 -- what comes of a plan and picks, where the judge reads the bytes that the play wrote
-unfoldable pub observedOf : (List Record → List ℕ) → List ℕ → List ℕ → Played → Expected
+unfoldable pub observedOf : (List Record → Option ℕ) → List ℕ → List ℕ → Played → Expected
 unfolding runOf written logOf
-observedOf unordered plan picks (Played.refused r) = Expected.refused (r .number) (r .place)
-observedOf unordered plan picks (Played.ran o) = Expected.ran o (runOf plan picks .log) (written plan picks (o .records)) (unordered (logOf (written plan picks (o .records))))
+observedOf judged plan picks (Played.refused r) = Expected.refused (r .number) (r .place)
+observedOf judged plan picks (Played.ran o) = Expected.ran o (runOf plan picks .log) (written plan picks (o .records)) (judged (logOf (written plan picks (o .records))))
 
 -- what comes of a case
-unfoldable pub observed : (List Record → List ℕ) → Shot → Expected
+unfoldable pub observed : (List Record → Option ℕ) → Shot → Expected
 unfolding observedOf played areaFor
-observed unordered x = observedOf unordered (x .plan) (x .picks) (played (x .plan) (x .picks) (areaFor (x .picks)))
+observed judged x = observedOf judged (x .plan) (x .picks) (played (x .plan) (x .picks) (areaFor (x .picks)))

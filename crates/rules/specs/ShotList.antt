@@ -1,16 +1,17 @@
 -- The shot list (document 01): the cases marked *, each with its plan, its picks and what must come of them. Assumes nothing.
 use Prim.Native.Nat.{ℕ}
 use mathlib.Core.List.{List, [], _∷_}
+use mathlib.Core.Option.{Option, some, none}
 use lib.ListN.{take}
 use Rattle.records.specs.Record.{new, read, write, acquire, release, fork, join, lacksRead, Record, entry}
 use Rattle.rules.specs.Step.{forJoin}
 use Rattle.rules.specs.Run.{Stop, end, race, Status, absent, finished, ready, waiting, lacking, Outcome}
 
--- what must come of a case: a refusal with its number and place, or a run with its outcome, its log, the log's bytes, and the indexes that a judge
--- of that log may name (none of them: it says none)
+-- what must come of a case: a refusal with its number and place, or a run with its outcome, its log, the log's bytes, and what the judge of that
+-- log names
 pub data Expected : Type 0 where
   refused : ℕ → ℕ → Expected
-  ran : Outcome → List Record → List ℕ → List ℕ → Expected
+  ran : Outcome → List Record → List ℕ → Option ℕ → Expected
 
 -- a case: its plan, its picks and what must come of them
 pub record Shot : Type 0 where
@@ -142,13 +143,13 @@ shots =
     record {
       plan = planP;
       picks = 0 ∷ 0 ∷ 0 ∷ 0 ∷ 0 ∷ 1 ∷ 0 ∷ [];
-      expected = ran (outcome race 6 6 4 (lacking 1 1 ∷ finished 0 ∷ absent ∷ absent ∷ absent ∷ absent ∷ absent ∷ absent ∷ [])) (entry new 0 1 0 0 ∷ entry fork 0 2 1 0 ∷ entry write 1 1 1 0 ∷ entry lacksRead 0 1 1 0 ∷ []) (0x10 ∷ 0x10 ∷ 0x00 ∷ 0x80 ∷ 0x20 ∷ 0x80 ∷ 0x32 ∷ 0x10 ∷ 0x80 ∷ 0xa0 ∷ 0x10 ∷ 0x80 ∷ []) (3 ∷ []);
+      expected = ran (outcome race 6 6 4 (lacking 1 1 ∷ finished 0 ∷ absent ∷ absent ∷ absent ∷ absent ∷ absent ∷ absent ∷ [])) (entry new 0 1 0 0 ∷ entry fork 0 2 1 0 ∷ entry write 1 1 1 0 ∷ entry lacksRead 0 1 1 0 ∷ []) (0x10 ∷ 0x10 ∷ 0x00 ∷ 0x80 ∷ 0x20 ∷ 0x80 ∷ 0x32 ∷ 0x10 ∷ 0x80 ∷ 0xa0 ∷ 0x10 ∷ 0x80 ∷ []) (some 3);
     }
     -- "* P with 0 0 0 0 0 0 1: end 7 7 4; the judge says none."
     ∷ record {
       plan = planP;
       picks = 0 ∷ 0 ∷ 0 ∷ 0 ∷ 0 ∷ 0 ∷ 1 ∷ [];
-      expected = ran (outcome end 7 7 4 (finished 0 ∷ finished 0 ∷ absent ∷ absent ∷ absent ∷ absent ∷ absent ∷ absent ∷ [])) (entry new 0 1 0 0 ∷ entry fork 0 2 1 0 ∷ entry read 0 1 1 0 ∷ entry write 1 1 1 0 ∷ []) (0x10 ∷ 0x10 ∷ 0x00 ∷ 0x80 ∷ 0x20 ∷ 0x80 ∷ 0x20 ∷ 0x10 ∷ 0x80 ∷ 0x32 ∷ 0x10 ∷ 0x80 ∷ []) ([]);
+      expected = ran (outcome end 7 7 4 (finished 0 ∷ finished 0 ∷ absent ∷ absent ∷ absent ∷ absent ∷ absent ∷ absent ∷ [])) (entry new 0 1 0 0 ∷ entry fork 0 2 1 0 ∷ entry read 0 1 1 0 ∷ entry write 1 1 1 0 ∷ []) (0x10 ∷ 0x10 ∷ 0x00 ∷ 0x80 ∷ 0x20 ∷ 0x80 ∷ 0x20 ∷ 0x10 ∷ 0x80 ∷ 0x32 ∷ 0x10 ∷ 0x80 ∷ []) (some 3);
     }
     -- "* P cut to 54 bytes: 1."
     ∷ record {
@@ -160,13 +161,13 @@ shots =
     ∷ record {
       plan = planP;
       picks = [];
-      expected = ran (outcome end 0 0 0 (ready ∷ absent ∷ absent ∷ absent ∷ absent ∷ absent ∷ absent ∷ absent ∷ [])) ([]) ([]) ([]);
+      expected = ran (outcome end 0 0 0 (ready ∷ absent ∷ absent ∷ absent ∷ absent ∷ absent ∷ absent ∷ absent ∷ [])) ([]) ([]) none;
     }
     -- "* `new` of eight fields passes;"
     ∷ record {
       plan = newOfEight;
       picks = 0 ∷ 0 ∷ [];
-      expected = ran (outcome end 2 2 1 (finished 1 ∷ absent ∷ absent ∷ absent ∷ absent ∷ absent ∷ absent ∷ absent ∷ [])) (entry new 0 1 0 0 ∷ []) (0x10 ∷ 0x10 ∷ 0x00 ∷ []) ([]);
+      expected = ran (outcome end 2 2 1 (finished 1 ∷ absent ∷ absent ∷ absent ∷ absent ∷ absent ∷ absent ∷ absent ∷ [])) (entry new 0 1 0 0 ∷ []) (0x10 ∷ 0x10 ∷ 0x00 ∷ []) none;
     }
     -- "* of nine: 4."
     ∷ record {
@@ -178,36 +179,36 @@ shots =
     ∷ record {
       plan = ifNotTrue;
       picks = 0 ∷ 0 ∷ 0 ∷ [];
-      expected = ran (outcome end 3 2 0 (finished 0 ∷ absent ∷ absent ∷ absent ∷ absent ∷ absent ∷ absent ∷ absent ∷ [])) ([]) ([]) ([]);
+      expected = ran (outcome end 3 2 0 (finished 0 ∷ absent ∷ absent ∷ absent ∷ absent ∷ absent ∷ absent ∷ absent ∷ [])) ([]) ([]) none;
     }
     -- "* With `not not true`: three."
     ∷ record {
       plan = ifNotNotTrue;
       picks = 0 ∷ 0 ∷ 0 ∷ 0 ∷ [];
-      expected = ran (outcome end 4 3 0 (finished 0 ∷ absent ∷ absent ∷ absent ∷ absent ∷ absent ∷ absent ∷ absent ∷ [])) ([]) ([]) ([]);
+      expected = ran (outcome end 4 3 0 (finished 0 ∷ absent ∷ absent ∷ absent ∷ absent ∷ absent ∷ absent ∷ absent ∷ [])) ([]) ([]) none;
     }
     -- "* `synch null do null`: three moves, two records."
     ∷ record {
       plan = synchNull;
       picks = 0 ∷ 0 ∷ 0 ∷ 0 ∷ [];
-      expected = ran (outcome end 4 3 2 (finished 0 ∷ absent ∷ absent ∷ absent ∷ absent ∷ absent ∷ absent ∷ absent ∷ [])) (entry acquire 0 0 0 0 ∷ entry release 0 0 0 0 ∷ []) (0x60 ∷ 0x00 ∷ 0x00 ∷ 0x70 ∷ 0x00 ∷ 0x00 ∷ []) ([]);
+      expected = ran (outcome end 4 3 2 (finished 0 ∷ absent ∷ absent ∷ absent ∷ absent ∷ absent ∷ absent ∷ absent ∷ [])) (entry acquire 0 0 0 0 ∷ entry release 0 0 0 0 ∷ []) (0x60 ∷ 0x00 ∷ 0x00 ∷ 0x70 ∷ 0x00 ∷ 0x00 ∷ []) none;
     }
     -- "* A second synch on null inside: four moves, two records."
     ∷ record {
       plan = synchTwice;
       picks = 0 ∷ 0 ∷ 0 ∷ 0 ∷ 0 ∷ [];
-      expected = ran (outcome end 5 4 2 (finished 0 ∷ absent ∷ absent ∷ absent ∷ absent ∷ absent ∷ absent ∷ absent ∷ [])) (entry acquire 0 0 0 0 ∷ entry release 0 0 0 0 ∷ []) (0x60 ∷ 0x00 ∷ 0x00 ∷ 0x70 ∷ 0x00 ∷ 0x00 ∷ []) ([]);
+      expected = ran (outcome end 5 4 2 (finished 0 ∷ absent ∷ absent ∷ absent ∷ absent ∷ absent ∷ absent ∷ absent ∷ [])) (entry acquire 0 0 0 0 ∷ entry release 0 0 0 0 ∷ []) (0x60 ∷ 0x00 ∷ 0x00 ∷ 0x70 ∷ 0x00 ∷ 0x00 ∷ []) none;
     }
     -- "* `join null` in main, 0 0 0: one move, waiting."
     ∷ record {
       plan = joinNull;
       picks = 0 ∷ 0 ∷ 0 ∷ [];
-      expected = ran (outcome end 3 1 0 (waiting (forJoin 0) ∷ absent ∷ absent ∷ absent ∷ absent ∷ absent ∷ absent ∷ absent ∷ [])) ([]) ([]) ([]);
+      expected = ran (outcome end 3 1 0 (waiting (forJoin 0) ∷ absent ∷ absent ∷ absent ∷ absent ∷ absent ∷ absent ∷ absent ∷ [])) ([]) ([]) none;
     }
     -- "* `join (fork null)`, 0 0 0: three moves, two records."
     ∷ record {
       plan = joinFork;
       picks = 0 ∷ 0 ∷ 0 ∷ [];
-      expected = ran (outcome end 3 3 2 (finished 0 ∷ finished 0 ∷ absent ∷ absent ∷ absent ∷ absent ∷ absent ∷ absent ∷ [])) (entry fork 0 1 1 0 ∷ entry join 0 1 1 0 ∷ []) (0x80 ∷ 0x10 ∷ 0x80 ∷ 0x90 ∷ 0x10 ∷ 0x80 ∷ []) ([]);
+      expected = ran (outcome end 3 3 2 (finished 0 ∷ finished 0 ∷ absent ∷ absent ∷ absent ∷ absent ∷ absent ∷ absent ∷ [])) (entry fork 0 1 1 0 ∷ entry join 0 1 1 0 ∷ []) (0x80 ∷ 0x10 ∷ 0x80 ∷ 0x90 ∷ 0x10 ∷ 0x80 ∷ []) none;
     }
     ∷ []
