@@ -1,1 +1,1 @@
-pub mod PortRows
+pub mod Choices

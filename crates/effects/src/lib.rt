@@ -1,2 +1,3 @@
-// What a record of a log does to the judge's clocks.
-pub mod rows; // rows.rt: the rows that it hears and tells, and must have heard
+// What a record of a log does to the judge's rows of clocks.
+pub mod places; // places.rt: the numbers of the places that a log's records are at
+pub mod rows; // rows.rt: the rows that a record hears and tells

@@ -1,22 +1,22 @@
 -- Conflicting accesses, by the clocks: whether the next record of a log conflicts with an earlier one that has no chain to it. Logs newest first.
 -- Assumes nothing.
 use Prim.Native.Nat.{ℕ, zero, suc, _<_, _≤_, max}
-use mathlib.Core.Path.{_≡_, refl, sym}
+use mathlib.Core.Path.{_≡_, refl, subst}
 use mathlib.Core.Bool.{Bool, true, false, cond, _||_}
 use mathlib.Core.List.{List, [], _∷_}
 use mathlib.Core.Logic.{_⊎_, inl, inr}
 use lib.Dec.{T, ltb, leb→le, le→leb}
 use mir.Facts.{or-yes}
 use native.Mathlib.Omega.{arith}
-use native.Mathlib.Decide.{ℕ-discrete, decLt}
+use native.Mathlib.Decide.{ℕ-discrete}
 use Rattle.format.specs.Version.{Version}
 use Rattle.records.specs.Record.{Kind, new, read, write, readv, writev, acquire, release, fork, join, lacksRead, lacksWrite, Record, isPlain}
 use Rattle.order.specs.Conflicts.{isWrite, Conflict}
 use Rattle.order.proofs.Tests.{or←}
 use Rattle.order.proofs.Newest.{At, here, back}
-use Rattle.order.proofs.Ports.{Port, ofThread, ofReads, ofWrites, isRead, Feeds}
+use Rattle.order.proofs.Ports.{Port, ofThread, ofAccesses, ofWrites, Feeds}
 use Rattle.order.proofs.Flow.{Reach}
-use Rattle.order.proofs.Clock.{count, clock}
+use Rattle.order.proofs.Clock.{clock, feeds, feeds→, feeds←}
 use Rattle.order.proofs.Heard.{Missed, behind→missed, missed→behind}
 
 -- some number below n passes
@@ -40,18 +40,27 @@ any← (suc n) g u b h = go (ℕ-discrete u n) (any← n g u)
     go (yes e) ih = or← (any n g) (g n) (inr (rw e at h))
     go (no e) ih = or← (any n g) (g n) (inl (ih (omega arith) h))
 
--- ---- the ports that a record is held against
+pub any-none : (n : ℕ) (g : ℕ → Bool) → any n g ≡ false → (u : ℕ) → u < n → g u ≡ false
+any-none n g e u b = go (g u) refl
+  where
+    go : (d : Bool) → g u ≡ d → g u ≡ false
+    go true q = absurd (subst T e (any← n g u b (rw q tt)))
+    go false q = q
 
--- an access must have heard the writes of its field, a write the reads too; any other record only itself
-abbrev pub heldWrites : Record → Port
-heldWrites r = cond (isPlain (r .kind)) (ofWrites (r .object) (r .field)) (ofThread (r .thread))
+-- ---- the port that a record is held against
 
-abbrev pub heldReads : Record → Port
-heldReads r = cond (isWrite (r .kind)) (ofReads (r .object) (r .field)) (ofThread (r .thread))
+-- a write must have heard the accesses of its field, a read the writes; any other record only itself
+abbrev pub heldBy : (writes plain : Bool) (t o f : ℕ) → Port
+heldBy true p t o f = ofAccesses o f
+heldBy false true t o f = ofWrites o f
+heldBy false false t o f = ofThread t
 
--- r's thread has not heard all of thread u that reaches them
+abbrev pub held : Record → Port
+held r = heldBy (isWrite (r .kind)) (isPlain (r .kind)) (r .thread) (r .object) (r .field)
+
+-- r's thread has not heard all of thread u that reaches it
 abbrev pub behind : Version → List Record → Record → ℕ → Bool
-behind v H r u = ltb (clock v H (ofThread (r .thread)) u) (max (clock v H (heldWrites r) u) (clock v H (heldReads r) u))
+behind v H r u = ltb (clock v H (ofThread (r .thread)) u) (clock v H (held r) u)
 
 -- the next record r conflicts with a record of H that does not reach it
 abbrev pub clashes : Version → List Record → Record → Bool
@@ -83,31 +92,13 @@ write-plain join h = absurd h
 write-plain lacksRead h = absurd h
 write-plain lacksWrite h = tt
 
-read-plain : (κ : Kind) → T (isRead κ) → T (isPlain κ)
-read-plain new h = absurd h
-read-plain read h = tt
-read-plain write h = absurd h
-read-plain readv h = absurd h
-read-plain writev h = absurd h
-read-plain acquire h = absurd h
-read-plain release h = absurd h
-read-plain fork h = absurd h
-read-plain join h = absurd h
-read-plain lacksRead h = tt
-read-plain lacksWrite h = absurd h
-
-read-or-write : (κ : Kind) → T (isPlain κ) → T (isRead κ) ⊎ T (isWrite κ)
-read-or-write new h = absurd h
-read-or-write read h = inl tt
-read-or-write write h = inr tt
-read-or-write readv h = absurd h
-read-or-write writev h = absurd h
-read-or-write acquire h = absurd h
-read-or-write release h = absurd h
-read-or-write fork h = absurd h
-read-or-write join h = absurd h
-read-or-write lacksRead h = inl tt
-read-or-write lacksWrite h = inr tt
+-- a record that is no access is held against its own thread
+pub not-plain-held : (κ : Kind) (t o f : ℕ) → isPlain κ ≡ false → heldBy (isWrite κ) (isPlain κ) t o f ≡ ofThread t
+not-plain-held κ t o f e = rw e (go (isWrite κ) refl)
+  where
+    go : (w : Bool) → isWrite κ ≡ w → heldBy w false t o f ≡ ofThread t
+    go true q = absurd (subst T e (write-plain κ (rw q tt)))
+    go false q = refl
 
 -- ---- the test decides
 
@@ -115,65 +106,55 @@ module _ (v : Version) (H : List Record) (r : Record) where
   abbrev Own : ℕ → ℕ
   Own u = clock v H (ofThread (r .thread)) u
 
-  -- behind a port that is the thread's own, or another
-  by-port : (b : Bool) (p : Port) (u : ℕ) → Own u < clock v H (cond b p (ofThread (r .thread))) u → T b × (Own u < clock v H p u)
-  by-port true p u h = (tt, h)
-  by-port false p u h = absurd (omega arith)
-
-  to-port : (b : Bool) (p : Port) (u : ℕ) → T b → Own u < clock v H p u → Own u < clock v H (cond b p (ofThread (r .thread))) u
-  to-port true p u t h = h
-  to-port false p u t h = absurd t
-
   pub clashes→ : T (clashes v H r) → Clash v H r
-  clashes→ h = which (decLt (Own u) (clock v H (heldWrites r) u))
+  clashes→ h = by (isWrite (r .kind)) (isPlain (r .kind)) refl refl less
     where
       u : ℕ
       u = any→ 8 (behind v H r) h .0
 
-      less : Own u < max (clock v H (heldWrites r) u) (clock v H (heldReads r) u)
-      less = leb→le (suc (Own u)) (max (clock v H (heldWrites r) u) (clock v H (heldReads r) u)) (any→ 8 (behind v H r) h .1)
+      less : Own u < clock v H (held r) u
+      less = leb→le (suc (Own u)) (clock v H (held r) u) (any→ 8 (behind v H r) h .1)
 
-      which : Dec (Own u < clock v H (heldWrites r) u) → Clash v H r
-      which (yes k) =
-          let d = by-port (isPlain (r .kind)) (ofWrites (r .object) (r .field)) u k in
-          let m = behind→missed v H (r .thread) (ofWrites (r .object) (r .field)) u (d .1) in
-          record {
-            index = m .index;
-            other = m .feeder;
-            at-index = m .at-index;
-            conflict = record { earlier-plain = write-plain (m .feeder .kind) (m .feeds .0); later-plain = d .0; same-object = m .feeds .1; same-field = m .feeds .2; one-writes = inl (m .feeds .0) };
-            no-reach = m .no-reach;
-          }
-      which (no k) =
-          let d = by-port (isWrite (r .kind)) (ofReads (r .object) (r .field)) u (omega (arith, less)) in
-          let m = behind→missed v H (r .thread) (ofReads (r .object) (r .field)) u (d .1) in
-          record {
-            index = m .index;
-            other = m .feeder;
-            at-index = m .at-index;
-            conflict = record { earlier-plain = read-plain (m .feeder .kind) (m .feeds .0); later-plain = write-plain (r .kind) (d .0); same-object = m .feeds .1; same-field = m .feeds .2; one-writes = inr (d .0) };
-            no-reach = m .no-reach;
-          }
+      clash : (p : Port) → ((w : Record) → Feeds v w p → Conflict w r) → Own u < clock v H p u → Clash v H r
+      clash p c k =
+          let m = behind→missed v H (r .thread) p u k in
+          record { index = m .index; other = m .feeder; at-index = m .at-index; conflict = c (m .feeder) (m .feeds); no-reach = m .no-reach }
+
+      by : (w p : Bool) → isWrite (r .kind) ≡ w → isPlain (r .kind) ≡ p → Own u < clock v H (heldBy w p (r .thread) (r .object) (r .field)) u → Clash v H r
+      by true p e g k =
+          let t : T (isWrite (r .kind)) = rw e tt in
+          clash (ofAccesses (r .object) (r .field)) (λ w (a, x, y). record { earlier-plain = a; later-plain = write-plain (r .kind) t; same-object = x; same-field = y; one-writes = inr t }) k
+      by false true e g k =
+          clash (ofWrites (r .object) (r .field)) (λ w (a, x, y). record { earlier-plain = write-plain (w .kind) a; later-plain = rw g tt; same-object = x; same-field = y; one-writes = inl a }) k
+      by false false e g k = absurd (omega arith)
 
   pub clashes← : Eight H → Clash v H r → T (clashes v H r)
-  clashes← ei c = any← 8 (behind v H r) (c .other .thread) (ei (c .index) (c .other) (c .at-index)) (lt-T _ _ (go (read-or-write (c .other .kind) (c .conflict .earlier-plain)) (c .conflict .one-writes)))
+  clashes← ei c =
+      any← 8 (behind v H r) (c .other .thread) (ei (c .index) (c .other) (c .at-index))
+      (le→leb (suc (Own (c .other .thread))) (clock v H (held r) (c .other .thread)) (by (isWrite (r .kind)) (isPlain (r .kind)) refl refl))
     where
-      u : ℕ
-      u = c .other .thread
+      less : (p : Port) → Feeds v (c .other) p → Own (c .other .thread) < clock v H p (c .other .thread)
+      less p x = missed→behind v H (r .thread) p (record { index = c .index; feeder = c .other; at-index = c .at-index; feeds = x; no-reach = c .no-reach })
 
-      lt-T : (m n : ℕ) → m < n → T (ltb m n)
-      lt-T m n h = le→leb (suc m) n h
+      writes : isWrite (r .kind) ≡ false → T (isWrite (c .other .kind)) ⊎ T (isWrite (r .kind)) → T (isWrite (c .other .kind))
+      writes e (inl x) = x
+      writes e (inr x) = absurd (subst T e x)
 
-      missed : (p : Port) → Feeds v (c .other) p → Missed v H (r .thread) p
-      missed p x = record { index = c .index; feeder = c .other; at-index = c .at-index; feeds = x; no-reach = c .no-reach }
+      by : (w p : Bool) → isWrite (r .kind) ≡ w → isPlain (r .kind) ≡ p → Own (c .other .thread) < clock v H (heldBy w p (r .thread) (r .object) (r .field)) (c .other .thread)
+      by true p e g = less (ofAccesses (r .object) (r .field)) (c .conflict .earlier-plain, c .conflict .same-object, c .conflict .same-field)
+      by false true e g = less (ofWrites (r .object) (r .field)) (writes e (c .conflict .one-writes), c .conflict .same-object, c .conflict .same-field)
+      by false false e g = absurd (subst T g (c .conflict .later-plain))
 
-      of-write : T (isWrite (c .other .kind)) → Own u < max (clock v H (heldWrites r) u) (clock v H (heldReads r) u)
-      of-write w = omega (arith, to-port (isPlain (r .kind)) (ofWrites (r .object) (r .field)) u (c .conflict .later-plain) (missed→behind v H (r .thread) (ofWrites (r .object) (r .field)) (missed (ofWrites (r .object) (r .field)) (w, c .conflict .same-object, c .conflict .same-field))))
+-- ---- the writes of a field are among its accesses
 
-      of-read : T (isRead (c .other .kind)) → T (isWrite (r .kind)) → Own u < max (clock v H (heldWrites r) u) (clock v H (heldReads r) u)
-      of-read w x = omega (arith, to-port (isWrite (r .kind)) (ofReads (r .object) (r .field)) u x (missed→behind v H (r .thread) (ofReads (r .object) (r .field)) (missed (ofReads (r .object) (r .field)) (w, c .conflict .same-object, c .conflict .same-field))))
+among : (a b : Bool) (C D G : ℕ) → (T a → T b) → C ≤ D → cond a (max C G) C ≤ cond b (max D G) D
+among true true C D G i h = omega arith
+among true false C D G i h = absurd (i tt)
+among false true C D G i h = omega arith
+among false false C D G i h = h
 
-      go : T (isRead (c .other .kind)) ⊎ T (isWrite (c .other .kind)) → T (isWrite (c .other .kind)) ⊎ T (isWrite (r .kind)) → Own u < max (clock v H (heldWrites r) u) (clock v H (heldReads r) u)
-      go (inr w) o = of-write w
-      go (inl w) (inl x) = of-write x
-      go (inl w) (inr x) = of-read w x
+pub writes-among : (v : Version) (H : List Record) (o f u : ℕ) → clock v H (ofWrites o f) u ≤ clock v H (ofAccesses o f) u
+writes-among v [] o f u = omega arith
+writes-among v (r ∷ H) o f u =
+    among (feeds v r (ofWrites o f)) (feeds v r (ofAccesses o f)) _ _ _
+    (λ h. let d = feeds→ v r (ofWrites o f) h in feeds← v r (ofAccesses o f) (write-plain (r .kind) (d .0), d .1, d .2)) (writes-among v H o f u)

@@ -22,5 +22,4 @@ pub mod Turned
 pub mod Agree
 pub mod EverySet
 pub mod FirstConflict
-pub mod OneChain
 pub mod Samples

@@ -1,56 +1,46 @@
 -- `clocks::lower` meets its contract. The invariant: whether one of the clocks so far is lower. The measure is the count of clocks left. Assumes nothing.
-use Rattle.clocks.specs.Rows.{clockOf, lowerOf}
-use Rattle.clocks.specs.declared.Row.{Row}
+use Rattle.clocks.specs.Rows.{Row, clockOf, lowerOf}
 use native.Mathlib.Omega.{arith}
 use native.Mathlib.Numerals.{add-one}
 use mathlib.Core.Bool.{Bool, false, _||_}
-use mathlib.Core.Path.{_≡_, refl, subst, _∙_, ap}
-use Prim.Native.Nat.{ℕ, _+_, _-_, _<_, _≤_, max}
+use mathlib.Core.Path.{_≡_, refl, _∙_, ap}
+use Prim.Native.Nat.{ℕ, _+_, _-_, _≤_}
 use lib.Dec.{ltb}
 use borrow.Author.Needs.{needs}
 use Rattle.clocks.proofs.lower.Statement.{statement}
 use Rattle.clocks.proofs.lower.Tie as tie
 
-none-yet : (own a b : Row) → false ≡ lowerOf 0 own a b
+none-yet : (own heard : Row) → false ≡ lowerOf 0 own heard
 unfolding lowerOf
-none-yet own a b = refl
+none-yet own heard = refl
 
-one-more : (own a b : Row) (n high : ℕ) (found : Bool) → found ≡ lowerOf n own a b → high ≡ max (clockOf a n) (clockOf b n) → (found || ltb (clockOf own n) high) ≡ lowerOf (n + 1) own a b
+one-more : (own heard : Row) (n : ℕ) (found : Bool) → found ≡ lowerOf n own heard → (found || ltb (clockOf own n) (clockOf heard n)) ≡ lowerOf (n + 1) own heard
 unfolding lowerOf
-one-more own a b n high found e h = rw (add-one n, e, h)
+one-more own heard n found e = rw (add-one n, e)
 
-at-eight : (own a b : Row) (n : ℕ) (found : Bool) → n ≡ 8 → found ≡ lowerOf n own a b → found ≡ lowerOf 8 own a b
-at-eight own a b n found e h = h ∙ ap (λ (m : ℕ). lowerOf m own a b) e
+at-eight : (own heard : Row) (n : ℕ) (found : Bool) → n ≡ 8 → found ≡ lowerOf n own heard → found ≡ lowerOf 8 own heard
+at-eight own heard n found e h = h ∙ ap (λ (m : ℕ). lowerOf m own heard) e
 
 abbrev Inv-loop : tie.InvT-loop
-Inv-loop own one other found₀ thread₀ found thread = (thread ≤ 8) × (found ≡ lowerOf thread own one other)
+Inv-loop own heard found₀ thread₀ found thread = (thread ≤ 8) × (found ≡ lowerOf thread own heard)
 
 abbrev μ-loop : tie.MeasureT-loop
-μ-loop own one other found₀ thread₀ found thread = 8 - thread
+μ-loop own heard found₀ thread₀ found thread = 8 - thread
 
 loop-holds : tie.Need-loop-holds Inv-loop μ-loop
-loop-holds c = (omega arith, none-yet _ _ _)
-
-mul-higher : tie.Need-mul-higher Inv-loop μ-loop
-mul-higher c = search needs
-
-element-copy-out-higher : tie.Need-element-copy-out-higher Inv-loop μ-loop
-element-copy-out-higher c = search needs
-
-mul-higher-2 : tie.Need-mul-higher-2 Inv-loop μ-loop
-mul-higher-2 c = search needs
-
-element-copy-out-higher-2 : tie.Need-element-copy-out-higher-2 Inv-loop μ-loop
-element-copy-out-higher-2 c = search needs
-
-higher-requires : tie.Need-higher-requires Inv-loop μ-loop
-higher-requires c κs = search needs
+loop-holds c = (omega arith, none-yet _ _)
 
 mul-found : tie.Need-mul-found Inv-loop μ-loop
 mul-found c = search needs
 
-element-copy-out-found : tie.Need-element-copy-out-found Inv-loop μ-loop
-element-copy-out-found c = search needs
+array-read-found : tie.Need-array-read-found Inv-loop μ-loop
+array-read-found c = search needs
+
+mul-found-2 : tie.Need-mul-found-2 Inv-loop μ-loop
+mul-found-2 c = search needs
+
+array-read-found-2 : tie.Need-array-read-found-2 Inv-loop μ-loop
+array-read-found-2 c = search needs
 
 add-thread : tie.Need-add-thread Inv-loop μ-loop
 add-thread c = search needs
@@ -59,10 +49,10 @@ loop-less : tie.Need-loop-less Inv-loop μ-loop
 loop-less c = search needs
 
 loop-again : tie.Need-loop-again Inv-loop μ-loop
-loop-again c = (omega arith, one-more _ _ _ _ _ _ (c .before .before .before .before .before .loop .inv .1) (c .before .higher .ensures))
+loop-again c = (omega arith, one-more _ _ _ _ (c .before .loop .inv .1))
 
 returns : tie.Need-returns Inv-loop μ-loop
-returns c = at-eight _ _ _ _ _ (omega arith) (c .before .loop .inv .1)
+returns c = at-eight _ _ _ _ (omega arith) (c .before .loop .inv .1)
 
 pub lower-spec : {M : Type 1} → statement M
 lower-spec =
@@ -71,13 +61,10 @@ lower-spec =
     Inv-loop
     μ-loop
     loop-holds
-    mul-higher
-    element-copy-out-higher
-    mul-higher-2
-    element-copy-out-higher-2
-    higher-requires
     mul-found
-    element-copy-out-found
+    array-read-found
+    mul-found-2
+    array-read-found-2
     add-thread
     loop-less
     loop-again

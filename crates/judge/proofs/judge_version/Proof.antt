@@ -18,11 +18,19 @@ lowest-wrong-requires c κs = search needs
 returns-2 : tie.Need-returns-2
 returns-2 c = refuses (refused-record (c .before .before .before .before .before .args .log .now) (c .before .lowest-wrong .result) (sym (c .before .before .if1 .left) ∙ c .before .before .before .wrong-length .ensures) (c .before .lowest-wrong .ensures) (c .if2 .taken))
 
-pass-requires : tie.Need-pass-requires
-pass-requires c κs = not-refused (c .before .before .before .before .before .args .log .now) (c .before .lowest-wrong .result) (sym (c .before .before .if1 .left) ∙ c .before .before .before .wrong-length .ensures) (c .before .lowest-wrong .ensures) (c .if2 .left)
+short-requires : tie.Need-short-requires
+short-requires c κs =
+    (not-refused (c .before .before .before .before .before .before .args .log .now) (c .before .before .lowest-wrong .result) (sym (c .before .before .before .if1 .left) ∙ c .before .before .before .before .wrong-length .ensures) (c .before .before .lowest-wrong .ensures) (c .before .if2 .left), c .if3 .taken)
 
 returns-3 : tie.Need-returns-3
 returns-3 c = search needs
+
+long-requires : tie.Need-long-requires
+long-requires c κs =
+    not-refused (c .before .before .before .before .before .before .args .log .now) (c .before .before .lowest-wrong .result) (sym (c .before .before .before .if1 .left) ∙ c .before .before .before .before .wrong-length .ensures) (c .before .before .lowest-wrong .ensures) (c .before .if2 .left)
+
+returns-4 : tie.Need-returns-4
+returns-4 c = search needs
 
 pub judge-version-spec : {M : Type 1} → statement M
 judge-version-spec =
@@ -32,5 +40,7 @@ judge-version-spec =
     returns
     lowest-wrong-requires
     returns-2
-    pass-requires
-    returns-3)
+    short-requires
+    returns-3
+    long-requires
+    returns-4)
