@@ -6,7 +6,7 @@
  *
  * No pointer is null, even where its length is 0. The areas of one call do not overlap, and no other thread writes to them meanwhile.
  *
- * Stack: check needs up to 48 KB, play up to 128 KB, judge up to 32 KB; bench/run.sh measures them.
+ * Stack: check needs up to 48 KB, play up to 128 KB, judge up to 64 KB; bench/run.sh measures them.
  *
  * A refusal is number * 65536 + place; numbers are 1 to 12 and places at most 4,096:
  *

@@ -105,9 +105,9 @@ module _ {v : Version} {b : List ℕ} {i : ℕ} {N : List ℕ} {given : ℕ} {ro
   pub fits : Fits (recordAt b i)
   fits =
       record {
-        thread-fits = omega (arith, R .thread-is, R .thread-below);
-        object-fits = omega (arith, R .object-is, R .object-below);
-        field-fits = omega (arith, R .field-is, R .field-below);
+        thread-fits = omega (arith, R .thread-is, R .narrow .thread-below);
+        object-fits = omega (arith, R .object-is, R .narrow .object-below);
+        field-fits = omega (arith, R .field-is, R .narrow .field-below);
         fork-fits = λ e. fork-field _ _ _ e (right .columns);
         join-fits = λ e. join-field _ _ _ e (right .columns);
         acquire-fits = λ e. monitor-field _ _ _ (inl e) (right .columns);
@@ -121,15 +121,15 @@ module _ {v : Version} {b : List ℕ} {i : ℕ} {N : List ℕ} {given : ℕ} {ro
       record {
         kind-least = omega (arith, R .kind-is, right .kind-least);
         kind-most = omega (arith, R .kind-is, right .kind-most);
-        thread-below = R .thread-below;
-        object-below = R .object-below;
-        field-below = R .field-below;
+        thread-below = R .narrow .thread-below;
+        object-below = R .narrow .object-below;
+        field-below = R .narrow .field-below;
       }
 
   -- ---- the place's number
 
   place-below : c .object * 32 + c .field < 1024
-  place-below = omega (arith, R .object-below, R .field-below)
+  place-below = omega (arith, R .narrow .object-below, R .narrow .field-below)
 
   placed-here : Placed N′ given′ (c .object * 32 + c .field) n
   placed-here = placed N N′ given given′ (c .object * 32 + c .field) n (G .places) place-below (W .numbered) (W .given-is)
@@ -182,7 +182,7 @@ module _ {v : Version} {b : List ℕ} {i : ℕ} {N : List ℕ} {given : ℕ} {ro
       g ∙ rw (at-is at e, R .thread-is, kind-here) (also-row N′ (r .thread) (r .object) (r .field) (c .kind) (columns-known .kind-least) (columns-known .kind-most))
 
   pub own-below : c .thread < length rows
-  own-below = omega (arith, room-here, R .thread-below)
+  own-below = omega (arith, room-here, R .narrow .thread-below)
 
   pub source-below : (at from : ℕ) → at ≡ placeRow n → from ≡ sourceRow v c at → from < length rows
   source-below at from e g = omega (arith, source-is at from e g, from-inside v r (before b i) N′ given′ n rows fits placed-at room-here shows-here)

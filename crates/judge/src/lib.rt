@@ -41,8 +41,11 @@ fn judge_version(log: &[u8], version: usize) -> Judgement
             place: wrong,
         };
     }
-    if log.len() / 3 <= 256 {
+    if log.len() / 3 <= 64 {
         return pass::short(log, version);
+    }
+    if log.len() / 3 <= 512 {
+        return pass::middle(log, version);
     }
     pass::long(log, version)
 }

@@ -50,13 +50,23 @@ fn pass(log: &[u8], version: usize, rows: &mut [Row]) -> Judgement
     Judgement::Ordered
 }
 
-// The answer by rows for 256 places: clearing rows for all places would take longer than judging so few records.
+// The answer by rows for 64 places: clearing rows for all places would take longer than judging so few records.
 pub fn short(log: &[u8], version: usize) -> Judgement
-    requires { ⌜ logRefusal (now log) ≡ none ⌝ ∗ ⌜ length (now log) / 3 ≤ 256 ⌝ }
+    requires { ⌜ logRefusal (now log) ≡ none ⌝ ∗ ⌜ length (now log) / 3 ≤ 64 ⌝ }
     ensures { λ r. ⌜ Answers (versionOf version) (now (log .entry)) (answered r) ⌝ }
 {
     let clear = [0u16; 8];
-    let mut rows = [clear; 779];
+    let mut rows = [clear; 203];
+    pass(log, version, &mut rows)
+}
+
+// The answer by rows for 512 places.
+pub fn middle(log: &[u8], version: usize) -> Judgement
+    requires { ⌜ logRefusal (now log) ≡ none ⌝ ∗ ⌜ length (now log) / 3 ≤ 512 ⌝ }
+    ensures { λ r. ⌜ Answers (versionOf version) (now (log .entry)) (answered r) ⌝ }
+{
+    let clear = [0u16; 8];
+    let mut rows = [clear; 1547];
     pass(log, version, &mut rows)
 }
 

@@ -111,7 +111,7 @@ advanced-requires : tie.Need-advanced-requires Inv-loop μ-loop
 advanced-requires c κs =
     let ones = c .before .before .before .before .before .before .before .before .before .before .before .before .before .before .before .before .before .before .before .before .one-record-each in
     let columns = c .before .before .before .before .before .before .before .before .before .before .before .before .before .before .before .before .before .columns-at in
-    (own-few (here (c .before .before .before .before .before .before .before .before .before .before .before)), (heard-few (here (c .before .before .before .before .before .before .before .before .before .before .before)) (c .before .before .before .before .before .before .before .before .before .before .first .result) (c .before .before .before .before .before .before .before .before .before .source .result) (c .before .before .before .before .before .before .before .before .before .before .first .ensures) (c .before .before .before .before .before .before .before .before .before .source .ensures), one-few (ones .result) (ones .ensures) (columns .result .thread) (columns .ensures .thread-below)))
+    (own-few (here (c .before .before .before .before .before .before .before .before .before .before .before)), (heard-few (here (c .before .before .before .before .before .before .before .before .before .before .before)) (c .before .before .before .before .before .before .before .before .before .before .first .result) (c .before .before .before .before .before .before .before .before .before .source .result) (c .before .before .before .before .before .before .before .before .before .before .first .ensures) (c .before .before .before .before .before .before .before .before .before .source .ensures), one-few (ones .result) (ones .ensures) (columns .result .thread) (columns .ensures .narrow .thread-below)))
 
 raised-requires : tie.Need-raised-requires Inv-loop μ-loop
 raised-requires c κs = search needs
@@ -158,7 +158,7 @@ loop-again c =
       length-set (set (set (loop .rows) (columns .result .thread) (c .before .advanced .result)) (c .before .before .before .before .before .before .before .before .before .before .target .result) (c .raised .result)) (c .before .before .before .before .before .before .before .before .before .writes .result) (c .before .advanced .result) ∙ length-set (set (loop .rows) (columns .result .thread) (c .before .advanced .result)) (c .before .before .before .before .before .before .before .before .before .before .target .result) (c .raised .result)
           ∙ length-set (loop .rows) (columns .result .thread) (c .before .advanced .result) ∙ loop .inv .2,
       next-by (here (c .before .before .before .before .before .before .before .before .before .before .before .before .before)) (c .before .before .before .before .before .before .before .before .before .before .before .before .first .result) (c .before .before .before .before .before .before .before .before .before .before .before .source .result) (c .before .before .before .before .before .before .before .before .before .before .target .result) (c .before .before .before .before .before .before .before .before .before .writes .result) _ _ (rowAt (ones .result) (columns .result .thread)) (c .before .advanced .result) (c .raised .result) (c .before .before .before .before .before .before .before .before .before .before .before .before .first .ensures) (c .before .before .before .before .before .before .before .before .before .before .before .source .ensures) (c .before .before .before .before .before .before .before .before .before .before .target .ensures) (c .before .before .before .before .before .before .before .before .before .writes .ensures)
-          (c .before .before .before .before .before .before .access .ensures) (c .before .before .before .before .before .lower .ensures) (sym (c .before .before .before .before .if1 .left)) (ones .ensures .each (columns .result .thread) (columns .ensures .thread-below)) (c .before .advanced .ensures) (c .raised .ensures),
+          (c .before .before .before .before .before .before .access .ensures) (c .before .before .before .before .before .lower .ensures) (sym (c .before .before .before .before .if1 .left)) (ones .ensures .each (columns .result .thread) (columns .ensures .narrow .thread-below)) (c .before .advanced .ensures) (c .raised .ensures),
     )
 
 same-length-2 : tie.Need-same-length-2 Inv-loop μ-loop

@@ -1,4 +1,4 @@
--- `judge::pass::short` meets its contract: a log of at most 256 records is at no more than 256 places. Assumes nothing.
+-- `judge::pass::short` meets its contract: a log of at most 64 records is at no more than 64 places. Assumes nothing.
 use Rattle.judge.proofs.Going.{clear-rows}
 use native.Mathlib.Omega.{arith}
 use borrow.Author.Needs.{needs}
@@ -9,7 +9,7 @@ slice-aggregate-pass : tie.Need-slice-aggregate-pass
 slice-aggregate-pass c = search needs
 
 pass-requires : tie.Need-pass-requires
-pass-requires c κs = (c .before .before .pre .0, clear-rows _ 779 (λ n a b. let few = c .before .before .pre .1 in omega arith))
+pass-requires c κs = (c .before .before .pre .0, clear-rows _ 203 (λ n a b. let few = c .before .before .pre .1 in omega arith))
 
 returns : tie.Need-returns
 returns c = search needs
