@@ -1,4 +1,5 @@
--- Conflicting accesses that nothing orders (document 02, E7; document 001, definitions 6.3 and 6.7). Assumes nothing.
+-- The judge's unordered accesses: conflicting accesses that nothing orders (document 02, E7; document 001, definitions 6.3 and 6.7). Where a run stops is said
+-- by the last write, `Unordered` of `Chains`. Assumes nothing.
 use Prim.Native.Nat.{ℕ, _<_}
 use mathlib.Core.Path.{_≡_}
 use mathlib.Core.Bool.{Bool, true, false}
@@ -9,7 +10,7 @@ use Rattle.format.specs.Version.{Version}
 use Rattle.records.specs.Record.{Kind, new, read, write, readv, writev, acquire, release, fork, join, lacksRead, lacksWrite, Record, isPlain}
 use Rattle.order.specs.Chains.{At, Chain}
 
--- "writes (kind 3 or 11)"
+-- "writes (kind 3 or 11)", whether or not the write's key was there
 abbrev pub isWrite : Kind → Bool
 isWrite new = false
 isWrite read = false
@@ -23,7 +24,7 @@ isWrite join = false
 isWrite lacksRead = false
 isWrite lacksWrite = true
 
--- two plain accesses to one object and field, "at least one of the two writes"
+-- two plain accesses (2, 3, 10, 11) "to its object and field [..], at least one of the two writes": r is the earlier and s the later
 pub record Conflict (r s : Record) : Type 0 where
   pub earlier-plain : T (isPlain (r .kind))
   pub later-plain : T (isPlain (s .kind))
@@ -32,7 +33,7 @@ pub record Conflict (r s : Record) : Type 0 where
   pub one-writes : T (isWrite (r .kind)) ⊎ T (isWrite (s .kind))
 
 -- "A plain access is now unordered when some earlier plain access to its object and field exists, at least one of the two writes (kind 3 or 11),
--- and no chain joins them."
+-- and no chain joins them.": record j of the log is such an access. Chains lead from earlier records to later ones, so the chain is one from `index` to j.
 pub record Conflicting (v : Version) (L : List Record) (j : ℕ) : Type 0 where
   pub access : Record
   pub at-j : At L j access

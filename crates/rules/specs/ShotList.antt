@@ -145,7 +145,7 @@ shots =
       picks = 0 ∷ 0 ∷ 0 ∷ 0 ∷ 0 ∷ 1 ∷ 0 ∷ [];
       expected = ran (outcome race 6 6 4 (lacking 1 1 ∷ finished 0 ∷ absent ∷ absent ∷ absent ∷ absent ∷ absent ∷ absent ∷ [])) (entry new 0 1 0 0 ∷ entry fork 0 2 1 0 ∷ entry write 1 1 1 0 ∷ entry lacksRead 0 1 1 0 ∷ []) (0x10 ∷ 0x10 ∷ 0x00 ∷ 0x80 ∷ 0x20 ∷ 0x80 ∷ 0x32 ∷ 0x10 ∷ 0x80 ∷ 0xa0 ∷ 0x10 ∷ 0x80 ∷ []) (some 3);
     }
-    -- "* P with 0 0 0 0 0 0 1: end 7 7 4; the judge says none."
+    -- "* P with 0 0 0 0 0 0 1: end 7 7 4"; and of the judge, "That run of P is judged at record 3." (document 02, E7)
     ∷ record {
       plan = planP;
       picks = 0 ∷ 0 ∷ 0 ∷ 0 ∷ 0 ∷ 0 ∷ 1 ∷ [];
