@@ -6,7 +6,8 @@
  *
  * No pointer is null, even where its length is 0. The areas of one call do not overlap, and no other thread writes to them meanwhile.
  *
- * Stack: check needs up to 48 KB, play up to 128 KB, judge up to 64 KB; bench/run.sh measures them.
+ * Stack: check needs up to 48 KB, play up to 128 KB, judge up to 32 KB; bench/run.sh measures at most 33, 82 and 21 KB, over plans built to need
+ * much.
  *
  * A refusal is number * 65536 + place; numbers are 1 to 12 and places at most 4,096:
  *

@@ -5,6 +5,7 @@ import json
 import subprocess
 import sys
 
+LANDED = ["E2"]  # document 02's requests that the product has
 FILL = 0xA5  # what every lent area is filled with before a play
 OUTCOMES = ["end", "race", "no-thread", "no-object", "no-key", "no-depth"]
 STATES = {("absent",): 0, ("finished",): 1, ("ready",): 2, ("waiting", "monitor"): 3, ("waiting", "join"): 4, ("stuck", "field"): 5,
@@ -36,7 +37,7 @@ def running(words):
         yield sys.stdin
         return
     folder, seed, count = words
-    made = subprocess.Popen([sys.executable, folder + "/oracle.py", "vectors", seed, count], stdout=subprocess.PIPE)
+    made = subprocess.Popen([sys.executable, folder + "/oracle.py", "--landed", ",".join(LANDED), "vectors", seed, count], stdout=subprocess.PIPE)
     yield made.stdout
     if made.wait() != 0:
         sys.exit("the second interpreter ended with status %d" % made.returncode)

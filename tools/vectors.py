@@ -11,7 +11,7 @@ first.
   shot_logs, logs         logs for the judge: of the shot list, and any
 
 A play: lengths of plan, schedule and log area; what the judge says of the run (0 none, else the index and 1); the answer in 35 bytes (refusal and
-place; the static library's 32 bytes); plan, schedule, records. A log: refusal and place; how many indices the judge may name, and each; the log.
+place; the static library's 32 bytes); plan, schedule, records. A log: refusal and place; what the judge says (0 none, else the index and 1); the log.
 """
 
 import collections
@@ -21,7 +21,7 @@ import interpreter
 from interpreter import OUTCOMES, STATES, outcome_bytes, state_words
 
 LONG = 6000  # bytes of a case from which on only a few are kept
-KEPT = {"refused": 45, "end": 330, "long": 10, "log": 260}  # of each number, of runs to the end, of long cases, of logs by their unordered accesses
+KEPT = {"refused": 45, "end": 330, "long": 10, "log": 390}  # of each number, of runs to the end, of long cases, of logs with an unordered access and without
 
 
 # ---- the bytes of a case
@@ -36,17 +36,19 @@ def answer_bytes(want):
     return bytes([number]) + two(place) + outcome_bytes(want)
 
 
+def named_bytes(want):
+    """What the judge says: 0 for none, else the index and 1."""
+    return two(want["unordered"][0] + 1 if want.get("unordered") else 0)
+
+
 def play_bytes(plan, schedule, area, want):
-    named = want["judge"]["unordered"] if "judge" in want else []
-    assert len(named) <= 1, "a run has at most one unordered access"
-    head = two(len(plan)) + two(len(schedule)) + two(area) + two(named[0] + 1 if named else 0)
+    head = two(len(plan)) + two(len(schedule)) + two(area) + named_bytes(want.get("judge", {}))
     return head + answer_bytes(want) + plan + schedule + bytes.fromhex(want.get("log", ""))
 
 
 def log_bytes(log, want):
     number, place = want.get("refused", (0, 0))
-    indices = want.get("unordered", [])
-    return bytes([number]) + two(place) + two(len(indices)) + b"".join(map(two, indices)) + log
+    return bytes([number]) + two(place) + named_bytes(want) + log
 
 
 # ---- the cases of the second interpreter
@@ -64,7 +66,7 @@ def kind_of(case):
     if "refused" in want:
         return ("logs" if "judge" in case else "refused"), ("refused", want["refused"][0])
     if "judge" in case:
-        return "logs", ("log", min(len(want["unordered"]), 2))
+        return "logs", ("log", len(want["unordered"]))
     return "runs", (want["outcome"], "")
 
 
@@ -182,7 +184,9 @@ def main(argv):
     if len(argv) != 5:
         sys.exit(__doc__)
     sys.path.insert(0, argv[1])
+    import landed
     import oracle
+    landed.land(*interpreter.LANDED)
     files = chosen(interpreter.cases(argv[1:4]))
     files["shots"], files["shot_logs"] = shot_list(oracle)
     for name, stored in files.items():

@@ -53,15 +53,33 @@ fn moving() -> Vec<Input> {
     let ring: Vec<Procedure> = (0..32).map(|p| (0, call((p + 1) % 32, vec![]))).collect();
     let started = bind(0, object(), sequence(write(var(0), 2, var(0)), sequence(fork(deep.clone()), deep)));
     let calls = bind(0, object(), sequence(fork(first()), first()));
+    let eight_slots = || call(1, (0..8).map(var).collect());
+    let eight_nulls = call(1, vec![null(); 8]);
     let input = |name, plan, schedule: &[u8]| Input { name, plan, schedule: schedule.to_vec() };
     vec![
         input("monitors", packed(MONITOR, &[(0, both(locked))]), &two),
         input("volatile fields", packed(VOLATILE, &[(0, both(flags))]), &two),
         input("calls", packed(VOLATILE, &[(0, calls), (4, again)]), &two),
+        input("eight parameters", packed(MONITOR, &[(0, eight_nulls), (8, eight_slots())]), &vec![0; 4096]),
         input("deep", packed(VOLATILE, &[(0, started)]), &two),
         input("eight threads", packed(VOLATILE, &[(0, bind(0, object(), all))]), &picks(8, 4096)),
         input("conditions", packed(MONITOR, &[(0, both(tests))]), &two),
         input("32 procedures", packed(MONITOR, &ring), &vec![0; 4096]),
+    ]
+}
+
+/// Picks that are passed over: of threads most of which are absent; of one that is there and is finished, stuck, or waiting for itself or for a monitor.
+fn passed() -> Vec<Input> {
+    let waits = bind(0, object(), bind(1, fork(read(var(0), 1)), join(var(1))));
+    let held = sequence(fork(synch(null(), null())), synch(null(), join(null())));
+    let second = [vec![0; 16], vec![1; 4080]].concat();
+    let input = |name, body, schedule| Input { name, plan: packed(MONITOR, &[(0, body)]), schedule };
+    vec![
+        input("passed picks", waits, picks(8, 4096)),
+        input("finished", null(), vec![0; 4096]),
+        input("stuck", read(null(), 1), vec![0; 4096]),
+        input("self join", join(null()), vec![0; 4096]),
+        input("held monitor", held, second),
     ]
 }
 
@@ -73,11 +91,10 @@ fn random_plan(size: usize) -> Vec<u8> {
 
 /// What is timed.
 pub fn timed() -> Vec<Input> {
-    let waits = bind(0, object(), bind(1, fork(read(var(0), 1)), join(var(1))));
     let input = |name, plan, schedule| Input { name, plan, schedule };
     let mut all = moving();
+    all.extend(passed());
     all.extend([
-        input("passed picks", packed(MONITOR, &[(0, waits)]), picks(8, 4096)),
         input("chain of lets", packed(MONITOR, &[(0, nested(511, null(), |e| sequence(null(), e)))]), vec![0; 600]),
         input("chain of forks", packed(MONITOR, &[(0, nested(1023, null(), fork))]), vec![0; 20]),
         input("tree of lets", packed(MONITOR, &[(0, balanced(1023))]), vec![0; 4096]),
@@ -102,6 +119,7 @@ pub fn deepest() -> Vec<Input> {
         input("ands", test(nested(509, yes(), |c| and(c, yes())))),
         input("synchs", nested(511, null(), |e| synch(null(), e))),
         input("whiles", nested(511, null(), |e| repeat(yes(), e))),
+        input("whiles in conditions", nested(255, null(), |e| repeat(equal(e, null()), null()))),
         input("ifs", nested(340, null(), |e| branch(yes(), null(), e))),
         input("ifs in conditions", nested(204, null(), |e| branch(equal(e, null()), null(), null()))),
         input("lets", nested(511, null(), |e| bind(0, e, null()))),

@@ -7,21 +7,24 @@ use Rattle.frames.specs.Going.{goValue}
 use Rattle.state.specs.declared.Head.{Head}
 use Rattle.state.specs.declared.Cell.{Cell}
 use Rattle.state.specs.declared.Counts.{Counts}
-use Rattle.state.specs.declared.acted.Room.the-variants as room
-use Rattle.state.specs.declared.acted.Acted.{Acted}
-use Rattle.state.specs.Acted.{entryOf, cellOf, countsOf, actedOf, goOn}
+use Rattle.records.specs.Record.{Kind, kindNumber}
+use Rattle.run_outcome.specs.declared.NoRoom.the-variants as room
+use Rattle.state.specs.declared.Setting.{Setting}
+use Rattle.state.specs.declared.acted.Act.{Act}
+use Rattle.state.specs.declared.acted.Act.the-variants as act
+use Rattle.state.specs.Acted.{entryOf, cellOf, countsOf, actedOf}
 use Rattle.look.specs.Look.{hasOf}
 
-unfoldable pub actRead : ℕ → Counts → Head → Cell → ℕ → ℕ → Acted
-actRead mask n h c o f =
-    cond (hasOf mask f)
-    (actedOf room.Enough (goValue (c .value)) n (joinOf (h .keys) (c .keys)) c (entryOf 4 o f (c .value)))
-    (actedOf room.Enough (goValue (c .value)) n (h .keys) c (entryOf 2 o f (c .value)))
+unfoldable pub actRead : Setting → Counts → Head → Cell → ℕ → ℕ → Act
+actRead g n h c o f =
+    cond (hasOf (g .mask) f)
+    (actedOf (goValue (c .value)) n (joinOf (h .keys) (c .keys)) c (entryOf (kindNumber Kind.readv) o f (c .value)))
+    (actedOf (goValue (c .value)) n (h .keys) c (entryOf (kindNumber Kind.read) o f (c .value)))
 
-unfoldable pub actWrite : ℕ → Counts → Head → Cell → ℕ → ℕ → ℕ → Acted
-actWrite mask n h c o f v =
-    cond (hasOf mask f)
-    (actedOf room.Enough (goValue v) n (h .keys) (cellOf v 0 (joinOf (c .keys) (h .keys))) (entryOf 5 o f v))
+unfoldable pub actWrite : Setting → Counts → Head → Cell → ℕ → ℕ → ℕ → Act
+actWrite g n h c o f v =
+    cond (hasOf (g .mask) f)
+    (actedOf (goValue v) n (h .keys) (cellOf v 0 (joinOf (c .keys) (h .keys))) (entryOf (kindNumber Kind.writev) o f v))
     (cond (leb 256 (n .keys))
-    (goOn room.NoKey (goValue v) n h c)
-    (actedOf room.Enough (goValue v) (countsOf (n .threads) (n .objects) (n .keys + 1)) (learnOf (h .keys) (n .keys)) (cellOf v (n .keys) (c .keys)) (entryOf 3 o f v)))
+    (act.NoRoom room.Key)
+    (actedOf (goValue v) (countsOf (n .threads) (n .objects) (n .keys + 1)) (learnOf (h .keys) (n .keys)) (cellOf v (n .keys) (c .keys)) (entryOf (kindNumber Kind.write) o f v)))

@@ -11,8 +11,8 @@ use Rattle.state.specs.declared.Head.{Head}
 use Rattle.state.specs.declared.Cell.{Cell}
 use Rattle.state.specs.declared.Object.{Object}
 use Rattle.state.specs.declared.Counts.{Counts}
-use Rattle.state.specs.declared.acted.Room.the-variants as room
-use Rattle.state.specs.declared.acted.Acted.{Acted}
+use Rattle.state.specs.declared.Setting.{Setting}
+use Rattle.state.specs.declared.acted.Act.{Act}
 use Rattle.state.specs.Acted.{goOn}
 use Rattle.accesses.specs.Accesses.{actRead, actWrite}
 use Rattle.objects.specs.Objects.{actNew, actFork, actJoin}
@@ -33,15 +33,15 @@ abbrev pub actPure : Head → Go
 actPure h = pureBy (h .ready .part) (h .ready)
 
 -- what the move of part p does
-unfoldable pub actBy : ℕ → ℕ → Counts → Head → Cell → Object → Head → Acted
-actBy p mask n h c t q =
+unfoldable pub actBy : ℕ → Setting → Counts → Head → Cell → Object → Head → Act
+actBy p g n h c t q =
     cond (isPart part.New p) (actNew n h c (h .ready .first))
-    (cond (isPart part.Read p) (actRead mask n h c (h .ready .first) (h .ready .second))
-    (cond (isPart part.Write p) (actWrite mask n h c (h .ready .first) (h .ready .second) (h .ready .third))
+    (cond (isPart part.Read p) (actRead g n h c (h .ready .first) (h .ready .second))
+    (cond (isPart part.Write p) (actWrite g n h c (h .ready .first) (h .ready .second) (h .ready .third))
     (cond (isPart part.Fork p) (actFork n h c)
     (cond (isPart part.Join p) (actJoin n h c t q (h .ready .first))
     (cond (isPart part.Synch p) (actSynch n h c (h .ready .first) (h .ready .second) (h .ready .environment))
-    (cond (isPart part.Hold p) (actHold n h (h .ready .first) (h .ready .second)) (goOn room.Enough (actPure h) n h c)))))))
+    (cond (isPart part.Hold p) (actHold n h (h .ready .first) (h .ready .second)) (goOn (actPure h) n h c)))))))
 
-abbrev pub actOf : ℕ → Counts → Head → Cell → Object → Head → Acted
-actOf mask n h c t q = actBy (h .ready .part) mask n h c t q
+abbrev pub actOf : Setting → Counts → Head → Cell → Object → Head → Act
+actOf g n h c t q = actBy (h .ready .part) g n h c t q

@@ -10,9 +10,9 @@ use state::Cell;
 use state::Counts;
 use state::Head;
 use state::Object;
+use state::Setting;
 use state::acted;
-use state::acted::Acted;
-use state::acted::Room;
+use state::acted::Act;
 
 // Where a move that leaves no record goes on.
 fn act_pure(head: Head) -> Go
@@ -45,16 +45,23 @@ fn act_pure(head: Head) -> Go
 }
 
 // What the move of a thread that can move does.
-pub fn act(mask: usize, counts: Counts, head: Head, cell: Cell, thing: Object, other: Head) -> Acted
-    ensures { λ r. ⌜ r ≡ actOf mask counts head cell thing other ⌝ }
+pub fn act(
+    setting: Setting,
+    counts: Counts,
+    head: Head,
+    cell: Cell,
+    thing: Object,
+    other: Head,
+) -> Act
+    ensures { λ r. ⌜ r ≡ actOf setting counts head cell thing other ⌝ }
 {
     let ready = head.ready;
     let part = ready.part;
     match part {
         part::NEW => objects::act_new(counts, head, cell, ready.first),
-        part::READ => accesses::act_read(mask, counts, head, cell, ready.first, ready.second),
+        part::READ => accesses::act_read(setting, counts, head, cell, ready.first, ready.second),
         part::WRITE => accesses::act_write(
-            mask,
+            setting,
             counts,
             head,
             cell,
@@ -73,6 +80,6 @@ pub fn act(mask: usize, counts: Counts, head: Head, cell: Cell, thing: Object, o
             ready.environment,
         ),
         part::HOLD => monitors::act_hold(counts, head, ready.first, ready.second),
-        _ => acted::go_on(Room::Enough, act_pure(head), counts, head, cell),
+        _ => acted::go_on(act_pure(head), counts, head, cell),
     }
 }

@@ -85,7 +85,7 @@ play-agrees g P one ps few =
     tidy = tidy-play g P ps
 
     exact : (j : ℕ) (x : Record) → At (r .log) j x → T (isPlain (x .kind)) → T (lacksKey (x .kind)) ↔ Unordered (g .version) (r .log) j
-    exact = along (λ (v : Version). (j : ℕ) (x : Record) → At (r .log) j x → T (isPlain (x .kind)) → T (lacksKey (x .kind)) ↔ Unordered v (r .log) j) (sym one) (agree v1 (r .log) (kept-play g P ps .legal))
+    exact = agree (g .version) (r .log) (kept-play g P one ps .legal)
 
     written : logOf (bytesOf (r .log)) ≡ r .log
     written = logOf-bytesOf (r .log) (tidy .all-tidy)

@@ -8,12 +8,12 @@ use lib.ListN.{take}
 use Rattle.format.specs.Version.{Version, v1}
 use Rattle.order.specs.Judge.{named, Answers}
 use Rattle.packed.specs.Trees.{programOf}
-use Rattle.plan.specs.declared.Checked.the-variants as checked
+use Rattle.refusals.specs.declared.Checked.the-variants as checked
 use Rattle.records.specs.Packed.{bytesOf}
 use Rattle.rules.specs.Play.{played, areaAfter, runOf}
 use Rattle.player.specs.declared.outcome.Played.{Played}
 use Rattle.player.specs.Answer.{stopOf, answered}
-use Rattle.plan.proofs.Stages.{passed-refused}
+use Rattle.refusals.proofs.Stages.{passed-refused}
 use Rattle.player.proofs.Ran.{passes, stop-is, records-are, begins}
 use Rattle.judge.specs.declared.Judgement.{Judgement}
 use Rattle.judge.specs.declared.Judgement.the-variants as judgement

@@ -6,7 +6,7 @@ use mathlib.Core.Option.{Option}
 use Rattle.order.specs.Judge.{named, Answers}
 use Rattle.records.specs.Packed.{bytesOf}
 use Rattle.packed.specs.Trees.{programOf}
-use Rattle.plan.specs.declared.Checked.the-variants as checked
+use Rattle.refusals.specs.declared.Checked.the-variants as checked
 use Rattle.rules.specs.Play.{runOf}
 use Rattle.player.specs.Answer.{stopOf}
 use Rattle.judge.specs.declared.Judgement.the-variants as judgement
@@ -17,7 +17,7 @@ use Rattle.agreement.specs.declared.PlayedAndJudged.{PlayedAndJudged}
 -- of the answer r to a play of the schedule on the plan
 pub record AgreedOn (plan schedule : List ℕ) (r : PlayedAndJudged) : Type 0 where
   -- "a plain access in the log is where the run stopped for want of its key exactly when its field has an earlier plain write and no happens-before
-  -- chain leads from the last such write to it": the run that was played, its log, and every answer that a judge may give to it
+  -- chain leads from the last such write to it": the run that was played, its log, and what the judge answers to it
   pub chains : r .played .checked ≡ checked.Passed → Agreement (programOf plan) schedule (runOf plan schedule)
   -- the judgement that the code came to is the judge's of that run's log
   pub judged : r .played .checked ≡ checked.Passed → Answers (programOf plan .version) (bytesOf (runOf plan schedule .log)) (answered (r .judgement))

@@ -10,8 +10,8 @@ ghost use Rattle.player.specs.Answer.{answered, NoRunIfRefused};
 ghost use Rattle.judge.specs.Answer as judge;
 ghost use Rattle.agreement.specs.AgreedOn.{AgreedOn};
 use judge::Judgement;
-use plan::Checked;
 use player::outcome::Played;
+use refusals::Checked;
 
 // What a play answers, and what the judge says of the records that it wrote, or the refusal of the play.
 pub struct PlayedAndJudged {

@@ -1,17 +1,26 @@
--- The walk of a condition, and of the two operands of an `equal`. Assumes nothing.
-use mathlib.Core.Path.{_≡_, refl, ap, sym, _∙_}
+-- The walk of a condition. Assumes nothing.
+use mathlib.Core.Path.{_≡_, refl, ap, sym, subst, _∙_}
 use mathlib.Core.Bool.{Bool, true, false, _&&_}
 use mathlib.Core.List.{List, [], _∷_}
-use Prim.Native.Nat.{ℕ, _+_, _-_, _*_, _/_, _<_}
+use Prim.Native.Nat.{ℕ, _+_, _-_, _*_, _<_}
+use native.Mathlib.Omega.{arith}
 use lib.ListN.{getD}
 use Rattle.format.proofs.Ranges.{NoneOf}
 use Rattle.packed.specs.Format.{layout, table}
+use Rattle.packed.specs.Operands.{tagOf}
 use Rattle.packed.specs.Trees.{nodes, nodeOf, conditionOf}
 use Rattle.packed.specs.Slots.{closed, closedᶜ}
-use Rattle.packed.specs.Steps.{Ordered, inWord, tagIn, treeIn, conditionIn, listIn, leafIn}
+use Rattle.packed.specs.Steps.{slots, inWord, treeIn, conditionIn, listIn}
+use Rattle.bound_slots.specs.Left.{seen, After}
+use Rattle.bound_slots.specs.declared.Rest.{Rest}
+use Rattle.bound_slots.specs.declared.Rest.the-variants.{At}
 use Rattle.packed.proofs.Walk.{cond-is, row-below, cond-rest}
-use Rattle.packed.proofs.WalkSteps.{and-true, and-false, and-swap, and-no, mod-below, inside, beyond, here}
-use Rattle.bound_slots.proofs.TermParts.{Tagged, firstOf, secondOf, Call, leaf-seen}
+use Rattle.bound_slots.specs.Left.{seen, After}
+use Rattle.bound_slots.specs.declared.Rest.{Rest}
+use Rattle.bound_slots.specs.declared.Rest.the-variants.{At}
+use Rattle.packed.proofs.WalkSteps.{and-true, and-false, and-swap, mod-below, beyond}
+use Rattle.bound_slots.proofs.TermParts.{Tagged, firstOf, secondOf, Call}
+use Rattle.bound_slots.proofs.Expressions.{Two, CallTwo}
 use Rattle.bound_slots.proofs.Turns.{Left, Next, on}
 
 -- ---- the walk of a condition
@@ -46,40 +55,32 @@ module _ (words : List ℕ) (ρ : ℕ → Bool) {from t : ℕ} (l : Left words (
     pub first-call : {span : ℕ} → 3 * (1024 - from) + 1 ≡ span → Call words span (firstOf words t)
     first-call h = (beyond _ from t _ h (l .after) (and-below .0) (mod-below _), (l .ordered, mod-below _))
 
-  pub equal-call : {span : ℕ} → 3 * (1024 - from) + 1 ≡ span → Tagged words t 15 → (3 * (1024 - t) < span) × (Ordered words × ((t < 1024) × (tagIn words t ≡ 15)))
-  unfolding tagIn
-  equal-call h e = (here _ from t h (l .after), (l .ordered, (l .within, e)))
-
-  pub childless : NoneOf (getD words t 0 / 34359738368) (15 ∷ 14 ∷ 13 ∷ []) → true ≡ conditionsOf words ρ from
+  pub childless : NoneOf (tagOf (getD words t 0)) (15 ∷ 14 ∷ 13 ∷ []) → true ≡ conditionsOf words ρ from
   childless n = sym (ap (closedᶜ ρ) (cond-is words (l .ordered) t _ refl) ∙ cond-rest (treeIn words) (conditionIn words) (listIn words) ρ _ _ n) ∙ l .same
 
--- ---- an `equal`
+-- ---- an `equal`: what is left of its two operands
 
-module _ (words : List ℕ) (o : Ordered words) (t : ℕ) (e : tagIn words t ≡ 15) where
+module _ (words : List ℕ) (m : ℕ) {from t : ℕ} (l : Left words (conditionsOf words (slots m)) from t) (e : Tagged words t 15) where
   equal-below : (t < firstOf words t) × (t < secondOf words t)
-  unfolding tagIn nodeOf inWord layout table nodes
-  equal-below = row-below words o t 15 e
+  unfolding nodeOf inWord layout table nodes
+  equal-below = row-below words (l .ordered) t 15 e
 
-  pub equal-first : {span : ℕ} → 3 * (1024 - t) ≡ span → Call words span (firstOf words t)
-  equal-first h = (inside _ t _ h (equal-below .0) (mod-below _), (o, mod-below _))
+  equal-is : conditionsOf words (slots m) t ≡ (closed (slots m) (treeIn words (firstOf words t)) && closed (slots m) (treeIn words (secondOf words t)))
+  unfolding nodeOf inWord layout table nodes conditionOf closed
+  equal-is = ap (closedᶜ (slots m)) (cond-is words (l .ordered) t 15 e)
 
-  pub equal-second : {span : ℕ} → 3 * (1024 - t) ≡ span → Call words span (secondOf words t)
-  equal-second h = (inside _ t _ h (equal-below .1) (mod-below _), (o, mod-below _))
+  pub equal-call : {span : ℕ} → 3 * (1024 - from) + 1 ≡ span → CallTwo words span (firstOf words t) (secondOf words t)
+  equal-call h =
+      let a = l .after in
+      let k = equal-below .0 in
+      let b : firstOf words t < 1024 = mod-below _ in
+      (omega arith, (l .ordered, (b, mod-below _)))
 
-  module _ (ρ : ℕ → Bool) where
-    equal-is : closedᶜ ρ (conditionIn words t) ≡ (closed ρ (treeIn words (firstOf words t)) && closed ρ (treeIn words (secondOf words t)))
-    unfolding tagIn nodeOf inWord layout table nodes conditionOf closed
-    equal-is = ap (closedᶜ ρ) (cond-is words o t 15 e)
+  module _ (r : Rest) (b : Two words (firstOf words t) m (secondOf words t) m r) where
+    pub equal-told : (q : Rest) → r ≡ q → seen words q ≡ conditionsOf words (slots m) from
+    equal-told q k = sym (ap (seen words) k) ∙ b .0 ∙ sym equal-is ∙ l .same
 
-    module _ (h : getD words (secondOf words t) 0 / 34359738368 < 3) {r : Bool} (k : r ≡ closed ρ (leafIn (getD words (secondOf words t) 0))) where
-      pub leaf-bound : r ≡ true → closed ρ (treeIn words (firstOf words t)) ≡ closedᶜ ρ (conditionIn words t)
-      leaf-bound q = sym (equal-is ∙ and-swap _ _ (leaf-seen words o ρ _ h k ∙ q))
-
-      pub leaf-unbound : r ≡ false → false ≡ closedᶜ ρ (conditionIn words t)
-      leaf-unbound q = sym (equal-is ∙ and-no (closed ρ (treeIn words (firstOf words t))) _ (leaf-seen words o ρ _ h k ∙ q))
-
-    pub first-bound : closed ρ (treeIn words (firstOf words t)) ≡ true → closed ρ (treeIn words (secondOf words t)) ≡ closedᶜ ρ (conditionIn words t)
-    first-bound h = sym (equal-is ∙ and-true _ _ h)
-
-    pub first-unbound : closed ρ (treeIn words (firstOf words t)) ≡ false → false ≡ closedᶜ ρ (conditionIn words t)
-    first-unbound h = sym (equal-is ∙ and-false _ _ h)
+    pub equal-next : (span x n : ℕ) → 3 * (1024 - from) + 1 ≡ span → r ≡ At x n → Call words span x
+    equal-next span x n h k =
+        let q : After t (At x n) = subst (After t) k (b .1 t (equal-below .0) (equal-below .1)) in
+        (beyond span from t x h (l .after) (q .0) (q .1), (l .ordered, q .1))

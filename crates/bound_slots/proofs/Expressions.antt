@@ -2,10 +2,11 @@
 use mathlib.Core.Path.{_≡_, refl, ap, sym, _∙_}
 use mathlib.Core.Bool.{Bool, true, false, _&&_}
 use mathlib.Core.List.{List, [], _∷_}
-use Prim.Native.Nat.{ℕ, _+_, _-_, _*_, _/_, _%_, _<_}
+use Prim.Native.Nat.{ℕ, _+_, _-_, _*_, _<_}
 use lib.ListN.{getD}
 use Rattle.format.proofs.Ranges.{NoneOf}
 use Rattle.packed.specs.Format.{layout, table}
+use Rattle.packed.specs.Operands as word
 use Rattle.packed.specs.Trees.{nodes, nodeOf, binderOf, expressionOf}
 use Rattle.packed.specs.Slots.{closed, closedᶜ, closedᵃ, bound}
 use Rattle.packed.specs.Steps.{Ordered, bitOf, withSlot, slots, inWord, treeIn, conditionIn, listIn, leafIn}
@@ -28,27 +29,27 @@ CallTwo words span x y = (3 * (1024 - x) + 2 < span) × (Ordered words × ((x < 
 
 -- the operands of a write, a let, an if and a call that stand elsewhere
 abbrev pub writtenOf : List ℕ → ℕ → ℕ
-writtenOf words t = getD words t 0 / 1024 % 1024
+writtenOf words t = word.writeSecond (getD words t 0)
 
 abbrev pub slotOf : List ℕ → ℕ → ℕ
-slotOf words t = getD words t 0 / 2147483648 % 16
+slotOf words t = word.slotBits (getD words t 0)
 
 abbrev pub valueOf : List ℕ → ℕ → ℕ
-valueOf words t = getD words t 0 / 2097152 % 1024
+valueOf words t = word.letFirst (getD words t 0)
 
 abbrev pub bodyOf : List ℕ → ℕ → ℕ
-bodyOf words t = getD words t 0 / 2048 % 1024
+bodyOf words t = word.letSecond (getD words t 0)
 
 abbrev pub thirdOf : List ℕ → ℕ → ℕ
-thirdOf words t = getD words t 0 / 32 % 1024
+thirdOf words t = word.thirdOf (getD words t 0)
 
 abbrev pub argumentsFrom : List ℕ → ℕ → ℕ
-argumentsFrom words t = getD words t 0 / 1048576 % 1024
+argumentsFrom words t = word.listBits (getD words t 0)
 
 -- ---- what is left of two operands, once one is seen
 
 module _ (words : List ℕ) (o : Ordered words) (x outer y inner : ℕ) where
-  module _ (h : getD words y 0 / 34359738368 < 3) {r : Bool} (e : r ≡ closed (slots inner) (leafIn (getD words y 0))) where
+  module _ (h : word.tagOf (getD words y 0) < 3) {r : Bool} (e : r ≡ closed (slots inner) (leafIn (getD words y 0))) where
     pub leaf-closed : x < 1024 → r ≡ true → Two words x outer y inner (At x outer)
     unfolding seen
     leaf-closed b k = (sym (and-swap _ _ (leaf-seen words o (slots inner) y h e ∙ k)), λ i p q. (p, b))
@@ -167,6 +168,6 @@ module _ (words : List ℕ) (o : Ordered words) (t m : ℕ) where
   unfolding nodeOf inWord layout table nodes expressionOf closed
   synch-left r e b = let k = row-below words o t 11 e in rest-of r _ _ _ _ b (k .0) (k .1) (sym (ap (closed (slots m)) (expr-is words o t 11 e)))
 
-  pub nothing-left : NoneOf (getD words t 0 / 34359738368) (11 ∷ 10 ∷ 9 ∷ 8 ∷ 7 ∷ 6 ∷ 5 ∷ 4 ∷ 3 ∷ 1 ∷ []) → Answer Closed
+  pub nothing-left : NoneOf (word.tagOf (getD words t 0)) (11 ∷ 10 ∷ 9 ∷ 8 ∷ 7 ∷ 6 ∷ 5 ∷ 4 ∷ 3 ∷ 1 ∷ []) → Answer Closed
   unfolding seen
   nothing-left n = (sym (ap (closed (slots m)) (expr-is words o t _ refl) ∙ expr-rest (treeIn words) (conditionIn words) (listIn words) (slots m) _ _ n), tt)

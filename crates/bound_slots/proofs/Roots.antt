@@ -11,13 +11,14 @@ use Rattle.packed.specs.Format.{parameters, root}
 use Rattle.packed.specs.Slots.{closed}
 use Rattle.packed.specs.Refusals.{usesUnboundSlot}
 use Rattle.packed.specs.Steps.{Right, Loaded, Ordered, slots, treeIn}
+use Rattle.packed.proofs.Reading.{procedures-lt}
 use Rattle.packed.proofs.Shown.{parameters-small, root-below}
 use Rattle.packed.proofs.NodeOrder.{ordered, tree-is}
 use Rattle.packed.proofs.SlotMasks.{open-of}
 
 module _ {plan : List ℕ} {procedures n : ℕ} (r : Right plan procedures n) (p : ℕ) (h : p < procedures) where
-  pub there : 8 + 2 * p + 2 ≤ length plan
-  there = let z = r .headed .sized in omega (arith, z)
+  pub there : (p < 64) × (8 + 2 * p + 2 ≤ length plan)
+  there = let z = r .headed .sized in (omega (arith, z, procedures-lt plan), omega (arith, z))
 
   -- the parameters' bits
   module _ {k : ℕ} (e : k ≡ parameters plan p) where

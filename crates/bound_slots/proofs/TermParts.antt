@@ -2,27 +2,28 @@
 use mathlib.Core.Path.{_≡_, ap, sym, _∙_}
 use mathlib.Core.Bool.{Bool}
 use mathlib.Core.List.{List}
-use Prim.Native.Nat.{ℕ, _+_, _-_, _*_, _/_, _%_, _<_}
+use Prim.Native.Nat.{ℕ, _+_, _-_, _*_, _<_}
 use lib.ListN.{getD}
+use Rattle.packed.specs.Operands as word
 use Rattle.packed.specs.Slots.{closed}
 use Rattle.packed.specs.Steps.{Ordered, treeIn, leafIn}
 use Rattle.packed.proofs.Walk.{leaf-is}
 
 -- term t has tag k
 abbrev pub Tagged : List ℕ → ℕ → ℕ → Type 0
-Tagged words t k = getD words t 0 / 34359738368 ≡ k
+Tagged words t k = word.tagOf (getD words t 0) ≡ k
 
 -- its first and its second child, where both have ten bits in these places
 abbrev pub firstOf : List ℕ → ℕ → ℕ
-firstOf words t = getD words t 0 / 33554432 % 1024
+firstOf words t = word.firstOf (getD words t 0)
 
 abbrev pub secondOf : List ℕ → ℕ → ℕ
-secondOf words t = getD words t 0 / 32768 % 1024
+secondOf words t = word.secondOf (getD words t 0)
 
 -- what a call on term x must show, where the span of terms is below this
 abbrev pub Call : List ℕ → ℕ → ℕ → Type 0
 Call words span x = (3 * (1024 - x) + 1 < span) × (Ordered words × (x < 1024))
 
 -- a term without children
-pub leaf-seen : (words : List ℕ) → Ordered words → (ρ : ℕ → Bool) (t : ℕ) {r : Bool} → getD words t 0 / 34359738368 < 3 → r ≡ closed ρ (leafIn (getD words t 0)) → closed ρ (treeIn words t) ≡ r
+pub leaf-seen : (words : List ℕ) → Ordered words → (ρ : ℕ → Bool) (t : ℕ) {r : Bool} → word.tagOf (getD words t 0) < 3 → r ≡ closed ρ (leafIn (getD words t 0)) → closed ρ (treeIn words t) ≡ r
 leaf-seen words o ρ t h e = ap (closed ρ) (leaf-is words o t h) ∙ sym e

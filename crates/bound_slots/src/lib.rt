@@ -1,21 +1,15 @@
 // Check 7: every slot that a procedure's tree uses is a parameter's or an enclosing let's. Bit x of `bound` says that slot x is bound.
+// Of two operands one is a call and the other a turn of the loop, whichever side the deeper one is on: a leaf is seen in place (`rest_of_two`). With a call for
+// each operand the deepest plans would take more stack, and every leaf the time of a call; so a term's rest is an answer (`Rest`) and not a call of its own.
 use header::layout;
-use terms::term::ARGUMENTS;
-use terms::term::BODY;
-use terms::term::FIRST;
-use terms::term::SECOND;
-use terms::term::SLOT;
-use terms::term::TAG;
-use terms::term::THIRD;
-use terms::term::VALUE;
-use terms::term::WRITTEN;
 ghost use mathlib.Core.Path.{_≡_};
 ghost use mathlib.Core.Bool.{_&&_};
-ghost use Prim.Native.Nat.{ℕ, _<_, _/_};
+ghost use Prim.Native.Nat.{ℕ, _<_};
 ghost use Rattle.format.specs.Lowest.{Lowest};
+ghost use Rattle.packed.specs.Operands.{tagOf};
 ghost use Rattle.packed.specs.Slots.{closed, closedᶜ, closedᵃ};
 ghost use Rattle.packed.specs.Refusals.{usesUnboundSlot};
-ghost use Rattle.packed.specs.Steps.{Right, Loaded, bitOf, withSlot, slots, Ordered, tagIn, treeIn, conditionIn, listIn, leafIn};
+ghost use Rattle.packed.specs.Steps.{Right, Loaded, bitOf, withSlot, slots, Ordered, treeIn, conditionIn, listIn, leafIn};
 ghost use Rattle.bound_slots.specs.Left.{told, seen, After};
 
 // What is left to see of an expression: nothing, and all slots are bound, or one is not; or the term of an index, with what is bound there.
@@ -54,13 +48,13 @@ fn told(closed: bool) -> Rest
 
 // A term without children, by its 40 bits.
 fn closed_leaf(word: usize, bound: usize) -> bool
-    requires { ⌜ word / 34359738368 < 3 ⌝ }
+    requires { ⌜ tagOf word < 3 ⌝ }
     ensures { λ r. ⌜ r ≡ closed (slots bound) (leafIn word) ⌝ }
 {
-    if word / TAG != 1 {
+    if operands::tag(word) != 1 {
         return true;
     }
-    holds(bound, word / SLOT % 16)
+    holds(bound, operands::slot_of(word))
 }
 
 // Two operands, of which one is seen here and the other is left: the second is seen here if it has no children, else the first.
@@ -77,7 +71,7 @@ fn rest_of_two(
     ensures { λ r. ⌜ ((term : ℕ) → term < first → term < second → After term r) ⌝ }
 {
     let word = words[second];
-    if word / TAG < 3 {
+    if operands::tag(word) < 3 {
         if closed_leaf(word, inner) {
             return Rest::At(first, bound);
         }
@@ -97,19 +91,21 @@ fn rest_of(words: &[usize; 1024], term: usize, bound: usize) -> Rest
     ensures { λ r. ⌜ After term r ⌝ }
 {
     let word = words[term];
-    let first = word / FIRST % 1024;
-    let second = word / SECOND % 1024;
-    match word / TAG {
-        1 => told(holds(bound, word / SLOT % 16)),
+    let first = operands::first(word);
+    let second = operands::second(word);
+    match operands::tag(word) {
+        1 => told(holds(bound, operands::slot_of(word))),
         3 => Rest::At(first, bound),
-        4 => rest_of_two(words, first, bound, word / WRITTEN % 1024, bound),
+        4 => rest_of_two(words, first, bound, operands::write_second(word), bound),
         5 => {
-            let inner = with(bound, word / SLOT % 16);
-            rest_of_two(words, word / VALUE % 1024, bound, word / BODY % 1024, inner)
+            let inner = with(bound, operands::slot_of(word));
+            let value = operands::let_first(word);
+            let body = operands::let_second(word);
+            rest_of_two(words, value, bound, body, inner)
         }
         6 => {
             if closed_condition(words, first, bound) {
-                return rest_of_two(words, second, bound, word / THIRD % 1024, bound);
+                return rest_of_two(words, second, bound, operands::third(word), bound);
             }
             Rest::Open
         }
@@ -119,7 +115,7 @@ fn rest_of(words: &[usize; 1024], term: usize, bound: usize) -> Rest
             }
             Rest::Open
         }
-        8 => told(closed_list(words, word / ARGUMENTS % 1024, bound)),
+        8 => told(closed_list(words, operands::list_of(word), bound)),
         9 => Rest::At(first, bound),
         10 => Rest::At(first, bound),
         11 => rest_of_two(words, first, bound, second, bound),
@@ -148,28 +144,6 @@ fn closed_expression(words: &[usize; 1024], from: usize, outer: usize) -> bool
     }
 }
 
-// The two operands of an `equal`.
-fn closed_equal(words: &[usize; 1024], term: usize, bound: usize) -> bool
-    requires { ⌜ Ordered (now words) ⌝ }
-    requires { ⌜ (term < 1024) × (tagIn (now words) term ≡ 15) ⌝ }
-    ensures { λ r. ⌜ r ≡ closedᶜ (slots bound) (conditionIn (now (words .entry)) term) ⌝ }
-{
-    let word = words[term];
-    let first = word / FIRST % 1024;
-    let second = word / SECOND % 1024;
-    let second_word = words[second];
-    if second_word / TAG < 3 {
-        if closed_leaf(second_word, bound) {
-            return closed_expression(words, first, bound);
-        }
-        return false;
-    }
-    if closed_expression(words, first, bound) {
-        return closed_expression(words, second, bound);
-    }
-    false
-}
-
 // A condition; the second operand of an `and` that is `true` needs no call.
 fn closed_condition(words: &[usize; 1024], from: usize, bound: usize) -> bool
     requires { ⌜ Ordered (now words) ⌝ }
@@ -179,15 +153,15 @@ fn closed_condition(words: &[usize; 1024], from: usize, bound: usize) -> bool
     let mut term = from;
     loop {
         let word = words[term];
-        let first = word / FIRST % 1024;
-        let second = word / SECOND % 1024;
-        match word / TAG {
+        let first = operands::first(word);
+        let second = operands::second(word);
+        match operands::tag(word) {
             13 => {
                 term = first;
                 continue;
             }
             14 => {
-                if words[second] / TAG == 12 {
+                if operands::tag(words[second]) == 12 {
                     term = first;
                     continue;
                 }
@@ -197,7 +171,14 @@ fn closed_condition(words: &[usize; 1024], from: usize, bound: usize) -> bool
                 term = second;
                 continue;
             }
-            15 => return closed_equal(words, term, bound),
+            15 => {
+                let rest = rest_of_two(words, first, bound, second, bound);
+                match rest {
+                    Rest::Closed => return true,
+                    Rest::Open => return false,
+                    Rest::At(next, inner) => return closed_expression(words, next, inner),
+                }
+            }
             _ => return true,
         }
     }
@@ -212,13 +193,13 @@ fn closed_list(words: &[usize; 1024], from: usize, bound: usize) -> bool
     let mut term = from;
     loop {
         let word = words[term];
-        if word / TAG != 16 {
+        if operands::tag(word) != 16 {
             return true;
         }
-        if !closed_expression(words, word / FIRST % 1024, bound) {
+        if !closed_expression(words, operands::first(word), bound) {
             return false;
         }
-        term = word / SECOND % 1024;
+        term = operands::second(word);
     }
 }
 

@@ -19,23 +19,3 @@ pub fn half(bytes: &[u8], at: usize) -> usize
     let low = wide(bytes[at + 1]);
     high * 256 + low
 }
-
-// The 32 bits from byte `at` on.
-fn quad(bytes: &[u8], at: usize) -> usize
-    requires { ⌜ at + 4 ≤ length (now bytes) ⌝ }
-    ensures { λ r. ⌜ (r ≡ bitsAt (now (bytes .entry)) (at * 8) 32) × (r < 4294967296) ⌝ }
-{
-    let high = half(bytes, at);
-    let low = half(bytes, at + 2);
-    high * 65536 + low
-}
-
-// The 40 bits from byte `at` on.
-pub fn five(bytes: &[u8], at: usize) -> usize
-    requires { ⌜ at + 5 ≤ length (now bytes) ⌝ }
-    ensures { λ r. ⌜ (r ≡ bitsAt (now (bytes .entry)) (at * 8) 40) × (r < 1099511627776) ⌝ }
-{
-    let high = quad(bytes, at);
-    let low = wide(bytes[at + 4]);
-    high * 256 + low
-}

@@ -1,25 +1,35 @@
 -- How a run begins, goes on, passes a pick over, and stops. Assumes nothing.
-use mathlib.Core.Path.{_≡_, sym, ap, _∙_}
+use mathlib.Core.Path.{_≡_, refl, sym, ap, _∙_}
 use mathlib.Core.Bool.{Bool, true, false}
 use mathlib.Core.List.{List, [], _∷_}
-use Prim.Native.Nat.{ℕ, _+_, _%_}
+use Prim.Native.Nat.{ℕ, _+_, _%_, _<_, _≤_}
+use borrow.Author.Tests.{le-leb, lt-leb}
 use lib.ListN.{getD, set, replicate}
 use types.Run.{OneOf, miss}
 use denote.Enum.Declared.{tagOf}
-use Rattle.settle.proofs.Answer as answer-type
+use Rattle.landing.specs.Landing.{Stack}
+use Rattle.run_outcome.specs.declared.Stop.{Stop}
+use Rattle.state.specs.declared.Setting.{Setting}
 use Rattle.state.specs.declared.Head.{Head}
 use Rattle.state.specs.declared.Cell.{Cell}
 use Rattle.state.specs.declared.Object.{Object}
-use Rattle.state.specs.declared.acted.Acted.{Acted}
-use Rattle.settle.specs.declared.Answer.{Answer}
-use Rattle.settle.specs.declared.Answer.the-variants as answer
-use Rattle.settle.specs.Settle.{passesOf, forksOf, moverOf, bornOf}
-use Rattle.engine.specs.declared.Stop.{Stop}
+use Rattle.state.specs.declared.Entry.{Entry}
 use Rattle.tally.specs.declared.Tally.{Tally}
 use Rattle.tally.specs.Tally.{tallyFirst, tallyPut, tallyMoved, logPut}
-use Rattle.engine.specs.Machine.{Machine, Finished, Played, endOf, headAt, cellNumber, headOf, cellFirst, noThing, stopOf, metBy, actedBy, finishedBy, stopped, logged, withYoung, after, startOf, playOf}
+use Rattle.pick.proofs.Answer as answer-type
+use Rattle.pick.specs.declared.Move.{Move}
+use Rattle.pick.specs.declared.Answer.{Answer}
+use Rattle.pick.specs.declared.Answer.the-variants as answer
+use Rattle.pick.specs.Pick.{Picked}
+use Rattle.engine.specs.Machine.{Machine, Played, headAt, cellNumber, headOf, cellFirst, noThing, endOf, stopped, withYoung, stayed, after, pickedBy, turnBy, onAnswer, startOf, playOf}
 
-module _ (ws rs : List ℕ) (mask : ℕ) where
+-- an answer that neither moves nor stops
+neither : (z : Answer) → OneOf (0 ∷ 2 ∷ []) (tagOf answer-type.the-type z) → OneOf (0 ∷ 1 ∷ []) (tagOf answer-type.the-type z) → z ≡ answer.Passed
+neither answer.Passed h k = refl
+neither (answer.Moved v) h k = absurd (miss (0 ∷ 2 ∷ []) 1 tt h)
+neither (answer.Stopped e y) h k = absurd (miss (0 ∷ 1 ∷ []) 2 tt k)
+
+module _ (ws rs : List ℕ) (setting : Setting) where
   abbrev begun : Head → Cell → Object → Tally → List ℕ → Machine
   begun h c t s l =
       record {
@@ -32,60 +42,62 @@ module _ (ws rs : List ℕ) (mask : ℕ) where
       }
 
   pub begins : (ps l : List ℕ) (h : Head) (c : Cell) (t : Object) (s : Tally) → h ≡ headOf (getD rs 0 0) → c ≡ cellFirst → t ≡ noThing → s ≡ tallyFirst
-      → playOf ws rs mask (begun h c t s l) ps 0 ≡ playOf ws rs mask (startOf rs l) ps 0
+      → playOf ws rs setting (begun h c t s l) ps 0 ≡ playOf ws rs setting (startOf rs l) ps 0
   unfolding startOf
   begins ps l h c t s qh qc qt qs =
-      ap (λ (h : Head). playOf ws rs mask (begun h c t s l) ps 0) qh
-      ∙ ap (λ (c : Cell). playOf ws rs mask (begun (headOf (getD rs 0 0)) c t s l) ps 0) qc
-      ∙ ap (λ (t : Object). playOf ws rs mask (begun (headOf (getD rs 0 0)) cellFirst t s l) ps 0) qt
-      ∙ ap (λ (s : Tally). playOf ws rs mask (begun (headOf (getD rs 0 0)) cellFirst noThing s l) ps 0) qs
+      ap (λ (h : Head). playOf ws rs setting (begun h c t s l) ps 0) qh
+      ∙ ap (λ (c : Cell). playOf ws rs setting (begun (headOf (getD rs 0 0)) c t s l) ps 0) qc
+      ∙ ap (λ (t : Object). playOf ws rs setting (begun (headOf (getD rs 0 0)) cellFirst t s l) ps 0) qt
+      ∙ ap (λ (s : Tally). playOf ws rs setting (begun (headOf (getD rs 0 0)) cellFirst noThing s l) ps 0) qs
 
   module _ (m : Machine) (p : ℕ) (ps : List ℕ) (i : ℕ) where
-    pub skips : passesOf (metBy mask m (p % 8)) ≡ true → playOf ws rs mask m (p ∷ ps) i ≡ playOf ws rs mask m ps (i + 1)
-    unfolding playOf
-    skips g = rw g
+    -- the pick of a thread that is not there
+    pub absent-passed : m .tally .counts .threads ≤ p % 8 → playOf ws rs setting (stayed m (m .stack)) ps (i + 1) ≡ playOf ws rs setting m (p ∷ ps) i
+    unfolding playOf turnBy
+    absent-passed h = rw (le-leb _ _ h)
 
-    pub goes : (a : Acted) (t : Finished) → passesOf (metBy mask m (p % 8)) ≡ false → a ≡ actedBy mask m (p % 8) → t ≡ finishedBy ws rs mask m (p % 8) → t .turn .answer ≡ answer.Moved
-        → playOf ws rs mask m (p ∷ ps) i ≡ playOf ws rs mask (after m (p % 8) a t) ps (i + 1)
-    unfolding playOf
-    goes a t g qa qt e = rw (g, ← qt, ← qa, e)
+    -- the pick of one that is, by its answer
+    module _ (x : Picked) (here : p % 8 < m .tally .counts .threads) (came : x ≡ pickedBy ws rs setting m (p % 8)) where
+      abbrev rest : Answer → Played
+      rest z =
+          onAnswer z (playOf ws rs setting (stayed m (x .stack)) ps (i + 1)) (λ v. playOf ws rs setting (after m (p % 8) v (x .stack)) ps (i + 1))
+          (λ e y. stopped setting m (p % 8) y e i)
 
-    pub stops : (t : Finished) (a : Answer) → OneOf (1 ∷ 2 ∷ []) (tagOf answer-type.the-type a) → passesOf (metBy mask m (p % 8)) ≡ false → t ≡ finishedBy ws rs mask m (p % 8) → t .turn .answer ≡ a
-        → playOf ws rs mask m (p ∷ ps) i ≡ stopped mask (logged m (p % 8) t) (stopOf a) i
-    unfolding playOf
-    stops t answer.Moved h g qt e = absurd (miss (1 ∷ 2 ∷ []) 0 tt h)
-    stops t answer.Race h g qt e = rw (g, ← qt, e)
-    stops t (answer.NoRoom r) h g qt e = rw (g, ← qt, e)
+      goes : (z : Answer) → x .answer ≡ z → rest z ≡ playOf ws rs setting m (p ∷ ps) i
+      unfolding playOf turnBy
+      goes z e = rw (lt-leb _ _ here, ← came, e)
+
+      pub passed : OneOf (0 ∷ 2 ∷ []) (tagOf answer-type.the-type (x .answer)) → OneOf (0 ∷ 1 ∷ []) (tagOf answer-type.the-type (x .answer))
+          → playOf ws rs setting (stayed m (x .stack)) ps (i + 1) ≡ playOf ws rs setting m (p ∷ ps) i
+      passed h k = goes answer.Passed (neither (x .answer) h k)
+
+      pub moved : {v : Move} → x .answer ≡ answer.Moved v → (n : ℕ) (hs : List Head) (s s′ : Tally) (l : List ℕ)
+          → n ≡ cellNumber (headAt (m .heads) (p % 8) .ready)
+          → hs ≡ withYoung (v .forks) (m .heads) (m .tally .counts .threads % 9) (v .young)
+          → s ≡ tallyPut (m .tally) (v .entry) → s′ ≡ tallyMoved s (v .counts) → l ≡ logPut (m .log) (m .tally .records) (p % 8) (v .entry)
+          → playOf ws rs setting (record {
+            heads = set hs (p % 8) (v .mover);
+            cells = set (m .cells) n (v .cell);
+            objects = set (m .objects) (m .tally .counts .objects % 33) (v .thing);
+            stack = x .stack;
+            tally = s′;
+            log = l;
+          }) ps (i + 1) ≡ playOf ws rs setting m (p ∷ ps) i
+      moved {v} e n hs s s′ l qn qh qs qs′ ql = rw (qn, qh, qs′, qs, ql) (goes (answer.Moved v) e)
+
+      pub stops : {e : Stop} {y : Entry} → x .answer ≡ answer.Stopped e y → (e′ : Stop) (j : ℕ) (s : Tally) (l : List ℕ) → e′ ≡ e → j ≡ i → s ≡ tallyPut (m .tally) y
+          → l ≡ logPut (m .log) (m .tally .records) (p % 8) y
+          → record { outcome = endOf e′ j setting s (m .heads) (m .cells) (m .objects); area = l } ≡ playOf ws rs setting m (p ∷ ps) i
+      stops {e} {y} h e′ j s l qe qj qs ql = rw (qe, qj, qs, ql) (goes (answer.Stopped e y) h)
 
 -- the heads, where a thread was made and where none was
-pub young-made : (forks : Bool) (hs hs′ : List Head) (q : ℕ) (y y′ : Head) → forks ≡ true → y ≡ y′ → hs′ ≡ set hs q y → hs′ ≡ withYoung forks hs q y′
-young-made forks hs hs′ q y y′ k e h = h ∙ ap (set hs q) e ∙ ap (λ (x : Bool). withYoung x hs q y′) (sym k)
+pub young-made : (forks : Bool) (hs hs′ : List Head) (q : ℕ) (y : Head) → forks ≡ true → hs′ ≡ set hs q y → hs′ ≡ withYoung forks hs q y
+young-made forks hs hs′ q y k h = h ∙ ap (λ (x : Bool). withYoung x hs q y) (sym k)
 
 pub young-none : (forks : Bool) (hs hs′ : List Head) (q : ℕ) (y : Head) → forks ≡ false → hs′ ≡ hs → hs′ ≡ withYoung forks hs q y
 young-none forks hs hs′ q y k h = h ∙ ap (λ (x : Bool). withYoung x hs q y) (sym k)
 
 -- an end by the same numbers is the same end
-pub ends-as : (mask : ℕ) (hs : List Head) (cs : List Cell) (ts : List Object) (e e′ : Stop) (i i′ : ℕ) (s s′ : Tally) (l l′ : List ℕ) → e ≡ e′ → i ≡ i′ → s ≡ s′ → l ≡ l′
-    → _≡_ {A = Played} (record { ran = endOf e i mask s hs cs ts; area = l }) (record { ran = endOf e′ i′ mask s′ hs cs ts; area = l′ })
-ends-as mask hs cs ts e e′ i i′ s s′ l l′ qe qi qs ql = rw (qe, qi, qs, ql)
-
-pub ends-so : (mask : ℕ) (hs : List Head) (cs : List Cell) (ts : List Object) (e e₁ e₂ : Stop) (i i₂ : ℕ) (s s₁ s₂ : Tally) (l l₁ l₂ : List ℕ) (x : Played)
-    → e ≡ e₁ → e₁ ≡ e₂ → i ≡ i₂ → s ≡ s₁ → s₁ ≡ s₂ → l ≡ l₁ → l₁ ≡ l₂ → record { ran = endOf e₂ i₂ mask s₂ hs cs ts; area = l₂ } ≡ x
-    → record { ran = endOf e i mask s hs cs ts; area = l } ≡ x
-ends-so mask hs cs ts e e₁ e₂ i i₂ s s₁ s₂ l l₁ l₂ x p q r t u v w h = ends-as mask hs cs ts e e₂ i i₂ s s₂ l l₂ (p ∙ q) r (t ∙ u) (v ∙ w) ∙ h
-
--- the machine where a turn ends is the machine after the pick
-pub after-is : (m : Machine) (p : ℕ) (a : Acted) (t : Finished) (k : ℕ) (hs : List Head) (h : Head) (s : Tally) (l : List ℕ)
-    → k ≡ cellNumber (headAt (m .heads) p .ready)
-    → hs ≡ withYoung (forksOf a) (m .heads) (m .tally .counts .threads % 9) (bornOf (m .tally .counts) (headAt (m .heads) p) (t .turn .born))
-    → h ≡ moverOf a (headAt (m .heads) p) (t .turn .landed)
-    → s ≡ tallyMoved (tallyPut (m .tally) (t .turn .entry)) (a .counts) → l ≡ logPut (m .log) (m .tally .records) p (t .turn .entry)
-    → _≡_ {A = Machine} (record {
-      heads = set hs p h;
-      cells = set (m .cells) k (a .cell);
-      objects = set (m .objects) (m .tally .counts .objects % 33) (a .thing);
-      stack = t .stack;
-      tally = s;
-      log = l;
-    }) (after m p a t)
-after-is m p a t k hs h s l qk qhs qh qs ql = rw (qk, qhs, qh, qs, ql)
+pub ends-as : (setting : Setting) (hs : List Head) (cs : List Cell) (ts : List Object) (e e′ : Stop) (i i′ : ℕ) (s s′ : Tally) (l l′ : List ℕ) → e ≡ e′ → i ≡ i′ → s ≡ s′ → l ≡ l′
+    → _≡_ {A = Played} (record { outcome = endOf e i setting s hs cs ts; area = l }) (record { outcome = endOf e′ i′ setting s′ hs cs ts; area = l′ })
+ends-as setting hs cs ts e e′ i i′ s s′ l l′ qe qi qs ql = rw (qe, qi, qs, ql)

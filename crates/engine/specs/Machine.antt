@@ -8,35 +8,31 @@ use lib.ListN.{getD, set, replicate}
 use Rattle.keys.specs.KeySet.{emptySet, zeroSet}
 use Rattle.frames.specs.Parts.{Part as part}
 use Rattle.frames.specs.declared.go.Ready.{Ready}
-use Rattle.landing.specs.declared.Landed.{Landed}
-use Rattle.frames.specs.declared.go.Go.{Go}
-use Rattle.frames.specs.Going.{readyOf, goRun, goFull}
-use Rattle.landing.specs.Landing.{Stack, Ended, ended, landOf}
+use Rattle.frames.specs.Going.{readyOf}
+use Rattle.landing.specs.Landing.{Stack}
+use Rattle.run_outcome.specs.declared.Stop.{Stop}
+use Rattle.run_outcome.specs.declared.Stop.the-variants as stop
+use Rattle.run_outcome.specs.declared.ThreadState.{ThreadState}
+use Rattle.run_outcome.specs.declared.ThreadState.the-variants as state
+use Rattle.run_outcome.specs.declared.Thread.{Thread}
+use Rattle.run_outcome.specs.declared.Outcome.{Outcome}
+use Rattle.state.specs.declared.Setting.{Setting}
 use Rattle.state.specs.declared.Head.{Head}
 use Rattle.state.specs.declared.Cell.{Cell}
 use Rattle.state.specs.declared.Object.{Object}
 use Rattle.state.specs.declared.Counts.{Counts}
 use Rattle.state.specs.declared.Entry.{Entry}
-use Rattle.look.specs.declared.Sight.{Sight}
-use Rattle.look.specs.declared.Sight.the-variants as sight
-use Rattle.state.specs.declared.acted.Acted.{Acted}
+use Rattle.state.specs.Acted.{cellOf}
+use Rattle.look.specs.Look.{objectOf, fieldOf, lookOf, stateOf}
+use Rattle.pick.specs.declared.Met.{Met}
+use Rattle.pick.specs.declared.Move.{Move}
+use Rattle.pick.specs.declared.Answer.{Answer}
+use Rattle.pick.specs.declared.Answer.the-variants as answer
+use Rattle.pick.specs.Pick.{noHead, Picked, picked, pickOf}
 use Rattle.tally.specs.declared.Tally.{Tally}
 use Rattle.tally.specs.Tally.{tallyFirst, tallyPut, tallyMoved, logPut}
-use Rattle.settle.specs.declared.Answer.{Answer}
-use Rattle.settle.specs.declared.Answer.the-variants as answer
-use Rattle.look.specs.Look.{objectOf, fieldOf, lookOf}
-use Rattle.state.specs.Acted.{cellOf}
-use Rattle.act.specs.Act.{actOf}
-use Rattle.settle.specs.Settle.{passesOf, forksOf, answerOf, moverOf, bornOf, entryBy}
-use Rattle.engine.specs.declared.Stop.{Stop}
-use Rattle.engine.specs.declared.Stop.the-variants as stop
-use Rattle.engine.specs.declared.Seen.{Seen}
-use Rattle.engine.specs.declared.Ran.{Ran}
 
--- past the end of a list: zeros, no keys, and the first variant
-abbrev pub noHead : Head
-noHead = record { ready = readyOf part.Done 0 0 0 0; depth = 0; object = 0; keys = emptySet }
-
+-- past the end of a list: zeros, no keys
 abbrev pub noCell : Cell
 noCell = record { value = 0; key = 0; keys = emptySet }
 
@@ -51,7 +47,7 @@ pub record Machine : Type 0 where
   pub tally : Tally
   pub log : List ℕ
 
--- ---- what a pick of thread p is about
+-- ---- what a pick of thread p meets
 
 abbrev pub headAt : List Head → ℕ → Head
 headAt l p = getD l p noHead
@@ -63,148 +59,90 @@ cellNumber r = objectOf r * 32 + fieldOf r
 pub record Placed (r : Ready) (k : ℕ) : Type 0 where
   pub cell : k ≡ cellNumber r
   pub object : k / 32 ≡ objectOf r
-  pub field : k % 32 ≡ fieldOf r
   pub inside : k < 1024
 
-abbrev pub cellAt : List Head → List Cell → ℕ → Cell
-cellAt l cs p = getD cs (cellNumber (headAt l p .ready)) noCell
+-- with its cell at k, of the object at o
+abbrev pub metAt : Counts → List Head → List Cell → List Object → ℕ → ℕ → ℕ → Met
+metAt n l cs ts p k o =
+    record { counts = n; head = headAt l p; cell = getD cs k noCell; thing = getD ts o noThing; other = getD l (getD ts o noThing .thread % 9) noHead; thread = p }
 
-abbrev pub thingAt : List Head → List Object → ℕ → Object
-thingAt l ts p = getD ts (objectOf (headAt l p .ready)) noThing
-
-abbrev pub otherAt : List Head → List Object → ℕ → Head
-otherAt l ts p = getD l (thingAt l ts p .thread % 9) noHead
-
-abbrev pub sightOf : ℕ → Counts → ℕ → Head → Cell → Object → Head → Sight
-sightOf mask n p h c t q = cond (leb (n .threads) p) sight.Absent (lookOf mask h c t (q .ready .part))
-
-unfoldable pub lookAt : ℕ → Counts → List Head → List Cell → List Object → ℕ → Sight
-lookAt mask n l cs ts p = sightOf mask n p (headAt l p) (cellAt l cs p) (thingAt l ts p) (otherAt l ts p)
-
-unfoldable pub actAt : ℕ → Counts → List Head → List Cell → List Object → ℕ → Acted
-actAt mask n l cs ts p = actOf mask n (headAt l p) (cellAt l cs p) (thingAt l ts p) (otherAt l ts p)
-
--- ---- a pick that is not passed over: act, land the mover, land the new thread, settle
-
--- what a pick comes to, with its record and the landings of the mover and of the thread that it makes
-pub record Turn : Type 0 where
-  pub answer : Answer
-  pub entry : Entry
-  pub landed : Landed
-  pub born : Landed
-
-pub record Finished : Type 0 where
-  pub stack : Stack
-  pub turn : Turn
-
--- the landing of the mover
-abbrev pub moverEnded : List ℕ → List ℕ → ℕ → Head → Acted → Stack → Ended
-moverEnded ws rs p h a k = landOf 2100 ws rs (p * 33) k (a .go) (h .depth % 33)
-
--- where a forked thread starts
-abbrev pub youngGo : Head → Go
-youngGo h = goRun (h .ready .first) (h .ready .environment)
-
--- the landing of the thread that a fork makes; another move makes none
-unfoldable pub youngOf : List ℕ → List ℕ → Counts → Head → Acted → Stack → Ended
-youngOf ws rs n h a k = cond (forksOf a) (landOf 2100 ws rs (n .threads % 9 * 33) k (youngGo h) 0) (ended k goFull 0)
-
-abbrev pub turnBy : Sight → Head → Acted → Landed → Landed → Turn
-turnBy w h a l b = record { answer = answerOf w a l b; entry = entryBy (answerOf w a l b) (h .ready) a; landed = l; born = b }
-
-abbrev pub settled : Sight → Head → Acted → Landed → Ended → Finished
-settled w h a l y = record { stack = y .stack; turn = turnBy w h a l (y .landed) }
-
-abbrev pub landBorn : List ℕ → List ℕ → Counts → Sight → Head → Acted → Ended → Finished
-landBorn ws rs n w h a x = settled w h a (x .landed) (youngOf ws rs n h a (x .stack))
-
-unfoldable pub finishOf : List ℕ → List ℕ → Counts → ℕ → Sight → Head → Acted → Stack → Finished
-finishOf ws rs n p w h a k = landBorn ws rs n w h a (moverEnded ws rs p h a k)
-
--- what the machine's pick of thread p meets, does and comes to
-abbrev pub metBy : ℕ → Machine → ℕ → Sight
-metBy mask m p = lookAt mask (m .tally .counts) (m .heads) (m .cells) (m .objects) p
-
-abbrev pub actedBy : ℕ → Machine → ℕ → Acted
-actedBy mask m p = actAt mask (m .tally .counts) (m .heads) (m .cells) (m .objects) p
-
-abbrev pub finishedBy : List ℕ → List ℕ → ℕ → Machine → ℕ → Finished
-finishedBy ws rs mask m p = finishOf ws rs (m .tally .counts) p (metBy mask m p) (headAt (m .heads) p) (actedBy mask m p) (m .stack)
+unfoldable pub metBy : Counts → List Head → List Cell → List Object → ℕ → Met
+metBy n l cs ts p = metAt n l cs ts p (cellNumber (headAt l p .ready)) (objectOf (headAt l p .ready))
 
 -- ---- the threads at the end
 
-abbrev pub noneSeen : Seen
-noneSeen = record { sight = sight.Absent; value = 0; object = 0; field = 0 }
+abbrev pub absent : Thread
+absent = record { state = state.Absent }
 
-abbrev pub seenBy : ℕ → Counts → ℕ → ℕ → Head → Cell → Object → Head → Seen
-seenBy mask n p k h c t q = record { sight = sightOf mask n p h c t q; value = h .ready .first; object = k / 32; field = k % 32 }
+abbrev pub stateBy : Setting → Met → ThreadState
+stateBy g x = stateOf (lookOf g (x .head) (x .cell) (x .thing) (x .other .ready .part)) (x .head .ready)
 
-abbrev pub seenAt : ℕ → Counts → List Head → List Cell → List Object → ℕ → Seen
-seenAt mask n l cs ts p =
-    record { sight = lookAt mask n l cs ts p; value = headAt l p .ready .first; object = objectOf (headAt l p .ready); field = fieldOf (headAt l p .ready) }
+unfoldable pub threadBy : Setting → Met → Thread
+threadBy g x = cond (leb (x .counts .threads) (x .thread)) absent (record { state = stateBy g x })
 
-unfoldable pub seenOf : ℕ → Counts → List Head → List Cell → List Object → List Seen
-seenOf mask n l cs ts =
-    seenAt mask n l cs ts 0 ∷ seenAt mask n l cs ts 1 ∷ seenAt mask n l cs ts 2 ∷ seenAt mask n l cs ts 3
-    ∷ seenAt mask n l cs ts 4 ∷ seenAt mask n l cs ts 5 ∷ seenAt mask n l cs ts 6 ∷ seenAt mask n l cs ts 7 ∷ []
+abbrev pub threadAt : Setting → Counts → List Head → List Cell → List Object → ℕ → Thread
+threadAt g n l cs ts p = threadBy g (metBy n l cs ts p)
 
-abbrev pub endOf : Stop → ℕ → ℕ → Tally → List Head → List Cell → List Object → Ran
-endOf e i mask s l cs ts = record { stop = e; picks = i; moves = s .moves; records = s .records; threads = seenOf mask (s .counts) l cs ts }
+unfoldable pub threadsOf : Setting → Counts → List Head → List Cell → List Object → List Thread
+threadsOf g n l cs ts =
+    threadAt g n l cs ts 0 ∷ threadAt g n l cs ts 1 ∷ threadAt g n l cs ts 2 ∷ threadAt g n l cs ts 3
+    ∷ threadAt g n l cs ts 4 ∷ threadAt g n l cs ts 5 ∷ threadAt g n l cs ts 6 ∷ threadAt g n l cs ts 7 ∷ []
 
-abbrev pub stopOf : Answer → Stop
-stopOf answer.Moved = stop.End
-stopOf answer.Race = stop.Race
-stopOf (answer.NoRoom r) = stop.NoRoom r
+abbrev pub endOf : Stop → ℕ → Setting → Tally → List Head → List Cell → List Object → Outcome
+endOf e i g s l cs ts = record { stop = e; picks = i; moves = s .moves; records = s .records; threads = threadsOf g (s .counts) l cs ts }
 
 -- ---- the run
 
 pub record Played : Type 0 where
-  pub ran : Ran
+  pub outcome : Outcome
   pub area : List ℕ
 
-abbrev pub stopped : ℕ → Machine → Stop → ℕ → Played
-stopped mask m e i = record { ran = endOf e i mask (m .tally) (m .heads) (m .cells) (m .objects); area = m .log }
-
--- the machine with the pick's record
-abbrev pub logged : Machine → ℕ → Finished → Machine
-logged m p t =
+-- stopped by thread p's pick, with a last record
+abbrev pub stopped : Setting → Machine → ℕ → Entry → Stop → ℕ → Played
+stopped g m p x e i =
     record {
-      heads = m .heads;
-      cells = m .cells;
-      objects = m .objects;
-      stack = t .stack;
-      tally = tallyPut (m .tally) (t .turn .entry);
-      log = logPut (m .log) (m .tally .records) p (t .turn .entry);
+      outcome = endOf e i g (tallyPut (m .tally) x) (m .heads) (m .cells) (m .objects);
+      area = logPut (m .log) (m .tally .records) p x;
     }
 
 -- the heads with a new thread's, which only a fork makes
 abbrev pub withYoung : Bool → List Head → ℕ → Head → List Head
 withYoung forks l q y = cond forks (set l q y) l
 
--- the machine after a pick that moved
-abbrev pub after : Machine → ℕ → Acted → Finished → Machine
-after m p a t =
+-- the machine after a pick that was passed over, and after one that moved
+abbrev pub stayed : Machine → Stack → Machine
+stayed m k = record { heads = m .heads; cells = m .cells; objects = m .objects; stack = k; tally = m .tally; log = m .log }
+
+abbrev pub after : Machine → ℕ → Move → Stack → Machine
+after m p v k =
     record {
-      heads = set (withYoung (forksOf a) (m .heads) (m .tally .counts .threads % 9) (bornOf (m .tally .counts) (headAt (m .heads) p) (t .turn .born))) p (moverOf a (headAt (m .heads) p) (t .turn .landed));
-      cells = set (m .cells) (cellNumber (headAt (m .heads) p .ready)) (a .cell);
-      objects = set (m .objects) (m .tally .counts .objects % 33) (a .thing);
-      stack = t .stack;
-      tally = tallyMoved (tallyPut (m .tally) (t .turn .entry)) (a .counts);
-      log = logPut (m .log) (m .tally .records) p (t .turn .entry);
+      heads = set (withYoung (v .forks) (m .heads) (m .tally .counts .threads % 9) (v .young)) p (v .mover);
+      cells = set (m .cells) (cellNumber (headAt (m .heads) p .ready)) (v .cell);
+      objects = set (m .objects) (m .tally .counts .objects % 33) (v .thing);
+      stack = k;
+      tally = tallyMoved (tallyPut (m .tally) (v .entry)) (v .counts);
+      log = logPut (m .log) (m .tally .records) p (v .entry);
     }
 
-abbrev pub onAnswer : Answer → Played → (Stop → Played) → Played
-onAnswer answer.Moved k halt = k
-onAnswer answer.Race k halt = halt stop.Race
-onAnswer (answer.NoRoom r) k halt = halt (stop.NoRoom r)
+-- the pick of thread p; an absent thread's is passed over
+abbrev pub pickedBy : List ℕ → List ℕ → Setting → Machine → ℕ → Picked
+pickedBy ws rs g m p = pickOf ws rs g (metBy (m .tally .counts) (m .heads) (m .cells) (m .objects) p) (m .stack)
 
-unfoldable pub playOf : List ℕ → List ℕ → ℕ → Machine → List ℕ → ℕ → Played
-playOf ws rs mask m [] i = stopped mask m stop.End i
-playOf ws rs mask m (p ∷ ps) i =
-    cond (passesOf (metBy mask m (p % 8))) (playOf ws rs mask m ps (i + 1))
-    (onAnswer (finishedBy ws rs mask m (p % 8) .turn .answer)
-    (playOf ws rs mask (after m (p % 8) (actedBy mask m (p % 8)) (finishedBy ws rs mask m (p % 8))) ps (i + 1))
-    (λ e. stopped mask (logged m (p % 8) (finishedBy ws rs mask m (p % 8))) e i))
+unfoldable pub turnBy : List ℕ → List ℕ → Setting → Machine → ℕ → Picked
+turnBy ws rs g m p = cond (leb (m .tally .counts .threads) p) (picked (m .stack) answer.Passed) (pickedBy ws rs g m p)
+
+abbrev pub onAnswer : Answer → Played → (Move → Played) → (Stop → Entry → Played) → Played
+onAnswer answer.Passed pass move halt = pass
+onAnswer (answer.Moved v) pass move halt = move v
+onAnswer (answer.Stopped e x) pass move halt = halt e x
+
+unfoldable pub playOf : List ℕ → List ℕ → Setting → Machine → List ℕ → ℕ → Played
+playOf ws rs g m [] i = record { outcome = endOf stop.End i g (m .tally) (m .heads) (m .cells) (m .objects); area = m .log }
+playOf ws rs g m (p ∷ ps) i =
+    onAnswer (turnBy ws rs g m (p % 8) .answer)
+    (playOf ws rs g (stayed m (turnBy ws rs g m (p % 8) .stack)) ps (i + 1))
+    (λ v. playOf ws rs g (after m (p % 8) v (turnBy ws rs g m (p % 8) .stack)) ps (i + 1))
+    (λ e x. stopped g m (p % 8) x e i)
 
 -- ---- about to call main
 

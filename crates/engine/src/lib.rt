@@ -3,43 +3,22 @@
 ghost use mathlib.Core.Path.{_≡_};
 ghost use Prim.Native.Nat.{_<_, _≤_, _+_, _*_};
 ghost use lib.ListN.{length};
-ghost use Rattle.engine.specs.Machine.{Placed, headOf, cellFirst, noThing, stopOf, moverEnded, youngOf, sightOf, seenBy, noneSeen, startOf, playOf};
+ghost use Rattle.engine.specs.Machine.{Placed, headOf, cellFirst, noThing, absent, threadBy, startOf, playOf};
 use frames::go;
 use frames::part;
 use keys::KeySet;
-use landing::Landed;
-use look::Sight;
-use settle::Answer;
+use pick::Answer;
+use pick::Met;
+use run_outcome::Outcome;
+use run_outcome::Stop;
+use run_outcome::Thread;
+use run_outcome::ThreadState;
 use state::Cell;
 use state::Counts;
 use state::Head;
 use state::Object;
-use state::acted::Acted;
-use state::acted::Room;
+use state::Setting;
 use state::acted::cell_with;
-
-// How a run ended: with its picks, for want of a key, or for want of room.
-pub enum Stop {
-    End,
-    Race,
-    NoRoom(Room),
-}
-
-// The value, the object and the field that a thread's part is about, and what its next pick would meet.
-pub struct Seen {
-    pub value: usize,
-    pub object: usize,
-    pub field: usize,
-    pub sight: Sight,
-}
-
-pub struct Ran {
-    pub stop: Stop,
-    pub picks: usize,
-    pub moves: usize,
-    pub records: usize,
-    pub threads: [Seen; 8],
-}
 
 // About to call main.
 fn first_head(root: usize) -> Head
@@ -79,103 +58,32 @@ fn cell_of(head: Head) -> usize
     object * 32 + field
 }
 
-fn stop_of(answer: Answer) -> Stop
-    ensures { λ r. ⌜ r ≡ stopOf answer ⌝ }
+// No thread.
+fn no_thread() -> Thread
+    ensures { λ r. ⌜ r ≡ absent ⌝ }
 {
-    match answer {
-        Answer::Moved => Stop::End,
-        Answer::Race => Stop::Race,
-        Answer::NoRoom(room) => Stop::NoRoom(room),
+    Thread {
+        state: ThreadState::Absent,
     }
 }
 
-// Lands the mover.
-fn land_mover(
-    words: &[usize; 1024],
-    roots: &[usize; 32],
-    stack: &mut [usize; 891],
-    thread: usize,
-    head: Head,
-    acted: Acted,
-) -> Landed
-    requires { ⌜ thread < 8 ⌝ }
-    ensures { λ r. ⌜ (record { stack = now (stack .exit); landed = r }) ≡ moverEnded (now (words .entry)) (now (roots .entry)) thread head acted (now (stack .entry)) ⌝ }
+// What a thread's next pick would meet.
+fn thread_of(setting: Setting, met: Met) -> Thread
+    ensures { λ r. ⌜ r ≡ threadBy setting met ⌝ }
 {
-    let go = acted.go;
-    landing::land(words, roots, stack, thread * 33, go, head.depth % 33)
-}
-
-// Lands the thread that a fork makes; another move makes none.
-fn land_young(
-    words: &[usize; 1024],
-    roots: &[usize; 32],
-    stack: &mut [usize; 891],
-    counts: Counts,
-    head: Head,
-    acted: Acted,
-) -> Landed
-    ensures { λ r. ⌜ (record { stack = now (stack .exit); landed = r }) ≡ youngOf (now (words .entry)) (now (roots .entry)) counts head acted (now (stack .entry)) ⌝ }
-{
-    if settle::forks(acted) {
-        let ready = head.ready;
-        let start = go::run(ready.first, ready.environment);
-        return landing::land(words, roots, stack, counts.threads % 9 * 33, start, 0);
+    let counts = met.counts;
+    if counts.threads <= met.thread {
+        return no_thread();
     }
-    landing::end_at(go::full(), 0)
-}
-
-// What a thread's next pick meets, an absent thread's included.
-fn sight_of(
-    mask: usize,
-    counts: Counts,
-    thread: usize,
-    head: Head,
-    cell: Cell,
-    thing: Object,
-    other: Head,
-) -> Sight
-    ensures { λ r. ⌜ r ≡ sightOf mask counts thread head cell thing other ⌝ }
-{
-    if counts.threads <= thread {
-        return Sight::Absent;
-    }
-    let ready = other.ready;
-    look::look(mask, head, cell, thing, ready.part)
-}
-
-// The same with the numbers of its part, and the number of the cell that the part is about.
-fn seen_of(
-    mask: usize,
-    counts: Counts,
-    thread: usize,
-    number: usize,
-    head: Head,
-    cell: Cell,
-    thing: Object,
-    other: Head,
-) -> Seen
-    ensures { λ r. ⌜ r ≡ seenBy mask counts thread number head cell thing other ⌝ }
-{
-    let sight = sight_of(mask, counts, thread, head, cell, thing, other);
+    let head = met.head;
+    let cell = met.cell;
+    let thing = met.thing;
+    let other = met.other;
     let ready = head.ready;
-    Seen {
-        sight: sight,
-        value: ready.first,
-        object: number / 32,
-        field: number % 32,
-    }
-}
-
-// Nothing seen yet.
-fn none_seen() -> Seen
-    ensures { λ r. ⌜ r ≡ noneSeen ⌝ }
-{
-    Seen {
-        sight: Sight::Absent,
-        value: 0,
-        object: 0,
-        field: 0,
-    }
+    let joined = other.ready;
+    let sight = look::look(setting, head, cell, thing, joined.part);
+    let state = look::state_of(sight, ready);
+    Thread { state: state }
 }
 
 // The run of the picks from the start, with its records in the log; then what each of the eight threads would meet. It owns arrays of structs, which
@@ -183,13 +91,13 @@ fn none_seen() -> Seen
 pub fn run(
     words: &[usize; 1024],
     roots: &[usize; 32],
-    mask: usize,
+    setting: Setting,
     picks: &[u8],
     log: &mut [u8],
-) -> Ran
+) -> Outcome
     requires { ⌜ (length (now picks) ≤ 4096) × (length (now picks) * 3 ≤ length (now log)) ⌝ }
-    ensures ran { λ r. ⌜ r ≡ playOf (now (words .entry)) (now (roots .entry)) mask (startOf (now (roots .entry)) (now (log .entry))) (now (picks .entry)) 0 .ran ⌝ }
-    ensures area { λ r. ⌜ now (log .exit) ≡ playOf (now (words .entry)) (now (roots .entry)) mask (startOf (now (roots .entry)) (now (log .entry))) (now (picks .entry)) 0 .area ⌝ }
+    ensures ran { λ r. ⌜ r ≡ playOf (now (words .entry)) (now (roots .entry)) setting (startOf (now (roots .entry)) (now (log .entry))) (now (picks .entry)) 0 .outcome ⌝ }
+    ensures area { λ r. ⌜ now (log .exit) ≡ playOf (now (words .entry)) (now (roots .entry)) setting (startOf (now (roots .entry)) (now (log .entry))) (now (picks .entry)) 0 .area ⌝ }
 {
     let mut heads = [first_head(roots[0]); 9];
     let mut cells = [first_cell(); 1024];
@@ -209,52 +117,66 @@ pub fn run(
         let cell = cells[number];
         let thing = objects[number / 32];
         let other = heads[thing.thread % 9];
-        let other_ready = other.ready;
-        let sight = look::look(mask, head, cell, thing, other_ready.part);
-        if settle::passes(sight) {
-            continue;
-        }
-        let acted = act::act(mask, counts, head, cell, thing, other);
-        let landed = land_mover(words, roots, &mut stack, thread, head, acted);
-        let young = land_young(words, roots, &mut stack, counts, head, acted);
-        let answer = settle::answer_to(sight, acted, landed, young);
-        let ready = head.ready;
-        let entry = settle::entry_of(answer, ready, acted);
-        tally = tally::put(&mut *log, tally, thread, entry);
-        let Answer::Moved = answer else {
-            stop = stop_of(answer);
+        let met = Met {
+            counts: counts,
+            head: head,
+            cell: cell,
+            thing: thing,
+            other: other,
+            thread: thread,
+        };
+        let answer = pick::pick(words, roots, &mut stack, setting, met);
+        let Answer::Moved(left) = answer else {
+            let Answer::Stopped {
+                stop: reason,
+                entry,
+            } = answer
+            else {
+                continue;
+            };
+            tally = tally::put(&mut *log, tally, thread, entry);
+            stop = reason;
             dealt = i;
             break;
         };
-        if settle::forks(acted) {
-            let born = settle::born(counts, head, young);
-            heads[counts.threads % 9] = born;
+        let entry = left.entry;
+        tally = tally::put(&mut *log, tally, thread, entry);
+        if left.forks {
+            let young = left.young;
+            heads[counts.threads % 9] = young;
         }
-        let mover = settle::mover(acted, head, landed);
-        let changed = acted.cell;
-        let made = acted.thing;
+        let mover = left.mover;
+        let changed = left.cell;
+        let made = left.thing;
+        let counted = left.counts;
         heads[thread] = mover;
         cells[number] = changed;
         objects[counts.objects % 33] = made;
-        let counted = acted.counts;
         tally = tally::moved(tally, counted);
     }
     let counts = tally.counts;
-    let mut all = [none_seen(); 8];
+    let mut threads = [no_thread(); 8];
     for thread in 0..8 {
         let head = heads[thread];
         let number = cell_of(head);
         let cell = cells[number];
         let thing = objects[number / 32];
         let other = heads[thing.thread % 9];
-        let seen = seen_of(mask, counts, thread, number, head, cell, thing, other);
-        all[thread] = seen;
+        let met = Met {
+            counts: counts,
+            head: head,
+            cell: cell,
+            thing: thing,
+            other: other,
+            thread: thread,
+        };
+        threads[thread] = thread_of(setting, met);
     }
-    Ran {
+    Outcome {
         stop: stop,
         picks: dealt,
         moves: tally.moves,
         records: tally.records,
-        threads: all,
+        threads: threads,
     }
 }

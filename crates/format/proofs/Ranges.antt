@@ -1,9 +1,15 @@
--- The numbers of a range one by one: what holds of each of them holds of all; and what is none of them is past them. Assumes nothing.
+-- The numbers of a range one by one: what holds of each of them holds of all; and what is none of them is past them. The arms of a match. Assumes nothing.
 use Prim.Native.Nat.{ℕ, zero, suc, _+_, _<_, _≤_}
 use native.Mathlib.Omega.{arith}
 use native.Mathlib.Decide.{ℕ-discrete}
-use mathlib.Core.Path.{_≡_, subst}
+use mathlib.Core.Path.{_≡_, sym, subst}
+use mathlib.Core.Bool.{Bool, true, false, _&&_, _||_}
+use mathlib.Core.Logic.{⊎-elim}
 use mathlib.Core.List.{List, [], _∷_}
+use lib.Dec.{T}
+use mir.Facts.{and-yes, or-yes}
+use mir.Val.{hasKey}
+use types.Run.{OneOf, hit}
 
 -- R, given P of each of the n numbers from i on
 abbrev pub EachOf : (ℕ → Type 0) → ℕ → ℕ → Type 0 → Type 0
@@ -35,3 +41,41 @@ below (suc n) = n ∷ below n
 pub past-all : (n k : ℕ) → NoneOf k (below n) → n ≤ k
 past-all zero k h = omega arith
 past-all (suc n) k h = omega (arith, past-all n k (h .0), h .1)
+
+-- ---- arms of several numbers
+
+-- k is in none of these lists, the latest first, as the last arm of a match is told it
+abbrev pub NoneIn : ℕ → List (List ℕ) → Type 0
+NoneIn k [] = Unit {0}
+NoneIn k (js ∷ jss) = NoneIn k jss × (OneOf js k → ⊥)
+
+-- one of the lists has j
+abbrev pub has : ℕ → List (List ℕ) → Bool
+has j [] = false
+has j (js ∷ jss) = hasKey js j || has j jss
+
+pub not-in : (k j : ℕ) (jss : List (List ℕ)) → T (has j jss) → NoneIn k jss → k ≡ j → ⊥
+not-in k j [] h n e = h
+not-in k j (js ∷ jss) h n e = ⊎-elim (λ a. n .1 (subst (OneOf js) (sym e) (hit js j a))) (λ b. not-in k j jss b (n .0) e) (or-yes (hasKey js j) (has j jss) h)
+
+-- the lists have every number below m
+abbrev pub hasBelow : ℕ → List (List ℕ) → Bool
+hasBelow zero jss = true
+hasBelow (suc m) jss = has m jss && hasBelow m jss
+
+pub past-each : (m k : ℕ) (jss : List (List ℕ)) → T (hasBelow m jss) → NoneIn k jss → m ≤ k
+past-each zero k jss h n = omega arith
+past-each (suc m) k jss h n =
+    let a = and-yes (has m jss) (hasBelow m jss) h in
+    omega (arith, past-each m k jss (a .1) n, not-in k m jss (a .0) n)
+
+-- the lists have each of these numbers
+abbrev pub hasEach : List ℕ → List (List ℕ) → Bool
+hasEach [] jss = true
+hasEach (j ∷ js) jss = has j jss && hasEach js jss
+
+pub none-of : (k : ℕ) (js : List ℕ) (jss : List (List ℕ)) → T (hasEach js jss) → NoneIn k jss → NoneOf k js
+none-of k [] jss h n = tt
+none-of k (j ∷ js) jss h n =
+    let a = and-yes (has j jss) (hasEach js jss) h in
+    (none-of k js jss (a .1) n, not-in k j jss (a .0) n)

@@ -128,6 +128,17 @@ of-pass (and-then {c} {cs} p f) = rw (none-below (c .wrong) (c .places) (p .righ
 pub some-is-first : (cs : List Check) (r : Refusal) → (firstRefusal cs ≡ some r) ↔ First cs r
 some-is-first cs r = (to-first cs r, of-first)
 
+-- a refusal of another number than the first check's is a later check's
+pub other-number : {c : Check} {cs : List Check} {r : Refusal} → First (c ∷ cs) r → (c .number ≡ r .number → ⊥) → Passes c × First cs r
+other-number (here h) n = absurd (n refl)
+other-number (later p f) n = (p, f)
+
+-- a refusal by the last check
+pub last-refuses : {c : Check} {r : Refusal} → First (c ∷ []) r → Refuses c (r .place)
+unfolding firstRefusal
+last-refuses (here h) = h
+last-refuses (later p f) = absurd (Option·none-ne-some _ (of-first f))
+
 -- no refusal means that every check passes
 pub none-is-pass : (cs : List Check) → (firstRefusal cs ≡ none) ↔ AllPass cs
 none-is-pass cs = (to-pass cs, of-pass)

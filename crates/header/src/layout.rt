@@ -1,6 +1,6 @@
 // The numbers of the header, of the mask and of the procedures, each by its place in document 01.
 ghost use mathlib.Core.Path.{_≡_};
-ghost use Prim.Native.Nat.{_+_, _*_, _≤_};
+ghost use Prim.Native.Nat.{_+_, _*_, _<_, _≤_};
 ghost use lib.ListN.{length};
 ghost use Rattle.packed.specs.Format.{version, procedures, terms, headerSpare, volatiles, parameters, root};
 
@@ -39,19 +39,17 @@ pub fn volatiles(plan: &[u8]) -> usize
     bit_reader::field(plan, 32, 32)
 }
 
-// A procedure is read from the part of the plan that starts with it: in a slice of any length the place of a bit need not fit a `usize`.
+// A procedure's number has six bits, so that the place of its bits, counted from the plan's start, fits a `usize`.
 pub fn parameters(plan: &[u8], procedure: usize) -> usize
-    requires { ⌜ 8 + 2 * procedure + 2 ≤ length (now plan) ⌝ }
+    requires { ⌜ (procedure < 64) × (8 + 2 * procedure + 2 ≤ length (now plan)) ⌝ }
     ensures { λ r. ⌜ r ≡ parameters (now (plan .entry)) procedure ⌝ }
 {
-    let start = 8 + 2 * procedure;
-    bit_reader::field(&plan[start..], 0, 4)
+    bit_reader::field(plan, 64 + 16 * procedure, 4)
 }
 
 pub fn root(plan: &[u8], procedure: usize) -> usize
-    requires { ⌜ 8 + 2 * procedure + 2 ≤ length (now plan) ⌝ }
+    requires { ⌜ (procedure < 64) × (8 + 2 * procedure + 2 ≤ length (now plan)) ⌝ }
     ensures { λ r. ⌜ r ≡ root (now (plan .entry)) procedure ⌝ }
 {
-    let start = 8 + 2 * procedure;
-    bit_reader::field(&plan[start..], 4, 12)
+    bit_reader::field(plan, 68 + 16 * procedure, 12)
 }

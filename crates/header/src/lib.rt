@@ -2,7 +2,7 @@
 pub mod layout; // layout.rt: the numbers of the header, of the mask and of the procedures
 
 ghost use mathlib.Core.Path.{_≡_};
-ghost use Prim.Native.Nat.{_+_, _*_, _≤_};
+ghost use Prim.Native.Nat.{_+_, _*_, _<_, _≤_};
 ghost use lib.ListN.{length};
 ghost use Rattle.format.specs.Lowest.{Lowest};
 ghost use Rattle.packed.specs.Format.{terms};
@@ -49,7 +49,7 @@ pub fn wrong_header(plan: &[u8]) -> bool
 }
 
 fn wrong_procedure(plan: &[u8], count: usize, procedure: usize) -> bool
-    requires { ⌜ (count ≡ terms (now plan)) × (8 + 2 * procedure + 2 ≤ length (now plan)) ⌝ }
+    requires { ⌜ (count ≡ terms (now plan)) × (procedure < 64) × (8 + 2 * procedure + 2 ≤ length (now plan)) ⌝ }
     ensures { λ r. ⌜ r ≡ wrongProcedure (now (plan .entry)) procedure ⌝ }
 {
     let parameters = layout::parameters(plan, procedure);

@@ -12,7 +12,8 @@ use Rattle.frames.specs.declared.go.Stage.the-variants as stage
 use Rattle.frames.specs.declared.go.Go.{Go}
 use Rattle.landing_step.specs.declared.Turn.{Turn}
 use Rattle.term_words.specs.Slots.{slotOf}
-use Rattle.term_words.specs.Words.{wordAt, tagOf, firstOf, secondOf, thirdOf, slotBits, fieldBits, procedureBits, listBits, letFirst, letSecond, writeSecond, maskBits, valueOf, truthOf}
+use Rattle.packed.specs.Operands.{tagOf, firstOf, secondOf, thirdOf, slotBits, fieldBits, procedureBits, listBits, letFirst, letSecond, writeSecond, maskBits}
+use Rattle.term_words.specs.Words.{wordAt, valueOf, truthOf}
 use Rattle.frames.specs.Frames.{framed, letFrame, restOf}
 use Rattle.frames.specs.Going.{readyOf, noRule, goAt, goRun, goRunCondition, goWant, goWantCondition, goList, goValue, goTruth, goFull, feedOf, feedConditionOf}
 

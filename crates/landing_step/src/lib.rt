@@ -81,8 +81,11 @@ fn list(words: &[usize; 1024], roots: &[usize; 32], frame: Frame) -> Go
     ensures { λ r. ⌜ r ≡ listOf (now (words .entry)) (now (roots .entry)) frame ⌝ }
 {
     let word = words::word(words, frame.first);
-    if words::tag(word) == 16 {
-        return go::want(frame::rest(frame, words::second(word)), words::first(word));
+    if operands::tag(word) == 16 {
+        return go::want(
+            frame::rest(frame, operands::second(word)),
+            operands::first(word),
+        );
     }
     let term = root(roots, frame.member);
     go::at(go::ready_of(part::RUN, term, 0, 0, frame.arguments))
@@ -92,19 +95,19 @@ fn list(words: &[usize; 1024], roots: &[usize; 32], frame: Frame) -> Go
 fn simple(word: usize, environment: usize) -> Go
     ensures { λ r. ⌜ r ≡ simpleOf word environment ⌝ }
 {
-    let tag = words::tag(word);
+    let tag = operands::tag(word);
     match tag {
-        2 => go::at(go::ready_of(part::NEW, words::mask_of(word), 0, 0, 0)),
+        2 => go::at(go::ready_of(part::NEW, operands::mask_of(word), 0, 0, 0)),
         7 => go::at(go::ready_of(
             part::WHILE,
-            words::first(word),
-            words::second(word),
+            operands::first(word),
+            operands::second(word),
             0,
             environment,
         )),
-        9 => go::at(go::ready_of(part::FORK, words::first(word), 0, 0, environment)),
+        9 => go::at(go::ready_of(part::FORK, operands::first(word), 0, 0, environment)),
         0 => go::value(0),
-        1 => go::value(slots::slot(environment, words::slot_of(word))),
+        1 => go::value(slots::slot(environment, operands::slot_of(word))),
         _ => go::at(go::ready_of(part::NO_RULE, 0, 0, 0, 0)),
     }
 }
@@ -113,30 +116,34 @@ fn simple(word: usize, environment: usize) -> Go
 fn run(word: usize, environment: usize) -> Go
     ensures { λ r. ⌜ r ≡ runOf word environment ⌝ }
 {
-    let tag = words::tag(word);
-    let first = words::first(word);
-    let second = words::second(word);
-    let field = words::field_of(word);
+    let tag = operands::tag(word);
+    let first = operands::first(word);
+    let second = operands::second(word);
+    let field = operands::field_of(word);
     match tag {
         3 => go::want(frame::frame_of(Kind::Read, 0, 0, field, environment), first),
         4 => {
-            let value = words::write_second(word);
+            let value = operands::write_second(word);
             let frame = frame::frame_of(Kind::Write1, value, 0, field, environment);
             go::want(frame, first)
         }
         5 => go::want(
-            frame::let_frame(words::slot_of(word), words::let_second(word), environment),
-            words::let_first(word),
+            frame::let_frame(
+                operands::slot_of(word),
+                operands::let_second(word),
+                environment,
+            ),
+            operands::let_first(word),
         ),
         6 => go::want_condition(
-            frame::frame_of(Kind::If, second, words::third(word), 0, environment),
+            frame::frame_of(Kind::If, second, operands::third(word), 0, environment),
             first,
         ),
         8 => go::list(frame::frame_of(
             Kind::Call,
-            words::list_of(word),
+            operands::list_of(word),
             0,
-            words::procedure_of(word),
+            operands::procedure_of(word),
             environment,
         )),
         10 => go::want(frame::frame_of(Kind::Join, 0, 0, 0, environment), first),
@@ -152,9 +159,9 @@ fn run(word: usize, environment: usize) -> Go
 fn run_condition(word: usize, environment: usize) -> Go
     ensures { λ r. ⌜ r ≡ runConditionOf word environment ⌝ }
 {
-    let tag = words::tag(word);
-    let first = words::first(word);
-    let second = words::second(word);
+    let tag = operands::tag(word);
+    let first = operands::first(word);
+    let second = operands::second(word);
     match tag {
         12 => go::truth(1),
         13 => go::want_condition(frame::frame_of(Kind::Not, 0, 0, 0, environment), first),

@@ -4,8 +4,8 @@ ghost use lib.ListN.{length};
 ghost use Rattle.player.specs.Answer.{stopOf};
 ghost use Rattle.text.specs.Wrote.{Wrote};
 ghost use Rattle.last_lines.specs.Lines.{stopWord, outcomeLine, refusalLine};
-use player::outcome::NoRoom;
-use player::outcome::Stop;
+use run_outcome::NoRoom;
+use run_outcome::Stop;
 
 fn put_room(area: &mut [u8], at: usize, room: NoRoom) -> usize
     requires { ⌜ at + length (stopWord (stopOf (Stop.NoRoom room))) ≤ length (now area) ⌝ }

@@ -1,4 +1,4 @@
--- Look: what a thread's next pick meets. The machine that the code runs; no reader of the entries' promises needs it. Assumes nothing.
+-- Look: what a thread's next pick meets, and the state that it is in. The machine that the code runs; no reader of the entries' promises needs it. Assumes nothing.
 use Prim.Native.Nat.{ℕ, _-_, _/_, _%_, _^_}
 use mathlib.Core.Bool.{Bool, true, cond}
 use lib.Dec.{eqb, leb}
@@ -8,6 +8,13 @@ use Rattle.frames.specs.declared.go.Ready.{Ready}
 use Rattle.state.specs.declared.Head.{Head}
 use Rattle.state.specs.declared.Cell.{Cell}
 use Rattle.state.specs.declared.Object.{Object}
+use Rattle.state.specs.declared.Setting.{Setting}
+use Rattle.run_outcome.specs.declared.Wait.the-variants as wait
+use Rattle.run_outcome.specs.declared.Stuck.the-variants as stuck
+use Rattle.run_outcome.specs.declared.ThreadState.{ThreadState}
+use Rattle.run_outcome.specs.declared.ThreadState.the-variants as state
+use Rattle.look.specs.declared.Block.{Block}
+use Rattle.look.specs.declared.Block.the-variants as block
 use Rattle.look.specs.declared.Sight.{Sight}
 use Rattle.look.specs.declared.Sight.the-variants as sight
 
@@ -30,24 +37,39 @@ fieldOf r = fieldBy (r .part) (r .second)
 unfoldable pub hasOf : ℕ → ℕ → Bool
 hasOf mask f = eqb (mask / 2 ^ (31 - f % 32) % 2) 1
 
-unfoldable pub lookField : ℕ → Head → Cell → Object → ℕ → Sight
-lookField mask h c t f = cond (hasOf (t .mask) f) (cond (hasOf mask f) sight.Ready (cond (holdsOf (h .keys) (c .key % 256)) sight.Ready sight.Lacking)) sight.NoField
+unfoldable pub lookField : Setting → Head → Cell → Object → ℕ → Sight
+lookField g h c t f =
+    cond (hasOf (t .mask) f) (cond (hasOf (g .mask) f) sight.Ready (cond (holdsOf (h .keys) (c .key % 256)) sight.Ready sight.Lacking)) (sight.Blocked block.Field)
 
 unfoldable pub lookJoin : Object → ℕ → Sight
-lookJoin t q = cond (leb 8 (t .thread)) sight.NoThread (cond (isPart part.Done q) sight.Ready sight.Join)
+lookJoin t q = cond (leb 8 (t .thread)) (sight.Blocked block.Thread) (cond (isPart part.Done q) sight.Ready (sight.Blocked block.Join))
 
 unfoldable pub lookSynch : Head → Cell → Sight
-lookSynch h c = cond (isEmptyOf (c .keys)) (cond (eqb (c .value) (h .object)) sight.Ready sight.Monitor) sight.Ready
+lookSynch h c = cond (isEmptyOf (c .keys)) (cond (eqb (c .value) (h .object)) sight.Ready (sight.Blocked block.Monitor)) sight.Ready
 
 unfoldable pub aboutField : ℕ → Bool
 aboutField p = cond (isPart part.Read p) true (isPart part.Write p)
 
 -- what the pick of a thread with part p meets
-unfoldable pub lookBy : ℕ → ℕ → Head → Cell → Object → ℕ → Sight
-lookBy p mask h c t q =
-    cond (aboutField p) (lookField mask h c t (h .ready .second))
-    (cond (isPart part.Done p) sight.Finished
-    (cond (isPart part.NoRule p) sight.NoRule (cond (isPart part.Join p) (lookJoin t q) (cond (isPart part.Synch p) (lookSynch h c) sight.Ready))))
+unfoldable pub lookBy : ℕ → Setting → Head → Cell → Object → ℕ → Sight
+lookBy p g h c t q =
+    cond (aboutField p) (lookField g h c t (h .ready .second))
+    (cond (isPart part.Done p) (sight.Blocked block.Finished)
+    (cond (isPart part.NoRule p) (sight.Blocked block.NoRule) (cond (isPart part.Join p) (lookJoin t q) (cond (isPart part.Synch p) (lookSynch h c) sight.Ready))))
 
-abbrev pub lookOf : ℕ → Head → Cell → Object → ℕ → Sight
-lookOf mask h c t q = lookBy (h .ready .part) mask h c t q
+abbrev pub lookOf : Setting → Head → Cell → Object → ℕ → Sight
+lookOf g h c t q = lookBy (h .ready .part) g h c t q
+
+-- the state of a thread whose next pick meets this
+abbrev pub blockedOf : Block → Ready → ThreadState
+blockedOf block.Finished r = state.Finished (r .first)
+blockedOf block.Monitor r = state.Waiting (wait.Monitor (objectOf r))
+blockedOf block.Join r = state.Waiting (wait.Join (objectOf r))
+blockedOf block.Field r = state.Stuck (stuck.Field (objectOf r) (fieldOf r))
+blockedOf block.Thread r = state.Stuck (stuck.Thread (objectOf r))
+blockedOf block.NoRule r = state.Stuck stuck.NoRule
+
+abbrev pub stateOf : Sight → Ready → ThreadState
+stateOf sight.Ready r = state.Ready
+stateOf sight.Lacking r = state.Lacking (objectOf r) (fieldOf r)
+stateOf (sight.Blocked x) r = blockedOf x r

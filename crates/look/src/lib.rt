@@ -1,24 +1,33 @@
-// Look: what a thread's next pick meets, apart from room.
+// Look: what a thread's next pick meets, apart from room, and the state that an outcome gives it.
 ghost use mathlib.Core.Path.{_≡_};
 ghost use Prim.Native.Nat.{_<_};
-ghost use Rattle.look.specs.Look.{objectOf, fieldOf, hasOf, lookField, lookJoin, lookSynch, aboutField, lookOf};
+ghost use Rattle.look.specs.Look.{objectOf, fieldOf, hasOf, lookField, lookJoin, lookSynch, aboutField, lookOf, blockedOf, stateOf};
 use frames::go::Ready;
 use frames::part;
+use run_outcome::Stuck;
+use run_outcome::ThreadState;
+use run_outcome::Wait;
 use state::Cell;
 use state::Head;
 use state::Object;
+use state::Setting;
 
-// What a look says: absent, finished, waiting for a monitor or a join, stuck for a field, a thread or a rule, lacking a key, or ready.
-pub enum Sight {
-    Absent,
+// Why a present thread's pick is passed over: it has finished; waits for a monitor or for a join; is stuck for a field, for a thread or for a rule.
+pub enum Block {
     Finished,
-    Ready,
     Monitor,
     Join,
-    NoField,
-    NoThread,
+    Field,
+    Thread,
     NoRule,
+}
+
+// What a pick meets: a thread that can move, one that lacks a key, or one that is blocked. Of two bytes, and apart from the numbers that a state names,
+// so that it costs a pick nothing to be told.
+pub enum Sight {
+    Ready,
     Lacking,
+    Blocked(Block),
 }
 
 // The object that the part is about; 0 where it is about none.
@@ -55,13 +64,14 @@ pub fn has(mask: usize, field: usize) -> bool
     (mask >> (31 - field % 32)) % 2 == 1
 }
 
-fn look_field(mask: usize, head: Head, cell: Cell, thing: Object, field: usize) -> Sight
-    ensures { λ r. ⌜ r ≡ lookField mask head cell thing field ⌝ }
+// What an access to a field meets.
+fn look_field(setting: Setting, head: Head, cell: Cell, thing: Object, field: usize) -> Sight
+    ensures { λ r. ⌜ r ≡ lookField setting head cell thing field ⌝ }
 {
     if !has(thing.mask, field) {
-        return Sight::NoField;
+        return Sight::Blocked(Block::Field);
     }
-    if has(mask, field) {
+    if has(setting.mask, field) {
         return Sight::Ready;
     }
     let keys = head.keys;
@@ -71,16 +81,17 @@ fn look_field(mask: usize, head: Head, cell: Cell, thing: Object, field: usize) 
     Sight::Lacking
 }
 
+// What a join meets, by the part of the thread that its object stands for.
 fn look_join(thing: Object, other: usize) -> Sight
     ensures { λ r. ⌜ r ≡ lookJoin thing other ⌝ }
 {
     if 8 <= thing.thread {
-        return Sight::NoThread;
+        return Sight::Blocked(Block::Thread);
     }
     if other == part::DONE {
         Sight::Ready
     } else {
-        Sight::Join
+        Sight::Blocked(Block::Join)
     }
 }
 
@@ -90,7 +101,7 @@ fn look_synch(head: Head, cell: Cell) -> Sight
     let keys = cell.keys;
     if keys.is_empty() {
         if cell.value as usize != head.object {
-            return Sight::Monitor;
+            return Sight::Blocked(Block::Monitor);
         }
     }
     Sight::Ready
@@ -108,19 +119,51 @@ fn about_field(part: usize) -> bool
 
 // What a present thread's next pick meets, by its head, the cell and the object that its part is about, and the part of the thread that the object
 // stands for.
-pub fn look(mask: usize, head: Head, cell: Cell, thing: Object, other: usize) -> Sight
-    ensures { λ r. ⌜ r ≡ lookOf mask head cell thing other ⌝ }
+pub fn look(setting: Setting, head: Head, cell: Cell, thing: Object, other: usize) -> Sight
+    ensures { λ r. ⌜ r ≡ lookOf setting head cell thing other ⌝ }
 {
     let ready = head.ready;
     let part = ready.part;
     if about_field(part) {
-        return look_field(mask, head, cell, thing, ready.second);
+        return look_field(setting, head, cell, thing, ready.second);
     }
     match part {
-        part::DONE => Sight::Finished,
-        part::NO_RULE => Sight::NoRule,
+        part::DONE => Sight::Blocked(Block::Finished),
+        part::NO_RULE => Sight::Blocked(Block::NoRule),
         part::JOIN => look_join(thing, other),
         part::SYNCH => look_synch(head, cell),
         _ => Sight::Ready,
+    }
+}
+
+fn blocked(block: Block, ready: Ready) -> ThreadState
+    ensures { λ r. ⌜ r ≡ blockedOf block ready ⌝ }
+{
+    let object = object_of(ready);
+    let field = field_of(ready);
+    match block {
+        Block::Finished => ThreadState::Finished { value: ready.first },
+        Block::Monitor => ThreadState::Waiting(Wait::Monitor { object: object }),
+        Block::Join => ThreadState::Waiting(Wait::Join { object: object }),
+        Block::Field => ThreadState::Stuck(Stuck::Field {
+            object: object,
+            field: field,
+        }),
+        Block::Thread => ThreadState::Stuck(Stuck::Thread { object: object }),
+        Block::NoRule => ThreadState::Stuck(Stuck::NoRule),
+    }
+}
+
+// The state of a thread whose next pick meets this, with the numbers of its part.
+pub fn state_of(sight: Sight, ready: Ready) -> ThreadState
+    ensures { λ r. ⌜ r ≡ stateOf sight ready ⌝ }
+{
+    match sight {
+        Sight::Ready => ThreadState::Ready,
+        Sight::Lacking => ThreadState::Lacking {
+            object: object_of(ready),
+            field: field_of(ready),
+        },
+        Sight::Blocked(block) => blocked(block, ready),
     }
 }

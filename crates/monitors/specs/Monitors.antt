@@ -8,18 +8,18 @@ use Rattle.frames.specs.Going.{goRun, goWant, goValue}
 use Rattle.state.specs.declared.Head.{Head}
 use Rattle.state.specs.declared.Cell.{Cell}
 use Rattle.state.specs.declared.Counts.{Counts}
-use Rattle.state.specs.declared.acted.Room.the-variants as room
-use Rattle.state.specs.declared.acted.Acted.{Acted}
+use Rattle.records.specs.Record.{Kind, kindNumber}
+use Rattle.state.specs.declared.acted.Act.{Act}
 use Rattle.state.specs.Acted.{entryOf, cellOf, actedOf, goOn}
 
 abbrev pub holdFrame : ℕ → ℕ → Frame
 holdFrame environment o = record { kind = kind.Hold; first = 0; second = 0; member = 0; count = 0; environment = environment; arguments = o }
 
-unfoldable pub actSynch : Counts → Head → Cell → ℕ → ℕ → ℕ → Acted
+unfoldable pub actSynch : Counts → Head → Cell → ℕ → ℕ → ℕ → Act
 actSynch n h c o t environment =
     cond (isEmptyOf (c .keys))
-    (goOn room.Enough (goRun t environment) n h c)
-    (actedOf room.Enough (goWant (holdFrame environment o) t) n (joinOf (h .keys) (c .keys)) (cellOf (h .object) 0 emptySet) (entryOf 6 o 0 0))
+    (goOn (goRun t environment) n h c)
+    (actedOf (goWant (holdFrame environment o) t) n (joinOf (h .keys) (c .keys)) (cellOf (h .object) 0 emptySet) (entryOf (kindNumber Kind.acquire) o 0 0))
 
-abbrev pub actHold : Counts → Head → ℕ → ℕ → Acted
-actHold n h o v = actedOf room.Enough (goValue v) n (h .keys) (cellOf 0 0 (h .keys)) (entryOf 7 o 0 0)
+abbrev pub actHold : Counts → Head → ℕ → ℕ → Act
+actHold n h o v = actedOf (goValue v) n (h .keys) (cellOf 0 0 (h .keys)) (entryOf (kindNumber Kind.release) o 0 0)

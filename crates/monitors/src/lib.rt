@@ -5,11 +5,11 @@ use frames::frame::Frame;
 use frames::frame::Kind;
 use frames::go;
 use keys::KeySet;
+use records::kind;
 use state::Cell;
 use state::Counts;
 use state::Head;
-use state::acted::Acted;
-use state::acted::Room;
+use state::acted::Act;
 use state::acted::acted_of;
 use state::acted::cell_with;
 use state::acted::entry;
@@ -22,13 +22,13 @@ pub fn act_synch(
     object: usize,
     term: usize,
     environment: usize,
-) -> Acted
+) -> Act
     ensures { λ r. ⌜ r ≡ actSynch counts head cell object term environment ⌝ }
 {
     let keys = head.keys;
     let cell_keys = cell.keys;
     if cell_keys.is_empty() {
-        return go_on(Room::Enough, go::run(term, environment), counts, head, cell);
+        return go_on(go::run(term, environment), counts, head, cell);
     }
     let all = keys.join(cell_keys);
     let none = KeySet::new();
@@ -43,16 +43,16 @@ pub fn act_synch(
         arguments: object,
     };
     let go = go::want(frame, term);
-    let entry = entry(6, object, 0, 0);
-    acted_of(Room::Enough, go, counts, all, changed, entry)
+    let entry = entry(kind::ACQUIRE, object, 0, 0);
+    acted_of(go, counts, all, changed, entry)
 }
 
-pub fn act_hold(counts: Counts, head: Head, object: usize, value: usize) -> Acted
+pub fn act_hold(counts: Counts, head: Head, object: usize, value: usize) -> Act
     ensures { λ r. ⌜ r ≡ actHold counts head object value ⌝ }
 {
     let keys = head.keys;
     let changed = cell_with(0, 0, keys);
     let go = go::value(value);
-    let entry = entry(7, object, 0, 0);
-    acted_of(Room::Enough, go, counts, keys, changed, entry)
+    let entry = entry(kind::RELEASE, object, 0, 0);
+    acted_of(go, counts, keys, changed, entry)
 }

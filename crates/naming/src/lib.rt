@@ -1,15 +1,10 @@
 // Checks 5 and 6: every name of a term, by a procedure or by a parent, with the sort that the table wants there.
 mod sorts; // sorts.rt: the sort of a term, and the arguments of a call
 
+use crate::sorts::CONDITION;
+use crate::sorts::EXPRESSION;
+use crate::sorts::LIST;
 use header::layout;
-use terms::term::ARGUMENTS;
-use terms::term::BODY;
-use terms::term::FIRST;
-use terms::term::SECOND;
-use terms::term::TAG;
-use terms::term::THIRD;
-use terms::term::VALUE;
-use terms::term::WRITTEN;
 ghost use mathlib.Core.Path.{_≡_};
 ghost use mathlib.Core.List.{[], _∷_};
 ghost use Prim.Native.Nat.{_≤_, _<_};
@@ -67,33 +62,30 @@ fn name_children(words: &[usize; 1024], times: &mut [u8; 1024], term: usize, bes
     ensures { λ r. ⌜ now (times .exit) ≡ countAll (childrenOf (nodeIn (now (words .entry)) term)) (now (times .entry)) ⌝ }
 {
     let word = words[term];
-    let first = word / FIRST % 1024;
-    let second = word / SECOND % 1024;
-    match word / TAG {
-        3 => name(words, times, 1, first, best),
-        4 => name_two(words, times, 1, first, 1, word / WRITTEN % 1024, best),
-        5 => name_two(
-            words,
-            times,
-            1,
-            word / VALUE % 1024,
-            1,
-            word / BODY % 1024,
-            best,
-        ),
-        6 => {
-            let least = name(words, times, 2, first, best);
-            name_two(words, times, 1, second, 1, word / THIRD % 1024, least)
+    let first = operands::first(word);
+    let second = operands::second(word);
+    match operands::tag(word) {
+        3 | 9 | 10 => name(words, times, EXPRESSION, first, best),
+        4 => {
+            let value = operands::write_second(word);
+            name_two(words, times, EXPRESSION, first, EXPRESSION, value, best)
         }
-        7 => name_two(words, times, 2, first, 1, second, best),
-        8 => name(words, times, 3, word / ARGUMENTS % 1024, best),
-        9 => name(words, times, 1, first, best),
-        10 => name(words, times, 1, first, best),
-        11 => name_two(words, times, 1, first, 1, second, best),
-        13 => name(words, times, 2, first, best),
-        14 => name_two(words, times, 2, first, 2, second, best),
-        15 => name_two(words, times, 1, first, 1, second, best),
-        16 => name_two(words, times, 1, first, 3, second, best),
+        5 => {
+            let value = operands::let_first(word);
+            let body = operands::let_second(word);
+            name_two(words, times, EXPRESSION, value, EXPRESSION, body, best)
+        }
+        6 => {
+            let least = name(words, times, CONDITION, first, best);
+            let third = operands::third(word);
+            name_two(words, times, EXPRESSION, second, EXPRESSION, third, least)
+        }
+        7 => name_two(words, times, CONDITION, first, EXPRESSION, second, best),
+        8 => name(words, times, LIST, operands::list_of(word), best),
+        11 | 15 => name_two(words, times, EXPRESSION, first, EXPRESSION, second, best),
+        13 => name(words, times, CONDITION, first, best),
+        14 => name_two(words, times, CONDITION, first, CONDITION, second, best),
+        16 => name_two(words, times, EXPRESSION, first, LIST, second, best),
         _ => best,
     }
 }
@@ -115,7 +107,13 @@ fn name_roots(
     let mut best = count;
     let mut procedure = 0;
     while procedure < procedures {
-        best = name(words, times, 1, layout::root(plan, procedure), best);
+        best = name(
+            words,
+            times,
+            EXPRESSION,
+            layout::root(plan, procedure),
+            best,
+        );
         procedure += 1;
     }
     best

@@ -1,22 +1,25 @@
 // Check 5: terms of the right sort, and calls with as many arguments as there are parameters.
 use header::layout;
-use terms::term::ARGUMENTS;
-use terms::term::PROCEDURE;
-use terms::term::SECOND;
-use terms::term::TAG;
 ghost use mathlib.Core.Path.{_≡_};
 ghost use Prim.Native.Nat.{_<_};
 ghost use Rattle.packed.specs.Refusals.{listLength, wrongCall};
 ghost use Rattle.packed.specs.Steps.{Right, Loaded, tagSort, wrongSort, tagIn, lowerIf};
 
-// The sort of a tag: 1 an expression, 2 a condition, 3 a list.
+// The sorts of terms.
+pub const EXPRESSION: usize = 1;
+
+pub const CONDITION: usize = 2;
+
+pub const LIST: usize = 3;
+
+// The sort of a tag.
 fn sort_of(tag: usize) -> usize
     ensures { λ r. ⌜ r ≡ tagSort tag ⌝ }
 {
     if tag < 12 {
-        return 1;
+        return EXPRESSION;
     }
-    if tag < 16 { 2 } else { 3 }
+    if tag < 16 { CONDITION } else { LIST }
 }
 
 // The lower of `best` and term `index`, if that is of another sort than the table wants.
@@ -24,7 +27,7 @@ pub fn lower(words: &[usize; 1024], sort: usize, index: usize, best: usize) -> u
     requires { ⌜ index < 1024 ⌝ }
     ensures { λ r. ⌜ r ≡ lowerIf (wrongSort sort (tagIn (now (words .entry)) index)) index best ⌝ }
 {
-    if sort_of(words[index] / TAG) == sort {
+    if sort_of(operands::tag(words[index])) == sort {
         return best;
     }
     if index < best { index } else { best }
@@ -47,10 +50,10 @@ fn list_length(
     let mut term = from;
     while length < 9 {
         let word = words[term];
-        if word / TAG != 16 {
+        if operands::tag(word) != 16 {
             return length;
         }
-        term = word / SECOND % 1024;
+        term = operands::second(word);
         length += 1;
     }
     length
@@ -71,11 +74,11 @@ pub fn lower_call(
     ensures { λ r. ⌜ r ≡ lowerIf (wrongCall (now (plan .entry)) term) term best ⌝ }
 {
     let word = words[term];
-    if word / TAG != 8 {
+    if operands::tag(word) != 8 {
         return best;
     }
-    let length = list_length(plan, procedures, count, words, word / ARGUMENTS % 1024);
-    if length == layout::parameters(plan, word / PROCEDURE % 32) {
+    let length = list_length(plan, procedures, count, words, operands::list_of(word));
+    if length == layout::parameters(plan, operands::procedure_of(word)) {
         return best;
     }
     if term < best { term } else { best }

@@ -22,14 +22,14 @@ unfoldable pub playNumber : play.Played → ℕ
 playNumber (play.Played.ran o) = 0
 playNumber (play.Played.refused r) = refusalNumber r
 
--- judge: 0 for none, 2^32 + index for an unordered access, 2 * 2^32 + number * 65536 + place for a refusal
+-- judge: 0 for none, 2^32 + index for the first unordered access, 2 * 2^32 + number * 65536 + place for a refusal
 unfoldable pub judgeNumber : Judged → ℕ
 judgeNumber (named none) = 0
 judgeNumber (named (some j)) = 2 ^ 32 + j
 judgeNumber (refused r) = 2 * 2 ^ 32 + refusalNumber r
 
--- the judge returns the number of its answer to the log, which is one
-pub record MayReturn (log : List ℕ) (n : ℕ) : Type 0 where
+-- the judge returns the number of its answer to the log
+pub record JudgeReturns (log : List ℕ) (n : ℕ) : Type 0 where
   pub answer : Judged
-  pub allowed : Answers v1 log answer
+  pub answers : Answers v1 log answer
   pub numbered : n ≡ judgeNumber answer

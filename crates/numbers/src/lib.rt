@@ -1,16 +1,17 @@
 // An answer as one number.
 ghost use mathlib.Core.Path.{_≡_};
 ghost use Prim.Native.Nat.{_+_, _*_, _^_, _≤_};
-ghost use Rattle.plan.specs.Answer as plan;
+ghost use Rattle.refusals.specs.Answer as refusals;
+ghost use Rattle.refusals.specs.Small.{Small, SmallCheck};
 ghost use Rattle.judge.specs.Answer as judge;
 ghost use Rattle.numbers.specs.Numbers.{checkNumber, judgeNumber};
-ghost use Rattle.numbers.specs.Small.{SmallCheck, SmallJudged};
+ghost use Rattle.numbers.specs.Small.{SmallJudged};
 use judge::Judgement;
-use plan::Checked;
+use refusals::Checked;
 
 // Of a refusal.
 pub fn refusal(number: usize, place: usize) -> u64
-    requires { ⌜ (number ≤ 12) × (place ≤ 4096) ⌝ }
+    requires { ⌜ Small number place ⌝ }
     ensures { λ r. ⌜ r ≡ number * 65536 + place ⌝ }
 {
     (number as u64) * 65536 + place as u64
@@ -26,8 +27,8 @@ fn index(index: usize) -> u64
 
 // Of a check's answer.
 pub fn of_check(checked: Checked) -> u64
-    requires { ⌜ SmallCheck (plan.answered checked) ⌝ }
-    ensures { λ r. ⌜ r ≡ checkNumber (plan.answered checked) ⌝ }
+    requires { ⌜ SmallCheck (refusals.answered checked) ⌝ }
+    ensures { λ r. ⌜ r ≡ checkNumber (refusals.answered checked) ⌝ }
 {
     match checked {
         Checked::Passed => 0,

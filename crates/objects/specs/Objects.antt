@@ -8,23 +8,25 @@ use Rattle.state.specs.declared.Head.{Head}
 use Rattle.state.specs.declared.Cell.{Cell}
 use Rattle.state.specs.declared.Object.{Object}
 use Rattle.state.specs.declared.Counts.{Counts}
-use Rattle.state.specs.declared.acted.Room.the-variants as room
-use Rattle.state.specs.declared.acted.Acted.{Acted}
-use Rattle.state.specs.Acted.{entryOf, countsOf, actedWith, actedOf, goOn}
+use Rattle.records.specs.Record.{Kind, kindNumber}
+use Rattle.run_outcome.specs.declared.NoRoom.the-variants as room
+use Rattle.state.specs.declared.acted.Act.{Act}
+use Rattle.state.specs.declared.acted.Act.the-variants as act
+use Rattle.state.specs.Acted.{entryOf, countsOf, actedWith, actedOf}
 
-unfoldable pub actNew : Counts → Head → Cell → ℕ → Acted
+unfoldable pub actNew : Counts → Head → Cell → ℕ → Act
 actNew n h c mask =
     cond (leb 32 (n .objects))
-    (goOn room.NoObject (goValue (n .objects)) n h c)
-    (actedWith room.Enough (goValue (n .objects)) (countsOf (n .threads) (n .objects + 1) (n .keys)) (h .keys) c (entryOf 1 (n .objects) 0 0) mask 8)
+    (act.NoRoom room.Object)
+    (actedWith (goValue (n .objects)) (countsOf (n .threads) (n .objects + 1) (n .keys)) (h .keys) c (entryOf (kindNumber Kind.new) (n .objects) 0 0) mask 8)
 
-unfoldable pub actFork : Counts → Head → Cell → Acted
+unfoldable pub actFork : Counts → Head → Cell → Act
 actFork n h c =
     cond (leb 8 (n .threads))
-    (goOn room.NoThread (goValue (n .objects)) n h c)
+    (act.NoRoom room.Thread)
     (cond (leb 32 (n .objects))
-    (goOn room.NoObject (goValue (n .objects)) n h c)
-    (actedWith room.Enough (goValue (n .objects)) (countsOf (n .threads + 1) (n .objects + 1) (n .keys)) (h .keys) c (entryOf 8 (n .objects) (n .threads) 0) 0 (n .threads)))
+    (act.NoRoom room.Object)
+    (actedWith (goValue (n .objects)) (countsOf (n .threads + 1) (n .objects + 1) (n .keys)) (h .keys) c (entryOf (kindNumber Kind.fork) (n .objects) (n .threads) 0) 0 (n .threads)))
 
-abbrev pub actJoin : Counts → Head → Cell → Object → Head → ℕ → Acted
-actJoin n h c t q o = actedOf room.Enough (goValue (q .ready .first)) n (joinOf (h .keys) (q .keys)) c (entryOf 9 o (t .thread) (q .ready .first))
+abbrev pub actJoin : Counts → Head → Cell → Object → Head → ℕ → Act
+actJoin n h c t q o = actedOf (goValue (q .ready .first)) n (joinOf (h .keys) (q .keys)) c (entryOf (kindNumber Kind.join) o (t .thread) (q .ready .first))

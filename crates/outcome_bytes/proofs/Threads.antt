@@ -6,9 +6,9 @@ use mathlib.Core.List.{List, [], _∷_, map}
 use lib.ListN.{length, length-map, getD, set, replicate}
 use Rattle.format.proofs.Turns.{turns}
 use Rattle.rules.specs.Run as run
-use Rattle.player.specs.declared.outcome.ThreadState.the-variants as state
-use Rattle.player.specs.declared.outcome.Thread.{Thread}
-use Rattle.player.specs.declared.outcome.Outcome.{Outcome}
+use Rattle.run_outcome.specs.declared.ThreadState.the-variants as state
+use Rattle.run_outcome.specs.declared.Thread.{Thread}
+use Rattle.run_outcome.specs.declared.Outcome.{Outcome}
 use Rattle.player.specs.Answer.{stopOf, statusOf, outcomeOf}
 use Rattle.outcome_bytes.specs.declared.ThreadBytes.{ThreadBytes}
 use Rattle.outcome_bytes.specs.Bytes.{threadBytes, allThreads, outcomeBytes}

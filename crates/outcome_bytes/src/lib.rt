@@ -5,12 +5,12 @@ ghost use Rattle.player.specs.Answer.{stopOf, statusOf, outcomeOf};
 ghost use Rattle.outcome_bytes.specs.Bytes.{stopByte, three, threadBytes, outcomeBytes};
 ghost use Rattle.outcome_bytes.specs.Small.{SmallStatus, SmallOutcome};
 ghost use Rattle.outcome_bytes.specs.Parts.{headBytes};
-use player::outcome::NoRoom;
-use player::outcome::Outcome;
-use player::outcome::Stop;
-use player::outcome::Stuck;
-use player::outcome::ThreadState;
-use player::outcome::Wait;
+use run_outcome::NoRoom;
+use run_outcome::Outcome;
+use run_outcome::Stop;
+use run_outcome::Stuck;
+use run_outcome::ThreadState;
+use run_outcome::Wait;
 
 // A thread's three bytes: its state, the value or the object that the state names, the field that it names.
 pub struct ThreadBytes {
@@ -81,6 +81,7 @@ fn stuck_bytes(stuck: Stuck) -> ThreadBytes
     match stuck {
         Stuck::Field { object, field } => named(5, object, field),
         Stuck::Thread { object } => named(6, object, 0),
+        Stuck::NoRule => named(8, 0, 0),
     }
 }
 

@@ -1,4 +1,5 @@
--- What a plan that is not refused gives to whoever reads it: sizes, procedures, and each term with its operands. Assumes nothing.
+-- What a plan that is not refused gives to whoever reads it: sizes, procedures, and each term with its operands; and what of it checks 1 to 6 give.
+-- Assumes nothing.
 use Prim.Native.Nat.{ℕ, _^_, _≤_, _<_}
 use native.Mathlib.Omega.{arith}
 use mathlib.Core.Path.{_≡_, sym, _∙_}
@@ -15,7 +16,7 @@ use Rattle.packed.specs.Trees.{treeAt}
 use Rattle.packed.specs.Slots.{closed}
 use Rattle.packed.specs.Refusals.{wrongOperand, wrongTerm, misplaced, listLength, timesNamed, notNamedOnce, usesUnboundSlot}
 use Rattle.packed.specs.Check.{refusal}
-use Rattle.packed.proofs.Passing.{length-of, header-of, procedure-of, PassesTable, NoOperand, of-operands, table-of, at-itself, sorted-of, call-of, AllRight, all-right}
+use Rattle.packed.proofs.Passing.{length-of, header-of, procedure-of, PassesTable, NoOperand, of-operands, table-of, at-itself, sorted-of, call-of, SixRight, AllRight, all-right}
 
 -- ---- the facts
 
@@ -57,6 +58,11 @@ pub record RightTerm (b : List ℕ) (t : ℕ) : Type 0 where
   pub spare-zero : termAt b t .spare ≡ 0
   pub call-counts : tagAt b t ≡ 8 → listLength b (terms b) (termAt b t .value₂) ≡ parameters b (termAt b t .value₁)
   pub named-once : timesNamed b t ≡ 1
+
+-- what checks 1 to 6 give of the trees
+pub record Readable (b : List ℕ) : Type 0 where
+  pub each-root : (p : ℕ) → p < procedures b → (root b p < terms b) × OfSort expression (tagAt b (root b p))
+  pub each-term : (t : ℕ) → t < terms b → RightTerm b t
 
 pub record RightProcedure (b : List ℕ) (p : ℕ) : Type 0 where
   pub few-parameters : parameters b p ≤ 8
@@ -109,9 +115,9 @@ fits-of b t expression v w h s = child-of b t expression v h s
 fits-of b t condition v w h s = child-of b t condition v h s
 fits-of b t list v w h s = child-of b t list v h s
 
--- ---- a plan that passes every check
+-- ---- a plan that passes checks 1 to 6
 
-module _ (b : List ℕ) (a : AllRight b) where
+module _ (b : List ℕ) (a : SixRight b) where
   in-table : (t : ℕ) → t < terms b → PassesTable (procedures b) (terms b) t (termAt b t)
   unfolding wrongTerm
   in-table t q = table-of (procedures b) (terms b) t (termAt b t) (a .right₄ t q)
@@ -144,25 +150,35 @@ module _ (b : List ℕ) (a : AllRight b) where
         named-once = eqb-true _ _ (not-false (eqb (timesNamed b t) 1) (a .right₆ t q));
       }
 
-  procedure-right : (p : ℕ) → p < procedures b → RightProcedure b p
-  unfolding usesUnboundSlot
-  procedure-right p q =
-      let k = procedure-of b p (a .right₃ p q) in
-      let t = root b p in
-      record {
-        few-parameters = k .0;
-        root-below = k .2;
-        root-sorted = in-sort expression t (k .2) (sorted-of b t (a .right₅ t (k .2)) .as-root p q);
-        all-bound = not-false (closed (λ x. ltb x (parameters b p)) (treeAt b t)) (a .right₇ p q);
-      }
+  root-right : (p : ℕ) → p < procedures b → (root b p < terms b) × OfSort expression (tagAt b (root b p))
+  root-right p q =
+      let k = procedure-of b p (a .right₃ p q) .2 in
+      (k, in-sort expression (root b p) k (sorted-of b (root b p) (a .right₅ (root b p) k) .as-root p q))
+
+  pub readable : Readable b
+  readable = record { each-root = root-right; each-term = term-of }
+
+-- ---- a plan that passes every check
+
+procedure-right : (b : List ℕ) → AllRight b → (p : ℕ) → p < procedures b → RightProcedure b p
+unfolding usesUnboundSlot
+procedure-right b a p q =
+    let r = root-right b (a .six) p q in
+    record {
+      few-parameters = procedure-of b p (a .six .right₃ p q) .0;
+      root-below = r .0;
+      root-sorted = r .1;
+      all-bound = not-false (closed (λ x. ltb x (parameters b p)) (treeAt b (root b p))) (a .right₇ p q);
+    }
 
 -- a plan that is not refused has all the facts
 pub accepted : (b : List ℕ) → refusal b ≡ none → Accepted b
 accepted b h =
     let a = all-right b h in
-    let k = header-of b (a .right₂) in
+    let six = a .six in
+    let k = header-of b (six .right₂) in
     record {
-      length-right = length-of b (a .right₁);
+      length-right = length-of b (six .right₁);
       version-one = k .0;
       some-procedure = k .1;
       few-procedures = k .2;
@@ -170,7 +186,15 @@ accepted b h =
       few-terms = k .4;
       spare-zero = k .5;
       monitor-volatile = k .6;
-      main-bare = omega (arith, ltb-false 0 (parameters b 0) (procedure-of b 0 (a .right₃ 0 (k .1)) .1));
+      main-bare = omega (arith, ltb-false 0 (parameters b 0) (procedure-of b 0 (six .right₃ 0 (k .1)) .1));
       each-procedure = procedure-right b a;
-      each-term = term-of b a;
+      each-term = term-of b six;
+    }
+
+-- and so what checks 1 to 6 give
+pub its-trees : (b : List ℕ) → Accepted b → Readable b
+its-trees b a =
+    record {
+      each-root = λ p q. (a .each-procedure p q .root-below, a .each-procedure p q .root-sorted);
+      each-term = a .each-term;
     }

@@ -1,22 +1,26 @@
--- The trees of a plan that is not refused: each term of a tree stands for its part of it, and the program is well-formed. Assumes nothing.
+-- The trees of a plan that passes checks 1 to 6: each term of a tree stands for its part of it. Of one that is not refused, the program is well-formed; of
+-- one that 7 refuses, the tree of the procedure has an unbound slot. Assumes nothing.
 use Prim.Native.Nat.{ℕ, zero, suc, _+_, _-_, _≤_, _<_}
 use native.Mathlib.Decide.{ℕ-discrete}
 use native.Mathlib.Omega.{arith}
 use mathlib.Core.Path.{_≡_, refl, ap, sym, subst, _∙_}
-use mathlib.Core.Bool.{Bool, _&&_, true≢false}
+use mathlib.Core.Bool.{Bool, false, _&&_, true≢false}
 use mathlib.Core.List.{List}
 use mathlib.Core.Option.{some, none}
 use lib.Dec.{T, ltb, lit<}
-use lib.ListN.{getElem?, getD}
+use lib.ListN.{take, getElem?, getD}
 use mir.Facts.{and-yes}
+use borrow.Author.Tests.{not-true}
+use Rattle.format.specs.Refusal.{firstRefusal}
 use Rattle.packed.specs.Syntax.{Expression, Condition, Arguments, Procedure}
 use Rattle.packed.specs.Format.{procedures, terms, parameters, root, expression, condition, list, table, layout, laidOut, tagAt, termAt}
 use Rattle.packed.specs.Trees.{Node, binderOf, nodes, nodeOf, nodeAt, Stands, Standsᶜ, Standsᵃ, expressionOf, conditionOf, argumentsOf, expressionAt, conditionAt, argumentsAt, treeAt, procedureAt, proceduresFrom, programOf}
 use Rattle.packed.specs.Slots.{bound, closed, closedᶜ, closedᵃ}
-use Rattle.packed.specs.Refusals.{listLength}
-use Rattle.packed.specs.Check.{refusal}
+use Rattle.packed.specs.Refusals.{listLength, usesUnboundSlot}
+use Rattle.packed.specs.Check.{checks, refusal}
 use Rattle.packed.proofs.WellFormed.{count, Callable, WellFormed, WellFormedᶜ, WellFormedᵃ, WellFormedProgram}
-use Rattle.packed.proofs.Accepted.{OfSort, Child, Fits, RightTerm, Accepted, accepted}
+use Rattle.packed.proofs.Passing.{six-right, seventh}
+use Rattle.packed.proofs.Accepted.{OfSort, Child, Fits, RightTerm, Readable, readable, Accepted, accepted, its-trees}
 use Rattle.packed.proofs.ListLaws.{list-step, list-stop}
 
 infixr 30 _gives_then_
@@ -118,7 +122,7 @@ module _ (b : List ℕ) where
     at-tag : (P : Node → Type 0) → RightTerm b t → Row P (tagAt b t) → P (nodeAt b t)
     at-tag P right row = subst P (sym (node-is b t (tagAt b t) refl)) (row refl (right .first-fits) (right .second-fits) (right .third-fits))
 
-    module _ (a : Accepted b) (n : ℕ) (ih : AllGood n) (inside : t < terms b) (near : terms b ≤ t + suc n) where
+    module _ (a : Readable b) (n : ℕ) (ih : AllGood n) (inside : t < terms b) (near : terms b ≤ t + suc n) where
       abbrev tree : ℕ → Expression
       tree i = expressionAt (nodeAt b) n i
 
@@ -224,30 +228,36 @@ module _ (b : List ℕ) where
       unfolding argumentsAt
       goodᵃ-here s = at-tag (λ m. Goodᵃ t (argumentsOf tree treeᵃ m)) (a .each-term t inside) (pick lists (tagAt b t) (omega arith) (omega arith))
 
-  all-good : Accepted b → (n : ℕ) → AllGood n
+  all-good : Readable b → (n : ℕ) → AllGood n
   all-good a zero = record { expression-good = λ t h q s. absurd (omega arith); condition-good = λ t h q s. absurd (omega arith); list-good = λ t h q s. absurd (omega arith) }
   all-good a (suc n) =
       let ih = all-good a n in
       record { expression-good = λ t. good-here t a n ih; condition-good = λ t. goodᶜ-here t a n ih; list-good = λ t. goodᵃ-here t a n ih }
 
-  root-good : Accepted b → (p : ℕ) → p < procedures b → Good (root b p) (treeAt b (root b p))
+  root-good : Readable b → (p : ℕ) → p < procedures b → Good (root b p) (treeAt b (root b p))
   unfolding treeAt
   root-good a p h =
-      let r = a .each-procedure p h in
-      all-good a (terms b - root b p) .expression-good (root b p) (r .root-below) (enough (terms b) (root b p)) (r .root-sorted)
+      let r = a .each-root p h in
+      all-good a (terms b - root b p) .expression-good (root b p) (r .0) (enough (terms b) (root b p)) (r .1)
     where
       enough : (n t : ℕ) → n ≤ t + (n - t)
       enough n t = omega arith
 
 -- ---- the plan
 
--- the tree of a root is what its term stands for
-pub stands : (b : List ℕ) → refusal b ≡ none → (p : ℕ) → p < procedures b → Stands (nodeAt b) (root b p) (treeAt b (root b p))
-stands b h p q = root-good b (accepted b h) p q .0
+-- where checks 1 to 6 find nothing, the tree of a root is what its term stands for
+pub stands : (b : List ℕ) → firstRefusal (take 6 (checks b)) ≡ none → (p : ℕ) → p < procedures b → Stands (nodeAt b) (root b p) (treeAt b (root b p))
+stands b h p q = root-good b (readable b (six-right b h)) p q .0
+
+-- what refusal 7 says of its procedure: the tree that the root term stands for uses a slot that no parameter or enclosing let binds
+pub refused-tree : (b : List ℕ) (p : ℕ) → refusal b ≡ some (record { number = 7; place = p })
+    → (p < procedures b) × Stands (nodeAt b) (root b p) (treeAt b (root b p)) × (closed (λ x. ltb x (parameters b p)) (treeAt b (root b p)) ≡ false)
+unfolding usesUnboundSlot
+refused-tree b p h = let s = seventh b p h in (s .1, stands b (s .0) p (s .1), not-true _ (s .2))
 
 body-well-formed : (b : List ℕ) → Accepted b → (m : ℕ) → m < procedures b → WellFormed (programOf b) 1 (λ x. ltb x (procedureAt b m .parameters)) (procedureAt b m .body)
 unfolding procedureAt
-body-well-formed b a m q = root-good b a m q .1 (λ x. ltb x (parameters b m)) (subst T (sym (a .each-procedure m q .all-bound)) tt)
+body-well-formed b a m q = root-good b (its-trees b a) m q .1 (λ x. ltb x (parameters b m)) (subst T (sym (a .each-procedure m q .all-bound)) tt)
 
 -- the program of a plan that is not refused is well-formed
 pub well-formed : (b : List ℕ) → refusal b ≡ none → WellFormedProgram (programOf b)

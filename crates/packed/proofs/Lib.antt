@@ -16,3 +16,4 @@ pub mod NodeOrder
 pub mod SlotMasks
 pub mod WalkSteps
 pub mod Walk
+pub mod Samples

@@ -3,7 +3,7 @@ use mathlib.Core.Path.{_≡_, refl, ap, sym, _∙_}
 use mathlib.Core.Logic.{_⊎_, inl, inr, ⊎-elim}
 use mathlib.Core.Bool.{not}
 use mathlib.Core.List.{List}
-use Prim.Native.Nat.{ℕ, zero, suc, _+_, _-_, _/_, _%_, _≤_, _<_}
+use Prim.Native.Nat.{ℕ, zero, suc, _+_, _-_, _≤_, _<_}
 use native.Mathlib.Nat.{suc-add}
 use native.Mathlib.Decide.{decLt, ℕ-discrete}
 use native.Mathlib.Omega.{arith}
@@ -11,6 +11,7 @@ use lib.Dec.{eqb}
 use borrow.Author.Tests.{eq-eqb, ne-eqb, leb-false}
 use Rattle.packed.specs.Format
 use Rattle.packed.specs.Format.{terms, parameters, Operand, table, layout, termAt, tagAt}
+use Rattle.packed.specs.Operands.{tagOf, secondOf, procedureBits, listBits}
 use Rattle.packed.specs.Refusals.{wrongOperand, isChild, wrongCall, listLength}
 use Rattle.packed.specs.Steps.{Right, wordAt}
 use Rattle.packed.proofs.Reading.{tag-in, tag-was, first-was, second-was}
@@ -85,22 +86,22 @@ unfolding wrongCall
 call-is b t h = rw (eq-eqb (tagAt b t) 8 h)
 
 module _ (b : List ℕ) (procedures n t : ℕ) (r : Right b procedures n) (h : t < n) (w : ℕ) (e : w ≡ wordAt b t) (k : tagAt b t ≡ 8) where
-  key : w / 34359738368 ≡ 8
-  key = ap (λ (v : ℕ). v / 34359738368) e ∙ sym (tag-in b t) ∙ k
+  key : tagOf w ≡ 8
+  key = ap tagOf e ∙ sym (tag-in b t) ∙ k
 
-  list-at : w / 1048576 % 1024 ≡ termAt b t .value₂
+  list-at : listBits w ≡ termAt b t .value₂
   unfolding layout table
   list-at = second-was b t w e 8 key
 
-  pub list-below : w / 1048576 % 1024 < n
+  pub list-below : listBits w < n
   unfolding layout table
   list-below = rw list-at (second-between b procedures n t (r .headed .sized) (r .terms-right t h) (ap isChild (second-is b t 8 k)) .1)
 
-  callee-at : w / 1073741824 % 32 ≡ termAt b t .value₁
+  callee-at : procedureBits w ≡ termAt b t .value₁
   unfolding layout table
   callee-at = first-was b t w e 8 key
 
-  pub callee-below : w / 1073741824 % 32 < procedures
+  pub callee-below : procedureBits w < procedures
   unfolding layout table
   callee-below =
       let f = passes b t (r .terms-right t h) .first-right in
@@ -108,10 +109,10 @@ module _ (b : List ℕ) (procedures n t : ℕ) (r : Right b procedures n) (h : t
       (leb-false (Format.procedures b) (termAt b t .value₁) (sym (ap (λ (o : Operand). wrongOperand (Format.procedures b) (terms b) t o (termAt b t .value₁)) (first-is b t 8 k)) ∙ f))
 
   -- counted to nine, against the parameters
-  pub called : (l p : ℕ) → l ≡ listLength b 9 (w / 1048576 % 1024) → p ≡ parameters b (w / 1073741824 % 32) → not (eqb l p) ≡ wrongCall b t
+  pub called : (l p : ℕ) → l ≡ listLength b 9 (listBits w) → p ≡ parameters b (procedureBits w) → not (eqb l p) ≡ wrongCall b t
   called l p el ep =
-      let v = w / 1048576 % 1024 in
-      let m = w / 1073741824 % 32 in
+      let v = listBits w in
+      let m = procedureBits w in
       let q : parameters b m ≤ 8 = parameters-small b procedures n m (r .headed) callee-below in
       let x : eqb l p ≡ eqb (listLength b (terms b) v) (parameters b m) = rw (el, ep) (nine b procedures n r v (parameters b m) list-below q) in
       let y : eqb (listLength b (terms b) v) (parameters b m) ≡ eqb (listLength b (terms b) (termAt b t .value₂)) (parameters b (termAt b t .value₁)) = rw (list-at, callee-at) in
@@ -119,9 +120,9 @@ module _ (b : List ℕ) (procedures n t : ℕ) (r : Right b procedures n) (h : t
 
 -- the next term of a list, of its 40 bits
 module _ (b : List ℕ) (t w : ℕ) (e : w ≡ wordAt b t) where
-  pub next-is : w / 34359738368 ≡ 16 → (tagAt b t ≡ 16) × (w / 32768 % 1024 ≡ termAt b t .value₂)
+  pub next-is : tagOf w ≡ 16 → (tagAt b t ≡ 16) × (secondOf w ≡ termAt b t .value₂)
   unfolding layout table
   next-is k = (tag-was b t w e 16 k, second-was b t w e 16 k)
 
-  pub no-next : (w / 34359738368 ≡ 16 → ⊥) → tagAt b t ≡ 16 → ⊥
-  no-next h q = h (ap (λ (v : ℕ). v / 34359738368) e ∙ sym (tag-in b t) ∙ q)
+  pub no-next : (tagOf w ≡ 16 → ⊥) → tagAt b t ≡ 16 → ⊥
+  no-next h q = h (ap tagOf e ∙ sym (tag-in b t) ∙ q)

@@ -3,13 +3,14 @@ use Prim.Native.Nat.{ℕ, zero, suc, _≤_, _<_}
 use native.Mathlib.Decide.{ℕ-discrete}
 use native.Mathlib.Omega.{arith}
 use mathlib.Core.Path.{_≡_, refl, ap, _∙_}
-use mathlib.Core.Bool.{Bool, false, _&&_, _||_, not}
-use mathlib.Core.List.{List}
-use mathlib.Core.Option.{none}
+use mathlib.Core.Bool.{Bool, true, false, _&&_, _||_, not}
+use mathlib.Core.List.{List, [], _++_}
+use mathlib.Core.Option.{some, none}
 use lib.Dec.{eqb, ltb, leb, lit<}
-use lib.ListN.{length}
+use lib.ListN.{length, take, drop}
 use borrow.Author.Tests.{ltb-false, leb-false, eqb-true, eq-eqb, not-false}
-use Rattle.format.proofs.RefusalLaws.{head-pass, tail-pass, none-is-pass, neither}
+use Rattle.format.specs.Refusal.{Check, firstRefusal}
+use Rattle.format.proofs.RefusalLaws.{AllPass, none-left, and-then, head-pass, tail-pass, some-is-first, none-is-pass, other-number, last-refuses, neither}
 use Rattle.packed.specs.Format
 use Rattle.packed.specs.Format.{version, terms, headerSpare, volatiles, maskBit, parameters, root, planLength, Operand, expression, Term, tagAt, termAt}
 use Rattle.packed.specs.Refusals.{anyBelow, wrongLength, wrongHeader, wrongProcedure, wrongOperand, someOperand, breaksTable, wrongTerm, misplaced, listLength, wrongCall, wronglySorted, notNamedOnce, usesUnboundSlot}
@@ -134,26 +135,24 @@ call-of b t h e =
 
 -- ---- all checks
 
--- no check is wrong at any place
-pub record AllRight (b : List ℕ) : Type 0 where
+-- none of checks 1 to 6 is wrong at any place
+pub record SixRight (b : List ℕ) : Type 0 where
   pub right₁ : wrongLength b ≡ false
   pub right₂ : wrongHeader b ≡ false
   pub right₃ : (p : ℕ) → p < Format.procedures b → wrongProcedure b p ≡ false
   pub right₄ : (t : ℕ) → t < terms b → wrongTerm b t ≡ false
   pub right₅ : (t : ℕ) → t < terms b → wronglySorted b t ≡ false
   pub right₆ : (t : ℕ) → t < terms b → notNamedOnce b t ≡ false
-  pub right₇ : (p : ℕ) → p < Format.procedures b → usesUnboundSlot b p ≡ false
 
-pub all-right : (b : List ℕ) → refusal b ≡ none → AllRight b
-unfolding refusal checks
-all-right b h =
-    let a₁ = none-is-pass (checks b) .0 h in
+-- the first six checks, whatever is asked after them
+six-of : (b : List ℕ) (cs : List Check) → AllPass (take 6 (checks b) ++ cs) → SixRight b
+unfolding checks
+six-of b cs a₁ =
     let a₂ = tail-pass a₁ in
     let a₃ = tail-pass a₂ in
     let a₄ = tail-pass a₃ in
     let a₅ = tail-pass a₄ in
     let a₆ = tail-pass a₅ in
-    let a₇ = tail-pass a₆ in
     record {
       right₁ = head-pass a₁ .right 0 (lit< tt);
       right₂ = head-pass a₂ .right 0 (lit< tt);
@@ -161,5 +160,35 @@ all-right b h =
       right₄ = head-pass a₄ .right;
       right₅ = head-pass a₅ .right;
       right₆ = head-pass a₆ .right;
-      right₇ = head-pass a₇ .right;
     }
+
+pub six-right : (b : List ℕ) → firstRefusal (take 6 (checks b)) ≡ none → SixRight b
+unfolding checks
+six-right b h = six-of b [] (none-is-pass (take 6 (checks b)) .0 h)
+
+-- no check is wrong at any place
+pub record AllRight (b : List ℕ) : Type 0 where
+  pub six : SixRight b
+  pub right₇ : (p : ℕ) → p < Format.procedures b → usesUnboundSlot b p ≡ false
+
+pub all-right : (b : List ℕ) → refusal b ≡ none → AllRight b
+unfolding refusal checks
+all-right b h =
+    let a = none-is-pass (checks b) .0 h in
+    record {
+      six = six-of b (drop 6 (checks b)) a;
+      right₇ = head-pass (tail-pass (tail-pass (tail-pass (tail-pass (tail-pass (tail-pass a)))))) .right;
+    }
+
+-- a refusal of number 7: checks 1 to 6 find nothing, and this procedure is the lowest of those that use an unbound slot
+pub seventh : (b : List ℕ) (p : ℕ) → refusal b ≡ some (record { number = 7; place = p }) → (firstRefusal (take 6 (checks b)) ≡ none) × (p < Format.procedures b) × (usesUnboundSlot b p ≡ true)
+unfolding refusal checks
+seventh b p h =
+    let a₁ = other-number (some-is-first (checks b) (record { number = 7; place = p }) .0 h) (λ e. omega arith) in
+    let a₂ = other-number (a₁ .1) (λ e. omega arith) in
+    let a₃ = other-number (a₂ .1) (λ e. omega arith) in
+    let a₄ = other-number (a₃ .1) (λ e. omega arith) in
+    let a₅ = other-number (a₄ .1) (λ e. omega arith) in
+    let a₆ = other-number (a₅ .1) (λ e. omega arith) in
+    let r = last-refuses (a₆ .1) in
+    (none-is-pass (take 6 (checks b)) .1 (and-then (a₁ .0) (and-then (a₂ .0) (and-then (a₃ .0) (and-then (a₄ .0) (and-then (a₅ .0) (and-then (a₆ .0) none-left)))))), r .inside, r .is-wrong)

@@ -1,4 +1,4 @@
--- What the bits of a plan say: a part of the plan, the tests of the header and the procedures, and a term as its 40 bits. Assumes nothing.
+-- What the bits of a plan say: the tests of the header and the procedures, and a term as its 40 bits. Assumes nothing.
 use mathlib.Core.Path.{_≡_, refl, ap, sym, _∙_}
 use mathlib.Core.Bool.{Bool, true, false, _&&_, _||_, not}
 use mathlib.Core.List.{List, [], _∷_}
@@ -8,25 +8,15 @@ use native.Mathlib.Omega.{arith}
 use lib.Count.{ones, ones-step, ones-le}
 use lib.Dec.{ltb, leb, eqb, T, leb→le}
 use mir.Facts.{and-yes}
-use lib.ListN.{length, take, drop, getD, length-drop}
-use lib.Seq.{take-all}
+use lib.ListN.{length, getD}
 use Rattle.format.specs.Bits.{bitsAt}
-use Rattle.format.proofs.BitLaws.{bits-below, bits-drop, field-of, first-of}
+use Rattle.format.proofs.BitLaws.{bits-below, field-of, first-of}
 use Rattle.packed.specs.Format
 use Rattle.packed.specs.Format.{version, terms, parameters, root, headerSpare, volatiles, maskBit, fieldsFrom, absent, width, Row, operands, table, layout, Term, laidOut, termBit, tagAt, termAt}
+use Rattle.packed.specs.Operands.{tagOf, operandIn}
 use Rattle.packed.specs.Refusals.{wrongHeader, wrongProcedure}
 use Rattle.packed.specs.Steps.{wordAt, inWord, termIn}
 use Rattle.packed.proofs.Fields.{onesOf, fields-count}
-
--- ---- bits
-
--- the bits of the part of a list that starts with byte k
-pub part-bits : (l : List ℕ) (k i w q x : ℕ) → x ≡ bitsAt (take (length l - k) (drop k l)) i w → k * 8 + i ≡ q → x ≡ bitsAt l q w
-part-bits l k i w q x e h =
-    e
-    ∙ ap (λ (m : List ℕ). bitsAt m i w) (take-all (length l - k) (drop k l) (omega (arith, length-drop k l)))
-    ∙ bits-drop k l i w
-    ∙ ap (λ (p : ℕ). bitsAt l p w) h
 
 -- ---- the header
 
@@ -112,7 +102,7 @@ laid b i k r h =
     let a₁ = width (r .first) in
     let a₂ = width (r .second) in
     let a₃ = width (r .third) in
-    let x : bitsAt b (i + 5) a₁ ≡ bitsAt b i 40 / 2 ^ (35 - a₁) % 2 ^ a₁ = part40 b i 5 a₁ (35 - a₁) (omega arith) in
+    let x : bitsAt b (i + 5) a₁ ≡ bitsAt b i 40 / 2 ^ (35 - (0 + a₁)) % 2 ^ a₁ = part40 b i 5 a₁ (35 - (0 + a₁)) (omega arith) in
     let y : bitsAt b (i + (5 + a₁)) a₂ ≡ bitsAt b i 40 / 2 ^ (35 - (a₁ + a₂)) % 2 ^ a₂ = part40 b i (5 + a₁) a₂ (35 - (a₁ + a₂)) (omega arith) in
     let z : bitsAt b (i + (5 + a₁ + a₂)) a₃ ≡ bitsAt b i 40 / 2 ^ (35 - (a₁ + a₂ + a₃)) % 2 ^ a₃ = part40 b i (5 + a₁ + a₂) a₃ (35 - (a₁ + a₂ + a₃)) (omega arith) in
     let s : bitsAt b (i + (5 + a₁ + a₂ + a₃)) (35 - (a₁ + a₂ + a₃)) ≡ bitsAt b i 40 % 2 ^ (35 - (a₁ + a₂ + a₃)) = back40 b i (5 + a₁ + a₂ + a₃) (35 - (a₁ + a₂ + a₃)) (omega arith) in
@@ -122,7 +112,7 @@ pub word-is : (b : List ℕ) (procedures t w : ℕ) → procedures ≡ Format.pr
 unfolding wordAt termBit
 word-is b procedures t w e f = f ∙ rw e
 
-pub tag-in : (b : List ℕ) (t : ℕ) → tagAt b t ≡ wordAt b t / 34359738368
+pub tag-in : (b : List ℕ) (t : ℕ) → tagAt b t ≡ tagOf (wordAt b t)
 unfolding tagAt wordAt
 tag-in b t = first-of b (termBit b t) 5 35
 
@@ -133,9 +123,9 @@ term-is b t =
     laid b (termBit b t) (tagAt b t) (layout (tagAt b t)) (fits (tagAt b t)) ∙ ap (λ (k : ℕ). inWord (wordAt b t) k (layout k)) (tag-in b t)
 
 -- the values of a term by its tag, of its 40 bits
-module _ (b : List ℕ) (t w : ℕ) (e : w ≡ wordAt b t) (k : ℕ) (key : w / 34359738368 ≡ k) where
+module _ (b : List ℕ) (t w : ℕ) (e : w ≡ wordAt b t) (k : ℕ) (key : tagOf w ≡ k) where
   pub tag-was : tagAt b t ≡ k
-  tag-was = tag-in b t ∙ ap (λ (v : ℕ). v / 34359738368) (sym e) ∙ key
+  tag-was = tag-in b t ∙ ap tagOf (sym e) ∙ key
 
   abbrev row : Row
   row = layout k
@@ -144,14 +134,14 @@ module _ (b : List ℕ) (t w : ℕ) (e : w ≡ wordAt b t) (k : ℕ) (key : w / 
   unfolding termIn
   whole-was = ap (λ (j : ℕ). inWord w j (layout j)) (sym key) ∙ ap termIn e ∙ sym (term-is b t)
 
-  pub first-was : w / 2 ^ (35 - width (row .first)) % 2 ^ width (row .first) ≡ termAt b t .value₁
+  pub first-was : operandIn 0 (row .first) w ≡ termAt b t .value₁
   unfolding inWord
   first-was = ap (λ (m : Term). m .value₁) whole-was
 
-  pub second-was : w / 2 ^ (35 - (width (row .first) + width (row .second))) % 2 ^ width (row .second) ≡ termAt b t .value₂
+  pub second-was : operandIn (width (row .first)) (row .second) w ≡ termAt b t .value₂
   unfolding inWord
   second-was = ap (λ (m : Term). m .value₂) whole-was
 
-  pub third-was : w / 2 ^ (35 - (width (row .first) + width (row .second) + width (row .third))) % 2 ^ width (row .third) ≡ termAt b t .value₃
+  pub third-was : operandIn (width (row .first) + width (row .second)) (row .third) w ≡ termAt b t .value₃
   unfolding inWord
   third-was = ap (λ (m : Term). m .value₃) whole-was

@@ -2,7 +2,7 @@
 use mathlib.Core.Path.{_≡_, ap, sym, _∙_}
 use mathlib.Core.Bool.{Bool, true, false, _||_, false≢true}
 use mathlib.Core.List.{List}
-use Prim.Native.Nat.{ℕ, suc, _/_, _<_}
+use Prim.Native.Nat.{ℕ, suc, _<_}
 use native.Mathlib.Omega.{arith}
 use lib.Dec.{leb}
 use lib.ListN.{getD, set, length-set, replicate, length-replicate}
@@ -12,6 +12,7 @@ use Rattle.format.proofs.Filled.{zeros, filled}
 use Rattle.format.proofs.RefusalLaws.{neither}
 use Rattle.packed.specs.Format
 use Rattle.packed.specs.Format.{terms, Operand, absent, slot, binder, mask, fieldName, procedure, expression, condition, list, layout, laidOut, tagAt, termAt}
+use Rattle.packed.specs.Operands.{tagOf}
 use Rattle.packed.specs.Trees.{nodeOf, Node}
 use Rattle.packed.specs.Refusals.{wrongOperand, breaksTable, wrongTerm, isChild}
 use Rattle.packed.specs.Steps.{Sized, Loaded, wordAt, inWord, termIn, nodeIn}
@@ -24,11 +25,11 @@ use Rattle.packed.proofs.Reading.{term-is}
 abbrev pub rowOf : ℕ → ℕ → Node
 rowOf k w = nodeOf (inWord w k (layout k))
 
-pub row-is : (w k : ℕ) → w / 34359738368 ≡ k → nodeOf (termIn w) ≡ rowOf k w
+pub row-is : (w k : ℕ) → tagOf w ≡ k → nodeOf (termIn w) ≡ rowOf k w
 unfolding termIn
 row-is w k e = ap (λ (j : ℕ). nodeOf (inWord w j (layout j))) e
 
-pub node-in : (ws : List ℕ) (t k : ℕ) → getD ws t 0 / 34359738368 ≡ k → nodeIn ws t ≡ rowOf k (getD ws t 0)
+pub node-in : (ws : List ℕ) (t k : ℕ) → tagOf (getD ws t 0) ≡ k → nodeIn ws t ≡ rowOf k (getD ws t 0)
 unfolding nodeIn
 node-in ws t k e = row-is (getD ws t 0) k e
 
@@ -55,11 +56,11 @@ loaded-more b t ws w h e l =
     }
 
 -- a tag past the table
-pub past-table : (procedures n t w : ℕ) → 17 < w / 34359738368 → true ≡ breaksTable procedures n t (termIn w)
+pub past-table : (procedures n t w : ℕ) → 17 < tagOf w → true ≡ breaksTable procedures n t (termIn w)
 unfolding breaksTable termIn inWord
-past-table procedures n t w h = rw (lt-ltb 17 (w / 34359738368) h)
+past-table procedures n t w h = rw (lt-ltb 17 (tagOf w) h)
 
-pub tested : (procedures n t w k : ℕ) (r : Bool) → w / 34359738368 ≡ k → r ≡ breaksTable procedures n t (inWord w k (layout k)) → r ≡ breaksTable procedures n t (termIn w)
+pub tested : (procedures n t w k : ℕ) (r : Bool) → tagOf w ≡ k → r ≡ breaksTable procedures n t (inWord w k (layout k)) → r ≡ breaksTable procedures n t (termIn w)
 unfolding termIn
 tested procedures n t w k r e q = q ∙ sym (ap (λ (j : ℕ). breaksTable procedures n t (inWord w j (layout j))) e)
 

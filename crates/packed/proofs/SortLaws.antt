@@ -12,6 +12,7 @@ use Rattle.format.specs.Lowest.{Lowest}
 use Rattle.format.proofs.LowestLaws.{lowest-ext}
 use Rattle.packed.specs.Format
 use Rattle.packed.specs.Format.{terms, root, expression, table, layout, laidOut, termAt, tagAt}
+use Rattle.packed.specs.Operands.{tagOf}
 use Rattle.packed.specs.Trees.{nodes, nodeOf, nodeAt}
 use Rattle.packed.specs.Refusals.{anyBelow, someOperand, wrongTerm, misplaced, wronglySorted, wrongCall}
 use Rattle.packed.specs.Steps.{Sized, Loaded, tagIn, nodeIn, Child, childOf, childrenOf, tagSort, wrongSort, lowerIf, lowerAll, misplacedRoot, misfits, faults}
@@ -97,7 +98,7 @@ strays b (k ∷ ks) t = (eqb (k .index) t && wrongSort (k .sort) (tagAt b t)) ||
 
 pub tags-are : (b : List ℕ) (n : ℕ) (ws : List ℕ) → Loaded b n ws → (t : ℕ) → t < n → tagIn ws t ≡ tagAt b t
 unfolding tagIn
-tags-are b n ws l t h = ap (λ (w : ℕ). w / 34359738368) (l .each t h) ∙ sym (tag-in b t)
+tags-are b n ws l t h = ap tagOf (l .each t h) ∙ sym (tag-in b t)
 
 lower-all : (b : List ℕ) (n : ℕ) (ws : List ℕ) → Loaded b n ws → (ks : List Child) (f : ℕ → Bool) (best : ℕ) → Within n ks → Lowest f n best
     → Lowest (λ t. f t || strays b ks t) n (lowerAll ws ks best)

@@ -2,12 +2,13 @@
 use mathlib.Core.Path.{_≡_, refl, ap, sym, subst, _∙_}
 use mathlib.Core.Bool.{Bool, true}
 use mathlib.Core.List.{List, [], _∷_}
-use Prim.Native.Nat.{ℕ, zero, suc, _/_, _%_, _<_}
+use Prim.Native.Nat.{ℕ, zero, suc, _<_}
 use native.Mathlib.Omega.{arith}
 use lib.ListN.{getD}
 use Rattle.format.proofs.Ranges.{NoneOf}
 use Rattle.packed.specs.Syntax.{Expression, Condition, Arguments}
 use Rattle.packed.specs.Format.{table, layout}
+use Rattle.packed.specs.Operands.{tagOf, slotBits}
 use Rattle.packed.specs.Trees.{nodes, nodeOf, expressionOf, conditionOf, argumentsOf}
 use Rattle.packed.specs.Slots.{closed, closedᶜ, closedᵃ}
 use Rattle.packed.specs.Steps.{Ordered, Below, inWord, nodeIn, treeIn, conditionIn, listIn, leafIn}
@@ -19,7 +20,7 @@ use Rattle.packed.proofs.Children.{list-ends}
 -- ---- the tree of a term from those of its children
 
 module _ (ws : List ℕ) (o : Ordered ws) where
-  module _ (t k : ℕ) (e : getD ws t 0 / 34359738368 ≡ k) where
+  module _ (t k : ℕ) (e : tagOf (getD ws t 0) ≡ k) where
     pub expr-is : treeIn ws t ≡ expressionOf (treeIn ws) (conditionIn ws) (listIn ws) (rowOf k (getD ws t 0))
     unfolding treeIn conditionIn listIn tree treeᶜ treeᵃ
     expr-is = tree-law (nodeIn ws) 1024 o t ∙ ap (expressionOf (treeIn ws) (conditionIn ws) (listIn ws)) (node-in ws t k e)
@@ -45,28 +46,28 @@ module _ (e e′ : ℕ → Expression) (c c′ : ℕ → Condition) (l l′ : �
   leaf-same (suc (suc zero)) h = refl
   leaf-same (suc (suc (suc k))) h = absurd (omega arith)
 
-pub leaf-is : (ws : List ℕ) → Ordered ws → (t : ℕ) → getD ws t 0 / 34359738368 < 3 → treeIn ws t ≡ leafIn (getD ws t 0)
+pub leaf-is : (ws : List ℕ) → Ordered ws → (t : ℕ) → tagOf (getD ws t 0) < 3 → treeIn ws t ≡ leafIn (getD ws t 0)
 unfolding leafIn
 leaf-is ws o t h =
     let w = getD ws t 0 in
-    let k = w / 34359738368 in
+    let k = tagOf w in
     expr-is ws o t k refl ∙ leaf-same _ _ _ _ _ _ w k h ∙ sym (ap (expressionOf (λ i. Expression.literal 0) (λ i. Condition.truth) (λ i. Arguments.end)) (row-is w k refl))
 
-leaf-row : (w k : ℕ) → w / 34359738368 ≡ k → leafIn w ≡ expressionOf (λ i. Expression.literal 0) (λ i. Condition.truth) (λ i. Arguments.end) (rowOf k w)
+leaf-row : (w k : ℕ) → tagOf w ≡ k → leafIn w ≡ expressionOf (λ i. Expression.literal 0) (λ i. Condition.truth) (λ i. Arguments.end) (rowOf k w)
 unfolding leafIn
 leaf-row w k e = ap (expressionOf (λ i. Expression.literal 0) (λ i. Condition.truth) (λ i. Arguments.end)) (row-is w k e)
 
-pub leaf-closed : (w : ℕ) (ρ : ℕ → Bool) → w / 34359738368 < 3 → (w / 34359738368 ≡ 1 → ⊥) → true ≡ closed ρ (leafIn w)
+pub leaf-closed : (w : ℕ) (ρ : ℕ → Bool) → tagOf w < 3 → (tagOf w ≡ 1 → ⊥) → true ≡ closed ρ (leafIn w)
 unfolding nodeOf inWord layout table nodes expressionOf closed
-leaf-closed w ρ h n = go (w / 34359738368) refl h n
+leaf-closed w ρ h n = go (tagOf w) refl h n
   where
-    go : (k : ℕ) → w / 34359738368 ≡ k → k < 3 → (k ≡ 1 → ⊥) → true ≡ closed ρ (leafIn w)
+    go : (k : ℕ) → tagOf w ≡ k → k < 3 → (k ≡ 1 → ⊥) → true ≡ closed ρ (leafIn w)
     go zero e h n = sym (ap (closed ρ) (leaf-row w 0 e))
     go (suc zero) e h n = absurd (n refl)
     go (suc (suc zero)) e h n = sym (ap (closed ρ) (leaf-row w 2 e))
     go (suc (suc (suc k))) e h n = absurd (omega arith)
 
-pub leaf-variable : (w : ℕ) (ρ : ℕ → Bool) → w / 34359738368 ≡ 1 → ρ (w / 2147483648 % 16) ≡ closed ρ (leafIn w)
+pub leaf-variable : (w : ℕ) (ρ : ℕ → Bool) → tagOf w ≡ 1 → ρ (slotBits w) ≡ closed ρ (leafIn w)
 unfolding nodeOf inWord layout table nodes expressionOf closed
 leaf-variable w ρ e = sym (ap (closed ρ) (leaf-row w 1 e))
 

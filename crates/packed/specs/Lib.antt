@@ -1,5 +1,6 @@
 pub mod Syntax
 pub mod Format
+pub mod Operands
 pub mod Trees
 pub mod Slots
 pub mod Refusals

@@ -10,6 +10,7 @@ use Rattle.format.specs.Bits.{bitsAt}
 use Rattle.packed.specs.Syntax.{Expression, Condition, Arguments}
 use Rattle.packed.specs.Format
 use Rattle.packed.specs.Format.{terms, root, expression, width, Row, layout, Term, termBit, tagAt, termAt}
+use Rattle.packed.specs.Operands.{tagOf, operandIn, spareIn}
 use Rattle.packed.specs.Trees.{Node, nodeOf, expressionOf, expressionAt, conditionAt, argumentsAt}
 use Rattle.packed.specs.Refusals.{anyBelow, sumBelow, oneIf, wrongProcedure, wrongTerm, misplaced, someOperand, wrongCall, timesIn}
 
@@ -45,18 +46,18 @@ inWord w k r =
     record {
       tag = k;
       first = r .first;
-      value₁ = w / 2 ^ (35 - width (r .first)) % 2 ^ width (r .first);
+      value₁ = operandIn 0 (r .first) w;
       second = r .second;
-      value₂ = w / 2 ^ (35 - (width (r .first) + width (r .second))) % 2 ^ width (r .second);
+      value₂ = operandIn (width (r .first)) (r .second) w;
       third = r .third;
-      value₃ = w / 2 ^ (35 - (width (r .first) + width (r .second) + width (r .third))) % 2 ^ width (r .third);
-      spare = w % 2 ^ (35 - (width (r .first) + width (r .second) + width (r .third)));
+      value₃ = operandIn (width (r .first) + width (r .second)) (r .third) w;
+      spare = spareIn (width (r .first) + width (r .second) + width (r .third)) w;
     }
 
 -- the term that stands in 40 bits
 unfoldable pub termIn : ℕ → Term
 unfolding inWord layout
-termIn w = inWord w (w / 34359738368) (layout (w / 34359738368))
+termIn w = inWord w (tagOf w) (layout (tagOf w))
 
 -- the terms' 40 bits in an array, and zeros after them
 pub record Loaded (b : List ℕ) (n : ℕ) (words : List ℕ) : Type 0 where
@@ -66,7 +67,7 @@ pub record Loaded (b : List ℕ) (n : ℕ) (words : List ℕ) : Type 0 where
 
 -- the tag of term t in the array
 unfoldable pub tagIn : List ℕ → ℕ → ℕ
-tagIn words t = getD words t 0 / 34359738368
+tagIn words t = tagOf (getD words t 0)
 
 -- the node of term t in the array
 unfoldable pub nodeIn : List ℕ → ℕ → Node
@@ -112,7 +113,17 @@ outside n t v = leb v t || leb n v
 
 -- ---- the names of terms, for checks 5 and 6
 
--- a child: the sort that the table wants (1 an expression, 2 a condition, 3 a list), and the term
+-- the numbers of the sorts
+abbrev pub anExpression : ℕ
+anExpression = 1
+
+abbrev pub aCondition : ℕ
+aCondition = 2
+
+abbrev pub aList : ℕ
+aList = 3
+
+-- a child: the number of the sort that the table wants, and the term
 pub record Child : Type 0 where
   pub sort : ℕ
   pub index : ℕ
@@ -126,20 +137,20 @@ unfoldable pub childrenOf : Node → List Child
 childrenOf Node.null = []
 childrenOf (Node.variable x) = []
 childrenOf (Node.new fs) = []
-childrenOf (Node.read i f) = childOf 1 i ∷ []
-childrenOf (Node.write i f j) = childOf 1 i ∷ childOf 1 j ∷ []
-childrenOf (Node.letIn x i j) = childOf 1 i ∷ childOf 1 j ∷ []
-childrenOf (Node.if i j k) = childOf 2 i ∷ childOf 1 j ∷ childOf 1 k ∷ []
-childrenOf (Node.while i j) = childOf 2 i ∷ childOf 1 j ∷ []
-childrenOf (Node.call m i) = childOf 3 i ∷ []
-childrenOf (Node.fork i) = childOf 1 i ∷ []
-childrenOf (Node.join i) = childOf 1 i ∷ []
-childrenOf (Node.synch i j) = childOf 1 i ∷ childOf 1 j ∷ []
+childrenOf (Node.read i f) = childOf anExpression i ∷ []
+childrenOf (Node.write i f j) = childOf anExpression i ∷ childOf anExpression j ∷ []
+childrenOf (Node.letIn x i j) = childOf anExpression i ∷ childOf anExpression j ∷ []
+childrenOf (Node.if i j k) = childOf aCondition i ∷ childOf anExpression j ∷ childOf anExpression k ∷ []
+childrenOf (Node.while i j) = childOf aCondition i ∷ childOf anExpression j ∷ []
+childrenOf (Node.call m i) = childOf aList i ∷ []
+childrenOf (Node.fork i) = childOf anExpression i ∷ []
+childrenOf (Node.join i) = childOf anExpression i ∷ []
+childrenOf (Node.synch i j) = childOf anExpression i ∷ childOf anExpression j ∷ []
 childrenOf Node.truth = []
-childrenOf (Node.not i) = childOf 2 i ∷ []
-childrenOf (Node.and i j) = childOf 2 i ∷ childOf 2 j ∷ []
-childrenOf (Node.equal i j) = childOf 1 i ∷ childOf 1 j ∷ []
-childrenOf (Node.list i j) = childOf 1 i ∷ childOf 3 j ∷ []
+childrenOf (Node.not i) = childOf aCondition i ∷ []
+childrenOf (Node.and i j) = childOf aCondition i ∷ childOf aCondition j ∷ []
+childrenOf (Node.equal i j) = childOf anExpression i ∷ childOf anExpression j ∷ []
+childrenOf (Node.list i j) = childOf anExpression i ∷ childOf aList j ∷ []
 childrenOf Node.listEnd = []
 childrenOf Node.unknown = []
 
@@ -147,7 +158,7 @@ childrenOf Node.unknown = []
 
 -- the sort of a tag: "e is an expression (tags 0 to 11), c a condition (12 to 15), list is 16 or 17"
 unfoldable pub tagSort : ℕ → ℕ
-tagSort k = cond (ltb k 12) 1 (cond (ltb k 16) 2 3)
+tagSort k = cond (ltb k 12) anExpression (cond (ltb k 16) aCondition aList)
 
 -- a term of this tag is of another sort than is wanted
 unfoldable pub wrongSort : ℕ → ℕ → Bool

@@ -1,37 +1,19 @@
 -- The answer to a plan, stage by stage: checks 1 to 3, check 4, checks 5 to 7. Assumes nothing.
 use Prim.Native.Nat.{ℕ}
 use mathlib.Core.Path.{_≡_, sym, ap, _∙_, subst}
-use mathlib.Core.Bool.{true≢false}
 use mathlib.Core.List.{List}
-use mathlib.Core.Option.{Option, some, none}
+use mathlib.Core.Option.{some, none}
 use lib.ListN.{take, drop}
-use Rattle.format.specs.Refusal.{Refusal, orElse, lowest, refuse, firstRefusal}
+use Rattle.format.specs.Refusal.{orElse, lowest, refuse, firstRefusal}
 use Rattle.format.proofs.RefusalLaws.{refusal-append}
 use Rattle.packed.specs.Format.{terms}
 use Rattle.packed.specs.Refusals.{wrongTerm}
 use Rattle.packed.specs.Check.{checks, refusal}
 use Rattle.packed.specs.Steps.{Loaded}
-use Rattle.plan.specs.Answer.{answered}
-use Rattle.plan.specs.declared.Checked.{Checked}
-use Rattle.plan.specs.declared.Checked.the-variants.{Passed, Refused}
-
--- ---- two stages
-
--- what passes is not refused
-pub passed-refused : {A : Type 0} {r : Checked} {k i : ℕ} → r ≡ Passed → r ≡ Refused k i → A
-passed-refused e q = absurd (true≢false cc)
-
--- the first refuses
-pub refused-first : (x y : Option Refusal) (r : Checked) (k i : ℕ) → answered r ≡ x → r ≡ Refused k i → answered r ≡ orElse x y
-unfolding answered orElse
-refused-first x y r k i e q = let s : x ≡ some (record { number = k; place = i }) = sym e ∙ ap answered q in ap answered q ∙ sym (rw s)
-
--- the first passes
-pub passed-first : (x y : Option Refusal) (h r : Checked) → answered h ≡ x → h ≡ Passed → answered r ≡ y → answered r ≡ orElse x y
-unfolding answered orElse
-passed-first x y h r e q l = let s : x ≡ none = sym e ∙ ap answered q in l ∙ sym (rw s)
-
--- ---- of a plan
+use Rattle.refusals.specs.Answer.{answered}
+use Rattle.refusals.proofs.Stages.{refused-first, passed-first, passed-none}
+use Rattle.refusals.specs.declared.Checked.{Checked}
+use Rattle.refusals.specs.declared.Checked.the-variants.{Passed, Refused}
 
 module _ (b : List ℕ) where
   stages : refusal b ≡ orElse (firstRefusal (take 3 (checks b))) (refuse 4 (lowest (wrongTerm b) (terms b)) (firstRefusal (drop 4 (checks b))))
@@ -45,8 +27,7 @@ module _ (b : List ℕ) where
   -- none of them does
   module _ (h : Checked) (e : answered h ≡ firstRefusal (take 3 (checks b))) (q : h ≡ Passed) where
     pub headed : firstRefusal (take 3 (checks b)) ≡ none
-    unfolding answered
-    headed = sym e ∙ ap answered q
+    headed = passed-none _ h e q
 
     -- check 4 does
     pub by-term : (i : ℕ) (r : Checked) → lowest (wrongTerm b) (terms b) ≡ some i → r ≡ Refused 4 i → answered r ≡ refusal b

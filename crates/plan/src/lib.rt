@@ -1,5 +1,7 @@
 // The packed plan: is it one that can be played, and if not, what is wrong with it, and where (document 01, refusals 1 to 7).
 use header::layout;
+use refusals::Checked;
+use refusals::refused;
 use terms::table;
 ghost use mathlib.Core.Path.{_≡_};
 ghost use lib.ListN.{take, drop, replicate};
@@ -7,19 +9,7 @@ ghost use Rattle.format.specs.Refusal.{firstRefusal};
 ghost use Rattle.packed.specs.Check.{checks, refusal};
 ghost use Rattle.packed.specs.Format.{terms};
 ghost use Rattle.packed.specs.Steps.{Right, Loaded};
-ghost use Rattle.plan.specs.Answer.{answered};
-
-// What the check answers: the plan passes, or document 01's number and place of the refusal.
-pub enum Checked {
-    Passed,
-    Refused { number: usize, place: usize },
-}
-
-pub fn refused(number: usize, place: usize) -> Checked
-    ensures { λ r. ⌜ r ≡ Checked.Refused number place ⌝ }
-{
-    Checked::Refused { number, place }
-}
+ghost use Rattle.refusals.specs.Answer.{answered};
 
 // Refusals 1 to 3: the length, the header and the mask, the procedures.
 fn check_header(plan: &[u8]) -> Checked

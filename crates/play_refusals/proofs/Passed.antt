@@ -1,21 +1,47 @@
--- A play that nothing refuses: what its plan, its schedule and its log area are. Assumes nothing.
+-- What a plan, a schedule and a log area are that nothing refuses. Assumes nothing.
 use Prim.Native.Nat.{ℕ, _+_, _*_, _≤_, _<_}
 use native.Mathlib.Omega.{arith}
-use mathlib.Core.Path.{_≡_, refl, sym, ap, _∙_}
+use mathlib.Core.Path.{_≡_, refl, sym, _∙_}
 use mathlib.Core.List.{List}
 use mathlib.Core.Option.{none}
 use lib.ListN.{length, getD}
 use borrow.Author.Tests.{ltb-false}
+use Rattle.format.specs.Refusal.{firstRefusal}
 use Rattle.format.proofs.RefusalLaws.{both-none, head-pass, tail-pass, none-is-pass}
 use Rattle.packed.specs.Format.{procedures, terms, planLength}
 use Rattle.packed.specs.Check.{refusal}
-use Rattle.plan.specs.Answer.{answered}
-use Rattle.plan.specs.declared.Checked.{Checked}
-use Rattle.plan.specs.declared.Checked.the-variants as checked
+use Rattle.refusals.specs.Answer.{answered}
+use Rattle.refusals.specs.declared.Checked.{Checked}
+use Rattle.refusals.specs.declared.Checked.the-variants as checked
+use Rattle.refusals.proofs.Stages.{passed-none}
 use Rattle.packed.proofs.Accepted.{accepted}
-use Rattle.rules.specs.Play.{tooManyPicks, wrongPick, shortArea, playRefusal}
+use Rattle.rules.specs.Play.{tooManyPicks, wrongPick, shortArea, scheduleRefusal, playRefusal}
 use Rattle.play_refusals.specs.Refused.{RefusedAs}
-use Rattle.play_refusals.proofs.RefusalChain.{chain, lateChecks, late}
+use Rattle.play_refusals.proofs.RefusalChain.{pickChecks, schedule-stages, areaChecks, play-stages}
+
+-- ---- a schedule on a plan
+
+pub record Scheduled (plan schedule : List ℕ) : Type 0 where
+  pub plan-passes : refusal plan ≡ none
+  pub few : length schedule ≤ 4096
+  pub small : (j : ℕ) → j < length schedule → getD schedule j 0 ≤ 7
+
+pub scheduled : (plan schedule : List ℕ) → scheduleRefusal plan schedule ≡ none → Scheduled plan schedule
+unfolding tooManyPicks wrongPick
+scheduled plan schedule e =
+    let a = both-none (refusal plan) (firstRefusal (pickChecks schedule)) (sym (schedule-stages plan schedule) ∙ e) in
+    let p = none-is-pass (pickChecks schedule) .0 (a .1) in
+    record {
+      plan-passes = a .0;
+      few = ltb-false 4096 (length schedule) (head-pass p .right 0 (omega arith));
+      small = λ j h. ltb-false 7 (getD schedule j 0) (head-pass (tail-pass p) .right j h);
+    }
+
+-- what the code's refusal says, where it is none
+pub scheduled-by-code : (plan schedule : List ℕ) (r : Checked) → answered r ≡ scheduleRefusal plan schedule → r ≡ checked.Passed → Scheduled plan schedule
+scheduled-by-code plan schedule r h e = scheduled plan schedule (passed-none _ r h e)
+
+-- ---- a play
 
 pub record Passed (plan schedule area : List ℕ) : Type 0 where
   pub plan-passes : refusal plan ≡ none
@@ -24,16 +50,16 @@ pub record Passed (plan schedule area : List ℕ) : Type 0 where
   pub wide : 3 * length schedule ≤ length area
 
 pub passed : (plan schedule area : List ℕ) → playRefusal plan schedule area ≡ none → Passed plan schedule area
-unfolding tooManyPicks wrongPick shortArea
+unfolding shortArea
 passed plan schedule area e =
-    let a = both-none (refusal plan) (late schedule area) (sym (chain plan schedule area) ∙ e) in
-    let p = none-is-pass (lateChecks schedule area) .0 (a .1) in
-    let q = tail-pass p in
+    let a = both-none (scheduleRefusal plan schedule) (firstRefusal (areaChecks schedule area)) (sym (play-stages plan schedule area) ∙ e) in
+    let s = scheduled plan schedule (a .0) in
+    let p = none-is-pass (areaChecks schedule area) .0 (a .1) in
     record {
-      plan-passes = a .0;
-      few = ltb-false 4096 (length schedule) (head-pass p .right 0 (omega arith));
-      small = λ j h. ltb-false 7 (getD schedule j 0) (head-pass q .right j h);
-      wide = ltb-false (length area) (3 * length schedule) (head-pass (tail-pass q) .right 0 (omega arith));
+      plan-passes = s .plan-passes;
+      few = s .few;
+      small = s .small;
+      wide = ltb-false (length area) (3 * length schedule) (head-pass p .right 0 (omega arith));
     }
 
 -- an accepted plan's numbers lie inside it
@@ -48,5 +74,4 @@ inside plan e = let a = accepted plan e in record { few-procedures = a .few-proc
 
 -- what the code's refusal says, where it is none
 pub by-code : (plan schedule area : List ℕ) (r : Checked) → RefusedAs plan schedule (length area) (answered r) → r ≡ checked.Passed → Passed plan schedule area
-unfolding answered
-by-code plan schedule area r h e = passed plan schedule area (sym (h area refl) ∙ ap answered e)
+by-code plan schedule area r h e = passed plan schedule area (passed-none _ r (h area refl) e)

@@ -1,4 +1,5 @@
--- The refusal of a play: the plan's, or that of the first of checks 8 to 10 that finds a fault. Assumes nothing.
+-- The refusal of a schedule on a plan is the plan's, or that of the first of checks 8 and 9 that finds a fault; the refusal of a play is that one, or check
+-- 10's. Assumes nothing.
 use Prim.Native.Nat.{ℕ}
 use mathlib.Core.Path.{_≡_, sym, _∙_}
 use mathlib.Core.List.{List, [], _∷_}
@@ -7,28 +8,46 @@ use lib.ListN.{length}
 use Rattle.format.specs.Refusal.{Refusal, Check, check, checkWhole, orElse, firstRefusal}
 use Rattle.format.proofs.RefusalLaws.{refusal-append}
 use Rattle.packed.specs.Check.{checks, refusal}
-use Rattle.plan.specs.Answer.{answered}
-use Rattle.plan.proofs.Stages.{refused-first, passed-first}
-use Rattle.plan.specs.declared.Checked.{Checked}
-use Rattle.plan.specs.declared.Checked.the-variants.{Passed, Refused}
-use Rattle.rules.specs.Play.{tooManyPicks, wrongPick, shortArea, playChecks, playRefusal}
+use Rattle.refusals.specs.Answer.{answered}
+use Rattle.refusals.proofs.Stages.{refused-first, passed-first}
+use Rattle.refusals.specs.declared.Checked.{Checked}
+use Rattle.refusals.specs.declared.Checked.the-variants.{Passed, Refused}
+use Rattle.rules.specs.Play.{tooManyPicks, wrongPick, shortArea, scheduleChecks, scheduleRefusal, playChecks, playRefusal}
 
--- checks 8 to 10
-abbrev pub lateChecks : List ℕ → List ℕ → List Check
-lateChecks schedule area = checkWhole 8 (tooManyPicks schedule) ∷ check 9 (length schedule) (wrongPick schedule) ∷ checkWhole 10 (shortArea schedule area) ∷ []
+-- ---- of a schedule on a plan
 
--- their refusal
-abbrev pub late : List ℕ → List ℕ → Option Refusal
-late schedule area = firstRefusal (lateChecks schedule area)
+-- checks 8 and 9
+abbrev pub pickChecks : List ℕ → List Check
+pickChecks schedule = checkWhole 8 (tooManyPicks schedule) ∷ check 9 (length schedule) (wrongPick schedule) ∷ []
 
-pub chain : (plan schedule area : List ℕ) → playRefusal plan schedule area ≡ orElse (refusal plan) (late schedule area)
-unfolding playRefusal playChecks refusal
-chain plan schedule area = refusal-append (checks plan) (lateChecks schedule area)
+module _ (plan schedule : List ℕ) where
+  pub schedule-stages : scheduleRefusal plan schedule ≡ orElse (refusal plan) (firstRefusal (pickChecks schedule))
+  unfolding scheduleRefusal scheduleChecks refusal
+  schedule-stages = refusal-append (checks plan) (pickChecks schedule)
 
--- the plan is refused
-pub by-plan : (plan schedule area : List ℕ) (r : Checked) (k i : ℕ) → answered r ≡ refusal plan → r ≡ Refused k i → answered r ≡ playRefusal plan schedule area
-by-plan plan schedule area r k i e q = refused-first _ _ r k i e q ∙ sym (chain plan schedule area)
+  -- the plan is refused
+  pub by-plan : (r : Checked) (k i : ℕ) → answered r ≡ refusal plan → r ≡ Refused k i → answered r ≡ scheduleRefusal plan schedule
+  by-plan r k i e q = refused-first _ _ r k i e q ∙ sym schedule-stages
 
--- the plan passes
-pub by-later : (plan schedule area : List ℕ) (r r′ : Checked) → answered r ≡ refusal plan → r ≡ Passed → answered r′ ≡ late schedule area → answered r′ ≡ playRefusal plan schedule area
-by-later plan schedule area r r′ e q h = passed-first _ _ r r′ e q h ∙ sym (chain plan schedule area)
+  -- the plan passes
+  pub by-picks : (h r : Checked) → answered h ≡ refusal plan → h ≡ Passed → answered r ≡ firstRefusal (pickChecks schedule) → answered r ≡ scheduleRefusal plan schedule
+  by-picks h r e q l = passed-first _ _ h r e q l ∙ sym schedule-stages
+
+-- ---- of a play
+
+-- check 10
+abbrev pub areaChecks : List ℕ → List ℕ → List Check
+areaChecks schedule area = checkWhole 10 (shortArea schedule area) ∷ []
+
+module _ (plan schedule area : List ℕ) where
+  pub play-stages : playRefusal plan schedule area ≡ orElse (scheduleRefusal plan schedule) (firstRefusal (areaChecks schedule area))
+  unfolding playRefusal playChecks scheduleRefusal
+  play-stages = refusal-append (scheduleChecks plan schedule) (areaChecks schedule area)
+
+  -- the schedule on the plan is refused
+  pub by-schedule : (r : Checked) (k i : ℕ) → answered r ≡ scheduleRefusal plan schedule → r ≡ Refused k i → answered r ≡ playRefusal plan schedule area
+  by-schedule r k i e q = refused-first _ _ r k i e q ∙ sym play-stages
+
+  -- it passes
+  pub by-area : (h r : Checked) → answered h ≡ scheduleRefusal plan schedule → h ≡ Passed → answered r ≡ firstRefusal (areaChecks schedule area) → answered r ≡ playRefusal plan schedule area
+  by-area h r e q l = passed-first _ _ h r e q l ∙ sym play-stages

@@ -4,10 +4,11 @@ ghost use lib.ListN.{length, replicate};
 ghost use Rattle.format.specs.Lowest.{Lowest};
 ghost use Rattle.packed.specs.Format.{terms};
 ghost use Rattle.packed.specs.Steps.{Loaded};
-ghost use Rattle.plan.specs.Answer.{answered};
-ghost use Rattle.rules.specs.Play.{wrongPick};
+ghost use Rattle.refusals.specs.Answer.{answered};
+ghost use Rattle.rules.specs.Play.{wrongPick, scheduleRefusal};
 ghost use Rattle.play_refusals.specs.Refused.{RefusedAs};
-use plan::Checked;
+use refusals::Checked;
+use refusals::refused;
 
 // The lowest pick over 7, or the length.
 fn lowest_wrong_pick(schedule: &[u8]) -> usize
@@ -23,10 +24,10 @@ fn lowest_wrong_pick(schedule: &[u8]) -> usize
     i
 }
 
-// What refuses a play with a log area of this length, if anything does. Where nothing does, every term's 40 bits are then in `words`, which came as zeros.
-pub fn refusal(plan: &[u8], schedule: &[u8], area: usize, words: &mut [usize; 1024]) -> Checked
+// What refuses a schedule on a plan, refusals 1 to 9, if anything does. Where nothing does, every term's 40 bits are then in `words`, which came as zeros.
+pub fn schedule_refusal(plan: &[u8], schedule: &[u8], words: &mut [usize; 1024]) -> Checked
     requires { ⌜ now words ≡ replicate 1024 0 ⌝ }
-    ensures { λ r. ⌜ RefusedAs (now (plan .entry)) (now (schedule .entry)) area (answered r) ⌝ }
+    ensures { λ r. ⌜ answered r ≡ scheduleRefusal (now (plan .entry)) (now (schedule .entry)) ⌝ }
     ensures { λ r. ⌜ (r ≡ Checked.Passed → Loaded (now (plan .entry)) (terms (now (plan .entry))) (now (words .exit))) ⌝ }
 {
     let checked = plan::load(plan, words);
@@ -34,14 +35,27 @@ pub fn refusal(plan: &[u8], schedule: &[u8], area: usize, words: &mut [usize; 10
         return checked;
     };
     if schedule.len() > 4096 {
-        return plan::refused(8, 0);
+        return refused(8, 0);
     }
     let pick = lowest_wrong_pick(schedule);
     if pick < schedule.len() {
-        return plan::refused(9, pick);
+        return refused(9, pick);
     }
+    checked
+}
+
+// What refuses a play with a log area of this length, refusals 1 to 10, if anything does. The words are as above.
+pub fn refusal(plan: &[u8], schedule: &[u8], area: usize, words: &mut [usize; 1024]) -> Checked
+    requires { ⌜ now words ≡ replicate 1024 0 ⌝ }
+    ensures { λ r. ⌜ RefusedAs (now (plan .entry)) (now (schedule .entry)) area (answered r) ⌝ }
+    ensures { λ r. ⌜ (r ≡ Checked.Passed → Loaded (now (plan .entry)) (terms (now (plan .entry))) (now (words .exit))) ⌝ }
+{
+    let checked = schedule_refusal(plan, schedule, words);
+    let Checked::Passed = checked else {
+        return checked;
+    };
     if area < 3 * schedule.len() {
-        return plan::refused(10, 0);
+        return refused(10, 0);
     }
     checked
 }

@@ -5,19 +5,18 @@ use mathlib.Core.List.{List}
 use mathlib.Core.Option.{some, none}
 use lib.ListN.{length}
 use Rattle.packed.specs.Format.{procedures, terms, volatiles}
-use Rattle.plan.specs.Answer as check
-use Rattle.plan.specs.declared.Checked.{Checked}
-use Rattle.plan.specs.declared.Checked.the-variants as checked
+use Rattle.refusals.specs.Answer as check
+use Rattle.refusals.specs.declared.Checked.{Checked}
+use Rattle.refusals.specs.declared.Checked.the-variants as checked
 use Rattle.rules.specs.Run as run
 use Rattle.rules.specs.Play as play
 use Rattle.rules.specs.Play.{playRefusal, played, playedBy, areaAfter, areaBy, runOf}
 use Rattle.engine.specs.Machine.{playOf, startOf}
-use Rattle.player.specs.declared.outcome.Outcome.{Outcome}
+use Rattle.run_outcome.specs.declared.Outcome.{Outcome}
 use Rattle.player.specs.declared.outcome.Played.{Played}
 use Rattle.play_refusals.specs.Refused.{RefusedAs}
 use Rattle.packed.specs.Steps.{Loaded}
 use Rattle.player.specs.Roots.{Roots}
-use Rattle.player.specs.Outcomes.{outcomeBy}
 use Rattle.player.specs.Answer.{outcomeOf, answeredBy, answered}
 use Rattle.play_refusals.proofs.Passed.{Passed, by-code}
 use Rattle.player.proofs.Answers.{outcome-defined, area-defined}
@@ -46,17 +45,17 @@ module _ (plan schedule area : List ℕ) (x : Checked) (h : RefusedAs plan sched
     unfolding check.answered
     refusal-none = sym (h area refl) ∙ ap check.answered e
 
-    pub ran-answer : (o : Outcome) → o ≡ outcomeBy (playOf ws rs mask (startOf rs area) schedule 0 .ran) → answered (record { checked = x; outcome = o }) ≡ played plan schedule area
+    pub ran-answer : (o : Outcome) → o ≡ playOf ws rs (record { mask = mask }) (startOf rs area) schedule 0 .outcome → answered (record { checked = x; outcome = o }) ≡ played plan schedule area
     unfolding answered played playedBy runOf outcomeOf
     ran-answer o q =
         ap (λ (y : Checked). answeredBy y o) e
-        ∙ ap (λ (y : Outcome). answeredBy checked.Passed y) (q ∙ ap (λ (k : ℕ). outcomeBy (playOf ws rs k (startOf rs area) schedule 0 .ran)) m)
+        ∙ ap (λ (y : Outcome). answeredBy checked.Passed y) (q ∙ ap (λ (k : ℕ). playOf ws rs (record { mask = k }) (startOf rs area) schedule 0 .outcome) m)
         ∙ ap (λ (y : run.Outcome). play.Played.ran y) (outcome-defined plan schedule area ws rs pass words roots)
         ∙ sym (ap (playedBy plan schedule) refusal-none)
 
-    pub ran-area : playOf ws rs mask (startOf rs area) schedule 0 .area ≡ areaAfter plan schedule area
+    pub ran-area : playOf ws rs (record { mask = mask }) (startOf rs area) schedule 0 .area ≡ areaAfter plan schedule area
     unfolding areaAfter areaBy runOf
     ran-area =
-        ap (λ (k : ℕ). playOf ws rs k (startOf rs area) schedule 0 .area) m
+        ap (λ (k : ℕ). playOf ws rs (record { mask = k }) (startOf rs area) schedule 0 .area) m
         ∙ area-defined plan schedule area ws rs pass words roots
         ∙ sym (ap (areaBy plan schedule area) refusal-none)

@@ -1,4 +1,4 @@
-pub mod EightThreads
 pub mod Answers
 pub mod Entry
 pub mod Ran
+pub mod Executed

@@ -4,20 +4,21 @@ use native.Mathlib.Nat.{sub-zero}
 use native.Mathlib.Omega.{arith}
 use mathlib.Core.Path.{_≡_, refl, sym, ap, _∙_}
 use mathlib.Core.Bool.{true≢false}
-use mathlib.Core.List.{List, _++_}
+use mathlib.Core.List.{List}
 use mathlib.Core.Option.{Option, some, none}
-use lib.ListN.{length, length-append, take, drop}
-use lib.Seq.{take-append-seam}
+use lib.ListN.{length, take}
 use Rattle.format.specs.Refusal.{Refusal}
+use Rattle.format.specs.Area.{overwrite}
+use Rattle.format.proofs.AreaLaws.{overwrite-first, overwrite-covers}
 use Rattle.packed.specs.Trees.{programOf}
 use Rattle.packed.proofs.Decoded.{well-formed}
-use Rattle.plan.specs.declared.Checked.{Checked}
-use Rattle.plan.specs.declared.Checked.the-variants as checked
+use Rattle.refusals.specs.declared.Checked.{Checked}
+use Rattle.refusals.specs.declared.Checked.the-variants as checked
 use Rattle.records.specs.Packed.{bytesOf}
 use Rattle.records.proofs.RoundTrip.{length-bytes}
 use Rattle.rules.specs.Run as run
 use Rattle.rules.specs.Play as play
-use Rattle.rules.specs.Play.{playRefusal, played, playedBy, areaAfter, areaBy, overwrite, runOf}
+use Rattle.rules.specs.Play.{playRefusal, played, playedBy, areaAfter, areaBy, runOf}
 use Rattle.rules.proofs.TidyRuns.{tidy-play}
 use Rattle.player.specs.declared.outcome.Played.{Played}
 use Rattle.player.specs.Answer.{stopOf, outcomeOf, answeredBy, answered}
@@ -28,27 +29,40 @@ abbrev outcomeOr : run.Outcome → play.Played → run.Outcome
 outcomeOr other (play.Played.refused r) = other
 outcomeOr other (play.Played.ran o) = o
 
-module _ (plan schedule area : List ℕ) (p : Played) (h : answered p ≡ played plan schedule area) (e : p .checked ≡ checked.Passed) where
-  ran-is : play.Played.ran (outcomeOf (p .outcome)) ≡ playedBy plan schedule (playRefusal plan schedule area)
-  unfolding answered played
-  ran-is = ap (λ (y : Checked). answeredBy y (p .outcome)) (sym e) ∙ h
-
+-- what has run, by the definitions alone
+module _ (plan schedule area : List ℕ) (o : run.Outcome) (h : play.Played.ran o ≡ played plan schedule area) where
   not-refused-by : (x : Option Refusal) → playRefusal plan schedule area ≡ x → playRefusal plan schedule area ≡ none
-  unfolding playedBy
+  unfolding played playedBy
   not-refused-by none q = q
   not-refused-by (some r) q =
-      let y : play.Played.ran (outcomeOf (p .outcome)) ≡ play.Played.refused r = ran-is ∙ ap (playedBy plan schedule) q in
+      let y : play.Played.ran o ≡ play.Played.refused r = h ∙ ap (playedBy plan schedule) q in
       absurd (true≢false cc)
 
-  not-refused : playRefusal plan schedule area ≡ none
+  pub not-refused : playRefusal plan schedule area ≡ none
   not-refused = not-refused-by (playRefusal plan schedule area) refl
 
+  pub ran-passed : Passed plan schedule area
+  ran-passed = passed plan schedule area not-refused
+
+  pub ran-outcome : o ≡ run.outcomeOf (programOf plan) (runOf plan schedule)
+  unfolding played playedBy
+  ran-outcome = ap (outcomeOr o) (h ∙ ap (playedBy plan schedule) not-refused)
+
+  pub ran-area : areaAfter plan schedule area ≡ overwrite (bytesOf (runOf plan schedule .log)) area
+  unfolding areaAfter areaBy
+  ran-area = ap (areaBy plan schedule area) not-refused
+
+-- what the entry answers
+module _ (plan schedule area : List ℕ) (p : Played) (h : answered p ≡ played plan schedule area) (e : p .checked ≡ checked.Passed) where
+  pub ran-is : play.Played.ran (outcomeOf (p .outcome)) ≡ played plan schedule area
+  unfolding answered
+  ran-is = ap (λ (y : Checked). answeredBy y (p .outcome)) (sym e) ∙ h
+
   pub passes : Passed plan schedule area
-  passes = passed plan schedule area not-refused
+  passes = ran-passed plan schedule area (outcomeOf (p .outcome)) ran-is
 
   pub outcome-is : outcomeOf (p .outcome) ≡ run.outcomeOf (programOf plan) (runOf plan schedule)
-  unfolding playedBy
-  outcome-is = ap (outcomeOr (outcomeOf (p .outcome))) (ran-is ∙ ap (playedBy plan schedule) not-refused)
+  outcome-is = ran-outcome plan schedule area (outcomeOf (p .outcome)) ran-is
 
   pub stop-is : stopOf (p .outcome .stop) ≡ runOf plan schedule .stop
   unfolding outcomeOf run.outcomeOf
@@ -72,14 +86,13 @@ module _ (plan schedule area : List ℕ) (p : Played) (h : answered p ≡ played
     count : 3 * p .outcome .records ≡ length bytes
     count = ap (λ (n : ℕ). 3 * n) records-are ∙ sym (length-bytes (runOf plan schedule .log))
 
-    after-is : after ≡ bytes ++ drop (length bytes) area
-    unfolding areaAfter areaBy overwrite
-    after-is = left ∙ ap (areaBy plan schedule area) not-refused
+    after-is : after ≡ overwrite bytes area
+    after-is = left ∙ ran-area plan schedule area (outcomeOf (p .outcome)) ran-is
 
     -- it has room for the records
     pub within : (n : ℕ) → n ≤ 3 * p .outcome .records → n ≤ length after
-    within n q = omega (arith, q, count, ap (λ (l : List ℕ). length l) after-is, length-append bytes (drop (length bytes) area))
+    within n q = omega (arith, q, count, ap (λ (l : List ℕ). length l) after-is, overwrite-covers bytes area)
 
     -- and begins with them
     pub begins : (n : ℕ) → n ≡ 3 * p .outcome .records → take (n - 0) after ≡ bytesOf (runOf plan schedule .log)
-    begins n q = ap (λ (k : ℕ). take k after) (sub-zero n ∙ q ∙ count) ∙ ap (take (length bytes)) after-is ∙ take-append-seam bytes (drop (length bytes) area)
+    begins n q = ap (λ (k : ℕ). take k after) (sub-zero n ∙ q ∙ count) ∙ ap (take (length bytes)) after-is ∙ overwrite-first bytes area

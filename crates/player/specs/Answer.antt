@@ -7,21 +7,21 @@ use Rattle.rules.specs.Step as step
 use Rattle.rules.specs.Room as rules
 use Rattle.rules.specs.Run as run
 use Rattle.rules.specs.Play as play
-use Rattle.player.specs.declared.outcome.NoRoom.{NoRoom}
-use Rattle.player.specs.declared.outcome.NoRoom.the-variants as no-room
-use Rattle.player.specs.declared.outcome.Stop.{Stop}
-use Rattle.player.specs.declared.outcome.Stop.the-variants as stop
-use Rattle.player.specs.declared.outcome.Wait.{Wait}
-use Rattle.player.specs.declared.outcome.Wait.the-variants as wait
-use Rattle.player.specs.declared.outcome.Stuck.{Stuck}
-use Rattle.player.specs.declared.outcome.Stuck.the-variants as stuck
-use Rattle.player.specs.declared.outcome.ThreadState.{ThreadState}
-use Rattle.player.specs.declared.outcome.ThreadState.the-variants as state
-use Rattle.player.specs.declared.outcome.Thread.{Thread}
-use Rattle.player.specs.declared.outcome.Outcome.{Outcome}
+use Rattle.run_outcome.specs.declared.NoRoom.{NoRoom}
+use Rattle.run_outcome.specs.declared.NoRoom.the-variants as no-room
+use Rattle.run_outcome.specs.declared.Stop.{Stop}
+use Rattle.run_outcome.specs.declared.Stop.the-variants as stop
+use Rattle.run_outcome.specs.declared.Wait.{Wait}
+use Rattle.run_outcome.specs.declared.Wait.the-variants as wait
+use Rattle.run_outcome.specs.declared.Stuck.{Stuck}
+use Rattle.run_outcome.specs.declared.Stuck.the-variants as stuck
+use Rattle.run_outcome.specs.declared.ThreadState.{ThreadState}
+use Rattle.run_outcome.specs.declared.ThreadState.the-variants as state
+use Rattle.run_outcome.specs.declared.Thread.{Thread}
+use Rattle.run_outcome.specs.declared.Outcome.{Outcome}
 use Rattle.player.specs.declared.outcome.Played.{Played}
-use Rattle.plan.specs.declared.Checked.{Checked}
-use Rattle.plan.specs.declared.Checked.the-variants as checked
+use Rattle.refusals.specs.declared.Checked.{Checked}
+use Rattle.refusals.specs.declared.Checked.the-variants as checked
 
 -- "no room (thread, object, key, depth)"
 unfoldable pub roomOf : NoRoom → rules.Room
@@ -42,10 +42,11 @@ unfoldable pub waitOf : Wait → step.Wait
 waitOf (wait.Monitor o) = step.Wait.forMonitor o
 waitOf (wait.Join o) = step.Wait.forJoin o
 
--- "stuck (field missing from the object, or join of an object that is no thread)"
+-- "stuck (field missing from the object, or join of an object that is no thread)"; the third case is the definitions' own, to which no accepted plan comes
 unfoldable pub stuckOf : Stuck → step.Stuck
 stuckOf (stuck.Field o f) = step.Stuck.missingField o f
 stuckOf (stuck.Thread o) = step.Stuck.notThread o
+stuckOf stuck.NoRule = step.Stuck.noRule
 
 -- "absent, finished with its value, ready, waiting, stuck with its reason, or lacking the key of a named object's named field"
 unfoldable pub statusOf : ThreadState → run.Status

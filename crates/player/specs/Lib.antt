@@ -1,3 +1,3 @@
 pub mod Answer
-pub mod Outcomes
+pub mod ExecutedOn
 pub mod Roots

@@ -6,10 +6,12 @@ ghost use mathlib.Core.Path.{_≡_};
 ghost use lib.ListN.{length};
 ghost use Rattle.rules.specs.Play.{played, areaAfter};
 ghost use Rattle.player.specs.Answer.{answered, NoRunIfRefused};
+ghost use Rattle.player.specs.ExecutedOn.{ExecutedIfPassed};
 ghost use Rattle.player.specs.Roots.{Roots};
 use crate::outcome::Played;
 use header::layout;
-use plan::Checked;
+use refusals::Checked;
+use state::Setting;
 
 // The roots of the procedures.
 fn roots(plan: &[u8], procedures: usize) -> [usize; 32]
@@ -26,11 +28,12 @@ fn roots(plan: &[u8], procedures: usize) -> [usize; 32]
 }
 
 // Every plan, schedule and log area gets document 01's answer: a refusal of number 1 to 10 with its place, and no byte of the area changed; or the
-// run's outcome, and an area that begins with the run's records and is otherwise as it was.
+// run's outcome, and an area that begins with the run's records and is otherwise as it was. The run is an execution by the rules.
 pub fn play(plan: &[u8], schedule: &[u8], log: &mut [u8]) -> Played
     ensures answer { λ r. ⌜ answered r ≡ played (now (plan .entry)) (now (schedule .entry)) (now (log .entry)) ⌝ }
     ensures area { λ r. ⌜ now (log .exit) ≡ areaAfter (now (plan .entry)) (now (schedule .entry)) (now (log .entry)) ⌝ }
     ensures refused { λ r. ⌜ NoRunIfRefused r ⌝ }
+    ensures executed { λ r. ⌜ ExecutedIfPassed (now (plan .entry)) (now (schedule .entry)) (now (log .entry)) (now (log .exit)) r ⌝ }
 {
     let mut words = [0usize; 1024];
     let checked = play_refusals::refusal(plan, schedule, log.len(), &mut words);
@@ -40,8 +43,8 @@ pub fn play(plan: &[u8], schedule: &[u8], log: &mut [u8]) -> Played
     let procedures = layout::procedures(plan);
     let roots = roots(plan, procedures);
     let mask = layout::volatiles(plan);
-    let ran = engine::run(&words, &roots, mask, schedule, log);
-    let outcome = outcome::outcome_of(ran);
+    let setting = Setting { mask: mask };
+    let outcome = engine::run(&words, &roots, setting, schedule, log);
     Played {
         checked: checked,
         outcome: outcome,

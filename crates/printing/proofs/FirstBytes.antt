@@ -13,8 +13,8 @@ use Rattle.format.specs.Bits.{bitAt, bitsAt}
 use Rattle.format.specs.Refusal.{Refusal, orElse, lowest, refuse, firstRefusal}
 use Rattle.packed.specs.Check.{refusal}
 use Rattle.records.specs.Record.{Record}
-use Rattle.rules.specs.Play.{tooManyPicks, playRefusal, played, playedBy, runOf}
-use Rattle.play_refusals.proofs.RefusalChain.{chain}
+use Rattle.rules.specs.Play.{tooManyPicks, scheduleRefusal, playRefusal, played, playedBy, runOf}
+use Rattle.play_refusals.proofs.RefusalChain.{areaChecks, schedule-stages, play-stages}
 use Rattle.last_lines.specs.Lines.{refusalLine}
 use Rattle.input_parts.specs.Input.{lengthRead, planRead, scheduleRead}
 use Rattle.input_parts.proofs.Parts.{cut-long, not-cut}
@@ -32,7 +32,14 @@ tooMany none = refusalLine eighth
 
 many-refused : (plan schedule area : List ℕ) → 4096 < length schedule → playRefusal plan schedule area ≡ orElse (refusal plan) (some eighth)
 unfolding tooManyPicks lowest orElse refuse firstRefusal
-many-refused plan schedule area h = chain plan schedule area ∙ simp (lt-ltb 4096 (length schedule) h)
+many-refused plan schedule area h = play-stages plan schedule area ∙ rw (many-scheduled) (go (refusal plan))
+  where
+    many-scheduled : scheduleRefusal plan schedule ≡ orElse (refusal plan) (some eighth)
+    many-scheduled = schedule-stages plan schedule ∙ simp (lt-ltb 4096 (length schedule) h)
+
+    go : (o : Option Refusal) → orElse (orElse o (some eighth)) (firstRefusal (areaChecks schedule area)) ≡ orElse o (some eighth)
+    go (some r) = refl
+    go none = refl
 
 many-by : (plan schedule : List ℕ) (L : List Record) (o : Option Refusal) → answerText L (playedBy plan schedule (orElse o (some eighth))) ≡ tooMany o
 unfolding answerText playedBy orElse

@@ -5,7 +5,7 @@ ghost use mathlib.Core.List.{_++_};
 ghost use lib.ListN.{length, drop};
 ghost use Rattle.text.specs.Wrote.{Wrote};
 ghost use Rattle.printing.specs.Printed.{playText, printed};
-use plan::Checked;
+use refusals::Checked;
 
 // A schedule is played on a plan.
 fn print_play(plan: &[u8], schedule: &[u8], area: &mut [u8]) -> usize

@@ -1,1 +1,2 @@
-// The log's records, packed and unpacked, and refusals 11 and 12. Definitions and theorems only, in specs/ and proofs/.
+// The log's records: their kinds as numbers. Packing, unpacking, and refusals 11 and 12 are definitions and theorems, in specs/ and proofs/.
+pub mod kind; // kind.rt

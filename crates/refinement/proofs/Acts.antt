@@ -3,13 +3,11 @@ use Prim.Native.Nat.{ℕ, _+_, _*_, _%_, _<_}
 use native.Mathlib.Nat.{mod-eq-of-lt}
 use native.Mathlib.Omega.{arith}
 use mathlib.Core.Path.{_≡_, refl, sym, ap, ap₂, subst as along}
-use mathlib.Core.Bool.{Bool, true, false, cond}
+use mathlib.Core.Bool.{true}
 use mathlib.Core.List.{List}
 use mathlib.Core.Option.{none}
-use lib.Dec.{leb}
 use lib.ListN.{getD}
-use borrow.Author.Tests.{leb-false, leb-true}
-use Rattle.packed.specs.Format.{volatiles, terms}
+use Rattle.packed.specs.Format.{terms}
 use Rattle.packed.specs.Trees.{nodeAt, programOf}
 use Rattle.packed.specs.Check.{refusal}
 use Rattle.rules.proofs.StateLaws.{there as present}
@@ -23,18 +21,20 @@ use Rattle.machine.proofs.Runs.{Reached}
 use Rattle.frames.specs.Parts.{Part, Part as part}
 use Rattle.frames.specs.declared.go.Ready.{Ready}
 use Rattle.frames.specs.Going.{readyAt, readyOf, goAt, goRun, goRunCondition, goValue, goTruth}
+use Rattle.state.specs.declared.Setting.{Setting}
 use Rattle.state.specs.declared.Head.{Head}
 use Rattle.look.specs.declared.Sight.{Sight}
 use Rattle.look.specs.declared.Sight.the-variants as sight
-use Rattle.state.specs.declared.acted.Acted.{Acted}
+use Rattle.state.specs.declared.acted.Act.{Act}
 use Rattle.look.specs.Look.{objectBy, objectOf, fieldBy, aboutField, lookBy, lookOf}
 use Rattle.act.specs.Act.{pureBy, actBy, actOf}
 use Rattle.engine.specs.Machine as engine
-use Rattle.engine.specs.Machine.{noHead, noCell, noThing, headAt, cellNumber, lookAt, actAt, metBy}
+use Rattle.pick.specs.Pick.{noHead, lookMet}
+use Rattle.engine.specs.Machine.{noCell, noThing, headAt, cellNumber}
 use Rattle.refinement.proofs.Meant.{closed, StandsBy}
-use Rattle.refinement.proofs.States.{Headed, Related}
-use Rattle.refinement.proofs.Looks.{MeetsBy, attempt-absent, attempt-value}
-use Rattle.refinement.proofs.Moves.{Mover, Acts, Ahead}
+use Rattle.refinement.proofs.States.{settingOf, Headed, Related}
+use Rattle.refinement.proofs.Looks.{MeetsBy, attempt-value}
+use Rattle.refinement.proofs.Moves.{Mover, Acts, met, Ahead}
 use Rattle.refinement.proofs.Moving.{headFor}
 use Rattle.refinement.proofs.FieldActs.{read-meets, write-meets}
 use Rattle.refinement.proofs.MonitorActs.{synch-meets, hold-meets}
@@ -45,35 +45,35 @@ use Rattle.refinement.proofs.PlainActs.{pure-meets, condition-meets, wh
 abbrev otherFor : engine.Machine → Ready → Head
 otherFor m r = getD (m .heads) (getD (m .objects) (objectOf r) noThing .thread % 9) noHead
 
-abbrev sees : ℕ → engine.Machine → ℕ → Ready → Sight
-sees mask m p r = lookOf mask (headFor m p r) (getD (m .cells) (cellNumber r) noCell) (getD (m .objects) (objectOf r) noThing) (otherFor m r .ready .part)
+abbrev sees : Setting → engine.Machine → ℕ → Ready → Sight
+sees setting m p r = lookOf setting (headFor m p r) (getD (m .cells) (cellNumber r) noCell) (getD (m .objects) (objectOf r) noThing) (otherFor m r .ready .part)
 
-abbrev does : ℕ → engine.Machine → ℕ → Ready → Acted
-does mask m p r = actOf mask (m .tally .counts) (headFor m p r) (getD (m .cells) (cellNumber r) noCell) (getD (m .objects) (objectOf r) noThing) (otherFor m r)
+abbrev does : Setting → engine.Machine → ℕ → Ready → Act
+does setting m p r = actOf setting (m .tally .counts) (headFor m p r) (getD (m .cells) (cellNumber r) noCell) (getD (m .objects) (objectOf r) noThing) (otherFor m r)
 
 module _ {b : List ℕ} {m : engine.Machine} {s : machine.State} {p : ℕ} (mover : Mover b m s p) where
   open Mover mover using (thread as t, there)
   open Headed (mover .headed) using (stack as S)
 
   abbrev Meets : Ready → Type 0
-  Meets r = MeetsBy (sees (volatiles b) m p r) p r (machine.attempt (tableOf b) s p) (Acts mover r (cellNumber r) (does (volatiles b) m p r))
+  Meets r = MeetsBy (sees (settingOf b) m p r) p r (machine.attempt (tableOf b) s p) (Acts mover r (cellNumber r) (does (settingOf b) m p r))
 
   meets : (P : Part) (a b′ c environment : ℕ) → StandsBy b P (readyOf P a b′ c environment) S (t .code) → Meets (readyOf P a b′ c environment)
   unfolding objectBy fieldBy aboutField lookBy pureBy actBy machine.actᶜ land.go playing.noRoomBefore tableOf
   meets part.Done a b′ c environment h = attempt-value (tableOf b) s p t there a (h .1)
   meets part.NoRule a b′ c environment h = absurd h
-  meets part.Run a b′ c environment h = pure-meets mover 0 (readyOf part.Run a b′ c environment) _ (h .2 .0) (goRun a environment) (h .2 .1) (h .2 .2) (h .0, h .1, refl)
+  meets part.Run a b′ c environment h = pure-meets mover 0 (readyOf part.Run a b′ c environment) refl _ (h .2 .0) (goRun a environment) (h .2 .1) (h .2 .2) (h .0, h .1, refl)
   meets part.RunCondition a b′ c environment h =
-      condition-meets mover 0 (readyOf part.RunCondition a b′ c environment) (frames.Readyᶜ.and true (closed a environment)) (goRunCondition a environment) (h .2) refl (h .0, h .1, refl)
+      condition-meets mover 0 (readyOf part.RunCondition a b′ c environment) refl (frames.Readyᶜ.and true (closed a environment)) (goRunCondition a environment) (h .2) refl (h .0, h .1, refl)
   meets part.Val a b′ c environment h =
-      pure-meets mover 0 (readyOf part.Val a b′ c environment) _ (h .2 .0) (goValue a) (h .2 .1) (h .2 .2)
+      pure-meets mover 0 (readyOf part.Val a b′ c environment) refl _ (h .2 .0) (goValue a) (h .2 .1) (h .2 .2)
       (h .0, (let e = h .1 in omega arith), ap (up (nodeAt b) (terms b) S) (sym (h .1)))
   meets part.Truth a b′ c environment h =
-      condition-meets mover 0 (readyOf part.Truth a b′ c environment) (h .2 .0) (goTruth a) (h .2 .1) (h .2 .2 .needs-no-room s) (h .0, h .1, h .2 .2 .acts)
+      condition-meets mover 0 (readyOf part.Truth a b′ c environment) refl (h .2 .0) (goTruth a) (h .2 .1) (h .2 .2 .needs-no-room s) (h .0, h .1, h .2 .2 .acts)
   meets part.While a b′ c environment h = while-meets mover a b′ c environment 0 (h .0) (h .1) (h .2) (h .3)
   meets part.Body a b′ c environment h = body-meets mover a b′ c environment 0 (h .0) (h .1) (h .2) (h .3)
   meets part.Again a b′ c environment h =
-      pure-meets mover 0 (readyOf part.Again a b′ c environment) _ (h .3 .0) (goAt (readyOf part.While a b′ 0 environment)) (h .3 .1) (h .3 .2) (part.While, refl, (h .0, h .1, h .2, refl))
+      pure-meets mover 0 (readyOf part.Again a b′ c environment) refl _ (h .3 .0) (goAt (readyOf part.While a b′ 0 environment)) (h .3 .1) (h .3 .2) (part.While, refl, (h .0, h .1, h .2, refl))
   meets part.New a b′ c environment h = new-meets mover a b′ c environment 0 (h .0) (h .2) (h .3)
   meets part.Read a b′ c environment h =
       read-meets mover a b′ c environment (a % 32 * 32 + b′ % 32) (a % 32) (ap₂ (λ (x y : ℕ). x * 32 + y) (mod-eq-of-lt (h .1)) (mod-eq-of-lt (h .3))) (mod-eq-of-lt (h .1)) (h .0) (h .1) (h .2) (h .3) (h .4)
@@ -85,34 +85,23 @@ module _ {b : List ℕ} {m : engine.Machine} {s : machine.State} {p : ℕ} (move
   meets part.Hold a b′ c environment h = hold-meets mover a b′ c environment (a % 32 * 32 + 0) (ap (λ (x : ℕ). x * 32 + 0) (mod-eq-of-lt (h .1))) (h .0) (h .1) (h .2) (h .3)
 
 meets-more : (w : Sight) (p : ℕ) (r : Ready) (A : machine.Attempt) (Z Z′ : machine.Move → Type 0) → ((v : machine.Move) → Z v → Z′ v) → MeetsBy w p r A Z → MeetsBy w p r A Z′
-meets-more sight.Absent p r A Z Z′ f h = h
-meets-more sight.Finished p r A Z Z′ f h = h
 meets-more sight.Ready p r A Z Z′ f h = (h .0, h .1, f (h .0) (h .2))
-meets-more sight.Monitor p r A Z Z′ f h = h
-meets-more sight.Join p r A Z Z′ f h = h
-meets-more sight.NoField p r A Z Z′ f h = h
-meets-more sight.NoThread p r A Z Z′ f h = h
-meets-more sight.NoRule p r A Z Z′ f h = h
 meets-more sight.Lacking p r A Z Z′ f h = h
+meets-more (sight.Blocked x) p r A Z Z′ f h = h
 
 -- WHAT A LOOK SAYS IS WHAT THE THREAD CAN DO, AND WHERE IT IS READY WHAT THE CODE DOES IS ITS MOVE
 pub looks : (b : List ℕ) → refusal b ≡ none → (m : engine.Machine) (s : machine.State) → Related b m s → Reached (tableOf b) (programOf b) s → (p : ℕ) → p < 8
-    → MeetsBy (metBy (volatiles b) m p) p (headAt (m .heads) p .ready) (machine.attempt (tableOf b) s p) (Ahead b m s p)
-unfolding lookAt actAt
-looks b ok m s rel reach p small = by (leb (m .tally .counts .threads) p) refl
+    → p < m .tally .counts .threads
+    → MeetsBy (lookMet (settingOf b) (met m p)) p (headAt (m .heads) p .ready) (machine.attempt (tableOf b) s p) (Ahead b m s p)
+looks b ok m s rel reach p small here =
+    let y = rel .kept .threads-count in
+    let (t, there) = present (s .threads) p (omega arith) in
+    let H = rel .each p t there in
+    let P = H .stands .0 in
+    let mover : Mover b m s p = record { ok = ok; related = rel; reached = reach; small = small; thread = t; there = there; headed = H } in
+    let same : readyOf P (r .first) (r .second) (r .third) (r .environment) ≡ r = ap (λ (q : ℕ). readyAt q (r .first) (r .second) (r .third) (r .environment)) (sym (H .stands .1)) in
+    meets-more (sees (settingOf b) m p r) p r (machine.attempt (tableOf b) s p) _ (Ahead b m s p) (λ v z. record { mover = mover; acts = z })
+    (along (Meets mover) same (meets mover P (r .first) (r .second) (r .third) (r .environment) (along (λ (r′ : Ready). StandsBy b P r′ (H .stack) (t .code)) (sym same) (H .stands .2))))
   where
     r : Ready
     r = headAt (m .heads) p .ready
-
-    by : (x : Bool) → leb (m .tally .counts .threads) p ≡ x → MeetsBy (cond x sight.Absent (sees (volatiles b) m p r)) p r (machine.attempt (tableOf b) s p) (Ahead b m s p)
-    by true e = attempt-absent (tableOf b) s p (let x = leb-true (m .tally .counts .threads) p e in let y = rel .kept .threads-count in omega arith)
-    by false e =
-        let x = leb-false (m .tally .counts .threads) p e in
-        let y = rel .kept .threads-count in
-        let (t, there) = present (s .threads) p (omega arith) in
-        let H = rel .each p t there in
-        let P = H .stands .0 in
-        let mover : Mover b m s p = record { ok = ok; related = rel; reached = reach; small = small; thread = t; there = there; headed = H } in
-        let same : readyOf P (r .first) (r .second) (r .third) (r .environment) ≡ r = ap (λ (q : ℕ). readyAt q (r .first) (r .second) (r .third) (r .environment)) (sym (H .stands .1)) in
-        meets-more (sees (volatiles b) m p r) p r (machine.attempt (tableOf b) s p) _ (Ahead b m s p) (λ v z. record { mover = mover; acts = z })
-        (along (Meets mover) same (meets mover P (r .first) (r .second) (r .third) (r .environment) (along (λ (r′ : Ready). StandsBy b P r′ (H .stack) (t .code)) (sym same) (H .stands .2))))

@@ -16,7 +16,8 @@ use Rattle.machine.proofs.CallLists.{list-left}
 use Rattle.machine.proofs.Sorted.{Well}
 use Rattle.frames.specs.declared.frame.Frame.{Frame}
 use Rattle.frames.specs.Parts.{Part as part}
-use Rattle.term_words.specs.Words.{wordAt, firstOf, secondOf}
+use Rattle.packed.specs.Operands.{firstOf, secondOf}
+use Rattle.term_words.specs.Words.{wordAt}
 use Rattle.frames.specs.Frames.{restOf}
 use Rattle.frames.specs.Going.{readyOf, goAt}
 use Rattle.landing_step.specs.Down.{rootAt, listBy, listOf, wantedOf}

@@ -14,7 +14,8 @@ use Rattle.machine.specs.Landing.{isTrue, boolOf, boolIn, enterᶜ}
 use Rattle.machine.proofs.PlanTable.{ordered}
 use Rattle.machine.proofs.Sorted.{Wellᶜ}
 use Rattle.frames.specs.declared.frame.Kind.the-variants as kind
-use Rattle.term_words.specs.Words.{wordAt, firstOf, secondOf}
+use Rattle.packed.specs.Operands.{firstOf, secondOf}
+use Rattle.term_words.specs.Words.{wordAt}
 use Rattle.frames.specs.Frames.{framed}
 use Rattle.frames.specs.Going.{goTruth}
 use Rattle.landing_step.specs.Down.{runConditionBy, runConditionOf, listedOf, wantedOf}

@@ -14,7 +14,7 @@ use Rattle.frames.specs.declared.go.Ready.{Ready}
 use Rattle.frames.specs.declared.go.Stage.{Stage}
 use Rattle.frames.specs.declared.go.Stage.the-variants as stage
 use Rattle.landing.specs.Landing.{Ended}
-use Rattle.settle.specs.Settle.{fullBy}
+use Rattle.pick.specs.Pick.{fullBy}
 use Rattle.refinement.proofs.Meant.{StandsBy, FoundBy}
 
 stands-height : (b : List ℕ) (P : Part) (r : Ready) (S : List frames.Frame) (X : frames.Found) → StandsBy b P r S X → height X ≡ length S

@@ -14,7 +14,8 @@ use Rattle.machine.proofs.Sorted.{Well}
 use Rattle.frames.specs.declared.frame.Kind.the-variants as kind
 use Rattle.frames.specs.Parts.{Part as part}
 use Rattle.term_words.specs.Slots.{slotOf}
-use Rattle.term_words.specs.Words.{wordAt, tagOf, firstOf, secondOf, thirdOf, slotBits, fieldBits, writeSecond, letFirst, letSecond, procedureBits, listBits, maskBits, valueBy, valueOf}
+use Rattle.packed.specs.Operands.{tagOf, firstOf, secondOf, thirdOf, slotBits, fieldBits, writeSecond, letFirst, letSecond, procedureBits, listBits, maskBits}
+use Rattle.term_words.specs.Words.{wordAt, valueBy, valueOf}
 use Rattle.frames.specs.Frames.{framed, letFrame}
 use Rattle.frames.specs.Going.{readyOf, goAt, goValue}
 use Rattle.landing_step.specs.Down.{simpleBy, simpleOf, runBy, runOf, listedOf, wantedOf}

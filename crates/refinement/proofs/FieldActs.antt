@@ -13,7 +13,7 @@ use Rattle.keys.specs.declared.KeySet.{KeySet}
 use Rattle.keys.specs.Keys.{Keys, singleton, union, subset}
 use Rattle.keys.specs.KeySet.{keysOf, holdsOf, learnOf, joinOf}
 use Rattle.keys.proofs.KeySetLaws.{keys-join, keys-learn, fits-join, fits-learn}
-use Rattle.packed.specs.Format.{volatiles, terms}
+use Rattle.packed.specs.Format.{terms}
 use Rattle.packed.specs.Trees.{nodeAt, programOf}
 use Rattle.records.specs.Record.{entry}
 use Rattle.records.specs.Record as records
@@ -32,15 +32,17 @@ use Rattle.frames.specs.Parts.{Part as part}
 use Rattle.frames.specs.Going.{readyOf, goValue}
 use Rattle.state.specs.declared.Cell.{Cell}
 use Rattle.state.specs.declared.Counts.{Counts}
+use Rattle.run_outcome.specs.declared.NoRoom.the-variants as room
+use Rattle.state.specs.declared.acted.Act.the-variants as act
+use Rattle.look.specs.declared.Block.the-variants as block
 use Rattle.look.specs.declared.Sight.the-variants as sight
-use Rattle.state.specs.declared.acted.Room.the-variants as room
 use Rattle.look.specs.Look.{objectBy, fieldBy, hasOf, lookField}
 use Rattle.state.specs.Acted.{entryOf, nothing, cellOf, countsOf, actedOf}
 use Rattle.accesses.specs.Accesses.{actRead, actWrite}
-use Rattle.settle.specs.Settle.{lackBy}
+use Rattle.pick.specs.Pick.{lackBy}
 use Rattle.engine.specs.Machine as engine
 use Rattle.engine.specs.Machine.{noCell, noThing, headAt}
-use Rattle.refinement.proofs.States.{cellMeant, CellFits, Kept, Headed, Related}
+use Rattle.refinement.proofs.States.{settingOf, cellMeant, CellFits, Kept, Headed, Related}
 use Rattle.refinement.proofs.Tests.{test-true, test-false}
 use Rattle.refinement.proofs.KeptLaws.{kept-changed, kept-past, kept-key, kept-store, kept-same}
 use Rattle.refinement.proofs.Looks.{MeetsBy, volatile-bit, meant-value, lookup-cell, ready-there, one-key}
@@ -61,18 +63,18 @@ module _ {b : List ℕ} {m : engine.Machine} {s : machine.State} {p : ℕ} (move
 
   -- the cell of a field, at place i, of an object, at place j
   field-found : (o f i j : ℕ) → i ≡ o * 32 + f → j ≡ o → o < n .objects → o < 32 → 0 < f → f < 32
-      → machine.lookup s o f ≡ cond (hasOf (getD ts j noThing .mask) f) (some (cellMeant (hasOf (volatiles b) f) (getD cs i noCell))) none
+      → machine.lookup s o f ≡ cond (hasOf (getD ts j noThing .mask) f) (some (cellMeant (hasOf (settingOf b .mask) f) (getD cs i noCell))) none
   field-found o f i j ei ej o-there ho zf hf =
       lookup-cell k o f o-there ho zf hf
-      ∙ ap₂ (λ (i j : ℕ). cond (hasOf (getD ts j noThing .mask) f) (some (cellMeant (hasOf (volatiles b) f) (getD cs i noCell))) none) (sym ei) (sym ej)
+      ∙ ap₂ (λ (i j : ℕ). cond (hasOf (getD ts j noThing .mask) f) (some (cellMeant (hasOf (settingOf b .mask) f) (getD cs i noCell))) none) (sym ei) (sym ej)
 
   -- E-READ, E-READV
   pub read-meets : (o f w environment i j : ℕ) → i ≡ o * 32 + f → j ≡ o → Well S → o < 32 → 0 < f → f < 32 → t .code ≡ frames.Found.here S (frames.Ready.read o f)
-      → MeetsBy (lookField (volatiles b) (headFor m p (readyOf part.Read o f w environment)) (getD cs i noCell) (getD ts j noThing) f) p (readyOf part.Read o f w environment) (machine.attempt (tableOf b) s p)
-      (Acts mover (readyOf part.Read o f w environment) i (actRead (volatiles b) n (headFor m p (readyOf part.Read o f w environment)) (getD cs i noCell) o f))
+      → MeetsBy (lookField (settingOf b) (headFor m p (readyOf part.Read o f w environment)) (getD cs i noCell) (getD ts j noThing) f) p (readyOf part.Read o f w environment) (machine.attempt (tableOf b) s p)
+      (Acts mover (readyOf part.Read o f w environment) i (actRead (settingOf b) n (headFor m p (readyOf part.Read o f w environment)) (getD cs i noCell) o f))
   unfolding objectBy fieldBy lackBy lookField actRead machine.act machine.readAct machine.around machine.learn playing.noRoomBefore land.go tableOf
   read-meets o f w environment i j ei ej well ho zf hf code =
-      by (hasOf (getD ts j noThing .mask) f) (hasOf (volatiles b) f) (holdsOf ks (c .key % 256)) (field-found o f i j ei ej o-there ho zf hf) (volatile-bit b f hf) (one-key c ks (t .keys) fit fits known)
+      by (hasOf (getD ts j noThing .mask) f) (hasOf (settingOf b .mask) f) (holdsOf ks (c .key % 256)) (field-found o f i j ei ej o-there ho zf hf) (volatile-bit b f hf) (one-key c ks (t .keys) fit fits known)
     where
       c : Cell
       c = getD cs i noCell
@@ -91,10 +93,10 @@ module _ {b : List ℕ} {m : engine.Machine} {s : machine.State} {p : ℕ} (move
           omega arith
 
       by : (x y z : Bool) → machine.lookup s o f ≡ cond x (some (cellMeant y c)) none → tableOf b .isVolatile f ≡ y → subset (cellMeant false c .keys) (t .keys) ≡ z
-          → MeetsBy (cond x (cond y sight.Ready (cond z sight.Ready sight.Lacking)) sight.NoField) p (readyOf part.Read o f w environment) (machine.attempt (tableOf b) s p)
+          → MeetsBy (cond x (cond y sight.Ready (cond z sight.Ready sight.Lacking)) (sight.Blocked block.Field)) p (readyOf part.Read o f w environment) (machine.attempt (tableOf b) s p)
           (Acts mover (readyOf part.Read o f w environment) i (cond y
-          (actedOf room.Enough (goValue (c .value)) n (joinOf ks (c .keys)) c (entryOf 4 o f (c .value)))
-          (actedOf room.Enough (goValue (c .value)) n ks c (entryOf 2 o f (c .value)))))
+          (actedOf (goValue (c .value)) n (joinOf ks (c .keys)) c (entryOf (records.kindNumber records.Kind.readv) o f (c .value)))
+          (actedOf (goValue (c .value)) n ks c (entryOf (records.kindNumber records.Kind.read) o f (c .value)))))
       by false y z e v q =
           attempts mover (frames.Ready.read o f) code (ap (machine.readAct (tableOf b) s p t o f) e)
           ∙ ap₂ (λ (o f : ℕ). machine.Attempt.stuck (missingField o f)) (sym (mod-eq-of-lt ho)) (sym (mod-eq-of-lt hf))
@@ -102,7 +104,7 @@ module _ {b : List ℕ} {m : engine.Machine} {s : machine.State} {p : ℕ} (move
         _,
         attempts mover (frames.Ready.read o f) code (ap (machine.readAct (tableOf b) s p t o f) e ∙ test-true (tableOf b .isVolatile f) _ _ v),
         moved mover _ i e-readv (some (entry records.Kind.readv p o f (c .value))) (machine.learn s p (keysOf (c .keys))) (up (nodeAt b) (terms b) S (c .value)) (goValue (c .value)) n
-            (joinOf ks (c .keys)) c nothing (entryOf 4 o f (c .value)) refl (written mover records.Kind.readv o f (c .value) ho hf (value-fits true e)) refl
+            (joinOf ks (c .keys)) c nothing (entryOf (records.kindNumber records.Kind.readv) o f (c .value)) refl (written mover records.Kind.readv o f (c .value) ho hf (value-fits true e)) refl
             (well, value-fits true e, refl) (fits-join fits (fit .keys)) (learnt mover (keysOf (c .keys)) _ (joined mover (c .keys) (fit .keys)))
             (kept-changed (kept-past (kept-same k i) nothing) p _ (λ x. refl)),
       )
@@ -111,7 +113,7 @@ module _ {b : List ℕ} {m : engine.Machine} {s : machine.State} {p : ℕ} (move
         attempts mover (frames.Ready.read o f) code
             (ap (machine.readAct (tableOf b) s p t o f) e ∙ test-false (tableOf b .isVolatile f) _ _ v ∙ test-true (subset (cellMeant false c .keys) (t .keys)) _ _ q),
         moved mover _ i e-read (some (entry records.Kind.read p o f (c .value))) s (up (nodeAt b) (terms b) S (c .value)) (goValue (c .value)) n
-            ks c nothing (entryOf 2 o f (c .value)) refl (written mover records.Kind.read o f (c .value) ho hf (value-fits false e)) refl
+            ks c nothing (entryOf (records.kindNumber records.Kind.read) o f (c .value)) refl (written mover records.Kind.read o f (c .value) ho hf (value-fits false e)) refl
             (well, value-fits false e, refl) fits (unlearnt mover) (kept-past (kept-same k i) nothing),
       )
       by true false false e v q = (
@@ -125,11 +127,11 @@ module _ {b : List ℕ} {m : engine.Machine} {s : machine.State} {p : ℕ} (move
 
   -- E-WRITE, E-WRITEV
   pub write-meets : (o f w environment i j : ℕ) → i ≡ o * 32 + f → j ≡ o → Well S → o < 32 → 0 < f → f < 32 → w < 32 → t .code ≡ frames.Found.here S (frames.Ready.write o f w)
-      → MeetsBy (lookField (volatiles b) (headFor m p (readyOf part.Write o f w environment)) (getD cs i noCell) (getD ts j noThing) f) p (readyOf part.Write o f w environment) (machine.attempt (tableOf b) s p)
-      (Acts mover (readyOf part.Write o f w environment) i (actWrite (volatiles b) n (headFor m p (readyOf part.Write o f w environment)) (getD cs i noCell) o f w))
+      → MeetsBy (lookField (settingOf b) (headFor m p (readyOf part.Write o f w environment)) (getD cs i noCell) (getD ts j noThing) f) p (readyOf part.Write o f w environment) (machine.attempt (tableOf b) s p)
+      (Acts mover (readyOf part.Write o f w environment) i (actWrite (settingOf b) n (headFor m p (readyOf part.Write o f w environment)) (getD cs i noCell) o f w))
   unfolding objectBy fieldBy lackBy lookField actWrite machine.act machine.writeAct machine.around machine.learn machine.store machine.useKey playing.noRoomBefore land.go tableOf
   write-meets o f w environment i j ei ej well ho zf hf hw code =
-      by (hasOf (getD ts j noThing .mask) f) (hasOf (volatiles b) f) (holdsOf ks (c .key % 256)) (leb 256 (n .keys)) (field-found o f i j ei ej o-there ho zf hf) refl (volatile-bit b f hf) (one-key c ks (t .keys) fit fits known) refl
+      by (hasOf (getD ts j noThing .mask) f) (hasOf (settingOf b .mask) f) (holdsOf ks (c .key % 256)) (leb 256 (n .keys)) (field-found o f i j ei ej o-there ho zf hf) refl (volatile-bit b f hf) (one-key c ks (t .keys) fit fits known) refl
     where
       c : Cell
       c = getD cs i noCell
@@ -141,22 +143,22 @@ module _ {b : List ℕ} {m : engine.Machine} {s : machine.State} {p : ℕ} (move
       o-there = object-there mover o (ready-there b s p t reach there S (frames.Ready.write o f w) code .2)
 
       -- the cell is stored to
-      stored : {s₀ : machine.State} {n₀ : Counts} (y : Bool) (c′ : Cell) (x : rules.Cell) → hasOf (volatiles b) f ≡ y → cellMeant y c′ ≡ x → CellFits c′
-          → n₀ .objects ≡ n .objects → Kept (volatiles b) cs ts n₀ s₀ → Kept (volatiles b) (set cs i c′) (set ts (n .objects) nothing) n₀ (machine.store s₀ o f x)
+      stored : {s₀ : machine.State} {n₀ : Counts} (y : Bool) (c′ : Cell) (x : rules.Cell) → hasOf (settingOf b .mask) f ≡ y → cellMeant y c′ ≡ x → CellFits c′
+          → n₀ .objects ≡ n .objects → Kept (settingOf b) cs ts n₀ s₀ → Kept (settingOf b) (set cs i c′) (set ts (n .objects) nothing) n₀ (machine.store s₀ o f x)
       stored {s₀} {n₀} y c′ x v e fit′ count k₀ =
           let z = kept-past (kept-store k₀ o f c′ (omega (arith, o-there)) ho zf hf fit′) nothing in
-          let z₁ = along (λ (a : ℕ). Kept (volatiles b) (set cs (o * 32 + f) c′) (set ts a nothing) n₀ (machine.store s₀ o f (cellMeant (hasOf (volatiles b) f) c′))) count z in
-          let z₂ = along (λ (x : rules.Cell). Kept (volatiles b) (set cs (o * 32 + f) c′) (set ts (n .objects) nothing) n₀ (machine.store s₀ o f x)) (ap (λ (y : Bool). cellMeant y c′) v ∙ e) z₁ in
-          along (λ (a : ℕ). Kept (volatiles b) (set cs a c′) (set ts (n .objects) nothing) n₀ (machine.store s₀ o f x)) (sym ei) z₂
+          let z₁ = along (λ (a : ℕ). Kept (settingOf b) (set cs (o * 32 + f) c′) (set ts a nothing) n₀ (machine.store s₀ o f (cellMeant (hasOf (settingOf b .mask) f) c′))) count z in
+          let z₂ = along (λ (x : rules.Cell). Kept (settingOf b) (set cs (o * 32 + f) c′) (set ts (n .objects) nothing) n₀ (machine.store s₀ o f x)) (ap (λ (y : Bool). cellMeant y c′) v ∙ e) z₁ in
+          along (λ (a : ℕ). Kept (settingOf b) (set cs a c′) (set ts (n .objects) nothing) n₀ (machine.store s₀ o f x)) (sym ei) z₂
 
-      by : (x y z u : Bool) → machine.lookup s o f ≡ cond x (some (cellMeant y c)) none → hasOf (volatiles b) f ≡ y → tableOf b .isVolatile f ≡ y
+      by : (x y z u : Bool) → machine.lookup s o f ≡ cond x (some (cellMeant y c)) none → hasOf (settingOf b .mask) f ≡ y → tableOf b .isVolatile f ≡ y
           → subset (cellMeant false c .keys) (t .keys) ≡ z → leb 256 (n .keys) ≡ u
-          → MeetsBy (cond x (cond y sight.Ready (cond z sight.Ready sight.Lacking)) sight.NoField) p (readyOf part.Write o f w environment) (machine.attempt (tableOf b) s p)
+          → MeetsBy (cond x (cond y sight.Ready (cond z sight.Ready sight.Lacking)) (sight.Blocked block.Field)) p (readyOf part.Write o f w environment) (machine.attempt (tableOf b) s p)
           (Acts mover (readyOf part.Write o f w environment) i (cond y
-          (actedOf room.Enough (goValue w) n ks (cellOf w 0 (joinOf (c .keys) ks)) (entryOf 5 o f w))
+          (actedOf (goValue w) n ks (cellOf w 0 (joinOf (c .keys) ks)) (entryOf (records.kindNumber records.Kind.writev) o f w))
           (cond u
-          (actedOf room.NoKey (goValue w) n ks c (entryOf 0 0 0 0))
-          (actedOf room.Enough (goValue w) (countsOf (n .threads) (n .objects) (n .keys + 1)) (learnOf ks (n .keys)) (cellOf w (n .keys) (c .keys)) (entryOf 3 o f w)))))
+          (act.NoRoom room.Key)
+          (actedOf (goValue w) (countsOf (n .threads) (n .objects) (n .keys + 1)) (learnOf ks (n .keys)) (cellOf w (n .keys) (c .keys)) (entryOf (records.kindNumber records.Kind.write) o f w)))))
       by false y z u e g v q r =
           attempts mover (frames.Ready.write o f w) code (ap (machine.writeAct (tableOf b) s p t o f w) e)
           ∙ ap₂ (λ (o f : ℕ). machine.Attempt.stuck (missingField o f)) (sym (mod-eq-of-lt ho)) (sym (mod-eq-of-lt hf))
@@ -164,7 +166,7 @@ module _ {b : List ℕ} {m : engine.Machine} {s : machine.State} {p : ℕ} (move
         _,
         attempts mover (frames.Ready.write o f w) code (ap (machine.writeAct (tableOf b) s p t o f w) e ∙ test-true (tableOf b .isVolatile f) _ _ v),
         moved mover _ i e-writev (some (entry records.Kind.writev p o f w)) (machine.store s o f (rules.cell (union (keysOf (c .keys)) (t .keys)) w)) (up (nodeAt b) (terms b) S w) (goValue w) n
-            ks (cellOf w 0 (joinOf (c .keys) ks)) nothing (entryOf 5 o f w) refl (written mover records.Kind.writev o f w ho hf hw) refl
+            ks (cellOf w 0 (joinOf (c .keys) ks)) nothing (entryOf (records.kindNumber records.Kind.writev) o f w) refl (written mover records.Kind.writev o f w ho hf hw) refl
             (well, hw, refl) fits (unlearnt mover)
             (stored true (cellOf w 0 (joinOf (c .keys) ks)) _ g
             (ap₂ rules.cell (keys-join (fit .keys) fits ∙ ap (union (keysOf (c .keys))) known) (mod-eq-of-lt hw))
@@ -174,7 +176,7 @@ module _ {b : List ℕ} {m : engine.Machine} {s : machine.State} {p : ℕ} (move
         _,
         attempts mover (frames.Ready.write o f w) code
             (ap (machine.writeAct (tableOf b) s p t o f w) e ∙ test-false (tableOf b .isVolatile f) _ _ v ∙ test-true (subset (cellMeant false c .keys) (t .keys)) _ _ q),
-        record { lacks = test-true (leb 256 (s .nextKey)) _ _ (ap (leb 256) (sym (k .keys-count)) ∙ r); does = tt },
+        test-true (leb 256 (s .nextKey)) _ _ (ap (leb 256) (sym (k .keys-count)) ∙ r),
       )
       by true false true false e g v q r =
           let room-left : n .keys < 256 = leb-false 256 (n .keys) r in (
@@ -183,7 +185,7 @@ module _ {b : List ℕ} {m : engine.Machine} {s : machine.State} {p : ℕ} (move
                 (ap (machine.writeAct (tableOf b) s p t o f w) e ∙ test-false (tableOf b .isVolatile f) _ _ v ∙ test-true (subset (cellMeant false c .keys) (t .keys)) _ _ q),
             moved mover _ i e-write (some (entry records.Kind.write p o f w)) (machine.learn (machine.store (machine.useKey s) o f (rules.cell (singleton (s .nextKey)) w)) p (singleton (s .nextKey)))
                 (up (nodeAt b) (terms b) S w) (goValue w) (countsOf (n .threads) (n .objects) (n .keys + 1))
-                (learnOf ks (n .keys)) (cellOf w (n .keys) (c .keys)) nothing (entryOf 3 o f w)
+                (learnOf ks (n .keys)) (cellOf w (n .keys) (c .keys)) nothing (entryOf (records.kindNumber records.Kind.write) o f w)
                 (test-false (leb 256 (s .nextKey)) _ _ (ap (leb 256) (sym (k .keys-count)) ∙ r)) (written mover records.Kind.write o f w ho hf hw) refl
                 (well, hw, refl) (fits-learn (n .keys) fits)
                 (learnt mover (singleton (s .nextKey)) _

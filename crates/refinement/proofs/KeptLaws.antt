@@ -16,6 +16,7 @@ use Rattle.rules.proofs.StateLaws.{change-length, length-added}
 use Rattle.machine.specs.Memory.{objectsOf, storeCell}
 use Rattle.machine.specs.Machine as machine
 use Rattle.machine.proofs.MemoryLaws.{store-of, store-monitor-of, add-of, FreshPast}
+use Rattle.state.specs.declared.Setting.{Setting}
 use Rattle.state.specs.declared.Cell.{Cell}
 use Rattle.state.specs.declared.Object.{Object}
 use Rattle.state.specs.declared.Counts.{Counts}
@@ -25,22 +26,22 @@ use Rattle.refinement.proofs.States.{cellMeant, CellFits, memoryOf, num
 use Rattle.refinement.proofs.MemoryOf.{fresh-meant, memory-store, memory-past, memory-more}
 use Rattle.refinement.proofs.ThreadNumbers.{numbers-change}
 
-past-fresh : {mask : ℕ} {cs : List Cell} {ts : List Object} {n : Counts} {s : machine.State} → Kept mask cs ts n s → FreshPast (memoryOf mask cs ts (n .objects))
+past-fresh : {setting : Setting} {cs : List Cell} {ts : List Object} {n : Counts} {s : machine.State} → Kept setting cs ts n s → FreshPast (memoryOf setting cs ts (n .objects))
 unfolding memoryOf
-past-fresh {mask} {cs} {ts} {n} {s} k a f h = at (ltb a 32 && ltb f 32) refl
+past-fresh {setting} {cs} {ts} {n} {s} k a f h = at (ltb a 32 && ltb f 32) refl
   where
-    at : (x : Bool) → (ltb a 32 && ltb f 32) ≡ x → cond x (cellMeant (hasOf mask f) (getD cs (a * 32 + f) noCell)) fresh ≡ fresh
+    at : (x : Bool) → (ltb a 32 && ltb f 32) ≡ x → cond x (cellMeant (hasOf (setting .mask) f) (getD cs (a * 32 + f) noCell)) fresh ≡ fresh
     at true e =
         let l = and-eq-true-iff (ltb a 32) (ltb f 32) .0 e in
         let i = ltb-true a 32 (l .0) in
         let j = ltb-true f 32 (l .1) in
-        ap (cellMeant (hasOf mask f)) (k .fresh-past (a * 32 + f) (omega arith) (omega arith)) ∙ fresh-meant (hasOf mask f)
+        ap (cellMeant (hasOf (setting .mask) f)) (k .fresh-past (a * 32 + f) (omega arith) (omega arith)) ∙ fresh-meant (hasOf (setting .mask) f)
     at false e = refl
 
-module _ {mask : ℕ} {cs : List Cell} {ts : List Object} {n : Counts} {s : machine.State} (k : Kept mask cs ts n s) where
+module _ {setting : Setting} {cs : List Cell} {ts : List Object} {n : Counts} {s : machine.State} (k : Kept setting cs ts n s) where
   -- a thread changes, and keeps its object
   pub kept-changed : (p : ℕ) (h : machine.Thread → machine.Thread) → ((x : machine.Thread) → h x .self ≡ x .self)
-      → Kept mask cs ts n (record { objects = s .objects; threads = changeAt (s .threads) p h; nextKey = s .nextKey })
+      → Kept setting cs ts n (record { objects = s .objects; threads = changeAt (s .threads) p h; nextKey = s .nextKey })
   kept-changed p h same = record {
     cells-size = k .cells-size;
     things-size = k .things-size;
@@ -54,21 +55,21 @@ module _ {mask : ℕ} {cs : List Cell} {ts : List Object} {n : Counts} {s : mach
   }
 
   -- the object past the last is set, and does not count
-  pub kept-past : (x : Object) → Kept mask cs (set ts (n .objects) x) n s
+  pub kept-past : (x : Object) → Kept setting cs (set ts (n .objects) x) n s
   kept-past x = record {
     cells-size = k .cells-size;
     things-size = length-set ts (n .objects) x ∙ k .things-size;
     threads-count = k .threads-count;
     objects-count = k .objects-count;
     keys-count = k .keys-count;
-    objects = k .objects ∙ ap objectsOf (sym (memory-past mask cs ts (n .objects) x));
+    objects = k .objects ∙ ap objectsOf (sym (memory-past setting cs ts (n .objects) x));
     cells-fit = k .cells-fit;
     fresh-past = k .fresh-past;
     numbers = λ o l. ap (λ (t : Object). t .thread) (getD-set-other ts (n .objects) o x noThing (λ e. omega arith)) ∙ k .numbers o l;
   }
 
   -- a key is used
-  pub kept-key : Kept mask cs ts (record { threads = n .threads; objects = n .objects; keys = n .keys + 1 }) (machine.useKey s)
+  pub kept-key : Kept setting cs ts (record { threads = n .threads; objects = n .objects; keys = n .keys + 1 }) (machine.useKey s)
   unfolding machine.useKey
   kept-key = record {
     cells-size = k .cells-size;
@@ -84,15 +85,15 @@ module _ {mask : ℕ} {cs : List Cell} {ts : List Object} {n : Counts} {s : mach
 
   -- a cell is stored to, and so is its object
   kept-cell : (o f : ℕ) (c : Cell) (l : List rules.Object) → o < n .objects → o < 32 → f < 32 → CellFits c
-      → l ≡ objectsOf (storeCell (memoryOf mask cs ts (n .objects)) o f (cellMeant (hasOf mask f) c)) → length l ≡ length (s .objects)
-      → Kept mask (set cs (o * 32 + f) c) ts n (record { objects = l; threads = s .threads; nextKey = s .nextKey })
+      → l ≡ objectsOf (storeCell (memoryOf setting cs ts (n .objects)) o f (cellMeant (hasOf (setting .mask) f) c)) → length l ≡ length (s .objects)
+      → Kept setting (set cs (o * 32 + f) c) ts n (record { objects = l; threads = s .threads; nextKey = s .nextKey })
   kept-cell o f c l i p q z e len = record {
     cells-size = length-set cs (o * 32 + f) c ∙ k .cells-size;
     things-size = k .things-size;
     threads-count = k .threads-count;
     objects-count = k .objects-count ∙ sym len;
     keys-count = k .keys-count;
-    objects = e ∙ ap objectsOf (sym (memory-store mask cs ts (n .objects) o f c (k .cells-size) p q));
+    objects = e ∙ ap objectsOf (sym (memory-store setting cs ts (n .objects) o f c (k .cells-size) p q));
     cells-fit = λ j. fit j (ℕ-discrete j (o * 32 + f));
     fresh-past = λ j x y. getD-set-other cs (o * 32 + f) j c noCell (λ e. omega arith) ∙ k .fresh-past j x y;
     numbers = k .numbers;
@@ -103,28 +104,28 @@ module _ {mask : ℕ} {cs : List Cell} {ts : List Object} {n : Counts} {s : mach
       fit j (no e) = rw (getD-set-other cs (o * 32 + f) j c noCell e) (k .cells-fit j)
 
   pub kept-store : (o f : ℕ) (c : Cell) → o < n .objects → o < 32 → 0 < f → f < 32 → CellFits c
-      → Kept mask (set cs (o * 32 + f) c) ts n (machine.store s o f (cellMeant (hasOf mask f) c))
+      → Kept setting (set cs (o * 32 + f) c) ts n (machine.store s o f (cellMeant (hasOf (setting .mask) f) c))
   unfolding machine.store
   kept-store o f c i p z q fit =
       kept-cell o f c _ i p q fit
-      (ap (λ (l : List rules.Object). changeAt l o (λ x. record { monitor = x .monitor; fields = storeField (x .fields) f (cellMeant (hasOf mask f) c) })) (k .objects)
-      ∙ sym (store-of (memoryOf mask cs ts (n .objects)) o f (cellMeant (hasOf mask f) c) z))
+      (ap (λ (l : List rules.Object). changeAt l o (λ x. record { monitor = x .monitor; fields = storeField (x .fields) f (cellMeant (hasOf (setting .mask) f) c) })) (k .objects)
+      ∙ sym (store-of (memoryOf setting cs ts (n .objects)) o f (cellMeant (hasOf (setting .mask) f) c) z))
       (change-length (s .objects) o _)
 
-  pub kept-monitor : (o : ℕ) (c : Cell) → hasOf mask 0 ≡ true → o < n .objects → o < 32 → CellFits c
-      → Kept mask (set cs (o * 32 + 0) c) ts n (machine.storeMonitor s o (cellMeant true c))
+  pub kept-monitor : (o : ℕ) (c : Cell) → hasOf (setting .mask) 0 ≡ true → o < n .objects → o < 32 → CellFits c
+      → Kept setting (set cs (o * 32 + 0) c) ts n (machine.storeMonitor s o (cellMeant true c))
   unfolding machine.storeMonitor
   kept-monitor o c v i p fit =
       kept-cell o 0 c _ i p (omega arith) fit
       (ap₂ (λ (l : List rules.Object) (d : rules.Cell). changeAt l o (λ x. record { monitor = d; fields = x .fields })) (k .objects) (ap (λ (x : Bool). cellMeant x c) (sym v))
-      ∙ sym (store-monitor-of (memoryOf mask cs ts (n .objects)) o (cellMeant (hasOf mask 0) c)))
+      ∙ sym (store-monitor-of (memoryOf setting cs ts (n .objects)) o (cellMeant (hasOf (setting .mask) 0) c)))
       (change-length (s .objects) o _)
 
   -- a new object, with whatever threads
   pub kept-object : (x : Object) (xs : List machine.Thread) (t : ℕ) → n .objects < 32 → eqb (maskBit (x .mask) 0) 1 ≡ false
       → t ≡ length xs → ((o : ℕ) → o < n .objects → numberOf (machine.threadOf 0 xs o) ≡ numberOf (machine.threadOf 0 (s .threads) o))
       → x .thread ≡ numberOf (machine.threadOf 0 xs (n .objects))
-      → Kept mask cs (set ts (n .objects) x) (record { threads = t; objects = n .objects + 1; keys = n .keys })
+      → Kept setting cs (set ts (n .objects) x) (record { threads = t; objects = n .objects + 1; keys = n .keys })
       (record { objects = s .objects ++ (freshObject (fieldsFrom (x .mask) 0 32) ∷ []); threads = xs; nextKey = s .nextKey })
   kept-object x xs t room zero-out count old new = record {
     cells-size = k .cells-size;
@@ -134,9 +135,9 @@ module _ {mask : ℕ} {cs : List Cell} {ts : List Object} {n : Counts} {s : mach
     keys-count = k .keys-count;
     objects =
         ap (λ (l : List rules.Object). l ++ (freshObject (fieldsFrom (x .mask) 0 32) ∷ [])) (k .objects)
-        ∙ sym (add-of (memoryOf mask cs ts (n .objects)) (x .mask) (past-fresh k) zero-out)
-        ∙ ap objectsOf (sym (memory-more mask cs ts (n .objects) x (let e = k .things-size in omega arith)))
-        ∙ ap (λ (a : ℕ). objectsOf (memoryOf mask cs (set ts (n .objects) x) a)) next;
+        ∙ sym (add-of (memoryOf setting cs ts (n .objects)) (x .mask) (past-fresh k) zero-out)
+        ∙ ap objectsOf (sym (memory-more setting cs ts (n .objects) x (let e = k .things-size in omega arith)))
+        ∙ ap (λ (a : ℕ). objectsOf (memoryOf setting cs (set ts (n .objects) x) a)) next;
     cells-fit = k .cells-fit;
     fresh-past = λ i p q. k .fresh-past i (omega arith) q;
     numbers = λ o l. at o l (ℕ-discrete o (n .objects));
@@ -153,7 +154,7 @@ module _ {mask : ℕ} {cs : List Cell} {ts : List Object} {n : Counts} {s : mach
           ap (λ (t : Object). t .thread) (getD-set-other ts (n .objects) o x noThing e) ∙ k .numbers o i ∙ sym (old o i)
 
   -- a cell is stored to as it is
-  pub kept-same : (i : ℕ) → Kept mask (set cs i (getD cs i noCell)) ts n s
+  pub kept-same : (i : ℕ) → Kept setting (set cs i (getD cs i noCell)) ts n s
   kept-same i = rw (set-getD cs i noCell) k
 
 -- a mask of no fields

@@ -31,15 +31,18 @@ use Rattle.machine.proofs.Meaning.{redex, mean}
 use Rattle.machine.proofs.Runs.{Reached}
 use Rattle.machine.proofs.Standing.{standing}
 use Rattle.frames.specs.declared.go.Ready.{Ready}
+use Rattle.state.specs.declared.Setting.{Setting}
 use Rattle.state.specs.declared.Cell.{Cell}
 use Rattle.state.specs.declared.Object.{Object}
 use Rattle.state.specs.declared.Counts.{Counts}
 use Rattle.state.specs.declared.Entry.{Entry}
+use Rattle.look.specs.declared.Block.{Block}
+use Rattle.look.specs.declared.Block.the-variants as block
 use Rattle.look.specs.declared.Sight.{Sight}
 use Rattle.look.specs.declared.Sight.the-variants as sight
 use Rattle.look.specs.Look.{hasOf, objectOf}
 use Rattle.look.specs.Look as look
-use Rattle.settle.specs.Settle.{lackEntry}
+use Rattle.pick.specs.Pick.{lackEntry}
 use Rattle.engine.specs.Machine.{noCell, noThing}
 use Rattle.refinement.proofs.States.{cellMeant, CellFits, memoryOf, Kept}
 use Rattle.refinement.proofs.MemoryOf.{memory-cell, memory-mask}
@@ -65,17 +68,20 @@ Entered p e (some r) = Written p e r
 
 -- ---- what a look says
 
+-- a thread at part r that is blocked; no accepted plan comes to a part without a rule
+abbrev pub BlockedBy : Block → Ready → machine.Attempt → Type 0
+BlockedBy block.Finished r A = A ≡ machine.Attempt.finished (r .first)
+BlockedBy block.Monitor r A = A ≡ machine.Attempt.waiting (forMonitor (objectOf r))
+BlockedBy block.Join r A = A ≡ machine.Attempt.waiting (forJoin (objectOf r))
+BlockedBy block.Field r A = A ≡ machine.Attempt.stuck (missingField (objectOf r) (look.fieldOf r))
+BlockedBy block.Thread r A = A ≡ machine.Attempt.stuck (notThread (objectOf r))
+BlockedBy block.NoRule r A = ⊥
+
 -- thread p, at part r, sees w; where it is ready, Z holds of its move
 abbrev pub MeetsBy : Sight → ℕ → Ready → machine.Attempt → (machine.Move → Type 0) → Type 0
-MeetsBy sight.Absent p r A Z = A ≡ machine.Attempt.absent
-MeetsBy sight.Finished p r A Z = A ≡ machine.Attempt.finished (r .first)
 MeetsBy sight.Ready p r A Z = (v : machine.Move) × (A ≡ machine.Attempt.moves v) × Z v
-MeetsBy sight.Monitor p r A Z = A ≡ machine.Attempt.waiting (forMonitor (objectOf r))
-MeetsBy sight.Join p r A Z = A ≡ machine.Attempt.waiting (forJoin (objectOf r))
-MeetsBy sight.NoField p r A Z = A ≡ machine.Attempt.stuck (missingField (objectOf r) (look.fieldOf r))
-MeetsBy sight.NoThread p r A Z = A ≡ machine.Attempt.stuck (notThread (objectOf r))
-MeetsBy sight.NoRule p r A Z = ⊥
 MeetsBy sight.Lacking p r A Z = (x : Record) × (A ≡ machine.Attempt.lacking x) × (x .object ≡ objectOf r) × (x .field ≡ look.fieldOf r) × Written p (lackEntry r) x
+MeetsBy (sight.Blocked x) p r A Z = BlockedBy x r A
 
 -- ---- what is read
 
@@ -96,27 +102,27 @@ pub meant-value : (x : Bool) (c : Cell) → cellMeant x c .value ≡ c .value
 meant-value true c = refl
 meant-value false c = refl
 
-counted : (mask : ℕ) (cs : List Cell) (ts : List Object) (n o : ℕ) → o < n → o < memoryOf mask cs ts n .count
+counted : (setting : Setting) (cs : List Cell) (ts : List Object) (n o : ℕ) → o < n → o < memoryOf setting cs ts n .count
 unfolding memoryOf
-counted mask cs ts n o h = h
+counted setting cs ts n o h = h
 
-module _ {mask : ℕ} {cs : List Cell} {ts : List Object} {n : Counts} {s : machine.State} (k : Kept mask cs ts n s) where
+module _ {setting : Setting} {cs : List Cell} {ts : List Object} {n : Counts} {s : machine.State} (k : Kept setting cs ts n s) where
   pub lookup-cell : (o f : ℕ) → o < n .objects → o < 32 → 0 < f → f < 32
-      → machine.lookup s o f ≡ cond (hasOf (getD ts o noThing .mask) f) (some (cellMeant (hasOf mask f) (getD cs (o * 32 + f) noCell))) none
+      → machine.lookup s o f ≡ cond (hasOf (getD ts o noThing .mask) f) (some (cellMeant (hasOf (setting .mask) f) (getD cs (o * 32 + f) noCell))) none
   unfolding machine.lookup
   lookup-cell o f i p z q =
       ap (λ (l : List rules.Object). fieldOf (getElem? l o) f) (k .objects)
-      ∙ lookup-of (memoryOf mask cs ts (n .objects)) o f (counted mask cs ts (n .objects) o i) z q
+      ∙ lookup-of (memoryOf setting cs ts (n .objects)) o f (counted setting cs ts (n .objects) o i) z q
       ∙ ap₂ (λ (x : Bool) (c : rules.Cell). cond x (some c) none)
-      (ap (λ (a : ℕ). eqb (maskBit a f) 1) (memory-mask mask cs ts (n .objects) o i) ∙ sym (has-bit (getD ts o noThing .mask) f q))
-      (memory-cell mask cs ts (n .objects) o f p q)
+      (ap (λ (a : ℕ). eqb (maskBit a f) 1) (memory-mask setting cs ts (n .objects) o i) ∙ sym (has-bit (getD ts o noThing .mask) f q))
+      (memory-cell setting cs ts (n .objects) o f p q)
 
-  pub monitor-cell : (o : ℕ) → hasOf mask 0 ≡ true → o < n .objects → o < 32 → machine.monitor s o ≡ cellMeant true (getD cs (o * 32 + 0) noCell)
+  pub monitor-cell : (o : ℕ) → hasOf (setting .mask) 0 ≡ true → o < n .objects → o < 32 → machine.monitor s o ≡ cellMeant true (getD cs (o * 32 + 0) noCell)
   unfolding machine.monitor
   monitor-cell o v i p =
       ap (λ (l : List rules.Object). machine.cellOr (monitorOf (getElem? l o))) (k .objects)
-      ∙ ap machine.cellOr (monitor-of (memoryOf mask cs ts (n .objects)) o (counted mask cs ts (n .objects) o i))
-      ∙ memory-cell mask cs ts (n .objects) o 0 p (omega arith)
+      ∙ ap machine.cellOr (monitor-of (memoryOf setting cs ts (n .objects)) o (counted setting cs ts (n .objects) o i))
+      ∙ memory-cell setting cs ts (n .objects) o 0 p (omega arith)
       ∙ ap (λ (x : Bool). cellMeant x (getD cs (o * 32 + 0) noCell)) v
 
 -- ---- what a thread can do

@@ -12,7 +12,7 @@ use Rattle.keys.specs.declared.KeySet.{KeySet}
 use Rattle.keys.specs.Keys.{Keys, empty, isEmpty}
 use Rattle.keys.specs.KeySet.{keysOf, emptySet, joinOf, isEmptyOf}
 use Rattle.keys.proofs.KeySetLaws.{keys-empty, keys-is-empty, fits-empty, fits-join}
-use Rattle.packed.specs.Format.{volatiles, terms}
+use Rattle.packed.specs.Format.{terms}
 use Rattle.packed.specs.Trees.{nodeAt, programOf}
 use Rattle.records.specs.Record.{entry}
 use Rattle.records.specs.Record as records
@@ -31,15 +31,15 @@ use Rattle.frames.specs.Parts.{Part as part}
 use Rattle.frames.specs.Going.{readyOf, goRun, goWant, goValue}
 use Rattle.state.specs.declared.Cell.{Cell}
 use Rattle.state.specs.declared.Counts.{Counts}
+use Rattle.look.specs.declared.Block.the-variants as block
 use Rattle.look.specs.declared.Sight.the-variants as sight
-use Rattle.state.specs.declared.acted.Room.the-variants as room
 use Rattle.look.specs.Look.{objectBy, fieldBy, lookSynch}
-use Rattle.state.specs.Acted.{entryOf, nothing, cellOf, actedOf}
+use Rattle.state.specs.Acted.{entryOf, noEntry, nothing, cellOf, actedOf}
 use Rattle.monitors.specs.Monitors.{holdFrame, actSynch, actHold}
 use Rattle.engine.specs.Machine as engine
 use Rattle.engine.specs.Machine.{noCell, headAt}
 use Rattle.refinement.proofs.Meant.{closed, IsExpression}
-use Rattle.refinement.proofs.States.{cellMeant, CellFits, Kept, Headed, Related}
+use Rattle.refinement.proofs.States.{settingOf, cellMeant, CellFits, Kept, Headed, Related}
 use Rattle.refinement.proofs.Tests.{test-true, test-false}
 use Rattle.refinement.proofs.KeptLaws.{kept-changed, kept-past, kept-monitor}
 use Rattle.refinement.proofs.Looks.{MeetsBy, monitor-bit, monitor-cell, ready-there}
@@ -63,11 +63,11 @@ module _ {b : List ℕ} {m : engine.Machine} {s : machine.State} {p : ℕ} (move
 
   -- a monitor is stored to
   monitor-stored : (o i : ℕ) (c : Cell) (x : rules.Cell) → i ≡ o * 32 + 0 → cellMeant true c ≡ x → CellFits c → o < n .objects → o < 32
-      → Kept (volatiles b) (set cs i c) (set ts (n .objects) nothing) n (machine.storeMonitor s o x)
+      → Kept (settingOf b) (set cs i c) (set ts (n .objects) nothing) n (machine.storeMonitor s o x)
   monitor-stored o i c x ei e fit o-there ho =
       let z = kept-past (kept-monitor k o c (monitor-bit b ok) o-there ho fit) nothing in
-      let z₁ = along (λ (a : ℕ). Kept (volatiles b) (set cs a c) (set ts (n .objects) nothing) n (machine.storeMonitor s o (cellMeant true c))) (sym ei) z in
-      along (λ (x : rules.Cell). Kept (volatiles b) (set cs i c) (set ts (n .objects) nothing) n (machine.storeMonitor s o x)) e z₁
+      let z₁ = along (λ (a : ℕ). Kept (settingOf b) (set cs a c) (set ts (n .objects) nothing) n (machine.storeMonitor s o (cellMeant true c))) (sym ei) z in
+      along (λ (x : rules.Cell). Kept (settingOf b) (set cs i c) (set ts (n .objects) nothing) n (machine.storeMonitor s o x)) e z₁
 
   -- E-RE-ENTER, E-ACQUIRE
   pub synch-meets : (o u w environment i : ℕ) → i ≡ o * 32 + 0 → Well S → o < 32 → IsExpression b u → t .code ≡ frames.Found.here S (frames.Ready.synch o (closed u environment))
@@ -99,15 +99,15 @@ module _ {b : List ℕ} {m : engine.Machine} {s : machine.State} {p : ℕ} (move
       acted = ap (machine.synchAct s p t o (closed u environment)) found
 
       by : (x y : Bool) → isEmpty (keysOf (c .keys)) ≡ x → eqb (c .value) (t .self) ≡ y
-          → MeetsBy (cond x (cond y sight.Ready sight.Monitor) sight.Ready) p (readyOf part.Synch o u w environment) (machine.attempt (tableOf b) s p)
+          → MeetsBy (cond x (cond y sight.Ready (sight.Blocked block.Monitor)) sight.Ready) p (readyOf part.Synch o u w environment) (machine.attempt (tableOf b) s p)
           (Acts mover (readyOf part.Synch o u w environment) i (cond x
-          (actedOf room.Enough (goRun u environment) n ks c (entryOf 0 0 0 0))
-          (actedOf room.Enough (goWant (holdFrame environment o) u) n (joinOf ks (c .keys)) c′ (entryOf 6 o 0 0))))
+          (actedOf (goRun u environment) n ks c noEntry)
+          (actedOf (goWant (holdFrame environment o) u) n (joinOf ks (c .keys)) c′ (entryOf (records.kindNumber records.Kind.acquire) o 0 0))))
       by true true e q = (
         _,
         attempts mover (frames.Ready.synch o (closed u environment)) code
             (acted ∙ test-true (isEmpty (keysOf (c .keys))) _ _ e ∙ test-true (eqb (c .value) (t .self)) _ _ q),
-        plain mover _ i e-re-enter (enter (nodeAt b) (terms b) S (closed u environment)) (goRun u environment) refl (well, hu, refl),
+        plain mover _ i e-re-enter (enter (nodeAt b) (terms b) S (closed u environment)) (goRun u environment) refl refl (well, hu, refl),
       )
       by true false e q =
           attempts mover (frames.Ready.synch o (closed u environment)) code
@@ -118,7 +118,7 @@ module _ {b : List ℕ} {m : engine.Machine} {s : machine.State} {p : ℕ} (move
         attempts mover (frames.Ready.synch o (closed u environment)) code (acted ∙ test-false (isEmpty (keysOf (c .keys))) _ _ e),
         moved mover _ i e-acquire (some (entry records.Kind.acquire p o 0 0)) (machine.learn (machine.storeMonitor s o (rules.cell empty (t .self))) p (keysOf (c .keys)))
             (enter (nodeAt b) (terms b) (frames.Frame.hold o ∷ S) (closed u environment)) (goWant (holdFrame environment o) u) n
-            (joinOf ks (c .keys)) c′ nothing (entryOf 6 o 0 0) refl (written mover records.Kind.acquire o 0 0 ho (omega arith) (omega arith)) refl
+            (joinOf ks (c .keys)) c′ nothing (entryOf (records.kindNumber records.Kind.acquire) o 0 0) refl (written mover records.Kind.acquire o 0 0 ho (omega arith) (omega arith)) refl
             (record { first-fits = omega arith; second-fits = omega arith; member-fits = omega arith; count-fits = omega arith; sorted = ho }, well, hu, refl)
             (fits-join fits (fit .keys)) (learnt mover (keysOf (c .keys)) _ (joined mover (c .keys) (fit .keys)))
             (kept-changed (monitor-stored o i c′ _ ei (ap₂ rules.cell keys-empty (ap (λ (a : ℕ). a % 32) same ∙ mod-eq-of-lt self-fits)) (record { key = omega arith; keys = fits-empty }) o-there ho) p _ (λ x. refl)),
@@ -132,7 +132,7 @@ module _ {b : List ℕ} {m : engine.Machine} {s : machine.State} {p : ℕ} (move
     _,
     attempts mover (frames.Ready.hold o v) code refl,
     moved mover _ i e-release (some (entry records.Kind.release p o 0 0)) (machine.storeMonitor s o (rules.cell (t .keys) 0)) (up (nodeAt b) (terms b) S v) (goValue v) n
-        ks (cellOf 0 0 ks) nothing (entryOf 7 o 0 0) refl (written mover records.Kind.release o 0 0 ho (omega arith) (omega arith)) refl
+        ks (cellOf 0 0 ks) nothing (entryOf (records.kindNumber records.Kind.release) o 0 0) refl (written mover records.Kind.release o 0 0 ho (omega arith) (omega arith)) refl
         (well, hv, refl) fits (unlearnt mover)
         (monitor-stored o i (cellOf 0 0 ks) _ ei (ap (λ (K : Keys). rules.cell K 0) known) (record { key = omega arith; keys = fits })
         (object-there mover o (ready-there b s p t reach there S (frames.Ready.hold o v) code .0)) ho),

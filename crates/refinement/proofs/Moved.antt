@@ -12,7 +12,6 @@ use lib.Dec.{ltb}
 use lib.ListN.{length, getD, set, getElem?, drop, length-set}
 use lib.Seq.{getD-set-same, getD-set-other}
 use Rattle.keys.specs.KeySet.{keysOf}
-use Rattle.packed.specs.Format.{volatiles}
 use Rattle.rules.specs.State.{changeAt}
 use Rattle.rules.specs.Room as rooms
 use Rattle.rules.proofs.StateLaws.{inside, added, change-same, change-other, change-length}
@@ -20,43 +19,31 @@ use Rattle.machine.specs.Frames.{height}
 use Rattle.machine.specs.Machine as machine
 use Rattle.machine.specs.Playing as playing
 use Rattle.frames.specs.Going.{goFull}
-use Rattle.landing.specs.Landing.{Ended, ended, frameAt, landOf}
+use Rattle.landing.specs.Landing.{Stack, Ended, ended, frameAt, landOf}
 use Rattle.state.specs.declared.Head.{Head}
 use Rattle.state.specs.declared.Counts.{Counts}
 use Rattle.state.specs.declared.acted.Acted.{Acted}
-use Rattle.settle.specs.declared.Answer.{Answer}
-use Rattle.settle.specs.declared.Answer.the-variants as answer
-use Rattle.settle.specs.Settle.{forksOf, fullOf, moverOf, bornOf, entryBy}
+use Rattle.pick.specs.declared.Met.{Met}
+use Rattle.pick.specs.declared.Move.{Move}
+use Rattle.pick.specs.Pick.{noHead, forksOf, fullOf, moverOf, bornOf, moveOf, landMover, youngGo, landYoung}
 use Rattle.engine.specs.Machine as engine
-use Rattle.engine.specs.Machine.{noHead, headAt, cellNumber, actedBy, Finished, youngOf, after}
+use Rattle.engine.specs.Machine.{headAt, cellNumber, after}
 use Rattle.refinement.proofs.Meant.{Loaded, Sized, Lands}
 use Rattle.refinement.proofs.FrameLaws.{holds-same}
 use Rattle.refinement.proofs.Landing.{landed}
-use Rattle.refinement.proofs.States.{Kept, Headed, Related}
-use Rattle.refinement.proofs.Moves.{withYoung, moverIn, Mover, Born, Does}
+use Rattle.refinement.proofs.States.{settingOf, Kept, Headed, Related}
+use Rattle.refinement.proofs.Moves.{withYoung, moverIn, Mover, Born, Does, met}
 use Rattle.refinement.proofs.Moving.{few-threads}
 use Rattle.refinement.proofs.Depths.{found-full, found-at}
 use Rattle.refinement.proofs.RoomAfter.{youngDeep, room-after}
 
--- the landing of the mover, and of the thread that it makes
-abbrev pub landMover : List ℕ → List ℕ → ℕ → engine.Machine → ℕ → Ended
-landMover ws rs mask m p = landOf 2100 ws rs (p * 33) (m .stack) (actedBy mask m p .go) (headAt (m .heads) p .depth % 33)
+-- the landing of the thread that a fork makes, behind that of the mover; another move makes none
+abbrev pub landed-young : List ℕ → List ℕ → Met → Ended → Bool → Ended
+landed-young ws rs x l forks = cond forks (landYoung ws rs x (l .stack)) (ended (l .stack) goFull 0)
 
-abbrev pub landYoung : List ℕ → List ℕ → ℕ → engine.Machine → ℕ → Ended
-landYoung ws rs mask m p = youngOf ws rs (m .tally .counts) (headAt (m .heads) p) (actedBy mask m p) (landMover ws rs mask m p .stack)
-
--- what the pick comes to, where its answer is z
-unfoldable pub turnedBy : List ℕ → List ℕ → ℕ → engine.Machine → ℕ → Answer → Finished
-turnedBy ws rs mask m p z =
-    record {
-      stack = landYoung ws rs mask m p .stack;
-      turn = record {
-        answer = z;
-        entry = entryBy z (headAt (m .heads) p .ready) (actedBy mask m p);
-        landed = landMover ws rs mask m p .landed;
-        born = landYoung ws rs mask m p .landed;
-      };
-    }
+-- what the move leaves
+abbrev pub left : List ℕ → List ℕ → Met → Acted → Stack → Bool → Move
+left ws rs x a k forks = moveOf x a (landMover ws rs x a k .landed) (bornOf x (landed-young ws rs x (landMover ws rs x a k) forks .landed)) forks
 
 -- the heads, where a thread was made and where none was
 young-size : (x : Bool) (l : List Head) (q : ℕ) (y : Head) → length (engine.withYoung x l q y) ≡ length l
@@ -67,12 +54,12 @@ young-other : (x : Bool) (l : List Head) (i : ℕ) (y : Head) (q : ℕ) → (q �
 young-other true l i y q e = getD-set-other l i q y noHead e
 young-other false l i y q e = refl
 
-module _ {b ws rs : List ℕ} (loaded : Loaded b ws rs) {m : engine.Machine} {s : machine.State} {p : ℕ} (mover : Mover b m s p) {v : machine.Move}
-    (D : Does mover (headAt (m .heads) p .ready) (cellNumber (headAt (m .heads) p .ready)) (actedBy (volatiles b) m p) v) where
+module _ {b ws rs : List ℕ} (loaded : Loaded b ws rs) {m : engine.Machine} {s : machine.State} {p : ℕ} (mover : Mover b m s p) {v : machine.Move} (a : Acted)
+    (D : Does mover (headAt (m .heads) p .ready) (cellNumber (headAt (m .heads) p .ready)) a v) where
   open Mover mover using (ok, related as rel, reached as reach, thread as t, there, headed as H)
 
-  abbrev a : Acted
-  a = actedBy (volatiles b) m p
+  abbrev X : Met
+  X = met m p
 
   abbrev h : Head
   h = headAt (m .heads) p
@@ -80,14 +67,17 @@ module _ {b ws rs : List ℕ} (loaded : Loaded b ws rs) {m : engine.Machine} {s 
   abbrev n : Counts
   n = m .tally .counts
 
+  abbrev forks : Bool
+  forks = forksOf h
+
   abbrev L : Ended
-  L = landMover ws rs (volatiles b) m p
+  L = landMover ws rs X a (m .stack)
 
   abbrev Y : Ended
-  Y = landYoung ws rs (volatiles b) m p
+  Y = landed-young ws rs X L forks
 
   abbrev youngFull : Bool
-  youngFull = forksOf a && fullOf (Y .landed)
+  youngFull = forks && fullOf (Y .landed)
 
   -- the mover after its move, and the threads that were there
   abbrev gone : machine.Thread → machine.Thread
@@ -115,12 +105,11 @@ module _ {b ws rs : List ℕ} (loaded : Loaded b ws rs) {m : engine.Machine} {s 
     sized : Sized b (Y .stack)
     others : (i : ℕ) → i < n .threads * 33 → frameAt (Y .stack) i ≡ frameAt (L .stack) i
     full : youngFull ≡ youngDeep young
-    head : (y : machine.Thread) → young ≡ some y → youngFull ≡ false → Headed b (Y .stack) (n .threads * 33) (bornOf n h (Y .landed)) y
+    head : (y : machine.Thread) → young ≡ some y → youngFull ≡ false → Headed b (Y .stack) (n .threads * 33) (bornOf X (Y .landed)) y
 
-  second : (young : Option machine.Thread) → Born mover (h .ready) a young → Second young
-  unfolding youngOf
+  second : (young : Option machine.Thread) → Born mover (h .ready) young → Second young
   second none k =
-      let q : Y ≡ ended (L .stack) goFull 0 = ap (λ (x : Bool). cond x (landOf 2100 ws rs (n .threads % 9 * 33) (L .stack) (engine.youngGo h) 0) (ended (L .stack) goFull 0)) k in
+      let q : Y ≡ ended (L .stack) goFull 0 = ap (landed-young ws rs X L) k in
       record {
         sized = along (λ (E : Ended). Sized b (E .stack)) (sym q) (lands .sized);
         others = λ i l. ap (λ (E : Ended). frameAt (E .stack) i) q;
@@ -129,19 +118,19 @@ module _ {b ws rs : List ℕ} (loaded : Loaded b ws rs) {m : engine.Machine} {s 
       }
   second (some y) (k, few, o, known, goes) =
       let e : n .threads % 9 ≡ n .threads = mod-eq-of-lt (omega arith) in
-      let q : landOf 2100 ws rs (n .threads % 9 * 33) (L .stack) (engine.youngGo h) 0 ≡ Y =
-      ap (λ (x : Bool). cond x (landOf 2100 ws rs (n .threads % 9 * 33) (L .stack) (engine.youngGo h) 0) (ended (L .stack) goFull 0)) (sym k) in
+      let q : landOf 2100 ws rs (n .threads % 9 * 33) (L .stack) (youngGo h) 0 ≡ Y =
+      ap (landed-young ws rs X L) (sym k) in
       let lands′ : Lands b (L .stack) (n .threads * 33) (y .code) Y =
       along (λ (E : Ended). Lands b (L .stack) (n .threads * 33) (y .code) E) q
-      (along (λ (c : ℕ). Lands b (L .stack) (c * 33) (y .code) (landOf 2100 ws rs (n .threads % 9 * 33) (L .stack) (engine.youngGo h) 0)) e
-      (landed b ws rs ok loaded (n .threads % 9 * 33) (L .stack) (lands .sized) (omega arith) [] tt (engine.youngGo h) 0 refl (omega arith) (y .code) goes)) in
+      (along (λ (c : ℕ). Lands b (L .stack) (c * 33) (y .code) (landOf 2100 ws rs (n .threads % 9 * 33) (L .stack) (youngGo h) 0)) e
+      (landed b ws rs ok loaded (n .threads % 9 * 33) (L .stack) (lands .sized) (omega arith) [] tt (youngGo h) 0 refl (omega arith) (y .code) goes)) in
       record {
         sized = lands′ .sized;
         others = λ i l. lands′ .others i (inl l);
         full = ap (λ (x : Bool). x && fullOf (Y .landed)) k ∙ found-full b (Y .landed .stage) Y (n .threads * 33) (y .code) (lands′ .found);
         head = λ y′ z f.
             let same : y ≡ y′ = cc in
-            along (λ (y′ : machine.Thread). Headed b (Y .stack) (n .threads * 33) (bornOf n h (Y .landed)) y′) same
+            along (λ (y′ : machine.Thread). Headed b (Y .stack) (n .threads * 33) (bornOf X (Y .landed)) y′) same
             (let F = found-at b (Y .landed .stage) Y (n .threads * 33) (y .code) (lands′ .found) (ap (λ (x : Bool). x && fullOf (Y .landed)) (sym k) ∙ f) in
             record { stack = F .0; held = F .1; depth = F .2; shallow = F .3; stands = F .4; object = o; keys = known; keys-fit = H .keys-fit });
       }
@@ -167,37 +156,37 @@ module _ {b ws rs : List ℕ} (loaded : Loaded b ws rs) {m : engine.Machine} {s 
   -- ---- the state after the move
 
   abbrev heads₁ : List Head
-  heads₁ = engine.withYoung (forksOf a) (m .heads) (n .threads % 9) (bornOf n h (Y .landed))
+  heads₁ = engine.withYoung (forks) (m .heads) (n .threads % 9) (bornOf X (Y .landed))
 
   abbrev heads′ : List Head
-  heads′ = set heads₁ p (moverOf a h (L .landed))
+  heads′ = set heads₁ p (moverOf X a (L .landed))
 
   mod-threads : n .threads % 9 ≡ n .threads
   mod-threads = let x = few-threads mover in mod-eq-of-lt (omega arith)
 
   -- the mover's head, a new thread's, and any other's
-  head-mover : headAt heads′ p ≡ moverOf a h (L .landed)
-  head-mover = getD-set-same heads₁ p (moverOf a h (L .landed)) noHead (let x = rel .heads-size in let y = young-size (forksOf a) (m .heads) (n .threads % 9) (bornOf n h (Y .landed)) in omega arith)
+  head-mover : headAt heads′ p ≡ moverOf X a (L .landed)
+  head-mover = getD-set-same heads₁ p (moverOf X a (L .landed)) noHead (let x = rel .heads-size in let y = young-size (forks) (m .heads) (n .threads % 9) (bornOf X (Y .landed)) in omega arith)
 
-  head-young : forksOf a ≡ true → headAt heads′ (n .threads) ≡ bornOf n h (Y .landed)
+  head-young : forks ≡ true → headAt heads′ (n .threads) ≡ bornOf X (Y .landed)
   head-young k =
       let l = here in
       let z = few-threads mover in
       let x = rel .heads-size in
-      getD-set-other heads₁ p (n .threads) (moverOf a h (L .landed)) noHead (λ e. omega arith)
+      getD-set-other heads₁ p (n .threads) (moverOf X a (L .landed)) noHead (λ e. omega arith)
       ∙ ap (λ (i : ℕ). getD heads₁ i noHead) (sym mod-threads)
-      ∙ ap (λ (x : Bool). getD (engine.withYoung x (m .heads) (n .threads % 9) (bornOf n h (Y .landed))) (n .threads % 9) noHead) k
-      ∙ getD-set-same (m .heads) (n .threads % 9) (bornOf n h (Y .landed)) noHead (omega (arith, mod-threads))
+      ∙ ap (λ (x : Bool). getD (engine.withYoung x (m .heads) (n .threads % 9) (bornOf X (Y .landed))) (n .threads % 9) noHead) k
+      ∙ getD-set-same (m .heads) (n .threads % 9) (bornOf X (Y .landed)) noHead (omega (arith, mod-threads))
 
   head-other : (q : ℕ) → (q ≡ p → ⊥) → q < n .threads → headAt heads′ q ≡ headAt (m .heads) q
   head-other q e l =
-      getD-set-other heads₁ p q (moverOf a h (L .landed)) noHead e ∙ young-other (forksOf a) (m .heads) (n .threads % 9) (bornOf n h (Y .landed)) q (λ x. omega (arith, mod-threads))
+      getD-set-other heads₁ p q (moverOf X a (L .landed)) noHead e ∙ young-other (forks) (m .heads) (n .threads % 9) (bornOf X (Y .landed)) q (λ x. omega (arith, mod-threads))
 
-  forked : (y : machine.Thread) → D .young ≡ some y → forksOf a ≡ true
-  forked y e = along (λ (young : Option machine.Thread). Born mover (h .ready) a young) e (D .born) .0
+  forked : (y : machine.Thread) → D .young ≡ some y → forks ≡ true
+  forked y e = along (λ (young : Option machine.Thread). Born mover (h .ready) young) e (D .born) .0
 
   -- its frames are as they were, or as the first landing left them
-  mover-headed : fullOf (L .landed) ≡ false → Headed b (Y .stack) (p * 33) (moverOf a h (L .landed)) (gone t)
+  mover-headed : fullOf (L .landed) ≡ false → Headed b (Y .stack) (p * 33) (moverOf X a (L .landed)) (gone t)
   mover-headed f =
       let F = found-at b (L .landed .stage) L (p * 33) (D .code) (lands .found) f in
       let sh = F .3 in
@@ -271,13 +260,12 @@ module _ {b ws rs : List ℕ} (loaded : Loaded b ws rs) {m : engine.Machine} {s 
               (along (λ (q : ℕ). Headed b (Y .stack) (q * 33) (headAt heads′ q) y) c
               (along (λ (h : Head). Headed b (Y .stack) (n .threads * 33) h y) (sym (head-young (forked y e))) (two .head y e fy)))
 
-  pub related-after : fullOf (L .landed) ≡ false → youngFull ≡ false → Related b (after m p a (turnedBy ws rs (volatiles b) m p answer.Moved)) (v .state)
-  unfolding turnedBy
+  pub related-after : fullOf (L .landed) ≡ false → youngFull ≡ false → Related b (after m p (left ws rs X a (m .stack) forks) (Y .stack)) (v .state)
   related-after fl fy = record {
-    heads-size = length-set heads₁ p (moverOf a h (L .landed)) ∙ young-size (forksOf a) (m .heads) (n .threads % 9) (bornOf n h (Y .landed)) ∙ rel .heads-size;
+    heads-size = length-set heads₁ p (moverOf X a (L .landed)) ∙ young-size forks (m .heads) (n .threads % 9) (bornOf X (Y .landed)) ∙ rel .heads-size;
     sized = two .sized;
     kept =
-        along (λ (i : ℕ). Kept (volatiles b) (set (m .cells) (cellNumber (h .ready)) (a .cell)) (set (m .objects) i (a .thing)) (a .counts) (v .state))
+        along (λ (i : ℕ). Kept (settingOf b) (set (m .cells) (cellNumber (h .ready)) (a .cell)) (set (m .objects) i (a .thing)) (a .counts) (v .state))
         (sym (mod-eq-of-lt (let x = few-objects in omega arith))) (D .kept);
     each = λ q u g. each-after (D .young) refl fl fy q u (ap (λ (xs : List machine.Thread). getElem? xs q) (sym (D .threads)) ∙ g);
   }

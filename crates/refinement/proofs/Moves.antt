@@ -8,7 +8,6 @@ use lib.ListN.{set, getElem?}
 use Rattle.keys.specs.Keys.{Keys}
 use Rattle.keys.specs.KeySet.{keysOf}
 use Rattle.keys.proofs.KeySetLaws.{Fits}
-use Rattle.packed.specs.Format.{volatiles}
 use Rattle.packed.specs.Trees.{programOf}
 use Rattle.packed.specs.Check.{refusal}
 use Rattle.rules.specs.State.{changeAt}
@@ -18,25 +17,29 @@ use Rattle.machine.specs.Machine as machine
 use Rattle.machine.specs.Playing.{tableOf}
 use Rattle.machine.specs.Playing as playing
 use Rattle.machine.proofs.Runs.{Reached}
+use Rattle.frames.specs.Parts.{Part as part, isPart}
 use Rattle.frames.specs.declared.go.Ready.{Ready}
 use Rattle.frames.specs.Going.{goRun}
-use Rattle.state.specs.declared.acted.Room.{Room}
-use Rattle.state.specs.declared.acted.Room.the-variants as room
+use Rattle.run_outcome.specs.declared.NoRoom.{NoRoom}
+use Rattle.run_outcome.specs.declared.NoRoom.the-variants as room
+use Rattle.state.specs.declared.acted.Act.{Act}
+use Rattle.state.specs.declared.acted.Act.the-variants as act
 use Rattle.state.specs.declared.acted.Acted.{Acted}
-use Rattle.settle.specs.Settle.{forksOf}
+use Rattle.look.specs.Look.{objectOf}
+use Rattle.pick.specs.declared.Met.{Met}
+use Rattle.pick.specs.Pick.{actMet}
 use Rattle.engine.specs.Machine as engine
-use Rattle.engine.specs.Machine.{headAt, cellNumber, actedBy}
+use Rattle.engine.specs.Machine.{headAt, cellNumber, metAt}
 use Rattle.refinement.proofs.Meant.{Goes}
-use Rattle.refinement.proofs.States.{Kept, Headed, Related}
+use Rattle.refinement.proofs.States.{settingOf, Kept, Headed, Related}
 use Rattle.refinement.proofs.Looks.{Entered}
 
 -- what there is no room for
-abbrev pub roomMeant : Room → Option rooms.Room
-roomMeant room.Enough = none
-roomMeant room.NoThread = some rooms.Room.thread
-roomMeant room.NoObject = some rooms.Room.object
-roomMeant room.NoKey = some rooms.Room.key
-roomMeant room.NoDepth = some rooms.Room.depth
+abbrev pub roomMeant : NoRoom → rooms.Room
+roomMeant room.Thread = rooms.Room.thread
+roomMeant room.Object = rooms.Room.object
+roomMeant room.Key = rooms.Room.key
+roomMeant room.Depth = rooms.Room.depth
 
 -- the threads, with a new one
 abbrev pub withYoung : List machine.Thread → Option machine.Thread → List machine.Thread
@@ -59,35 +62,33 @@ pub record Mover (b : List ℕ) (m : engine.Machine) (s : machine.State) (p : �
 
 module _ {b : List ℕ} {m : engine.Machine} {s : machine.State} {p : ℕ} (mover : Mover b m s p) where
   -- the new thread, if the move is a fork
-  abbrev pub Born : Ready → Acted → Option machine.Thread → Type 0
-  Born r a none = forksOf a ≡ false
-  Born r a (some y) =
-      (forksOf a ≡ true) × (m .tally .counts .threads < 8) × (m .tally .counts .objects ≡ y .self) × (keysOf (headAt (m .heads) p .keys) ≡ y .keys) × Goes b (goRun (r .first) (r .environment)) [] (y .code)
+  abbrev pub Born : Ready → Option machine.Thread → Type 0
+  Born r none = isPart part.Fork (r .part) ≡ false
+  Born r (some y) =
+      (isPart part.Fork (r .part) ≡ true) × (m .tally .counts .threads < 8) × (m .tally .counts .objects ≡ y .self) × (keysOf (headAt (m .heads) p .keys) ≡ y .keys) × Goes b (goRun (r .first) (r .environment)) [] (y .code)
 
-  -- the thread, at part r, makes the move v: a is what the code does, with cell i
+  -- the thread, at part r, makes the move v, for which there is room: a is what the code does, with cell i
   pub record Does (r : Ready) (i : ℕ) (a : Acted) (v : machine.Move) : Type 0 where
+    pub lacks : playing.noRoomBefore s (v .rule) ≡ none
     pub entered : Entered p (a .entry) (v .entry)
     pub code : frames.Found
     pub goes : Goes b (a .go) (mover .headed .stack) code
     pub young : Option machine.Thread
-    pub born : Born r a young
+    pub born : Born r young
     pub threads : v .state .threads ≡ withYoung (changeAt (s .threads) p (moverIn code (keysOf (a .keys)))) young
     pub keys-fit : Fits (a .keys)
-    pub kept : Kept (volatiles b) (set (m .cells) i (a .cell)) (set (m .objects) (m .tally .counts .objects) (a .thing)) (a .counts) (v .state)
+    pub kept : Kept (settingOf b) (set (m .cells) i (a .cell)) (set (m .objects) (m .tally .counts .objects) (a .thing)) (a .counts) (v .state)
 
-  abbrev pub DoesBy : Room → Ready → ℕ → Acted → machine.Move → Type 0
-  DoesBy room.Enough r i a v = Does r i a v
-  DoesBy room.NoThread r i a v = Unit {0}
-  DoesBy room.NoObject r i a v = Unit {0}
-  DoesBy room.NoKey r i a v = Unit {0}
-  DoesBy room.NoDepth r i a v = Unit {0}
+  -- the move, or the room that it lacks
+  abbrev pub Acts : Ready → ℕ → Act → machine.Move → Type 0
+  Acts r i (act.Done a) v = Does r i a v
+  Acts r i (act.NoRoom R) v = playing.noRoomBefore s (v .rule) ≡ some (roomMeant R)
 
-  -- the room before the move, and where it is enough the move
-  pub record Acts (r : Ready) (i : ℕ) (a : Acted) (v : machine.Move) : Type 0 where
-    pub lacks : playing.noRoomBefore s (v .rule) ≡ roomMeant (a .room)
-    pub does : DoesBy (a .room) r i a v
+-- what a pick of thread p meets
+abbrev pub met : engine.Machine → ℕ → Met
+met m p = metAt (m .tally .counts) (m .heads) (m .cells) (m .objects) p (cellNumber (headAt (m .heads) p .ready)) (objectOf (headAt (m .heads) p .ready))
 
 -- thread p is there, and what the code does is its move v
 pub record Ahead (b : List ℕ) (m : engine.Machine) (s : machine.State) (p : ℕ) (v : machine.Move) : Type 0 where
   pub mover : Mover b m s p
-  pub acts : Acts mover (headAt (m .heads) p .ready) (cellNumber (headAt (m .heads) p .ready)) (actedBy (volatiles b) m p) v
+  pub acts : Acts mover (headAt (m .heads) p .ready) (cellNumber (headAt (m .heads) p .ready)) (actMet (settingOf b) (met m p)) v

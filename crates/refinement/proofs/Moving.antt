@@ -6,13 +6,11 @@ use mathlib.Core.Bool.{false}
 use mathlib.Core.List.{List}
 use mathlib.Core.Option.{Option, none}
 use lib.Bits.{or-comm}
-use lib.Dec.{eqb}
 use lib.ListN.{length, getD, set}
 use Rattle.keys.specs.declared.KeySet.{KeySet}
 use Rattle.keys.specs.Keys.{Keys, union}
 use Rattle.keys.specs.KeySet.{keysOf, joinOf}
 use Rattle.keys.proofs.KeySetLaws.{Fits, keys-join}
-use Rattle.packed.specs.Format.{volatiles}
 use Rattle.records.specs.Record.{Record, entry}
 use Rattle.records.specs.Record as records
 use Rattle.rules.specs.State.{changeAt}
@@ -21,6 +19,7 @@ use Rattle.machine.specs.Frames as frames
 use Rattle.machine.specs.Machine as machine
 use Rattle.machine.specs.Playing.{tableOf}
 use Rattle.machine.specs.Playing as playing
+use Rattle.frames.specs.Parts.{Part as part, isPart}
 use Rattle.frames.specs.declared.go.Ready.{Ready}
 use Rattle.frames.specs.declared.go.Go.{Go}
 use Rattle.state.specs.declared.Head.{Head}
@@ -28,15 +27,14 @@ use Rattle.state.specs.declared.Cell.{Cell}
 use Rattle.state.specs.declared.Object.{Object}
 use Rattle.state.specs.declared.Counts.{Counts}
 use Rattle.state.specs.declared.Entry.{Entry}
-use Rattle.state.specs.declared.acted.Room.the-variants as room
-use Rattle.state.specs.Acted.{entryOf, nothing, actedOf}
+use Rattle.state.specs.Acted.{entryOf, noEntry, nothing, actedOf}
 use Rattle.engine.specs.Machine as engine
 use Rattle.engine.specs.Machine.{noCell, headAt}
 use Rattle.refinement.proofs.Meant.{Goes}
-use Rattle.refinement.proofs.States.{Kept, Headed, Related}
+use Rattle.refinement.proofs.States.{settingOf, Kept, Headed, Related}
 use Rattle.refinement.proofs.KeptLaws.{kept-changed, kept-past, kept-same}
 use Rattle.refinement.proofs.Looks.{Written, Entered, attempt-act}
-use Rattle.refinement.proofs.Moves.{Mover, Acts}
+use Rattle.refinement.proofs.Moves.{Mover, Does, Acts}
 use Rattle.refinement.proofs.ChangeLaws.{change-agree, change-none, change-twice}
 
 -- a thread that knows the keys K
@@ -79,30 +77,28 @@ module _ {b : List ℕ} {m : engine.Machine} {s : machine.State} {p : ℕ} (move
 
   -- a move that forks no thread
   pub moved : (r₀ : Ready) (i : ℕ) (R : Rule) (r : Option Record) (s′ : machine.State) (F : frames.Found) (g : Go) (n′ : Counts) (ks′ : KeySet) (c : Cell) (x : Object) (e : Entry)
-      → playing.noRoomBefore s R ≡ none → Entered p e r → eqb (e .kind) 8 ≡ false → Goes b g S F → Fits ks′
-      → s′ .threads ≡ changeAt (s .threads) p (knowing (keysOf ks′)) → Kept (volatiles b) (set cs i c) (set ts (n .objects) x) n′ s′
-      → Acts mover r₀ i (record { room = room.Enough; go = g; keys = ks′; cell = c; thing = x; counts = n′; entry = e }) (record { rule = R; entry = r; state = machine.become s′ p F })
+      → playing.noRoomBefore s R ≡ none → Entered p e r → isPart part.Fork (r₀ .part) ≡ false → Goes b g S F → Fits ks′
+      → s′ .threads ≡ changeAt (s .threads) p (knowing (keysOf ks′)) → Kept (settingOf b) (set cs i c) (set ts (n .objects) x) n′ s′
+      → Does mover r₀ i (record { go = g; keys = ks′; cell = c; thing = x; counts = n′; entry = e }) (record { rule = R; entry = r; state = machine.become s′ p F })
   unfolding machine.become
-  moved r₀ i R r s′ F g n′ ks′ c x e lack ent kind goes fit threads kept = record {
+  moved r₀ i R r s′ F g n′ ks′ c x e lack ent forks goes fit threads kept = record {
     lacks = lack;
-    does = record {
-      entered = ent;
-      code = F;
-      goes = goes;
-      young = none;
-      born = kind;
-      threads =
-          ap (λ (xs : List machine.Thread). changeAt xs p (λ x. record { self = x .self; code = F; keys = x .keys })) threads
-          ∙ change-twice (s .threads) p (knowing (keysOf ks′)) (λ x. record { self = x .self; code = F; keys = x .keys });
-      keys-fit = fit;
-      kept = kept-changed kept p _ (λ x. refl);
-    };
+    entered = ent;
+    code = F;
+    goes = goes;
+    young = none;
+    born = forks;
+    threads =
+        ap (λ (xs : List machine.Thread). changeAt xs p (λ x. record { self = x .self; code = F; keys = x .keys })) threads
+        ∙ change-twice (s .threads) p (knowing (keysOf ks′)) (λ x. record { self = x .self; code = F; keys = x .keys });
+    keys-fit = fit;
+    kept = kept-changed kept p _ (λ x. refl);
   }
 
   -- a move that leaves the memory and the keys as they are, and no record
-  pub plain : (r₀ : Ready) (i : ℕ) (R : Rule) (F : frames.Found) (g : Go) → playing.noRoomBefore s R ≡ none → Goes b g S F
-      → Acts mover r₀ i (actedOf room.Enough g n ks (getD cs i noCell) (entryOf 0 0 0 0)) (record { rule = R; entry = none; state = machine.become s p F })
-  plain r₀ i R F g lack goes = moved r₀ i R none s F g n ks (getD cs i noCell) nothing (entryOf 0 0 0 0) lack refl refl goes fits unlearnt (kept-past (kept-same k i) nothing)
+  pub plain : (r₀ : Ready) (i : ℕ) (R : Rule) (F : frames.Found) (g : Go) → isPart part.Fork (r₀ .part) ≡ false → playing.noRoomBefore s R ≡ none → Goes b g S F
+      → Acts mover r₀ i (actedOf g n ks (getD cs i noCell) noEntry) (record { rule = R; entry = none; state = machine.become s p F })
+  plain r₀ i R F g forks lack goes = moved r₀ i R none s F g n ks (getD cs i noCell) nothing noEntry lack refl forks goes fits unlearnt (kept-past (kept-same k i) nothing)
 
   pub few-threads : n .threads ≤ 8
   few-threads = let a = k .threads-count in let c = reach .limits .counts .few-threads in omega arith

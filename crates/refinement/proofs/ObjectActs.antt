@@ -14,7 +14,7 @@ use Rattle.keys.specs.declared.KeySet.{KeySet}
 use Rattle.keys.specs.Keys.{Keys, union}
 use Rattle.keys.specs.KeySet.{keysOf, joinOf}
 use Rattle.keys.proofs.KeySetLaws.{Fits, fits-join}
-use Rattle.packed.specs.Format.{volatiles, terms, maskBit, fieldsFrom}
+use Rattle.packed.specs.Format.{terms, maskBit, fieldsFrom}
 use Rattle.packed.specs.Trees.{nodeAt, programOf}
 use Rattle.records.specs.Record.{entry}
 use Rattle.records.specs.Record as records
@@ -35,16 +35,19 @@ use Rattle.frames.specs.Going.{readyOf, goValue}
 use Rattle.state.specs.declared.Head.{Head}
 use Rattle.state.specs.declared.Object.{Object}
 use Rattle.state.specs.declared.Counts.{Counts}
+use Rattle.run_outcome.specs.declared.NoRoom.the-variants as room
+use Rattle.state.specs.declared.acted.Act.the-variants as act
+use Rattle.look.specs.declared.Block.the-variants as block
 use Rattle.look.specs.declared.Sight.{Sight}
 use Rattle.look.specs.declared.Sight.the-variants as sight
-use Rattle.state.specs.declared.acted.Room.the-variants as room
 use Rattle.look.specs.Look.{objectBy, fieldBy, lookJoin}
 use Rattle.state.specs.Acted.{entryOf, nothing, countsOf, actedOf}
 use Rattle.objects.specs.Objects.{actNew, actFork, actJoin}
 use Rattle.engine.specs.Machine as engine
-use Rattle.engine.specs.Machine.{noHead, noCell, noThing, headAt}
+use Rattle.pick.specs.Pick.{noHead}
+use Rattle.engine.specs.Machine.{noCell, noThing, headAt}
 use Rattle.refinement.proofs.Meant.{closed, IsExpression}
-use Rattle.refinement.proofs.States.{numberOf, Kept, Headed, Related}
+use Rattle.refinement.proofs.States.{settingOf, numberOf, Kept, Headed, Related}
 use Rattle.refinement.proofs.Tests.{test-true, test-false}
 use Rattle.refinement.proofs.ThreadNumbers.{Strange, strange-number, added-number, other-number, found-thread}
 use Rattle.refinement.proofs.KeptLaws.{kept-changed, kept-past, kept-object, kept-same, no-fields, no-bit}
@@ -82,7 +85,7 @@ module _ {b : List ℕ} {m : engine.Machine} {s : machine.State} {p : ℕ} (move
       count : n .objects ≡ length (s .objects)
       count = k .objects-count
 
-      kept : n .objects < 32 → Kept (volatiles b) (set cs i (getD cs i noCell)) (set ts (n .objects) (record { mask = a; thread = 8 })) (countsOf (n .threads) (n .objects + 1) (n .keys)) (machine.addObject s (fieldsFrom a 0 32))
+      kept : n .objects < 32 → Kept (settingOf b) (set cs i (getD cs i noCell)) (set ts (n .objects) (record { mask = a; thread = 8 })) (countsOf (n .threads) (n .objects + 1) (n .keys)) (machine.addObject s (fieldsFrom a 0 32))
       kept h =
           kept-object (kept-same k i) (record { mask = a; thread = 8 }) (s .threads) (n .threads) h out (k .threads-count) (λ o l. refl)
           (ap numberOf (sym (strange-number (s .threads) 0 (n .objects) strange)))
@@ -93,25 +96,24 @@ module _ {b : List ℕ} {m : engine.Machine} {s : machine.State} {p : ℕ} (move
       by : (x : Bool) → leb 32 (n .objects) ≡ x
           → (v : machine.Move) × (machine.attempt (tableOf b) s p ≡ machine.Attempt.moves v)
           × Acts mover (readyOf part.New a b′ w environment) i (cond x
-          (actedOf room.NoObject (goValue (n .objects)) n ks (getD cs i noCell) (entryOf 0 0 0 0))
-          (record {
-            room = room.Enough;
+          (act.NoRoom room.Object)
+          (act.Done (record {
             go = goValue (n .objects);
             keys = ks;
             cell = getD cs i noCell;
             thing = record { mask = a; thread = 8 };
             counts = countsOf (n .threads) (n .objects + 1) (n .keys);
-            entry = entryOf 1 (n .objects) 0 0;
-          })) v
-      by true e = (_, acted, record { lacks = test-true (leb 32 (length (s .objects))) _ _ (ap (leb 32) (sym count) ∙ e); does = tt })
+            entry = entryOf (records.kindNumber records.Kind.new) (n .objects) 0 0;
+          }))) v
+      by true e = (_, acted, test-true (leb 32 (length (s .objects))) _ _ (ap (leb 32) (sym count) ∙ e))
       by false e =
           let h : n .objects < 32 = leb-false 32 (n .objects) e in (
             _,
             acted,
             moved mover _ i e-new (some (entry records.Kind.new p (length (s .objects)) 0 0)) (machine.addObject s (fieldsFrom a 0 32)) (up (nodeAt b) (terms b) S (length (s .objects))) (goValue (n .objects))
-                (countsOf (n .threads) (n .objects + 1) (n .keys)) ks (getD cs i noCell) (record { mask = a; thread = 8 }) (entryOf 1 (n .objects) 0 0)
+                (countsOf (n .threads) (n .objects + 1) (n .keys)) ks (getD cs i noCell) (record { mask = a; thread = 8 }) (entryOf (records.kindNumber records.Kind.new) (n .objects) 0 0)
                 (test-false (leb 32 (length (s .objects))) _ _ (ap (leb 32) (sym count) ∙ e))
-                (along (λ (o : ℕ). Written p (entryOf 1 (n .objects) 0 0) (entry records.Kind.new p o 0 0)) count (written mover records.Kind.new (n .objects) 0 0 h (omega arith) (omega arith)))
+                (along (λ (o : ℕ). Written p (entryOf (records.kindNumber records.Kind.new) (n .objects) 0 0) (entry records.Kind.new p o 0 0)) count (written mover records.Kind.new (n .objects) 0 0 h (omega arith) (omega arith)))
                 refl (well, h, ap (up (nodeAt b) (terms b) S) (sym count)) fits (unlearnt mover) (kept h),
           )
 
@@ -147,9 +149,9 @@ module _ {b : List ℕ} {m : engine.Machine} {s : machine.State} {p : ℕ} (move
           change-before (s .threads) y p _ (inside (s .threads) p t there)
           ∙ ap (λ (xs : List machine.Thread). xs ++ (y ∷ [])) (change-agree (s .threads) p _ (moverIn F (keysOf ks)) t there (ap (λ (K : Keys). moverIn F K t) (sym known)))
 
-      kept : n .objects < 32 → Kept (volatiles b) (set cs i (getD cs i noCell)) (set ts (n .objects) x) n′ s′
+      kept : n .objects < 32 → Kept (settingOf b) (set cs i (getD cs i noCell)) (set ts (n .objects) x) n′ s′
       kept h =
-          along (λ (fs : List ℕ). Kept (volatiles b) (set cs i (getD cs i noCell)) (set ts (n .objects) x) n′ (machine.addThread (machine.addObject s fs) y)) no-fields
+          along (λ (fs : List ℕ). Kept (settingOf b) (set cs i (getD cs i noCell)) (set ts (n .objects) x) n′ (machine.addThread (machine.addObject s fs) y)) no-fields
           (kept-object (kept-same k i) x (s .threads ++ (y ∷ [])) (n .threads + 1) h no-bit (more (s .threads) y count-threads)
           (λ o l. other-number (s .threads) y 0 o (λ e. omega arith))
           (let z = added-number (s .threads) y 0 (n .objects) (sym count) strange in omega arith))
@@ -163,26 +165,22 @@ module _ {b : List ℕ} {m : engine.Machine} {s : machine.State} {p : ℕ} (move
       by : (x₁ x₂ : Bool) → leb 8 (n .threads) ≡ x₁ → leb 32 (n .objects) ≡ x₂
           → (v : machine.Move) × (machine.attempt (tableOf b) s p ≡ machine.Attempt.moves v)
           × Acts mover (readyOf part.Fork u b′ w environment) i (cond x₁
-          (actedOf room.NoThread (goValue (n .objects)) n ks (getD cs i noCell) (entryOf 0 0 0 0))
+          (act.NoRoom room.Thread)
           (cond x₂
-          (actedOf room.NoObject (goValue (n .objects)) n ks (getD cs i noCell) (entryOf 0 0 0 0))
-          (record {
-            room = room.Enough;
+          (act.NoRoom room.Object)
+          (act.Done (record {
             go = goValue (n .objects);
             keys = ks;
             cell = getD cs i noCell;
             thing = x;
             counts = n′;
-            entry = entryOf 8 (n .objects) (n .threads) 0;
-          }))) v
-      by true x₂ e₁ e₂ = (_, acted, record { lacks = test-true (leb 8 (length (s .threads))) _ _ (ap (leb 8) (sym count-threads) ∙ e₁); does = tt })
+            entry = entryOf (records.kindNumber records.Kind.fork) (n .objects) (n .threads) 0;
+          })))) v
+      by true x₂ e₁ e₂ = (_, acted, test-true (leb 8 (length (s .threads))) _ _ (ap (leb 8) (sym count-threads) ∙ e₁))
       by false true e₁ e₂ = (
         _,
         acted,
-        record {
-          lacks = test-false (leb 8 (length (s .threads))) _ _ (ap (leb 8) (sym count-threads) ∙ e₁) ∙ test-true (leb 32 (length (s .objects))) _ _ (ap (leb 32) (sym count) ∙ e₂);
-          does = tt;
-        },
+        test-false (leb 8 (length (s .threads))) _ _ (ap (leb 8) (sym count-threads) ∙ e₁) ∙ test-true (leb 32 (length (s .objects))) _ _ (ap (leb 32) (sym count) ∙ e₂),
       )
       by false false e₁ e₂ =
           let h : n .objects < 32 = leb-false 32 (n .objects) e₂ in
@@ -191,26 +189,24 @@ module _ {b : List ℕ} {m : engine.Machine} {s : machine.State} {p : ℕ} (move
             acted,
             record {
               lacks = test-false (leb 8 (length (s .threads))) _ _ (ap (leb 8) (sym count-threads) ∙ e₁) ∙ test-false (leb 32 (length (s .objects))) _ _ (ap (leb 32) (sym count) ∙ e₂);
-              does = record {
-                entered = record {
-                  kind = refl;
-                  thread = refl;
-                  object = count;
-                  field = count-threads;
-                  value = refl;
-                  thread-fits = small;
-                  object-fits = h;
-                  field-fits = omega arith;
-                  value-fits = omega arith;
-                };
-                code = F;
-                goes = (well, h, ap (up (nodeAt b) (terms b) S) (sym count));
-                young = some y;
-                born = (refl, g, count, known, (tt, hu, refl));
-                threads = threads-after;
-                keys-fit = fits;
-                kept = kept-changed (kept h) p _ (λ x. refl);
+              entered = record {
+                kind = refl;
+                thread = refl;
+                object = count;
+                field = count-threads;
+                value = refl;
+                thread-fits = small;
+                object-fits = h;
+                field-fits = omega arith;
+                value-fits = omega arith;
               };
+              code = F;
+              goes = (well, h, ap (up (nodeAt b) (terms b) S) (sym count));
+              young = some y;
+              born = (refl, g, count, known, (tt, hu, refl));
+              threads = threads-after;
+              keys-fit = fits;
+              kept = kept-changed (kept h) p _ (λ x. refl);
             },
           )
 
@@ -227,10 +223,10 @@ module _ {b : List ℕ} {m : engine.Machine} {s : machine.State} {p : ℕ} (move
       Sees : Sight → ℕ → Head → Type 0
       Sees w₁ a q =
           MeetsBy w₁ p (readyOf part.Join o b′ w environment) (machine.attempt (tableOf b) s p)
-          (Acts mover (readyOf part.Join o b′ w environment) i (actedOf room.Enough (goValue (q .ready .first)) n (joinOf ks (q .keys)) (getD cs i noCell) (entryOf 9 o a (q .ready .first))))
+          (Acts mover (readyOf part.Join o b′ w environment) i (actedOf (goValue (q .ready .first)) n (joinOf ks (q .keys)) (getD cs i noCell) (entryOf (records.kindNumber records.Kind.join) o a (q .ready .first))))
 
       Goal : ℕ → Head → Type 0
-      Goal a q = Sees (cond (leb 8 a) sight.NoThread (joinBy (q .ready .part))) a q
+      Goal a q = Sees (cond (leb 8 a) (sight.Blocked block.Thread) (joinBy (q .ready .part))) a q
 
       acted : (x : Option machine.Numbered) → machine.threadOf 0 (s .threads) o ≡ x
           → machine.attempt (tableOf b) s p ≡ machine.around (tableOf b) p S (machine.joinAct s p o x)
@@ -243,7 +239,7 @@ module _ {b : List ℕ} {m : engine.Machine} {s : machine.State} {p : ℕ} (move
             _,
             acted (some q) e ∙ ap (λ (v : Option ℕ). machine.around (tableOf b) p S (machine.joinValue s p o q v)) f,
             moved mover _ i e-join (some (entry records.Kind.join p o (q .number) (h .ready .first))) (machine.learn s p (q .thread .keys)) (up (nodeAt b) (terms b) S (h .ready .first)) (goValue (h .ready .first)) n
-                (joinOf ks (h .keys)) (getD cs i noCell) nothing (entryOf 9 o (q .number) (h .ready .first)) refl (written mover records.Kind.join o (q .number) (h .ready .first) ho (omega arith) v) refl
+                (joinOf ks (h .keys)) (getD cs i noCell) nothing (entryOf (records.kindNumber records.Kind.join) o (q .number) (h .ready .first)) refl (written mover records.Kind.join o (q .number) (h .ready .first) ho (omega arith) v) refl
                 (well, v, refl) (fits-join fits fit) (learnt mover (q .thread .keys) _ (ap (λ (K : Keys). union K (t .keys)) (sym eq) ∙ joined mover (h .keys) fit))
                 (kept-changed (kept-past (kept-same k i) nothing) p _ (λ x. refl)),
           )
@@ -267,6 +263,6 @@ module _ {b : List ℕ} {m : engine.Machine} {s : machine.State} {p : ℕ} (move
           let H = each (q .number) (q .thread) at in
           along (λ (a : ℕ). Goal a (getD l (a % 9) noHead)) (sym num)
           (along (λ (z : ℕ). Goal (q .number) (getD l z noHead)) (sym (mod-eq-of-lt {m = 9} (omega arith)))
-          (along (λ (x : Bool). Sees (cond x sight.NoThread (joinBy (headAt l (q .number) .ready .part))) (q .number) (headAt l (q .number)))
+          (along (λ (x : Bool). Sees (cond x (sight.Blocked block.Thread) (joinBy (headAt l (q .number) .ready .part))) (q .number) (headAt l (q .number)))
           (sym (lt-leb 8 (q .number) lt))
           (finish q (headAt l (q .number)) _ e lt (H .keys) (H .keys-fit) (ends b (headAt l (q .number) .ready) (H .stack) (q .thread .code) (H .stands)) refl)))

@@ -2,7 +2,7 @@
 use Prim.Native.Nat.{ℕ, _<_}
 use native.Mathlib.Omega.{arith}
 use mathlib.Core.Path.{_≡_, refl}
-use mathlib.Core.Bool.{true}
+use mathlib.Core.Bool.{true, false}
 use mathlib.Core.List.{List, _∷_}
 use mathlib.Core.Option.{none}
 use lib.ListN.{getD}
@@ -20,15 +20,14 @@ use Rattle.machine.specs.Playing.{tableOf}
 use Rattle.machine.specs.Playing as playing
 use Rattle.machine.proofs.Sorted.{Well}
 use Rattle.frames.specs.declared.frame.Kind.the-variants as kind
-use Rattle.frames.specs.Parts.{Part as part}
+use Rattle.frames.specs.Parts.{Part as part, isPart}
 use Rattle.frames.specs.declared.go.Ready.{Ready}
 use Rattle.frames.specs.declared.go.Go.{Go}
 use Rattle.frames.specs.Frames.{framed}
 use Rattle.frames.specs.Going.{readyOf, goWant, goWantCondition}
 use Rattle.state.specs.declared.Counts.{Counts}
 use Rattle.look.specs.declared.Sight.the-variants as sight
-use Rattle.state.specs.declared.acted.Room.the-variants as room
-use Rattle.state.specs.Acted.{entryOf, actedOf}
+use Rattle.state.specs.Acted.{noEntry, actedOf}
 use Rattle.engine.specs.Machine as engine
 use Rattle.engine.specs.Machine.{noCell, headAt}
 use Rattle.refinement.proofs.Meant.{slots, closed, IsExpression, IsCondition, Goes, Unlogged}
@@ -49,18 +48,18 @@ module _ {b : List ℕ} {m : engine.Machine} {s : machine.State} {p : ℕ} (move
   ks = headAt (m .heads) p .keys
 
   -- a part that leaves no record and changes nothing but where its thread stands
-  pub pure-meets : (i : ℕ) (r : Ready) (x : frames.Result) (R : frames.Ready) (g : Go) → t .code ≡ frames.Found.here S R → Unlogged b R x
+  pub pure-meets : (i : ℕ) (r : Ready) → isPart part.Fork (r .part) ≡ false → (x : frames.Result) (R : frames.Ready) (g : Go) → t .code ≡ frames.Found.here S R → Unlogged b R x
       → Goes b g S (land.go (nodeAt b) (terms b) S x)
-      → MeetsBy sight.Ready p r (machine.attempt (tableOf b) s p) (Acts mover r i (actedOf room.Enough g n ks (getD cs i noCell) (entryOf 0 0 0 0)))
+      → MeetsBy sight.Ready p r (machine.attempt (tableOf b) s p) (Acts mover r i (actedOf g n ks (getD cs i noCell) noEntry))
   unfolding machine.around tableOf
-  pure-meets i r x R g code u goes =
-      (_, attempts mover R code (u .acts s p t), plain mover _ i (u .rule) (land.go (nodeAt b) (terms b) S x) g (u .needs-no-room s) goes)
+  pure-meets i r forks x R g code u goes =
+      (_, attempts mover R code (u .acts s p t), plain mover r i (u .rule) (land.go (nodeAt b) (terms b) S x) g forks (u .needs-no-room s) goes)
 
-  pub condition-meets : (i : ℕ) (r : Ready) (Q : frames.Readyᶜ) (g : Go) → t .code ≡ frames.Found.hereᶜ S Q → playing.noRoomBefore s (machine.actᶜ (tableOf b) S Q .rule) ≡ none
+  pub condition-meets : (i : ℕ) (r : Ready) → isPart part.Fork (r .part) ≡ false → (Q : frames.Readyᶜ) (g : Go) → t .code ≡ frames.Found.hereᶜ S Q → playing.noRoomBefore s (machine.actᶜ (tableOf b) S Q .rule) ≡ none
       → Goes b g S (machine.actᶜ (tableOf b) S Q .code)
-      → MeetsBy sight.Ready p r (machine.attempt (tableOf b) s p) (Acts mover r i (actedOf room.Enough g n ks (getD cs i noCell) (entryOf 0 0 0 0)))
-  condition-meets i r Q g code lack goes =
-      (_, attempt-condition (tableOf b) s p t there S Q code, plain mover _ i (machine.actᶜ (tableOf b) S Q .rule) (machine.actᶜ (tableOf b) S Q .code) g lack goes)
+      → MeetsBy sight.Ready p r (machine.attempt (tableOf b) s p) (Acts mover r i (actedOf g n ks (getD cs i noCell) noEntry))
+  condition-meets i r forks Q g code lack goes =
+      (_, attempt-condition (tableOf b) s p t there S Q code, plain mover r i (machine.actᶜ (tableOf b) S Q .rule) (machine.actᶜ (tableOf b) S Q .code) g forks lack goes)
 
   -- a while, and the turn of its body
   loops : {a b′ : ℕ} → IsCondition b a → IsExpression b b′ → (a < 1024) × (b′ < 1024)
@@ -68,24 +67,24 @@ module _ {b : List ℕ} {m : engine.Machine} {s : machine.State} {p : ℕ} (move
 
   pub while-meets : (a b′ w environment i : ℕ) → Well S → IsCondition b a → IsExpression b b′ → t .code ≡ frames.Found.here S (frames.Ready.while (branches a b′ (slots environment)))
       → MeetsBy sight.Ready p (readyOf part.While a b′ w environment) (machine.attempt (tableOf b) s p)
-      (Acts mover (readyOf part.While a b′ w environment) i (actedOf room.Enough (goWantCondition (framed kind.Test a b′ 0 environment) a) n ks (getD cs i noCell) (entryOf 0 0 0 0)))
+      (Acts mover (readyOf part.While a b′ w environment) i (actedOf (goWantCondition (framed kind.Test a b′ 0 environment) a) n ks (getD cs i noCell) noEntry))
   unfolding machine.act machine.around playing.noRoomBefore land.go tableOf
   while-meets a b′ w environment i well hc he code =
       let z = loops hc he in (
         _,
         attempts mover (frames.Ready.while (branches a b′ (slots environment))) code refl,
-        plain mover _ i e-while (enterᶜ (nodeAt b) (terms b) (frames.Frame.whileTest (branches a b′ (slots environment)) ∷ S) (closed a environment)) (goWantCondition (framed kind.Test a b′ 0 environment) a) refl
+        plain mover _ i e-while (enterᶜ (nodeAt b) (terms b) (frames.Frame.whileTest (branches a b′ (slots environment)) ∷ S) (closed a environment)) (goWantCondition (framed kind.Test a b′ 0 environment) a) refl refl
             (record { first-fits = z .0; second-fits = z .1; member-fits = omega arith; count-fits = omega arith; sorted = (hc, he) }, well, hc, refl),
       )
 
   pub body-meets : (a b′ w environment i : ℕ) → Well S → IsCondition b a → IsExpression b b′ → t .code ≡ frames.Found.here S (frames.Ready.whileTest true (branches a b′ (slots environment)))
       → MeetsBy sight.Ready p (readyOf part.Body a b′ w environment) (machine.attempt (tableOf b) s p)
-      (Acts mover (readyOf part.Body a b′ w environment) i (actedOf room.Enough (goWant (framed kind.Body a b′ 0 environment) b′) n ks (getD cs i noCell) (entryOf 0 0 0 0)))
+      (Acts mover (readyOf part.Body a b′ w environment) i (actedOf (goWant (framed kind.Body a b′ 0 environment) b′) n ks (getD cs i noCell) noEntry))
   unfolding machine.act machine.around playing.noRoomBefore land.go tableOf
   body-meets a b′ w environment i well hc he code =
       let z = loops hc he in (
         _,
         attempts mover (frames.Ready.whileTest true (branches a b′ (slots environment))) code refl,
-        plain mover _ i e-if (enter (nodeAt b) (terms b) (frames.Frame.whileBody (branches a b′ (slots environment)) ∷ S) (closed b′ environment)) (goWant (framed kind.Body a b′ 0 environment) b′) refl
+        plain mover _ i e-if (enter (nodeAt b) (terms b) (frames.Frame.whileBody (branches a b′ (slots environment)) ∷ S) (closed b′ environment)) (goWant (framed kind.Body a b′ 0 environment) b′) refl refl
             (record { first-fits = z .0; second-fits = z .1; member-fits = omega arith; count-fits = omega arith; sorted = (hc, he) }, well, he, refl),
       )

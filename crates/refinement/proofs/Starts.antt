@@ -9,7 +9,7 @@ use lib.ListN.{length, getD, set, getElem?, replicate, length-replicate, getD-re
 use lib.Seq.{set-getD}
 use Rattle.keys.specs.Keys.{singleton}
 use Rattle.keys.proofs.KeySetLaws.{fits-zero, fits-empty, keys-zero}
-use Rattle.packed.specs.Format.{procedures, root, volatiles}
+use Rattle.packed.specs.Format.{procedures, root}
 use Rattle.packed.specs.Check.{refusal}
 use Rattle.packed.proofs.Accepted.{accepted}
 use Rattle.rules.specs.State.{freshObject}
@@ -22,17 +22,18 @@ use Rattle.machine.specs.Playing as playing
 use Rattle.frames.specs.Parts.{Part as part}
 use Rattle.frames.specs.Going.{readyOf}
 use Rattle.landing.specs.Landing.{Stack}
+use Rattle.state.specs.declared.Setting.{Setting}
 use Rattle.state.specs.declared.Cell.{Cell}
 use Rattle.state.specs.declared.Object.{Object}
 use Rattle.state.specs.Acted.{countsOf}
 use Rattle.engine.specs.Machine.{noCell, noThing, headAt, headOf, cellFirst, startOf}
 use Rattle.refinement.proofs.Meant.{Loaded, IsExpression, Stands}
 use Rattle.refinement.proofs.SlotLaws.{none-bound}
-use Rattle.refinement.proofs.States.{CellFits, memoryOf, Kept, Headed, Related}
+use Rattle.refinement.proofs.States.{settingOf, CellFits, memoryOf, Kept, Headed, Related}
 use Rattle.refinement.proofs.KeptLaws.{kept-object, no-fields, no-bit}
 
 -- fresh cells, and objects of which the first is null, stand for the start's memory
-module _ (mask : ℕ) (cs : List Cell) (ts : List Object) (cells-size : length cs ≡ 1024) (new : (i : ℕ) → i < 1024 → getD cs i noCell ≡ cellFirst)
+module _ (setting : Setting) (cs : List Cell) (ts : List Object) (cells-size : length cs ≡ 1024) (new : (i : ℕ) → i < 1024 → getD cs i noCell ≡ cellFirst)
     (things-size : length ts ≡ 33) (null : getD ts 0 noThing ≡ noThing) where
   cell-fits : (i : ℕ) → CellFits (getD cs i noCell)
   cell-fits i = at (decLt i 1024)
@@ -42,7 +43,7 @@ module _ (mask : ℕ) (cs : List Cell) (ts : List Object) (cells-size : length c
       at (no h) = along CellFits (sym (List·getD-eq-default cs noCell {n = i} (omega arith))) (record { key = omega arith; keys = fits-empty })
 
   -- with no object yet
-  empty-kept : Kept mask cs ts (countsOf 0 0 1) (record { objects = []; threads = []; nextKey = 1 })
+  empty-kept : Kept setting cs ts (countsOf 0 0 1) (record { objects = []; threads = []; nextKey = 1 })
   unfolding objectsOf memoryOf
   empty-kept = record {
     cells-size = cells-size;
@@ -56,11 +57,11 @@ module _ (mask : ℕ) (cs : List Cell) (ts : List Object) (cells-size : length c
     numbers = λ o h. absurd (omega arith);
   }
 
-  start-kept : Kept mask cs ts (countsOf 1 1 1) playing.start
+  start-kept : Kept setting cs ts (countsOf 1 1 1) playing.start
   unfolding playing.start machine.threadOf
   start-kept =
-      along (λ (l : List Object). Kept mask cs l (countsOf 1 1 1) playing.start) (ap (set ts 0) (sym null) ∙ set-getD ts 0 noThing)
-      (along (λ (fs : List ℕ). Kept mask cs (set ts 0 noThing) (countsOf 1 1 1) (record { objects = freshObject fs ∷ []; threads = playing.start .threads; nextKey = 1 })) no-fields
+      along (λ (l : List Object). Kept setting cs l (countsOf 1 1 1) playing.start) (ap (set ts 0) (sym null) ∙ set-getD ts 0 noThing)
+      (along (λ (fs : List ℕ). Kept setting cs (set ts 0 noThing) (countsOf 1 1 1) (record { objects = freshObject fs ∷ []; threads = playing.start .threads; nextKey = 1 })) no-fields
       (kept-object empty-kept noThing (playing.start .threads) 1 (omega arith) no-bit refl (λ o h. absurd (omega arith)) refl))
 
 module _ (b ws rs : List ℕ) (ok : refusal b ≡ none) (loaded : Loaded b ws rs) where
@@ -110,7 +111,7 @@ module _ (b ws rs : List ℕ) (ok : refusal b ≡ none) (loaded : Loaded b ws rs
     heads-size = refl;
     sized = length-replicate {A = ℕ} 891 0;
     kept =
-        start-kept (volatiles b) (replicate 1024 cellFirst) (replicate 33 noThing) (length-replicate 1024 cellFirst)
+        start-kept (settingOf b) (replicate 1024 cellFirst) (replicate 33 noThing) (length-replicate 1024 cellFirst)
         (λ i h. getD-replicate 1024 i cellFirst noCell h) (length-replicate 33 noThing) refl;
     each = start-each area;
   }

@@ -16,6 +16,7 @@ use Rattle.machine.specs.Frames as frames
 use Rattle.machine.specs.Memory.{Memory, objectsOf}
 use Rattle.machine.specs.Machine as machine
 use Rattle.landing.specs.Landing.{Stack}
+use Rattle.state.specs.declared.Setting.{Setting}
 use Rattle.state.specs.declared.Head.{Head}
 use Rattle.state.specs.declared.Cell.{Cell}
 use Rattle.state.specs.declared.Object.{Object}
@@ -24,6 +25,10 @@ use Rattle.look.specs.Look.{hasOf}
 use Rattle.engine.specs.Machine as engine
 use Rattle.engine.specs.Machine.{noCell, noThing, headAt, cellFirst}
 use Rattle.refinement.proofs.Meant.{Holds, Stands, Sized}
+
+-- what the run of plan b goes by
+abbrev pub settingOf : List ℕ → Setting
+settingOf b = record { mask = volatiles b }
 
 -- the cell that a cell of the code stands for: a volatile field or a monitor has a set, a plain field one key
 abbrev pub cellMeant : Bool → Cell → rules.Cell
@@ -35,12 +40,12 @@ pub record CellFits (c : Cell) : Type 0 where
   pub keys : Fits (c .keys)
 
 -- the memory of n objects: cell 32 o + f is field f of object o
-unfoldable pub memoryOf : ℕ → List Cell → List Object → ℕ → Memory
-memoryOf mask cs ts n =
+unfoldable pub memoryOf : Setting → List Cell → List Object → ℕ → Memory
+memoryOf setting cs ts n =
     record {
       count = n;
       mask = λ o. cond (ltb o n) (getD ts o noThing .mask) 0;
-      cells = λ o f. cond (ltb o 32 && ltb f 32) (cellMeant (hasOf mask f) (getD cs (o * 32 + f) noCell)) fresh;
+      cells = λ o f. cond (ltb o 32 && ltb f 32) (cellMeant (hasOf (setting .mask) f) (getD cs (o * 32 + f) noCell)) fresh;
     }
 
 -- the number of the thread that a search found, 8 if none
@@ -49,13 +54,13 @@ numberOf none = 8
 numberOf (some q) = q .number
 
 -- what the cells, the objects and the counts say of a state
-pub record Kept (mask : ℕ) (cs : List Cell) (ts : List Object) (n : Counts) (s : machine.State) : Type 0 where
+pub record Kept (setting : Setting) (cs : List Cell) (ts : List Object) (n : Counts) (s : machine.State) : Type 0 where
   pub cells-size : length cs ≡ 1024
   pub things-size : length ts ≡ 33
   pub threads-count : n .threads ≡ length (s .threads)
   pub objects-count : n .objects ≡ length (s .objects)
   pub keys-count : n .keys ≡ s .nextKey
-  pub objects : s .objects ≡ objectsOf (memoryOf mask cs ts (n .objects))
+  pub objects : s .objects ≡ objectsOf (memoryOf setting cs ts (n .objects))
   pub cells-fit : (i : ℕ) → CellFits (getD cs i noCell)
   -- no cell past the last object has been stored to
   pub fresh-past : (i : ℕ) → n .objects * 32 ≤ i → i < 1024 → getD cs i noCell ≡ cellFirst
@@ -76,5 +81,5 @@ pub record Headed (b : List ℕ) (k : Stack) (base : ℕ) (h : Head) (t : machin
 pub record Related (b : List ℕ) (m : engine.Machine) (s : machine.State) : Type 0 where
   pub heads-size : length (m .heads) ≡ 9
   pub sized : Sized b (m .stack)
-  pub kept : Kept (volatiles b) (m .cells) (m .objects) (m .tally .counts) s
+  pub kept : Kept (settingOf b) (m .cells) (m .objects) (m .tally .counts) s
   pub each : (p : ℕ) (t : machine.Thread) → getElem? (s .threads) p ≡ some t → Headed b (m .stack) (p * 33) (headAt (m .heads) p) t

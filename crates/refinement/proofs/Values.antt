@@ -11,7 +11,8 @@ use Rattle.rules.specs.Context.{falseWhen}
 use Rattle.machine.specs.Landing.{valueIn, boolIn, boolOf, isTrue}
 use Rattle.machine.specs.Landing as machine
 use Rattle.term_words.specs.Slots.{slotOf}
-use Rattle.term_words.specs.Words.{wordAt, tagOf, firstOf, slotBits, valueBy, valueOf, truthBy, truthOf}
+use Rattle.packed.specs.Operands.{tagOf, firstOf, slotBits}
+use Rattle.term_words.specs.Words.{wordAt, valueBy, valueOf, truthBy, truthOf}
 use Rattle.refinement.proofs.Meant.{Loaded, closed, IsExpression, IsCondition}
 use Rattle.refinement.proofs.SlotLaws.{slot-below}
 use Rattle.refinement.proofs.Words.{Expression, Condition, expression-at, condition-at}

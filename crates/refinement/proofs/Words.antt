@@ -1,5 +1,5 @@
 -- A term by its word: the numbers that the code reads from the 40 bits are the operands of the term's node, and they fit. Assumes nothing.
-use Prim.Native.Nat.{ℕ, suc, _+_, _-_, _/_, _%_, _^_, _≤_, _<_}
+use Prim.Native.Nat.{ℕ, suc, _+_, _%_, _≤_, _<_}
 use native.Mathlib.Omega.{arith}
 use native.Mathlib.Decide.{ℕ-discrete}
 use mathlib.Core.Path.{_≡_, sym, ap, _∙_, subst}
@@ -17,7 +17,8 @@ use Rattle.packed.proofs.Reading.{tag-in, first-was, second-was, third-was}
 use Rattle.packed.proofs.Decoded.{node-is}
 use Rattle.packed.proofs.TreeLaws.{treeᵃ}
 use Rattle.machine.proofs.CallLists.{call-fits}
-use Rattle.term_words.specs.Words.{wordAt, tagOf, firstOf, secondOf, thirdOf, slotBits, fieldBits, writeSecond, letFirst, letSecond, procedureBits, listBits, maskBits}
+use Rattle.packed.specs.Operands.{tagOf, operandIn, firstOf, secondOf, thirdOf, slotBits, fieldBits, writeSecond, letFirst, letSecond, procedureBits, listBits, maskBits}
+use Rattle.term_words.specs.Words.{wordAt}
 use Rattle.refinement.proofs.Meant.{Loaded}
 
 -- ---- what a term is, by its word
@@ -57,13 +58,13 @@ pub data Rest (b : List ℕ) (t w : ℕ) : Type 0 where
 
 -- the operands of a term of tag k, in its word w
 abbrev firstIn : ℕ → ℕ → ℕ
-firstIn k w = w / 2 ^ (35 - width (layout k .first)) % 2 ^ width (layout k .first)
+firstIn k w = operandIn 0 (layout k .first) w
 
 abbrev secondIn : ℕ → ℕ → ℕ
-secondIn k w = w / 2 ^ (35 - (width (layout k .first) + width (layout k .second))) % 2 ^ width (layout k .second)
+secondIn k w = operandIn (width (layout k .first)) (layout k .second) w
 
 abbrev thirdIn : ℕ → ℕ → ℕ
-thirdIn k w = w / 2 ^ (35 - (width (layout k .first) + width (layout k .second) + width (layout k .third))) % 2 ^ width (layout k .third)
+thirdIn k w = operandIn (width (layout k .first) + width (layout k .second)) (layout k .third) w
 
 -- node and fits of a term of tag k, by the values of its operands
 record Known (b : List ℕ) (t k x y z : ℕ) : Type 0 where

@@ -1,5 +1,5 @@
 -- Every run of a well-formed program is an execution, and an execution is the run; of an accepted plan nothing is ever stuck or passed over but for
--- document 01's reasons. Assumes nothing.
+-- document 01's reasons; outcome and log are the execution's, which is demand 2. Assumes nothing.
 use Prim.Native.Nat.{ℕ, suc}
 use mathlib.Core.Path.{_≡_, refl, ap, subst as along}
 use mathlib.Core.List.{List, [], _∷_}
@@ -15,15 +15,17 @@ use Rattle.rules.specs.State.{State, start}
 use Rattle.rules.specs.Rules.{Rule, Moves}
 use Rattle.rules.specs.Step.{Stuck, missingField, notThread, noRule, Move, Attempt, attempt}
 use Rattle.rules.specs.Room.{Blocked, MONITOR-HELD, UNFINISHED, NO-FIELD-TO-READ, NO-FIELD-TO-WRITE, NO-THREAD, PassedOver, ABSENT, FINISHED, BLOCKED, Room, noRoomFor, Answer, withinRoom, answer, step}
-use Rattle.rules.specs.Run.{Run, resume, run, play, stopped, afterPass, afterMove}
+use Rattle.rules.specs.Run.{Run, resume, run, play, stopped, afterPass, afterMove, outcomeOf}
 use Rattle.rules.specs.Execution.{Execution, ends, passes, lacks-key, no-room, moves, moveCount}
 use Rattle.rules.specs.NewKeys.{Unused}
+use Rattle.rules.specs.Executed.{Executed}
 use Rattle.rules.proofs.Invariant.{Inv}
 use Rattle.rules.proofs.OneKey.{OneKey, one-key-start, one-key-move}
-use Rattle.rules.proofs.NewKeys.{unused-start, unused-move}
+use Rattle.rules.proofs.NewKeys.{unused-start, unused-move, writes-new}
 use Rattle.rules.proofs.Equivalence.{Unless, Described, described, complete, complete-lacks, complete-passed}
 use Rattle.rules.proofs.Preserved.{keeps}
-use Rattle.rules.proofs.Progress.{Ruled, ruled, inv-start}
+use Rattle.rules.proofs.Progress.{Ruled, unless-ruled, ruled, inv-start}
+use Rattle.rules.proofs.ThreadStates.{eight-statuses, listed-status}
 
 -- what holds in every state that a run of a well-formed program comes to
 pub record Reachable (g : Program) (s : State) : Type 0 where
@@ -38,11 +40,6 @@ pub reachable-move : (g : Program) → WellFormedProgram g → (s : State) (p : 
 reachable-move g P s p I m = record { invariant = keeps g P s (I .invariant) p m; one-key = one-key-move g s p (I .one-key) m; unused = unused-move g s p (I .unused) m }
 
 -- ---- a run is an execution
-
-unless-ruled : (r : Stuck) (A : Type 0) → Ruled (Attempt.stuck r) → Unless r A → A
-unless-ruled (missingField o f) A k h = h
-unless-ruled (notThread o) A k h = h
-unless-ruled noRule A k h = absurd k
 
 module _ (g : Program) (P : WellFormedProgram g) where
   admitted : (s : State) (p : ℕ) (ps : List ℕ) (m : Move) → Moves g s p (m .rule) (m .entry) (m .state) → Execution g (m .state) ps (run g (m .state) ps)
@@ -122,6 +119,25 @@ pub never-ruleless : (g : Program) → WellFormedProgram g → (ps : List ℕ) (
 unfolding play
 never-ruleless g P ps p h = along Ruled h (ruled g (run g start ps .final) (reachable-run g P start ps (reachable-start g P) .invariant) p)
 
+-- demand 2: outcome and log are those of an execution, each plain write of which stores a new key
+pub play-executed : (g : Program) → WellFormedProgram g → (ps : List ℕ) → Executed g ps (outcomeOf g (play g ps)) (play g ps .log)
+unfolding outcomeOf play
+play-executed g P ps =
+    let x = play-executes g P ps in
+    let I = reachable-run g P start ps (reachable-start g P) in
+    record {
+      run = play g ps;
+      execution = x;
+      new-keys = writes-new [] unused-start tt x;
+      same-stop = refl;
+      same-picks = refl;
+      same-moves = moves-counted x;
+      same-records = refl;
+      same-log = refl;
+      eight = eight-statuses g (play g ps .final);
+      states = λ p h y. listed-status g (play g ps .final) (I .one-key) (I .invariant) p h y;
+    }
+
 -- ---- accepted plans
 
 -- every run of an accepted plan is an execution
@@ -136,3 +152,8 @@ plan-never-ruleless b h ps p = never-ruleless (programOf b) (well-formed b h) ps
 pub plan-new-keys : (b : List ℕ) → refusal b ≡ none → (ps : List ℕ) → Unused (play (programOf b) ps .final)
 unfolding play
 plan-new-keys b h ps = reachable-run (programOf b) (well-formed b h) start ps (reachable-start (programOf b) (well-formed b h)) .unused
+
+-- demand 2 of every run of an accepted plan
+pub plan-executed : (b : List ℕ) → refusal b ≡ none → (ps : List ℕ)
+    → Executed (programOf b) ps (outcomeOf (programOf b) (play (programOf b) ps)) (play (programOf b) ps .log)
+plan-executed b h ps = play-executed (programOf b) (well-formed b h) ps

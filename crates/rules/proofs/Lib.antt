@@ -11,8 +11,11 @@ pub mod NewKeys
 pub mod Equivalence
 pub mod Preserved
 pub mod Progress
+pub mod ThreadStates
 pub mod Executed
+pub mod RunAppend
 pub mod Marked
+pub mod Depths
 pub mod KeyBridge
 pub mod Bridge
 pub mod RoomLaws

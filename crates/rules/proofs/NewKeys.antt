@@ -1,21 +1,23 @@
--- Every plain write takes a key that nobody holds: every key of every set is below the next one, in every state of every run. Assumes nothing.
-use Prim.Native.Nat.{ℕ, zero, suc, _<_}
+-- Every plain write takes a key that nobody holds or held: every key of every set is below the next one, in every state of every run. Assumes nothing.
+use Prim.Native.Nat.{ℕ, zero, suc, _<_, _≤_}
 use native.Mathlib.Omega.{arith}
 use native.Mathlib.Decide.{ℕ-discrete}
 use mathlib.Core.Path.{_≡_, refl, sym, ap, _∙_, subst as along}
 use mathlib.Core.Bool.{Bool, true, false, _||_, true≢false}
-use mathlib.Core.List.{List, []}
+use mathlib.Core.List.{List, [], _∷_}
 use mathlib.Core.Logic.{_⊎_, inl, inr}
 use mathlib.Core.Option.{Option, some, none}
 use lib.Dec.{T, eqb→eq}
 use lib.ListN.{length, getElem?}
 use Rattle.keys.specs.Keys.{Keys, empty, singleton, holds, union}
 use Rattle.keys.proofs.KeyLaws.{holds-empty, holds-singleton, holds-union}
-use Rattle.packed.specs.Syntax.{Expression, Arguments, Program}
-use Rattle.records.specs.Record.{Record}
+use Rattle.packed.specs.Syntax.{Expression, Condition, Arguments, Program}
+use Rattle.records.specs.Record.{Kind, Record, entry}
 use Rattle.rules.specs.State.{Cell, cell, Thread, State, fresh, freshObject, lookup, monitor, store, storeMonitor, addObject, learn, become, addThread, useKey, start, changeAt}
-use Rattle.rules.specs.Rules.{Rule, Converts, E-CALL, E-LET, E-IF, E-WHILE, E-NEW, E-READ, E-WRITE, E-READV, E-WRITEV, E-FORK, E-JOIN, E-RE-ENTER, E-ACQUIRE, E-RELEASE, Moves, EVAL, EVALᶜ}
-use Rattle.rules.specs.NewKeys.{Below, Unused}
+use Rattle.rules.specs.Rules.{Rule, e-write, Converts, E-CALL, E-LET, E-IF, E-WHILE, E-NEW, E-READ, E-WRITE, E-READV, E-WRITEV, E-FORK, E-JOIN, E-RE-ENTER, E-ACQUIRE, E-RELEASE, Convertsᶜ, E-NOTNOTTRUE, E-ANDTRUE, E-ANDFALSE, E-EQUALTRUE, E-EQUALFALSE, Moves, EVAL, EVALᶜ}
+use Rattle.rules.specs.Run.{Run}
+use Rattle.rules.specs.Execution.{Execution, ends, passes, lacks-key, no-room, moves}
+use Rattle.rules.specs.NewKeys.{Below, Unused, Held, BY-THREAD, BY-FIELD, BY-MONITOR, NeverHeld, StoresNew, WritesNew}
 use Rattle.rules.proofs.StateLaws.{added, changed, store-same, store-other, store-monitor, lock-same, lock-other, lock-lookup, new-lookup, new-monitors, found-thread}
 
 below-singleton : (w n : ℕ) → w < n → Below (singleton w) n
@@ -190,3 +192,96 @@ unused-start = record {
     free : (o : ℕ) (c : Cell) → monitor start o ≡ some c → Below (c .keys) 1
     free zero c h = below-fresh c 1 (cc) (omega arith)
     free (suc o) c h = absurd (true≢false cc)
+
+-- ---- executions
+
+-- the states so far hold no key from n on
+abbrev Older : List State → ℕ → Type 0
+Older [] n = Unit {0}
+Older (s ∷ past) n = ((k : ℕ) → Held s k → k < n) × Older past n
+
+held-below : (s : State) → Unused s → (k : ℕ) → Held s k → k < s .nextKey
+held-below s U k (BY-THREAD p {t} h b) = U .threads p t h k b
+held-below s U k (BY-FIELD o f {c} h b) = U .fields o f c h k b
+held-below s U k (BY-MONITOR o {c} h b) = U .monitors o c h k b
+
+older-more : (past : List State) (m n : ℕ) → m ≤ n → Older past m → Older past n
+older-more [] m n h a = tt
+older-more (s ∷ past) m n h a = (λ k b. let c = a .0 k b in omega arith, older-more past m n h (a .1))
+
+older-never : (past : List State) (n : ℕ) → Older past n → NeverHeld past n
+older-never [] n a = tt
+older-never (s ∷ past) n a = (λ b. let c = a .0 n b in omega arith, older-never past n (a .1))
+
+-- the next key never falls
+next-converts : {g : Program} {s : State} {p : ℕ} {t : Thread} {e : Expression} {R : Rule} {r : Option Record} {s′ : State} {e′ : Expression}
+    → Converts g s p t e R r s′ e′ → s .nextKey ≤ s′ .nextKey
+unfolding learn store storeMonitor addObject addThread useKey
+next-converts (E-CALL os hd hp) = omega arith
+next-converts E-LET = omega arith
+next-converts (E-IF b) = omega arith
+next-converts E-WHILE = omega arith
+next-converts E-NEW = omega arith
+next-converts (E-READ w h k v) = omega arith
+next-converts (E-WRITE w h k v) = omega arith
+next-converts (E-READV h v) = omega arith
+next-converts (E-WRITEV h v) = omega arith
+next-converts E-FORK = omega arith
+next-converts (E-JOIN h l) = omega arith
+next-converts (E-RE-ENTER h) = omega arith
+next-converts (E-ACQUIRE h n) = omega arith
+next-converts (E-RELEASE h) = omega arith
+
+next-moves : {g : Program} {s : State} {p : ℕ} {R : Rule} {r : Option Record} {s′ : State} → Moves g s p R r s′ → s .nextKey ≤ s′ .nextKey
+unfolding become
+next-moves (EVAL K ht he c) = next-converts c
+next-moves (EVALᶜ K ht he c) = omega arith
+
+-- a plain write stores the next key
+module _ (g : Program) (s : State) (p : ℕ) (past : List State) (a : NeverHeld past (s .nextKey)) where
+  stores : {t : Thread} {e : Expression} {R : Rule} {r : Option Record} {s′ : State} {e′ : Expression} → Converts g s p t e R r s′ e′ → (w : Expression) → R ≡ e-write
+      → StoresNew past r (become s′ p w)
+  unfolding become learn useKey lookup
+  stores (E-CALL os hd hp) w q = absurd (true≢false cc)
+  stores E-LET w q = absurd (true≢false cc)
+  stores (E-IF b) w q = absurd (true≢false cc)
+  stores E-WHILE w q = absurd (true≢false cc)
+  stores E-NEW w q = absurd (true≢false cc)
+  stores (E-READ x h k v) w q = absurd (true≢false cc)
+  stores (E-WRITE x {o} {f} {u} {v} h k vol) w q = record {
+    access = entry Kind.write p o f v;
+    recorded = refl;
+    key = s .nextKey;
+    stored = store-same (useKey s) o f (cell (singleton (s .nextKey)) v) (cell (singleton x) u) h;
+    new = a;
+  }
+  stores (E-READV h v) w q = absurd (true≢false cc)
+  stores (E-WRITEV h v) w q = absurd (true≢false cc)
+  stores E-FORK w q = absurd (true≢false cc)
+  stores (E-JOIN h l) w q = absurd (true≢false cc)
+  stores (E-RE-ENTER h) w q = absurd (true≢false cc)
+  stores (E-ACQUIRE h n) w q = absurd (true≢false cc)
+  stores (E-RELEASE h) w q = absurd (true≢false cc)
+
+  stores-move : {R : Rule} {r : Option Record} {s′ : State} → Moves g s p R r s′ → R ≡ e-write → StoresNew past r s′
+  stores-move (EVAL K ht he c) q = stores c _ q
+  stores-move (EVALᶜ K ht he c) q = absurd (condition c q)
+    where
+      condition : {b b′ : Condition} {R : Rule} → Convertsᶜ b R b′ → R ≡ e-write → ⊥
+      condition E-NOTNOTTRUE q = true≢false cc
+      condition E-ANDTRUE q = true≢false cc
+      condition E-ANDFALSE q = true≢false cc
+      condition (E-EQUALTRUE h) q = true≢false cc
+      condition (E-EQUALFALSE h) q = true≢false cc
+
+pub writes-new : {g : Program} {s : State} {ps : List ℕ} {r : Run} (past : List State) → Unused s → Older past (s .nextKey) → (x : Execution g s ps r)
+    → WritesNew past x
+writes-new past U a ends = tt
+writes-new past U a (passes h x) = writes-new past U a x
+writes-new past U a (lacks-key h) = tt
+writes-new past U a (no-room h e) = tt
+writes-new {g} past U a (moves {s} {s′} {p} h k x) =
+    let b : Older (s ∷ past) (s .nextKey) = (held-below s U, a) in (
+      stores-move g s p (s ∷ past) (older-never (s ∷ past) (s .nextKey) b) h,
+      writes-new (s ∷ past) (unused-move g s p U h) (older-more (s ∷ past) (s .nextKey) (s′ .nextKey) (next-moves h) b) x,
+    )

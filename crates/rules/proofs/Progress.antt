@@ -19,6 +19,7 @@ use Rattle.packed.proofs.WellFormed.{WellFormedProgram, Callable}
 use Rattle.rules.proofs.Placed.{Good, Ready, holds, held, pending}
 use Rattle.rules.proofs.StateLaws.{monitor-there}
 use Rattle.rules.proofs.Invariant.{In, heldBy, Sound, Inv}
+use Rattle.rules.proofs.Equivalence.{Unless}
 
 -- not stuck for want of a rule
 abbrev Known : Stuck → Type 0
@@ -39,6 +40,11 @@ Ruled (Attempt.waiting w) = Unit {0}
 Ruled (Attempt.stuck r) = Known r
 Ruled (Attempt.lacking r) = Unit {0}
 Ruled (Attempt.moves m) = Unit {0}
+
+pub unless-ruled : (r : Stuck) (A : Type 0) → Ruled (Attempt.stuck r) → Unless r A → A
+unless-ruled (missingField o f) A k h = h
+unless-ruled (notThread o) A k h = h
+unless-ruled noRule A k h = absurd k
 
 either : (b : Bool) (x y : Act) → Fine x → Fine y → Fine (cond b x y)
 either true x y h k = h

@@ -1,5 +1,6 @@
--- Executions (document 001, definition 6.5), with the picks passed over and the stop: demand 2 of one run (README, "What is proved"): each move by a rule
--- of the write keys, one rule to each move, every plain write a new key, nothing passed over, stuck or stopped except for document 01's reasons. Assumes nothing.
+-- Executions (document 001, definition 6.5), with the picks passed over and the stop, for demand 2 (README, "What is proved"): each move by a rule of the
+-- write keys, one rule to each move, nothing passed over, stuck or stopped except for document 01's reasons. That every plain write of an execution stores a
+-- new key is `WritesNew` (`NewKeys`). Assumes nothing.
 use Prim.Native.Nat.{ℕ, suc}
 use mathlib.Core.Path.{_≡_}
 use mathlib.Core.List.{List, [], _∷_}

@@ -5,7 +5,9 @@ pub mod Step
 pub mod Room
 pub mod Run
 pub mod Execution
+pub mod NewKeys
+pub mod ThreadStates
+pub mod Executed
 pub mod Play
 pub mod ShotList
 pub mod Observed
-pub mod NewKeys

@@ -4,8 +4,9 @@ use mathlib.Core.Bool.{Bool}
 use mathlib.Core.List.{List, [], _∷_, _++_}
 use mathlib.Core.Option.{Option, some, none}
 use lib.Dec.{ltb}
-use lib.ListN.{length, getD, drop}
+use lib.ListN.{length, getD}
 use Rattle.format.specs.Refusal.{Refusal, Check, check, checkWhole, firstRefusal}
+use Rattle.format.specs.Area.{overwrite}
 use Rattle.packed.specs.Trees.{programOf}
 use Rattle.packed.specs.Check.{checks}
 use Rattle.records.specs.Packed.{bytesOf}
@@ -26,15 +27,26 @@ wrongPick schedule i = ltb 7 (getD schedule i 0)
 unfoldable pub shortArea : List ℕ → List ℕ → Bool
 shortArea schedule area = ltb (length area) (3 * length schedule)
 
--- checks 1 to 10: "Checks run in the order of the numbers, each over the whole input."
-unfoldable pub playChecks : List ℕ → List ℕ → List ℕ → List Check
-unfolding checks tooManyPicks wrongPick shortArea
-playChecks plan schedule area =
+-- ---- in their order: "Checks run in the order of the numbers, each over the whole input."
+
+-- checks 1 to 9, of a plan and a schedule
+unfoldable pub scheduleChecks : List ℕ → List ℕ → List Check
+unfolding checks tooManyPicks wrongPick
+scheduleChecks plan schedule =
     checks plan
     ++ (checkWhole 8 (tooManyPicks schedule)
     ∷ check 9 (length schedule) (wrongPick schedule)
-    ∷ checkWhole 10 (shortArea schedule area)
     ∷ [])
+
+-- their refusal, if there is one: what refuses a schedule on a plan, whatever area is lent
+unfoldable pub scheduleRefusal : List ℕ → List ℕ → Option Refusal
+unfolding scheduleChecks firstRefusal
+scheduleRefusal plan schedule = firstRefusal (scheduleChecks plan schedule)
+
+-- checks 1 to 10
+unfoldable pub playChecks : List ℕ → List ℕ → List ℕ → List Check
+unfolding scheduleChecks shortArea
+playChecks plan schedule area = scheduleChecks plan schedule ++ (checkWhole 10 (shortArea schedule area) ∷ [])
 
 -- the refusal of a play, if there is one
 unfoldable pub playRefusal : List ℕ → List ℕ → List ℕ → Option Refusal
@@ -62,11 +74,7 @@ unfoldable pub played : List ℕ → List ℕ → List ℕ → Played
 unfolding playedBy playRefusal
 played plan schedule area = playedBy plan schedule (playRefusal plan schedule area)
 
--- "After a run the log area begins with the records; its other bytes keep their values."
-unfoldable pub overwrite : List ℕ → List ℕ → List ℕ
-overwrite bytes area = bytes ++ drop (length bytes) area
-
--- "no area changes" where the play is refused
+-- "no area changes" where the play is refused; "After a run the log area begins with the records; its other bytes keep their values."
 unfoldable pub areaBy : List ℕ → List ℕ → List ℕ → Option Refusal → List ℕ
 unfolding runOf bytesOf overwrite
 areaBy plan schedule area (some r) = area

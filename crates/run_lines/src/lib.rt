@@ -7,7 +7,7 @@ ghost use Rattle.player.specs.Answer.{stopOf};
 ghost use Rattle.text.specs.Wrote.{Wrote};
 ghost use Rattle.record_lines.specs.Lines.{recordLines};
 ghost use Rattle.last_lines.specs.Lines.{outcomeLine};
-use player::outcome::Stop;
+use run_outcome::Stop;
 
 // A line for each record of a log. None is over 28 bytes.
 fn put_log(area: &mut [u8], log: &[u8]) -> usize

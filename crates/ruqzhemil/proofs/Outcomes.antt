@@ -1,7 +1,7 @@
 -- The numbers of a run's outcome fit their bytes. Assumes nothing.
 use Prim.Native.Nat.{ℕ, _≤_}
 use native.Mathlib.Omega.{arith}
-use mathlib.Core.Path.{_≡_, refl}
+use mathlib.Core.Path.{_≡_}
 use mathlib.Core.List.{List}
 use mathlib.Core.Option.{none}
 use lib.ListN.{length}
@@ -10,17 +10,13 @@ use Rattle.packed.specs.Check.{refusal}
 use Rattle.packed.specs.Trees.{programOf}
 use Rattle.packed.proofs.Decoded.{well-formed}
 use Rattle.rules.specs.State.{State, start}
-use Rattle.rules.specs.Run.{Run, stopped, afterPass, afterMove, run, play, outcomeOf, statusesFrom}
+use Rattle.rules.specs.Run.{Run, stopped, afterPass, afterMove, run, play, outcomeOf}
 use Rattle.rules.specs.Execution.{Execution, ends, passes, lacks-key, no-room, moves}
 use Rattle.rules.proofs.Executed.{reachable-start, reachable-run, play-executes}
+use Rattle.rules.proofs.ThreadStates.{eight-statuses}
 use Rattle.rules.proofs.TidyRuns.{tidy-play}
 use Rattle.outcome_bytes.specs.Small.{SmallOutcome}
 use Rattle.ruqzhemil.proofs.Statuses.{small-threads}
-
--- eight threads
-eight-of : (g : Program) (s : State) → length (statusesFrom g s 0 8) ≡ 8
-unfolding statusesFrom
-eight-of g s = refl
 
 -- no more picks are dealt with, and no more moves made, than there are picks
 few : {g : Program} {s : State} {ps : List ℕ} {r : Run} → Execution g s ps r → (r .picks ≤ length ps) × (length (r .instances) ≤ length ps)
@@ -43,5 +39,5 @@ small-outcome plan ps e n =
       moves = omega (arith, d .1);
       records = omega (arith, t .few);
       threads = small-threads g (run g start ps .final) (reachable-run g P start ps (reachable-start g P) .invariant) (t .roomy) 0 8;
-      eight = eight-of g (run g start ps .final);
+      eight = eight-statuses g (run g start ps .final);
     }

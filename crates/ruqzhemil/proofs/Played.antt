@@ -5,8 +5,8 @@ use mathlib.Core.Bool.{true≢false}
 use mathlib.Core.List.{List}
 use mathlib.Core.Option.{Option, some, none}
 use Rattle.format.specs.Refusal.{Refusal}
-use Rattle.plan.specs.declared.Checked.{Checked}
-use Rattle.plan.specs.declared.Checked.the-variants as checked
+use Rattle.refusals.specs.declared.Checked.{Checked}
+use Rattle.refusals.specs.declared.Checked.the-variants as checked
 use Rattle.rules.specs.Run as run
 use Rattle.rules.specs.Play as play
 use Rattle.rules.specs.Play.{playRefusal, played, playedBy, runOf}
@@ -14,7 +14,7 @@ use Rattle.player.specs.declared.outcome.Played.{Played}
 use Rattle.player.specs.Answer.{outcomeOf, answeredBy, answered}
 use Rattle.player.proofs.Ran.{passes, outcome-is}
 use Rattle.numbers.specs.Numbers.{playNumber}
-use Rattle.numbers.specs.Small.{SmallRefusal}
+use Rattle.refusals.specs.Small.{SmallRefusal, SmallCheck}
 use Rattle.outcome_bytes.specs.Bytes.{outcomeBytes}
 use Rattle.ruqzhemil.specs.Bytes.{outAfter}
 use Rattle.outcome_bytes.specs.Small.{SmallOutcome}
@@ -36,7 +36,7 @@ module _ (plan schedule area : List ℕ) (p : Played) (h : answered p ≡ played
         go (some r) q =
             let y : play.Played.refused (record { number = k; place = i }) ≡ play.Played.refused r = refused-is ∙ ap (playedBy plan schedule) q in
             let w : record { number = k; place = i } ≡ r = cc in
-            small-play plan schedule area (record { number = k; place = i }) (q ∙ ap some (sym w))
+            along SmallCheck (q ∙ ap some (sym w)) (small-play plan schedule area)
         go none q =
             let y : play.Played.refused (record { number = k; place = i }) ≡ playedBy plan schedule none = refused-is ∙ ap (playedBy plan schedule) q in
             absurd (true≢false cc)

@@ -2,9 +2,9 @@
 ghost use mathlib.Core.Path.{_≡_};
 ghost use Rattle.packed.specs.Check.{refusal};
 ghost use Rattle.rules.specs.Play.{played, areaAfter};
-ghost use Rattle.numbers.specs.Numbers.{checkNumber, playNumber, MayReturn};
+ghost use Rattle.numbers.specs.Numbers.{checkNumber, playNumber, JudgeReturns};
 ghost use Rattle.ruqzhemil.specs.Bytes.{outAfter};
-use plan::Checked;
+use refusals::Checked;
 
 // 0 for a plan that passes; else the refusal, number * 65536 + place.
 #[no_mangle]
@@ -39,10 +39,10 @@ pub extern "C" fn ruqzhemil_play(
     }
 }
 
-// 0 for a log without an unordered access; 2^32 + index for one; 2 * 2^32 + number * 65536 + place for a refusal.
+// 0 for a log without an unordered access; 2^32 + index for the first one; 2 * 2^32 + number * 65536 + place for a refusal.
 #[no_mangle]
 pub extern "C" fn ruqzhemil_judge(log: &[u8]) -> u64
-    ensures { λ r. ⌜ MayReturn (now (log .entry)) r ⌝ }
+    ensures { λ r. ⌜ JudgeReturns (now (log .entry)) r ⌝ }
 {
     let judgement = judge::judge(log);
     numbers::of_judge(judgement)

@@ -7,8 +7,8 @@ use Rattle.state.specs.declared.Cell.{Cell}
 use Rattle.state.specs.declared.Object.{Object}
 use Rattle.state.specs.declared.Counts.{Counts}
 use Rattle.state.specs.declared.Entry.{Entry}
-use Rattle.state.specs.declared.acted.Room.{Room}
-use Rattle.state.specs.declared.acted.Acted.{Acted}
+use Rattle.state.specs.declared.acted.Act.{Act}
+use Rattle.state.specs.declared.acted.Act.the-variants as act
 
 abbrev pub entryOf : ℕ → ℕ → ℕ → ℕ → Entry
 entryOf k o f v = record { kind = k; object = o; field = f; value = v }
@@ -29,11 +29,11 @@ abbrev pub countsOf : ℕ → ℕ → ℕ → Counts
 countsOf t o k = record { threads = t; objects = o; keys = k }
 
 -- a move, with the fields and the thread of the object that it makes
-abbrev pub actedWith : Room → Go → Counts → KeySet → Cell → Entry → ℕ → ℕ → Acted
-actedWith r g n ks c e mask q = record { room = r; go = g; keys = ks; cell = c; thing = thingOf mask q; counts = n; entry = e }
+abbrev pub actedWith : Go → Counts → KeySet → Cell → Entry → ℕ → ℕ → Act
+actedWith g n ks c e mask q = act.Done (record { go = g; keys = ks; cell = c; thing = thingOf mask q; counts = n; entry = e })
 
-abbrev pub actedOf : Room → Go → Counts → KeySet → Cell → Entry → Acted
-actedOf r g n ks c e = actedWith r g n ks c e 0 8
+abbrev pub actedOf : Go → Counts → KeySet → Cell → Entry → Act
+actedOf g n ks c e = actedWith g n ks c e 0 8
 
-abbrev pub goOn : Room → Go → Counts → Head → Cell → Acted
-goOn r g n h c = actedOf r g n (h .keys) c noEntry
+abbrev pub goOn : Go → Counts → Head → Cell → Act
+goOn g n h c = actedOf g n (h .keys) c noEntry

@@ -8,17 +8,10 @@ use crate::Head;
 use crate::Object;
 use frames::go::Go;
 use keys::KeySet;
+use records::kind;
+use run_outcome::NoRoom;
 
-// Room for the move, or what is lacking.
-pub enum Room {
-    Enough,
-    NoThread,
-    NoObject,
-    NoKey,
-    NoDepth,
-}
-
-// What a move does: the mover's keys, the cell, the new object, the counts, the record, where the mover goes on, and room for it.
+// What a move does: the mover's keys, the cell, the new object, the counts, the record, and where the mover goes on.
 pub struct Acted {
     pub keys: KeySet,
     pub cell: Cell,
@@ -26,7 +19,12 @@ pub struct Acted {
     pub counts: Counts,
     pub entry: Entry,
     pub go: Go,
-    pub room: Room,
+}
+
+// A move is done, or there is no room for what it makes.
+pub enum Act {
+    Done(Acted),
+    NoRoom(NoRoom),
 }
 
 pub fn entry(kind: usize, object: usize, field: usize, value: usize) -> Entry
@@ -52,7 +50,6 @@ pub fn cell_with(value: usize, key: u8, keys: KeySet) -> Cell
 
 // A move, with the fields and the thread of the object that it makes.
 pub fn acted_with(
-    room: Room,
     go: Go,
     counts: Counts,
     keys: KeySet,
@@ -60,35 +57,34 @@ pub fn acted_with(
     entry: Entry,
     mask: usize,
     thread: usize,
-) -> Acted
-    ensures { λ r. ⌜ r ≡ actedWith room go counts keys cell entry mask thread ⌝ }
+) -> Act
+    ensures { λ r. ⌜ r ≡ actedWith go counts keys cell entry mask thread ⌝ }
 {
     let thing = Object {
         mask: mask,
         thread: thread,
     };
-    Acted {
-        room: room,
+    Act::Done(Acted {
         go: go,
         keys: keys,
         cell: cell,
         thing: thing,
         counts: counts,
         entry: entry,
-    }
+    })
 }
 
 // A move that makes nothing.
-pub fn acted_of(room: Room, go: Go, counts: Counts, keys: KeySet, cell: Cell, entry: Entry) -> Acted
-    ensures { λ r. ⌜ r ≡ actedOf room go counts keys cell entry ⌝ }
+pub fn acted_of(go: Go, counts: Counts, keys: KeySet, cell: Cell, entry: Entry) -> Act
+    ensures { λ r. ⌜ r ≡ actedOf go counts keys cell entry ⌝ }
 {
-    acted_with(room, go, counts, keys, cell, entry, 0, 8)
+    acted_with(go, counts, keys, cell, entry, 0, 8)
 }
 
 // A move that only goes on elsewhere.
-pub fn go_on(room: Room, go: Go, counts: Counts, head: Head, cell: Cell) -> Acted
-    ensures { λ r. ⌜ r ≡ goOn room go counts head cell ⌝ }
+pub fn go_on(go: Go, counts: Counts, head: Head, cell: Cell) -> Act
+    ensures { λ r. ⌜ r ≡ goOn go counts head cell ⌝ }
 {
     let keys = head.keys;
-    acted_of(room, go, counts, keys, cell, entry(0, 0, 0, 0))
+    acted_of(go, counts, keys, cell, entry(kind::NONE, 0, 0, 0))
 }

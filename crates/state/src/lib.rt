@@ -4,6 +4,11 @@ use keys::KeySet;
 
 pub mod acted;
 
+// What a run goes by: the mask of the volatile fields, whose top bit is field 0.
+pub struct Setting {
+    pub mask: usize,
+}
+
 // A thread: the part that moves next, its depth, the object that stands for it, its keys.
 pub struct Head {
     pub ready: Ready,
@@ -32,7 +37,7 @@ pub struct Counts {
     pub keys: usize,
 }
 
-// A record without its thread; kind 0 is none.
+// A record without its thread; kind::NONE is none.
 pub struct Entry {
     pub kind: usize,
     pub object: usize,

@@ -2,7 +2,7 @@
 //
 // A case of a play: the lengths of plan, schedule and log area; what the judge says of the run, 0 for none, else the index and 1; the refusal's number,
 // 0 for a run, and its place; the 32 bytes for the outcome; then plan, schedule and records. A case of a log: the refusal's number, 0 for none, and its
-// place; how many indices the judge may name, and each; then the log.
+// place; what the judge says, 0 for none, else the index and 1; then the log.
 ghost use Prim.Native.Nat.{_+_, _≤_, _<_};
 ghost use lib.ListN.{length};
 
@@ -101,6 +101,17 @@ pub fn play_case(case: &[u8]) -> bool {
     (got == refusal_at(case, 8)) & same_bytes(&out, &case[11..43]) & begins(&area, &case[last..])
 }
 
+// Whether the judge returned what is stored: 0 for none, else the index and 1.
+fn names(got: u64, wanted: u64) -> bool
+    requires { ⌜ wanted < 65536 ⌝ }
+{
+    if wanted == 0 {
+        got == 0
+    } else {
+        got == 4294967295 + wanted
+    }
+}
+
 // The judge on the stored records of a run.
 pub fn run_case(case: &[u8]) -> bool {
     if case.len() < 43 {
@@ -109,23 +120,7 @@ pub fn run_case(case: &[u8]) -> bool {
     let end = part_end(case, 43, byte_numbers::half(case, 0));
     let last = part_end(case, end, byte_numbers::half(case, 2));
     let wanted = byte_numbers::half(case, 6) as u64;
-    let got = ruqzhemil::ruqzhemil_judge(&case[last..]);
-    if wanted == 0 {
-        got == 0
-    } else {
-        got == 4294967295 + wanted
-    }
-}
-
-// Whether the judge's answer names an index among those of two bytes each.
-fn listed(indices: &[u8], got: u64) -> bool {
-    let mut number = 0;
-    let mut found = false;
-    while number < indices.len() / 2 {
-        found = found | (4294967296 + byte_numbers::half(indices, 2 * number) as u64 == got);
-        number += 1;
-    }
-    found
+    names(ruqzhemil::ruqzhemil_judge(&case[last..]), wanted)
 }
 
 // The judge on a log.
@@ -133,14 +128,11 @@ pub fn log_case(case: &[u8]) -> bool {
     if case.len() < 5 {
         return false;
     }
-    let end = part_end(case, 5, 2 * byte_numbers::half(case, 3));
-    let wanted = refusal_at(case, 0);
-    let got = ruqzhemil::ruqzhemil_judge(&case[end..]);
-    if wanted != 0 {
-        return got == 8589934592 + wanted;
+    let refused = refusal_at(case, 0);
+    let wanted = byte_numbers::half(case, 3) as u64;
+    let got = ruqzhemil::ruqzhemil_judge(&case[5..]);
+    if refused != 0 {
+        return got == 8589934592 + refused;
     }
-    if end == 5 {
-        return got == 0;
-    }
-    listed(&case[5..end], got)
+    names(got, wanted)
 }

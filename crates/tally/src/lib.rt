@@ -3,6 +3,7 @@ ghost use mathlib.Core.Path.{_≡_};
 ghost use Prim.Native.Nat.{_≤_, _+_, _*_};
 ghost use lib.ListN.{length};
 ghost use Rattle.tally.specs.Tally.{tallyFirst, tallyPut, tallyMoved, logPut};
+use records::kind;
 use state::Counts;
 use state::Entry;
 
@@ -29,17 +30,17 @@ pub fn first() -> Tally
     }
 }
 
-// Writes the thread's record and counts it; kind 0 is none.
+// Writes the thread's record and counts it, unless it is none.
 pub fn put(log: &mut [u8], tally: Tally, thread: usize, entry: Entry) -> Tally
     requires { ⌜ (tally .records * 3 + 3 ≤ length (now log)) × (tally .records ≤ 4096) ⌝ }
     ensures { λ r. ⌜ (r ≡ tallyPut tally entry) × (r .records ≤ tally .records + 1) ⌝ }
     ensures { λ r. ⌜ now (log .exit) ≡ logPut (now (log .entry)) (tally .records) thread entry ⌝ }
 {
-    let kind = entry.kind;
-    if kind == 0 {
+    let number = entry.kind;
+    if number == kind::NONE {
         return tally;
     }
-    let word = (((kind % 16 * 8 + thread % 8) * 32 + entry.object % 32) * 32 + entry.field % 32)
+    let word = (((number % 16 * 8 + thread % 8) * 32 + entry.object % 32) * 32 + entry.field % 32)
         * 128
         + entry.value % 32 * 4;
     let at = tally.records * 3;

@@ -1,24 +1,23 @@
 // Check 4: a single term against the table, and the terms' 40 bits loaded for the checks after it.
 use crate::term;
-use crate::term::ARGUMENTS;
-use crate::term::BODY;
-use crate::term::FIELD;
-use crate::term::FIRST;
-use crate::term::MASK;
-use crate::term::PROCEDURE;
-use crate::term::SECOND;
-use crate::term::SLOT;
-use crate::term::TAG;
-use crate::term::THIRD;
-use crate::term::VALUE;
-use crate::term::WRITTEN;
+use operands::ARGUMENTS;
+use operands::BODY;
+use operands::FIELD;
+use operands::FIRST;
+use operands::MASK;
+use operands::SECOND;
+use operands::SLOT;
+use operands::TAG;
+use operands::THIRD;
+use operands::WRITTEN;
 ghost use mathlib.Core.Path.{_≡_};
 ghost use mathlib.Core.Bool.{_&&_, _||_, not};
-ghost use Prim.Native.Nat.{_<_, _≤_, _/_, _%_};
+ghost use Prim.Native.Nat.{_<_, _≤_};
 ghost use lib.Dec.{ltb, leb, eqb};
 ghost use lib.ListN.{replicate};
 ghost use Rattle.format.specs.Lowest.{Lowest};
 ghost use Rattle.packed.specs.Format.{binder, mask};
+ghost use Rattle.packed.specs.Operands.{firstOf, secondOf, thirdOf, slotBits, letFirst, letSecond, fieldBits, writeSecond, procedureBits, listBits, maskBits, spareSet};
 ghost use Rattle.packed.specs.Refusals.{wrongOperand, breaksTable, wrongTerm};
 ghost use Rattle.packed.specs.Steps.{Headed, Loaded, outside, termIn};
 
@@ -51,39 +50,39 @@ fn wrong_mask(fields: usize) -> bool
 
 // A variable: a slot.
 fn wrong_variable(word: usize) -> bool
-    ensures { λ r. ⌜ r ≡ (ltb 7 (word / 2147483648 % 16) || not (eqb (word % 2147483648) 0)) ⌝ }
+    ensures { λ r. ⌜ r ≡ (ltb 7 (slotBits word) || spareSet 4 word) ⌝ }
 {
-    word / SLOT % 16 > 7 || word % SLOT != 0
+    operands::slot_of(word) > 7 || word % SLOT != 0
 }
 
 // A new: a mask of fields.
 fn wrong_new(word: usize) -> bool
-    ensures { λ r. ⌜ r ≡ (wrongOperand 0 0 0 mask (word / 8 % 4294967296) || not (eqb (word % 8) 0)) ⌝ }
+    ensures { λ r. ⌜ r ≡ (wrongOperand 0 0 0 mask (maskBits word) || spareSet 32 word) ⌝ }
 {
-    wrong_mask(word / MASK % 4294967296) || word % MASK != 0
+    wrong_mask(operands::mask_of(word)) || word % MASK != 0
 }
 
 // A read: a term and a field.
 fn wrong_read(word: usize, term: usize, count: usize) -> bool
-    ensures { λ r. ⌜ r ≡ ((outside count term (word / 33554432 % 1024) || eqb (word / 1048576 % 32) 0) || not (eqb (word % 1048576) 0)) ⌝ }
+    ensures { λ r. ⌜ r ≡ ((outside count term (firstOf word) || eqb (fieldBits word) 0) || spareSet 15 word) ⌝ }
 {
-    if outside(word / FIRST % 1024, term, count) {
+    if outside(operands::first(word), term, count) {
         return true;
     }
-    word / FIELD % 32 == 0 || word % FIELD != 0
+    operands::field_of(word) == 0 || word % FIELD != 0
 }
 
 // A write: a term, a field, a term.
 fn wrong_write(word: usize, term: usize, count: usize) -> bool
-    ensures { λ r. ⌜ r ≡ (((outside count term (word / 33554432 % 1024) || eqb (word / 1048576 % 32) 0) || outside count term (word / 1024 % 1024)) || not (eqb (word % 1024) 0)) ⌝ }
+    ensures { λ r. ⌜ r ≡ (((outside count term (firstOf word) || eqb (fieldBits word) 0) || outside count term (writeSecond word)) || spareSet 25 word) ⌝ }
 {
-    if outside(word / FIRST % 1024, term, count) {
+    if outside(operands::first(word), term, count) {
         return true;
     }
-    if word / FIELD % 32 == 0 {
+    if operands::field_of(word) == 0 {
         return true;
     }
-    outside(word / WRITTEN % 1024, term, count) || word % WRITTEN != 0
+    outside(operands::write_second(word), term, count) || word % WRITTEN != 0
 }
 
 // A let's slot: 0 to 7, or 15.
@@ -95,71 +94,69 @@ fn wrong_binder(slot: usize) -> bool
 
 // A let: a slot and two terms.
 fn wrong_let(word: usize, term: usize, count: usize) -> bool
-    ensures { λ r. ⌜ r ≡ (((wrongOperand 0 0 0 binder (word / 2147483648 % 16) || outside count term (word / 2097152 % 1024)) || outside count term (word / 2048 % 1024)) || not (eqb (word % 2048) 0)) ⌝ }
+    ensures { λ r. ⌜ r ≡ (((wrongOperand 0 0 0 binder (slotBits word) || outside count term (letFirst word)) || outside count term (letSecond word)) || spareSet 24 word) ⌝ }
 {
-    if wrong_binder(word / SLOT % 16) {
+    if wrong_binder(operands::slot_of(word)) {
         return true;
     }
-    either_outside(word / VALUE % 1024, word / BODY % 1024, term, count) || word % BODY != 0
+    let value = operands::let_first(word);
+    let body = operands::let_second(word);
+    either_outside(value, body, term, count) || word % BODY != 0
 }
 
 // An if: three terms.
 fn wrong_if(word: usize, term: usize, count: usize) -> bool
-    ensures { λ r. ⌜ r ≡ (((outside count term (word / 33554432 % 1024) || outside count term (word / 32768 % 1024)) || outside count term (word / 32 % 1024)) || not (eqb (word % 32) 0)) ⌝ }
+    ensures { λ r. ⌜ r ≡ (((outside count term (firstOf word) || outside count term (secondOf word)) || outside count term (thirdOf word)) || spareSet 30 word) ⌝ }
 {
-    if outside(word / FIRST % 1024, term, count) {
+    if outside(operands::first(word), term, count) {
         return true;
     }
-    either_outside(word / SECOND % 1024, word / THIRD % 1024, term, count) || word % THIRD != 0
+    let second = operands::second(word);
+    let third = operands::third(word);
+    either_outside(second, third, term, count) || word % THIRD != 0
 }
 
 // Two terms.
 fn wrong_pair(word: usize, term: usize, count: usize) -> bool
-    ensures { λ r. ⌜ r ≡ ((outside count term (word / 33554432 % 1024) || outside count term (word / 32768 % 1024)) || not (eqb (word % 32768) 0)) ⌝ }
+    ensures { λ r. ⌜ r ≡ ((outside count term (firstOf word) || outside count term (secondOf word)) || spareSet 20 word) ⌝ }
 {
-    either_outside(word / FIRST % 1024, word / SECOND % 1024, term, count) || word % SECOND != 0
+    let first = operands::first(word);
+    let second = operands::second(word);
+    either_outside(first, second, term, count) || word % SECOND != 0
 }
 
 // A call: a procedure and a list.
 fn wrong_call(word: usize, term: usize, procedures: usize, count: usize) -> bool
-    ensures { λ r. ⌜ r ≡ ((leb procedures (word / 1073741824 % 32) || outside count term (word / 1048576 % 1024)) || not (eqb (word % 1048576) 0)) ⌝ }
+    ensures { λ r. ⌜ r ≡ ((leb procedures (procedureBits word) || outside count term (listBits word)) || spareSet 15 word) ⌝ }
 {
-    if word / PROCEDURE % 32 >= procedures {
+    if operands::procedure_of(word) >= procedures {
         return true;
     }
-    outside(word / ARGUMENTS % 1024, term, count) || word % ARGUMENTS != 0
+    outside(operands::list_of(word), term, count) || word % ARGUMENTS != 0
 }
 
 // One term.
 fn wrong_single(word: usize, term: usize, count: usize) -> bool
-    ensures { λ r. ⌜ r ≡ (outside count term (word / 33554432 % 1024) || not (eqb (word % 33554432) 0)) ⌝ }
+    ensures { λ r. ⌜ r ≡ (outside count term (firstOf word) || spareSet 10 word) ⌝ }
 {
-    outside(word / FIRST % 1024, term, count) || word % FIRST != 0
+    outside(operands::first(word), term, count) || word % FIRST != 0
 }
 
 // The table of terms: `word`, the 40 bits of a term, is wrong by its tag.
 fn wrong_term(word: usize, term: usize, procedures: usize, count: usize) -> bool
     ensures { λ r. ⌜ r ≡ breaksTable procedures count term (termIn word) ⌝ }
 {
-    match word / TAG {
-        0 => word % TAG != 0,
+    match operands::tag(word) {
+        17 | 12 | 0 => word % TAG != 0,
         1 => wrong_variable(word),
         2 => wrong_new(word),
         3 => wrong_read(word, term, count),
         4 => wrong_write(word, term, count),
         5 => wrong_let(word, term, count),
         6 => wrong_if(word, term, count),
-        7 => wrong_pair(word, term, count),
+        16 | 15 | 14 | 11 | 7 => wrong_pair(word, term, count),
         8 => wrong_call(word, term, procedures, count),
-        9 => wrong_single(word, term, count),
-        10 => wrong_single(word, term, count),
-        11 => wrong_pair(word, term, count),
-        12 => word % TAG != 0,
-        13 => wrong_single(word, term, count),
-        14 => wrong_pair(word, term, count),
-        15 => wrong_pair(word, term, count),
-        16 => wrong_pair(word, term, count),
-        17 => word % TAG != 0,
+        13 | 10 | 9 => wrong_single(word, term, count),
         _ => true,
     }
 }

@@ -14,7 +14,7 @@ ascii (string._∷_ c s) = code c ∷ ascii s
 
 -- the decimal digits of a number, no zero in front; 48 is the digit 0. Each digit uses up one of the steps.
 unfoldable pub decimalBy : ℕ → ℕ → List ℕ
-decimalBy zero n = []
+decimalBy zero n = []  -- never asked: there is a step for every digit
 decimalBy (suc steps) n = cond (ltb n 10) ((48 + n) ∷ []) (decimalBy steps (n / 10) ++ ((48 + n % 10) ∷ []))
 
 unfoldable pub decimal : ℕ → List ℕ
@@ -23,6 +23,6 @@ decimal n = decimalBy (suc n) n
 
 -- columns parted by a space, ended by a line feed
 unfoldable pub line : List (List ℕ) → List ℕ
-line [] = 10 ∷ []
+line [] = 10 ∷ []  -- never asked: every line has columns
 line (w ∷ []) = w ++ (10 ∷ [])
 line (w ∷ (v ∷ ws)) = w ++ (32 ∷ line (v ∷ ws))

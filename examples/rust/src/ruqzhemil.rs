@@ -58,7 +58,7 @@ pub fn play(plan: &[u8], schedule: &[u8], log: &mut [u8]) -> Result<Outcome, Ref
     }
 }
 
-/// The index of an unordered access, if the log has one.
+/// The lowest index of an unordered access, if the log has one.
 pub fn judge(log: &[u8]) -> Result<Option<u64>, Refusal> {
     match library::judge(log) {
         0 => Ok(None),

@@ -28,12 +28,9 @@ returns : tie.Need-returns
 unfolding actWrite
 returns c = simp (c .acted-of .ensures, c .before .entry .ensures, c .before .before .cell-with .ensures, c .before .before .before .join .ensures .exact, c .before .before .before .before .before .before .value .ensures, sym (c .before .before .before .before .before .has .ensures) ∙ c .before .before .before .before .if1 .taken)
 
-go-on-requires : tie.Need-go-on-requires
-go-on-requires c κs = search needs
-
 returns-2 : tie.Need-returns-2
 unfolding actWrite
-returns-2 c = simp (c .go-on .ensures, c .before .before .before .before .value .ensures, sym (c .before .before .before .has .ensures) ∙ c .before .before .if1 .left, le-leb _ _ (c .before .if2 .taken))
+returns-2 c = simp (sym (c .before .before .has .ensures) ∙ c .before .if1 .left, le-leb _ _ (c .if2 .taken))
 
 cast-key : tie.Need-cast-key
 cast-key c = search needs
@@ -44,8 +41,8 @@ learn-requires c κs = search needs
 cell-with-requires-2 : tie.Need-cell-with-requires-2
 cell-with-requires-2 c κs = search needs
 
-add-t24 : tie.Need-add-t24
-add-t24 c = search needs
+add-used : tie.Need-add-used
+add-used c = search needs
 
 entry-requires-2 : tie.Need-entry-requires-2
 entry-requires-2 c κs = search needs
@@ -68,12 +65,11 @@ act-write-spec =
     entry-requires
     acted-of-requires
     returns
-    go-on-requires
     returns-2
     cast-key
     learn-requires
     cell-with-requires-2
-    add-t24
+    add-used
     entry-requires-2
     acted-of-requires-2
     returns-3)

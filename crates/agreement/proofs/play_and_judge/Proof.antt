@@ -40,7 +40,7 @@ returns : tie.Need-returns
 returns c =
     let p = c .before .before .before .before .before .before .play in
     let k = c .before .checked .given in
-    (p .ensures .0, (p .ensures .1 .0, (refused-agreed _ _ (p .result) (k .0 .0) (k .0 .1 .0) (k .1), p .ensures .1 .1)))
+    (p .ensures .0, (p .ensures .1 .0, (refused-agreed _ _ (p .result) (k .0 .0) (k .0 .1 .0) (k .1), p .ensures .1 .1 .0)))
 
 same-length-2 : tie.Need-same-length-2
 same-length-2 c = search needs
@@ -53,7 +53,7 @@ returns-2 c =
     let p = t .before .before .before .before .before .play in
     let b = c .before .before .record-bytes in
     let agreed = agreed-on (a .plan .now) (a .schedule .now) (a .log .now) (p .result) (p .ensures .0) (t .enum-told .given .1) (p .last .1 .1 .0) (p .ensures .1 .0) in
-    (p .ensures .0, (p .ensures .1 .0, (agreed (c .judge-part .result) (b .result) (b .ensures) (c .judge-part .ensures), p .ensures .1 .1)))
+    (p .ensures .0, (p .ensures .1 .0, (agreed (c .judge-part .result) (b .result) (b .ensures) (c .judge-part .ensures), p .ensures .1 .1 .0)))
 
 pub play-and-judge-spec : {M : Type 1} → statement M
 play-and-judge-spec =

@@ -1,6 +1,7 @@
 -- `lowest_wrong_procedure`: the procedures so far are right.
 use Rattle.format.proofs.LowestLaws.{found, found-none}
 use Rattle.packed.specs.Refusals.{wrongProcedure}
+use Rattle.packed.proofs.Reading.{procedures-lt}
 use borrow.Author.Count.{below-more}
 use mathlib.Core.Bool.{false}
 use Prim.Native.Nat.{ℕ}
@@ -21,7 +22,10 @@ loop-holds : tie.Need-loop-holds Inv-loop μ-loop
 loop-holds c = (search needs, λ k h. absurd (omega arith))
 
 wrong-procedure-requires : tie.Need-wrong-procedure-requires Inv-loop μ-loop
-wrong-procedure-requires c κs = search needs
+wrong-procedure-requires c κs =
+    let s = c .before .before .before in
+    let z = s .pre in
+    (z .terms-are, omega (arith, z, procedures-lt (s .args .plan .now)), omega (arith, z))
 
 returns : tie.Need-returns Inv-loop μ-loop
 returns c = found (wrongProcedure (c .before .before .before .before .before .args .plan .now)) _ _ (c .before .before .loop-test .taken) (sym (c .before .wrong-procedure .ensures) ∙ c .if1 .taken) (c .before .before .before .loop .inv .1)

@@ -4,13 +4,14 @@ use mathlib.Core.Bool.{false, _&&_}
 use mathlib.Core.Logic.{⊎-elim}
 use lib.Dec.{eqb, ltb}
 use borrow.Author.Tests.{lt-ltb, le-ltb, eq-eqb, ne-eqb}
+use borrow.Author.Needs.{needs}
 use Rattle.packed.specs.Format.{root}
 use Rattle.packed.proofs.Reading.{procedure-tests}
 use Rattle.header.proofs.wrong_procedure.Statement.{statement}
 use Rattle.header.proofs.wrong_procedure.Tie as tie
 
 parameters-requires : tie.Need-parameters-requires
-parameters-requires c κs = c .before .pre .1
+parameters-requires c κs = search needs
 
 returns : tie.Need-returns
 returns c =
@@ -29,7 +30,7 @@ returns-2 c =
     ∙ rw (le-ltb 8 (k .result) (c .before .before .if1 .left), eq-eqb (a .procedure) 0 (c .before .if2 .taken), c .if3 .taken))
 
 root-requires : tie.Need-root-requires
-root-requires c κs = c .before .before .before .before .pre .1
+root-requires c κs = search needs
 
 returns-3 : tie.Need-returns-3
 returns-3 c =

@@ -2,8 +2,8 @@
 use native.Mathlib.Omega.{arith}
 use mathlib.Core.Path.{_≡_, sym, ap}
 use lib.ListN.{length}
-use Rattle.player.specs.declared.outcome.NoRoom.{NoRoom}
-use Rattle.player.specs.declared.outcome.Stop.the-variants as stop
+use Rattle.run_outcome.specs.declared.NoRoom.{NoRoom}
+use Rattle.run_outcome.specs.declared.Stop.the-variants as stop
 use Rattle.player.specs.Answer.{roomOf, stopOf}
 use Rattle.text.specs.Text.{ascii}
 use Rattle.last_lines.specs.Lines.{stopWord}

@@ -2,7 +2,7 @@
 use native.Mathlib.Omega.{arith}
 use mathlib.Core.Path.{_≡_, sym, ap}
 use lib.ListN.{length}
-use Rattle.player.specs.declared.outcome.Stop.{Stop}
+use Rattle.run_outcome.specs.declared.Stop.{Stop}
 use Rattle.player.specs.Answer.{stopOf}
 use Rattle.text.specs.Text.{ascii}
 use Rattle.last_lines.specs.Lines.{stopWord}

@@ -6,6 +6,7 @@ use Prim.Native.Nat.{_-_, _≤_}
 use native.Mathlib.Numerals.{add-one}
 use Rattle.format.specs.Lowest.{Lowest}
 use Rattle.packed.specs.Steps.{Counted, misplacedRoot, rootTimes}
+use Rattle.packed.proofs.Reading.{procedures-lt}
 use Rattle.packed.proofs.Shown.{root-below}
 use Rattle.packed.proofs.SortLaws.{no-root, one-root}
 use Rattle.packed.proofs.NameLaws.{no-names, root-step}
@@ -22,7 +23,10 @@ loop-holds : tie.Need-loop-holds Inv-loop μ-loop
 loop-holds c = (search needs, no-root (c .before .args .plan .now) _, rw (c .before .pre .1 .1) (no-names (c .before .args .plan .now)))
 
 root-requires : tie.Need-root-requires Inv-loop μ-loop
-root-requires c κs = let s = c .before .before .before .before .pre .0 .headed .sized in omega (arith, s)
+root-requires c κs =
+    let s = c .before .before .before .before in
+    let z = s .pre .0 .headed .sized in
+    (omega (arith, z, procedures-lt (s .args .plan .now)), omega (arith, z))
 
 name-requires : tie.Need-name-requires Inv-loop μ-loop
 name-requires c κs =

@@ -1,5 +1,5 @@
 -- `numbers::of_check` meets its contract: the number of each answer. Assumes nothing.
-use Rattle.plan.specs.Answer.{answered}
+use Rattle.refusals.specs.Answer.{answered}
 use Rattle.numbers.specs.Numbers.{checkNumber}
 use borrow.Author.Needs.{needs}
 use Rattle.numbers.proofs.of_check.Statement.{statement}

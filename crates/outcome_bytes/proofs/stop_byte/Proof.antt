@@ -1,6 +1,6 @@
 -- `outcome_bytes::stop_byte` meets its contract: the byte of each stop. Assumes nothing.
 use mathlib.Core.Path.{ap, sym, _∙_}
-use Rattle.player.specs.declared.outcome.Stop.{Stop}
+use Rattle.run_outcome.specs.declared.Stop.{Stop}
 use Rattle.player.specs.Answer.{stopOf}
 use Rattle.outcome_bytes.specs.Bytes.{stopByte}
 use borrow.Author.Needs.{needs}

@@ -20,6 +20,12 @@ named-requires-2 : tie.Need-named-requires-2
 unfolding statusOf stuckOf
 named-requires-2 c κs = let h = rw (c .before .stuck2 .given .1) at (c .before .before .before .pre) in (omega arith, omega arith)
 
+enum-told : tie.Need-enum-told
+enum-told c = search needs
+
+named-requires-3 : tie.Need-named-requires-3
+named-requires-3 c κs = search needs
+
 returns : tie.Need-returns
 unfolding threadBytes statusOf stuckOf
 returns c = simp (c .named .ensures, c .before .before .stuck .given .1)
@@ -28,7 +34,20 @@ returns-2 : tie.Need-returns-2
 unfolding threadBytes statusOf stuckOf
 returns-2 c = simp (c .named2 .ensures, c .before .before .stuck2 .given .1)
 
+returns-3 : tie.Need-returns-3
+unfolding threadBytes statusOf stuckOf
+returns-3 c = simp (c .named3 .ensures, c .before .enum-told .given .1)
+
 pub stuck-bytes-spec : {M : Type 1} → statement M
 stuck-bytes-spec =
     tie.close
-    (tie.spec enum-known-stuck named-requires enum-known-stuck-2 named-requires-2 returns returns-2)
+    (tie.spec
+    enum-known-stuck
+    named-requires
+    enum-known-stuck-2
+    named-requires-2
+    enum-told
+    named-requires-3
+    returns
+    returns-2
+    returns-3)

@@ -8,7 +8,7 @@ use Rattle.packed.specs.Format.{procedures}
 use Rattle.packed.specs.Refusals.{wrongLength, wrongHeader, wrongProcedure}
 use Rattle.packed.specs.Check.{checks}
 use Rattle.packed.proofs.Shown.{long-enough, make-sized}
-use Rattle.plan.specs.Answer.{answered}
+use Rattle.refusals.specs.Answer.{answered}
 use Rattle.plan.proofs.check_header.Statement.{statement}
 use Rattle.plan.proofs.check_header.Tie as tie
 

@@ -9,7 +9,7 @@ use Rattle.packed.specs.Format.{procedures, terms}
 use Rattle.packed.specs.Refusals.{wronglySorted, notNamedOnce, usesUnboundSlot}
 use Rattle.packed.specs.Check.{checks}
 use Rattle.packed.proofs.NameLaws.{all-names}
-use Rattle.plan.specs.Answer.{answered}
+use Rattle.refusals.specs.Answer.{answered}
 use Rattle.plan.proofs.check_trees.Statement.{statement}
 use Rattle.plan.proofs.check_trees.Tie as tie
 

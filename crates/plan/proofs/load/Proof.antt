@@ -9,7 +9,8 @@ use Rattle.packed.specs.Format.{terms}
 use Rattle.packed.specs.Refusals.{wrongTerm}
 use Rattle.packed.specs.Steps.{Headed}
 use Rattle.packed.proofs.Shown.{make-headed, make-right}
-use Rattle.plan.proofs.Stages.{passed-refused, by-header, headed, by-term, by-trees, loaded-as}
+use Rattle.refusals.proofs.Stages.{passed-refused}
+use Rattle.plan.proofs.Stages.{by-header, headed, by-term, by-trees, loaded-as}
 use Rattle.plan.proofs.load.Statement.{statement}
 use Rattle.plan.proofs.load.Tie as tie
 

@@ -4,10 +4,10 @@ use mathlib.Core.Path.{refl, ap, _∙_}
 use borrow.Author.Needs.{needs}
 use Rattle.packed.specs.Format.{procedures}
 use Rattle.player.specs.Roots.{Roots}
-use Rattle.player.specs.Outcomes.{outcomeBy}
-use Rattle.plan.proofs.Stages.{passed-refused}
+use Rattle.refusals.proofs.Stages.{passed-refused}
 use Rattle.play_refusals.proofs.Passed.{Passed, Inside, inside, by-code}
 use Rattle.player.proofs.Entry.{refused-answer, refused-area, ran-answer, ran-area}
+use Rattle.player.proofs.Executed.{ran-whole}
 use Rattle.player.proofs.play.Statement.{statement}
 use Rattle.player.proofs.play.Tie as tie
 
@@ -37,7 +37,10 @@ returns c =
     let h = c .before .before .before .refusal .ensures .0 in
     let e = c .before .enum-told2 .given .1 in (
       refused-answer (a .plan .now) (a .schedule .now) (a .log .now) _ h _ _ e (c .refused .result) (c .refused .ensures .0),
-      (refused-area (a .plan .now) (a .schedule .now) (a .log .now) _ h _ _ e, λ k i q. c .refused .ensures .1),
+      (
+        refused-area (a .plan .now) (a .schedule .now) (a .log .now) _ h _ _ e,
+        (λ k i q. c .refused .ensures .1, λ q. passed-refused q (c .refused .ensures .0 ∙ e)),
+      ),
     )
 
 procedures-requires : tie.Need-procedures-requires
@@ -55,26 +58,20 @@ volatiles-requires c κs = let w = within (c .before .before) .long in omega ari
 run-requires : tie.Need-run-requires
 run-requires c κs = let t = told (c .before .before .before .before .before .before) in (t .few, omega (arith, t .wide))
 
-outcome-of-requires : tie.Need-outcome-of-requires
-outcome-of-requires c κs = search needs
-
 same-length : tie.Need-same-length
 same-length c = search needs
 
 returns-2 : tie.Need-returns-2
 returns-2 c =
-    let a = c .before .before .before .before .before .before .before .before .before .before .before .before .before .before .before .before .before .args in
-    let e = c .before .before .before .before .before .before .before .before .before .before .enum-told .given .1 in
-    let x = c .before .before .before .before .before .before .before .before .before .before .before .before .refusal in
+    let a = c .before .before .before .before .before .before .before .before .before .before .before .before .before .before .before .before .args in
+    let e = c .before .before .before .before .before .before .before .before .before .enum-told .given .1 in
+    let x = c .before .before .before .before .before .before .before .before .before .before .before .refusal in
     let w = x .ensures .1 e in
-    let r : Roots (a .plan .now) (procedures (a .plan .now)) (c .before .before .before .before .before .before .before .before .roots .result) = λ i q. c .before .before .before .before .before .before .before .before .roots .ensures i (omega (arith, c .before .before .before .before .before .before .before .before .before .procedures .ensures)) in
-    let m = c .before .before .before .before .before .before .before .volatiles .ensures in (
-      ran-answer (a .plan .now) (a .schedule .now) (a .log .now) _ (x .ensures .0) e _ _ w r _ m _ (c .outcome-of .ensures ∙ ap outcomeBy (c .before .before .before .run .ensures .0)),
-      (
-        c .before .before .before .run .ensures .1 ∙ ran-area (a .plan .now) (a .schedule .now) (a .log .now) _ (x .ensures .0) e _ _ w r _ m,
-        λ k i q. passed-refused e q,
-      ),
-    )
+    let r : Roots (a .plan .now) (procedures (a .plan .now)) (c .before .before .before .before .before .before .before .roots .result) = λ i q. c .before .before .before .before .before .before .before .roots .ensures i (omega (arith, c .before .before .before .before .before .before .before .before .procedures .ensures)) in
+    let m = c .before .before .before .before .before .before .volatiles .ensures in
+    ran-whole (a .plan .now) (a .schedule .now) (a .log .now) _ _ e
+    (ran-answer (a .plan .now) (a .schedule .now) (a .log .now) _ (x .ensures .0) e _ _ w r _ m _ (c .before .before .run .ensures .0))
+    (c .before .before .run .ensures .1 ∙ ran-area (a .plan .now) (a .schedule .now) (a .log .now) _ (x .ensures .0) e _ _ w r _ m)
 
 pub play-spec : {M : Type 1} → statement M
 play-spec =
@@ -89,6 +86,5 @@ play-spec =
     roots-requires
     volatiles-requires
     run-requires
-    outcome-of-requires
     same-length
     returns-2)

@@ -1,5 +1,5 @@
 -- `ruqzhemil::ruqzhemil_check` meets its contract: the number of what `plan::check` answers. Assumes nothing.
-use Rattle.ruqzhemil.proofs.Refusals.{small-check}
+use Rattle.ruqzhemil.proofs.Refusals.{small-plan}
 use Rattle.numbers.specs.Numbers.{checkNumber}
 use mathlib.Core.Path.{ap, _∙_}
 use borrow.Author.Needs.{needs}
@@ -10,7 +10,7 @@ check-requires : tie.Need-check-requires
 check-requires c κs = search needs
 
 of-check-requires : tie.Need-of-check-requires
-of-check-requires c κs = rw (c .check .ensures) (small-check _)
+of-check-requires c κs = rw (c .check .ensures) (small-plan _)
 
 returns : tie.Need-returns
 returns c = c .of-check .ensures ∙ ap checkNumber (c .before .check .ensures)

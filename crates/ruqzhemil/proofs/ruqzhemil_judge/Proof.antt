@@ -12,7 +12,7 @@ of-judge-requires : tie.Need-of-judge-requires
 of-judge-requires c κs = small-judged _ _ (c .judge .ensures)
 
 returns : tie.Need-returns
-returns c = record { answer = answered (c .before .judge .result); allowed = c .before .judge .ensures; numbered = c .of-judge .ensures }
+returns c = record { answer = answered (c .before .judge .result); answers = c .before .judge .ensures; numbered = c .of-judge .ensures }
 
 pub ruqzhemil-judge-spec : {M : Type 1} → statement M
 ruqzhemil-judge-spec = tie.close (tie.spec judge-requires of-judge-requires returns)

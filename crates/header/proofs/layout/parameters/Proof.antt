@@ -1,37 +1,21 @@
--- `parameters`: the first 4 bits of a procedure's 16.
-use Prim.Native.Nat.{_+_, _*_}
-use native.Mathlib.Omega.{arith}
-use Rattle.packed.proofs.Reading.{part-bits}
+-- `parameters`: the first four bits of a procedure's 16.
 use Rattle.packed.specs.Format.{parameters}
 use borrow.Author.Needs.{needs}
 use Rattle.header.proofs.layout.parameters.Statement.{statement}
 use Rattle.header.proofs.layout.parameters.Tie as tie
 
-mul-start : tie.Need-mul-start
-mul-start c = search needs
+mul-field : tie.Need-mul-field
+mul-field c = search needs
 
-add-start : tie.Need-add-start
-add-start c = search needs
-
-sub-field : tie.Need-sub-field
-sub-field c = search needs
-
-part-field-start : tie.Need-part-field-start
-part-field-start c = search needs
-
-part-field-end : tie.Need-part-field-end
-part-field-end c = search needs
+add-field : tie.Need-add-field
+add-field c = search needs
 
 field-requires : tie.Need-field-requires
 field-requires c κs = search needs
 
 returns : tie.Need-returns
 unfolding parameters
-returns c =
-    let a = c .before .before .before .args in
-    part-bits (a .plan .now) (8 + 2 * a .procedure) 0 4 (64 + 16 * a .procedure) _ (c .field .ensures) (omega arith)
+returns c = c .field .ensures
 
 pub parameters-spec : {M : Type 1} → statement M
-parameters-spec =
-    tie.close
-    (tie.spec mul-start add-start sub-field part-field-start part-field-end field-requires returns)
+parameters-spec = tie.close (tie.spec mul-field add-field field-requires returns)

@@ -23,7 +23,10 @@ loop-holds : tie.Need-loop-holds Inv-loop μ-loop
 loop-holds c = (search needs, (λ k h. absurd (omega arith)), unloaded (c .before .args .plan .now) _ (c .before .pre .1))
 
 word-at-requires : tie.Need-word-at-requires Inv-loop μ-loop
-word-at-requires c κs = let s = c .before .before .before .pre .0 .sized in (s .procedures-are, omega (arith, s))
+word-at-requires c κs =
+    let h = c .before .before .before .pre .0 in
+    let s = h .sized in
+    (s .procedures-are, omega (arith, h), omega (arith, s))
 
 wrong-term-requires : tie.Need-wrong-term-requires Inv-loop μ-loop
 wrong-term-requires c κs = search needs

@@ -1,0 +1,13 @@
+-- `leave` meets its contract. Assumes nothing.
+use borrow.Author.Needs.{needs}
+use Rattle.pick.proofs.leave.Statement.{statement}
+use Rattle.pick.proofs.leave.Tie as tie
+
+head-at-requires : tie.Need-head-at-requires
+head-at-requires c κs = search needs
+
+returns : tie.Need-returns
+returns c = simp (c .head-at .ensures)
+
+pub leave-spec : {M : Type 1} → statement M
+leave-spec = tie.close (tie.spec head-at-requires returns)

@@ -1,0 +1,132 @@
+-- One pick: what it meets, and what it leaves. The machine that the code runs; no reader of the entries' promises needs it. Assumes nothing.
+use Prim.Native.Nat.{ℕ, _*_, _%_}
+use mathlib.Core.Bool.{Bool, true, false, cond}
+use mathlib.Core.List.{List}
+use Rattle.keys.specs.declared.KeySet.{KeySet}
+use Rattle.keys.specs.KeySet.{emptySet}
+use Rattle.records.specs.Record.{Kind, kindNumber}
+use Rattle.frames.specs.Parts.{Part as part, isPart}
+use Rattle.frames.specs.declared.go.Ready.{Ready}
+use Rattle.frames.specs.declared.go.Stage.{Stage}
+use Rattle.frames.specs.declared.go.Stage.the-variants as stage
+use Rattle.frames.specs.declared.go.Go.{Go}
+use Rattle.frames.specs.Going.{readyOf, goRun}
+use Rattle.landing.specs.declared.Landed.{Landed}
+use Rattle.landing.specs.Landing.{Stack, Ended, landOf}
+use Rattle.run_outcome.specs.declared.NoRoom.{NoRoom}
+use Rattle.run_outcome.specs.declared.NoRoom.the-variants as room
+use Rattle.run_outcome.specs.declared.Stop.the-variants as stop
+use Rattle.state.specs.declared.Setting.{Setting}
+use Rattle.state.specs.declared.Head.{Head}
+use Rattle.state.specs.declared.Entry.{Entry}
+use Rattle.state.specs.declared.acted.Act.{Act}
+use Rattle.state.specs.declared.acted.Act.the-variants as act
+use Rattle.state.specs.declared.acted.Acted.{Acted}
+use Rattle.state.specs.Acted.{entryOf, noEntry}
+use Rattle.look.specs.declared.Sight.{Sight}
+use Rattle.look.specs.declared.Sight.the-variants as sight
+use Rattle.look.specs.Look.{lookOf}
+use Rattle.act.specs.Act.{actOf}
+use Rattle.pick.specs.declared.Met.{Met}
+use Rattle.pick.specs.declared.Move.{Move}
+use Rattle.pick.specs.declared.Answer.{Answer}
+use Rattle.pick.specs.declared.Answer.the-variants as answer
+
+-- a pick's answer, with the frames that it leaves
+pub record Picked : Type 0 where
+  pub stack : Stack
+  pub answer : Answer
+
+abbrev pub picked : Stack → Answer → Picked
+picked k z = record { stack = k; answer = z }
+
+-- ---- the parts of an answer
+
+abbrev pub noRoom : NoRoom → Answer
+noRoom r = answer.Stopped (stop.NoRoom r) noEntry
+
+-- the record of an access that lacks its key, by its part p
+unfoldable pub lackBy : ℕ → Ready → Entry
+lackBy p r = cond (isPart part.Write p) (entryOf (kindNumber Kind.lacksWrite) (r .first) (r .second) (r .third)) (entryOf (kindNumber Kind.lacksRead) (r .first) (r .second) 0)
+
+abbrev pub lackEntry : Ready → Entry
+lackEntry r = lackBy (r .part) r
+
+abbrev pub forksOf : Head → Bool
+forksOf h = isPart part.Fork (h .ready .part)
+
+abbrev pub fullBy : Stage → Bool
+fullBy stage.Full = true
+fullBy stage.At = false
+fullBy stage.Run = false
+fullBy stage.RunCondition = false
+fullBy stage.Want = false
+fullBy stage.WantCondition = false
+fullBy stage.List = false
+fullBy stage.Value = false
+fullBy stage.Truth = false
+
+abbrev pub fullOf : Landed → Bool
+fullOf l = fullBy (l .stage)
+
+-- a thread where its landing ended
+abbrev pub landedHead : Landed → ℕ → KeySet → Head
+landedHead l o ks = record { ready = l .ready; depth = l .depth; object = o; keys = ks }
+
+abbrev pub noHead : Head
+noHead = record { ready = readyOf part.Done 0 0 0 0; depth = 0; object = 0; keys = emptySet }
+
+-- the mover after its move; the thread that a fork makes, whose object is the next one and whose keys are its maker's
+abbrev pub moverOf : Met → Acted → Landed → Head
+moverOf x a l = landedHead l (x .head .object) (a .keys)
+
+abbrev pub bornOf : Met → Landed → Head
+bornOf x l = landedHead l (x .counts .objects) (x .head .keys)
+
+abbrev pub moveOf : Met → Acted → Landed → Head → Bool → Move
+moveOf x a l y forks = record { mover = moverOf x a l; young = y; cell = a .cell; thing = a .thing; counts = a .counts; entry = a .entry; forks = forks }
+
+-- ---- the landings
+
+-- of the mover
+abbrev pub landMover : List ℕ → List ℕ → Met → Acted → Stack → Ended
+landMover ws rs x a k = landOf 2100 ws rs (x .thread * 33) k (a .go) (x .head .depth % 33)
+
+-- of a forked thread
+abbrev pub youngGo : Head → Go
+youngGo h = goRun (h .ready .first) (h .ready .environment)
+
+abbrev pub landYoung : List ℕ → List ℕ → Met → Stack → Ended
+landYoung ws rs x k = landOf 2100 ws rs (x .counts .threads % 9 * 33) k (youngGo (x .head)) 0
+
+-- ---- the answer
+
+-- to a fork whose mover has landed at l, where its young landed
+unfoldable pub startBy : Met → Acted → Landed → Ended → Picked
+startBy x a l y = cond (fullOf (y .landed)) (picked (y .stack) (noRoom room.Depth)) (picked (y .stack) (answer.Moved (moveOf x a l (bornOf x (y .landed)) true)))
+
+-- to a move that has room for what it makes, where its mover landed
+unfoldable pub landBy : List ℕ → List ℕ → Met → Acted → Ended → Picked
+landBy ws rs x a l =
+    cond (fullOf (l .landed)) (picked (l .stack) (noRoom room.Depth))
+    (cond (forksOf (x .head)) (startBy x a (l .landed) (landYoung ws rs x (l .stack))) (picked (l .stack) (answer.Moved (moveOf x a (l .landed) noHead false))))
+
+abbrev pub makeBy : List ℕ → List ℕ → Met → Act → Stack → Picked
+makeBy ws rs x (act.Done a) k = landBy ws rs x a (landMover ws rs x a k)
+makeBy ws rs x (act.NoRoom r) k = picked k (noRoom r)
+
+-- what the move of a ready thread does
+abbrev pub actMet : Setting → Met → Act
+actMet g x = actOf g (x .counts) (x .head) (x .cell) (x .thing) (x .other)
+
+abbrev pub pickBy : List ℕ → List ℕ → Setting → Met → Sight → Stack → Picked
+pickBy ws rs g x sight.Ready k = makeBy ws rs x (actMet g x) k
+pickBy ws rs g x sight.Lacking k = picked k (answer.Stopped stop.Race (lackEntry (x .head .ready)))
+pickBy ws rs g x (sight.Blocked b) k = picked k answer.Passed
+
+-- what a pick meets
+abbrev pub lookMet : Setting → Met → Sight
+lookMet g x = lookOf g (x .head) (x .cell) (x .thing) (x .other .ready .part)
+
+unfoldable pub pickOf : List ℕ → List ℕ → Setting → Met → Stack → Picked
+pickOf ws rs g x k = pickBy ws rs g x (lookMet g x) k

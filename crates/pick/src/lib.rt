@@ -1,0 +1,240 @@
+// One pick: what it meets, and what it leaves. The frames alone are lent; all else goes by value.
+ghost use mathlib.Core.Path.{_≡_};
+ghost use Prim.Native.Nat.{_<_};
+ghost use Rattle.pick.specs.Pick.{noRoom, lackEntry, fullOf, landedHead, noHead, moveOf, landMover, landYoung, startBy, landBy, makeBy, actMet, pickOf};
+ghost use Rattle.run_outcome.specs.declared.Stop.the-variants as stop;
+ghost use Rattle.pick.specs.declared.Answer.the-variants as answer;
+use frames::go;
+use frames::go::Ready;
+use frames::go::Stage;
+use frames::part;
+use keys::KeySet;
+use landing::Landed;
+use look::Sight;
+use records::kind;
+use run_outcome::NoRoom;
+use run_outcome::Stop;
+use state::Cell;
+use state::Counts;
+use state::Entry;
+use state::Head;
+use state::Object;
+use state::Setting;
+use state::acted;
+use state::acted::Act;
+use state::acted::Acted;
+
+// What a pick meets: the counts, the thread's head, the cell and the object that its part is about, the head of the thread that the object stands for,
+// and the thread's number.
+pub struct Met {
+    pub counts: Counts,
+    pub head: Head,
+    pub cell: Cell,
+    pub thing: Object,
+    pub other: Head,
+    pub thread: usize,
+}
+
+// What a move leaves: the mover, the thread that it makes if it forks, the cell, the object that it makes, the counts, the record.
+pub struct Move {
+    pub mover: Head,
+    pub young: Head,
+    pub cell: Cell,
+    pub thing: Object,
+    pub counts: Counts,
+    pub entry: Entry,
+    pub forks: bool,
+}
+
+// A pick is passed over, moves its thread, or stops the run with a last record.
+pub enum Answer {
+    Passed,
+    Moved(Move),
+    Stopped { stop: Stop, entry: Entry },
+}
+
+// A stop that leaves no record.
+fn no_room(room: NoRoom) -> Answer
+    ensures { λ r. ⌜ r ≡ noRoom room ⌝ }
+{
+    let none = acted::entry(kind::NONE, 0, 0, 0);
+    Answer::Stopped {
+        stop: Stop::NoRoom(room),
+        entry: none,
+    }
+}
+
+// The record of an access that lacks its key.
+fn lack(ready: Ready) -> Entry
+    ensures { λ r. ⌜ r ≡ lackEntry ready ⌝ }
+{
+    if ready.part == part::WRITE {
+        return acted::entry(kind::LACKS_WRITE, ready.first, ready.second, ready.third);
+    }
+    acted::entry(kind::LACKS_READ, ready.first, ready.second, 0)
+}
+
+// A stop for want of a key, with that record.
+fn race(ready: Ready) -> Answer
+    ensures { λ r. ⌜ r ≡ answer.Stopped stop.Race (lackEntry ready) ⌝ }
+{
+    Answer::Stopped {
+        stop: Stop::Race,
+        entry: lack(ready),
+    }
+}
+
+fn full(landed: Landed) -> bool
+    ensures { λ r. ⌜ r ≡ fullOf landed ⌝ }
+{
+    let stage = landed.stage;
+    match stage {
+        Stage::Full => true,
+        _ => false,
+    }
+}
+
+// A thread where its landing ended.
+fn head_at(landed: Landed, object: usize, keys: KeySet) -> Head
+    ensures { λ r. ⌜ r ≡ landedHead landed object keys ⌝ }
+{
+    let ready = landed.ready;
+    Head {
+        ready: ready,
+        depth: landed.depth,
+        object: object,
+        keys: keys,
+    }
+}
+
+// No thread is made.
+fn no_head() -> Head
+    ensures { λ r. ⌜ r ≡ noHead ⌝ }
+{
+    let none = go::ready_of(part::DONE, 0, 0, 0, 0);
+    let keys = KeySet::new();
+    Head {
+        ready: none,
+        depth: 0,
+        object: 0,
+        keys: keys,
+    }
+}
+
+// What a move leaves, once its landings are known.
+fn leave(met: Met, acted: Acted, landed: Landed, young: Head, forks: bool) -> Answer
+    ensures { λ r. ⌜ r ≡ answer.Moved (moveOf met acted landed young forks) ⌝ }
+{
+    let head = met.head;
+    let keys = acted.keys;
+    let cell = acted.cell;
+    let thing = acted.thing;
+    let counts = acted.counts;
+    let entry = acted.entry;
+    let mover = head_at(landed, head.object, keys);
+    Answer::Moved(Move {
+        mover: mover,
+        young: young,
+        cell: cell,
+        thing: thing,
+        counts: counts,
+        entry: entry,
+        forks: forks,
+    })
+}
+
+// Lands the thread that a fork makes: its object is the next one, its keys are its maker's.
+fn start(
+    words: &[usize; 1024],
+    roots: &[usize; 32],
+    stack: &mut [usize; 891],
+    met: Met,
+    acted: Acted,
+    landed: Landed,
+) -> Answer
+    ensures { λ r. ⌜ (record { stack = now (stack .exit); answer = r }) ≡ startBy met acted landed (landYoung (now (words .entry)) (now (roots .entry)) met (now (stack .entry))) ⌝ }
+{
+    let counts = met.counts;
+    let head = met.head;
+    let ready = head.ready;
+    let from = go::run(ready.first, ready.environment);
+    let young = landing::land(words, roots, stack, counts.threads % 9 * 33, from, 0);
+    if full(young) {
+        return no_room(NoRoom::Depth);
+    }
+    let keys = head.keys;
+    let born = head_at(young, counts.objects, keys);
+    leave(met, acted, landed, born, true)
+}
+
+// Lands the mover; of a fork, the new thread too.
+fn land(
+    words: &[usize; 1024],
+    roots: &[usize; 32],
+    stack: &mut [usize; 891],
+    met: Met,
+    acted: Acted,
+) -> Answer
+    requires { ⌜ met .thread < 8 ⌝ }
+    ensures { λ r. ⌜ (record { stack = now (stack .exit); answer = r }) ≡ landBy (now (words .entry)) (now (roots .entry)) met acted (landMover (now (words .entry)) (now (roots .entry)) met acted (now (stack .entry))) ⌝ }
+{
+    let head = met.head;
+    let from = acted.go;
+    let landed = landing::land(words, roots, stack, met.thread * 33, from, head.depth % 33);
+    if full(landed) {
+        return no_room(NoRoom::Depth);
+    }
+    let ready = head.ready;
+    if ready.part == part::FORK {
+        return start(words, roots, stack, met, acted, landed);
+    }
+    leave(met, acted, landed, no_head(), false)
+}
+
+// The move of a thread that is ready, where there is room for it.
+fn make(
+    words: &[usize; 1024],
+    roots: &[usize; 32],
+    stack: &mut [usize; 891],
+    setting: Setting,
+    met: Met,
+) -> Answer
+    requires { ⌜ met .thread < 8 ⌝ }
+    ensures { λ r. ⌜ (record { stack = now (stack .exit); answer = r }) ≡ makeBy (now (words .entry)) (now (roots .entry)) met (actMet setting met) (now (stack .entry)) ⌝ }
+{
+    let counts = met.counts;
+    let head = met.head;
+    let cell = met.cell;
+    let thing = met.thing;
+    let other = met.other;
+    let act = act::act(setting, counts, head, cell, thing, other);
+    match act {
+        Act::Done(acted) => land(words, roots, stack, met, acted),
+        Act::NoRoom(room) => no_room(room),
+    }
+}
+
+// The answer to a pick of a thread that is there.
+pub fn pick(
+    words: &[usize; 1024],
+    roots: &[usize; 32],
+    stack: &mut [usize; 891],
+    setting: Setting,
+    met: Met,
+) -> Answer
+    requires { ⌜ met .thread < 8 ⌝ }
+    ensures { λ r. ⌜ (record { stack = now (stack .exit); answer = r }) ≡ pickOf (now (words .entry)) (now (roots .entry)) setting met (now (stack .entry)) ⌝ }
+{
+    let head = met.head;
+    let cell = met.cell;
+    let thing = met.thing;
+    let other = met.other;
+    let ready = head.ready;
+    let joined = other.ready;
+    let sight = look::look(setting, head, cell, thing, joined.part);
+    match sight {
+        Sight::Ready => make(words, roots, stack, setting, met),
+        Sight::Lacking => race(ready),
+        Sight::Blocked(_) => Answer::Passed,
+    }
+}
