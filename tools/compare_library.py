@@ -1,10 +1,10 @@
 #!/usr/bin/env python3
 """Holds the static library to the second interpreter on random cases.
 
-  compare_library.py ORACLE SEED COUNT
+  compare_library.py ORACLE SEED COUNT [--landed E2,E7]
   compare_library.py - < CASES
 
-ORACLE is the folder of the second interpreter; CASES are its JSON lines, made before. The library is target/staticlib/libruqzhemil.a
+ORACLE is the folder of the second interpreter; CASES are its JSON lines, made before; the list names the requests of document 02 that count as landed. The library is target/staticlib/libruqzhemil.a
 (`rt staticlib ruqzhemil` makes it), linked into a shared object by the C compiler. Compared are: what check returns; what play returns, the 32
 bytes of the outcome and the whole log area, beyond the records too; what judge returns for the log of each run and for each log of the cases.
 """
@@ -63,11 +63,12 @@ def played_right(lib, case):
 
 
 def main(argv):
-    if len(argv) not in (2, 4):
+    words, landed = interpreter.split(argv[1:])
+    if len(words) not in (1, 3):
         sys.exit(__doc__)
     lib = library(os.path.dirname(os.path.dirname(os.path.abspath(__file__))))
     compared = differ = 0
-    for case in interpreter.cases(argv[1:]):
+    for case in interpreter.cases(words, landed):
         right = played_right(lib, case) if "play" in case else judged_right(lib, bytes.fromhex(case["judge"]), case["want"])
         compared += 1
         if not right:

@@ -5,7 +5,7 @@ import json
 import subprocess
 import sys
 
-LANDED = ["E2"]  # document 02's requests that the product has
+LANDED = "E2,E7"  # document 02's requests that the product has
 FILL = 0xA5  # what every lent area is filled with before a play
 OUTCOMES = ["end", "race", "no-thread", "no-object", "no-key", "no-depth"]
 STATES = {("absent",): 0, ("finished",): 1, ("ready",): 2, ("waiting", "monitor"): 3, ("waiting", "join"): 4, ("stuck", "field"): 5,
@@ -31,19 +31,27 @@ def outcome_bytes(want):
 
 
 @contextlib.contextmanager
-def running(words):
+def running(words, landed):
     """The lines that `oracle.py vectors` writes for FOLDER SEED COUNT, or, for `-`, those of standard input. Fails where the interpreter fails."""
     if words == ["-"]:
         yield sys.stdin
         return
     folder, seed, count = words
-    made = subprocess.Popen([sys.executable, folder + "/oracle.py", "--landed", ",".join(LANDED), "vectors", seed, count], stdout=subprocess.PIPE)
+    made = subprocess.Popen([sys.executable, folder + "/oracle.py", "--landed", landed, "vectors", seed, count], stdout=subprocess.PIPE)
     yield made.stdout
     if made.wait() != 0:
         sys.exit("the second interpreter ended with status %d" % made.returncode)
 
 
-def cases(words):
-    with running(words) as rows:
+def cases(words, landed=LANDED):
+    with running(words, landed) as rows:
         for row in rows:
             yield json.loads(row)
+
+
+def split(words):
+    """The words without `--landed LIST`, and LIST: document 02's requests that count as landed, as in E2,E7; those that the product has where it is left out."""
+    if "--landed" not in words[:-1]:
+        return words, LANDED
+    at = words.index("--landed")
+    return words[:at] + words[at + 2:], words[at + 1]

@@ -2,7 +2,7 @@
 //
 // A case of a play: the lengths of plan, schedule and log area; what the judge says of the run, 0 for none, else the index and 1; the refusal's number,
 // 0 for a run, and its place; the 32 bytes for the outcome; then plan, schedule and records. A case of a log: the refusal's number, 0 for none, and its
-// place; what the judge says, 0 for none, else the index and 1; then the log.
+// place; what the judge says, 0 for none, else the index and 1; then the log. A case that ends before the parts that its lengths name is wrong.
 ghost use Prim.Native.Nat.{_+_, _≤_, _<_};
 ghost use lib.ListN.{length};
 
@@ -15,18 +15,6 @@ fn refusal_at(case: &[u8], at: usize) -> u64
     ensures { λ r. ⌜ r < 16777216 ⌝ }
 {
     (byte_numbers::wide(case[at]) * 65536 + byte_numbers::half(case, at + 1)) as u64
-}
-
-// The end of a part of a case, which is no further than the case's end.
-fn part_end(case: &[u8], start: usize, size: usize) -> usize
-    requires { ⌜ start ≤ length (now case) ⌝ }
-    ensures { λ r. ⌜ (start ≤ r) × (r ≤ length (now (case .entry))) ⌝ }
-{
-    if size < case.len() - start {
-        start + size
-    } else {
-        case.len()
-    }
 }
 
 // Whether the area begins with the records, and its other bytes are as they were filled.
@@ -72,7 +60,10 @@ pub fn check_case(case: &[u8]) -> bool {
     if case.len() < 43 {
         return false;
     }
-    let end = part_end(case, 43, byte_numbers::half(case, 0));
+    let end = 43 + byte_numbers::half(case, 0);
+    if case.len() < end {
+        return false;
+    }
     let wanted = refusal_at(case, 8);
     let got = ruqzhemil::ruqzhemil_check(&case[43..end]);
     if wanted < 524288 {
@@ -87,17 +78,18 @@ pub fn play_case(case: &[u8]) -> bool {
     if case.len() < 43 {
         return false;
     }
-    let end = part_end(case, 43, byte_numbers::half(case, 0));
-    let last = part_end(case, end, byte_numbers::half(case, 2));
+    let end = 43 + byte_numbers::half(case, 0);
+    let last = end + byte_numbers::half(case, 2);
+    let size = byte_numbers::half(case, 4);
+    if case.len() < last {
+        return false;
+    }
+    if 16384 < size {
+        return false;
+    }
     let mut area = [FILL; 16384];
     let mut out = [FILL; 32];
-    let got = play_in(
-        &case[43..end],
-        &case[end..last],
-        &mut area,
-        byte_numbers::half(case, 4),
-        &mut out,
-    );
+    let got = play_in(&case[43..end], &case[end..last], &mut area, size, &mut out);
     (got == refusal_at(case, 8)) & same_bytes(&out, &case[11..43]) & begins(&area, &case[last..])
 }
 
@@ -117,8 +109,10 @@ pub fn run_case(case: &[u8]) -> bool {
     if case.len() < 43 {
         return false;
     }
-    let end = part_end(case, 43, byte_numbers::half(case, 0));
-    let last = part_end(case, end, byte_numbers::half(case, 2));
+    let last = 43 + byte_numbers::half(case, 0) + byte_numbers::half(case, 2);
+    if case.len() < last {
+        return false;
+    }
     let wanted = byte_numbers::half(case, 6) as u64;
     names(ruqzhemil::ruqzhemil_judge(&case[last..]), wanted)
 }

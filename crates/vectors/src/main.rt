@@ -1,5 +1,5 @@
 // The test program: document 01's shot list and the stored cases of a second interpreter, held to the static library's check, play and judge. A line
-// for each group of cases, and a last line for all of them.
+// for each group of cases and one for all of them; then the same for cases that must differ.
 mod groups; // groups.rt: the cases of a file
 
 use groups::Group;
@@ -25,7 +25,19 @@ fn shot_list() -> Tally {
     let all = groups::tally_of(b"shots", Group::Check);
     print(b"shot list, checked: ", all);
     let all = group(b"shot list, played: ", b"shots", Group::Play, all);
-    group(b"shot list, judged: ", b"shot_logs", Group::Log, all)
+    group(b"shot list, judged: ", b"shots", Group::Run, all)
+}
+
+fn edges(all: Tally) -> Tally {
+    let all = group(b"edges, checked: ", b"edges", Group::Check, all);
+    let all = group(b"edges, played: ", b"edges", Group::Play, all);
+    let all = group(b"edges, judged: ", b"edges", Group::Run, all);
+    group(
+        b"logs at the edges, judged: ",
+        b"edge_logs",
+        Group::Log,
+        all,
+    )
 }
 
 fn runs(all: Tally) -> Tally {
@@ -40,7 +52,18 @@ fn others(all: Tally) -> Tally {
     group(b"other logs, judged: ", b"logs", Group::Log, all)
 }
 
+// Cases with one part of their answer changed, so that each must differ.
+fn changed() -> Tally {
+    let all = groups::tally_of(b"changed_checks", Group::Check);
+    print(b"changed, checked: ", all);
+    let all = group(b"changed, played: ", b"changed_plays", Group::Play, all);
+    let all = group(b"changed runs, judged: ", b"changed_runs", Group::Run, all);
+    group(b"changed logs, judged: ", b"changed_logs", Group::Log, all)
+}
+
 fn main() {
-    let all = others(runs(shot_list()));
+    let all = others(runs(edges(shot_list())));
     print(b"", all);
+    let all = changed();
+    print(b"must differ: ", all);
 }
