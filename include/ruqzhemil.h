@@ -79,8 +79,8 @@ uint64_t ruqzhemil_check(const uint8_t *plan, size_t plan_len);
 uint64_t ruqzhemil_play(const uint8_t *plan, size_t plan_len, const uint8_t *schedule, size_t schedule_len, uint8_t *log, size_t log_len,
                         uint8_t out[32]);
 
-/* Judges a log alone. 0: no access is unordered. 2^32 + index: the record with this index, from 0, is the first unordered access.
- * 2 * 2^32 + refusal: the log is refused, 11 or 12. */
+/* Judges a log alone. An access is unordered when no chain leads to it from some earlier access to its field, one of the two a write. 0: there is none.
+ * 2^32 + index: the record with this index, from 0, is the first. 2 * 2^32 + refusal: the log is refused, 11 or 12. */
 uint64_t ruqzhemil_judge(const uint8_t *log, size_t log_len);
 
 #ifdef __cplusplus

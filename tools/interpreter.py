@@ -5,7 +5,7 @@ import json
 import subprocess
 import sys
 
-LANDED = "E2"  # document 02's requests that the product has
+LANDED = "E2,E7"  # document 02's requests that the product has
 FILL = 0xA5  # what every lent area is filled with before a play
 OUTCOMES = ["end", "race", "no-thread", "no-object", "no-key", "no-depth"]
 STATES = {("absent",): 0, ("finished",): 1, ("ready",): 2, ("waiting", "monitor"): 3, ("waiting", "join"): 4, ("stuck", "field"): 5,

@@ -68,7 +68,7 @@ pub fn print() {
     most("play", 128, &all, |i| {
         library::play(&i.plan, &i.schedule, &mut log, &mut out);
     });
-    most("judge", 32, &logs, |i| {
+    most("judge", 64, &logs, |i| {
         library::judge(&i.schedule);
     });
 }

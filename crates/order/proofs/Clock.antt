@@ -9,9 +9,10 @@ use lib.Dec.{T, eqb, eqb→eq}
 use mir.Facts.{and-yes, yes-and, or-yes, yes-eqb}
 use native.Mathlib.Omega.{arith}
 use Rattle.format.specs.Version.{Version, v0, v1}
-use Rattle.records.specs.Record.{Kind, new, read, write, readv, writev, acquire, release, fork, join, lacksRead, lacksWrite, Record, entry}
+use Rattle.records.specs.Record.{Kind, new, read, write, readv, writev, acquire, release, fork, join, lacksRead, lacksWrite, Record, entry, isPlain}
+use Rattle.order.specs.Conflicts.{isWrite}
 use Rattle.order.proofs.Tests.{or←, cond-true, cond-false, sameKind, sameKind→, sameKind←}
-use Rattle.order.proofs.Ports.{Port, ofThread, ofMonitor, ofVolatile, Feeds, Draws}
+use Rattle.order.proofs.Ports.{Port, ofThread, ofMonitor, ofVolatile, ofAccesses, ofWrites, Feeds, Draws}
 
 -- how many records thread u has
 abbrev pub count : List Record → ℕ → ℕ
@@ -27,6 +28,8 @@ abbrev pub feeds : Version → Record → Port → Bool
 feeds v r (ofThread q) = eqb (r .thread) q || (sameKind (r .kind) fork && eqb (r .field) q)
 feeds v r (ofMonitor o) = sameKind (r .kind) release && eqb (r .object) o
 feeds v r (ofVolatile o f) = volatileOrders v && sameKind (r .kind) writev && eqb (r .object) o && eqb (r .field) f
+feeds v r (ofAccesses o f) = isPlain (r .kind) && eqb (r .object) o && eqb (r .field) f
+feeds v r (ofWrites o f) = isWrite (r .kind) && eqb (r .object) o && eqb (r .field) f
 
 -- the port that a record draws from besides its thread's
 abbrev pub secondPort : Version → Kind → ℕ → ℕ → Option Port
@@ -68,6 +71,15 @@ orders→ v1 h = refl
 orders← : (v : Version) → v ≡ v1 → T (volatileOrders v)
 orders← v e = rw e tt
 
+at-place→ : (a : Bool) (r : Record) (o f : ℕ) → T (a && eqb (r .object) o && eqb (r .field) f) → T a × (r .object ≡ o) × (r .field ≡ f)
+at-place→ a r o f h =
+    let d = and-yes (a && eqb (r .object) o) (eqb (r .field) f) h in
+    let e = and-yes a (eqb (r .object) o) (d .0) in
+    (e .0, eqb→eq (r .object) o (e .1), eqb→eq (r .field) f (d .1))
+
+at-place← : (a : Bool) (r : Record) (o f : ℕ) → T a × (r .object ≡ o) × (r .field ≡ f) → T (a && eqb (r .object) o && eqb (r .field) f)
+at-place← a r o f (h, e, g) = yes-and (a && eqb (r .object) o) (eqb (r .field) f) (yes-and a (eqb (r .object) o) h (yes-eqb e)) (yes-eqb g)
+
 pub feeds→ : (v : Version) (r : Record) (p : Port) → T (feeds v r p) → Feeds v r p
 feeds→ v r (ofThread q) h = go (or-yes (eqb (r .thread) q) (sameKind (r .kind) fork && eqb (r .field) q) h)
   where
@@ -82,6 +94,8 @@ feeds→ v r (ofVolatile o f) h =
     let e = and-yes (volatileOrders v && sameKind (r .kind) writev) (eqb (r .object) o) (d .0) in
     let g = and-yes (volatileOrders v) (sameKind (r .kind) writev) (e .0) in
     (orders→ v (g .0), sameKind→ (r .kind) writev (g .1), eqb→eq (r .object) o (e .1), eqb→eq (r .field) f (d .1))
+feeds→ v r (ofAccesses o f) h = at-place→ (isPlain (r .kind)) r o f h
+feeds→ v r (ofWrites o f) h = at-place→ (isWrite (r .kind)) r o f h
 
 pub feeds← : (v : Version) (r : Record) (p : Port) → Feeds v r p → T (feeds v r p)
 feeds← v r (ofThread q) (inl e) = or← (eqb (r .thread) q) (sameKind (r .kind) fork && eqb (r .field) q) (inl (yes-eqb e))
@@ -91,12 +105,16 @@ feeds← v r (ofVolatile o f) (c, e, g, h) =
     yes-and (volatileOrders v && sameKind (r .kind) writev && eqb (r .object) o) (eqb (r .field) f)
     (yes-and (volatileOrders v && sameKind (r .kind) writev) (eqb (r .object) o) (yes-and (volatileOrders v) (sameKind (r .kind) writev) (orders← v c) (sameKind← (r .kind) writev e)) (yes-eqb g))
     (yes-eqb h)
+feeds← v r (ofAccesses o f) h = at-place← (isPlain (r .kind)) r o f h
+feeds← v r (ofWrites o f) h = at-place← (isWrite (r .kind)) r o f h
 
 pub draws→ : (v : Version) (r : Record) (q : Port) → Draws v r q → (ofThread (r .thread) ≡ q) ⊎ (second v r ≡ some q)
 draws→ v r (ofThread q) (inl e) = inl (ap ofThread e)
 draws→ v r (ofThread q) (inr (e, g)) = inr (rw (e, g))
 draws→ v r (ofMonitor o) (e, g) = inr (rw (e, g))
 draws→ v r (ofVolatile o f) (c, e, g, h) = inr (rw (c, e, g, h))
+draws→ v r (ofAccesses o f) e = absurd e
+draws→ v r (ofWrites o f) e = absurd e
 
 -- what a second port is, if there is one
 abbrev Drawn : Version → Record → Option Port → Type 0

@@ -15,10 +15,11 @@ pub mod Access
 pub mod AgreeNewest
 pub mod Clock
 pub mod ClockReach
-pub mod Late
+pub mod Heard
+pub mod Conflicts
 pub mod Past
 pub mod Turned
 pub mod Agree
 pub mod EverySet
-pub mod Judge
+pub mod FirstConflict
 pub mod Samples

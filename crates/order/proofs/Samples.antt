@@ -6,7 +6,7 @@ use Rattle.format.specs.Version.{v0, v1}
 use Rattle.records.specs.Record.{new, read, write, readv, writev, acquire, release, fork, lacksRead, Record, entry}
 use Rattle.order.proofs.KeySets.{union, learn, noKeys, onlyZero, put, put₂}
 use Rattle.order.proofs.KeyMachine.{start, Legal}
-use Rattle.order.proofs.Judge.{judge}
+use Rattle.order.proofs.FirstConflict.{firstConflict}
 
 -- plan P with picks 0 0 0 0 0 1 0
 abbrev logA : List Record
@@ -16,13 +16,14 @@ logA = entry new 0 1 0 0 ∷ entry fork 0 2 1 0 ∷ entry write 1 1 1 0 ∷ entr
 abbrev logB : List Record
 logB = entry new 0 1 0 0 ∷ entry fork 0 2 1 0 ∷ entry read 0 1 1 0 ∷ entry write 1 1 1 0 ∷ []
 
-judge-A : judge v1 logA ≡ some 3
-unfolding judge
-judge-A = refl
+conflict-A : firstConflict v1 logA ≡ some 3
+unfolding firstConflict
+conflict-A = refl
 
-judge-B : judge v1 logB ≡ none
-unfolding judge
-judge-B = refl
+-- "That run of P is judged at record 3."
+conflict-B : firstConflict v1 logB ≡ some 3
+unfolding firstConflict
+conflict-B = refl
 
 legal-A : Legal v1 (reverse logA)
 unfolding start put put₂ learn union onlyZero
@@ -36,21 +37,13 @@ legal-B = ((((tt, tt, tt), tt, tt), tt, tt), tt, tt)
 abbrev logV : List Record
 logV = entry new 0 1 0 0 ∷ entry fork 0 2 1 0 ∷ entry write 0 1 1 1 ∷ entry writev 0 1 2 1 ∷ entry readv 1 1 2 1 ∷ entry write 1 1 1 0 ∷ []
 
-judge-V1 : judge v1 logV ≡ none
-unfolding judge
-judge-V1 = refl
+conflict-V1 : firstConflict v1 logV ≡ none
+unfolding firstConflict
+conflict-V1 = refl
 
-judge-V0 : judge v0 logV ≡ some 5
-unfolding judge
-judge-V0 = refl
-
--- two unordered accesses: the lower one is named
-abbrev logE : List Record
-logE = entry write 0 1 1 0 ∷ entry read 1 1 1 0 ∷ entry read 2 1 1 0 ∷ []
-
-judge-E : judge v1 logE ≡ some 1
-unfolding judge
-judge-E = refl
+conflict-V0 : firstConflict v0 logV ≡ some 5
+unfolding firstConflict
+conflict-V0 = refl
 
 -- a monitor taken and left twice
 abbrev logM : List Record

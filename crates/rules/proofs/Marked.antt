@@ -2,11 +2,11 @@
 use mathlib.Core.Path.{_≡_, refl}
 use mathlib.Core.List.{map}
 use Rattle.format.specs.Version.{v1}
-use Rattle.order.proofs.Judge.{judge}
+use Rattle.order.proofs.FirstConflict.{firstConflict}
 use Rattle.rules.specs.ShotList.{Shot, shots}
 use Rattle.rules.specs.Observed.{observed}
 
--- every marked case comes out as the list says; that what is computed is the judge's one answer is `names-computed`
-pub marked : map (observed (judge v1)) shots ≡ map (λ (x : Shot). x .expected) shots
-unfolding observed shots judge
+-- every marked case comes out as the list says; that the judge names just that index is `names-computed`, `names-once`
+pub marked : map (observed (firstConflict v1)) shots ≡ map (λ (x : Shot). x .expected) shots
+unfolding observed shots firstConflict
 marked = refl

@@ -7,8 +7,8 @@ use Rattle.records.specs.Record.{new, read, write, acquire, release, fork, join
 use Rattle.rules.specs.Step.{forJoin}
 use Rattle.rules.specs.Run.{Stop, end, race, Status, absent, finished, ready, waiting, lacking, Outcome}
 
--- what must come of a case: a refusal with its number and place, or a run with its outcome, its log, the log's bytes, and what the judge names
--- of that log
+-- what must come of a case: a refusal with its number and place, or a run with its outcome, its log, the log's bytes, and what the judge of that
+-- log names
 pub data Expected : Type 0 where
   refused : ℕ → ℕ → Expected
   ran : Outcome → List Record → List ℕ → Option ℕ → Expected
@@ -145,11 +145,11 @@ shots =
       picks = 0 ∷ 0 ∷ 0 ∷ 0 ∷ 0 ∷ 1 ∷ 0 ∷ [];
       expected = ran (outcome race 6 6 4 (lacking 1 1 ∷ finished 0 ∷ absent ∷ absent ∷ absent ∷ absent ∷ absent ∷ absent ∷ [])) (entry new 0 1 0 0 ∷ entry fork 0 2 1 0 ∷ entry write 1 1 1 0 ∷ entry lacksRead 0 1 1 0 ∷ []) (0x10 ∷ 0x10 ∷ 0x00 ∷ 0x80 ∷ 0x20 ∷ 0x80 ∷ 0x32 ∷ 0x10 ∷ 0x80 ∷ 0xa0 ∷ 0x10 ∷ 0x80 ∷ []) (some 3);
     }
-    -- "* P with 0 0 0 0 0 0 1: end 7 7 4; the judge says none."
+    -- "* P with 0 0 0 0 0 0 1: end 7 7 4"; and of the judge, "That run of P is judged at record 3." (document 02, E7)
     ∷ record {
       plan = planP;
       picks = 0 ∷ 0 ∷ 0 ∷ 0 ∷ 0 ∷ 0 ∷ 1 ∷ [];
-      expected = ran (outcome end 7 7 4 (finished 0 ∷ finished 0 ∷ absent ∷ absent ∷ absent ∷ absent ∷ absent ∷ absent ∷ [])) (entry new 0 1 0 0 ∷ entry fork 0 2 1 0 ∷ entry read 0 1 1 0 ∷ entry write 1 1 1 0 ∷ []) (0x10 ∷ 0x10 ∷ 0x00 ∷ 0x80 ∷ 0x20 ∷ 0x80 ∷ 0x20 ∷ 0x10 ∷ 0x80 ∷ 0x32 ∷ 0x10 ∷ 0x80 ∷ []) none;
+      expected = ran (outcome end 7 7 4 (finished 0 ∷ finished 0 ∷ absent ∷ absent ∷ absent ∷ absent ∷ absent ∷ absent ∷ [])) (entry new 0 1 0 0 ∷ entry fork 0 2 1 0 ∷ entry read 0 1 1 0 ∷ entry write 1 1 1 0 ∷ []) (0x10 ∷ 0x10 ∷ 0x00 ∷ 0x80 ∷ 0x20 ∷ 0x80 ∷ 0x20 ∷ 0x10 ∷ 0x80 ∷ 0x32 ∷ 0x10 ∷ 0x80 ∷ []) (some 3);
     }
     -- "* P cut to 54 bytes: 1."
     ∷ record {
