@@ -1,8 +1,13 @@
 """Plans, schedules and logs written by hand, each with what the papers say of it.
 
 A plan is written as trees: `node` makes a term from its tag and operands, an operand being a term or a width and a number; `plan` numbers the terms of
-its procedures in the order of their trees, each root first and then its children, each with all below it before the next.
+its procedures in the order of their trees, each root first and then its children, each with all below it before the next. Limits are the header's.
 """
+
+import header as c_header
+
+LIMITS = c_header.numbers()
+PICKS, THREADS, OBJECTS, LOG_RECORDS = LIMITS["MOST_PICKS"], LIMITS["THREADS"], LIMITS["OBJECTS"], LIMITS["MOST_LOG_BYTES"] // LIMITS["RECORD_BYTES"]
 
 
 # ---- terms and plans
@@ -169,8 +174,9 @@ def tagged(tag):
     return plan(node(tag, NULL))
 
 
-CROWD = then(*[fork(NULL)] * 7, *[new()] * 24, fork(NULL))    # eight threads, 32 objects, and a fork
-OBJECTS = then(*[new()] * 31, fork(NULL))                     # one thread, 32 objects, and a fork
+CROWD = then(*[fork(NULL)] * (THREADS - 1), *[new()] * (OBJECTS - THREADS), fork(NULL))    # eight threads, 32 objects, and a fork
+ALONE = then(*[new()] * (OBJECTS - 1), fork(NULL))                                         # one thread, 32 objects, and a fork
+LARGEST = plan(*[fork(then(*[NULL] * 16))] * 32)                                           # 32 procedures, 1,024 terms
 
 # plan, picks, what is right, as above, and the requests with which something else is right
 EDGES = [
@@ -193,7 +199,12 @@ EDGES = [
     (plan(choice(node(16, NULL, END), NULL, NULL)), [], [5, 1], ()),
     (LIST_IN_ITSELF, [], [4, 1], ()),
     (plan(CROWD), [0] * 70, ("no-thread", 63, 63, 31), ()),
-    (plan(OBJECTS), [0] * 70, ("no-object", 63, 63, 31), ()),
+    (plan(ALONE), [0] * 70, ("no-object", 63, 63, 31), ()),
+    (plan(NULL), [0] * PICKS, ("end", PICKS, 1, 0), ()),
+    (plan(NULL), [0] * (PICKS + 1), [8, 0], ()),
+    (plan(NULL), [THREADS - 1], ("end", 1, 0, 0), ()),
+    (plan(NULL), [THREADS], [9, 0], ()),
+    (LARGEST, [], ("end", 0, 0, 0), ()),
     (plan(fork(reads(33))), [0, 0, 1], ("end", 3, 2, 1), ()),
     (plan(fork(reads(34))), [0, 0, 1], ("no-depth", 1, 1, 0), ()),
 ]
@@ -202,15 +213,14 @@ EDGES = [
 NEW = bytes.fromhex("100000")
 LOGS = [
     (b"", None),
-    (NEW * 4096, None),
-    (NEW * 4097, [11, 0]),
+    (NEW * LOG_RECORDS, None),
+    (NEW * (LOG_RECORDS + 1), [11, 0]),
 ]
 
 
 # ---- the longest input of which the printing program needs every byte
 
 def longest_input():
-    """A plan of 5,192 bytes that passes and one pick more than a schedule may have."""
-    largest = plan(*[fork(then(*[NULL] * 16))] * 32)
-    assert len(largest) == 5192
-    return len(largest).to_bytes(2, "big") + largest + bytes(4097)
+    """The longest plan that passes and one pick more than a schedule may have."""
+    assert len(LARGEST) == LIMITS["MOST_PLAN_BYTES"]
+    return len(LARGEST).to_bytes(2, "big") + LARGEST + bytes(PICKS + 1)

@@ -7,23 +7,27 @@
 ORACLE is the folder of the second interpreter, SEED and COUNT go to its `oracle.py vectors`, the list after --landed names the requests of document 02
 that count as landed (those that the product has, where it is left out), CASES are the interpreter's JSON lines, made before, and CRATES is the folder of the crates. CRATES/vectors/data gets the files
 below, and CRATES/vectors/stdout what the test program must print; CRATES/longest_input/stdin and stdout are an input of 9,291 bytes of the printing program
-and its text. The same words give the same files. Every case stands behind its length in two bytes; numbers of two bytes have the high byte first.
+and its text. The same words give the same files. Every case stands behind its length in two bytes; numbers have the high byte first.
 
+  header                         the numbers of include/ruqzhemil.h, with which the answers are written, a name and a number to a line
+  version                        the number of the header's version, in eight bytes
   shots, edges, runs, refused    plays: of document 01's shot list, by hand, random ones that run, random ones that are refused
   edge_logs, logs                logs for the judge: by hand, and random ones
-  changed_checks, changed_plays, changed_runs, changed_logs
+  changed_version, changed_checks, changed_plays, changed_runs, changed_both, changed_logs
                                  cases of the kinds above with one part of the answer, or one length, changed: each must differ
 
-A play: lengths of plan, schedule and log area; what the judge says of the run (0 none, else the index and 1); the answer in 35 bytes (refusal and
-place; the static library's 32 bytes); plan, schedule, records. A log: refusal and place; what the judge says (0 none, else the index and 1); the log.
+A play: lengths of plan, schedule and log area; what check, play and judge return, in eight bytes each, judge for the run's records or for none; the
+bytes of the outcome; plan, schedule, records. A log: what judge returns; the log.
 """
 
 import collections
 import sys
 
+import header
 import interpreter
 import rows
-from interpreter import FILL, OUTCOMES, STATES, outcome_bytes, state_words
+from interpreter import (FILL, KINDS, NUMBERS, OUTCOMES, REFUSALS, STATES, checked, judged, other, outcome_bytes, played, record_bytes, refused,
+                         state_words, value)
 
 LONG = 6000  # bytes of a case from which on only a few are kept
 KEPT = {"refused": 45, "end": 330, "long": 10, "log": 390}  # of each number, of runs to the end, of long cases, of logs with an unordered access and without
@@ -35,33 +39,32 @@ def two(number):
     return number.to_bytes(2, "big")
 
 
-Play = collections.namedtuple("Play", "plan schedule area judged number place out records lengths")
-Log = collections.namedtuple("Log", "number place judged log")
+def eight(number):
+    return number.to_bytes(8, "big")
 
 
-def said(want):
-    """What the judge says: 0 for none, else the index and 1."""
-    return want["unordered"][0] + 1 if want.get("unordered") else 0
+Play = collections.namedtuple("Play", "plan schedule area checked played judged out records lengths")
+Log = collections.namedtuple("Log", "judged log")
 
 
 def play_of(plan, schedule, area, want):
-    """A play as it is stored; `lengths` are those of plan and schedule."""
-    number, place = want.get("refused", (0, 0))
-    return Play(plan, schedule, area, said(want.get("judge", {})), number, place, outcome_bytes(want), bytes.fromhex(want.get("log", "")),
+    """A play as it is stored: what check, play and judge return; `lengths` are those of plan and schedule."""
+    return Play(plan, schedule, area, checked(want), played(want), judged(want.get("judge", {"unordered": []})), outcome_bytes(want), record_bytes(bytes.fromhex(want.get("log", ""))),
                 (len(plan), len(schedule)))
 
 
 def log_of(log, want):
-    number, place = want.get("refused", (0, 0))
-    return Log(number, place, said(want), log)
+    return Log(judged(want), record_bytes(log))
 
 
 def stored(case):
     """The bytes of a case."""
+    if isinstance(case, bytes):
+        return case
     if isinstance(case, Log):
-        return bytes([case.number]) + two(case.place) + two(case.judged) + case.log
+        return eight(case.judged) + case.log
     lengths = b"".join(map(two, case.lengths)) + two(case.area)
-    return lengths + two(case.judged) + bytes([case.number]) + two(case.place) + case.out + case.plan + case.schedule + case.records
+    return lengths + eight(case.checked) + eight(case.played) + eight(case.judged) + case.out + case.plan + case.schedule + case.records
 
 
 # ---- the cases of the second interpreter
@@ -91,7 +94,8 @@ def marks_of(want):
     return [want["outcome"]] + [STATES[state_words(s)] for s in want["states"]] + [("kind", k >> 4) for k in kinds] + [("picks", want["picks"])]
 
 
-ALL_MARKS = [("refused", n) for n in range(1, 13)] + OUTCOMES + list(range(8)) + [("kind", k) for k in range(1, 12)] + [("picks", 4096)]
+ALL_MARKS = ([("refused", n) for n in range(1, len(REFUSALS) + 1)] + list(OUTCOMES) + list(STATES.values()) + [("kind", k) for k in range(1, len(KINDS) + 1)]
+             + [("picks", NUMBERS["MOST_PICKS"])])
 
 
 def chosen(cases):
@@ -121,7 +125,7 @@ def says(want, stated, word=None):
     return stated in (counts, counts[2:]) and word in (None, want["states"][0][0])
 
 
-def played(oracle, plan, picks, right):
+def play_by_hand(oracle, plan, picks, right):
     """A play of these picks, with five bytes of log area more than they need."""
     area = 3 * len(picks) + 5
     want = oracle.played(plan, bytes(picks), area)
@@ -130,12 +134,12 @@ def played(oracle, plan, picks, right):
 
 
 def shots(oracle):
-    return [played(oracle, plan, picks, lambda want: says(want, stated, word)) for plan, picks, stated, word in rows.SHOTS]
+    return [play_by_hand(oracle, plan, picks, lambda want: says(want, stated, word)) for plan, picks, stated, word in rows.SHOTS]
 
 
 def edges(oracle, landed):
     for plan, picks, stated, changing in rows.EDGES:
-        yield played(oracle, plan, picks, lambda want: set(changing) & set(landed) or says(want, stated))
+        yield play_by_hand(oracle, plan, picks, lambda want: set(changing) & set(landed) or says(want, stated))
 
 
 def edge_logs(oracle):
@@ -158,23 +162,26 @@ def by(case, **values):
     return [case._replace(**{part: value}) for value in changes]
 
 
+def wrong(right):
+    """Numbers that are not the one returned: each part of an answer changed, and each kind of answer in place of another."""
+    return [right ^ change for change in (1, 1 << 16, 1 << 32, 1 << 33, 3 << 32, 1 << 63)]
+
+
 def changed(race, ended, refused_plan, refused_pick, unordered, ordered, refused_log):
     """Cases by file, of seven right ones: plays that stop for a race, come to their end, have a refused plan and a refused pick; logs with an unordered
     access, with none, and refused."""
     end = len(stored(race))
     lengths = [(end, 0), (len(race.plan), end)]
     return {
-        "changed_checks": by(race, number=range(1, 8)) + by(race, lengths=lengths[:1]) + by(refused_pick, number=range(1, 8))
-        + by(refused_plan, number=[0, refused_plan.number % 7 + 1, 8]) + by(refused_plan, place=[refused_plan.place + 1]),
-        "changed_plays": by(race, number=range(1, 13)) + by(race, place=[1]) + by(race, out=flips(race.out)) + by(race, records=flips(race.records))
+        "changed_checks": by(race, checked=wrong(race.checked)) + by(refused_plan, checked=wrong(refused_plan.checked)) + by(race, lengths=lengths[:1]),
+        "changed_plays": by(race, played=wrong(race.played)) + by(race, out=flips(race.out)) + by(race, records=flips(race.records))
         + by(race, records=[race.records[:-3], race.records + bytes(3), race.records + bytes([FILL] * 5) + bytes(1)]) + by(race, lengths=lengths)
         + by(race, area=[3 * len(race.schedule) - 1, 16385, 65535])
-        + by(refused_pick, number=[0, 8, 10]) + by(refused_pick, place=[refused_pick.place + 1]) + by(refused_pick, out=flips(refused_pick.out))
-        + by(refused_pick, records=[bytes(3)]),
-        "changed_runs": by(race, judged=[0, race.judged - 1, race.judged + 1]) + by(ended, judged=[1, 4]) + by(race, lengths=lengths),
-        "changed_logs": by(unordered, judged=[0, unordered.judged - 1, unordered.judged + 1]) + by(unordered, number=[11, 12])
-        + by(ordered, judged=[1, 4]) + by(ordered, number=[11, 12]) + by(refused_log, number=[0, 23 - refused_log.number])
-        + by(refused_log, place=[refused_log.place + 1]),
+        + by(refused_pick, played=wrong(refused_pick.played)) + by(refused_pick, out=flips(refused_pick.out)) + by(refused_pick, records=[bytes(3)]),
+        "changed_runs": by(race, judged=wrong(race.judged)) + by(ended, judged=wrong(ended.judged)) + by(race, lengths=lengths),
+        "changed_both": by(race, judged=wrong(race.judged)) + by(ended, judged=wrong(ended.judged)) + by(refused_pick, played=wrong(refused_pick.played))
+        + by(race, lengths=lengths) + by(race, area=[3 * len(race.schedule) - 1, 16385]),
+        "changed_logs": [changed for case in (unordered, ordered, refused_log) for changed in by(case, judged=wrong(case.judged))],
     }
 
 
@@ -182,20 +189,22 @@ def changed_of(files):
     """The same, of the shot list's and the random cases."""
     def first(name, right):
         return next(case for case in files[name] if right(case))
-    return changed(files["shots"][0], first("runs", lambda c: c.judged == 0 and c.out[0] == 0 and len(c.records) > 9),
-                   first("refused", lambda c: c.number == 4 and c.place > 0), first("refused", lambda c: c.number == 9 and c.place > 0),
-                   first("logs", lambda c: c.judged > 1), first("logs", lambda c: not c.number and not c.judged and len(c.log) > 9),
-                   first("logs", lambda c: c.number == 12 and c.place > 0))
+    return changed(files["shots"][0], first("runs", lambda c: c.judged == value(0) and c.out[0] == OUTCOMES["end"] and len(c.records) > 9),
+                   first("refused", lambda c: c.checked > refused(4, 0)), first("refused", lambda c: refused(9, 0) < c.played < refused(10, 0)),
+                   first("logs", lambda c: other(0) < c.judged < refused(1, 0)), first("logs", lambda c: c.judged == value(0) and len(c.log) > 9),
+                   first("logs", lambda c: c.judged > refused(12, 0)))
 
 
 # ---- the files
 
-GROUPS = [("shot list, checked", "shots"), ("shot list, played", "shots"), ("shot list, judged", "shots"), ("edges, checked", "edges"),
-          ("edges, played", "edges"), ("edges, judged", "edges"), ("logs at the edges, judged", "edge_logs"), ("runs, checked", "runs"),
-          ("runs, played", "runs"), ("runs, judged", "runs"), ("refused plays, checked", "refused"), ("refused plays, played", "refused"),
+GROUPS = [("version", "version"),
+          ("shot list, checked", "shots"), ("shot list, played", "shots"), ("shot list, judged", "shots"),
+          ("edges, checked", "edges"), ("edges, played", "edges"), ("edges, judged", "edges"), ("logs at the edges, judged", "edge_logs"),
+          ("runs, checked", "runs"), ("runs, played", "runs"), ("runs, judged", "runs"), ("runs, played and judged", "runs"),
+          ("refused plays, checked", "refused"), ("refused plays, played", "refused"), ("refused plays, played and judged", "refused"),
           ("other logs, judged", "logs")]
-CHANGED = [("changed, checked", "changed_checks"), ("changed, played", "changed_plays"), ("changed runs, judged", "changed_runs"),
-           ("changed logs, judged", "changed_logs")]
+CHANGED = [("changed version", "changed_version"), ("changed, checked", "changed_checks"), ("changed, played", "changed_plays"),
+           ("changed runs, judged", "changed_runs"), ("changed, played and judged", "changed_both"), ("changed logs, judged", "changed_logs")]
 
 
 def lines(files):
@@ -224,9 +233,13 @@ def main(argv):
     files = chosen(interpreter.cases(["-"] if made_before else words[:3], names))
     files["shots"], files["edges"], files["edge_logs"] = shots(oracle), list(edges(oracle, landed.now())), list(edge_logs(oracle))
     files.update(changed_of(files))
+    files["version"] = [eight(NUMBERS["VERSION"])]
+    files["changed_version"] = flips(files["version"][0]) + [files["version"][0] + bytes(1)]
     for name, cases in files.items():
         with open("%s/vectors/data/%s" % (crates, name), "wb") as out:
             out.write(b"".join(two(len(stored(case))) + stored(case) for case in cases))
+    with open("%s/%s" % (crates, header.LISTED), "w") as out:
+        out.write(header.listing())
     with open(crates + "/vectors/stdout", "w") as out:
         out.writelines(lines(files))
     with open(crates + "/longest_input/stdin", "wb") as out:

@@ -52,10 +52,10 @@ impl Pair {
     }
 }
 
-type Player = fn(&[u8], &[u8], &mut [u8], &mut [u8; 32]) -> u64;
+type Player = fn(&[u8], &[u8], &mut [u8], &mut [u8; library::OUT_BYTES]) -> u64;
 
 fn playing<'a>(play: Player, plan: &'a [u8], schedule: &'a [u8]) -> Entry<'a> {
-    let (mut log, mut out) = (vec![0; 3 * schedule.len()], [0; 32]);
+    let (mut log, mut out) = (vec![0; 3 * schedule.len()], [0; library::OUT_BYTES]);
     Box::new(move || {
         black_box(play(black_box(plan), black_box(schedule), &mut log, &mut out));
     })
@@ -70,7 +70,7 @@ fn on<'a>(entry: fn(&[u8]) -> u64, input: &'a [u8]) -> Entry<'a> {
 /// The log of an input's run, and its counts of picks, moves and records.
 fn played(input: &Input) -> (Vec<u8>, [usize; 3]) {
     let Input { name, plan, schedule } = input;
-    let (mut log, mut out) = (vec![0; 3 * schedule.len()], [0; 32]);
+    let (mut log, mut out) = (vec![0; 3 * schedule.len()], [0; library::OUT_BYTES]);
     assert_eq!(library::play(plan, schedule, &mut log, &mut out), 0, "{name} is refused");
     let counts = [1, 3, 5].map(|at| usize::from(out[at]) << 8 | usize::from(out[at + 1]));
     log.truncate(3 * counts[2]);

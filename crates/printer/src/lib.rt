@@ -1,4 +1,5 @@
-// What the printing program does (document 01, "Shot list"): reads a plan length, a plan and a schedule, and writes the run's records and outcome, or the refusal.
+// What the printing program does (document 01, "Shot list"): reads a plan length, a plan and a schedule, and writes the run's records and outcome, or
+// the refusal.
 use libc::STDIN_FILENO;
 use libc::STDOUT_FILENO;
 

@@ -14,7 +14,8 @@ room : 131072 ≤ length {A = ℕ} (replicate 131072 0)
 room = le-of-eq (sym (length-replicate {A = ℕ} 131072 0))
 
 -- what was read is an input of its own
-whole : (n : ℕ) (buffer : List ℕ) → n ≡ length (take n buffer) → n ≤ length buffer → length buffer ≡ length {A = ℕ} (replicate 9291 0) → take 9291 (take n buffer) ≡ take n buffer
+whole : (n : ℕ) (buffer : List ℕ) → n ≡ length (take n buffer) → n ≤ length buffer → length buffer ≡ length {A = ℕ} (replicate 9291 0)
+    → take 9291 (take n buffer) ≡ take n buffer
 whole n buffer e h k = take-all 9291 (take n buffer) (omega (arith, length-replicate {A = ℕ} 9291 0))
 
 slice-aggregate-read-full : tie.Need-slice-aggregate-read-full
