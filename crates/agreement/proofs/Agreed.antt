@@ -10,10 +10,10 @@ use lib.Dec.{T}
 use lib.ListN.{length}
 use Rattle.format.specs.Version.{Version, v1, versionOf}
 use Rattle.order.specs.Chains.{At, Unordered}
-use Rattle.order.specs.Judge.{Judged, named, Names, names-first, names-none, Answers, refuses, judges}
+use Rattle.conflicts.specs.Judge.{Judged, named, Names, names-first, names-none, Answers, refuses, judges}
 use Rattle.order.proofs.Agree.{agree, lacking-plain}
 use Rattle.order.proofs.Past.{at-within}
-use Rattle.order.proofs.FirstConflict.{unordered→conflicting}
+use Rattle.conflicts.proofs.FirstConflict.{unordered→conflicting}
 use Rattle.packed.specs.Syntax.{Program}
 use Rattle.packed.specs.Format.{version}
 use Rattle.packed.specs.Trees.{programOf}

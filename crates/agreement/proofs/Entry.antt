@@ -6,7 +6,7 @@ use mathlib.Core.List.{List}
 use mathlib.Core.Option.{Option}
 use lib.ListN.{take}
 use Rattle.format.specs.Version.{Version, v1}
-use Rattle.order.specs.Judge.{named, Answers}
+use Rattle.conflicts.specs.Judge.{named, Answers}
 use Rattle.packed.specs.Trees.{programOf}
 use Rattle.refusals.specs.declared.Checked.the-variants as checked
 use Rattle.records.specs.Packed.{bytesOf}

@@ -3,7 +3,7 @@ use Prim.Native.Nat.{ℕ}
 use mathlib.Core.Path.{_≡_}
 use mathlib.Core.List.{List}
 use mathlib.Core.Option.{Option}
-use Rattle.order.specs.Judge.{named, Answers}
+use Rattle.conflicts.specs.Judge.{named, Answers}
 use Rattle.records.specs.Packed.{bytesOf}
 use Rattle.packed.specs.Trees.{programOf}
 use Rattle.refusals.specs.declared.Checked.the-variants as checked

@@ -8,7 +8,7 @@ use mathlib.Core.Option.{Option, some, none}
 use lib.Dec.{T}
 use lib.ListN.{length, getElem?}
 use Rattle.order.specs.Chains.{At, Unordered}
-use Rattle.order.specs.Judge.{Judged, named, Answers}
+use Rattle.conflicts.specs.Judge.{Judged, named, Answers}
 use Rattle.packed.specs.Syntax.{Program}
 use Rattle.records.specs.Record.{Record, isPlain, lacksKey}
 use Rattle.records.specs.Packed.{bytesOf, logOf}

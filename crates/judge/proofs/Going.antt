@@ -15,9 +15,9 @@ use Rattle.records.specs.Refusals.{logRefusal}
 use Rattle.records.proofs.RoundTrip.{count-log}
 use Rattle.records.proofs.Tidy.{tidy-at}
 use Rattle.records.proofs.Accepted.{accepted-tidy}
-use Rattle.order.specs.Judge.{named, Answers, judges}
+use Rattle.conflicts.specs.Judge.{named, Answers, judges}
 use Rattle.order.proofs.Past.{past, past-zero}
-use Rattle.order.proofs.FirstConflict.{conflictsAt, Threads, names-no}
+use Rattle.conflicts.proofs.FirstConflict.{conflictsAt, Threads, names-no}
 use Rattle.clocks.specs.Rows.{Row, clockOf, noRow, rowAt, OneEach, Few}
 use Rattle.effects.specs.Rows.{placeRow}
 use Rattle.format.proofs.Filled.{repeated, zeros}

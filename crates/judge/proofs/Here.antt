@@ -16,13 +16,13 @@ use Rattle.records.specs.Packed.{kindOf, recordAt, recordCount, logOf}
 use Rattle.records.specs.Refusals.{wrongColumns, logRefusal}
 use Rattle.records.proofs.RoundTrip.{count-log, log-element}
 use Rattle.records.proofs.Accepted.{RightRecord, accepted}
-use Rattle.order.specs.Conflicts.{isWrite}
-use Rattle.order.specs.Judge.{named, Answers, judges}
+use Rattle.order.specs.Accesses.{isWrite}
+use Rattle.conflicts.specs.Judge.{named, Answers, judges}
 use Rattle.order.proofs.Ports.{Port, ofThread}
-use Rattle.order.proofs.Clock.{count, clock, second, clock-bound}
-use Rattle.order.proofs.Conflicts.{any, heldBy, clashes, not-plain-held}
+use Rattle.conflicts.proofs.Clock.{count, clock, second, clock-bound}
+use Rattle.conflicts.proofs.Conflicts.{any, heldBy, clashes, not-plain-held}
 use Rattle.order.proofs.Past.{past-suc, past-length, at→getD}
-use Rattle.order.proofs.FirstConflict.{conflictsAt, names-lowest}
+use Rattle.conflicts.proofs.FirstConflict.{conflictsAt, names-lowest}
 use Rattle.decoding.specs.Columns.{ReadAt}
 use Rattle.clocks.specs.Rows.{Row, clockOf, rowAt, Few, lowerOf}
 use Rattle.effects.specs.Places.{Numbered, known, next}

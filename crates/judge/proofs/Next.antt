@@ -10,8 +10,8 @@ use lib.ListN.{length, set}
 use Rattle.format.specs.Version.{Version}
 use Rattle.records.specs.Record.{Record}
 use Rattle.records.specs.Packed.{recordAt, logOf}
-use Rattle.order.proofs.Conflicts.{clashes}
-use Rattle.order.proofs.FirstConflict.{conflictsAt}
+use Rattle.conflicts.proofs.Conflicts.{clashes}
+use Rattle.conflicts.proofs.FirstConflict.{conflictsAt}
 use Rattle.clocks.specs.Rows.{Row, rowAt, One, Raised, Advanced, lowerOf}
 use Rattle.effects.specs.Rows.{placeRow, isAccess, sourceRow, targetRow, writesRow}
 use Rattle.decoding.specs.declared.Columns.{Columns}

@@ -12,11 +12,11 @@ use Rattle.format.specs.Version.{Version, v0, v1}
 use Rattle.records.specs.Record.{Kind, new, read, write, readv, writev, acquire, release, fork, join, lacksRead, lacksWrite, Record, entry, isPlain}
 use Rattle.records.specs.Packed.{kindOf}
 use Rattle.records.proofs.KindNumbers.{by-kind}
-use Rattle.order.specs.Conflicts.{isWrite}
+use Rattle.order.specs.Accesses.{isWrite}
 use Rattle.order.proofs.Tests.{cond-true}
 use Rattle.order.proofs.Ports.{Port, ofThread, ofMonitor, ofVolatile, ofAccesses, ofWrites, Feeds}
-use Rattle.order.proofs.Clock.{second, secondPort}
-use Rattle.order.proofs.Conflicts.{heldBy, write-plain}
+use Rattle.conflicts.proofs.Clock.{second, secondPort}
+use Rattle.conflicts.proofs.Conflicts.{heldBy, write-plain}
 use Rattle.effects.specs.Rows.{placeRow, isAccess, passes}
 use Rattle.judge.proofs.PlaceNumbers.{Placed}
 use Rattle.judge.proofs.PortRows.{rowOf, Valid, HasRow}

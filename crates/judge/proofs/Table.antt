@@ -14,11 +14,11 @@ use lib.Seq.{getD-set-same, getD-set-other}
 use borrow.Author.Tests.{ltb-false}
 use Rattle.format.specs.Version.{Version}
 use Rattle.records.specs.Record.{Record, isPlain}
-use Rattle.order.specs.Conflicts.{isWrite}
+use Rattle.order.specs.Accesses.{isWrite}
 use Rattle.order.proofs.Tests.{cond-true, cond-false}
 use Rattle.order.proofs.Ports.{Port, ofThread, ofMonitor, ofVolatile, ofAccesses, ofWrites, Feeds}
-use Rattle.order.proofs.Clock.{count, clock, gather, reading, second, feeds, clock-bound, clock-fed, clock-unfed, clock-own}
-use Rattle.order.proofs.Conflicts.{any-none, heldBy, held, behind, clashes, writes-among}
+use Rattle.conflicts.proofs.Clock.{count, clock, gather, reading, second, feeds, clock-bound, clock-fed, clock-unfed, clock-own}
+use Rattle.conflicts.proofs.Conflicts.{any-none, heldBy, held, behind, clashes, writes-among}
 use Rattle.clocks.specs.Rows.{Row, clockOf, noRow, rowAt, One, Raised, Advanced}
 use Rattle.effects.specs.Places.{Numbered, known, next}
 use Rattle.effects.specs.Rows.{placeRow}

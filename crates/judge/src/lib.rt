@@ -3,7 +3,7 @@ mod pass; // pass.rt: the pass by clocks
 
 ghost use Prim.Native.Nat.{_<_};
 ghost use Rattle.format.specs.Version.{v1, versionOf};
-ghost use Rattle.order.specs.Judge.{Answers};
+ghost use Rattle.conflicts.specs.Judge.{Answers};
 ghost use Rattle.judge.specs.Answer.{answered};
 
 // What the judge answers to a log.

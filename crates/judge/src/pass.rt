@@ -5,7 +5,7 @@ ghost use Prim.Native.Nat.{_/_, _≤_};
 ghost use lib.ListN.{length};
 ghost use Rattle.format.specs.Version.{versionOf};
 ghost use Rattle.records.specs.Refusals.{logRefusal};
-ghost use Rattle.order.specs.Judge.{Answers};
+ghost use Rattle.conflicts.specs.Judge.{Answers};
 ghost use Rattle.judge.specs.Answer.{answered};
 ghost use Rattle.judge.specs.Clear.{Clear};
 use crate::Judgement;

@@ -5,7 +5,7 @@ use mathlib.Core.List.{List}
 use mathlib.Core.Option.{Option, some, none}
 use Rattle.format.specs.Refusal.{Refusal}
 use Rattle.format.specs.Version.{v1}
-use Rattle.order.specs.Judge.{Judged, refused, named, Answers}
+use Rattle.conflicts.specs.Judge.{Judged, refused, named, Answers}
 use Rattle.rules.specs.Play as play
 
 -- ---- the convention of every entry: a number of 64 bits, whose upper half says which kind of answer it is

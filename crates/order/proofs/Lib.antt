@@ -13,13 +13,8 @@ pub mod Traced
 pub mod LastKeys
 pub mod Access
 pub mod AgreeNewest
-pub mod Clock
-pub mod ClockReach
-pub mod Heard
-pub mod Conflicts
 pub mod Past
 pub mod Turned
 pub mod Agree
 pub mod EverySet
-pub mod FirstConflict
 pub mod Samples

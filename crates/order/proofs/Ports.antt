@@ -8,7 +8,7 @@ use lib.Dec.{T}
 use Rattle.format.specs.Version.{Version, v1}
 use Rattle.records.specs.Record.{acquire, release, readv, writev, fork, join, Record, isPlain}
 use Rattle.order.specs.Pairs.{Pair, monitor, volatile, sameThread, forked, joined, forkedJoined}
-use Rattle.order.specs.Conflicts.{isWrite}
+use Rattle.order.specs.Accesses.{isWrite}
 
 pub data Port : Type 0 where
   ofThread : ℕ → Port

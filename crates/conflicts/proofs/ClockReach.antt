@@ -12,9 +12,9 @@ use native.Mathlib.Omega.{arith}
 use native.Mathlib.Decide.{decLe}
 use Rattle.format.specs.Version.{Version}
 use Rattle.records.specs.Record.{Record}
 use Rattle.order.proofs.Ports.{Port, ofThread, Feeds, Draws}
 use Rattle.order.proofs.Flow.{Reach, kept, made, passed, reach-below}
-use Rattle.order.proofs.Clock.{count, feeds, second, reading, gather, clock, feeds→, feeds←, draws→, second-draws, clock-bound}
+use Rattle.conflicts.proofs.Clock.{count, feeds, second, reading, gather, clock, feeds→, feeds←, draws→, second-draws, clock-bound}
 
 -- record i is the c-th of thread u, from 1
 pub data Nth : List Record → ℕ → ℕ → ℕ → Type 0 where

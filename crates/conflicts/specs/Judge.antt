@@ -8,7 +8,7 @@ use Rattle.format.specs.Version.{Version}
 use Rattle.records.specs.Record.{Record}
 use Rattle.records.specs.Packed.{logOf}
 use Rattle.records.specs.Refusals.{logRefusal}
-use Rattle.order.specs.Conflicts.{Conflicting}
+use Rattle.conflicts.specs.Conflicts.{Conflicting}
 
 -- "the judge names the lowest index of an unordered access. [..] the answer equals that index, or none", unordered as E7 says it
 pub data Names (v : Version) (L : List Record) : Option ℕ → Type 0 where

@@ -10,9 +10,9 @@ use mir.Facts.{and-yes, yes-and, or-yes, yes-eqb}
 use native.Mathlib.Omega.{arith}
 use Rattle.format.specs.Version.{Version, v0, v1}
 use Rattle.records.specs.Record.{Kind, new, read, write, readv, writev, acquire, release, fork, join, lacksRead, lacksWrite, Record, entry, isPlain}
-use Rattle.order.specs.Conflicts.{isWrite}
+use Rattle.order.specs.Accesses.{isWrite}
 use Rattle.order.proofs.Tests.{or←, cond-true, cond-false, sameKind, sameKind→, sameKind←}
 use Rattle.order.proofs.Ports.{Port, ofThread, ofMonitor, ofVolatile, ofAccesses, ofWrites, Feeds, Draws}
 
 -- how many records thread u has
 abbrev pub count : List Record → ℕ → ℕ

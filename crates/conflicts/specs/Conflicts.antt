@@ -2,27 +2,13 @@
 -- by the last write, `Unordered` of `Chains`. Assumes nothing.
 use Prim.Native.Nat.{ℕ, _<_}
 use mathlib.Core.Path.{_≡_}
-use mathlib.Core.Bool.{Bool, true, false}
 use mathlib.Core.List.{List}
 use mathlib.Core.Logic.{_⊎_}
 use lib.Dec.{T}
 use Rattle.format.specs.Version.{Version}
-use Rattle.records.specs.Record.{Kind, new, read, write, readv, writev, acquire, release, fork, join, lacksRead, lacksWrite, Record, isPlain}
+use Rattle.records.specs.Record.{Record, isPlain}
+use Rattle.order.specs.Accesses.{isWrite}
 use Rattle.order.specs.Chains.{At, Chain}
-
--- "writes (kind 3 or 11)", whether or not the write's key was there
-abbrev pub isWrite : Kind → Bool
-isWrite new = false
-isWrite read = false
-isWrite write = true
-isWrite readv = false
-isWrite writev = false
-isWrite acquire = false
-isWrite release = false
-isWrite fork = false
-isWrite join = false
-isWrite lacksRead = false
-isWrite lacksWrite = true
 
 -- two plain accesses (2, 3, 10, 11) "to its object and field [..], at least one of the two writes": r is the earlier and s the later
 pub record Conflict (r s : Record) : Type 0 where

@@ -14,15 +14,16 @@ use Rattle.format.specs.Refusal.{lowest}
 use Rattle.format.specs.Version.{Version}
 use Rattle.format.proofs.RefusalLaws.{lowest-none, lowest-some}
 use Rattle.records.specs.Record.{Record, isPlain}
 use Rattle.order.specs.Chains.{At, Chain, Unordered}
-use Rattle.order.specs.Conflicts.{isWrite, Conflict, Conflicting}
-use Rattle.order.specs.Judge.{Names, names-first, names-none, Judged, refused, named, Answers, refuses, judges}
+use Rattle.order.specs.Accesses.{isWrite}
+use Rattle.conflicts.specs.Conflicts.{Conflict, Conflicting}
+use Rattle.conflicts.specs.Judge.{Names, names-first, names-none, Judged, refused, named, Answers, refuses, judges}
 use Rattle.order.proofs.Newest as N
 use Rattle.order.proofs.Ports.{ofThread, plain-draws-own}
 use Rattle.order.proofs.Flow.{Reach, own-chain}
-use Rattle.order.proofs.Conflicts.{clashes, Clash, clashes→, clashes←, write-plain}
+use Rattle.conflicts.proofs.Conflicts.{clashes, Clash, clashes→, clashes←, write-plain}
 use Rattle.order.proofs.Past.{past, past-length, at-within, at→getD, turned-at}
 use Rattle.order.proofs.Turned.{at→, at←, chain→, chain←}
 
 -- ---- a record and its past
 

@@ -11,13 +11,14 @@ use native.Mathlib.Omega.{arith}
 use native.Mathlib.Decide.{ℕ-discrete}
 use Rattle.format.specs.Version.{Version}
 use Rattle.records.specs.Record.{Kind, new, read, write, readv, writev, acquire, release, fork, join, lacksRead, lacksWrite, Record, isPlain}
-use Rattle.order.specs.Conflicts.{isWrite, Conflict}
+use Rattle.order.specs.Accesses.{isWrite}
+use Rattle.conflicts.specs.Conflicts.{Conflict}
 use Rattle.order.proofs.Tests.{or←}
 use Rattle.order.proofs.Newest.{At, here, back}
 use Rattle.order.proofs.Ports.{Port, ofThread, ofAccesses, ofWrites, Feeds}
 use Rattle.order.proofs.Flow.{Reach}
-use Rattle.order.proofs.Clock.{clock, feeds, feeds→, feeds←}
-use Rattle.order.proofs.Heard.{Missed, behind→missed, missed→behind}
+use Rattle.conflicts.proofs.Clock.{clock, feeds, feeds→, feeds←}
+use Rattle.conflicts.proofs.Heard.{Missed, behind→missed, missed→behind}
 
 -- some number below n passes
 abbrev pub any : ℕ → (ℕ → Bool) → Bool

@@ -12,11 +12,11 @@ use native.Mathlib.Omega.{arith}
 use native.Mathlib.Decide.{ℕ-discrete, decLe}
 use Rattle.format.specs.Version.{Version}
 use Rattle.records.specs.Record.{Record}
 use Rattle.order.proofs.Newest.{At, here, back, Linked, Chain, one, more}
 use Rattle.order.proofs.Ports.{Port, ofThread, Feeds}
 use Rattle.order.proofs.Flow.{Reach, UpTo, itself, along, Fed, reach→fed, at→reach}
-use Rattle.order.proofs.Clock.{count, clock, clock-bound}
-use Rattle.order.proofs.ClockReach.{Nth, newest, older, reach→clock, clock→reach}
+use Rattle.conflicts.proofs.Clock.{count, clock, clock-bound}
+use Rattle.conflicts.proofs.ClockReach.{Nth, newest, older, reach→clock, clock→reach}
 
 -- ---- chains follow one another
 

@@ -1,0 +1,25 @@
+-- Sample logs: what the judge answers, by computation. Assumes nothing.
+use mathlib.Core.Path.{_≡_, refl}
+use mathlib.Core.Option.{some, none}
+use Rattle.format.specs.Version.{v0, v1}
+use Rattle.order.proofs.Samples.{logA, logB, logV}
+use Rattle.conflicts.proofs.FirstConflict.{firstConflict}
+
+-- plan P with its race
+conflict-A : firstConflict v1 logA ≡ some 3
+unfolding firstConflict
+conflict-A = refl
+
+-- "That run of P is judged at record 3."
+conflict-B : firstConflict v1 logB ≡ some 3
+unfolding firstConflict
+conflict-B = refl
+
+-- a value handed on through a volatile field: ordered in version 1 alone
+conflict-V1 : firstConflict v1 logV ≡ none
+unfolding firstConflict
+conflict-V1 = refl
+
+conflict-V0 : firstConflict v0 logV ≡ some 5
+unfolding firstConflict
+conflict-V0 = refl
