@@ -1,6 +1,7 @@
-//! The library's answers beside the independent implementation's: the number, all 32 bytes of the outcome and the whole log area.
+//! The library's answers beside the independent implementation's: the number, all bytes of the outcome and the whole log area.
 
 use crate::random::Random;
+use crate::library::OUT_BYTES;
 use crate::{answers, generate, library};
 
 /// How many cases had each answer.
@@ -10,6 +11,7 @@ struct Seen {
     passed: usize,
     stops: [usize; 6],
     states: [usize; 8],
+    learnt: [usize; 2],
     judged: [usize; 2],
 }
 
@@ -18,14 +20,15 @@ impl Seen {
         self.refusals[(answer >> 16 & 0xffff) as usize] += 1;
     }
 
-    fn outcome(&mut self, out: &[u8; 32]) {
+    fn outcome(&mut self, out: &[u8; OUT_BYTES]) {
         self.stops[usize::from(out[0])] += 1;
-        (0..8).for_each(|t| self.states[usize::from(out[8 + 3 * t])] += 1);
+        (0..8).for_each(|t| self.states[usize::from(out[8 + 4 * t])] += 1);
+        (0..8).for_each(|t| self.learnt[usize::from(out[11 + 4 * t] > 0)] += 1);
     }
 
     fn judgement(&mut self, answer: u64) {
         match answer >> 32 {
-            2 => self.refused(answer & 0xffff_ffff),
+            2 => self.refused(answer),
             kind => self.judged[kind as usize] += 1,
         }
     }
@@ -34,8 +37,9 @@ impl Seen {
         println!("  plans passed {}; refusals 1 to 12 {:?}", self.passed, &self.refusals[1..]);
         println!("  runs end, race, no-thread, no-object, no-key, no-depth {:?}", self.stops);
         println!("  threads absent, finished, ready, monitor, join, no field, no thread, lacking {:?}", self.states);
+        println!("  threads that learnt no key from another, some {:?}", self.learnt);
         println!("  logs ordered, unordered {:?}", self.judged);
-        let counts = self.refusals[1..].iter().chain(&self.stops).chain(&self.states).chain(&self.judged);
+        let counts = self.refusals[1..].iter().chain(&self.stops).chain(&self.states).chain(&self.learnt).chain(&self.judged);
         assert!(self.passed > 0 && counts.min() > Some(&0), "an answer that no case had: more cases are needed");
     }
 }
@@ -64,7 +68,7 @@ fn check(plan: &[u8], seen: &mut Seen) {
 }
 
 /// The records of a run, or none.
-fn play(plan: &[u8], schedule: &[u8], area: &[u8], before: [u8; 32], seen: &mut Seen) -> Option<Vec<u8>> {
+fn play(plan: &[u8], schedule: &[u8], area: &[u8], before: [u8; OUT_BYTES], seen: &mut Seen) -> Option<Vec<u8>> {
     let (mut ours, mut theirs) = ((area.to_vec(), before), (area.to_vec(), before));
     let input = [plan, schedule, area, &before];
     let answer = library::play(plan, schedule, &mut ours.0, &mut ours.1);
@@ -112,7 +116,7 @@ pub fn run(cases: usize, seed: u64) {
         check(&plan, &mut seen);
         let schedule = generate::schedule(random);
         let area = generate::area(random, schedule.len());
-        let mut before = [0; 32];
+        let mut before = [0; OUT_BYTES];
         before.fill_with(|| random.byte());
         if let Some(log) = play(&plan, &schedule, &area, before, &mut seen) {
             judge(&log, &mut seen);

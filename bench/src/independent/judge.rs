@@ -26,6 +26,7 @@ pub fn judge(log: &[u8]) -> Result<Option<usize>, Refusal> {
     let mut rel = [[0u16; 8]; 32];
     let mut vol = vec![[0u16; 8]; 1024];
     let mut last = vec![(0u8, 0u16); 1024];
+    let mut reads = vec![[0u16; 8]; 1024];
     fn max(a: &mut [u16; 8], b: &[u16; 8]) {
         for i in 0..8 {
             a[i] = a[i].max(b[i]);
@@ -44,7 +45,8 @@ pub fn judge(log: &[u8]) -> Result<Option<usize>, Refusal> {
             }
             2 | 3 | 10 | 11 => {
                 let (wt, wc) = last[o * 32 + f];
-                if wc > c[wt as usize] {
+                let unread = |u: usize| reads[o * 32 + f][u] > c[u];
+                if wc > c[wt as usize] || (matches!(k, 3 | 11) && (0..8).any(unread)) {
                     return Ok(Some(i));
                 }
             }
@@ -56,6 +58,7 @@ pub fn judge(log: &[u8]) -> Result<Option<usize>, Refusal> {
             7 => max(&mut rel[o], &c),
             5 => max(&mut vol[o * 32 + f], &c),
             8 => max(&mut clock[f], &c),
+            2 => reads[o * 32 + f][t] = c[t],
             3 => last[o * 32 + f] = (t as u8, c[t]),
             _ => {}
         }

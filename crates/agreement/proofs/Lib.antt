@@ -1,3 +1,4 @@
 pub mod LastRecord
 pub mod Agreed
 pub mod Entry
+pub mod Marked

@@ -4,7 +4,7 @@ ghost use mathlib.Core.Path.{_≡_};
 ghost use Prim.Native.Nat.{_-_, _≤_};
 ghost use lib.ListN.{length, take, drop};
 ghost use Rattle.format.specs.Version.{v1};
-ghost use Rattle.order.specs.Judge.{Answers};
+ghost use Rattle.conflicts.specs.Judge.{Answers};
 ghost use Rattle.rules.specs.Play.{played, areaAfter};
 ghost use Rattle.player.specs.Answer.{answered, NoRunIfRefused};
 ghost use Rattle.judge.specs.Answer as judge;

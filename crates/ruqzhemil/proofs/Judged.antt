@@ -5,7 +5,7 @@ use mathlib.Core.Path.{subst}
 use mathlib.Core.List.{List}
 use mathlib.Core.Option.{some, none}
 use Rattle.format.specs.Version.{v1}
-use Rattle.order.specs.Judge.{Judged, refused, named, names-first, Answers, refuses, judges}
+use Rattle.conflicts.specs.Judge.{Judged, refused, named, names-first, Answers, refuses, judges}
 use Rattle.records.specs.Packed.{logOf}
 use Rattle.records.proofs.Accepted.{accepted}
 use Rattle.records.proofs.RoundTrip.{count-log}

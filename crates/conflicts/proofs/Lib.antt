@@ -1,0 +1,6 @@
+pub mod Clock
+pub mod ClockReach
+pub mod Heard
+pub mod Conflicts
+pub mod FirstConflict
+pub mod Samples
