@@ -4,8 +4,8 @@ use Prim.Native.Nat.{ℕ, _*_, _-_}
 use mathlib.Core.Path.{_≡_, sym, ap, _∙_, subst as along}
 use mathlib.Core.List.{List}
 use lib.ListN.{length, take}
-use Rattle.format.specs.Version.{Version, v1}
-use Rattle.order.specs.Judge.{named, Answers}
+use Rattle.order.specs.Judge.{named, Answers, AnswersTold}
+use Rattle.packed.specs.Format.{version}
 use Rattle.packed.specs.Trees.{programOf}
 use Rattle.refusals.specs.declared.Checked.the-variants as checked
 use Rattle.records.specs.Packed.{bytesOf}
@@ -19,7 +19,7 @@ use Rattle.judge.specs.declared.Judgement.the-variants as judgement
 use Rattle.judge.specs.Answer as judge
 use Rattle.agreement.specs.Agreement.{stopIndex, Agreement}
 use Rattle.agreement.specs.AgreedOn.{AgreedOn}
-use Rattle.agreement.proofs.Agreed.{accepted-version, agreement}
+use Rattle.agreement.proofs.Agreed.{agreement, told-plan}
 
 -- ---- a play that is not refused
 
@@ -32,11 +32,12 @@ module _ (plan schedule area : List ℕ) (p : Played) (h : answered p ≡ played
   same-index = rw (stop-is plan schedule area p h e, records-are plan schedule area p h e)
 
   -- what the judge says of the first bytes of the log area that the play leaves
-  module _ (after : List ℕ) (left : after ≡ areaAfter plan schedule area) (j : Judgement) (n : ℕ) (q : n ≡ 3 * p .outcome .records) (m : Answers v1 (take (n - 0) after) (judge.answered j)) where
+  module _ (after : List ℕ) (left : after ≡ areaAfter plan schedule area) (j : Judgement) (n : ℕ) (q : n ≡ 3 * p .outcome .records) (v : ℕ) (w : v ≡ version plan) (m : AnswersTold v (take (n - 0) after) (judge.answered j)) where
     answers : Answers (programOf plan .version) (bytesOf (runOf plan schedule .log)) (judge.answered j)
     answers =
-        along (λ (v : Version). Answers v (bytesOf (runOf plan schedule .log)) (judge.answered j)) (sym (accepted-version plan (passes plan schedule area p h e .plan-passes)))
-        (along (λ (b : List ℕ). Answers v1 b (judge.answered j)) (begins plan schedule area p h e after left n q) m)
+        told-plan plan (bytesOf (runOf plan schedule .log)) (judge.answered j) (passes plan schedule area p h e .plan-passes) .0
+        (along (λ (k : ℕ). AnswersTold k (bytesOf (runOf plan schedule .log)) (judge.answered j)) w
+        (along (λ (b : List ℕ). AnswersTold v b (judge.answered j)) (begins plan schedule area p h e after left n q) m))
 
     named-stop : judge.answered j ≡ named (stopIndex (runOf plan schedule .stop) (length (runOf plan schedule .log)))
     named-stop = agrees-all .judged (judge.answered j) .0 answers

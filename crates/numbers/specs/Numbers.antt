@@ -4,8 +4,7 @@ use mathlib.Core.Path.{_≡_}
 use mathlib.Core.List.{List}
 use mathlib.Core.Option.{Option, some, none}
 use Rattle.format.specs.Refusal.{Refusal}
-use Rattle.format.specs.Version.{v1}
-use Rattle.order.specs.Judge.{Judged, refused, named, Answers}
+use Rattle.order.specs.Judge.{Judged, refused, named, AnswersTold}
 use Rattle.rules.specs.Play as play
 
 -- a refusal: number * 65536 + place
@@ -28,8 +27,8 @@ judgeNumber (named none) = 0
 judgeNumber (named (some j)) = 2 ^ 32 + j
 judgeNumber (refused r) = 2 * 2 ^ 32 + refusalNumber r
 
--- the judge returns the number of its answer to the log
-pub record JudgeReturns (log : List ℕ) (n : ℕ) : Type 0 where
+-- the judge returns the number of its answer to the version and the log
+pub record JudgeReturns (version : ℕ) (log : List ℕ) (n : ℕ) : Type 0 where
   pub answer : Judged
-  pub answers : Answers v1 log answer
+  pub answers : AnswersTold version log answer
   pub numbered : n ≡ judgeNumber answer

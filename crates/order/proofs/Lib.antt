@@ -22,3 +22,4 @@ pub mod Agree
 pub mod EverySet
 pub mod Judge
 pub mod Samples
+pub mod Told

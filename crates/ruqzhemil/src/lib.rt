@@ -39,11 +39,11 @@ pub extern "C" fn ruqzhemil_play(
     }
 }
 
-// 0 for a log without an unordered access; 2^32 + index for the first one; 2 * 2^32 + number * 65536 + place for a refusal.
+// Of a log by plans of this version, 0 or 1: 0 without an unordered access; 2^32 + index for the first one; 2 * 2^32 + number * 65536 + place for a refusal.
 #[no_mangle]
-pub extern "C" fn ruqzhemil_judge(log: &[u8]) -> u64
-    ensures { λ r. ⌜ JudgeReturns (now (log .entry)) r ⌝ }
+pub extern "C" fn ruqzhemil_judge(version: u64, log: &[u8]) -> u64
+    ensures { λ r. ⌜ JudgeReturns version (now (log .entry)) r ⌝ }
 {
-    let judgement = judge::judge(log);
+    let judgement = judge::judge(version as usize, log);
     numbers::of_judge(judgement)
 }
