@@ -1,29 +1,32 @@
-/* Ruqzhemil: a verified checker of plans for relay test sets, as a static library.
+/* Ruqzhemil: a verified checker of plans for relay test sets, as a static library for C and C++.
  *
- * Each function takes any bytes, has no other condition, and returns the number that crates/numbers/specs/Numbers defines, with the bytes of
- * crates/outcome_bytes/specs/Bytes; the proofs of crates/ruqzhemil show it for every input. Functions keep no state between calls, have no
- * global state and allocate nothing, so threads may call them at the same time on areas of their own.
+ * A plan is a small concurrent program in a byte table. check says whether the table is one; play runs it under a schedule, one byte to a pick, each
+ * pick the number of the thread that moves next, and writes a log of 3-byte records and an outcome; judge takes a log alone and names an access that
+ * nothing orders. This header is enough to call them and to read what they give; docs/FORMAT.md says how to write a plan.
  *
- * No pointer is null, even where its length is 0. The areas of one call do not overlap, and no other thread writes to them meanwhile.
+ * THE ANSWER of every function is a uint64_t of two halves. The upper half says which kind of answer it is, enum ruqzhemil_answer:
  *
- * Stack: check needs up to 48 KB, play up to 128 KB, judge up to 32 KB; bench/run.sh measures at most 33, 82 and 21 KB, over plans built to need
- * much.
+ *   0  an answer; the lower half is its value, 0 where it has none
+ *   1  the function's other answer, with its value in the lower half
+ *   2  a refusal; the lower half is number * 65536 + place
  *
- * A refusal is number * 65536 + place; numbers are 1 to 12 and places at most 4,096:
+ *   uint64_t answer = ruqzhemil_check(plan, plan_len);
+ *   if (RUQZHEMIL_REFUSED(answer)) {
+ *       printf("refused %u %u: %s\n", RUQZHEMIL_NUMBER(answer), RUQZHEMIL_PLACE(answer), ruqzhemil_refusal_text(RUQZHEMIL_NUMBER(answer)));
+ *   }
  *
- *   1  plan length                           place 0
- *   2  plan header or mask                   place 0
- *   3  a procedure                           the lowest such procedure
- *   4  a term against the table of terms     the lowest such term
- *   5  a wrongly sorted term, or a call      the lowest such term
- *   6  a term not named exactly once         the lowest such term
- *   7  a slot that nothing binds             the lowest such procedure
- *   8  over 4,096 picks                      place 0
- *   9  a pick over 7                         the lowest such pick
- *  10  log area under 3 times the picks      place 0
- *  11  log length                            place 0
- *  12  a record: its kind, a 10 or 11 that
- *      is not last, a column, a spare bit    the lowest such record
+ * WHAT IS PROMISED: for all bytes, however malformed, each function returns the number that crates/numbers/specs/Numbers defines, with the bytes of
+ * crates/outcome_bytes/specs/Bytes; the proofs of crates/ruqzhemil show it. Functions keep nothing between calls, have no global state and allocate
+ * nothing, so threads may call them at the same time on areas of their own.
+ *
+ * WHAT IS ASKED of the caller: each pointer leads to as many bytes as its length says (out to RUQZHEMIL_OUT_BYTES); a length of 0 may go with any
+ * pointer, null too; log and out overlap neither each other nor the plan and the schedule, and while a call runs no other thread writes to its bytes; and
+ * there is stack: check needs up to 48 KB, play up to 128 KB, judge up to 64 KB (bench/run.sh measures them).
+ *
+ * WHAT IT NEEDS: x86-64, the System V calling convention (Linux), and from outside the archive memcpy and memset alone.
+ *
+ * NUMBERS MAY BE ADDED by a later version to each of the enums below; docs/CONTRIBUTING.md has the policy. A program is safe that treats a number that it
+ * does not know as "something else".
  */
 #ifndef RUQZHEMIL_H
 #define RUQZHEMIL_H
@@ -35,53 +38,232 @@
 extern "C" {
 #endif
 
-/* The number and the place of a refusal that check or play returned. */
-#define RUQZHEMIL_NUMBER(refusal) ((unsigned)((refusal) >> 16))
-#define RUQZHEMIL_PLACE(refusal) ((unsigned)((refusal) & 0xffff))
+/* ---- versions: major * 65536 + minor * 256 + patch */
 
-/* Byte 0 of an outcome: how the run ended. */
-enum ruqzhemil_stop {
-    RUQZHEMIL_END = 0,       /* the schedule is at its end */
-    RUQZHEMIL_RACE = 1,      /* a thread lacks the key of a plain field */
-    RUQZHEMIL_NO_THREAD = 2, /* no room for a ninth thread */
-    RUQZHEMIL_NO_OBJECT = 3, /* no room for a 33rd object */
-    RUQZHEMIL_NO_KEY = 4,    /* no room for a 257th key */
-    RUQZHEMIL_NO_DEPTH = 5   /* no room for a depth over 32 */
+#define RUQZHEMIL_VERSION 0x010000 /* 1.0.0, of this header */
+
+/* The version of the archive that is linked, which RUQZHEMIL_VERSION should be. */
+uint64_t ruqzhemil_version(void);
+
+/* ---- limits */
+
+#define RUQZHEMIL_MOST_PLAN_BYTES 5192   /* of any plan that passes: 32 procedures, 1,024 terms */
+#define RUQZHEMIL_MOST_PICKS 4096        /* of any schedule that passes */
+#define RUQZHEMIL_MOST_LOG_BYTES 12288   /* of any log: a record to each of 4,096 picks. An area of this size is enough for every play */
+#define RUQZHEMIL_MOST_TEXT_BYTES 131072 /* an area of this size is enough for the text that the printing program writes of any run */
+#define RUQZHEMIL_RECORD_BYTES 3         /* of a record */
+#define RUQZHEMIL_OUT_BYTES 40           /* of an outcome */
+#define RUQZHEMIL_THREADS 8              /* of a run; they are numbered 0 to 7, as the picks are */
+#define RUQZHEMIL_OBJECTS 32             /* of a run, null (0) included; values are objects */
+
+/* ---- answers */
+
+enum ruqzhemil_answer {
+    RUQZHEMIL_IS_VALUE = 0,  /* an answer, with its value */
+    RUQZHEMIL_IS_OTHER = 1,  /* the function's other answer, with its value */
+    RUQZHEMIL_IS_REFUSAL = 2 /* a refusal, with its number and its place */
 };
 
-/* The first of a thread's three bytes. */
-enum ruqzhemil_state {
-    RUQZHEMIL_ABSENT = 0,        /* there is no such thread */
-    RUQZHEMIL_FINISHED = 1,      /* with the value of the second byte */
-    RUQZHEMIL_READY = 2,         /* it can move, or only lacks room */
-    RUQZHEMIL_WAITS_MONITOR = 3, /* for the monitor of the object of the second byte */
-    RUQZHEMIL_WAITS_JOIN = 4,    /* for the end of the thread that the object of the second byte stands for */
-    RUQZHEMIL_STUCK_FIELD = 5,   /* the object of the second byte has no field of the third byte */
-    RUQZHEMIL_STUCK_THREAD = 6,  /* the object of the second byte is no thread */
-    RUQZHEMIL_LACKING = 7        /* the key of the second byte's object's field of the third byte */
+#define RUQZHEMIL_ANSWER(answer) ((unsigned)((answer) >> 32))
+#define RUQZHEMIL_REFUSED(answer) (RUQZHEMIL_ANSWER(answer) == RUQZHEMIL_IS_REFUSAL)
+#define RUQZHEMIL_VALUE(answer) ((uint32_t)((answer) & 0xffffffffu))      /* of an answer, or of the other answer */
+#define RUQZHEMIL_NUMBER(answer) ((unsigned)((answer) >> 16 & 0xffffu)) /* of a refusal, enum ruqzhemil_refusal */
+#define RUQZHEMIL_PLACE(answer) ((unsigned)((answer) & 0xffffu))         /* of a refusal: which procedure, term, pick or record, from 0; else 0 */
+
+enum ruqzhemil_refusal {
+    RUQZHEMIL_REFUSAL_PLAN_LENGTH = 1,     /* place 0 */
+    RUQZHEMIL_REFUSAL_HEADER = 2,          /* place 0 */
+    RUQZHEMIL_REFUSAL_PROCEDURE = 3,       /* the lowest such procedure */
+    RUQZHEMIL_REFUSAL_TERM = 4,            /* the lowest such term */
+    RUQZHEMIL_REFUSAL_SORT = 5,            /* the lowest such term, or call */
+    RUQZHEMIL_REFUSAL_NAMING = 6,          /* the lowest such term */
+    RUQZHEMIL_REFUSAL_SLOT = 7,            /* the lowest such procedure */
+    RUQZHEMIL_REFUSAL_SCHEDULE_LENGTH = 8, /* place 0 */
+    RUQZHEMIL_REFUSAL_PICK = 9,            /* the lowest such pick */
+    RUQZHEMIL_REFUSAL_LOG_AREA = 10,       /* place 0 */
+    RUQZHEMIL_REFUSAL_LOG_LENGTH = 11,     /* place 0 */
+    RUQZHEMIL_REFUSAL_RECORD = 12          /* the lowest such record */
 };
 
-/* Checks a plan. 0: it passes. Else the refusal, 1 to 7. */
-uint64_t ruqzhemil_check(const uint8_t *plan, size_t plan_len);
+static inline const char *ruqzhemil_refusal_text(unsigned number) {
+    switch (number) {
+    case RUQZHEMIL_REFUSAL_PLAN_LENGTH: return "the plan's length is not that of its counts, or under 8 bytes";
+    case RUQZHEMIL_REFUSAL_HEADER: return "the plan's header or volatile mask";
+    case RUQZHEMIL_REFUSAL_PROCEDURE: return "a procedure's parameters, or its root is not below the term count";
+    case RUQZHEMIL_REFUSAL_TERM: return "a term's tag, slot, field, procedure, child or spare bits";
+    case RUQZHEMIL_REFUSAL_SORT: return "a root or child of the wrong sort, or a call with the wrong number of arguments";
+    case RUQZHEMIL_REFUSAL_NAMING: return "a term that is not named exactly once";
+    case RUQZHEMIL_REFUSAL_SLOT: return "a procedure that uses a slot that nothing binds";
+    case RUQZHEMIL_REFUSAL_SCHEDULE_LENGTH: return "a schedule of over 4,096 picks";
+    case RUQZHEMIL_REFUSAL_PICK: return "a pick over 7";
+    case RUQZHEMIL_REFUSAL_LOG_AREA: return "a log area under 3 times the picks";
+    case RUQZHEMIL_REFUSAL_LOG_LENGTH: return "a log whose length is no multiple of 3, or over 12,288";
+    case RUQZHEMIL_REFUSAL_RECORD: return "a record with a wrong kind, column or spare bit, or lacking its key and not last";
+    default: return "a refusal that this header does not know";
+    }
+}
 
-/* Plays a schedule, one byte to a pick, on a plan. 0: a run. Else the refusal, 1 to 10, and neither log nor out is changed.
- *
- * After a run log begins with the run's records, three bytes each; its other bytes keep their values. A schedule of n picks needs a log area of
- * 3 * n bytes. out is the outcome, whole:
+/* ---- a log: records of 24 bits, most significant bit first: kind 4, thread 3, object 5, field 5, value 5, spare 2 (zero) */
+
+enum ruqzhemil_kind {
+    RUQZHEMIL_KIND_NEW = 1,             /* object: the new one */
+    RUQZHEMIL_KIND_READ = 2,            /* object, field, value read */
+    RUQZHEMIL_KIND_WRITE = 3,           /* object, field, value written */
+    RUQZHEMIL_KIND_VOLATILE_READ = 4,   /* object, field, value read */
+    RUQZHEMIL_KIND_VOLATILE_WRITE = 5,  /* object, field, value written */
+    RUQZHEMIL_KIND_ACQUIRE = 6,         /* object: whose monitor */
+    RUQZHEMIL_KIND_RELEASE = 7,         /* object: whose monitor */
+    RUQZHEMIL_KIND_FORK = 8,            /* object that stands for the new thread; field: the new thread's number */
+    RUQZHEMIL_KIND_JOIN = 9,            /* object that stands for the thread; field: its number; value: its result */
+    RUQZHEMIL_KIND_LACKS_READ = 10,     /* object, field: a read that lacked its key; the run stopped here */
+    RUQZHEMIL_KIND_LACKS_WRITE = 11     /* object, field, value that it would have written; the run stopped here */
+};
+
+/* A record's columns; those without a use are 0. thread made the move. */
+struct ruqzhemil_record {
+    unsigned kind, thread, object, field, value;
+};
+
+/* Record `index`, from 0, of a log that has it. */
+static inline struct ruqzhemil_record ruqzhemil_record_at(const uint8_t *log, size_t index) {
+    const uint8_t *at = log + RUQZHEMIL_RECORD_BYTES * index;
+    const uint32_t bits = (uint32_t)at[0] << 16 | (uint32_t)at[1] << 8 | (uint32_t)at[2];
+    struct ruqzhemil_record record;
+    record.kind = (unsigned)(bits >> 20);
+    record.thread = (unsigned)(bits >> 17 & 7u);
+    record.object = (unsigned)(bits >> 12 & 31u);
+    record.field = (unsigned)(bits >> 7 & 31u);
+    record.value = (unsigned)(bits >> 2 & 31u);
+    return record;
+}
+
+/* The word of a kind, as the printing program writes it. */
+static inline const char *ruqzhemil_kind_word(unsigned kind) {
+    switch (kind) {
+    case RUQZHEMIL_KIND_NEW: return "new";
+    case RUQZHEMIL_KIND_READ: return "read";
+    case RUQZHEMIL_KIND_WRITE: return "write";
+    case RUQZHEMIL_KIND_VOLATILE_READ: return "readv";
+    case RUQZHEMIL_KIND_VOLATILE_WRITE: return "writev";
+    case RUQZHEMIL_KIND_ACQUIRE: return "acquire";
+    case RUQZHEMIL_KIND_RELEASE: return "release";
+    case RUQZHEMIL_KIND_FORK: return "fork";
+    case RUQZHEMIL_KIND_JOIN: return "join";
+    case RUQZHEMIL_KIND_LACKS_READ: return "lacks-read";
+    case RUQZHEMIL_KIND_LACKS_WRITE: return "lacks-write";
+    default: return "unknown";
+    }
+}
+
+/* ---- an outcome: RUQZHEMIL_OUT_BYTES bytes
  *
  *   byte 0           how the run ended, enum ruqzhemil_stop
  *   bytes 1 and 2    picks dealt with before the end or stop, high byte first
  *   bytes 3 and 4    moves made, high byte first
  *   bytes 5 and 6    records written, high byte first
  *   byte 7           0
- *   bytes 8 + 3t ..  of thread t, 0 to 7: its state, enum ruqzhemil_state; the value or the object; the field; 0 where there is none
+ *   bytes 8 + 4t ..  of thread t, 0 to 7: its state, enum ruqzhemil_state; the value or the object that the state names; the field that it names; 0. What
+ *                    a state does not name is 0
  */
-uint64_t ruqzhemil_play(const uint8_t *plan, size_t plan_len, const uint8_t *schedule, size_t schedule_len, uint8_t *log, size_t log_len,
-                        uint8_t out[32]);
 
-/* Judges a log alone. 0: no access is unordered. 2^32 + index: the record with this index, from 0, is the first unordered access.
- * 2 * 2^32 + refusal: the log is refused, 11 or 12. */
+enum ruqzhemil_stop {
+    RUQZHEMIL_END = 0,       /* the schedule is at its end */
+    RUQZHEMIL_RACE = 1,      /* a thread lacks the key of a plain field: nothing orders its access after the last write. The last record names it */
+    RUQZHEMIL_NO_THREAD = 2, /* no room for a ninth thread */
+    RUQZHEMIL_NO_OBJECT = 3, /* no room for a 33rd object */
+    RUQZHEMIL_NO_KEY = 4,    /* no room for a 257th key */
+    RUQZHEMIL_NO_DEPTH = 5   /* no room for a depth over 32 */
+};
+
+enum ruqzhemil_state {
+    RUQZHEMIL_ABSENT = 0,        /* there is no such thread */
+    RUQZHEMIL_FINISHED = 1,      /* with this value */
+    RUQZHEMIL_READY = 2,         /* it can move, or only lacks room */
+    RUQZHEMIL_WAITS_MONITOR = 3, /* for the monitor of this object */
+    RUQZHEMIL_WAITS_JOIN = 4,    /* for the end of the thread that this object stands for */
+    RUQZHEMIL_STUCK_FIELD = 5,   /* this object has no such field */
+    RUQZHEMIL_STUCK_THREAD = 6,  /* this object stands for no thread */
+    RUQZHEMIL_LACKING = 7        /* the key of this object's field */
+};
+
+struct ruqzhemil_thread {
+    unsigned state, named, field; /* named: the value of a finished thread, else the object */
+};
+
+static inline unsigned ruqzhemil_stop_of(const uint8_t out[RUQZHEMIL_OUT_BYTES]) { return out[0]; }
+static inline unsigned ruqzhemil_picks_of(const uint8_t out[RUQZHEMIL_OUT_BYTES]) { return out[1] * 256u + out[2]; }
+static inline unsigned ruqzhemil_moves_of(const uint8_t out[RUQZHEMIL_OUT_BYTES]) { return out[3] * 256u + out[4]; }
+static inline unsigned ruqzhemil_records_of(const uint8_t out[RUQZHEMIL_OUT_BYTES]) { return out[5] * 256u + out[6]; }
+
+/* Thread `number`, 0 to 7. */
+static inline struct ruqzhemil_thread ruqzhemil_thread_of(const uint8_t out[RUQZHEMIL_OUT_BYTES], unsigned number) {
+    const uint8_t *at = out + 8 + 4 * number;
+    struct ruqzhemil_thread thread;
+    thread.state = at[0];
+    thread.named = at[1];
+    thread.field = at[2];
+    return thread;
+}
+
+/* The word of a stop, as the printing program writes it. */
+static inline const char *ruqzhemil_stop_word(unsigned stop) {
+    switch (stop) {
+    case RUQZHEMIL_END: return "end";
+    case RUQZHEMIL_RACE: return "race";
+    case RUQZHEMIL_NO_THREAD: return "no-thread";
+    case RUQZHEMIL_NO_OBJECT: return "no-object";
+    case RUQZHEMIL_NO_KEY: return "no-key";
+    case RUQZHEMIL_NO_DEPTH: return "no-depth";
+    default: return "unknown";
+    }
+}
+
+static inline const char *ruqzhemil_state_text(unsigned state) {
+    switch (state) {
+    case RUQZHEMIL_ABSENT: return "absent";
+    case RUQZHEMIL_FINISHED: return "finished";
+    case RUQZHEMIL_READY: return "ready";
+    case RUQZHEMIL_WAITS_MONITOR: return "waits for a monitor";
+    case RUQZHEMIL_WAITS_JOIN: return "waits to join";
+    case RUQZHEMIL_STUCK_FIELD: return "stuck, no field";
+    case RUQZHEMIL_STUCK_THREAD: return "stuck, no thread";
+    case RUQZHEMIL_LACKING: return "lacks a key";
+    default: return "unknown";
+    }
+}
+
+/* ---- the functions */
+
+/* Checks a plan. An answer: it passes, value 0. Refusals 1 to 7. */
+uint64_t ruqzhemil_check(const uint8_t *plan, size_t plan_len);
+
+/* Plays a schedule on a plan. An answer: a run, value 0; log begins with its records, RUQZHEMIL_RECORD_BYTES * ruqzhemil_records_of(out) bytes, and
+ * keeps its other bytes; out is its outcome, whole. Refusals 1 to 10 leave both as they were. A schedule of n picks needs a log area of 3 * n bytes. */
+uint64_t ruqzhemil_play(const uint8_t *plan, size_t plan_len, const uint8_t *schedule, size_t schedule_len, uint8_t *log, size_t log_len,
+                        uint8_t out[RUQZHEMIL_OUT_BYTES]);
+
+/* Judges a log alone, of a run or of anything. An access is unordered when no chain leads to it from some earlier access to its field, one of the two a
+ * write. An answer: no access is unordered, value 0. The other answer: the record with this index, from 0, is the first unordered access.
+ * Refusals 11 and 12. */
 uint64_t ruqzhemil_judge(const uint8_t *log, size_t log_len);
+
+/* ---- null pointers: the archive's functions want a pointer that is not null even where its length is 0. A call through this header gives them one, where
+ * the caller has none; what it leads to is neither read nor written. */
+
+static inline const uint8_t *ruqzhemil_bytes(const uint8_t *bytes) {
+    static const uint8_t none[1] = {0};
+    return bytes ? bytes : none;
+}
+
+static inline uint8_t *ruqzhemil_area(uint8_t *area) {
+    static uint8_t none[1];
+    return area ? area : none;
+}
+
+#define ruqzhemil_check(plan, plan_len) ruqzhemil_check(ruqzhemil_bytes(plan), plan_len)
+#define ruqzhemil_play(plan, plan_len, schedule, schedule_len, log, log_len, out) \
+    ruqzhemil_play(ruqzhemil_bytes(plan), plan_len, ruqzhemil_bytes(schedule), schedule_len, ruqzhemil_area(log), log_len, out)
+#define ruqzhemil_judge(log, log_len) ruqzhemil_judge(ruqzhemil_bytes(log), log_len)
 
 #ifdef __cplusplus
 }

@@ -1,7 +1,8 @@
-//! The functions of the static library for Rust, answers as include/ruqzhemil.h documents them. A slice meets what the library asks of its pointers, and two
-//! borrows of one call cannot overlap.
+//! The functions of the static library for Rust over slices, with the numbers that include/ruqzhemil.h documents; the package in rust/ has them with types of
+//! Rust's own. A slice meets what the library asks of its pointers, and a `&mut` borrow overlaps no other.
 
-extern "C" {
+unsafe extern "C" {
+    fn ruqzhemil_version() -> u64;
     fn ruqzhemil_check(plan: *const u8, plan_len: usize) -> u64;
     fn ruqzhemil_play(
         plan: *const u8,
@@ -12,17 +13,25 @@ extern "C" {
         log_len: usize,
         out: *mut u8,
     ) -> u64;
-    fn ruqzhemil_judge(log: *const u8, log_len: usize) -> u64;
+    fn ruqzhemil_judge(version: u64, log: *const u8, log_len: usize) -> u64;
+}
+
+/// Bytes of an outcome.
+pub const OUT_BYTES: usize = 40;
+
+#[allow(dead_code)]
+pub fn version() -> u64 {
+    unsafe { ruqzhemil_version() }
 }
 
 pub fn check(plan: &[u8]) -> u64 {
     unsafe { ruqzhemil_check(plan.as_ptr(), plan.len()) }
 }
 
-pub fn play(plan: &[u8], schedule: &[u8], log: &mut [u8], out: &mut [u8; 32]) -> u64 {
+pub fn play(plan: &[u8], schedule: &[u8], log: &mut [u8], out: &mut [u8; OUT_BYTES]) -> u64 {
     unsafe { ruqzhemil_play(plan.as_ptr(), plan.len(), schedule.as_ptr(), schedule.len(), log.as_mut_ptr(), log.len(), out.as_mut_ptr()) }
 }
 
-pub fn judge(log: &[u8]) -> u64 {
-    unsafe { ruqzhemil_judge(log.as_ptr(), log.len()) }
+pub fn judge(version: u64, log: &[u8]) -> u64 {
+    unsafe { ruqzhemil_judge(version, log.as_ptr(), log.len()) }
 }

@@ -1,14 +1,14 @@
 #!/usr/bin/env python3
 """Holds the printing program to the second interpreter on fresh random cases.
 
-  compare.py PROGRAM ORACLE SEED COUNT
+  compare.py PROGRAM ORACLE SEED COUNT [--landed E2,E7]
   compare.py PROGRAM - < CASES
 
-ORACLE is the folder of the second interpreter, CASES its JSON lines, made before; PROGRAM is the built printing program (`rt check shotlist` makes
-target/bin/shotlist). Every case that plays a schedule on a plan is written as the program's standard input, and what it prints is compared with the
-text that the case asks for. Cases that refuse the log area (number 10) are left out, since the program lends an area that is always long enough.
-Every tenth input is also cut short within its plan, which is refusal 1, and every tenth run is also played with more picks than a schedule may have,
-which is refusal 8.
+ORACLE is the folder of the second interpreter, CASES its JSON lines, made before; the list names the requests of document 02 that count as landed;
+PROGRAM is the built printing program (`rt check shotlist` makes target/bin/shotlist). Every case that plays a schedule on a plan is written as the program's
+standard input, and what it prints is compared with the text that the case asks for. Cases that refuse the log area (number 10) are left out, since the
+program lends an area that is always long enough. Every tenth input is also cut short within its plan, which is refusal 1, and every tenth run is also played
+with more picks than a schedule may have, which is refusal 8.
 """
 
 import subprocess
@@ -51,11 +51,12 @@ def inputs(cases):
 
 
 def main(argv):
-    if len(argv) not in (3, 5):
+    words, landed = interpreter.split(argv[1:])
+    if len(words) not in (2, 4):
         sys.exit(__doc__)
     compared = differ = 0
-    for data, text in inputs(interpreter.cases(argv[2:])):
-        got = subprocess.run([argv[1]], input=data, stdout=subprocess.PIPE).stdout.decode()
+    for data, text in inputs(interpreter.cases(words[1:], landed)):
+        got = subprocess.run([words[0]], input=data, stdout=subprocess.PIPE).stdout.decode()
         compared += 1
         if got != text:
             differ += 1

@@ -1,11 +1,12 @@
 #!/usr/bin/env python3
 """Holds the static library to the second interpreter on random cases.
 
-  compare_library.py ORACLE SEED COUNT
+  compare_library.py ORACLE SEED COUNT [--landed E2,E7]
   compare_library.py - < CASES
 
-ORACLE is the folder of the second interpreter; CASES are its JSON lines, made before. The library is target/staticlib/libruqzhemil.a
-(`rt staticlib ruqzhemil` makes it), linked into a shared object by the C compiler. Compared are: what check returns; what play returns, the 32
+ORACLE is the folder of the second interpreter; CASES are its JSON lines, made before; the list names the requests of document 02 that count as landed.
+The library is target/staticlib/libruqzhemil.a
+(`rt staticlib ruqzhemil` makes it), linked into a shared object by the C compiler. Compared are: what check returns; what play returns, the 40
 bytes of the outcome and the whole log area, beyond the records too; what judge returns for the log of each run and for each log of the cases.
 """
 
@@ -16,7 +17,7 @@ import subprocess
 import sys
 
 import interpreter
-from interpreter import FILL, outcome_bytes
+from interpreter import FILL, OUT, checked, judged, outcome_bytes, played, record_bytes
 
 
 def library(root):
@@ -38,10 +39,7 @@ def lent(data):
 
 def judged_right(lib, log, want):
     """Whether judge returns the number of its answer."""
-    got = lib.ruqzhemil_judge(*lent(log))
-    if "refused" in want:
-        return got == (2 << 32) + want["refused"][0] * 65536 + want["refused"][1]
-    return got == ((1 << 32) + want["unordered"][0] if want["unordered"] else 0)
+    return lib.ruqzhemil_judge(*lent(log)) == judged(want)
 
 
 def played_right(lib, case):
@@ -49,25 +47,22 @@ def played_right(lib, case):
     play, want = case["play"], case["want"]
     plan, schedule = bytes.fromhex(play["plan"]), bytes.fromhex(play["schedule"])
     area = (ctypes.c_uint8 * max(1, play["area"]))(*([FILL] * max(1, play["area"])))
-    out = (ctypes.c_uint8 * 32)(*([FILL] * 32))
+    out = (ctypes.c_uint8 * OUT)(*([FILL] * OUT))
     got = lib.ruqzhemil_play(*lent(plan), *lent(schedule), area, ctypes.c_size_t(play["area"]), out)
     left = bytes(area)[:play["area"]]
-    checked = lib.ruqzhemil_check(*lent(plan))
-    if "refused" in want:
-        number, place = want["refused"]
-        right = got == number * 65536 + place and left == bytes([FILL]) * play["area"] and bytes(out) == outcome_bytes(want)
-        return right and checked == (got if number < 8 else 0)
-    log = bytes.fromhex(want["log"])
-    right = got == 0 and checked == 0 and bytes(out) == outcome_bytes(want) and left == log + bytes([FILL]) * (play["area"] - len(log))
-    return right and judged_right(lib, log, want["judge"])
+    log = record_bytes(bytes.fromhex(want.get("log", "")))
+    right = got == played(want) and bytes(out) == outcome_bytes(want) and left == log + bytes([FILL]) * (play["area"] - len(log))
+    right = right and lib.ruqzhemil_check(*lent(plan)) == checked(want)
+    return right and ("judge" not in want or judged_right(lib, log, want["judge"]))
 
 
 def main(argv):
-    if len(argv) not in (2, 4):
+    words, landed = interpreter.split(argv[1:])
+    if len(words) not in (1, 3):
         sys.exit(__doc__)
     lib = library(os.path.dirname(os.path.dirname(os.path.abspath(__file__))))
     compared = differ = 0
-    for case in interpreter.cases(argv[1:]):
+    for case in interpreter.cases(words, landed):
         right = played_right(lib, case) if "play" in case else judged_right(lib, bytes.fromhex(case["judge"]), case["want"])
         compared += 1
         if not right:

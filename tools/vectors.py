@@ -1,24 +1,33 @@
 #!/usr/bin/env python3
-"""Writes the data of the test program `vectors` from the second interpreter.
+"""Writes the data of the test programs from the second interpreter.
 
-  vectors.py ORACLE SEED COUNT FOLDER
+  vectors.py ORACLE SEED COUNT CRATES [--landed E2,E7]
+  vectors.py ORACLE - CRATES [--landed E2,E7] < CASES
 
-ORACLE is the folder of the second interpreter, SEED and COUNT go to its `oracle.py vectors`, and FOLDER is the crate's: FOLDER/data gets the files
-below and FOLDER/stdout what the test program must print. Every case stands behind its length in two bytes; numbers of two bytes have the high byte
-first.
+ORACLE is the folder of the second interpreter, SEED and COUNT go to its `oracle.py vectors`, the list after --landed names the requests of document 02
+that count as landed (those that the product has, where it is left out), CASES are the interpreter's JSON lines, made before, and CRATES is the folder of the crates. CRATES/vectors/data gets the files
+below, and CRATES/vectors/stdout what the test program must print; CRATES/longest_input/stdin and stdout are an input of 9,291 bytes of the printing program
+and its text. The same words give the same files. Every case stands behind its length in two bytes; numbers have the high byte first.
 
-  shots, runs, refused    plays: of document 01's shot list, those that run, those that are refused
-  shot_logs, logs         logs for the judge: of the shot list, and any
+  header                         the numbers of include/ruqzhemil.h, with which the answers are written, a name and a number to a line
+  version                        the number of the header's version, in eight bytes
+  shots, edges, runs, refused    plays: of document 01's shot list, by hand, random ones that run, random ones that are refused
+  edge_logs, logs                logs for the judge: by hand, and random ones
+  changed_version, changed_checks, changed_plays, changed_runs, changed_both, changed_logs
+                                 cases of the kinds above with one part of the answer, or one length, changed: each must differ
 
-A play: lengths of plan, schedule and log area; what the judge says of the run (0 none, else the index and 1); the answer in 35 bytes (refusal and
-place; the static library's 32 bytes); plan, schedule, records. A log: refusal and place; what the judge says (0 none, else the index and 1); the log.
+A play: lengths of plan, schedule and log area; what check, play and judge return, in eight bytes each, judge for the run's records or for none; the
+bytes of the outcome; plan, schedule, records. A log: what judge returns; the log.
 """
 
 import collections
 import sys
 
+import header
 import interpreter
-from interpreter import OUTCOMES, STATES, outcome_bytes, state_words
+import rows
+from interpreter import (FILL, KINDS, NUMBERS, OUTCOMES, REFUSALS, STATES, checked, judged, other, outcome_bytes, played, record_bytes, refused,
+                         state_words, value)
 
 LONG = 6000  # bytes of a case from which on only a few are kept
 KEPT = {"refused": 45, "end": 330, "long": 10, "log": 390}  # of each number, of runs to the end, of long cases, of logs with an unordered access and without
@@ -30,34 +39,41 @@ def two(number):
     return number.to_bytes(2, "big")
 
 
-def answer_bytes(want):
-    """The answer to a play in 35 bytes."""
-    number, place = want.get("refused", (0, 0))
-    return bytes([number]) + two(place) + outcome_bytes(want)
+def eight(number):
+    return number.to_bytes(8, "big")
 
 
-def named_bytes(want):
-    """What the judge says: 0 for none, else the index and 1."""
-    return two(want["unordered"][0] + 1 if want.get("unordered") else 0)
+Play = collections.namedtuple("Play", "plan schedule area checked played judged out records lengths")
+Log = collections.namedtuple("Log", "judged log")
 
 
-def play_bytes(plan, schedule, area, want):
-    head = two(len(plan)) + two(len(schedule)) + two(area) + named_bytes(want.get("judge", {}))
-    return head + answer_bytes(want) + plan + schedule + bytes.fromhex(want.get("log", ""))
+def play_of(plan, schedule, area, want):
+    """A play as it is stored: what check, play and judge return; `lengths` are those of plan and schedule."""
+    return Play(plan, schedule, area, checked(want), played(want), judged(want.get("judge", {"unordered": []})), outcome_bytes(want), record_bytes(bytes.fromhex(want.get("log", ""))),
+                (len(plan), len(schedule)))
 
 
-def log_bytes(log, want):
-    number, place = want.get("refused", (0, 0))
-    return bytes([number]) + two(place) + named_bytes(want) + log
+def log_of(log, want):
+    return Log(judged(want), record_bytes(log))
+
+
+def stored(case):
+    """The bytes of a case."""
+    if isinstance(case, bytes):
+        return case
+    if isinstance(case, Log):
+        return eight(case.judged) + case.log
+    lengths = b"".join(map(two, case.lengths)) + two(case.area)
+    return lengths + eight(case.checked) + eight(case.played) + eight(case.judged) + case.out + case.plan + case.schedule + case.records
 
 
 # ---- the cases of the second interpreter
 
-def case_bytes(case):
+def case_of(case):
     if "judge" in case:
-        return log_bytes(bytes.fromhex(case["judge"]), case["want"])
+        return log_of(bytes.fromhex(case["judge"]), case["want"])
     play = case["play"]
-    return play_bytes(bytes.fromhex(play["plan"]), bytes.fromhex(play["schedule"]), play["area"], case["want"])
+    return play_of(bytes.fromhex(play["plan"]), bytes.fromhex(play["schedule"]), play["area"], case["want"])
 
 
 def kind_of(case):
@@ -78,7 +94,8 @@ def marks_of(want):
     return [want["outcome"]] + [STATES[state_words(s)] for s in want["states"]] + [("kind", k >> 4) for k in kinds] + [("picks", want["picks"])]
 
 
-ALL_MARKS = [("refused", n) for n in range(1, 13)] + OUTCOMES + list(range(8)) + [("kind", k) for k in range(1, 12)] + [("picks", 4096)]
+ALL_MARKS = ([("refused", n) for n in range(1, len(REFUSALS) + 1)] + list(OUTCOMES) + list(STATES.values()) + [("kind", k) for k in range(1, len(KINDS) + 1)]
+             + [("picks", NUMBERS["MOST_PICKS"])])
 
 
 def chosen(cases):
@@ -86,114 +103,149 @@ def chosen(cases):
     kept, files, marks = collections.Counter(), collections.defaultdict(list), set()
     for case in cases:
         name, kind = kind_of(case)
-        stored = case_bytes(case)
-        if len(stored) > LONG:
+        made = case_of(case)
+        if len(stored(made)) > LONG:
             kind = ("long", name)
         if kept[kind] < KEPT.get(kind[0], 1 << 20):
             kept[kind] += 1
-            files[name].append(stored)
+            files[name].append(made)
             marks.update(marks_of(case["want"]))
-    assert marks.issuperset(ALL_MARKS), "some refusal, outcome, state or kind has no case: take more"
+    missing = [mark for mark in ALL_MARKS if mark not in marks]
+    assert not missing, "no case has %s: take more" % missing
     return files
 
 
-# ---- document 01's shot list
+# ---- the cases by hand
 
-def term(tag, *operands):
-    """A term's five bytes: tag of 5 bits, then operands as (width, number)."""
-    word, used = tag, 5
-    for width, number in operands:
-        word, used = word << width | number, used + width
-    return (word << (40 - used)).to_bytes(5, "big")
-
-
-def plan_of(*terms):
-    """A plan of one procedure, main, whose root is term 0, with no volatile field but the monitor."""
-    return (1 << 28 | 1 << 22 | len(terms) << 10).to_bytes(4, "big") + bytes.fromhex("80000000") + bytes(2) + b"".join(terms)
-
-
-def child(index):
-    return 10, index
-
-
-NULL, TRUE = term(0), term(12)
-PLAN_P = plan_of(term(5, (4, 0), child(1), child(2)), term(2, (32, 1 << 30)), term(5, (4, 15), child(3), child(7)), term(9, child(4)),
-                 term(4, child(5), (5, 1), child(6)), term(1, (4, 0)), NULL, term(3, child(8), (5, 1)), term(1, (4, 0)))
-IF_NOT = plan_of(term(6, child(1), child(3), child(4)), term(13, child(2)), TRUE, NULL, NULL)
-IF_NOT_NOT = plan_of(term(6, child(1), child(4), child(5)), term(13, child(2)), term(13, child(3)), TRUE, NULL, NULL)
-SYNCH = plan_of(term(11, child(1), child(2)), NULL, NULL)
-SYNCH_TWICE = plan_of(term(11, child(1), child(2)), NULL, term(11, child(3), child(4)), NULL, NULL)
-JOIN_NULL = plan_of(term(10, child(1)), NULL)
-JOIN_FORK = plan_of(term(10, child(1)), term(9, child(2)), NULL)
-FIELD_OF_NULL = plan_of(term(3, child(1), (5, 1)), NULL)
-
-# plan, picks, and what document 01 says: the refusal; or moves and records, or the outcome's four, and a word of thread 0's state where it has one
-SHOTS = [
-    (PLAN_P, [0, 0, 0, 0, 0, 1, 0], ("race", 6, 6, 4), None),
-    (PLAN_P, [0, 0, 0, 0, 0, 0, 1], ("end", 7, 7, 4), None),
-    (PLAN_P[:54], [0], [1, 0], None),
-    (PLAN_P, [], ("end", 0, 0, 0), "ready"),
-    (plan_of(term(2, (32, 0x7F800000))), [0], (1, 0), None),
-    (plan_of(term(2, (32, 0x7FC00000))), [0], [4, 0], None),
-    (IF_NOT, [0] * 9, (2, 0), None),
-    (IF_NOT_NOT, [0] * 9, (3, 0), None),
-    (SYNCH, [0] * 9, (3, 2), None),
-    (SYNCH_TWICE, [0] * 9, (4, 2), None),
-    (JOIN_NULL, [0, 0, 0], (1, 0), "waiting"),
-    (JOIN_FORK, [0, 0, 0], (3, 2), None),
-    (FIELD_OF_NULL, [0, 0], (1, 0), "stuck"),
-    (PLAN_P, [7], ("end", 1, 0, 0), None),
-    (PLAN_P, [8], [9, 0], None),
-]
-
-
-def says(want, stated, word):
-    """Whether an answer is what document 01 states of it."""
+def says(want, stated, word=None):
+    """Whether an answer is what is stated of it."""
     if isinstance(stated, list):
         return want.get("refused") == stated
     counts = (want["outcome"], want["picks"], want["moves"], want["records"])
     return stated in (counts, counts[2:]) and word in (None, want["states"][0][0])
 
 
-def shot_list(oracle):
-    """The plays and the logs of the shot list."""
-    plays, logs = [], [log_bytes(b"", {"unordered": []})]
-    for plan, picks, stated, word in SHOTS:
-        area = 3 * len(picks) + 5
-        want = oracle.played(plan, bytes(picks), area)
-        assert says(want, stated, word), (plan.hex(), picks, want)
-        plays.append(play_bytes(plan, bytes(picks), area, want))
-        if "log" in want:
-            logs.append(log_bytes(bytes.fromhex(want["log"]), want["judge"]))
-    return plays, logs
+def play_by_hand(oracle, plan, picks, right):
+    """A play of these picks, with five bytes of log area more than they need."""
+    area = 3 * len(picks) + 5
+    want = oracle.played(plan, bytes(picks), area)
+    assert right(want), (plan.hex(), picks, want)
+    return play_of(plan, bytes(picks), area, want)
+
+
+def shots(oracle):
+    return [play_by_hand(oracle, plan, picks, lambda want: says(want, stated, word)) for plan, picks, stated, word in rows.SHOTS]
+
+
+def edges(oracle, landed):
+    for plan, picks, stated, changing in rows.EDGES:
+        yield play_by_hand(oracle, plan, picks, lambda want: set(changing) & set(landed) or says(want, stated))
+
+
+def edge_logs(oracle):
+    for log, stated in rows.LOGS:
+        want = oracle.judged(log)
+        assert want == ({"refused": stated} if stated else {"unordered": []}), (log.hex(), want)
+        yield log_of(log, want)
+
+
+# ---- cases that must differ
+
+def flips(data):
+    """The bytes with each in turn changed."""
+    return [data[:i] + bytes([data[i] ^ 1]) + data[i + 1:] for i in range(len(data))]
+
+
+def by(case, **values):
+    """The case with one part changed, once for each of the values."""
+    (part, changes), = values.items()
+    return [case._replace(**{part: value}) for value in changes]
+
+
+def wrong(right):
+    """Numbers that are not the one returned: each part of an answer changed, and each kind of answer in place of another."""
+    return [right ^ change for change in (1, 1 << 16, 1 << 32, 1 << 33, 3 << 32, 1 << 63)]
+
+
+def changed(race, ended, refused_plan, refused_pick, unordered, ordered, refused_log):
+    """Cases by file, of seven right ones: plays that stop for a race, come to their end, have a refused plan and a refused pick; logs with an unordered
+    access, with none, and refused."""
+    end = len(stored(race))
+    lengths = [(end, 0), (len(race.plan), end)]
+    return {
+        "changed_checks": by(race, checked=wrong(race.checked)) + by(refused_plan, checked=wrong(refused_plan.checked)) + by(race, lengths=lengths[:1]),
+        "changed_plays": by(race, played=wrong(race.played)) + by(race, out=flips(race.out)) + by(race, records=flips(race.records))
+        + by(race, records=[race.records[:-3], race.records + bytes(3), race.records + bytes([FILL] * 5) + bytes(1)]) + by(race, lengths=lengths)
+        + by(race, area=[3 * len(race.schedule) - 1, 16385, 65535])
+        + by(refused_pick, played=wrong(refused_pick.played)) + by(refused_pick, out=flips(refused_pick.out)) + by(refused_pick, records=[bytes(3)]),
+        "changed_runs": by(race, judged=wrong(race.judged)) + by(ended, judged=wrong(ended.judged)) + by(race, lengths=lengths),
+        "changed_both": by(race, judged=wrong(race.judged)) + by(ended, judged=wrong(ended.judged)) + by(refused_pick, played=wrong(refused_pick.played))
+        + by(race, lengths=lengths) + by(race, area=[3 * len(race.schedule) - 1, 16385]),
+        "changed_logs": [changed for case in (unordered, ordered, refused_log) for changed in by(case, judged=wrong(case.judged))],
+    }
+
+
+def changed_of(files):
+    """The same, of the shot list's and the random cases."""
+    def first(name, right):
+        return next(case for case in files[name] if right(case))
+    return changed(files["shots"][0], first("runs", lambda c: c.judged == value(0) and c.out[0] == OUTCOMES["end"] and len(c.records) > 9),
+                   first("refused", lambda c: c.checked > refused(4, 0)), first("refused", lambda c: refused(9, 0) < c.played < refused(10, 0)),
+                   first("logs", lambda c: other(0) < c.judged < refused(1, 0)), first("logs", lambda c: c.judged == value(0) and len(c.log) > 9),
+                   first("logs", lambda c: c.judged > refused(12, 0)))
 
 
 # ---- the files
 
+GROUPS = [("version", "version"),
+          ("shot list, checked", "shots"), ("shot list, played", "shots"), ("shot list, judged", "shots"),
+          ("edges, checked", "edges"), ("edges, played", "edges"), ("edges, judged", "edges"), ("logs at the edges, judged", "edge_logs"),
+          ("runs, checked", "runs"), ("runs, played", "runs"), ("runs, judged", "runs"), ("runs, played and judged", "runs"),
+          ("refused plays, checked", "refused"), ("refused plays, played", "refused"), ("refused plays, played and judged", "refused"),
+          ("other logs, judged", "logs")]
+CHANGED = [("changed version", "changed_version"), ("changed, checked", "changed_checks"), ("changed, played", "changed_plays"),
+           ("changed runs, judged", "changed_runs"), ("changed, played and judged", "changed_both"), ("changed logs, judged", "changed_logs")]
+
+
 def lines(files):
-    """What the test program prints where nothing differs."""
-    groups = [("shot list, checked", "shots"), ("shot list, played", "shots"), ("shot list, judged", "shot_logs"), ("runs, checked", "runs"),
-              ("runs, played", "runs"), ("runs, judged", "runs"), ("refused plays, checked", "refused"), ("refused plays, played", "refused"),
-              ("other logs, judged", "logs")]
-    for name, file in groups:
+    """What the test program prints where nothing differs but what must."""
+    def count(groups):
+        return sum(len(files[file]) for _, file in groups)
+    for name, file in GROUPS:
         yield "%s: %d cases, 0 differ\n" % (name, len(files[file]))
-    yield "%d cases, 0 differ\n" % sum(len(files[file]) for _, file in groups)
+    yield "%d cases, 0 differ\n" % count(GROUPS)
+    for name, file in CHANGED:
+        yield "%s: %d cases, %d differ\n" % (name, len(files[file]), len(files[file]))
+    yield "must differ: %d cases, %d differ\n" % (count(CHANGED), count(CHANGED))
 
 
 def main(argv):
-    if len(argv) != 5:
+    words, names = interpreter.split(argv[1:])
+    made_before = words[1:2] == ["-"]
+    if len(words) != (3 if made_before else 4):
         sys.exit(__doc__)
-    sys.path.insert(0, argv[1])
+    crates = words[-1]
+    sys.path.insert(0, words[0])
     import landed
     import oracle
-    landed.land(*interpreter.LANDED)
-    files = chosen(interpreter.cases(argv[1:4]))
-    files["shots"], files["shot_logs"] = shot_list(oracle)
-    for name, stored in files.items():
-        with open("%s/data/%s" % (argv[4], name), "wb") as out:
-            out.write(b"".join(two(len(case)) + case for case in stored))
-    with open(argv[4] + "/stdout", "w") as out:
+    import run
+    landed.land(*landed.named(names))
+    files = chosen(interpreter.cases(["-"] if made_before else words[:3], names))
+    files["shots"], files["edges"], files["edge_logs"] = shots(oracle), list(edges(oracle, landed.now())), list(edge_logs(oracle))
+    files.update(changed_of(files))
+    files["version"] = [eight(NUMBERS["VERSION"])]
+    files["changed_version"] = flips(files["version"][0]) + [files["version"][0] + bytes(1)]
+    for name, cases in files.items():
+        with open("%s/vectors/data/%s" % (crates, name), "wb") as out:
+            out.write(b"".join(two(len(stored(case))) + stored(case) for case in cases))
+    with open("%s/%s" % (crates, header.LISTED), "w") as out:
+        out.write(header.listing())
+    with open(crates + "/vectors/stdout", "w") as out:
         out.writelines(lines(files))
+    with open(crates + "/longest_input/stdin", "wb") as out:
+        out.write(rows.longest_input())
+    with open(crates + "/longest_input/stdout", "w") as out:
+        out.write(run.report(rows.longest_input()))
 
 
 if __name__ == "__main__":

@@ -1,16 +1,17 @@
 //! The independent implementation's answers as the numbers and bytes that include/ruqzhemil.h gives.
 
 use crate::independent::{self, Outcome, Refusal, State};
+use crate::library::OUT_BYTES;
 
 fn number(refusal: Refusal) -> u64 {
-    u64::from(refusal.0) * 65536 + refusal.1 as u64
+    (2 << 32) + u64::from(refusal.0) * 65536 + refusal.1 as u64
 }
 
 pub fn check(plan: &[u8]) -> u64 {
     independent::check(plan).map_or_else(number, |_| 0)
 }
 
-pub fn play(plan: &[u8], schedule: &[u8], log: &mut [u8], out: &mut [u8; 32]) -> u64 {
+pub fn play(plan: &[u8], schedule: &[u8], log: &mut [u8], out: &mut [u8; OUT_BYTES]) -> u64 {
     match independent::play(plan, schedule, log) {
         Ok(outcome) => {
             *out = bytes(&outcome);
@@ -20,22 +21,22 @@ pub fn play(plan: &[u8], schedule: &[u8], log: &mut [u8], out: &mut [u8; 32]) ->
     }
 }
 
-pub fn judge(log: &[u8]) -> u64 {
-    match independent::judge(log) {
+pub fn judge(version: u64, log: &[u8]) -> u64 {
+    match independent::judge(version, log) {
         Ok(None) => 0,
         Ok(Some(index)) => (1 << 32) + index as u64,
-        Err(refusal) => (2 << 32) + number(refusal),
+        Err(refusal) => number(refusal),
     }
 }
 
-fn bytes(outcome: &Outcome) -> [u8; 32] {
-    let mut out = [0; 32];
+fn bytes(outcome: &Outcome) -> [u8; OUT_BYTES] {
+    let mut out = [0; OUT_BYTES];
     out[0] = outcome.word;
     out[1..3].copy_from_slice(&(outcome.picks as u16).to_be_bytes());
     out[3..5].copy_from_slice(&(outcome.moves as u16).to_be_bytes());
     out[5..7].copy_from_slice(&(outcome.records as u16).to_be_bytes());
     for (t, state) in outcome.states.into_iter().enumerate() {
-        out[8 + 3 * t..11 + 3 * t].copy_from_slice(&thread_bytes(state));
+        out[8 + 4 * t..11 + 4 * t].copy_from_slice(&thread_bytes(state));
     }
     out
 }

@@ -12,6 +12,9 @@ const ROUNDS: usize = 200;
 const FEW_PICKS: usize = 512;
 const FEW_RECORDS: usize = 256;
 
+/// Counts of records of short logs, the highest last.
+const SHORT: [usize; 4] = [1, 8, 32, 64];
+
 /// An entry at one input, its answer thrown away.
 type Entry<'a> = Box<dyn FnMut() + 'a>;
 
@@ -49,10 +52,10 @@ impl Pair {
     }
 }
 
-type Player = fn(&[u8], &[u8], &mut [u8], &mut [u8; 32]) -> u64;
+type Player = fn(&[u8], &[u8], &mut [u8], &mut [u8; library::OUT_BYTES]) -> u64;
 
 fn playing<'a>(play: Player, plan: &'a [u8], schedule: &'a [u8]) -> Entry<'a> {
-    let (mut log, mut out) = (vec![0; 3 * schedule.len()], [0; 32]);
+    let (mut log, mut out) = (vec![0; 3 * schedule.len()], [0; library::OUT_BYTES]);
     Box::new(move || {
         black_box(play(black_box(plan), black_box(schedule), &mut log, &mut out));
     })
@@ -64,14 +67,27 @@ fn on<'a>(entry: fn(&[u8]) -> u64, input: &'a [u8]) -> Entry<'a> {
     })
 }
 
+fn judging<'a>(judge: fn(u64, &[u8]) -> u64, version: u64, log: &'a [u8]) -> Entry<'a> {
+    Box::new(move || {
+        black_box(judge(black_box(version), black_box(log)));
+    })
+}
+
+/// The log of an input's run, and its counts of picks, moves and records.
+fn played(input: &Input) -> (Vec<u8>, [usize; 3]) {
+    let Input { name, plan, schedule } = input;
+    let (mut log, mut out) = (vec![0; 3 * schedule.len()], [0; library::OUT_BYTES]);
+    assert_eq!(library::play(plan, schedule, &mut log, &mut out), 0, "{name} is refused");
+    let counts = [1, 3, 5].map(|at| usize::from(out[at]) << 8 | usize::from(out[at + 1]));
+    log.truncate(3 * counts[2]);
+    (log, counts)
+}
+
 /// The pairs of one input: a pick, a play without picks, a checked byte, a judged record.
 fn row(input: &Input) -> [Option<Pair>; 4] {
     let Input { name, plan, schedule } = input;
-    let (mut log, mut out) = (vec![0; 3 * schedule.len()], [0; 32]);
-    assert_eq!(library::play(plan, schedule, &mut log, &mut out), 0, "{name} is refused");
-    let two = |at: usize| usize::from(out[at]) << 8 | usize::from(out[at + 1]);
-    let (picks, moves, records) = (two(1), two(3), two(5));
-    log.truncate(3 * records);
+    let (log, [picks, moves, records]) = played(input);
+    let version = u64::from(plan[0] >> 4);
     let [play, play2, start, start2, check, check2, judge, judge2] = best([
         playing(library::play, plan, schedule),
         playing(answers::play, plan, schedule),
@@ -79,8 +95,8 @@ fn row(input: &Input) -> [Option<Pair>; 4] {
         playing(answers::play, plan, &[]),
         on(library::check, plan),
         on(answers::check, plan),
-        on(library::judge, &log),
-        on(answers::judge, &log),
+        judging(library::judge, version, &log),
+        judging(answers::judge, version, &log),
     ]);
     let per = |count: usize, ours: f64, theirs: f64| Some(Pair(ours / count as f64, theirs / count as f64));
     let pairs = [
@@ -97,6 +113,26 @@ fn row(input: &Input) -> [Option<Pair>; 4] {
     pairs
 }
 
+/// A log of so many plain reads, each of another field of another object: it needs the most rows.
+fn scattered(count: usize) -> Vec<u8> {
+    let record = |i: u32| 2 << 20 | (i % 8) << 17 | (i % 32) << 12 | (1 + i / 32 % 31) << 7;
+    (0..count as u32).flat_map(|i| record(i).to_be_bytes()[1..].to_vec()).collect()
+}
+
+/// Whole calls of judge on the first records of a log, where they are enough.
+fn short_row(name: &str, log: &[u8]) {
+    if log.len() < 3 * SHORT[SHORT.len() - 1] {
+        return;
+    }
+    print!("{name:16}");
+    for count in SHORT {
+        let first = &log[..3 * count];
+        let [ours, theirs] = best([judging(library::judge, 1, first), judging(answers::judge, 1, first)]);
+        print!(" |{:>23}", Pair(ours, theirs).text(0));
+    }
+    println!();
+}
+
 pub fn run() {
     println!("\nspeed, nanoseconds: the library, the independent implementation, the ratio; best of {ROUNDS} rounds");
     println!(
@@ -109,5 +145,10 @@ pub fn run() {
         let logs: Vec<f64> = rows.iter().filter_map(|pairs| pairs[column].as_ref()).map(|pair| pair.ratio().ln()).collect();
         print!(" |{:23.2}", (logs.iter().sum::<f64>() / logs.len() as f64).exp());
     }
+    println!("\n\njudge on short logs, a whole call, by the count of records");
+    print!("{:16}", "");
+    SHORT.iter().for_each(|count| print!(" |{count:^23}"));
     println!();
+    inputs::timed().iter().for_each(|input| short_row(input.name, &played(input).0));
+    short_row("scattered", &scattered(SHORT[SHORT.len() - 1]));
 }

@@ -49,7 +49,7 @@ fn most(name: &str, said: usize, inputs: &[Input], mut entry: impl FnMut(&Input)
 /// The same inputs, each with the records of its run in place of its schedule.
 fn logs(inputs: &[Input]) -> Vec<Input> {
     let records = |i: &Input| {
-        let (mut log, mut out) = (vec![0; 3 * i.schedule.len()], [0; 32]);
+        let (mut log, mut out) = (vec![0; 3 * i.schedule.len()], [0; library::OUT_BYTES]);
         assert_eq!(library::play(&i.plan, &i.schedule, &mut log, &mut out), 0, "{} is refused", i.name);
         log.truncate(3 * (usize::from(out[5]) << 8 | usize::from(out[6])));
         Input { name: i.name, plan: vec![], schedule: log }
@@ -61,14 +61,14 @@ pub fn print() {
     println!("\nstack");
     let all = inputs::deepest();
     let logs = logs(&all);
-    let (mut log, mut out) = (vec![0; 12288], [0; 32]);
+    let (mut log, mut out) = (vec![0; 12288], [0; library::OUT_BYTES]);
     most("check", 48, &all, |i| {
         library::check(&i.plan);
     });
     most("play", 128, &all, |i| {
         library::play(&i.plan, &i.schedule, &mut log, &mut out);
     });
-    most("judge", 32, &logs, |i| {
-        library::judge(&i.schedule);
+    most("judge", 64, &logs, |i| {
+        library::judge(1, &i.schedule);
     });
 }

@@ -1,5 +1,5 @@
-/* Plan P of document 01's shot list: a field written by one thread and read by another, with nothing between them. It is checked and played, and
- * the judge gets the run's records. */
+/* Plan P of document 01's shot list: a field written by one thread and read by another, with nothing between them. It is checked and played, and the judge
+ * gets the run's records. All that is printed is read by the header's own functions. */
 #include <stdio.h>
 
 #include "ruqzhemil.h"
@@ -11,62 +11,75 @@ static const uint8_t plan[55] = {
     0x00, 0x00, 0x00, 0x00, 0x00, 0x00, 0x00, 0x18, 0x10, 0x10, 0x00, 0x00, 0x08, 0x00, 0x00, 0x00, 0x00,
 };
 
-static const char *const stops[] = {"end", "race", "no-thread", "no-object", "no-key", "no-depth"};
+static void refused(uint64_t answer) {
+    printf("refused %u %u: %s\n", RUQZHEMIL_NUMBER(answer), RUQZHEMIL_PLACE(answer), ruqzhemil_refusal_text(RUQZHEMIL_NUMBER(answer)));
+}
 
-static unsigned two(const uint8_t *bytes) { return bytes[0] * 256u + bytes[1]; }
-
-static void check(const char *name, size_t length) {
-    uint64_t refusal = ruqzhemil_check(plan, length);
-    if (refusal == 0) {
-        printf("%s: passes\n", name);
+static void check(const char *name, const uint8_t *bytes, size_t length) {
+    uint64_t answer = ruqzhemil_check(bytes, length);
+    printf("%s: ", name);
+    if (RUQZHEMIL_REFUSED(answer)) {
+        refused(answer);
     } else {
-        printf("%s: refused %u %u\n", name, RUQZHEMIL_NUMBER(refusal), RUQZHEMIL_PLACE(refusal));
+        printf("passes\n");
     }
 }
 
-static void thread(unsigned number, const uint8_t *bytes) {
-    static const char *const states[] = {"absent",         "finished",      "ready",           "waits for a monitor",
-                                         "waits to join", "stuck, no field", "stuck, no thread", "lacks a key"};
-    if (bytes[0] != RUQZHEMIL_ABSENT) {
-        printf("  thread %u: %s (%u, %u)\n", number, states[bytes[0]], bytes[1], bytes[2]);
+static void record(const uint8_t *log, size_t index) {
+    struct ruqzhemil_record r = ruqzhemil_record_at(log, index);
+    printf("  %u %s %u %u %u %u\n", (unsigned)index, ruqzhemil_kind_word(r.kind), r.thread, r.object, r.field, r.value);
+}
+
+static void thread(const uint8_t *out, unsigned number) {
+    struct ruqzhemil_thread t = ruqzhemil_thread_of(out, number);
+    if (t.state != RUQZHEMIL_ABSENT) {
+        printf("  thread %u: %s (%u, %u)\n", number, ruqzhemil_state_text(t.state), t.named, t.field);
     }
 }
 
 static void judge(const uint8_t *log, size_t length) {
     uint64_t answer = ruqzhemil_judge(log, length);
-    if (answer == 0) {
-        printf("  judge: none\n");
-    } else if (answer >> 32 == 1) {
-        printf("  judge: record %u is unordered\n", (unsigned)answer);
-    } else {
-        printf("  judge: refused %u %u\n", RUQZHEMIL_NUMBER(answer & 0xffffffff), RUQZHEMIL_PLACE(answer));
+    printf("  judge: ");
+    switch (RUQZHEMIL_ANSWER(answer)) {
+    case RUQZHEMIL_IS_VALUE: printf("none\n"); break;
+    case RUQZHEMIL_IS_OTHER: printf("record %u is unordered\n", (unsigned)RUQZHEMIL_VALUE(answer)); break;
+    default: refused(answer);
     }
 }
 
-static void picks_line(const uint8_t *schedule, size_t picks) {
+static void picks_of(const uint8_t *schedule, size_t picks) {
     printf("picks");
     for (size_t i = 0; i < picks; i++) printf(" %u", schedule[i]);
+    printf(": ");
 }
 
 static void play(const uint8_t *schedule, size_t picks) {
-    uint8_t log[21] = {0}, out[32];
-    uint64_t refusal = ruqzhemil_play(plan, sizeof plan, schedule, picks, log, sizeof log, out);
-    picks_line(schedule, picks);
-    if (refusal != 0) {
-        printf(": refused %u %u\n", RUQZHEMIL_NUMBER(refusal), RUQZHEMIL_PLACE(refusal));
+    uint8_t log[RUQZHEMIL_MOST_LOG_BYTES], out[RUQZHEMIL_OUT_BYTES];
+    uint64_t answer = ruqzhemil_play(plan, sizeof plan, schedule, picks, log, sizeof log, out);
+    picks_of(schedule, picks);
+    if (RUQZHEMIL_REFUSED(answer)) {
+        refused(answer);
         return;
     }
-    printf(": %s %u %u %u\n", stops[out[0]], two(out + 1), two(out + 3), two(out + 5));
-    for (unsigned t = 0; t < 8; t++) thread(t, out + 8 + 3 * t);
-    judge(log, 3 * two(out + 5));
+    unsigned records = ruqzhemil_records_of(out);
+    printf("%s %u %u %u\n", ruqzhemil_stop_word(ruqzhemil_stop_of(out)), ruqzhemil_picks_of(out), ruqzhemil_moves_of(out), records);
+    for (unsigned i = 0; i < records; i++) record(log, i);
+    for (unsigned t = 0; t < RUQZHEMIL_THREADS; t++) thread(out, t);
+    judge(log, RUQZHEMIL_RECORD_BYTES * records);
 }
 
 int main(void) {
     static const uint8_t race[] = {0, 0, 0, 0, 0, 1, 0}, none[] = {0, 0, 0, 0, 0, 0, 1}, wrong[] = {0, 8};
-    check("P", sizeof plan);
-    check("P cut to 54 bytes", sizeof plan - 1);
+    if (ruqzhemil_version() != RUQZHEMIL_VERSION) {
+        printf("the archive is of another version than its header\n");
+        return 1;
+    }
+    check("P", plan, sizeof plan);
+    check("P cut to 54 bytes", plan, sizeof plan - 1);
+    check("nothing at all", NULL, 0);
     play(race, sizeof race);
     play(none, sizeof none);
+    play(NULL, 0);
     play(wrong, sizeof wrong);
     return 0;
 }

@@ -1,8 +1,11 @@
-//! The judge of a log, and refusals 11 and 12.
+//! The judge of a log, and refusals 14, 11 and 12.
 
 use super::Refusal;
 
-pub fn judge(log: &[u8]) -> Result<Option<usize>, Refusal> {
+pub fn judge(version: u64, log: &[u8]) -> Result<Option<usize>, Refusal> {
+    if version > 1 {
+        return Err((14, 0));
+    }
     if log.len() % 3 != 0 || log.len() > 12288 {
         return Err((11, 0));
     }
@@ -26,6 +29,7 @@ pub fn judge(log: &[u8]) -> Result<Option<usize>, Refusal> {
     let mut rel = [[0u16; 8]; 32];
     let mut vol = vec![[0u16; 8]; 1024];
     let mut last = vec![(0u8, 0u16); 1024];
+    let mut reads = vec![[0u16; 8]; 1024];
     fn max(a: &mut [u16; 8], b: &[u16; 8]) {
         for i in 0..8 {
             a[i] = a[i].max(b[i]);
@@ -37,14 +41,15 @@ pub fn judge(log: &[u8]) -> Result<Option<usize>, Refusal> {
         let mut c = clock[t];
         match k {
             6 => max(&mut c, &rel[o]),
-            4 => max(&mut c, &vol[o * 32 + f]),
+            4 if version == 1 => max(&mut c, &vol[o * 32 + f]),
             9 => {
                 let q = clock[f];
                 max(&mut c, &q)
             }
             2 | 3 | 10 | 11 => {
                 let (wt, wc) = last[o * 32 + f];
-                if wc > c[wt as usize] {
+                let unread = |u: usize| reads[o * 32 + f][u] > c[u];
+                if wc > c[wt as usize] || (matches!(k, 3 | 11) && (0..8).any(unread)) {
                     return Ok(Some(i));
                 }
             }
@@ -56,6 +61,7 @@ pub fn judge(log: &[u8]) -> Result<Option<usize>, Refusal> {
             7 => max(&mut rel[o], &c),
             5 => max(&mut vol[o * 32 + f], &c),
             8 => max(&mut clock[f], &c),
+            2 => reads[o * 32 + f][t] = c[t],
             3 => last[o * 32 + f] = (t as u8, c[t]),
             _ => {}
         }

@@ -10,10 +10,11 @@ use lib.Dec.{T}
 use lib.ListN.{length}
 use Rattle.format.specs.Version.{Version, versionOf}
 use Rattle.order.specs.Chains.{At, Unordered}
-use Rattle.order.specs.Judge.{Names, names-first, names-none, Judged, named, Answers, refuses, judges, AnswersTold, right-version}
-use Rattle.order.proofs.Told.{told-known}
+use Rattle.conflicts.specs.Judge.{Judged, named, Names, names-first, names-none, Answers, refuses, judges, AnswersTold, right-version}
+use Rattle.conflicts.proofs.Told.{told-known}
 use Rattle.order.proofs.Agree.{agree, lacking-plain}
-use Rattle.order.proofs.Judge.{judge, judge-names}
+use Rattle.order.proofs.Past.{at-within}
+use Rattle.conflicts.proofs.FirstConflict.{unordered→conflicting}
 use Rattle.packed.specs.Syntax.{Program}
 use Rattle.packed.specs.Format.{version}
 use Rattle.packed.specs.Trees.{programOf}
@@ -33,43 +34,29 @@ use Rattle.rules.proofs.Executed.{play-executes}
 use Rattle.rules.proofs.RunKeys.{kept-play}
 use Rattle.rules.proofs.StateLaws.{there}
 use Rattle.rules.proofs.TidyRuns.{TidyRun, tidy-play}
-use Rattle.agreement.specs.Agreement.{StoppedAt, stopIndex, Agreement}
+use Rattle.agreement.specs.Agreement.{NamedBy, Agreement}
 use Rattle.agreement.proofs.LastRecord.{LastLacks, last-lacks, last-access, lacks-stopped, race-recorded}
 
--- ---- what the judge says of a log whose unordered accesses are the stop
+-- ---- what a judge says of a log whose accesses unordered after the last write are the stop
 
 module _ (v : Version) (r : Run) (n : LastLacks (r .stop) (r .log))
     (exact : (j : ℕ) (x : Record) → At (r .log) j x → T (isPlain (x .kind)) → T (lacksKey (x .kind)) ↔ Unordered v (r .log) j) where
-  stopped-there : (j : ℕ) → Unordered v (r .log) j → StoppedAt r j
-  stopped-there j u = lacks-stopped r n j (u .access) (u .at-j) .0 (exact j (u .access) (u .at-j) (u .plain) .1 u)
-
-  named-stop : (a : Option ℕ) → Names v (r .log) a → (e : Stop) → r .stop ≡ e → LastLacks e (r .log) → a ≡ stopIndex e (length (r .log))
-  named-stop (some j) (names-first u low) end q m = absurd (let y : end ≡ race = sym q ∙ stopped-there j u .raced in true≢false cc)
-  named-stop (some j) (names-first u low) (noRoom k) q m = absurd (let y : noRoom k ≡ race = sym q ∙ stopped-there j u .raced in true≢false cc)
-  named-stop (some j) (names-first u low) race q m = let b = stopped-there j u .is-last in ap {B = Option ℕ} some (omega arith)
-  named-stop none (names-none f) end q m = refl
-  named-stop none (names-none f) (noRoom k) q m = refl
-  named-stop none (names-none f) race q m = absurd (last (m .0))
+  named-by : (a : Option ℕ) → Names v (r .log) a → (e : Stop) → LastLacks e (r .log) → NamedBy e (length (r .log)) a
+  named-by a m end l = tt
+  named-by a m (noRoom k) l = tt
+  named-by (some j) (names-first c low) race l = at-within (r .log) j (c .access) (c .at-j)
+  named-by none (names-none f) race l = last (l .0)
     where
       last : 0 < length (r .log) → ⊥
       last b =
           let x = there (r .log) (length (r .log) - 1) (omega arith) in
-          let k = m .1 (length (r .log) - 1) (x .0) (x .1) .1 (omega arith) in
-          f (length (r .log) - 1) (exact (length (r .log) - 1) (x .0) (x .1) (lacking-plain (x .0 .kind) k) .0 k)
-
-  named-only : (a : Option ℕ) → Names v (r .log) a → a ≡ stopIndex (r .stop) (length (r .log))
-  named-only a m = named-stop a m (r .stop) refl n
-
-  names-stop : Names v (r .log) (stopIndex (r .stop) (length (r .log)))
-  names-stop = along (Names v (r .log)) (named-only (judge v (r .log)) (judge-names v (r .log))) (judge-names v (r .log))
+          let k = l .1 (length (r .log) - 1) (x .0) (x .1) .1 (omega arith) in
+          f (length (r .log) - 1) (unordered→conflicting (exact (length (r .log) - 1) (x .0) (x .1) (lacking-plain (x .0 .kind) k) .0 k))
 
   -- of the log in bytes, which are read back and not refused
-  judged-bytes : logOf (bytesOf (r .log)) ≡ r .log → logRefusal (bytesOf (r .log)) ≡ none → (a : Judged) → Answers v (bytesOf (r .log)) a ↔ (a ≡ named (stopIndex (r .stop) (length (r .log))))
-  judged-bytes w c a = (only a, λ e. along (Answers v (bytesOf (r .log))) (sym e) (judges c (along (λ (L : List Record). Names v L (stopIndex (r .stop) (length (r .log)))) (sym w) names-stop)))
-    where
-      only : (a : Judged) → Answers v (bytesOf (r .log)) a → a ≡ named (stopIndex (r .stop) (length (r .log)))
-      only (Judged.refused x) (refuses e) = absurd (true≢false cc)
-      only (Judged.named a) (judges e m) = ap named (named-only a (along (λ (L : List Record). Names v L a) w m))
+  judged-bytes : logOf (bytesOf (r .log)) ≡ r .log → logRefusal (bytesOf (r .log)) ≡ none → (a : Judged) → Answers v (bytesOf (r .log)) a → (x : Option ℕ) × (a ≡ named x) × NamedBy (r .stop) (length (r .log)) x
+  judged-bytes w c (Judged.refused x) (refuses e) = absurd (true≢false cc)
+  judged-bytes w c (Judged.named a) (judges e m) = (a, refl, named-by a (along (λ (L : List Record). Names v L a) w m) (r .stop) n)
 
 -- ---- runs
 
@@ -124,7 +111,7 @@ pub told-plan : (plan b : List ℕ) (a : Judged) → refusal plan ≡ none → A
 unfolding programOf
 told-plan plan b a h = let known = accepted plan h .version-known in (told-known known, right-version known)
 
--- a run's log has at most one unordered access
+-- a run's log has at most one access that nothing orders after the last write
 pub one-unordered : {g : Program} {ps : List ℕ} {r : Run} → Agreement g ps r → (i j : ℕ) → Unordered (g .version) (r .log) i → Unordered (g .version) (r .log) j → i ≡ j
 one-unordered A i j u w =
     let a = A .stops i (u .access) (u .at-j) (u .plain) .1 u .is-last in

@@ -1,10 +1,11 @@
 -- What demand 3 says of a play that is not refused, by the log area that it leaves and by what the judge says of the records in it; and of a play that is
 -- refused. Assumes nothing.
 use Prim.Native.Nat.{ℕ, _*_, _-_}
-use mathlib.Core.Path.{_≡_, sym, ap, _∙_, subst as along}
+use mathlib.Core.Path.{_≡_, sym, _∙_, subst as along}
 use mathlib.Core.List.{List}
-use lib.ListN.{length, take}
-use Rattle.order.specs.Judge.{named, Answers, AnswersTold}
+use mathlib.Core.Option.{Option}
+use lib.ListN.{take}
+use Rattle.conflicts.specs.Judge.{named, Answers, AnswersTold}
 use Rattle.packed.specs.Format.{version}
 use Rattle.packed.specs.Trees.{programOf}
 use Rattle.refusals.specs.declared.Checked.the-variants as checked
@@ -17,7 +18,7 @@ use Rattle.player.proofs.Ran.{passes, stop-is, records-are, begins}
 use Rattle.judge.specs.declared.Judgement.{Judgement}
 use Rattle.judge.specs.declared.Judgement.the-variants as judgement
 use Rattle.judge.specs.Answer as judge
-use Rattle.agreement.specs.Agreement.{stopIndex, Agreement}
+use Rattle.agreement.specs.Agreement.{NamedBy, Agreement}
 use Rattle.agreement.specs.AgreedOn.{AgreedOn}
 use Rattle.agreement.proofs.Agreed.{agreement, told-plan}
 
@@ -27,10 +28,6 @@ module _ (plan schedule area : List ℕ) (p : Played) (h : answered p ≡ played
   agrees-all : Agreement (programOf plan) schedule (runOf plan schedule)
   agrees-all = let a = passes plan schedule area p h e in agreement plan schedule (a .plan-passes) (a .few)
 
-  -- the stop and the count that the code answers name the same record
-  same-index : stopIndex (runOf plan schedule .stop) (length (runOf plan schedule .log)) ≡ stopIndex (stopOf (p .outcome .stop)) (p .outcome .records)
-  same-index = rw (stop-is plan schedule area p h e, records-are plan schedule area p h e)
-
   -- what the judge says of the first bytes of the log area that the play leaves
   module _ (after : List ℕ) (left : after ≡ areaAfter plan schedule area) (j : Judgement) (n : ℕ) (q : n ≡ 3 * p .outcome .records) (v : ℕ) (w : v ≡ version plan) (m : AnswersTold v (take (n - 0) after) (judge.answered j)) where
     answers : Answers (programOf plan .version) (bytesOf (runOf plan schedule .log)) (judge.answered j)
@@ -39,15 +36,15 @@ module _ (plan schedule area : List ℕ) (p : Played) (h : answered p ≡ played
         (along (λ (k : ℕ). AnswersTold k (bytesOf (runOf plan schedule .log)) (judge.answered j)) w
         (along (λ (b : List ℕ). AnswersTold v b (judge.answered j)) (begins plan schedule area p h e after left n q) m))
 
-    named-stop : judge.answered j ≡ named (stopIndex (runOf plan schedule .stop) (length (runOf plan schedule .log)))
-    named-stop = agrees-all .judged (judge.answered j) .0 answers
+    stop-named : (x : Option ℕ) × (judge.answered j ≡ named x) × NamedBy (stopOf (p .outcome .stop)) (p .outcome .records) x
+    stop-named = rw (stop-is plan schedule area p h e, records-are plan schedule area p h e) (agrees-all .judged (judge.answered j) answers)
 
     pub agreed-on : AgreedOn plan schedule (record { played = p; judgement = j })
     agreed-on =
         record {
           chains = λ _. agrees-all;
-          judged = λ _. named-stop;
-          agrees = λ _. named-stop ∙ ap named same-index;
+          judged = λ _. answers;
+          agrees = λ _. stop-named;
           refused = λ k i x. passed-refused e x;
         }
 

@@ -1,6 +1,6 @@
 -- Demand 3 of one run (README, "What is proved"), "a single claim about the whole list of picks of one play" (document 01). Lines in quotation marks below
 -- are demand 3's, or document 01's words on it. Assumes nothing.
-use Prim.Native.Nat.{ℕ, suc, _-_, _<_}
+use Prim.Native.Nat.{ℕ, suc, _<_}
 use mathlib.Core.Path.{_≡_}
 use mathlib.Core.List.{List}
 use mathlib.Core.Logic.{_↔_}
@@ -8,7 +8,7 @@ use mathlib.Core.Option.{Option, some, none}
 use lib.Dec.{T}
 use lib.ListN.{length, getElem?}
 use Rattle.order.specs.Chains.{At, Unordered}
-use Rattle.order.specs.Judge.{Judged, named, Answers}
+use Rattle.conflicts.specs.Judge.{Judged, named, Answers}
 use Rattle.packed.specs.Syntax.{Program}
 use Rattle.records.specs.Record.{Record, isPlain, lacksKey}
 use Rattle.records.specs.Packed.{bytesOf, logOf}
@@ -22,11 +22,13 @@ pub record StoppedAt (r : Run) (j : ℕ) : Type 0 where
   pub raced : r .stop ≡ race
   pub is-last : suc j ≡ length (r .log)
 
--- "which the judge names by its index, counted from 0"; "and none when the run did not stop so": by the stop and the count of records
-abbrev pub stopIndex : Stop → ℕ → Option ℕ
-stopIndex end records = none
-stopIndex race records = some (records - 1)
-stopIndex (noRoom k) records = none
+-- "When a run stops for a missing key, the judge names that record or an earlier one; a judge that finds none means no missing key" (document 02, E7):
+-- by the stop, the count of records and what the judge names
+abbrev pub NamedBy : Stop → ℕ → Option ℕ → Type 0
+NamedBy end records a = Unit {0}
+NamedBy race records none = ⊥
+NamedBy race records (some i) = i < records
+NamedBy (noRoom k) records a = Unit {0}
 
 -- of the run r of the picks on program g
 pub record Agreement (g : Program) (picks : List ℕ) (r : Run) : Type 0 where
@@ -41,5 +43,5 @@ pub record Agreement (g : Program) (picks : List ℕ) (r : Run) : Type 0 where
   -- "The judge gets just the run's records, as written, and finds nothing to refuse in them."
   pub as-written : logOf (bytesOf (r .log)) ≡ r .log
   pub not-refused : logRefusal (bytesOf (r .log)) ≡ none
-  -- "and the judge, given only the log, names that access, and none when the run did not stop so"
-  pub judged : (a : Judged) → Answers (g .version) (bytesOf (r .log)) a ↔ (a ≡ named (stopIndex (r .stop) (length (r .log))))
+  -- what the judge answers, given only the log: an index or none, and by E7
+  pub judged : (a : Judged) → Answers (g .version) (bytesOf (r .log)) a → (x : Option ℕ) × (a ≡ named x) × NamedBy (r .stop) (length (r .log)) x

@@ -5,6 +5,14 @@ use mathlib.Core.List.{List}
 use Rattle.records.specs.Packed.{kindAt, spareAt, recordAt}
 use Rattle.decoding.specs.declared.Columns.{Columns}
 
+-- columns of so many bits: kind 4, thread 3, object 5, field 5, value 5
+pub record Narrow (r : Columns) : Type 0 where
+  pub kind-below : r .kind < 16
+  pub thread-below : r .thread < 8
+  pub object-below : r .object < 32
+  pub field-below : r .field < 32
+  pub value-below : r .value < 32
+
 -- r has the columns of record i of the bytes b
 pub record ReadAt (b : List ℕ) (i : ℕ) (r : Columns) : Type 0 where
   pub kind-is : r .kind ≡ kindAt b i
@@ -13,6 +21,4 @@ pub record ReadAt (b : List ℕ) (i : ℕ) (r : Columns) : Type 0 where
   pub field-is : r .field ≡ recordAt b i .field
   pub value-is : r .value ≡ recordAt b i .value
   pub spare-is : r .spare ≡ spareAt b i
-  pub thread-below : r .thread < 8
-  pub object-below : r .object < 32
-  pub field-below : r .field < 32
+  pub narrow : Narrow r

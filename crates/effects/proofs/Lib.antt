@@ -1,2 +1,1 @@
-pub mod PortRows
-pub mod Accesses
+pub mod Choices

@@ -1,3 +1,3 @@
-// What a record of a log does to the judge's clocks and last writes.
-pub mod rows; // rows.rt: the rows that it hears and tells
-pub mod writes; // writes.rt: the last write of its field, and whether it is an unordered access
+// What a record of a log does to the judge's rows of clocks.
+pub mod places; // places.rt: the numbers of the places that a log's records are at
+pub mod rows; // rows.rt: the rows that a record hears and tells

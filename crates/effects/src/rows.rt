@@ -1,9 +1,10 @@
-// The two rows that a record hears and tells. One row for each port: thread q at row q, monitor o at 8 + o, volatile field f of object o at
-// 40 + 32 o + f.
+// The rows that a record hears and tells. Thread q has row q. The place of number n has three rows, the first at 8 + 3 n: what its monitor's releases
+// or its volatile writes tell, what its plain accesses tell, and what its plain writes tell.
 ghost use mathlib.Core.Path.{_≡_};
 ghost use mathlib.Core.Bool.{cond};
+ghost use Prim.Native.Nat.{_≤_};
 ghost use Rattle.format.specs.Version.{versionOf};
-ghost use Rattle.effects.specs.Rows.{Known, rowBy, sourceRow, targetRow};
+ghost use Rattle.effects.specs.Rows.{Known, placeRow, isAccess, passes, sourceRow, targetRow, writesRow};
 use decoding::Columns;
 
 // Chooses without a branch, since a log's kinds follow no pattern.
@@ -13,34 +14,54 @@ fn choose(test: bool, yes: usize, no: usize) -> usize
     if test { yes } else { no }
 }
 
-// The row of what a record is about besides its thread, by the kinds that are about a monitor, about a thread and about a volatile field; of
-// the others, its thread's own.
-fn row_by(version: usize, columns: Columns, monitor: usize, thread: usize, volatile: usize) -> usize
-    requires { ⌜ Known columns ⌝ }
-    ensures { λ r. ⌜ r ≡ rowBy monitor thread volatile (versionOf version) (columns .kind) (columns .thread) (columns .object) (columns .field) ⌝ }
+// The first row of the place of a number.
+pub fn first(number: u16) -> usize
+    ensures { λ r. ⌜ r ≡ placeRow number ⌝ }
 {
-    let field_row = choose(
-        version == 1,
-        40 + (columns.object * 32 + columns.field),
-        columns.thread,
-    );
-    let of_field = choose(columns.kind == volatile, field_row, columns.thread);
-    let of_thread = choose(columns.kind == thread, columns.field, of_field);
-    choose(columns.kind == monitor, 8 + columns.object, of_thread)
+    8 + 3 * number as usize
 }
 
-// The row that a record hears besides its thread's own, or its own: an acquire the monitor's, a join the thread's, a volatile read the field's.
-pub fn source(version: usize, columns: Columns) -> usize
-    requires { ⌜ Known columns ⌝ }
-    ensures { λ r. ⌜ r ≡ sourceRow (versionOf version) columns ⌝ }
+// A plain access: kinds 2 and 10, 3 and 11.
+pub fn access(kind: usize) -> bool
+    ensures { λ r. ⌜ r ≡ isAccess kind ⌝ }
 {
-    row_by(version, columns, 6, 9, 4)
+    (kind % 8 == 2) | (kind % 8 == 3)
 }
 
-// The row that a record tells besides its thread's own, or its own: a release the monitor's, a fork the thread's, a volatile write the field's.
-pub fn target(version: usize, columns: Columns) -> usize
-    requires { ⌜ Known columns ⌝ }
-    ensures { λ r. ⌜ r ≡ targetRow (versionOf version) columns ⌝ }
+// One of the two kinds that pass on what has come to the place: of its monitor, or in version 1 of its volatile field.
+fn passing(version: usize, kind: usize, monitor: usize, volatile: usize) -> bool
+    ensures { λ r. ⌜ r ≡ passes (versionOf version) monitor volatile kind ⌝ }
 {
-    row_by(version, columns, 7, 8, 5)
+    (kind == monitor) | ((kind == volatile) & (version == 1))
+}
+
+// The row that a record hears besides its thread's own, or its own: an acquire the monitor's, a join the thread's, a volatile read the field's. A plain
+// access must have heard it already: a write that of the field's accesses, a read that of its writes.
+pub fn source(version: usize, columns: Columns, at: usize) -> usize
+    requires { ⌜ Known columns ⌝ ∗ ⌜ at ≤ 65536 ⌝ }
+    ensures { λ r. ⌜ r ≡ sourceRow (versionOf version) columns at ⌝ }
+{
+    let of_write = choose(columns.kind % 8 == 3, at + 1, columns.thread);
+    let of_access = choose(columns.kind % 8 == 2, at + 2, of_write);
+    let of_thread = choose(columns.kind == 9, columns.field, of_access);
+    choose(passing(version, columns.kind, 6, 4), at, of_thread)
+}
+
+// The row that a record tells besides its thread's own, or its own: a release the monitor's, a fork the thread's, a volatile write the field's, a plain
+// access that of the field's accesses.
+pub fn target(version: usize, columns: Columns, at: usize) -> usize
+    requires { ⌜ Known columns ⌝ ∗ ⌜ at ≤ 65536 ⌝ }
+    ensures { λ r. ⌜ r ≡ targetRow (versionOf version) columns at ⌝ }
+{
+    let of_access = choose(access(columns.kind), at + 1, columns.thread);
+    let of_thread = choose(columns.kind == 8, columns.field, of_access);
+    choose(passing(version, columns.kind, 7, 5), at, of_thread)
+}
+
+// The row of the field's writes, which a plain write tells too; of the other records their thread's own.
+pub fn writes(columns: Columns, at: usize) -> usize
+    requires { ⌜ at ≤ 65536 ⌝ }
+    ensures { λ r. ⌜ r ≡ writesRow columns at ⌝ }
+{
+    choose(columns.kind % 8 == 3, at + 2, columns.thread)
 }

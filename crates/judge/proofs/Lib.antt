@@ -1,5 +1,7 @@
 pub mod Refused
-pub mod PortTable
+pub mod PlaceNumbers
+pub mod PortRows
+pub mod RecordPorts
 pub mod Table
 pub mod Going
 pub mod Here

@@ -3,20 +3,21 @@ mod pass; // pass.rt: the pass by clocks
 
 ghost use Prim.Native.Nat.{_<_};
 ghost use Rattle.format.specs.Version.{versionOf};
-ghost use Rattle.order.specs.Judge.{Answers, AnswersTold};
+ghost use Rattle.conflicts.specs.Judge.{Answers, AnswersTold};
 ghost use Rattle.judge.specs.Answer.{answered};
 
 // What the judge answers to a log.
 pub enum Judgement {
     // The log is refused: document 01's number of the refusal, and its place.
     Refused { number: usize, place: usize },
-    // The record with this index, from 0, is the first unordered access.
+    // The record with this index, from 0, is an unordered access.
     Unordered(usize),
     // The log has no unordered access.
     Ordered,
 }
 
-// The answer to any version and any bytes: the refusal, or the lowest index of an unordered access, or, where the log has no such access, none, `Ordered`.
+// The answer to any version and any bytes: refusal 14, 11 or 12; else, by the chains of that version, the lowest index of a plain access with no chain from
+// an earlier one that it conflicts with, or none, `Ordered`, exactly when the log has no such access.
 pub fn judge(version: usize, log: &[u8]) -> Judgement
     ensures { λ r. ⌜ AnswersTold version (now (log .entry)) (answered r) ⌝ }
 {
@@ -46,5 +47,11 @@ fn judge_version(log: &[u8], version: usize) -> Judgement
             place: wrong,
         };
     }
-    pass::pass(log, version)
+    if log.len() / 3 <= 64 {
+        return pass::short(log, version);
+    }
+    if log.len() / 3 <= 512 {
+        return pass::middle(log, version);
+    }
+    pass::long(log, version)
 }

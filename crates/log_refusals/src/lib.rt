@@ -1,10 +1,15 @@
-// Refusals 11 and 12: what the log's author can do wrong. The tests are joined without branches, since a log's kinds follow no pattern.
+// Refusals 11 and 12: what the log's author can do wrong. The tests are by tables and without branches, since a log's kinds follow no pattern.
 ghost use mathlib.Core.Path.{_≡_};
+ghost use mathlib.Core.Bool.{_||_};
+ghost use lib.Dec.{eqb, ltb};
 ghost use Prim.Native.Nat.{_/_, _<_, _≤_};
 ghost use lib.ListN.{length};
 ghost use Rattle.format.specs.Lowest.{Lowest};
 ghost use Rattle.records.specs.Packed.{kindOf, recordCount};
 ghost use Rattle.records.specs.Refusals.{wrongLogLength, wrongColumns, wrongRecord};
+ghost use Rattle.decoding.specs.Columns.{Narrow};
+ghost use Rattle.log_refusals.specs.Limits.{leastField, fieldEnd, valueEnd};
+use decoding::Columns;
 
 // Refusal 11: the length is no multiple of 3, or over 12,288.
 pub fn wrong_length(log: &[u8]) -> bool
@@ -13,42 +18,61 @@ pub fn wrong_length(log: &[u8]) -> bool
     (log.len() % 3 != 0) | (12288 < log.len())
 }
 
-// What a kind allows in the columns field and value: an access has a field, fork and join a thread, and a column without a use is 0.
-fn wrong_columns(kind: usize, field: usize, value: usize) -> bool
-    ensures { λ r. ⌜ (0 < kind → kind ≤ 11 → r ≡ wrongColumns (kindOf kind) field value) ⌝ }
+// For each kind, the lowest field that it allows: an access has a field.
+const LEAST_FIELD: [usize; 16] = [0, 0, 1, 1, 1, 1, 0, 0, 0, 0, 1, 1, 0, 0, 0, 0];
+
+// The first field above those that it allows: fork and join have a thread there, a column without a use is 0, and what is no kind allows none.
+const FIELD_END: [usize; 16] = [0, 1, 32, 32, 32, 32, 1, 1, 8, 8, 32, 32, 0, 0, 0, 0];
+
+// The first value above those that it allows.
+const VALUE_END: [usize; 16] = [32, 1, 32, 32, 32, 32, 1, 1, 1, 32, 1, 32, 32, 32, 32, 32];
+
+// A kind that there is not, or columns field and value that the kind does not allow, by the three tables.
+fn wrong_columns<'a>(
+    columns: Columns,
+    least: &'a [usize; 16],
+    fields: &'a [usize; 16],
+    values: &'a [usize; 16],
+) -> bool
+    requires { ⌜ Narrow columns ⌝ ∗ ⌜ now least ≡ leastField ⌝ ∗ ⌜ now fields ≡ fieldEnd ⌝ ∗ ⌜ now values ≡ valueEnd ⌝ }
+    ensures { λ r. ⌜ r ≡ (eqb (columns .kind) 0 || ltb 11 (columns .kind) || wrongColumns (kindOf (columns .kind)) (columns .field) (columns .value)) ⌝ }
 {
-    let has_field = ((1 < kind) & (kind < 6)) | (9 < kind);
-    let has_thread = (kind == 8) | (kind == 9);
-    let no_field = (kind == 1) | (kind == 6) | (kind == 7);
-    let no_value = no_field | (kind == 8) | (kind == 10);
-    let wrong_field = (has_field & (field == 0))
-        | (has_thread & (7 < field))
-        | (no_field & (field != 0));
-    wrong_field | (no_value & (value != 0))
+    let kind = columns.kind;
+    let low = columns.field < least[kind];
+    let high = fields[kind] <= columns.field;
+    let valued = values[kind] <= columns.value;
+    low | high | valued
 }
 
 // Refusal 12 at the record of an index.
-fn wrong_record(log: &[u8], index: usize) -> bool
-    requires { ⌜ index < length (now log) / 3 ⌝ }
+fn wrong_record<'a>(
+    log: &[u8],
+    index: usize,
+    least: &'a [usize; 16],
+    fields: &'a [usize; 16],
+    values: &'a [usize; 16],
+) -> bool
+    requires { ⌜ index < length (now log) / 3 ⌝ ∗ ⌜ now least ≡ leastField ⌝ ∗ ⌜ now fields ≡ fieldEnd ⌝ ∗ ⌜ now values ≡ valueEnd ⌝ }
     ensures { λ r. ⌜ r ≡ wrongRecord (now (log .entry)) index ⌝ }
 {
     let columns = decoding::columns_at(log, index);
-    let kind = columns.kind;
     let last = index + 1 == log.len() / 3;
-    let no_kind = (kind == 0) | (11 < kind);
-    let lacks_early = (10 <= kind) & !last;
-    let wrong = wrong_columns(kind, columns.field, columns.value);
-    no_kind | lacks_early | wrong | (columns.spare != 0)
+    let lacks_early = (10 <= columns.kind) & !last;
+    let wrong = wrong_columns(columns, least, fields, values);
+    wrong | lacks_early | (columns.spare != 0)
 }
 
-// The lowest record that refusal 12 finds wrong, or the count of records.
+// The lowest record that refusal 12 finds wrong, or the count of records. The tables are laid out once.
 pub fn lowest_wrong(log: &[u8]) -> usize
     ensures { λ r. ⌜ Lowest (wrongRecord (now (log .entry))) (recordCount (now (log .entry))) r ⌝ }
 {
     let count = log.len() / 3;
+    let least = LEAST_FIELD;
+    let fields = FIELD_END;
+    let values = VALUE_END;
     let mut index = 0;
     while index < count {
-        if wrong_record(log, index) {
+        if wrong_record(log, index, &least, &fields, &values) {
             return index;
         }
         index += 1;

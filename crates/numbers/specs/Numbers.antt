@@ -4,28 +4,40 @@ use mathlib.Core.Path.{_≡_}
 use mathlib.Core.List.{List}
 use mathlib.Core.Option.{Option, some, none}
 use Rattle.format.specs.Refusal.{Refusal}
-use Rattle.order.specs.Judge.{Judged, refused, named, AnswersTold}
+use Rattle.conflicts.specs.Judge.{Judged, refused, named, AnswersTold}
 use Rattle.rules.specs.Play as play
 
--- a refusal: number * 65536 + place
+-- ---- the convention of every entry: a number of 64 bits, whose upper half says which kind of answer it is
+
+-- upper half 0: an answer, with its value in the lower half, 0 where it has none
+abbrev pub valueNumber : ℕ → ℕ
+valueNumber value = value
+
+-- upper half 1: the entry's other answer, with its value in the lower half
+abbrev pub otherNumber : ℕ → ℕ
+otherNumber value = 2 ^ 32 + value
+
+-- upper half 2: a refusal, with number * 65536 + place in the lower half
 abbrev pub refusalNumber : Refusal → ℕ
-refusalNumber r = r .number * 65536 + r .place
+refusalNumber r = 2 * 2 ^ 32 + (r .number * 65536 + r .place)
+
+-- ---- by it
 
 -- check: 0 for a plan that passes
 unfoldable pub checkNumber : Option Refusal → ℕ
-checkNumber none = 0
+checkNumber none = valueNumber 0
 checkNumber (some r) = refusalNumber r
 
 -- play: 0 for a run
 unfoldable pub playNumber : play.Played → ℕ
-playNumber (play.Played.ran o) = 0
+playNumber (play.Played.ran o) = valueNumber 0
 playNumber (play.Played.refused r) = refusalNumber r
 
--- judge: 0 for none, 2^32 + index for the first unordered access, 2 * 2^32 + number * 65536 + place for a refusal
+-- judge: 0 for none; its other answer is the index of the first unordered access
 unfoldable pub judgeNumber : Judged → ℕ
-judgeNumber (named none) = 0
-judgeNumber (named (some j)) = 2 ^ 32 + j
-judgeNumber (refused r) = 2 * 2 ^ 32 + refusalNumber r
+judgeNumber (named none) = valueNumber 0
+judgeNumber (named (some j)) = otherNumber j
+judgeNumber (refused r) = refusalNumber r
 
 -- the judge returns the number of its answer to the version and the log
 pub record JudgeReturns (version : ℕ) (log : List ℕ) (n : ℕ) : Type 0 where

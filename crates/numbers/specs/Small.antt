@@ -1,7 +1,7 @@
 -- Indexes that fit a returned number, as those of every answer do. For inner contracts; no reader of the entries' promises needs it. Assumes nothing.
 use Prim.Native.Nat.{_≤_}
 use mathlib.Core.Option.{some, none}
-use Rattle.order.specs.Judge.{Judged, refused, named}
+use Rattle.conflicts.specs.Judge.{Judged, refused, named}
 use Rattle.refusals.specs.Small.{SmallRefusal}
 
 -- a judge's answer

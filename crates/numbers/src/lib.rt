@@ -9,15 +9,15 @@ ghost use Rattle.numbers.specs.Small.{SmallJudged};
 use judge::Judgement;
 use refusals::Checked;
 
-// Of a refusal.
+// Of a refusal: 2 in the upper half.
 pub fn refusal(number: usize, place: usize) -> u64
     requires { ⌜ Small number place ⌝ }
-    ensures { λ r. ⌜ r ≡ number * 65536 + place ⌝ }
+    ensures { λ r. ⌜ r ≡ 2 * 2 ^ 32 + (number * 65536 + place) ⌝ }
 {
-    (number as u64) * 65536 + place as u64
+    8589934592 + (number as u64) * 65536 + place as u64
 }
 
-// Of an unordered access.
+// Of an unordered access: 1 in the upper half.
 fn index(index: usize) -> u64
     requires { ⌜ index ≤ 4096 ⌝ }
     ensures { λ r. ⌜ r ≡ 2 ^ 32 + index ⌝ }
@@ -44,6 +44,6 @@ pub fn of_judge(judgement: Judgement) -> u64
     match judgement {
         Judgement::Ordered => 0,
         Judgement::Unordered(at) => index(at),
-        Judgement::Refused { number, place } => 8589934592 + refusal(number, place),
+        Judgement::Refused { number, place } => refusal(number, place),
     }
 }

@@ -24,16 +24,16 @@ reach-below (passed n x o) = let b = reach-below x in omega arith
 -- ---- from a port to a chain
 
 -- i is j, or a chain leads from i to j
-data UpTo (v : Version) (H : List Record) (i : ℕ) : ℕ → Type 0 where
+pub data UpTo (v : Version) (H : List Record) (i : ℕ) : ℕ → Type 0 where
   itself : {j : ℕ} → i ≡ j → UpTo v H i j
   along : {j : ℕ} → Chain v H i j → UpTo v H i j
 
-record Fed (v : Version) (H : List Record) (i : ℕ) (p : Port) : Type 0 where
-  index : ℕ
-  feeder : Record
-  at-index : At H index feeder
-  feeds : Feeds v feeder p
-  up-to : UpTo v H i index
+pub record Fed (v : Version) (H : List Record) (i : ℕ) (p : Port) : Type 0 where
+  pub index : ℕ
+  pub feeder : Record
+  pub at-index : At H index feeder
+  pub feeds : Feeds v feeder p
+  pub up-to : UpTo v H i index
 
 upTo-newer : {v : Version} {s : Record} {H : List Record} {i j : ℕ} → UpTo v H i j → UpTo v (s ∷ H) i j
 upTo-newer (itself e) = itself e
@@ -53,7 +53,7 @@ fed→chain {v} r H i q n d = close (d .up-to)
     close (itself e) = one (subst (λ (m : ℕ). Linked v (r ∷ H) m (length H)) (sym e) last)
     close (along c) = more (chain-newer c) last
 
-reach→fed : {v : Version} {i : ℕ} {H : List Record} {p : Port} → Reach v i H p → Fed v H i p
+pub reach→fed : {v : Version} {i : ℕ} {H : List Record} {p : Port} → Reach v i H p → Fed v H i p
 reach→fed (kept x) =
     let d = reach→fed x in
     record { index = d .index; feeder = d .feeder; at-index = back (d .at-index); feeds = d .feeds; up-to = upTo-newer (d .up-to) }
@@ -72,7 +72,7 @@ drawn {v} e l = subst (λ (x : Record). Draws v x (portOf l)) (sym (at-newest e 
 source : {v : Version} {r : Record} {H : List Record} {i j : ℕ} → j ≡ length H → (l : Linked v (r ∷ H) i j) → At H i (l .earlier)
 source {i = i} {j = j} e l = let b : i < j = l .before in at-older (omega arith) (l .at-i)
 
-at→reach : {v : Version} {i j : ℕ} {s : Record} (H : List Record) (p : Port) → At H j s → Feeds v s p → UpTo v H i j → Reach v i H p
+pub at→reach : {v : Version} {i j : ℕ} {s : Record} (H : List Record) (p : Port) → At H j s → Feeds v s p → UpTo v H i j → Reach v i H p
 at→reach (r ∷ H) p (here e) o (itself d) = made (d ∙ e) o
 at→reach (r ∷ H) p (here e) o (along (one l)) = passed (drawn e l) (at→reach H (portOf l) (source e l) (pair→port (l .paired) .1) (itself refl)) o
 at→reach (r ∷ H) p (here e) o (along (more c l)) = passed (drawn e l) (at→reach H (portOf l) (source e l) (pair→port (l .paired) .1) (along (chain-older (at-below (source e l)) c))) o

@@ -7,7 +7,7 @@ use mathlib.Core.Logic.{_⊎_, inl, inr, _↔_}
 use lib.Dec.{T}
 use Rattle.format.specs.Version.{Version, v0, v1}
 use Rattle.records.specs.Record.{Kind, new, read, write, readv, writev, acquire, release, fork, join, lacksRead, lacksWrite, Record, entry}
-use Rattle.order.proofs.Ports.{Port, ofThread, ofMonitor, ofVolatile, Feeds, Draws}
+use Rattle.order.proofs.Ports.{Port, ofThread, ofMonitor, ofVolatile, ofAccesses, ofWrites, Feeds, Draws}
 use Rattle.order.proofs.WriteKeys.{writeCount}
 use Rattle.order.proofs.KeyMachine.{KeyState}
 
@@ -57,6 +57,8 @@ extra-in κ t o f x (ofThread q) (inl e) y = inl (rw e y)
 extra-in κ t o f x (ofThread q) (inr (e, g)) y = inr (rw (e, g) y)
 extra-in κ t o f x (ofMonitor o′) (e, g) y = inr (rw (e, g) y)
 extra-in κ t o f x (ofVolatile o′ f′) (c, e, g, h) y = inr (rw (c, e, g, h) (rw c at y))
+extra-in κ t o f x (ofAccesses o′ f′) e y = absurd e
+extra-in κ t o f x (ofWrites o′ f′) e y = absurd e
 
 -- a key that reaches a port did so before the record, or the record hands it on
 pub known-split : {v : Version} (κ : Kind) (t o f x : ℕ) {k : ℕ} {H : List Record} {p : Port} → Known v k (entry κ t o f x ∷ H) p → Known v k H p ⊎ (Feeds v (entry κ t o f x) p × Gain v κ t o f H k)

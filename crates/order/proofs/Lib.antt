@@ -13,13 +13,8 @@ pub mod Traced
 pub mod LastKeys
 pub mod Access
 pub mod AgreeNewest
-pub mod Clock
-pub mod ClockReach
-pub mod Late
 pub mod Past
 pub mod Turned
 pub mod Agree
 pub mod EverySet
-pub mod Judge
 pub mod Samples
-pub mod Told

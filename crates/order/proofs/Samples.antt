@@ -1,28 +1,21 @@
--- Sample logs: what the judge computes of them, and that the key machine can write them. Assumes nothing.
+-- Sample logs, and that the key machine can write them; the kinds that write. Assumes nothing.
 use mathlib.Core.Path.{_≡_, refl}
-use mathlib.Core.List.{List, [], _∷_, reverse}
-use mathlib.Core.Option.{some, none}
-use Rattle.format.specs.Version.{v0, v1}
+use mathlib.Core.Bool.{true, false}
+use mathlib.Core.List.{List, [], _∷_, map, reverse}
+use Rattle.format.specs.Version.{v1}
 use Rattle.records.specs.Record.{new, read, write, readv, writev, acquire, release, fork, lacksRead, Record, entry}
+use Rattle.records.specs.Packed.{kindOf}
+use Rattle.order.specs.Accesses.{isWrite}
 use Rattle.order.proofs.KeySets.{union, learn, noKeys, onlyZero, put, put₂}
 use Rattle.order.proofs.KeyMachine.{start, Legal}
-use Rattle.order.proofs.Judge.{judge}
 
 -- plan P with picks 0 0 0 0 0 1 0
-abbrev logA : List Record
+abbrev pub logA : List Record
 logA = entry new 0 1 0 0 ∷ entry fork 0 2 1 0 ∷ entry write 1 1 1 0 ∷ entry lacksRead 0 1 1 0 ∷ []
 
 -- plan P with picks 0 0 0 0 0 0 1
-abbrev logB : List Record
+abbrev pub logB : List Record
 logB = entry new 0 1 0 0 ∷ entry fork 0 2 1 0 ∷ entry read 0 1 1 0 ∷ entry write 1 1 1 0 ∷ []
-
-judge-A : judge v1 logA ≡ some 3
-unfolding judge
-judge-A = refl
-
-judge-B : judge v1 logB ≡ none
-unfolding judge
-judge-B = refl
 
 legal-A : Legal v1 (reverse logA)
 unfolding start put put₂ learn union onlyZero
@@ -33,29 +26,19 @@ unfolding start put put₂ learn union onlyZero
 legal-B = ((((tt, tt, tt), tt, tt), tt, tt), tt, tt)
 
 -- a value handed on through a volatile field: ordered in version 1 alone
-abbrev logV : List Record
+abbrev pub logV : List Record
 logV = entry new 0 1 0 0 ∷ entry fork 0 2 1 0 ∷ entry write 0 1 1 1 ∷ entry writev 0 1 2 1 ∷ entry readv 1 1 2 1 ∷ entry write 1 1 1 0 ∷ []
 
-judge-V1 : judge v1 logV ≡ none
-unfolding judge
-judge-V1 = refl
-
-judge-V0 : judge v0 logV ≡ some 5
-unfolding judge
-judge-V0 = refl
-
--- two unordered accesses: the lower one is named
-abbrev logE : List Record
-logE = entry write 0 1 1 0 ∷ entry read 1 1 1 0 ∷ entry read 2 1 1 0 ∷ []
-
-judge-E : judge v1 logE ≡ some 1
-unfolding judge
-judge-E = refl
-
 -- a monitor taken and left twice
-abbrev logM : List Record
+abbrev pub logM : List Record
 logM = entry acquire 0 0 0 0 ∷ entry release 0 0 0 0 ∷ entry acquire 0 0 0 0 ∷ entry release 0 0 0 0 ∷ []
 
 legal-M : Legal v1 (reverse logM)
 unfolding start put put₂ learn union onlyZero noKeys
 legal-M = ((((tt, tt, (0, tt)), tt, (λ k x. x, refl)), tt, (0, tt)), tt, (λ k x. x, refl))
+
+-- "writes (kind 3 or 11)", of kinds 1 to 11
+kinds-that-write : map (λ k. isWrite (kindOf k)) (1 ∷ 2 ∷ 3 ∷ 4 ∷ 5 ∷ 6 ∷ 7 ∷ 8 ∷ 9 ∷ 10 ∷ 11 ∷ [])
+    ≡ false ∷ false ∷ true ∷ false ∷ false ∷ false ∷ false ∷ false ∷ false ∷ false ∷ true ∷ []
+unfolding kindOf
+kinds-that-write = refl

@@ -1,3 +1,3 @@
+pub mod Accesses
 pub mod Pairs
 pub mod Chains
-pub mod Judge

@@ -23,7 +23,7 @@ abbrev pub threadAt : List Thread → ℕ → run.Status
 threadAt all p = statusOf (getD all p absent .state)
 
 abbrev pub putOne : List ℕ → ℕ → ThreadBytes → List ℕ
-putOne l p b = set (set (set l (8 + 3 * p) (b .state)) (9 + 3 * p) (b .named)) (10 + 3 * p) (b .field)
+putOne l p b = set (set (set l (8 + 4 * p) (b .state)) (9 + 4 * p) (b .named)) (10 + 4 * p) (b .field)
 
 -- the bytes of thread p, put
 abbrev pub putThread : List Thread → ℕ → List ℕ → List ℕ
@@ -45,7 +45,7 @@ abbrev bytesOf : run.Stop → ℕ → ℕ → ℕ → List Thread → List ℕ
 bytesOf s k m r all = outcomeBytes (record { stop = s; picks = k; moves = m; records = r; threads = map (λ (t : Thread). statusOf (t .state)) all })
 
 abbrev putAll : run.Stop → ℕ → ℕ → ℕ → List Thread → List ℕ
-putAll s k m r all = turns (putThread all) 8 0 (headBytes (replicate 32 0) s k m r)
+putAll s k m r all = turns (putThread all) 8 0 (headBytes (replicate 40 0) s k m r)
 
 put-spelled : (s : run.Stop) (k m r : ℕ) (f : ℕ → Thread) → putAll s k m r (spell 8 f) ≡ bytesOf s k m r (spell 8 f)
 unfolding turns spell headBytes outcomeBytes allThreads
@@ -72,6 +72,6 @@ module _ (o : Outcome) (h : SmallOutcome (outcomeOf o)) where
   unfolding outcomeOf
   small-thread p q = each-small (o .threads) (h .threads) p (omega (arith, eight))
 
-  pub whole : turns (putThread (o .threads)) 8 0 (headBytes (replicate 32 0) (stopOf (o .stop)) (o .picks) (o .moves) (o .records)) ≡ outcomeBytes (outcomeOf o)
+  pub whole : turns (putThread (o .threads)) 8 0 (headBytes (replicate 40 0) (stopOf (o .stop)) (o .picks) (o .moves) (o .records)) ≡ outcomeBytes (outcomeOf o)
   unfolding outcomeOf
   whole = all-threads (stopOf (o .stop)) (o .picks) (o .moves) (o .records) (o .threads) eight

@@ -1,4 +1,4 @@
--- The 32 bytes of an outcome. Assumes nothing.
+-- The 40 bytes of an outcome. Assumes nothing.
 use Prim.Native.Nat.{ℕ, _/_, _%_}
 use mathlib.Core.List.{List, [], _∷_}
 use Rattle.rules.specs.Step.{Wait, Stuck}
@@ -15,7 +15,7 @@ stopByte (Stop.noRoom Room.object) = 3
 stopByte (Stop.noRoom Room.key) = 4
 stopByte (Stop.noRoom Room.depth) = 5
 
--- three bytes
+-- the three that a state gives
 abbrev pub three : ℕ → ℕ → ℕ → ThreadBytes
 three s n f = record { state = s; named = n; field = f }
 
@@ -32,10 +32,11 @@ threadBytes (Status.stuck (Stuck.notThread o)) = three 6 o 0
 threadBytes (Status.stuck Stuck.noRule) = three 8 0 0
 threadBytes (Status.lacking o f) = three 7 o f
 
+-- four bytes to a thread, the fourth 0
 unfoldable pub allThreads : List Status → List ℕ
 unfolding threadBytes
 allThreads [] = []
-allThreads (s ∷ ss) = threadBytes s .state ∷ threadBytes s .named ∷ threadBytes s .field ∷ allThreads ss
+allThreads (s ∷ ss) = threadBytes s .state ∷ threadBytes s .named ∷ threadBytes s .field ∷ 0 ∷ allThreads ss
 
 -- the stop; picks, moves and records, high byte first; 0; then the threads
 unfoldable pub outcomeBytes : Outcome → List ℕ

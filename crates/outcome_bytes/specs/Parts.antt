@@ -1,4 +1,4 @@
--- Parts of the 32 bytes. For inner contracts; no reader of the entries' promises needs it. Assumes nothing.
+-- Parts of the 40 bytes. For inner contracts; no reader of the entries' promises needs it. Assumes nothing.
 use Prim.Native.Nat.{ℕ, _/_, _%_}
 use mathlib.Core.List.{List}
 use lib.ListN.{set}

@@ -1,4 +1,4 @@
-// The outcome of a run as 32 bytes.
+// The outcome of a run as 40 bytes.
 ghost use mathlib.Core.Path.{_≡_};
 ghost use Prim.Native.Nat.{_/_, _%_, _<_};
 ghost use Rattle.player.specs.Answer.{stopOf, statusOf, outcomeOf};
@@ -12,7 +12,7 @@ use run_outcome::Stuck;
 use run_outcome::ThreadState;
 use run_outcome::Wait;
 
-// A thread's three bytes: its state, the value or the object that the state names, the field that it names.
+// The first three of a thread's four bytes: its state, the value or the object that the state names, the field that it names. The fourth is 0.
 pub struct ThreadBytes {
     pub state: u8,
     pub named: u8,
@@ -100,7 +100,7 @@ fn thread_bytes(state: ThreadState) -> ThreadBytes
 }
 
 // The first seven bytes: the stop, then the counts, 16 bits each, high byte first.
-fn write_head(out: &mut [u8; 32], stop: Stop, picks: usize, moves: usize, records: usize)
+fn write_head(out: &mut [u8; 40], stop: Stop, picks: usize, moves: usize, records: usize)
     requires { ⌜ (picks < 65536) × (moves < 65536) × (records < 65536) ⌝ }
     ensures { λ r. ⌜ now (out .exit) ≡ headBytes (now (out .entry)) (stopOf stop) picks moves records ⌝ }
 {
@@ -113,21 +113,21 @@ fn write_head(out: &mut [u8; 32], stop: Stop, picks: usize, moves: usize, record
     out[6] = low(records);
 }
 
-// All 32 bytes of an outcome.
-pub fn write(out: &mut [u8; 32], outcome: Outcome)
+// All 40 bytes of an outcome.
+pub fn write(out: &mut [u8; 40], outcome: Outcome)
     requires { ⌜ SmallOutcome (outcomeOf outcome) ⌝ }
     ensures { λ r. ⌜ now (out .exit) ≡ outcomeBytes (outcomeOf outcome) ⌝ }
 {
     let stop = outcome.stop;
     let threads = outcome.threads;
-    *out = [0u8; 32];
+    *out = [0u8; 40];
     write_head(out, stop, outcome.picks, outcome.moves, outcome.records);
     for number in 0..8 {
         let thread = threads[number];
         let state = thread.state;
         let bytes = thread_bytes(state);
-        out[8 + 3 * number] = bytes.state;
-        out[9 + 3 * number] = bytes.named;
-        out[10 + 3 * number] = bytes.field;
+        out[8 + 4 * number] = bytes.state;
+        out[9 + 4 * number] = bytes.named;
+        out[10 + 4 * number] = bytes.field;
     }
 }

@@ -104,3 +104,7 @@ module _ (input : List ℕ) where
 -- "reads a 16-bit plan length (high byte first), the plan, then the schedule": one pick over the limit is as good as any more
 pub first-bytes : (input : List ℕ) → printed (take 9291 input) ≡ printed input
 first-bytes input = by-size input (ltb 9291 (length input)) refl
+
+-- so the text for what was read of an input is the input's
+pub same-text : (input : List ℕ) {read : List ℕ} → take 9291 input ≡ read → printed input ≡ printed read
+same-text input e = sym (first-bytes input) ∙ ap printed e

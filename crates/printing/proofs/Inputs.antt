@@ -1,15 +1,15 @@
 -- The text for an input: cut short, or a plan and a schedule. Assumes nothing.
-use Prim.Native.Nat.{ℕ, _<_, _≤_}
+use Prim.Native.Nat.{ℕ, _≤_}
 use native.Mathlib.Omega.{arith}
 use mathlib.Core.Path.{_≡_}
 use mathlib.Core.Bool.{true, false}
-use mathlib.Core.List.{List, _++_}
-use lib.ListN.{length, drop}
+use mathlib.Core.List.{List}
+use lib.ListN.{length}
 use Rattle.text.specs.Wrote.{Wrote}
 use Rattle.text.proofs.Added.{added-as, added-whole}
 use Rattle.last_lines.specs.Lines.{refusalLine}
 use Rattle.input_parts.specs.Input.{planRead, scheduleRead, cutShort}
-use Rattle.printing.specs.Printed.{playText, printed}
+use Rattle.printing.specs.Printed.{playText, printed, TextWritten}
 
 module _ (input : List ℕ) where
   pub cut-text : cutShort input ≡ true → refusalLine (record { number = 1; place = 0 }) ≡ printed input
@@ -25,7 +25,7 @@ module _ (input : List ℕ) where
 
   -- what the entry promises of a text that is written
   pub finished : {before bytes after : List ℕ} {r : ℕ} → 131072 ≤ length before → bytes ≡ printed input → Wrote before 0 bytes after r
-      → (131072 ≤ length before → (r ≡ length (printed input)) × (after ≡ printed input ++ drop r before)) × (length before < 131072 → (r ≡ 0) × (after ≡ before))
+      → TextWritten (printed input) before after r
   finished {before} {bytes} {after} {r} big e w =
       let v : Wrote before 0 (printed input) after r = added-as e w in
       (λ q. (omega (arith, v .next), added-whole v), λ q. absurd (omega arith))

@@ -1,8 +1,9 @@
 -- What the printing program writes for the bytes that it reads (document 01, "Shot list"). Assumes nothing.
-use Prim.Native.Nat.{ℕ}
+use Prim.Native.Nat.{ℕ, _≤_, _<_}
+use mathlib.Core.Path.{_≡_}
 use mathlib.Core.Bool.{cond}
 use mathlib.Core.List.{List, _++_}
-use lib.ListN.{replicate}
+use lib.ListN.{length, replicate, drop}
 use Rattle.records.specs.Record.{Record}
 use Rattle.rules.specs.Play.{Played, refused, ran, played, runOf}
 use Rattle.record_lines.specs.Lines.{recordLines}
@@ -28,3 +29,9 @@ playText plan schedule = answerText (runOf plan schedule .log) (played plan sche
 unfoldable pub printed : List ℕ → List ℕ
 unfolding cutShort refusalLine playText planRead scheduleRead
 printed input = cond (cutShort input) (refusalLine (record { number = 1; place = 0 })) (playText (planRead input) (scheduleRead input))
+
+-- a text in a lent area: one of 131,072 bytes or more, before and after, gets the text, whose length is the answer, and keeps its old bytes after it; a
+-- shorter one has no room for every text, stays as it was, and the answer is 0
+abbrev pub TextWritten : List ℕ → List ℕ → List ℕ → ℕ → Type 0
+TextWritten text before after r =
+    (131072 ≤ length before → (r ≡ length text) × (after ≡ text ++ drop r before)) × (length before < 131072 → (r ≡ 0) × (after ≡ before))

@@ -1,10 +1,10 @@
 // The text of a shot list (document 01, "Shot list"): what the printing program writes for the bytes that it reads.
-ghost use Prim.Native.Nat.{_≤_, _<_};
+ghost use Prim.Native.Nat.{ℕ, _≤_};
 ghost use mathlib.Core.Path.{_≡_};
-ghost use mathlib.Core.List.{_++_};
-ghost use lib.ListN.{length, drop};
+ghost use mathlib.Core.List.{List};
+ghost use lib.ListN.{length, take};
 ghost use Rattle.text.specs.Wrote.{Wrote};
-ghost use Rattle.printing.specs.Printed.{playText, printed};
+ghost use Rattle.printing.specs.Printed.{playText, printed, TextWritten};
 use refusals::Checked;
 
 // A schedule is played on a plan.
@@ -36,8 +36,7 @@ fn print_play(plan: &[u8], schedule: &[u8], area: &mut [u8]) -> usize
 // A plan length of 16 bits, a plan and a schedule, as the program reads them. An area of 131,072 bytes or more then holds the text, whose length is the
 // answer, and after it its old bytes; a shorter one has no room for every text, and stays as it was.
 pub fn shot_list(input: &[u8], area: &mut [u8]) -> usize
-    ensures long { λ r. ⌜ (131072 ≤ length (now (area .entry)) → (r ≡ length (printed (now (input .entry)))) × (now (area .exit) ≡ printed (now (input .entry)) ++ drop r (now (area .entry)))) ⌝ }
-    ensures short { λ r. ⌜ (length (now (area .entry)) < 131072 → (r ≡ 0) × (now (area .exit) ≡ now (area .entry))) ⌝ }
+    ensures { λ r. ⌜ TextWritten (printed (now (input .entry))) (now (area .entry)) (now (area .exit)) r ⌝ }
 {
     if area.len() < 131072 {
         return 0;
@@ -48,4 +47,16 @@ pub fn shot_list(input: &[u8], area: &mut [u8]) -> usize
     let plan = input_parts::plan_of(input);
     let schedule = input_parts::schedule_of(input);
     print_play(plan, schedule, area)
+}
+
+// The same of an input, however long, of which `size` bytes were read into a buffer of 9,291: those decide the text.
+pub fn shot_list_read(buffer: &[u8; 9291], size: usize, area: &mut [u8]) -> usize
+    ensures { λ r. ⌜ ((input : List ℕ) → take 9291 input ≡ take size (now (buffer .entry)) → TextWritten (printed input) (now (area .entry)) (now (area .exit)) r) ⌝ }
+{
+    let bytes: &[u8] = buffer;
+    if size < bytes.len() {
+        shot_list(&bytes[..size], area)
+    } else {
+        shot_list(bytes, area)
+    }
 }

@@ -1,10 +1,7 @@
--- What comes of a case of the shot list, for any judge of logs. Assumes nothing.
+-- What comes of a case of the shot list. Assumes nothing.
 use Prim.Native.Nat.{ℕ, _*_}
 use mathlib.Core.List.{List}
-use mathlib.Core.Option.{Option}
 use lib.ListN.{length, replicate, take}
-use Rattle.records.specs.Record.{Record}
-use Rattle.records.specs.Packed.{logOf}
 use Rattle.rules.specs.Play.{Played, runOf, played, areaAfter}
 use Rattle.rules.specs.ShotList.{Expected, Shot}
 
@@ -17,13 +14,13 @@ unfoldable pub written : List ℕ → List ℕ → ℕ → List ℕ
 unfolding areaAfter areaFor
 written plan picks records = take (3 * records) (areaAfter plan picks (areaFor picks))
 
--- what comes of a plan and picks, where the judge reads the bytes that the play wrote
-unfoldable pub observedOf : (List Record → Option ℕ) → List ℕ → List ℕ → Played → Expected
-unfolding runOf written logOf
-observedOf judged plan picks (Played.refused r) = Expected.refused (r .number) (r .place)
-observedOf judged plan picks (Played.ran o) = Expected.ran o (runOf plan picks .log) (written plan picks (o .records)) (judged (logOf (written plan picks (o .records))))
+-- what comes of a plan and picks
+unfoldable pub observedOf : List ℕ → List ℕ → Played → Expected
+unfolding runOf written
+observedOf plan picks (Played.refused r) = Expected.refused (r .number) (r .place)
+observedOf plan picks (Played.ran o) = Expected.ran o (runOf plan picks .log) (written plan picks (o .records))
 
 -- what comes of a case
-unfoldable pub observed : (List Record → Option ℕ) → Shot → Expected
+unfoldable pub observed : Shot → Expected
 unfolding observedOf played areaFor
-observed judged x = observedOf judged (x .plan) (x .picks) (played (x .plan) (x .picks) (areaFor (x .picks)))
+observed x = observedOf (x .plan) (x .picks) (played (x .plan) (x .picks) (areaFor (x .picks)))

@@ -1,17 +1,15 @@
 -- The shot list (document 01): the cases marked *, each with its plan, its picks and what must come of them. Assumes nothing.
 use Prim.Native.Nat.{ℕ}
 use mathlib.Core.List.{List, [], _∷_}
-use mathlib.Core.Option.{Option, some, none}
 use lib.ListN.{take}
 use Rattle.records.specs.Record.{new, read, write, acquire, release, fork, join, lacksRead, Record, entry}
 use Rattle.rules.specs.Step.{forJoin}
 use Rattle.rules.specs.Run.{Stop, end, race, Status, absent, finished, ready, waiting, lacking, Outcome}
 
--- what must come of a case: a refusal with its number and place, or a run with its outcome, its log, the log's bytes, and what the judge names
--- of that log
+-- what must come of a case: a refusal with its number and place, or a run with its outcome, its log and the log's bytes
 pub data Expected : Type 0 where
   refused : ℕ → ℕ → Expected
-  ran : Outcome → List Record → List ℕ → Option ℕ → Expected
+  ran : Outcome → List Record → List ℕ → Expected
 
 -- a case: its plan, its picks and what must come of them
 pub record Shot : Type 0 where
@@ -143,13 +141,13 @@ shots =
     record {
       plan = planP;
       picks = 0 ∷ 0 ∷ 0 ∷ 0 ∷ 0 ∷ 1 ∷ 0 ∷ [];
-      expected = ran (outcome race 6 6 4 (lacking 1 1 ∷ finished 0 ∷ absent ∷ absent ∷ absent ∷ absent ∷ absent ∷ absent ∷ [])) (entry new 0 1 0 0 ∷ entry fork 0 2 1 0 ∷ entry write 1 1 1 0 ∷ entry lacksRead 0 1 1 0 ∷ []) (0x10 ∷ 0x10 ∷ 0x00 ∷ 0x80 ∷ 0x20 ∷ 0x80 ∷ 0x32 ∷ 0x10 ∷ 0x80 ∷ 0xa0 ∷ 0x10 ∷ 0x80 ∷ []) (some 3);
+      expected = ran (outcome race 6 6 4 (lacking 1 1 ∷ finished 0 ∷ absent ∷ absent ∷ absent ∷ absent ∷ absent ∷ absent ∷ [])) (entry new 0 1 0 0 ∷ entry fork 0 2 1 0 ∷ entry write 1 1 1 0 ∷ entry lacksRead 0 1 1 0 ∷ []) (0x10 ∷ 0x10 ∷ 0x00 ∷ 0x80 ∷ 0x20 ∷ 0x80 ∷ 0x32 ∷ 0x10 ∷ 0x80 ∷ 0xa0 ∷ 0x10 ∷ 0x80 ∷ []);
     }
-    -- "* P with 0 0 0 0 0 0 1: end 7 7 4; the judge says none."
+    -- "* P with 0 0 0 0 0 0 1: end 7 7 4"
     ∷ record {
       plan = planP;
       picks = 0 ∷ 0 ∷ 0 ∷ 0 ∷ 0 ∷ 0 ∷ 1 ∷ [];
-      expected = ran (outcome end 7 7 4 (finished 0 ∷ finished 0 ∷ absent ∷ absent ∷ absent ∷ absent ∷ absent ∷ absent ∷ [])) (entry new 0 1 0 0 ∷ entry fork 0 2 1 0 ∷ entry read 0 1 1 0 ∷ entry write 1 1 1 0 ∷ []) (0x10 ∷ 0x10 ∷ 0x00 ∷ 0x80 ∷ 0x20 ∷ 0x80 ∷ 0x20 ∷ 0x10 ∷ 0x80 ∷ 0x32 ∷ 0x10 ∷ 0x80 ∷ []) none;
+      expected = ran (outcome end 7 7 4 (finished 0 ∷ finished 0 ∷ absent ∷ absent ∷ absent ∷ absent ∷ absent ∷ absent ∷ [])) (entry new 0 1 0 0 ∷ entry fork 0 2 1 0 ∷ entry read 0 1 1 0 ∷ entry write 1 1 1 0 ∷ []) (0x10 ∷ 0x10 ∷ 0x00 ∷ 0x80 ∷ 0x20 ∷ 0x80 ∷ 0x20 ∷ 0x10 ∷ 0x80 ∷ 0x32 ∷ 0x10 ∷ 0x80 ∷ []);
     }
     -- "* P cut to 54 bytes: 1."
     ∷ record {
@@ -161,13 +159,13 @@ shots =
     ∷ record {
       plan = planP;
       picks = [];
-      expected = ran (outcome end 0 0 0 (ready ∷ absent ∷ absent ∷ absent ∷ absent ∷ absent ∷ absent ∷ absent ∷ [])) ([]) ([]) none;
+      expected = ran (outcome end 0 0 0 (ready ∷ absent ∷ absent ∷ absent ∷ absent ∷ absent ∷ absent ∷ absent ∷ [])) ([]) ([]);
     }
     -- "* `new` of eight fields passes;"
     ∷ record {
       plan = newOfEight;
       picks = 0 ∷ 0 ∷ [];
-      expected = ran (outcome end 2 2 1 (finished 1 ∷ absent ∷ absent ∷ absent ∷ absent ∷ absent ∷ absent ∷ absent ∷ [])) (entry new 0 1 0 0 ∷ []) (0x10 ∷ 0x10 ∷ 0x00 ∷ []) none;
+      expected = ran (outcome end 2 2 1 (finished 1 ∷ absent ∷ absent ∷ absent ∷ absent ∷ absent ∷ absent ∷ absent ∷ [])) (entry new 0 1 0 0 ∷ []) (0x10 ∷ 0x10 ∷ 0x00 ∷ []);
     }
     -- "* of nine: 4."
     ∷ record {
@@ -179,36 +177,36 @@ shots =
     ∷ record {
       plan = ifNotTrue;
       picks = 0 ∷ 0 ∷ 0 ∷ [];
-      expected = ran (outcome end 3 2 0 (finished 0 ∷ absent ∷ absent ∷ absent ∷ absent ∷ absent ∷ absent ∷ absent ∷ [])) ([]) ([]) none;
+      expected = ran (outcome end 3 2 0 (finished 0 ∷ absent ∷ absent ∷ absent ∷ absent ∷ absent ∷ absent ∷ absent ∷ [])) ([]) ([]);
     }
     -- "* With `not not true`: three."
     ∷ record {
       plan = ifNotNotTrue;
       picks = 0 ∷ 0 ∷ 0 ∷ 0 ∷ [];
-      expected = ran (outcome end 4 3 0 (finished 0 ∷ absent ∷ absent ∷ absent ∷ absent ∷ absent ∷ absent ∷ absent ∷ [])) ([]) ([]) none;
+      expected = ran (outcome end 4 3 0 (finished 0 ∷ absent ∷ absent ∷ absent ∷ absent ∷ absent ∷ absent ∷ absent ∷ [])) ([]) ([]);
     }
     -- "* `synch null do null`: three moves, two records."
     ∷ record {
       plan = synchNull;
       picks = 0 ∷ 0 ∷ 0 ∷ 0 ∷ [];
-      expected = ran (outcome end 4 3 2 (finished 0 ∷ absent ∷ absent ∷ absent ∷ absent ∷ absent ∷ absent ∷ absent ∷ [])) (entry acquire 0 0 0 0 ∷ entry release 0 0 0 0 ∷ []) (0x60 ∷ 0x00 ∷ 0x00 ∷ 0x70 ∷ 0x00 ∷ 0x00 ∷ []) none;
+      expected = ran (outcome end 4 3 2 (finished 0 ∷ absent ∷ absent ∷ absent ∷ absent ∷ absent ∷ absent ∷ absent ∷ [])) (entry acquire 0 0 0 0 ∷ entry release 0 0 0 0 ∷ []) (0x60 ∷ 0x00 ∷ 0x00 ∷ 0x70 ∷ 0x00 ∷ 0x00 ∷ []);
     }
     -- "* A second synch on null inside: four moves, two records."
     ∷ record {
       plan = synchTwice;
       picks = 0 ∷ 0 ∷ 0 ∷ 0 ∷ 0 ∷ [];
-      expected = ran (outcome end 5 4 2 (finished 0 ∷ absent ∷ absent ∷ absent ∷ absent ∷ absent ∷ absent ∷ absent ∷ [])) (entry acquire 0 0 0 0 ∷ entry release 0 0 0 0 ∷ []) (0x60 ∷ 0x00 ∷ 0x00 ∷ 0x70 ∷ 0x00 ∷ 0x00 ∷ []) none;
+      expected = ran (outcome end 5 4 2 (finished 0 ∷ absent ∷ absent ∷ absent ∷ absent ∷ absent ∷ absent ∷ absent ∷ [])) (entry acquire 0 0 0 0 ∷ entry release 0 0 0 0 ∷ []) (0x60 ∷ 0x00 ∷ 0x00 ∷ 0x70 ∷ 0x00 ∷ 0x00 ∷ []);
     }
     -- "* `join null` in main, 0 0 0: one move, waiting."
     ∷ record {
       plan = joinNull;
       picks = 0 ∷ 0 ∷ 0 ∷ [];
-      expected = ran (outcome end 3 1 0 (waiting (forJoin 0) ∷ absent ∷ absent ∷ absent ∷ absent ∷ absent ∷ absent ∷ absent ∷ [])) ([]) ([]) none;
+      expected = ran (outcome end 3 1 0 (waiting (forJoin 0) ∷ absent ∷ absent ∷ absent ∷ absent ∷ absent ∷ absent ∷ absent ∷ [])) ([]) ([]);
     }
     -- "* `join (fork null)`, 0 0 0: three moves, two records."
     ∷ record {
       plan = joinFork;
       picks = 0 ∷ 0 ∷ 0 ∷ [];
-      expected = ran (outcome end 3 3 2 (finished 0 ∷ finished 0 ∷ absent ∷ absent ∷ absent ∷ absent ∷ absent ∷ absent ∷ [])) (entry fork 0 1 1 0 ∷ entry join 0 1 1 0 ∷ []) (0x80 ∷ 0x10 ∷ 0x80 ∷ 0x90 ∷ 0x10 ∷ 0x80 ∷ []) none;
+      expected = ran (outcome end 3 3 2 (finished 0 ∷ finished 0 ∷ absent ∷ absent ∷ absent ∷ absent ∷ absent ∷ absent ∷ [])) (entry fork 0 1 1 0 ∷ entry join 0 1 1 0 ∷ []) (0x80 ∷ 0x10 ∷ 0x80 ∷ 0x90 ∷ 0x10 ∷ 0x80 ∷ []);
     }
     ∷ []

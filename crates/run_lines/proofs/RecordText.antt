@@ -52,4 +52,4 @@ value-below b i = bits-below b (24 * i + 17) 5
 
 pub line-short : (b : List ℕ) (i : ℕ) (r : Columns) → i < 4096 → ReadAt b i r → length (recordLine i (recordOf r)) ≤ 28
 line-short b i r few h =
-    record-short i (recordOf r) few (h .thread-below) (h .object-below) (h .field-below) (omega (arith, h .value-is, value-below b i))
+    record-short i (recordOf r) few (h .narrow .thread-below) (h .narrow .object-below) (h .narrow .field-below) (h .narrow .value-below)

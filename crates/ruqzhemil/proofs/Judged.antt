@@ -5,7 +5,7 @@ use mathlib.Core.Path.{subst}
 use mathlib.Core.List.{List}
 use mathlib.Core.Option.{some, none}
 use Rattle.format.specs.Version.{Version}
-use Rattle.order.specs.Judge.{Judged, refused, named, names-first, Answers, refuses, judges, AnswersTold, wrong-version, right-version}
+use Rattle.conflicts.specs.Judge.{Judged, refused, named, names-first, Answers, refuses, judges, AnswersTold, wrong-version, right-version}
 use Rattle.records.specs.Packed.{logOf}
 use Rattle.records.proofs.Accepted.{accepted}
 use Rattle.records.proofs.RoundTrip.{count-log}

@@ -1,5 +1,5 @@
 -- The two ways that a play ends, as numbers and bytes. Assumes nothing.
-use Prim.Native.Nat.{ℕ, _+_, _*_}
+use Prim.Native.Nat.{ℕ, _+_, _*_, _^_}
 use mathlib.Core.Path.{_≡_, refl, sym, ap, _∙_, subst as along}
 use mathlib.Core.Bool.{true≢false}
 use mathlib.Core.List.{List}
@@ -41,7 +41,7 @@ module _ (plan schedule area : List ℕ) (p : Played) (h : answered p ≡ played
             let y : play.Played.refused (record { number = k; place = i }) ≡ playedBy plan schedule none = refused-is ∙ ap (playedBy plan schedule) q in
             absurd (true≢false cc)
 
-    pub refused-number : k * 65536 + i ≡ playNumber (played plan schedule area)
+    pub refused-number : 2 * 2 ^ 32 + (k * 65536 + i) ≡ playNumber (played plan schedule area)
     unfolding playNumber
     refused-number = ap playNumber refused-is
 

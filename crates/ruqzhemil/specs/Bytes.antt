@@ -1,4 +1,4 @@
--- The area for the 32 bytes of an outcome after a play. Assumes nothing.
+-- The area for the 40 bytes of an outcome after a play. Assumes nothing.
 use Prim.Native.Nat.{ℕ}
 use mathlib.Core.List.{List}
 use Rattle.rules.specs.Play as play

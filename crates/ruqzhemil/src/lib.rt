@@ -1,12 +1,14 @@
 // The entries for programs in C, Rust and other languages: check, play and judge, each with a number for its answer. A slice is a pointer and a length.
+// The upper half of a number is 0 for an answer, 1 for the entry's other answer, 2 for a refusal, with number * 65536 + place in the lower half.
 ghost use mathlib.Core.Path.{_≡_};
 ghost use Rattle.packed.specs.Check.{refusal};
 ghost use Rattle.rules.specs.Play.{played, areaAfter};
 ghost use Rattle.numbers.specs.Numbers.{checkNumber, playNumber, JudgeReturns};
 ghost use Rattle.ruqzhemil.specs.Bytes.{outAfter};
+ghost use Rattle.ruqzhemil.specs.Version.{version};
 use refusals::Checked;
 
-// 0 for a plan that passes; else the refusal, number * 65536 + place.
+// 0 for a plan that passes; else the refusal.
 #[no_mangle]
 pub extern "C" fn ruqzhemil_check(plan: &[u8]) -> u64
     ensures { λ r. ⌜ r ≡ checkNumber (refusal (now (plan .entry))) ⌝ }
@@ -15,13 +17,13 @@ pub extern "C" fn ruqzhemil_check(plan: &[u8]) -> u64
     numbers::of_check(checked)
 }
 
-// 0 for a run, whose records begin the log area and whose outcome is in `out`; else the refusal, number * 65536 + place, and neither area changed.
+// 0 for a run, whose records begin the log area and whose outcome is in `out`; else the refusal, and neither area changed.
 #[no_mangle]
 pub extern "C" fn ruqzhemil_play(
     plan: &[u8],
     schedule: &[u8],
     log: &mut [u8],
-    out: &mut [u8; 32],
+    out: &mut [u8; 40],
 ) -> u64
     ensures answer { λ r. ⌜ r ≡ playNumber (played (now (plan .entry)) (now (schedule .entry)) (now (log .entry))) ⌝ }
     ensures area { λ r. ⌜ now (log .exit) ≡ areaAfter (now (plan .entry)) (now (schedule .entry)) (now (log .entry)) ⌝ }
@@ -39,11 +41,19 @@ pub extern "C" fn ruqzhemil_play(
     }
 }
 
-// Of a log by plans of this version, 0 or 1: 0 without an unordered access; 2^32 + index for the first one; 2 * 2^32 + number * 65536 + place for a refusal.
+// Of a log of plans of this version, 0 or 1: 0 for a log without an unordered access; the other answer is the index of the first one.
 #[no_mangle]
 pub extern "C" fn ruqzhemil_judge(version: u64, log: &[u8]) -> u64
     ensures { λ r. ⌜ JudgeReturns version (now (log .entry)) r ⌝ }
 {
     let judgement = judge::judge(version as usize, log);
     numbers::of_judge(judgement)
+}
+
+// The version of these entries.
+#[no_mangle]
+pub extern "C" fn ruqzhemil_version() -> u64
+    ensures { λ r. ⌜ r ≡ version ⌝ }
+{
+    65536
 }

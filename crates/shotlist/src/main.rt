@@ -1,12 +1,4 @@
-// The printing program (document 01, "Shot list"): reads a plan length, a plan and a schedule, and writes the run's records and outcome, or the refusal.
-use libc::STDIN_FILENO;
-use libc::STDOUT_FILENO;
-
-// The first 9,291 bytes decide what is written: a length, a plan of at most 5,192 bytes, and one pick more than a schedule may have.
+// The printing program.
 fn main() {
-    let mut input = [0u8; 9291];
-    let size = io::read_full(STDIN_FILENO, &mut input);
-    let mut text = [0u8; 131072];
-    let length = printing::shot_list(&input[..size], &mut text);
-    io::write_all(STDOUT_FILENO, &text[..length]);
+    printer::print_shot_list();
 }

@@ -1,32 +1,31 @@
-// One stored case of each kind, as tools/vectors.py writes it, held to the entries of the static library. Numbers of two bytes have the high byte first.
+// One stored case of each kind, as tools/vectors.py writes it, held to the entries of the static library and to `play_and_judge`. Numbers have the high
+// byte first.
 //
-// A case of a play: the lengths of plan, schedule and log area; what the judge says of the run, 0 for none, else the index and 1; the refusal's number,
-// 0 for a run, and its place; the 32 bytes for the outcome; then plan, schedule and records. A case of a log: the refusal's number, 0 for none, and its
-// place; what the judge says, 0 for none, else the index and 1; then the log.
-ghost use Prim.Native.Nat.{_+_, _≤_, _<_};
+// A case of a play: the lengths of plan, schedule and log area, two bytes each; what check, play and judge return, eight bytes each, judge for the run's
+// records, or for none; the 40 bytes for the outcome; then plan, schedule and records. A case of a log: what judge returns, eight bytes; then
+// the log. A case that ends before the parts that its lengths name is wrong.
+ghost use Prim.Native.Nat.{_+_, _≤_};
 ghost use lib.ListN.{length};
+use judge::Judgement;
 
 // What every lent area is filled with before a play.
 const FILL: u8 = 165;
 
-// A stored refusal as the library returns it, 0 for none.
-fn refusal_at(case: &[u8], at: usize) -> u64
-    requires { ⌜ at + 3 ≤ length (now case) ⌝ }
-    ensures { λ r. ⌜ r < 16777216 ⌝ }
+// A number of eight bytes.
+fn number_at(case: &[u8], at: usize) -> u64
+    requires { ⌜ at + 8 ≤ length (now case) ⌝ }
 {
-    (byte_numbers::wide(case[at]) * 65536 + byte_numbers::half(case, at + 1)) as u64
+    let high = byte_numbers::half(case, at) * 65536 + byte_numbers::half(case, at + 2);
+    let low = byte_numbers::half(case, at + 4) * 65536 + byte_numbers::half(case, at + 6);
+    (high * 4294967296 + low) as u64
 }
 
-// The end of a part of a case, which is no further than the case's end.
-fn part_end(case: &[u8], start: usize, size: usize) -> usize
-    requires { ⌜ start ≤ length (now case) ⌝ }
-    ensures { λ r. ⌜ (start ≤ r) × (r ≤ length (now (case .entry))) ⌝ }
-{
-    if size < case.len() - start {
-        start + size
-    } else {
-        case.len()
+// The version of the library.
+pub fn version_case(case: &[u8]) -> bool {
+    if case.len() != 8 {
+        return false;
     }
+    ruqzhemil::ruqzhemil_version() == number_at(case, 0)
 }
 
 // Whether the area begins with the records, and its other bytes are as they were filled.
@@ -48,18 +47,18 @@ fn begins(area: &[u8], records: &[u8]) -> bool {
 }
 
 // Whether the bytes for the outcome are those stored.
-fn same_bytes(out: &[u8; 32], stored: &[u8]) -> bool
-    requires { ⌜ 32 ≤ length (now stored) ⌝ }
+fn same_bytes(out: &[u8; 40], stored: &[u8]) -> bool
+    requires { ⌜ 40 ≤ length (now stored) ⌝ }
 {
     let mut same = true;
-    for index in 0..32 {
+    for index in 0..40 {
         same = same & (out[index] == stored[index]);
     }
     same
 }
 
 // A play with a log area of that size, or of the whole area.
-fn play_in(plan: &[u8], schedule: &[u8], area: &mut [u8], size: usize, out: &mut [u8; 32]) -> u64 {
+fn play_in(plan: &[u8], schedule: &[u8], area: &mut [u8], size: usize, out: &mut [u8; 40]) -> u64 {
     if size < area.len() {
         ruqzhemil::ruqzhemil_play(plan, schedule, &mut area[..size], out)
     } else {
@@ -67,72 +66,102 @@ fn play_in(plan: &[u8], schedule: &[u8], area: &mut [u8], size: usize, out: &mut
     }
 }
 
-// The answer to the plan alone: that of the play, for numbers 1 to 7.
+// What check returns for the plan.
 pub fn check_case(case: &[u8]) -> bool {
-    if case.len() < 43 {
+    if case.len() < 70 {
         return false;
     }
-    let end = part_end(case, 43, byte_numbers::half(case, 0));
-    let wanted = refusal_at(case, 8);
-    let got = ruqzhemil::ruqzhemil_check(&case[43..end]);
-    if wanted < 524288 {
-        got == wanted
-    } else {
-        got == 0
+    let end = 70 + byte_numbers::half(case, 0);
+    if case.len() < end {
+        return false;
     }
+    ruqzhemil::ruqzhemil_check(&case[70..end]) == number_at(case, 6)
 }
 
-// The answer to the play, the 32 bytes and the whole log area.
+// What play returns, the 40 bytes and the whole log area.
 pub fn play_case(case: &[u8]) -> bool {
-    if case.len() < 43 {
+    if case.len() < 70 {
         return false;
     }
-    let end = part_end(case, 43, byte_numbers::half(case, 0));
-    let last = part_end(case, end, byte_numbers::half(case, 2));
+    let end = 70 + byte_numbers::half(case, 0);
+    let last = end + byte_numbers::half(case, 2);
+    let size = byte_numbers::half(case, 4);
+    if case.len() < last {
+        return false;
+    }
+    if 16384 < size {
+        return false;
+    }
     let mut area = [FILL; 16384];
-    let mut out = [FILL; 32];
-    let got = play_in(
-        &case[43..end],
-        &case[end..last],
-        &mut area,
-        byte_numbers::half(case, 4),
-        &mut out,
-    );
-    (got == refusal_at(case, 8)) & same_bytes(&out, &case[11..43]) & begins(&area, &case[last..])
+    let mut out = [FILL; 40];
+    let got = play_in(&case[70..end], &case[end..last], &mut area, size, &mut out);
+    (got == number_at(case, 14)) & same_bytes(&out, &case[30..70]) & begins(&area, &case[last..])
 }
 
-// Whether the judge returned what is stored: 0 for none, else the index and 1.
-fn names(got: u64, wanted: u64) -> bool
-    requires { ⌜ wanted < 65536 ⌝ }
-{
-    if wanted == 0 {
-        got == 0
-    } else {
-        got == 4294967295 + wanted
-    }
-}
-
-// The judge on the stored records of a run.
+// What judge returns for the records of the run.
 pub fn run_case(case: &[u8]) -> bool {
-    if case.len() < 43 {
+    if case.len() < 70 {
         return false;
     }
-    let end = part_end(case, 43, byte_numbers::half(case, 0));
-    let last = part_end(case, end, byte_numbers::half(case, 2));
-    let wanted = byte_numbers::half(case, 6) as u64;
-    names(ruqzhemil::ruqzhemil_judge(&case[last..]), wanted)
+    let last = 70 + byte_numbers::half(case, 0) + byte_numbers::half(case, 2);
+    if case.len() < last {
+        return false;
+    }
+    ruqzhemil::ruqzhemil_judge(&case[last..]) == number_at(case, 22)
 }
 
-// The judge on a log.
-pub fn log_case(case: &[u8]) -> bool {
-    if case.len() < 5 {
+// A judgement as judge returns it: no number, place or index of one comes near 65,536.
+fn judged_number(judgement: Judgement) -> u64 {
+    match judgement {
+        Judgement::Ordered => 0,
+        Judgement::Unordered(index) => 4294967296 + (index % 65536) as u64,
+        Judgement::Refused { number, place } => {
+            8589934592 + (number % 65536 * 65536 + place % 65536) as u64
+        }
+    }
+}
+
+// The judgement of a play with a log area of that size, or of the whole area.
+fn both_in(plan: &[u8], schedule: &[u8], area: &mut [u8], size: usize) -> u64 {
+    if size < area.len() {
+        let both = agreement::play_and_judge(plan, schedule, &mut area[..size]);
+        let judgement = both.judgement;
+        judged_number(judgement)
+    } else {
+        let both = agreement::play_and_judge(plan, schedule, area);
+        let judgement = both.judgement;
+        judged_number(judgement)
+    }
+}
+
+// What play_and_judge says: judge's answer to the records of the run, or the play's own refusal.
+pub fn both_case(case: &[u8]) -> bool {
+    if case.len() < 70 {
         return false;
     }
-    let refused = refusal_at(case, 0);
-    let wanted = byte_numbers::half(case, 3) as u64;
-    let got = ruqzhemil::ruqzhemil_judge(&case[5..]);
-    if refused != 0 {
-        return got == 8589934592 + refused;
+    let end = 70 + byte_numbers::half(case, 0);
+    let last = end + byte_numbers::half(case, 2);
+    let size = byte_numbers::half(case, 4);
+    if case.len() < last {
+        return false;
     }
-    names(got, wanted)
+    if 16384 < size {
+        return false;
+    }
+    let mut area = [FILL; 16384];
+    let got = both_in(&case[70..end], &case[end..last], &mut area, size);
+    let played = number_at(case, 14);
+    if played == 0 {
+        got == number_at(case, 22)
+    } else {
+        got == played
+    }
+}
+
+// What judge returns for a log.
+pub fn log_case(case: &[u8]) -> bool {
+    if case.len() < 8 {
+        return false;
+    }
+    ruqzhemil::ruqzhemil_judge(&case[8..]) == number_at(case, 0)
 }

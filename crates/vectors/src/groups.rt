@@ -2,9 +2,11 @@
 ghost use Prim.Native.Nat.{_≤_};
 
 pub enum Group {
+    Version,
     Check,
     Play,
     Run,
+    Both,
     Log,
 }
 
@@ -22,9 +24,11 @@ pub struct Tally {
 
 fn right(group: Group, case: &[u8]) -> bool {
     match group {
+        Group::Version => stored_cases::version_case(case),
         Group::Check => stored_cases::check_case(case),
         Group::Play => stored_cases::play_case(case),
         Group::Run => stored_cases::run_case(case),
+        Group::Both => stored_cases::both_case(case),
         Group::Log => stored_cases::log_case(case),
     }
 }

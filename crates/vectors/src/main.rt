@@ -1,5 +1,6 @@
-// The test program: document 01's shot list and the stored cases of a second interpreter, held to the static library's check, play and judge. A line
-// for each group of cases, and a last line for all of them.
+// The test program: document 01's shot list and the stored cases of a second interpreter, held to the static library's check, play and judge, and the
+// numbers of include/ruqzhemil.h, with which their answers are written. A line for each group of cases and one for all of them; then the same for cases
+// that must differ.
 mod groups; // groups.rt: the cases of a file
 
 use groups::Group;
@@ -21,26 +22,68 @@ fn group(name: &[u8], path: &[u8], kind: Group, before: Tally) -> Tally {
     groups::both(before, found)
 }
 
-fn shot_list() -> Tally {
-    let all = groups::tally_of(b"shots", Group::Check);
-    print(b"shot list, checked: ", all);
+fn version() -> Tally {
+    let all = groups::tally_of(b"version", Group::Version);
+    print(b"version: ", all);
+    all
+}
+
+fn shot_list(all: Tally) -> Tally {
+    let all = group(b"shot list, checked: ", b"shots", Group::Check, all);
     let all = group(b"shot list, played: ", b"shots", Group::Play, all);
-    group(b"shot list, judged: ", b"shot_logs", Group::Log, all)
+    group(b"shot list, judged: ", b"shots", Group::Run, all)
+}
+
+fn edges(all: Tally) -> Tally {
+    let all = group(b"edges, checked: ", b"edges", Group::Check, all);
+    let all = group(b"edges, played: ", b"edges", Group::Play, all);
+    let all = group(b"edges, judged: ", b"edges", Group::Run, all);
+    group(
+        b"logs at the edges, judged: ",
+        b"edge_logs",
+        Group::Log,
+        all,
+    )
 }
 
 fn runs(all: Tally) -> Tally {
     let all = group(b"runs, checked: ", b"runs", Group::Check, all);
     let all = group(b"runs, played: ", b"runs", Group::Play, all);
-    group(b"runs, judged: ", b"runs", Group::Run, all)
+    let all = group(b"runs, judged: ", b"runs", Group::Run, all);
+    group(b"runs, played and judged: ", b"runs", Group::Both, all)
 }
 
 fn others(all: Tally) -> Tally {
     let all = group(b"refused plays, checked: ", b"refused", Group::Check, all);
     let all = group(b"refused plays, played: ", b"refused", Group::Play, all);
+    let all = group(
+        b"refused plays, played and judged: ",
+        b"refused",
+        Group::Both,
+        all,
+    );
     group(b"other logs, judged: ", b"logs", Group::Log, all)
 }
 
+// Cases with one part of their answer changed, so that each must differ.
+fn changed() -> Tally {
+    let all = groups::tally_of(b"changed_version", Group::Version);
+    print(b"changed version: ", all);
+    let all = group(b"changed, checked: ", b"changed_checks", Group::Check, all);
+    let all = group(b"changed, played: ", b"changed_plays", Group::Play, all);
+    let all = group(b"changed runs, judged: ", b"changed_runs", Group::Run, all);
+    let all = group(
+        b"changed, played and judged: ",
+        b"changed_both",
+        Group::Both,
+        all,
+    );
+    group(b"changed logs, judged: ", b"changed_logs", Group::Log, all)
+}
+
 fn main() {
-    let all = others(runs(shot_list()));
+    let all = others(runs(edges(shot_list(version()))));
     print(b"", all);
+    let all = changed();
+    print(b"must differ: ", all);
 }

@@ -21,14 +21,14 @@ loop-holds c = (omega arith, length-replicate {A = ℕ} 8 0, λ k h. absurd (ome
 mul-higher : tie.Need-mul-higher Inv-loop μ-loop
 mul-higher c = search needs
 
-element-copy-out-higher : tie.Need-element-copy-out-higher Inv-loop μ-loop
-element-copy-out-higher c = search needs
+array-read-higher : tie.Need-array-read-higher Inv-loop μ-loop
+array-read-higher c = search needs
 
 mul-higher-2 : tie.Need-mul-higher-2 Inv-loop μ-loop
 mul-higher-2 c = search needs
 
-element-copy-out-higher-2 : tie.Need-element-copy-out-higher-2 Inv-loop μ-loop
-element-copy-out-higher-2 c = search needs
+array-read-higher-2 : tie.Need-array-read-higher-2 Inv-loop μ-loop
+array-read-higher-2 c = search needs
 
 higher-requires : tie.Need-higher-requires Inv-loop μ-loop
 higher-requires c κs = search needs
@@ -36,14 +36,14 @@ higher-requires c κs = search needs
 mul-clocks : tie.Need-mul-clocks Inv-loop μ-loop
 mul-clocks c = search needs
 
-element-copy-out-clocks : tie.Need-element-copy-out-clocks Inv-loop μ-loop
-element-copy-out-clocks c = search needs
+array-read-clocks : tie.Need-array-read-clocks Inv-loop μ-loop
+array-read-clocks c = search needs
 
 add-clocks : tie.Need-add-clocks Inv-loop μ-loop
 add-clocks c =
-    let l = c .before .before .before .before .before .loop in
-    let st = c .before .before .before .before .before .before in
-    omega (arith, c .before .higher .ensures, st .pre .0 .most (l .thread) (omega arith), st .pre .1 .0 .most (l .thread) (omega arith), st .pre .1 .1 .most (l .thread) (omega arith))
+    let l = c .before .before .loop in
+    let st = c .before .before .before in
+    omega (arith, c .higher .ensures, st .pre .0 .most (l .thread) (omega arith), st .pre .1 .0 .most (l .thread) (omega arith), st .pre .1 .1 .most (l .thread) (omega arith))
 
 mul-clocks-2 : tie.Need-mul-clocks-2 Inv-loop μ-loop
 mul-clocks-2 c = search needs
@@ -59,9 +59,9 @@ loop-less c = search needs
 
 loop-again : tie.Need-loop-again Inv-loop μ-loop
 loop-again c =
-    let l = c .before .before .before .before .before .loop in
-    let a = c .before .before .before .before .before .before .args in
-    (omega arith, simp length-set (l .inv .1), filled {A = ℕ} (l .clocks) (l .thread) (c .before .higher .result + clockOf (a .t3) (l .thread)) 0 (λ (k x : ℕ). x ≡ max (clockOf (a .t1) k) (clockOf (a .t2) k) + clockOf (a .t3) k) (omega arith) (l .inv .2) (ap (λ (x : ℕ). x + clockOf (a .t3) (l .thread)) (c .before .higher .ensures)))
+    let l = c .before .before .loop in
+    let a = c .before .before .before .args in
+    (omega arith, simp length-set (l .inv .1), filled {A = ℕ} (l .clocks) (l .thread) (c .higher .result + clockOf (a .t3) (l .thread)) 0 (λ (k x : ℕ). x ≡ max (clockOf (a .t1) k) (clockOf (a .t2) k) + clockOf (a .t3) k) (omega arith) (l .inv .2) (ap (λ (x : ℕ). x + clockOf (a .t3) (l .thread)) (c .higher .ensures)))
 
 returns : tie.Need-returns Inv-loop μ-loop
 returns c = record { clocks-are = λ u h. c .before .loop .inv .2 u (omega arith) }
@@ -74,12 +74,12 @@ advanced-spec =
     μ-loop
     loop-holds
     mul-higher
-    element-copy-out-higher
+    array-read-higher
     mul-higher-2
-    element-copy-out-higher-2
+    array-read-higher-2
     higher-requires
     mul-clocks
-    element-copy-out-clocks
+    array-read-clocks
     add-clocks
     mul-clocks-2
     array-write-clocks

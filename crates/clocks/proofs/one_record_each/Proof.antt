@@ -1,7 +1,6 @@
 -- `clocks::one_record_each` meets its contract. The invariant: the rows so far are as they should be. The measure is the count of rows left. Assumes nothing.
 use Rattle.format.proofs.Filled.{filled}
-use Rattle.clocks.specs.declared.Row.{Row}
-use Rattle.clocks.specs.Rows.{One, noRow}
+use Rattle.clocks.specs.Rows.{Row, One, noRow}
 use lib.ListN.{length, getD, length-set, replicate, length-replicate}
 use native.Mathlib.Omega.{arith}
 use mathlib.Core.Path.{_≡_}
@@ -17,7 +16,7 @@ abbrev μ-loop : tie.MeasureT-loop
 μ-loop rows₀ u₀ rows u = 8 - u
 
 loop-holds : tie.Need-loop-holds Inv-loop μ-loop
-loop-holds c = (omega arith, length-replicate {A = Row} 8 (record { clocks = replicate 8 0 }), λ k h. absurd (omega arith))
+loop-holds c = (omega arith, length-replicate {A = Row} 8 (replicate 8 0), λ k h. absurd (omega arith))
 
 one-record-requires : tie.Need-one-record-requires Inv-loop μ-loop
 one-record-requires c κs = search needs

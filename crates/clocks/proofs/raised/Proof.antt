@@ -21,14 +21,14 @@ loop-holds c = (omega arith, length-replicate {A = ℕ} 8 0, λ k h. absurd (ome
 mul-higher : tie.Need-mul-higher Inv-loop μ-loop
 mul-higher c = search needs
 
-element-copy-out-higher : tie.Need-element-copy-out-higher Inv-loop μ-loop
-element-copy-out-higher c = search needs
+array-read-higher : tie.Need-array-read-higher Inv-loop μ-loop
+array-read-higher c = search needs
 
 mul-higher-2 : tie.Need-mul-higher-2 Inv-loop μ-loop
 mul-higher-2 c = search needs
 
-element-copy-out-higher-2 : tie.Need-element-copy-out-higher-2 Inv-loop μ-loop
-element-copy-out-higher-2 c = search needs
+array-read-higher-2 : tie.Need-array-read-higher-2 Inv-loop μ-loop
+array-read-higher-2 c = search needs
 
 higher-requires : tie.Need-higher-requires Inv-loop μ-loop
 higher-requires c κs = search needs
@@ -47,8 +47,8 @@ loop-less c = search needs
 
 loop-again : tie.Need-loop-again Inv-loop μ-loop
 loop-again c =
-    let l = c .before .before .before .before .loop in
-    let a = c .before .before .before .before .before .args in
+    let l = c .before .before .loop in
+    let a = c .before .before .before .args in
     (omega arith, simp length-set (l .inv .1), filled {A = ℕ} (l .clocks) (l .thread) (c .higher .result) 0 (λ (k x : ℕ). x ≡ max (clockOf (a .t1) k) (clockOf (a .t2) k)) (omega arith) (l .inv .2) (c .higher .ensures))
 
 returns : tie.Need-returns Inv-loop μ-loop
@@ -62,9 +62,9 @@ raised-spec =
     μ-loop
     loop-holds
     mul-higher
-    element-copy-out-higher
+    array-read-higher
     mul-higher-2
-    element-copy-out-higher-2
+    array-read-higher-2
     higher-requires
     mul-clocks
     array-write-clocks

@@ -1,6 +1,5 @@
 -- `numbers::of_judge` meets its contract: the number of each answer. Assumes nothing.
 use Rattle.numbers.specs.Numbers.{judgeNumber}
-use native.Mathlib.Omega.{arith}
 use borrow.Author.Needs.{needs}
 use Rattle.numbers.proofs.of_judge.Statement.{statement}
 use Rattle.numbers.proofs.of_judge.Tie as tie
@@ -19,9 +18,6 @@ enum-known-judgement-2 c = search needs
 
 refusal-requires : tie.Need-refusal-requires
 refusal-requires c κs = rw (c .before .judgement2 .given .1) at (c .before .before .before .pre)
-
-add-result : tie.Need-add-result
-add-result c = let s = refusal-requires (c .before) tt in omega (arith, c .refusal .ensures, s .0, s .1)
 
 returns : tie.Need-returns
 unfolding judgeNumber
@@ -44,7 +40,6 @@ of-judge-spec =
     index-requires
     enum-known-judgement-2
     refusal-requires
-    add-result
     returns
     returns-2
     returns-3)

@@ -5,10 +5,10 @@ use Rattle.stored_cases.proofs.same_bytes.Statement.{statement}
 use Rattle.stored_cases.proofs.same_bytes.Tie as tie
 
 abbrev Inv-loop : tie.InvT-loop
-Inv-loop out stored same₀ i₀ same i = i ≤ 32
+Inv-loop out stored same₀ i₀ same i = i ≤ 40
 
 abbrev μ-loop : tie.MeasureT-loop
-μ-loop out stored same₀ i₀ same i = 32 - i
+μ-loop out stored same₀ i₀ same i = 40 - i
 
 loop-holds : tie.Need-loop-holds Inv-loop μ-loop
 loop-holds c = search needs

@@ -1,0 +1,1 @@
+// What the judge answers, on the log alone: definitions in specs/, the answer by clocks in proofs/.

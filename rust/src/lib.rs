@@ -1,0 +1,78 @@
+//! Ruqzhemil: a verified checker of plans for relay test sets.
+//!
+//! [`check`] a plan, [`play`] a schedule on it, [`judge`] a log. Each takes any bytes; `include/ruqzhemil.h` says what the answers mean, and the proofs of the
+//! static library below show that they are right. Later versions may have more refusals, kinds, stops and states than are named here: `Other` has their number.
+
+#[path = "../../include/ruqzhemil.rs"]
+pub mod raw;
+
+mod log;
+mod outcome;
+mod refusal;
+#[cfg(test)]
+mod tests;
+
+pub use log::{Kind, Record, records};
+pub use outcome::{Outcome, Stop, ThreadState};
+pub use refusal::{Reason, Refusal};
+
+/// The version of this package's numbers, and of the archive: major * 65536 + minor * 256 + patch.
+pub const VERSION: u32 = 0x010000;
+/// Bytes of any plan that passes, at most.
+pub const MOST_PLAN_BYTES: usize = 5192;
+/// Picks of any schedule that passes, at most.
+pub const MOST_PICKS: usize = 4096;
+/// Bytes of any log, at most: an area of this size is enough for every play.
+pub const MOST_LOG_BYTES: usize = 12288;
+/// Bytes of the printing program's text of any run, at most.
+pub const MOST_TEXT_BYTES: usize = 131072;
+/// Bytes of a record.
+pub const RECORD_BYTES: usize = 3;
+/// Bytes of an outcome.
+pub const OUT_BYTES: usize = raw::OUT_BYTES;
+/// Threads of a run, at most.
+pub const THREADS: usize = 8;
+/// Objects of a run, at most, null included.
+pub const OBJECTS: usize = 32;
+
+/// What a returned number says: the value of an answer or of the function's other answer.
+enum Answer {
+    Value(u32),
+    Other(u32),
+}
+
+fn answer(number: u64) -> Result<Answer, Refusal> {
+    let value = number as u32;
+    match number >> 32 {
+        0 => Ok(Answer::Value(value)),
+        1 => Ok(Answer::Other(value)),
+        _ => Err(Refusal { number: (value >> 16) as u16, place: value as u16 }),
+    }
+}
+
+/// The version of the archive that is linked.
+pub fn version() -> u32 {
+    answer(raw::version()).map_or(0, |said| match said {
+        Answer::Value(number) | Answer::Other(number) => number,
+    })
+}
+
+/// Checks a plan.
+pub fn check(plan: &[u8]) -> Result<(), Refusal> {
+    answer(raw::check(plan)).map(|_| ())
+}
+
+/// Plays a schedule, one byte to a pick, on a plan. After a run `log` begins with its records and keeps its other bytes; a refusal leaves it as it was. A
+/// schedule of n picks needs an area of 3 * n bytes.
+pub fn play(plan: &[u8], schedule: &[u8], log: &mut [u8]) -> Result<Outcome, Refusal> {
+    let mut out = [0; OUT_BYTES];
+    answer(raw::play(plan, schedule, log, &mut out)).map(|_| Outcome::of(&out))
+}
+
+/// The index of the first unordered access, if the log has one.
+pub fn judge(log: &[u8]) -> Result<Option<usize>, Refusal> {
+    answer(raw::judge(log)).map(|said| match said {
+        Answer::Value(_) => None,
+        Answer::Other(index) => Some(index as usize),
+    })
+}

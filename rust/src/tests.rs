@@ -1,0 +1,89 @@
+//! This package's numbers and texts are those of include/ruqzhemil.h, and the archive is of its version.
+
+use crate::*;
+
+const HEADER: &str = include_str!("../../include/ruqzhemil.h");
+
+/// The numbers of the header's names that begin so, in their order.
+fn named(prefix: &str) -> Vec<(String, u64)> {
+    let numbers = HEADER.lines().filter_map(|line| {
+        let line = line.trim_start();
+        let (name, rest) = line.strip_prefix("#define ").unwrap_or(line).split_once(' ')?;
+        let number = rest.trim_start_matches('=').trim_start().split([' ', ',']).next()?;
+        let number = number.strip_prefix("0x").map_or_else(|| number.parse(), |hex| u64::from_str_radix(hex, 16));
+        Some((name.strip_prefix(prefix)?.to_string(), number.ok()?))
+    });
+    numbers.collect()
+}
+
+fn number(name: &str) -> usize {
+    named(name).iter().find(|(rest, _)| rest.is_empty()).expect(name).1 as usize
+}
+
+/// A variant's name as the header has it: NoThread is NO_THREAD.
+fn header_name(variant: &str) -> String {
+    let word = variant.split([' ', '(']).next().unwrap();
+    let mut name = String::new();
+    for (i, c) in word.char_indices() {
+        if i > 0 && c.is_uppercase() {
+            name.push('_');
+        }
+        name.extend(c.to_uppercase());
+    }
+    name
+}
+
+fn same<T: std::fmt::Debug>(prefix: &str, count: usize, of: impl Fn(u64) -> T) {
+    let names = named(prefix);
+    assert_eq!(names.len(), count, "{prefix}");
+    for (name, number) in names {
+        assert_eq!(header_name(&format!("{:?}", of(number))), name);
+    }
+}
+
+#[test]
+fn numbers_are_the_headers() {
+    same("RUQZHEMIL_REFUSAL_", 12, |n| Refusal { number: n as u16, place: 0 }.reason());
+    same("RUQZHEMIL_KIND_", 11, |n| Kind::of(n as u8));
+    let states = |n: u64| (Stop::of(n as u8), ThreadState::of(n as u8, 0, 0));
+    for (name, n) in
+        ["END", "RACE", "NO_THREAD", "NO_OBJECT", "NO_KEY", "NO_DEPTH"].iter().map(|name| (name, number(&format!("RUQZHEMIL_{name}"))))
+    {
+        assert_eq!(header_name(&format!("{:?}", states(n as u64).0)), *name);
+    }
+    let names = ["ABSENT", "FINISHED", "READY", "WAITS_MONITOR", "WAITS_JOIN", "STUCK_FIELD", "STUCK_THREAD", "LACKING"];
+    for (name, n) in names.iter().map(|name| (name, number(&format!("RUQZHEMIL_{name}")))) {
+        assert_eq!(header_name(&format!("{:?}", states(n as u64).1)), *name);
+    }
+}
+
+#[test]
+fn limits_are_the_headers() {
+    assert_eq!(number("RUQZHEMIL_MOST_PLAN_BYTES"), MOST_PLAN_BYTES);
+    assert_eq!(number("RUQZHEMIL_MOST_PICKS"), MOST_PICKS);
+    assert_eq!(number("RUQZHEMIL_MOST_LOG_BYTES"), MOST_LOG_BYTES);
+    assert_eq!(number("RUQZHEMIL_MOST_TEXT_BYTES"), MOST_TEXT_BYTES);
+    assert_eq!(number("RUQZHEMIL_RECORD_BYTES"), RECORD_BYTES);
+    assert_eq!(number("RUQZHEMIL_OUT_BYTES"), OUT_BYTES);
+    assert_eq!(number("RUQZHEMIL_THREADS"), THREADS);
+    assert_eq!(number("RUQZHEMIL_OBJECTS"), OBJECTS);
+}
+
+#[test]
+fn texts_are_the_headers() {
+    for n in 1..=13 {
+        let text = Refusal { number: n, place: 0 }.reason().to_string().replace("package", "header");
+        assert!(HEADER.contains(&format!("return \"{text}\";")), "{text}");
+    }
+    for n in 0..=12 {
+        assert!(HEADER.contains(&format!("return \"{}\";", Kind::of(n))));
+        assert!(HEADER.contains(&format!("return \"{}\";", Stop::of(n))));
+    }
+}
+
+#[test]
+fn versions_are_one() {
+    assert_eq!(number("RUQZHEMIL_VERSION") as u32, VERSION);
+    assert_eq!(version(), VERSION);
+    assert_eq!(VERSION, env!("CARGO_PKG_VERSION").split('.').fold(0, |n, part| n * 256 + part.parse::<u32>().unwrap()));
+}

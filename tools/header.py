@@ -1,0 +1,42 @@
+#!/usr/bin/env python3
+"""The numbers of include/ruqzhemil.h, and whether they are those that the stored cases were made with.
+
+  header.py
+
+The answers of the stored cases are written with the header's numbers (tools/vectors.py), which crates/vectors/data/header lists, and the test program
+`vectors` holds them to the library's. This program fails where the header says something else than that list, or another size of a text's area than the
+printing program's definition.
+"""
+
+import os
+import re
+import sys
+
+ROOT = os.path.dirname(os.path.dirname(os.path.abspath(__file__)))
+LISTED = "vectors/data/header"  # below the crates
+
+
+def numbers():
+    """Each name of the header that stands for a number, without its RUQZHEMIL_."""
+    with open(ROOT + "/include/ruqzhemil.h") as header:
+        found = re.findall(r"^(?:#define|   ) RUQZHEMIL_(\w+)(?: =)? (0x[0-9a-f]+|[0-9]+)\b", header.read(), re.M)
+    return {name: int(number, 0) for name, number in found}
+
+
+def listing():
+    """The names and numbers, a line to each."""
+    return "".join("%s %d\n" % pair for pair in numbers().items())
+
+
+def main():
+    with open(ROOT + "/crates/" + LISTED) as stored:
+        if stored.read() != listing():
+            sys.exit("include/ruqzhemil.h has other numbers than the stored cases were made with: run tools/vectors.py, then rt check vectors")
+    with open(ROOT + "/crates/printing/specs/Printed.antt") as printed:
+        if "(%d ≤ length before →" % numbers()["MOST_TEXT_BYTES"] not in printed.read():
+            sys.exit("include/ruqzhemil.h has another size of a text's area than crates/printing/specs/Printed.antt")
+    print("%d numbers of the header are those of the stored cases" % len(numbers()))
+
+
+if __name__ == "__main__":
+    main()

@@ -1,0 +1,226 @@
+"""Plans, schedules and logs written by hand, each with what the papers say of it.
+
+A plan is written as trees: `node` makes a term from its tag and operands, an operand being a term or a width and a number; `plan` numbers the terms of
+its procedures in the order of their trees, each root first and then its children, each with all below it before the next. Limits are the header's.
+"""
+
+import header as c_header
+
+LIMITS = c_header.numbers()
+PICKS, THREADS, OBJECTS, LOG_RECORDS = LIMITS["MOST_PICKS"], LIMITS["THREADS"], LIMITS["OBJECTS"], LIMITS["MOST_LOG_BYTES"] // LIMITS["RECORD_BYTES"]
+
+
+# ---- terms and plans
+
+def term(tag, *operands):
+    """A term's five bytes: tag of 5 bits, then operands as (width, number)."""
+    word, used = tag, 5
+    for width, number in operands:
+        word, used = word << width | number, used + width
+    return (word << (40 - used)).to_bytes(5, "big")
+
+
+def node(tag, *operands):
+    return tag, operands
+
+
+def terms_of(tree, terms):
+    """Adds a tree's terms; the answer is its root's index."""
+    tag, operands = tree
+    root = len(terms)
+    terms.append(None)
+    terms[root] = term(tag, *[(10, terms_of(o, terms)) if isinstance(o[1], tuple) else o for o in operands])
+    return root
+
+
+def header(procedures, terms, mask=0x80000000):
+    return (1 << 28 | procedures << 22 | terms << 10).to_bytes(4, "big") + mask.to_bytes(4, "big")
+
+
+def plan(*bodies, parameters=None):
+    """A plan of these procedures, main first, with no volatile field but the monitor."""
+    terms = []
+    roots = [terms_of(body, terms) for body in bodies]
+    procedures = [(n << 12 | root).to_bytes(2, "big") for n, root in zip(parameters or [0] * len(bodies), roots)]
+    return header(len(bodies), len(terms)) + b"".join(procedures) + b"".join(terms)
+
+
+def flipped(whole, procedures, index, bit):
+    """The plan with one bit of a term changed; bit 0 is a term's last."""
+    at = 8 + 2 * procedures + 5 * index
+    word = int.from_bytes(whole[at:at + 5], "big") ^ 1 << bit
+    return whole[:at] + word.to_bytes(5, "big") + whole[at + 5:]
+
+
+# ---- the constructs
+
+NULL, TRUE, END = node(0), node(12), node(17)
+
+
+def slot(number):
+    return 4, number
+
+
+def field(number):
+    return 5, number
+
+
+def procedure(number):
+    return 5, number
+
+
+def variable(number):
+    return node(1, slot(number))
+
+
+def new(*fields):
+    return node(2, (32, sum(1 << (31 - f) for f in fields)))
+
+
+def read(e, number):
+    return node(3, e, field(number))
+
+
+def write(e, number, value):
+    return node(4, e, field(number), value)
+
+
+def let(number, e, body):
+    return node(5, slot(number), e, body)
+
+
+def then(first, *others):
+    """A sequence: lets that bind nothing."""
+    return let(15, first, then(*others)) if others else first
+
+
+def fork(e):
+    return node(9, e)
+
+
+def join(e):
+    return node(10, e)
+
+
+def synch(e, body):
+    return node(11, e, body)
+
+
+def no(c):
+    return node(13, c)
+
+
+def choice(c, yes, otherwise):
+    return node(6, c, yes, otherwise)
+
+
+def call(number, *arguments):
+    rest = END
+    for e in reversed(arguments):
+        rest = node(16, e, rest)
+    return node(8, procedure(number), rest)
+
+
+def reads(count):
+    """So many reads, each of the object that the next one gives, the last of null."""
+    return read(reads(count - 1), 1) if count else NULL
+
+
+# ---- document 01's shot list
+
+PLAN_P = plan(let(0, new(1), then(fork(write(variable(0), 1, NULL)), read(variable(0), 1))))
+
+# plan, picks, and what document 01 says: the refusal; or moves and records, or the outcome's four, and a word of thread 0's state where it has one
+SHOTS = [
+    (PLAN_P, [0, 0, 0, 0, 0, 1, 0], ("race", 6, 6, 4), None),
+    (PLAN_P, [0, 0, 0, 0, 0, 0, 1], ("end", 7, 7, 4), None),
+    (PLAN_P[:54], [0], [1, 0], None),
+    (PLAN_P, [], ("end", 0, 0, 0), "ready"),
+    (plan(new(*range(1, 9))), [0], (1, 0), None),
+    (plan(new(*range(1, 10))), [0], [4, 0], None),
+    (plan(choice(no(TRUE), NULL, NULL)), [0] * 9, (2, 0), None),
+    (plan(choice(no(no(TRUE)), NULL, NULL)), [0] * 9, (3, 0), None),
+    (plan(synch(NULL, NULL)), [0] * 9, (3, 2), None),
+    (plan(synch(NULL, synch(NULL, NULL))), [0] * 9, (4, 2), None),
+    (plan(join(NULL)), [0, 0, 0], (1, 0), "waiting"),
+    (plan(join(fork(NULL))), [0, 0, 0], (3, 2), None),
+    (plan(read(NULL, 1)), [0, 0], (1, 0), "stuck"),
+    (PLAN_P, [7], ("end", 1, 0, 0), None),
+    (PLAN_P, [8], [9, 0], None),
+]
+
+
+# ---- cases at the edges, which a definition and its code could get wrong together
+
+# every tag from 0 to 17, and the index of the first term of each
+EVERY_TAG = plan(
+    then(new(1), synch(NULL, NULL), write(NULL, 1, NULL), join(fork(NULL)), node(7, node(14, TRUE, no(TRUE)), NULL),
+         choice(node(15, NULL, NULL), NULL, NULL), call(1, read(NULL, 1))),
+    variable(0), parameters=[0, 1])
+EVERY_TAG_ROOT = 8 + 2 * 2
+
+
+def first_of(tag):
+    """The index of the first term of this tag in EVERY_TAG."""
+    return [EVERY_TAG[at] >> 3 for at in range(EVERY_TAG_ROOT, len(EVERY_TAG), 5)].index(tag)
+
+
+CALLS_NOTHING = plan(call(1), NULL)
+LIST_IN_ITSELF = CALLS_NOTHING[:12] + term(8, (5, 1), (10, 1)) + term(16, (10, 2), (10, 1)) + term(0)
+
+
+def tagged(tag):
+    """`fork null` with another tag."""
+    return plan(node(tag, NULL))
+
+
+CROWD = then(*[fork(NULL)] * (THREADS - 1), *[new()] * (OBJECTS - THREADS), fork(NULL))    # eight threads, 32 objects, and a fork
+ALONE = then(*[new()] * (OBJECTS - 1), fork(NULL))                                         # one thread, 32 objects, and a fork
+LARGEST = plan(*[fork(then(*[NULL] * 16))] * 32)                                           # 32 procedures, 1,024 terms
+
+# plan, picks, what is right, as above, and the requests with which something else is right
+EDGES = [
+    (flipped(CALLS_NOTHING, 2, 1, bit), [], [4, 1], ()) for bit in range(31, 35)  # a list end with a bit set where a slot would stand
+] + [
+    (flipped(EVERY_TAG, 2, first_of(tag), 0), [], [4, first_of(tag)], ()) for tag in range(18)  # a term with its lowest spare bit alone set
+] + [
+    (EVERY_TAG, [], ("end", 0, 0, 0), ()),
+    (plan(let(0, new(31), read(variable(0), 31))), [0] * 5, ("end", 5, 4, 2), ()),
+    (plan(let(0, new(31), then(write(variable(0), 31, variable(0)), read(variable(0), 31)))), [0] * 7, ("end", 7, 6, 3), ()),
+    (header(0, 0), [], [2, 0], ()),
+    (plan(call(31), *[NULL] * 31), [0] * 3, ("end", 3, 2, 0), ()),
+    (plan(*[NULL] * 33), [], [2, 0], ()),
+    (tagged(18), [], [4, 0], ("E3",)),
+    (tagged(19), [], [4, 0], ("E3",)),
+    (tagged(20), [], [4, 0], ("E3",)),
+    (tagged(21), [], [4, 0], ()),
+    (tagged(31), [], [4, 0], ()),
+    (plan(choice(END, NULL, NULL)), [], [5, 1], ()),
+    (plan(choice(node(16, NULL, END), NULL, NULL)), [], [5, 1], ()),
+    (LIST_IN_ITSELF, [], [4, 1], ()),
+    (plan(CROWD), [0] * 70, ("no-thread", 63, 63, 31), ()),
+    (plan(ALONE), [0] * 70, ("no-object", 63, 63, 31), ()),
+    (plan(NULL), [0] * PICKS, ("end", PICKS, 1, 0), ()),
+    (plan(NULL), [0] * (PICKS + 1), [8, 0], ()),
+    (plan(NULL), [THREADS - 1], ("end", 1, 0, 0), ()),
+    (plan(NULL), [THREADS], [9, 0], ()),
+    (LARGEST, [], ("end", 0, 0, 0), ()),
+    (plan(fork(reads(33))), [0, 0, 1], ("end", 3, 2, 1), ()),
+    (plan(fork(reads(34))), [0, 0, 1], ("no-depth", 1, 1, 0), ()),
+]
+
+# a log, and what is right: the refusal, or the index that is named, or none
+NEW = bytes.fromhex("100000")
+LOGS = [
+    (b"", None),
+    (NEW * LOG_RECORDS, None),
+    (NEW * (LOG_RECORDS + 1), [11, 0]),
+]
+
+
+# ---- the longest input of which the printing program needs every byte
+
+def longest_input():
+    """The longest plan that passes and one pick more than a schedule may have."""
+    assert len(LARGEST) == LIMITS["MOST_PLAN_BYTES"]
+    return len(LARGEST).to_bytes(2, "big") + LARGEST + bytes(PICKS + 1)
