@@ -49,8 +49,13 @@ Log = collections.namedtuple("Log", "version judged log")
 
 def play_of(plan, schedule, area, want):
     """A play as it is stored: what check, play and judge return; `lengths` are those of plan and schedule."""
-    return Play(plan, schedule, area, checked(want), played(want), judged(want.get("judge", {"unordered": []})), outcome_bytes(want), record_bytes(bytes.fromhex(want.get("log", ""))),
-                (len(plan), len(schedule)))
+    said = judged(want["judge"]) if "judge" in want else judged_nothing(plan)
+    return Play(plan, schedule, area, checked(want), played(want), said, outcome_bytes(want), record_bytes(bytes.fromhex(want.get("log", ""))), (len(plan), len(schedule)))
+
+
+def judged_nothing(plan):
+    """What judge returns for no records, where it is told the version in the plan's first bits."""
+    return refused(14, 0) if plan and plan[0] >> 4 > 1 else value(0)
 
 
 def log_of(log, want, version=1):
