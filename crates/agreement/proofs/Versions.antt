@@ -5,7 +5,7 @@ use mathlib.Core.Path.{_≡_, refl}
 use mathlib.Core.List.{List, [], _∷_}
 use mathlib.Core.Option.{Option, some, none}
 use Rattle.format.specs.Version.{Version, v0, v1}
-use Rattle.packed.specs.Syntax.{Program, Expression, literal}
+use Rattle.packed.specs.Syntax.{literal, variable, new, read, write, letIn, fork, Program}
 use Rattle.rules.specs.State.{Cell, lookup}
 use Rattle.rules.specs.Run.{Stop, end, race, play}
 use Rattle.conflicts.proofs.FirstConflict.{firstConflict}
@@ -18,10 +18,10 @@ handOver v =
       volatiles = 0xA0000000;
       procedures = record {
         parameters = 0;
-        body = Expression.letIn (some 0) (Expression.new (1 ∷ 2 ∷ []))
-            (Expression.letIn none
-            (Expression.fork (Expression.letIn none (Expression.write (Expression.variable 0) 1 (literal 0)) (Expression.write (Expression.variable 0) 2 (Expression.variable 0))))
-            (Expression.letIn none (Expression.read (Expression.variable 0) 2) (Expression.read (Expression.variable 0) 1)));
+        body = letIn (some 0) (new (1 ∷ 2 ∷ []))
+            (letIn none
+            (fork (letIn none (write (variable 0) 1 (literal 0)) (write (variable 0) 2 (variable 0))))
+            (letIn none (read (variable 0) 2) (read (variable 0) 1)));
       } ∷ [];
     }
 

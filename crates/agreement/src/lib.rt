@@ -27,8 +27,8 @@ fn judge_part(version: usize, area: &[u8], start: usize, end: usize) -> Judgemen
     judge::judge(version, &area[start..end])
 }
 
-// A schedule is played on a plan, and the judge gets the plan's version and just the run's records, the first bytes of the log area. A refused play has no run, and its
-// judgement is the play's own refusal.
+// A schedule is played on a plan, and the judge gets the plan's version and just the run's records, the first bytes of the log area. A refused play has
+// no run, and its judgement is the play's own refusal.
 pub fn play_and_judge(plan: &[u8], schedule: &[u8], log: &mut [u8]) -> PlayedAndJudged
     ensures answer { λ r. ⌜ answered (r .played) ≡ played (now (plan .entry)) (now (schedule .entry)) (now (log .entry)) ⌝ }
     ensures area { λ r. ⌜ now (log .exit) ≡ areaAfter (now (plan .entry)) (now (schedule .entry)) (now (log .entry)) ⌝ }
