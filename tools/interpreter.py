@@ -7,7 +7,7 @@ import sys
 
 import header
 
-LANDED = "E2,E7"  # document 02's requests that the product has
+LANDED = "E2,E7,E8"  # document 02's requests that the product has
 FILL = 0xA5  # what every lent area is filled with before a play
 NUMBERS = header.numbers()
 OUT = NUMBERS["OUT_BYTES"]
@@ -15,8 +15,9 @@ OUTCOMES = {word: NUMBERS[word.upper().replace("-", "_")] for word in ("end", "r
 STATES = {("absent",): NUMBERS["ABSENT"], ("finished",): NUMBERS["FINISHED"], ("ready",): NUMBERS["READY"],
           ("waiting", "monitor"): NUMBERS["WAITS_MONITOR"], ("waiting", "join"): NUMBERS["WAITS_JOIN"], ("stuck", "field"): NUMBERS["STUCK_FIELD"],
           ("stuck", "thread"): NUMBERS["STUCK_THREAD"], ("lacking",): NUMBERS["LACKING"]}
-REFUSALS = [NUMBERS["REFUSAL_" + name] for name in ("PLAN_LENGTH", "HEADER", "PROCEDURE", "TERM", "SORT", "NAMING", "SLOT", "SCHEDULE_LENGTH", "PICK",
-                                                     "LOG_AREA", "LOG_LENGTH", "RECORD")]
+# the papers' numbers, by the header's
+REFUSALS = dict(zip([*range(1, 13), 14], [NUMBERS["REFUSAL_" + name] for name in (
+    "PLAN_LENGTH", "HEADER", "PROCEDURE", "TERM", "SORT", "NAMING", "SLOT", "SCHEDULE_LENGTH", "PICK", "LOG_AREA", "LOG_LENGTH", "RECORD", "VERSION")]))
 KINDS = [NUMBERS["KIND_" + name] for name in ("NEW", "READ", "WRITE", "VOLATILE_READ", "VOLATILE_WRITE", "ACQUIRE", "RELEASE", "FORK", "JOIN",
                                               "LACKS_READ", "LACKS_WRITE")]
 
@@ -48,7 +49,7 @@ def other(number):
 
 
 def refused(number, place):
-    return (NUMBERS["IS_REFUSAL"] << 32) + (REFUSALS[number - 1] << 16) + place
+    return (NUMBERS["IS_REFUSAL"] << 32) + (REFUSALS[number] << 16) + place
 
 
 def checked(want):

@@ -1,7 +1,8 @@
 // What a read or a write of a field does, by value.
 ghost use mathlib.Core.Path.{_≡_};
-ghost use Rattle.accesses.specs.Accesses.{actRead, actWrite};
+ghost use Rattle.accesses.specs.Accesses.{passedOf, actRead, actWrite};
 use frames::go;
+use keys::KeySet;
 use records::kind;
 use run_outcome::NoRoom;
 use state::Cell;
@@ -12,6 +13,16 @@ use state::acted::Act;
 use state::acted::acted_of;
 use state::acted::cell_with;
 use state::acted::entry;
+
+// What a volatile access passes on of a set: all of it in version 1, and else nothing.
+fn passed_on(setting: Setting, keys: KeySet) -> KeySet
+    ensures { λ r. ⌜ r ≡ passedOf setting keys ⌝ }
+{
+    if setting.version == 1 {
+        return keys;
+    }
+    KeySet::new()
+}
 
 pub fn act_read(
     setting: Setting,
@@ -28,7 +39,8 @@ pub fn act_read(
     let go = go::value(value);
     if look::has(setting.mask, field) {
         let cell_keys = cell.keys;
-        let all = keys.join(cell_keys);
+        let passed = passed_on(setting, cell_keys);
+        let all = keys.join(passed);
         let entry = entry(kind::VOLATILE_READ, object, field, value);
         return acted_of(go, counts, all, cell, entry);
     }
@@ -51,7 +63,8 @@ pub fn act_write(
     let cell_keys = cell.keys;
     let go = go::value(value);
     if look::has(setting.mask, field) {
-        let all = cell_keys.join(keys);
+        let passed = passed_on(setting, keys);
+        let all = cell_keys.join(passed);
         let changed = cell_with(value, 0, all);
         let entry = entry(kind::VOLATILE_WRITE, object, field, value);
         return acted_of(go, counts, keys, changed, entry);
