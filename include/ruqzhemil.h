@@ -82,7 +82,8 @@ enum ruqzhemil_refusal {
     RUQZHEMIL_REFUSAL_PICK = 9,            /* the lowest such pick */
     RUQZHEMIL_REFUSAL_LOG_AREA = 10,       /* place 0 */
     RUQZHEMIL_REFUSAL_LOG_LENGTH = 11,     /* place 0 */
-    RUQZHEMIL_REFUSAL_RECORD = 12          /* the lowest such record */
+    RUQZHEMIL_REFUSAL_RECORD = 12,         /* the lowest such record */
+    RUQZHEMIL_REFUSAL_VERSION = 14         /* place 0 */
 };
 
 static inline const char *ruqzhemil_refusal_text(unsigned number) {
@@ -99,6 +100,7 @@ static inline const char *ruqzhemil_refusal_text(unsigned number) {
     case RUQZHEMIL_REFUSAL_LOG_AREA: return "a log area under 3 times the picks";
     case RUQZHEMIL_REFUSAL_LOG_LENGTH: return "a log whose length is no multiple of 3, or over 12,288";
     case RUQZHEMIL_REFUSAL_RECORD: return "a record with a wrong kind, column or spare bit, or lacking its key and not last";
+    case RUQZHEMIL_REFUSAL_VERSION: return "a version other than 0 or 1 given to the judge";
     default: return "a refusal that this header does not know";
     }
 }
@@ -162,8 +164,8 @@ static inline const char *ruqzhemil_kind_word(unsigned kind) {
  *   bytes 3 and 4    moves made, high byte first
  *   bytes 5 and 6    records written, high byte first
  *   byte 7           0
- *   bytes 8 + 4t ..  of thread t, 0 to 7: its state, enum ruqzhemil_state; the value or the object that the state names; the field that it names; 0. What
- *                    a state does not name is 0
+ *   bytes 8 + 4t ..  of thread t, 0 to 7: its state, enum ruqzhemil_state; the value or the object that the state names; the field that it names; how many
+ *                    keys were new to it in its acquires, volatile reads and joins. What a state does not name is 0
  */
 
 enum ruqzhemil_stop {
@@ -188,6 +190,7 @@ enum ruqzhemil_state {
 
 struct ruqzhemil_thread {
     unsigned state, named, field; /* named: the value of a finished thread, else the object */
+    unsigned learnt;              /* how many keys were new to it in its acquires, volatile reads and joins, at most 255 */
 };
 
 static inline unsigned ruqzhemil_stop_of(const uint8_t out[RUQZHEMIL_OUT_BYTES]) { return out[0]; }
@@ -202,6 +205,7 @@ static inline struct ruqzhemil_thread ruqzhemil_thread_of(const uint8_t out[RUQZ
     thread.state = at[0];
     thread.named = at[1];
     thread.field = at[2];
+    thread.learnt = at[3];
     return thread;
 }
 
@@ -242,10 +246,15 @@ uint64_t ruqzhemil_check(const uint8_t *plan, size_t plan_len);
 uint64_t ruqzhemil_play(const uint8_t *plan, size_t plan_len, const uint8_t *schedule, size_t schedule_len, uint8_t *log, size_t log_len,
                         uint8_t out[RUQZHEMIL_OUT_BYTES]);
 
-/* Judges a log alone, of a run or of anything. An access is unordered when no chain leads to it from some earlier access to its field, one of the two a
- * write. An answer: no access is unordered, value 0. The other answer: the record with this index, from 0, is the first unordered access.
- * Refusals 11 and 12. */
-uint64_t ruqzhemil_judge(const uint8_t *log, size_t log_len);
+/* Judges a log alone, of a run or of anything, by the version of its plan: 1, or 0, in which volatile fields order nothing. An access is unordered when no
+ * chain leads to it from some earlier access to its field, one of the two a write. An answer: no access is unordered, value 0. The other answer: the
+ * record with this index, from 0, is the first unordered access. Refusals 14, 11 and 12, in this order. */
+uint64_t ruqzhemil_judge(uint64_t version, const uint8_t *log, size_t log_len);
+
+/* The version of a plan that passes the check, for the judge. */
+static inline uint64_t ruqzhemil_plan_version(const uint8_t *plan) {
+    return (uint64_t)(plan[0] >> 4);
+}
 
 /* ---- null pointers: the archive's functions want a pointer that is not null even where its length is 0. A call through this header gives them one, where
  * the caller has none; what it leads to is neither read nor written. */
@@ -263,7 +272,7 @@ static inline uint8_t *ruqzhemil_area(uint8_t *area) {
 #define ruqzhemil_check(plan, plan_len) ruqzhemil_check(ruqzhemil_bytes(plan), plan_len)
 #define ruqzhemil_play(plan, plan_len, schedule, schedule_len, log, log_len, out) \
     ruqzhemil_play(ruqzhemil_bytes(plan), plan_len, ruqzhemil_bytes(schedule), schedule_len, ruqzhemil_area(log), log_len, out)
-#define ruqzhemil_judge(log, log_len) ruqzhemil_judge(ruqzhemil_bytes(log), log_len)
+#define ruqzhemil_judge(version, log, log_len) ruqzhemil_judge(version, ruqzhemil_bytes(log), log_len)
 
 #ifdef __cplusplus
 }

@@ -13,7 +13,7 @@ unsafe extern "C" {
         log_len: usize,
         out: *mut u8,
     ) -> u64;
-    fn ruqzhemil_judge(log: *const u8, log_len: usize) -> u64;
+    fn ruqzhemil_judge(version: u64, log: *const u8, log_len: usize) -> u64;
 }
 
 /// Bytes of an outcome.
@@ -32,6 +32,6 @@ pub fn play(plan: &[u8], schedule: &[u8], log: &mut [u8], out: &mut [u8; OUT_BYT
     unsafe { ruqzhemil_play(plan.as_ptr(), plan.len(), schedule.as_ptr(), schedule.len(), log.as_mut_ptr(), log.len(), out.as_mut_ptr()) }
 }
 
-pub fn judge(log: &[u8]) -> u64 {
-    unsafe { ruqzhemil_judge(log.as_ptr(), log.len()) }
+pub fn judge(version: u64, log: &[u8]) -> u64 {
+    unsafe { ruqzhemil_judge(version, log.as_ptr(), log.len()) }
 }

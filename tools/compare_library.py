@@ -37,9 +37,9 @@ def lent(data):
     return (ctypes.c_uint8 * max(1, len(data))).from_buffer_copy(data or b"\0"), ctypes.c_size_t(len(data))
 
 
-def judged_right(lib, log, want):
+def judged_right(lib, log, want, version):
     """Whether judge returns the number of its answer."""
-    return lib.ruqzhemil_judge(*lent(log)) == judged(want)
+    return lib.ruqzhemil_judge(ctypes.c_uint64(version), *lent(log)) == judged(want)
 
 
 def played_right(lib, case):
@@ -53,7 +53,7 @@ def played_right(lib, case):
     log = record_bytes(bytes.fromhex(want.get("log", "")))
     right = got == played(want) and bytes(out) == outcome_bytes(want) and left == log + bytes([FILL]) * (play["area"] - len(log))
     right = right and lib.ruqzhemil_check(*lent(plan)) == checked(want)
-    return right and ("judge" not in want or judged_right(lib, log, want["judge"]))
+    return right and ("judge" not in want or judged_right(lib, log, want["judge"], plan[0] >> 4))
 
 
 def main(argv):
@@ -63,7 +63,7 @@ def main(argv):
     lib = library(os.path.dirname(os.path.dirname(os.path.abspath(__file__))))
     compared = differ = 0
     for case in interpreter.cases(words, landed):
-        right = played_right(lib, case) if "play" in case else judged_right(lib, bytes.fromhex(case["judge"]), case["want"])
+        right = played_right(lib, case) if "play" in case else judged_right(lib, bytes.fromhex(case["judge"]), case["want"], case["version"])
         compared += 1
         if not right:
             differ += 1

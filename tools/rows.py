@@ -33,16 +33,16 @@ def terms_of(tree, terms):
     return root
 
 
-def header(procedures, terms, mask=0x80000000):
-    return (1 << 28 | procedures << 22 | terms << 10).to_bytes(4, "big") + mask.to_bytes(4, "big")
+def header(procedures, terms, mask=0x80000000, version=1):
+    return (version << 28 | procedures << 22 | terms << 10).to_bytes(4, "big") + mask.to_bytes(4, "big")
 
 
-def plan(*bodies, parameters=None):
-    """A plan of these procedures, main first, with no volatile field but the monitor."""
+def plan(*bodies, parameters=None, mask=0x80000000, version=1):
+    """A plan of these procedures, main first; the monitor alone is volatile where no mask is given."""
     terms = []
     roots = [terms_of(body, terms) for body in bodies]
     procedures = [(n << 12 | root).to_bytes(2, "big") for n, root in zip(parameters or [0] * len(bodies), roots)]
-    return header(len(bodies), len(terms)) + b"".join(procedures) + b"".join(terms)
+    return header(len(bodies), len(terms), mask, version) + b"".join(procedures) + b"".join(terms)
 
 
 def flipped(whole, procedures, index, bit):
@@ -176,6 +176,14 @@ def tagged(tag):
 
 CROWD = then(*[fork(NULL)] * (THREADS - 1), *[new()] * (OBJECTS - THREADS), fork(NULL))    # eight threads, 32 objects, and a fork
 ALONE = then(*[new()] * (OBJECTS - 1), fork(NULL))                                         # one thread, 32 objects, and a fork
+HANDED_ON = let(0, new(1, 2), then(fork(then(read(variable(0), 2), read(variable(0), 1))), write(variable(0), 1, NULL), write(variable(0), 2, NULL)))
+HANDED_PICKS = [0] * 14 + [1] * 6                                                          # field 1 is written, then handed on by field 2, volatile
+
+
+def handed_on(version):
+    return plan(HANDED_ON, mask=0xA0000000, version=version)
+
+
 LARGEST = plan(*[fork(then(*[NULL] * 16))] * 32)                                           # 32 procedures, 1,024 terms
 
 # plan, picks, what is right, as above, and the requests with which something else is right
@@ -207,14 +215,28 @@ EDGES = [
     (LARGEST, [], ("end", 0, 0, 0), ()),
     (plan(fork(reads(33))), [0, 0, 1], ("end", 3, 2, 1), ()),
     (plan(fork(reads(34))), [0, 0, 1], ("no-depth", 1, 1, 0), ()),
+    (plan(NULL, version=0), [0], (1, 0), ()),
+    (plan(NULL, version=2), [], [2, 0], ()),
+    (plan(NULL, version=15), [], [2, 0], ()),
+    (handed_on(1), HANDED_PICKS, ("end", 20, 11, 6), ()),
+    (handed_on(0), HANDED_PICKS, ("race", 16, 10, 6), ()),
 ]
 
-# a log, and what is right: the refusal, or the index that is named, or none
+# a log, the version that the judge is told, and what is right: the refusal, or the index that is named, or none
 NEW = bytes.fromhex("100000")
+HANDED_LOG = bytes.fromhex("101000" "802080" "301080" "501100" "421100" "221080")  # new, fork, write, volatile write, volatile read, read
 LOGS = [
-    (b"", None),
-    (NEW * LOG_RECORDS, None),
-    (NEW * (LOG_RECORDS + 1), [11, 0]),
+    (b"", 1, None),
+    (b"", 0, None),
+    (NEW * LOG_RECORDS, 1, None),
+    (NEW * (LOG_RECORDS + 1), 1, [11, 0]),
+    (NEW[:1], 1, [11, 0]),
+    (NEW[:1], 2, [14, 0]),
+    (b"", 2, [14, 0]),
+    (b"", 1 << 32, [14, 0]),
+    (b"", (1 << 64) - 1, [14, 0]),
+    (HANDED_LOG, 1, None),
+    (HANDED_LOG, 0, 5),
 ]
 
 

@@ -17,7 +17,7 @@ and its text. The same words give the same files. Every case stands behind its l
                                  cases of the kinds above with one part of the answer, or one length, changed: each must differ
 
 A play: lengths of plan, schedule and log area; what check, play and judge return, in eight bytes each, judge for the run's records or for none; the
-bytes of the outcome; plan, schedule, records. A log: what judge returns; the log.
+bytes of the outcome; plan, schedule, records. A log: the version that judge is told and what it returns, in eight bytes each; the log.
 """
 
 import collections
@@ -44,17 +44,22 @@ def eight(number):
 
 
 Play = collections.namedtuple("Play", "plan schedule area checked played judged out records lengths")
-Log = collections.namedtuple("Log", "judged log")
+Log = collections.namedtuple("Log", "version judged log")
 
 
 def play_of(plan, schedule, area, want):
     """A play as it is stored: what check, play and judge return; `lengths` are those of plan and schedule."""
-    return Play(plan, schedule, area, checked(want), played(want), judged(want.get("judge", {"unordered": []})), outcome_bytes(want), record_bytes(bytes.fromhex(want.get("log", ""))),
-                (len(plan), len(schedule)))
+    said = judged(want["judge"]) if "judge" in want else judged_nothing(plan)
+    return Play(plan, schedule, area, checked(want), played(want), said, outcome_bytes(want), record_bytes(bytes.fromhex(want.get("log", ""))), (len(plan), len(schedule)))
 
 
-def log_of(log, want):
-    return Log(judged(want), record_bytes(log))
+def judged_nothing(plan):
+    """What judge returns for no records, where it is told the version in the plan's first bits."""
+    return refused(14, 0) if plan and plan[0] >> 4 > 1 else value(0)
+
+
+def log_of(log, want, version=1):
+    return Log(version, judged(want), record_bytes(log))
 
 
 def stored(case):
@@ -62,7 +67,7 @@ def stored(case):
     if isinstance(case, bytes):
         return case
     if isinstance(case, Log):
-        return eight(case.judged) + case.log
+        return eight(case.version) + eight(case.judged) + case.log
     lengths = b"".join(map(two, case.lengths)) + two(case.area)
     return lengths + eight(case.checked) + eight(case.played) + eight(case.judged) + case.out + case.plan + case.schedule + case.records
 
@@ -71,7 +76,7 @@ def stored(case):
 
 def case_of(case):
     if "judge" in case:
-        return log_of(bytes.fromhex(case["judge"]), case["want"])
+        return log_of(bytes.fromhex(case["judge"]), case["want"], case["version"])
     play = case["play"]
     return play_of(bytes.fromhex(play["plan"]), bytes.fromhex(play["schedule"]), play["area"], case["want"])
 
@@ -94,7 +99,7 @@ def marks_of(want):
     return [want["outcome"]] + [STATES[state_words(s)] for s in want["states"]] + [("kind", k >> 4) for k in kinds] + [("picks", want["picks"])]
 
 
-ALL_MARKS = ([("refused", n) for n in range(1, len(REFUSALS) + 1)] + list(OUTCOMES) + list(STATES.values()) + [("kind", k) for k in range(1, len(KINDS) + 1)]
+ALL_MARKS = ([("refused", n) for n in REFUSALS] + list(OUTCOMES) + list(STATES.values()) + [("kind", k) for k in range(1, len(KINDS) + 1)]
              + [("picks", NUMBERS["MOST_PICKS"])])
 
 
@@ -143,10 +148,10 @@ def edges(oracle, landed):
 
 
 def edge_logs(oracle):
-    for log, stated in rows.LOGS:
-        want = oracle.judged(log)
-        assert want == ({"refused": stated} if stated else {"unordered": []}), (log.hex(), want)
-        yield log_of(log, want)
+    for log, version, stated in rows.LOGS:
+        want = oracle.judged(log, version)
+        assert want == ({"refused": stated} if isinstance(stated, list) else {"unordered": [] if stated is None else [stated]}), (log.hex(), want)
+        yield log_of(log, want, version)
 
 
 # ---- cases that must differ

@@ -21,8 +21,8 @@ pub fn play(plan: &[u8], schedule: &[u8], log: &mut [u8], out: &mut [u8; OUT_BYT
     }
 }
 
-pub fn judge(log: &[u8]) -> u64 {
-    match independent::judge(log) {
+pub fn judge(version: u64, log: &[u8]) -> u64 {
+    match independent::judge(version, log) {
         Ok(None) => 0,
         Ok(Some(index)) => (1 << 32) + index as u64,
         Err(refusal) => number(refusal),

@@ -7,7 +7,7 @@ use crate::{answers, generate, library};
 /// How many cases had each answer.
 #[derive(Default)]
 struct Seen {
-    refusals: [usize; 13],
+    refusals: [usize; 15],
     passed: usize,
     stops: [usize; 6],
     states: [usize; 8],
@@ -34,12 +34,13 @@ impl Seen {
     }
 
     fn print(&self) {
-        println!("  plans passed {}; refusals 1 to 12 {:?}", self.passed, &self.refusals[1..]);
+        println!("  plans passed {}; refusals 1 to 12 {:?}, 14 {}", self.passed, &self.refusals[1..13], self.refusals[14]);
         println!("  runs end, race, no-thread, no-object, no-key, no-depth {:?}", self.stops);
         println!("  threads absent, finished, ready, monitor, join, no field, no thread, lacking {:?}", self.states);
         println!("  threads that learnt no key from another, some {:?}", self.learnt);
         println!("  logs ordered, unordered {:?}", self.judged);
-        let counts = self.refusals[1..].iter().chain(&self.stops).chain(&self.states).chain(&self.learnt).chain(&self.judged);
+        let counts =
+            self.refusals[1..13].iter().chain(&self.refusals[14..]).chain(&self.stops).chain(&self.states).chain(&self.learnt).chain(&self.judged);
         assert!(self.passed > 0 && counts.min() > Some(&0), "an answer that no case had: more cases are needed");
     }
 }
@@ -84,8 +85,8 @@ fn play(plan: &[u8], schedule: &[u8], area: &[u8], before: [u8; OUT_BYTES], seen
     Some(area[..3 * records].to_vec())
 }
 
-fn judge(log: &[u8], seen: &mut Seen) {
-    seen.judgement(same("judge", &[log], library::judge(log), answers::judge(log)));
+fn judge(version: u64, log: &[u8], seen: &mut Seen) {
+    seen.judgement(same("judge", &[&version.to_be_bytes(), log], library::judge(version, log), answers::judge(version, log)));
 }
 
 fn plan(random: &mut Random) -> Vec<u8> {
@@ -99,6 +100,7 @@ fn plan(random: &mut Random) -> Vec<u8> {
             return random.bytes(length);
         }
     };
+    let plan = generate::either_version(random, plan);
     if random.percent(40) {
         generate::damaged(random, plan)
     } else {
@@ -119,10 +121,11 @@ pub fn run(cases: usize, seed: u64) {
         let mut before = [0; OUT_BYTES];
         before.fill_with(|| random.byte());
         if let Some(log) = play(&plan, &schedule, &area, before, &mut seen) {
-            judge(&log, &mut seen);
-            judge(&generate::damaged_log(random, log), &mut seen);
+            judge(0, &log, &mut seen);
+            judge(1, &log, &mut seen);
+            judge(generate::version(random), &generate::damaged_log(random, log), &mut seen);
         }
-        judge(&generate::log(random), &mut seen);
+        judge(generate::version(random), &generate::log(random), &mut seen);
     }
     println!("compared: {cases} cases, seed {seed}, {:.1} s, no difference", began.elapsed().as_secs_f64());
     seen.print();

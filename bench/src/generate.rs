@@ -166,6 +166,24 @@ pub fn room(random: &mut Random) -> Vec<u8> {
     packed(MONITOR | 1 << 29, &[(0, main), (1, again)])
 }
 
+/// The plan, now and then for the first controllers: of version 0.
+pub fn either_version(random: &mut Random, plan: Vec<u8>) -> Vec<u8> {
+    if random.percent(35) {
+        plans::version_0(plan)
+    } else {
+        plan
+    }
+}
+
+/// A version to tell the judge, mostly one that there is.
+pub fn version(random: &mut Random) -> u64 {
+    match random.below(20) {
+        0 => 2,
+        1 => 1 << random.below(64),
+        n => n as u64 % 2,
+    }
+}
+
 /// A plan with a bit or more turned, a piece cut off or put on, or a field of it replaced.
 pub fn damaged(random: &mut Random, mut plan: Vec<u8>) -> Vec<u8> {
     match random.below(6) {

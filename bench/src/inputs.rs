@@ -58,7 +58,8 @@ fn moving() -> Vec<Input> {
     let input = |name, plan, schedule: &[u8]| Input { name, plan, schedule: schedule.to_vec() };
     vec![
         input("monitors", packed(MONITOR, &[(0, both(locked))]), &two),
-        input("volatile fields", packed(VOLATILE, &[(0, both(flags))]), &two),
+        input("volatile fields", packed(VOLATILE, &[(0, both(flags.clone()))]), &two),
+        input("version 0", version_0(packed(VOLATILE, &[(0, both(flags))])), &two),
         input("calls", packed(VOLATILE, &[(0, calls), (4, again)]), &two),
         input("eight parameters", packed(MONITOR, &[(0, eight_nulls), (8, eight_slots())]), &vec![0; 4096]),
         input("deep", packed(VOLATILE, &[(0, started)]), &two),

@@ -130,6 +130,12 @@ pub fn pack(mask: u32, procedures: &[Procedure], order: Order, random: &mut Rand
     plan
 }
 
+/// The same plan, of version 0.
+pub fn version_0(mut plan: Vec<u8>) -> Vec<u8> {
+    plan[0] &= 15;
+    plan
+}
+
 /// The packed plan, numbered depth first.
 pub fn packed(mask: u32, procedures: &[Procedure]) -> Vec<u8> {
     pack(mask, procedures, Order::Deep, &mut Random::new(0))

@@ -67,6 +67,12 @@ fn on<'a>(entry: fn(&[u8]) -> u64, input: &'a [u8]) -> Entry<'a> {
     })
 }
 
+fn judging<'a>(judge: fn(u64, &[u8]) -> u64, version: u64, log: &'a [u8]) -> Entry<'a> {
+    Box::new(move || {
+        black_box(judge(black_box(version), black_box(log)));
+    })
+}
+
 /// The log of an input's run, and its counts of picks, moves and records.
 fn played(input: &Input) -> (Vec<u8>, [usize; 3]) {
     let Input { name, plan, schedule } = input;
@@ -81,6 +87,7 @@ fn played(input: &Input) -> (Vec<u8>, [usize; 3]) {
 fn row(input: &Input) -> [Option<Pair>; 4] {
     let Input { name, plan, schedule } = input;
     let (log, [picks, moves, records]) = played(input);
+    let version = u64::from(plan[0] >> 4);
     let [play, play2, start, start2, check, check2, judge, judge2] = best([
         playing(library::play, plan, schedule),
         playing(answers::play, plan, schedule),
@@ -88,8 +95,8 @@ fn row(input: &Input) -> [Option<Pair>; 4] {
         playing(answers::play, plan, &[]),
         on(library::check, plan),
         on(answers::check, plan),
-        on(library::judge, &log),
-        on(answers::judge, &log),
+        judging(library::judge, version, &log),
+        judging(answers::judge, version, &log),
     ]);
     let per = |count: usize, ours: f64, theirs: f64| Some(Pair(ours / count as f64, theirs / count as f64));
     let pairs = [
@@ -120,7 +127,7 @@ fn short_row(name: &str, log: &[u8]) {
     print!("{name:16}");
     for count in SHORT {
         let first = &log[..3 * count];
-        let [ours, theirs] = best([on(library::judge, first), on(answers::judge, first)]);
+        let [ours, theirs] = best([judging(library::judge, 1, first), judging(answers::judge, 1, first)]);
         print!(" |{:>23}", Pair(ours, theirs).text(0));
     }
     println!();

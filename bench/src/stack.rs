@@ -69,6 +69,6 @@ pub fn print() {
         library::play(&i.plan, &i.schedule, &mut log, &mut out);
     });
     most("judge", 64, &logs, |i| {
-        library::judge(&i.schedule);
+        library::judge(1, &i.schedule);
     });
 }

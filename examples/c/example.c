@@ -38,7 +38,7 @@ static void thread(const uint8_t *out, unsigned number) {
 }
 
 static void judge(const uint8_t *log, size_t length) {
-    uint64_t answer = ruqzhemil_judge(log, length);
+    uint64_t answer = ruqzhemil_judge(ruqzhemil_plan_version(plan), log, length);
     printf("  judge: ");
     switch (RUQZHEMIL_ANSWER(answer)) {
     case RUQZHEMIL_IS_VALUE: printf("none\n"); break;

@@ -69,9 +69,14 @@ pub fn play(plan: &[u8], schedule: &[u8], log: &mut [u8]) -> Result<Outcome, Ref
     answer(raw::play(plan, schedule, log, &mut out)).map(|_| Outcome::of(&out))
 }
 
-/// The index of the first unordered access, if the log has one.
-pub fn judge(log: &[u8]) -> Result<Option<usize>, Refusal> {
-    answer(raw::judge(log)).map(|said| match said {
+/// The version of a plan that passes the check, for the judge: 1, or 0, in which volatile fields order nothing.
+pub fn plan_version(plan: &[u8]) -> u64 {
+    plan.first().map_or(0, |byte| u64::from(byte >> 4))
+}
+
+/// The index of the first unordered access, if the log has one, by the version of its plan ([`plan_version`]).
+pub fn judge(version: u64, log: &[u8]) -> Result<Option<usize>, Refusal> {
+    answer(raw::judge(version, log)).map(|said| match said {
         Answer::Value(_) => None,
         Answer::Other(index) => Some(index as usize),
     })

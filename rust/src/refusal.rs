@@ -24,6 +24,7 @@ pub enum Reason {
     LogArea,
     LogLength,
     Record,
+    Version,
     Other(u16),
 }
 
@@ -42,6 +43,7 @@ impl Refusal {
             10 => Reason::LogArea,
             11 => Reason::LogLength,
             12 => Reason::Record,
+            14 => Reason::Version,
             number => Reason::Other(number),
         }
     }
@@ -62,6 +64,7 @@ impl fmt::Display for Reason {
             Reason::LogArea => "a log area under 3 times the picks",
             Reason::LogLength => "a log whose length is no multiple of 3, or over 12,288",
             Reason::Record => "a record with a wrong kind, column or spare bit, or lacking its key and not last",
+            Reason::Version => "a version other than 0 or 1 given to the judge",
             Reason::Other(_) => "a refusal that this package does not know",
         })
     }

@@ -43,7 +43,7 @@ fn same<T: std::fmt::Debug>(prefix: &str, count: usize, of: impl Fn(u64) -> T) {
 
 #[test]
 fn numbers_are_the_headers() {
-    same("RUQZHEMIL_REFUSAL_", 12, |n| Refusal { number: n as u16, place: 0 }.reason());
+    same("RUQZHEMIL_REFUSAL_", 13, |n| Refusal { number: n as u16, place: 0 }.reason());
     same("RUQZHEMIL_KIND_", 11, |n| Kind::of(n as u8));
     let states = |n: u64| (Stop::of(n as u8), ThreadState::of(n as u8, 0, 0));
     for (name, n) in
@@ -71,7 +71,7 @@ fn limits_are_the_headers() {
 
 #[test]
 fn texts_are_the_headers() {
-    for n in 1..=13 {
+    for n in 1..=15 {
         let text = Refusal { number: n, place: 0 }.reason().to_string().replace("package", "header");
         assert!(HEADER.contains(&format!("return \"{text}\";")), "{text}");
     }

@@ -1,8 +1,11 @@
-//! The judge of a log, and refusals 11 and 12.
+//! The judge of a log, and refusals 14, 11 and 12.
 
 use super::Refusal;
 
-pub fn judge(log: &[u8]) -> Result<Option<usize>, Refusal> {
+pub fn judge(version: u64, log: &[u8]) -> Result<Option<usize>, Refusal> {
+    if version > 1 {
+        return Err((14, 0));
+    }
     if log.len() % 3 != 0 || log.len() > 12288 {
         return Err((11, 0));
     }
@@ -38,7 +41,7 @@ pub fn judge(log: &[u8]) -> Result<Option<usize>, Refusal> {
         let mut c = clock[t];
         match k {
             6 => max(&mut c, &rel[o]),
-            4 => max(&mut c, &vol[o * 32 + f]),
+            4 if version == 1 => max(&mut c, &vol[o * 32 + f]),
             9 => {
                 let q = clock[f];
                 max(&mut c, &q)

@@ -38,6 +38,7 @@ fn kids(tag: u8) -> &'static [u8] {
 }
 
 pub struct Plan {
+    pub(super) version: u32,
     pub(super) mask: u32,
     params: [u8; 32],
     pub(super) roots: [u16; 32],
@@ -58,10 +59,10 @@ pub fn check(plan: &[u8]) -> Result<Plan, Refusal> {
         return Err((1, 0));
     }
     let mask = u32::from_be_bytes([plan[4], plan[5], plan[6], plan[7]]);
-    if version != 1 || procs < 1 || procs > 32 || nterms < 1 || nterms > 1024 || spare != 0 || mask >> 31 == 0 {
+    if version > 1 || procs < 1 || procs > 32 || nterms < 1 || nterms > 1024 || spare != 0 || mask >> 31 == 0 {
         return Err((2, 0));
     }
-    let mut out = Plan { mask, params: [0; 32], roots: [0; 32], terms: Box::new([Term::default(); 1024]) };
+    let mut out = Plan { version, mask, params: [0; 32], roots: [0; 32], terms: Box::new([Term::default(); 1024]) };
     for p in 0..procs {
         let w = u16::from_be_bytes([plan[8 + 2 * p], plan[9 + 2 * p]]);
         let (params, root) = ((w >> 12) as u8, w & 4095);

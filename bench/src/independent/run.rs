@@ -438,7 +438,7 @@ pub fn play(plan: &[u8], schedule: &[u8], log: &mut [u8]) -> Result<Outcome, Ref
             15 => r.give(&mut t, (a == b) as u8),
             2 => r.give(&mut t, r.nobjects as u8),
             3 => {
-                if volatile {
+                if volatile && r.plan.version == 1 {
                     t.learnt += join(&mut t.keys, &r.vol[o][f]);
                 }
                 r.give(&mut t, r.values[o][f])
@@ -497,7 +497,9 @@ pub fn play(plan: &[u8], schedule: &[u8], log: &mut [u8]) -> Result<Outcome, Ref
             }
             4 => {
                 if volatile {
-                    join(&mut r.vol[o][f], &t.keys);
+                    if r.plan.version == 1 {
+                        join(&mut r.vol[o][f], &t.keys);
+                    }
                 } else {
                     r.plain[o][f] = r.next_key as u8;
                     t.keys[r.next_key >> 6] |= 1 << (r.next_key & 63);

@@ -1,8 +1,9 @@
 -- What a read or a write of a field does, by value. The machine that the code runs; no reader of the entries' promises needs it. Assumes nothing.
 use Prim.Native.Nat.{ℕ, _+_}
 use mathlib.Core.Bool.{cond}
-use lib.Dec.{leb}
-use Rattle.keys.specs.KeySet.{learnOf, joinOf, joinedOf}
+use lib.Dec.{eqb, leb}
+use Rattle.keys.specs.declared.KeySet.{KeySet}
+use Rattle.keys.specs.KeySet.{emptySet, learnOf, joinOf, joinedOf}
 use Rattle.frames.specs.Going.{goValue}
 use Rattle.state.specs.declared.Head.{Head}
 use Rattle.state.specs.declared.Cell.{Cell}
@@ -15,16 +16,22 @@ use Rattle.state.specs.declared.acted.Act.the-variants as act
 use Rattle.state.specs.Acted.{entryOf, cellOf, countsOf, actedOf, heardOf}
 use Rattle.look.specs.Look.{hasOf}
 
+-- what a volatile access passes on of a set: all of it in version 1, and else nothing
+unfoldable pub passedOf : Setting → KeySet → KeySet
+passedOf g ks = cond (eqb (g .version) 1) ks emptySet
+
 unfoldable pub actRead : Setting → Counts → Head → Cell → ℕ → ℕ → Act
+unfolding passedOf
 actRead g n h c o f =
     cond (hasOf (g .mask) f)
-    (heardOf (goValue (c .value)) n (joinedOf (h .keys) (c .keys)) c (entryOf (kindNumber Kind.readv) o f (c .value)))
+    (heardOf (goValue (c .value)) n (joinedOf (h .keys) (passedOf g (c .keys))) c (entryOf (kindNumber Kind.readv) o f (c .value)))
     (actedOf (goValue (c .value)) n (h .keys) c (entryOf (kindNumber Kind.read) o f (c .value)))
 
 unfoldable pub actWrite : Setting → Counts → Head → Cell → ℕ → ℕ → ℕ → Act
+unfolding passedOf
 actWrite g n h c o f v =
     cond (hasOf (g .mask) f)
-    (actedOf (goValue v) n (h .keys) (cellOf v 0 (joinOf (c .keys) (h .keys))) (entryOf (kindNumber Kind.writev) o f v))
+    (actedOf (goValue v) n (h .keys) (cellOf v 0 (joinOf (c .keys) (passedOf g (h .keys)))) (entryOf (kindNumber Kind.writev) o f v))
     (cond (leb 256 (n .keys))
     (act.NoRoom room.Key)
     (actedOf (goValue v) (countsOf (n .threads) (n .objects) (n .keys + 1)) (learnOf (h .keys) (n .keys)) (cellOf v (n .keys) (c .keys)) (entryOf (kindNumber Kind.write) o f v)))

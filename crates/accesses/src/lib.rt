@@ -1,7 +1,8 @@
 // What a read or a write of a field does, by value.
 ghost use mathlib.Core.Path.{_≡_};
-ghost use Rattle.accesses.specs.Accesses.{actRead, actWrite};
+ghost use Rattle.accesses.specs.Accesses.{passedOf, actRead, actWrite};
 use frames::go;
+use keys::KeySet;
 use records::kind;
 use run_outcome::NoRoom;
 use state::Cell;
@@ -13,6 +14,16 @@ use state::acted::acted_of;
 use state::acted::cell_with;
 use state::acted::entry;
 use state::acted::heard;
+
+// What a volatile access passes on of a set: all of it in version 1, and else nothing.
+fn passed_on(setting: Setting, keys: KeySet) -> KeySet
+    ensures { λ r. ⌜ r ≡ passedOf setting keys ⌝ }
+{
+    if setting.version == 1 {
+        return keys;
+    }
+    KeySet::new()
+}
 
 pub fn act_read(
     setting: Setting,
@@ -29,7 +40,8 @@ pub fn act_read(
     let go = go::value(value);
     if look::has(setting.mask, field) {
         let cell_keys = cell.keys;
-        let joined = keys.join(cell_keys);
+        let passed = passed_on(setting, cell_keys);
+        let joined = keys.join(passed);
         let entry = entry(kind::VOLATILE_READ, object, field, value);
         return heard(go, counts, joined, cell, entry);
     }
@@ -52,7 +64,8 @@ pub fn act_write(
     let cell_keys = cell.keys;
     let go = go::value(value);
     if look::has(setting.mask, field) {
-        let joined = cell_keys.join(keys);
+        let passed = passed_on(setting, keys);
+        let joined = cell_keys.join(passed);
         let all = joined.keys;
         let changed = cell_with(value, 0, all);
         let entry = entry(kind::VOLATILE_WRITE, object, field, value);

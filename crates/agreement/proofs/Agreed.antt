@@ -8,9 +8,10 @@ use mathlib.Core.Logic.{_↔_, Iff·symm, Iff·trans}
 use mathlib.Core.Option.{Option, some, none}
 use lib.Dec.{T}
 use lib.ListN.{length}
-use Rattle.format.specs.Version.{Version, v1, versionOf}
+use Rattle.format.specs.Version.{Version, versionOf}
 use Rattle.order.specs.Chains.{At, Unordered}
-use Rattle.conflicts.specs.Judge.{Judged, named, Names, names-first, names-none, Answers, refuses, judges}
+use Rattle.conflicts.specs.Judge.{Judged, named, Names, names-first, names-none, Answers, refuses, judges, AnswersTold, right-version}
+use Rattle.conflicts.proofs.Told.{told-known}
 use Rattle.order.proofs.Agree.{agree, lacking-plain}
 use Rattle.order.proofs.Past.{at-within}
 use Rattle.conflicts.proofs.FirstConflict.{unordered→conflicting}
@@ -63,8 +64,8 @@ lacks-last : (r : Run) → LastLacks (r .stop) (r .log) → LacksLast (r .log)
 lacks-last r n i x h k = lacks-stopped r n i x h .0 k .is-last
 
 -- any well-formed program, any list of at most 4,096 picks, picks passed over included
-pub play-agrees : (g : Program) → WellFormedProgram g → g .version ≡ v1 → (ps : List ℕ) → length ps ≤ 4096 → Agreement g ps (play g ps)
-play-agrees g P one ps few =
+pub play-agrees : (g : Program) → WellFormedProgram g → (ps : List ℕ) → length ps ≤ 4096 → Agreement g ps (play g ps)
+play-agrees g P ps few =
     record {
       stops = λ j x h a. Iff·trans (Iff·symm (lacks-stopped r n j x h)) (exact j x h a);
       lacks = lacks-stopped r n;
@@ -85,7 +86,7 @@ play-agrees g P one ps few =
     tidy = tidy-play g P ps
 
     exact : (j : ℕ) (x : Record) → At (r .log) j x → T (isPlain (x .kind)) → T (lacksKey (x .kind)) ↔ Unordered (g .version) (r .log) j
-    exact = agree (g .version) (r .log) (kept-play g P one ps .legal)
+    exact = agree (g .version) (r .log) (kept-play g P ps .legal)
 
     written : logOf (bytesOf (r .log)) ≡ r .log
     written = logOf-bytesOf (r .log) (tidy .all-tidy)
@@ -95,10 +96,6 @@ play-agrees g P one ps few =
 
 -- ---- accepted plans
 
-pub accepted-version : (b : List ℕ) → refusal b ≡ none → programOf b .version ≡ v1
-unfolding programOf versionOf
-accepted-version b h = rw (accepted b h .version-one)
-
 run-is : (plan schedule : List ℕ) → runOf plan schedule ≡ play (programOf plan) schedule
 unfolding runOf
 run-is plan schedule = refl
@@ -106,7 +103,13 @@ run-is plan schedule = refl
 -- demand 3: any accepted plan, any list of at most 4,096 picks
 pub agreement : (plan schedule : List ℕ) → refusal plan ≡ none → length schedule ≤ 4096 → Agreement (programOf plan) schedule (runOf plan schedule)
 agreement plan schedule h few =
-    along (Agreement (programOf plan) schedule) (sym (run-is plan schedule)) (play-agrees (programOf plan) (well-formed plan h) (accepted-version plan h) schedule few)
+    along (Agreement (programOf plan) schedule) (sym (run-is plan schedule)) (play-agrees (programOf plan) (well-formed plan h) schedule few)
+
+-- "what E7 says of runs holds where it is told the plan's version" (document 02, E8): of an accepted plan the judge takes the number of the version, and
+-- answers for the program's version
+pub told-plan : (plan b : List ℕ) (a : Judged) → refusal plan ≡ none → AnswersTold (version plan) b a ↔ Answers (programOf plan .version) b a
+unfolding programOf
+told-plan plan b a h = let known = accepted plan h .version-known in (told-known known, right-version known)
 
 -- a run's log has at most one access that nothing orders after the last write
 pub one-unordered : {g : Program} {ps : List ℕ} {r : Run} → Agreement g ps r → (i j : ℕ) → Unordered (g .version) (r .log) i → Unordered (g .version) (r .log) j → i ≡ j

@@ -5,8 +5,8 @@ use mathlib.Core.Path.{_≡_, sym, _∙_, subst as along}
 use mathlib.Core.List.{List}
 use mathlib.Core.Option.{Option}
 use lib.ListN.{take}
-use Rattle.format.specs.Version.{Version, v1}
-use Rattle.conflicts.specs.Judge.{named, Answers}
+use Rattle.conflicts.specs.Judge.{named, Answers, AnswersTold}
+use Rattle.packed.specs.Format.{version}
 use Rattle.packed.specs.Trees.{programOf}
 use Rattle.refusals.specs.declared.Checked.the-variants as checked
 use Rattle.records.specs.Packed.{bytesOf}
@@ -20,7 +20,7 @@ use Rattle.judge.specs.declared.Judgement.the-variants as judgement
 use Rattle.judge.specs.Answer as judge
 use Rattle.agreement.specs.Agreement.{NamedBy, Agreement}
 use Rattle.agreement.specs.AgreedOn.{AgreedOn}
-use Rattle.agreement.proofs.Agreed.{accepted-version, agreement}
+use Rattle.agreement.proofs.Agreed.{agreement, told-plan}
 
 -- ---- a play that is not refused
 
@@ -29,20 +29,21 @@ module _ (plan schedule area : List ℕ) (p : Played) (h : answered p ≡ played
   agrees-all = let a = passes plan schedule area p h e in agreement plan schedule (a .plan-passes) (a .few)
 
   -- what the judge says of the first bytes of the log area that the play leaves
-  module _ (after : List ℕ) (left : after ≡ areaAfter plan schedule area) (j : Judgement) (n : ℕ) (q : n ≡ 3 * p .outcome .records) (m : Answers v1 (take (n - 0) after) (judge.answered j)) where
-    may : Answers (programOf plan .version) (bytesOf (runOf plan schedule .log)) (judge.answered j)
-    may =
-        along (λ (v : Version). Answers v (bytesOf (runOf plan schedule .log)) (judge.answered j)) (sym (accepted-version plan (passes plan schedule area p h e .plan-passes)))
-        (along (λ (b : List ℕ). Answers v1 b (judge.answered j)) (begins plan schedule area p h e after left n q) m)
+  module _ (after : List ℕ) (left : after ≡ areaAfter plan schedule area) (j : Judgement) (n : ℕ) (q : n ≡ 3 * p .outcome .records) (v : ℕ) (w : v ≡ version plan) (m : AnswersTold v (take (n - 0) after) (judge.answered j)) where
+    answers : Answers (programOf plan .version) (bytesOf (runOf plan schedule .log)) (judge.answered j)
+    answers =
+        told-plan plan (bytesOf (runOf plan schedule .log)) (judge.answered j) (passes plan schedule area p h e .plan-passes) .0
+        (along (λ (k : ℕ). AnswersTold k (bytesOf (runOf plan schedule .log)) (judge.answered j)) w
+        (along (λ (b : List ℕ). AnswersTold v b (judge.answered j)) (begins plan schedule area p h e after left n q) m))
 
     stop-named : (x : Option ℕ) × (judge.answered j ≡ named x) × NamedBy (stopOf (p .outcome .stop)) (p .outcome .records) x
-    stop-named = rw (stop-is plan schedule area p h e, records-are plan schedule area p h e) (agrees-all .judged (judge.answered j) may)
+    stop-named = rw (stop-is plan schedule area p h e, records-are plan schedule area p h e) (agrees-all .judged (judge.answered j) answers)
 
     pub agreed-on : AgreedOn plan schedule (record { played = p; judgement = j })
     agreed-on =
         record {
           chains = λ _. agrees-all;
-          judged = λ _. may;
+          judged = λ _. answers;
           agrees = λ _. stop-named;
           refused = λ k i x. passed-refused e x;
         }

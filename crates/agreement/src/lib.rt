@@ -3,12 +3,12 @@
 ghost use mathlib.Core.Path.{_≡_};
 ghost use Prim.Native.Nat.{_-_, _≤_};
 ghost use lib.ListN.{length, take, drop};
-ghost use Rattle.format.specs.Version.{v1};
-ghost use Rattle.conflicts.specs.Judge.{Answers};
+ghost use Rattle.conflicts.specs.Judge.{AnswersTold};
 ghost use Rattle.rules.specs.Play.{played, areaAfter};
 ghost use Rattle.player.specs.Answer.{answered, NoRunIfRefused};
 ghost use Rattle.judge.specs.Answer as judge;
 ghost use Rattle.agreement.specs.AgreedOn.{AgreedOn};
+use header::layout;
 use judge::Judgement;
 use player::outcome::Played;
 use refusals::Checked;
@@ -20,15 +20,15 @@ pub struct PlayedAndJudged {
 }
 
 // The judge on a part of a log area, and on no other byte of it.
-fn judge_part(area: &[u8], start: usize, end: usize) -> Judgement
+fn judge_part(version: usize, area: &[u8], start: usize, end: usize) -> Judgement
     requires { ⌜ (start ≤ end) × (end ≤ length (now area)) ⌝ }
-    ensures { λ r. ⌜ Answers v1 (take (end - start) (drop start (now (area .entry)))) (judge.answered r) ⌝ }
+    ensures { λ r. ⌜ AnswersTold version (take (end - start) (drop start (now (area .entry)))) (judge.answered r) ⌝ }
 {
-    judge::judge(&area[start..end])
+    judge::judge(version, &area[start..end])
 }
 
-// A schedule is played on a plan, and the judge gets just the run's records, the first bytes of the log area. A refused play has no run, and its
-// judgement is the play's own refusal.
+// A schedule is played on a plan, and the judge gets the plan's version and just the run's records, the first bytes of the log area. A refused play has
+// no run, and its judgement is the play's own refusal.
 pub fn play_and_judge(plan: &[u8], schedule: &[u8], log: &mut [u8]) -> PlayedAndJudged
     ensures answer { λ r. ⌜ answered (r .played) ≡ played (now (plan .entry)) (now (schedule .entry)) (now (log .entry)) ⌝ }
     ensures area { λ r. ⌜ now (log .exit) ≡ areaAfter (now (plan .entry)) (now (schedule .entry)) (now (log .entry)) ⌝ }
@@ -48,7 +48,8 @@ pub fn play_and_judge(plan: &[u8], schedule: &[u8], log: &mut [u8]) -> PlayedAnd
         },
         Checked::Passed => {
             let bytes = player::outcome::record_bytes(outcome.records);
-            let judgement = judge_part(log, 0, bytes);
+            let version = layout::version(plan);
+            let judgement = judge_part(version, log, 0, bytes);
             PlayedAndJudged {
                 played: played,
                 judgement: judgement,

@@ -4,3 +4,4 @@ pub mod Heard
 pub mod Conflicts
 pub mod FirstConflict
 pub mod Samples
+pub mod Told

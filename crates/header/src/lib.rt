@@ -27,7 +27,7 @@ pub fn wrong_header(plan: &[u8]) -> bool
     let count = layout::terms(plan);
     let spare = layout::spare(plan);
     let mask = layout::volatiles(plan);
-    if version != 1 {
+    if version > 1 {
         return true;
     }
     if procedures < 1 {

@@ -1,9 +1,9 @@
-// The judge of a log (document 01, "The log and its order"): refusals 11 and 12, then one pass by clocks.
+// The judge of a log (document 01, "The log and its order"): refusals 14, 11 and 12, then one pass by clocks.
 mod pass; // pass.rt: the pass by clocks
 
 ghost use Prim.Native.Nat.{_<_};
-ghost use Rattle.format.specs.Version.{v1, versionOf};
-ghost use Rattle.conflicts.specs.Judge.{Answers};
+ghost use Rattle.format.specs.Version.{versionOf};
+ghost use Rattle.conflicts.specs.Judge.{Answers, AnswersTold};
 ghost use Rattle.judge.specs.Answer.{answered};
 
 // What the judge answers to a log.
@@ -16,15 +16,21 @@ pub enum Judgement {
     Ordered,
 }
 
-// The answer to any bytes: for a log not refused the lowest index of a plain access with no chain from an earlier one that it conflicts with, or none,
-// `Ordered`, exactly when it has no such access.
-pub fn judge(log: &[u8]) -> Judgement
-    ensures { λ r. ⌜ Answers v1 (now (log .entry)) (answered r) ⌝ }
+// The answer to any version and any bytes: refusal 14, 11 or 12; else, by the chains of that version, the lowest index of a plain access with no chain from
+// an earlier one that it conflicts with, or none, `Ordered`, exactly when the log has no such access.
+pub fn judge(version: usize, log: &[u8]) -> Judgement
+    ensures { λ r. ⌜ AnswersTold version (now (log .entry)) (answered r) ⌝ }
 {
-    judge_version(log, 1)
+    if version > 1 {
+        return Judgement::Refused {
+            number: 14,
+            place: 0,
+        };
+    }
+    judge_version(log, version)
 }
 
-// The same for a log of a version: 1, or 0, in which volatile fields order nothing.
+// The same for a version that is not refused.
 fn judge_version(log: &[u8], version: usize) -> Judgement
     ensures { λ r. ⌜ Answers (versionOf version) (now (log .entry)) (answered r) ⌝ }
 {

@@ -1,10 +1,10 @@
--- Laws of key sets: the keys of ∅, {k} and K ∪ L, {w} ⊆ K, and a key of a set that is not empty. Assumes nothing.
+-- Laws of key sets: the keys of ∅, {k} and K ∪ L, a union with ∅, {w} ⊆ K, and a key of a set that is not empty. Assumes nothing.
 use Prim.Native.Nat.{ℕ, zero, suc, _+_, _*_, _/_, _%_, _^_, _≤_, _<_, max}
 use native.Mathlib.Nat.{mod-lt, zero-lt-suc, pow-suc, mul-div-cancel, mul-mod-left, zero-max, div-div-eq-div-mul, pow-succ', div-one}
 use native.Mathlib.Omega.{arith}
 use mathlib.Core.Path.{_≡_, refl, sym, ap, ap₂, _∙_}
 use mathlib.Core.Bool.{Bool, true, false, _||_, false≢true}
-use lib.Bits.{bitOr, or-shr, or-mod, or-step, or-zero-l}
+use lib.Bits.{bitOr, or-shr, or-mod, or-step, or-zero-l, or-zero-r}
 use lib.Dec.{T, eqb, eqb·suc-suc, eqb·zero-suc, eqb·suc-zero}
 use borrow.Author.Tests.{eq-eqb, eqb-true}
 use Rattle.keys.specs.Keys.{Keys, empty, singleton, holds, union, subset, isEmpty}
@@ -54,6 +54,16 @@ unfolding holds union
 holds-union K L k =
     ap (λ (n : ℕ). eqb n 1) (ap (λ (n : ℕ). n % 2) (or-shr K L k) ∙ or-mod (K / 2 ^ k) (L / 2 ^ k) 1)
     ∙ or-digit (K / 2 ^ k % 2) (L / 2 ^ k % 2) (mod-lt _ (zero-lt-suc 1)) (mod-lt _ (zero-lt-suc 1))
+
+-- ---- a union with ∅
+
+pub union-empty : (K : Keys) → union K empty ≡ K
+unfolding union
+union-empty K = or-zero-r K
+
+pub empty-union : (K : Keys) → union empty K ≡ K
+unfolding union
+empty-union K = or-zero-l K
 
 -- ---- {w} ⊆ K
 

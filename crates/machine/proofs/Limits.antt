@@ -12,7 +12,7 @@ use borrow.Author.Tests.{ltb-false}
 use Rattle.format.proofs.RefusalLaws.{neither}
 use Rattle.keys.specs.Keys.{Keys, empty, singleton, subset, isEmpty}
 use Rattle.rules.specs.State.{Cell, cell}
-use Rattle.rules.specs.Rules.{Rule, e-new, e-write, e-fork}
+use Rattle.rules.specs.Rules.{Rule, e-new, e-write, e-fork, passedOn}
 use Rattle.rules.specs.Room.{Room}
 use Rattle.rules.proofs.StateLaws.{added-old, length-added, change-other, change-length}
 use Rattle.format.proofs.RefusalLaws.{both-none}
@@ -114,7 +114,7 @@ module _ (table : Table) (s : State) (p : ℕ) (t : Thread) where
   unfolding readAct
   read-grows o f none = tt
   read-grows o f (some c) =
-      cond-grows s p (table .isVolatile f) _ _ (after-gain _ s p s (c .keys) _ (stays _ s p)) (cond-grows s p (subset (c .keys) (t .keys)) _ _ (stays _ s p) tt)
+      cond-grows s p (table .isVolatile f) _ _ (after-gain _ s p s (passedOn (table .version) (c .keys)) _ (stays _ s p)) (cond-grows s p (subset (c .keys) (t .keys)) _ _ (stays _ s p) tt)
 
   write-grows : (o f v : ℕ) (c : Option Cell) → GrowsAct s p (writeAct table s p t o f v c)
   unfolding writeAct

@@ -62,14 +62,14 @@ module _ (table : Table) where
     unfolding machine.readAct readAct
     read-of s p t o f none = refl
     read-of s p t o f (some c) =
-        cond-of table (table .isVolatile f) _ _ _ _ _ (law .volatiles f) (rw (gain-of table)) (cond-of table (subset (c .keys) (t .keys)) _ _ _ _ _ refl refl refl)
+        cond-of table (table .isVolatile f) _ _ _ _ _ (law .volatiles f) (rw (gain-of table, law .version-of)) (cond-of table (subset (c .keys) (t .keys)) _ _ _ _ _ refl refl refl)
 
     write-of : (s : machine.State) (p : ℕ) (t : machine.Thread) (o f v : ℕ) (c : Option Cell)
         → actOf table (machine.writeAct table s p t o f v c) ≡ writeAct g (stateOf table s) p (threadMeant table t) o f v c
     unfolding machine.writeAct writeAct
     write-of s p t o f v none = refl
     write-of s p t o f v (some c) =
-        cond-of table (table .isVolatile f) _ _ _ _ _ (law .volatiles f) refl (cond-of table (subset (c .keys) (t .keys)) _ _ _ _ _ refl (rw (gain-of table)) refl)
+        cond-of table (table .isVolatile f) _ _ _ _ _ (law .volatiles f) (rw (law .version-of)) (cond-of table (subset (c .keys) (t .keys)) _ _ _ _ _ refl (rw (gain-of table)) refl)
 
     body-of : (m n : ℕ) (σ : Slots) (d : Procedure) → getElem? (g .procedures) m ≡ some d → d .parameters ≡ n
         → expressionIn (table .node) (table .count) (closure (table .root m) σ) ≡ substitute (bindParameters (firstSlots n σ)) (d .body)

@@ -53,6 +53,7 @@ module _ (b : List ℕ) (a : Accepted b) where
   unfolding tableOf isVolatile programOf
   tabulates = record {
     ordered = ordered;
+    version-of = refl;
     volatiles = λ f. refl;
     bodies = λ m d h. ap (λ (d : Procedure). d .body) (procedures-inside b m d h .1) ∙ body-tree m;
     all-bound = λ m d h.

@@ -34,6 +34,7 @@ get-map f (x ∷ xs) (suc i) = get-map f xs i
 -- the table is a program's
 pub record Tabulates (table : Table) (g : Program) : Type 0 where
   pub ordered : Descending (table .node) (table .count)
+  pub version-of : table .version ≡ g .version
   pub volatiles : (f : ℕ) → table .isVolatile f ≡ isVolatile g f
   pub bodies : (m : ℕ) (d : Procedure) → getElem? (g .procedures) m ≡ some d → d .body ≡ tree (table .node) (table .count) (table .root m)
   pub all-bound : (m : ℕ) (d : Procedure) → getElem? (g .procedures) m ≡ some d → T (closed (λ x. ltb x (d .parameters)) (d .body))

@@ -6,6 +6,7 @@ use mathlib.Core.Option.{Option, some, none}
 use lib.Dec.{eqb}
 use lib.ListN.{getElem?, drop}
 use Rattle.keys.specs.Keys.{Keys, empty, singleton, subset, isEmpty}
+use Rattle.rules.specs.Rules.{passedOn}
 use Rattle.rules.specs.State.{Cell, cell, changeAt, fieldOf}
 use Rattle.machine.specs.Frames.{Closure, Frame, Ready, Readyᶜ, Found}
 use Rattle.machine.specs.Landing.{go}
@@ -79,7 +80,7 @@ module _ (table : Table) where
   read-well : (s : State) (p : ℕ) (t : Thread) (o f : ℕ) (c : Option Cell) → WellAll (s .threads) → WellAct (readAct table s p t o f c)
   unfolding readAct
   read-well s p t o f none w = tt
-  read-well s p t o f (some c) w = cond-well (table .isVolatile f) _ _ (gain-well s p (c .keys) _ w) (cond-well (subset (c .keys) (t .keys)) _ _ w tt)
+  read-well s p t o f (some c) w = cond-well (table .isVolatile f) _ _ (gain-well s p (passedOn (table .version) (c .keys)) _ w) (cond-well (subset (c .keys) (t .keys)) _ _ w tt)
 
   write-well : (s : State) (p : ℕ) (t : Thread) (o f v : ℕ) (c : Option Cell) → WellAll (s .threads) → WellAct (writeAct table s p t o f v c)
   unfolding writeAct

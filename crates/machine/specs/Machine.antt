@@ -6,11 +6,12 @@ use mathlib.Core.List.{List, [], _∷_, _++_}
 use mathlib.Core.Option.{Option, some, none}
 use lib.Dec.{eqb}
 use lib.ListN.{length, getElem?}
+use Rattle.format.specs.Version.{Version}
 use Rattle.keys.specs.Keys.{Keys, empty, singleton, union, subset, isEmpty, countNew}
 use Rattle.packed.specs.Trees.{Node}
 use Rattle.records.specs.Record.{Kind, Record, entry}
 use Rattle.rules.specs.State.{Cell, cell, Object, fresh, freshObject, changeAt, storeField, fieldOf, monitorOf}
-use Rattle.rules.specs.Rules.{Rule, e-call, e-let, e-if, e-while, e-notnottrue, e-andtrue, e-andfalse, e-new, e-read, e-write, e-readv, e-writev, e-fork, e-join, e-re-enter, e-acquire, e-release}
+use Rattle.rules.specs.Rules.{Rule, passedOn, e-call, e-let, e-if, e-while, e-notnottrue, e-andtrue, e-andfalse, e-new, e-read, e-write, e-readv, e-writev, e-fork, e-join, e-re-enter, e-acquire, e-release}
 use Rattle.rules.specs.Step.{Wait, forMonitor, forJoin, Stuck, missingField, notThread, equalAct}
 use Rattle.machine.specs.Frames.{putBound, Closure, closure, Frame, Ready, Readyᶜ, Found, Result}
 use Rattle.machine.specs.Landing.{upᶜ, enter, enterᶜ, go}
@@ -100,8 +101,9 @@ finishedWith (Found.hereᶜ S r) = none
 
 -- ---- the moves
 
--- what the machine knows of a plan: the nodes of its terms, how many there are, which fields are volatile, the roots of its procedures
+-- what the machine knows of a plan: its version, the nodes of its terms, how many there are, which fields are volatile, the roots of its procedures
 pub record Table : Type 0 where
+  pub version : Version
   pub node : ℕ → Node
   pub count : ℕ
   pub isVolatile : ℕ → Bool
@@ -153,21 +155,21 @@ synchAct s p t o x c =
 
 module _ (table : Table) where
   unfoldable pub readAct : State → ℕ → Thread → ℕ → ℕ → Option Cell → Act
-  unfolding gain subset
+  unfolding gain subset passedOn
   readAct s p t o f none = sticks (missingField o f)
   readAct s p t o f (some c) =
       cond (table .isVolatile f)
-      (does e-readv (some (entry Kind.readv p o f (c .value))) (hear s p (c .keys)) (Result.value (c .value)))
+      (does e-readv (some (entry Kind.readv p o f (c .value))) (hear s p (passedOn (table .version) (c .keys))) (Result.value (c .value)))
       (cond (subset (c .keys) (t .keys))
       (does e-read (some (entry Kind.read p o f (c .value))) s (Result.value (c .value)))
       (lacks (entry Kind.lacksRead p o f 0)))
 
   unfoldable pub writeAct : State → ℕ → Thread → ℕ → ℕ → ℕ → Option Cell → Act
-  unfolding gain store useKey subset union
+  unfolding gain store useKey subset union passedOn
   writeAct s p t o f v none = sticks (missingField o f)
   writeAct s p t o f v (some c) =
       cond (table .isVolatile f)
-      (does e-writev (some (entry Kind.writev p o f v)) (store s o f (cell (union (c .keys) (t .keys)) v)) (Result.value v))
+      (does e-writev (some (entry Kind.writev p o f v)) (store s o f (cell (union (c .keys) (passedOn (table .version) (t .keys))) v)) (Result.value v))
       (cond (subset (c .keys) (t .keys))
       (does e-write (some (entry Kind.write p o f v)) (learn (store (useKey s) o f (cell (singleton (s .nextKey)) v)) p (singleton (s .nextKey))) (Result.value v))
       (lacks (entry Kind.lacksWrite p o f v)))

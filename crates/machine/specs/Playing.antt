@@ -6,8 +6,9 @@ use mathlib.Core.List.{List, [], _∷_}
 use mathlib.Core.Option.{Option, some, none, orElse}
 use lib.Dec.{eqb, ltb}
 use lib.ListN.{length, getElem?, drop}
+use Rattle.format.specs.Version.{versionOf}
 use Rattle.keys.specs.Keys.{singleton}
-use Rattle.packed.specs.Format.{terms, root, volatiles, maskBit}
+use Rattle.packed.specs.Format.{version, terms, root, volatiles, maskBit}
 use Rattle.packed.specs.Trees.{nodeAt}
 use Rattle.records.specs.Record.{Record}
 use Rattle.rules.specs.State.{freshObject}
@@ -147,8 +148,8 @@ outcomeOf table r = record {
 -- ---- the machine of a plan
 
 unfoldable pub tableOf : List ℕ → Table
-unfolding nodeAt terms root volatiles maskBit
-tableOf b = record { node = nodeAt b; count = terms b; isVolatile = λ f. eqb (maskBit (volatiles b) f) 1; root = root b }
+unfolding version versionOf nodeAt terms root volatiles maskBit
+tableOf b = record { version = versionOf (version b); node = nodeAt b; count = terms b; isVolatile = λ f. eqb (maskBit (volatiles b) f) 1; root = root b }
 
 -- the run of a list of picks on a plan
 unfoldable pub runOf : List ℕ → List ℕ → Run

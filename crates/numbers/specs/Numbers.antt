@@ -4,8 +4,7 @@ use mathlib.Core.Path.{_≡_}
 use mathlib.Core.List.{List}
 use mathlib.Core.Option.{Option, some, none}
 use Rattle.format.specs.Refusal.{Refusal}
-use Rattle.format.specs.Version.{v1}
-use Rattle.conflicts.specs.Judge.{Judged, refused, named, Answers}
+use Rattle.conflicts.specs.Judge.{Judged, refused, named, AnswersTold}
 use Rattle.rules.specs.Play as play
 
 -- ---- the convention of every entry: a number of 64 bits, whose upper half says which kind of answer it is
@@ -40,8 +39,8 @@ judgeNumber (named none) = valueNumber 0
 judgeNumber (named (some j)) = otherNumber j
 judgeNumber (refused r) = refusalNumber r
 
--- the judge returns the number of its answer to the log
-pub record JudgeReturns (log : List ℕ) (n : ℕ) : Type 0 where
+-- the judge returns the number of its answer to the version and the log
+pub record JudgeReturns (version : ℕ) (log : List ℕ) (n : ℕ) : Type 0 where
   pub answer : Judged
-  pub answers : Answers v1 log answer
+  pub answers : AnswersTold version log answer
   pub numbered : n ≡ judgeNumber answer

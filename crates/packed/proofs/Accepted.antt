@@ -72,7 +72,7 @@ pub record RightProcedure (b : List ℕ) (p : ℕ) : Type 0 where
 
 pub record Accepted (b : List ℕ) : Type 0 where
   pub length-right : length b ≡ planLength b
-  pub version-one : version b ≡ 1
+  pub version-known : version b ≤ 1
   pub some-procedure : 1 ≤ procedures b
   pub few-procedures : procedures b ≤ 32
   pub some-term : 1 ≤ terms b
@@ -179,7 +179,7 @@ accepted b h =
     let k = header-of b (six .right₂) in
     record {
       length-right = length-of b (six .right₁);
-      version-one = k .0;
+      version-known = k .0;
       some-procedure = k .1;
       few-procedures = k .2;
       some-term = k .3;

@@ -24,10 +24,10 @@ length-of b h =
     let x = eqb (length b) (planLength b) in
     eqb-true _ _ (not-false x (neither (ltb (length b) 8) (not x) h .1))
 
-header-tests : (v p n s m : ℕ) → (not (eqb v 1) || ltb p 1 || ltb 32 p || ltb n 1 || ltb 1024 n || not (eqb s 0) || not (eqb m 1)) ≡ false
-    → (v ≡ 1) × (1 ≤ p) × (p ≤ 32) × (1 ≤ n) × (n ≤ 1024) × (s ≡ 0) × (m ≡ 1)
+header-tests : (v p n s m : ℕ) → (ltb 1 v || ltb p 1 || ltb 32 p || ltb n 1 || ltb 1024 n || not (eqb s 0) || not (eqb m 1)) ≡ false
+    → (v ≤ 1) × (1 ≤ p) × (p ≤ 32) × (1 ≤ n) × (n ≤ 1024) × (s ≡ 0) × (m ≡ 1)
 header-tests v p n s m h =
-    let x₁ = not (eqb v 1) in
+    let x₁ = ltb 1 v in
     let x₂ = x₁ || ltb p 1 in
     let x₃ = x₂ || ltb 32 p in
     let x₄ = x₃ || ltb n 1 in
@@ -39,7 +39,7 @@ header-tests v p n s m h =
     let h₄ = neither x₃ (ltb n 1) (h₅ .0) in
     let h₃ = neither x₂ (ltb 32 p) (h₄ .0) in
     let h₂ = neither x₁ (ltb p 1) (h₃ .0) in (
-      eqb-true v 1 (not-false (eqb v 1) (h₂ .0)),
+      ltb-false 1 v (h₂ .0),
       ltb-false p 1 (h₂ .1),
       ltb-false 32 p (h₃ .1),
       ltb-false n 1 (h₄ .1),
@@ -49,7 +49,7 @@ header-tests v p n s m h =
     )
 
 pub header-of : (b : List ℕ) → wrongHeader b ≡ false
-    → (version b ≡ 1) × (1 ≤ Format.procedures b) × (Format.procedures b ≤ 32) × (1 ≤ terms b) × (terms b ≤ 1024) × (headerSpare b ≡ 0) × (maskBit (volatiles b) 0 ≡ 1)
+    → (version b ≤ 1) × (1 ≤ Format.procedures b) × (Format.procedures b ≤ 32) × (1 ≤ terms b) × (terms b ≤ 1024) × (headerSpare b ≡ 0) × (maskBit (volatiles b) 0 ≡ 1)
 unfolding wrongHeader
 header-of b h = header-tests (version b) (Format.procedures b) (terms b) (headerSpare b) (maskBit (volatiles b) 0) h
 

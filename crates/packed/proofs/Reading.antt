@@ -30,7 +30,7 @@ terms-lt b = bits-below b 10 12
 
 -- the tests of check 2, on the header's numbers
 abbrev pub headerTests : ℕ → ℕ → ℕ → ℕ → ℕ → Bool
-headerTests v p n s m = not (eqb v 1) || ltb p 1 || ltb 32 p || ltb n 1 || ltb 1024 n || not (eqb s 0) || not (eqb (maskBit m 0) 1)
+headerTests v p n s m = ltb 1 v || ltb p 1 || ltb 32 p || ltb n 1 || ltb 1024 n || not (eqb s 0) || not (eqb (maskBit m 0) 1)
 
 are-tests : (b : List ℕ) → wrongHeader b ≡ headerTests (version b) (Format.procedures b) (terms b) (headerSpare b) (volatiles b)
 unfolding wrongHeader

@@ -6,7 +6,7 @@ use lib.Dec.{eqb}
 use lib.ListN.{getD}
 use Rattle.format.specs.Bits.{bitsAt}
 
--- "Header, 32 bits: version 4 (1), procedures 6 (1 to 32), terms 12 (1 to 1,024), spare 10."
+-- "Header, 32 bits: version 4 (1), procedures 6 (1 to 32), terms 12 (1 to 1,024), spare 10."; since document 02, E8, version 0 or 1
 unfoldable pub version : List ℕ → ℕ
 unfolding bitsAt
 version b = bitsAt b 0 4

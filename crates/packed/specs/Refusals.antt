@@ -34,7 +34,7 @@ wrongLength b = ltb (length b) 8 || not (eqb (length b) (planLength b))
 unfoldable pub wrongHeader : List ℕ → Bool
 unfolding version procedures terms headerSpare volatiles maskBit
 wrongHeader b =
-    not (eqb (version b) 1)
+    ltb 1 (version b)  -- "Plan version 0, which the check now accepts" (document 02, E8)
     || ltb (procedures b) 1
     || ltb 32 (procedures b)
     || ltb (terms b) 1

@@ -1,10 +1,10 @@
 -- The two ways that a play ends: it is refused, or its run is answered. Assumes nothing.
 use Prim.Native.Nat.{ℕ}
-use mathlib.Core.Path.{_≡_, refl, sym, ap, _∙_}
+use mathlib.Core.Path.{_≡_, refl, sym, ap, ap₂, _∙_}
 use mathlib.Core.List.{List}
 use mathlib.Core.Option.{some, none}
 use lib.ListN.{length}
-use Rattle.packed.specs.Format.{procedures, terms, volatiles}
+use Rattle.packed.specs.Format.{version, procedures, terms, volatiles}
 use Rattle.refusals.specs.Answer as check
 use Rattle.refusals.specs.declared.Checked.{Checked}
 use Rattle.refusals.specs.declared.Checked.the-variants as checked
@@ -37,7 +37,7 @@ module _ (plan schedule area : List ℕ) (x : Checked) (h : RefusedAs plan sched
     refused-area = sym (ap (areaBy plan schedule area) refusal-is)
 
   -- not refused
-  module _ (e : x ≡ checked.Passed) (ws rs : List ℕ) (words : Loaded plan (terms plan) ws) (roots : Roots plan (procedures plan) rs) (mask : ℕ) (m : mask ≡ volatiles plan) where
+  module _ (e : x ≡ checked.Passed) (ws rs : List ℕ) (words : Loaded plan (terms plan) ws) (roots : Roots plan (procedures plan) rs) (mask v : ℕ) (m : mask ≡ volatiles plan) (n : v ≡ version plan) where
     pass : Passed plan schedule area
     pass = by-code plan schedule area x h e
 
@@ -45,17 +45,17 @@ module _ (plan schedule area : List ℕ) (x : Checked) (h : RefusedAs plan sched
     unfolding check.answered
     refusal-none = sym (h area refl) ∙ ap check.answered e
 
-    pub ran-answer : (o : Outcome) → o ≡ playOf ws rs (record { mask = mask }) (startOf rs area) schedule 0 .outcome → answered (record { checked = x; outcome = o }) ≡ played plan schedule area
+    pub ran-answer : (o : Outcome) → o ≡ playOf ws rs (record { mask = mask; version = v }) (startOf rs area) schedule 0 .outcome → answered (record { checked = x; outcome = o }) ≡ played plan schedule area
     unfolding answered played playedBy runOf outcomeOf
     ran-answer o q =
         ap (λ (y : Checked). answeredBy y o) e
-        ∙ ap (λ (y : Outcome). answeredBy checked.Passed y) (q ∙ ap (λ (k : ℕ). playOf ws rs (record { mask = k }) (startOf rs area) schedule 0 .outcome) m)
+        ∙ ap (λ (y : Outcome). answeredBy checked.Passed y) (q ∙ ap₂ (λ (k l : ℕ). playOf ws rs (record { mask = k; version = l }) (startOf rs area) schedule 0 .outcome) m n)
         ∙ ap (λ (y : run.Outcome). play.Played.ran y) (outcome-defined plan schedule area ws rs pass words roots)
         ∙ sym (ap (playedBy plan schedule) refusal-none)
 
-    pub ran-area : playOf ws rs (record { mask = mask }) (startOf rs area) schedule 0 .area ≡ areaAfter plan schedule area
+    pub ran-area : playOf ws rs (record { mask = mask; version = v }) (startOf rs area) schedule 0 .area ≡ areaAfter plan schedule area
     unfolding areaAfter areaBy runOf
     ran-area =
-        ap (λ (k : ℕ). playOf ws rs (record { mask = k }) (startOf rs area) schedule 0 .area) m
+        ap₂ (λ (k l : ℕ). playOf ws rs (record { mask = k; version = l }) (startOf rs area) schedule 0 .area) m n
         ∙ area-defined plan schedule area ws rs pass words roots
         ∙ sym (ap (areaBy plan schedule area) refusal-none)

@@ -43,7 +43,11 @@ pub fn play(plan: &[u8], schedule: &[u8], log: &mut [u8]) -> Played
     let procedures = layout::procedures(plan);
     let roots = roots(plan, procedures);
     let mask = layout::volatiles(plan);
-    let setting = Setting { mask: mask };
+    let version = layout::version(plan);
+    let setting = Setting {
+        mask: mask,
+        version: version,
+    };
     let outcome = engine::run(&words, &roots, setting, schedule, log);
     Played {
         checked: checked,

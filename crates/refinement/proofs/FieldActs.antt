@@ -6,19 +6,20 @@ use mathlib.Core.Path.{_≡_, refl, sym, ap, ap₂, _∙_, subst as along}
 use mathlib.Core.Bool.{Bool, true, false, cond}
 use mathlib.Core.List.{List}
 use mathlib.Core.Option.{some, none}
-use lib.Dec.{leb}
+use lib.Dec.{eqb, leb}
 use lib.ListN.{getD, set}
 use borrow.Author.Tests.{leb-false}
+use Rattle.format.specs.Version.{v0, v1, versionOf}
 use Rattle.keys.specs.declared.KeySet.{KeySet}
 use Rattle.keys.specs.Keys.{Keys, singleton, union, subset, countNew}
-use Rattle.keys.specs.KeySet.{keysOf, holdsOf, learnOf, joinOf, newOf, joinedOf}
-use Rattle.keys.proofs.KeySetLaws.{keys-join, keys-learn, fits-join, fits-learn}
-use Rattle.packed.specs.Format.{terms}
+use Rattle.keys.specs.KeySet.{keysOf, emptySet, holdsOf, learnOf, joinOf, newOf, joinedOf}
+use Rattle.keys.proofs.KeySetLaws.{Fits, keys-empty, keys-join, keys-learn, fits-empty, fits-join, fits-learn}
+use Rattle.packed.specs.Format.{version, terms}
 use Rattle.packed.specs.Trees.{nodeAt, programOf}
 use Rattle.records.specs.Record.{entry}
 use Rattle.records.specs.Record as records
 use Rattle.rules.specs.State as rules
-use Rattle.rules.specs.Rules.{e-read, e-write, e-readv, e-writev}
+use Rattle.rules.specs.Rules.{passedOn, e-read, e-write, e-readv, e-writev}
 use Rattle.rules.specs.Step.{missingField}
 use Rattle.machine.specs.Frames as frames
 use Rattle.machine.specs.Landing.{up}
@@ -38,7 +39,7 @@ use Rattle.look.specs.declared.Block.the-variants as block
 use Rattle.look.specs.declared.Sight.the-variants as sight
 use Rattle.look.specs.Look.{objectBy, fieldBy, hasOf, lookField}
 use Rattle.state.specs.Acted.{entryOf, nothing, cellOf, countsOf, actedOf, heardOf}
-use Rattle.accesses.specs.Accesses.{actRead, actWrite}
+use Rattle.accesses.specs.Accesses.{passedOf, actRead, actWrite}
 use Rattle.pick.specs.Pick.{lackBy}
 use Rattle.engine.specs.Machine as engine
 use Rattle.engine.specs.Machine.{noCell, noThing, headAt}
@@ -60,6 +61,23 @@ module _ {b : List ℕ} {m : engine.Machine} {s : machine.State} {p : ℕ} (move
 
   abbrev ks : KeySet
   ks = headAt (m .heads) p .keys
+
+  -- what a volatile access passes on of a set
+  passed-keys : (x : KeySet) → keysOf (passedOf (settingOf b) x) ≡ passedOn (tableOf b .version) (keysOf x)
+  unfolding passedOf passedOn tableOf versionOf
+  passed-keys x = by (eqb (version b) 1)
+    where
+      by : (y : Bool) → keysOf (cond y x emptySet) ≡ passedOn (cond y v1 v0) (keysOf x)
+      by true = refl
+      by false = keys-empty
+
+  passed-fits : (x : KeySet) → Fits x → Fits (passedOf (settingOf b) x)
+  unfolding passedOf
+  passed-fits x f = by (eqb (version b) 1)
+    where
+      by : (y : Bool) → Fits (cond y x emptySet)
+      by true = f
+      by false = fits-empty
 
   -- the cell of a field, at place i, of an object, at place j
   field-found : (o f i j : ℕ) → i ≡ o * 32 + f → j ≡ o → o < n .objects → o < 32 → 0 < f → f < 32
@@ -85,6 +103,10 @@ module _ {b : List ℕ} {m : engine.Machine} {s : machine.State} {p : ℕ} (move
       o-there : o < n .objects
       o-there = object-there mover o (ready-there b s p t reach there S (frames.Ready.read o f) code .2)
 
+      -- what the thread learns
+      heard : Keys
+      heard = passedOn (tableOf b .version) (keysOf (c .keys))
+
       value-fits : (y : Bool) → machine.lookup s o f ≡ some (cellMeant y c) → c .value < 32
       value-fits y e =
           let h = cell-there (tableOf b) (programOf b) s reach o f (cellMeant y c) e in
@@ -95,7 +117,7 @@ module _ {b : List ℕ} {m : engine.Machine} {s : machine.State} {p : ℕ} (move
       by : (x y z : Bool) → machine.lookup s o f ≡ cond x (some (cellMeant y c)) none → tableOf b .isVolatile f ≡ y → subset (cellMeant false c .keys) (t .keys) ≡ z
           → MeetsBy (cond x (cond y sight.Ready (cond z sight.Ready sight.Lacking)) (sight.Blocked block.Field)) p (readyOf part.Read o f w environment) (machine.attempt (tableOf b) s p)
           (Acts mover (readyOf part.Read o f w environment) i (cond y
-          (heardOf (goValue (c .value)) n (joinedOf ks (c .keys)) c (entryOf (records.kindNumber records.Kind.readv) o f (c .value)))
+          (heardOf (goValue (c .value)) n (joinedOf ks (passedOf (settingOf b) (c .keys))) c (entryOf (records.kindNumber records.Kind.readv) o f (c .value)))
           (actedOf (goValue (c .value)) n ks c (entryOf (records.kindNumber records.Kind.read) o f (c .value)))))
       by false y z e v q =
           attempts mover (frames.Ready.read o f) code (ap (machine.readAct (tableOf b) s p t o f) e)
@@ -103,9 +125,11 @@ module _ {b : List ℕ} {m : engine.Machine} {s : machine.State} {p : ℕ} (move
       by true true z e v q = (
         _,
         attempts mover (frames.Ready.read o f) code (ap (machine.readAct (tableOf b) s p t o f) e ∙ test-true (tableOf b .isVolatile f) _ _ v),
-        moved mover _ i e-readv (some (entry records.Kind.readv p o f (c .value))) (machine.hear s p (keysOf (c .keys))) (up (nodeAt b) (terms b) S (c .value)) (goValue (c .value)) n
-            (joinOf ks (c .keys)) (newOf ks (c .keys)) c nothing (entryOf (records.kindNumber records.Kind.readv) o f (c .value)) refl (written mover records.Kind.readv o f (c .value) ho hf (value-fits true e)) refl
-            (well, value-fits true e, refl) (fits-join fits (fit .keys)) (gained mover (keysOf (c .keys)) _ (countNew (keysOf (c .keys))) _ (joined mover (c .keys) (fit .keys)) (joined-new mover (c .keys) (fit .keys)))
+        moved mover _ i e-readv (some (entry records.Kind.readv p o f (c .value))) (machine.hear s p heard) (up (nodeAt b) (terms b) S (c .value)) (goValue (c .value)) n
+            (joinOf ks (passedOf (settingOf b) (c .keys))) (newOf ks (passedOf (settingOf b) (c .keys))) c nothing (entryOf (records.kindNumber records.Kind.readv) o f (c .value)) refl (written mover records.Kind.readv o f (c .value) ho hf (value-fits true e)) refl
+            (well, value-fits true e, refl) (fits-join fits (passed-fits (c .keys) (fit .keys)))
+            (gained mover heard _ (countNew heard) _ (ap (λ (W : Keys). union W (t .keys)) (sym (passed-keys (c .keys))) ∙ joined mover (passedOf (settingOf b) (c .keys)) (passed-fits (c .keys) (fit .keys)))
+            (ap (λ (W : Keys). countNew W (t .keys)) (sym (passed-keys (c .keys))) ∙ joined-new mover (passedOf (settingOf b) (c .keys)) (passed-fits (c .keys) (fit .keys))))
             (kept-changed (kept-past (kept-same k i) nothing) p _ (λ x. refl)),
       )
       by true false true e v q = (
@@ -155,7 +179,7 @@ module _ {b : List ℕ} {m : engine.Machine} {s : machine.State} {p : ℕ} (move
           → subset (cellMeant false c .keys) (t .keys) ≡ z → leb 256 (n .keys) ≡ u
           → MeetsBy (cond x (cond y sight.Ready (cond z sight.Ready sight.Lacking)) (sight.Blocked block.Field)) p (readyOf part.Write o f w environment) (machine.attempt (tableOf b) s p)
           (Acts mover (readyOf part.Write o f w environment) i (cond y
-          (actedOf (goValue w) n ks (cellOf w 0 (joinOf (c .keys) ks)) (entryOf (records.kindNumber records.Kind.writev) o f w))
+          (actedOf (goValue w) n ks (cellOf w 0 (joinOf (c .keys) (passedOf (settingOf b) ks))) (entryOf (records.kindNumber records.Kind.writev) o f w))
           (cond u
           (act.NoRoom room.Key)
           (actedOf (goValue w) (countsOf (n .threads) (n .objects) (n .keys + 1)) (learnOf ks (n .keys)) (cellOf w (n .keys) (c .keys)) (entryOf (records.kindNumber records.Kind.write) o f w)))))
@@ -165,12 +189,12 @@ module _ {b : List ℕ} {m : engine.Machine} {s : machine.State} {p : ℕ} (move
       by true true z u e g v q r = (
         _,
         attempts mover (frames.Ready.write o f w) code (ap (machine.writeAct (tableOf b) s p t o f w) e ∙ test-true (tableOf b .isVolatile f) _ _ v),
-        moved mover _ i e-writev (some (entry records.Kind.writev p o f w)) (machine.store s o f (rules.cell (union (keysOf (c .keys)) (t .keys)) w)) (up (nodeAt b) (terms b) S w) (goValue w) n
-            ks 0 (cellOf w 0 (joinOf (c .keys) ks)) nothing (entryOf (records.kindNumber records.Kind.writev) o f w) refl (written mover records.Kind.writev o f w ho hf hw) refl
+        moved mover _ i e-writev (some (entry records.Kind.writev p o f w)) (machine.store s o f (rules.cell (union (keysOf (c .keys)) (passedOn (tableOf b .version) (t .keys))) w)) (up (nodeAt b) (terms b) S w) (goValue w) n
+            ks 0 (cellOf w 0 (joinOf (c .keys) (passedOf (settingOf b) ks))) nothing (entryOf (records.kindNumber records.Kind.writev) o f w) refl (written mover records.Kind.writev o f w ho hf hw) refl
             (well, hw, refl) fits (unlearnt mover)
-            (stored true (cellOf w 0 (joinOf (c .keys) ks)) _ g
-            (ap₂ rules.cell (keys-join (fit .keys) fits ∙ ap (union (keysOf (c .keys))) known) (mod-eq-of-lt hw))
-            (record { key = omega arith; keys = fits-join (fit .keys) fits }) refl k),
+            (stored true (cellOf w 0 (joinOf (c .keys) (passedOf (settingOf b) ks))) _ g
+            (ap₂ rules.cell (keys-join (fit .keys) (passed-fits ks fits) ∙ ap (union (keysOf (c .keys))) (passed-keys ks ∙ ap (passedOn (tableOf b .version)) known)) (mod-eq-of-lt hw))
+            (record { key = omega arith; keys = fits-join (fit .keys) (passed-fits ks fits) }) refl k),
       )
       by true false true true e g v q r = (
         _,

@@ -9,7 +9,7 @@ use lib.ListN.{length, getD, getElem?}
 use Rattle.keys.specs.Keys.{singleton}
 use Rattle.keys.specs.KeySet.{keysOf}
 use Rattle.keys.proofs.KeySetLaws.{Fits}
-use Rattle.packed.specs.Format.{volatiles}
+use Rattle.packed.specs.Format.{version, volatiles}
 use Rattle.rules.specs.State.{fresh}
 use Rattle.rules.specs.State as rules
 use Rattle.machine.specs.Frames as frames
@@ -28,7 +28,7 @@ use Rattle.refinement.proofs.Meant.{Holds, Stands, Sized}
 
 -- what the run of plan b goes by
 abbrev pub settingOf : List ℕ → Setting
-settingOf b = record { mask = volatiles b }
+settingOf b = record { mask = volatiles b; version = version b }
 
 -- the cell that a cell of the code stands for: a volatile field or a monitor has a set, a plain field one key
 abbrev pub cellMeant : Bool → Cell → rules.Cell

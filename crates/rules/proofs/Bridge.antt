@@ -9,23 +9,23 @@ use mathlib.Core.Option.{Option, some, none}
 use lib.ListN.{length, getElem?}
 use lib.Dec.{T, eqb}
 use Rattle.keys.specs.Keys.{Keys, empty, singleton, union, holds, isEmpty}
-use Rattle.keys.proofs.KeyLaws.{holds-union, holds-singleton, singleton-injective, some-key, no-key}
+use Rattle.keys.proofs.KeyLaws.{holds-union, union-empty, holds-singleton, singleton-injective, some-key, no-key}
 use Rattle.packed.specs.Syntax.{Expression, Program}
 use Rattle.rules.specs.Context.{plug, plugᶜ}
 use Rattle.rules.specs.State.{Cell, cell, Thread, State, fresh, freshObject, lookup, monitor, store, storeMonitor, addObject, learn, hear, become, addThread, useKey, threadOf, Numbered}
 use Rattle.records.specs.Record.{Kind, Record, entry}
-use Rattle.format.specs.Version.{Version, v1}
+use Rattle.format.specs.Version.{Version, v0, v1}
 use Rattle.order.proofs.Ports.{ofThread}
 use Rattle.order.proofs.KeySets.{KeySet, union as unionSet, learn as learnKey}
 use Rattle.order.proofs.KeyMachine.{KeyState, act, after, Legal, monitorTaken, plainKeyed}
 use Rattle.order.proofs.Known.{known-zero}
 use Rattle.order.proofs.Invariant.{invariant}
-use Rattle.rules.specs.Rules.{Rule, isVolatile, Converts, E-CALL, E-LET, E-IF, E-WHILE, E-NEW, E-READ, E-WRITE, E-READV, E-WRITEV, E-FORK, E-JOIN, E-RE-ENTER, E-ACQUIRE, E-RELEASE, Moves, EVAL, EVALᶜ}
+use Rattle.rules.specs.Rules.{Rule, isVolatile, passedOn, Converts, E-CALL, E-LET, E-IF, E-WHILE, E-NEW, E-READ, E-WRITE, E-READV, E-WRITEV, E-FORK, E-JOIN, E-RE-ENTER, E-ACQUIRE, E-RELEASE, Moves, EVAL, EVALᶜ}
 use Rattle.rules.specs.Run.{logged}
 use Rattle.rules.proofs.StateLaws.{inside, added-old, found-thread, new-monitors}
 use Rattle.rules.proofs.Invariant.{Inv, heldBy}
 use Rattle.rules.proofs.Preserved.{taught, heard, gained-at}
-use Rattle.rules.proofs.KeyBridge.{Agrees, keysOf, agrees-become, agrees-gain, agrees-keyed, agrees-told, agrees-seized, agrees-freed, agrees-new, agrees-started}
+use Rattle.rules.proofs.KeyBridge.{Agrees, keysOf, agrees-become, agrees-gain, agrees-keyed, agrees-told, agrees-valued, agrees-unheard, agrees-seized, agrees-freed, agrees-new, agrees-started}
 
 -- the sets after the log, and a legal log
 pub record Kept (g : Program) (s : State) (H : List Record) : Type 0 where
@@ -152,49 +152,48 @@ module _ (g : Program) (s : State) (I : Inv g s) (p : ℕ) (t : Thread) (ht : ge
   quiet : (e : Expression) → Kept g (become s p e) H
   quiet e = record { agrees = agrees-become g s κ p e t ht A; legal = J .legal }
 
-  -- the rules for volatile fields are version 1's, which the laws of the two accesses ask for, and nothing else does
-  module _ (one : g .version ≡ v1) where
-    -- a volatile read passes the field's keys, by the version
-    passed : (o f v : ℕ) (W : Keys) → lookup s o f ≡ some (cell W v) → isVolatile g f ≡ true → Agrees g (hear s p W) (act (g .version) Kind.readv p o f κ)
-    passed o f v W h vol =
-        along (λ (n : Version). Agrees g (hear s p W) (act n Kind.readv p o f κ)) (sym one)
-        (agrees-gain g s κ p W _ t (unionSet (κ .knows p) (κ .volatiles o f)) ht (plus (κ .volatiles o f) W (λ k. A .volatiles o f vol k ∙ ap (λ (x : Option Cell). holds (keysOf x) k) h)) A)
+  -- a volatile read passes the field's keys, by the version
+  passed : (n : Version) (o f v : ℕ) (W : Keys) → lookup s o f ≡ some (cell W v) → isVolatile g f ≡ true → Agrees g (hear s p (passedOn n W)) (act n Kind.readv p o f κ)
+  unfolding passedOn
+  passed v0 o f v W h vol = agrees-unheard g s κ p _ t ht A
+  passed v1 o f v W h vol =
+      agrees-gain g s κ p W _ t (unionSet (κ .knows p) (κ .volatiles o f)) ht (plus (κ .volatiles o f) W (λ k. A .volatiles o f vol k ∙ ap (λ (x : Option Cell). holds (keysOf x) k) h)) A
 
-    -- a volatile write passes the thread's keys, by the version
-    told : (o f u v : ℕ) (W : Keys) → lookup s o f ≡ some (cell W u) → isVolatile g f ≡ true
-        → Agrees g (store s o f (cell (union W (t .keys)) v)) (act (g .version) Kind.writev p o f κ)
-    told o f u v W h vol =
-        along (λ (n : Version). Agrees g (store s o f (cell (union W (t .keys)) v)) (act n Kind.writev p o f κ)) (sym one)
-        (agrees-told g s κ A o f (cell (union W (t .keys)) v) (cell W u) h vol (unionSet (κ .volatiles o f) (κ .knows p)) both)
-      where
-        both : (k : ℕ) → unionSet (κ .volatiles o f) (κ .knows p) k ≡ holds (union W (t .keys)) k
-        both k = unfold unionSet in (ap₂ _||_ (A .volatiles o f vol k ∙ ap (λ (x : Option Cell). holds (keysOf x) k) h) (A .knows p t ht k) ∙ sym (holds-union W (t .keys) k))
+  -- a volatile write passes the thread's keys, by the version
+  told : (n : Version) (o f u v : ℕ) (W : Keys) → lookup s o f ≡ some (cell W u) → isVolatile g f ≡ true
+      → Agrees g (store s o f (cell (union W (passedOn n (t .keys))) v)) (act n Kind.writev p o f κ)
+  unfolding passedOn
+  told v0 o f u v W h vol = agrees-valued g s κ A o f (cell (union W empty) v) (cell W u) h vol (union-empty W)
+  told v1 o f u v W h vol = agrees-told g s κ A o f (cell (union W (t .keys)) v) (cell W u) h vol (unionSet (κ .volatiles o f) (κ .knows p)) both
+    where
+      both : (k : ℕ) → unionSet (κ .volatiles o f) (κ .knows p) k ≡ holds (union W (t .keys)) k
+      both k = unfold unionSet in (ap₂ _||_ (A .volatiles o f vol k ∙ ap (λ (x : Option Cell). holds (keysOf x) k) h) (A .knows p t ht k) ∙ sym (holds-union W (t .keys) k))
 
-    pub bridged : {e : Expression} {R : Rule} {r : Option Record} {s′ : State} {e′ : Expression} → Converts g s p t e R r s′ e′ → (w : Expression) → Kept g (become s′ p w) (logged r H)
-    unfolding logged store addObject
-    bridged (E-CALL os hd hp) w = quiet w
-    bridged E-LET w = quiet w
-    bridged (E-IF b) w = quiet w
-    bridged E-WHILE w = quiet w
-    bridged (E-NEW {fs}) w = record { agrees = agrees-become g (addObject s (freshObject fs)) κ p w t ht (agrees-new g s κ fs A); legal = (J .legal, here-now, tt) }
-    bridged (E-READ x {o} {f} {v} h k vol) w = record { agrees = agrees-become g s κ p w t ht A; legal = (J .legal, here-now, known x o f v h vol k) }
-    bridged (E-WRITE x {o} {f} {u} {v} h k vol) w = kept-write x o f u v w h vol k
-    bridged (E-READV {o} {f} {v} {W} h vol) w = record {
-      agrees = agrees-become g (hear s p W) _ p w (heard t W) (gained-at s p t ht s W _ refl) (passed o f v W h vol);
-      legal = (J .legal, here-now, tt);
-    }
-    bridged (E-WRITEV {o} {f} {u} {v} {W} h vol) w = record {
-      agrees = agrees-become g (store s o f (cell (union W (t .keys)) v)) _ p w t ht (told o f u v W h vol);
-      legal = (J .legal, here-now, tt);
-    }
-    bridged (E-FORK {e}) w = kept-fork e w
-    bridged (E-JOIN {o} {v} {q} h l) w = kept-join o v q w h
-    bridged (E-RE-ENTER h) w = quiet w
-    bridged (E-ACQUIRE {o} {u} {W} {e} h n) w = kept-acquire o (cell W u) w h n
-    bridged (E-RELEASE {o} {v} h) w = kept-release o w h
+  pub bridged : {e : Expression} {R : Rule} {r : Option Record} {s′ : State} {e′ : Expression} → Converts g s p t e R r s′ e′ → (w : Expression) → Kept g (become s′ p w) (logged r H)
+  unfolding logged store addObject
+  bridged (E-CALL os hd hp) w = quiet w
+  bridged E-LET w = quiet w
+  bridged (E-IF b) w = quiet w
+  bridged E-WHILE w = quiet w
+  bridged (E-NEW {fs}) w = record { agrees = agrees-become g (addObject s (freshObject fs)) κ p w t ht (agrees-new g s κ fs A); legal = (J .legal, here-now, tt) }
+  bridged (E-READ x {o} {f} {v} h k vol) w = record { agrees = agrees-become g s κ p w t ht A; legal = (J .legal, here-now, known x o f v h vol k) }
+  bridged (E-WRITE x {o} {f} {u} {v} h k vol) w = kept-write x o f u v w h vol k
+  bridged (E-READV {o} {f} {v} {W} h vol) w = record {
+    agrees = agrees-become g (hear s p (passedOn (g .version) W)) _ p w (heard t (passedOn (g .version) W)) (gained-at s p t ht s (passedOn (g .version) W) _ refl) (passed (g .version) o f v W h vol);
+    legal = (J .legal, here-now, tt);
+  }
+  bridged (E-WRITEV {o} {f} {u} {v} {W} h vol) w = record {
+    agrees = agrees-become g (store s o f (cell (union W (passedOn (g .version) (t .keys))) v)) _ p w t ht (told (g .version) o f u v W h vol);
+    legal = (J .legal, here-now, tt);
+  }
+  bridged (E-FORK {e}) w = kept-fork e w
+  bridged (E-JOIN {o} {v} {q} h l) w = kept-join o v q w h
+  bridged (E-RE-ENTER h) w = quiet w
+  bridged (E-ACQUIRE {o} {u} {W} {e} h n) w = kept-acquire o (cell W u) w h n
+  bridged (E-RELEASE {o} {v} h) w = kept-release o w h
 
 -- a move of a run, with its record
-pub bridge : (g : Program) → g .version ≡ v1 → (s : State) → Inv g s → (p : ℕ) (H : List Record) → Kept g s H → {R : Rule} {r : Option Record} {s′ : State} → Moves g s p R r s′ → Kept g s′ (logged r H)
+pub bridge : (g : Program) (s : State) → Inv g s → (p : ℕ) (H : List Record) → Kept g s H → {R : Rule} {r : Option Record} {s′ : State} → Moves g s p R r s′ → Kept g s′ (logged r H)
 unfolding logged
-bridge g one s I p H J (EVAL K {t} {e} {e′} ht he c) = bridged g s I p t ht H J one c (plug K e′)
-bridge g one s I p H J (EVALᶜ K {t} {c} {c′} ht he k) = quiet g s I p t ht H J (plugᶜ K c′)
+bridge g s I p H J (EVAL K {t} {e} {e′} ht he c) = bridged g s I p t ht H J c (plug K e′)
+bridge g s I p H J (EVALᶜ K {t} {c} {c′} ht he k) = quiet g s I p t ht H J (plugᶜ K c′)

@@ -15,7 +15,7 @@ use Rattle.keys.proofs.CountLaws.{size-le, size-union, new-again}
 use Rattle.packed.specs.Syntax.{Expression, Condition, Arguments, Program}
 use Rattle.records.specs.Record.{Record}
 use Rattle.rules.specs.State.{Thread, State, start, changeAt, gain, hear, learn, become, addObject, addThread, store, storeMonitor, useKey}
-use Rattle.rules.specs.Rules.{Rule, Converts, E-CALL, E-LET, E-IF, E-WHILE, E-NEW, E-READ, E-WRITE, E-READV, E-WRITEV, E-FORK, E-JOIN, E-RE-ENTER, E-ACQUIRE, E-RELEASE, Convertsᶜ, E-NOTNOTTRUE, E-ANDTRUE, E-ANDFALSE, E-EQUALTRUE, E-EQUALFALSE, Moves, EVAL, EVALᶜ}
+use Rattle.rules.specs.Rules.{Rule, passedOn, Converts, E-CALL, E-LET, E-IF, E-WHILE, E-NEW, E-READ, E-WRITE, E-READV, E-WRITEV, E-FORK, E-JOIN, E-RE-ENTER, E-ACQUIRE, E-RELEASE, Convertsᶜ, E-NOTNOTTRUE, E-ANDTRUE, E-ANDFALSE, E-EQUALTRUE, E-EQUALFALSE, Moves, EVAL, EVALᶜ}
 use Rattle.rules.specs.Run.{Run, stopped, afterPass, afterMove, totalOf, totalsFrom}
 use Rattle.rules.specs.Execution.{Execution, ends, passes, lacks-key, no-room, moves}
 use Rattle.rules.specs.Growth.{keysOfThread, counts, larger, growth}
@@ -103,7 +103,7 @@ module _ (g : Program) (s : State) (q : ℕ) (t : Thread) (ht : getElem? (s .thr
   rises E-NEW = none-more (total s p)
   rises (E-READ w h k v) = none-more (total s p)
   rises (E-WRITE w h k v) = own _ _ refl
-  rises (E-READV {W = W} h v) = other s W refl
+  rises (E-READV {W = W} h v) = other s (passedOn (g .version) W) refl
   rises (E-WRITEV h v) = none-more (total s p)
   rises E-FORK = made-none (s .threads) _ p refl ∙ none-more (total s p)
   rises (E-JOIN {q = u} h l) = other s (u .thread .keys) refl
@@ -230,7 +230,7 @@ module _ (g : Program) (s : State) (q : ℕ) (t : Thread) (ht : getElem? (s .thr
   modest E-NEW = M
   modest (E-READ w h k v) = M
   modest (E-WRITE w h k v) = modest-change (s .threads) q _ (learn-keeps (singleton (s .nextKey))) M
-  modest (E-READV {W = W} h v) = modest-change (s .threads) q _ (hear-keeps W) M
+  modest (E-READV {W = W} h v) = modest-change (s .threads) q _ (hear-keeps (passedOn (g .version) W)) M
   modest (E-WRITEV h v) = M
   modest E-FORK = modest-added (s .threads) _ (let l = M q t ht in omega arith) M
   modest (E-JOIN {q = u} h l) = modest-change (s .threads) q _ (hear-keeps (u .thread .keys)) M

@@ -16,7 +16,7 @@ use Rattle.order.proofs.KeySets.{KeySet, noKeys, put, put-same, put-other, put�
 use Rattle.order.proofs.KeyMachine.{KeyState, monitorTaken, threadKnows, plainKeyed, volatileKnows, monitorFreed, threadForked}
 use Rattle.rules.specs.Rules.{isVolatile}
 use Rattle.rules.proofs.StateLaws.{added, length-added, change-length, store-same, store-other, store-monitor, lock-same, lock-other, lock-lookup, new-lookup, new-monitors, who, whose}
-use Rattle.keys.proofs.KeyLaws.{holds-empty}
+use Rattle.keys.proofs.KeyLaws.{holds-empty, empty-union}
 
 -- the keys of a place: a place that is not there is as good as fresh
 abbrev pub keysOf : Option Cell → Keys
@@ -85,6 +85,11 @@ pub agrees-gain : (g : Program) (s : State) (κ : KeyState) (p : ℕ) (W : Keys)
 unfolding gain
 agrees-gain g s κ p W n t a at same A = agrees-change g s κ A p _ t at refl a same
 
+-- a thread that hears nothing
+pub agrees-unheard : (g : Program) (s : State) (κ : KeyState) (p : ℕ) (n : Keys → ℕ) (t : Thread) → getElem? (s .threads) p ≡ some t → Agrees g s κ → Agrees g (gain s p empty n) κ
+unfolding gain
+agrees-unheard g s κ p n t at A = agrees-keep g s κ A p _ t at refl (empty-union (t .keys))
+
 -- ---- fields
 
 module _ (g : Program) (s : State) (κ : KeyState) (A : Agrees g s κ) (o f : ℕ) (c d : Cell) (was : lookup s o f ≡ some d) where
@@ -125,29 +130,48 @@ module _ (g : Program) (s : State) (κ : KeyState) (A : Agrees g s κ) (o f : �
       volat′ o′ f′ v k (inl (x, y, z)) = absurd (false≢true (sym vol ∙ ap (isVolatile g) y ∙ v))
       volat′ o′ f′ v k (inr (x, z)) = A .volatiles o′ f′ v k ∙ ap (λ (e : Option Cell). holds (keysOf e) k) (sym (lookup′ o′ f′ ∙ z))
 
-  -- a volatile field takes a set
-  pub agrees-told : isVolatile g f ≡ true → (a : KeySet) → ((k : ℕ) → a k ≡ holds (c .keys) k) → Agrees g (store s o f c) (volatileKnows o f a κ)
+  -- what field f′ of o′ holds after the store
+  abbrev Holds : ℕ → ℕ → Type 0
+  Holds o′ f′ = ((o ≡ o′) × (f ≡ f′) × (lookup (store s o f c) o′ f′ ≡ some c)) ⊎ ((o ≡ o′ → f ≡ f′ → ⊥) × (lookup (store s o f c) o′ f′ ≡ lookup s o′ f′))
+
+  -- a volatile field is stored, and the sets of volatile fields are these
+  stored-when : isVolatile g f ≡ true → (volatiles : ℕ → ℕ → KeySet) → ((o′ f′ : ℕ) → isVolatile g f′ ≡ true → (k : ℕ) → Holds o′ f′ → volatiles o′ f′ k ≡ holds (keysOf (lookup (store s o f c) o′ f′)) k)
+      → Agrees g (store s o f c) (record { present = κ .present; knows = κ .knows; plain = κ .plain; volatiles = volatiles; monitors = κ .monitors; owner = κ .owner; next = κ .next })
   unfolding store
-  agrees-told vol a new = record {
+  stored-when vol volatiles held = record {
     present = λ q u e. A .present q u e;
     absent = λ q l. A .absent q l;
     knows = λ q u e k. A .knows q u e k;
     plain = λ o′ f′ v. plain′ o′ f′ v (stored o′ f′);
-    volatiles = λ o′ f′ v k. volat′ o′ f′ v k (stored o′ f′);
+    volatiles = λ o′ f′ v k. held o′ f′ v k (stored o′ f′);
     monitors = λ o′ k. A .monitors o′ k ∙ ap (λ (x : Option Cell). holds (keysOf x) k) (sym (store-monitor s o f c o′));
     owner = λ o′ c′ m e q u i v. A .owner o′ c′ (sym (store-monitor s o f c o′) ∙ m) e q u i v;
     next = A .next;
   }
     where
-      plain′ : (o′ f′ : ℕ) → isVolatile g f′ ≡ false → ((o ≡ o′) × (f ≡ f′) × (lookup (store s o f c) o′ f′ ≡ some c)) ⊎ ((o ≡ o′ → f ≡ f′ → ⊥) × (lookup (store s o f c) o′ f′ ≡ lookup s o′ f′)) → keysOf (lookup (store s o f c) o′ f′) ≡ singleton (κ .plain o′ f′)
+      plain′ : (o′ f′ : ℕ) → isVolatile g f′ ≡ false → Holds o′ f′ → keysOf (lookup (store s o f c) o′ f′) ≡ singleton (κ .plain o′ f′)
       plain′ o′ f′ v (inl (x, y, z)) = absurd (true≢false (sym vol ∙ ap (isVolatile g) y ∙ v))
       plain′ o′ f′ v (inr (x, z)) = ap keysOf z ∙ A .plain o′ f′ v
 
-      volat′ : (o′ f′ : ℕ) → isVolatile g f′ ≡ true → (k : ℕ) → ((o ≡ o′) × (f ≡ f′) × (lookup (store s o f c) o′ f′ ≡ some c)) ⊎ ((o ≡ o′ → f ≡ f′ → ⊥) × (lookup (store s o f c) o′ f′ ≡ lookup s o′ f′)) → put₂ (κ .volatiles) o f a o′ f′ k ≡ holds (keysOf (lookup (store s o f c) o′ f′)) k
-      volat′ o′ f′ v k (inl (x, y, z)) =
+  -- a volatile field takes a set
+  pub agrees-told : isVolatile g f ≡ true → (a : KeySet) → ((k : ℕ) → a k ≡ holds (c .keys) k) → Agrees g (store s o f c) (volatileKnows o f a κ)
+  agrees-told vol a new = stored-when vol (put₂ (κ .volatiles) o f a) held
+    where
+      held : (o′ f′ : ℕ) → isVolatile g f′ ≡ true → (k : ℕ) → Holds o′ f′ → put₂ (κ .volatiles) o f a o′ f′ k ≡ holds (keysOf (lookup (store s o f c) o′ f′)) k
+      held o′ f′ v k (inl (x, y, z)) =
           ap (λ (b : ℕ). put₂ (κ .volatiles) o f a b f′ k) (sym x) ∙ ap (λ (b : ℕ). put₂ (κ .volatiles) o f a o b k) (sym y) ∙ ap (λ (b : KeySet). b k) (put₂-same (κ .volatiles) o f a) ∙ new k
           ∙ ap (λ (e : Option Cell). holds (keysOf e) k) (sym z)
-      volat′ o′ f′ v k (inr (x, z)) = ap (λ (b : KeySet). b k) (put₂-other (κ .volatiles) o f a o′ f′ x) ∙ A .volatiles o′ f′ v k ∙ ap (λ (e : Option Cell). holds (keysOf e) k) (sym z)
+      held o′ f′ v k (inr (x, z)) = ap (λ (b : KeySet). b k) (put₂-other (κ .volatiles) o f a o′ f′ x) ∙ A .volatiles o′ f′ v k ∙ ap (λ (e : Option Cell). holds (keysOf e) k) (sym z)
+
+  -- a volatile field takes a value and keeps its set
+  pub agrees-valued : isVolatile g f ≡ true → c .keys ≡ d .keys → Agrees g (store s o f c) κ
+  agrees-valued vol same = stored-when vol (κ .volatiles) held
+    where
+      held : (o′ f′ : ℕ) → isVolatile g f′ ≡ true → (k : ℕ) → Holds o′ f′ → κ .volatiles o′ f′ k ≡ holds (keysOf (lookup (store s o f c) o′ f′)) k
+      held o′ f′ v k (inl (x, y, z)) =
+          A .volatiles o′ f′ v k ∙ ap (λ (e : Option Cell). holds (keysOf e) k) (ap (λ (b : ℕ). lookup s b f′) (sym x) ∙ ap (lookup s o) (sym y) ∙ was)
+          ∙ ap (λ (W : Keys). holds W k) (sym same) ∙ ap (λ (e : Option Cell). holds (keysOf e) k) (sym z)
+      held o′ f′ v k (inr (x, z)) = A .volatiles o′ f′ v k ∙ ap (λ (e : Option Cell). holds (keysOf e) k) (sym z)
 
 -- ---- monitors
 

@@ -9,12 +9,13 @@ use mathlib.Core.Logic.{_⊎_, inl, inr}
 use mathlib.Core.Option.{Option, some, none}
 use lib.Dec.{T, eqb→eq}
 use lib.ListN.{length, getElem?}
-use Rattle.keys.specs.Keys.{Keys, empty, singleton, holds, union}
-use Rattle.keys.proofs.KeyLaws.{holds-empty, holds-singleton, holds-union}
+use Rattle.format.specs.Version.{Version, v0, v1}
+use Rattle.keys.specs.Keys.{Keys, empty, singleton, holds, union, isEmpty}
+use Rattle.keys.proofs.KeyLaws.{holds-empty, holds-singleton, holds-union, no-key}
 use Rattle.packed.specs.Syntax.{Expression, Condition, Arguments, Program}
 use Rattle.records.specs.Record.{Kind, Record, entry}
 use Rattle.rules.specs.State.{Cell, cell, Thread, State, fresh, freshObject, lookup, monitor, store, storeMonitor, addObject, gain, become, addThread, useKey, start, changeAt}
-use Rattle.rules.specs.Rules.{Rule, e-write, Converts, E-CALL, E-LET, E-IF, E-WHILE, E-NEW, E-READ, E-WRITE, E-READV, E-WRITEV, E-FORK, E-JOIN, E-RE-ENTER, E-ACQUIRE, E-RELEASE, Convertsᶜ, E-NOTNOTTRUE, E-ANDTRUE, E-ANDFALSE, E-EQUALTRUE, E-EQUALFALSE, Moves, EVAL, EVALᶜ}
+use Rattle.rules.specs.Rules.{Rule, passedOn, e-write, Converts, E-CALL, E-LET, E-IF, E-WHILE, E-NEW, E-READ, E-WRITE, E-READV, E-WRITEV, E-FORK, E-JOIN, E-RE-ENTER, E-ACQUIRE, E-RELEASE, Convertsᶜ, E-NOTNOTTRUE, E-ANDTRUE, E-ANDFALSE, E-EQUALTRUE, E-EQUALFALSE, Moves, EVAL, EVALᶜ}
 use Rattle.rules.specs.Run.{Run}
 use Rattle.rules.specs.Execution.{Execution, ends, passes, lacks-key, no-room, moves}
 use Rattle.rules.specs.NewKeys.{Below, Unused, Held, BY-THREAD, BY-FIELD, BY-MONITOR, NeverHeld, StoresNew, WritesNew}
@@ -32,6 +33,11 @@ below-union K L n f g k t = go (holds K k) (holds L k) refl refl (rw (holds-unio
     go : (x y : Bool) → holds K k ≡ x → holds L k ≡ y → T (x || y) → k < n
     go true y e d h = f k (rw e tt)
     go false y e d h = g k (rw d h)
+
+below-passed : (v : Version) (K : Keys) (n : ℕ) → Below K n → Below (passedOn v K) n
+unfolding passedOn isEmpty
+below-passed v0 K n f k t = absurd (no-key (passedOn v0 K) k refl t)
+below-passed v1 K n f k t = f k t
 
 below-fresh : (c : Cell) (n : ℕ) → fresh ≡ c → 0 < n → Below (c .keys) n
 unfolding fresh
@@ -154,8 +160,10 @@ module _ (g : Program) (s : State) (p : ℕ) (t : Thread) (ht : getElem? (s .thr
       let c : Cell = cell (singleton (s .nextKey)) v in
       let b : Below (singleton (s .nextKey)) (suc (s .nextKey)) = below-singleton (s .nextKey) (suc (s .nextKey)) (omega arith) in
       unused-gain (store (useKey s) o f c) p (singleton (s .nextKey)) _ b (unused-store (useKey s) o f c (cell (singleton w) u) h b (unused-key s U))
-  kept (E-READV {o} {f} {v} {W} h vol) = unused-gain s p W _ (U .fields o f (cell W v) h) U
-  kept (E-WRITEV {o} {f} {u} {v} {W} h vol) = unused-store s o f (cell (union W (t .keys)) v) (cell W u) h (below-union W (t .keys) (s .nextKey) (U .fields o f (cell W u) h) (U .threads p t ht)) U
+  kept (E-READV {o} {f} {v} {W} h vol) = unused-gain s p (passedOn (g .version) W) _ (below-passed (g .version) W (s .nextKey) (U .fields o f (cell W v) h)) U
+  kept (E-WRITEV {o} {f} {u} {v} {W} h vol) =
+      let W′ = passedOn (g .version) (t .keys) in
+      unused-store s o f (cell (union W W′) v) (cell W u) h (below-union W W′ (s .nextKey) (U .fields o f (cell W u) h) (below-passed (g .version) (t .keys) (s .nextKey) (U .threads p t ht))) U
   kept (E-FORK {e}) = unused-thread (addObject s (freshObject [])) (record { self = length (s .objects); expression = e; keys = t .keys; learnt = 0 }) (U .threads p t ht) (unused-new s [] U)
   kept (E-JOIN {o} {v} {q} h l) =
       let j = found-thread (s .threads) 0 o q h in

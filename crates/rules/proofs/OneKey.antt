@@ -11,7 +11,7 @@ use Rattle.keys.specs.Keys.{singleton, union}
 use Rattle.packed.specs.Syntax.{Expression, Program}
 use Rattle.records.specs.Record.{Record}
 use Rattle.rules.specs.State.{Cell, cell, Thread, State, fresh, freshObject, lookup, store, storeMonitor, addObject, gain, become, addThread, useKey, start}
-use Rattle.rules.specs.Rules.{Rule, isVolatile, Converts, E-CALL, E-LET, E-IF, E-WHILE, E-NEW, E-READ, E-WRITE, E-READV, E-WRITEV, E-FORK, E-JOIN, E-RE-ENTER, E-ACQUIRE, E-RELEASE, Moves, EVAL, EVALᶜ}
+use Rattle.rules.specs.Rules.{Rule, isVolatile, passedOn, Converts, E-CALL, E-LET, E-IF, E-WHILE, E-NEW, E-READ, E-WRITE, E-READV, E-WRITEV, E-FORK, E-JOIN, E-RE-ENTER, E-ACQUIRE, E-RELEASE, Moves, EVAL, EVALᶜ}
 use Rattle.rules.proofs.StateLaws.{store-same, store-other, lock-lookup, new-lookup}
 
 -- document 001, section 4: "For a normal field, W = {w}"
@@ -72,7 +72,7 @@ module _ (g : Program) (s : State) (p : ℕ) (t : Thread) (I : OneKey g s) where
   kept (E-READ w h k v) = I
   kept (E-WRITE w {o} {f} {u} {v} h k vol) = same-fields g (store (useKey s) o f (cell (singleton (s .nextKey)) v)) _ (λ a b. refl) (stored g (useKey s) o f (cell (singleton (s .nextKey)) v) (cell (singleton w) u) h (λ n. (s .nextKey, refl)) (same-fields g s (useKey s) (λ a b. refl) I))
   kept (E-READV h v) = same-fields g s _ (λ a b. refl) I
-  kept (E-WRITEV {o} {f} {u} {v} {W} h vol) = stored g s o f (cell (union W (t .keys)) v) (cell W u) h (λ n. absurd (true≢false (sym vol ∙ n))) I
+  kept (E-WRITEV {o} {f} {u} {v} {W} h vol) = stored g s o f (cell (union W (passedOn (g .version) (t .keys))) v) (cell W u) h (λ n. absurd (true≢false (sym vol ∙ n))) I
   kept E-FORK = same-fields g (addObject s (freshObject [])) _ (λ a b. refl) (added g s [] I)
   kept (E-JOIN h l) = same-fields g s _ (λ a b. refl) I
   kept (E-RE-ENTER h) = I

@@ -9,7 +9,6 @@ use mathlib.Core.Logic.{_⊎_, _↔_}
 use mathlib.Core.Option.{Option, some, none}
 use lib.Dec.{T, eqb, eqb·zero-suc}
 use lib.ListN.{getElem?}
-use Rattle.format.specs.Version.{v1}
 use Rattle.keys.specs.Keys.{singleton, holds, isEmpty}
 use Rattle.keys.proofs.KeyLaws.{holds-singleton}
 use Rattle.order.proofs.KeySets.{onlyZero}
@@ -84,8 +83,7 @@ unfolding logged
 turn-logged none L H = refl
 turn-logged (some r) L H = refl
 
--- the rules for volatile fields are version 1's
-module _ (g : Program) (P : WellFormedProgram g) (one : g .version ≡ v1) where
+module _ (g : Program) (P : WellFormedProgram g) where
   kept-execution : {s : State} {ps : List ℕ} {r : Run} (H : List Record) → Reachable g s → Kept g s H → Execution g s ps r
       → Kept g (r .final) (reverseAux (r .log) H)
   unfolding stopped afterPass afterMove
@@ -95,7 +93,7 @@ module _ (g : Program) (P : WellFormedProgram g) (one : g .version ≡ v1) where
   kept-execution H I J (no-room h e) = J
   kept-execution H I J (moves {s} {p = p} {r = r} {e = e} h k x) =
       along (Kept g (r .final)) (sym (turn-logged e (r .log) H))
-      (kept-execution (logged e H) (reachable-move g P s p I h) (bridge g one s (I .invariant) p H J h) x)
+      (kept-execution (logged e H) (reachable-move g P s p I h) (bridge g s (I .invariant) p H J h) x)
 
   -- after any picks the sets are those of the log
   pub kept-play : (ps : List ℕ) → Kept g (play g ps .final) (reverse (play g ps .log))

@@ -13,7 +13,7 @@ use Rattle.packed.specs.Syntax.{Program, Expression}
 use Rattle.rules.specs.Context.{Context, focus, top, plug, redexExpression, Redex}
 use Rattle.rules.specs.State.{Cell, Thread, State, start, freshObject, store, storeMonitor, addObject, gain, become, addThread, useKey}
 use Rattle.records.specs.Record.{Record}
-use Rattle.rules.specs.Rules.{Rule, LacksHere, LACKS-READ, LACKS-WRITE, Lacks, LACKS, Converts, E-CALL, E-LET, E-IF, E-WHILE, E-NEW, E-READ, E-WRITE, E-READV, E-WRITEV, E-FORK, E-JOIN, E-RE-ENTER, E-ACQUIRE, E-RELEASE, Moves, EVAL, EVALᶜ}
+use Rattle.rules.specs.Rules.{Rule, passedOn, LacksHere, LACKS-READ, LACKS-WRITE, Lacks, LACKS, Converts, E-CALL, E-LET, E-IF, E-WHILE, E-NEW, E-READ, E-WRITE, E-READV, E-WRITEV, E-FORK, E-JOIN, E-RE-ENTER, E-ACQUIRE, E-RELEASE, Moves, EVAL, EVALᶜ}
 use Rattle.rules.specs.Room.{Room, noRoomBefore, noRoomAfter, noRoomFor}
 use Rattle.rules.specs.Run.{Run, logged, stopped, afterPass, afterMove, play}
 use Rattle.packed.proofs.WellFormed.{WellFormedProgram}
@@ -85,7 +85,7 @@ module _ (g : Program) (s : State) (I : Inv g s) (z : Roomy s) (p : ℕ) (t : Th
   fits (E-WRITE w {o} {f} {u} {v} h k vol) l =
       let b = room-for 256 (s .nextKey) Room.key none l .0 in
       roomy-gain (store (useKey s) o f (record { keys = singleton (s .nextKey); value = v })) p (singleton (s .nextKey)) _ (roomy-store (useKey s) o f (record { keys = singleton (s .nextKey); value = v }) (record { threads8 = z .threads8; objects32 = z .objects32; keys256 = omega arith }))
-  fits (E-READV {W = W} h vol) l = roomy-gain s p W _ z
+  fits (E-READV {W = W} h vol) l = roomy-gain s p (passedOn (g .version) W) _ z
   fits (E-WRITEV {o} {f} h vol) l = roomy-store s o f _ z
   fits (E-FORK {e}) l =
       let b = room-for 8 (length (s .threads)) Room.thread _ l in

@@ -6,6 +6,7 @@ use mathlib.Core.List.{List, []}
 use mathlib.Core.Option.{Option, some, none}
 use lib.Dec.{eqb}
 use lib.ListN.{length, getElem?}
+use Rattle.format.specs.Version.{Version, v0, v1}
 use Rattle.keys.specs.Keys.{Keys, empty, singleton, holds, union, isEmpty}
 use Rattle.packed.specs.Syntax.{Expression, Condition, Procedure, Program, literal, end, sequence, bool, bind, bindParameters, substitute}
 use Rattle.packed.specs.Format.{maskBit}
@@ -22,6 +23,12 @@ pub data Rule : Type 0 where
 unfoldable pub isVolatile : Program → ℕ → Bool
 unfolding maskBit
 isVolatile g f = eqb (maskBit (g .volatiles) f) 1
+
+-- what a volatile access passes on of a set of keys. "Plan version 0 [..] means this rule: volatile reads and writes move values and no keys. Version 1 keeps
+-- its meaning." (document 02, E8)
+unfoldable pub passedOn : Version → Keys → Keys
+passedOn v0 W = empty
+passedOn v1 W = W
 
 -- Figures 7 and 8: in program g and state s thread p, which is t, converts an expression into another; the rule, its record, and the state after it.
 -- "Reads and writes give the value read or written [..]. Fork gives the new thread's object, and its number as field; join gives the object, the thread
@@ -49,15 +56,15 @@ module _ (g : Program) (s : State) (p : ℕ) (t : Thread) where
         → lookup s o f ≡ some (cell (singleton w) u) → holds (t .keys) w ≡ true → isVolatile g f ≡ false
         → Converts (Expression.write (literal o) f (literal v)) e-write (some (entry Kind.write p o f v))
         (learn (store (useKey s) o f (cell (singleton (s .nextKey)) v)) p (singleton (s .nextKey))) (literal v)
-    -- "A volatile read adds the field's set to the thread's."
+    -- "A volatile read adds the field's set to the thread's.", as far as the version passes it on
     E-READV : {o f v : ℕ} {W : Keys}
         → lookup s o f ≡ some (cell W v) → isVolatile g f ≡ true
-        → Converts (Expression.read (literal o) f) e-readv (some (entry Kind.readv p o f v)) (hear s p W) (literal v)
-    -- "A volatile write adds the thread's set to the field's."
+        → Converts (Expression.read (literal o) f) e-readv (some (entry Kind.readv p o f v)) (hear s p (passedOn (g .version) W)) (literal v)
+    -- "A volatile write adds the thread's set to the field's.", as far as the version passes it on
     E-WRITEV : {o f u v : ℕ} {W : Keys}
         → lookup s o f ≡ some (cell W u) → isVolatile g f ≡ true
         → Converts (Expression.write (literal o) f (literal v)) e-writev (some (entry Kind.writev p o f v))
-        (store s o f (cell (union W (t .keys)) v)) (literal v)
+        (store s o f (cell (union W (passedOn (g .version) (t .keys))) v)) (literal v)
     -- "a fork makes one of each"; "A forked thread starts with its maker's set."
     E-FORK : {e : Expression}
         → Converts (Expression.fork e) e-fork (some (entry Kind.fork p (length (s .objects)) (length (s .threads)) 0))

@@ -10,7 +10,7 @@ use Rattle.packed.specs.Syntax.{Expression, Condition, Procedure, Program, lite
 use Rattle.records.specs.Record.{Kind, Record, entry}
 use Rattle.rules.specs.Context.{Context, top, plug, plugᶜ, Redex, Redexᶜ, Focus, value, here, hereᶜ, focus, asLiteral}
 use Rattle.rules.specs.State.{Cell, cell, Thread, State, Numbered, freshObject, lookup, monitor, store, storeMonitor, addObject, gain, learn, hear, become, addThread, useKey, threadOf}
-use Rattle.rules.specs.Rules.{Rule, isVolatile, e-call, e-let, e-if, e-while, e-notnottrue, e-andtrue, e-andfalse, e-equaltrue, e-equalfalse, e-new, e-read, e-write, e-readv, e-writev, e-fork, e-join, e-re-enter, e-acquire, e-release}
+use Rattle.rules.specs.Rules.{Rule, isVolatile, passedOn, e-call, e-let, e-if, e-while, e-notnottrue, e-andtrue, e-andfalse, e-equaltrue, e-equalfalse, e-new, e-read, e-write, e-readv, e-writev, e-fork, e-join, e-re-enter, e-acquire, e-release}
 
 -- "waiting (monitor held by another, or join of an unfinished thread, itself included)", with the object
 pub data Wait : Type 0 where
@@ -38,22 +38,22 @@ callAct s (some d) os = cond (eqb (d .parameters) (length os)) (does e-call none
 
 -- E-READ, E-READV
 unfoldable pub readAct : Program → State → ℕ → Thread → ℕ → ℕ → Option Cell → Act
-unfolding isVolatile subset gain
+unfolding isVolatile passedOn subset gain
 readAct g s p t o f none = sticks (missingField o f)
 readAct g s p t o f (some c) =
     cond (isVolatile g f)
-    (does e-readv (some (entry Kind.readv p o f (c .value))) (hear s p (c .keys)) (literal (c .value)))
+    (does e-readv (some (entry Kind.readv p o f (c .value))) (hear s p (passedOn (g .version) (c .keys))) (literal (c .value)))
     (cond (subset (c .keys) (t .keys))
     (does e-read (some (entry Kind.read p o f (c .value))) s (literal (c .value)))
     (lacks (entry Kind.lacksRead p o f 0)))
 
 -- E-WRITE, E-WRITEV
 unfoldable pub writeAct : Program → State → ℕ → Thread → ℕ → ℕ → ℕ → Option Cell → Act
-unfolding isVolatile subset gain store useKey union
+unfolding isVolatile passedOn subset gain store useKey union
 writeAct g s p t o f v none = sticks (missingField o f)
 writeAct g s p t o f v (some c) =
     cond (isVolatile g f)
-    (does e-writev (some (entry Kind.writev p o f v)) (store s o f (cell (union (c .keys) (t .keys)) v)) (literal v))
+    (does e-writev (some (entry Kind.writev p o f v)) (store s o f (cell (union (c .keys) (passedOn (g .version) (t .keys))) v)) (literal v))
     (cond (subset (c .keys) (t .keys))
     (does e-write (some (entry Kind.write p o f v)) (learn (store (useKey s) o f (cell (singleton (s .nextKey)) v)) p (singleton (s .nextKey))) (literal v))
     (lacks (entry Kind.lacksWrite p o f v)))

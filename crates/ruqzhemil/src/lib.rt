@@ -41,12 +41,12 @@ pub extern "C" fn ruqzhemil_play(
     }
 }
 
-// 0 for a log without an unordered access; the other answer is the index of the first one.
+// Of a log of plans of this version, 0 or 1: 0 for a log without an unordered access; the other answer is the index of the first one.
 #[no_mangle]
-pub extern "C" fn ruqzhemil_judge(log: &[u8]) -> u64
-    ensures { λ r. ⌜ JudgeReturns (now (log .entry)) r ⌝ }
+pub extern "C" fn ruqzhemil_judge(version: u64, log: &[u8]) -> u64
+    ensures { λ r. ⌜ JudgeReturns version (now (log .entry)) r ⌝ }
 {
-    let judgement = judge::judge(log);
+    let judgement = judge::judge(version as usize, log);
     numbers::of_judge(judgement)
 }
 

@@ -4,9 +4,10 @@ use keys::KeySet;
 
 pub mod acted;
 
-// What a run goes by: the mask of the volatile fields, whose top bit is field 0.
+// What a run goes by: the mask of the volatile fields, whose top bit is field 0, and the plan's version.
 pub struct Setting {
     pub mask: usize,
+    pub version: usize,
 }
 
 // A thread: the part that moves next, its depth, the object that stands for it, its keys, how many of them it has learnt from others.

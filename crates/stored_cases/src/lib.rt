@@ -2,8 +2,9 @@
 // byte first.
 //
 // A case of a play: the lengths of plan, schedule and log area, two bytes each; what check, play and judge return, eight bytes each, judge for the run's
-// records, or for none; the 40 bytes for the outcome; then plan, schedule and records. A case of a log: what judge returns, eight bytes; then
-// the log. A case that ends before the parts that its lengths name is wrong.
+// records, or for none, where it is told the version in the plan's first bits; the 40 bytes for the outcome; then plan, schedule and records. A case of
+// a log: the version that judge is told and what it returns, eight bytes each; then the log. A case that ends before the parts that its
+// lengths name is wrong.
 ghost use Prim.Native.Nat.{_+_, _≤_};
 ghost use lib.ListN.{length};
 use judge::Judgement;
@@ -98,16 +99,26 @@ pub fn play_case(case: &[u8]) -> bool {
     (got == number_at(case, 14)) & same_bytes(&out, &case[30..70]) & begins(&area, &case[last..])
 }
 
-// What judge returns for the records of the run.
+// The version that a plan names in its first bits, 0 for none.
+fn version_of(plan: &[u8]) -> u64 {
+    if plan.len() == 0 {
+        return 0;
+    }
+    (byte_numbers::wide(plan[0]) / 16) as u64
+}
+
+// What judge returns for the records of the run, where it is told the plan's version.
 pub fn run_case(case: &[u8]) -> bool {
     if case.len() < 70 {
         return false;
     }
-    let last = 70 + byte_numbers::half(case, 0) + byte_numbers::half(case, 2);
+    let end = 70 + byte_numbers::half(case, 0);
+    let last = end + byte_numbers::half(case, 2);
     if case.len() < last {
         return false;
     }
-    ruqzhemil::ruqzhemil_judge(&case[last..]) == number_at(case, 22)
+    let version = version_of(&case[70..end]);
+    ruqzhemil::ruqzhemil_judge(version, &case[last..]) == number_at(case, 22)
 }
 
 // A judgement as judge returns it: no number, place or index of one comes near 65,536.
@@ -158,10 +169,10 @@ pub fn both_case(case: &[u8]) -> bool {
     }
 }
 
-// What judge returns for a log.
+// What judge returns for a log, where it is told a version.
 pub fn log_case(case: &[u8]) -> bool {
-    if case.len() < 8 {
+    if case.len() < 16 {
         return false;
     }
-    ruqzhemil::ruqzhemil_judge(&case[8..]) == number_at(case, 0)
+    ruqzhemil::ruqzhemil_judge(number_at(case, 0), &case[16..]) == number_at(case, 8)
 }

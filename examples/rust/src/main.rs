@@ -32,7 +32,7 @@ fn play(schedule: &[u8]) -> Result<(), ruqzhemil::Refusal> {
             println!("  thread {number}: {state:?}");
         }
     }
-    match ruqzhemil::judge(log)? {
+    match ruqzhemil::judge(ruqzhemil::plan_version(&PLAN), log)? {
         None => println!("  judge: none"),
         Some(index) => println!("  judge: record {index} is unordered"),
     }

@@ -14,6 +14,9 @@ value-requires c κs = search needs
 has-requires : tie.Need-has-requires
 has-requires c κs = search needs
 
+passed-on-requires : tie.Need-passed-on-requires
+passed-on-requires c κs = search needs
+
 join-requires : tie.Need-join-requires
 join-requires c κs = search needs
 
@@ -25,7 +28,7 @@ heard-requires c κs = search needs
 
 returns : tie.Need-returns
 unfolding actRead
-returns c = simp (c .heard .ensures, c .before .entry .ensures, c .before .before .join .ensures .exact, c .before .before .before .before .before .before .value .ensures, sym (c .before .before .before .before .before .has .ensures) ∙ c .before .before .before .before .if1 .taken)
+returns c = simp (c .heard .ensures, c .before .entry .ensures, c .before .before .join .ensures .exact, c .before .before .before .passed-on .ensures, c .before .before .before .before .before .before .before .value .ensures, sym (c .before .before .before .before .before .before .has .ensures) ∙ c .before .before .before .before .before .if1 .taken)
 
 entry-requires-2 : tie.Need-entry-requires-2
 entry-requires-2 c κs = search needs
@@ -44,6 +47,7 @@ act-read-spec =
     cast-value
     value-requires
     has-requires
+    passed-on-requires
     join-requires
     entry-requires
     heard-requires

@@ -13,6 +13,9 @@ value-requires c κs = search needs
 has-requires : tie.Need-has-requires
 has-requires c κs = search needs
 
+passed-on-requires : tie.Need-passed-on-requires
+passed-on-requires c κs = search needs
+
 join-requires : tie.Need-join-requires
 join-requires c κs = search needs
 
@@ -27,7 +30,7 @@ acted-of-requires c κs = search needs
 
 returns : tie.Need-returns
 unfolding actWrite
-returns c = simp (c .acted-of .ensures, c .before .entry .ensures, c .before .before .cell-with .ensures, ap (λ (j : Joined). j .keys) (c .before .before .before .before .join .ensures .exact), c .before .before .before .before .before .before .before .value .ensures, sym (c .before .before .before .before .before .before .has .ensures) ∙ c .before .before .before .before .before .if1 .taken)
+returns c = simp (c .acted-of .ensures, c .before .entry .ensures, c .before .before .cell-with .ensures, ap (λ (j : Joined). j .keys) (c .before .before .before .before .join .ensures .exact), c .before .before .before .before .before .passed-on .ensures, c .before .before .before .before .before .before .before .before .value .ensures, sym (c .before .before .before .before .before .before .before .has .ensures) ∙ c .before .before .before .before .before .before .if1 .taken)
 
 returns-2 : tie.Need-returns-2
 unfolding actWrite
@@ -61,6 +64,7 @@ act-write-spec =
     (tie.spec
     value-requires
     has-requires
+    passed-on-requires
     join-requires
     cell-with-requires
     entry-requires

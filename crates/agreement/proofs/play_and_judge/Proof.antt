@@ -2,7 +2,8 @@
 -- bytes, which are the run's records. Assumes nothing.
 use native.Mathlib.Omega.{arith}
 use borrow.Author.Needs.{needs}
-use Rattle.player.proofs.Ran.{few-records, within}
+use Rattle.play_refusals.proofs.Passed.{inside}
+use Rattle.player.proofs.Ran.{passes, few-records, within}
 use Rattle.agreement.proofs.Entry.{agreed-on, refused-agreed}
 use Rattle.agreement.proofs.play_and_judge.Statement.{statement}
 use Rattle.agreement.proofs.play_and_judge.Tie as tie
@@ -23,14 +24,24 @@ record-bytes-requires c κs =
     let p = c .before .before .before .before .before .play in
     few-records (a .plan .now) (a .schedule .now) (a .log .now) (p .result) (p .ensures .0) (c .enum-told .given .1)
 
+-- the plan has its header
+version-requires : tie.Need-version-requires
+version-requires c κs =
+    let t = c .before in
+    let a = t .before .before .before .before .before .before .before .before .before .before .args in
+    let p = t .before .before .before .before .before .play in
+    let w = inside (a .plan .now) (passes (a .plan .now) (a .schedule .now) (a .log .now) (p .result) (p .ensures .0) (t .enum-told .given .1) .plan-passes) .long in
+    omega arith
+
 -- and the log area has room for them
 judge-part-requires : tie.Need-judge-part-requires
 judge-part-requires c κs =
-    let t = c .before .before in
+    let t = c .before .before .before in
     let a = t .before .before .before .before .before .before .before .before .before .before .args in
     let p = t .before .before .before .before .before .play in
     let room = within (a .plan .now) (a .schedule .now) (a .log .now) (p .result) (p .ensures .0) (t .enum-told .given .1) (p .last .1 .1 .0) (p .ensures .1 .0) in
-    (omega arith, room (c .before .record-bytes .result) (omega (arith, c .before .record-bytes .ensures)))
+    let b = c .before .before .record-bytes in
+    (omega arith, room (b .result) (omega (arith, b .ensures)))
 
 same-length : tie.Need-same-length
 same-length c = search needs
@@ -48,12 +59,13 @@ same-length-2 c = search needs
 -- a play that is not refused
 returns-2 : tie.Need-returns-2
 returns-2 c =
-    let t = c .before .before .before in
+    let t = c .before .before .before .before in
     let a = t .before .before .before .before .before .before .before .before .before .before .args in
     let p = t .before .before .before .before .before .play in
-    let b = c .before .before .record-bytes in
+    let b = c .before .before .before .record-bytes in
+    let v = c .before .before .version in
     let agreed = agreed-on (a .plan .now) (a .schedule .now) (a .log .now) (p .result) (p .ensures .0) (t .enum-told .given .1) (p .last .1 .1 .0) (p .ensures .1 .0) in
-    (p .ensures .0, (p .ensures .1 .0, (agreed (c .judge-part .result) (b .result) (b .ensures) (c .judge-part .ensures), p .ensures .1 .1 .0)))
+    (p .ensures .0, (p .ensures .1 .0, (agreed (c .judge-part .result) (b .result) (b .ensures) (v .result) (v .ensures) (c .judge-part .ensures), p .ensures .1 .1 .0)))
 
 pub play-and-judge-spec : {M : Type 1} → statement M
 play-and-judge-spec =
@@ -63,6 +75,7 @@ play-and-judge-spec =
     enum-known-checked
     enum-told
     record-bytes-requires
+    version-requires
     judge-part-requires
     same-length
     returns

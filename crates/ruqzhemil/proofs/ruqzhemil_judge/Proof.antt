@@ -9,7 +9,7 @@ judge-requires : tie.Need-judge-requires
 judge-requires c κs = search needs
 
 of-judge-requires : tie.Need-of-judge-requires
-of-judge-requires c κs = small-judged _ _ (c .judge .ensures)
+of-judge-requires c κs = small-judged _ _ _ (c .judge .ensures)
 
 returns : tie.Need-returns
 returns c = record { answer = answered (c .before .judge .result); answers = c .before .judge .ensures; numbered = c .of-judge .ensures }
