@@ -164,8 +164,8 @@ static inline const char *ruqzhemil_kind_word(unsigned kind) {
  *   bytes 3 and 4    moves made, high byte first
  *   bytes 5 and 6    records written, high byte first
  *   byte 7           0
- *   bytes 8 + 4t ..  of thread t, 0 to 7: its state, enum ruqzhemil_state; the value or the object that the state names; the field that it names; 0. What
- *                    a state does not name is 0
+ *   bytes 8 + 4t ..  of thread t, 0 to 7: its state, enum ruqzhemil_state; the value or the object that the state names; the field that it names; how many
+ *                    keys were new to it in its acquires, volatile reads and joins. What a state does not name is 0
  */
 
 enum ruqzhemil_stop {
@@ -190,6 +190,7 @@ enum ruqzhemil_state {
 
 struct ruqzhemil_thread {
     unsigned state, named, field; /* named: the value of a finished thread, else the object */
+    unsigned learnt;              /* how many keys were new to it in its acquires, volatile reads and joins, at most 255 */
 };
 
 static inline unsigned ruqzhemil_stop_of(const uint8_t out[RUQZHEMIL_OUT_BYTES]) { return out[0]; }
@@ -204,6 +205,7 @@ static inline struct ruqzhemil_thread ruqzhemil_thread_of(const uint8_t out[RUQZ
     thread.state = at[0];
     thread.named = at[1];
     thread.field = at[2];
+    thread.learnt = at[3];
     return thread;
 }
 

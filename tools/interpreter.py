@@ -7,7 +7,7 @@ import sys
 
 import header
 
-LANDED = "E2,E7,E8"  # document 02's requests that the product has
+LANDED = "E2,E6,E7,E8"  # document 02's requests that the product has
 FILL = 0xA5  # what every lent area is filled with before a play
 NUMBERS = header.numbers()
 OUT = NUMBERS["OUT_BYTES"]
@@ -26,10 +26,10 @@ def state_words(state):
     return tuple(x for x in state if isinstance(x, str))
 
 
-def thread_bytes(state):
-    """Four bytes of a thread: its state, its value or object, its field, 0."""
+def thread_bytes(state, learnt):
+    """Four bytes of a thread: its state, its value or object, its field, its total."""
     numbers = [x for x in state if not isinstance(x, str)]
-    return bytes([STATES[state_words(state)]] + numbers + [0] * (3 - len(numbers)))
+    return bytes([STATES[state_words(state)]] + numbers + [0] * (2 - len(numbers)) + [learnt])
 
 
 def record_bytes(log):
@@ -74,7 +74,7 @@ def outcome_bytes(want):
     if "refused" in want:
         return bytes([FILL]) * OUT
     counts = b"".join(want[name].to_bytes(2, "big") for name in ("picks", "moves", "records"))
-    return bytes([OUTCOMES[want["outcome"]]]) + counts + bytes(1) + b"".join(map(thread_bytes, want["states"]))
+    return bytes([OUTCOMES[want["outcome"]]]) + counts + bytes(1) + b"".join(map(thread_bytes, want["states"], want["learnt"]))
 
 
 @contextlib.contextmanager

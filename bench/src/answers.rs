@@ -37,6 +37,7 @@ fn bytes(outcome: &Outcome) -> [u8; OUT_BYTES] {
     out[5..7].copy_from_slice(&(outcome.records as u16).to_be_bytes());
     for (t, state) in outcome.states.into_iter().enumerate() {
         out[8 + 4 * t..11 + 4 * t].copy_from_slice(&thread_bytes(state));
+        out[11 + 4 * t] = outcome.totals[t];
     }
     out
 }

@@ -11,6 +11,7 @@ struct Seen {
     passed: usize,
     stops: [usize; 6],
     states: [usize; 8],
+    learnt: [usize; 2],
     judged: [usize; 2],
 }
 
@@ -22,6 +23,7 @@ impl Seen {
     fn outcome(&mut self, out: &[u8; OUT_BYTES]) {
         self.stops[usize::from(out[0])] += 1;
         (0..8).for_each(|t| self.states[usize::from(out[8 + 4 * t])] += 1);
+        (0..8).for_each(|t| self.learnt[usize::from(out[11 + 4 * t] > 0)] += 1);
     }
 
     fn judgement(&mut self, answer: u64) {
@@ -35,8 +37,10 @@ impl Seen {
         println!("  plans passed {}; refusals 1 to 12 {:?}, 14 {}", self.passed, &self.refusals[1..13], self.refusals[14]);
         println!("  runs end, race, no-thread, no-object, no-key, no-depth {:?}", self.stops);
         println!("  threads absent, finished, ready, monitor, join, no field, no thread, lacking {:?}", self.states);
+        println!("  threads that learnt no key from another, some {:?}", self.learnt);
         println!("  logs ordered, unordered {:?}", self.judged);
-        let counts = self.refusals[1..13].iter().chain(&self.refusals[14..]).chain(&self.stops).chain(&self.states).chain(&self.judged);
+        let counts =
+            self.refusals[1..13].iter().chain(&self.refusals[14..]).chain(&self.stops).chain(&self.states).chain(&self.learnt).chain(&self.judged);
         assert!(self.passed > 0 && counts.min() > Some(&0), "an answer that no case had: more cases are needed");
     }
 }

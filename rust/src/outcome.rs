@@ -103,13 +103,15 @@ pub struct Outcome {
     pub moves: usize,
     pub records: usize,
     pub threads: [ThreadState; THREADS],
+    /// How many keys were new to each thread in its acquires, volatile reads and joins.
+    pub learnt: [u8; THREADS],
 }
 
 impl Outcome {
     pub(crate) fn of(out: &[u8; OUT_BYTES]) -> Outcome {
         let two = |at: usize| usize::from(out[at]) << 8 | usize::from(out[at + 1]);
         let thread = |t: usize| ThreadState::of(out[8 + 4 * t], out[9 + 4 * t], out[10 + 4 * t]);
-        Outcome { stop: Stop::of(out[0]), picks: two(1), moves: two(3), records: two(5), threads: std::array::from_fn(thread) }
+        Outcome { stop: Stop::of(out[0]), picks: two(1), moves: two(3), records: two(5), threads: std::array::from_fn(thread), learnt: std::array::from_fn(|t| out[11 + 4 * t]) }
     }
 
     /// The run's records, which the log area begins with.

@@ -4,10 +4,14 @@ use super::plan::{check, Plan};
 use super::Refusal;
 
 type Keys = [u64; 4];
-fn join(a: &mut Keys, b: &Keys) {
+/// The keys of both, and how many were new to the first.
+fn join(a: &mut Keys, b: &Keys) -> u8 {
+    let mut new = 0;
     for i in 0..4 {
+        new += (b[i] & !a[i]).count_ones() as u8;
         a[i] |= b[i];
     }
+    new
 }
 fn holds(a: &Keys, k: u8) -> bool {
     a[(k >> 6) as usize] >> (k & 63) & 1 == 1
@@ -50,6 +54,7 @@ struct Thread {
     b: u8,
     frames: [Frame; 34],
     keys: Keys,
+    learnt: u8,
 }
 impl Default for Thread {
     fn default() -> Self {
@@ -64,6 +69,7 @@ impl Default for Thread {
             b: 0,
             frames: [Frame::default(); 34],
             keys: [0; 4],
+            learnt: 0,
         }
     }
 }
@@ -74,6 +80,7 @@ pub struct Outcome {
     pub moves: usize,
     pub records: usize,
     pub states: [State; 8],
+    pub totals: [u8; 8],
 }
 
 struct Run<'a> {
@@ -432,7 +439,7 @@ pub fn play(plan: &[u8], schedule: &[u8], log: &mut [u8]) -> Result<Outcome, Ref
             2 => r.give(&mut t, r.nobjects as u8),
             3 => {
                 if volatile && r.plan.version == 1 {
-                    join(&mut t.keys, &r.vol[o][f]);
+                    t.learnt += join(&mut t.keys, &r.vol[o][f]);
                 }
                 r.give(&mut t, r.values[o][f])
             }
@@ -447,14 +454,14 @@ pub fn play(plan: &[u8], schedule: &[u8], log: &mut [u8]) -> Result<Outcome, Ref
             }
             10 => {
                 let q = r.threads[r.thread_of[o] as usize];
-                join(&mut t.keys, &q.keys);
+                t.learnt += join(&mut t.keys, &q.keys);
                 r.give(&mut t, q.value)
             }
             11 => {
                 if r.mon[o] == [0; 4] {
                     r.descend(&mut t, term.kids[1], x.env)
                 } else {
-                    join(&mut t.keys, &r.mon[o]);
+                    t.learnt += join(&mut t.keys, &r.mon[o]);
                     let fr = Frame { stage: HOLD, obj: a, ..x };
                     match r.is_value(term.kids[1], x.env) {
                         Some(v) => r.ready(&mut t, fr, HOLD, a, v),
@@ -538,7 +545,8 @@ pub fn play(plan: &[u8], schedule: &[u8], log: &mut [u8]) -> Result<Outcome, Ref
     for n in 0..8 {
         states[n] = r.status(n);
     }
-    Ok(Outcome { word, picks, moves, records: rec, states })
+    let totals = r.threads.map(|t| t.learnt);
+    Ok(Outcome { word, picks, moves, records: rec, states, totals })
 }
 
 // ---- judge: vector clocks, with the last write as an epoch

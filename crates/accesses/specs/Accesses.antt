@@ -3,7 +3,7 @@ use Prim.Native.Nat.{ℕ, _+_}
 use mathlib.Core.Bool.{cond}
 use lib.Dec.{eqb, leb}
 use Rattle.keys.specs.declared.KeySet.{KeySet}
-use Rattle.keys.specs.KeySet.{emptySet, learnOf, joinOf}
+use Rattle.keys.specs.KeySet.{emptySet, learnOf, joinOf, joinedOf}
 use Rattle.frames.specs.Going.{goValue}
 use Rattle.state.specs.declared.Head.{Head}
 use Rattle.state.specs.declared.Cell.{Cell}
@@ -13,7 +13,7 @@ use Rattle.run_outcome.specs.declared.NoRoom.the-variants as room
 use Rattle.state.specs.declared.Setting.{Setting}
 use Rattle.state.specs.declared.acted.Act.{Act}
 use Rattle.state.specs.declared.acted.Act.the-variants as act
-use Rattle.state.specs.Acted.{entryOf, cellOf, countsOf, actedOf}
+use Rattle.state.specs.Acted.{entryOf, cellOf, countsOf, actedOf, heardOf}
 use Rattle.look.specs.Look.{hasOf}
 
 -- what a volatile access passes on of a set: all of it in version 1, and else nothing
@@ -24,7 +24,7 @@ unfoldable pub actRead : Setting → Counts → Head → Cell → ℕ → ℕ �
 unfolding passedOf
 actRead g n h c o f =
     cond (hasOf (g .mask) f)
-    (actedOf (goValue (c .value)) n (joinOf (h .keys) (passedOf g (c .keys))) c (entryOf (kindNumber Kind.readv) o f (c .value)))
+    (heardOf (goValue (c .value)) n (joinedOf (h .keys) (passedOf g (c .keys))) c (entryOf (kindNumber Kind.readv) o f (c .value)))
     (actedOf (goValue (c .value)) n (h .keys) c (entryOf (kindNumber Kind.read) o f (c .value)))
 
 unfoldable pub actWrite : Setting → Counts → Head → Cell → ℕ → ℕ → ℕ → Act

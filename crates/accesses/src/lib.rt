@@ -13,6 +13,7 @@ use state::acted::Act;
 use state::acted::acted_of;
 use state::acted::cell_with;
 use state::acted::entry;
+use state::acted::heard;
 
 // What a volatile access passes on of a set: all of it in version 1, and else nothing.
 fn passed_on(setting: Setting, keys: KeySet) -> KeySet
@@ -40,9 +41,9 @@ pub fn act_read(
     if look::has(setting.mask, field) {
         let cell_keys = cell.keys;
         let passed = passed_on(setting, cell_keys);
-        let all = keys.join(passed);
+        let joined = keys.join(passed);
         let entry = entry(kind::VOLATILE_READ, object, field, value);
-        return acted_of(go, counts, all, cell, entry);
+        return heard(go, counts, joined, cell, entry);
     }
     let entry = entry(kind::READ, object, field, value);
     acted_of(go, counts, keys, cell, entry)
@@ -64,7 +65,8 @@ pub fn act_write(
     let go = go::value(value);
     if look::has(setting.mask, field) {
         let passed = passed_on(setting, keys);
-        let all = cell_keys.join(passed);
+        let joined = cell_keys.join(passed);
+        let all = joined.keys;
         let changed = cell_with(value, 0, all);
         let entry = entry(kind::VOLATILE_WRITE, object, field, value);
         return acted_of(go, counts, keys, changed, entry);

@@ -72,13 +72,13 @@ metBy n l cs ts p = metAt n l cs ts p (cellNumber (headAt l p .ready)) (objectOf
 -- ---- the threads at the end
 
 abbrev pub absent : Thread
-absent = record { state = state.Absent }
+absent = record { state = state.Absent; learnt = 0 }
 
 abbrev pub stateBy : Setting → Met → ThreadState
 stateBy g x = stateOf (lookOf g (x .head) (x .cell) (x .thing) (x .other .ready .part)) (x .head .ready)
 
 unfoldable pub threadBy : Setting → Met → Thread
-threadBy g x = cond (leb (x .counts .threads) (x .thread)) absent (record { state = stateBy g x })
+threadBy g x = cond (leb (x .counts .threads) (x .thread)) absent (record { state = stateBy g x; learnt = x .head .learnt % 256 })
 
 abbrev pub threadAt : Setting → Counts → List Head → List Cell → List Object → ℕ → Thread
 threadAt g n l cs ts p = threadBy g (metBy n l cs ts p)
@@ -147,7 +147,7 @@ playOf ws rs g m (p ∷ ps) i =
 -- ---- about to call main
 
 abbrev pub headOf : ℕ → Head
-headOf root = record { ready = readyOf part.Run root 0 0 0; depth = 0; object = 0; keys = zeroSet }
+headOf root = record { ready = readyOf part.Run root 0 0 0; depth = 0; object = 0; keys = zeroSet; learnt = 0 }
 
 abbrev pub cellFirst : Cell
 cellFirst = cellOf 0 0 zeroSet

@@ -31,6 +31,7 @@ fn first_head(root: usize) -> Head
         depth: 0,
         object: 0,
         keys: one,
+        learnt: 0,
     }
 }
 
@@ -64,10 +65,11 @@ fn no_thread() -> Thread
 {
     Thread {
         state: ThreadState::Absent,
+        learnt: 0,
     }
 }
 
-// What a thread's next pick would meet.
+// What a thread's next pick would meet, and its total.
 fn thread_of(setting: Setting, met: Met) -> Thread
     ensures { λ r. ⌜ r ≡ threadBy setting met ⌝ }
 {
@@ -83,7 +85,11 @@ fn thread_of(setting: Setting, met: Met) -> Thread
     let joined = other.ready;
     let sight = look::look(setting, head, cell, thing, joined.part);
     let state = look::state_of(sight, ready);
-    Thread { state: state }
+    let learnt = (head.learnt % 256) as u8;
+    Thread {
+        state: state,
+        learnt: learnt,
+    }
 }
 
 // The run of the picks from the start, with its records in the log; then what each of the eight threads would meet. It owns arrays of structs, which

@@ -1,19 +1,22 @@
 -- Laws of the code's key sets: each exact result is the set that it should be, and its words fit 64 bits. Assumes nothing.
-use Prim.Native.Nat.{ℕ, zero, suc, _+_, _-_, _*_, _/_, _%_, _^_, _<_}
+use Prim.Native.Nat.{ℕ, zero, suc, _+_, _-_, _*_, _/_, _%_, _^_, _≤_, _<_}
 use native.Mathlib.Nat.{mul-assoc, mul-add-div-right, mul-add-mod-self-right, zero-mul, add-zero, zero-add, mul-comm, pow-suc, one-mul, mod-eq-of-lt}
 use native.Mathlib.Omega.{arith}
 use mathlib.Core.Path.{_≡_, refl, sym, ap, ap₂, _∙_}
-use mathlib.Core.Bool.{Bool, true, _&&_, and-false}
+use mathlib.Core.Bool.{Bool, true, _&&_, not, and-false}
 use mathlib.Core.List.{[], _∷_}
-use lib.Bits.{bitOr, or-block, or-lt, or-comm, or-zero-l, or-add-and, and-le-r}
+use lib.Bits.{bitAnd, bitOr, or-block, or-lt, or-comm, or-zero-l, or-add-and, and-le-r}
+use lib.Count.{ones}
 use lib.Dec.{eqb, eqb·suc-zero}
 use lib.ListN.{getD, set}
 use lib.Pow as pow
 use lib.Pow.{pow-pos, pow-lt, pow-add, shr-shr}
 use borrow.Author.Tests.{ne-eqb}
 use Rattle.keys.specs.declared.KeySet.{KeySet}
-use Rattle.keys.specs.Keys.{Keys, empty, singleton, holds, union, isEmpty}
-use Rattle.keys.specs.KeySet.{keysOf, wordOf, words, ofWords, emptySet, zeroSet, holdsOf, learnOf, joinOf, isEmptyOf, Made, Told}
+use Rattle.keys.specs.declared.Joined.{Joined}
+use Rattle.keys.specs.Keys.{Keys, empty, singleton, holds, union, isEmpty, countBelow, countNew}
+use Rattle.keys.specs.KeySet.{keysOf, wordOf, words, ofWords, emptySet, zeroSet, holdsOf, learnOf, joinOf, newIn, newOf, joinedOf, isEmptyOf, Made, Joins, Told}
+use Rattle.keys.proofs.CountLaws.{count-same, count-split, count-le, ones-new}
 
 -- every word fits 64 bits, as the code's do
 pub record Fits (s : KeySet) : Type 0 where
@@ -24,11 +27,17 @@ pub record Fits (s : KeySet) : Type 0 where
 
 -- ---- the words as the code makes them
 
-pub join-words :
-    (s t : KeySet)
-    → ofWords (bitOr (s .w0) (t .w0) ∷ bitOr (s .w1) (t .w1) ∷ bitOr (s .w2) (t .w2) ∷ bitOr (s .w3) (t .w3) ∷ []) ≡ joinOf s t
-unfolding joinOf
-join-words s t = refl
+-- with the new keys of each word
+pub joined-words : (s t : KeySet) (a b c d : ℕ) → a ≡ newIn (t .w0) (s .w0) → b ≡ newIn (t .w1) (s .w1) → c ≡ newIn (t .w2) (s .w2) → d ≡ newIn (t .w3) (s .w3)
+    → _≡_ {A = Joined} (record {
+      keys = record { w0 = bitOr (s .w0) (t .w0); w1 = bitOr (s .w1) (t .w1); w2 = bitOr (s .w2) (t .w2); w3 = bitOr (s .w3) (t .w3) };
+      new = a + b + c + d;
+    }) (joinedOf s t)
+unfolding joinOf newOf
+joined-words s t a b c d e f g h = ap (λ (n : ℕ). record { keys = joinOf s t; new = n }) (sum (sum (sum e f) g) h)
+  where
+    sum : {x x′ y y′ : ℕ} → x ≡ x′ → y ≡ y′ → x + y ≡ x′ + y′
+    sum p q = ap₂ (λ (x y : ℕ). x + y) p q
 
 -- `1u64 << (k % 64)` put into word q
 pub learn-word :
@@ -122,6 +131,35 @@ keys-join {s} {t} p q =
     ∙ ap (λ (m : ℕ). over m (union (s .w0) (t .w0)))
     (union-split 64 (from2 s) (s .w1) (from2 t) (t .w1) (p .w1) (q .w1)
     ∙ ap (λ (m : ℕ). over m (union (s .w1) (t .w1))) (union-split 64 (s .w3) (s .w2) (t .w3) (t .w2) (p .w2) (q .w2))))
+
+-- the new keys of a word, and those of the words over it
+new-split : (n high low high′ low′ : ℕ) → low < 2 ^ 64 → low′ < 2 ^ 64
+    → countBelow (λ k. holds (over high low) k && not (holds (over high′ low′) k)) (64 + n) ≡ newIn low low′ + countBelow (λ k. holds high k && not (holds high′ k)) n
+unfolding newIn
+new-split n high low high′ low′ p q =
+    count-split (λ k. holds (over high low) k && not (holds (over high′ low′) k)) 64 n
+    ∙ ap₂ (λ (x y : ℕ). x + y)
+    (count-same _ _ 64 (λ k l. ap₂ (λ (x y : Bool). x && not y) (holds-low 64 k high low l) (holds-low 64 k high′ low′ l)))
+    (count-same _ _ n (λ k l. ap₂ (λ (x y : Bool). x && not y) (holds-high 64 k high low p) (holds-high 64 k high′ low′ q)))
+
+-- of four words, from the lowest on
+four : (a b c d : ℕ) {x y z : ℕ} → x ≡ a + y → y ≡ b + z → z ≡ c + d → a + b + c + d ≡ x
+four a b c d e f g = omega (arith, e, f, g)
+
+pub keys-new : {s t : KeySet} → Fits s → Fits t → newOf s t ≡ countNew (keysOf t) (keysOf s)
+unfolding newOf newIn keysOf countNew
+keys-new {s} {t} p q =
+    four _ _ _ _ (new-split 192 (from1 t) (t .w0) (from1 s) (s .w0) (q .w0) (p .w0)) (new-split 128 (from2 t) (t .w1) (from2 s) (s .w1) (q .w1) (p .w1))
+    (new-split 64 (t .w3) (t .w2) (s .w3) (s .w2) (q .w2) (p .w2))
+
+-- the new keys of a word, as the code counts them
+pub word-new : (w v : ℕ) → w < 2 ^ 64 → v < 2 ^ 64 → ones (bitAnd w ((2 ^ 64 - 1) - v)) ≡ newIn w v
+unfolding newIn
+word-new w v p q = ones-new 64 w v p q
+
+pub new-in-le : (w v : ℕ) → newIn w v ≤ 64
+unfolding newIn
+new-in-le w v = count-le (λ k. holds w k && not (holds v k)) 64
 
 module _ {s : KeySet} (k : ℕ) (h : k < 256) (f : Fits s) where
   -- the key's place in its word
@@ -236,6 +274,9 @@ fits-learn {s} k f = go (k / 64)
 
 pub made : {r s : KeySet} {K : Keys} → r ≡ s → keysOf s ≡ K → Made r s K
 made e l = record { exact = e; keys = ap keysOf e ∙ l }
+
+pub joins : {r : Joined} {s t : KeySet} → r ≡ joinedOf s t → Fits s → Fits t → Joins r s t
+joins e p q = record { exact = e; keys = ap (λ (r : Joined). keysOf (r .keys)) e ∙ keys-join p q; new = ap (λ (r : Joined). r .new) e ∙ keys-new p q }
 
 pub told : {r b h : Bool} → r ≡ b → b ≡ h → Told r b h
 told e l = record { exact = e; keys = e ∙ l }

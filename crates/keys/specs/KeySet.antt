@@ -2,12 +2,13 @@
 -- needs them. Assumes nothing.
 use Prim.Native.Nat.{ℕ, _+_, _*_, _/_, _%_, _^_}
 use mathlib.Core.Path.{_≡_}
-use mathlib.Core.Bool.{Bool, _&&_}
+use mathlib.Core.Bool.{Bool, _&&_, not}
 use mathlib.Core.List.{List, [], _∷_}
 use lib.Dec.{eqb}
 use lib.ListN.{getD, set}
 use Rattle.keys.specs.declared.KeySet.{KeySet}
-use Rattle.keys.specs.Keys.{Keys, singleton, holds, union}
+use Rattle.keys.specs.declared.Joined.{Joined}
+use Rattle.keys.specs.Keys.{Keys, singleton, holds, union, countBelow, countNew}
 
 -- the set that the words stand for: key k is bit k % 64 of word k / 64
 unfoldable pub keysOf : KeySet → Keys
@@ -45,6 +46,18 @@ unfolding union
 joinOf s t =
     record { w0 = union (s .w0) (t .w0); w1 = union (s .w1) (t .w1); w2 = union (s .w2) (t .w2); w3 = union (s .w3) (t .w3) }
 
+-- how many keys of one word are new to another
+unfoldable pub newIn : ℕ → ℕ → ℕ
+unfolding countBelow
+newIn w v = countBelow (λ k. holds w k && not (holds v k)) 64
+
+unfoldable pub newOf : KeySet → KeySet → ℕ
+unfolding newIn
+newOf s t = newIn (t .w0) (s .w0) + newIn (t .w1) (s .w1) + newIn (t .w2) (s .w2) + newIn (t .w3) (s .w3)
+
+abbrev pub joinedOf : KeySet → KeySet → Joined
+joinedOf s t = record { keys = joinOf s t; new = newOf s t }
+
 unfoldable pub isEmptyOf : KeySet → Bool
 isEmptyOf s = eqb (s .w0) 0 && (eqb (s .w1) 0 && (eqb (s .w2) 0 && eqb (s .w3) 0))
 
@@ -53,6 +66,11 @@ isEmptyOf s = eqb (s .w0) 0 && (eqb (s .w1) 0 && (eqb (s .w2) 0 && eqb (s .w3) 0
 pub record Made (r s : KeySet) (K : Keys) : Type 0 where
   pub exact : r ≡ s
   pub keys : keysOf r ≡ K
+
+pub record Joins (r : Joined) (s t : KeySet) : Type 0 where
+  pub exact : r ≡ joinedOf s t
+  pub keys : keysOf (r .keys) ≡ union (keysOf s) (keysOf t)
+  pub new : r .new ≡ countNew (keysOf t) (keysOf s)
 
 pub record Told (r b h : Bool) : Type 0 where
   pub exact : r ≡ b

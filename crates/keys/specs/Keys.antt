@@ -1,6 +1,6 @@
 -- Sets of write keys (document 001, section 4; document 01, "How a thread moves"). Assumes nothing.
-use Prim.Native.Nat.{ℕ, _/_, _%_, _^_}
-use mathlib.Core.Bool.{Bool}
+use Prim.Native.Nat.{ℕ, zero, suc, _/_, _%_, _^_}
+use mathlib.Core.Bool.{Bool, cond, _&&_, not}
 use lib.Bits.{bitOr}
 use lib.Dec.{eqb}
 
@@ -32,3 +32,20 @@ subset W K = eqb (union W K) K
 -- K = ∅
 unfoldable pub isEmpty : Keys → Bool
 isEmpty K = eqb K 0
+
+-- ---- how many keys
+
+-- how many of the keys 0 to n - 1 pass a test
+unfoldable pub countBelow : (ℕ → Bool) → ℕ → ℕ
+countBelow h zero = 0
+countBelow h (suc n) = cond (h n) (suc (countBelow h n)) (countBelow h n)
+
+-- |K|, of the keys 0 to 255
+unfoldable pub size : Keys → ℕ
+unfolding countBelow
+size K = countBelow (holds K) 256
+
+-- |W ∖ K|: how many keys of W are new to K
+unfoldable pub countNew : Keys → Keys → ℕ
+unfolding countBelow
+countNew W K = countBelow (λ k. holds W k && not (holds K k)) 256

@@ -1,7 +1,8 @@
 // Sets of write keys 0 to 255, by value (document 01, "How a thread moves").
+ghost use Prim.Native.Nat.{_≤_};
 ghost use mathlib.Core.Path.{_≡_};
 ghost use Rattle.keys.specs.Keys.{empty, singleton, holds, union, isEmpty};
-ghost use Rattle.keys.specs.KeySet.{keysOf, wordOf, emptySet, zeroSet, holdsOf, learnOf, joinOf, isEmptyOf, Made, Told};
+ghost use Rattle.keys.specs.KeySet.{keysOf, wordOf, emptySet, zeroSet, holdsOf, learnOf, newIn, isEmptyOf, Made, Joins, Told};
 
 // Key k is in the set where bit k % 64 of word k / 64 is 1.
 pub struct KeySet {
@@ -9,6 +10,19 @@ pub struct KeySet {
     pub w1: u64,
     pub w2: u64,
     pub w3: u64,
+}
+
+// The keys of both sets, and how many of them the first did not hold.
+pub struct Joined {
+    pub keys: KeySet,
+    pub new: u32,
+}
+
+// The keys of one word that are new to another: their ones, counted.
+fn new_keys(word: u64, known: u64) -> u32
+    ensures { λ r. ⌜ (r ≡ newIn word known) × (r ≤ 64) ⌝ }
+{
+    u64::count_ones(word & !known)
 }
 
 impl KeySet {
@@ -76,15 +90,23 @@ impl KeySet {
         more
     }
 
-    // The keys of both sets.
-    pub fn join(self, other: KeySet) -> KeySet
-        ensures { λ r. ⌜ Made r (joinOf self other) (union (keysOf self) (keysOf other)) ⌝ }
+    // The keys of both sets, and how many keys of the other are new.
+    pub fn join(self, other: KeySet) -> Joined
+        ensures { λ r. ⌜ Joins r self other ⌝ }
     {
-        KeySet {
+        let new = new_keys(other.w0, self.w0)
+            + new_keys(other.w1, self.w1)
+            + new_keys(other.w2, self.w2)
+            + new_keys(other.w3, self.w3);
+        let keys = KeySet {
             w0: self.w0 | other.w0,
             w1: self.w1 | other.w1,
             w2: self.w2 | other.w2,
             w3: self.w3 | other.w3,
+        };
+        Joined {
+            keys: keys,
+            new: new,
         }
     }
 

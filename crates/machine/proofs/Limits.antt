@@ -19,7 +19,7 @@ use Rattle.format.proofs.RefusalLaws.{both-none}
 use Rattle.rules.proofs.RoomLaws.{room-for}
 use Rattle.machine.specs.Frames.{noSlots, Closure, Frame, Ready, Found, height}
 use Rattle.machine.specs.Landing.{go}
-use Rattle.machine.specs.Machine.{Thread, State, Numbered, Table, Act, waits, sticks, lacks, does, Move, Attempt, absent, finished, waiting, stuck, lacking, moves, store, storeMonitor, addObject, addThread, useKey, learn, become, lookup, monitor, threadOf, finishedWith, joinValue, joinAct, synchAct, readAct, writeAct, act, actᶜ, around, attemptAt, attemptBy, attempt}
+use Rattle.machine.specs.Machine.{Thread, State, Numbered, Table, Act, waits, sticks, lacks, does, Move, Attempt, absent, finished, waiting, stuck, lacking, moves, store, storeMonitor, addObject, addThread, useKey, gain, become, lookup, monitor, threadOf, finishedWith, joinValue, joinAct, synchAct, readAct, writeAct, act, actᶜ, around, attemptAt, attemptBy, attempt}
 use Rattle.machine.specs.Playing.{noRoomBefore, deep, deepAt, anyDeep, noRoomAfter, noRoomFor, moved, withinRoom, answer, step, start}
 
 pub record Counts (s : State) : Type 0 where
@@ -56,9 +56,9 @@ module _ (R : Rule) (s : State) (p : ℕ) where
     others = g .others;
   }
 
-  after-learn : (s′ : State) (W : Keys) → Grows R s p s′ → Grows R s p (learn s′ p W)
-  unfolding learn
-  after-learn s′ W g = record {
+  after-gain : (s′ : State) (W : Keys) (n : Keys → ℕ) → Grows R s p s′ → Grows R s p (gain s′ p W n)
+  unfolding gain
+  after-gain s′ W n g = record {
     counts = λ e k. let z = g .counts e k in record { few-objects = z .few-objects; few-threads = rw change-length (z .few-threads); few-keys = z .few-keys };
     others = λ q n l. change-other (s′ .threads) p _ q n ∙ g .others q n l;
   }
@@ -114,7 +114,7 @@ module _ (table : Table) (s : State) (p : ℕ) (t : Thread) where
   unfolding readAct
   read-grows o f none = tt
   read-grows o f (some c) =
-      cond-grows s p (table .isVolatile f) _ _ (after-learn _ s p s (passedOn (table .version) (c .keys)) (stays _ s p)) (cond-grows s p (subset (c .keys) (t .keys)) _ _ (stays _ s p) tt)
+      cond-grows s p (table .isVolatile f) _ _ (after-gain _ s p s (passedOn (table .version) (c .keys)) _ (stays _ s p)) (cond-grows s p (subset (c .keys) (t .keys)) _ _ (stays _ s p) tt)
 
   write-grows : (o f v : ℕ) (c : Option Cell) → GrowsAct s p (writeAct table s p t o f v c)
   unfolding writeAct
@@ -122,12 +122,12 @@ module _ (table : Table) (s : State) (p : ℕ) (t : Thread) where
   write-grows o f v (some c) =
       cond-grows s p (table .isVolatile f) _ _ (after-store _ s p s o f _ (stays _ s p))
       (cond-grows s p (subset (c .keys) (t .keys)) _ _
-      (after-learn e-write s p _ (singleton (s .nextKey)) (after-store e-write s p (useKey s) o f (cell (singleton (s .nextKey)) v) (grows-key s p))) tt)
+      (after-gain e-write s p _ (singleton (s .nextKey)) _ (after-store e-write s p (useKey s) o f (cell (singleton (s .nextKey)) v) (grows-key s p))) tt)
 
   join-value-grows : (o : ℕ) (q : Numbered) (v : Option ℕ) → GrowsAct s p (joinValue s p o q v)
   unfolding joinValue
   join-value-grows o q none = tt
-  join-value-grows o q (some v) = after-learn _ s p s (q .thread .keys) (stays _ s p)
+  join-value-grows o q (some v) = after-gain _ s p s (q .thread .keys) _ (stays _ s p)
 
   join-grows : (o : ℕ) (q : Option Numbered) → GrowsAct s p (joinAct s p o q)
   unfolding joinAct
@@ -138,7 +138,7 @@ module _ (table : Table) (s : State) (p : ℕ) (t : Thread) where
   unfolding synchAct
   synch-grows o x c =
       cond-grows s p (isEmpty (c .keys)) _ _ (cond-grows s p (eqb (c .value) (t .self)) _ _ (stays _ s p) tt)
-      (after-learn _ s p (storeMonitor s o (cell empty (t .self))) (c .keys) (after-monitor _ s p s o (cell empty (t .self)) (stays _ s p)))
+      (after-gain _ s p (storeMonitor s o (cell empty (t .self))) (c .keys) _ (after-monitor _ s p s o (cell empty (t .self)) (stays _ s p)))
 
   act-grows : (r : Ready) → GrowsAct s p (act table s p t r)
   unfolding act
@@ -250,6 +250,6 @@ start-limits = record { counts = record { few-objects = omega arith; few-threads
   where
     at : (q : ℕ) (t : Thread) → getElem? (start .threads) q ≡ some t → height (t .code) ≤ 32
     at zero t h =
-        let e : record { self = 0; code = Found.here [] (Ready.call 0 0 noSlots); keys = singleton 0 } ≡ t = cc in
+        let e : record { self = 0; code = Found.here [] (Ready.call 0 0 noSlots); keys = singleton 0; learnt = 0 } ≡ t = cc in
         along (λ (t : Thread). height (t .code) ≤ 32) e (omega arith)
     at (suc q) t h = absurd (true≢false cc)

@@ -23,7 +23,7 @@ use Rattle.machine.specs.Machine.{Table}
 use Rattle.machine.proofs.Substitution.{every, firstSlots, first-length, let-put, call-slots}
 use Rattle.machine.proofs.Meaning.{expressionIn, redex}
 use Rattle.machine.proofs.Onward.{whole-go}
-use Rattle.machine.proofs.StateMeaning.{map-added, Tabulates, threadMeant, stateOf, actOf, learn-of, thread-of, cond-of, join-of, choose-of, branch-of, again-of}
+use Rattle.machine.proofs.StateMeaning.{map-added, Tabulates, threadMeant, stateOf, actOf, gain-of, thread-of, cond-of, join-of, choose-of, branch-of, again-of}
 
 -- a rule applies
 abbrev pub RuledAct : Act → Type 0
@@ -39,7 +39,7 @@ module _ (table : Table) where
   unfolding machine.synchAct machine.cellOr synchAct
   synch-of s p t o x none k = absurd k
   synch-of s p t o x (some c) k =
-      cond-of table (isEmpty (c .keys)) _ _ _ _ _ refl (cond-of table (eqb (c .value) (t .self)) _ _ _ _ _ refl refl refl) (rw (learn-of table))
+      cond-of table (isEmpty (c .keys)) _ _ _ _ _ refl (cond-of table (eqb (c .value) (t .self)) _ _ _ _ _ refl refl refl) (rw (gain-of table))
 
   hold-of : (s : machine.State) (p : ℕ) (t : machine.Thread) (o v : ℕ) (c : Option Cell) → RuledAct (holdAct (stateOf table s) p (threadMeant table t) o v c)
       → actOf table (machine.act table s p t (Ready.hold o v)) ≡ holdAct (stateOf table s) p (threadMeant table t) o v c
@@ -62,14 +62,14 @@ module _ (table : Table) where
     unfolding machine.readAct readAct
     read-of s p t o f none = refl
     read-of s p t o f (some c) =
-        cond-of table (table .isVolatile f) _ _ _ _ _ (law .volatiles f) (rw (learn-of table, law .version-of)) (cond-of table (subset (c .keys) (t .keys)) _ _ _ _ _ refl refl refl)
+        cond-of table (table .isVolatile f) _ _ _ _ _ (law .volatiles f) (rw (gain-of table, law .version-of)) (cond-of table (subset (c .keys) (t .keys)) _ _ _ _ _ refl refl refl)
 
     write-of : (s : machine.State) (p : ℕ) (t : machine.Thread) (o f v : ℕ) (c : Option Cell)
         → actOf table (machine.writeAct table s p t o f v c) ≡ writeAct g (stateOf table s) p (threadMeant table t) o f v c
     unfolding machine.writeAct writeAct
     write-of s p t o f v none = refl
     write-of s p t o f v (some c) =
-        cond-of table (table .isVolatile f) _ _ _ _ _ (law .volatiles f) (rw (law .version-of)) (cond-of table (subset (c .keys) (t .keys)) _ _ _ _ _ refl (rw (learn-of table)) refl)
+        cond-of table (table .isVolatile f) _ _ _ _ _ (law .volatiles f) (rw (law .version-of)) (cond-of table (subset (c .keys) (t .keys)) _ _ _ _ _ refl (rw (gain-of table)) refl)
 
     body-of : (m n : ℕ) (σ : Slots) (d : Procedure) → getElem? (g .procedures) m ≡ some d → d .parameters ≡ n
         → expressionIn (table .node) (table .count) (closure (table .root m) σ) ≡ substitute (bindParameters (firstSlots n σ)) (d .body)
@@ -92,12 +92,12 @@ module _ (table : Table) where
         at false e k = absurd k
 
     fork-of : (s : machine.State) (x : Closure) (o : ℕ) (W : Keys)
-        → map (threadMeant table) (s .threads ++ (record { self = o; code = enter (table .node) (table .count) [] x; keys = W } ∷ []))
-        ≡ map (threadMeant table) (s .threads) ++ (record { self = o; expression = expressionIn (table .node) (table .count) x; keys = W } ∷ [])
+        → map (threadMeant table) (s .threads ++ (record { self = o; code = enter (table .node) (table .count) [] x; keys = W; learnt = 0 } ∷ []))
+        ≡ map (threadMeant table) (s .threads) ++ (record { self = o; expression = expressionIn (table .node) (table .count) x; keys = W; learnt = 0 } ∷ [])
     unfolding go plug
     fork-of s x o W =
         map-added (threadMeant table) (s .threads) _
-        ∙ ap (λ (e : Expression). map (threadMeant table) (s .threads) ++ (record { self = o; expression = e; keys = W } ∷ []))
+        ∙ ap (λ (e : Expression). map (threadMeant table) (s .threads) ++ (record { self = o; expression = e; keys = W; learnt = 0 } ∷ []))
         (whole-go (table .node) (table .count) (law .ordered) [] (Result.run x))
 
     pub act-of : (s : machine.State) (p : ℕ) (t : machine.Thread) (r : Ready) → RuledAct (act g (stateOf table s) p (threadMeant table t) (redex (table .node) (table .count) r))

@@ -1,6 +1,6 @@
 -- The machine plays every accepted plan as it is defined: the same stop, picks, rules, log, final state and outcome. Assumes nothing.
 use Prim.Native.Nat.{ℕ}
-use mathlib.Core.Path.{_≡_, refl, ap, _∙_, subst as along}
+use mathlib.Core.Path.{_≡_, refl, ap, ap₂, _∙_, subst as along}
 use mathlib.Core.List.{List}
 use mathlib.Core.Option.{none}
 use lib.ListN.{length}
@@ -18,7 +18,7 @@ use Rattle.machine.specs.Playing as playing
 use Rattle.machine.specs.Playing.{tableOf}
 use Rattle.machine.proofs.Substitution.{firstSlots}
 use Rattle.machine.proofs.Limits.{start-limits}
-use Rattle.machine.proofs.Runs.{Reached, step-reached, runMeant, run-of, run-reached, statuses-of}
+use Rattle.machine.proofs.Runs.{Reached, step-reached, runMeant, run-of, run-reached, statuses-of, totals-of}
 use Rattle.machine.proofs.PlanTable.{tabulates}
 use Rattle.machine.proofs.StateMeaning.{stateOf}
 
@@ -60,5 +60,7 @@ module _ (b : List ℕ) (h : refusal b ≡ none) where
   unfolding outcomeOf playing.outcomeOf
   plays-outcome ps =
       ap (λ (r : Run). outcomeOf (programOf b) r) (plays ps)
-      ∙ ap (λ (l : List Status). record { stop = playing.runOf b ps .stop; picks = playing.runOf b ps .picks; moves = length (playing.runOf b ps .instances); records = length (playing.runOf b ps .log); threads = l })
+      ∙ ap₂ (λ (l : List Status) (n : List ℕ).
+      record { stop = playing.runOf b ps .stop; picks = playing.runOf b ps .picks; moves = length (playing.runOf b ps .instances); records = length (playing.runOf b ps .log); threads = l; totals = n })
       (statuses-of (tableOf b) (programOf b) (well-formed b h) (tabulates b (accepted b h)) (playing.runOf b ps .final) (plays-reached ps) 0 8)
+      (totals-of (tableOf b) (playing.runOf b ps .final) 0 8)

@@ -1,11 +1,13 @@
 -- The machine's runs, from a state that a run of a well-formed program comes to, are the defined runs. Assumes nothing.
-use Prim.Native.Nat.{ℕ, zero, suc}
+use Prim.Native.Nat.{ℕ, zero, suc, _<_}
+use native.Mathlib.Omega.{arith}
 use mathlib.Core.Path.{_≡_, refl, sym, ap, ap₂, _∙_}
 use mathlib.Core.Bool.{Bool, _||_}
 use mathlib.Core.List.{List, [], _∷_, map}
 use mathlib.Core.Option.{Option, some, none, Option·map, orElse}
 use lib.Dec.{ltb}
 use lib.ListN.{length, getElem?, drop, length-map}
+use Rattle.keys.proofs.CountLaws.{size-le}
 use Rattle.packed.specs.Syntax.{Program}
 use Rattle.packed.proofs.WellFormed.{WellFormedProgram}
 use Rattle.rules.specs.Context.{Focus, depthOf}
@@ -13,7 +15,7 @@ use Rattle.rules.specs.State.{Thread, State}
 use Rattle.rules.specs.Rules.{Rule}
 use Rattle.rules.specs.Step.{Attempt, Move, attempt}
 use Rattle.rules.specs.Room.{Room, noRoomAmong, noRoomBefore, deep, deepAt, anyDeep, noRoomAfter, noRoomFor, Answer, withinRoom, answer, step}
-use Rattle.rules.specs.Run.{Run, afterPass, afterMove, resume, run, Status, status, statusesFrom}
+use Rattle.rules.specs.Run.{Run, afterPass, afterMove, resume, run, Status, status, statusesFrom, totalOf, totalsFrom}
 use Rattle.rules.proofs.Decompose.{focus-whole}
 use Rattle.rules.proofs.Progress.{ruled}
 use Rattle.rules.proofs.Equivalence.{step-sound}
@@ -71,6 +73,18 @@ module _ (table : Table) where
   unfolding noRoomFor playing.noRoomFor
   lack-of R s p s′ w = ap₂ (λ (x y : Option Room). orElse x y) (lack-before s R) (lack-after s p s′ w)
 
+  -- ---- the totals
+
+  total-of : (t : Option machine.Thread) → totalOf (Option·map (threadMeant table) t) ≡ playing.totalOf t
+  unfolding totalOf playing.totalOf
+  total-of none = refl
+  total-of (some t) = refl
+
+  pub totals-of : (s : machine.State) (p n : ℕ) → totalsFrom (stateOf table s) p n ≡ playing.totalsFrom s p n
+  unfolding totalsFrom playing.totalsFrom
+  totals-of s p zero = refl
+  totals-of s p (suc n) = ap₂ (λ (x : ℕ) (xs : List ℕ). x ∷ xs) (ap totalOf (get-map (threadMeant table) (s .threads) p) ∙ total-of (getElem? (s .threads) p)) (totals-of s (suc p) n)
+
   -- ---- the answer to a pick
 
   abbrev moveOf : machine.Move → Move
@@ -125,6 +139,12 @@ module _ (table : Table) where
     pub sorted : WellAll (s .threads)
     pub limits : Limits s
     pub reachable : Reachable g (stateOf table s)
+
+  -- a total is below 256
+  pub reached-total : {g : Program} {s : machine.State} → Reached g s → (p : ℕ) (t : machine.Thread) → getElem? (s .threads) p ≡ some t → t .learnt < 256
+  reached-total {s = s} r p t h =
+      let l = r .reachable .modest p (threadMeant table t) (get-map (threadMeant table) (s .threads) p ∙ ap (λ (x : Option machine.Thread). Option·map (threadMeant table) x) h) in
+      omega (arith, l, size-le (t .keys))
 
   module _ (g : Program) (good : WellFormedProgram g) (law : Tabulates table g) where
     pub attempt-reached : (s : machine.State) (p : ℕ) → Reached g s → attemptOf table (machine.attempt table s p) ≡ attempt g (stateOf table s) p

@@ -12,7 +12,7 @@ use Rattle.packed.specs.Slots.{closed}
 use Rattle.packed.specs.Steps.{Descending}
 use Rattle.packed.proofs.TreeLaws.{tree, treeᶜ}
 use Rattle.rules.specs.Context.{asLiteral}
-use Rattle.rules.specs.State.{Thread, State, Numbered, changeAt, learn, become, threadOf}
+use Rattle.rules.specs.State.{Thread, State, Numbered, changeAt, gain, become, threadOf}
 use Rattle.rules.specs.Rules.{isVolatile}
 use Rattle.rules.specs.Step.{Act, waits, sticks, lacks, does, joinValue, joinAct, Attempt}
 use Rattle.rules.proofs.Decompose.{whole, no-literal}
@@ -46,7 +46,7 @@ module _ (table : Table) where
   meant F = whole (mean (table .node) (table .count) F)
 
   abbrev pub threadMeant : machine.Thread → Thread
-  threadMeant x = record { self = x .self; expression = meant (x .code); keys = x .keys }
+  threadMeant x = record { self = x .self; expression = meant (x .code); keys = x .keys; learnt = x .learnt }
 
   abbrev pub stateOf : machine.State → State
   stateOf s = record { objects = s .objects; threads = map threadMeant (s .threads); nextKey = s .nextKey }
@@ -77,15 +77,15 @@ module _ (table : Table) where
   change-of (x ∷ xs) zero k k′ q = rw (q x)
   change-of (x ∷ xs) (suc p) k k′ q = ap (λ (l : List Thread). threadMeant x ∷ l) (change-of xs p k k′ q)
 
-  pub learn-of : (s : machine.State) (p : ℕ) (W : Keys) → stateOf (machine.learn s p W) ≡ learn (stateOf s) p W
-  unfolding machine.learn learn
-  learn-of s p W = ap (λ (l : List Thread). record { objects = s .objects; threads = l; nextKey = s .nextKey }) (change-of (s .threads) p _ _ (λ x. refl))
+  pub gain-of : (s : machine.State) (p : ℕ) (W : Keys) (n : Keys → ℕ) → stateOf (machine.gain s p W n) ≡ gain (stateOf s) p W n
+  unfolding machine.gain gain
+  gain-of s p W n = ap (λ (l : List Thread). record { objects = s .objects; threads = l; nextKey = s .nextKey }) (change-of (s .threads) p _ _ (λ x. refl))
 
   pub become-of : (s : machine.State) (p : ℕ) (F : Found) (e : Expression) → meant F ≡ e → stateOf (machine.become s p F) ≡ become (stateOf s) p e
   unfolding machine.become become
   become-of s p F e q =
       ap (λ (l : List Thread). record { objects = s .objects; threads = l; nextKey = s .nextKey })
-      (change-of (s .threads) p _ _ (λ x. ap (λ (e : Expression). record { self = x .self; expression = e; keys = x .keys }) q))
+      (change-of (s .threads) p _ _ (λ x. ap (λ (e : Expression). record { self = x .self; expression = e; keys = x .keys; learnt = x .learnt }) q))
 
   pub thread-of : (i : ℕ) (xs : List machine.Thread) (o : ℕ) → threadOf i (map threadMeant xs) o ≡ Option·map numberedMeant (machine.threadOf i xs o)
   unfolding threadOf machine.threadOf
@@ -111,7 +111,7 @@ module _ (table : Table) where
   join-value : (s : machine.State) (p o : ℕ) (q : machine.Numbered) (v : Option ℕ) → actOf (machine.joinValue s p o q v) ≡ joinValue (stateOf s) p o (numberedMeant q) v
   unfolding machine.joinValue joinValue
   join-value s p o q none = refl
-  join-value s p o q (some v) = rw learn-of
+  join-value s p o q (some v) = rw gain-of
 
   pub join-of : (s : machine.State) (p o : ℕ) (q : Option machine.Numbered) → actOf (machine.joinAct s p o q) ≡ joinAct (stateOf s) p o (Option·map numberedMeant q)
   unfolding machine.joinAct joinAct

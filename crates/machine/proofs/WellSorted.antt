@@ -10,7 +10,7 @@ use Rattle.rules.specs.Rules.{passedOn}
 use Rattle.rules.specs.State.{Cell, cell, changeAt, fieldOf}
 use Rattle.machine.specs.Frames.{Closure, Frame, Ready, Readyᶜ, Found}
 use Rattle.machine.specs.Landing.{go}
-use Rattle.machine.specs.Machine.{Thread, State, Numbered, Table, Act, waits, sticks, lacks, does, Attempt, absent, finished, waiting, stuck, lacking, moves, store, storeMonitor, useKey, learn, become, monitor, threadOf, finishedWith, joinValue, joinAct, synchAct, readAct, writeAct, act, actᶜ, around, attemptAt, attemptBy, attempt}
+use Rattle.machine.specs.Machine.{Thread, State, Numbered, Table, Act, waits, sticks, lacks, does, Attempt, absent, finished, waiting, stuck, lacking, moves, store, storeMonitor, useKey, gain, become, monitor, threadOf, finishedWith, joinValue, joinAct, synchAct, readAct, writeAct, act, actᶜ, around, attemptAt, attemptBy, attempt}
 use Rattle.machine.proofs.Sorted.{Well, Wellᶜ, WellFound, go-well, enter-well, enter-wellᶜ, up-wellᶜ}
 
 abbrev pub WellAll : List Thread → Type 0
@@ -41,9 +41,9 @@ well-added : (xs : List Thread) (x : Thread) → WellAll xs → WellFound (x .co
 well-added [] x w v = (v, tt)
 well-added (y ∷ xs) x w v = (w .0, well-added xs x (w .1) v)
 
-learn-well : (s : State) (p : ℕ) (W : Keys) → WellAll (s .threads) → WellAll (learn s p W .threads)
-unfolding learn
-learn-well s p W w = well-change (s .threads) p _ (λ x v. v) w
+gain-well : (s : State) (p : ℕ) (W : Keys) (n : Keys → ℕ) → WellAll (s .threads) → WellAll (gain s p W n .threads)
+unfolding gain
+gain-well s p W n w = well-change (s .threads) p _ (λ x v. v) w
 
 become-well : (s : State) (p : ℕ) (F : Found) → WellAll (s .threads) → WellFound F → WellAll (become s p F .threads)
 unfolding become
@@ -64,7 +64,7 @@ cond-well false x y p q = q
 join-value-well : (s : State) (p o : ℕ) (q : Numbered) (v : Option ℕ) → WellAll (s .threads) → WellAct (joinValue s p o q v)
 unfolding joinValue
 join-value-well s p o q none w = tt
-join-value-well s p o q (some v) w = learn-well s p (q .thread .keys) w
+join-value-well s p o q (some v) w = gain-well s p (q .thread .keys) _ w
 
 join-well : (s : State) (p o : ℕ) (q : Option Numbered) → WellAll (s .threads) → WellAct (joinAct s p o q)
 unfolding joinAct
@@ -74,20 +74,20 @@ join-well s p o (some q) w = join-value-well s p o q (finishedWith (q .thread .c
 synch-well : (s : State) (p : ℕ) (t : Thread) (o : ℕ) (x : Closure) (c : Cell) → WellAll (s .threads) → WellAct (synchAct s p t o x c)
 unfolding synchAct
 synch-well s p t o x c w =
-    cond-well (isEmpty (c .keys)) _ _ (cond-well (eqb (c .value) (t .self)) _ _ w tt) (learn-well (storeMonitor s o (cell empty (t .self))) p (c .keys) w)
+    cond-well (isEmpty (c .keys)) _ _ (cond-well (eqb (c .value) (t .self)) _ _ w tt) (gain-well (storeMonitor s o (cell empty (t .self))) p (c .keys) _ w)
 
 module _ (table : Table) where
   read-well : (s : State) (p : ℕ) (t : Thread) (o f : ℕ) (c : Option Cell) → WellAll (s .threads) → WellAct (readAct table s p t o f c)
   unfolding readAct
   read-well s p t o f none w = tt
-  read-well s p t o f (some c) w = cond-well (table .isVolatile f) _ _ (learn-well s p (passedOn (table .version) (c .keys)) w) (cond-well (subset (c .keys) (t .keys)) _ _ w tt)
+  read-well s p t o f (some c) w = cond-well (table .isVolatile f) _ _ (gain-well s p (passedOn (table .version) (c .keys)) _ w) (cond-well (subset (c .keys) (t .keys)) _ _ w tt)
 
   write-well : (s : State) (p : ℕ) (t : Thread) (o f v : ℕ) (c : Option Cell) → WellAll (s .threads) → WellAct (writeAct table s p t o f v c)
   unfolding writeAct
   write-well s p t o f v none w = tt
   write-well s p t o f v (some c) w =
       cond-well (table .isVolatile f) _ _ w
-      (cond-well (subset (c .keys) (t .keys)) _ _ (learn-well (store (useKey s) o f (cell (singleton (s .nextKey)) v)) p (singleton (s .nextKey)) w) tt)
+      (cond-well (subset (c .keys) (t .keys)) _ _ (gain-well (store (useKey s) o f (cell (singleton (s .nextKey)) v)) p (singleton (s .nextKey)) _ w) tt)
 
   act-well : (s : State) (p : ℕ) (t : Thread) (r : Ready) → WellAll (s .threads) → WellAct (act table s p t r)
   unfolding act

@@ -1,13 +1,13 @@
 -- The abstract machine; no reader of the entries' promises needs it. Its state, and what a thread can do in it. Its names are those of the
 -- definitions that it follows: use them qualified. Assumes nothing.
-use Prim.Native.Nat.{ℕ, suc}
+use Prim.Native.Nat.{ℕ, suc, _+_}
 use mathlib.Core.Bool.{Bool, true, false, cond}
 use mathlib.Core.List.{List, [], _∷_, _++_}
 use mathlib.Core.Option.{Option, some, none}
 use lib.Dec.{eqb}
 use lib.ListN.{length, getElem?}
 use Rattle.format.specs.Version.{Version}
-use Rattle.keys.specs.Keys.{Keys, empty, singleton, union, subset, isEmpty}
+use Rattle.keys.specs.Keys.{Keys, empty, singleton, union, subset, isEmpty, countNew}
 use Rattle.packed.specs.Trees.{Node}
 use Rattle.records.specs.Record.{Kind, Record, entry}
 use Rattle.rules.specs.State.{Cell, cell, Object, fresh, freshObject, changeAt, storeField, fieldOf, monitorOf}
@@ -18,11 +18,12 @@ use Rattle.machine.specs.Landing.{upᶜ, enter, enterᶜ, go}
 
 -- ---- the state
 
--- a thread: the object that stands for it, where it stands, its key set
+-- a thread: the object that stands for it, where it stands, its key set, its total
 pub record Thread : Type 0 where
   pub self : ℕ
   pub code : Found
   pub keys : Keys
+  pub learnt : ℕ
 
 pub record State : Type 0 where
   pub objects : List Object
@@ -51,13 +52,20 @@ unfoldable pub addThread : State → Thread → State
 unfolding onThreads
 addThread s x = onThreads s (s .threads ++ (x ∷ []))
 
-unfoldable pub learn : State → ℕ → Keys → State
+unfoldable pub gain : State → ℕ → Keys → (Keys → ℕ) → State
 unfolding onThreads changeAt union
-learn s p W = onThreads s (changeAt (s .threads) p (λ x. record { self = x .self; code = x .code; keys = union W (x .keys) }))
+gain s p W count =
+    onThreads s (changeAt (s .threads) p (λ x. record { self = x .self; code = x .code; keys = union W (x .keys); learnt = x .learnt + count (x .keys) }))
+
+abbrev pub learn : State → ℕ → Keys → State
+learn s p W = gain s p W (λ K. 0)
+
+abbrev pub hear : State → ℕ → Keys → State
+hear s p W = gain s p W (countNew W)
 
 unfoldable pub become : State → ℕ → Found → State
 unfolding onThreads changeAt
-become s p F = onThreads s (changeAt (s .threads) p (λ x. record { self = x .self; code = F; keys = x .keys }))
+become s p F = onThreads s (changeAt (s .threads) p (λ x. record { self = x .self; code = F; keys = x .keys; learnt = x .learnt }))
 
 unfoldable pub useKey : State → State
 useKey s = record { objects = s .objects; threads = s .threads; nextKey = suc (s .nextKey) }
@@ -129,9 +137,9 @@ pub record Actᶜ : Type 0 where
   pub code : Found
 
 unfoldable pub joinValue : State → ℕ → ℕ → Numbered → Option ℕ → Act
-unfolding learn
+unfolding gain
 joinValue s p o q none = waits (forJoin o)
-joinValue s p o q (some v) = does e-join (some (entry Kind.join p o (q .number) v)) (learn s p (q .thread .keys)) (Result.value v)
+joinValue s p o q (some v) = does e-join (some (entry Kind.join p o (q .number) v)) (hear s p (q .thread .keys)) (Result.value v)
 
 unfoldable pub joinAct : State → ℕ → ℕ → Option Numbered → Act
 unfolding joinValue finishedWith
@@ -139,25 +147,25 @@ joinAct s p o none = sticks (notThread o)
 joinAct s p o (some q) = joinValue s p o q (finishedWith (q .thread .code))
 
 unfoldable pub synchAct : State → ℕ → Thread → ℕ → Closure → Cell → Act
-unfolding learn storeMonitor isEmpty
+unfolding gain storeMonitor isEmpty
 synchAct s p t o x c =
     cond (isEmpty (c .keys))
     (cond (eqb (c .value) (t .self)) (does e-re-enter none s (Result.run x)) (waits (forMonitor o)))
-    (does e-acquire (some (entry Kind.acquire p o 0 0)) (learn (storeMonitor s o (cell empty (t .self))) p (c .keys)) (Result.held o x))
+    (does e-acquire (some (entry Kind.acquire p o 0 0)) (hear (storeMonitor s o (cell empty (t .self))) p (c .keys)) (Result.held o x))
 
 module _ (table : Table) where
   unfoldable pub readAct : State → ℕ → Thread → ℕ → ℕ → Option Cell → Act
-  unfolding learn subset passedOn
+  unfolding gain subset passedOn
   readAct s p t o f none = sticks (missingField o f)
   readAct s p t o f (some c) =
       cond (table .isVolatile f)
-      (does e-readv (some (entry Kind.readv p o f (c .value))) (learn s p (passedOn (table .version) (c .keys))) (Result.value (c .value)))
+      (does e-readv (some (entry Kind.readv p o f (c .value))) (hear s p (passedOn (table .version) (c .keys))) (Result.value (c .value)))
       (cond (subset (c .keys) (t .keys))
       (does e-read (some (entry Kind.read p o f (c .value))) s (Result.value (c .value)))
       (lacks (entry Kind.lacksRead p o f 0)))
 
   unfoldable pub writeAct : State → ℕ → Thread → ℕ → ℕ → ℕ → Option Cell → Act
-  unfolding learn store useKey subset union passedOn
+  unfolding gain store useKey subset union passedOn
   writeAct s p t o f v none = sticks (missingField o f)
   writeAct s p t o f v (some c) =
       cond (table .isVolatile f)
@@ -178,7 +186,7 @@ module _ (table : Table) where
   act s p t (Ready.call m n σ) = does e-call none s (Result.run (closure (table .root m) σ))
   act s p t (Ready.fork x) =
       does e-fork (some (entry Kind.fork p (length (s .objects)) (length (s .threads)) 0))
-      (addThread (addObject s []) (record { self = length (s .objects); code = enter (table .node) (table .count) [] x; keys = t .keys }))
+      (addThread (addObject s []) (record { self = length (s .objects); code = enter (table .node) (table .count) [] x; keys = t .keys; learnt = 0 }))
       (Result.value (length (s .objects)))
   act s p t (Ready.join o) = joinAct s p o (threadOf 0 (s .threads) o)
   act s p t (Ready.synch o x) = synchAct s p t o x (monitor s o)

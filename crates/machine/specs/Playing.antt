@@ -106,7 +106,7 @@ unfoldable pub start : State
 unfolding freshObject noSlots
 start = record {
   objects = freshObject [] ∷ [];
-  threads = record { self = 0; code = Found.here [] (Ready.call 0 0 noSlots); keys = singleton 0 } ∷ [];
+  threads = record { self = 0; code = Found.here [] (Ready.call 0 0 noSlots); keys = singleton 0; learnt = 0 } ∷ [];
   nextKey = 1;
 }
 
@@ -124,10 +124,26 @@ unfolding status attempt
 statusesFrom table s p zero = []
 statusesFrom table s p (suc n) = status (attempt table s p) ∷ statusesFrom table s (suc p) n
 
+-- the totals of n threads from thread p on
+unfoldable pub totalOf : Option Thread → ℕ
+totalOf none = 0
+totalOf (some t) = t .learnt
+
+unfoldable pub totalsFrom : State → ℕ → ℕ → List ℕ
+unfolding totalOf
+totalsFrom s p zero = []
+totalsFrom s p (suc n) = totalOf (getElem? (s .threads) p) ∷ totalsFrom s (suc p) n
+
 unfoldable pub outcomeOf : Table → Run → Outcome
-unfolding statusesFrom
-outcomeOf table r =
-    record { stop = r .stop; picks = r .picks; moves = length (r .instances); records = length (r .log); threads = statusesFrom table (r .final) 0 8 }
+unfolding statusesFrom totalsFrom
+outcomeOf table r = record {
+  stop = r .stop;
+  picks = r .picks;
+  moves = length (r .instances);
+  records = length (r .log);
+  threads = statusesFrom table (r .final) 0 8;
+  totals = totalsFrom (r .final) 0 8;
+}
 
 -- ---- the machine of a plan
 

@@ -1,7 +1,7 @@
 -- What a synch does at its start and at its end, by value. The machine that the code runs; no reader of the entries' promises needs it. Assumes nothing.
 use Prim.Native.Nat.{ℕ}
 use mathlib.Core.Bool.{cond}
-use Rattle.keys.specs.KeySet.{emptySet, joinOf, isEmptyOf}
+use Rattle.keys.specs.KeySet.{emptySet, joinedOf, isEmptyOf}
 use Rattle.frames.specs.declared.frame.Kind.the-variants as kind
 use Rattle.frames.specs.declared.frame.Frame.{Frame}
 use Rattle.frames.specs.Going.{goRun, goWant, goValue}
@@ -10,7 +10,7 @@ use Rattle.state.specs.declared.Cell.{Cell}
 use Rattle.state.specs.declared.Counts.{Counts}
 use Rattle.records.specs.Record.{Kind, kindNumber}
 use Rattle.state.specs.declared.acted.Act.{Act}
-use Rattle.state.specs.Acted.{entryOf, cellOf, actedOf, goOn}
+use Rattle.state.specs.Acted.{entryOf, cellOf, actedOf, heardOf, goOn}
 
 abbrev pub holdFrame : ℕ → ℕ → Frame
 holdFrame environment o = record { kind = kind.Hold; first = 0; second = 0; member = 0; count = 0; environment = environment; arguments = o }
@@ -19,7 +19,7 @@ unfoldable pub actSynch : Counts → Head → Cell → ℕ → ℕ → ℕ → A
 actSynch n h c o t environment =
     cond (isEmptyOf (c .keys))
     (goOn (goRun t environment) n h c)
-    (actedOf (goWant (holdFrame environment o) t) n (joinOf (h .keys) (c .keys)) (cellOf (h .object) 0 emptySet) (entryOf (kindNumber Kind.acquire) o 0 0))
+    (heardOf (goWant (holdFrame environment o) t) n (joinedOf (h .keys) (c .keys)) (cellOf (h .object) 0 emptySet) (entryOf (kindNumber Kind.acquire) o 0 0))
 
 abbrev pub actHold : Counts → Head → ℕ → ℕ → Act
 actHold n h o v = actedOf (goValue v) n (h .keys) (cellOf 0 0 (h .keys)) (entryOf (kindNumber Kind.release) o 0 0)

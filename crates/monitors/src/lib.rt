@@ -14,6 +14,7 @@ use state::acted::acted_of;
 use state::acted::cell_with;
 use state::acted::entry;
 use state::acted::go_on;
+use state::acted::heard;
 
 pub fn act_synch(
     counts: Counts,
@@ -30,7 +31,7 @@ pub fn act_synch(
     if cell_keys.is_empty() {
         return go_on(go::run(term, environment), counts, head, cell);
     }
-    let all = keys.join(cell_keys);
+    let joined = keys.join(cell_keys);
     let none = KeySet::new();
     let changed = cell_with(head.object, 0, none);
     let frame = Frame {
@@ -44,7 +45,7 @@ pub fn act_synch(
     };
     let go = go::want(frame, term);
     let entry = entry(kind::ACQUIRE, object, 0, 0);
-    acted_of(go, counts, all, changed, entry)
+    heard(go, counts, joined, changed, entry)
 }
 
 pub fn act_hold(counts: Counts, head: Head, object: usize, value: usize) -> Act

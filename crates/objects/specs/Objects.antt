@@ -2,7 +2,7 @@
 use Prim.Native.Nat.{ℕ, _+_}
 use mathlib.Core.Bool.{cond}
 use lib.Dec.{leb}
-use Rattle.keys.specs.KeySet.{joinOf}
+use Rattle.keys.specs.KeySet.{joinedOf}
 use Rattle.frames.specs.Going.{goValue}
 use Rattle.state.specs.declared.Head.{Head}
 use Rattle.state.specs.declared.Cell.{Cell}
@@ -12,7 +12,7 @@ use Rattle.records.specs.Record.{Kind, kindNumber}
 use Rattle.run_outcome.specs.declared.NoRoom.the-variants as room
 use Rattle.state.specs.declared.acted.Act.{Act}
 use Rattle.state.specs.declared.acted.Act.the-variants as act
-use Rattle.state.specs.Acted.{entryOf, countsOf, actedWith, actedOf}
+use Rattle.state.specs.Acted.{entryOf, countsOf, actedWith, heardOf}
 
 unfoldable pub actNew : Counts → Head → Cell → ℕ → Act
 actNew n h c mask =
@@ -29,4 +29,4 @@ actFork n h c =
     (actedWith (goValue (n .objects)) (countsOf (n .threads + 1) (n .objects + 1) (n .keys)) (h .keys) c (entryOf (kindNumber Kind.fork) (n .objects) (n .threads) 0) 0 (n .threads)))
 
 abbrev pub actJoin : Counts → Head → Cell → Object → Head → ℕ → Act
-actJoin n h c t q o = actedOf (goValue (q .ready .first)) n (joinOf (h .keys) (q .keys)) c (entryOf (kindNumber Kind.join) o (t .thread) (q .ready .first))
+actJoin n h c t q o = heardOf (goValue (q .ready .first)) n (joinedOf (h .keys) (q .keys)) c (entryOf (kindNumber Kind.join) o (t .thread) (q .ready .first))

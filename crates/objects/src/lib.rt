@@ -9,9 +9,9 @@ use state::Counts;
 use state::Head;
 use state::Object;
 use state::acted::Act;
-use state::acted::acted_of;
 use state::acted::acted_with;
 use state::acted::entry;
+use state::acted::heard;
 
 pub fn act_new(counts: Counts, head: Head, cell: Cell, mask: usize) -> Act
     ensures { λ r. ⌜ r ≡ actNew counts head cell mask ⌝ }
@@ -68,10 +68,10 @@ pub fn act_join(
 {
     let keys = head.keys;
     let other_keys = other.keys;
-    let all = keys.join(other_keys);
+    let joined = keys.join(other_keys);
     let ready = other.ready;
     let value = ready.first;
     let go = go::value(value);
     let entry = entry(kind::JOIN, object, thing.thread, value);
-    acted_of(go, counts, all, cell, entry)
+    heard(go, counts, joined, cell, entry)
 }

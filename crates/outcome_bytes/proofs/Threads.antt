@@ -16,18 +16,18 @@ use Rattle.outcome_bytes.specs.Small.{SmallStatus, AllSmall, SmallOutcom
 use Rattle.outcome_bytes.specs.Parts.{headBytes}
 
 abbrev pub absent : Thread
-absent = record { state = state.Absent }
+absent = record { state = state.Absent; learnt = 0 }
 
 -- thread p
 abbrev pub threadAt : List Thread → ℕ → run.Status
 threadAt all p = statusOf (getD all p absent .state)
 
-abbrev pub putOne : List ℕ → ℕ → ThreadBytes → List ℕ
-putOne l p b = set (set (set l (8 + 4 * p) (b .state)) (9 + 4 * p) (b .named)) (10 + 4 * p) (b .field)
+abbrev pub putOne : List ℕ → ℕ → ThreadBytes → ℕ → List ℕ
+putOne l p b n = set (set (set (set l (8 + 4 * p) (b .state)) (9 + 4 * p) (b .named)) (10 + 4 * p) (b .field)) (11 + 4 * p) n
 
 -- the bytes of thread p, put
 abbrev pub putThread : List Thread → ℕ → List ℕ → List ℕ
-putThread all p l = putOne l p (threadBytes (threadAt all p))
+putThread all p l = putOne l p (threadBytes (threadAt all p)) (getD all p absent .learnt)
 
 -- a list of n elements, spelled out
 unfoldable spell : {A : Type 0} → ℕ → (ℕ → A) → List A
@@ -42,7 +42,7 @@ spelled (suc n) [] e = absurd (omega arith)
 spelled (suc n) (x ∷ l) e = ap (λ (t : List Thread). x ∷ t) (spelled n l (omega arith))
 
 abbrev bytesOf : run.Stop → ℕ → ℕ → ℕ → List Thread → List ℕ
-bytesOf s k m r all = outcomeBytes (record { stop = s; picks = k; moves = m; records = r; threads = map (λ (t : Thread). statusOf (t .state)) all })
+bytesOf s k m r all = outcomeBytes (record { stop = s; picks = k; moves = m; records = r; threads = map (λ (t : Thread). statusOf (t .state)) all; totals = map (λ (t : Thread). t .learnt) all })
 
 abbrev putAll : run.Stop → ℕ → ℕ → ℕ → List Thread → List ℕ
 putAll s k m r all = turns (putThread all) 8 0 (headBytes (replicate 40 0) s k m r)

@@ -32,11 +32,12 @@ threadBytes (Status.stuck (Stuck.notThread o)) = three 6 o 0
 threadBytes (Status.stuck Stuck.noRule) = three 8 0 0
 threadBytes (Status.lacking o f) = three 7 o f
 
--- four bytes to a thread, the fourth 0
-unfoldable pub allThreads : List Status → List ℕ
+-- four bytes to a thread, the fourth its total
+unfoldable pub allThreads : List Status → List ℕ → List ℕ
 unfolding threadBytes
-allThreads [] = []
-allThreads (s ∷ ss) = threadBytes s .state ∷ threadBytes s .named ∷ threadBytes s .field ∷ 0 ∷ allThreads ss
+allThreads (s ∷ ss) (n ∷ ns) = threadBytes s .state ∷ threadBytes s .named ∷ threadBytes s .field ∷ n ∷ allThreads ss ns
+allThreads (s ∷ ss) [] = []
+allThreads [] ns = []
 
 -- the stop; picks, moves and records, high byte first; 0; then the threads
 unfoldable pub outcomeBytes : Outcome → List ℕ
@@ -50,4 +51,4 @@ outcomeBytes o =
     ∷ o .records / 256
     ∷ o .records % 256
     ∷ 0
-    ∷ allThreads (o .threads)
+    ∷ allThreads (o .threads) (o .totals)

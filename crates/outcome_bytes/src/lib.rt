@@ -12,7 +12,7 @@ use run_outcome::Stuck;
 use run_outcome::ThreadState;
 use run_outcome::Wait;
 
-// The first three of a thread's four bytes: its state, the value or the object that the state names, the field that it names. The fourth is 0.
+// The first three of a thread's four bytes: its state, the value or the object that the state names, the field that it names. The fourth is its total.
 pub struct ThreadBytes {
     pub state: u8,
     pub named: u8,
@@ -129,5 +129,6 @@ pub fn write(out: &mut [u8; 40], outcome: Outcome)
         out[8 + 4 * number] = bytes.state;
         out[9 + 4 * number] = bytes.named;
         out[10 + 4 * number] = bytes.field;
+        out[11 + 4 * number] = thread.learnt;
     }
 }

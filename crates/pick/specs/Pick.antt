@@ -1,5 +1,5 @@
 -- One pick: what it meets, and what it leaves. The machine that the code runs; no reader of the entries' promises needs it. Assumes nothing.
-use Prim.Native.Nat.{ℕ, _*_, _%_}
+use Prim.Native.Nat.{ℕ, _+_, _*_, _%_}
 use mathlib.Core.Bool.{Bool, true, false, cond}
 use mathlib.Core.List.{List}
 use Rattle.keys.specs.declared.KeySet.{KeySet}
@@ -70,18 +70,18 @@ abbrev pub fullOf : Landed → Bool
 fullOf l = fullBy (l .stage)
 
 -- a thread where its landing ended
-abbrev pub landedHead : Landed → ℕ → KeySet → Head
-landedHead l o ks = record { ready = l .ready; depth = l .depth; object = o; keys = ks }
+abbrev pub landedHead : Landed → ℕ → KeySet → ℕ → Head
+landedHead l o ks n = record { ready = l .ready; depth = l .depth; object = o; keys = ks; learnt = n }
 
 abbrev pub noHead : Head
-noHead = record { ready = readyOf part.Done 0 0 0 0; depth = 0; object = 0; keys = emptySet }
+noHead = record { ready = readyOf part.Done 0 0 0 0; depth = 0; object = 0; keys = emptySet; learnt = 0 }
 
--- the mover after its move; the thread that a fork makes, whose object is the next one and whose keys are its maker's
+-- the mover after its move, its total below 256 before it; the thread that a fork makes, whose object is the next one and whose keys are its maker's
 abbrev pub moverOf : Met → Acted → Landed → Head
-moverOf x a l = landedHead l (x .head .object) (a .keys)
+moverOf x a l = landedHead l (x .head .object) (a .keys) (x .head .learnt % 256 + a .new)
 
 abbrev pub bornOf : Met → Landed → Head
-bornOf x l = landedHead l (x .counts .objects) (x .head .keys)
+bornOf x l = landedHead l (x .counts .objects) (x .head .keys) 0
 
 abbrev pub moveOf : Met → Acted → Landed → Head → Bool → Move
 moveOf x a l y forks = record { mover = moverOf x a l; young = y; cell = a .cell; thing = a .thing; counts = a .counts; entry = a .entry; forks = forks }

@@ -95,8 +95,8 @@ fn full(landed: Landed) -> bool
 }
 
 // A thread where its landing ended.
-fn head_at(landed: Landed, object: usize, keys: KeySet) -> Head
-    ensures { λ r. ⌜ r ≡ landedHead landed object keys ⌝ }
+fn head_at(landed: Landed, object: usize, keys: KeySet, learnt: usize) -> Head
+    ensures { λ r. ⌜ r ≡ landedHead landed object keys learnt ⌝ }
 {
     let ready = landed.ready;
     Head {
@@ -104,6 +104,7 @@ fn head_at(landed: Landed, object: usize, keys: KeySet) -> Head
         depth: landed.depth,
         object: object,
         keys: keys,
+        learnt: learnt,
     }
 }
 
@@ -118,6 +119,7 @@ fn no_head() -> Head
         depth: 0,
         object: 0,
         keys: keys,
+        learnt: 0,
     }
 }
 
@@ -131,7 +133,8 @@ fn leave(met: Met, acted: Acted, landed: Landed, young: Head, forks: bool) -> An
     let thing = acted.thing;
     let counts = acted.counts;
     let entry = acted.entry;
-    let mover = head_at(landed, head.object, keys);
+    let learnt = head.learnt % 256 + acted.new as usize;
+    let mover = head_at(landed, head.object, keys, learnt);
     Answer::Moved(Move {
         mover: mover,
         young: young,
@@ -143,7 +146,7 @@ fn leave(met: Met, acted: Acted, landed: Landed, young: Head, forks: bool) -> An
     })
 }
 
-// Lands the thread that a fork makes: its object is the next one, its keys are its maker's.
+// Lands the thread that a fork makes: its object is the next one, its keys are its maker's, and it has learnt none of them.
 fn start(
     words: &[usize; 1024],
     roots: &[usize; 32],
@@ -163,7 +166,7 @@ fn start(
         return no_room(NoRoom::Depth);
     }
     let keys = head.keys;
-    let born = head_at(young, counts.objects, keys);
+    let born = head_at(young, counts.objects, keys, 0);
     leave(met, acted, landed, born, true)
 }
 

@@ -54,7 +54,7 @@ threads-same (t ∷ l) = λ i. state-same (t .state) i ∷ threads-same l i
 
 outcome-same : (o : Outcome) → outcomeOf o ≡ outcomeMeant o
 unfolding outcomeOf
-outcome-same o = λ i. record { stop = stop-same (o .stop) i; picks = o .picks; moves = o .moves; records = o .records; threads = threads-same (o .threads) i }
+outcome-same o = λ i. record { stop = stop-same (o .stop) i; picks = o .picks; moves = o .moves; records = o .records; threads = threads-same (o .threads) i; totals = map (λ (t : Thread). t .learnt) (o .threads) }
 
 -- ---- the run
 

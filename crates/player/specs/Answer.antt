@@ -60,7 +60,14 @@ statusOf (state.Lacking o f) = run.Status.lacking o f
 
 unfoldable pub outcomeOf : Outcome → run.Outcome
 unfolding stopOf statusOf
-outcomeOf x = record { stop = stopOf (x .stop); picks = x .picks; moves = x .moves; records = x .records; threads = map (λ (t : Thread). statusOf (t .state)) (x .threads) }
+outcomeOf x = record {
+  stop = stopOf (x .stop);
+  picks = x .picks;
+  moves = x .moves;
+  records = x .records;
+  threads = map (λ (t : Thread). statusOf (t .state)) (x .threads);
+  totals = map (λ (t : Thread). t .learnt) (x .threads);
+}
 
 -- "A refused play has no run."
 abbrev pub answeredBy : Checked → Outcome → play.Played
@@ -73,7 +80,7 @@ answered r = answeredBy (r .checked) (r .outcome)
 
 -- "A refused play has no run": no picks, no moves, no records, no threads
 abbrev pub noRun : Outcome
-noRun = record { stop = stop.End; picks = 0; moves = 0; records = 0; threads = replicate 8 (record { state = state.Absent }) }
+noRun = record { stop = stop.End; picks = 0; moves = 0; records = 0; threads = replicate 8 (record { state = state.Absent; learnt = 0 }) }
 
 -- that is the outcome of a refused play
 abbrev pub NoRunIfRefused : Played → Type 0

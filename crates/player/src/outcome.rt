@@ -1,4 +1,4 @@
-// What a play answers (document 01, "How a thread moves"): the outcome of a run, with the state of each of eight threads, or a refusal.
+// What a play answers (document 01, "How a thread moves"): the outcome of a run, with the state and the total of each of eight threads, or a refusal.
 ghost use Prim.Native.Nat.{_*_, _≤_};
 ghost use mathlib.Core.Path.{_≡_};
 ghost use Rattle.player.specs.Answer.{noRun};
@@ -21,6 +21,7 @@ pub fn refused(checked: Checked) -> Played
 {
     let none = Thread {
         state: ThreadState::Absent,
+        learnt: 0,
     };
     let threads = [none; 8];
     let outcome = Outcome {

@@ -11,8 +11,8 @@ use lib.ListN.{getD, set}
 use borrow.Author.Tests.{leb-false}
 use Rattle.format.specs.Version.{v0, v1, versionOf}
 use Rattle.keys.specs.declared.KeySet.{KeySet}
-use Rattle.keys.specs.Keys.{Keys, singleton, union, subset}
-use Rattle.keys.specs.KeySet.{keysOf, emptySet, holdsOf, learnOf, joinOf}
+use Rattle.keys.specs.Keys.{Keys, singleton, union, subset, countNew}
+use Rattle.keys.specs.KeySet.{keysOf, emptySet, holdsOf, learnOf, joinOf, newOf, joinedOf}
 use Rattle.keys.proofs.KeySetLaws.{Fits, keys-empty, keys-join, keys-learn, fits-empty, fits-join, fits-learn}
 use Rattle.packed.specs.Format.{version, terms}
 use Rattle.packed.specs.Trees.{nodeAt, programOf}
@@ -38,7 +38,7 @@ use Rattle.state.specs.declared.acted.Act.the-variants as act
 use Rattle.look.specs.declared.Block.the-variants as block
 use Rattle.look.specs.declared.Sight.the-variants as sight
 use Rattle.look.specs.Look.{objectBy, fieldBy, hasOf, lookField}
-use Rattle.state.specs.Acted.{entryOf, nothing, cellOf, countsOf, actedOf}
+use Rattle.state.specs.Acted.{entryOf, nothing, cellOf, countsOf, actedOf, heardOf}
 use Rattle.accesses.specs.Accesses.{passedOf, actRead, actWrite}
 use Rattle.pick.specs.Pick.{lackBy}
 use Rattle.engine.specs.Machine as engine
@@ -48,7 +48,7 @@ use Rattle.refinement.proofs.Tests.{test-true, test-false}
 use Rattle.refinement.proofs.KeptLaws.{kept-changed, kept-past, kept-key, kept-store, kept-same}
 use Rattle.refinement.proofs.Looks.{MeetsBy, volatile-bit, meant-value, lookup-cell, ready-there, one-key}
 use Rattle.refinement.proofs.Moves.{Mover, Acts}
-use Rattle.refinement.proofs.Moving.{headFor, unlearnt, learnt, joined, moved, object-there, written, attempts}
+use Rattle.refinement.proofs.Moving.{headFor, unlearnt, gained, joined, joined-new, moved, object-there, written, attempts}
 
 module _ {b : List ℕ} {m : engine.Machine} {s : machine.State} {p : ℕ} (mover : Mover b m s p) where
   open engine.Machine m using (cells as cs, objects as ts)
@@ -90,7 +90,7 @@ module _ {b : List ℕ} {m : engine.Machine} {s : machine.State} {p : ℕ} (move
   pub read-meets : (o f w environment i j : ℕ) → i ≡ o * 32 + f → j ≡ o → Well S → o < 32 → 0 < f → f < 32 → t .code ≡ frames.Found.here S (frames.Ready.read o f)
       → MeetsBy (lookField (settingOf b) (headFor m p (readyOf part.Read o f w environment)) (getD cs i noCell) (getD ts j noThing) f) p (readyOf part.Read o f w environment) (machine.attempt (tableOf b) s p)
       (Acts mover (readyOf part.Read o f w environment) i (actRead (settingOf b) n (headFor m p (readyOf part.Read o f w environment)) (getD cs i noCell) o f))
-  unfolding objectBy fieldBy lackBy lookField actRead machine.act machine.readAct machine.around machine.learn playing.noRoomBefore land.go tableOf
+  unfolding objectBy fieldBy lackBy lookField actRead machine.act machine.readAct machine.around machine.gain playing.noRoomBefore land.go tableOf
   read-meets o f w environment i j ei ej well ho zf hf code =
       by (hasOf (getD ts j noThing .mask) f) (hasOf (settingOf b .mask) f) (holdsOf ks (c .key % 256)) (field-found o f i j ei ej o-there ho zf hf) (volatile-bit b f hf) (one-key c ks (t .keys) fit fits known)
     where
@@ -117,7 +117,7 @@ module _ {b : List ℕ} {m : engine.Machine} {s : machine.State} {p : ℕ} (move
       by : (x y z : Bool) → machine.lookup s o f ≡ cond x (some (cellMeant y c)) none → tableOf b .isVolatile f ≡ y → subset (cellMeant false c .keys) (t .keys) ≡ z
           → MeetsBy (cond x (cond y sight.Ready (cond z sight.Ready sight.Lacking)) (sight.Blocked block.Field)) p (readyOf part.Read o f w environment) (machine.attempt (tableOf b) s p)
           (Acts mover (readyOf part.Read o f w environment) i (cond y
-          (actedOf (goValue (c .value)) n (joinOf ks (passedOf (settingOf b) (c .keys))) c (entryOf (records.kindNumber records.Kind.readv) o f (c .value)))
+          (heardOf (goValue (c .value)) n (joinedOf ks (passedOf (settingOf b) (c .keys))) c (entryOf (records.kindNumber records.Kind.readv) o f (c .value)))
           (actedOf (goValue (c .value)) n ks c (entryOf (records.kindNumber records.Kind.read) o f (c .value)))))
       by false y z e v q =
           attempts mover (frames.Ready.read o f) code (ap (machine.readAct (tableOf b) s p t o f) e)
@@ -125,10 +125,11 @@ module _ {b : List ℕ} {m : engine.Machine} {s : machine.State} {p : ℕ} (move
       by true true z e v q = (
         _,
         attempts mover (frames.Ready.read o f) code (ap (machine.readAct (tableOf b) s p t o f) e ∙ test-true (tableOf b .isVolatile f) _ _ v),
-        moved mover _ i e-readv (some (entry records.Kind.readv p o f (c .value))) (machine.learn s p heard) (up (nodeAt b) (terms b) S (c .value)) (goValue (c .value)) n
-            (joinOf ks (passedOf (settingOf b) (c .keys))) c nothing (entryOf (records.kindNumber records.Kind.readv) o f (c .value)) refl (written mover records.Kind.readv o f (c .value) ho hf (value-fits true e)) refl
+        moved mover _ i e-readv (some (entry records.Kind.readv p o f (c .value))) (machine.hear s p heard) (up (nodeAt b) (terms b) S (c .value)) (goValue (c .value)) n
+            (joinOf ks (passedOf (settingOf b) (c .keys))) (newOf ks (passedOf (settingOf b) (c .keys))) c nothing (entryOf (records.kindNumber records.Kind.readv) o f (c .value)) refl (written mover records.Kind.readv o f (c .value) ho hf (value-fits true e)) refl
             (well, value-fits true e, refl) (fits-join fits (passed-fits (c .keys) (fit .keys)))
-            (learnt mover heard _ (ap (λ (W : Keys). union W (t .keys)) (sym (passed-keys (c .keys))) ∙ joined mover (passedOf (settingOf b) (c .keys)) (passed-fits (c .keys) (fit .keys))))
+            (gained mover heard _ (countNew heard) _ (ap (λ (W : Keys). union W (t .keys)) (sym (passed-keys (c .keys))) ∙ joined mover (passedOf (settingOf b) (c .keys)) (passed-fits (c .keys) (fit .keys)))
+            (ap (λ (W : Keys). countNew W (t .keys)) (sym (passed-keys (c .keys))) ∙ joined-new mover (passedOf (settingOf b) (c .keys)) (passed-fits (c .keys) (fit .keys))))
             (kept-changed (kept-past (kept-same k i) nothing) p _ (λ x. refl)),
       )
       by true false true e v q = (
@@ -136,7 +137,7 @@ module _ {b : List ℕ} {m : engine.Machine} {s : machine.State} {p : ℕ} (move
         attempts mover (frames.Ready.read o f) code
             (ap (machine.readAct (tableOf b) s p t o f) e ∙ test-false (tableOf b .isVolatile f) _ _ v ∙ test-true (subset (cellMeant false c .keys) (t .keys)) _ _ q),
         moved mover _ i e-read (some (entry records.Kind.read p o f (c .value))) s (up (nodeAt b) (terms b) S (c .value)) (goValue (c .value)) n
-            ks c nothing (entryOf (records.kindNumber records.Kind.read) o f (c .value)) refl (written mover records.Kind.read o f (c .value) ho hf (value-fits false e)) refl
+            ks 0 c nothing (entryOf (records.kindNumber records.Kind.read) o f (c .value)) refl (written mover records.Kind.read o f (c .value) ho hf (value-fits false e)) refl
             (well, value-fits false e, refl) fits (unlearnt mover) (kept-past (kept-same k i) nothing),
       )
       by true false false e v q = (
@@ -152,7 +153,7 @@ module _ {b : List ℕ} {m : engine.Machine} {s : machine.State} {p : ℕ} (move
   pub write-meets : (o f w environment i j : ℕ) → i ≡ o * 32 + f → j ≡ o → Well S → o < 32 → 0 < f → f < 32 → w < 32 → t .code ≡ frames.Found.here S (frames.Ready.write o f w)
       → MeetsBy (lookField (settingOf b) (headFor m p (readyOf part.Write o f w environment)) (getD cs i noCell) (getD ts j noThing) f) p (readyOf part.Write o f w environment) (machine.attempt (tableOf b) s p)
       (Acts mover (readyOf part.Write o f w environment) i (actWrite (settingOf b) n (headFor m p (readyOf part.Write o f w environment)) (getD cs i noCell) o f w))
-  unfolding objectBy fieldBy lackBy lookField actWrite machine.act machine.writeAct machine.around machine.learn machine.store machine.useKey playing.noRoomBefore land.go tableOf
+  unfolding objectBy fieldBy lackBy lookField actWrite machine.act machine.writeAct machine.around machine.gain machine.store machine.useKey playing.noRoomBefore land.go tableOf
   write-meets o f w environment i j ei ej well ho zf hf hw code =
       by (hasOf (getD ts j noThing .mask) f) (hasOf (settingOf b .mask) f) (holdsOf ks (c .key % 256)) (leb 256 (n .keys)) (field-found o f i j ei ej o-there ho zf hf) refl (volatile-bit b f hf) (one-key c ks (t .keys) fit fits known) refl
     where
@@ -189,7 +190,7 @@ module _ {b : List ℕ} {m : engine.Machine} {s : machine.State} {p : ℕ} (move
         _,
         attempts mover (frames.Ready.write o f w) code (ap (machine.writeAct (tableOf b) s p t o f w) e ∙ test-true (tableOf b .isVolatile f) _ _ v),
         moved mover _ i e-writev (some (entry records.Kind.writev p o f w)) (machine.store s o f (rules.cell (union (keysOf (c .keys)) (passedOn (tableOf b .version) (t .keys))) w)) (up (nodeAt b) (terms b) S w) (goValue w) n
-            ks (cellOf w 0 (joinOf (c .keys) (passedOf (settingOf b) ks))) nothing (entryOf (records.kindNumber records.Kind.writev) o f w) refl (written mover records.Kind.writev o f w ho hf hw) refl
+            ks 0 (cellOf w 0 (joinOf (c .keys) (passedOf (settingOf b) ks))) nothing (entryOf (records.kindNumber records.Kind.writev) o f w) refl (written mover records.Kind.writev o f w ho hf hw) refl
             (well, hw, refl) fits (unlearnt mover)
             (stored true (cellOf w 0 (joinOf (c .keys) (passedOf (settingOf b) ks))) _ g
             (ap₂ rules.cell (keys-join (fit .keys) (passed-fits ks fits) ∙ ap (union (keysOf (c .keys))) (passed-keys ks ∙ ap (passedOn (tableOf b .version)) known)) (mod-eq-of-lt hw))
@@ -208,11 +209,11 @@ module _ {b : List ℕ} {m : engine.Machine} {s : machine.State} {p : ℕ} (move
                 (ap (machine.writeAct (tableOf b) s p t o f w) e ∙ test-false (tableOf b .isVolatile f) _ _ v ∙ test-true (subset (cellMeant false c .keys) (t .keys)) _ _ q),
             moved mover _ i e-write (some (entry records.Kind.write p o f w)) (machine.learn (machine.store (machine.useKey s) o f (rules.cell (singleton (s .nextKey)) w)) p (singleton (s .nextKey)))
                 (up (nodeAt b) (terms b) S w) (goValue w) (countsOf (n .threads) (n .objects) (n .keys + 1))
-                (learnOf ks (n .keys)) (cellOf w (n .keys) (c .keys)) nothing (entryOf (records.kindNumber records.Kind.write) o f w)
+                (learnOf ks (n .keys)) 0 (cellOf w (n .keys) (c .keys)) nothing (entryOf (records.kindNumber records.Kind.write) o f w)
                 (test-false (leb 256 (s .nextKey)) _ _ (ap (leb 256) (sym (k .keys-count)) ∙ r)) (written mover records.Kind.write o f w ho hf hw) refl
                 (well, hw, refl) (fits-learn (n .keys) fits)
-                (learnt mover (singleton (s .nextKey)) _
-                (ap₂ (λ (a : ℕ) (K : Keys). union (singleton a) K) (sym (k .keys-count)) (sym known) ∙ sym (keys-learn (n .keys) room-left fits)))
+                (gained mover (singleton (s .nextKey)) _ (λ K. 0) 0
+                (ap₂ (λ (a : ℕ) (K : Keys). union (singleton a) K) (sym (k .keys-count)) (sym known) ∙ sym (keys-learn (n .keys) room-left fits)) refl)
                 (kept-changed
                 (stored false (cellOf w (n .keys) (c .keys)) _ g (ap₂ (λ (a v : ℕ). rules.cell (singleton a) v) (k .keys-count) (mod-eq-of-lt hw)) (record { key = room-left; keys = fit .keys }) refl (kept-key k))
                 p _ (λ x. refl)),

@@ -9,8 +9,8 @@ use mathlib.Core.Option.{some}
 use lib.Dec.{eqb}
 use lib.ListN.{getD, set}
 use Rattle.keys.specs.declared.KeySet.{KeySet}
-use Rattle.keys.specs.Keys.{Keys, empty, isEmpty}
-use Rattle.keys.specs.KeySet.{keysOf, emptySet, joinOf, isEmptyOf}
+use Rattle.keys.specs.Keys.{Keys, empty, isEmpty, countNew}
+use Rattle.keys.specs.KeySet.{keysOf, emptySet, joinOf, newOf, joinedOf, isEmptyOf}
 use Rattle.keys.proofs.KeySetLaws.{keys-empty, keys-is-empty, fits-empty, fits-join}
 use Rattle.packed.specs.Format.{terms}
 use Rattle.packed.specs.Trees.{nodeAt, programOf}
@@ -34,7 +34,7 @@ use Rattle.state.specs.declared.Counts.{Counts}
 use Rattle.look.specs.declared.Block.the-variants as block
 use Rattle.look.specs.declared.Sight.the-variants as sight
 use Rattle.look.specs.Look.{objectBy, fieldBy, lookSynch}
-use Rattle.state.specs.Acted.{entryOf, noEntry, nothing, cellOf, actedOf}
+use Rattle.state.specs.Acted.{entryOf, noEntry, nothing, cellOf, actedOf, heardOf}
 use Rattle.monitors.specs.Monitors.{holdFrame, actSynch, actHold}
 use Rattle.engine.specs.Machine as engine
 use Rattle.engine.specs.Machine.{noCell, headAt}
@@ -44,7 +44,7 @@ use Rattle.refinement.proofs.Tests.{test-true, test-false}
 use Rattle.refinement.proofs.KeptLaws.{kept-changed, kept-past, kept-monitor}
 use Rattle.refinement.proofs.Looks.{MeetsBy, monitor-bit, monitor-cell, ready-there}
 use Rattle.refinement.proofs.Moves.{Mover, Acts}
-use Rattle.refinement.proofs.Moving.{headFor, unlearnt, learnt, joined, moved, plain, object-there, written, attempts}
+use Rattle.refinement.proofs.Moving.{headFor, unlearnt, gained, joined, joined-new, moved, plain, object-there, written, attempts}
 
 module _ {b : List ℕ} {m : engine.Machine} {s : machine.State} {p : ℕ} (mover : Mover b m s p) where
   open engine.Machine m using (cells as cs, objects as ts)
@@ -73,7 +73,7 @@ module _ {b : List ℕ} {m : engine.Machine} {s : machine.State} {p : ℕ} (move
   pub synch-meets : (o u w environment i : ℕ) → i ≡ o * 32 + 0 → Well S → o < 32 → IsExpression b u → t .code ≡ frames.Found.here S (frames.Ready.synch o (closed u environment))
       → MeetsBy (lookSynch (headFor m p (readyOf part.Synch o u w environment)) (getD cs i noCell)) p (readyOf part.Synch o u w environment) (machine.attempt (tableOf b) s p)
       (Acts mover (readyOf part.Synch o u w environment) i (actSynch n (headFor m p (readyOf part.Synch o u w environment)) (getD cs i noCell) o u environment))
-  unfolding objectBy fieldBy lookSynch actSynch machine.act machine.synchAct machine.around machine.learn machine.storeMonitor playing.noRoomBefore land.go tableOf
+  unfolding objectBy fieldBy lookSynch actSynch machine.act machine.synchAct machine.around machine.gain machine.storeMonitor playing.noRoomBefore land.go tableOf
   synch-meets o u w environment i ei well ho hu code =
       by (isEmptyOf (c .keys)) (eqb (c .value) self) (sym (keys-is-empty (c .keys))) (ap (eqb (c .value)) (sym same))
     where
@@ -102,7 +102,7 @@ module _ {b : List ℕ} {m : engine.Machine} {s : machine.State} {p : ℕ} (move
           → MeetsBy (cond x (cond y sight.Ready (sight.Blocked block.Monitor)) sight.Ready) p (readyOf part.Synch o u w environment) (machine.attempt (tableOf b) s p)
           (Acts mover (readyOf part.Synch o u w environment) i (cond x
           (actedOf (goRun u environment) n ks c noEntry)
-          (actedOf (goWant (holdFrame environment o) u) n (joinOf ks (c .keys)) c′ (entryOf (records.kindNumber records.Kind.acquire) o 0 0))))
+          (heardOf (goWant (holdFrame environment o) u) n (joinedOf ks (c .keys)) c′ (entryOf (records.kindNumber records.Kind.acquire) o 0 0))))
       by true true e q = (
         _,
         attempts mover (frames.Ready.synch o (closed u environment)) code
@@ -116,11 +116,11 @@ module _ {b : List ℕ} {m : engine.Machine} {s : machine.State} {p : ℕ} (move
       by false y e q = (
         _,
         attempts mover (frames.Ready.synch o (closed u environment)) code (acted ∙ test-false (isEmpty (keysOf (c .keys))) _ _ e),
-        moved mover _ i e-acquire (some (entry records.Kind.acquire p o 0 0)) (machine.learn (machine.storeMonitor s o (rules.cell empty (t .self))) p (keysOf (c .keys)))
+        moved mover _ i e-acquire (some (entry records.Kind.acquire p o 0 0)) (machine.hear (machine.storeMonitor s o (rules.cell empty (t .self))) p (keysOf (c .keys)))
             (enter (nodeAt b) (terms b) (frames.Frame.hold o ∷ S) (closed u environment)) (goWant (holdFrame environment o) u) n
-            (joinOf ks (c .keys)) c′ nothing (entryOf (records.kindNumber records.Kind.acquire) o 0 0) refl (written mover records.Kind.acquire o 0 0 ho (omega arith) (omega arith)) refl
+            (joinOf ks (c .keys)) (newOf ks (c .keys)) c′ nothing (entryOf (records.kindNumber records.Kind.acquire) o 0 0) refl (written mover records.Kind.acquire o 0 0 ho (omega arith) (omega arith)) refl
             (record { first-fits = omega arith; second-fits = omega arith; member-fits = omega arith; count-fits = omega arith; sorted = ho }, well, hu, refl)
-            (fits-join fits (fit .keys)) (learnt mover (keysOf (c .keys)) _ (joined mover (c .keys) (fit .keys)))
+            (fits-join fits (fit .keys)) (gained mover (keysOf (c .keys)) _ (countNew (keysOf (c .keys))) _ (joined mover (c .keys) (fit .keys)) (joined-new mover (c .keys) (fit .keys)))
             (kept-changed (monitor-stored o i c′ _ ei (ap₂ rules.cell keys-empty (ap (λ (a : ℕ). a % 32) same ∙ mod-eq-of-lt self-fits)) (record { key = omega arith; keys = fits-empty }) o-there ho) p _ (λ x. refl)),
       )
 
@@ -132,7 +132,7 @@ module _ {b : List ℕ} {m : engine.Machine} {s : machine.State} {p : ℕ} (move
     _,
     attempts mover (frames.Ready.hold o v) code refl,
     moved mover _ i e-release (some (entry records.Kind.release p o 0 0)) (machine.storeMonitor s o (rules.cell (t .keys) 0)) (up (nodeAt b) (terms b) S v) (goValue v) n
-        ks (cellOf 0 0 ks) nothing (entryOf (records.kindNumber records.Kind.release) o 0 0) refl (written mover records.Kind.release o 0 0 ho (omega arith) (omega arith)) refl
+        ks 0 (cellOf 0 0 ks) nothing (entryOf (records.kindNumber records.Kind.release) o 0 0) refl (written mover records.Kind.release o 0 0 ho (omega arith) (omega arith)) refl
         (well, hv, refl) fits (unlearnt mover)
         (monitor-stored o i (cellOf 0 0 ks) _ ei (ap (λ (K : Keys). rules.cell K 0) known) (record { key = omega arith; keys = fits })
         (object-there mover o (ready-there b s p t reach there S (frames.Ready.hold o v) code .0)) ho),

@@ -81,7 +81,7 @@ module _ {b ws rs : List ℕ} (loaded : Loaded b ws rs) {m : engine.Machine} {s 
 
   -- the mover after its move, and the threads that were there
   abbrev gone : machine.Thread → machine.Thread
-  gone = moverIn (D .code) (keysOf (a .keys))
+  gone = moverIn (D .code) (keysOf (a .keys)) (h .learnt % 256 + a .new)
 
   abbrev olds : List machine.Thread
   olds = changeAt (s .threads) p gone
@@ -116,7 +116,7 @@ module _ {b ws rs : List ℕ} (loaded : Loaded b ws rs) {m : engine.Machine} {s 
         full = ap (λ (x : Bool). x && fullOf (Y .landed)) k;
         head = λ y z. absurd (Option·none-ne-some y z);
       }
-  second (some y) (k, few, o, known, goes) =
+  second (some y) (k, few, o, known, unlearnt, goes) =
       let e : n .threads % 9 ≡ n .threads = mod-eq-of-lt (omega arith) in
       let q : landOf 2100 ws rs (n .threads % 9 * 33) (L .stack) (youngGo h) 0 ≡ Y =
       ap (landed-young ws rs X L) (sym k) in
@@ -132,7 +132,7 @@ module _ {b ws rs : List ℕ} (loaded : Loaded b ws rs) {m : engine.Machine} {s 
             let same : y ≡ y′ = cc in
             along (λ (y′ : machine.Thread). Headed b (Y .stack) (n .threads * 33) (bornOf X (Y .landed)) y′) same
             (let F = found-at b (Y .landed .stage) Y (n .threads * 33) (y .code) (lands′ .found) (ap (λ (x : Bool). x && fullOf (Y .landed)) (sym k) ∙ f) in
-            record { stack = F .0; held = F .1; depth = F .2; shallow = F .3; stands = F .4; object = o; keys = known; keys-fit = H .keys-fit });
+            record { stack = F .0; held = F .1; depth = F .2; shallow = F .3; stands = F .4; object = o; keys = known; keys-fit = H .keys-fit; learnt = unlearnt });
       }
 
   -- ---- the room after the move
@@ -200,6 +200,7 @@ module _ {b ws rs : List ℕ} (loaded : Loaded b ws rs) {m : engine.Machine} {s 
         object = H .object;
         keys = refl;
         keys-fit = D .keys-fit;
+        learnt = refl;
       }
 
   other-headed : (q : ℕ) (u : machine.Thread) → (q ≡ p → ⊥) → getElem? (s .threads) q ≡ some u → Headed b (Y .stack) (q * 33) (headAt (m .heads) q) u
@@ -216,6 +217,7 @@ module _ {b ws rs : List ℕ} (loaded : Loaded b ws rs) {m : engine.Machine} {s 
         object = G .object;
         keys = G .keys;
         keys-fit = G .keys-fit;
+        learnt = G .learnt;
       }
     where
       apart : (q j : ℕ) → (q ≡ p → ⊥) → j < 33 → (q * 33 + j < p * 33) ⊎ (p * 33 + 33 ≤ q * 33 + j)

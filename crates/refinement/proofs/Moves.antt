@@ -1,5 +1,5 @@
 -- A move of a thread, as the code makes it and as the abstract machine does. Assumes nothing.
-use Prim.Native.Nat.{ℕ, _*_, _<_}
+use Prim.Native.Nat.{ℕ, _+_, _*_, _%_, _<_}
 use mathlib.Core.Path.{_≡_}
 use mathlib.Core.Bool.{true, false}
 use mathlib.Core.List.{List, [], _∷_, _++_}
@@ -46,9 +46,9 @@ abbrev pub withYoung : List machine.Thread → Option machine.Thread → List ma
 withYoung xs none = xs
 withYoung xs (some y) = xs ++ (y ∷ [])
 
--- a thread that has come to F, and knows the keys K
-abbrev pub moverIn : frames.Found → Keys → machine.Thread → machine.Thread
-moverIn F K x = record { self = x .self; code = F; keys = K }
+-- a thread that has come to F, and knows the keys K, of which it has learnt this many
+abbrev pub moverIn : frames.Found → Keys → ℕ → machine.Thread → machine.Thread
+moverIn F K l x = record { self = x .self; code = F; keys = K; learnt = l }
 
 -- thread p is there, in a state s that a run of the accepted plan b has reached and that the engine's state m stands for
 pub record Mover (b : List ℕ) (m : engine.Machine) (s : machine.State) (p : ℕ) : Type 0 where
@@ -65,7 +65,7 @@ module _ {b : List ℕ} {m : engine.Machine} {s : machine.State} {p : ℕ} (move
   abbrev pub Born : Ready → Option machine.Thread → Type 0
   Born r none = isPart part.Fork (r .part) ≡ false
   Born r (some y) =
-      (isPart part.Fork (r .part) ≡ true) × (m .tally .counts .threads < 8) × (m .tally .counts .objects ≡ y .self) × (keysOf (headAt (m .heads) p .keys) ≡ y .keys) × Goes b (goRun (r .first) (r .environment)) [] (y .code)
+      (isPart part.Fork (r .part) ≡ true) × (m .tally .counts .threads < 8) × (m .tally .counts .objects ≡ y .self) × (keysOf (headAt (m .heads) p .keys) ≡ y .keys) × (0 ≡ y .learnt) × Goes b (goRun (r .first) (r .environment)) [] (y .code)
 
   -- the thread, at part r, makes the move v, for which there is room: a is what the code does, with cell i
   pub record Does (r : Ready) (i : ℕ) (a : Acted) (v : machine.Move) : Type 0 where
@@ -75,7 +75,7 @@ module _ {b : List ℕ} {m : engine.Machine} {s : machine.State} {p : ℕ} (move
     pub goes : Goes b (a .go) (mover .headed .stack) code
     pub young : Option machine.Thread
     pub born : Born r young
-    pub threads : v .state .threads ≡ withYoung (changeAt (s .threads) p (moverIn code (keysOf (a .keys)))) young
+    pub threads : v .state .threads ≡ withYoung (changeAt (s .threads) p (moverIn code (keysOf (a .keys)) (headAt (m .heads) p .learnt % 256 + a .new))) young
     pub keys-fit : Fits (a .keys)
     pub kept : Kept (settingOf b) (set (m .cells) i (a .cell)) (set (m .objects) (m .tally .counts .objects) (a .thing)) (a .counts) (v .state)
 

@@ -1,16 +1,17 @@
 -- The parts of a move that any rule may have: keys learnt, a record entered, the thread gone on. Assumes nothing.
-use Prim.Native.Nat.{ℕ, _≤_, _<_}
+use Prim.Native.Nat.{ℕ, _+_, _%_, _≤_, _<_}
+use native.Mathlib.Nat.{mod-eq-of-lt}
 use native.Mathlib.Omega.{arith}
-use mathlib.Core.Path.{_≡_, refl, sym, ap, _∙_}
+use mathlib.Core.Path.{_≡_, refl, sym, ap, ap₂, _∙_}
 use mathlib.Core.Bool.{false}
 use mathlib.Core.List.{List}
 use mathlib.Core.Option.{Option, none}
 use lib.Bits.{or-comm}
 use lib.ListN.{length, getD, set}
 use Rattle.keys.specs.declared.KeySet.{KeySet}
-use Rattle.keys.specs.Keys.{Keys, union}
-use Rattle.keys.specs.KeySet.{keysOf, joinOf}
-use Rattle.keys.proofs.KeySetLaws.{Fits, keys-join}
+use Rattle.keys.specs.Keys.{Keys, union, countNew}
+use Rattle.keys.specs.KeySet.{keysOf, joinOf, newOf}
+use Rattle.keys.proofs.KeySetLaws.{Fits, keys-join, keys-new}
 use Rattle.records.specs.Record.{Record, entry}
 use Rattle.records.specs.Record as records
 use Rattle.rules.specs.State.{changeAt}
@@ -19,6 +20,7 @@ use Rattle.machine.specs.Frames as frames
 use Rattle.machine.specs.Machine as machine
 use Rattle.machine.specs.Playing.{tableOf}
 use Rattle.machine.specs.Playing as playing
+use Rattle.machine.proofs.Runs.{reached-total}
 use Rattle.frames.specs.Parts.{Part as part, isPart}
 use Rattle.frames.specs.declared.go.Ready.{Ready}
 use Rattle.frames.specs.declared.go.Go.{Go}
@@ -37,17 +39,17 @@ use Rattle.refinement.proofs.Looks.{Written, Entered, attempt-act}
 use Rattle.refinement.proofs.Moves.{Mover, Does, Acts}
 use Rattle.refinement.proofs.ChangeLaws.{change-agree, change-none, change-twice}
 
--- a thread that knows the keys K
-abbrev knowing : Keys → machine.Thread → machine.Thread
-knowing K x = record { self = x .self; code = x .code; keys = K }
+-- a thread that knows the keys K, of which it has learnt this many
+abbrev knowing : Keys → ℕ → machine.Thread → machine.Thread
+knowing K l x = record { self = x .self; code = x .code; keys = K; learnt = l }
 
 -- thread p's head, were r its part
 abbrev pub headFor : engine.Machine → ℕ → Ready → Head
-headFor m p r = record { ready = r; depth = headAt (m .heads) p .depth; object = headAt (m .heads) p .object; keys = headAt (m .heads) p .keys }
+headFor m p r = record { ready = r; depth = headAt (m .heads) p .depth; object = headAt (m .heads) p .object; keys = headAt (m .heads) p .keys; learnt = headAt (m .heads) p .learnt }
 
 module _ {b : List ℕ} {m : engine.Machine} {s : machine.State} {p : ℕ} (mover : Mover b m s p) where
   open engine.Machine m using (cells as cs, objects as ts)
-  open Mover mover using (thread as t, there, small, reached as reach)
+  open Mover mover using (thread as t, there, small, reached as reach, headed)
   open Related (mover .related) using (kept as k)
   open Headed (mover .headed) using (stack as S, keys as known, keys-fit as fits)
 
@@ -61,27 +63,42 @@ module _ {b : List ℕ} {m : engine.Machine} {s : machine.State} {p : ℕ} (move
   pub attempts : {A : machine.Act} (R : frames.Ready) → t .code ≡ frames.Found.here S R → machine.act (tableOf b) s p t R ≡ A → machine.attempt (tableOf b) s p ≡ machine.around (tableOf b) p S A
   attempts R e h = attempt-act (tableOf b) s p t there S R _ e h
 
+  -- the mover's total, with this many more
+  abbrev pub total : ℕ → ℕ
+  total i = headAt (m .heads) p .learnt % 256 + i
+
+  pub same-total : t .learnt ≡ headAt (m .heads) p .learnt % 256
+  same-total =
+      let e = headed .learnt in
+      let l = reached-total (tableOf b) reach p t there in
+      sym e ∙ sym (mod-eq-of-lt (omega (arith, e, l)))
+
   -- what the mover knows
-  pub unlearnt : s .threads ≡ changeAt (s .threads) p (knowing (keysOf ks))
+  pub unlearnt : s .threads ≡ changeAt (s .threads) p (knowing (keysOf ks) (total 0))
   unlearnt =
       sym (change-none (s .threads) p)
-      ∙ change-agree (s .threads) p (λ x. x) (knowing (keysOf ks)) t there (ap (λ (K : Keys). knowing K t) (sym known))
+      ∙ change-agree (s .threads) p (λ x. x) (knowing (keysOf ks) (total 0)) t there (ap₂ (λ (K : Keys) (l : ℕ). knowing K l t) (sym known) (omega (arith, same-total)))
 
-  pub learnt : (K L : Keys) → union K (t .keys) ≡ L
-      → changeAt (s .threads) p (λ x. record { self = x .self; code = x .code; keys = union K (x .keys) }) ≡ changeAt (s .threads) p (knowing L)
-  learnt K L e = change-agree (s .threads) p _ (knowing L) t there (ap (λ (K : Keys). knowing K t) e)
+  pub gained : (K L : Keys) (count : Keys → ℕ) (i : ℕ) → union K (t .keys) ≡ L → count (t .keys) ≡ i
+      → changeAt (s .threads) p (λ x. record { self = x .self; code = x .code; keys = union K (x .keys); learnt = x .learnt + count (x .keys) }) ≡ changeAt (s .threads) p (knowing L (total i))
+  gained K L count i e z =
+      change-agree (s .threads) p _ (knowing L (total i)) t there (ap₂ (λ (K : Keys) (l : ℕ). knowing K l t) e (ap₂ (λ (x y : ℕ). x + y) same-total z))
+
+  -- the keys of c that are new to the mover
+  pub joined-new : (c : KeySet) → Fits c → countNew (keysOf c) (t .keys) ≡ newOf ks c
+  joined-new c f = ap (countNew (keysOf c)) (sym known) ∙ sym (keys-new fits f)
 
   pub joined : (c : KeySet) → Fits c → union (keysOf c) (t .keys) ≡ keysOf (joinOf ks c)
   unfolding union
   joined c f = ap (union (keysOf c)) (sym known) ∙ or-comm (keysOf c) (keysOf ks) ∙ sym (keys-join fits f)
 
   -- a move that forks no thread
-  pub moved : (r₀ : Ready) (i : ℕ) (R : Rule) (r : Option Record) (s′ : machine.State) (F : frames.Found) (g : Go) (n′ : Counts) (ks′ : KeySet) (c : Cell) (x : Object) (e : Entry)
+  pub moved : (r₀ : Ready) (i : ℕ) (R : Rule) (r : Option Record) (s′ : machine.State) (F : frames.Found) (g : Go) (n′ : Counts) (ks′ : KeySet) (new : ℕ) (c : Cell) (x : Object) (e : Entry)
       → playing.noRoomBefore s R ≡ none → Entered p e r → isPart part.Fork (r₀ .part) ≡ false → Goes b g S F → Fits ks′
-      → s′ .threads ≡ changeAt (s .threads) p (knowing (keysOf ks′)) → Kept (settingOf b) (set cs i c) (set ts (n .objects) x) n′ s′
-      → Does mover r₀ i (record { go = g; keys = ks′; cell = c; thing = x; counts = n′; entry = e }) (record { rule = R; entry = r; state = machine.become s′ p F })
+      → s′ .threads ≡ changeAt (s .threads) p (knowing (keysOf ks′) (total new)) → Kept (settingOf b) (set cs i c) (set ts (n .objects) x) n′ s′
+      → Does mover r₀ i (record { go = g; keys = ks′; cell = c; thing = x; counts = n′; entry = e; new = new }) (record { rule = R; entry = r; state = machine.become s′ p F })
   unfolding machine.become
-  moved r₀ i R r s′ F g n′ ks′ c x e lack ent forks goes fit threads kept = record {
+  moved r₀ i R r s′ F g n′ ks′ new c x e lack ent forks goes fit threads kept = record {
     lacks = lack;
     entered = ent;
     code = F;
@@ -89,8 +106,8 @@ module _ {b : List ℕ} {m : engine.Machine} {s : machine.State} {p : ℕ} (move
     young = none;
     born = forks;
     threads =
-        ap (λ (xs : List machine.Thread). changeAt xs p (λ x. record { self = x .self; code = F; keys = x .keys })) threads
-        ∙ change-twice (s .threads) p (knowing (keysOf ks′)) (λ x. record { self = x .self; code = F; keys = x .keys });
+        ap (λ (xs : List machine.Thread). changeAt xs p (λ x. record { self = x .self; code = F; keys = x .keys; learnt = x .learnt })) threads
+        ∙ change-twice (s .threads) p (knowing (keysOf ks′) (total new)) (λ x. record { self = x .self; code = F; keys = x .keys; learnt = x .learnt });
     keys-fit = fit;
     kept = kept-changed kept p _ (λ x. refl);
   }
@@ -98,7 +115,7 @@ module _ {b : List ℕ} {m : engine.Machine} {s : machine.State} {p : ℕ} (move
   -- a move that leaves the memory and the keys as they are, and no record
   pub plain : (r₀ : Ready) (i : ℕ) (R : Rule) (F : frames.Found) (g : Go) → isPart part.Fork (r₀ .part) ≡ false → playing.noRoomBefore s R ≡ none → Goes b g S F
       → Acts mover r₀ i (actedOf g n ks (getD cs i noCell) noEntry) (record { rule = R; entry = none; state = machine.become s p F })
-  plain r₀ i R F g forks lack goes = moved r₀ i R none s F g n ks (getD cs i noCell) nothing noEntry lack refl forks goes fits unlearnt (kept-past (kept-same k i) nothing)
+  plain r₀ i R F g forks lack goes = moved r₀ i R none s F g n ks 0 (getD cs i noCell) nothing noEntry lack refl forks goes fits unlearnt (kept-past (kept-same k i) nothing)
 
   pub few-threads : n .threads ≤ 8
   few-threads = let a = k .threads-count in let c = reach .limits .counts .few-threads in omega arith

@@ -2,7 +2,7 @@
 use Prim.Native.Nat.{ℕ, _+_, _%_, _<_}
 use native.Mathlib.Nat.{mod-eq-of-lt}
 use native.Mathlib.Omega.{arith}
-use mathlib.Core.Path.{_≡_, refl, sym, ap, _∙_, subst as along}
+use mathlib.Core.Path.{_≡_, refl, sym, ap, ap₂, _∙_, subst as along}
 use mathlib.Core.Bool.{Bool, true, false, cond}
 use mathlib.Core.List.{List, [], _∷_, _++_}
 use mathlib.Core.Option.{Option, some, none}
@@ -11,8 +11,8 @@ use lib.Dec.{eqb, leb}
 use lib.ListN.{length, getD, set, getElem?}
 use borrow.Author.Tests.{leb-false, lt-leb}
 use Rattle.keys.specs.declared.KeySet.{KeySet}
-use Rattle.keys.specs.Keys.{Keys, union}
-use Rattle.keys.specs.KeySet.{keysOf, joinOf}
+use Rattle.keys.specs.Keys.{Keys, union, countNew}
+use Rattle.keys.specs.KeySet.{keysOf, joinOf, newOf, joinedOf}
 use Rattle.keys.proofs.KeySetLaws.{Fits, fits-join}
 use Rattle.packed.specs.Format.{terms, maskBit, fieldsFrom}
 use Rattle.packed.specs.Trees.{nodeAt, programOf}
@@ -41,7 +41,7 @@ use Rattle.look.specs.declared.Block.the-variants as block
 use Rattle.look.specs.declared.Sight.{Sight}
 use Rattle.look.specs.declared.Sight.the-variants as sight
 use Rattle.look.specs.Look.{objectBy, fieldBy, lookJoin}
-use Rattle.state.specs.Acted.{entryOf, nothing, countsOf, actedOf}
+use Rattle.state.specs.Acted.{entryOf, nothing, countsOf, heardOf}
 use Rattle.objects.specs.Objects.{actNew, actFork, actJoin}
 use Rattle.engine.specs.Machine as engine
 use Rattle.pick.specs.Pick.{noHead}
@@ -53,7 +53,7 @@ use Rattle.refinement.proofs.ThreadNumbers.{Strange, strange-number, ad
 use Rattle.refinement.proofs.KeptLaws.{kept-changed, kept-past, kept-object, kept-same, no-fields, no-bit}
 use Rattle.refinement.proofs.Looks.{Written, MeetsBy, ready-there}
 use Rattle.refinement.proofs.Moves.{Mover, Acts, moverIn}
-use Rattle.refinement.proofs.Moving.{headFor, unlearnt, learnt, joined, moved, few-threads, object-there, written, attempts}
+use Rattle.refinement.proofs.Moving.{headFor, total, unlearnt, gained, same-total, joined, joined-new, moved, few-threads, object-there, written, attempts}
 use Rattle.refinement.proofs.Ended.{joinBy, Ends, ends}
 use Rattle.refinement.proofs.ChangeLaws.{change-agree, change-before}
 
@@ -104,6 +104,7 @@ module _ {b : List ℕ} {m : engine.Machine} {s : machine.State} {p : ℕ} (move
             thing = record { mask = a; thread = 8 };
             counts = countsOf (n .threads) (n .objects + 1) (n .keys);
             entry = entryOf (records.kindNumber records.Kind.new) (n .objects) 0 0;
+            new = 0;
           }))) v
       by true e = (_, acted, test-true (leb 32 (length (s .objects))) _ _ (ap (leb 32) (sym count) ∙ e))
       by false e =
@@ -111,7 +112,7 @@ module _ {b : List ℕ} {m : engine.Machine} {s : machine.State} {p : ℕ} (move
             _,
             acted,
             moved mover _ i e-new (some (entry records.Kind.new p (length (s .objects)) 0 0)) (machine.addObject s (fieldsFrom a 0 32)) (up (nodeAt b) (terms b) S (length (s .objects))) (goValue (n .objects))
-                (countsOf (n .threads) (n .objects + 1) (n .keys)) ks (getD cs i noCell) (record { mask = a; thread = 8 }) (entryOf (records.kindNumber records.Kind.new) (n .objects) 0 0)
+                (countsOf (n .threads) (n .objects + 1) (n .keys)) ks 0 (getD cs i noCell) (record { mask = a; thread = 8 }) (entryOf (records.kindNumber records.Kind.new) (n .objects) 0 0)
                 (test-false (leb 32 (length (s .objects))) _ _ (ap (leb 32) (sym count) ∙ e))
                 (along (λ (o : ℕ). Written p (entryOf (records.kindNumber records.Kind.new) (n .objects) 0 0) (entry records.Kind.new p o 0 0)) count (written mover records.Kind.new (n .objects) 0 0 h (omega arith) (omega arith)))
                 refl (well, h, ap (up (nodeAt b) (terms b) S) (sym count)) fits (unlearnt mover) (kept h),
@@ -130,7 +131,7 @@ module _ {b : List ℕ} {m : engine.Machine} {s : machine.State} {p : ℕ} (move
       count-threads = k .threads-count
 
       y : machine.Thread
-      y = record { self = length (s .objects); code = enter (nodeAt b) (terms b) [] (closed u environment); keys = t .keys }
+      y = record { self = length (s .objects); code = enter (nodeAt b) (terms b) [] (closed u environment); keys = t .keys; learnt = 0 }
 
       x : Object
       x = record { mask = 0; thread = n .threads }
@@ -144,10 +145,11 @@ module _ {b : List ℕ} {m : engine.Machine} {s : machine.State} {p : ℕ} (move
       n′ : Counts
       n′ = countsOf (n .threads + 1) (n .objects + 1) (n .keys)
 
-      threads-after : machine.become s′ p F .threads ≡ changeAt (s .threads) p (moverIn F (keysOf ks)) ++ (y ∷ [])
+      threads-after : machine.become s′ p F .threads ≡ changeAt (s .threads) p (moverIn F (keysOf ks) (total mover 0)) ++ (y ∷ [])
       threads-after =
           change-before (s .threads) y p _ (inside (s .threads) p t there)
-          ∙ ap (λ (xs : List machine.Thread). xs ++ (y ∷ [])) (change-agree (s .threads) p _ (moverIn F (keysOf ks)) t there (ap (λ (K : Keys). moverIn F K t) (sym known)))
+          ∙ ap (λ (xs : List machine.Thread). xs ++ (y ∷ [])) (change-agree (s .threads) p _ (moverIn F (keysOf ks) (total mover 0)) t there
+          (ap₂ (λ (K : Keys) (l : ℕ). moverIn F K l t) (sym known) (let e = same-total mover in omega arith)))
 
       kept : n .objects < 32 → Kept (settingOf b) (set cs i (getD cs i noCell)) (set ts (n .objects) x) n′ s′
       kept h =
@@ -175,6 +177,7 @@ module _ {b : List ℕ} {m : engine.Machine} {s : machine.State} {p : ℕ} (move
             thing = x;
             counts = n′;
             entry = entryOf (records.kindNumber records.Kind.fork) (n .objects) (n .threads) 0;
+            new = 0;
           })))) v
       by true x₂ e₁ e₂ = (_, acted, test-true (leb 8 (length (s .threads))) _ _ (ap (leb 8) (sym count-threads) ∙ e₁))
       by false true e₁ e₂ = (
@@ -203,7 +206,7 @@ module _ {b : List ℕ} {m : engine.Machine} {s : machine.State} {p : ℕ} (move
               code = F;
               goes = (well, h, ap (up (nodeAt b) (terms b) S) (sym count));
               young = some y;
-              born = (refl, g, count, known, (tt, hu, refl));
+              born = (refl, g, count, known, refl, (tt, hu, refl));
               threads = threads-after;
               keys-fit = fits;
               kept = kept-changed (kept h) p _ (λ x. refl);
@@ -214,7 +217,7 @@ module _ {b : List ℕ} {m : engine.Machine} {s : machine.State} {p : ℕ} (move
   pub join-meets : (o b′ w environment i j : ℕ) → j ≡ o → Well S → o < 32 → t .code ≡ frames.Found.here S (frames.Ready.join o)
       → MeetsBy (lookJoin (getD ts j noThing) (getD l (getD ts j noThing .thread % 9) noHead .ready .part)) p (readyOf part.Join o b′ w environment) (machine.attempt (tableOf b) s p)
       (Acts mover (readyOf part.Join o b′ w environment) i (actJoin n (headFor m p (readyOf part.Join o b′ w environment)) (getD cs i noCell) (getD ts j noThing) (getD l (getD ts j noThing .thread % 9) noHead) o))
-  unfolding objectBy fieldBy lookJoin machine.act machine.joinAct machine.joinValue machine.around machine.learn playing.noRoomBefore land.go tableOf
+  unfolding objectBy fieldBy lookJoin machine.act machine.joinAct machine.joinValue machine.around machine.gain playing.noRoomBefore land.go tableOf
   join-meets o b′ w environment i j ej well ho code =
       by (machine.threadOf 0 (s .threads) o) refl
       (ap (λ (j : ℕ). getD ts j noThing .thread) ej ∙ k .numbers o (object-there mover o (ready-there b s p t reach there S (frames.Ready.join o) code)))
@@ -223,7 +226,7 @@ module _ {b : List ℕ} {m : engine.Machine} {s : machine.State} {p : ℕ} (move
       Sees : Sight → ℕ → Head → Type 0
       Sees w₁ a q =
           MeetsBy w₁ p (readyOf part.Join o b′ w environment) (machine.attempt (tableOf b) s p)
-          (Acts mover (readyOf part.Join o b′ w environment) i (actedOf (goValue (q .ready .first)) n (joinOf ks (q .keys)) (getD cs i noCell) (entryOf (records.kindNumber records.Kind.join) o a (q .ready .first))))
+          (Acts mover (readyOf part.Join o b′ w environment) i (heardOf (goValue (q .ready .first)) n (joinedOf ks (q .keys)) (getD cs i noCell) (entryOf (records.kindNumber records.Kind.join) o a (q .ready .first))))
 
       Goal : ℕ → Head → Type 0
       Goal a q = Sees (cond (leb 8 a) (sight.Blocked block.Thread) (joinBy (q .ready .part))) a q
@@ -238,9 +241,10 @@ module _ {b : List ℕ} {m : engine.Machine} {s : machine.State} {p : ℕ} (move
           along (λ (w₁ : Sight). Sees w₁ (q .number) h) (sym j ∙ e₁) (
             _,
             acted (some q) e ∙ ap (λ (v : Option ℕ). machine.around (tableOf b) p S (machine.joinValue s p o q v)) f,
-            moved mover _ i e-join (some (entry records.Kind.join p o (q .number) (h .ready .first))) (machine.learn s p (q .thread .keys)) (up (nodeAt b) (terms b) S (h .ready .first)) (goValue (h .ready .first)) n
-                (joinOf ks (h .keys)) (getD cs i noCell) nothing (entryOf (records.kindNumber records.Kind.join) o (q .number) (h .ready .first)) refl (written mover records.Kind.join o (q .number) (h .ready .first) ho (omega arith) v) refl
-                (well, v, refl) (fits-join fits fit) (learnt mover (q .thread .keys) _ (ap (λ (K : Keys). union K (t .keys)) (sym eq) ∙ joined mover (h .keys) fit))
+            moved mover _ i e-join (some (entry records.Kind.join p o (q .number) (h .ready .first))) (machine.hear s p (q .thread .keys)) (up (nodeAt b) (terms b) S (h .ready .first)) (goValue (h .ready .first)) n
+                (joinOf ks (h .keys)) (newOf ks (h .keys)) (getD cs i noCell) nothing (entryOf (records.kindNumber records.Kind.join) o (q .number) (h .ready .first)) refl (written mover records.Kind.join o (q .number) (h .ready .first) ho (omega arith) v) refl
+                (well, v, refl) (fits-join fits fit) (gained mover (q .thread .keys) _ (countNew (q .thread .keys)) _ (ap (λ (K : Keys). union K (t .keys)) (sym eq) ∙ joined mover (h .keys) fit)
+                (ap (λ (K : Keys). countNew K (t .keys)) (sym eq) ∙ joined-new mover (h .keys) fit))
                 (kept-changed (kept-past (kept-same k i) nothing) p _ (λ x. refl)),
           )
       finish q h w₁ e lt eq fit (inr (j, f)) e₁ =

@@ -1,6 +1,6 @@
 -- The engine's play of a schedule on an accepted plan is the abstract machine's run, and so the defined one: the same stop, counts, states of threads and
 -- log. Assumes nothing.
-use Prim.Native.Nat.{ℕ, suc, _+_, _*_, _≤_, _<_}
+use Prim.Native.Nat.{ℕ, suc, _+_, _*_, _%_, _≤_, _<_}
 use native.Mathlib.Nat.{mod-eq-of-lt, zero-add}
 use native.Mathlib.Omega.{arith}
 use mathlib.Core.Path.{_≡_, refl, sym, ap, ap₂, _∙_, subst as along}
@@ -8,7 +8,7 @@ use mathlib.Core.Bool.{Bool, true, false, cond}
 use mathlib.Core.List.{List, [], _∷_, _++_, map}
 use mathlib.Core.Option.{none}
 use lib.Dec.{leb}
-use lib.ListN.{length, getD, drop}
+use lib.ListN.{length, getD, getElem?, drop}
 use borrow.Author.Tests.{leb-false, leb-true}
 use Rattle.packed.specs.Trees.{programOf}
 use Rattle.packed.specs.Check.{refusal}
@@ -17,11 +17,12 @@ use Rattle.records.specs.Packed.{bytesOf}
 use Rattle.rules.specs.Step as step
 use Rattle.rules.specs.Step.{forMonitor, forJoin, missingField, notThread}
 use Rattle.rules.specs.Run.{Stop, Status, Outcome, play, outcomeOf}
+use Rattle.rules.proofs.StateLaws.{there as present, outside}
 use Rattle.format.specs.Area.{overwrite}
 use Rattle.machine.specs.Machine as machine
 use Rattle.machine.specs.Playing.{tableOf}
 use Rattle.machine.specs.Playing as playing
-use Rattle.machine.proofs.Runs.{Reached}
+use Rattle.machine.proofs.Runs.{Reached, reached-total}
 use Rattle.machine.proofs.Plays.{start-reached, move-reached, plays-outcome, plays-log}
 use Rattle.frames.specs.declared.go.Ready.{Ready}
 use Rattle.landing.specs.Landing.{Stack}
@@ -110,11 +111,33 @@ statuses b ok m s rel reach =
     at p h = by (leb (m .tally .counts .threads) p) refl
       where
         by : (z : Bool) → leb (m .tally .counts .threads) p ≡ z
-            → statusOf (cond z absent (record { state = stateBy (settingOf b) (met m p) })) ≡ playing.status (machine.attempt (tableOf b) s p)
+            → statusOf (cond z absent (record { state = stateBy (settingOf b) (met m p); learnt = headAt (m .heads) p .learnt % 256 })) ≡ playing.status (machine.attempt (tableOf b) s p)
         by true e = ap playing.status (sym (attempt-absent (tableOf b) s p (let x = leb-true (m .tally .counts .threads) p e in let y = rel .kept .threads-count in omega arith)))
         by false e =
             meets-status (lookMet (settingOf b) (met m p)) p (headAt (m .heads) p .ready) (machine.attempt (tableOf b) s p) (Ahead b m s p)
             (looks b ok m s rel reach p h (leb-false (m .tally .counts .threads) p e))
+
+-- what it says of their totals too
+totals : (b : List ℕ) (m : engine.Machine) (s : machine.State) → Related b m s → Reached (tableOf b) (programOf b) s
+    → map (λ (t : Thread). t .learnt) (threadsOf (settingOf b) (m .tally .counts) (m .heads) (m .cells) (m .objects)) ≡ playing.totalsFrom s 0 8
+unfolding threadsOf metBy threadBy playing.totalsFrom playing.totalOf
+totals b m s rel reach =
+    cons-same (at 0) (cons-same (at 1) (cons-same (at 2) (cons-same (at 3) (cons-same (at 4) (cons-same (at 5) (cons-same (at 6) (cons-same (at 7) refl)))))))
+  where
+    count : m .tally .counts .threads ≡ length (s .threads)
+    count = rel .kept .threads-count
+
+    at : (p : ℕ) → threadAt (settingOf b) (m .tally .counts) (m .heads) (m .cells) (m .objects) p .learnt ≡ playing.totalOf (getElem? (s .threads) p)
+    at p = by (leb (m .tally .counts .threads) p) refl
+      where
+        by : (z : Bool) → leb (m .tally .counts .threads) p ≡ z
+            → cond z absent (record { state = stateBy (settingOf b) (met m p); learnt = headAt (m .heads) p .learnt % 256 }) .learnt ≡ playing.totalOf (getElem? (s .threads) p)
+        by true e = ap playing.totalOf (sym (outside (s .threads) p (omega (arith, leb-true (m .tally .counts .threads) p e, count))))
+        by false e =
+            let x = present (s .threads) p (omega (arith, leb-false (m .tally .counts .threads) p e, count)) in
+            let h = rel .each p (x .0) (x .1) .learnt in
+            let l = reached-total (tableOf b) reach p (x .0) (x .1) in
+            mod-eq-of-lt (omega (arith, h, l)) ∙ h ∙ ap playing.totalOf (sym (x .1))
 
 -- ---- a play against a run
 
@@ -130,19 +153,21 @@ record PlaysAs (b : List ℕ) (i n k : ℕ) (l : List ℕ) (P : engine.Played) (
   moves : P .outcome .moves ≡ n + length (R .instances)
   records : P .outcome .records ≡ k + length (R .log)
   threads : map statusOf (P .outcome .threads) ≡ playing.statusesFrom (tableOf b) (R .final) 0 8
+  totals : map (λ (t : Thread). t .learnt) (P .outcome .threads) ≡ playing.totalsFrom (R .final) 0 8
   area : P .area ≡ overlay l (3 * k) (bytesOf (R .log))
 
 -- the outcome that the code's answer means
 abbrev pub outcomeMeant : code-outcome.Outcome → Outcome
-outcomeMeant r = record { stop = stopMeant (r .stop); picks = r .picks; moves = r .moves; records = r .records; threads = map statusOf (r .threads) }
+outcomeMeant r = record { stop = stopMeant (r .stop); picks = r .picks; moves = r .moves; records = r .records; threads = map statusOf (r .threads); totals = map (λ (t : Thread). t .learnt) (r .threads) }
 
 -- every pick is 0 to 7
 abbrev Small : List ℕ → Type 0
 Small ps = (j : ℕ) → j < length ps → getD ps j 0 ≤ 7
 
-outcome-same : {a a′ : Stop} {c c′ d d′ e e′ : ℕ} {l l′ : List Status} → a ≡ a′ → c ≡ c′ → d ≡ d′ → e ≡ e′ → l ≡ l′
-    → _≡_ {A = Outcome} (record { stop = a; picks = c; moves = d; records = e; threads = l }) (record { stop = a′; picks = c′; moves = d′; records = e′; threads = l′ })
-outcome-same a c d e l = λ i. record { stop = a i; picks = c i; moves = d i; records = e i; threads = l i }
+outcome-same : {a a′ : Stop} {c c′ d d′ e e′ : ℕ} {l l′ : List Status} {k k′ : List ℕ} → a ≡ a′ → c ≡ c′ → d ≡ d′ → e ≡ e′ → l ≡ l′ → k ≡ k′
+    → _≡_ {A = Outcome} (record { stop = a; picks = c; moves = d; records = e; threads = l; totals = k })
+    (record { stop = a′; picks = c′; moves = d′; records = e′; threads = l′; totals = k′ })
+outcome-same a c d e l k = λ i. record { stop = a i; picks = c i; moves = d i; records = e i; threads = l i; totals = k i }
 
 module _ (b ws rs : List ℕ) (ok : refusal b ≡ none) (loaded : Loaded b ws rs) where
   -- the rest of a play
@@ -167,7 +192,7 @@ module _ (b ws rs : List ℕ) (ok : refusal b ≡ none) (loaded : Loaded b ws rs
     passed-plays k e =
         let same : Related b (stayed m (m .stack)) s = record { heads-size = rel .heads-size; sized = rel .sized; kept = rel .kept; each = rel .each } in
         let r = rest (stayed m k) s (along (λ (k : Stack). Related b (stayed m k) s) (sym e) same) reach (omega arith) in
-        record { stop = r .stop; picks = (let q = r .picks in omega arith); moves = r .moves; records = r .records; threads = r .threads; area = r .area }
+        record { stop = r .stop; picks = (let q = r .picks in omega arith); moves = r .moves; records = r .records; threads = r .threads; totals = r .totals; area = r .area }
 
     moved-plays : (v : Move) (k : Stack) (u : machine.Move) → playing.step (tableOf b) s p ≡ playing.Answer.moved u → Entered p (v .entry) (u .entry) → Related b (after m p v k) (u .state)
         → Plays (answer.Moved v) k (playing.resume s goOn (playing.Answer.moved u))
@@ -183,6 +208,7 @@ module _ (b ws rs : List ℕ) (ok : refusal b ≡ none) (loaded : Loaded b ws rs
           moves = (let q = r .moves in omega arith);
           records = r .records ∙ q .1;
           threads = r .threads;
+          totals = r .totals;
           area = r .area ∙ q .0;
         }
 
@@ -194,6 +220,7 @@ module _ (b ws rs : List ℕ) (ok : refusal b ≡ none) (loaded : Loaded b ws rs
       moves = omega arith;
       records = record-counts (m .tally .records) p x y written;
       threads = statuses b ok m s rel reach;
+      totals = totals b m s rel reach;
       area = put-last (m .log) (m .tally .records) p x y written (omega arith);
     }
 
@@ -207,6 +234,7 @@ module _ (b ws rs : List ℕ) (ok : refusal b ≡ none) (loaded : Loaded b ws rs
           moves = omega arith;
           records = (let e = q .1 in omega arith);
           threads = statuses b ok m s rel reach;
+          totals = totals b m s rel reach;
           area = q .0 ∙ sym (no-records (m .log) (3 * m .tally .records));
         }
 
@@ -236,6 +264,7 @@ module _ (b ws rs : List ℕ) (ok : refusal b ≡ none) (loaded : Loaded b ws rs
     moves = omega arith;
     records = omega arith;
     threads = statuses b ok m s rel reach;
+    totals = totals b m s rel reach;
     area = sym (no-records (m .log) (3 * m .tally .records));
   }
   plays (p ∷ ps) i small m s rel reach wide =
@@ -267,7 +296,7 @@ module _ (b ws rs : List ℕ) (ok : refusal b ≡ none) (loaded : Loaded b ws rs
     plays-machine =
         let r = from-start in
         let R = playing.runOf b ps in (
-          outcome-same (r .stop) (r .picks ∙ zero-add (R .picks)) (r .moves ∙ zero-add (length (R .instances))) (r .records ∙ zero-add (length (R .log))) (r .threads),
+          outcome-same (r .stop) (r .picks ∙ zero-add (R .picks)) (r .moves ∙ zero-add (length (R .instances))) (r .records ∙ zero-add (length (R .log))) (r .threads) (r .totals),
           r .area ∙ overlay-start (bytesOf (R .log)),
         )
 

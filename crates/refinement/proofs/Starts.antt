@@ -94,14 +94,14 @@ module _ (b ws rs : List ℕ) (ok : refusal b ≡ none) (loaded : Loaded b ws rs
 
   start-headed : (k : Stack)
       → Headed b k (0 * 33) (headOf (getD rs 0 0))
-      (record { self = 0; code = frames.Found.here [] (frames.Ready.call 0 0 noSlots); keys = singleton 0 })
-  start-headed k = record { stack = []; held = tt; depth = refl; shallow = omega arith; stands = start-stands; object = refl; keys = keys-zero; keys-fit = fits-zero }
+      (record { self = 0; code = frames.Found.here [] (frames.Ready.call 0 0 noSlots); keys = singleton 0; learnt = 0 })
+  start-headed k = record { stack = []; held = tt; depth = refl; shallow = omega arith; stands = start-stands; object = refl; keys = keys-zero; keys-fit = fits-zero; learnt = refl }
 
   start-each : (area : List ℕ) (p : ℕ) (t : machine.Thread) → getElem? (playing.start .threads) p ≡ some t
       → Headed b (startOf rs area .stack) (p * 33) (headAt (startOf rs area .heads) p) t
   unfolding startOf playing.start
   start-each area zero t h =
-      let e : record { self = 0; code = frames.Found.here [] (frames.Ready.call 0 0 noSlots); keys = singleton 0 } ≡ t = cc in
+      let e : record { self = 0; code = frames.Found.here [] (frames.Ready.call 0 0 noSlots); keys = singleton 0; learnt = 0 } ≡ t = cc in
       along (λ (t : machine.Thread). Headed b (startOf rs area .stack) (0 * 33) (headAt (startOf rs area .heads) 0) t) e (start-headed (startOf rs area .stack))
   start-each area (suc p) t h = absurd (Option·none-ne-some t h)
 

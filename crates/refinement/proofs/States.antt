@@ -76,6 +76,7 @@ pub record Headed (b : List ℕ) (k : Stack) (base : ℕ) (h : Head) (t : machin
   pub object : h .object ≡ t .self
   pub keys : keysOf (h .keys) ≡ t .keys
   pub keys-fit : Fits (h .keys)
+  pub learnt : h .learnt ≡ t .learnt
 
 -- the engine's state m stands for s, on plan b
 pub record Related (b : List ℕ) (m : engine.Machine) (s : machine.State) : Type 0 where

@@ -12,7 +12,7 @@ use Rattle.keys.specs.Keys.{Keys, empty, singleton, union, holds, isEmpty}
 use Rattle.keys.proofs.KeyLaws.{holds-union, union-empty, holds-singleton, singleton-injective, some-key, no-key}
 use Rattle.packed.specs.Syntax.{Expression, Program}
 use Rattle.rules.specs.Context.{plug, plugᶜ}
-use Rattle.rules.specs.State.{Cell, cell, Thread, State, fresh, freshObject, lookup, monitor, store, storeMonitor, addObject, learn, become, addThread, useKey, threadOf, Numbered}
+use Rattle.rules.specs.State.{Cell, cell, Thread, State, fresh, freshObject, lookup, monitor, store, storeMonitor, addObject, learn, hear, become, addThread, useKey, threadOf, Numbered}
 use Rattle.records.specs.Record.{Kind, Record, entry}
 use Rattle.format.specs.Version.{Version, v0, v1}
 use Rattle.order.proofs.Ports.{ofThread}
@@ -24,8 +24,8 @@ use Rattle.rules.specs.Rules.{Rule, isVolatile, passedOn, Converts, E-CA
 use Rattle.rules.specs.Run.{logged}
 use Rattle.rules.proofs.StateLaws.{inside, added-old, found-thread, new-monitors}
 use Rattle.rules.proofs.Invariant.{Inv, heldBy}
-use Rattle.rules.proofs.Preserved.{learnt, learnt-at}
-use Rattle.rules.proofs.KeyBridge.{Agrees, keysOf, agrees-become, agrees-learn, agrees-keyed, agrees-told, agrees-valued, agrees-unheard, agrees-seized, agrees-freed, agrees-new, agrees-started}
+use Rattle.rules.proofs.Preserved.{taught, heard, gained-at}
+use Rattle.rules.proofs.KeyBridge.{Agrees, keysOf, agrees-become, agrees-gain, agrees-keyed, agrees-told, agrees-valued, agrees-unheard, agrees-seized, agrees-freed, agrees-new, agrees-started}
 
 -- the sets after the log, and a legal log
 pub record Kept (g : Program) (s : State) (H : List Record) : Type 0 where
@@ -65,7 +65,7 @@ module _ (g : Program) (s : State) (I : Inv g s) (p : ℕ) (t : Thread) (ht : ge
       → Kept g (become (learn (store (useKey s) o f (record { keys = singleton (s .nextKey); value = v })) p (singleton (s .nextKey))) p e) (entry Kind.write p o f v ∷ H)
   unfolding store useKey
   kept-write w o f u v e h vol k = record {
-    agrees = agrees-become g (learn s₁ p (singleton (s .nextKey))) _ p e (learnt t (singleton (s .nextKey))) (learnt-at s p t ht s₁ (singleton (s .nextKey)) refl) (agrees-learn g s₁ (plainKeyed o f κ) p (singleton (s .nextKey)) t (learnKey (κ .next) (κ .knows p)) ht new (agrees-keyed g s κ A o f d (cell (singleton w) u) h vol refl));
+    agrees = agrees-become g (learn s₁ p (singleton (s .nextKey))) _ p e (taught t (singleton (s .nextKey))) (gained-at s p t ht s₁ (singleton (s .nextKey)) _ refl) (agrees-gain g s₁ (plainKeyed o f κ) p (singleton (s .nextKey)) _ t (learnKey (κ .next) (κ .knows p)) ht new (agrees-keyed g s κ A o f d (cell (singleton w) u) h vol refl));
     legal = (J .legal, here-now, known w o f u h vol k);
   }
     where
@@ -78,7 +78,7 @@ module _ (g : Program) (s : State) (I : Inv g s) (p : ℕ) (t : Thread) (ht : ge
       new : (k : ℕ) → learnKey (κ .next) (κ .knows p) k ≡ holds (union (singleton (s .nextKey)) (t .keys)) k
       new k = unfold learnKey in (ap₂ _||_ (ap (eqb k) (A .next) ∙ sym (holds-singleton (s .nextKey) k)) (A .knows p t ht k) ∙ sym (holds-union (singleton (s .nextKey)) (t .keys) k))
 
-  kept-fork : (e e′ : Expression) → Kept g (become (addThread (addObject s (freshObject [])) (record { self = length (s .objects); expression = e; keys = t .keys })) p e′) (entry Kind.fork p (length (s .objects)) (length (s .threads)) 0 ∷ H)
+  kept-fork : (e e′ : Expression) → Kept g (become (addThread (addObject s (freshObject [])) (record { self = length (s .objects); expression = e; keys = t .keys; learnt = 0 })) p e′) (entry Kind.fork p (length (s .objects)) (length (s .threads)) 0 ∷ H)
   unfolding addThread addObject
   kept-fork e e′ = record {
     agrees = agrees-become g (addThread s₁ u) _ p e′ t (added-old (s .threads) u p (inside (s .threads) p t ht) ∙ ht) (agrees-started g s₁ κ u (κ .knows p) (agrees-new g s κ [] A) (λ k. A .knows p t ht k) free);
@@ -86,7 +86,7 @@ module _ (g : Program) (s : State) (I : Inv g s) (p : ℕ) (t : Thread) (ht : ge
   }
     where
       u : Thread
-      u = record { self = length (s .objects); expression = e; keys = t .keys }
+      u = record { self = length (s .objects); expression = e; keys = t .keys; learnt = 0 }
 
       s₁ : State
       s₁ = addObject s (freshObject [])
@@ -104,9 +104,9 @@ module _ (g : Program) (s : State) (I : Inv g s) (p : ℕ) (t : Thread) (ht : ge
               first : T (holds (fresh .keys) 0)
               first = unfold fresh holds in tt
 
-  kept-join : (o v : ℕ) (q : Numbered) (e : Expression) → threadOf 0 (s .threads) o ≡ some q → Kept g (become (learn s p (q .thread .keys)) p e) (entry Kind.join p o (q .number) v ∷ H)
+  kept-join : (o v : ℕ) (q : Numbered) (e : Expression) → threadOf 0 (s .threads) o ≡ some q → Kept g (become (hear s p (q .thread .keys)) p e) (entry Kind.join p o (q .number) v ∷ H)
   kept-join o v q e h = record {
-    agrees = agrees-become g (learn s p (q .thread .keys)) _ p e (learnt t (q .thread .keys)) (learnt-at s p t ht s (q .thread .keys) refl) (agrees-learn g s κ p (q .thread .keys) t (unionSet (κ .knows p) (κ .knows (q .number))) ht (plus (κ .knows (q .number)) (q .thread .keys) (λ k. A .knows (q .number) (q .thread) there k)) A);
+    agrees = agrees-become g (hear s p (q .thread .keys)) _ p e (heard t (q .thread .keys)) (gained-at s p t ht s (q .thread .keys) _ refl) (agrees-gain g s κ p (q .thread .keys) _ t (unionSet (κ .knows p) (κ .knows (q .number))) ht (plus (κ .knows (q .number)) (q .thread .keys) (λ k. A .knows (q .number) (q .thread) there k)) A);
     legal = (J .legal, here-now, A .present (q .number) (q .thread) there);
   }
     where
@@ -114,10 +114,10 @@ module _ (g : Program) (s : State) (I : Inv g s) (p : ℕ) (t : Thread) (ht : ge
       there = let j = found-thread (s .threads) 0 o q h in let n : q .number ≡ j .0 = omega (arith, j .1) in ap (getElem? (s .threads)) n ∙ j .2
 
   kept-acquire : (o : ℕ) (c : Cell) (e : Expression) → monitor s o ≡ some c → isEmpty (c .keys) ≡ false
-      → Kept g (become (learn (storeMonitor s o (record { keys = empty; value = t .self })) p (c .keys)) p e) (entry Kind.acquire p o 0 0 ∷ H)
+      → Kept g (become (hear (storeMonitor s o (record { keys = empty; value = t .self })) p (c .keys)) p e) (entry Kind.acquire p o 0 0 ∷ H)
   unfolding storeMonitor
   kept-acquire o c e m f = record {
-    agrees = agrees-become g (learn s₁ p (c .keys)) _ p e (learnt t (c .keys)) (learnt-at s p t ht s₁ (c .keys) refl) (agrees-learn g s₁ (monitorTaken o p κ) p (c .keys) t (unionSet (κ .knows p) (κ .monitors o)) ht (plus (κ .monitors o) (c .keys) same) (agrees-seized g s κ A o (heldBy t) c m p refl (λ q u hu v. I .apart p q t u ht hu v)));
+    agrees = agrees-become g (hear s₁ p (c .keys)) _ p e (heard t (c .keys)) (gained-at s p t ht s₁ (c .keys) _ refl) (agrees-gain g s₁ (monitorTaken o p κ) p (c .keys) _ t (unionSet (κ .knows p) (κ .monitors o)) ht (plus (κ .monitors o) (c .keys) same) (agrees-seized g s κ A o (heldBy t) c m p refl (λ q u hu v. I .apart p q t u ht hu v)));
     legal = (J .legal, here-now, (some-key (c .keys) f .0, rw (same (some-key (c .keys) f .0)) (some-key (c .keys) f .1)));
   }
     where
@@ -153,11 +153,11 @@ module _ (g : Program) (s : State) (I : Inv g s) (p : ℕ) (t : Thread) (ht : ge
   quiet e = record { agrees = agrees-become g s κ p e t ht A; legal = J .legal }
 
   -- a volatile read passes the field's keys, by the version
-  heard : (n : Version) (o f v : ℕ) (W : Keys) → lookup s o f ≡ some (cell W v) → isVolatile g f ≡ true → Agrees g (learn s p (passedOn n W)) (act n Kind.readv p o f κ)
+  passed : (n : Version) (o f v : ℕ) (W : Keys) → lookup s o f ≡ some (cell W v) → isVolatile g f ≡ true → Agrees g (hear s p (passedOn n W)) (act n Kind.readv p o f κ)
   unfolding passedOn
-  heard v0 o f v W h vol = agrees-unheard g s κ p t ht A
-  heard v1 o f v W h vol =
-      agrees-learn g s κ p W t (unionSet (κ .knows p) (κ .volatiles o f)) ht (plus (κ .volatiles o f) W (λ k. A .volatiles o f vol k ∙ ap (λ (x : Option Cell). holds (keysOf x) k) h)) A
+  passed v0 o f v W h vol = agrees-unheard g s κ p _ t ht A
+  passed v1 o f v W h vol =
+      agrees-gain g s κ p W _ t (unionSet (κ .knows p) (κ .volatiles o f)) ht (plus (κ .volatiles o f) W (λ k. A .volatiles o f vol k ∙ ap (λ (x : Option Cell). holds (keysOf x) k) h)) A
 
   -- a volatile write passes the thread's keys, by the version
   told : (n : Version) (o f u v : ℕ) (W : Keys) → lookup s o f ≡ some (cell W u) → isVolatile g f ≡ true
@@ -179,7 +179,7 @@ module _ (g : Program) (s : State) (I : Inv g s) (p : ℕ) (t : Thread) (ht : ge
   bridged (E-READ x {o} {f} {v} h k vol) w = record { agrees = agrees-become g s κ p w t ht A; legal = (J .legal, here-now, known x o f v h vol k) }
   bridged (E-WRITE x {o} {f} {u} {v} h k vol) w = kept-write x o f u v w h vol k
   bridged (E-READV {o} {f} {v} {W} h vol) w = record {
-    agrees = agrees-become g (learn s p (passedOn (g .version) W)) _ p w (learnt t (passedOn (g .version) W)) (learnt-at s p t ht s (passedOn (g .version) W) refl) (heard (g .version) o f v W h vol);
+    agrees = agrees-become g (hear s p (passedOn (g .version) W)) _ p w (heard t (passedOn (g .version) W)) (gained-at s p t ht s (passedOn (g .version) W) _ refl) (passed (g .version) o f v W h vol);
     legal = (J .legal, here-now, tt);
   }
   bridged (E-WRITEV {o} {f} {u} {v} {W} h vol) w = record {

@@ -1,10 +1,10 @@
 -- Every run of a well-formed program is an execution, and an execution is the run; of an accepted plan nothing is ever stuck or passed over but for
 -- document 01's reasons; outcome and log are the execution's, which is demand 2. Assumes nothing.
-use Prim.Native.Nat.{ℕ, suc}
+use Prim.Native.Nat.{ℕ, suc, _≤_}
 use mathlib.Core.Path.{_≡_, refl, ap, subst as along}
 use mathlib.Core.List.{List, [], _∷_}
 use mathlib.Core.Option.{Option, some, none}
-use lib.ListN.{length}
+use lib.ListN.{length, getElem?}
 use Rattle.packed.specs.Syntax.{Expression, Program}
 use Rattle.packed.specs.Trees.{programOf}
 use Rattle.packed.specs.Check.{refusal}
@@ -22,6 +22,7 @@ use Rattle.rules.specs.Executed.{Executed}
 use Rattle.rules.proofs.Invariant.{Inv}
 use Rattle.rules.proofs.OneKey.{OneKey, one-key-start, one-key-move}
 use Rattle.rules.proofs.NewKeys.{unused-start, unused-move, writes-new}
+use Rattle.rules.proofs.Growth.{Modest, modest-start, modest-move, eight-totals, listed-total, listed-small}
 use Rattle.rules.proofs.Equivalence.{Unless, Described, described, complete, complete-lacks, complete-passed}
 use Rattle.rules.proofs.Preserved.{keeps}
 use Rattle.rules.proofs.Progress.{Ruled, unless-ruled, ruled, inv-start}
@@ -32,12 +33,18 @@ pub record Reachable (g : Program) (s : State) : Type 0 where
   pub invariant : Inv g s
   pub one-key : OneKey g s
   pub unused : Unused s
+  pub modest : Modest s
 
 pub reachable-start : (g : Program) → WellFormedProgram g → Reachable g start
-reachable-start g P = record { invariant = inv-start g P; one-key = one-key-start g; unused = unused-start }
+reachable-start g P = record { invariant = inv-start g P; one-key = one-key-start g; unused = unused-start; modest = modest-start }
 
 pub reachable-move : (g : Program) → WellFormedProgram g → (s : State) (p : ℕ) → Reachable g s → {R : Rule} {r : Option Record} {s′ : State} → Moves g s p R r s′ → Reachable g s′
-reachable-move g P s p I m = record { invariant = keeps g P s (I .invariant) p m; one-key = one-key-move g s p (I .one-key) m; unused = unused-move g s p (I .unused) m }
+reachable-move g P s p I m = record {
+  invariant = keeps g P s (I .invariant) p m;
+  one-key = one-key-move g s p (I .one-key) m;
+  unused = unused-move g s p (I .unused) m;
+  modest = modest-move g s p (I .modest) m;
+}
 
 -- ---- a run is an execution
 
@@ -136,7 +143,14 @@ play-executed g P ps =
       same-log = refl;
       eight = eight-statuses g (play g ps .final);
       states = λ p h y. listed-status g (play g ps .final) (I .one-key) (I .invariant) p h y;
+      eight-totals = eight-totals (play g ps .final);
+      totals = listed-total x;
     }
+
+-- a total is at most 255
+pub total-small : (g : Program) → WellFormedProgram g → (ps : List ℕ) (p n : ℕ) → getElem? (outcomeOf g (play g ps) .totals) p ≡ some n → n ≤ 255
+unfolding outcomeOf play
+total-small g P ps p n h = listed-small (play g ps .final) (reachable-run g P start ps (reachable-start g P) .modest) 0 8 p n h
 
 -- ---- accepted plans
 

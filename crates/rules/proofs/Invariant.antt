@@ -11,7 +11,7 @@ use lib.ListN.{length, getElem?}
 use Rattle.keys.specs.Keys.{Keys, empty}
 use Rattle.packed.specs.Syntax.{Expression, Program}
 use Rattle.rules.specs.Context.{focus, top}
-use Rattle.rules.specs.State.{Cell, Thread, State, fresh, freshObject, lookup, monitor, store, storeMonitor, addObject, changeAt, learn, become, addThread, useKey}
+use Rattle.rules.specs.State.{Cell, Thread, State, fresh, freshObject, lookup, monitor, store, storeMonitor, addObject, changeAt, gain, become, addThread, useKey}
 use Rattle.rules.proofs.Placed.{Good, holds, Landed}
 use Rattle.rules.proofs.MoreObjects.{good-more}
 use Rattle.rules.proofs.StateLaws.{added, length-added, change-length, store-same, store-other, store-monitor, lock-same, lock-other, lock-lookup, new-lookup, new-monitor, new-monitors, who, whose}
@@ -176,9 +176,9 @@ module _ (g : Program) (s : State) (I : Inv g s) (p : ℕ) (h : Thread → Threa
       one (inl (x, y)) = rw y at d
       one {q} {u} (inr (x, y)) = sound-same g s after u u refl (record { self = refl; expression = refl }) (I .each q u y)
 
-pub inv-learn : (g : Program) (s : State) (p : ℕ) (W : Keys) (t : Thread) → Inv g s → getElem? (s .threads) p ≡ some t → Inv g (learn s p W)
-unfolding learn
-inv-learn g s p W t I at = inv-change g s I p _ t at refl (sound-same g s (learn s p W) t _ refl (record { self = refl; expression = refl }) (I .each p t at))
+pub inv-gain : (g : Program) (s : State) (p : ℕ) (W : Keys) (n : Keys → ℕ) (t : Thread) → Inv g s → getElem? (s .threads) p ≡ some t → Inv g (gain s p W n)
+unfolding gain
+inv-gain g s p W n t I at = inv-change g s I p _ t at refl (sound-same g s (gain s p W n) t _ refl (record { self = refl; expression = refl }) (I .each p t at))
 
 pub inv-become : (g : Program) (s : State) (p : ℕ) (e : Expression) (t : Thread) (os : List ℕ) → Inv g s → getElem? (s .threads) p ≡ some t
     → Landed g (length (s .objects)) os (focus top e) → ((o : ℕ) → In o os → monitor s o ≡ some (heldBy t)) → Once os → Inv g (become s p e)

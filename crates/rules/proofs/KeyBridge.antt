@@ -11,7 +11,7 @@ use lib.ListN.{length, getElem?}
 use lib.Dec.{T}
 use Rattle.keys.specs.Keys.{Keys, empty, singleton, union, holds, isEmpty}
 use Rattle.packed.specs.Syntax.{Expression, Program}
-use Rattle.rules.specs.State.{Cell, Thread, State, fresh, freshObject, lookup, monitor, store, storeMonitor, addObject, changeAt, learn, become, addThread, useKey}
+use Rattle.rules.specs.State.{Cell, Thread, State, fresh, freshObject, lookup, monitor, store, storeMonitor, addObject, changeAt, gain, become, addThread, useKey}
 use Rattle.order.proofs.KeySets.{KeySet, noKeys, put, put-same, put-other, put₂, put₂-same, put₂-other}
 use Rattle.order.proofs.KeyMachine.{KeyState, monitorTaken, threadKnows, plainKeyed, volatileKnows, monitorFreed, threadForked}
 use Rattle.rules.specs.Rules.{isVolatile}
@@ -80,14 +80,15 @@ pub agrees-become : (g : Program) (s : State) (κ : KeyState) (p : ℕ) (e : Exp
 unfolding become
 agrees-become g s κ p e t at A = agrees-keep g s κ A p _ t at refl refl
 
-pub agrees-learn : (g : Program) (s : State) (κ : KeyState) (p : ℕ) (W : Keys) (t : Thread) (a : KeySet) → getElem? (s .threads) p ≡ some t → ((k : ℕ) → a k ≡ holds (union W (t .keys)) k) → Agrees g s κ → Agrees g (learn s p W) (threadKnows p a κ)
-unfolding learn
-agrees-learn g s κ p W t a at same A = agrees-change g s κ A p _ t at refl a same
+pub agrees-gain : (g : Program) (s : State) (κ : KeyState) (p : ℕ) (W : Keys) (n : Keys → ℕ) (t : Thread) (a : KeySet) → getElem? (s .threads) p ≡ some t
+    → ((k : ℕ) → a k ≡ holds (union W (t .keys)) k) → Agrees g s κ → Agrees g (gain s p W n) (threadKnows p a κ)
+unfolding gain
+agrees-gain g s κ p W n t a at same A = agrees-change g s κ A p _ t at refl a same
 
 -- a thread that hears nothing
-pub agrees-unheard : (g : Program) (s : State) (κ : KeyState) (p : ℕ) (t : Thread) → getElem? (s .threads) p ≡ some t → Agrees g s κ → Agrees g (learn s p empty) κ
-unfolding learn
-agrees-unheard g s κ p t at A = agrees-keep g s κ A p _ t at refl (empty-union (t .keys))
+pub agrees-unheard : (g : Program) (s : State) (κ : KeyState) (p : ℕ) (n : Keys → ℕ) (t : Thread) → getElem? (s .threads) p ≡ some t → Agrees g s κ → Agrees g (gain s p empty n) κ
+unfolding gain
+agrees-unheard g s κ p n t at A = agrees-keep g s κ A p _ t at refl (empty-union (t .keys))
 
 -- ---- fields
 

@@ -7,6 +7,7 @@ pub mod MoreObjects
 pub mod StateLaws
 pub mod Invariant
 pub mod OneKey
+pub mod Growth
 pub mod NewKeys
 pub mod Equivalence
 pub mod Preserved

@@ -2,10 +2,11 @@
 -- `agreement`. Assumes nothing.
 use mathlib.Core.Path.{_≡_, refl}
 use mathlib.Core.List.{map}
+use Rattle.keys.specs.Keys.{holds, countNew}
 use Rattle.rules.specs.ShotList.{Shot, shots}
 use Rattle.rules.specs.Observed.{observed}
 
 -- every marked case comes out as the list says
 pub marked : map observed shots ≡ map (λ (x : Shot). x .expected) shots
-unfolding observed shots
+unfolding observed shots countNew holds
 marked = refl

@@ -14,7 +14,7 @@ use Rattle.keys.specs.Keys.{Keys, empty, singleton, holds, union, isEmpty}
 use Rattle.keys.proofs.KeyLaws.{holds-empty, holds-singleton, holds-union, no-key}
 use Rattle.packed.specs.Syntax.{Expression, Condition, Arguments, Program}
 use Rattle.records.specs.Record.{Kind, Record, entry}
-use Rattle.rules.specs.State.{Cell, cell, Thread, State, fresh, freshObject, lookup, monitor, store, storeMonitor, addObject, learn, become, addThread, useKey, start, changeAt}
+use Rattle.rules.specs.State.{Cell, cell, Thread, State, fresh, freshObject, lookup, monitor, store, storeMonitor, addObject, gain, become, addThread, useKey, start, changeAt}
 use Rattle.rules.specs.Rules.{Rule, passedOn, e-write, Converts, E-CALL, E-LET, E-IF, E-WHILE, E-NEW, E-READ, E-WRITE, E-READV, E-WRITEV, E-FORK, E-JOIN, E-RE-ENTER, E-ACQUIRE, E-RELEASE, Convertsᶜ, E-NOTNOTTRUE, E-ANDTRUE, E-ANDFALSE, E-EQUALTRUE, E-EQUALFALSE, Moves, EVAL, EVALᶜ}
 use Rattle.rules.specs.Run.{Run}
 use Rattle.rules.specs.Execution.{Execution, ends, passes, lacks-key, no-room, moves}
@@ -124,9 +124,9 @@ unused-change s p h b U = record {
     go q u (t, e, inl x) = along (λ (z : Thread). Below (z .keys) (s .nextKey)) x (U .threads q t e)
     go q u (t, e, inr x) = along (λ (z : Thread). Below (z .keys) (s .nextKey)) x (b t (U .threads q t e))
 
-unused-learn : (s : State) (p : ℕ) (W : Keys) → Below W (s .nextKey) → Unused s → Unused (learn s p W)
-unfolding learn
-unused-learn s p W b U = unused-change s p _ (λ t c. below-union W (t .keys) (s .nextKey) b c) U
+unused-gain : (s : State) (p : ℕ) (W : Keys) (n : Keys → ℕ) → Below W (s .nextKey) → Unused s → Unused (gain s p W n)
+unfolding gain
+unused-gain s p W n b U = unused-change s p _ (λ t c. below-union W (t .keys) (s .nextKey) b c) U
 
 unused-become : (s : State) (p : ℕ) (e : Expression) → Unused s → Unused (become s p e)
 unfolding become
@@ -159,18 +159,18 @@ module _ (g : Program) (s : State) (p : ℕ) (t : Thread) (ht : getElem? (s .thr
   kept (E-WRITE w {o} {f} {u} {v} h k vol) =
       let c : Cell = cell (singleton (s .nextKey)) v in
       let b : Below (singleton (s .nextKey)) (suc (s .nextKey)) = below-singleton (s .nextKey) (suc (s .nextKey)) (omega arith) in
-      unused-learn (store (useKey s) o f c) p (singleton (s .nextKey)) b (unused-store (useKey s) o f c (cell (singleton w) u) h b (unused-key s U))
-  kept (E-READV {o} {f} {v} {W} h vol) = unused-learn s p (passedOn (g .version) W) (below-passed (g .version) W (s .nextKey) (U .fields o f (cell W v) h)) U
+      unused-gain (store (useKey s) o f c) p (singleton (s .nextKey)) _ b (unused-store (useKey s) o f c (cell (singleton w) u) h b (unused-key s U))
+  kept (E-READV {o} {f} {v} {W} h vol) = unused-gain s p (passedOn (g .version) W) _ (below-passed (g .version) W (s .nextKey) (U .fields o f (cell W v) h)) U
   kept (E-WRITEV {o} {f} {u} {v} {W} h vol) =
       let W′ = passedOn (g .version) (t .keys) in
       unused-store s o f (cell (union W W′) v) (cell W u) h (below-union W W′ (s .nextKey) (U .fields o f (cell W u) h) (below-passed (g .version) (t .keys) (s .nextKey) (U .threads p t ht))) U
-  kept (E-FORK {e}) = unused-thread (addObject s (freshObject [])) (record { self = length (s .objects); expression = e; keys = t .keys }) (U .threads p t ht) (unused-new s [] U)
+  kept (E-FORK {e}) = unused-thread (addObject s (freshObject [])) (record { self = length (s .objects); expression = e; keys = t .keys; learnt = 0 }) (U .threads p t ht) (unused-new s [] U)
   kept (E-JOIN {o} {v} {q} h l) =
       let j = found-thread (s .threads) 0 o q h in
-      unused-learn s p (q .thread .keys) (U .threads (j .0) (q .thread) (j .2)) U
+      unused-gain s p (q .thread .keys) _ (U .threads (j .0) (q .thread) (j .2)) U
   kept (E-RE-ENTER h) = U
   kept (E-ACQUIRE {o} {u} {W} h n) =
-      unused-learn (storeMonitor s o (cell empty (t .self))) p W (U .monitors o (cell W u) h) (unused-lock s o (cell empty (t .self)) (cell W u) h (below-empty (s .nextKey)) U)
+      unused-gain (storeMonitor s o (cell empty (t .self))) p W _ (U .monitors o (cell W u) h) (unused-lock s o (cell empty (t .self)) (cell W u) h (below-empty (s .nextKey)) U)
   kept (E-RELEASE {o} h) = unused-lock s o (cell (t .keys) 0) (cell empty (t .self)) h (U .threads p t ht) U
 
 -- every move keeps it
@@ -189,7 +189,7 @@ unused-start = record {
   where
     one : (p : ℕ) (t : Thread) → getElem? (start .threads) p ≡ some t → Below (t .keys) 1
     one zero t h =
-        let e : record { self = 0; expression = Expression.call 0 Arguments.end; keys = singleton 0 } ≡ t = cc in
+        let e : record { self = 0; expression = Expression.call 0 Arguments.end; keys = singleton 0; learnt = 0 } ≡ t = cc in
         along (λ (z : Thread). Below (z .keys) 1) e (below-singleton 0 1 (omega arith))
     one (suc p) t h = absurd (true≢false cc)
 
@@ -224,7 +224,7 @@ older-never (s ∷ past) n a = (λ b. let c = a .0 n b in omega arith, older-nev
 -- the next key never falls
 next-converts : {g : Program} {s : State} {p : ℕ} {t : Thread} {e : Expression} {R : Rule} {r : Option Record} {s′ : State} {e′ : Expression}
     → Converts g s p t e R r s′ e′ → s .nextKey ≤ s′ .nextKey
-unfolding learn store storeMonitor addObject addThread useKey
+unfolding gain store storeMonitor addObject addThread useKey
 next-converts (E-CALL os hd hp) = omega arith
 next-converts E-LET = omega arith
 next-converts (E-IF b) = omega arith
@@ -249,7 +249,7 @@ next-moves (EVALᶜ K ht he c) = omega arith
 module _ (g : Program) (s : State) (p : ℕ) (past : List State) (a : NeverHeld past (s .nextKey)) where
   stores : {t : Thread} {e : Expression} {R : Rule} {r : Option Record} {s′ : State} {e′ : Expression} → Converts g s p t e R r s′ e′ → (w : Expression) → R ≡ e-write
       → StoresNew past r (become s′ p w)
-  unfolding become learn useKey lookup
+  unfolding become gain useKey lookup
   stores (E-CALL os hd hp) w q = absurd (true≢false cc)
   stores E-LET w q = absurd (true≢false cc)
   stores (E-IF b) w q = absurd (true≢false cc)

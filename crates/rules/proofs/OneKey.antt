@@ -10,7 +10,7 @@ use lib.ListN.{length}
 use Rattle.keys.specs.Keys.{singleton, union}
 use Rattle.packed.specs.Syntax.{Expression, Program}
 use Rattle.records.specs.Record.{Record}
-use Rattle.rules.specs.State.{Cell, cell, Thread, State, fresh, freshObject, lookup, store, storeMonitor, addObject, learn, become, addThread, useKey, start}
+use Rattle.rules.specs.State.{Cell, cell, Thread, State, fresh, freshObject, lookup, store, storeMonitor, addObject, gain, become, addThread, useKey, start}
 use Rattle.rules.specs.Rules.{Rule, isVolatile, passedOn, Converts, E-CALL, E-LET, E-IF, E-WHILE, E-NEW, E-READ, E-WRITE, E-READV, E-WRITEV, E-FORK, E-JOIN, E-RE-ENTER, E-ACQUIRE, E-RELEASE, Moves, EVAL, EVALᶜ}
 use Rattle.rules.proofs.StateLaws.{store-same, store-other, lock-lookup, new-lookup}
 
@@ -63,7 +63,7 @@ added g s fs I = record { its = λ o f c h v. go o f c h v (new-lookup s fs o f)
 
 module _ (g : Program) (s : State) (p : ℕ) (t : Thread) (I : OneKey g s) where
   kept : {e : Expression} {R : Rule} {r : Option Record} {s′ : State} {e′ : Expression} → Converts g s p t e R r s′ e′ → OneKey g s′
-  unfolding learn useKey addThread lookup
+  unfolding gain useKey addThread lookup
   kept (E-CALL os hd hp) = I
   kept E-LET = I
   kept (E-IF b) = I

@@ -1,5 +1,5 @@
 -- Every rule keeps the invariant. Assumes nothing.
-use Prim.Native.Nat.{ℕ, _<_}
+use Prim.Native.Nat.{ℕ, _+_, _<_}
 use native.Mathlib.Omega.{arith}
 use native.Mathlib.Decide.{ℕ-discrete}
 use mathlib.Core.Path.{_≡_, refl, sym, ap, _∙_, subst as along}
@@ -9,28 +9,36 @@ use mathlib.Core.Logic.{inl, inr}
 use mathlib.Core.Option.{Option, some}
 use lib.ListN.{length, getElem?}
 use lib.Dec.{eqb}
-use Rattle.keys.specs.Keys.{Keys, empty, singleton, union, isEmpty}
+use Rattle.keys.specs.Keys.{Keys, empty, singleton, union, isEmpty, countNew}
 use Rattle.packed.specs.Syntax.{Expression, Condition, Arguments, literal, bind, bindParameters, substitute, Program, Procedure, bool, sequence}
 use Rattle.packed.specs.Slots.{bound}
 use Rattle.rules.specs.Context.{Context, Contextᶜ, Focus, focus, top, here, hold, plug, plugᶜ, Redex, Redexᶜ, redexExpression, redexCondition, literals}
-use Rattle.rules.specs.State.{Cell, cell, Thread, State, freshObject, lookup, monitor, store, storeMonitor, addObject, learn, become, addThread, useKey}
+use Rattle.rules.specs.State.{Cell, cell, Thread, State, freshObject, lookup, monitor, store, storeMonitor, addObject, gain, learn, hear, become, addThread, useKey}
 use Rattle.records.specs.Record.{Record}
 use Rattle.rules.specs.Rules.{Rule, Converts, E-CALL, E-LET, E-IF, E-WHILE, E-NEW, E-READ, E-WRITE, E-READV, E-WRITEV, E-FORK, E-JOIN, E-RE-ENTER, E-ACQUIRE, E-RELEASE, Convertsᶜ, E-NOTNOTTRUE, E-ANDTRUE, E-ANDFALSE, E-EQUALTRUE, E-EQUALFALSE, Moves, EVAL, EVALᶜ}
 use Rattle.packed.proofs.WellFormed.{WellFormedProgram, unbound}
 use Rattle.rules.proofs.Closing.{more, filled, covers-one, covers-params}
 use Rattle.rules.proofs.Placed.{Landed, Text, Textᶜ, Around, Ready, Readyᶜ, Good, held, holds, pending, pendingᶜ, rise, riseᶜ}
 use Rattle.rules.proofs.StateLaws.{inside, added-old, change-same, lock-same, lock-other, found-thread}
-use Rattle.rules.proofs.Invariant.{In, Once, owed, heldBy, Sound, Inv, inv-store, inv-key, inv-lock, length-new, inv-new, inv-learn, inv-become, inv-thread}
+use Rattle.rules.proofs.Invariant.{In, Once, owed, heldBy, Sound, Inv, inv-store, inv-key, inv-lock, length-new, inv-new, inv-gain, inv-become, inv-thread}
 use Rattle.rules.proofs.FocusPlug.{found, foundᶜ}
 
--- the thread after it learnt
-abbrev pub learnt : Thread → Keys → Thread
-learnt t W = record { self = t .self; expression = t .expression; keys = union W (t .keys) }
+-- the thread after a gain
+abbrev pub gained : Thread → Keys → (Keys → ℕ) → Thread
+gained t W n = record { self = t .self; expression = t .expression; keys = union W (t .keys); learnt = t .learnt + n (t .keys) }
+
+-- after it learnt a key of its own, and after it heard of a set
+abbrev pub taught : Thread → Keys → Thread
+taught t W = gained t W (λ K. 0)
+
+abbrev pub heard : Thread → Keys → Thread
+heard t W = gained t W (countNew W)
 
 -- where the mover stands, after what the rule did to the rest
-pub learnt-at : (s : State) (p : ℕ) (t : Thread) → getElem? (s .threads) p ≡ some t → (s₁ : State) (W : Keys) → s₁ .threads ≡ s .threads → getElem? (learn s₁ p W .threads) p ≡ some (learnt t W)
-unfolding learn
-learnt-at s p t ht s₁ W e = change-same (s₁ .threads) p _ t (rw e ht)
+pub gained-at : (s : State) (p : ℕ) (t : Thread) → getElem? (s .threads) p ≡ some t → (s₁ : State) (W : Keys) (n : Keys → ℕ) → s₁ .threads ≡ s .threads
+    → getElem? (gain s₁ p W n .threads) p ≡ some (gained t W n)
+unfolding gain
+gained-at s p t ht s₁ W n e = change-same (s₁ .threads) p _ t (rw e ht)
 
 -- thread p, which is t, is about to move x in K
 module _ (g : Program) (s : State) (p : ℕ) (t : Thread) (K : Context) (I : Inv g s) (at : getElem? (s .threads) p ≡ some t) (x : Redex) (h : t .expression ≡ plug K (redexExpression x)) where
@@ -74,27 +82,27 @@ module _ (g : Program) (P : WellFormedProgram g) (s : State) (I : Inv g s) (p : 
       true≢false cc
 
   kept-acquire : (o : ℕ) (e : Expression) (c : Cell) (W : Keys) → monitor s o ≡ some c → isEmpty (c .keys) ≡ false → t .expression ≡ plug K (Expression.synch (literal o) e)
-      → Inv g (become (learn (storeMonitor s o (cell empty (t .self))) p W) p (plug K (Expression.hold o e)))
-  unfolding redexExpression plug learn storeMonitor monitor
-  kept-acquire o e c W m f he = inv-become g s₂ p (plug (hold K o) e) (learnt t W) (o ∷ pending K) I₂ at₂ (rise g (length (s₂ .objects)) (hold K o) e (pl .1 .0, pl .0) (pl .1 .1)) mine (first, owing-once g s p t K I ht (Redex.synch o e) he)
+      → Inv g (become (hear (storeMonitor s o (cell empty (t .self))) p W) p (plug K (Expression.hold o e)))
+  unfolding redexExpression plug gain storeMonitor monitor
+  kept-acquire o e c W m f he = inv-become g s₂ p (plug (hold K o) e) (heard t W) (o ∷ pending K) I₂ at₂ (rise g (length (s₂ .objects)) (hold K o) e (pl .1 .0, pl .0) (pl .1 .1)) mine (first, owing-once g s p t K I ht (Redex.synch o e) he)
     where
       s₁ : State
       s₁ = storeMonitor s o (record { keys = empty; value = t .self })
 
       s₂ : State
-      s₂ = learn s₁ p W
+      s₂ = hear s₁ p W
 
       I₁ : Inv g s₁
       I₁ = inv-lock g s o (heldBy t) c I m (I .each p t ht .self-there) (free-of o c m f)
 
       I₂ : Inv g s₂
-      I₂ = inv-learn g s₁ p W t I₁ ht
+      I₂ = inv-gain g s₁ p W (countNew W) t I₁ ht
 
-      at₂ : getElem? (s₂ .threads) p ≡ some (learnt t W)
-      at₂ = learnt-at s p t ht s₁ W refl
+      at₂ : getElem? (s₂ .threads) p ≡ some (heard t W)
+      at₂ = gained-at s p t ht s₁ W (countNew W) refl
 
       pl : Around g (length (s₂ .objects)) K × Ready g (length (s₂ .objects)) (Redex.synch o e)
-      pl = placed g s₂ p (learnt t W) K I₂ at₂ (Redex.synch o e) he
+      pl = placed g s₂ p (heard t W) K I₂ at₂ (Redex.synch o e) he
 
       first : In o (pending K) → ⊥
       first i = free-of o c m f p t ht (rw (owes g s p t K I ht (Redex.synch o e) he) i)
@@ -103,21 +111,21 @@ module _ (g : Program) (P : WellFormedProgram g) (s : State) (I : Inv g s) (p : 
       mine a (inl q) = rw q (lock-same s o (heldBy t) c m)
       mine a (inr i) = lock-other s o (heldBy t) a (λ q. first (rw q i)) ∙ owing g s p t K I ht (Redex.synch o e) he a i
 
-  -- a move that learns some keys, whichever they are
-  settle-learn : (W : Keys) (x : Redex) (v : ℕ) → t .expression ≡ plug K (redexExpression x) → held x (pending K) ≡ pending K → v < N → Inv g (become (learn s p W) p (plug K (literal v)))
-  unfolding learn
-  settle-learn W x v he q b = settle g (learn s p W) p (learnt t W) K (inv-learn g s p W t I ht) (learnt-at s p t ht s W refl) x he (literal v) q b
+  -- a move that hears of some keys, whichever they are
+  settle-hear : (W : Keys) (x : Redex) (v : ℕ) → t .expression ≡ plug K (redexExpression x) → held x (pending K) ≡ pending K → v < N → Inv g (become (hear s p W) p (plug K (literal v)))
+  unfolding gain
+  settle-hear W x v he q b = settle g (hear s p W) p (heard t W) K (inv-gain g s p W (countNew W) t I ht) (gained-at s p t ht s W (countNew W) refl) x he (literal v) q b
 
   -- a plain write: a new key, stored and learnt
   kept-write : (o f v : ℕ) (c : Cell) → lookup s o f ≡ some c → t .expression ≡ plug K (redexExpression (Redex.write o f v))
       → Inv g (become (learn (store (useKey s) o f (cell (singleton (s .nextKey)) v)) p (singleton (s .nextKey))) p (plug K (literal v)))
-  unfolding redexExpression store useKey lookup learn
+  unfolding redexExpression store useKey lookup gain
   kept-write o f v c h he =
       let s₁ = store (useKey s) o f (record { keys = singleton (s .nextKey); value = v }) in
       let I₁ = inv-store g (useKey s) o f (record { keys = singleton (s .nextKey); value = v }) _ (inv-key g s I) h (placed g s p t K I ht (Redex.write o f v) he .1 .3) in
-      let I₂ = inv-learn g s₁ p (singleton (s .nextKey)) t I₁ ht in
-      let at₂ = learnt-at s p t ht s₁ (singleton (s .nextKey)) refl in
-      settle g (learn s₁ p (singleton (s .nextKey))) p (learnt t (singleton (s .nextKey))) K I₂ at₂ (Redex.write o f v) he (literal v) refl (placed g (learn s₁ p (singleton (s .nextKey))) p (learnt t (singleton (s .nextKey))) K I₂ at₂ (Redex.write o f v) he .1 .3)
+      let I₂ = inv-gain g s₁ p (singleton (s .nextKey)) (λ K. 0) t I₁ ht in
+      let at₂ = gained-at s p t ht s₁ (singleton (s .nextKey)) (λ K. 0) refl in
+      settle g (learn s₁ p (singleton (s .nextKey))) p (taught t (singleton (s .nextKey))) K I₂ at₂ (Redex.write o f v) he (literal v) refl (placed g (learn s₁ p (singleton (s .nextKey))) p (taught t (singleton (s .nextKey))) K I₂ at₂ (Redex.write o f v) he .1 .3)
 
   -- a write to a field, with whichever keys
   settle-write : (d : Cell) (o f : ℕ) (c : Cell) → lookup s o f ≡ some c → t .expression ≡ plug K (redexExpression (Redex.write o f (d .value))) → Inv g (become (store s o f d) p (plug K (literal (d .value))))
@@ -146,7 +154,7 @@ module _ (g : Program) (P : WellFormedProgram g) (s : State) (I : Inv g s) (p : 
       I₁ : Inv g s₁
       I₁ = inv-become g s p (plug K (literal v)) t (pending K) I ht (rise g N K (literal v) (pl .0) (pl .1 .1)) (λ a i. owing g s p t K I ht (Redex.hold o v) he a (inr i)) (once .1)
 
-      at₁ : getElem? (s₁ .threads) p ≡ some (record { self = t .self; expression = plug K (literal v); keys = t .keys })
+      at₁ : getElem? (s₁ .threads) p ≡ some (record { self = t .self; expression = plug K (literal v); keys = t .keys; learnt = t .learnt })
       at₁ = change-same (s .threads) p _ t ht
 
       -- it was pending once
@@ -158,8 +166,8 @@ module _ (g : Program) (P : WellFormedProgram g) (s : State) (I : Inv g s) (p : 
 
           go : Dec (p ≡ q) → ⊥
           go (yes e) =
-              let k : some (record { self = t .self; expression = plug K (literal v); keys = t .keys }) ≡ some u = sym at₁ ∙ ap (λ (a : ℕ). getElem? (s₁ .threads) a) e ∙ hu in
-              let j : record { self = t .self; expression = plug K (literal v); keys = t .keys } ≡ u = cc in
+              let k : some (record { self = t .self; expression = plug K (literal v); keys = t .keys; learnt = t .learnt }) ≡ some u = sym at₁ ∙ ap (λ (a : ℕ). getElem? (s₁ .threads) a) e ∙ hu in
+              let j : record { self = t .self; expression = plug K (literal v); keys = t .keys; learnt = t .learnt } ≡ u = cc in
               once .0 (rw (rise g N K (literal v) (pl .0) (pl .1 .1) .theirs) at (along (λ (w : Thread). In o (owed w)) (sym j) i))
           go (no e) =
               let k : some (heldBy t) ≡ some (heldBy u) = sym m₁ ∙ here′ in
@@ -167,7 +175,7 @@ module _ (g : Program) (P : WellFormedProgram g) (s : State) (I : Inv g s) (p : 
               e (I₁ .apart p q _ u at₁ hu (ap (λ (c : Cell). c .value) j))
 
   kept-fork : (e : Expression) → t .expression ≡ plug K (Expression.fork e)
-      → Inv g (become (addThread (addObject s (freshObject [])) (record { self = length (s .objects); expression = e; keys = t .keys })) p (plug K (literal (length (s .objects)))))
+      → Inv g (become (addThread (addObject s (freshObject [])) (record { self = length (s .objects); expression = e; keys = t .keys; learnt = 0 })) p (plug K (literal (length (s .objects)))))
   unfolding redexExpression addThread addObject plug
   kept-fork e he = settle g s₂ p t K I₂ at₂ (Redex.fork e) he (literal N) refl more-there
     where
@@ -175,7 +183,7 @@ module _ (g : Program) (P : WellFormedProgram g) (s : State) (I : Inv g s) (p : 
       s₁ = addObject s (freshObject [])
 
       u : Thread
-      u = record { self = N; expression = e; keys = t .keys }
+      u = record { self = N; expression = e; keys = t .keys; learnt = 0 }
 
       s₂ : State
       s₂ = addThread s₁ u
@@ -230,12 +238,12 @@ module _ (g : Program) (P : WellFormedProgram g) (s : State) (I : Inv g s) (p : 
   kept (E-NEW {fs}) he = settle g (addObject s (freshObject fs)) p t K (inv-new g s fs I) ht (Redex.new fs) he (literal N) refl (omega (arith, length-new s fs))
   kept (E-READ w {o} {f} {v} h k vol) he = settle g s p t K I ht (Redex.read o f) he (literal v) refl (I .cells o f _ h)
   kept (E-WRITE w {o} {f} {u} {v} h k vol) he = kept-write o f v _ h he
-  kept (E-READV {o} {f} {v} h vol) he = settle-learn _ (Redex.read o f) v he refl (I .cells o f _ h)
+  kept (E-READV {o} {f} {v} h vol) he = settle-hear _ (Redex.read o f) v he refl (I .cells o f _ h)
   kept (E-WRITEV {o} {f} h vol) he = settle-write _ o f _ h he
   kept (E-FORK {e}) he = kept-fork e he
   kept (E-JOIN {o} {v} {q} h l) he =
       let j = found-thread (s .threads) 0 o q h in
-      settle-learn _ (Redex.join o) v he refl (along (λ (e : Expression). Good g N (focus top e)) l (I .each (j .0) (q .thread) (j .2) .good))
+      settle-hear _ (Redex.join o) v he refl (along (λ (e : Expression). Good g N (focus top e)) l (I .each (j .0) (q .thread) (j .2) .good))
   kept (E-RE-ENTER {o} {e} h) he = settle g s p t K I ht (Redex.synch o e) he e refl (placed g s p t K I ht (Redex.synch o e) he .1 .1)
   kept (E-ACQUIRE {o} {u} {W} {e} h n) he = kept-acquire o e (cell W u) _ h n he
   kept (E-RELEASE {o} {v} h) he = kept-release o v h he

@@ -149,7 +149,7 @@ inv-start g P = record {
   where
     one : (p : ℕ) (t : Thread) → getElem? (start .threads) p ≡ some t → Sound g start t
     one zero t h =
-        let e : record { self = 0; expression = Expression.call 0 Arguments.end; keys = singleton 0 } ≡ t = cc in
+        let e : record { self = 0; expression = Expression.call 0 Arguments.end; keys = singleton 0; learnt = 0 } ≡ t = cc in
         along (Sound g start) e (record { good = (tt, (P .main, tt)); self-there = omega arith; held = λ o i. absurd i; once = tt })
     one (suc p) t h = absurd (true≢false cc)
 

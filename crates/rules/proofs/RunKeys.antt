@@ -60,7 +60,7 @@ kept-start g = record {
 
     known : (p : ℕ) (t : Thread) → getElem? (start .threads) p ≡ some t → (k : ℕ) → eqb k 0 ≡ holds (t .keys) k
     known zero t h k =
-        let e : record { self = 0; expression = Expression.call 0 Arguments.end; keys = singleton 0 } ≡ t = cc in
+        let e : record { self = 0; expression = Expression.call 0 Arguments.end; keys = singleton 0; learnt = 0 } ≡ t = cc in
         sym (holds-singleton 0 k) ∙ ap (λ (z : Thread). holds (z .keys) k) e
     known (suc p) t h k = absurd (true≢false cc)
 

@@ -8,10 +8,10 @@ use mathlib.Core.Option.{Option, some, none}
 use lib.ListN.{length, getElem?}
 use lib.Dec.{eqb}
 use borrow.Author.Tests.{ne-eqb, le-ltb}
-use Rattle.keys.specs.Keys.{singleton, empty}
+use Rattle.keys.specs.Keys.{Keys, singleton, empty}
 use Rattle.packed.specs.Syntax.{Program, Expression}
 use Rattle.rules.specs.Context.{Context, focus, top, plug, redexExpression, Redex}
-use Rattle.rules.specs.State.{Cell, Thread, State, start, freshObject, store, storeMonitor, addObject, learn, become, addThread, useKey}
+use Rattle.rules.specs.State.{Cell, Thread, State, start, freshObject, store, storeMonitor, addObject, gain, become, addThread, useKey}
 use Rattle.records.specs.Record.{Record}
 use Rattle.rules.specs.Rules.{Rule, passedOn, LacksHere, LACKS-READ, LACKS-WRITE, Lacks, LACKS, Converts, E-CALL, E-LET, E-IF, E-WHILE, E-NEW, E-READ, E-WRITE, E-READV, E-WRITEV, E-FORK, E-JOIN, E-RE-ENTER, E-ACQUIRE, E-RELEASE, Moves, EVAL, EVALᶜ}
 use Rattle.rules.specs.Room.{Room, noRoomBefore, noRoomAfter, noRoomFor}
@@ -37,11 +37,11 @@ pub roomy-become : (s : State) (p : ℕ) (e : Expression) → Roomy s → Roomy 
 unfolding become
 roomy-become s p e z =
     let a = z .threads8 in
-    record { threads8 = omega (arith, change-length (s .threads) p (λ x. record { self = x .self; expression = e; keys = x .keys })); objects32 = z .objects32; keys256 = z .keys256 }
+    record { threads8 = omega (arith, change-length (s .threads) p (λ x. record { self = x .self; expression = e; keys = x .keys; learnt = x .learnt })); objects32 = z .objects32; keys256 = z .keys256 }
 
-roomy-learn : (s : State) (p W : ℕ) → Roomy s → Roomy (learn s p W)
-unfolding learn
-roomy-learn s p W z =
+roomy-gain : (s : State) (p : ℕ) (W : Keys) (n : Keys → ℕ) → Roomy s → Roomy (gain s p W n)
+unfolding gain
+roomy-gain s p W n z =
     let a = z .threads8 in
     record { threads8 = along (λ (n : ℕ). n ≤ 8) (sym (change-length (s .threads) p _)) a; objects32 = z .objects32; keys256 = z .keys256 }
 
@@ -84,17 +84,17 @@ module _ (g : Program) (s : State) (I : Inv g s) (z : Roomy s) (p : ℕ) (t : Th
   fits (E-READ w h k vol) l = z
   fits (E-WRITE w {o} {f} {u} {v} h k vol) l =
       let b = room-for 256 (s .nextKey) Room.key none l .0 in
-      roomy-learn (store (useKey s) o f (record { keys = singleton (s .nextKey); value = v })) p (singleton (s .nextKey)) (roomy-store (useKey s) o f (record { keys = singleton (s .nextKey); value = v }) (record { threads8 = z .threads8; objects32 = z .objects32; keys256 = omega arith }))
-  fits (E-READV {W = W} h vol) l = roomy-learn s p (passedOn (g .version) W) z
+      roomy-gain (store (useKey s) o f (record { keys = singleton (s .nextKey); value = v })) p (singleton (s .nextKey)) _ (roomy-store (useKey s) o f (record { keys = singleton (s .nextKey); value = v }) (record { threads8 = z .threads8; objects32 = z .objects32; keys256 = omega arith }))
+  fits (E-READV {W = W} h vol) l = roomy-gain s p (passedOn (g .version) W) _ z
   fits (E-WRITEV {o} {f} h vol) l = roomy-store s o f _ z
   fits (E-FORK {e}) l =
       let b = room-for 8 (length (s .threads)) Room.thread _ l in
       let d = room-for 32 (length (s .objects)) Room.object none (b .1) .0 in
       let c = b .0 in
-      record { threads8 = omega (arith, length-added (s .threads) (record { self = length (s .objects); expression = e; keys = t .keys })); objects32 = omega (arith, length-added (s .objects) (freshObject [])); keys256 = z .keys256 }
-  fits (E-JOIN {q = q} h l′) l = roomy-learn s p (q .thread .keys) z
+      record { threads8 = omega (arith, length-added (s .threads) (record { self = length (s .objects); expression = e; keys = t .keys; learnt = 0 })); objects32 = omega (arith, length-added (s .objects) (freshObject [])); keys256 = z .keys256 }
+  fits (E-JOIN {q = q} h l′) l = roomy-gain s p (q .thread .keys) _ z
   fits (E-RE-ENTER h) l = z
-  fits (E-ACQUIRE {o} {W = W} h n) l = roomy-learn (storeMonitor s o (record { keys = empty; value = t .self })) p W (roomy-lock s o (record { keys = empty; value = t .self }) z)
+  fits (E-ACQUIRE {o} {W = W} h n) l = roomy-gain (storeMonitor s o (record { keys = empty; value = t .self })) p W _ (roomy-lock s o (record { keys = empty; value = t .self }) z)
   fits (E-RELEASE {o} h) l = roomy-lock s o (record { keys = t .keys; value = 0 }) z
 
   tidy : {e : Expression} {R : Rule} {r : Option Record} {s′ : State} {e′ : Expression} → Converts g s p t e R r s′ e′ → t .expression ≡ plug K e → noRoomBefore s R ≡ none → TidyOr r

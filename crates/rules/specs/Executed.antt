@@ -13,6 +13,7 @@ use Rattle.rules.specs.Run.{Run, Outcome, Status}
 use Rattle.rules.specs.Execution.{Execution, moveCount}
 use Rattle.rules.specs.ThreadStates.{HasStatus}
 use Rattle.rules.specs.NewKeys.{WritesNew}
+use Rattle.rules.specs.Growth.{growth}
 
 -- of the picks of a schedule on program g
 pub record Executed (g : Program) (schedule : List ℕ) (o : Outcome) (log : List Record) : Type 0 where
@@ -31,3 +32,6 @@ pub record Executed (g : Program) (schedule : List ℕ) (o : Outcome) (log : Lis
   -- and "thread states": each of eight threads has the one state that the rules give it where the run stands
   pub eight : length (o .threads) ≡ 8
   pub states : (p : ℕ) → p < 8 → (x : Status) → (getElem? (o .threads) p ≡ some x) ↔ HasStatus g (run .final) p x
+  -- "The outcome gains one total per thread [..]. It equals the growth of that thread's set over those moves" (document 02, E6)
+  pub eight-totals : length (o .totals) ≡ 8
+  pub totals : (p : ℕ) → p < 8 → getElem? (o .totals) p ≡ some (growth p execution)

@@ -6,6 +6,7 @@ pub mod Room
 pub mod Run
 pub mod Execution
 pub mod NewKeys
+pub mod Growth
 pub mod ThreadStates
 pub mod Executed
 pub mod Play

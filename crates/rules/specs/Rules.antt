@@ -12,7 +12,7 @@ use Rattle.packed.specs.Syntax.{Expression, Condition, Procedure, Program, lite
 use Rattle.packed.specs.Format.{maskBit}
 use Rattle.records.specs.Record.{Kind, Record, entry}
 use Rattle.rules.specs.Context.{Context, Contextᶜ, plug, plugᶜ, literals}
-use Rattle.rules.specs.State.{cell, Thread, State, Numbered, freshObject, lookup, monitor, store, storeMonitor, addObject, learn, become, addThread, useKey, threadOf}
+use Rattle.rules.specs.State.{cell, Thread, State, Numbered, freshObject, lookup, monitor, store, storeMonitor, addObject, learn, hear, become, addThread, useKey, threadOf}
 
 -- the rules' names
 pub data Rule : Type 0 where
@@ -59,7 +59,7 @@ module _ (g : Program) (s : State) (p : ℕ) (t : Thread) where
     -- "A volatile read adds the field's set to the thread's.", as far as the version passes it on
     E-READV : {o f v : ℕ} {W : Keys}
         → lookup s o f ≡ some (cell W v) → isVolatile g f ≡ true
-        → Converts (Expression.read (literal o) f) e-readv (some (entry Kind.readv p o f v)) (learn s p (passedOn (g .version) W)) (literal v)
+        → Converts (Expression.read (literal o) f) e-readv (some (entry Kind.readv p o f v)) (hear s p (passedOn (g .version) W)) (literal v)
     -- "A volatile write adds the thread's set to the field's.", as far as the version passes it on
     E-WRITEV : {o f u v : ℕ} {W : Keys}
         → lookup s o f ≡ some (cell W u) → isVolatile g f ≡ true
@@ -68,11 +68,11 @@ module _ (g : Program) (s : State) (p : ℕ) (t : Thread) where
     -- "a fork makes one of each"; "A forked thread starts with its maker's set."
     E-FORK : {e : Expression}
         → Converts (Expression.fork e) e-fork (some (entry Kind.fork p (length (s .objects)) (length (s .threads)) 0))
-        (addThread (addObject s (freshObject [])) (record { self = length (s .objects); expression = e; keys = t .keys })) (literal (length (s .objects)))
+        (addThread (addObject s (freshObject [])) (record { self = length (s .objects); expression = e; keys = t .keys; learnt = 0 })) (literal (length (s .objects)))
     -- "Join waits for a thread that has become a value, and adds its set."
     E-JOIN : {o v : ℕ} {q : Numbered}
         → threadOf 0 (s .threads) o ≡ some q → q .thread .expression ≡ literal v
-        → Converts (Expression.join (literal o)) e-join (some (entry Kind.join p o (q .number) v)) (learn s p (q .thread .keys)) (literal v)
+        → Converts (Expression.join (literal o)) e-join (some (entry Kind.join p o (q .number) v)) (hear s p (q .thread .keys)) (literal v)
     -- "Re-entry is a move that neither acquires nor later releases."
     E-RE-ENTER : {o : ℕ} {e : Expression}
         → monitor s o ≡ some (cell empty (t .self))
@@ -81,7 +81,7 @@ module _ (g : Program) (s : State) (p : ℕ) (t : Thread) where
     E-ACQUIRE : {o u : ℕ} {W : Keys} {e : Expression}
         → monitor s o ≡ some (cell W u) → isEmpty W ≡ false
         → Converts (Expression.synch (literal o) e) e-acquire (some (entry Kind.acquire p o 0 0))
-        (learn (storeMonitor s o (cell empty (t .self))) p W) (Expression.hold o e)
+        (hear (storeMonitor s o (cell empty (t .self))) p W) (Expression.hold o e)
     -- "Release stores the thread's set."
     E-RELEASE : {o v : ℕ}
         → monitor s o ≡ some (cell empty (t .self))

@@ -2,10 +2,10 @@
 use Prim.Native.Nat.{ℕ, zero, suc}
 use mathlib.Core.List.{List, [], _∷_}
 use mathlib.Core.Option.{Option, some, none}
-use lib.ListN.{length}
+use lib.ListN.{length, getElem?}
 use Rattle.packed.specs.Syntax.{Program}
 use Rattle.records.specs.Record.{Record}
-use Rattle.rules.specs.State.{State, start}
+use Rattle.rules.specs.State.{Thread, State, start}
 use Rattle.rules.specs.Rules.{Rule}
 use Rattle.rules.specs.Step.{Wait, Stuck, Move, Attempt, attempt}
 use Rattle.rules.specs.Room.{Room, Answer, step}
@@ -88,6 +88,17 @@ unfolding status attempt
 statusesFrom g s p zero = []
 statusesFrom g s p (suc n) = status (attempt g s p) ∷ statusesFrom g s (suc p) n
 
+-- "The outcome gains one total per thread" (document 02, E6): 0 of a thread that is not there
+unfoldable pub totalOf : Option Thread → ℕ
+totalOf none = 0
+totalOf (some t) = t .learnt
+
+-- the totals of n threads from thread p on
+unfoldable pub totalsFrom : State → ℕ → ℕ → List ℕ
+unfolding totalOf
+totalsFrom s p zero = []
+totalsFrom s p (suc n) = totalOf (getElem? (s .threads) p) ∷ totalsFrom s (suc p) n
+
 -- "The outcome holds: end, race, or no room (thread, object, key, depth); the picks dealt with before the end or stop; the moves made; the records
 -- written; and for each of 8 threads [..]"; "the answer also gives its length: for a run by the count of records"
 pub record Outcome : Type 0 where
@@ -96,8 +107,15 @@ pub record Outcome : Type 0 where
   pub moves : ℕ
   pub records : ℕ
   pub threads : List Status
+  pub totals : List ℕ
 
 unfoldable pub outcomeOf : Program → Run → Outcome
-unfolding statusesFrom
-outcomeOf g r =
-    record { stop = r .stop; picks = r .picks; moves = length (r .instances); records = length (r .log); threads = statusesFrom g (r .final) 0 8 }
+unfolding statusesFrom totalsFrom
+outcomeOf g r = record {
+  stop = r .stop;
+  picks = r .picks;
+  moves = length (r .instances);
+  records = length (r .log);
+  threads = statusesFrom g (r .final) 0 8;
+  totals = totalsFrom (r .final) 0 8;
+}

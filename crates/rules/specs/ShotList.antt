@@ -1,7 +1,7 @@
 -- The shot list (document 01): the cases marked *, each with its plan, its picks and what must come of them. Assumes nothing.
 use Prim.Native.Nat.{ℕ}
 use mathlib.Core.List.{List, [], _∷_}
-use lib.ListN.{take}
+use lib.ListN.{take, replicate}
 use Rattle.records.specs.Record.{new, read, write, acquire, release, fork, join, lacksRead, Record, entry}
 use Rattle.rules.specs.Step.{forJoin}
 use Rattle.rules.specs.Run.{Stop, end, race, Status, absent, finished, ready, waiting, lacking, Outcome}
@@ -17,9 +17,9 @@ pub record Shot : Type 0 where
   pub picks : List ℕ
   pub expected : Expected
 
--- an outcome: how the run ended, picks, moves, records, and the eight thread states
+-- an outcome: how the run ended, picks, moves, records, and the eight thread states; in no case does a thread learn a key from another
 abbrev pub outcome : Stop → ℕ → ℕ → ℕ → List Status → Outcome
-outcome e p m r ts = record { stop = e; picks = p; moves = m; records = r; threads = ts }
+outcome e p m r ts = record { stop = e; picks = p; moves = m; records = r; threads = ts; totals = replicate 8 0 }
 
 -- Plan P: main is `let 0 = new(1) in let - = fork (v0.1 := null) in v0.1`, field 1 plain, nine terms, 55 bytes
 unfoldable pub planP : List ℕ

@@ -1,11 +1,11 @@
 -- The state of a run: μ, θ and κ of document 001, section 4, with the next unused key (document 01, "How a thread moves"). Assumes nothing.
-use Prim.Native.Nat.{ℕ, zero, suc}
+use Prim.Native.Nat.{ℕ, zero, suc, _+_}
 use mathlib.Core.Bool.{cond}
 use mathlib.Core.List.{List, [], _∷_, _++_}
 use mathlib.Core.Option.{Option, some, none}
 use lib.Dec.{eqb}
 use lib.ListN.{getElem?}
-use Rattle.keys.specs.Keys.{Keys, singleton, union}
+use Rattle.keys.specs.Keys.{Keys, singleton, union, countNew}
 use Rattle.packed.specs.Syntax.{Expression, Arguments}
 
 -- what a location holds: (W, o)
@@ -27,11 +27,12 @@ pub record Object : Type 0 where
   pub monitor : Cell
   pub fields : List Field
 
--- a thread: the object that stands for it, its expression θ and its key set κ
+-- a thread: the object that stands for it, its expression θ, its key set κ, and how many keys it has heard of that were new to it
 pub record Thread : Type 0 where
   pub self : ℕ
   pub expression : Expression
   pub keys : Keys
+  pub learnt : ℕ
 
 -- "Objects and threads are numbered in order of creation and live to the end of the run"
 pub record State : Type 0 where
@@ -117,21 +118,29 @@ addObject s x = record { objects = s .objects ++ (x ∷ []); threads = s .thread
 
 -- ---- θ and κ
 
--- κ[p ↦ W ∪ κ(p)]
-unfoldable pub learn : State → ℕ → Keys → State
+-- κ[p ↦ W ∪ κ(p)], where p's total rises by what `count` says of κ(p)
+unfoldable pub gain : State → ℕ → Keys → (Keys → ℕ) → State
 unfolding changeAt union
-learn s p W = record {
+gain s p W count = record {
   objects = s .objects;
-  threads = changeAt (s .threads) p (λ x. record { self = x .self; expression = x .expression; keys = union W (x .keys) });
+  threads = changeAt (s .threads) p (λ x. record { self = x .self; expression = x .expression; keys = union W (x .keys); learnt = x .learnt + count (x .keys) });
   nextKey = s .nextKey;
 }
+
+-- thread p learns W, and nothing is counted: a key of its own
+abbrev pub learn : State → ℕ → Keys → State
+learn s p W = gain s p W (λ K. 0)
+
+-- thread p hears of W, and the keys that are new to it are counted: "acquire, volatile read and join pass that count up" (document 02, E6)
+abbrev pub hear : State → ℕ → Keys → State
+hear s p W = gain s p W (countNew W)
 
 -- θ[p ↦ e]
 unfoldable pub become : State → ℕ → Expression → State
 unfolding changeAt
 become s p e = record {
   objects = s .objects;
-  threads = changeAt (s .threads) p (λ x. record { self = x .self; expression = e; keys = x .keys });
+  threads = changeAt (s .threads) p (λ x. record { self = x .self; expression = e; keys = x .keys; learnt = x .learnt });
   nextKey = s .nextKey;
 }
 
@@ -159,6 +168,6 @@ unfoldable pub start : State
 unfolding freshObject
 start = record {
   objects = freshObject [] ∷ [];
-  threads = record { self = 0; expression = Expression.call 0 Arguments.end; keys = singleton 0 } ∷ [];
+  threads = record { self = 0; expression = Expression.call 0 Arguments.end; keys = singleton 0; learnt = 0 } ∷ [];
   nextKey = 1;
 }

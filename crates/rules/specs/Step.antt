@@ -9,7 +9,7 @@ use Rattle.keys.specs.Keys.{empty, singleton, union, subset, isEmpty}
 use Rattle.packed.specs.Syntax.{Expression, Condition, Procedure, Program, literal, sequence, bool, bind, bindParameters, substitute}
 use Rattle.records.specs.Record.{Kind, Record, entry}
 use Rattle.rules.specs.Context.{Context, top, plug, plugᶜ, Redex, Redexᶜ, Focus, value, here, hereᶜ, focus, asLiteral}
-use Rattle.rules.specs.State.{Cell, cell, Thread, State, Numbered, freshObject, lookup, monitor, store, storeMonitor, addObject, learn, become, addThread, useKey, threadOf}
+use Rattle.rules.specs.State.{Cell, cell, Thread, State, Numbered, freshObject, lookup, monitor, store, storeMonitor, addObject, gain, learn, hear, become, addThread, useKey, threadOf}
 use Rattle.rules.specs.Rules.{Rule, isVolatile, passedOn, e-call, e-let, e-if, e-while, e-notnottrue, e-andtrue, e-andfalse, e-equaltrue, e-equalfalse, e-new, e-read, e-write, e-readv, e-writev, e-fork, e-join, e-re-enter, e-acquire, e-release}
 
 -- "waiting (monitor held by another, or join of an unfinished thread, itself included)", with the object
@@ -38,18 +38,18 @@ callAct s (some d) os = cond (eqb (d .parameters) (length os)) (does e-call none
 
 -- E-READ, E-READV
 unfoldable pub readAct : Program → State → ℕ → Thread → ℕ → ℕ → Option Cell → Act
-unfolding isVolatile passedOn subset learn
+unfolding isVolatile passedOn subset gain
 readAct g s p t o f none = sticks (missingField o f)
 readAct g s p t o f (some c) =
     cond (isVolatile g f)
-    (does e-readv (some (entry Kind.readv p o f (c .value))) (learn s p (passedOn (g .version) (c .keys))) (literal (c .value)))
+    (does e-readv (some (entry Kind.readv p o f (c .value))) (hear s p (passedOn (g .version) (c .keys))) (literal (c .value)))
     (cond (subset (c .keys) (t .keys))
     (does e-read (some (entry Kind.read p o f (c .value))) s (literal (c .value)))
     (lacks (entry Kind.lacksRead p o f 0)))
 
 -- E-WRITE, E-WRITEV
 unfoldable pub writeAct : Program → State → ℕ → Thread → ℕ → ℕ → ℕ → Option Cell → Act
-unfolding isVolatile passedOn subset learn store useKey union
+unfolding isVolatile passedOn subset gain store useKey union
 writeAct g s p t o f v none = sticks (missingField o f)
 writeAct g s p t o f v (some c) =
     cond (isVolatile g f)
@@ -60,9 +60,9 @@ writeAct g s p t o f v (some c) =
 
 -- E-JOIN, where the thread's value is known, and where its thread is
 unfoldable pub joinValue : State → ℕ → ℕ → Numbered → Option ℕ → Act
-unfolding learn
+unfolding gain
 joinValue s p o q none = waits (forJoin o)
-joinValue s p o q (some v) = does e-join (some (entry Kind.join p o (q .number) v)) (learn s p (q .thread .keys)) (literal v)
+joinValue s p o q (some v) = does e-join (some (entry Kind.join p o (q .number) v)) (hear s p (q .thread .keys)) (literal v)
 
 unfoldable pub joinAct : State → ℕ → ℕ → Option Numbered → Act
 unfolding asLiteral joinValue
@@ -71,12 +71,12 @@ joinAct s p o (some q) = joinValue s p o q (asLiteral (q .thread .expression))
 
 -- E-RE-ENTER, E-ACQUIRE. "A monitor is free exactly when its set is not empty; thread 0 as owner looks like null otherwise."
 unfoldable pub synchAct : State → ℕ → Thread → ℕ → Expression → Option Cell → Act
-unfolding isEmpty learn storeMonitor
+unfolding isEmpty gain storeMonitor
 synchAct s p t o e none = sticks noRule
 synchAct s p t o e (some c) =
     cond (isEmpty (c .keys))
     (cond (eqb (c .value) (t .self)) (does e-re-enter none s e) (waits (forMonitor o)))
-    (does e-acquire (some (entry Kind.acquire p o 0 0)) (learn (storeMonitor s o (cell empty (t .self))) p (c .keys)) (Expression.hold o e))
+    (does e-acquire (some (entry Kind.acquire p o 0 0)) (hear (storeMonitor s o (cell empty (t .self))) p (c .keys)) (Expression.hold o e))
 
 -- E-RELEASE
 unfoldable pub holdAct : State → ℕ → Thread → ℕ → ℕ → Option Cell → Act
@@ -102,7 +102,7 @@ act g s p t (Redex.while c e) = does e-while none s (Expression.if c (sequence e
 act g s p t (Redex.call m os) = callAct s (getElem? (g .procedures) m) os
 act g s p t (Redex.fork e) =
     does e-fork (some (entry Kind.fork p (length (s .objects)) (length (s .threads)) 0))
-    (addThread (addObject s (freshObject [])) (record { self = length (s .objects); expression = e; keys = t .keys }))
+    (addThread (addObject s (freshObject [])) (record { self = length (s .objects); expression = e; keys = t .keys; learnt = 0 }))
     (literal (length (s .objects)))
 act g s p t (Redex.join o) = joinAct s p o (threadOf 0 (s .threads) o)
 act g s p t (Redex.synch o e) = synchAct s p t o e (monitor s o)

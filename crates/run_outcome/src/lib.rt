@@ -36,9 +36,10 @@ pub enum ThreadState {
     Lacking { object: usize, field: usize },
 }
 
-// One of the eight threads.
+// One of the eight threads: its state, and how many keys that were new to it its acquires, volatile reads and joins brought.
 pub struct Thread {
     pub state: ThreadState,
+    pub learnt: u8,
 }
 
 pub struct Outcome {

@@ -1,6 +1,7 @@
 -- What a move does to the state, by value. The machine that the code runs; no reader of the entries' promises needs it. Assumes nothing.
 use Prim.Native.Nat.{ℕ, _%_}
 use Rattle.keys.specs.declared.KeySet.{KeySet}
+use Rattle.keys.specs.declared.Joined.{Joined}
 use Rattle.frames.specs.declared.go.Go.{Go}
 use Rattle.state.specs.declared.Head.{Head}
 use Rattle.state.specs.declared.Cell.{Cell}
@@ -30,10 +31,14 @@ countsOf t o k = record { threads = t; objects = o; keys = k }
 
 -- a move, with the fields and the thread of the object that it makes
 abbrev pub actedWith : Go → Counts → KeySet → Cell → Entry → ℕ → ℕ → Act
-actedWith g n ks c e mask q = act.Done (record { go = g; keys = ks; cell = c; thing = thingOf mask q; counts = n; entry = e })
+actedWith g n ks c e mask q = act.Done (record { go = g; keys = ks; cell = c; thing = thingOf mask q; counts = n; entry = e; new = 0 })
 
 abbrev pub actedOf : Go → Counts → KeySet → Cell → Entry → Act
 actedOf g n ks c e = actedWith g n ks c e 0 8
+
+-- a move that joins a set into the mover's, and counts the new keys
+abbrev pub heardOf : Go → Counts → Joined → Cell → Entry → Act
+heardOf g n j c e = act.Done (record { go = g; keys = j .keys; cell = c; thing = nothing; counts = n; entry = e; new = j .new })
 
 abbrev pub goOn : Go → Counts → Head → Cell → Act
 goOn g n h c = actedOf g n (h .keys) c noEntry

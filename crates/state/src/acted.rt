@@ -1,17 +1,18 @@
 // What a move does to the state, by value.
 ghost use mathlib.Core.Path.{_≡_};
-ghost use Rattle.state.specs.Acted.{entryOf, cellOf, actedWith, actedOf, goOn};
+ghost use Rattle.state.specs.Acted.{entryOf, cellOf, actedWith, actedOf, heardOf, goOn};
 use crate::Cell;
 use crate::Counts;
 use crate::Entry;
 use crate::Head;
 use crate::Object;
 use frames::go::Go;
+use keys::Joined;
 use keys::KeySet;
 use records::kind;
 use run_outcome::NoRoom;
 
-// What a move does: the mover's keys, the cell, the new object, the counts, the record, and where the mover goes on.
+// What a move does: the mover's keys, the cell, the new object, the counts, the record, where the mover goes on, and how many keys it has learnt.
 pub struct Acted {
     pub keys: KeySet,
     pub cell: Cell,
@@ -19,6 +20,7 @@ pub struct Acted {
     pub counts: Counts,
     pub entry: Entry,
     pub go: Go,
+    pub new: u32,
 }
 
 // A move is done, or there is no room for what it makes.
@@ -71,6 +73,7 @@ pub fn acted_with(
         thing: thing,
         counts: counts,
         entry: entry,
+        new: 0,
     })
 }
 
@@ -79,6 +82,23 @@ pub fn acted_of(go: Go, counts: Counts, keys: KeySet, cell: Cell, entry: Entry) 
     ensures { λ r. ⌜ r ≡ actedOf go counts keys cell entry ⌝ }
 {
     acted_with(go, counts, keys, cell, entry, 0, 8)
+}
+
+// A move that joins a set into the mover's, and counts the new keys.
+pub fn heard(go: Go, counts: Counts, joined: Joined, cell: Cell, entry: Entry) -> Act
+    ensures { λ r. ⌜ r ≡ heardOf go counts joined cell entry ⌝ }
+{
+    let keys = joined.keys;
+    let thing = Object { mask: 0, thread: 8 };
+    Act::Done(Acted {
+        go: go,
+        keys: keys,
+        cell: cell,
+        thing: thing,
+        counts: counts,
+        entry: entry,
+        new: joined.new,
+    })
 }
 
 // A move that only goes on elsewhere.

@@ -10,12 +10,13 @@ pub struct Setting {
     pub version: usize,
 }
 
-// A thread: the part that moves next, its depth, the object that stands for it, its keys.
+// A thread: the part that moves next, its depth, the object that stands for it, its keys, how many of them it has learnt from others.
 pub struct Head {
     pub ready: Ready,
     pub depth: usize,
     pub object: usize,
     pub keys: KeySet,
+    pub learnt: usize,
 }
 
 // A field or a monitor: the set of a volatile field or a monitor, its value, the one key of a plain field. Two numbers of 32 bits fill a word: a run

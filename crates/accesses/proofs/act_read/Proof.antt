@@ -23,22 +23,22 @@ join-requires c κs = search needs
 entry-requires : tie.Need-entry-requires
 entry-requires c κs = search needs
 
-acted-of-requires : tie.Need-acted-of-requires
-acted-of-requires c κs = search needs
+heard-requires : tie.Need-heard-requires
+heard-requires c κs = search needs
 
 returns : tie.Need-returns
 unfolding actRead
-returns c = simp (c .acted-of .ensures, c .before .entry .ensures, c .before .before .join .ensures .exact, c .before .before .before .passed-on .ensures, c .before .before .before .before .before .before .before .value .ensures, sym (c .before .before .before .before .before .before .has .ensures) ∙ c .before .before .before .before .before .if1 .taken)
+returns c = simp (c .heard .ensures, c .before .entry .ensures, c .before .before .join .ensures .exact, c .before .before .before .passed-on .ensures, c .before .before .before .before .before .before .before .value .ensures, sym (c .before .before .before .before .before .before .has .ensures) ∙ c .before .before .before .before .before .if1 .taken)
 
 entry-requires-2 : tie.Need-entry-requires-2
 entry-requires-2 c κs = search needs
 
-acted-of-requires-2 : tie.Need-acted-of-requires-2
-acted-of-requires-2 c κs = search needs
+acted-of-requires : tie.Need-acted-of-requires
+acted-of-requires c κs = search needs
 
 returns-2 : tie.Need-returns-2
 unfolding actRead
-returns-2 c = simp (c .acted-of2 .ensures, c .before .entry2 .ensures, c .before .before .before .before .value .ensures, sym (c .before .before .before .has .ensures) ∙ c .before .before .if1 .left)
+returns-2 c = simp (c .acted-of .ensures, c .before .entry2 .ensures, c .before .before .before .before .value .ensures, sym (c .before .before .before .has .ensures) ∙ c .before .before .if1 .left)
 
 pub act-read-spec : {M : Type 1} → statement M
 act-read-spec =
@@ -50,8 +50,8 @@ act-read-spec =
     passed-on-requires
     join-requires
     entry-requires
-    acted-of-requires
+    heard-requires
     returns
     entry-requires-2
-    acted-of-requires-2
+    acted-of-requires
     returns-2)

@@ -1,6 +1,7 @@
 -- `act_write` meets its contract. Assumes nothing.
-use mathlib.Core.Path.{sym, _∙_}
+use mathlib.Core.Path.{sym, ap, _∙_}
 use borrow.Author.Tests.{le-leb, lt-leb}
+use Rattle.keys.specs.declared.Joined.{Joined}
 use Rattle.accesses.specs.Accesses.{actWrite}
 use borrow.Author.Needs.{needs}
 use Rattle.accesses.proofs.act_write.Statement.{statement}
@@ -29,7 +30,7 @@ acted-of-requires c κs = search needs
 
 returns : tie.Need-returns
 unfolding actWrite
-returns c = simp (c .acted-of .ensures, c .before .entry .ensures, c .before .before .cell-with .ensures, c .before .before .before .join .ensures .exact, c .before .before .before .before .passed-on .ensures, c .before .before .before .before .before .before .before .value .ensures, sym (c .before .before .before .before .before .before .has .ensures) ∙ c .before .before .before .before .before .if1 .taken)
+returns c = simp (c .acted-of .ensures, c .before .entry .ensures, c .before .before .cell-with .ensures, ap (λ (j : Joined). j .keys) (c .before .before .before .before .join .ensures .exact), c .before .before .before .before .before .passed-on .ensures, c .before .before .before .before .before .before .before .before .value .ensures, sym (c .before .before .before .before .before .before .before .has .ensures) ∙ c .before .before .before .before .before .before .if1 .taken)
 
 returns-2 : tie.Need-returns-2
 unfolding actWrite

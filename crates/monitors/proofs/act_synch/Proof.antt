@@ -33,12 +33,12 @@ want-requires c κs = search needs
 entry-requires : tie.Need-entry-requires
 entry-requires c κs = search needs
 
-acted-of-requires : tie.Need-acted-of-requires
-acted-of-requires c κs = search needs
+heard-requires : tie.Need-heard-requires
+heard-requires c κs = search needs
 
 returns-2 : tie.Need-returns-2
 unfolding actSynch
-returns-2 c = simp (c .acted-of .ensures, c .before .entry .ensures, c .before .before .want .ensures, c .before .before .before .cell-with .ensures, c .before .before .before .before .new .ensures .exact, c .before .before .before .before .before .join .ensures .exact, sym (c .before .before .before .before .before .before .before .is-empty .ensures .exact) ∙ c .before .before .before .before .before .before .if1 .left)
+returns-2 c = simp (c .heard .ensures, c .before .entry .ensures, c .before .before .want .ensures, c .before .before .before .cell-with .ensures, c .before .before .before .before .new .ensures .exact, c .before .before .before .before .before .join .ensures .exact, sym (c .before .before .before .before .before .before .before .is-empty .ensures .exact) ∙ c .before .before .before .before .before .before .if1 .left)
 
 pub act-synch-spec : {M : Type 1} → statement M
 act-synch-spec =
@@ -53,5 +53,5 @@ act-synch-spec =
     cell-with-requires
     want-requires
     entry-requires
-    acted-of-requires
+    heard-requires
     returns-2)

@@ -12,12 +12,12 @@ value-requires c κs = search needs
 entry-requires : tie.Need-entry-requires
 entry-requires c κs = search needs
 
-acted-of-requires : tie.Need-acted-of-requires
-acted-of-requires c κs = search needs
+heard-requires : tie.Need-heard-requires
+heard-requires c κs = search needs
 
 returns : tie.Need-returns
-returns c = simp (c .acted-of .ensures, c .before .entry .ensures, c .before .before .value .ensures, c .before .before .before .before .join .ensures .exact)
+returns c = simp (c .heard .ensures, c .before .entry .ensures, c .before .before .value .ensures, c .before .before .before .before .join .ensures .exact)
 
 pub act-join-spec : {M : Type 1} → statement M
 act-join-spec =
-    tie.close (tie.spec join-requires value-requires entry-requires acted-of-requires returns)
+    tie.close (tie.spec join-requires value-requires entry-requires heard-requires returns)

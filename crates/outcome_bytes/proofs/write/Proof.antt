@@ -4,9 +4,10 @@ use Rattle.player.specs.Answer.{outcomeOf}
 use Prim.Native.Nat.{_+_, _-_, _≤_, _<_}
 use native.Mathlib.Omega.{arith}
 use mathlib.Core.Path.{_≡_, refl, sym, ap, _∙_}
+use lib.ListN.{getD}
 use borrow.Author.Needs.{needs}
 use Rattle.format.proofs.Turns.{turns, one-turn, no-turn}
-use Rattle.outcome_bytes.proofs.Threads.{putOne, putThread, small-thread, whole}
+use Rattle.outcome_bytes.proofs.Threads.{absent, putOne, putThread, small-thread, whole}
 use Rattle.outcome_bytes.proofs.write.Statement.{statement}
 use Rattle.outcome_bytes.proofs.write.Tie as tie
 
@@ -61,6 +62,15 @@ add-out-3 c = search needs
 element-write-out-3 : tie.Need-element-write-out-3 Inv-loop μ-loop
 element-write-out-3 c = search needs
 
+mul-out-4 : tie.Need-mul-out-4 Inv-loop μ-loop
+mul-out-4 c = search needs
+
+add-out-4 : tie.Need-add-out-4 Inv-loop μ-loop
+add-out-4 c = search needs
+
+element-write-out-4 : tie.Need-element-write-out-4 Inv-loop μ-loop
+element-write-out-4 c = search needs
+
 add-number : tie.Need-add-number Inv-loop μ-loop
 add-number c = search needs
 
@@ -73,7 +83,7 @@ loop-again c =
     let all = c .before .before .before .before .before .before .before .before .args .outcome .threads in
     let p = l .loop .number in
     let h : p < 8 = c .before .before .loop-test .taken in
-    (omega arith, ap (λ (b : ThreadBytes). turns (putThread all) (8 - (p + 1)) (p + 1) (putOne (l .loop .out) p b)) (c .thread-bytes .ensures) ∙ sym (one-turn (putThread all) 8 p (l .loop .out) h) ∙ l .loop .inv .1)
+    (omega arith, ap (λ (b : ThreadBytes). turns (putThread all) (8 - (p + 1)) (p + 1) (putOne (l .loop .out) p b (getD all p absent .learnt))) (c .thread-bytes .ensures) ∙ sym (one-turn (putThread all) 8 p (l .loop .out) h) ∙ l .loop .inv .1)
 
 returns : tie.Need-returns Inv-loop μ-loop
 returns c =
@@ -103,6 +113,9 @@ write-spec =
     mul-out-3
     add-out-3
     element-write-out-3
+    mul-out-4
+    add-out-4
+    element-write-out-4
     add-number
     loop-less
     loop-again
