@@ -1,7 +1,8 @@
 -- What demand 3 says of a play that is not refused, by the log area that it leaves and by what the judge says of the records in it; and of a play that is
 -- refused. Assumes nothing.
-use Prim.Native.Nat.{ℕ, _*_, _-_}
-use mathlib.Core.Path.{_≡_, sym, _∙_, subst as along}
+use Prim.Native.Nat.{ℕ, _*_}
+use native.Mathlib.Nat.{sub-zero}
+use mathlib.Core.Path.{_≡_, sym, ap, _∙_, subst as along}
 use mathlib.Core.List.{List}
 use mathlib.Core.Option.{Option}
 use lib.ListN.{take}
@@ -29,12 +30,12 @@ module _ (plan schedule area : List ℕ) (p : Played) (h : answered p ≡ played
   agrees-all = let a = passes plan schedule area p h e in agreement plan schedule (a .plan-passes) (a .few)
 
   -- what the judge says of the first bytes of the log area that the play leaves
-  module _ (after : List ℕ) (left : after ≡ areaAfter plan schedule area) (j : Judgement) (n : ℕ) (q : n ≡ 3 * p .outcome .records) (v : ℕ) (w : v ≡ version plan) (m : AnswersTold v (take (n - 0) after) (judge.answered j)) where
+  module _ (after : List ℕ) (left : after ≡ areaAfter plan schedule area) (j : Judgement) (n : ℕ) (q : n ≡ 3 * p .outcome .records) (v : ℕ) (w : v ≡ version plan) (m : AnswersTold v (take n after) (judge.answered j)) where
     answers : Answers (programOf plan .version) (bytesOf (runOf plan schedule .log)) (judge.answered j)
     answers =
         told-plan plan (bytesOf (runOf plan schedule .log)) (judge.answered j) (passes plan schedule area p h e .plan-passes) .0
         (along (λ (k : ℕ). AnswersTold k (bytesOf (runOf plan schedule .log)) (judge.answered j)) w
-        (along (λ (b : List ℕ). AnswersTold v b (judge.answered j)) (begins plan schedule area p h e after left n q) m))
+        (along (λ (b : List ℕ). AnswersTold v b (judge.answered j)) (ap (λ (k : ℕ). take k after) (sym (sub-zero n)) ∙ begins plan schedule area p h e after left n q) m))
 
     stop-named : (x : Option ℕ) × (judge.answered j ≡ named x) × NamedBy (stopOf (p .outcome .stop)) (p .outcome .records) x
     stop-named = rw (stop-is plan schedule area p h e, records-are plan schedule area p h e) (agrees-all .judged (judge.answered j) answers)

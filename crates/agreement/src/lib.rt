@@ -1,8 +1,8 @@
 // Demand 3: the stop for want of a key, the chains of the log and the judge agree. The theorem over the definitions is in specs/ and proofs/; here
 // is the play and the judge, one after the other, on one log area.
 ghost use mathlib.Core.Path.{_≡_};
-ghost use Prim.Native.Nat.{_-_, _≤_};
-ghost use lib.ListN.{length, take, drop};
+ghost use Prim.Native.Nat.{_≤_};
+ghost use lib.ListN.{length, take};
 ghost use Rattle.conflicts.specs.Judge.{AnswersTold};
 ghost use Rattle.rules.specs.Play.{played, areaAfter};
 ghost use Rattle.player.specs.Answer.{answered, NoRunIfRefused};
@@ -19,12 +19,12 @@ pub struct PlayedAndJudged {
     pub judgement: Judgement,
 }
 
-// The judge on a part of a log area, and on no other byte of it.
-fn judge_part(version: usize, area: &[u8], start: usize, end: usize) -> Judgement
-    requires { ⌜ (start ≤ end) × (end ≤ length (now area)) ⌝ }
-    ensures { λ r. ⌜ AnswersTold version (take (end - start) (drop start (now (area .entry)))) (judge.answered r) ⌝ }
+// The judge on the first bytes of a log area, and on no other byte of it.
+fn judge_first(version: usize, area: &[u8], bytes: usize) -> Judgement
+    requires { ⌜ bytes ≤ length (now area) ⌝ }
+    ensures { λ r. ⌜ AnswersTold version (take bytes (now (area .entry))) (judge.answered r) ⌝ }
 {
-    judge::judge(version, &area[start..end])
+    judge::judge(version, &area[0..bytes])
 }
 
 // A schedule is played on a plan, and the judge gets the plan's version and just the run's records, the first bytes of the log area. A refused play has
@@ -49,7 +49,7 @@ pub fn play_and_judge(plan: &[u8], schedule: &[u8], log: &mut [u8]) -> PlayedAnd
         Checked::Passed => {
             let bytes = player::outcome::record_bytes(outcome.records);
             let version = layout::version(plan);
-            let judgement = judge_part(version, log, 0, bytes);
+            let judgement = judge_first(version, log, bytes);
             PlayedAndJudged {
                 played: played,
                 judgement: judgement,

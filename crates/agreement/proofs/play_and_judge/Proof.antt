@@ -34,14 +34,14 @@ version-requires c κs =
     omega arith
 
 -- and the log area has room for them
-judge-part-requires : tie.Need-judge-part-requires
-judge-part-requires c κs =
+judge-first-requires : tie.Need-judge-first-requires
+judge-first-requires c κs =
     let t = c .before .before .before in
     let a = t .before .before .before .before .before .before .before .before .before .before .args in
     let p = t .before .before .before .before .before .play in
     let room = within (a .plan .now) (a .schedule .now) (a .log .now) (p .result) (p .ensures .0) (t .enum-told .given .1) (p .last .1 .1 .0) (p .ensures .1 .0) in
     let b = c .before .before .record-bytes in
-    (omega arith, room (b .result) (omega (arith, b .ensures)))
+    room (b .result) (omega (arith, b .ensures))
 
 same-length : tie.Need-same-length
 same-length c = search needs
@@ -65,7 +65,7 @@ returns-2 c =
     let b = c .before .before .before .record-bytes in
     let v = c .before .before .version in
     let agreed = agreed-on (a .plan .now) (a .schedule .now) (a .log .now) (p .result) (p .ensures .0) (t .enum-told .given .1) (p .last .1 .1 .0) (p .ensures .1 .0) in
-    (p .ensures .0, (p .ensures .1 .0, (agreed (c .judge-part .result) (b .result) (b .ensures) (v .result) (v .ensures) (c .judge-part .ensures), p .ensures .1 .1 .0)))
+    (p .ensures .0, (p .ensures .1 .0, (agreed (c .judge-first .result) (b .result) (b .ensures) (v .result) (v .ensures) (c .judge-first .ensures), p .ensures .1 .1 .0)))
 
 pub play-and-judge-spec : {M : Type 1} → statement M
 play-and-judge-spec =
@@ -76,7 +76,7 @@ play-and-judge-spec =
     enum-told
     record-bytes-requires
     version-requires
-    judge-part-requires
+    judge-first-requires
     same-length
     returns
     same-length-2
