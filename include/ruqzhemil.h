@@ -40,7 +40,7 @@ extern "C" {
 
 /* ---- versions: major * 65536 + minor * 256 + patch */
 
-#define RUQZHEMIL_VERSION 0x010000 /* 1.0.0, of this header */
+#define RUQZHEMIL_VERSION 0x010100 /* 1.1.0, of this header */
 
 /* The version of the archive that is linked, which RUQZHEMIL_VERSION should be. */
 uint64_t ruqzhemil_version(void);
