@@ -1,4 +1,5 @@
 pub mod Context
+pub mod Queue
 pub mod State
 pub mod Rules
 pub mod Step
