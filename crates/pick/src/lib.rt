@@ -25,7 +25,7 @@ use state::acted::Act;
 use state::acted::Acted;
 
 // What a pick meets: the counts, the thread's head, the cell and the object that its part is about, the head of the thread that the object stands for,
-// and the thread's number.
+// the thread's number, and its place in a queue.
 pub struct Met {
     pub counts: Counts,
     pub head: Head,
@@ -33,6 +33,7 @@ pub struct Met {
     pub thing: Object,
     pub other: Head,
     pub thread: usize,
+    pub place: usize,
 }
 
 // What a move leaves: the mover, the thread that it makes if it forks, the cell, the object that it makes, the counts, the record.
