@@ -235,7 +235,7 @@ pub fn pick(
     let other = met.other;
     let ready = head.ready;
     let joined = other.ready;
-    let sight = look::look(setting, head, cell, thing, joined.part);
+    let sight = look::look(setting, head, cell, thing, joined.part, met.place);
     match sight {
         Sight::Ready => make(words, roots, stack, setting, met),
         Sight::Lacking => race(ready),
