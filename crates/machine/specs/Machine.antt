@@ -232,9 +232,9 @@ module _ (table : Table) where
       (Result.value (length (s .objects)))
   act s p t (Ready.join o) = joinAct s p o (threadOf 0 (s .threads) o)
   act s p t (Ready.synch o x) = synchAct s p t o x (monitor s o)
+  act s p t (Ready.hold o v) = does e-release (some (entry Kind.release p o 0 0)) (storeMonitor s o (cell (t .keys) 0)) (Result.value v)
   act s p t (Ready.signal k o) = signalAct s p t k o (monitor s o)
   act s p t (Ready.waiting o) = wakeAct s p t o (t .place .number) (monitor s o)
-  act s p t (Ready.hold o v) = does e-release (some (entry Kind.release p o 0 0)) (storeMonitor s o (cell (t .keys) 0)) (Result.value v)
   act s p t (Ready.whileTest b x) = does e-if none s (cond b (Result.whileBody x) (Result.value 0))
   act s p t (Ready.whileBody o x) = does e-let none s (Result.whileAgain x)
 

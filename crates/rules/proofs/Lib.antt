@@ -5,6 +5,7 @@ pub mod Closing
 pub mod Placed
 pub mod MoreObjects
 pub mod StateLaws
+pub mod Relocated
 pub mod Invariant
 pub mod OneKey
 pub mod Growth
