@@ -155,47 +155,39 @@ freed-meant o w ho = by (eqb o (w % 32)) refl
         ap₂ (λ (x y : ℕ). record { object = x; number = y }) a d
     by false q = refl
 
+nobody-nearer : (o : ℕ) → nearer o 0 ≡ 0
+unfolding nearer queuedOn
+nobody-nearer o = by (eqb o 0)
+  where
+    by : (x : Bool) → _≡_ {A = ℕ} (cond (x && false) 0 0) 0
+    by true = refl
+    by false = refl
+
+nobody-freed : (o : ℕ) → freed o 0 ≡ 0
+unfolding freed
+nobody-freed o = by (eqb o 0) refl
+  where
+    by : (x : Bool) → eqb o 0 ≡ x → cond x o 0 ≡ 0
+    by true q = eqb-true o 0 q
+    by false q = refl
+
+nobody-up : (h : ℕ → ℕ) (o : ℕ) → h 0 ≡ 0 → movedUp h o awake ≡ awake
+unfolding movedUp
+nobody-up h o e = by (eqb o 0)
+  where
+    by : (x : Bool) → _≡_ {A = Place} (record { object = 0; number = cond x (h 0) 0 }) awake
+    by true = ap (λ (n : ℕ). record { object = 0; number = n }) e
+    by false = refl
+
 pub notified : (o : ℕ) (ws : List ℕ) (xs : List machine.Thread) (k : machine.Thread → machine.Thread) → ((x : machine.Thread) → k x .place ≡ movedUp pred o (x .place))
     → Places ws (placesOf xs) → Places (notifiedOf o ws) (placesOf (map k xs))
 unfolding notifiedOf
-notified o ws xs k e h = mapped (nearer o) (movedUp pred o) ws xs k none-nearer none-up (nearer-meant o) e h
-  where
-    none-nearer : nearer o 0 ≡ 0
-    unfolding nearer queuedOn
-    none-nearer = by (eqb o 0)
-      where
-        by : (x : Bool) → cond (x && false) 0 0 ≡ 0
-        by true = refl
-        by false = refl
-
-    none-up : movedUp pred o awake ≡ awake
-    unfolding movedUp
-    none-up = by (eqb o 0)
-      where
-        by : (x : Bool) → _≡_ {A = Place} (record { object = 0; number = cond x 0 0 }) awake
-        by true = refl
-        by false = refl
+notified o ws xs k e h = mapped (nearer o) (movedUp pred o) ws xs k (nobody-nearer o) (nobody-up pred o refl) (nearer-meant o) e h
 
 pub all-notified : (o : ℕ) (ws : List ℕ) (xs : List machine.Thread) (k : machine.Thread → machine.Thread) → o < 32 → ((x : machine.Thread) → k x .place ≡ movedUp (λ n. 0) o (x .place))
     → Places ws (placesOf xs) → Places (allNotifiedOf o ws) (placesOf (map k xs))
 unfolding allNotifiedOf
-all-notified o ws xs k ho e h = mapped (freed o) (movedUp (λ n. 0) o) ws xs k none-freed none-up (λ w. freed-meant o w ho) e h
-  where
-    none-freed : freed o 0 ≡ 0
-    unfolding freed
-    none-freed = by (eqb o 0) refl
-      where
-        by : (x : Bool) → eqb o 0 ≡ x → cond x o 0 ≡ 0
-        by true q = eqb-true o 0 q
-        by false q = refl
-
-    none-up : movedUp (λ n. 0) o awake ≡ awake
-    unfolding movedUp
-    none-up = by (eqb o 0)
-      where
-        by : (x : Bool) → _≡_ {A = Place} (record { object = 0; number = cond x 0 0 }) awake
-        by true = refl
-        by false = refl
+all-notified o ws xs k ho e h = mapped (freed o) (movedUp (λ n. 0) o) ws xs k (nobody-freed o) (nobody-up (λ n. 0) o refl) (λ w. freed-meant o w ho) e h
 
 -- ---- after a move
 

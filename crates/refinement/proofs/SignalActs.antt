@@ -46,12 +46,12 @@ use Rattle.engine.specs.Machine as engine
 use Rattle.engine.specs.Machine.{noCell, headAt}
 use Rattle.refinement.proofs.Meant.{signalMeant}
 use Rattle.refinement.proofs.Queues.{placesOf, Places, place-there, waited, notified, all-notified}
-use Rattle.refinement.proofs.States.{cellMeant, CellFits, Kept, Headed, Related}
-use Rattle.refinement.proofs.Alike.{Same, Alike, alike-map, alike-change}
+use Rattle.refinement.proofs.States.{cellMeant, CellFits, Headed, Related}
+use Rattle.refinement.proofs.Alike.{Alike, alike-map, alike-change}
 use Rattle.refinement.proofs.Tests.{test-true, test-false}
 use Rattle.refinement.proofs.KeptLaws.{kept-changed, kept-mapped, kept-past, kept-same}
 use Rattle.refinement.proofs.Looks.{MeetsBy, monitor-bit, monitor-cell, ready-there}
-use Rattle.refinement.proofs.Moves.{Mover, Acts, Does}
+use Rattle.refinement.proofs.Moves.{Mover, Acts}
 use Rattle.refinement.proofs.Moving.{headFor, unlearnt-among, gained, joined, joined-new, moved-among, moved, object-there, written, attempts}
 use Rattle.refinement.proofs.MonitorActs.{monitor-stored}
 

@@ -112,10 +112,10 @@ module _ (b ws rs : List ℕ) (ok : refusal b ≡ none) (loaded : Loaded b ws rs
   unfolding playing.start
   start-places i = ap placeMeant (none-placed i) ∙ at i
     where
-      none-placed : (i : ℕ) → getD (replicate 8 0) i 0 ≡ 0
+      none-placed : (i : ℕ) → _≡_ {A = ℕ} (getD (replicate 8 0) i 0) 0
       none-placed i = by (decLt i 8)
         where
-          by : Dec (i < 8) → getD (replicate 8 0) i 0 ≡ 0
+          by : Dec (i < 8) → _≡_ {A = ℕ} (getD (replicate 8 0) i 0) 0
           by (yes h) = getD-replicate 8 i 0 0 h
           by (no h) = List·getD-eq-default (replicate 8 0) 0 {n = i} (let l = length-replicate {A = ℕ} 8 0 in omega (arith, h))
 
