@@ -15,6 +15,8 @@ pub mod Preserved
 pub mod Progress
 pub mod ThreadStates
 pub mod Executed
+pub mod QueueLaws
+pub mod Queues
 pub mod RunAppend
 pub mod Marked
 pub mod Depths
