@@ -49,6 +49,9 @@ table-said : map said table
     ∷ ("expression" ∷ "expression" ∷ [])  -- equal
     ∷ ("expression" ∷ "list" ∷ [])  -- list
     ∷ []  -- list end
+    ∷ ("expression" ∷ [])  -- wait (document 02, E3)
+    ∷ ("expression" ∷ [])  -- notify
+    ∷ ("expression" ∷ [])  -- notify all
     ∷ [])
 unfolding table said
 table-said = refl
