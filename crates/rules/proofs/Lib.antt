@@ -17,6 +17,7 @@ pub mod ThreadStates
 pub mod Executed
 pub mod QueueLaws
 pub mod Queues
+pub mod QueueTheorems
 pub mod RunAppend
 pub mod Marked
 pub mod Depths
