@@ -134,9 +134,10 @@ fn look_waiting(cell: Cell, place: usize) -> Sight
     }
     let keys = cell.keys;
     if keys.is_empty() {
-        return Sight::Blocked(Block::Monitor);
+        Sight::Blocked(Block::Monitor)
+    } else {
+        Sight::Ready
     }
-    Sight::Ready
 }
 
 // Whether the part reads or writes a field.

@@ -85,8 +85,8 @@ pub fn act_wake(counts: Counts, head: Head, cell: Cell, object: usize) -> Act
     ensures { λ r. ⌜ r ≡ actWake counts head cell object ⌝ }
 {
     let keys = head.keys;
-    let cell_keys = cell.keys;
-    let joined = keys.join(cell_keys);
+    let given = cell.keys;
+    let joined = keys.join(given);
     let none = KeySet::new();
     let changed = cell_with(head.object, 0, none);
     let go = go::value(0);
