@@ -12,8 +12,8 @@ use state::Head;
 use state::Object;
 use state::Setting;
 
-// Why a present thread's pick is passed over: it has finished; waits for a monitor, for a join or to be notified; is stuck for a field, for a thread, for a monitor
-// that it does not hold or for a rule.
+// Why a present thread's pick is passed over: it has finished; waits for a monitor, for a join or to be notified; is stuck for a field, for a thread, for
+// a monitor that it does not hold or for a rule.
 pub enum Block {
     Finished,
     Monitor,

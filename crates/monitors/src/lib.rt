@@ -1,4 +1,4 @@
-// What a synch does at its start and at its end, what a signal does, and what a thread does that wakes, by value.
+// What a synch does at its start and at its end, a wait or a notify, and a thread that wakes, by value.
 ghost use mathlib.Core.Path.{_≡_};
 ghost use Rattle.monitors.specs.Monitors.{actSynch, actHold, actWait, actSignal, actWake};
 use frames::frame::Frame;
