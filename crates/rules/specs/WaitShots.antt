@@ -103,6 +103,26 @@ waitNull =
     ∷ 0x00 ∷ 0x00 ∷ 0x00 ∷ 0x00 ∷ 0x00  -- term 1
     ∷ []
 
+-- `notify null`
+unfoldable pub notifyAlone : List ℕ
+notifyAlone =
+    0x10 ∷ 0x40 ∷ 0x08 ∷ 0x00  -- header
+    ∷ 0x80 ∷ 0x00 ∷ 0x00 ∷ 0x00  -- volatile mask
+    ∷ 0x00 ∷ 0x00  -- procedure 0
+    ∷ 0x98 ∷ 0x02 ∷ 0x00 ∷ 0x00 ∷ 0x00  -- term 0
+    ∷ 0x00 ∷ 0x00 ∷ 0x00 ∷ 0x00 ∷ 0x00  -- term 1
+    ∷ []
+
+-- `notify all null`
+unfoldable pub notifyAllAlone : List ℕ
+notifyAllAlone =
+    0x10 ∷ 0x40 ∷ 0x08 ∷ 0x00  -- header
+    ∷ 0x80 ∷ 0x00 ∷ 0x00 ∷ 0x00  -- volatile mask
+    ∷ 0x00 ∷ 0x00  -- procedure 0
+    ∷ 0xa0 ∷ 0x02 ∷ 0x00 ∷ 0x00 ∷ 0x00  -- term 0
+    ∷ 0x00 ∷ 0x00 ∷ 0x00 ∷ 0x00 ∷ 0x00  -- term 1
+    ∷ []
+
 -- `let 0 = new(1) in let - = fork (synch v0 do wait v0) in let - = fork (synch v0 do wait v0) in synch v0 do notify v0`
 unfoldable pub twoWaiters : List ℕ
 twoWaiters =
@@ -179,7 +199,7 @@ waitTwice =
 
 -- the cases
 unfoldable pub waitShots : List Shot
-unfolding bookPlan notifyNull waitNull twoWaiters twoWaitersAll waitTwice
+unfolding bookPlan notifyNull waitNull notifyAlone notifyAllAlone twoWaiters twoWaitersAll waitTwice
 waitShots =
     -- The publisher waits, an author appends and wakes it, and so on until the book is full; then all go on to the end.
     record {
@@ -196,6 +216,18 @@ waitShots =
     -- "Each needs the monitor held by the mover, else the thread is stuck": a free monitor of owner 0 is not thread 0's
     ∷ record {
       plan = waitNull;
+      picks = 0 ∷ 0 ∷ [];
+      expected = ran (outcome end 2 1 0 (stuck (notHeld 0) ∷ absent ∷ absent ∷ absent ∷ absent ∷ absent ∷ absent ∷ absent ∷ []) (0 ∷ 0 ∷ 0 ∷ 0 ∷ 0 ∷ 0 ∷ 0 ∷ 0 ∷ [])) ([]) ([]);
+    }
+    -- the same of notify
+    ∷ record {
+      plan = notifyAlone;
+      picks = 0 ∷ 0 ∷ [];
+      expected = ran (outcome end 2 1 0 (stuck (notHeld 0) ∷ absent ∷ absent ∷ absent ∷ absent ∷ absent ∷ absent ∷ absent ∷ []) (0 ∷ 0 ∷ 0 ∷ 0 ∷ 0 ∷ 0 ∷ 0 ∷ 0 ∷ [])) ([]) ([]);
+    }
+    -- and of notify all
+    ∷ record {
+      plan = notifyAllAlone;
       picks = 0 ∷ 0 ∷ [];
       expected = ran (outcome end 2 1 0 (stuck (notHeld 0) ∷ absent ∷ absent ∷ absent ∷ absent ∷ absent ∷ absent ∷ absent ∷ []) (0 ∷ 0 ∷ 0 ∷ 0 ∷ 0 ∷ 0 ∷ 0 ∷ 0 ∷ [])) ([]) ([]);
     }
