@@ -152,7 +152,7 @@ mover-awake g s p t ht w {R} {r} {s′} m = go (t .place .number) refl
         let o = t .place .object in
         let k = w (λ z. omega (arith, z, e)) in
         let a : attempt g s p ≡ around s p (k .0) (wakeAct s p t o (t .place .number) (monitor s o)) =
-            ap (attemptBy g s p) ht ∙ ap (λ (x : Expression). attemptAt g s p t (focus top x)) (k .1) ∙ ap (attemptAt g s p t) (found (k .0) (Redex.waiting o)) in
+        ap (attemptBy g s p) ht ∙ ap (λ (x : Expression). attemptAt g s p t (focus top x)) (k .1) ∙ ap (attemptAt g s p t) (found (k .0) (Redex.waiting o)) in
         absurd (stays (k .0) o n (monitor s o) (ap (λ (n : ℕ). around s p (k .0) (wakeAct s p t o n (monitor s o))) (sym e) ∙ sym a ∙ complete g s p m))
 
 -- ---- every move keeps it
@@ -174,8 +174,13 @@ stood-moved s q u f o h e k a =
     let m = mapped h (s .threads) q u a in
     let v = m .0 in
     let z : u .place ≡ movedUp f o (v .place) = ap placeOf (sym (m .2)) ∙ k v .1 in
-    inr (v, m .1, ap (λ (x : Thread). x .expression) (sym (m .2)) ∙ k v .0, ap (λ (w : Place). w .object) z ∙ moved-object f o (v .place),
-    λ y. ap (λ (w : Place). w .number) z ∙ moved-zero f o (v .place) e y)
+    inr (
+      v,
+      m .1,
+      ap (λ (x : Thread). x .expression) (sym (m .2)) ∙ k v .0,
+      ap (λ (w : Place). w .object) z ∙ moved-object f o (v .place),
+      λ y. ap (λ (w : Place). w .number) z ∙ moved-zero f o (v .place) e y,
+    )
 
 stood : {s : State} {p : ℕ} {R : Rule} {s₁ : State} {e : Expression} → Shape s p R s₁ e → (q : ℕ) (u : Thread) → (p ≡ q → ⊥) → getElem? (s₁ .threads) q ≡ some u → Stood s q u
 stood (same n e) q u d a = inr (u, sym (ap (λ (ts : List Thread). getElem? ts q) e) ∙ a, refl, refl, λ z. z)
