@@ -17,8 +17,10 @@ pub mod ThreadStates
 pub mod Executed
 pub mod QueueLaws
 pub mod Queues
+pub mod QueueTheorems
 pub mod RunAppend
 pub mod Marked
+pub mod Waits
 pub mod Depths
 pub mod KeyBridge
 pub mod Bridge

@@ -1,14 +1,13 @@
 -- The queues of an execution's states (document 02, E3): how a move changes the threads' places; the places of a queue are 1 to its length, each once, of
 -- threads that wait there; and a lower place is that of an earlier wait. Assumes nothing.
-use Prim.Native.Nat.{ℕ, zero, suc, pred, _<_, _≤_}
+use Prim.Native.Nat.{ℕ, zero, suc, pred, _<_}
 use native.Mathlib.Omega.{arith}
 use native.Mathlib.Decide.{ℕ-discrete}
 use mathlib.Core.Path.{_≡_, refl, sym, ap, _∙_, subst as along}
-use mathlib.Core.Bool.{Bool, true, false, cond, _&&_, true≢false}
+use mathlib.Core.Bool.{true, false, true≢false}
 use mathlib.Core.List.{List, [], _∷_, _++_, map}
 use mathlib.Core.Logic.{_⊎_, inl, inr}
 use mathlib.Core.Option.{Option, some, none}
-use lib.Dec.{eqb}
 use lib.ListN.{length, getElem?}
 use borrow.Author.Tests.{eq-eqb, ne-eqb}
 use Rattle.keys.specs.Keys.{singleton}
@@ -18,7 +17,7 @@ use Rattle.rules.specs.Context.{Context, plug, focus, top, Redex, redexE
 use Rattle.rules.specs.Queue.{Place, awake, queueLength, lastPlace, movedUp}
 use Rattle.rules.specs.State.{Cell, Thread, State, start, monitor, changeAt, gain, become, addObject, addThread, store, storeMonitor, useKey, enqueue, signalled}
 use Rattle.rules.specs.Rules.{Rule, e-fork, e-wait, e-notify, e-notifyall, Converts, E-CALL, E-LET, E-IF, E-WHILE, E-NEW, E-READ, E-WRITE, E-READV, E-WRITEV, E-FORK, E-JOIN, E-RE-ENTER, E-ACQUIRE, E-RELEASE, E-WAIT, E-WAKE, E-NOTIFY, E-NOTIFYALL, Convertsᶜ, E-NOTNOTTRUE, E-ANDTRUE, E-ANDFALSE, E-EQUALTRUE, E-EQUALFALSE, Moves, EVAL, EVALᶜ}
-use Rattle.rules.specs.Step.{Move, Attempt, moves, wakeAct, act, around, attemptAt, attemptBy, attempt}
+use Rattle.rules.specs.Step.{Move, moves, wakeAct, act, around, attemptAt, attemptBy, attempt}
 use Rattle.rules.specs.Run.{Run, stopped, afterPass, afterMove}
 use Rattle.rules.specs.Execution.{Execution, ends, passes, lacks-key, no-room}
 use Rattle.rules.specs.Waking.{isWait, noted, lastWaitAfter, lastWait, placesOf, holders}
@@ -74,7 +73,7 @@ no-wait (E-EQUALFALSE h) = refl
 
 -- ---- what it does to the places
 
-abbrev placeOf : Thread → Place
+abbrev pub placeOf : Thread → Place
 placeOf t = t .place
 
 places-kept : (ts : List Thread) (p : ℕ) (h : Thread → Thread) → ((x : Thread) → h x .place ≡ x .place) → map placeOf (changeAt ts p h) ≡ map placeOf ts
@@ -83,13 +82,13 @@ places-kept [] p h k = refl
 places-kept (t ∷ ts) zero h k = ap (λ (w : Place). w ∷ map placeOf ts) (k t)
 places-kept (t ∷ ts) (suc p) h k = ap (λ (ws : List Place). t .place ∷ ws) (places-kept ts p h k)
 
-places-taken : (ts : List Thread) (p : ℕ) (h : Thread → Thread) (w : Place) → ((x : Thread) → h x .place ≡ w) → map placeOf (changeAt ts p h) ≡ changeAt (map placeOf ts) p (λ x. w)
+pub places-taken : (ts : List Thread) (p : ℕ) (h : Thread → Thread) (w : Place) → ((x : Thread) → h x .place ≡ w) → map placeOf (changeAt ts p h) ≡ changeAt (map placeOf ts) p (λ x. w)
 unfolding changeAt
 places-taken [] p h w k = refl
 places-taken (t ∷ ts) zero h w k = ap (λ (w : Place). w ∷ map placeOf ts) (k t)
 places-taken (t ∷ ts) (suc p) h w k = ap (λ (ws : List Place). t .place ∷ ws) (places-taken ts p h w k)
 
-places-moved : (ts : List Thread) (h : Thread → Thread) (f : Place → Place) → ((x : Thread) → h x .place ≡ f (x .place)) → map placeOf (map h ts) ≡ map f (map placeOf ts)
+pub places-moved : (ts : List Thread) (h : Thread → Thread) (f : Place → Place) → ((x : Thread) → h x .place ≡ f (x .place)) → map placeOf (map h ts) ≡ map f (map placeOf ts)
 places-moved [] h f k = refl
 places-moved (t ∷ ts) h f k = rw (k t, places-moved ts h f k)
 
@@ -106,7 +105,7 @@ module _ (ws : List Place) (p : ℕ) where
     wakes : (o : ℕ) → Requeues e-notify (map (movedUp pred o) ws)
     wakes-all : (o : ℕ) → Requeues e-notifyall (map (movedUp all o) ws)
 
-become-places : (s : State) (p : ℕ) (e : Expression) → placesOf (become s p e) ≡ placesOf s
+pub become-places : (s : State) (p : ℕ) (e : Expression) → placesOf (become s p e) ≡ placesOf s
 unfolding become
 become-places s p e = places-kept (s .threads) p _ (λ x. refl)
 

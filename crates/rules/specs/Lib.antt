@@ -14,3 +14,4 @@ pub mod Waking
 pub mod Play
 pub mod ShotList
 pub mod Observed
+pub mod WaitShots

@@ -1,16 +1,18 @@
 -- Who waits and who is woken (document 02, E3), by the outcome's words and by the moves of an execution. Assumes nothing.
-use Prim.Native.Nat.{ℕ, zero, suc, _<_, _≤_}
+use Prim.Native.Nat.{ℕ, suc, _<_, _≤_}
 use mathlib.Core.Path.{_≡_}
 use mathlib.Core.Bool.{Bool, true, false, cond, _&&_}
 use mathlib.Core.List.{List, [], _∷_, map}
+use mathlib.Core.Logic.{_↔_}
 use mathlib.Core.Option.{Option, some, none}
 use lib.Dec.{eqb}
 use lib.ListN.{getElem?}
 use Rattle.packed.specs.Syntax.{Signal, Expression, Program, literal}
+use Rattle.records.specs.Record.{Record}
 use Rattle.rules.specs.Context.{Context, plug}
 use Rattle.rules.specs.Queue.{Place, queueLength}
 use Rattle.rules.specs.State.{Thread, State, start}
-use Rattle.rules.specs.Rules.{Rule, e-call, e-let, e-if, e-while, e-notnottrue, e-andtrue, e-andfalse, e-equaltrue, e-equalfalse, e-new, e-read, e-write, e-readv, e-writev, e-fork, e-join, e-re-enter, e-acquire, e-release, e-wait, e-wake, e-notify, e-notifyall}
+use Rattle.rules.specs.Rules.{Rule, e-call, e-let, e-if, e-while, e-notnottrue, e-andtrue, e-andfalse, e-equaltrue, e-equalfalse, e-new, e-read, e-write, e-readv, e-writev, e-fork, e-join, e-re-enter, e-acquire, e-release, e-wait, e-wake, e-notify, e-notifyall, Moves}
 use Rattle.rules.specs.Step.{Attempt, forNotify}
 use Rattle.rules.specs.Room.{PassedOver}
 use Rattle.rules.specs.Run.{Run}
@@ -101,3 +103,27 @@ pub record InLine (s : State) : Type 0 where
   pub none-behind : (o n : ℕ) → queueLength o (placesOf s) < n → holders o n (placesOf s) ≡ 0
   pub waits-there : (p : ℕ) (t : Thread) → getElem? (s .threads) p ≡ some t → (t .place .number ≡ 0 → ⊥)
       → (K : Context) × (t .expression ≡ plug K (Expression.waiting (t .place .object)))
+
+-- ---- what E3 says of the queues, of an execution
+
+pub record Queueing {g : Program} {ps : List ℕ} {r : Run} (x : Execution g start ps r) : Type 0 where
+  pub line : InLine (r .final)
+  -- of two threads that wait on one object the one with the lower place made its wait move earlier
+  pub lower-earlier : (o p q : ℕ) (t u : Thread) → getElem? (r .final .threads) p ≡ some t → getElem? (r .final .threads) q ≡ some u
+      → Awaits (r .final) o p → Awaits (r .final) o q → t .place .number < u .place .number
+      → (i : ℕ) × (j : ℕ) × (lastWait x p ≡ some i) × (lastWait x q ≡ some j) × (i < j)
+  -- where anyone waits, one has waited longest
+  pub some-longest : (o q : ℕ) → Awaits (r .final) o q → (p : ℕ) × Longest x o p
+  -- "Notify wakes, of the threads not yet notified, the one that has waited longest on that object", and no other
+  pub notify-wakes : (p : ℕ) (R : Rule) (e : Option Record) (s′ : State) → Moves g (r .final) p R e s′ → (o : ℕ) → Signals (r .final) p Signal.notify o
+      → (a q : ℕ) → Woken (r .final) s′ a q ↔ ((a ≡ o) × Longest x o q)
+  -- "notify all wakes every one" that waits on that object
+  pub notify-all-wakes : (p : ℕ) (R : Rule) (e : Option Record) (s′ : State) → Moves g (r .final) p R e s′ → (o : ℕ) → Signals (r .final) p Signal.notifyAll o
+      → (a q : ℕ) → Woken (r .final) s′ a q ↔ ((a ≡ o) × Awaits (r .final) o q)
+  -- "The thread then waits until notified": no other move wakes anyone
+  pub nothing-else-wakes : (p : ℕ) (R : Rule) (e : Option Record) (s′ : State) → Moves g (r .final) p R e s′ → (R ≡ e-notify → ⊥) → (R ≡ e-notifyall → ⊥)
+      → (o q : ℕ) → Awaits (r .final) o q → Awaits s′ o q
+  -- a thread that waits, for the first time or again, stands behind those who wait
+  pub waits-behind : (p : ℕ) (R : Rule) (e : Option Record) (s′ : State) → Moves g (r .final) p R e s′ → (o : ℕ) → Signals (r .final) p Signal.wait o
+      → Awaits s′ o p
+      × ((q : ℕ) (t u : Thread) → Awaits (r .final) o q → getElem? (s′ .threads) p ≡ some t → getElem? (s′ .threads) q ≡ some u → u .place .number < t .place .number)
