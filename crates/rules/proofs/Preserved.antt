@@ -13,8 +13,7 @@ use Rattle.keys.specs.Keys.{Keys, empty, singleton, union, isEmpty}
 use Rattle.packed.specs.Syntax.{Signal, Expression, Condition, Arguments, literal, bind, bindParameters, substitute, Program, Procedure, bool, sequence}
 use Rattle.packed.specs.Slots.{bound}
 use Rattle.rules.specs.Context.{Context, Contextᶜ, Focus, focus, top, here, hold, plug, plugᶜ, Redex, Redexᶜ, redexExpression, redexCondition, literals}
-use Rattle.rules.specs.Queue.{awake}
-use Rattle.rules.specs.State.{Cell, cell, Thread, State, freshObject, lookup, monitor, store, storeMonitor, addObject, gain, become, addThread, useKey, enqueue, signalled}
+use Rattle.rules.specs.State.{Cell, cell, Thread, State, freshObject, lookup, monitor, store, storeMonitor, addObject, gain, become, addThread, forked, useKey, enqueue, signalled}
 use Rattle.records.specs.Record.{Record}
 use Rattle.rules.specs.Rules.{Rule, Converts, E-CALL, E-LET, E-IF, E-WHILE, E-NEW, E-READ, E-WRITE, E-READV, E-WRITEV, E-FORK, E-JOIN, E-RE-ENTER, E-ACQUIRE, E-RELEASE, E-WAIT, E-WAKE, E-NOTIFY, E-NOTIFYALL, Convertsᶜ, E-NOTNOTTRUE, E-ANDTRUE, E-ANDFALSE, E-EQUALTRUE, E-EQUALFALSE, Moves, EVAL, EVALᶜ}
 use Rattle.packed.proofs.WellFormed.{WellFormedProgram, unbound}
@@ -260,7 +259,7 @@ module _ (g : Program) (P : WellFormedProgram g) (s : State) (I : Inv g s) (p : 
       settle g (signalled h s o) p _ K (inv-relocated g s _ (signalled-relocated h s o) I) (w .1) (Redex.signal k o) he (λ o z. z) (literal 0) refl (I .null-there)
 
   kept-fork : (e : Expression) → t .expression ≡ plug K (Expression.fork e)
-      → Inv g (become (addThread (addObject s (freshObject [])) (record { self = length (s .objects); expression = e; keys = t .keys; learnt = 0; place = awake })) p (plug K (literal (length (s .objects)))))
+      → Inv g (become (addThread (addObject s (freshObject [])) (forked s t e)) p (plug K (literal (length (s .objects)))))
   unfolding redexExpression addThread addObject plug
   kept-fork e he = settle g s₂ p t K I₂ at₂ (Redex.fork e) he (λ o z. z) (literal N) refl more-there
     where
@@ -268,7 +267,7 @@ module _ (g : Program) (P : WellFormedProgram g) (s : State) (I : Inv g s) (p : 
       s₁ = addObject s (freshObject [])
 
       u : Thread
-      u = record { self = N; expression = e; keys = t .keys; learnt = 0; place = awake }
+      u = forked s t e
 
       s₂ : State
       s₂ = addThread s₁ u

@@ -4,7 +4,7 @@ use mathlib.Core.Bool.{cond}
 use mathlib.Core.List.{List, [], _∷_, _++_, map}
 use mathlib.Core.Option.{Option, some, none}
 use lib.Dec.{eqb}
-use lib.ListN.{getElem?}
+use lib.ListN.{length, getElem?}
 use Rattle.keys.specs.Keys.{Keys, singleton, union, countNew}
 use Rattle.packed.specs.Syntax.{Expression, Arguments}
 use Rattle.rules.specs.Queue.{Place, awake, lastPlace, movedUp}
@@ -159,6 +159,10 @@ addThread s x = record { objects = s .objects; threads = s .threads ++ (x ∷ []
 -- "the next unused key, 1 upward"
 unfoldable pub useKey : State → State
 useKey s = record { objects = s .objects; threads = s .threads; nextKey = suc (s .nextKey) }
+
+-- "A forked thread starts with its maker's set." It runs e, has heard of no set and waits on nothing; t is its maker
+abbrev pub forked : State → Thread → Expression → Thread
+forked s t e = record { self = length (s .objects); expression = e; keys = t .keys; learnt = 0; place = awake }
 
 -- ---- the queues (document 02, E3)
 
