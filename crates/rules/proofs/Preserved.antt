@@ -176,13 +176,13 @@ module _ (g : Program) (P : WellFormedProgram g) (s : State) (I : Inv g s) (p : 
               let j : heldBy t ≡ heldBy u = cc in
               e (I₁ .apart p q _ u at₁ hu (ap (λ (c : Cell). c .value) j))
 
-  -- a wait gives up the monitor, which a hold has still to release
-  kept-wait : (o : ℕ) → monitor s o ≡ some (heldBy t) → t .expression ≡ plug K (Expression.signal Signal.wait (literal o))
-      → Inv g (become (enqueue (storeMonitor s o (cell (t .keys) 0)) p o) p (plug K (Expression.waiting o)))
+  -- a wait leaves the monitor, which a hold has still to release, to others, whatever it stores there
+  kept-wait : (o : ℕ) (c : Cell) → monitor s o ≡ some (heldBy t) → t .expression ≡ plug K (Expression.signal Signal.wait (literal o)) → c .value < N
+      → Inv g (become (enqueue (storeMonitor s o c) p o) p (plug K (Expression.waiting o)))
   unfolding redexExpression storeMonitor become enqueue
-  kept-wait o m he =
-      inv-relocated g (storeMonitor s₁ o (cell (t .keys) 0)) _ (relocated-become (s .threads) _ (enqueue-relocated (storeMonitor s o (cell (t .keys) 0)) p o) p (plug K (Expression.waiting o)))
-      (inv-lock g s₁ o (cell (t .keys) 0) (heldBy t) I₁ m₁ (I .null-there) alone)
+  kept-wait o c m he there =
+      inv-relocated g (storeMonitor s₁ o c) _ (relocated-become (s .threads) _ (enqueue-relocated (storeMonitor s o c) p o) p (plug K (Expression.waiting o)))
+      (inv-lock g s₁ o c (heldBy t) I₁ m₁ there alone)
     where
       s₁ : State
       s₁ = become s p (plug K (Expression.waiting o))
@@ -332,8 +332,8 @@ module _ (g : Program) (P : WellFormedProgram g) (s : State) (I : Inv g s) (p : 
   kept (E-RE-ENTER {o} {e} h) he = settle g s p t K I ht (Redex.synch o e) he (λ o z. z) e refl (placed g s p t K I ht (Redex.synch o e) he .1 .1)
   kept (E-ACQUIRE {o} {u} {W} {e} h n) he = kept-acquire o e (cell W u) _ _ h n he
   kept (E-RELEASE {o} {v} h) he = kept-release o v h he
-  kept (E-WAIT {o} h) he = kept-wait o h he
-  kept (E-WAKE {o} {u} {W} z h n) he = kept-wake o (cell W u) W _ h n he
+  kept (E-WAIT {o} h) he = kept-wait o _ h he (omega (arith, I .null-there, I .each p t ht .self-there))
+  kept (E-WAKE {o} {u} {W} z h n) he = kept-wake o (cell W u) _ _ h n he
   kept (E-NOTIFY {o} h) he = kept-signal _ Signal.notify o he
   kept (E-NOTIFYALL {o} h) he = kept-signal _ Signal.notifyAll o he
 

@@ -125,7 +125,13 @@ unfoldable pub gain : State → ℕ → Keys → (Keys → ℕ) → State
 unfolding changeAt union
 gain s p W count = record {
   objects = s .objects;
-  threads = changeAt (s .threads) p (λ x. record { self = x .self; expression = x .expression; keys = union W (x .keys); learnt = x .learnt + count (x .keys); place = x .place });
+  threads = changeAt (s .threads) p (λ x. record {
+    self = x .self;
+    expression = x .expression;
+    keys = union W (x .keys);
+    learnt = x .learnt + count (x .keys);
+    place = x .place;
+  });
   nextKey = s .nextKey;
 }
 
@@ -156,18 +162,20 @@ useKey s = record { objects = s .objects; threads = s .threads; nextKey = suc (s
 
 -- ---- the queues (document 02, E3)
 
+-- the places of the threads
+abbrev pub placesOf : State → List Place
+placesOf s = map (λ (t : Thread). t .place) (s .threads)
+
+-- the thread at this place
+abbrev pub inPlace : Place → Thread → Thread
+inPlace w t = record { self = t .self; expression = t .expression; keys = t .keys; learnt = t .learnt; place = w }
+
 -- thread p takes the last place of the queue of o
 unfoldable pub enqueue : State → ℕ → ℕ → State
 unfolding changeAt lastPlace
 enqueue s p o = record {
   objects = s .objects;
-  threads = changeAt (s .threads) p (λ x. record {
-    self = x .self;
-    expression = x .expression;
-    keys = x .keys;
-    learnt = x .learnt;
-    place = lastPlace o (map (λ (y : Thread). y .place) (s .threads));
-  });
+  threads = changeAt (s .threads) p (inPlace (lastPlace o (placesOf s)));
   nextKey = s .nextKey;
 }
 
@@ -176,7 +184,7 @@ unfoldable pub signalled : (ℕ → ℕ) → State → ℕ → State
 unfolding movedUp
 signalled h s o = record {
   objects = s .objects;
-  threads = map (λ (x : Thread). record { self = x .self; expression = x .expression; keys = x .keys; learnt = x .learnt; place = movedUp h o (x .place) }) (s .threads);
+  threads = map (λ (x : Thread). inPlace (movedUp h o (x .place)) x) (s .threads);
   nextKey = s .nextKey;
 }
 

@@ -115,8 +115,7 @@ unfolding isEmpty gain storeMonitor
 wakeAct s p t o n none = sticks noRule
 wakeAct s p t o (suc n) (some c) = waits (forNotify o)
 wakeAct s p t o zero (some c) =
-    cond (isEmpty (c .keys))
-    (waits (forMonitor o))
+    cond (isEmpty (c .keys)) (waits (forMonitor o))
     (does e-wake (some (entry Kind.acquire p o 0 0)) (hear (storeMonitor s o (cell empty (t .self))) p (c .keys)) (literal 0))
 
 -- the rules for expressions: thread p, which is t
