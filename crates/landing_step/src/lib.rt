@@ -1,6 +1,6 @@
 // One step of landing: the way down (an operand, a call's list, a term), or up with a value.
 ghost use mathlib.Core.Path.{_≡_};
-ghost use Rattle.landing_step.specs.Down.{stayOf, pushOf, wantOf, wantConditionOf, rootAt, listOf, simpleOf, runOf, runConditionOf, openedOf, listedOf, wantedOf, backOf, backConditionOf, stepOf};
+ghost use Rattle.landing_step.specs.Down.{stayOf, pushOf, wantOf, wantConditionOf, rootAt, listOf, signalOf, simpleOf, runOf, runConditionOf, openedOf, listedOf, wantedOf, backOf, backConditionOf, stepOf};
 use frames::frame;
 use frames::frame::Frame;
 use frames::frame::Kind;
@@ -92,7 +92,21 @@ fn list(words: &[usize; 1024], roots: &[usize; 32], frame: Frame) -> Go
     go::at(go::ready_of(part::RUN, term, 0, 0, frame.arguments))
 }
 
-// Down from an expression whose operands need no look: a value, `new`, `while`, `fork`.
+// Down from a wait, a notify or a notify all.
+fn signal(word: usize, environment: usize) -> Go
+    ensures { λ r. ⌜ r ≡ signalOf word environment ⌝ }
+{
+    let tag = operands::tag(word);
+    let first = operands::first(word);
+    match tag {
+        tags::WAIT => go::want(frame::frame_of(Kind::Signal, 0, 0, 0, environment), first),
+        tags::NOTIFY => go::want(frame::frame_of(Kind::Signal, 0, 0, 1, environment), first),
+        tags::NOTIFY_ALL => go::want(frame::frame_of(Kind::Signal, 0, 0, 2, environment), first),
+        _ => go::at(go::ready_of(part::NO_RULE, 0, 0, 0, 0)),
+    }
+}
+
+// Down from an expression whose operands need no look: a value, `new`, `while`, `fork`; or from a signal.
 fn simple(word: usize, environment: usize) -> Go
     ensures { λ r. ⌜ r ≡ simpleOf word environment ⌝ }
 {
@@ -109,7 +123,7 @@ fn simple(word: usize, environment: usize) -> Go
         tags::FORK => go::at(go::ready_of(part::FORK, operands::first(word), 0, 0, environment)),
         tags::NULL => go::value(0),
         tags::VARIABLE => go::value(slots::slot(environment, operands::slot_of(word))),
-        _ => go::at(go::ready_of(part::NO_RULE, 0, 0, 0, 0)),
+        _ => signal(word, environment),
     }
 }
 

@@ -1,4 +1,4 @@
-// The tags of terms, as numbers: expressions, then conditions, then lists.
+// The tags of terms, as numbers: expressions, conditions, lists, and expressions again.
 pub const NULL: usize = 0;
 
 pub const VARIABLE: usize = 1;
@@ -34,3 +34,9 @@ pub const EQUAL: usize = 15;
 pub const LIST: usize = 16;
 
 pub const LIST_END: usize = 17;
+
+pub const WAIT: usize = 18;
+
+pub const NOTIFY: usize = 19;
+
+pub const NOTIFY_ALL: usize = 20;

@@ -3,12 +3,14 @@
 use Prim.Native.Nat.{ℕ, _^_, _≤_, _<_}
 use native.Mathlib.Omega.{arith}
 use mathlib.Core.Path.{_≡_, sym, _∙_}
-use mathlib.Core.Bool.{true, false, _&&_, _||_, and-true}
+use native.Mathlib.Decide.{decLt}
+use mathlib.Core.Bool.{true, false, _&&_, _||_, and-true, true≢false}
+use mathlib.Core.Logic.{_⊎_, inl, inr}
 use mathlib.Core.List.{List}
 use mathlib.Core.Option.{none}
 use lib.Dec.{eqb, ltb, leb}
 use lib.ListN.{length}
-use borrow.Author.Tests.{ltb-false, leb-false, eqb-true, eqb-false, ne-eqb, not-false}
+use borrow.Author.Tests.{le-leb, lt-ltb, ltb-false, leb-false, eqb-true, eqb-false, ne-eqb, not-false}
 use Rattle.format.proofs.BitLaws.{bits-below}
 use Rattle.format.proofs.RefusalLaws.{neither}
 use Rattle.packed.specs.Format.{version, procedures, terms, headerSpare, volatiles, maskBit, fieldsFrom, parameters, root, planLength, Operand, absent, slot, binder, mask, fieldName, procedure, expression, condition, list, width, layout, laidOut, tagAt, termAt}
@@ -28,7 +30,7 @@ OfSort binder k = Unit {0}
 OfSort mask k = Unit {0}
 OfSort fieldName k = Unit {0}
 OfSort procedure k = Unit {0}
-OfSort expression k = k ≤ 11
+OfSort expression k = (k ≤ 11) ⊎ ((18 ≤ k) × (k ≤ 20))
 OfSort condition k = (12 ≤ k) × (k ≤ 15)
 OfSort list k = (16 ≤ k) × (k ≤ 17)
 
@@ -51,7 +53,7 @@ Fits b t condition v = Child b t condition v
 Fits b t list v = Child b t list v
 
 pub record RightTerm (b : List ℕ) (t : ℕ) : Type 0 where
-  pub tag-small : tagAt b t ≤ 17
+  pub tag-small : tagAt b t ≤ 20
   pub first-fits : Fits b t (layout (tagAt b t) .first) (termAt b t .value₁)
   pub second-fits : Fits b t (layout (tagAt b t) .second) (termAt b t .value₂)
   pub third-fits : Fits b t (layout (tagAt b t) .third) (termAt b t .value₃)
@@ -85,16 +87,21 @@ pub record Accepted (b : List ℕ) : Type 0 where
 
 -- ---- an operand that passes 4 and 5
 
-misplaced-not : (kind : Operand) (k : ℕ) → k ≤ 17 → misplaced kind k ≡ false → OfSort kind k
+misplaced-not : (kind : Operand) (k : ℕ) → k ≤ 20 → misplaced kind k ≡ false → OfSort kind k
 misplaced-not absent k s h = tt
 misplaced-not slot k s h = tt
 misplaced-not binder k s h = tt
 misplaced-not mask k s h = tt
 misplaced-not fieldName k s h = tt
 misplaced-not procedure k s h = tt
-misplaced-not expression k s h = omega (arith, leb-false 12 k h)
+misplaced-not expression k s h = go (decLt k 12) (decLt k 18)
+  where
+    go : Dec (k < 12) → Dec (k < 18) → (k ≤ 11) ⊎ ((18 ≤ k) × (k ≤ 20))
+    go (yes a) b = inl (omega arith)
+    go (no a) (no b) = inr (omega (arith, b), s)
+    go (no a) (yes b) = absurd (true≢false (sym (rw (le-leb 12 k (omega (arith, a)), lt-ltb k 18 b)) ∙ h))
 misplaced-not condition k s h = let p = neither (ltb k 12) (leb 16 k) h in (ltb-false k 12 (p .0), omega (arith, leb-false 16 k (p .1)))
-misplaced-not list k s h = (ltb-false k 16 h, s)
+misplaced-not list k s h = let p = neither (ltb k 16) (leb 18 k) h in (ltb-false k 16 (p .0), omega (arith, leb-false 18 k (p .1)))
 
 child-of : (b : List ℕ) (t : ℕ) (kind : Operand) (v : ℕ) → (leb v t || leb (terms b) v) ≡ false → (v < terms b → OfSort kind (tagAt b v)) → Child b t kind v
 child-of b t kind v h s =
@@ -122,7 +129,7 @@ module _ (b : List ℕ) (a : SixRight b) where
   unfolding wrongTerm
   in-table t q = table-of (procedures b) (terms b) t (termAt b t) (a .right₄ t q)
 
-  small : (t : ℕ) → t < terms b → tagAt b t ≤ 17
+  small : (t : ℕ) → t < terms b → tagAt b t ≤ 20
   unfolding termAt
   small t q = in-table t q .tag-small
 

@@ -54,6 +54,9 @@ rows-within n x y z k =
     (λ a b c. (a refl, (b refl, tt)))
     (λ a b c. (a refl, (b refl, tt)))
     (λ a b c. tt)
+    (λ a b c. (a refl, tt))
+    (λ a b c. (a refl, tt))
+    (λ a b c. (a refl, tt))
     (λ j a b c. tt) k
 
 pub children-within : (b : List ℕ) (procedures n u : ℕ) → Sized b procedures n → wrongTerm b u ≡ false → Within n (childrenOf (nodeAt b u))
@@ -65,4 +68,4 @@ children-within b procedures n u z h =
 -- every tag but 16 ends a list
 pub list-ends : (e : ℕ → Expression) (l : ℕ → Arguments) (x y z k : ℕ) → (k ≡ 16 → ⊥) → argumentsOf e l (nodeOfTag k x y z) ≡ Arguments.end
 unfolding nodes argumentsOf
-list-ends e l x y z k h = except (λ k. argumentsOf e l (nodeOfTag k x y z) ≡ Arguments.end) (16 ∷ []) refl refl refl refl refl refl refl refl refl refl refl refl refl refl refl refl tt refl (λ j. refl) k (tt, h)
+list-ends e l x y z k h = except (λ k. argumentsOf e l (nodeOfTag k x y z) ≡ Arguments.end) (16 ∷ []) refl refl refl refl refl refl refl refl refl refl refl refl refl refl refl refl tt refl refl refl refl (λ j. refl) k (tt, h)

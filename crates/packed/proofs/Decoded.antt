@@ -6,6 +6,7 @@ use native.Mathlib.Omega.{arith}
 use mathlib.Core.Path.{_≡_, refl, ap, sym, subst, _∙_}
 use mathlib.Core.Bool.{Bool, false, _&&_, true≢false}
 use mathlib.Core.List.{List}
+use mathlib.Core.Logic.{inl, inr}
 use mathlib.Core.Option.{some, none}
 use lib.Dec.{T, ltb, lit<}
 use lib.ListN.{take, getElem?, getD}
@@ -184,6 +185,14 @@ module _ (b : List ℕ) where
           ))
           then done
 
+      signals : Cases (Row (λ m. Good t (expressionOf tree treeᶜ treeᵃ m))) 18 3
+      unfolding nodes layout table expressionOf closed
+      signals =
+          18 gives (λ e p q r. ((x, node-is b t 18 e, good x p .0), good x p .1))
+          then 19 gives (λ e p q r. ((x, node-is b t 19 e, good x p .0), good x p .1))
+          then 20 gives (λ e p q r. ((x, node-is b t 20 e, good x p .0), good x p .1))
+          then done
+
       conditions : Cases (Row (λ m. Goodᶜ t (conditionOf tree treeᶜ m))) 12 4
       unfolding nodes layout table conditionOf closed
       conditions =
@@ -218,7 +227,8 @@ module _ (b : List ℕ) where
 
       good-here : OfSort expression (tagAt b t) → Good t (expressionAt (nodeAt b) (suc n) t)
       unfolding expressionAt
-      good-here s = at-tag (λ m. Good t (expressionOf tree treeᶜ treeᵃ m)) (a .each-term t inside) (pick expressions (tagAt b t) (omega arith) (omega arith))
+      good-here (inl s) = at-tag (λ m. Good t (expressionOf tree treeᶜ treeᵃ m)) (a .each-term t inside) (pick expressions (tagAt b t) (omega arith) (omega arith))
+      good-here (inr s) = at-tag (λ m. Good t (expressionOf tree treeᶜ treeᵃ m)) (a .each-term t inside) (pick signals (tagAt b t) (s .0) (let h = s .1 in omega arith))
 
       goodᶜ-here : OfSort condition (tagAt b t) → Goodᶜ t (conditionAt (nodeAt b) (suc n) t)
       unfolding conditionAt

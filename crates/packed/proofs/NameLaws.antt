@@ -110,6 +110,9 @@ times-are t x y z s k =
     (omega arith)
     (omega arith)
     (omega arith)
+    (omega arith)
+    (omega arith)
+    (omega arith)
     (λ j. omega arith) k
 
 term-times : (b : List ℕ) (u t : ℕ) → timesIn (termAt b u) t ≡ timesOf (childrenOf (nodeAt b u)) t
@@ -146,6 +149,6 @@ pub named : (ws : List ℕ) (t k best r : ℕ) (c c′ : List ℕ) → tagOf (ge
 named ws t k best r c c′ e p q = rw (node-in ws t k e) (p, q)
 
 -- a tag without children
-pub no-children : (w k : ℕ) → NoneOf k (16 ∷ 15 ∷ 14 ∷ 13 ∷ 11 ∷ 10 ∷ 9 ∷ 8 ∷ 7 ∷ 6 ∷ 5 ∷ 4 ∷ 3 ∷ []) → childrenOf (rowOf k w) ≡ []
+pub no-children : (w k : ℕ) → NoneOf k (20 ∷ 19 ∷ 18 ∷ 16 ∷ 15 ∷ 14 ∷ 13 ∷ 11 ∷ 10 ∷ 9 ∷ 8 ∷ 7 ∷ 6 ∷ 5 ∷ 4 ∷ 3 ∷ []) → childrenOf (rowOf k w) ≡ []
 unfolding childrenOf nodeOf inWord layout table nodes
-no-children w k = except (λ k. childrenOf (rowOf k w) ≡ []) (16 ∷ 15 ∷ 14 ∷ 13 ∷ 11 ∷ 10 ∷ 9 ∷ 8 ∷ 7 ∷ 6 ∷ 5 ∷ 4 ∷ 3 ∷ []) refl refl refl tt tt tt tt tt tt tt tt tt refl tt tt tt tt refl (λ j. refl) k
+no-children w k = except (λ k. childrenOf (rowOf k w) ≡ []) (20 ∷ 19 ∷ 18 ∷ 16 ∷ 15 ∷ 14 ∷ 13 ∷ 11 ∷ 10 ∷ 9 ∷ 8 ∷ 7 ∷ 6 ∷ 5 ∷ 4 ∷ 3 ∷ []) refl refl refl tt tt tt tt tt tt tt tt tt refl tt tt tt tt refl tt tt tt (λ j. refl) k

@@ -41,6 +41,9 @@ rows-below t x y z k =
     (λ a b c. (a refl, b refl))
     (λ a b c. (a refl, b refl))
     (λ a b c. tt)
+    (λ a b c. a refl)
+    (λ a b c. a refl)
+    (λ a b c. a refl)
     (λ j a b c. tt) k
 
 -- the children among a term's operands come after it

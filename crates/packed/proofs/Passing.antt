@@ -65,7 +65,7 @@ procedure-of b p h =
 
 -- the tests of check 4 that term m passes as term t
 pub record PassesTable (procedures n t : ℕ) (m : Term) : Type 0 where
-  pub tag-small : m .tag ≤ 17
+  pub tag-small : m .tag ≤ 20
   pub first-right : wrongOperand procedures n t (m .first) (m .value₁) ≡ false
   pub second-right : wrongOperand procedures n t (m .second) (m .value₂) ≡ false
   pub third-right : wrongOperand procedures n t (m .third) (m .value₃) ≡ false
@@ -86,11 +86,11 @@ pub table-of : (procedures n t : ℕ) (m : Term) → breaksTable procedures n t 
 unfolding breaksTable
 table-of procedures n t m h =
     let x = someOperand (wrongOperand procedures n t) m in
-    let h₂ = neither (ltb 17 (m .tag) || x) (not (eqb (m .spare) 0)) h in
-    let h₁ = neither (ltb 17 (m .tag)) x (h₂ .0) in
+    let h₂ = neither (ltb 20 (m .tag) || x) (not (eqb (m .spare) 0)) h in
+    let h₁ = neither (ltb 20 (m .tag)) x (h₂ .0) in
     let f = of-operands (wrongOperand procedures n t) m (h₁ .1) in
     record {
-      tag-small = ltb-false 17 (m .tag) (h₁ .0);
+      tag-small = ltb-false 20 (m .tag) (h₁ .0);
       first-right = f .0;
       second-right = f .1;
       third-right = f .2;

@@ -56,9 +56,9 @@ loaded-more b t ws w h e l =
     }
 
 -- a tag past the table
-pub past-table : (procedures n t w : ℕ) → 17 < tagOf w → true ≡ breaksTable procedures n t (termIn w)
+pub past-table : (procedures n t w : ℕ) → 20 < tagOf w → true ≡ breaksTable procedures n t (termIn w)
 unfolding breaksTable termIn inWord
-past-table procedures n t w h = rw (lt-ltb 17 (tagOf w) h)
+past-table procedures n t w h = rw (lt-ltb 20 (tagOf w) h)
 
 pub tested : (procedures n t w k : ℕ) (r : Bool) → tagOf w ≡ k → r ≡ breaksTable procedures n t (inWord w k (layout k)) → r ≡ breaksTable procedures n t (termIn w)
 unfolding termIn

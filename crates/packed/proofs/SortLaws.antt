@@ -15,43 +15,61 @@ use Rattle.packed.specs.Format.{terms, root, expression, table, layout, 
 use Rattle.packed.specs.Operands.{tagOf}
 use Rattle.packed.specs.Trees.{nodes, nodeOf, nodeAt}
 use Rattle.packed.specs.Refusals.{anyBelow, someOperand, wrongTerm, misplaced, wronglySorted, wrongCall}
-use Rattle.packed.specs.Steps.{Sized, Loaded, tagIn, nodeIn, Child, childOf, childrenOf, tagSort, wrongSort, lowerIf, lowerAll, misplacedRoot, misfits, faults}
+use Rattle.packed.specs.Steps.{Sized, Loaded, tagIn, nodeIn, Child, childOf, childrenOf, anExpression, aCondition, aList, tagSort, wrongSort, lowerIf, lowerAll, misplacedRoot, misfits, faults}
 use Rattle.packed.proofs.Reading.{tag-in}
 use Rattle.packed.proofs.Tags.{by-tag}
 use Rattle.packed.proofs.Children.{Within, nodes-are, termOf, nodeOfTag, children-within}
 
 -- ---- sorts as numbers
 
-tag-sort : (k : ℕ) → ((k < 12) × (tagSort k ≡ 1)) ⊎ (((12 ≤ k) × (k < 16) × (tagSort k ≡ 2)) ⊎ ((16 ≤ k) × (tagSort k ≡ 3)))
+-- a tag is below 12, or below 16, or below 18, or past these
+data TagSort (k : ℕ) : Type 0 where
+  low : k < 12 → tagSort k ≡ anExpression → TagSort k
+  middle : 12 ≤ k → k < 16 → tagSort k ≡ aCondition → TagSort k
+  upper : 16 ≤ k → k < 18 → tagSort k ≡ aList → TagSort k
+  last : 18 ≤ k → tagSort k ≡ anExpression → TagSort k
+
+tag-sort : (k : ℕ) → TagSort k
 unfolding tagSort
-tag-sort k = go (decLt k 12) (decLt k 16)
+tag-sort k = go (decLt k 12) (decLt k 16) (decLt k 18)
   where
-    go : Dec (k < 12) → Dec (k < 16) → ((k < 12) × (tagSort k ≡ 1)) ⊎ (((12 ≤ k) × (k < 16) × (tagSort k ≡ 2)) ⊎ ((16 ≤ k) × (tagSort k ≡ 3)))
-    go (yes p) q = inl (p, rw (lt-ltb k 12 p))
-    go (no p) (yes q) = inr (inl (omega (arith, p), q, rw (le-ltb k 12 (omega (arith, p)), lt-ltb k 16 q)))
-    go (no p) (no q) = inr (inr (omega (arith, q), rw (le-ltb k 12 (omega (arith, p)), le-ltb k 16 (omega (arith, q)))))
+    go : Dec (k < 12) → Dec (k < 16) → Dec (k < 18) → TagSort k
+    go (yes p) q r = low p (rw (lt-ltb k 12 p))
+    go (no p) (yes q) r = middle (omega (arith, p)) q (rw (le-ltb k 12 (omega (arith, p)), lt-ltb k 16 q))
+    go (no p) (no q) (yes r) = upper (omega (arith, q)) r (rw (le-ltb k 12 (omega (arith, p)), le-ltb k 16 (omega (arith, q)), lt-ltb k 18 r))
+    go (no p) (no q) (no r) =
+        last (omega (arith, r)) (rw (le-ltb k 12 (omega (arith, p)), le-ltb k 16 (omega (arith, q)), le-ltb k 18 (omega (arith, r))))
 
 -- a sort is wrong where the term is misplaced
-sort₁ : (k : ℕ) → wrongSort 1 k ≡ leb 12 k
+sort₁ : (k : ℕ) → wrongSort 1 k ≡ (leb 12 k && ltb k 18)
 unfolding wrongSort
-sort₁ k =
-    ⊎-elim (λ p. rw (p .1, lt-leb 12 k (p .0)))
-    (⊎-elim (λ p. rw (p .2, le-leb 12 k (p .0))) (λ p. rw (p .1, le-leb 12 k (omega (arith, p .0)))))
-    (tag-sort k)
+sort₁ k = go (tag-sort k)
+  where
+    go : TagSort k → wrongSort 1 k ≡ (leb 12 k && ltb k 18)
+    go (low a e) = rw (e, lt-leb 12 k a)
+    go (middle a b e) = rw (e, le-leb 12 k a, lt-ltb k 18 (omega arith))
+    go (upper a b e) = rw (e, le-leb 12 k (omega arith), lt-ltb k 18 b)
+    go (last a e) = rw (e, le-leb 12 k (omega arith), le-ltb k 18 a)
 
 sort₂ : (k : ℕ) → wrongSort 2 k ≡ (ltb k 12 || leb 16 k)
 unfolding wrongSort
-sort₂ k =
-    ⊎-elim (λ p. rw (p .1, lt-ltb k 12 (p .0)))
-    (⊎-elim (λ p. rw (p .2, le-ltb k 12 (p .0), lt-leb 16 k (p .1))) (λ p. rw (p .1, le-ltb k 12 (omega (arith, p .0)), le-leb 16 k (p .0))))
-    (tag-sort k)
+sort₂ k = go (tag-sort k)
+  where
+    go : TagSort k → wrongSort 2 k ≡ (ltb k 12 || leb 16 k)
+    go (low a e) = rw (e, lt-ltb k 12 a)
+    go (middle a b e) = rw (e, le-ltb k 12 a, lt-leb 16 k b)
+    go (upper a b e) = rw (e, le-ltb k 12 (omega arith), le-leb 16 k a)
+    go (last a e) = rw (e, le-ltb k 12 (omega arith), le-leb 16 k (omega arith))
 
-sort₃ : (k : ℕ) → wrongSort 3 k ≡ ltb k 16
+sort₃ : (k : ℕ) → wrongSort 3 k ≡ (ltb k 16 || leb 18 k)
 unfolding wrongSort
-sort₃ k =
-    ⊎-elim (λ p. rw (p .1, lt-ltb k 16 (omega (arith, p .0))))
-    (⊎-elim (λ p. rw (p .2, lt-ltb k 16 (p .1))) (λ p. rw (p .1, le-ltb k 16 (p .0))))
-    (tag-sort k)
+sort₃ k = go (tag-sort k)
+  where
+    go : TagSort k → wrongSort 3 k ≡ (ltb k 16 || leb 18 k)
+    go (low a e) = rw (e, lt-ltb k 16 (omega arith))
+    go (middle a b e) = rw (e, lt-ltb k 16 b)
+    go (upper a b e) = rw (e, le-ltb k 16 a, lt-leb 18 k b)
+    go (last a e) = rw (e, le-ltb k 16 (omega arith), le-leb 18 k a)
 
 -- ---- one more fault
 
@@ -125,7 +143,7 @@ unfolding misplacedRoot anyBelow strays
 one-root b p n ws best v r d e h q l =
     rw q
     (lowest-ext (λ t. misplacedRoot b p t || strays b (childOf 1 v ∷ []) t) (misplacedRoot b (suc p)) n _
-    (λ t k. rw (e, sort₁ (tagAt b t), or-false (eqb (root b p) t && leb 12 (tagAt b t))))
+    (λ t k. rw (e, sort₁ (tagAt b t), or-false (eqb (root b p) t && (leb 12 (tagAt b t) && ltb (tagAt b t) 18))))
     (lower-all b n ws d (childOf 1 v ∷ []) (misplacedRoot b p) best (rw e h, tt) l))
 
 -- the misplaced operands are the misplaced children
@@ -133,6 +151,9 @@ strays-are : (b : List ℕ) (t x y z s k : ℕ) → someOperand (λ kind v. eqb 
 unfolding someOperand strays childrenOf nodes layout table
 strays-are b t x y z s k =
     by-tag (λ k. someOperand (λ kind v. eqb v t && misplaced kind (tagAt b t)) (termOf k x y z s) ≡ strays b (childrenOf (nodeOfTag k x y z)) t)
+    (simp (and-false, or-false, or-assoc, sort₁, sort₂, sort₃))
+    (simp (and-false, or-false, or-assoc, sort₁, sort₂, sort₃))
+    (simp (and-false, or-false, or-assoc, sort₁, sort₂, sort₃))
     (simp (and-false, or-false, or-assoc, sort₁, sort₂, sort₃))
     (simp (and-false, or-false, or-assoc, sort₁, sort₂, sort₃))
     (simp (and-false, or-false, or-assoc, sort₁, sort₂, sort₃))

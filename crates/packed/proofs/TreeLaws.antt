@@ -40,6 +40,7 @@ module _ (t : ℕ) (e e′ : ℕ → Expression) (c c′ : ℕ → Condition) (l
   expression-cong (Node.fork i) b = rw (he i b)
   expression-cong (Node.join i) b = rw (he i b)
   expression-cong (Node.synch i j) b = rw (he i (b .0), he j (b .1))
+  expression-cong (Node.signal k i) b = rw (he i b)
   expression-cong Node.truth b = refl
   expression-cong (Node.not i) b = refl
   expression-cong (Node.and i j) b = refl
@@ -62,6 +63,7 @@ module _ (t : ℕ) (e e′ : ℕ → Expression) (c c′ : ℕ → Condition) (l
   condition-cong (Node.fork i) b = refl
   condition-cong (Node.join i) b = refl
   condition-cong (Node.synch i j) b = refl
+  condition-cong (Node.signal k i) b = refl
   condition-cong Node.truth b = refl
   condition-cong (Node.not i) b = rw (hc i b)
   condition-cong (Node.and i j) b = rw (hc i (b .0), hc j (b .1))
@@ -84,6 +86,7 @@ module _ (t : ℕ) (e e′ : ℕ → Expression) (c c′ : ℕ → Condition) (l
   arguments-cong (Node.fork i) b = refl
   arguments-cong (Node.join i) b = refl
   arguments-cong (Node.synch i j) b = refl
+  arguments-cong (Node.signal k i) b = refl
   arguments-cong Node.truth b = refl
   arguments-cong (Node.not i) b = refl
   arguments-cong (Node.and i j) b = refl

@@ -38,6 +38,8 @@ abbrev mutual
   WellFormed g n ρ (Expression.join e) = WellFormed g n ρ e
   WellFormed g n ρ (Expression.synch e e′) = WellFormed g n ρ e × WellFormed g n ρ e′
   WellFormed g n ρ (Expression.hold o e) = ⊥
+  WellFormed g n ρ (Expression.signal k e) = WellFormed g n ρ e
+  WellFormed g n ρ (Expression.waiting o) = ⊥
 
   pub WellFormedᶜ : Program → ℕ → (ℕ → Bool) → Condition → Type 0
   WellFormedᶜ g n ρ Condition.truth = Unit {0}

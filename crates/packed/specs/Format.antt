@@ -101,6 +101,9 @@ table =
     ∷ operands expression expression absent  -- 15 equal: e, e
     ∷ operands expression list absent  -- 16 list: e, list
     ∷ operands absent absent absent  -- 17 list end
+    ∷ operands expression absent absent  -- 18 wait: e (document 02, E3)
+    ∷ operands expression absent absent  -- 19 notify: e
+    ∷ operands expression absent absent  -- 20 notify all: e
     ∷ []
 
 -- the row of a tag: "operands in the order below"; a tag past the table, which check 4 refuses, has none

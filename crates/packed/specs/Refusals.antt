@@ -73,7 +73,7 @@ someOperand f m = f (m .first) (m .value₁) || f (m .second) (m .value₂) || f
 unfoldable pub breaksTable : ℕ → ℕ → ℕ → Term → Bool
 unfolding someOperand maskBit fieldsFrom
 breaksTable procedureCount n t m =
-    ltb 17 (m .tag)
+    ltb 20 (m .tag)
     || someOperand (wrongOperand procedureCount n t) m
     || not (eqb (m .spare) 0)  -- "All spare bits are zero."
 
@@ -83,7 +83,8 @@ wrongTerm b t = breaksTable (procedures b) (terms b) t (termAt b t)
 
 -- ---- 5: "a root or child of the wrong sort, or a call whose list is not as long as the parameters"
 
--- a term of this tag where the table wants another sort: "e is an expression (tags 0 to 11), c a condition (12 to 15), list is 16 or 17"
+-- a term of this tag where the table wants another sort: "e is an expression (tags 0 to 11), c a condition (12 to 15), list is 16 or 17"; "expression terms [..] tag 18 wait, 19
+-- notify, 20 notify all" (document 02, E3)
 abbrev pub misplaced : Operand → ℕ → Bool
 misplaced absent k = false
 misplaced slot k = false
@@ -91,9 +92,9 @@ misplaced binder k = false
 misplaced mask k = false
 misplaced fieldName k = false
 misplaced procedure k = false
-misplaced expression k = leb 12 k
+misplaced expression k = leb 12 k && ltb k 18
 misplaced condition k = ltb k 12 || leb 16 k
-misplaced list k = ltb k 16
+misplaced list k = ltb k 16 || leb 18 k
 
 -- "counted in terms of tag 16, up to the first other tag": from term t on, no further than n
 unfoldable pub listLength : List ℕ → ℕ → ℕ → ℕ

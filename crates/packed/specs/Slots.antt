@@ -28,6 +28,8 @@ unfoldable mutual
   closed ρ (Expression.join e) = closed ρ e
   closed ρ (Expression.synch e e′) = closed ρ e && closed ρ e′
   closed ρ (Expression.hold o e) = closed ρ e
+  closed ρ (Expression.signal k e) = closed ρ e
+  closed ρ (Expression.waiting o) = true
 
   pub closedᶜ : (ℕ → Bool) → Condition → Bool
   closedᶜ ρ Condition.truth = true

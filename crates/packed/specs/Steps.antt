@@ -88,6 +88,7 @@ Below t (Node.call m i) = t < i
 Below t (Node.fork i) = t < i
 Below t (Node.join i) = t < i
 Below t (Node.synch i j) = (t < i) × (t < j)
+Below t (Node.signal k i) = t < i
 Below t Node.truth = Unit {0}
 Below t (Node.not i) = t < i
 Below t (Node.and i j) = (t < i) × (t < j)
@@ -146,6 +147,7 @@ childrenOf (Node.call m i) = childOf aList i ∷ []
 childrenOf (Node.fork i) = childOf anExpression i ∷ []
 childrenOf (Node.join i) = childOf anExpression i ∷ []
 childrenOf (Node.synch i j) = childOf anExpression i ∷ childOf anExpression j ∷ []
+childrenOf (Node.signal k i) = childOf anExpression i ∷ []
 childrenOf Node.truth = []
 childrenOf (Node.not i) = childOf aCondition i ∷ []
 childrenOf (Node.and i j) = childOf aCondition i ∷ childOf aCondition j ∷ []
@@ -156,9 +158,9 @@ childrenOf Node.unknown = []
 
 -- ---- check 5
 
--- the sort of a tag: "e is an expression (tags 0 to 11), c a condition (12 to 15), list is 16 or 17"
+-- the sort of a tag: "e is an expression (tags 0 to 11), c a condition (12 to 15), list is 16 or 17", and past these expressions again (document 02, E3)
 unfoldable pub tagSort : ℕ → ℕ
-tagSort k = cond (ltb k 12) anExpression (cond (ltb k 16) aCondition aList)
+tagSort k = cond (ltb k 12) anExpression (cond (ltb k 16) aCondition (cond (ltb k 18) aList anExpression))
 
 -- a term of this tag is of another sort than is wanted
 unfoldable pub wrongSort : ℕ → ℕ → Bool

@@ -7,6 +7,10 @@ use lib.Dec.{eqb}
 use lib.ListN.{getElem?}
 use Rattle.format.specs.Version.{Version}
 
+-- what is asked of a monitor's queue: "tag 18 wait, 19 notify, 20 notify all" (document 02, E3)
+pub data Signal : Type 0 where
+  wait notify notifyAll : Signal
+
 -- figure 5
 mutual
   pub data Expression : Type 0 where
@@ -23,6 +27,8 @@ mutual
     join : Expression → Expression  -- join e
     synch : Expression → Expression → Expression  -- synch e do e
     hold : ℕ → Expression → Expression  -- hold o do e, in execution only
+    signal : Signal → Expression → Expression  -- wait e, notify e, notify all e
+    waiting : ℕ → Expression  -- in execution only: a wait on o that has given up its monitor
 
   pub data Condition : Type 0 where
     truth : Condition  -- true
@@ -98,6 +104,8 @@ unfoldable mutual
   substitute ρ (join e) = join (substitute ρ e)
   substitute ρ (synch e e′) = synch (substitute ρ e) (substitute ρ e′)
   substitute ρ (hold o e) = hold o (substitute ρ e)
+  substitute ρ (signal k e) = signal k (substitute ρ e)
+  substitute ρ (waiting o) = waiting o
 
   pub substituteᶜ : Environment → Condition → Condition
   substituteᶜ ρ truth = truth

@@ -7,7 +7,7 @@ use mathlib.Core.Option.{Option, some, none}
 use lib.Dec.{eqb}
 use lib.ListN.{getD}
 use Rattle.format.specs.Version.{versionOf}
-use Rattle.packed.specs.Syntax.{Expression, Condition, Arguments, Procedure, Program}
+use Rattle.packed.specs.Syntax.{Signal, Expression, Condition, Arguments, Procedure, Program}
 use Rattle.packed.specs.Format.{version, procedures, terms, volatiles, fieldsFrom, parameters, root, Term, termAt}
 
 -- a term with its operands' values: its children are term indexes
@@ -24,13 +24,14 @@ pub data Node : Type 0 where
   fork : ℕ → Node
   join : ℕ → Node
   synch : ℕ → ℕ → Node
+  signal : Signal → ℕ → Node
   truth : Node
   not : ℕ → Node
   and : ℕ → ℕ → Node
   equal : ℕ → ℕ → Node
   list : ℕ → ℕ → Node
   listEnd : Node
-  unknown : Node  -- a tag over 17, which check 4 refuses
+  unknown : Node  -- a tag over 20, which check 4 refuses
 
 -- "slot 0 to 7, or 15 binds nothing"
 unfoldable pub binderOf : ℕ → Option ℕ
@@ -58,6 +59,9 @@ nodes =
     ∷ (λ x y z. equal x y)  -- 15 equal
     ∷ (λ x y z. list x y)  -- 16 list
     ∷ (λ x y z. listEnd)  -- 17 list end
+    ∷ (λ x y z. signal Signal.wait x)  -- 18 wait
+    ∷ (λ x y z. signal Signal.notify x)  -- 19 notify
+    ∷ (λ x y z. signal Signal.notifyAll x)  -- 20 notify all
     ∷ []
 
 -- the node of a term: its row of the table, over its operands
@@ -87,6 +91,8 @@ abbrev mutual
   Stands h t (Expression.join e) = (i : ℕ) × (h t ≡ Node.join i) × Stands h i e
   Stands h t (Expression.synch e e′) = (i : ℕ) × (j : ℕ) × (h t ≡ Node.synch i j) × Stands h i e × Stands h j e′
   Stands h t (Expression.hold o e) = ⊥
+  Stands h t (Expression.signal k e) = (i : ℕ) × (h t ≡ Node.signal k i) × Stands h i e
+  Stands h t (Expression.waiting o) = ⊥
 
   pub Standsᶜ : (ℕ → Node) → ℕ → Condition → Type 0
   Standsᶜ h t Condition.truth = h t ≡ Node.truth
@@ -115,6 +121,7 @@ expressionOf e c l (call m i) = Expression.call m (l i)
 expressionOf e c l (fork i) = Expression.fork (e i)
 expressionOf e c l (join i) = Expression.join (e i)
 expressionOf e c l (synch i j) = Expression.synch (e i) (e j)
+expressionOf e c l (signal k i) = Expression.signal k (e i)
 expressionOf e c l truth = Expression.literal 0
 expressionOf e c l (not i) = Expression.literal 0
 expressionOf e c l (and i j) = Expression.literal 0
@@ -136,6 +143,7 @@ conditionOf e c (call m i) = Condition.truth
 conditionOf e c (fork i) = Condition.truth
 conditionOf e c (join i) = Condition.truth
 conditionOf e c (synch i j) = Condition.truth
+conditionOf e c (signal k i) = Condition.truth
 conditionOf e c truth = Condition.truth
 conditionOf e c (not i) = Condition.not (c i)
 conditionOf e c (and i j) = Condition.and (c i) (c j)
@@ -157,6 +165,7 @@ argumentsOf e l (call m i) = Arguments.end
 argumentsOf e l (fork i) = Arguments.end
 argumentsOf e l (join i) = Arguments.end
 argumentsOf e l (synch i j) = Arguments.end
+argumentsOf e l (signal k i) = Arguments.end
 argumentsOf e l truth = Arguments.end
 argumentsOf e l (not i) = Arguments.end
 argumentsOf e l (and i j) = Arguments.end
