@@ -1,0 +1,2 @@
+pub mod WriteKeys
+pub mod KnownKeys
