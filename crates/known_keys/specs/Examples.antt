@@ -1,0 +1,137 @@
+-- Examples of every set (document 02, E9): a plan, its picks, and the set of each present thread after them. Assumes nothing.
+use Prim.Native.Nat.{ℕ, _*_}
+use mathlib.Core.List.{List, [], _∷_}
+use Rattle.keys.specs.Keys.{Keys, empty, singleton, union}
+use Rattle.rules.specs.ShotList.{planP}
+
+-- an example; the sets are in the order of the threads
+pub record Example : Type 0 where
+  pub plan : List ℕ
+  pub picks : List ℕ
+  pub sets : List Keys
+
+-- the set of these keys
+unfoldable pub setOf : List ℕ → Keys
+unfolding union
+setOf [] = empty
+setOf (k ∷ ks) = union (singleton k) (setOf ks)
+
+-- a volatile hand-over, in either version: main is
+-- `let 0 = new(1, 2) in let - = fork (let - = v0.1 := null in let - = v0.2 := v0 in v0.1 := v0) in let - = v0.2 in v0.1`, field 1 plain, field 2 volatile
+unfoldable pub handOver : ℕ → List ℕ
+handOver version =
+    version * 16 ∷ 0x40 ∷ 0x50 ∷ 0x00  -- header
+    ∷ 0xa0 ∷ 0x00 ∷ 0x00 ∷ 0x00  -- volatile mask
+    ∷ 0x00 ∷ 0x00  -- procedure 0
+    ∷ 0x28 ∷ 0x00 ∷ 0x20 ∷ 0x10 ∷ 0x00  -- term 0
+    ∷ 0x13 ∷ 0x00 ∷ 0x00 ∷ 0x00 ∷ 0x00  -- term 1
+    ∷ 0x2f ∷ 0x80 ∷ 0x60 ∷ 0x78 ∷ 0x00  -- term 2
+    ∷ 0x48 ∷ 0x08 ∷ 0x00 ∷ 0x00 ∷ 0x00  -- term 3
+    ∷ 0x2f ∷ 0x80 ∷ 0xa0 ∷ 0x40 ∷ 0x00  -- term 4
+    ∷ 0x20 ∷ 0x0c ∷ 0x10 ∷ 0x1c ∷ 0x00  -- term 5
+    ∷ 0x08 ∷ 0x00 ∷ 0x00 ∷ 0x00 ∷ 0x00  -- term 6
+    ∷ 0x00 ∷ 0x00 ∷ 0x00 ∷ 0x00 ∷ 0x00  -- term 7
+    ∷ 0x2f ∷ 0x81 ∷ 0x20 ∷ 0x60 ∷ 0x00  -- term 8
+    ∷ 0x20 ∷ 0x14 ∷ 0x20 ∷ 0x2c ∷ 0x00  -- term 9
+    ∷ 0x08 ∷ 0x00 ∷ 0x00 ∷ 0x00 ∷ 0x00  -- term 10
+    ∷ 0x08 ∷ 0x00 ∷ 0x00 ∷ 0x00 ∷ 0x00  -- term 11
+    ∷ 0x20 ∷ 0x1a ∷ 0x10 ∷ 0x38 ∷ 0x00  -- term 12
+    ∷ 0x08 ∷ 0x00 ∷ 0x00 ∷ 0x00 ∷ 0x00  -- term 13
+    ∷ 0x08 ∷ 0x00 ∷ 0x00 ∷ 0x00 ∷ 0x00  -- term 14
+    ∷ 0x2f ∷ 0x82 ∷ 0x00 ∷ 0x90 ∷ 0x00  -- term 15
+    ∷ 0x18 ∷ 0x22 ∷ 0x20 ∷ 0x00 ∷ 0x00  -- term 16
+    ∷ 0x08 ∷ 0x00 ∷ 0x00 ∷ 0x00 ∷ 0x00  -- term 17
+    ∷ 0x18 ∷ 0x26 ∷ 0x10 ∷ 0x00 ∷ 0x00  -- term 18
+    ∷ 0x08 ∷ 0x00 ∷ 0x00 ∷ 0x00 ∷ 0x00  -- term 19
+    ∷ []
+
+-- a monitor: main is `let 0 = new(1, 2) in let - = fork (let - = synch v0 do v0.1 := null in v0.2 := null) in synch v0 do v0.1`
+unfoldable pub monitor : List ℕ
+monitor =
+    0x10 ∷ 0x40 ∷ 0x44 ∷ 0x00  -- header
+    ∷ 0x80 ∷ 0x00 ∷ 0x00 ∷ 0x00  -- volatile mask
+    ∷ 0x00 ∷ 0x00  -- procedure 0
+    ∷ 0x28 ∷ 0x00 ∷ 0x20 ∷ 0x10 ∷ 0x00  -- term 0
+    ∷ 0x13 ∷ 0x00 ∷ 0x00 ∷ 0x00 ∷ 0x00  -- term 1
+    ∷ 0x2f ∷ 0x80 ∷ 0x60 ∷ 0x68 ∷ 0x00  -- term 2
+    ∷ 0x48 ∷ 0x08 ∷ 0x00 ∷ 0x00 ∷ 0x00  -- term 3
+    ∷ 0x2f ∷ 0x80 ∷ 0xa0 ∷ 0x50 ∷ 0x00  -- term 4
+    ∷ 0x58 ∷ 0x0c ∷ 0x03 ∷ 0x80 ∷ 0x00  -- term 5
+    ∷ 0x08 ∷ 0x00 ∷ 0x00 ∷ 0x00 ∷ 0x00  -- term 6
+    ∷ 0x20 ∷ 0x10 ∷ 0x10 ∷ 0x24 ∷ 0x00  -- term 7
+    ∷ 0x08 ∷ 0x00 ∷ 0x00 ∷ 0x00 ∷ 0x00  -- term 8
+    ∷ 0x00 ∷ 0x00 ∷ 0x00 ∷ 0x00 ∷ 0x00  -- term 9
+    ∷ 0x20 ∷ 0x16 ∷ 0x20 ∷ 0x30 ∷ 0x00  -- term 10
+    ∷ 0x08 ∷ 0x00 ∷ 0x00 ∷ 0x00 ∷ 0x00  -- term 11
+    ∷ 0x00 ∷ 0x00 ∷ 0x00 ∷ 0x00 ∷ 0x00  -- term 12
+    ∷ 0x58 ∷ 0x1c ∷ 0x07 ∷ 0x80 ∷ 0x00  -- term 13
+    ∷ 0x08 ∷ 0x00 ∷ 0x00 ∷ 0x00 ∷ 0x00  -- term 14
+    ∷ 0x18 ∷ 0x20 ∷ 0x10 ∷ 0x00 ∷ 0x00  -- term 15
+    ∷ 0x08 ∷ 0x00 ∷ 0x00 ∷ 0x00 ∷ 0x00  -- term 16
+    ∷ []
+
+-- a join: main is `let 0 = new(1) in let - = v0.1 := v0 in let 1 = fork (v0.1 := null) in let - = join v1 in v0.1`
+unfoldable pub join : List ℕ
+join =
+    0x10 ∷ 0x40 ∷ 0x40 ∷ 0x00  -- header
+    ∷ 0x80 ∷ 0x00 ∷ 0x00 ∷ 0x00  -- volatile mask
+    ∷ 0x00 ∷ 0x00  -- procedure 0
+    ∷ 0x28 ∷ 0x00 ∷ 0x20 ∷ 0x10 ∷ 0x00  -- term 0
+    ∷ 0x12 ∷ 0x00 ∷ 0x00 ∷ 0x00 ∷ 0x00  -- term 1
+    ∷ 0x2f ∷ 0x80 ∷ 0x60 ∷ 0x30 ∷ 0x00  -- term 2
+    ∷ 0x20 ∷ 0x08 ∷ 0x10 ∷ 0x14 ∷ 0x00  -- term 3
+    ∷ 0x08 ∷ 0x00 ∷ 0x00 ∷ 0x00 ∷ 0x00  -- term 4
+    ∷ 0x08 ∷ 0x00 ∷ 0x00 ∷ 0x00 ∷ 0x00  -- term 5
+    ∷ 0x28 ∷ 0x80 ∷ 0xe0 ∷ 0x58 ∷ 0x00  -- term 6
+    ∷ 0x48 ∷ 0x10 ∷ 0x00 ∷ 0x00 ∷ 0x00  -- term 7
+    ∷ 0x20 ∷ 0x12 ∷ 0x10 ∷ 0x28 ∷ 0x00  -- term 8
+    ∷ 0x08 ∷ 0x00 ∷ 0x00 ∷ 0x00 ∷ 0x00  -- term 9
+    ∷ 0x00 ∷ 0x00 ∷ 0x00 ∷ 0x00 ∷ 0x00  -- term 10
+    ∷ 0x2f ∷ 0x81 ∷ 0x80 ∷ 0x70 ∷ 0x00  -- term 11
+    ∷ 0x50 ∷ 0x1a ∷ 0x00 ∷ 0x00 ∷ 0x00  -- term 12
+    ∷ 0x08 ∷ 0x80 ∷ 0x00 ∷ 0x00 ∷ 0x00  -- term 13
+    ∷ 0x18 ∷ 0x1e ∷ 0x10 ∷ 0x00 ∷ 0x00  -- term 14
+    ∷ 0x08 ∷ 0x00 ∷ 0x00 ∷ 0x00 ∷ 0x00  -- term 15
+    ∷ []
+
+-- the rows
+unfoldable pub examples : List Example
+unfolding planP handOver monitor join setOf
+examples =
+    -- P, which stops: the write of thread 1 has no chain to thread 0
+    record {
+      plan = planP;
+      picks = 0 ∷ 0 ∷ 0 ∷ 0 ∷ 0 ∷ 1 ∷ 0 ∷ [];
+      sets = setOf (0 ∷ []) ∷ setOf (0 ∷ 1 ∷ []) ∷ [];
+    }
+    -- P, which does not: neither has it here
+    ∷ record {
+      plan = planP;
+      picks = 0 ∷ 0 ∷ 0 ∷ 0 ∷ 0 ∷ 0 ∷ 1 ∷ [];
+      sets = setOf (0 ∷ []) ∷ setOf (0 ∷ 1 ∷ []) ∷ [];
+    }
+    -- a volatile hand-over in version 1: of thread 1's writes the first goes before the volatile write, the second after it
+    ∷ record {
+      plan = handOver 1;
+      picks = 0 ∷ 0 ∷ 0 ∷ 0 ∷ 0 ∷ 1 ∷ 1 ∷ 1 ∷ 1 ∷ 1 ∷ 0 ∷ [];
+      sets = setOf (0 ∷ 1 ∷ []) ∷ setOf (0 ∷ 1 ∷ 2 ∷ []) ∷ [];
+    }
+    -- the same plan in version 0: nothing is handed over
+    ∷ record {
+      plan = handOver 0;
+      picks = 0 ∷ 0 ∷ 0 ∷ 0 ∷ 0 ∷ 1 ∷ 1 ∷ 1 ∷ 1 ∷ 1 ∷ 0 ∷ [];
+      sets = setOf (0 ∷ []) ∷ setOf (0 ∷ 1 ∷ 2 ∷ []) ∷ [];
+    }
+    -- a monitor: the first write goes before the release, the second after it
+    ∷ record {
+      plan = monitor;
+      picks = 0 ∷ 0 ∷ 0 ∷ 0 ∷ 0 ∷ 1 ∷ 1 ∷ 1 ∷ 1 ∷ 1 ∷ 0 ∷ [];
+      sets = setOf (0 ∷ 1 ∷ []) ∷ setOf (0 ∷ 1 ∷ 2 ∷ []) ∷ [];
+    }
+    -- a join: the forked thread begins with its maker's keys, and the joining one gets the forked thread's
+    ∷ record {
+      plan = join;
+      picks = 0 ∷ 0 ∷ 0 ∷ 0 ∷ 0 ∷ 0 ∷ 0 ∷ 1 ∷ 0 ∷ [];
+      sets = setOf (0 ∷ 1 ∷ 2 ∷ []) ∷ setOf (0 ∷ 1 ∷ 2 ∷ []) ∷ [];
+    }
+    ∷ []
