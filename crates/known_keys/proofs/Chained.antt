@@ -5,7 +5,6 @@ use mathlib.Core.Path.{_≡_, refl, sym, ap, _∙_, subst}
 use mathlib.Core.Bool.{Bool, true, false, cond, true≢false}
 use mathlib.Core.List.{List, [], _∷_, _++_, reverse, reverse-append}
 use mathlib.Core.Logic.{_↔_, Iff·symm, Iff·trans}
-use mathlib.Core.Option.{some}
 use lib.Dec.{eqb}
 use lib.ListN.{length, take, length-reverse}
 use Rattle.format.specs.Version.{Version}
@@ -16,8 +15,8 @@ use Rattle.order.proofs.Tests.{differ}
 use Rattle.order.proofs.Ports.{ofThread, draws-own}
 use Rattle.order.proofs.Flow.{Reach, own-chain}
 use Rattle.order.proofs.Turned.{chain→, chain←}
-use Rattle.order.proofs.EverySet.{KeyAt, WouldReach}
-use Rattle.known_keys.specs.WriteKeys.{PlainWrite, plainWrites, keyAt}
+use Rattle.order.proofs.EverySet.{WouldReach}
+use Rattle.known_keys.specs.WriteKeys.{plainWrites, keyAt}
 use Rattle.known_keys.specs.KnownKeys.{NewOf, WouldChain, KeyOfChained}
 
 -- ---- keys

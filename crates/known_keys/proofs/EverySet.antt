@@ -1,7 +1,7 @@
 -- Every set, at every moment (document 02, E9), for every accepted plan of either version, every schedule and every pick of it. Assumes nothing.
 use Prim.Native.Nat.{ℕ}
 use mathlib.Core.Path.{_≡_, refl, sym, ap, _∙_, subst as along}
-use mathlib.Core.List.{List, _++_}
+use mathlib.Core.List.{List}
 use mathlib.Core.Logic.{Iff·trans}
 use mathlib.Core.Option.{none}
 use lib.ListN.{take, drop, take-append-drop}
@@ -12,7 +12,7 @@ use Rattle.packed.proofs.WellFormed.{WellFormedProgram}
 use Rattle.packed.proofs.Decoded.{well-formed}
 use Rattle.order.proofs.Tests.{or-iff}
 use Rattle.rules.specs.State.{start}
-use Rattle.rules.specs.Run.{Stop, Run, run, play}
+use Rattle.rules.specs.Run.{Stop, run, play}
 use Rattle.rules.specs.Play.{runOf}
 use Rattle.rules.proofs.RunKeys.{every-set-of-runs}
 use Rattle.rules.proofs.RunAppend.{andThen, run-append, run-stopped}

@@ -10,7 +10,6 @@ use Rattle.packed.specs.Trees.{programOf}
 use Rattle.packed.specs.Check.{refusal}
 use Rattle.records.specs.Record.{Record}
 use Rattle.rules.specs.State.{Thread}
-use Rattle.rules.specs.Run.{Run}
 use Rattle.rules.specs.Play.{runOf}
 use Rattle.known_keys.specs.Examples.{Example, examples}
 use Rattle.known_keys.proofs.Computed.{keysByLog}
