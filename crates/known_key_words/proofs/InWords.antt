@@ -42,7 +42,8 @@ unfolding playOf
 area-here ws rs g i (going m) = refl
 area-here ws rs g i (halted m r) = refl
 
-module _ (plan area ws rs : List ℕ) (ok : refusal plan ≡ none) (loaded : Loaded plan ws rs) (ps : List ℕ) (small : (j : ℕ) → j < length ps → getD ps j 0 ≤ 7) (wide : 3 * length ps ≤ length area) where
+module _ (plan area ws rs : List ℕ) (ok : refusal plan ≡ none) (loaded : Loaded plan ws rs)
+    (ps : List ℕ) (small : (j : ℕ) → j < length ps → getD ps j 0 ≤ 7) (wide : 3 * length ps ≤ length area) where
   abbrev here : Standing
   here = standing ws rs (settingOf plan) (startOf rs area) ps 0
 
@@ -57,14 +58,17 @@ module _ (plan area ws rs : List ℕ) (ok : refusal plan ≡ none) (loaded : Loa
   run-threads = ap (λ (r : Run). r .final .threads) (plays plan ok ps)
 
   -- a thread of the abstract machine is one of the run, with its set
-  thread-of : (t : ℕ) (x : machine.Thread) → getElem? (final .threads) t ≡ some x → getElem? (play (programOf plan) ps .final .threads) t ≡ some (threadMeant (tableOf plan) x)
+  thread-of : (t : ℕ) (x : machine.Thread) → getElem? (final .threads) t ≡ some x
+      → getElem? (play (programOf plan) ps .final .threads) t ≡ some (threadMeant (tableOf plan) x)
   thread-of t x h =
       ap (λ (l : List Thread). getElem? l t) run-threads
       ∙ get-map (threadMeant (tableOf plan)) (final .threads) t
       ∙ ap (λ (y : Option machine.Thread). Option·map (threadMeant (tableOf plan)) y) h
 
   threads-counted : machineOf here .tally .counts .threads ≡ length (play (programOf plan) ps .final .threads)
-  threads-counted = related .kept .threads-count ∙ sym (ap (λ (l : List Thread). length l) run-threads ∙ length-map (final .threads) (threadMeant (tableOf plan)))
+  threads-counted =
+      related .kept .threads-count
+      ∙ sym (ap (λ (l : List Thread). length l) run-threads ∙ length-map (final .threads) (threadMeant (tableOf plan)))
 
   set-of : (t : ℕ) → t < machineOf here .tally .counts .threads
       → HoldsJust (programOf plan .version) (play (programOf plan) ps .log) t (keysOf (headAt (machineOf here .heads) t .keys))
@@ -87,7 +91,8 @@ module _ (plan area ws rs : List ℕ) (ok : refusal plan ≡ none) (loaded : Loa
 
 -- E9 over the running code's words: of every play that nothing refuses, after every pick. The words, the roots and the setting are those that `play` hands
 -- to the engine.
-pub every-set-in-words : (plan schedule area ws rs : List ℕ) → playRefusal plan schedule area ≡ none → steps.Loaded plan (terms plan) ws → ((p : ℕ) → p < procedures plan → getD rs p 0 ≡ root plan p)
+pub every-set-in-words : (plan schedule area ws rs : List ℕ) → playRefusal plan schedule area ≡ none
+    → steps.Loaded plan (terms plan) ws → ((p : ℕ) → p < procedures plan → getD rs p 0 ≡ root plan p)
     → InWordsAfterEveryPick plan schedule area ws rs (settingOf plan)
 unfolding steps.wordAt
 every-set-in-words plan schedule area ws rs e words roots n =

@@ -32,14 +32,20 @@ module _ (ws rs : List ℕ) (g : Setting) where
   pub plays-on : (ps qs : List ℕ) (m : Machine) (i : ℕ) → playOf ws rs g m (ps ++ qs) i ≡ goOn ws rs g qs (i + length ps) (standing ws rs g m ps i)
   unfolding playOf standing
   plays-on [] qs m i = ap (playOf ws rs g m qs) (omega arith)
-  plays-on (p ∷ ps) qs m i = go (turnBy ws rs g m (p % 8) .answer) (turnBy ws rs g m (p % 8) .stack) (λ m. plays-on ps qs m (i + 1) ∙ ap (λ (j : ℕ). goOn ws rs g qs j (standing ws rs g m ps (i + 1))) (one-later i))
+  plays-on (p ∷ ps) qs m i =
+      go (turnBy ws rs g m (p % 8) .answer) (turnBy ws rs g m (p % 8) .stack)
+      (λ m. plays-on ps qs m (i + 1) ∙ ap (λ (j : ℕ). goOn ws rs g qs j (standing ws rs g m ps (i + 1))) (one-later i))
     where
       one-later : (i : ℕ) → i + 1 + length ps ≡ i + suc (length ps)
       one-later i = omega arith
 
-      go : (a : Answer) (k : Stack) → ((m : Machine) → playOf ws rs g m (ps ++ qs) (i + 1) ≡ goOn ws rs g qs (i + suc (length ps)) (standing ws rs g m ps (i + 1)))
-          → onAnswer a (playOf ws rs g (stayed m k) (ps ++ qs) (i + 1)) (λ v. playOf ws rs g (after m (p % 8) v k) (ps ++ qs) (i + 1)) (λ e x. stopped g m (p % 8) x e i)
-          ≡ goOn ws rs g qs (i + suc (length ps)) (byAnswer a (standing ws rs g (stayed m k) ps (i + 1)) (λ v. standing ws rs g (after m (p % 8) v k) ps (i + 1)) (λ e x. halted m (stopped g m (p % 8) x e i)))
+      go : (a : Answer) (k : Stack)
+          → ((m : Machine) → playOf ws rs g m (ps ++ qs) (i + 1) ≡ goOn ws rs g qs (i + suc (length ps)) (standing ws rs g m ps (i + 1)))
+          → onAnswer a (playOf ws rs g (stayed m k) (ps ++ qs) (i + 1))
+          (λ v. playOf ws rs g (after m (p % 8) v k) (ps ++ qs) (i + 1)) (λ e x. stopped g m (p % 8) x e i)
+          ≡ goOn ws rs g qs (i + suc (length ps))
+          (byAnswer a (standing ws rs g (stayed m k) ps (i + 1)) (λ v. standing ws rs g (after m (p % 8) v k) ps (i + 1))
+          (λ e x. halted m (stopped g m (p % 8) x e i)))
       go answer.Passed k ih = ih (stayed m k)
       go (answer.Moved v) k ih = ih (after m (p % 8) v k)
       go (answer.Stopped e x) k ih = refl
@@ -54,19 +60,22 @@ module _ (b ws rs : List ℕ) (ok : refusal b ≡ none) (loaded : Loaded b ws rs
   run-from ps s = playing.run (tableOf b) s ps
 
   module _ (m : Machine) (s : machine.State) (rel : Related b m s) (reach : Reached (tableOf b) (programOf b) s) (p : ℕ) (small : p < 8) (ps : List ℕ) (i : ℕ)
-      (rest : (m : Machine) (s : machine.State) → Related b m s → Reached (tableOf b) (programOf b) s → Related b (machineOf (after-picks m ps (i + 1))) (run-from ps s .final)) where
+      (rest : (m : Machine) (s : machine.State) → Related b m s → Reached (tableOf b) (programOf b) s
+      → Related b (machineOf (after-picks m ps (i + 1))) (run-from ps s .final)) where
     -- where the run on numbers and the abstract machine stand after the pick and the rest, by its answer
     abbrev Stands : Answer → Stack → playing.Answer → Type 0
     Stands z k a =
         Related b
-        (machineOf (byAnswer z (after-picks (stayed m k) ps (i + 1)) (λ v. after-picks (after m p v k) ps (i + 1)) (λ e x. halted m (stopped (settingOf b) m p x e i))))
+        (machineOf (byAnswer z (after-picks (stayed m k) ps (i + 1)) (λ v. after-picks (after m p v k) ps (i + 1))
+        (λ e x. halted m (stopped (settingOf b) m p x e i))))
         (playing.resume s (run-from ps) a .final)
 
     answered-stands : (z : Answer) (k : Stack) → AnsweredBy b m s p z k → Stands z k (playing.step (tableOf b) s p)
     unfolding playing.resume playing.afterPass playing.afterMove playing.stopped
     answered-stands answer.Passed k (e, same) =
         along (Stands answer.Passed k) (sym e) (rest (stayed m k) s (along (λ (k : Stack). Related b (stayed m k) s) (sym same) rel) reach)
-    answered-stands (answer.Moved v) k (u, e, entered, rel′) = along (Stands (answer.Moved v) k) (sym e) (rest (after m p v k) (u .state) rel′ (move-reached b ok s p u reach e))
+    answered-stands (answer.Moved v) k (u, e, entered, rel′) =
+        along (Stands (answer.Moved v) k) (sym e) (rest (after m p v k) (u .state) rel′ (move-reached b ok s p u reach e))
     answered-stands (answer.Stopped stop.End x) k h = absurd h
     answered-stands (answer.Stopped stop.Race x) k (y, e, written) = along (Stands (answer.Stopped stop.Race x) k) (sym e) rel
     answered-stands (answer.Stopped (stop.NoRoom R) x) k (e, none-written) = along (Stands (answer.Stopped (stop.NoRoom R) x) k) (sym e) rel
@@ -78,7 +87,8 @@ module _ (b ws rs : List ℕ) (ok : refusal b ≡ none) (loaded : Loaded b ws rs
     pick-stands = answered-stands (turn .answer) (turn .stack) (picks b ws rs ok loaded m s rel reach p small)
 
   -- after any picks it stands for where the abstract machine's run stands
-  pub stands-for : (ps : List ℕ) (i : ℕ) → ((j : ℕ) → j < length ps → getD ps j 0 ≤ 7) → (m : Machine) (s : machine.State) → Related b m s → Reached (tableOf b) (programOf b) s
+  pub stands-for : (ps : List ℕ) (i : ℕ) → ((j : ℕ) → j < length ps → getD ps j 0 ≤ 7)
+      → (m : Machine) (s : machine.State) → Related b m s → Reached (tableOf b) (programOf b) s
       → Related b (machineOf (after-picks m ps i)) (run-from ps s .final)
   unfolding standing playing.run playing.stopped
   stands-for [] i small m s rel reach = rel

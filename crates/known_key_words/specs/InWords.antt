@@ -19,7 +19,8 @@ pub record InWords (plan picks area : List ℕ) (s : Standing) : Type 0 where
   -- "a present thread": as many as are counted
   pub present : machineOf s .tally .counts .threads ≡ length (runOf plan picks .final .threads)
   -- its "set": the one that the four words of its head stand for
-  pub sets : (t : ℕ) → t < machineOf s .tally .counts .threads → HoldsJust (programOf plan .version) (runOf plan picks .log) t (keysOf (headAt (machineOf s .heads) t .keys))
+  pub sets : (t : ℕ) → t < machineOf s .tally .counts .threads
+      → HoldsJust (programOf plan .version) (runOf plan picks .log) t (keysOf (headAt (machineOf s .heads) t .keys))
   -- "the log": the area begins with its records
   pub log : areaOf s ≡ overwrite (bytesOf (runOf plan picks .log)) area
 

@@ -36,12 +36,16 @@ key-number (x ∷ L) (suc i) w h e = one-more (eqb (kindNumber (x .kind)) 3) (ke
 module _ (v : Version) (L : List Record) (i : ℕ) where
   -- to any record put at the end that draws on its own thread alone, as a `new` does
   pub chained-reach : (r : Record) → r .kind ≡ new → WouldChain v L i r ↔ Reach v i (reverse L) (ofThread (r .thread))
-  chained-reach r e = Iff·trans turned (own-chain r (reverse L) i (draws-own v r (λ q. differ (sym e ∙ q) tt) (λ q. differ (sym e ∙ q) tt) (λ q. differ (sym e ∙ q) tt)))
+  chained-reach r e =
+      Iff·trans turned
+      (own-chain r (reverse L) i (draws-own v r (λ q. differ (sym e ∙ q) tt) (λ q. differ (sym e ∙ q) tt) (λ q. differ (sym e ∙ q) tt)))
     where
       turned : WouldChain v L i r ↔ N.Chain v (r ∷ reverse L) i (length (reverse L))
       turned = (
-        λ c. subst (λ (n : ℕ). N.Chain v (r ∷ reverse L) i n) (sym (length-reverse L)) (subst (λ (H : List Record). N.Chain v H i (length L)) (reverse-append L (r ∷ [])) (chain← v (L ++ (r ∷ [])) c)),
-        λ c. subst (λ (n : ℕ). Chain v (L ++ (r ∷ [])) i n) (length-reverse L) (chain→ v (L ++ (r ∷ [])) (subst (λ (H : List Record). N.Chain v H i (length (reverse L))) (sym (reverse-append L (r ∷ []))) c)),
+        λ c. subst (λ (n : ℕ). N.Chain v (r ∷ reverse L) i n) (sym (length-reverse L))
+            (subst (λ (H : List Record). N.Chain v H i (length L)) (reverse-append L (r ∷ [])) (chain← v (L ++ (r ∷ [])) c)),
+        λ c. subst (λ (n : ℕ). Chain v (L ++ (r ∷ [])) i n) (length-reverse L)
+            (chain→ v (L ++ (r ∷ [])) (subst (λ (H : List Record). N.Chain v H i (length (reverse L))) (sym (reverse-append L (r ∷ []))) c)),
       )
 
   -- to any `new` record of one thread
@@ -68,8 +72,9 @@ would-reach↔ v L t r n k = (there, back)
     back : KeyOfChained v L r k → WouldReach v L t k
     back d =
         let w = d .plain-write in
+        let number = d .its-key ∙ key-number L (d .index) (w .write-record) (w .at-i) (w .is-write) in
         record {
           index = d .index;
-          made-at = record { write-record = w .write-record; at-i = w .at-i; is-write = w .is-write; number = d .its-key ∙ key-number L (d .index) (w .write-record) (w .at-i) (w .is-write) };
+          made-at = record { write-record = w .write-record; at-i = w .at-i; is-write = w .is-write; number = number };
           chain = same (d .index) .1 (d .chained);
         }

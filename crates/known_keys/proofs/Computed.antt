@@ -22,7 +22,7 @@ use Rattle.order.proofs.Flow.{Reach}
 use Rattle.conflicts.proofs.Clock.{count, clock}
 use Rattle.conflicts.proofs.ClockReach.{Nth, newest, older, reach→clock, clock→reach}
 use Rattle.known_keys.specs.WriteKeys.{PlainWrite, keyAt}
-use Rattle.known_keys.specs.KnownKeys.{NewOf, KeyOfChained, HoldsJust}
+use Rattle.known_keys.specs.KnownKeys.{NewOf, WouldChain, KeyOfChained, HoldsJust}
 use Rattle.known_keys.proofs.Chained.{chained-thread}
 
 -- record i of the log, which is w, is the c-th of its thread
@@ -54,7 +54,8 @@ nth-append (x ∷ K) y = older (nth-append K y)
 nth-of : (L : List Record) (i : ℕ) (w : Record) → At L i w → Nth (reverse L) i (w .thread) (turn L i w)
 nth-of L i w h =
     let b : i < length L = at-within L i w h in
-    subst (λ (H : List Record). Nth H i (w .thread) (turn L i w)) (sym (turned-at L i w h)) (nth-append (reverse (drop (suc i) L)) (newest refl (sym (past-length L i (omega arith))) refl))
+    subst (λ (H : List Record). Nth H i (w .thread) (turn L i w)) (sym (turned-at L i w h))
+    (nth-append (reverse (drop (suc i) L)) (newest refl (sym (past-length L i (omega arith))) refl))
 
 module _ (v : Version) (L : List Record) (t : ℕ) where
   -- record i is a plain write that reaches thread t
@@ -65,8 +66,10 @@ module _ (v : Version) (L : List Record) (t : ℕ) where
   comes→ i none e h = absurd h
   comes→ i (some w) e h =
       let c = turn L i w in
-      let d = and-yes (sameKind (w .kind) write) (leb c (clock v (reverse L) (ofThread t) (w .thread))) h in
-      (record { write-record = w; at-i = e; is-write = sameKind→ (w .kind) write (d .0) }, clock→reach v (ofThread t) (nth-of L i w e) (leb→le c (clock v (reverse L) (ofThread t) (w .thread)) (d .1)))
+      let d = and-yes (sameKind (w .kind) write) (leb c (clock v (reverse L) (ofThread t) (w .thread))) h in (
+        record { write-record = w; at-i = e; is-write = sameKind→ (w .kind) write (d .0) },
+        clock→reach v (ofThread t) (nth-of L i w e) (leb→le c (clock v (reverse L) (ofThread t) (w .thread)) (d .1)),
+      )
 
   comes← : (i : ℕ) (m : Option Record) → getElem? L i ≡ m → Come i → T (comes v L t i m)
   comes← i none e (w, x) = let q : none ≡ some (w .write-record) = sym e ∙ w .at-i in absurd (true≢false cc)
@@ -113,7 +116,8 @@ module _ (v : Version) (L : List Record) (t : ℕ) where
       wider (inl e) = inl e
       wider (inr d) = let b = d .below in inr (record { index = d .index; below = omega arith; comes-there = d .comes-there; its-key = d .its-key })
 
-      go : (T (comes v L t n (getElem? L n)) × (k ≡ keyAt L n)) ⊎ T (holds (keysUpTo v L t n) k) → (T (holds (keysUpTo v L t n) k) → (k ≡ 0) ⊎ Found n k) → (k ≡ 0) ⊎ Found (suc n) k
+      go : (T (comes v L t n (getElem? L n)) × (k ≡ keyAt L n)) ⊎ T (holds (keysUpTo v L t n) k)
+          → (T (holds (keysUpTo v L t n) k) → (k ≡ 0) ⊎ Found n k) → (k ≡ 0) ⊎ Found (suc n) k
       go (inl (c, e)) ih = inr (record { index = n; below = omega arith; comes-there = comes→ n (getElem? L n) refl c; its-key = e })
       go (inr x) ih = wider (ih x)
 
@@ -127,7 +131,8 @@ module _ (v : Version) (L : List Record) (t : ℕ) where
   found-held zero k d = let b = d .below in absurd (omega arith)
   found-held (suc n) k d = with-key (comes v L t n (getElem? L n)) (keyAt L n) (keysUpTo v L t n) k .1 (go (ℕ-discrete (d .index) n) (found-held n k))
     where
-      go : Dec (d .index ≡ n) → (Found n k → T (holds (keysUpTo v L t n) k)) → (T (comes v L t n (getElem? L n)) × (k ≡ keyAt L n)) ⊎ T (holds (keysUpTo v L t n) k)
+      go : Dec (d .index ≡ n) → (Found n k → T (holds (keysUpTo v L t n) k))
+          → (T (comes v L t n (getElem? L n)) × (k ≡ keyAt L n)) ⊎ T (holds (keysUpTo v L t n) k)
       go (yes e) ih = inl (comes← n (getElem? L n) refl (subst Come e (d .comes-there)), d .its-key ∙ ap (keyAt L) e)
       go (no e) ih = let b = d .below in inr (ih (record { index = d .index; below = omega arith; comes-there = d .comes-there; its-key = d .its-key }))
 
@@ -135,14 +140,17 @@ module _ (v : Version) (L : List Record) (t : ℕ) where
 
   found↔ : (r : Record) → NewOf t r → (k : ℕ) → Found (length L) k ↔ KeyOfChained v L r k
   found↔ r n k = (
-    λ d. record { index = d .index; plain-write = d .comes-there .0; its-key = d .its-key; chained = chained-thread v L (d .index) t r n .1 (d .comes-there .1) },
+    λ d. record { index = d .index; plain-write = d .comes-there .0; its-key = d .its-key; chained = to-new (d .index) .1 (d .comes-there .1) },
     λ d. record {
       index = d .index;
       below = at-within L (d .index) (d .plain-write .write-record) (d .plain-write .at-i);
-      comes-there = (d .plain-write, chained-thread v L (d .index) t r n .0 (d .chained));
+      comes-there = (d .plain-write, to-new (d .index) .0 (d .chained));
       its-key = d .its-key;
     },
   )
+    where
+      to-new : (i : ℕ) → WouldChain v L i r ↔ Reach v i (reverse L) (ofThread t)
+      to-new i = chained-thread v L i t r n
 
   -- what is computed is the set of the definition
   pub computed : HoldsJust v L t (keysByLog v L t)
