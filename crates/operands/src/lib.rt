@@ -1,4 +1,5 @@
 // The parts of a term's 40 bits: the tag, then the operands of the table, then spare bits. Checks 4 to 7 and the run take terms apart here.
+pub mod rows; // rows.rt: the operands of each tag
 pub mod tags; // tags.rt: the tags by name
 
 ghost use mathlib.Core.Path.{_≡_};

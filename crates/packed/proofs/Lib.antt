@@ -9,6 +9,7 @@ pub mod Tags
 pub mod SingleTerm
 pub mod Children
 pub mod ListLaws
+pub mod RowLaws
 pub mod SortLaws
 pub mod NameLaws
 pub mod TreeLaws

@@ -1,0 +1,90 @@
+// The layout of the terms' operands, a row to a tag (document 02, E4): the one place of the code that has it. What a row says is shown from document 01's table,
+// all rows at once, where the array is lent (`plan`).
+use byte_numbers::wide;
+ghost use mathlib.Core.Path.{_≡_};
+ghost use Prim.Native.Nat.{_<_};
+ghost use Rattle.packed.specs.Rows.{layoutRows, numberAt, bitsTo, bitsAfter};
+
+// How many tags there are.
+pub const TAGS: usize = 21;
+
+// The columns of a row: the sort of the tag's terms, the number of spare bits; what the operand that is no term is, and its place, the bits to its right; of
+// each operand that is a term the sort, and in the next column its place. Where there is none, zeros.
+pub const SORT: usize = 0;
+
+pub const SPARE: usize = 1;
+
+pub const OTHER: usize = 2;
+
+pub const FIRST: usize = 4;
+
+pub const SECOND: usize = 6;
+
+pub const THIRD: usize = 8;
+
+// The sorts of terms: an expression and a condition by document 01's letters.
+pub const E: u8 = 1;
+
+pub const C: u8 = 2;
+
+pub const LIST: u8 = 3;
+
+// The operands that are no terms.
+pub const SLOT: u8 = 1;
+
+pub const BINDER: u8 = 2; // a slot, or 15, which binds nothing
+
+pub const MASK: u8 = 3;
+
+pub const FIELD: u8 = 4;
+
+pub const PROCEDURE: u8 = 5;
+
+pub type Rows = [[u8; 10]; TAGS];
+
+pub const ROWS: Rows = [
+    [E, 35, 0, 0, 0, 0, 0, 0, 0, 0], // null
+    [E, 31, SLOT, 31, 0, 0, 0, 0, 0, 0], // variable
+    [E, 3, MASK, 3, 0, 0, 0, 0, 0, 0], // new
+    [E, 20, FIELD, 20, E, 25, 0, 0, 0, 0], // read
+    [E, 10, FIELD, 20, E, 25, E, 10, 0, 0], // write
+    [E, 11, BINDER, 31, E, 21, E, 11, 0, 0], // let
+    [E, 5, 0, 0, C, 25, E, 15, E, 5], // if
+    [E, 15, 0, 0, C, 25, E, 15, 0, 0], // while
+    [E, 20, PROCEDURE, 30, LIST, 20, 0, 0, 0, 0], // call
+    [E, 25, 0, 0, E, 25, 0, 0, 0, 0], // fork
+    [E, 25, 0, 0, E, 25, 0, 0, 0, 0], // join
+    [E, 15, 0, 0, E, 25, E, 15, 0, 0], // synch
+    [C, 35, 0, 0, 0, 0, 0, 0, 0, 0], // true
+    [C, 25, 0, 0, C, 25, 0, 0, 0, 0], // not
+    [C, 15, 0, 0, C, 25, C, 15, 0, 0], // and
+    [C, 15, 0, 0, E, 25, E, 15, 0, 0], // equal
+    [LIST, 15, 0, 0, E, 25, LIST, 15, 0, 0], // list
+    [LIST, 35, 0, 0, 0, 0, 0, 0, 0, 0], // list end
+    [E, 25, 0, 0, E, 25, 0, 0, 0, 0], // wait
+    [E, 25, 0, 0, E, 25, 0, 0, 0, 0], // notify
+    [E, 25, 0, 0, E, 25, 0, 0, 0, 0], // notify all
+];
+
+// A number of a tag's row.
+pub fn number(rows: &Rows, tag: usize, column: usize) -> u8
+    requires { ⌜ now rows ≡ layoutRows ⌝ }
+    requires { ⌜ (tag < 21) × (column < 10) ⌝ }
+    ensures { λ r. ⌜ r ≡ numberAt tag column ⌝ }
+{
+    rows[tag][column]
+}
+
+// What of a term's 40 bits ends at a place.
+pub fn bits_to(word: usize, place: u8) -> usize
+    ensures { λ r. ⌜ r ≡ bitsTo place word ⌝ }
+{
+    word >> (wide(place) % 64)
+}
+
+// What stands after it.
+pub fn bits_after(word: usize, place: u8) -> usize
+    ensures { λ r. ⌜ r ≡ bitsAfter place word ⌝ }
+{
+    word % (1usize << (wide(place) % 64))
+}
