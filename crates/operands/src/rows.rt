@@ -1,9 +1,8 @@
-// The layout of the terms' operands, a row to a tag (document 02, E4): the one place of the code that has it. What a row says is shown from document 01's table,
-// all rows at once, where the array is lent (`plan`).
+// The layout of the terms' operands, a row to a tag (document 02, E4). Checks 4 to 6 take it from here.
 use byte_numbers::wide;
 ghost use mathlib.Core.Path.{_≡_};
 ghost use Prim.Native.Nat.{_<_};
-ghost use Rattle.packed.specs.Rows.{layoutRows, numberAt, bitsTo, bitsAfter};
+ghost use Rattle.packed.specs.Rows.{layoutRows, numberAt, bitsTo, bitsAfter, childAt};
 
 // How many tags there are.
 pub const TAGS: usize = 21;
@@ -42,7 +41,7 @@ pub const PROCEDURE: u8 = 5;
 
 pub type Rows = [[u8; 10]; TAGS];
 
-pub const ROWS: Rows = [
+const ROWS: Rows = [
     [E, 35, 0, 0, 0, 0, 0, 0, 0, 0], // null
     [E, 31, SLOT, 31, 0, 0, 0, 0, 0, 0], // variable
     [E, 3, MASK, 3, 0, 0, 0, 0, 0, 0], // new
@@ -66,6 +65,13 @@ pub const ROWS: Rows = [
     [E, 25, 0, 0, E, 25, 0, 0, 0, 0], // notify all
 ];
 
+// The rows, which are those of the table: one computed test of them all.
+pub fn layouts() -> Rows
+    ensures { λ r. ⌜ r ≡ layoutRows ⌝ }
+{
+    ROWS
+}
+
 // A number of a tag's row.
 pub fn number(rows: &Rows, tag: usize, column: usize) -> u8
     requires { ⌜ now rows ≡ layoutRows ⌝ }
@@ -82,7 +88,16 @@ pub fn bits_to(word: usize, place: u8) -> usize
     word >> (wide(place) % 64)
 }
 
-// What stands after it.
+// The operand that is a term and has its place in this column of the row.
+pub fn child(rows: &Rows, tag: usize, column: usize, word: usize) -> usize
+    requires { ⌜ now rows ≡ layoutRows ⌝ }
+    requires { ⌜ (tag < 21) × (column < 10) ⌝ }
+    ensures { λ r. ⌜ r ≡ childAt (numberAt tag column) word ⌝ }
+{
+    bits_to(word, number(rows, tag, column)) % 1024
+}
+
+// What of a term's 40 bits stands after a place.
 pub fn bits_after(word: usize, place: u8) -> usize
     ensures { λ r. ⌜ r ≡ bitsAfter place word ⌝ }
 {

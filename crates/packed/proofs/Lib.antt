@@ -9,9 +9,9 @@ pub mod Tags
 pub mod SingleTerm
 pub mod Children
 pub mod ListLaws
-pub mod RowLaws
 pub mod SortLaws
 pub mod NameLaws
+pub mod RowLaws
 pub mod TreeLaws
 pub mod NodeOrder
 pub mod SlotMasks

@@ -1,18 +1,23 @@
 -- The rule of the rows at each tag: what checks 4 to 6 find by a row is what the table says. Assumes nothing.
 use mathlib.Core.Path.{_≡_, refl, ap, sym, _∙_}
+use native.Mathlib.Decide.{decLt}
+use borrow.Author.Tests.{eq-eqb, ne-eqb}
 use mathlib.Core.Bool.{Bool, true, false, _||_, or-false, or-assoc}
 use mathlib.Core.List.{List, [], _∷_}
 use Prim.Native.Nat.{ℕ, _<_}
 use native.Mathlib.Omega.{arith}
 use Rattle.format.proofs.Ranges.{by-range}
-use Rattle.packed.specs.Format.{table, layout}
-use lib.Dec.{eqb}
+use Rattle.packed.specs.Format.{table, layout, laidOut, termAt}
+use lib.Dec.{eqb, lit<}
+use lib.ListN.{getD}
 use Rattle.packed.specs.Operands.{tagOf, firstOf, fieldBits, writeSecond, spareSet}
 use Rattle.packed.specs.Trees.{nodes, nodeOf}
 use Rattle.packed.specs.Refusals.{someOperand, breaksTable}
-use Rattle.packed.specs.Steps.{inWord, termIn, tagSort, childrenOf, outside}
-use Rattle.packed.specs.Rows.{numberAt, wrongByRow, childrenByRow}
-use Rattle.packed.proofs.SingleTerm.{tested, rowOf}
+use Rattle.packed.specs.Steps.{Right, Loaded, inWord, termIn, tagIn, nodeIn, tagSort, Child, childOf, childrenOf, lowerAll, countAll, outside}
+use Rattle.packed.specs.Rows.{numberAt, childAt, wrongByRow, Tagged, childrenByRow}
+use Rattle.packed.proofs.Reading.{tag-in}
+use Rattle.packed.proofs.SingleTerm.{tested, rowOf, passes}
+use Rattle.packed.proofs.NameLaws.{named}
 
 -- the sort of a tag
 pub sort-is : (k : ℕ) → k < 21 → numberAt k 0 ≡ tagSort k
@@ -75,3 +80,52 @@ module _ (procedures n t w : ℕ) where
 
   pub by-row : (r : Bool) → tagOf w < 21 → r ≡ wrongByRow procedures n t w (tagOf w) → r ≡ breaksTable procedures n t (termIn w)
   by-row r h e = tested procedures n t w (tagOf w) r refl (e ∙ tests-are (tagOf w) h)
+
+-- ---- the children of a term of the array, as many as the row has
+
+module _ (w k : ℕ) where
+  pub no-child : numberAt k 4 ≡ 0 → childrenByRow w k ≡ []
+  unfolding childrenByRow
+  no-child a = rw (eq-eqb (numberAt k 4) 0 a)
+
+  module _ (a : numberAt k 4 ≡ 0 → ⊥) where
+    pub one-child : numberAt k 6 ≡ 0 → childrenByRow w k ≡ (childOf (numberAt k 4) (childAt (numberAt k 5) w) ∷ [])
+    unfolding childrenByRow
+    one-child b = rw (ne-eqb (numberAt k 4) 0 a, eq-eqb (numberAt k 6) 0 b)
+
+    module _ (b : numberAt k 6 ≡ 0 → ⊥) where
+      pub two-children : numberAt k 8 ≡ 0 → childrenByRow w k ≡ (childOf (numberAt k 4) (childAt (numberAt k 5) w) ∷ childOf (numberAt k 6) (childAt (numberAt k 7) w) ∷ [])
+      unfolding childrenByRow
+      two-children d = rw (ne-eqb (numberAt k 4) 0 a, ne-eqb (numberAt k 6) 0 b, eq-eqb (numberAt k 8) 0 d)
+
+      pub three-children : (numberAt k 8 ≡ 0 → ⊥)
+          → childrenByRow w k ≡ (childOf (numberAt k 4) (childAt (numberAt k 5) w) ∷ childOf (numberAt k 6) (childAt (numberAt k 7) w) ∷ childOf (numberAt k 8) (childAt (numberAt k 9) w) ∷ [])
+      unfolding childrenByRow
+      three-children d = rw (ne-eqb (numberAt k 4) 0 a, ne-eqb (numberAt k 6) 0 b, ne-eqb (numberAt k 8) 0 d)
+
+-- one child named, then the others
+pub lower-more : (ws : List ℕ) (k : Child) (ks : List Child) (best r s : ℕ) → r ≡ lowerAll ws (k ∷ []) best → s ≡ lowerAll ws ks r → s ≡ lowerAll ws (k ∷ ks) best
+unfolding lowerAll
+lower-more ws k ks best r s p q = q ∙ ap (lowerAll ws ks) p
+
+pub count-more : (k : Child) (ks : List Child) (c d e : List ℕ) → d ≡ countAll (k ∷ []) c → e ≡ countAll ks d → e ≡ countAll (k ∷ ks) c
+unfolding countAll
+count-more k ks c d e p q = q ∙ ap (countAll ks) p
+
+-- these children are the term's
+pub named-by-row : (ws : List ℕ) (t k best r : ℕ) (c c′ : List ℕ) (ks : List Child) → k ≡ tagOf (getD ws t 0) → k < 21 → childrenByRow (getD ws t 0) k ≡ ks
+    → r ≡ lowerAll ws ks best → c′ ≡ countAll ks c
+    → (r ≡ lowerAll ws (childrenOf (nodeIn ws t)) best) × (c′ ≡ countAll (childrenOf (nodeIn ws t)) c)
+named-by-row ws t k best r c c′ ks e h q p s =
+    let same : ks ≡ childrenOf (rowOf k (getD ws t 0)) = sym q ∙ children-are (getD ws t 0) k h in
+    named ws t k best r c c′ (sym e) (p ∙ ap (λ (x : List Child). lowerAll ws x best) same) (s ∙ ap (λ (x : List Child). countAll x c) same)
+
+-- ---- the tags of an array that check 4 has passed
+
+pub tagged : (b : List ℕ) (procedures n : ℕ) (ws : List ℕ) → Right b procedures n → Loaded b n ws → Tagged ws
+unfolding tagIn termAt laidOut
+tagged b procedures n ws r l t = go (decLt t n)
+  where
+    go : Dec (t < n) → tagIn ws t < 21
+    go (yes h) = rw (l .each t h, ← tag-in b t) (omega (arith, passes b t (r .terms-right t h) .tag-small))
+    go (no h) = rw (l .rest t (omega (arith, h))) (lit< tt)

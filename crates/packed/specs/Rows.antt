@@ -1,13 +1,13 @@
 -- The operand layouts as rows of numbers, one to a tag, from the table of terms (document 02, E4), and what checks 4 to 6 find by a row. For inner contracts: no
 -- reader of the entry's promise needs it. Assumes nothing.
-use Prim.Native.Nat.{ℕ, suc, _+_, _-_, _/_, _%_, _^_}
+use Prim.Native.Nat.{ℕ, suc, _+_, _-_, _/_, _%_, _^_, _<_}
 use mathlib.Core.Bool.{Bool, false, cond, _&&_, _||_, not}
 use mathlib.Core.List.{List, [], _∷_, _++_}
 use lib.Dec.{eqb}
 use lib.ListN.{getD, take}
 use Rattle.packed.specs.Format.{Operand, absent, slot, binder, mask, fieldName, procedure, expression, condition, list, width, Row, table}
 use Rattle.packed.specs.Refusals.{wrongOperand}
-use Rattle.packed.specs.Steps.{anExpression, aCondition, aList, tagSort, Child, childOf, outside}
+use Rattle.packed.specs.Steps.{anExpression, aCondition, aList, tagSort, Child, childOf, outside, tagIn}
 
 -- ---- the rows
 
@@ -101,6 +101,10 @@ wrongByRow procedureCount n t w k =
     || not (eqb (bitsAfter (numberAt k 1) w) 0)
 
 -- ---- checks 5 and 6 by a row
+
+-- every term of the array has a tag of the table
+abbrev pub Tagged : List ℕ → Type 0
+Tagged words = (t : ℕ) → tagIn words t < 21
 
 -- a child of these numbers, and those after it, where there are any
 abbrev pub childrenFrom : ℕ → ℕ → ℕ → List Child → List Child

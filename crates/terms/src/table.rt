@@ -71,8 +71,7 @@ fn wrong_child(
     requires { ⌜ (tag < 21) × (column < 10) ⌝ }
     ensures { λ r. ⌜ r ≡ outside count term (childAt (numberAt tag column) word) ⌝ }
 {
-    let child = rows::bits_to(word, rows::number(rows, tag, column)) % 1024;
-    outside(child, term, count)
+    outside(rows::child(rows, tag, column, word), term, count)
 }
 
 // The operands that are terms: where one is absent, so are those after it.

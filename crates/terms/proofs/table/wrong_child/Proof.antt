@@ -3,17 +3,14 @@ use borrow.Author.Needs.{needs}
 use Rattle.terms.proofs.table.wrong_child.Statement.{statement}
 use Rattle.terms.proofs.table.wrong_child.Tie as tie
 
-number-requires : tie.Need-number-requires
-number-requires c κs = search needs
-
-bits-to-requires : tie.Need-bits-to-requires
-bits-to-requires c κs = search needs
+child-requires : tie.Need-child-requires
+child-requires c κs = search needs
 
 outside-requires : tie.Need-outside-requires
 outside-requires c κs = search needs
 
 returns : tie.Need-returns
-returns c = rw (c .before .bits-to .ensures, c .before .before .number .ensures) at (c .outside .ensures)
+returns c = rw (c .before .child .ensures) at (c .outside .ensures)
 
 pub wrong-child-spec : {M : Type 1} → statement M
-wrong-child-spec = tie.close (tie.spec number-requires bits-to-requires outside-requires returns)
+wrong-child-spec = tie.close (tie.spec child-requires outside-requires returns)
