@@ -8,7 +8,7 @@ ghost use Rattle.packed.specs.Rows.{layoutRows, numberAt, bitsTo, bitsAfter, ch
 pub const TAGS: usize = 21;
 
 // The columns of a row: the sort of the tag's terms, the number of spare bits; what the operand that is no term is, and its place, the bits to its right; of
-// each operand that is a term the sort, and in the next column its place. Where there is none, zeros.
+// each operand that is a term the sort, and in the next column its place.
 pub const SORT: usize = 0;
 
 pub const SPARE: usize = 1;
@@ -39,30 +39,33 @@ pub const FIELD: u8 = 4;
 
 pub const PROCEDURE: u8 = 5;
 
+// The place of an operand that is not there; its sort or kind is 0.
+const PAST: u8 = 63;
+
 pub type Rows = [[u8; 10]; TAGS];
 
 const ROWS: Rows = [
-    [E, 35, 0, 0, 0, 0, 0, 0, 0, 0], // null
-    [E, 31, SLOT, 31, 0, 0, 0, 0, 0, 0], // variable
-    [E, 3, MASK, 3, 0, 0, 0, 0, 0, 0], // new
-    [E, 20, FIELD, 20, E, 25, 0, 0, 0, 0], // read
-    [E, 10, FIELD, 20, E, 25, E, 10, 0, 0], // write
-    [E, 11, BINDER, 31, E, 21, E, 11, 0, 0], // let
-    [E, 5, 0, 0, C, 25, E, 15, E, 5], // if
-    [E, 15, 0, 0, C, 25, E, 15, 0, 0], // while
-    [E, 20, PROCEDURE, 30, LIST, 20, 0, 0, 0, 0], // call
-    [E, 25, 0, 0, E, 25, 0, 0, 0, 0], // fork
-    [E, 25, 0, 0, E, 25, 0, 0, 0, 0], // join
-    [E, 15, 0, 0, E, 25, E, 15, 0, 0], // synch
-    [C, 35, 0, 0, 0, 0, 0, 0, 0, 0], // true
-    [C, 25, 0, 0, C, 25, 0, 0, 0, 0], // not
-    [C, 15, 0, 0, C, 25, C, 15, 0, 0], // and
-    [C, 15, 0, 0, E, 25, E, 15, 0, 0], // equal
-    [LIST, 15, 0, 0, E, 25, LIST, 15, 0, 0], // list
-    [LIST, 35, 0, 0, 0, 0, 0, 0, 0, 0], // list end
-    [E, 25, 0, 0, E, 25, 0, 0, 0, 0], // wait
-    [E, 25, 0, 0, E, 25, 0, 0, 0, 0], // notify
-    [E, 25, 0, 0, E, 25, 0, 0, 0, 0], // notify all
+    [E, 35, 0, PAST, 0, PAST, 0, PAST, 0, PAST], // null
+    [E, 31, SLOT, 31, 0, PAST, 0, PAST, 0, PAST], // variable
+    [E, 3, MASK, 3, 0, PAST, 0, PAST, 0, PAST], // new
+    [E, 20, FIELD, 20, E, 25, 0, PAST, 0, PAST], // read
+    [E, 10, FIELD, 20, E, 25, E, 10, 0, PAST], // write
+    [E, 11, BINDER, 31, E, 21, E, 11, 0, PAST], // let
+    [E, 5, 0, PAST, C, 25, E, 15, E, 5], // if
+    [E, 15, 0, PAST, C, 25, E, 15, 0, PAST], // while
+    [E, 20, PROCEDURE, 30, LIST, 20, 0, PAST, 0, PAST], // call
+    [E, 25, 0, PAST, E, 25, 0, PAST, 0, PAST], // fork
+    [E, 25, 0, PAST, E, 25, 0, PAST, 0, PAST], // join
+    [E, 15, 0, PAST, E, 25, E, 15, 0, PAST], // synch
+    [C, 35, 0, PAST, 0, PAST, 0, PAST, 0, PAST], // true
+    [C, 25, 0, PAST, C, 25, 0, PAST, 0, PAST], // not
+    [C, 15, 0, PAST, C, 25, C, 15, 0, PAST], // and
+    [C, 15, 0, PAST, E, 25, E, 15, 0, PAST], // equal
+    [LIST, 15, 0, PAST, E, 25, LIST, 15, 0, PAST], // list
+    [LIST, 35, 0, PAST, 0, PAST, 0, PAST, 0, PAST], // list end
+    [E, 25, 0, PAST, E, 25, 0, PAST, 0, PAST], // wait
+    [E, 25, 0, PAST, E, 25, 0, PAST, 0, PAST], // notify
+    [E, 25, 0, PAST, E, 25, 0, PAST, 0, PAST], // notify all
 ];
 
 // The rows, which are those of the table: one computed test of them all.

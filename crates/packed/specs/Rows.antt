@@ -39,13 +39,17 @@ otherAfter n list = []
 abbrev pub ofOperands : (ℕ → Operand → List ℕ) → Row → List ℕ
 ofOperands f r = f 0 (r .first) ++ f (width (r .first)) (r .second) ++ f (width (r .first) + width (r .second)) (r .third)
 
--- the row of a tag: the sort of its terms; the number of spare bits; the operand that is no term; the operands that are terms. Zeros where there is none
+-- what stands in a row for an operand that is not there: no sort or kind, and a place past all bits
+abbrev pub nothing : List ℕ
+nothing = 0 ∷ 63 ∷ []
+
+-- the row of a tag: the sort of its terms; the number of spare bits; the operand that is no term; the operands that are terms
 unfoldable pub rowNumbers : ℕ → Row → List ℕ
 unfolding tagSort
 rowNumbers k r =
     (tagSort k ∷ (35 - (width (r .first) + width (r .second) + width (r .third))) ∷ [])
-    ++ take 2 (ofOperands otherAfter r ++ (0 ∷ 0 ∷ []))
-    ++ take 6 (ofOperands termAfter r ++ (0 ∷ 0 ∷ 0 ∷ 0 ∷ 0 ∷ 0 ∷ []))
+    ++ take 2 (ofOperands otherAfter r ++ nothing)
+    ++ take 6 (ofOperands termAfter r ++ nothing ++ nothing ++ nothing)
 
 -- the rows of the tags from k on
 unfoldable pub rowsFrom : ℕ → List Row → List (List ℕ)

@@ -16,7 +16,7 @@ ghost use lib.ListN.{replicate};
 ghost use Rattle.format.specs.Lowest.{Lowest};
 ghost use Rattle.packed.specs.Format.{mask};
 ghost use Rattle.packed.specs.Refusals.{wrongOperand, breaksTable, wrongTerm};
-ghost use Rattle.packed.specs.Rows.{layoutRows, numberAt, childAt, wrongOther, wrongTerms};
+ghost use Rattle.packed.specs.Rows.{layoutRows, numberAt, bitsTo, childAt, wrongOther, wrongTerms};
 ghost use Rattle.packed.specs.Steps.{Headed, Loaded, outside, termIn};
 
 // A child index not above its parent's, or not below the count.
@@ -44,10 +44,14 @@ fn wrong_binder(slot: usize) -> bool
     slot > 7 && slot != 15
 }
 
-// The operand that is no term, by what it is; `bits` end with it.
-fn wrong_other(kind: u8, bits: usize, procedures: usize) -> bool
-    ensures { λ r. ⌜ r ≡ wrongOther procedures kind bits ⌝ }
+// The operand that is no term, by what it is and its place.
+fn wrong_other(kind: u8, word: usize, place: u8, procedures: usize) -> bool
+    ensures { λ r. ⌜ r ≡ wrongOther procedures kind (bitsTo place word) ⌝ }
 {
+    if kind == 0 {
+        return false;
+    }
+    let bits = rows::bits_to(word, place);
     match kind {
         rows::SLOT => bits % 16 > 7,
         rows::BINDER => wrong_binder(bits % 16),
@@ -108,8 +112,8 @@ fn wrong_term(rows: &Rows, word: usize, term: usize, procedures: usize, count: u
         return true;
     }
     let kind = rows::number(rows, tag, OTHER);
-    let bits = rows::bits_to(word, rows::number(rows, tag, OTHER + 1));
-    if wrong_other(kind, bits, procedures) {
+    let place = rows::number(rows, tag, OTHER + 1);
+    if wrong_other(kind, word, place, procedures) {
         return true;
     }
     if wrong_children(rows, tag, word, term, count) {

@@ -51,23 +51,20 @@ add-number c = search needs
 number-requires-2 : tie.Need-number-requires-2
 number-requires-2 c κs = search needs
 
-bits-to-requires : tie.Need-bits-to-requires
-bits-to-requires c κs = search needs
-
 wrong-other-requires : tie.Need-wrong-other-requires
 wrong-other-requires c κs = search needs
 
 -- what the row says of the operand that is no term
 other-is :
     (c : tie.After-wrong-other) →
-    c .wrong-other .result ≡ wrongOther (c .before .before .before .before .before .before .args .procedures) (numberAt (c .before .before .before .before .before .tag .result) 2) (bitsTo (numberAt (c .before .before .before .before .before .tag .result) 3) (c .before .before .before .before .before .before .args .word))
-other-is c = rw (c .before .bits-to .ensures, c .before .before .number2 .ensures, c .before .before .before .number .ensures) at (c .wrong-other .ensures)
+    c .wrong-other .result ≡ wrongOther (c .before .before .before .before .before .args .procedures) (numberAt (c .before .before .before .before .tag .result) 2) (bitsTo (numberAt (c .before .before .before .before .tag .result) 3) (c .before .before .before .before .before .args .word))
+other-is c = rw (c .before .number2 .ensures, c .before .before .number .ensures) at (c .wrong-other .ensures)
 
 returns-2 : tie.Need-returns-2
 returns-2 c =
-    let x = c .before .before .before .before .before .before in
+    let x = c .before .before .before .before .before in
     let a = x .before .args in
-    other-wrong (a .procedures) (a .count) (a .term) (a .word) (x .tag .result) (x .tag .ensures) (c .before .before .before .before .before .if1 .left) _ (other-is (c .before)) (c .if2 .taken)
+    other-wrong (a .procedures) (a .count) (a .term) (a .word) (x .tag .result) (x .tag .ensures) (c .before .before .before .before .if1 .left) _ (other-is (c .before)) (c .if2 .taken)
 
 wrong-children-requires : tie.Need-wrong-children-requires
 wrong-children-requires c κs = search needs
@@ -75,9 +72,9 @@ wrong-children-requires c κs = search needs
 returns-3 : tie.Need-returns-3
 returns-3 c =
     let o = c .before .before .before in
-    let x = o .before .before .before .before .before in
+    let x = o .before .before .before .before in
     let a = x .before .args in
-    child-wrong (a .procedures) (a .count) (a .term) (a .word) (x .tag .result) (x .tag .ensures) (o .before .before .before .before .if1 .left) _ (other-is o) _ (c .before .wrong-children .ensures) (c .before .before .if2 .left) (c .if3 .taken)
+    child-wrong (a .procedures) (a .count) (a .term) (a .word) (x .tag .result) (x .tag .ensures) (o .before .before .before .if1 .left) _ (other-is o) _ (c .before .wrong-children .ensures) (c .before .before .if2 .left) (c .if3 .taken)
 
 number-requires-3 : tie.Need-number-requires-3
 number-requires-3 c κs = search needs
@@ -88,9 +85,9 @@ bits-after-requires c κs = search needs
 returns-4 : tie.Need-returns-4
 returns-4 c =
     let o = c .before .before .before .before .before in
-    let x = o .before .before .before .before .before in
+    let x = o .before .before .before .before in
     let a = x .before .args in
-    by-spare (a .procedures) (a .count) (a .term) (a .word) (x .tag .result) (x .tag .ensures) (o .before .before .before .before .if1 .left) _ (other-is o) _ (c .before .before .before .wrong-children .ensures) (c .before .before .before .before .if2 .left) (c .before .before .if3 .left) _ (rw (c .before .number3 .ensures) at (c .bits-after .ensures))
+    by-spare (a .procedures) (a .count) (a .term) (a .word) (x .tag .result) (x .tag .ensures) (o .before .before .before .if1 .left) _ (other-is o) _ (c .before .before .before .wrong-children .ensures) (c .before .before .before .before .if2 .left) (c .before .before .if3 .left) _ (rw (c .before .number3 .ensures) at (c .bits-after .ensures))
 
 pub wrong-term-spec : {M : Type 1} → statement M
 wrong-term-spec =
@@ -101,7 +98,6 @@ wrong-term-spec =
     number-requires
     add-number
     number-requires-2
-    bits-to-requires
     wrong-other-requires
     returns-2
     wrong-children-requires
