@@ -2,7 +2,7 @@
 use byte_numbers::wide;
 ghost use mathlib.Core.Path.{_≡_};
 ghost use Prim.Native.Nat.{_<_};
-ghost use Rattle.packed.specs.Rows.{layoutRows, numberAt, bitsTo, bitsAfter, childAt};
+ghost use Rattle.packed.specs.Rows.{tagCount, layoutRows, numberAt, bitsTo, bitsAfter, childAt};
 
 // How many tags there are.
 pub const TAGS: usize = 21;
@@ -78,7 +78,7 @@ pub fn layouts() -> Rows
 // A number of a tag's row.
 pub fn number(rows: &Rows, tag: usize, column: usize) -> u8
     requires { ⌜ now rows ≡ layoutRows ⌝ }
-    requires { ⌜ (tag < 21) × (column < 10) ⌝ }
+    requires { ⌜ (tag < tagCount) × (column < 10) ⌝ }
     ensures { λ r. ⌜ r ≡ numberAt tag column ⌝ }
 {
     rows[tag][column]
@@ -94,7 +94,7 @@ pub fn bits_to(word: usize, place: u8) -> usize
 // The operand that is a term and has its place in this column of the row.
 pub fn child(rows: &Rows, tag: usize, column: usize, word: usize) -> usize
     requires { ⌜ now rows ≡ layoutRows ⌝ }
-    requires { ⌜ (tag < 21) × (column < 10) ⌝ }
+    requires { ⌜ (tag < tagCount) × (column < 10) ⌝ }
     ensures { λ r. ⌜ r ≡ childAt (numberAt tag column) word ⌝ }
 {
     bits_to(word, number(rows, tag, column)) % 1024

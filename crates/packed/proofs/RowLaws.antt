@@ -14,16 +14,16 @@ use Rattle.packed.specs.Operands.{tagOf, firstOf, fieldBits, writeSecond
 use Rattle.packed.specs.Trees.{nodes, nodeOf}
 use Rattle.packed.specs.Refusals.{someOperand, breaksTable}
 use Rattle.packed.specs.Steps.{Right, Loaded, inWord, termIn, tagIn, nodeIn, tagSort, Child, childOf, childrenOf, lowerAll, countAll, outside}
-use Rattle.packed.specs.Rows.{numberAt, childAt, wrongByRow, Tagged, childrenByRow}
+use Rattle.packed.specs.Rows.{tagCount, numberAt, childAt, wrongByRow, Tagged, childrenByRow}
 use Rattle.packed.proofs.Reading.{tag-in}
 use Rattle.packed.proofs.SingleTerm.{tested, rowOf, passes}
 use Rattle.packed.proofs.NameLaws.{named}
 
 -- the sort of a tag
-pub sort-is : (k : ℕ) → k < 21 → numberAt k 0 ≡ tagSort k
+pub sort-is : (k : ℕ) → k < tagCount → numberAt k 0 ≡ tagSort k
 unfolding numberAt tagSort
 sort-is =
-    by-range (λ k. numberAt k 0 ≡ tagSort k) 0 21 ((k : ℕ) → k < 21 → numberAt k 0 ≡ tagSort k) (λ all k h. all k (omega arith) (omega arith))
+    by-range (λ k. numberAt k 0 ≡ tagSort k) 0 tagCount ((k : ℕ) → k < tagCount → numberAt k 0 ≡ tagSort k) (λ all k h. all k (omega arith) (omega arith))
     refl refl refl refl refl refl refl refl refl refl refl refl refl refl refl refl refl refl refl refl refl
 
 -- the children of a term
@@ -31,10 +31,10 @@ module _ (w : ℕ) where
   abbrev Named : ℕ → Type 0
   Named k = childrenByRow w k ≡ childrenOf (rowOf k w)
 
-  pub children-are : (k : ℕ) → k < 21 → Named k
+  pub children-are : (k : ℕ) → k < tagCount → Named k
   unfolding childrenByRow childrenOf nodeOf inWord layout table nodes
   children-are =
-      by-range Named 0 21 ((k : ℕ) → k < 21 → Named k) (λ all k h. all k (omega arith) (omega arith))
+      by-range Named 0 tagCount ((k : ℕ) → k < tagCount → Named k) (λ all k h. all k (omega arith) (omega arith))
       refl refl refl refl refl refl refl refl refl refl refl refl refl refl refl refl refl refl refl refl refl
 
 -- a field stands after the first term, and is tested before it
@@ -52,10 +52,10 @@ module _ (procedures n t w : ℕ) where
   abbrev Tested : ℕ → Type 0
   Tested k = wrongByRow procedures n t w k ≡ breaksTable procedures n t (inWord w k (layout k))
 
-  tests-are : (k : ℕ) → k < 21 → Tested k
+  tests-are : (k : ℕ) → k < tagCount → Tested k
   unfolding wrongByRow breaksTable someOperand inWord layout table
   tests-are =
-      by-range Tested 0 21 ((k : ℕ) → k < 21 → Tested k) (λ all k h. all k (omega arith) (omega arith))
+      by-range Tested 0 tagCount ((k : ℕ) → k < tagCount → Tested k) (λ all k h. all k (omega arith) (omega arith))
       refl
       (simp or-false)
       (simp or-false)
@@ -78,7 +78,7 @@ module _ (procedures n t w : ℕ) where
       (simp or-false)
       (simp or-false)
 
-  pub by-row : (r : Bool) → tagOf w < 21 → r ≡ wrongByRow procedures n t w (tagOf w) → r ≡ breaksTable procedures n t (termIn w)
+  pub by-row : (r : Bool) → tagOf w < tagCount → r ≡ wrongByRow procedures n t w (tagOf w) → r ≡ breaksTable procedures n t (termIn w)
   by-row r h e = tested procedures n t w (tagOf w) r refl (e ∙ tests-are (tagOf w) h)
 
 -- ---- the children of a term of the array, as many as the row has
@@ -113,7 +113,7 @@ unfolding countAll
 count-more k ks c d e p q = q ∙ ap (countAll ks) p
 
 -- these children are the term's
-pub named-by-row : (ws : List ℕ) (t k best r : ℕ) (c c′ : List ℕ) (ks : List Child) → k ≡ tagOf (getD ws t 0) → k < 21 → childrenByRow (getD ws t 0) k ≡ ks
+pub named-by-row : (ws : List ℕ) (t k best r : ℕ) (c c′ : List ℕ) (ks : List Child) → k ≡ tagOf (getD ws t 0) → k < tagCount → childrenByRow (getD ws t 0) k ≡ ks
     → r ≡ lowerAll ws ks best → c′ ≡ countAll ks c
     → (r ≡ lowerAll ws (childrenOf (nodeIn ws t)) best) × (c′ ≡ countAll (childrenOf (nodeIn ws t)) c)
 named-by-row ws t k best r c c′ ks e h q p s =
@@ -126,6 +126,6 @@ pub tagged : (b : List ℕ) (procedures n : ℕ) (ws : List ℕ) → Right b pro
 unfolding tagIn termAt laidOut
 tagged b procedures n ws r l t = go (decLt t n)
   where
-    go : Dec (t < n) → tagIn ws t < 21
+    go : Dec (t < n) → tagIn ws t < tagCount
     go (yes h) = rw (l .each t h, ← tag-in b t) (omega (arith, passes b t (r .terms-right t h) .tag-small))
     go (no h) = rw (l .rest t (omega (arith, h))) (lit< tt)

@@ -11,6 +11,10 @@ use Rattle.packed.specs.Steps.{anExpression, aCondition, aList, tagSort,
 
 -- ---- the rows
 
+-- how many tags there are
+abbrev pub tagCount : ℕ
+tagCount = 21
+
 -- an operand that is a term, after n bits of operands: the number of its sort, and its place, how many bits stand to its right
 abbrev pub termAfter : ℕ → Operand → List ℕ
 termAfter n absent = []
@@ -108,7 +112,7 @@ wrongByRow procedureCount n t w k =
 
 -- every term of the array has a tag of the table
 abbrev pub Tagged : List ℕ → Type 0
-Tagged words = (t : ℕ) → tagIn words t < 21
+Tagged words = (t : ℕ) → tagIn words t < tagCount
 
 -- a child of these numbers, and those after it, where there are any
 abbrev pub childrenFrom : ℕ → ℕ → ℕ → List Child → List Child

@@ -16,7 +16,7 @@ ghost use lib.ListN.{replicate};
 ghost use Rattle.format.specs.Lowest.{Lowest};
 ghost use Rattle.packed.specs.Format.{mask};
 ghost use Rattle.packed.specs.Refusals.{wrongOperand, breaksTable, wrongTerm};
-ghost use Rattle.packed.specs.Rows.{layoutRows, numberAt, bitsTo, childAt, wrongOther, wrongTerms};
+ghost use Rattle.packed.specs.Rows.{tagCount, layoutRows, numberAt, bitsTo, childAt, wrongOther, wrongTerms};
 ghost use Rattle.packed.specs.Steps.{Headed, Loaded, outside, termIn};
 
 // A child index not above its parent's, or not below the count.
@@ -72,7 +72,7 @@ fn wrong_child(
     count: usize,
 ) -> bool
     requires { ⌜ now rows ≡ layoutRows ⌝ }
-    requires { ⌜ (tag < 21) × (column < 10) ⌝ }
+    requires { ⌜ (tag < tagCount) × (column < 10) ⌝ }
     ensures { λ r. ⌜ r ≡ outside count term (childAt (numberAt tag column) word) ⌝ }
 {
     outside(rows::child(rows, tag, column, word), term, count)
@@ -81,7 +81,7 @@ fn wrong_child(
 // The operands that are terms: where one is absent, so are those after it.
 fn wrong_children(rows: &Rows, tag: usize, word: usize, term: usize, count: usize) -> bool
     requires { ⌜ now rows ≡ layoutRows ⌝ }
-    requires { ⌜ tag < 21 ⌝ }
+    requires { ⌜ tag < tagCount ⌝ }
     ensures { λ r. ⌜ r ≡ wrongTerms count term word tag ⌝ }
 {
     if rows::number(rows, tag, FIRST) == 0 {

@@ -4,15 +4,16 @@ use Prim.Native.Nat.{ℕ, _<_}
 use native.Mathlib.Omega.{arith}
 use borrow.Author.Needs.{needs}
 use lib.ListN.{getD}
+use Rattle.packed.specs.Rows.{tagCount}
 use Rattle.packed.specs.Steps.{tagIn, lowerAll, countAll}
 use Rattle.packed.proofs.RowLaws.{no-child, one-child, two-children, three-children, lower-more, count-more, named-by-row}
 use Rattle.naming.proofs.name_children.Statement.{statement}
 use Rattle.naming.proofs.name_children.Tie as tie
 
 -- the tag is one of the table
-small : (c : tie.After-tag) → c .tag .result < 21
+small : (c : tie.After-tag) → c .tag .result < tagCount
 unfolding tagIn
-small c = let s = c .before .before in subst (λ (k : ℕ). k < 21) (sym (c .tag .ensures)) (s .pre .1 .1 (s .args .term))
+small c = let s = c .before .before in subst (λ (k : ℕ). k < tagCount) (sym (c .tag .ensures)) (s .pre .1 .1 (s .args .term))
 
 mul-word : tie.Need-mul-word
 mul-word c = search needs

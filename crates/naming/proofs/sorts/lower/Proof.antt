@@ -4,14 +4,14 @@ use mathlib.Core.Bool.{Bool, true, false, _&&_, not, cond}
 use Prim.Native.Nat.{ℕ, _<_}
 use lib.Dec.{eqb, ltb}
 use borrow.Author.Needs.{needs}
-use Rattle.packed.specs.Rows.{numberAt}
+use Rattle.packed.specs.Rows.{tagCount, numberAt}
 use Rattle.packed.specs.Steps.{wrongSort, tagIn, lowerIf}
 use Rattle.packed.proofs.RowLaws.{sort-is}
 use Rattle.naming.proofs.sorts.lower.Statement.{statement}
 use Rattle.naming.proofs.sorts.lower.Tie as tie
 
 -- the choice, by the sort in the row of the tag
-chosen : (own sort k index best : ℕ) (x : Bool) → k < 21 → own ≡ numberAt k 0 → (not (eqb own sort) && ltb index best) ≡ x
+chosen : (own sort k index best : ℕ) (x : Bool) → k < tagCount → own ≡ numberAt k 0 → (not (eqb own sort) && ltb index best) ≡ x
     → cond x index best ≡ lowerIf (wrongSort sort k) index best
 unfolding wrongSort
 chosen own sort k index best x h e q =
@@ -27,9 +27,9 @@ tag-requires : tie.Need-tag-requires
 tag-requires c κs = search needs
 
 -- the tag is one of the table
-small : (c : tie.After-tag) → c .tag .result < 21
+small : (c : tie.After-tag) → c .tag .result < tagCount
 unfolding tagIn
-small c = let s = c .before .before in subst (λ (k : ℕ). k < 21) (sym (c .tag .ensures)) (s .pre .1 .1 (s .args .index))
+small c = let s = c .before .before in subst (λ (k : ℕ). k < tagCount) (sym (c .tag .ensures)) (s .pre .1 .1 (s .args .index))
 
 number-requires : tie.Need-number-requires
 number-requires c κs = (c .before .before .pre .1 .0, (small c, search needs))

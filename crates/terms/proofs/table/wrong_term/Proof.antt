@@ -6,16 +6,16 @@ use borrow.Author.Needs.{needs}
 use lib.Dec.{eqb}
 use Rattle.packed.specs.Operands.{tagOf}
 use Rattle.packed.specs.Refusals.{breaksTable}
-use Rattle.packed.specs.Rows.{numberAt, bitsTo, bitsAfter, wrongOther, wrongTerms, wrongByRow}
+use Rattle.packed.specs.Rows.{tagCount, numberAt, bitsTo, bitsAfter, wrongOther, wrongTerms, wrongByRow}
 use Rattle.packed.specs.Steps.{termIn}
 use Rattle.packed.proofs.RowLaws.{by-row}
 use Rattle.packed.proofs.SingleTerm.{past-table}
 use Rattle.terms.proofs.table.wrong_term.Statement.{statement}
 use Rattle.terms.proofs.table.wrong_term.Tie as tie
 
-module _ (procedures n t w k : ℕ) (e : k ≡ tagOf w) (h : k < 21) where
+module _ (procedures n t w k : ℕ) (e : k ≡ tagOf w) (h : k < tagCount) where
   of-row : (r : Bool) → r ≡ wrongByRow procedures n t w k → r ≡ breaksTable procedures n t (termIn w)
-  of-row r q = by-row procedures n t w r (subst (λ (j : ℕ). j < 21) e h) (q ∙ ap (wrongByRow procedures n t w) e)
+  of-row r q = by-row procedures n t w r (subst (λ (j : ℕ). j < tagCount) e h) (q ∙ ap (wrongByRow procedures n t w) e)
 
   -- the operand that is no term
   module _ (x : Bool) (other : x ≡ wrongOther procedures (numberAt k 2) (bitsTo (numberAt k 3) w)) where
