@@ -1,7 +1,7 @@
 -- `wrong_term`: the tests by the row of the tag, one after the other.
 use mathlib.Core.Path.{_≡_, sym, subst, ap, _∙_}
 use mathlib.Core.Bool.{Bool, true, false, not}
-use Prim.Native.Nat.{ℕ, _<_}
+use Prim.Native.Nat.{ℕ, _≤_, _<_}
 use borrow.Author.Needs.{needs}
 use lib.Dec.{eqb}
 use Rattle.packed.specs.Operands.{tagOf}
@@ -40,7 +40,7 @@ tag-requires c κs = search needs
 returns : tie.Need-returns
 returns c =
     let a = c .before .before .args in
-    past-table (a .procedures) (a .count) (a .term) (a .word) (subst (λ (k : ℕ). 20 < k) (c .before .tag .ensures) (c .if1 .taken))
+    past-table (a .procedures) (a .count) (a .term) (a .word) (subst (λ (k : ℕ). tagCount ≤ k) (c .before .tag .ensures) (c .if1 .taken))
 
 number-requires : tie.Need-number-requires
 number-requires c κs = search needs
