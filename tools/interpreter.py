@@ -7,7 +7,7 @@ import sys
 
 import header
 
-LANDED = "E2,E3,E6,E7,E8"  # document 02's requests that the product has
+LANDED = "E2,E3,E4,E6,E7,E8,E9"  # document 02's requests that the product has
 FILL = 0xA5  # what every lent area is filled with before a play
 NUMBERS = header.numbers()
 OUT = NUMBERS["OUT_BYTES"]
