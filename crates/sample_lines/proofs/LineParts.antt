@@ -1,15 +1,17 @@
 -- A line of a data file: the parts that it is put together from, and how long it is. Assumes nothing.
-use Prim.Native.Nat.{ℕ, zero, suc, _+_, _-_, _*_, _≤_}
+use Prim.Native.Nat.{ℕ, zero, suc, _+_, _-_, _*_, _≤_, _<_}
 use native.Mathlib.Nat.{add-zero, zero-add}
 use native.Mathlib.Omega.{arith}
 use mathlib.Core.Path.{_≡_, refl, sym, ap, ap₂, _∙_}
 use mathlib.Core.List.{List, [], _∷_, _++_, append-nil, append-assoc}
 use lib.ListN.{length, length-append, take}
-use Rattle.records.specs.Record.{Record}
+use mathlib.Core.Option.{Option, some, none}
+use Rattle.records.specs.Record.{Kind, new, read, write, readv, writev, acquire, release, fork, join, lacksRead, lacksWrite, Record}
 use Rattle.text.specs.Text.{decimal}
 use Rattle.text.proofs.Decimals.{decimal-digit}
-use Rattle.sample_lines.specs.DataFile.{digital, commaLine, digitalsFrom, sampleLine}
+use Rattle.sample_lines.specs.DataFile.{oneIfAcquire, lastOf, digital, commaLine, digitalsFrom, sampleLine}
 use Rattle.sample_lines.specs.Shown.{bitOf, Shown, shownTo, lineOf}
+use Rattle.sample_lines.proofs.Digits.{one-length}
 use Rattle.sample_lines.proofs.ShownBits.{bit-below}
 
 -- ---- as the code writes it
@@ -54,6 +56,47 @@ digitals-more o zero L = ap (λ (k : ℕ). decimal (digital k L) ∷ []) (sym (a
 digitals-more o (suc n) L =
     ap (λ (ws : List (List ℕ)). decimal (digital o L) ∷ ws)
     (digitals-more (suc o) n L ∙ ap (λ (k : ℕ). digitalsFrom (suc o) n L ++ (decimal (digital k L) ∷ [])) (let e : suc o + n ≡ o + suc n = omega arith in e))
+
+-- a digital value is 0 or 1
+digital-below : (o : ℕ) (L : List Record) → digital o L < 2
+unfolding digital
+digital-below o L = go (lastOf o L)
+  where
+    go : (k : Option Kind) → oneIfAcquire k < 2
+    go none = omega arith
+    go (some new) = omega arith
+    go (some read) = omega arith
+    go (some write) = omega arith
+    go (some readv) = omega arith
+    go (some writev) = omega arith
+    go (some acquire) = omega arith
+    go (some release) = omega arith
+    go (some fork) = omega arith
+    go (some join) = omega arith
+    go (some lacksRead) = omega arith
+    go (some lacksWrite) = omega arith
+
+digitals-length : (o n : ℕ) (L : List Record) → length (behind (digitalsFrom o n L)) ≡ 2 * n
+unfolding digitalsFrom behind
+digitals-length o zero L = refl
+digitals-length o (suc n) L =
+    let l = digital-below o L in
+    omega (arith, digitals-length (suc o) n L, one-length (digital o L) (omega arith), length-append (44 ∷ decimal (digital o L)) (behind (digitalsFrom (suc o) n L)))
+
+comma-length : (w v : List ℕ) (ws : List (List ℕ)) → length (commaLine (w ∷ v ∷ ws)) ≡ length w + length v + length (behind ws) + 3
+unfolding behind
+comma-length w v ws =
+    omega (
+      arith,
+      ap length (comma-parts w (v ∷ ws)),
+      length-append w (((44 ∷ v) ++ behind ws) ++ (13 ∷ 10 ∷ [])),
+      length-append ((44 ∷ v) ++ behind ws) (13 ∷ 10 ∷ []),
+      length-append (44 ∷ v) (behind ws),
+    )
+
+pub sample-length : (L : List Record) (n : ℕ) → length (sampleLine L n) ≡ length (decimal n) + length (decimal ((n - 1) * 1000)) + 67
+unfolding sampleLine
+sample-length L n = omega (arith, comma-length (decimal n) (decimal ((n - 1) * 1000)) (digitalsFrom 0 32 (take n L)), digitals-length 0 32 (take n L))
 
 module _ (b : ℕ) (L : List Record) (S : Shown b L) where
   digit-is : (o : ℕ) → suc o ≤ 32 → decimal (digital o L) ≡ (48 + bitOf b o) ∷ []

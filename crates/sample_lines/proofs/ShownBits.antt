@@ -11,9 +11,9 @@ use lib.Bits.{bitOr, bitXor, differ, or-shr, or-step, xor-shr, xor-step}
 use lib.Dec.{eqb}
 use borrow.Author.Tests.{eq-eqb, ne-eqb, eqb-true, eqb-false}
 use Rattle.keys.specs.Keys.{holds}
-use Rattle.keys.proofs.KeyLaws.{holds-singleton}
+use Rattle.keys.proofs.KeyLaws.{holds-empty, holds-singleton}
 use Rattle.records.specs.Record.{acquire, release, Record}
-use Rattle.sample_lines.specs.DataFile.{ofMonitor, digital}
+use Rattle.sample_lines.specs.DataFile.{ofMonitor, lastOf, digital}
 use Rattle.sample_lines.specs.Shown.{bitOf, Shown}
 use Rattle.sample_lines.proofs.Digital.{taken-one, freed-zero, other-object, other-kind}
 
@@ -88,3 +88,14 @@ module _ (b : ℕ) (L : List Record) (r : Record) (S : Shown b L) where
 
   pub shown-other : ofMonitor (r .kind) ≡ false → Shown b (L ++ (r ∷ []))
   shown-other e = record { bits = λ k h. S .bits k h ∙ sym (other-kind k L r e) }
+
+-- before the first record
+pub shown-none : Shown 0 []
+unfolding digital lastOf holds
+shown-none = record { bits = λ k h. zero-bit k }
+  where
+    zero-bit : (k : ℕ) → bitOf 0 k ≡ digital k []
+    zero-bit k =
+        let n = eqb-false (bitOf 0 k) 1 (holds-empty k) in
+        let l = bit-below 0 k in
+        omega (arith, n)
