@@ -21,12 +21,12 @@ use Rattle.sample_lines.specs.DataFile.{sampleLines, dataFile}
 use Rattle.waveform.specs.Comtrade.{fileOf, shortOutput, comtradeChecks, comtradeRefusal, comtradeAnswer, areaBy, comtradeArea}
 
 module _ (log area : List ℕ) where
-  abbrev last : Bool → Option Refusal
+  abbrev pub last : Bool → Option Refusal
   last short = firstRefusal (checkWhole 24 short ∷ [])
 
   -- ---- the refusal
 
-  stages : comtradeRefusal log area ≡ orElse (logRefusal log) (last (shortOutput log area))
+  pub stages : comtradeRefusal log area ≡ orElse (logRefusal log) (last (shortOutput log area))
   unfolding comtradeRefusal comtradeChecks logRefusal
   stages = refusal-append (logChecks log) (checkWhole 24 (shortOutput log area) ∷ [])
 
