@@ -2,14 +2,14 @@
 use Prim.Native.Nat.{ℕ, _+_, _<_, _≤_}
 use native.Mathlib.Omega.{arith}
 use mathlib.Core.Path.{_≡_, refl, sym, ap, _∙_}
-use mathlib.Core.Bool.{Bool}
+use mathlib.Core.Bool.{Bool, true, false, true≢false}
 use mathlib.Core.List.{List, [], _∷_, _++_}
 use mathlib.Core.Option.{Option, some, none}
 use lib.ListN.{length, length-append, drop}
-use borrow.Author.Tests.{lt-ltb, le-ltb}
+use borrow.Author.Tests.{lt-ltb, le-ltb, ltb-false}
 use Rattle.format.specs.Refusal.{Refusal, checkWhole, firstRefusal, orElse, refuse, lowest}
 use Rattle.format.specs.Area.{overwrite}
-use Rattle.format.proofs.RefusalLaws.{refusal-append}
+use Rattle.format.proofs.RefusalLaws.{both-none, refusal-append}
 use Rattle.records.specs.Record.{Record}
 use Rattle.records.specs.Packed.{recordCount, logOf}
 use Rattle.records.specs.Refusals.{logChecks, logRefusal}
@@ -62,6 +62,24 @@ module _ (log area : List ℕ) where
         ap value long ∙ sym (ap (λ (o : Option Refusal). answerBy o (length (fileOf log))) e),
         added-whole w ∙ ap (λ (k : ℕ). fileOf log ++ drop k area) long ∙ sym (ap (areaBy log area) e),
       )
+
+  -- ---- what a length that is answered says
+
+  long-enough : (short : Bool) → shortOutput log area ≡ short → last short ≡ none → length (fileOf log) ≤ length area
+  unfolding shortOutput firstRefusal refuse lowest orElse
+  long-enough true e h = absurd (true≢false cc)
+  long-enough false e h = ltb-false (length area) (length (fileOf log)) e
+
+  pub value-means : {n : ℕ} → value n ≡ comtradeAnswer log area → (logRefusal log ≡ none) × (n ≤ length area)
+  unfolding comtradeAnswer answerBy
+  value-means {n} e = go (comtradeRefusal log area) refl e
+    where
+      go : (o : Option Refusal) → comtradeRefusal log area ≡ o → value n ≡ answerBy o (length (fileOf log)) → (logRefusal log ≡ none) × (n ≤ length area)
+      go (some r) q v = absurd (true≢false cc)
+      go none q v =
+          let both = both-none (logRefusal log) (last (shortOutput log area)) (sym stages ∙ q) in
+          let long : n ≡ length (fileOf log) = cc in
+          (both .0, omega (arith, long-enough (shortOutput log area) refl (both .1)))
 
 -- the lines and the end mark
 pub whole-file : (log : List ℕ) → sampleLines (logOf log) (recordCount log) ++ (0x1A ∷ []) ≡ fileOf log
