@@ -66,5 +66,5 @@ pub extern "C" fn ruqzhemil_comtrade(log: &[u8], area: &mut [u8]) -> u64
 pub extern "C" fn ruqzhemil_version() -> u64
     ensures { λ r. ⌜ r ≡ version ⌝ }
 {
-    65536
+    65792
 }
