@@ -269,6 +269,30 @@ LOGS = [
 ]
 
 
+# a log, the length of an area, and what is right: the refusal, or the length of the data file
+ACQUIRE, RELEASE, ACQUIRE_LAST = bytes.fromhex("600000"), bytes.fromhex("700000"), bytes.fromhex("61f000")  # of objects 0, 0 and 31
+FILES = [
+    (b"", 1, 1),
+    (b"", 0, [24, 0]),
+    (NEW, 70, 70),
+    (NEW, 69, [24, 0]),
+    (NEW[:1], 0, [11, 0]),
+    (bytes(3), 0, [12, 0]),
+    (ACQUIRE + RELEASE, 200, 142),
+    (RELEASE + ACQUIRE + ACQUIRE_LAST, 300, 214),
+    (ACQUIRE + ACQUIRE + RELEASE, 214, 214),
+    (NEW * 9, 646, 646),
+    (NEW * 9, 645, [24, 0]),
+    (NEW * 10, 719, 719),
+    (NEW * 11, 793, 793),
+    (NEW * 100, 7380, 7380),
+    (NEW * 101, 7456, 7456),
+    (NEW * 101, 7455, [24, 0]),
+    (NEW * LOG_RECORDS, 317268, [24, 0]),
+    (NEW * (LOG_RECORDS + 1), 317269, [11, 0]),
+]
+
+
 # ---- the longest input of which the printing program needs every byte
 
 def longest_input():

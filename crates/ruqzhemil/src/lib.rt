@@ -1,9 +1,10 @@
-// The entries for programs in C, Rust and other languages: check, play and judge, each with a number for its answer. A slice is a pointer and a length.
+// The entries for programs in C, Rust and other languages, each with a number for its answer. A slice is a pointer and a length.
 // The upper half of a number is 0 for an answer, 1 for the entry's other answer, 2 for a refusal, with number * 65536 + place in the lower half.
 ghost use mathlib.Core.Path.{_≡_};
 ghost use Rattle.packed.specs.Check.{refusal};
 ghost use Rattle.rules.specs.Play.{played, areaAfter};
-ghost use Rattle.numbers.specs.Numbers.{checkNumber, playNumber, JudgeReturns};
+ghost use Rattle.numbers.specs.Numbers.{checkNumber, playNumber, answerNumber, JudgeReturns};
+ghost use Rattle.waveform.specs.Comtrade.{comtradeAnswer, comtradeArea};
 ghost use Rattle.ruqzhemil.specs.Bytes.{outAfter};
 ghost use Rattle.ruqzhemil.specs.Version.{version};
 use refusals::Checked;
@@ -48,6 +49,16 @@ pub extern "C" fn ruqzhemil_judge(version: u64, log: &[u8]) -> u64
 {
     let judgement = judge::judge(version as usize, log);
     numbers::of_judge(judgement)
+}
+
+// The length in bytes of the log's COMTRADE data file, which begins the area; the area's other bytes, and all of them after a refusal, are as they were.
+#[no_mangle]
+pub extern "C" fn ruqzhemil_comtrade(log: &[u8], area: &mut [u8]) -> u64
+    ensures answer { λ r. ⌜ r ≡ answerNumber (comtradeAnswer (now (log .entry)) (now (area .entry))) ⌝ }
+    ensures area { λ r. ⌜ now (area .exit) ≡ comtradeArea (now (log .entry)) (now (area .entry)) ⌝ }
+{
+    let answered = waveform::comtrade(log, area);
+    numbers::of_answer(answered)
 }
 
 // The version of these entries.

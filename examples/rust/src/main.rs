@@ -1,5 +1,5 @@
 //! Plan P of document 01's shot list: a field written by one thread and read by another, with nothing between them. It is checked and played, and the
-//! judge gets the run's records.
+//! judge gets the run's records. The log of two monitors is written as a data file for a viewer.
 
 use ruqzhemil::ThreadState;
 
@@ -39,6 +39,20 @@ fn play(schedule: &[u8]) -> Result<(), ruqzhemil::Refusal> {
     Ok(())
 }
 
+/// acquire and release of object 1, by thread 0
+const MONITORS: [u8; 6] = [0x60, 0x10, 0x00, 0x70, 0x10, 0x00];
+
+fn comtrade(size: usize) {
+    let mut area = vec![0; size];
+    match ruqzhemil::comtrade(&MONITORS, &mut area) {
+        Ok(length) => {
+            println!("data file in {size} bytes: {length} bytes, end mark {:02x}", area[length - 1]);
+            print!("{}", String::from_utf8_lossy(&area[..length - 1]).replace('\r', ""));
+        }
+        Err(refusal) => println!("data file in {size} bytes: {refusal}"),
+    }
+}
+
 fn main() {
     assert_eq!(ruqzhemil::version(), ruqzhemil::VERSION, "the archive is of another version than its package");
     check("P", &PLAN);
@@ -49,4 +63,6 @@ fn main() {
             println!("{refusal}");
         }
     }
+    comtrade(142);
+    comtrade(141);
 }
