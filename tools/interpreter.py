@@ -7,7 +7,7 @@ import sys
 
 import header
 
-LANDED = "E2,E3,E4,E6,E7,E8,E9,E14"  # document 02's requests that the product has
+LANDED = "E2,E3,E4,E6,E7,E8,E9,E13,E14"  # document 02's requests that the product has
 FILL = 0xA5  # what every lent area is filled with before a play
 NUMBERS = header.numbers()
 OUT = NUMBERS["OUT_BYTES"]
@@ -69,6 +69,11 @@ def judged(want):
     if "refused" in want:
         return refused(*want["refused"])
     return other(want["unordered"][0]) if want["unordered"] else value(0)
+
+
+def charged(want):
+    """What charge returns for a plan, a schedule and an option."""
+    return refused(*want["refused"]) if "refused" in want else value(want["cents"])
 
 
 def filed(want):

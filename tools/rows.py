@@ -251,6 +251,10 @@ EDGES = [
     (handed_on(0), HANDED_PICKS, ("race", 16, 10, 6), ()),
 ]
 
+# document 02's figures: a plan, picks that make 0, 100 and 101 moves, and its cents without the option and with it
+ROUND = plan(node(7, TRUE, NULL))
+CHARGES = [(ROUND, [], (1200, 1380)), (ROUND, [0] * 100, (1235, 1421)), (ROUND, [0] * 101, (1270, 1461))]
+
 # a log, the version that the judge is told, and what is right: the refusal, or the index that is named, or none
 NEW = bytes.fromhex("100000")
 HANDED_LOG = bytes.fromhex("101000" "802080" "301080" "501100" "421100" "221080")  # new, fork, write, volatile write, volatile read, read

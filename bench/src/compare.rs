@@ -14,6 +14,7 @@ struct Seen {
     learnt: [usize; 2],
     judged: [usize; 2],
     files: usize,
+    charges: [usize; 2],
 }
 
 impl Seen {
@@ -40,9 +41,9 @@ impl Seen {
         println!("  runs end, race, no-thread, no-object, no-key, no-depth {:?}", self.stops);
         println!("  threads absent, finished, ready, monitor, join, no field, no thread, lacking, notify, monitor not held {:?}", self.states);
         println!("  threads that learnt no key from another, some {:?}", self.learnt);
-        println!("  logs ordered, unordered {:?}; data files {}", self.judged, self.files);
+        println!("  logs ordered, unordered {:?}; data files {}; runs free, charged {:?}", self.judged, self.files, self.charges);
         let counts =
-            first.iter().chain(&later).chain(&self.stops).chain(&self.states).chain(&self.learnt).chain(&self.judged).chain([&self.passed, &self.files]);
+            first.iter().chain(&later).chain(&self.stops).chain(&self.states).chain(&self.learnt).chain(&self.judged).chain(&self.charges).chain([&self.passed, &self.files]);
         assert!( counts.min() > Some(&0), "an answer that no case had: more cases are needed");
     }
 }
@@ -89,6 +90,14 @@ fn play(plan: &[u8], schedule: &[u8], area: &[u8], before: [u8; OUT_BYTES], seen
 
 fn judge(version: u64, log: &[u8], seen: &mut Seen) {
     seen.judgement(same("judge", &[&version.to_be_bytes(), log], library::judge(version, log), answers::judge(version, log)));
+}
+
+fn charge(plan: &[u8], schedule: &[u8], option: u64, seen: &mut Seen) {
+    let input = [plan, schedule, &option.to_be_bytes()[..]];
+    let answer = same("charge", &input, library::charge(plan, schedule, option), answers::charge(plan, schedule, option));
+    if answer >> 32 != 2 {
+        seen.charges[usize::from(answer > 0)] += 1;
+    }
 }
 
 /// The answer and the whole area.
@@ -140,6 +149,7 @@ pub fn run(cases: usize, seed: u64) {
         let plan = plan(random);
         check(&plan, &mut seen);
         let schedule = generate::schedule(random);
+        charge(&plan, &schedule, random.pick(&[0, 1, 1 << 63]), &mut seen);
         let area = generate::area(random, schedule.len());
         let mut before = [0; OUT_BYTES];
         before.fill_with(|| random.byte());

@@ -85,6 +85,16 @@ static void comtrade(size_t size) {
     }
 }
 
+static void charge(const uint8_t *schedule, size_t picks, uint64_t option) {
+    uint64_t answer = ruqzhemil_charge(plan, sizeof plan, schedule, picks, option);
+    printf("%s the option: ", option ? "with" : "without");
+    if (RUQZHEMIL_REFUSED(answer)) {
+        refused(answer);
+        return;
+    }
+    printf("%u cents\n", (unsigned)RUQZHEMIL_VALUE(answer));
+}
+
 int main(void) {
     static const uint8_t race[] = {0, 0, 0, 0, 0, 1, 0}, none[] = {0, 0, 0, 0, 0, 0, 1}, wrong[] = {0, 8};
     if (ruqzhemil_version() != RUQZHEMIL_VERSION) {
@@ -98,6 +108,9 @@ int main(void) {
     play(none, sizeof none);
     play(NULL, 0);
     play(wrong, sizeof wrong);
+    charge(race, sizeof race, 0);
+    charge(race, sizeof race, 1);
+    charge(wrong, sizeof wrong, 1);
     comtrade(142);
     comtrade(141);
     return 0;

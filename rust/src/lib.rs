@@ -1,6 +1,6 @@
 //! Ruqzhemil: a verified checker of plans for relay test sets.
 //!
-//! [`check`] a plan, [`play`] a schedule on it, [`judge`] a log, and write it as a [`comtrade`] data file. Each takes any bytes; `include/ruqzhemil.h` says what the answers mean, and the proofs of the
+//! [`check`] a plan, [`play`] a schedule on it, [`judge`] a log, write it as a [`comtrade`] data file, and [`charge`] for a run. Each takes any bytes; `include/ruqzhemil.h` says what the answers mean, and the proofs of the
 //! static library below show that they are right. Later versions may have more refusals, kinds, stops and states than are named here: `Other` has their number.
 
 #[path = "../../include/ruqzhemil.rs"]
@@ -81,6 +81,13 @@ pub fn judge(version: u64, log: &[u8]) -> Result<Option<usize>, Refusal> {
     answer(raw::judge(version, log)).map(|said| match said {
         Answer::Value(_) => None,
         Answer::Other(index) => Some(index as usize),
+    })
+}
+
+/// What a run of the schedule on the plan is charged, in cents, with the one-millisecond option or without; 0 for a run that stops for room.
+pub fn charge(plan: &[u8], schedule: &[u8], option: bool) -> Result<usize, Refusal> {
+    answer(raw::charge(plan, schedule, u64::from(option))).map(|said| match said {
+        Answer::Value(cents) | Answer::Other(cents) => cents as usize,
     })
 }
 

@@ -105,3 +105,13 @@ fn data_files_by_hand() {
     let most = [0x10, 0, 0].repeat(MOST_LOG_BYTES / RECORD_BYTES);
     assert_eq!(comtrade(&most, &mut vec![0; MOST_FILE_BYTES]), Ok(MOST_FILE_BYTES));
 }
+
+#[test]
+fn charges_by_hand() {
+    let round = [0x10, 0x40, 0x0c, 0x00, 0x80, 0, 0, 0, 0, 0, 0x38, 0x02, 0x01, 0, 0, 0x60, 0, 0, 0, 0, 0, 0, 0, 0, 0];
+    for (moves, plain, with_option) in [(0, 1200, 1380), (100, 1235, 1421), (101, 1270, 1461)] {
+        assert_eq!(charge(&round, &vec![0; moves], false), Ok(plain));
+        assert_eq!(charge(&round, &vec![0; moves], true), Ok(with_option));
+    }
+    assert_eq!(charge(&round, &[8], true), Err(Refusal { number: 9, place: 0 }));
+}

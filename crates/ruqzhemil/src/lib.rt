@@ -4,6 +4,9 @@ ghost use mathlib.Core.Path.{_≡_};
 ghost use Rattle.packed.specs.Check.{refusal};
 ghost use Rattle.rules.specs.Play.{played, areaAfter};
 ghost use Rattle.numbers.specs.Numbers.{checkNumber, playNumber, answerNumber, JudgeReturns};
+ghost use mathlib.Core.Bool.{not};
+ghost use lib.Dec.{eqb};
+ghost use Rattle.charge.specs.Charge.{charged};
 ghost use Rattle.waveform.specs.Comtrade.{comtradeAnswer, comtradeArea};
 ghost use Rattle.ruqzhemil.specs.Bytes.{outAfter};
 ghost use Rattle.ruqzhemil.specs.Version.{version};
@@ -58,6 +61,15 @@ pub extern "C" fn ruqzhemil_comtrade(log: &[u8], area: &mut [u8]) -> u64
     ensures area { λ r. ⌜ now (area .exit) ≡ comtradeArea (now (log .entry)) (now (area .entry)) ⌝ }
 {
     let answered = waveform::comtrade(log, area);
+    numbers::of_answer(answered)
+}
+
+// What a run of the schedule on the plan is charged, in cents; an option of 0 is without, any other with.
+#[no_mangle]
+pub extern "C" fn ruqzhemil_charge(plan: &[u8], schedule: &[u8], option: u64) -> u64
+    ensures { λ r. ⌜ r ≡ answerNumber (charged (now (plan .entry)) (now (schedule .entry)) (not (eqb option 0))) ⌝ }
+{
+    let answered = charge::charge(plan, schedule, option != 0);
     numbers::of_answer(answered)
 }
 

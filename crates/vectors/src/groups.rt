@@ -9,6 +9,7 @@ pub enum Group {
     Both,
     Log,
     File,
+    Charge,
 }
 
 // What the next case of a file is.
@@ -32,6 +33,7 @@ fn right(group: Group, case: &[u8]) -> bool {
         Group::Both => stored_cases::both_case(case),
         Group::Log => stored_cases::log_case(case),
         Group::File => stored_cases::file_case(case),
+        Group::Charge => stored_cases::charge_case(case),
     }
 }
 

@@ -75,6 +75,10 @@ fn files(all: Tally) -> Tally {
     group(b"data files: ", b"files", Group::File, all)
 }
 
+fn charges(all: Tally) -> Tally {
+    group(b"charges: ", b"charges", Group::Charge, all)
+}
+
 // Cases with one part of their answer changed, so that each must differ.
 fn changed() -> Tally {
     let all = groups::tally_of(b"changed_version", Group::Version);
@@ -89,11 +93,12 @@ fn changed() -> Tally {
         all,
     );
     let all = group(b"changed logs, judged: ", b"changed_logs", Group::Log, all);
-    group(b"changed data files: ", b"changed_files", Group::File, all)
+    let all = group(b"changed data files: ", b"changed_files", Group::File, all);
+    group(b"changed charges: ", b"changed_charges", Group::Charge, all)
 }
 
 fn main() {
-    let all = files(others(runs(edges(shot_list(version())))));
+    let all = charges(files(others(runs(edges(shot_list(version()))))));
     print(b"", all);
     let all = changed();
     print(b"must differ: ", all);

@@ -53,6 +53,14 @@ fn comtrade(size: usize) {
     }
 }
 
+fn charge(schedule: &[u8], option: bool) {
+    let word = if option { "with" } else { "without" };
+    match ruqzhemil::charge(&PLAN, schedule, option) {
+        Ok(cents) => println!("{word} the option: {cents} cents"),
+        Err(refusal) => println!("{word} the option: {refusal}"),
+    }
+}
+
 fn main() {
     assert_eq!(ruqzhemil::version(), ruqzhemil::VERSION, "the archive is of another version than its package");
     check("P", &PLAN);
@@ -63,6 +71,9 @@ fn main() {
             println!("{refusal}");
         }
     }
+    charge(&[0, 0, 0, 0, 0, 1, 0], false);
+    charge(&[0, 0, 0, 0, 0, 1, 0], true);
+    charge(&[0, 8], true);
     comtrade(142);
     comtrade(141);
 }
