@@ -12,7 +12,7 @@ use Rattle.keys.specs.Keys.{Keys, empty, singleton, union, holds, isEmpty}
 use Rattle.keys.proofs.KeyLaws.{holds-union, union-empty, holds-singleton, singleton-injective, some-key, no-key}
 use Rattle.packed.specs.Syntax.{Expression, Program}
 use Rattle.rules.specs.Context.{plug, plugᶜ}
-use Rattle.rules.specs.State.{Cell, cell, Thread, State, fresh, freshObject, lookup, monitor, store, storeMonitor, addObject, learn, hear, become, addThread, useKey, threadOf, Numbered}
+use Rattle.rules.specs.State.{Cell, cell, Thread, State, fresh, freshObject, lookup, monitor, store, storeMonitor, addObject, gain, become, addThread, useKey, threadOf, Numbered}
 use Rattle.records.specs.Record.{Kind, Record, entry}
 use Rattle.format.specs.Version.{Version, v0, v1}
 use Rattle.order.proofs.Ports.{ofThread}
@@ -24,7 +24,7 @@ use Rattle.rules.specs.Rules.{Rule, isVolatile, passedOn, Converts, E-CA
 use Rattle.rules.specs.Run.{logged}
 use Rattle.rules.proofs.StateLaws.{inside, added-old, found-thread, new-monitors}
 use Rattle.rules.proofs.Invariant.{Inv, heldBy}
-use Rattle.rules.proofs.Preserved.{taught, heard, gained-at}
+use Rattle.rules.proofs.Preserved.{gained, gained-at}
 use Rattle.rules.proofs.KeyBridge.{Agrees, keysOf, agrees-become, agrees-gain, agrees-keyed, agrees-told, agrees-valued, agrees-unheard, agrees-seized, agrees-freed, agrees-new, agrees-started}
 
 -- the sets after the log, and a legal log
@@ -61,11 +61,11 @@ module _ (g : Program) (s : State) (I : Inv g s) (p : ℕ) (t : Thread) (ht : ge
   known : (w o f v : ℕ) → lookup s o f ≡ some (cell (singleton w) v) → isVolatile g f ≡ false → holds (t .keys) w ≡ true → T (κ .knows p (κ .plain o f))
   known w o f v h vol k = rw (sym (tested w o f v h vol) ∙ k) tt
 
-  kept-write : (w o f u v : ℕ) (e : Expression) → lookup s o f ≡ some (cell (singleton w) u) → isVolatile g f ≡ false → holds (t .keys) w ≡ true
-      → Kept g (become (learn (store (useKey s) o f (record { keys = singleton (s .nextKey); value = v })) p (singleton (s .nextKey))) p e) (entry Kind.write p o f v ∷ H)
+  kept-write : (w o f u v : ℕ) (e : Expression) (count : Keys → ℕ) → lookup s o f ≡ some (cell (singleton w) u) → isVolatile g f ≡ false → holds (t .keys) w ≡ true
+      → Kept g (become (gain (store (useKey s) o f (record { keys = singleton (s .nextKey); value = v })) p (singleton (s .nextKey)) count) p e) (entry Kind.write p o f v ∷ H)
   unfolding store useKey
-  kept-write w o f u v e h vol k = record {
-    agrees = agrees-become g (learn s₁ p (singleton (s .nextKey))) _ p e (taught t (singleton (s .nextKey))) (gained-at s p t ht s₁ (singleton (s .nextKey)) _ refl) (agrees-gain g s₁ (plainKeyed o f κ) p (singleton (s .nextKey)) _ t (learnKey (κ .next) (κ .knows p)) ht new (agrees-keyed g s κ A o f d (cell (singleton w) u) h vol refl));
+  kept-write w o f u v e count h vol k = record {
+    agrees = agrees-become g (gain s₁ p (singleton (s .nextKey)) count) _ p e (gained t (singleton (s .nextKey)) count) (gained-at s p t ht s₁ (singleton (s .nextKey)) count refl) (agrees-gain g s₁ (plainKeyed o f κ) p (singleton (s .nextKey)) count t (learnKey (κ .next) (κ .knows p)) ht new (agrees-keyed g s κ A o f d (cell (singleton w) u) h vol refl));
     legal = (J .legal, here-now, known w o f u h vol k);
   }
     where
@@ -104,20 +104,21 @@ module _ (g : Program) (s : State) (I : Inv g s) (p : ℕ) (t : Thread) (ht : ge
               first : T (holds (fresh .keys) 0)
               first = unfold fresh holds in tt
 
-  kept-join : (o v : ℕ) (q : Numbered) (e : Expression) → threadOf 0 (s .threads) o ≡ some q → Kept g (become (hear s p (q .thread .keys)) p e) (entry Kind.join p o (q .number) v ∷ H)
-  kept-join o v q e h = record {
-    agrees = agrees-become g (hear s p (q .thread .keys)) _ p e (heard t (q .thread .keys)) (gained-at s p t ht s (q .thread .keys) _ refl) (agrees-gain g s κ p (q .thread .keys) _ t (unionSet (κ .knows p) (κ .knows (q .number))) ht (plus (κ .knows (q .number)) (q .thread .keys) (λ k. A .knows (q .number) (q .thread) there k)) A);
+  kept-join : (o v : ℕ) (q : Numbered) (e : Expression) (count : Keys → ℕ) → threadOf 0 (s .threads) o ≡ some q
+      → Kept g (become (gain s p (q .thread .keys) count) p e) (entry Kind.join p o (q .number) v ∷ H)
+  kept-join o v q e count h = record {
+    agrees = agrees-become g (gain s p (q .thread .keys) count) _ p e (gained t (q .thread .keys) count) (gained-at s p t ht s (q .thread .keys) count refl) (agrees-gain g s κ p (q .thread .keys) count t (unionSet (κ .knows p) (κ .knows (q .number))) ht (plus (κ .knows (q .number)) (q .thread .keys) (λ k. A .knows (q .number) (q .thread) there k)) A);
     legal = (J .legal, here-now, A .present (q .number) (q .thread) there);
   }
     where
       there : getElem? (s .threads) (q .number) ≡ some (q .thread)
       there = let j = found-thread (s .threads) 0 o q h in let n : q .number ≡ j .0 = omega (arith, j .1) in ap (getElem? (s .threads)) n ∙ j .2
 
-  kept-acquire : (o : ℕ) (c : Cell) (e : Expression) → monitor s o ≡ some c → isEmpty (c .keys) ≡ false
-      → Kept g (become (hear (storeMonitor s o (record { keys = empty; value = t .self })) p (c .keys)) p e) (entry Kind.acquire p o 0 0 ∷ H)
+  kept-acquire : (o : ℕ) (c : Cell) (e : Expression) (count : Keys → ℕ) → monitor s o ≡ some c → isEmpty (c .keys) ≡ false
+      → Kept g (become (gain (storeMonitor s o (record { keys = empty; value = t .self })) p (c .keys) count) p e) (entry Kind.acquire p o 0 0 ∷ H)
   unfolding storeMonitor
-  kept-acquire o c e m f = record {
-    agrees = agrees-become g (hear s₁ p (c .keys)) _ p e (heard t (c .keys)) (gained-at s p t ht s₁ (c .keys) _ refl) (agrees-gain g s₁ (monitorTaken o p κ) p (c .keys) _ t (unionSet (κ .knows p) (κ .monitors o)) ht (plus (κ .monitors o) (c .keys) same) (agrees-seized g s κ A o (heldBy t) c m p refl (λ q u hu v. I .apart p q t u ht hu v)));
+  kept-acquire o c e count m f = record {
+    agrees = agrees-become g (gain s₁ p (c .keys) count) _ p e (gained t (c .keys) count) (gained-at s p t ht s₁ (c .keys) count refl) (agrees-gain g s₁ (monitorTaken o p κ) p (c .keys) count t (unionSet (κ .knows p) (κ .monitors o)) ht (plus (κ .monitors o) (c .keys) same) (agrees-seized g s κ A o (heldBy t) c m p refl (λ q u hu v. I .apart p q t u ht hu v)));
     legal = (J .legal, here-now, (some-key (c .keys) f .0, rw (same (some-key (c .keys) f .0)) (some-key (c .keys) f .1)));
   }
     where
@@ -153,11 +154,19 @@ module _ (g : Program) (s : State) (I : Inv g s) (p : ℕ) (t : Thread) (ht : ge
   quiet e = record { agrees = agrees-become g s κ p e t ht A; legal = J .legal }
 
   -- a volatile read passes the field's keys, by the version
-  passed : (n : Version) (o f v : ℕ) (W : Keys) → lookup s o f ≡ some (cell W v) → isVolatile g f ≡ true → Agrees g (hear s p (passedOn n W)) (act n Kind.readv p o f κ)
+  passed : (n : Version) (o f v : ℕ) (W : Keys) (count : Keys → ℕ) → lookup s o f ≡ some (cell W v) → isVolatile g f ≡ true
+      → Agrees g (gain s p (passedOn n W) count) (act n Kind.readv p o f κ)
   unfolding passedOn
-  passed v0 o f v W h vol = agrees-unheard g s κ p _ t ht A
-  passed v1 o f v W h vol =
-      agrees-gain g s κ p W _ t (unionSet (κ .knows p) (κ .volatiles o f)) ht (plus (κ .volatiles o f) W (λ k. A .volatiles o f vol k ∙ ap (λ (x : Option Cell). holds (keysOf x) k) h)) A
+  passed v0 o f v W count h vol = agrees-unheard g s κ p count t ht A
+  passed v1 o f v W count h vol =
+      agrees-gain g s κ p W count t (unionSet (κ .knows p) (κ .volatiles o f)) ht (plus (κ .volatiles o f) W (λ k. A .volatiles o f vol k ∙ ap (λ (x : Option Cell). holds (keysOf x) k) h)) A
+
+  kept-readv : (o f v : ℕ) (W : Keys) (e : Expression) (count : Keys → ℕ) → lookup s o f ≡ some (cell W v) → isVolatile g f ≡ true
+      → Kept g (become (gain s p (passedOn (g .version) W) count) p e) (entry Kind.readv p o f v ∷ H)
+  kept-readv o f v W e count h vol = record {
+    agrees = agrees-become g (gain s p (passedOn (g .version) W) count) _ p e (gained t (passedOn (g .version) W) count) (gained-at s p t ht s (passedOn (g .version) W) count refl) (passed (g .version) o f v W count h vol);
+    legal = (J .legal, here-now, tt);
+  }
 
   -- a volatile write passes the thread's keys, by the version
   told : (n : Version) (o f u v : ℕ) (W : Keys) → lookup s o f ≡ some (cell W u) → isVolatile g f ≡ true
@@ -177,19 +186,16 @@ module _ (g : Program) (s : State) (I : Inv g s) (p : ℕ) (t : Thread) (ht : ge
   bridged E-WHILE w = quiet w
   bridged (E-NEW {fs}) w = record { agrees = agrees-become g (addObject s (freshObject fs)) κ p w t ht (agrees-new g s κ fs A); legal = (J .legal, here-now, tt) }
   bridged (E-READ x {o} {f} {v} h k vol) w = record { agrees = agrees-become g s κ p w t ht A; legal = (J .legal, here-now, known x o f v h vol k) }
-  bridged (E-WRITE x {o} {f} {u} {v} h k vol) w = kept-write x o f u v w h vol k
-  bridged (E-READV {o} {f} {v} {W} h vol) w = record {
-    agrees = agrees-become g (hear s p (passedOn (g .version) W)) _ p w (heard t (passedOn (g .version) W)) (gained-at s p t ht s (passedOn (g .version) W) _ refl) (passed (g .version) o f v W h vol);
-    legal = (J .legal, here-now, tt);
-  }
+  bridged (E-WRITE x {o} {f} {u} {v} h k vol) w = kept-write x o f u v w _ h vol k
+  bridged (E-READV {o} {f} {v} {W} h vol) w = kept-readv o f v W w _ h vol
   bridged (E-WRITEV {o} {f} {u} {v} {W} h vol) w = record {
     agrees = agrees-become g (store s o f (cell (union W (passedOn (g .version) (t .keys))) v)) _ p w t ht (told (g .version) o f u v W h vol);
     legal = (J .legal, here-now, tt);
   }
   bridged (E-FORK {e}) w = kept-fork e w
-  bridged (E-JOIN {o} {v} {q} h l) w = kept-join o v q w h
+  bridged (E-JOIN {o} {v} {q} h l) w = kept-join o v q w _ h
   bridged (E-RE-ENTER h) w = quiet w
-  bridged (E-ACQUIRE {o} {u} {W} {e} h n) w = kept-acquire o (cell W u) w h n
+  bridged (E-ACQUIRE {o} {u} {W} {e} h n) w = kept-acquire o (cell W u) w _ h n
   bridged (E-RELEASE {o} {v} h) w = kept-release o w h
 
 -- a move of a run, with its record

@@ -9,11 +9,11 @@ use mathlib.Core.Logic.{inl, inr}
 use mathlib.Core.Option.{Option, some}
 use lib.ListN.{length, getElem?}
 use lib.Dec.{eqb}
-use Rattle.keys.specs.Keys.{Keys, empty, singleton, union, isEmpty, countNew}
+use Rattle.keys.specs.Keys.{Keys, empty, singleton, union, isEmpty}
 use Rattle.packed.specs.Syntax.{Expression, Condition, Arguments, literal, bind, bindParameters, substitute, Program, Procedure, bool, sequence}
 use Rattle.packed.specs.Slots.{bound}
 use Rattle.rules.specs.Context.{Context, Contextᶜ, Focus, focus, top, here, hold, plug, plugᶜ, Redex, Redexᶜ, redexExpression, redexCondition, literals}
-use Rattle.rules.specs.State.{Cell, cell, Thread, State, freshObject, lookup, monitor, store, storeMonitor, addObject, gain, learn, hear, become, addThread, useKey}
+use Rattle.rules.specs.State.{Cell, cell, Thread, State, freshObject, lookup, monitor, store, storeMonitor, addObject, gain, become, addThread, useKey}
 use Rattle.records.specs.Record.{Record}
 use Rattle.rules.specs.Rules.{Rule, Converts, E-CALL, E-LET, E-IF, E-WHILE, E-NEW, E-READ, E-WRITE, E-READV, E-WRITEV, E-FORK, E-JOIN, E-RE-ENTER, E-ACQUIRE, E-RELEASE, Convertsᶜ, E-NOTNOTTRUE, E-ANDTRUE, E-ANDFALSE, E-EQUALTRUE, E-EQUALFALSE, Moves, EVAL, EVALᶜ}
 use Rattle.packed.proofs.WellFormed.{WellFormedProgram, unbound}
@@ -23,22 +23,15 @@ use Rattle.rules.proofs.StateLaws.{inside, added-old, change-same, lock
 use Rattle.rules.proofs.Invariant.{In, Once, owed, heldBy, Sound, Inv, inv-store, inv-key, inv-lock, length-new, inv-new, inv-gain, inv-become, inv-thread}
 use Rattle.rules.proofs.FocusPlug.{found, foundᶜ}
 
--- the thread after a gain
+-- the thread after a gain, whatever it counts
 abbrev pub gained : Thread → Keys → (Keys → ℕ) → Thread
-gained t W n = record { self = t .self; expression = t .expression; keys = union W (t .keys); learnt = t .learnt + n (t .keys) }
-
--- after it learnt a key of its own, and after it heard of a set
-abbrev pub taught : Thread → Keys → Thread
-taught t W = gained t W (λ K. 0)
-
-abbrev pub heard : Thread → Keys → Thread
-heard t W = gained t W (countNew W)
+gained t W count = record { self = t .self; expression = t .expression; keys = union W (t .keys); learnt = t .learnt + count (t .keys) }
 
 -- where the mover stands, after what the rule did to the rest
-pub gained-at : (s : State) (p : ℕ) (t : Thread) → getElem? (s .threads) p ≡ some t → (s₁ : State) (W : Keys) (n : Keys → ℕ) → s₁ .threads ≡ s .threads
-    → getElem? (gain s₁ p W n .threads) p ≡ some (gained t W n)
+pub gained-at : (s : State) (p : ℕ) (t : Thread) → getElem? (s .threads) p ≡ some t → (s₁ : State) (W : Keys) (count : Keys → ℕ) → s₁ .threads ≡ s .threads
+    → getElem? (gain s₁ p W count .threads) p ≡ some (gained t W count)
 unfolding gain
-gained-at s p t ht s₁ W n e = change-same (s₁ .threads) p _ t (rw e ht)
+gained-at s p t ht s₁ W count e = change-same (s₁ .threads) p _ t (rw e ht)
 
 -- thread p, which is t, is about to move x in K
 module _ (g : Program) (s : State) (p : ℕ) (t : Thread) (K : Context) (I : Inv g s) (at : getElem? (s .threads) p ≡ some t) (x : Redex) (h : t .expression ≡ plug K (redexExpression x)) where
@@ -81,28 +74,28 @@ module _ (g : Program) (P : WellFormedProgram g) (s : State) (I : Inv g s) (p : 
       let z : false ≡ true = sym e ∙ ap (λ (y : Cell). eqb (y .keys) 0) j in
       true≢false cc
 
-  kept-acquire : (o : ℕ) (e : Expression) (c : Cell) (W : Keys) → monitor s o ≡ some c → isEmpty (c .keys) ≡ false → t .expression ≡ plug K (Expression.synch (literal o) e)
-      → Inv g (become (hear (storeMonitor s o (cell empty (t .self))) p W) p (plug K (Expression.hold o e)))
+  kept-acquire : (o : ℕ) (e : Expression) (c : Cell) (W : Keys) (count : Keys → ℕ) → monitor s o ≡ some c → isEmpty (c .keys) ≡ false → t .expression ≡ plug K (Expression.synch (literal o) e)
+      → Inv g (become (gain (storeMonitor s o (cell empty (t .self))) p W count) p (plug K (Expression.hold o e)))
   unfolding redexExpression plug gain storeMonitor monitor
-  kept-acquire o e c W m f he = inv-become g s₂ p (plug (hold K o) e) (heard t W) (o ∷ pending K) I₂ at₂ (rise g (length (s₂ .objects)) (hold K o) e (pl .1 .0, pl .0) (pl .1 .1)) mine (first, owing-once g s p t K I ht (Redex.synch o e) he)
+  kept-acquire o e c W count m f he = inv-become g s₂ p (plug (hold K o) e) (gained t W count) (o ∷ pending K) I₂ at₂ (rise g (length (s₂ .objects)) (hold K o) e (pl .1 .0, pl .0) (pl .1 .1)) mine (first, owing-once g s p t K I ht (Redex.synch o e) he)
     where
       s₁ : State
       s₁ = storeMonitor s o (record { keys = empty; value = t .self })
 
       s₂ : State
-      s₂ = hear s₁ p W
+      s₂ = gain s₁ p W count
 
       I₁ : Inv g s₁
       I₁ = inv-lock g s o (heldBy t) c I m (I .each p t ht .self-there) (free-of o c m f)
 
       I₂ : Inv g s₂
-      I₂ = inv-gain g s₁ p W (countNew W) t I₁ ht
+      I₂ = inv-gain g s₁ p W count t I₁ ht
 
-      at₂ : getElem? (s₂ .threads) p ≡ some (heard t W)
-      at₂ = gained-at s p t ht s₁ W (countNew W) refl
+      at₂ : getElem? (s₂ .threads) p ≡ some (gained t W count)
+      at₂ = gained-at s p t ht s₁ W count refl
 
       pl : Around g (length (s₂ .objects)) K × Ready g (length (s₂ .objects)) (Redex.synch o e)
-      pl = placed g s₂ p (heard t W) K I₂ at₂ (Redex.synch o e) he
+      pl = placed g s₂ p (gained t W count) K I₂ at₂ (Redex.synch o e) he
 
       first : In o (pending K) → ⊥
       first i = free-of o c m f p t ht (rw (owes g s p t K I ht (Redex.synch o e) he) i)
@@ -111,21 +104,23 @@ module _ (g : Program) (P : WellFormedProgram g) (s : State) (I : Inv g s) (p : 
       mine a (inl q) = rw q (lock-same s o (heldBy t) c m)
       mine a (inr i) = lock-other s o (heldBy t) a (λ q. first (rw q i)) ∙ owing g s p t K I ht (Redex.synch o e) he a i
 
-  -- a move that hears of some keys, whichever they are
-  settle-hear : (W : Keys) (x : Redex) (v : ℕ) → t .expression ≡ plug K (redexExpression x) → held x (pending K) ≡ pending K → v < N → Inv g (become (hear s p W) p (plug K (literal v)))
+  -- a move that gains some keys, whichever they are and however they count
+  settle-gain : (W : Keys) (count : Keys → ℕ) (x : Redex) (v : ℕ) → t .expression ≡ plug K (redexExpression x) → held x (pending K) ≡ pending K → v < N → Inv g (become (gain s p W count) p (plug K (literal v)))
   unfolding gain
-  settle-hear W x v he q b = settle g (hear s p W) p (heard t W) K (inv-gain g s p W (countNew W) t I ht) (gained-at s p t ht s W (countNew W) refl) x he (literal v) q b
+  settle-gain W count x v he q b = settle g (gain s p W count) p (gained t W count) K (inv-gain g s p W count t I ht) (gained-at s p t ht s W count refl) x he (literal v) q b
 
   -- a plain write: a new key, stored and learnt
-  kept-write : (o f v : ℕ) (c : Cell) → lookup s o f ≡ some c → t .expression ≡ plug K (redexExpression (Redex.write o f v))
-      → Inv g (become (learn (store (useKey s) o f (cell (singleton (s .nextKey)) v)) p (singleton (s .nextKey))) p (plug K (literal v)))
+  kept-write : (o f v : ℕ) (c : Cell) (count : Keys → ℕ) → lookup s o f ≡ some c → t .expression ≡ plug K (redexExpression (Redex.write o f v))
+      → Inv g (become (gain (store (useKey s) o f (cell (singleton (s .nextKey)) v)) p (singleton (s .nextKey)) count) p (plug K (literal v)))
   unfolding redexExpression store useKey lookup gain
-  kept-write o f v c h he =
+  kept-write o f v c count h he =
       let s₁ = store (useKey s) o f (record { keys = singleton (s .nextKey); value = v }) in
       let I₁ = inv-store g (useKey s) o f (record { keys = singleton (s .nextKey); value = v }) _ (inv-key g s I) h (placed g s p t K I ht (Redex.write o f v) he .1 .3) in
-      let I₂ = inv-gain g s₁ p (singleton (s .nextKey)) (λ K. 0) t I₁ ht in
-      let at₂ = gained-at s p t ht s₁ (singleton (s .nextKey)) (λ K. 0) refl in
-      settle g (learn s₁ p (singleton (s .nextKey))) p (taught t (singleton (s .nextKey))) K I₂ at₂ (Redex.write o f v) he (literal v) refl (placed g (learn s₁ p (singleton (s .nextKey))) p (taught t (singleton (s .nextKey))) K I₂ at₂ (Redex.write o f v) he .1 .3)
+      let s₂ = gain s₁ p (singleton (s .nextKey)) count in
+      let t₂ = gained t (singleton (s .nextKey)) count in
+      let I₂ = inv-gain g s₁ p (singleton (s .nextKey)) count t I₁ ht in
+      let at₂ = gained-at s p t ht s₁ (singleton (s .nextKey)) count refl in
+      settle g s₂ p t₂ K I₂ at₂ (Redex.write o f v) he (literal v) refl (placed g s₂ p t₂ K I₂ at₂ (Redex.write o f v) he .1 .3)
 
   -- a write to a field, with whichever keys
   settle-write : (d : Cell) (o f : ℕ) (c : Cell) → lookup s o f ≡ some c → t .expression ≡ plug K (redexExpression (Redex.write o f (d .value))) → Inv g (become (store s o f d) p (plug K (literal (d .value))))
@@ -237,15 +232,15 @@ module _ (g : Program) (P : WellFormedProgram g) (s : State) (I : Inv g s) (p : 
       settle g s p t K I ht (Redex.while c e) he _ refl (pl .1 .0, (pl .1 .1, (pl .1 .0, pl .1 .1)), I .null-there)
   kept (E-NEW {fs}) he = settle g (addObject s (freshObject fs)) p t K (inv-new g s fs I) ht (Redex.new fs) he (literal N) refl (omega (arith, length-new s fs))
   kept (E-READ w {o} {f} {v} h k vol) he = settle g s p t K I ht (Redex.read o f) he (literal v) refl (I .cells o f _ h)
-  kept (E-WRITE w {o} {f} {u} {v} h k vol) he = kept-write o f v _ h he
-  kept (E-READV {o} {f} {v} h vol) he = settle-hear _ (Redex.read o f) v he refl (I .cells o f _ h)
+  kept (E-WRITE w {o} {f} {u} {v} h k vol) he = kept-write o f v _ _ h he
+  kept (E-READV {o} {f} {v} h vol) he = settle-gain _ _ (Redex.read o f) v he refl (I .cells o f _ h)
   kept (E-WRITEV {o} {f} h vol) he = settle-write _ o f _ h he
   kept (E-FORK {e}) he = kept-fork e he
   kept (E-JOIN {o} {v} {q} h l) he =
       let j = found-thread (s .threads) 0 o q h in
-      settle-hear _ (Redex.join o) v he refl (along (λ (e : Expression). Good g N (focus top e)) l (I .each (j .0) (q .thread) (j .2) .good))
+      settle-gain _ _ (Redex.join o) v he refl (along (λ (e : Expression). Good g N (focus top e)) l (I .each (j .0) (q .thread) (j .2) .good))
   kept (E-RE-ENTER {o} {e} h) he = settle g s p t K I ht (Redex.synch o e) he e refl (placed g s p t K I ht (Redex.synch o e) he .1 .1)
-  kept (E-ACQUIRE {o} {u} {W} {e} h n) he = kept-acquire o e (cell W u) _ h n he
+  kept (E-ACQUIRE {o} {u} {W} {e} h n) he = kept-acquire o e (cell W u) _ _ h n he
   kept (E-RELEASE {o} {v} h) he = kept-release o v h he
 
 module _ (g : Program) (s : State) (I : Inv g s) (p : ℕ) (t : Thread) (ht : getElem? (s .threads) p ≡ some t) (K : Contextᶜ) where
