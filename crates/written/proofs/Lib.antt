@@ -1,1 +1,9 @@
 pub mod Samples
+pub mod Words
+pub mod Bytes
+pub mod Masks
+pub mod Heads
+pub mod Original
+pub mod RightTrees
+pub mod Sums
+pub mod Sizes

@@ -3,7 +3,7 @@ use Prim.Native.Nat.{ℕ, suc, _+_, _*_, _-_, _^_}
 use mathlib.Core.List.{List, [], _∷_, _++_}
 use mathlib.Core.Option.{Option, some, none}
 use Rattle.packed.specs.Syntax.{Signal, Expression, Condition, Arguments}
-use Rattle.packed.specs.Format.{width, layout}
+use Rattle.packed.specs.Format.{width, Row, layout}
 
 -- ---- a tree by document 01's table: whatever its sort, a tag with its operands
 
@@ -84,14 +84,15 @@ unfoldable pub valueAt : ℕ → Part → ℕ
 valueAt n (value v) = v
 valueAt n (child e) = n
 
--- "Term, 40 bits: tag 5, operands in the order below, spare bits. All spare bits are zero."
+-- "Term, 40 bits: tag 5, operands in the order below, spare bits. All spare bits are zero.": a tag and its operands, by the tag's row
+unfoldable pub wordBy : Row → ℕ → ℕ → ℕ → ℕ → ℕ
+wordBy r k x y z =
+    (((k * 2 ^ width (r .first) + x) * 2 ^ width (r .second) + y) * 2 ^ width (r .third) + z)
+    * 2 ^ (35 - (width (r .first) + width (r .second) + width (r .third)))
+
 unfoldable pub wordOf : ℕ → ℕ → ℕ → ℕ → ℕ
-unfolding layout
-wordOf k x y z =
-    let a = width (layout k .first) in
-    let b = width (layout k .second) in
-    let c = width (layout k .third) in
-    (((k * 2 ^ a + x) * 2 ^ b + y) * 2 ^ c + z) * 2 ^ (35 - (a + b + c))
+unfolding wordBy layout
+wordOf k x y z = wordBy (layout k) k x y z
 
 -- the terms of a tree, 40 bits each, where its root has number n
 unfoldable mutual

@@ -10,7 +10,7 @@ use Rattle.written.specs.Terms.{termsOf, size, wordsFrom}
 -- a number in n bytes: "most significant bit first"
 unfoldable pub bytesOf : ℕ → ℕ → List ℕ
 bytesOf zero x = []
-bytesOf (suc n) x = x / 256 ^ n % 256 ∷ bytesOf n x
+bytesOf (suc n) x = x / 2 ^ (8 * n) % 256 ∷ bytesOf n x
 
 -- ---- "procedures in their order, terms numbered procedure by procedure"
 
