@@ -7,3 +7,7 @@ pub mod Original
 pub mod RightTrees
 pub mod Sums
 pub mod Sizes
+pub mod ReadBack
+pub mod Placed
+pub mod Fine
+pub mod Named

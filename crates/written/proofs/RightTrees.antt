@@ -43,11 +43,11 @@ module _ (count : ℕ) (counts : ℕ → ℕ) where
     RightPart kind (child e) = (isChild kind ≡ true) × (misplaced kind (headTag e) ≡ false) × RightTree e
 
 -- a call names a procedure, and its list is a child
-call-value : (k : ℕ) → k ≡ 8 → isChild (layout k .first) ≡ false
+pub call-value : (k : ℕ) → k ≡ 8 → isChild (layout k .first) ≡ false
 unfolding layout table
 call-value k d = rw d
 
-call-child : (k : ℕ) → k ≡ 8 → isChild (layout k .second) ≡ true
+pub call-child : (k : ℕ) → k ≡ 8 → isChild (layout k .second) ≡ true
 unfolding layout table
 call-child k d = rw d
 
