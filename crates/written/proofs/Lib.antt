@@ -11,3 +11,6 @@ pub mod ReadBack
 pub mod Placed
 pub mod Fine
 pub mod Named
+pub mod Segments
+pub mod Passes
+pub mod OneWay

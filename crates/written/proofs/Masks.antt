@@ -29,7 +29,7 @@ mask-from m f (suc n) e = go (eqb (maskBit m f) 1) refl (mask-from m (suc f) n (
     more = let w : 1 + n ≡ suc n = omega arith in rw w at (mod-pow-add m 1 n)
 
     go : (x : Bool) → eqb (maskBit m f) 1 ≡ x → maskOf (fieldsFrom m (suc f) n) ≡ m % 2 ^ n
-      → maskOf (cond x (f ∷ fieldsFrom m (suc f) n) (fieldsFrom m (suc f) n)) ≡ m % 2 ^ suc n
+        → maskOf (cond x (f ∷ fieldsFrom m (suc f) n) (fieldsFrom m (suc f) n)) ≡ m % 2 ^ suc n
     go true q r =
         let one : m / 2 ^ n % 2 ≡ 1 = sym top ∙ eqb-true (maskBit m f) 1 q in
         let bit : m / 2 ^ n % 2 * 2 ^ n ≡ 2 ^ n = rw one (omega arith) in

@@ -102,8 +102,8 @@ module _ (count : ℕ) (counts : ℕ → ℕ) (b ws : List ℕ) (N : ℕ) (few :
           placed-part p (suc n) (layout k .first) (h .1) (omega arith) (has-first ws (suc n) (wordsBelow (suc n) p) (wordsBelow (suc n + sizeOf p) q) two),
           placed-part q (suc n + sizeOf p) (layout k .second) (h .2) (omega arith) (has-rest ws (suc n) (suc n + sizeOf p) (wordsBelow (suc n) p) (wordsBelow (suc n + sizeOf p) q) (omega (arith, part-length p (suc n))) two),
           placed-part r (suc n + sizeOf p + sizeOf q) (layout k .third) (h .3) (omega arith)
-          (has-rest ws (suc n) (suc n + sizeOf p + sizeOf q) (wordsBelow (suc n) p ++ wordsBelow (suc n + sizeOf p) q) (wordsBelow (suc n + sizeOf p + sizeOf q) r)
-          (omega (arith, length-append (wordsBelow (suc n) p) (wordsBelow (suc n + sizeOf p) q), part-length p (suc n), part-length q (suc n + sizeOf p))) below),
+              (has-rest ws (suc n) (suc n + sizeOf p + sizeOf q) (wordsBelow (suc n) p ++ wordsBelow (suc n + sizeOf p) q) (wordsBelow (suc n + sizeOf p + sizeOf q) r)
+              (omega (arith, length-append (wordsBelow (suc n) p) (wordsBelow (suc n + sizeOf p) q), part-length p (suc n), part-length q (suc n + sizeOf p))) below),
         )
 
     placed-part : (p : Part) (n : ℕ) (kind : Operand) → RightPart count counts kind p → n + sizeOf p ≤ N → Has ws n (wordsBelow n p) → PlacedPart b n p

@@ -65,7 +65,7 @@ module _ (b : List ℕ) where
       tree-size (term k p q r) t n h f
       ∙ sym (ap suc (below-by (sizeAt n) t k _ _ _ (h .1) (part-size p t n _ _ (h .2) (omega arith)) (part-size q t n _ _ (h .3) (omega arith)) (part-size r t n _ _ (h .4) (omega arith))))
 
-  times-are : (t : ℕ) → timesNamed b t ≡ sumBelow (procedures b) (λ p. oneIf (eqb (root b p) t)) + sumBelow (terms b) (λ u. timesIn (termAt b u) t)
+  pub times-are : (t : ℕ) → timesNamed b t ≡ sumBelow (procedures b) (λ p. oneIf (eqb (root b p) t)) + sumBelow (terms b) (λ u. timesIn (termAt b u) t)
   unfolding timesNamed
   times-are t = refl
 
@@ -132,9 +132,9 @@ module _ (b : List ℕ) (six : SixRight b) (a : Readable b) where
       let within : ℕ → ℕ = λ t. s t * sumBelow (terms b) (λ u. timesIn (termAt b u) t) in
       let under : ℕ → ℕ = λ t. below s (termAt b t) in
       let all : sumBelow (terms b) s ≡ sumBelow (terms b) named + sumBelow (terms b) within =
-          once ∙ sum-cong (terms b) _ (λ t. named t + within t) (λ t h. ap (λ (n : ℕ). s t * n) (times-are b t) ∙ mul-add (s t) _ _) ∙ sum-add (terms b) named within in
+      once ∙ sum-cong (terms b) _ (λ t. named t + within t) (λ t h. ap (λ (n : ℕ). s t * n) (times-are b t) ∙ mul-add (s t) _ _) ∙ sum-add (terms b) named within in
       let more : sumBelow (terms b) s ≡ sumBelow (terms b) (λ t. 1) + sumBelow (terms b) under =
-          sum-cong (terms b) s (λ t. 1 + under t) (λ t h. each-more t h ∙ omega arith) ∙ sum-add (terms b) (λ t. 1) under in
+      sum-cong (terms b) s (λ t. 1 + under t) (λ t h. each-more t h ∙ omega arith) ∙ sum-add (terms b) (λ t. 1) under in
       omega (arith, by-roots, by-terms, sum-one (terms b))
 
   -- the procedures' trees, one by one

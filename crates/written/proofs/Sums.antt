@@ -42,6 +42,12 @@ unfolding sumBelow
 sum-mul zero x f = mul-zero x
 sum-mul (suc n) x f = omega (arith, mul-add x (sumBelow n f) (f n), sum-mul n x f)
 
+-- the first one apart
+pub sum-first : (n : ℕ) (f : ℕ → ℕ) → sumBelow (suc n) f ≡ f 0 + sumBelow n (λ k. f (suc k))
+unfolding sumBelow
+sum-first zero f = omega arith
+sum-first (suc n) f = omega (arith, sum-first n f)
+
 -- of a sum of sums, either may come first
 pub sum-swap : (n m : ℕ) (f : ℕ → ℕ → ℕ) → sumBelow n (λ i. sumBelow m (λ j. f i j)) ≡ sumBelow m (λ j. sumBelow n (λ i. f i j))
 unfolding sumBelow

@@ -1,2 +1,3 @@
 pub mod Terms
 pub mod Written
+pub mod Alike
