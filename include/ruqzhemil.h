@@ -40,7 +40,7 @@ extern "C" {
 
 /* ---- versions: major * 65536 + minor * 256 + patch */
 
-#define RUQZHEMIL_VERSION 0x010000 /* 1.0.0, of this header */
+#define RUQZHEMIL_VERSION 0x010100 /* 1.1.0, of this header */
 
 /* The version of the archive that is linked, which RUQZHEMIL_VERSION should be. */
 uint64_t ruqzhemil_version(void);
@@ -181,11 +181,13 @@ enum ruqzhemil_state {
     RUQZHEMIL_ABSENT = 0,        /* there is no such thread */
     RUQZHEMIL_FINISHED = 1,      /* with this value */
     RUQZHEMIL_READY = 2,         /* it can move, or only lacks room */
-    RUQZHEMIL_WAITS_MONITOR = 3, /* for the monitor of this object */
+    RUQZHEMIL_WAITS_MONITOR = 3, /* for the monitor of this object: to enter it, or to go on after it was notified */
     RUQZHEMIL_WAITS_JOIN = 4,    /* for the end of the thread that this object stands for */
     RUQZHEMIL_STUCK_FIELD = 5,   /* this object has no such field */
     RUQZHEMIL_STUCK_THREAD = 6,  /* this object stands for no thread */
-    RUQZHEMIL_LACKING = 7        /* the key of this object's field */
+    RUQZHEMIL_LACKING = 7,       /* the key of this object's field */
+    RUQZHEMIL_WAITS_NOTIFY = 8,  /* to be notified on this object */
+    RUQZHEMIL_STUCK_MONITOR = 9  /* it does not hold the monitor of this object, which its wait or notify needs */
 };
 
 struct ruqzhemil_thread {
@@ -232,6 +234,8 @@ static inline const char *ruqzhemil_state_text(unsigned state) {
     case RUQZHEMIL_STUCK_FIELD: return "stuck, no field";
     case RUQZHEMIL_STUCK_THREAD: return "stuck, no thread";
     case RUQZHEMIL_LACKING: return "lacks a key";
+    case RUQZHEMIL_WAITS_NOTIFY: return "waits to be notified";
+    case RUQZHEMIL_STUCK_MONITOR: return "stuck, monitor not held";
     default: return "unknown";
     }
 }

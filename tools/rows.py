@@ -106,6 +106,18 @@ def synch(e, body):
     return node(11, e, body)
 
 
+def wait(e):
+    return node(18, e)
+
+
+def notify(e):
+    return node(19, e)
+
+
+def notify_all(e):
+    return node(20, e)
+
+
 def no(c):
     return node(13, c)
 
@@ -152,10 +164,10 @@ SHOTS = [
 
 # ---- cases at the edges, which a definition and its code could get wrong together
 
-# every tag from 0 to 17, and the index of the first term of each
+# every tag from 0 to 20, and the index of the first term of each
 EVERY_TAG = plan(
     then(new(1), synch(NULL, NULL), write(NULL, 1, NULL), join(fork(NULL)), node(7, node(14, TRUE, no(TRUE)), NULL),
-         choice(node(15, NULL, NULL), NULL, NULL), call(1, read(NULL, 1))),
+         choice(node(15, NULL, NULL), NULL, NULL), wait(NULL), notify(NULL), notify_all(NULL), call(1, read(NULL, 1))),
     variable(0), parameters=[0, 1])
 EVERY_TAG_ROOT = 8 + 2 * 2
 
@@ -184,13 +196,23 @@ def handed_on(version):
     return plan(HANDED_ON, mask=0xA0000000, version=version)
 
 
+WAITING = fork(synch(NULL, wait(NULL)))                                                    # a thread that waits on null
+WOKEN = plan(then(WAITING, synch(NULL, notify(NULL))))
+WOKEN_PICKS = [0, 0, 0, 1, 1, 0, 0, 1, 0, 1, 1]                                            # it waits, is notified, is kept out, goes on
+TWO_WAITING = [0] * 5 + [1, 1, 2, 2] + [0, 0, 0] + [2, 2, 1, 1]                            # two wait, one is notified or both, and the second is picked first
+
+
+def two_waiting(e):
+    return plan(then(WAITING, WAITING, synch(NULL, e)))
+
+
 LARGEST = plan(*[fork(then(*[NULL] * 16))] * 32)                                           # 32 procedures, 1,024 terms
 
 # plan, picks, what is right, as above, and the requests with which something else is right
 EDGES = [
     (flipped(CALLS_NOTHING, 2, 1, bit), [], [4, 1], ()) for bit in range(31, 35)  # a list end with a bit set where a slot would stand
 ] + [
-    (flipped(EVERY_TAG, 2, first_of(tag), 0), [], [4, first_of(tag)], ()) for tag in range(18)  # a term with its lowest spare bit alone set
+    (flipped(EVERY_TAG, 2, first_of(tag), 0), [], [4, first_of(tag)], ()) for tag in range(21)  # a term with its lowest spare bit alone set
 ] + [
     (EVERY_TAG, [], ("end", 0, 0, 0), ()),
     (plan(let(0, new(31), read(variable(0), 31))), [0] * 5, ("end", 5, 4, 2), ()),
@@ -198,9 +220,16 @@ EDGES = [
     (header(0, 0), [], [2, 0], ()),
     (plan(call(31), *[NULL] * 31), [0] * 3, ("end", 3, 2, 0), ()),
     (plan(*[NULL] * 33), [], [2, 0], ()),
-    (tagged(18), [], [4, 0], ("E3",)),
-    (tagged(19), [], [4, 0], ("E3",)),
-    (tagged(20), [], [4, 0], ("E3",)),
+    (tagged(18), [0, 0], ("end", 2, 1, 0), ()),
+    (tagged(19), [0, 0], ("end", 2, 1, 0), ()),
+    (tagged(20), [0, 0], ("end", 2, 1, 0), ()),
+    (plan(synch(NULL, notify(NULL))), [0] * 9, (4, 2), ()),
+    (plan(synch(NULL, notify_all(NULL))), [0] * 9, (4, 2), ()),
+    (plan(synch(NULL, wait(NULL))), [0] * 9, (3, 2), ()),
+    (plan(synch(NULL, synch(NULL, wait(NULL)))), [0] * 9, (4, 2), ()),
+    (WOKEN, WOKEN_PICKS, ("end", 11, 10, 7), ()),
+    (two_waiting(notify(NULL)), TWO_WAITING, ("end", 16, 14, 10), ()),
+    (two_waiting(notify_all(NULL)), TWO_WAITING, ("end", 16, 16, 12), ()),
     (tagged(21), [], [4, 0], ()),
     (tagged(31), [], [4, 0], ()),
     (plan(choice(END, NULL, NULL)), [], [5, 1], ()),

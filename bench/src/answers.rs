@@ -52,5 +52,7 @@ fn thread_bytes(state: State) -> [u8; 3] {
         State::StuckField(object, field) => [5, object, field],
         State::StuckThread(object) => [6, object, 0],
         State::Lacking(object, field) => [7, object, field],
+        State::WaitNotify(object) => [8, object, 0],
+        State::StuckMonitor(object) => [9, object, 0],
     }
 }

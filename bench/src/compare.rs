@@ -10,7 +10,7 @@ struct Seen {
     refusals: [usize; 15],
     passed: usize,
     stops: [usize; 6],
-    states: [usize; 8],
+    states: [usize; 10],
     learnt: [usize; 2],
     judged: [usize; 2],
 }
@@ -36,7 +36,7 @@ impl Seen {
     fn print(&self) {
         println!("  plans passed {}; refusals 1 to 12 {:?}, 14 {}", self.passed, &self.refusals[1..13], self.refusals[14]);
         println!("  runs end, race, no-thread, no-object, no-key, no-depth {:?}", self.stops);
-        println!("  threads absent, finished, ready, monitor, join, no field, no thread, lacking {:?}", self.states);
+        println!("  threads absent, finished, ready, monitor, join, no field, no thread, lacking, notify, monitor not held {:?}", self.states);
         println!("  threads that learnt no key from another, some {:?}", self.learnt);
         println!("  logs ordered, unordered {:?}", self.judged);
         let counts =

@@ -17,7 +17,7 @@ pub use outcome::{Outcome, Stop, ThreadState};
 pub use refusal::{Reason, Refusal};
 
 /// The version of this package's numbers, and of the archive: major * 65536 + minor * 256 + patch.
-pub const VERSION: u32 = 0x010000;
+pub const VERSION: u32 = 0x010100;
 /// Bytes of any plan that passes, at most.
 pub const MOST_PLAN_BYTES: usize = 5192;
 /// Picks of any schedule that passes, at most.

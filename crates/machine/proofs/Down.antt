@@ -31,6 +31,7 @@ module _ (h : ℕ → Node) (N : ℕ) (o : Descending h N) where
   value-law ρ (Node.call m i) = refl
   value-law ρ (Node.fork i) = refl
   value-law ρ (Node.join i) = refl
+  value-law ρ (Node.signal j i) = refl
   value-law ρ (Node.synch i j) = refl
   value-law ρ Node.truth = refl
   value-law ρ (Node.not i) = refl
@@ -58,6 +59,7 @@ module _ (h : ℕ → Node) (N : ℕ) (o : Descending h N) where
   truth-law ρ (Node.call m i) = refl
   truth-law ρ (Node.fork i) = refl
   truth-law ρ (Node.join i) = refl
+  truth-law ρ (Node.signal j i) = refl
   truth-law ρ (Node.synch i j) = refl
   truth-law ρ Node.truth = refl
   truth-law ρ (Node.not i) = refl
@@ -80,6 +82,7 @@ module _ (h : ℕ → Node) (N : ℕ) (o : Descending h N) where
   bool-law ρ (Node.call m i) = refl
   bool-law ρ (Node.fork i) = refl
   bool-law ρ (Node.join i) = refl
+  bool-law ρ (Node.signal j i) = refl
   bool-law ρ (Node.synch i j) = refl
   bool-law ρ Node.truth = refl
   bool-law ρ (Node.not i) = ap falseWhen (ap (λ (c : Condition). isTruth (substituteᶜ (every ρ) c)) (tree-lawᶜ h N o i) ∙ truth-law ρ (h i))
@@ -126,6 +129,7 @@ module _ (h : ℕ → Node) (N : ℕ) (o : Descending h N) where
     level S (Node.call m i) b = hl S m 0 noSlots (closure i ρ) b
     level S (Node.fork i) b = refl
     level S (Node.join i) b = by-literal _ _ _ _ _ _ (value-in (closure i ρ)) (λ o. refl) (hd _ (closure i ρ) b)
+    level S (Node.signal j i) b = by-literal _ _ _ _ _ _ (value-in (closure i ρ)) (λ o. refl) (hd _ (closure i ρ) b)
     level S (Node.synch i j) b = by-literal _ _ _ _ _ _ (value-in (closure i ρ)) (λ o. refl) (hd _ (closure i ρ) (b .0))
     level S Node.truth b = refl
     level S (Node.not i) b = refl
@@ -148,6 +152,7 @@ module _ (h : ℕ → Node) (N : ℕ) (o : Descending h N) where
     levelᶜ S (Node.call m i) b = refl
     levelᶜ S (Node.fork i) b = refl
     levelᶜ S (Node.join i) b = refl
+    levelᶜ S (Node.signal j i) b = refl
     levelᶜ S (Node.synch i j) b = refl
     levelᶜ S Node.truth b = refl
     levelᶜ S (Node.not i) b = by-bool _ _ _ _ _ _ (bool-in (closure i ρ)) (λ o. by-not S o) (hc _ (closure i ρ) b)
@@ -172,6 +177,7 @@ module _ (h : ℕ → Node) (N : ℕ) (o : Descending h N) where
     levelᵃ S m n σ (Node.call m′ i) b = refl
     levelᵃ S m n σ (Node.fork i) b = refl
     levelᵃ S m n σ (Node.join i) b = refl
+    levelᵃ S m n σ (Node.signal j i) b = refl
     levelᵃ S m n σ (Node.synch i j) b = refl
     levelᵃ S m n σ Node.truth b = refl
     levelᵃ S m n σ (Node.not i) b = refl

@@ -29,6 +29,7 @@ true-node h (Node.while i j) e = refl
 true-node h (Node.call m i) e = refl
 true-node h (Node.fork i) e = refl
 true-node h (Node.join i) e = refl
+true-node h (Node.signal j i) e = refl
 true-node h (Node.synch i j) e = refl
 true-node h Node.truth e = refl
 true-node h (Node.not i) e = at (isTrue (h i)) e
@@ -66,6 +67,7 @@ module _ (h : ℕ → Node) where
     at-least ρ (Node.call m i) b e = hl m 0 noSlots (closure i ρ) b
     at-least ρ (Node.fork i) b e = omega arith
     at-least ρ (Node.join i) b e = given-height (length S) (valueIn h (closure i ρ)) _ _ (λ a q. omega arith) (hd _ (closure i ρ) b)
+    at-least ρ (Node.signal j i) b e = given-height (length S) (valueIn h (closure i ρ)) _ _ (λ a q. omega arith) (hd _ (closure i ρ) b)
     at-least ρ (Node.synch i j) b e = given-height (length S) (valueIn h (closure i ρ)) _ _ (λ a q. omega arith) (hd _ (closure i ρ) (b .0))
     at-least ρ Node.truth b e = absurd (Option·some-ne-none 0 e)
     at-least ρ (Node.not i) b e = absurd (Option·some-ne-none 0 e)
@@ -93,6 +95,7 @@ module _ (h : ℕ → Node) where
     at-leastᶜ ρ (Node.call m i) b e = absurd (Option·some-ne-none true e)
     at-leastᶜ ρ (Node.fork i) b e = absurd (Option·some-ne-none true e)
     at-leastᶜ ρ (Node.join i) b e = absurd (Option·some-ne-none true e)
+    at-leastᶜ ρ (Node.signal j i) b e = absurd (Option·some-ne-none true e)
     at-leastᶜ ρ (Node.synch i j) b e = absurd (Option·some-ne-none true e)
     at-leastᶜ ρ Node.truth b e = absurd (Option·some-ne-none true e)
     at-leastᶜ ρ (Node.not i) b e = given-height (length S) (boolIn h (closure i ρ)) _ _ (λ a q. not-least i a q e) (hc _ (closure i ρ) b)
@@ -117,6 +120,7 @@ module _ (h : ℕ → Node) where
     at-leastᵃ ρ m n σ (Node.call m′ i) b = omega arith
     at-leastᵃ ρ m n σ (Node.fork i) b = omega arith
     at-leastᵃ ρ m n σ (Node.join i) b = omega arith
+    at-leastᵃ ρ m n σ (Node.signal j i) b = omega arith
     at-leastᵃ ρ m n σ (Node.synch i j) b = omega arith
     at-leastᵃ ρ m n σ Node.truth b = omega arith
     at-leastᵃ ρ m n σ (Node.not i) b = omega arith
@@ -210,6 +214,7 @@ module _ (h : ℕ → Node) where
     truth-under (Frame.synch x ∷ S) b = tt
     truth-under (Frame.hold a ∷ S) b = tt
     truth-under (Frame.join ∷ S) b = tt
+    truth-under (Frame.signal j ∷ S) b = tt
     truth-under (Frame.equal₁ x ∷ S) b = tt
     truth-under (Frame.equal₂ a ∷ S) b = tt
     truth-under (Frame.whileBody x ∷ S) b = tt

@@ -40,6 +40,7 @@ module _ (h : ℕ → Node) {R R′ : Type 0} (Related : R → R′ → Type 0) 
     level ρ (Node.call m i) b = hl m 0 noSlots (closure i ρ) b
     level ρ (Node.fork i) b = hf _
     level ρ (Node.join i) b = given-related (valueIn h (closure i ρ)) _ _ _ _ (λ o. hf _) (hd _ (closure i ρ) b)
+    level ρ (Node.signal j i) b = given-related (valueIn h (closure i ρ)) _ _ _ _ (λ o. hf _) (hd _ (closure i ρ) b)
     level ρ (Node.synch i j) b = given-related (valueIn h (closure i ρ)) _ _ _ _ (λ o. hf _) (hd _ (closure i ρ) (b .0))
     level ρ Node.truth b = hf _
     level ρ (Node.not i) b = hf _
@@ -62,6 +63,7 @@ module _ (h : ℕ → Node) {R R′ : Type 0} (Related : R → R′ → Type 0) 
     levelᶜ ρ (Node.call m i) b = hf _
     levelᶜ ρ (Node.fork i) b = hf _
     levelᶜ ρ (Node.join i) b = hf _
+    levelᶜ ρ (Node.signal j i) b = hf _
     levelᶜ ρ (Node.synch i j) b = hf _
     levelᶜ ρ Node.truth b = hf _
     levelᶜ ρ (Node.not i) b = given-related (boolIn h (closure i ρ)) _ _ _ _ (λ o. not-related S o) (hc _ (closure i ρ) b)
@@ -86,6 +88,7 @@ module _ (h : ℕ → Node) {R R′ : Type 0} (Related : R → R′ → Type 0) 
     levelᵃ ρ m n σ (Node.call m′ i) b = hf _
     levelᵃ ρ m n σ (Node.fork i) b = hf _
     levelᵃ ρ m n σ (Node.join i) b = hf _
+    levelᵃ ρ m n σ (Node.signal j i) b = hf _
     levelᵃ ρ m n σ (Node.synch i j) b = hf _
     levelᵃ ρ m n σ Node.truth b = hf _
     levelᵃ ρ m n σ (Node.not i) b = hf _
@@ -110,6 +113,7 @@ module _ (h : ℕ → Node) {R R′ : Type 0} (Related : R → R′ → Type 0) 
     up-level (Frame.synch x ∷ S) v = hf _
     up-level (Frame.hold o ∷ S) v = hf _
     up-level (Frame.join ∷ S) v = hf _
+    up-level (Frame.signal j ∷ S) v = hf _
     up-level (Frame.equal₁ x ∷ S) v = given-related (valueIn h x) _ _ _ _ (λ w. hf _) (hd _ x)
     up-level (Frame.equal₂ o ∷ S) v = hf _
     up-level (Frame.if x ∷ S) v = hf _

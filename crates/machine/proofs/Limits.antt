@@ -4,22 +4,24 @@ use native.Mathlib.Omega.{arith}
 use native.Mathlib.Decide.{ℕ-discrete, decLt}
 use mathlib.Core.Path.{_≡_, refl, sym, ap, _∙_, subst as along}
 use mathlib.Core.Bool.{Bool, true, false, cond, true≢false}
-use mathlib.Core.List.{List, [], _∷_}
+use mathlib.Core.List.{List, [], _∷_, map}
 use mathlib.Core.Option.{Option, some, none}
 use lib.Dec.{eqb}
-use lib.ListN.{length, getElem?, drop}
+use lib.ListN.{length, getElem?, drop, length-map}
 use borrow.Author.Tests.{ltb-false}
 use Rattle.format.proofs.RefusalLaws.{neither}
 use Rattle.keys.specs.Keys.{Keys, empty, singleton, subset, isEmpty}
+use Rattle.packed.specs.Syntax.{Signal}
+use Rattle.rules.specs.Queue.{awake, movedUp}
 use Rattle.rules.specs.State.{Cell, cell}
 use Rattle.rules.specs.Rules.{Rule, e-new, e-write, e-fork, passedOn}
 use Rattle.rules.specs.Room.{Room}
-use Rattle.rules.proofs.StateLaws.{added-old, length-added, change-other, change-length}
+use Rattle.rules.proofs.StateLaws.{there, added-old, length-added, change-other, change-length}
 use Rattle.format.proofs.RefusalLaws.{both-none}
 use Rattle.rules.proofs.RoomLaws.{room-for}
 use Rattle.machine.specs.Frames.{noSlots, Closure, Frame, Ready, Found, height}
 use Rattle.machine.specs.Landing.{go}
-use Rattle.machine.specs.Machine.{Thread, State, Numbered, Table, Act, waits, sticks, lacks, does, Move, Attempt, absent, finished, waiting, stuck, lacking, moves, store, storeMonitor, addObject, addThread, useKey, gain, become, lookup, monitor, threadOf, finishedWith, joinValue, joinAct, synchAct, readAct, writeAct, act, actᶜ, around, attemptAt, attemptBy, attempt}
+use Rattle.machine.specs.Machine.{Thread, State, Numbered, Table, Act, waits, sticks, lacks, does, Move, Attempt, absent, finished, waiting, stuck, lacking, moves, store, storeMonitor, addObject, addThread, useKey, gain, become, enqueue, signalled, lookup, monitor, threadOf, finishedWith, joinValue, joinAct, synchAct, signalMove, signalAct, wakeAct, readAct, writeAct, act, actᶜ, around, attemptAt, attemptBy, attempt}
 use Rattle.machine.specs.Playing.{noRoomBefore, deep, deepAt, anyDeep, noRoomAfter, noRoomFor, moved, withinRoom, answer, step, start}
 
 pub record Counts (s : State) : Type 0 where
@@ -31,10 +33,15 @@ pub record Limits (s : State) : Type 0 where
   pub counts : Counts s
   pub shallow : (q : ℕ) (t : Thread) → getElem? (s .threads) q ≡ some t → height (t .code) ≤ 32
 
--- what a rule leaves of the state, where thread p moves: within the counts if there was room, and no other thread changed
+-- the height of a thread, if it is there
+abbrev heightAt : Option Thread → ℕ
+heightAt none = 0
+heightAt (some t) = height (t .code)
+
+-- what a rule leaves of the state, where thread p moves: within the counts if there was room, and no other thread is at another height
 record Grows (R : Rule) (s : State) (p : ℕ) (s′ : State) : Type 0 where
   counts : noRoomBefore s R ≡ none → Counts s → Counts s′
-  others : (q : ℕ) → (p ≡ q → ⊥) → q < length (s .threads) → getElem? (s′ .threads) q ≡ getElem? (s .threads) q
+  others : (q : ℕ) → (p ≡ q → ⊥) → q < length (s .threads) → heightAt (getElem? (s′ .threads) q) ≡ heightAt (getElem? (s .threads) q)
 
 -- ---- the parts of a move
 
@@ -60,15 +67,37 @@ module _ (R : Rule) (s : State) (p : ℕ) where
   unfolding gain
   after-gain s′ W n g = record {
     counts = λ e k. let z = g .counts e k in record { few-objects = z .few-objects; few-threads = rw change-length (z .few-threads); few-keys = z .few-keys };
-    others = λ q n l. change-other (s′ .threads) p _ q n ∙ g .others q n l;
+    others = λ q n l. ap heightAt (change-other (s′ .threads) p _ q n) ∙ g .others q n l;
+  }
+
+  after-enqueue : (s′ : State) (o : ℕ) → Grows R s p s′ → Grows R s p (enqueue s′ p o)
+  unfolding enqueue
+  after-enqueue s′ o g = record {
+    counts = λ e k. let z = g .counts e k in record { few-objects = z .few-objects; few-threads = rw change-length (z .few-threads); few-keys = z .few-keys };
+    others = λ q n l. ap heightAt (change-other (s′ .threads) p _ q n) ∙ g .others q n l;
   }
 
   after-become : (s′ : State) (F : Found) → Grows R s p s′ → Grows R s p (become s′ p F)
   unfolding become
   after-become s′ F g = record {
     counts = λ e k. let z = g .counts e k in record { few-objects = z .few-objects; few-threads = rw change-length (z .few-threads); few-keys = z .few-keys };
-    others = λ q n l. change-other (s′ .threads) p _ q n ∙ g .others q n l;
+    others = λ q n l. ap heightAt (change-other (s′ .threads) p _ q n) ∙ g .others q n l;
   }
+
+  grows-signal : (h : ℕ → ℕ) (o : ℕ) → Grows R s p (signalled h s o)
+  unfolding signalled
+  grows-signal h o = record {
+    counts = λ e c. record { few-objects = c .few-objects; few-threads = along (λ (n : ℕ). n ≤ 8) (sym (length-map (s .threads) moved)) (c .few-threads); few-keys = c .few-keys };
+    others = λ q n l. at (s .threads) q;
+  }
+    where
+      moved : Thread → Thread
+      moved x = record { self = x .self; code = x .code; keys = x .keys; learnt = x .learnt; place = movedUp h o (x .place) }
+
+      at : (ts : List Thread) (q : ℕ) → heightAt (getElem? (map moved ts) q) ≡ heightAt (getElem? ts q)
+      at [] q = refl
+      at (x ∷ ts) zero = refl
+      at (x ∷ ts) (suc q) = at ts q
 
 module _ (s : State) (p : ℕ) where
   grows-key : Grows e-write s p (useKey s)
@@ -94,7 +123,7 @@ module _ (s : State) (p : ℕ) where
         let y = room-for 8 (length (s .threads)) _ _ e in
         let z = room-for 32 (length (s .objects)) _ _ (y .1) in
         record { few-objects = rw length-added (z .0); few-threads = rw length-added (y .0); few-keys = c .few-keys };
-    others = λ q n l. added-old (s .threads) x q l;
+    others = λ q n l. ap heightAt (added-old (s .threads) x q l);
   }
 
 -- ---- what is ready
@@ -140,6 +169,23 @@ module _ (table : Table) (s : State) (p : ℕ) (t : Thread) where
       cond-grows s p (isEmpty (c .keys)) _ _ (cond-grows s p (eqb (c .value) (t .self)) _ _ (stays _ s p) tt)
       (after-gain _ s p (storeMonitor s o (cell empty (t .self))) (c .keys) _ (after-monitor _ s p s o (cell empty (t .self)) (stays _ s p)))
 
+  move-grows : (k : Signal) (o : ℕ) → GrowsAct s p (signalMove s p t o k)
+  unfolding signalMove
+  move-grows Signal.wait o = after-enqueue _ s p (storeMonitor s o (cell (t .keys) 0)) o (after-monitor _ s p s o (cell (t .keys) 0) (stays _ s p))
+  move-grows Signal.notify o = grows-signal _ s p _ o
+  move-grows Signal.notifyAll o = grows-signal _ s p _ o
+
+  signal-grows : (k : Signal) (o : ℕ) (c : Cell) → GrowsAct s p (signalAct s p t k o c)
+  unfolding signalAct
+  signal-grows k o c = cond-grows s p (isEmpty (c .keys)) _ _ (cond-grows s p (eqb (c .value) (t .self)) _ _ (move-grows k o) tt) tt
+
+  wake-grows : (o n : ℕ) (c : Cell) → GrowsAct s p (wakeAct s p t o n c)
+  unfolding wakeAct
+  wake-grows o zero c =
+      cond-grows s p (isEmpty (c .keys)) _ _ tt
+      (after-gain _ s p (storeMonitor s o (cell empty (t .self))) (c .keys) _ (after-monitor _ s p s o (cell empty (t .self)) (stays _ s p)))
+  wake-grows o (suc n) c = tt
+
   act-grows : (r : Ready) → GrowsAct s p (act table s p t r)
   unfolding act
   act-grows (Ready.new fs) = grows-new s p fs
@@ -153,6 +199,8 @@ module _ (table : Table) (s : State) (p : ℕ) (t : Thread) where
   act-grows (Ready.join o) = join-grows o (threadOf 0 (s .threads) o)
   act-grows (Ready.synch o x) = synch-grows o x (monitor s o)
   act-grows (Ready.hold o v) = after-monitor _ s p s o (cell (t .keys) 0) (stays _ s p)
+  act-grows (Ready.signal k o) = signal-grows k o (monitor s o)
+  act-grows (Ready.waiting o) = wake-grows o (t .place .number) (monitor s o)
   act-grows (Ready.whileTest b x) = stays _ s p
   act-grows (Ready.whileBody o x) = stays _ s p
 
@@ -222,7 +270,11 @@ grown-limits R s p s′ g e l =
     at : (q : ℕ) (t : Thread) → getElem? (s′ .threads) q ≡ some t → deepAt (getElem? (s′ .threads) p) ≡ false → anyDeep (drop (length (s .threads)) (s′ .threads)) ≡ false
         → Dec (p ≡ q) → Dec (q < length (s .threads)) → height (t .code) ≤ 32
     at q t h d a (yes e) i = deep-not (getElem? (s′ .threads) p) d t (ap (getElem? (s′ .threads)) e ∙ h)
-    at q t h d a (no n) (yes i) = l .shallow q t (sym (g .others q n i) ∙ h)
+    at q t h d a (no n) (yes i) =
+        let u = there (s .threads) q i in
+        let e : height (t .code) ≡ height (u .0 .code) = sym (ap heightAt h) ∙ g .others q n i ∙ ap heightAt (u .1) in
+        let b = l .shallow q (u .0) (u .1) in
+        omega arith
     at q t h d a (no n) (no i) = deep-past (length (s .threads)) (s′ .threads) a q t (omega arith) h
 
 admit-limits : (s : State) (p : ℕ) (m m′ : Move) (k : Option Room) → noRoomFor (m .rule) s p (m .state) ≡ k → Grows (m .rule) s p (m .state) → Limits s → withinRoom m k ≡ moved m′ → Limits (m′ .state)
@@ -250,6 +302,6 @@ start-limits = record { counts = record { few-objects = omega arith; few-threads
   where
     at : (q : ℕ) (t : Thread) → getElem? (start .threads) q ≡ some t → height (t .code) ≤ 32
     at zero t h =
-        let e : record { self = 0; code = Found.here [] (Ready.call 0 0 noSlots); keys = singleton 0; learnt = 0 } ≡ t = cc in
+        let e : record { self = 0; code = Found.here [] (Ready.call 0 0 noSlots); keys = singleton 0; learnt = 0; place = awake } ≡ t = cc in
         along (λ (t : Thread). height (t .code) ≤ 32) e (omega arith)
     at (suc q) t h = absurd (true≢false cc)

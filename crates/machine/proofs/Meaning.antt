@@ -6,7 +6,7 @@ use Rattle.packed.specs.Syntax.{Expression, Condition, Arguments, literal, with
 use Rattle.packed.specs.Trees.{Node}
 use Rattle.packed.proofs.TreeLaws.{tree, treeᶜ, treeᵃ}
 use Rattle.rules.specs.Context.{Context, Contextᶜ, Redex, Redexᶜ, Focus}
-use Rattle.machine.specs.Frames.{Closure, Branches, firstOf, secondOf, Frame, read, write₁, write₂, call, letIn, synch, hold, join, equal₁, equal₂, if, and, not, whileTest, whileBody, Ready, Readyᶜ, Found, Result}
+use Rattle.machine.specs.Frames.{Closure, Branches, firstOf, secondOf, Frame, read, write₁, write₂, call, letIn, synch, hold, join, signal, equal₁, equal₂, if, and, not, whileTest, whileBody, Ready, Readyᶜ, Found, Result}
 use Rattle.machine.proofs.Substitution.{every, firstSlots}
 
 module _ (h : ℕ → Node) (N : ℕ) where
@@ -46,6 +46,7 @@ module _ (h : ℕ → Node) (N : ℕ) where
     context (synch x ∷ S) = Context.synch (context S) (expressionIn x)
     context (hold o ∷ S) = Context.hold (context S) o
     context (join ∷ S) = Context.join (context S)
+    context (signal j ∷ S) = Context.signal (context S) j
     context (equal₁ x ∷ S) = Context.equal₁ (contextᶜ S) (expressionIn x)
     context (equal₂ o ∷ S) = Context.equal₂ (contextᶜ S) o
     context (if x ∷ S) = Context.top
@@ -68,6 +69,7 @@ module _ (h : ℕ → Node) (N : ℕ) where
     contextᶜ (synch x ∷ S) = elsewhere
     contextᶜ (hold o ∷ S) = elsewhere
     contextᶜ (join ∷ S) = elsewhere
+    contextᶜ (signal j ∷ S) = elsewhere
     contextᶜ (equal₁ x ∷ S) = elsewhere
     contextᶜ (equal₂ o ∷ S) = elsewhere
     contextᶜ (whileBody x ∷ S) = elsewhere
@@ -84,6 +86,8 @@ module _ (h : ℕ → Node) (N : ℕ) where
   redex (Ready.join o) = Redex.join o
   redex (Ready.synch o x) = Redex.synch o (expressionIn x)
   redex (Ready.hold o v) = Redex.hold o v
+  redex (Ready.signal j o) = Redex.signal j o
+  redex (Ready.waiting o) = Redex.waiting o
   redex (Ready.whileTest b x) = Redex.if b (turnIn x) (literal 0)
   redex (Ready.whileBody o x) = Redex.letIn none o (whileIn x)
 
@@ -105,3 +109,4 @@ module _ (h : ℕ → Node) (N : ℕ) where
   resultOf (Result.whileTest x) = Expression.if (conditionIn (firstOf x)) (turnIn x) (literal 0)
   resultOf (Result.whileBody x) = turnIn x
   resultOf (Result.whileAgain x) = whileIn x
+  resultOf (Result.waiting o) = Expression.waiting o

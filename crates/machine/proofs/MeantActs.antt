@@ -1,5 +1,5 @@
 -- What is ready does what the rules say of the redex that it stands for, unless they say that no rule applies. Assumes nothing.
-use Prim.Native.Nat.{ℕ}
+use Prim.Native.Nat.{ℕ, zero, suc}
 use mathlib.Core.Path.{_≡_, refl, sym, ap, _∙_, subst as along}
 use mathlib.Core.Bool.{Bool, true, false, cond}
 use mathlib.Core.List.{[], _∷_, _++_, map}
@@ -8,13 +8,14 @@ use lib.Dec.{T, eqb, ltb}
 use lib.ListN.{length, getElem?, length-map}
 use borrow.Author.Tests.{eqb-true}
 use Rattle.keys.specs.Keys.{Keys, subset, isEmpty}
-use Rattle.packed.specs.Syntax.{Expression, Procedure, Program, bindParameters, substitute}
+use Rattle.packed.specs.Syntax.{Signal, Expression, Procedure, Program, bindParameters, substitute}
 use Rattle.packed.specs.Slots.{closed}
 use Rattle.packed.proofs.TreeLaws.{tree}
 use Rattle.rules.specs.Context.{plug}
+use Rattle.rules.specs.Queue.{awake}
 use Rattle.rules.specs.State.{Cell, Thread, State, monitorOf, fieldOf, threadOf}
 use Rattle.rules.specs.Rules.{isVolatile, e-call, e-let, e-if}
-use Rattle.rules.specs.Step.{Stuck, Act, waits, sticks, lacks, does, callAct, readAct, writeAct, joinAct, synchAct, holdAct, act, Attempt}
+use Rattle.rules.specs.Step.{Stuck, Act, waits, sticks, lacks, does, callAct, readAct, writeAct, joinAct, synchAct, holdAct, signalMove, signalAct, wakeAct, act, Attempt}
 use Rattle.rules.proofs.Progress.{Ruled}
 use Rattle.machine.specs.Frames.{Slots, Closure, closure, Ready, Result}
 use Rattle.machine.specs.Landing.{enter, go}
@@ -23,7 +24,7 @@ use Rattle.machine.specs.Machine.{Table}
 use Rattle.machine.proofs.Substitution.{every, firstSlots, first-length, let-put, call-slots}
 use Rattle.machine.proofs.Meaning.{expressionIn, redex}
 use Rattle.machine.proofs.Onward.{whole-go}
-use Rattle.machine.proofs.StateMeaning.{map-added, Tabulates, threadMeant, stateOf, actOf, gain-of, thread-of, cond-of, join-of, choose-of, branch-of, again-of}
+use Rattle.machine.proofs.StateMeaning.{map-added, Tabulates, threadMeant, stateOf, actOf, gain-of, enqueue-of, signalled-of, thread-of, cond-of, join-of, choose-of, branch-of, again-of}
 
 -- a rule applies
 abbrev pub RuledAct : Act → Type 0
@@ -40,6 +41,28 @@ module _ (table : Table) where
   synch-of s p t o x none k = absurd k
   synch-of s p t o x (some c) k =
       cond-of table (isEmpty (c .keys)) _ _ _ _ _ refl (cond-of table (eqb (c .value) (t .self)) _ _ _ _ _ refl refl refl) (rw (gain-of table))
+
+  move-of : (s : machine.State) (p : ℕ) (t : machine.Thread) (o : ℕ) (k : Signal)
+      → actOf table (machine.signalMove s p t o k) ≡ signalMove (stateOf table s) p (threadMeant table t) o k
+  unfolding machine.signalMove signalMove
+  move-of s p t o Signal.wait = rw (enqueue-of table)
+  move-of s p t o Signal.notify = rw (signalled-of table)
+  move-of s p t o Signal.notifyAll = rw (signalled-of table)
+
+  signal-of : (s : machine.State) (p : ℕ) (t : machine.Thread) (j : Signal) (o : ℕ) (c : Option Cell)
+      → RuledAct (signalAct (stateOf table s) p (threadMeant table t) j o c)
+      → actOf table (machine.signalAct s p t j o (machine.cellOr c)) ≡ signalAct (stateOf table s) p (threadMeant table t) j o c
+  unfolding machine.signalAct machine.cellOr signalAct
+  signal-of s p t j o none k = absurd k
+  signal-of s p t j o (some c) k =
+      cond-of table (isEmpty (c .keys)) _ _ _ _ _ refl (cond-of table (eqb (c .value) (t .self)) _ _ _ _ _ refl (move-of s p t o j) refl) refl
+
+  wake-of : (s : machine.State) (p : ℕ) (t : machine.Thread) (o n : ℕ) (c : Option Cell) → RuledAct (wakeAct (stateOf table s) p (threadMeant table t) o n c)
+      → actOf table (machine.wakeAct s p t o n (machine.cellOr c)) ≡ wakeAct (stateOf table s) p (threadMeant table t) o n c
+  unfolding machine.wakeAct machine.cellOr wakeAct
+  wake-of s p t o n none k = absurd k
+  wake-of s p t o (suc n) (some c) k = refl
+  wake-of s p t o zero (some c) k = cond-of table (isEmpty (c .keys)) _ _ _ _ _ refl refl (rw (gain-of table))
 
   hold-of : (s : machine.State) (p : ℕ) (t : machine.Thread) (o v : ℕ) (c : Option Cell) → RuledAct (holdAct (stateOf table s) p (threadMeant table t) o v c)
       → actOf table (machine.act table s p t (Ready.hold o v)) ≡ holdAct (stateOf table s) p (threadMeant table t) o v c
@@ -92,12 +115,12 @@ module _ (table : Table) where
         at false e k = absurd k
 
     fork-of : (s : machine.State) (x : Closure) (o : ℕ) (W : Keys)
-        → map (threadMeant table) (s .threads ++ (record { self = o; code = enter (table .node) (table .count) [] x; keys = W; learnt = 0 } ∷ []))
-        ≡ map (threadMeant table) (s .threads) ++ (record { self = o; expression = expressionIn (table .node) (table .count) x; keys = W; learnt = 0 } ∷ [])
+        → map (threadMeant table) (s .threads ++ (record { self = o; code = enter (table .node) (table .count) [] x; keys = W; learnt = 0; place = awake } ∷ []))
+        ≡ map (threadMeant table) (s .threads) ++ (record { self = o; expression = expressionIn (table .node) (table .count) x; keys = W; learnt = 0; place = awake } ∷ [])
     unfolding go plug
     fork-of s x o W =
         map-added (threadMeant table) (s .threads) _
-        ∙ ap (λ (e : Expression). map (threadMeant table) (s .threads) ++ (record { self = o; expression = e; keys = W; learnt = 0 } ∷ []))
+        ∙ ap (λ (e : Expression). map (threadMeant table) (s .threads) ++ (record { self = o; expression = e; keys = W; learnt = 0; place = awake } ∷ []))
         (whole-go (table .node) (table .count) (law .ordered) [] (Result.run x))
 
     pub act-of : (s : machine.State) (p : ℕ) (t : machine.Thread) (r : Ready) → RuledAct (act g (stateOf table s) p (threadMeant table t) (redex (table .node) (table .count) r))
@@ -114,5 +137,7 @@ module _ (table : Table) where
     act-of s p t (Ready.join o) k = join-of table s p o (machine.threadOf 0 (s .threads) o) ∙ ap (joinAct (stateOf table s) p o) (sym (thread-of table 0 (s .threads) o))
     act-of s p t (Ready.synch o x) k = synch-of s p t o x (monitorOf (getElem? (s .objects) o)) k
     act-of s p t (Ready.hold o v) k = hold-of s p t o v (monitorOf (getElem? (s .objects) o)) k
+    act-of s p t (Ready.signal j o) k = signal-of s p t j o (monitorOf (getElem? (s .objects) o)) k
+    act-of s p t (Ready.waiting o) k = wake-of s p t o (t .place .number) (monitorOf (getElem? (s .objects) o)) k
     act-of s p t (Ready.whileTest b x) k = ap (does e-if none (stateOf table s)) (choose-of table b (Result.whileBody x) (Result.value 0))
     act-of s p t (Ready.whileBody o x) k = ap (does e-let none (stateOf table s)) (again-of table o x)

@@ -47,6 +47,7 @@ module _ (h : ℕ → Node) (N : ℕ) (o : Descending h N) where
   up-focus (Frame.synch x ∷ S) v = sym (focus-plug (context h N S) (Expression.synch (literal v) (expressionIn h N x)) refl)
   up-focus (Frame.hold o ∷ S) v = sym (focus-plug (context h N S) (Expression.hold o (literal v)) refl)
   up-focus (Frame.join ∷ S) v = sym (focus-plug (context h N S) (Expression.join (literal v)) refl)
+  up-focus (Frame.signal j ∷ S) v = sym (focus-plug (context h N S) (Expression.signal j (literal v)) refl)
   up-focus (Frame.equal₁ x ∷ S) v =
       by-literal h N o _ _ _ _ _ _ (value-in h N o x) (λ w. refl) (down-at (Frame.equal₂ v ∷ S) x)
       ∙ sym (focus-plugᶜ (contextᶜ h N S) (Condition.equal (literal v) (expressionIn h N x)) refl)
@@ -83,6 +84,7 @@ module _ (h : ℕ → Node) (N : ℕ) (o : Descending h N) where
   upᶜ-focus (Frame.synch x ∷ S) b = nowhere-focus b
   upᶜ-focus (Frame.hold o ∷ S) b = nowhere-focus b
   upᶜ-focus (Frame.join ∷ S) b = nowhere-focus b
+  upᶜ-focus (Frame.signal j ∷ S) b = nowhere-focus b
   upᶜ-focus (Frame.equal₁ x ∷ S) b = nowhere-focus b
   upᶜ-focus (Frame.equal₂ o ∷ S) b = nowhere-focus b
   upᶜ-focus (Frame.whileBody x ∷ S) b = nowhere-focus b
@@ -114,6 +116,7 @@ module _ (h : ℕ → Node) (N : ℕ) (o : Descending h N) where
   go-focus S (Result.whileTest x) = enter-focusᶜ (Frame.whileTest x ∷ S) (firstOf x)
   go-focus S (Result.whileBody x) = enter-focus (Frame.whileBody x ∷ S) (secondOf x)
   go-focus S (Result.whileAgain x) = sym (found (context h N S) (redex h N (Ready.while x)))
+  go-focus S (Result.waiting o) = sym (found (context h N S) (redex h N (Ready.waiting o)))
 
   -- the thread's expression after a move
   pub whole-go : (S : List Frame) (r : Result) → whole (mean h N (go h N S r)) ≡ plug (context h N S) (resultOf h N r)

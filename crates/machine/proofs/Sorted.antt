@@ -23,6 +23,7 @@ abbrev mutual
   Well (Frame.synch x ∷ S) = Well S
   Well (Frame.hold o ∷ S) = Well S
   Well (Frame.join ∷ S) = Well S
+  Well (Frame.signal j ∷ S) = Well S
   Well (Frame.whileBody x ∷ S) = Well S
   Well (Frame.equal₁ x ∷ S) = Wellᶜ S
   Well (Frame.equal₂ o ∷ S) = Wellᶜ S
@@ -42,6 +43,7 @@ abbrev mutual
   Wellᶜ (Frame.synch x ∷ S) = ⊥
   Wellᶜ (Frame.hold o ∷ S) = ⊥
   Wellᶜ (Frame.join ∷ S) = ⊥
+  Wellᶜ (Frame.signal j ∷ S) = ⊥
   Wellᶜ (Frame.whileBody x ∷ S) = ⊥
   Wellᶜ (Frame.equal₁ x ∷ S) = ⊥
   Wellᶜ (Frame.equal₂ o ∷ S) = ⊥
@@ -69,6 +71,7 @@ module _ (h : ℕ → Node) (N : ℕ) where
     depth-context (Frame.synch x ∷ S) w = ap suc (depth-context S w)
     depth-context (Frame.hold o ∷ S) w = ap suc (depth-context S w)
     depth-context (Frame.join ∷ S) w = ap suc (depth-context S w)
+    depth-context (Frame.signal j ∷ S) w = ap suc (depth-context S w)
     depth-context (Frame.whileBody x ∷ S) w = ap suc (depth-context S w)
     depth-context (Frame.equal₁ x ∷ S) w = ap suc (depth-contextᶜ S w)
     depth-context (Frame.equal₂ o ∷ S) w = ap suc (depth-contextᶜ S w)
@@ -87,6 +90,7 @@ module _ (h : ℕ → Node) (N : ℕ) where
     depth-contextᶜ (Frame.synch x ∷ S) w = absurd w
     depth-contextᶜ (Frame.hold o ∷ S) w = absurd w
     depth-contextᶜ (Frame.join ∷ S) w = absurd w
+    depth-contextᶜ (Frame.signal j ∷ S) w = absurd w
     depth-contextᶜ (Frame.whileBody x ∷ S) w = absurd w
     depth-contextᶜ (Frame.equal₁ x ∷ S) w = absurd w
     depth-contextᶜ (Frame.equal₂ o ∷ S) w = absurd w
@@ -129,6 +133,7 @@ module _ (h : ℕ → Node) where
     level-well ρ S (Node.call m i) w = hl S m 0 noSlots (closure i ρ) w
     level-well ρ S (Node.fork i) w = w
     level-well ρ S (Node.join i) w = given-well (valueIn h (closure i ρ)) _ _ (λ o. w) (hd _ (closure i ρ) w)
+    level-well ρ S (Node.signal j i) w = given-well (valueIn h (closure i ρ)) _ _ (λ o. w) (hd _ (closure i ρ) w)
     level-well ρ S (Node.synch i j) w = given-well (valueIn h (closure i ρ)) _ _ (λ o. w) (hd _ (closure i ρ) w)
     level-well ρ S Node.truth w = tt
     level-well ρ S (Node.not i) w = tt
@@ -151,6 +156,7 @@ module _ (h : ℕ → Node) where
     level-wellᶜ ρ S (Node.call m i) w = tt
     level-wellᶜ ρ S (Node.fork i) w = tt
     level-wellᶜ ρ S (Node.join i) w = tt
+    level-wellᶜ ρ S (Node.signal j i) w = tt
     level-wellᶜ ρ S (Node.synch i j) w = tt
     level-wellᶜ ρ S Node.truth w = tt
     level-wellᶜ ρ S (Node.not i) w = given-well (boolIn h (closure i ρ)) _ _ (λ b. not-well h S b w) (hc _ (closure i ρ) w)
@@ -173,6 +179,7 @@ module _ (h : ℕ → Node) where
     level-wellᵃ ρ S m n σ (Node.call m′ i) w = w
     level-wellᵃ ρ S m n σ (Node.fork i) w = w
     level-wellᵃ ρ S m n σ (Node.join i) w = w
+    level-wellᵃ ρ S m n σ (Node.signal j i) w = w
     level-wellᵃ ρ S m n σ (Node.synch i j) w = w
     level-wellᵃ ρ S m n σ Node.truth w = w
     level-wellᵃ ρ S m n σ (Node.not i) w = w
@@ -215,6 +222,7 @@ module _ (h : ℕ → Node) where
     up-well (Frame.synch x ∷ S) v w = w
     up-well (Frame.hold o ∷ S) v w = w
     up-well (Frame.join ∷ S) v w = w
+    up-well (Frame.signal j ∷ S) v w = w
     up-well (Frame.whileBody x ∷ S) v w = w
     up-well (Frame.equal₁ x ∷ S) v w = given-well (valueIn h x) _ _ (λ o. w) (down-well N (Frame.equal₂ v ∷ S) x w)
     up-well (Frame.equal₂ o ∷ S) v w = w
@@ -234,6 +242,7 @@ module _ (h : ℕ → Node) where
     up-wellᶜ (Frame.synch x ∷ S) b w = absurd w
     up-wellᶜ (Frame.hold o ∷ S) b w = absurd w
     up-wellᶜ (Frame.join ∷ S) b w = absurd w
+    up-wellᶜ (Frame.signal j ∷ S) b w = absurd w
     up-wellᶜ (Frame.whileBody x ∷ S) b w = absurd w
     up-wellᶜ (Frame.equal₁ x ∷ S) b w = absurd w
     up-wellᶜ (Frame.equal₂ o ∷ S) b w = absurd w
@@ -259,3 +268,4 @@ module _ (h : ℕ → Node) where
     go-well S (Result.whileTest x) w = enter-wellᶜ (Frame.whileTest x ∷ S) (firstOf x) w
     go-well S (Result.whileBody x) w = enter-well (Frame.whileBody x ∷ S) (secondOf x) w
     go-well S (Result.whileAgain x) w = w
+    go-well S (Result.waiting o) w = w

@@ -7,7 +7,7 @@ use Rattle.packed.specs.Syntax.{Program}
 use Rattle.rules.specs.State.{Cell, Thread, monitorOf, lookup, monitor}
 use Rattle.rules.proofs.Decompose.{focus-whole}
 use Rattle.rules.proofs.Placed.{Good, holds}
-use Rattle.rules.proofs.Invariant.{In, heldBy}
+use Rattle.rules.proofs.Invariant.{GivenUp, In, heldBy}
 use Rattle.machine.specs.Machine as machine
 use Rattle.machine.specs.Machine.{Table}
 use Rattle.machine.proofs.Meaning.{mean}
@@ -19,8 +19,9 @@ use Rattle.machine.proofs.StateMeaning.{threadMeant, get-map}
 pub record Standing (table : Table) (g : Program) (s : machine.State) (t : machine.Thread) : Type 0 where
   pub good : Good g (length (s .objects)) (mean (table .node) (table .count) (t .code))
   pub self-there : t .self < length (s .objects)
-  -- the monitors of the holds that it has still to leave are its own
-  pub held : (o : ℕ) → In o (holds (mean (table .node) (table .count) (t .code))) → monitorOf (getElem? (s .objects) o) ≡ some (heldBy (threadMeant table t))
+  -- the monitors of the holds that it has still to leave are its own, but for one that it has given up
+  pub held : (o : ℕ) → In o (holds (mean (table .node) (table .count) (t .code)))
+      → (GivenUp (mean (table .node) (table .count) (t .code)) o → ⊥) → monitorOf (getElem? (s .objects) o) ≡ some (heldBy (threadMeant table t))
 
 pub standing : (table : Table) (g : Program) (s : machine.State) (p : ℕ) (t : machine.Thread) → Reached table g s → getElem? (s .threads) p ≡ some t → Standing table g s t
 unfolding monitor

@@ -12,7 +12,8 @@ use Rattle.packed.specs.Slots.{closed}
 use Rattle.packed.specs.Steps.{Descending}
 use Rattle.packed.proofs.TreeLaws.{tree, treeᶜ}
 use Rattle.rules.specs.Context.{asLiteral}
-use Rattle.rules.specs.State.{Thread, State, Numbered, changeAt, gain, become, threadOf}
+use Rattle.rules.specs.Queue.{Place, lastPlace, movedUp}
+use Rattle.rules.specs.State.{Thread, State, Numbered, changeAt, gain, become, enqueue, signalled, threadOf}
 use Rattle.rules.specs.Rules.{isVolatile}
 use Rattle.rules.specs.Step.{Act, waits, sticks, lacks, does, joinValue, joinAct, Attempt}
 use Rattle.rules.proofs.Decompose.{whole, no-literal}
@@ -46,7 +47,7 @@ module _ (table : Table) where
   meant F = whole (mean (table .node) (table .count) F)
 
   abbrev pub threadMeant : machine.Thread → Thread
-  threadMeant x = record { self = x .self; expression = meant (x .code); keys = x .keys; learnt = x .learnt }
+  threadMeant x = record { self = x .self; expression = meant (x .code); keys = x .keys; learnt = x .learnt; place = x .place }
 
   abbrev pub stateOf : machine.State → State
   stateOf s = record { objects = s .objects; threads = map threadMeant (s .threads); nextKey = s .nextKey }
@@ -85,7 +86,27 @@ module _ (table : Table) where
   unfolding machine.become become
   become-of s p F e q =
       ap (λ (l : List Thread). record { objects = s .objects; threads = l; nextKey = s .nextKey })
-      (change-of (s .threads) p _ _ (λ x. ap (λ (e : Expression). record { self = x .self; expression = e; keys = x .keys; learnt = x .learnt }) q))
+      (change-of (s .threads) p _ _ (λ x. ap (λ (e : Expression). record { self = x .self; expression = e; keys = x .keys; learnt = x .learnt; place = x .place }) q))
+
+  places-of : (xs : List machine.Thread) → map (λ (y : Thread). y .place) (map threadMeant xs) ≡ map (λ (y : machine.Thread). y .place) xs
+  places-of [] = refl
+  places-of (x ∷ xs) = ap (λ (l : List Place). x .place ∷ l) (places-of xs)
+
+  pub enqueue-of : (s : machine.State) (p o : ℕ) → stateOf (machine.enqueue s p o) ≡ enqueue (stateOf s) p o
+  unfolding machine.enqueue enqueue
+  enqueue-of s p o =
+      ap (λ (l : List Thread). record { objects = s .objects; threads = l; nextKey = s .nextKey })
+      (change-of (s .threads) p _ _ (λ x. ap (λ (l : List Place). record { self = x .self; expression = meant (x .code); keys = x .keys; learnt = x .learnt; place = lastPlace o l }) (sym (places-of (s .threads)))))
+
+  moved-of : (h : ℕ → ℕ) (o : ℕ) (xs : List machine.Thread)
+      → map threadMeant (map (λ (x : machine.Thread). record { self = x .self; code = x .code; keys = x .keys; learnt = x .learnt; place = movedUp h o (x .place) }) xs)
+      ≡ map (λ (x : Thread). record { self = x .self; expression = x .expression; keys = x .keys; learnt = x .learnt; place = movedUp h o (x .place) }) (map threadMeant xs)
+  moved-of h o [] = refl
+  moved-of h o (x ∷ xs) = ap (λ (l : List Thread). threadMeant (record { self = x .self; code = x .code; keys = x .keys; learnt = x .learnt; place = movedUp h o (x .place) }) ∷ l) (moved-of h o xs)
+
+  pub signalled-of : (h : ℕ → ℕ) (s : machine.State) (o : ℕ) → stateOf (machine.signalled h s o) ≡ signalled h (stateOf s) o
+  unfolding machine.signalled signalled
+  signalled-of h s o = ap (λ (l : List Thread). record { objects = s .objects; threads = l; nextKey = s .nextKey }) (moved-of h o (s .threads))
 
   pub thread-of : (i : ℕ) (xs : List machine.Thread) (o : ℕ) → threadOf i (map threadMeant xs) o ≡ Option·map numberedMeant (machine.threadOf i xs o)
   unfolding threadOf machine.threadOf

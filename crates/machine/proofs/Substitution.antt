@@ -54,6 +54,8 @@ mutual
   compose σ τ (Expression.join e) = rw (compose σ τ e)
   compose σ τ (Expression.synch e e′) = rw (compose σ τ e, compose σ τ e′)
   compose σ τ (Expression.hold o e) = rw (compose σ τ e)
+  compose σ τ (Expression.signal j e) = rw (compose σ τ e)
+  compose σ τ (Expression.waiting o) = refl
 
   composeᶜ : (σ τ : Environment) (c : Condition) → substituteᶜ τ (substituteᶜ σ c) ≡ substituteᶜ (andThen σ τ) c
   composeᶜ σ τ Condition.truth = refl
@@ -130,6 +132,8 @@ mutual
   agree β σ τ h (Expression.join e) c = rw (agree β σ τ h e c)
   agree β σ τ h (Expression.synch e e′) c = let d = and-yes (closed β e) (closed β e′) c in rw (agree β σ τ h e (d .0), agree β σ τ h e′ (d .1))
   agree β σ τ h (Expression.hold o e) c = rw (agree β σ τ h e c)
+  agree β σ τ h (Expression.signal j e) c = rw (agree β σ τ h e c)
+  agree β σ τ h (Expression.waiting o) c = refl
 
   agreeᶜ : (β : ℕ → Bool) (σ τ : Environment) → Agree β σ τ → (b : Condition) → T (closedᶜ β b) → substituteᶜ σ b ≡ substituteᶜ τ b
   agreeᶜ β σ τ h Condition.truth c = refl

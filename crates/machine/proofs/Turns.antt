@@ -76,6 +76,7 @@ module _ (h : ℕ → Node) (N : ℕ) (o : Descending h N) where
   truth-lands (Frame.synch x ∷ S) b = refl
   truth-lands (Frame.hold a ∷ S) b = refl
   truth-lands (Frame.join ∷ S) b = refl
+  truth-lands (Frame.signal j ∷ S) b = refl
   truth-lands (Frame.equal₁ x ∷ S) b = refl
   truth-lands (Frame.equal₂ a ∷ S) b = refl
   truth-lands (Frame.whileBody x ∷ S) b = refl

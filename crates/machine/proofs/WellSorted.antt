@@ -1,16 +1,18 @@
 -- Every move keeps the frames of the machine's threads well sorted. Assumes nothing.
 use Prim.Native.Nat.{ℕ, zero, suc}
 use mathlib.Core.Bool.{Bool, true, false, cond}
-use mathlib.Core.List.{List, [], _∷_, _++_}
+use mathlib.Core.List.{List, [], _∷_, _++_, map}
 use mathlib.Core.Option.{Option, some, none}
 use lib.Dec.{eqb}
 use lib.ListN.{getElem?, drop}
 use Rattle.keys.specs.Keys.{Keys, empty, singleton, subset, isEmpty}
+use Rattle.packed.specs.Syntax.{Signal}
+use Rattle.rules.specs.Queue.{movedUp}
 use Rattle.rules.specs.Rules.{passedOn}
 use Rattle.rules.specs.State.{Cell, cell, changeAt, fieldOf}
 use Rattle.machine.specs.Frames.{Closure, Frame, Ready, Readyᶜ, Found}
 use Rattle.machine.specs.Landing.{go}
-use Rattle.machine.specs.Machine.{Thread, State, Numbered, Table, Act, waits, sticks, lacks, does, Attempt, absent, finished, waiting, stuck, lacking, moves, store, storeMonitor, useKey, gain, become, monitor, threadOf, finishedWith, joinValue, joinAct, synchAct, readAct, writeAct, act, actᶜ, around, attemptAt, attemptBy, attempt}
+use Rattle.machine.specs.Machine.{Thread, State, Numbered, Table, Act, waits, sticks, lacks, does, Attempt, absent, finished, waiting, stuck, lacking, moves, store, storeMonitor, useKey, gain, become, enqueue, signalled, monitor, threadOf, finishedWith, joinValue, joinAct, synchAct, signalMove, signalAct, wakeAct, readAct, writeAct, act, actᶜ, around, attemptAt, attemptBy, attempt}
 use Rattle.machine.proofs.Sorted.{Well, Wellᶜ, WellFound, go-well, enter-well, enter-wellᶜ, up-wellᶜ}
 
 abbrev pub WellAll : List Thread → Type 0
@@ -49,6 +51,19 @@ become-well : (s : State) (p : ℕ) (F : Found) → WellAll (s .threads) → Wel
 unfolding become
 become-well s p F w v = well-change (s .threads) p _ (λ x u. v) w
 
+enqueue-well : (s : State) (p o : ℕ) → WellAll (s .threads) → WellAll (enqueue s p o .threads)
+unfolding enqueue
+enqueue-well s p o w = well-change (s .threads) p _ (λ x v. v) w
+
+moved-well : (h : ℕ → ℕ) (o : ℕ) (xs : List Thread) → WellAll xs
+    → WellAll (map (λ (x : Thread). record { self = x .self; code = x .code; keys = x .keys; learnt = x .learnt; place = movedUp h o (x .place) }) xs)
+moved-well h o [] w = tt
+moved-well h o (x ∷ xs) w = (w .0, moved-well h o xs (w .1))
+
+signalled-well : (h : ℕ → ℕ) (s : State) (o : ℕ) → WellAll (s .threads) → WellAll (signalled h s o .threads)
+unfolding signalled
+signalled-well h s o w = moved-well h o (s .threads) w
+
 -- ---- what is ready
 
 abbrev WellAct : Act → Type 0
@@ -76,6 +91,21 @@ unfolding synchAct
 synch-well s p t o x c w =
     cond-well (isEmpty (c .keys)) _ _ (cond-well (eqb (c .value) (t .self)) _ _ w tt) (gain-well (storeMonitor s o (cell empty (t .self))) p (c .keys) _ w)
 
+move-well : (s : State) (p : ℕ) (t : Thread) (o : ℕ) (k : Signal) → WellAll (s .threads) → WellAct (signalMove s p t o k)
+unfolding signalMove
+move-well s p t o Signal.wait w = enqueue-well (storeMonitor s o (cell (t .keys) 0)) p o w
+move-well s p t o Signal.notify w = signalled-well _ s o w
+move-well s p t o Signal.notifyAll w = signalled-well _ s o w
+
+signal-well : (s : State) (p : ℕ) (t : Thread) (k : Signal) (o : ℕ) (c : Cell) → WellAll (s .threads) → WellAct (signalAct s p t k o c)
+unfolding signalAct
+signal-well s p t k o c w = cond-well (isEmpty (c .keys)) _ _ (cond-well (eqb (c .value) (t .self)) _ _ (move-well s p t o k w) tt) tt
+
+wake-well : (s : State) (p : ℕ) (t : Thread) (o n : ℕ) (c : Cell) → WellAll (s .threads) → WellAct (wakeAct s p t o n c)
+unfolding wakeAct
+wake-well s p t o zero c w = cond-well (isEmpty (c .keys)) _ _ tt (gain-well (storeMonitor s o (cell empty (t .self))) p (c .keys) _ w)
+wake-well s p t o (suc n) c w = tt
+
 module _ (table : Table) where
   read-well : (s : State) (p : ℕ) (t : Thread) (o f : ℕ) (c : Option Cell) → WellAll (s .threads) → WellAct (readAct table s p t o f c)
   unfolding readAct
@@ -102,6 +132,8 @@ module _ (table : Table) where
   act-well s p t (Ready.join o) w = join-well s p o (threadOf 0 (s .threads) o) w
   act-well s p t (Ready.synch o x) w = synch-well s p t o x (monitor s o) w
   act-well s p t (Ready.hold o v) w = w
+  act-well s p t (Ready.signal k o) w = signal-well s p t k o (monitor s o) w
+  act-well s p t (Ready.waiting o) w = wake-well s p t o (t .place .number) (monitor s o) w
   act-well s p t (Ready.whileTest b x) w = w
   act-well s p t (Ready.whileBody o x) w = w
 

@@ -6,6 +6,7 @@ use mathlib.Core.List.{List}
 use mathlib.Core.Option.{Option, some, none}
 use lib.Dec.{eqb}
 use lib.ListN.{length}
+use Rattle.packed.specs.Syntax.{Signal}
 
 -- a value for every slot: a slot that nothing binds has one too, which no accepted plan asks for
 abbrev pub Slots : Type 0
@@ -58,6 +59,7 @@ pub data Frame : Type 0 where
   synch : Closure → Frame  -- synch • do e
   hold : ℕ → Frame  -- hold o do •
   join : Frame  -- join •
+  signal : Signal → Frame  -- wait •, notify •, notify all •
   equal₁ : Closure → Frame  -- • == e
   equal₂ : ℕ → Frame  -- o == •
   if : Branches → Frame  -- if • then e else e
@@ -79,6 +81,8 @@ pub data Ready : Type 0 where
   join : ℕ → Ready
   synch : ℕ → Closure → Ready
   hold : ℕ → ℕ → Ready
+  signal : Signal → ℕ → Ready
+  waiting : ℕ → Ready  -- a wait on o that has given up its monitor
   whileTest : Bool → Branches → Ready  -- if b then (e; while c do e) else null
   whileBody : ℕ → Branches → Ready  -- o; while c do e
 
@@ -108,3 +112,4 @@ pub data Result : Type 0 where
   whileTest : Branches → Result  -- if c then (e; while c do e) else null
   whileBody : Branches → Result  -- e; while c do e
   whileAgain : Branches → Result  -- while c do e
+  waiting : ℕ → Result  -- a wait on o that has given up its monitor

@@ -4,7 +4,7 @@ use Prim.Native.Nat.{ℕ, zero, suc}
 use mathlib.Core.Bool.{Bool, true, false}
 use mathlib.Core.List.{List, [], _∷_}
 use mathlib.Core.Option.{Option, some, none}
-use Rattle.packed.specs.Trees.{Node, null, variable, new, read, write, letIn, if, while, call, fork, join, synch, truth, not, and, equal, list, listEnd, unknown}
+use Rattle.packed.specs.Trees.{Node, null, variable, new, read, write, letIn, if, while, call, fork, join, signal, synch, truth, not, and, equal, list, listEnd, unknown}
 use Rattle.rules.specs.Context.{falseWhen}
 use Rattle.machine.specs.Frames.{Slots, noSlots, put, Closure, closure, branches, firstOf, secondOf, Frame, Ready, Readyᶜ, Found, Result}
 
@@ -28,6 +28,7 @@ valueOf ρ (while i j) = none
 valueOf ρ (call m i) = none
 valueOf ρ (fork i) = none
 valueOf ρ (join i) = none
+valueOf ρ (signal k i) = none
 valueOf ρ (synch i j) = none
 valueOf ρ truth = some 0
 valueOf ρ (not i) = some 0
@@ -50,6 +51,7 @@ isTrue (while i j) = true
 isTrue (call m i) = true
 isTrue (fork i) = true
 isTrue (join i) = true
+isTrue (signal k i) = true
 isTrue (synch i j) = true
 isTrue truth = true
 isTrue (not i) = false
@@ -74,6 +76,7 @@ module _ (h : ℕ → Node) where
   boolOf (call m i) = some true
   boolOf (fork i) = some true
   boolOf (join i) = some true
+  boolOf (signal k i) = some true
   boolOf (synch i j) = some true
   boolOf truth = some true
   boolOf (not i) = falseWhen (isTrue (h i))
@@ -124,6 +127,7 @@ module _ (h : ℕ → Node) where
       downBy ρ S (call m i) = l S m 0 noSlots (closure i ρ)
       downBy ρ S (fork i) = found (Found.here S (Ready.fork (closure i ρ)))
       downBy ρ S (join i) = given (valueIn (closure i ρ)) (λ o. found (Found.here S (Ready.join o))) (d (Frame.join ∷ S) (closure i ρ))
+      downBy ρ S (signal k i) = given (valueIn (closure i ρ)) (λ o. found (Found.here S (Ready.signal k o))) (d (Frame.signal k ∷ S) (closure i ρ))
       downBy ρ S (synch i j) =
           given (valueIn (closure i ρ)) (λ o. found (Found.here S (Ready.synch o (closure j ρ)))) (d (Frame.synch (closure j ρ) ∷ S) (closure i ρ))
       downBy ρ S truth = found (Found.value 0)
@@ -147,6 +151,7 @@ module _ (h : ℕ → Node) where
       downByᶜ ρ S (call m i) = found (Found.value 0)
       downByᶜ ρ S (fork i) = found (Found.value 0)
       downByᶜ ρ S (join i) = found (Found.value 0)
+      downByᶜ ρ S (signal k i) = found (Found.value 0)
       downByᶜ ρ S (synch i j) = found (Found.value 0)
       downByᶜ ρ S truth = found (Found.value 0)
       downByᶜ ρ S (not i) = given (boolIn (closure i ρ)) (λ b. foundNot S b) (c (Frame.not ∷ S) (closure i ρ))
@@ -171,6 +176,7 @@ module _ (h : ℕ → Node) where
       downByᵃ ρ S m n σ (call m′ i) = found (Found.here S (Ready.call m n σ))
       downByᵃ ρ S m n σ (fork i) = found (Found.here S (Ready.call m n σ))
       downByᵃ ρ S m n σ (join i) = found (Found.here S (Ready.call m n σ))
+      downByᵃ ρ S m n σ (signal k i) = found (Found.here S (Ready.call m n σ))
       downByᵃ ρ S m n σ (synch i j) = found (Found.here S (Ready.call m n σ))
       downByᵃ ρ S m n σ truth = found (Found.here S (Ready.call m n σ))
       downByᵃ ρ S m n σ (not i) = found (Found.here S (Ready.call m n σ))
@@ -193,6 +199,7 @@ module _ (h : ℕ → Node) where
       upBy (Frame.synch x ∷ S) v = found (Found.here S (Ready.synch v x))
       upBy (Frame.hold o ∷ S) v = found (Found.here S (Ready.hold o v))
       upBy (Frame.join ∷ S) v = found (Found.here S (Ready.join v))
+      upBy (Frame.signal k ∷ S) v = found (Found.here S (Ready.signal k v))
       upBy (Frame.equal₁ x ∷ S) v = equalBy S v x
       upBy (Frame.equal₂ o ∷ S) v = found (Found.hereᶜ S (Readyᶜ.equal o v))
       upBy (Frame.if x ∷ S) v = found (Found.value v)
@@ -245,6 +252,7 @@ module _ (h : ℕ → Node) where
     upᶜ (Frame.synch x ∷ S) b = nowhere b
     upᶜ (Frame.hold o ∷ S) b = nowhere b
     upᶜ (Frame.join ∷ S) b = nowhere b
+    upᶜ (Frame.signal k ∷ S) b = nowhere b
     upᶜ (Frame.equal₁ x ∷ S) b = nowhere b
     upᶜ (Frame.equal₂ o ∷ S) b = nowhere b
     upᶜ (Frame.whileBody x ∷ S) b = nowhere b
@@ -267,3 +275,4 @@ module _ (h : ℕ → Node) where
     go S (Result.whileTest x) = enterᶜ (Frame.whileTest x ∷ S) (firstOf x)
     go S (Result.whileBody x) = enter (Frame.whileBody x ∷ S) (secondOf x)
     go S (Result.whileAgain x) = Found.here S (Ready.while x)
+    go S (Result.waiting o) = Found.here S (Ready.waiting o)

@@ -1,29 +1,32 @@
 -- The abstract machine; no reader of the entries' promises needs it. Its state, and what a thread can do in it. Its names are those of the
 -- definitions that it follows: use them qualified. Assumes nothing.
-use Prim.Native.Nat.{ℕ, suc, _+_}
+use Prim.Native.Nat.{ℕ, zero, suc, pred, _+_}
 use mathlib.Core.Bool.{Bool, true, false, cond}
-use mathlib.Core.List.{List, [], _∷_, _++_}
+use mathlib.Core.List.{List, [], _∷_, _++_, map}
 use mathlib.Core.Option.{Option, some, none}
 use lib.Dec.{eqb}
 use lib.ListN.{length, getElem?}
 use Rattle.format.specs.Version.{Version}
 use Rattle.keys.specs.Keys.{Keys, empty, singleton, union, subset, isEmpty, countNew}
+use Rattle.packed.specs.Syntax.{Signal}
 use Rattle.packed.specs.Trees.{Node}
 use Rattle.records.specs.Record.{Kind, Record, entry}
+use Rattle.rules.specs.Queue.{Place, awake, lastPlace, movedUp}
 use Rattle.rules.specs.State.{Cell, cell, Object, fresh, freshObject, changeAt, storeField, fieldOf, monitorOf}
-use Rattle.rules.specs.Rules.{Rule, passedOn, e-call, e-let, e-if, e-while, e-notnottrue, e-andtrue, e-andfalse, e-new, e-read, e-write, e-readv, e-writev, e-fork, e-join, e-re-enter, e-acquire, e-release}
-use Rattle.rules.specs.Step.{Wait, forMonitor, forJoin, Stuck, missingField, notThread, equalAct}
+use Rattle.rules.specs.Rules.{Rule, passedOn, e-call, e-let, e-if, e-while, e-notnottrue, e-andtrue, e-andfalse, e-new, e-read, e-write, e-readv, e-writev, e-fork, e-join, e-re-enter, e-acquire, e-release, e-wait, e-wake, e-notify, e-notifyall}
+use Rattle.rules.specs.Step.{Wait, forMonitor, forJoin, forNotify, Stuck, missingField, notThread, notHeld, equalAct}
 use Rattle.machine.specs.Frames.{putBound, Closure, closure, Frame, Ready, Readyᶜ, Found, Result}
 use Rattle.machine.specs.Landing.{upᶜ, enter, enterᶜ, go}
 
 -- ---- the state
 
--- a thread: the object that stands for it, where it stands, its key set, its total
+-- a thread: the object that stands for it, where it stands, its key set, its total, its place in a queue
 pub record Thread : Type 0 where
   pub self : ℕ
   pub code : Found
   pub keys : Keys
   pub learnt : ℕ
+  pub place : Place
 
 pub record State : Type 0 where
   pub objects : List Object
@@ -55,7 +58,7 @@ addThread s x = onThreads s (s .threads ++ (x ∷ []))
 unfoldable pub gain : State → ℕ → Keys → (Keys → ℕ) → State
 unfolding onThreads changeAt union
 gain s p W count =
-    onThreads s (changeAt (s .threads) p (λ x. record { self = x .self; code = x .code; keys = union W (x .keys); learnt = x .learnt + count (x .keys) }))
+    onThreads s (changeAt (s .threads) p (λ x. record { self = x .self; code = x .code; keys = union W (x .keys); learnt = x .learnt + count (x .keys); place = x .place }))
 
 abbrev pub learn : State → ℕ → Keys → State
 learn s p W = gain s p W (λ K. 0)
@@ -65,7 +68,25 @@ hear s p W = gain s p W (countNew W)
 
 unfoldable pub become : State → ℕ → Found → State
 unfolding onThreads changeAt
-become s p F = onThreads s (changeAt (s .threads) p (λ x. record { self = x .self; code = F; keys = x .keys; learnt = x .learnt }))
+become s p F = onThreads s (changeAt (s .threads) p (λ x. record { self = x .self; code = F; keys = x .keys; learnt = x .learnt; place = x .place }))
+
+-- thread p takes the last place of the queue of o
+unfoldable pub enqueue : State → ℕ → ℕ → State
+unfolding onThreads changeAt lastPlace
+enqueue s p o =
+    onThreads s (changeAt (s .threads) p (λ x. record {
+      self = x .self;
+      code = x .code;
+      keys = x .keys;
+      learnt = x .learnt;
+      place = lastPlace o (map (λ (y : Thread). y .place) (s .threads));
+    }))
+
+-- the numbers of the places on o are changed by h
+unfoldable pub signalled : (ℕ → ℕ) → State → ℕ → State
+unfolding onThreads movedUp
+signalled h s o =
+    onThreads s (map (λ (x : Thread). record { self = x .self; code = x .code; keys = x .keys; learnt = x .learnt; place = movedUp h o (x .place) }) (s .threads))
 
 unfoldable pub useKey : State → State
 useKey s = record { objects = s .objects; threads = s .threads; nextKey = suc (s .nextKey) }
@@ -153,6 +174,27 @@ synchAct s p t o x c =
     (cond (eqb (c .value) (t .self)) (does e-re-enter none s (Result.run x)) (waits (forMonitor o)))
     (does e-acquire (some (entry Kind.acquire p o 0 0)) (hear (storeMonitor s o (cell empty (t .self))) p (c .keys)) (Result.held o x))
 
+unfoldable pub signalMove : State → ℕ → Thread → ℕ → Signal → Act
+unfolding storeMonitor enqueue signalled
+signalMove s p t o Signal.wait = does e-wait (some (entry Kind.release p o 0 0)) (enqueue (storeMonitor s o (cell (t .keys) 0)) p o) (Result.waiting o)
+signalMove s p t o Signal.notify = does e-notify none (signalled pred s o) (Result.value 0)
+signalMove s p t o Signal.notifyAll = does e-notifyall none (signalled (λ n. 0) s o) (Result.value 0)
+
+unfoldable pub signalAct : State → ℕ → Thread → Signal → ℕ → Cell → Act
+unfolding isEmpty signalMove
+signalAct s p t k o c =
+    cond (isEmpty (c .keys))
+    (cond (eqb (c .value) (t .self)) (signalMove s p t o k) (sticks (notHeld o)))
+    (sticks (notHeld o))
+
+unfoldable pub wakeAct : State → ℕ → Thread → ℕ → ℕ → Cell → Act
+unfolding isEmpty gain storeMonitor
+wakeAct s p t o (suc n) c = waits (forNotify o)
+wakeAct s p t o zero c =
+    cond (isEmpty (c .keys))
+    (waits (forMonitor o))
+    (does e-wake (some (entry Kind.acquire p o 0 0)) (hear (storeMonitor s o (cell empty (t .self))) p (c .keys)) (Result.value 0))
+
 module _ (table : Table) where
   unfoldable pub readAct : State → ℕ → Thread → ℕ → ℕ → Option Cell → Act
   unfolding gain subset passedOn
@@ -176,7 +218,7 @@ module _ (table : Table) where
 
   -- thread p, which is t. A call has its procedure and its count of arguments, and a hold its monitor: no run comes to another, and none is tested
   unfoldable pub act : State → ℕ → Thread → Ready → Act
-  unfolding readAct writeAct joinAct synchAct putBound enter addThread addObject storeMonitor threadOf lookup monitor
+  unfolding readAct writeAct joinAct synchAct signalAct wakeAct putBound enter addThread addObject storeMonitor threadOf lookup monitor
   act s p t (Ready.new fs) = does e-new (some (entry Kind.new p (length (s .objects)) 0 0)) (addObject s fs) (Result.value (length (s .objects)))
   act s p t (Ready.read o f) = readAct s p t o f (lookup s o f)
   act s p t (Ready.write o f v) = writeAct s p t o f v (lookup s o f)
@@ -186,11 +228,13 @@ module _ (table : Table) where
   act s p t (Ready.call m n σ) = does e-call none s (Result.run (closure (table .root m) σ))
   act s p t (Ready.fork x) =
       does e-fork (some (entry Kind.fork p (length (s .objects)) (length (s .threads)) 0))
-      (addThread (addObject s []) (record { self = length (s .objects); code = enter (table .node) (table .count) [] x; keys = t .keys; learnt = 0 }))
+      (addThread (addObject s []) (record { self = length (s .objects); code = enter (table .node) (table .count) [] x; keys = t .keys; learnt = 0; place = awake }))
       (Result.value (length (s .objects)))
   act s p t (Ready.join o) = joinAct s p o (threadOf 0 (s .threads) o)
   act s p t (Ready.synch o x) = synchAct s p t o x (monitor s o)
   act s p t (Ready.hold o v) = does e-release (some (entry Kind.release p o 0 0)) (storeMonitor s o (cell (t .keys) 0)) (Result.value v)
+  act s p t (Ready.signal k o) = signalAct s p t k o (monitor s o)
+  act s p t (Ready.waiting o) = wakeAct s p t o (t .place .number) (monitor s o)
   act s p t (Ready.whileTest b x) = does e-if none s (cond b (Result.whileBody x) (Result.value 0))
   act s p t (Ready.whileBody o x) = does e-let none s (Result.whileAgain x)
 

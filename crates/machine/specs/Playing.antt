@@ -11,6 +11,7 @@ use Rattle.keys.specs.Keys.{singleton}
 use Rattle.packed.specs.Format.{version, terms, root, volatiles, maskBit}
 use Rattle.packed.specs.Trees.{nodeAt}
 use Rattle.records.specs.Record.{Record}
+use Rattle.rules.specs.Queue.{awake}
 use Rattle.rules.specs.State.{freshObject}
 use Rattle.rules.specs.Rules.{Rule}
 use Rattle.rules.specs.Room.{Room, noRoomAmong}
@@ -106,7 +107,7 @@ unfoldable pub start : State
 unfolding freshObject noSlots
 start = record {
   objects = freshObject [] ∷ [];
-  threads = record { self = 0; code = Found.here [] (Ready.call 0 0 noSlots); keys = singleton 0; learnt = 0 } ∷ [];
+  threads = record { self = 0; code = Found.here [] (Ready.call 0 0 noSlots); keys = singleton 0; learnt = 0; place = awake } ∷ [];
   nextKey = 1;
 }
 

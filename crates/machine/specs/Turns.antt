@@ -58,6 +58,7 @@ module _ (h : ℕ → Node) (N : ℕ) where
   truthTurn (Frame.synch x ∷ S) b = ends (nowhere h N b)
   truthTurn (Frame.hold o ∷ S) b = ends (nowhere h N b)
   truthTurn (Frame.join ∷ S) b = ends (nowhere h N b)
+  truthTurn (Frame.signal k ∷ S) b = ends (nowhere h N b)
   truthTurn (Frame.equal₁ x ∷ S) b = ends (nowhere h N b)
   truthTurn (Frame.equal₂ o ∷ S) b = ends (nowhere h N b)
   truthTurn (Frame.whileBody x ∷ S) b = ends (nowhere h N b)

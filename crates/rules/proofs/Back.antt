@@ -6,7 +6,7 @@ use mathlib.Core.List.{List, [], _∷_, _++_}
 use mathlib.Core.Option.{some}
 use lib.Dec.{T}
 use Rattle.packed.specs.Syntax.{Expression, Condition, Arguments, literal, end, argument, bool}
-use Rattle.rules.specs.Context.{Context, Contextᶜ, read, write₁, write₂, call, letIn, synch, hold, join, equal₁, equal₂, literals, plug, plugᶜ, Focus, value, here, hereᶜ, focus, focusᶜ, focusᵃ, asLiteral, asBool, isTruth, falseWhen, redexExpression, redexCondition, onLiteral, onBool, onNot}
+use Rattle.rules.specs.Context.{Context, Contextᶜ, read, write₁, write₂, call, letIn, synch, hold, join, signal, equal₁, equal₂, literals, plug, plugᶜ, Focus, value, here, hereᶜ, focus, focusᶜ, focusᵃ, asLiteral, asBool, isTruth, falseWhen, redexExpression, redexCondition, onLiteral, onBool, onNot}
 
 -- the context with the part in its hole is w
 abbrev pub Back : Expression → Focus → Type 0
@@ -29,6 +29,8 @@ back-literal w (Expression.fork e) k r h h′ = h′
 back-literal w (Expression.join e) k r h h′ = h′
 back-literal w (Expression.synch e e′) k r h h′ = h′
 back-literal w (Expression.hold o e) k r h h′ = h′
+back-literal w (Expression.signal j e) k r h h′ = h′
+back-literal w (Expression.waiting o) k r h h′ = h′
 
 truth-is : (c : Condition) → T (isTruth c) → c ≡ Condition.truth
 unfolding isTruth
@@ -78,6 +80,8 @@ mutual
   back K (Expression.join e) = back-literal _ e _ _ (λ o q. rw q refl) (back (join K) e)
   back K (Expression.synch e e′) = back-literal _ e _ _ (λ o q. rw q refl) (back (synch K e′) e)
   back K (Expression.hold o e) = back-literal _ e _ _ (λ v q. rw q refl) (back (hold K o) e)
+  back K (Expression.signal j e) = back-literal _ e _ _ (λ o q. rw q refl) (back (signal K j) e)
+  back K (Expression.waiting o) = refl
 
   pub backᶜ : (K : Contextᶜ) (c : Condition) → Back (plugᶜ K c) (focusᶜ K c)
   backᶜ K Condition.truth = tt
@@ -106,6 +110,8 @@ as-literal (Expression.fork e) v h = cc
 as-literal (Expression.join e) v h = cc
 as-literal (Expression.synch e e′) v h = cc
 as-literal (Expression.hold o e) v h = cc
+as-literal (Expression.signal j e) v h = cc
+as-literal (Expression.waiting o) v h = cc
 
 as-false : (c : Condition) (b v : Bool) → isTruth c ≡ b → falseWhen b ≡ some v → Condition.not c ≡ bool v
 unfolding falseWhen bool

@@ -12,7 +12,8 @@ use Rattle.keys.specs.Keys.{Keys, empty, singleton, union, holds, isEmpty}
 use Rattle.keys.proofs.KeyLaws.{holds-union, union-empty, holds-singleton, singleton-injective, some-key, no-key}
 use Rattle.packed.specs.Syntax.{Expression, Program}
 use Rattle.rules.specs.Context.{plug, plugᶜ}
-use Rattle.rules.specs.State.{Cell, cell, Thread, State, fresh, freshObject, lookup, monitor, store, storeMonitor, addObject, gain, become, addThread, useKey, threadOf, Numbered}
+use Rattle.rules.specs.Queue.{awake}
+use Rattle.rules.specs.State.{Cell, cell, Thread, State, fresh, freshObject, lookup, monitor, store, storeMonitor, addObject, gain, become, addThread, useKey, enqueue, signalled, threadOf, Numbered}
 use Rattle.records.specs.Record.{Kind, Record, entry}
 use Rattle.format.specs.Version.{Version, v0, v1}
 use Rattle.order.proofs.Ports.{ofThread}
@@ -20,12 +21,13 @@ use Rattle.order.proofs.KeySets.{KeySet, union as unionSet, learn as learnKey}
 use Rattle.order.proofs.KeyMachine.{KeyState, act, after, Legal, monitorTaken, plainKeyed}
 use Rattle.order.proofs.Known.{known-zero}
 use Rattle.order.proofs.Invariant.{invariant}
-use Rattle.rules.specs.Rules.{Rule, isVolatile, passedOn, Converts, E-CALL, E-LET, E-IF, E-WHILE, E-NEW, E-READ, E-WRITE, E-READV, E-WRITEV, E-FORK, E-JOIN, E-RE-ENTER, E-ACQUIRE, E-RELEASE, Moves, EVAL, EVALᶜ}
+use Rattle.rules.specs.Rules.{Rule, isVolatile, passedOn, Converts, E-CALL, E-LET, E-IF, E-WHILE, E-NEW, E-READ, E-WRITE, E-READV, E-WRITEV, E-FORK, E-JOIN, E-RE-ENTER, E-ACQUIRE, E-RELEASE, E-WAIT, E-WAKE, E-NOTIFY, E-NOTIFYALL, Moves, EVAL, EVALᶜ}
 use Rattle.rules.specs.Run.{logged}
+use Rattle.rules.proofs.Relocated.{is-there, relocated-become, enqueue-relocated, signalled-relocated}
 use Rattle.rules.proofs.StateLaws.{inside, added-old, found-thread, new-monitors}
 use Rattle.rules.proofs.Invariant.{Inv, heldBy}
 use Rattle.rules.proofs.Preserved.{gained, gained-at}
-use Rattle.rules.proofs.KeyBridge.{Agrees, keysOf, agrees-become, agrees-gain, agrees-keyed, agrees-told, agrees-valued, agrees-unheard, agrees-seized, agrees-freed, agrees-new, agrees-started}
+use Rattle.rules.proofs.KeyBridge.{Agrees, keysOf, agrees-become, agrees-gain, agrees-keyed, agrees-told, agrees-valued, agrees-unheard, agrees-seized, agrees-freed, agrees-new, agrees-started, agrees-relocated}
 
 -- the sets after the log, and a legal log
 pub record Kept (g : Program) (s : State) (H : List Record) : Type 0 where
@@ -78,7 +80,7 @@ module _ (g : Program) (s : State) (I : Inv g s) (p : ℕ) (t : Thread) (ht : ge
       new : (k : ℕ) → learnKey (κ .next) (κ .knows p) k ≡ holds (union (singleton (s .nextKey)) (t .keys)) k
       new k = unfold learnKey in (ap₂ _||_ (ap (eqb k) (A .next) ∙ sym (holds-singleton (s .nextKey) k)) (A .knows p t ht k) ∙ sym (holds-union (singleton (s .nextKey)) (t .keys) k))
 
-  kept-fork : (e e′ : Expression) → Kept g (become (addThread (addObject s (freshObject [])) (record { self = length (s .objects); expression = e; keys = t .keys; learnt = 0 })) p e′) (entry Kind.fork p (length (s .objects)) (length (s .threads)) 0 ∷ H)
+  kept-fork : (e e′ : Expression) → Kept g (become (addThread (addObject s (freshObject [])) (record { self = length (s .objects); expression = e; keys = t .keys; learnt = 0; place = awake })) p e′) (entry Kind.fork p (length (s .objects)) (length (s .threads)) 0 ∷ H)
   unfolding addThread addObject
   kept-fork e e′ = record {
     agrees = agrees-become g (addThread s₁ u) _ p e′ t (added-old (s .threads) u p (inside (s .threads) p t ht) ∙ ht) (agrees-started g s₁ κ u (κ .knows p) (agrees-new g s κ [] A) (λ k. A .knows p t ht k) free);
@@ -86,7 +88,7 @@ module _ (g : Program) (s : State) (I : Inv g s) (p : ℕ) (t : Thread) (ht : ge
   }
     where
       u : Thread
-      u = record { self = length (s .objects); expression = e; keys = t .keys; learnt = 0 }
+      u = record { self = length (s .objects); expression = e; keys = t .keys; learnt = 0; place = awake }
 
       s₁ : State
       s₁ = addObject s (freshObject [])
@@ -153,6 +155,22 @@ module _ (g : Program) (s : State) (I : Inv g s) (p : ℕ) (t : Thread) (ht : ge
   quiet : (e : Expression) → Kept g (become s p e) H
   quiet e = record { agrees = agrees-become g s κ p e t ht A; legal = J .legal }
 
+  -- a wait is a release, for the keys
+  kept-wait : (o : ℕ) (e : Expression) → monitor s o ≡ some (heldBy t)
+      → Kept g (become (enqueue (storeMonitor s o (cell (t .keys) 0)) p o) p e) (entry Kind.release p o 0 0 ∷ H)
+  unfolding become enqueue storeMonitor
+  kept-wait o e m =
+      let s₁ = storeMonitor s o (cell (t .keys) 0) in
+      let R = kept-release o e m in
+      record { agrees = agrees-relocated g (become s₁ p e) _ _ (relocated-become (s .threads) _ (enqueue-relocated s₁ p o) p e) (R .agrees); legal = R .legal }
+
+  -- a notify moves no key
+  kept-signal : (h : ℕ → ℕ) (o : ℕ) (e : Expression) → Kept g (become (signalled h s o) p e) H
+  unfolding signalled
+  kept-signal h o e =
+      let w = is-there (s .threads) _ (signalled-relocated h s o) p t ht in
+      record { agrees = agrees-become g (signalled h s o) κ p e _ (w .1) (agrees-relocated g s κ _ (signalled-relocated h s o) A); legal = J .legal }
+
   -- a volatile read passes the field's keys, by the version
   passed : (n : Version) (o f v : ℕ) (W : Keys) (count : Keys → ℕ) → lookup s o f ≡ some (cell W v) → isVolatile g f ≡ true
       → Agrees g (gain s p (passedOn n W) count) (act n Kind.readv p o f κ)
@@ -197,6 +215,10 @@ module _ (g : Program) (s : State) (I : Inv g s) (p : ℕ) (t : Thread) (ht : ge
   bridged (E-RE-ENTER h) w = quiet w
   bridged (E-ACQUIRE {o} {u} {W} {e} h n) w = kept-acquire o (cell W u) w _ h n
   bridged (E-RELEASE {o} {v} h) w = kept-release o w h
+  bridged (E-WAIT {o} h) w = kept-wait o w h
+  bridged (E-WAKE {o} {u} {W} z h n) w = kept-acquire o (cell W u) w _ h n
+  bridged (E-NOTIFY {o} h) w = kept-signal _ o w
+  bridged (E-NOTIFYALL {o} h) w = kept-signal _ o w
 
 -- a move of a run, with its record
 pub bridge : (g : Program) (s : State) → Inv g s → (p : ℕ) (H : List Record) → Kept g s H → {R : Rule} {r : Option Record} {s′ : State} → Moves g s p R r s′ → Kept g s′ (logged r H)

@@ -27,6 +27,8 @@ module _ (g : Program) (n m : ℕ) (le : n ≤ m) where
     more ρ (Expression.join e) h = more ρ e h
     more ρ (Expression.synch e e′) h = (more ρ e (h .0), more ρ e′ (h .1))
     more ρ (Expression.hold o e) h = absurd h
+    more ρ (Expression.signal j e) h = more ρ e h
+    more ρ (Expression.waiting o) h = absurd h
 
     pub moreᶜ : (ρ : ℕ → Bool) (c : Condition) → WellFormedᶜ g n ρ c → WellFormedᶜ g m ρ c
     moreᶜ ρ Condition.truth h = tt
@@ -88,6 +90,8 @@ module _ (g : Program) (n : ℕ) where
     filled σ ρ ρ′ k (Expression.join e) h = filled σ ρ ρ′ k e h
     filled σ ρ ρ′ k (Expression.synch e e′) h = (filled σ ρ ρ′ k e (h .0), filled σ ρ ρ′ k e′ (h .1))
     filled σ ρ ρ′ k (Expression.hold o e) h = absurd h
+    filled σ ρ ρ′ k (Expression.signal j e) h = filled σ ρ ρ′ k e h
+    filled σ ρ ρ′ k (Expression.waiting o) h = absurd h
 
     pub filledᶜ : (σ : Environment) (ρ ρ′ : ℕ → Bool) → Covers n ρ σ ρ′ → (c : Condition) → WellFormedᶜ g n ρ c → WellFormedᶜ g n ρ′ (substituteᶜ σ c)
     filledᶜ σ ρ ρ′ k Condition.truth h = tt

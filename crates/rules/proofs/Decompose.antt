@@ -5,7 +5,7 @@ use mathlib.Core.Bool.{Bool, true, false}
 use mathlib.Core.List.{List, [], _∷_, _++_}
 use mathlib.Core.Option.{Option, some, none, Option·some-ne-none}
 use Rattle.packed.specs.Syntax.{Expression, Condition, Arguments, literal, end, argument, bool}
-use Rattle.rules.specs.Context.{Context, Contextᶜ, top, read, write₁, write₂, call, letIn, synch, hold, join, equal₁, equal₂, plug, plugᶜ, Focus, value, here, hereᶜ, focus, focusᶜ, focusᵃ, asLiteral, asBool, redexExpression, redexCondition, onLiteral, onBool, onNot}
+use Rattle.rules.specs.Context.{Context, Contextᶜ, top, read, write₁, write₂, call, letIn, synch, hold, join, signal, equal₁, equal₂, plug, plugᶜ, Focus, value, here, hereᶜ, focus, focusᶜ, focusᵃ, asLiteral, asBool, redexExpression, redexCondition, onLiteral, onBool, onNot}
 use Rattle.rules.proofs.FocusPlug.{found, foundᶜ}
 use Rattle.rules.proofs.Back.{Back, back, as-literal, as-bool}
 
@@ -48,6 +48,8 @@ mutual
   somewhere K (Expression.join e) h = some-literal (asLiteral e) _ _ (λ o. tt) (λ q. somewhere (join K) e q)
   somewhere K (Expression.synch e e′) h = some-literal (asLiteral e) _ _ (λ o. tt) (λ q. somewhere (synch K e′) e q)
   somewhere K (Expression.hold o e) h = some-literal (asLiteral e) _ _ (λ v. tt) (λ q. somewhere (hold K o) e q)
+  somewhere K (Expression.signal j e) h = some-literal (asLiteral e) _ _ (λ o. tt) (λ q. somewhere (signal K j) e q)
+  somewhere K (Expression.waiting o) h = tt
 
   somewhereᶜ : (K : Contextᶜ) (c : Condition) → asBool c ≡ none → Somewhere (focusᶜ K c)
   somewhereᶜ K Condition.truth h = absurd (Option·some-ne-none true h)

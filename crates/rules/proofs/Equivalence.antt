@@ -1,5 +1,6 @@
 -- The rules as a function and as a relation say the same: moves, missing keys, and what is passed over. Assumes nothing.
-use Prim.Native.Nat.{ℕ}
+use Prim.Native.Nat.{ℕ, zero, suc}
+use native.Mathlib.Omega.{arith}
 use mathlib.Core.Path.{_≡_, refl, sym, ap, _∙_, subst as along}
 use mathlib.Core.Bool.{Bool, true, false, cond, true≢false}
 use mathlib.Core.List.{List}
@@ -8,13 +9,13 @@ use lib.Dec.{eqb}
 use lib.ListN.{length, getElem?}
 use borrow.Author.Tests.{eq-eqb, ne-eqb, eqb-true, eqb-false}
 use Rattle.keys.specs.Keys.{Keys, empty, singleton, holds, subset, isEmpty}
-use Rattle.packed.specs.Syntax.{Expression, Condition, literal, end, Program, Procedure}
+use Rattle.packed.specs.Syntax.{Signal, Expression, Condition, literal, end, Program, Procedure}
 use Rattle.rules.specs.Context.{Context, top, plug, plugᶜ, literals, asLiteral, Redex, Redexᶜ, redexExpression, redexCondition, Focus, value, here, hereᶜ, focus}
-use Rattle.rules.specs.State.{Cell, Thread, State, lookup, monitor, become, threadOf, Numbered}
+use Rattle.rules.specs.State.{Cell, cell, Thread, State, lookup, monitor, become, threadOf, Numbered}
 use Rattle.records.specs.Record.{Record}
-use Rattle.rules.specs.Rules.{Rule, isVolatile, LacksHere, LACKS-READ, LACKS-WRITE, Lacks, LACKS, Converts, E-CALL, E-LET, E-IF, E-WHILE, E-NEW, E-READ, E-WRITE, E-READV, E-WRITEV, E-FORK, E-JOIN, E-RE-ENTER, E-ACQUIRE, E-RELEASE, Convertsᶜ, E-NOTNOTTRUE, E-ANDTRUE, E-ANDFALSE, E-EQUALTRUE, E-EQUALFALSE, Moves, EVAL, EVALᶜ}
-use Rattle.rules.specs.Step.{Stuck, missingField, notThread, noRule, equalAct, Act, waits, sticks, lacks, does, act, actᶜ, Actᶜ, Move, Attempt, moves, attempt, attemptBy, attemptAt, around, callAct, readAct, writeAct, joinAct, joinValue, synchAct, holdAct}
-use Rattle.rules.specs.Room.{Blocked, MONITOR-HELD, UNFINISHED, NO-FIELD-TO-READ, NO-FIELD-TO-WRITE, NO-THREAD, PassedOver, ABSENT, FINISHED, BLOCKED, Answer, answer, withinRoom, Room, noRoomFor, step}
+use Rattle.rules.specs.Rules.{Rule, isVolatile, LacksHere, LACKS-READ, LACKS-WRITE, Lacks, LACKS, Converts, E-CALL, E-LET, E-IF, E-WHILE, E-NEW, E-READ, E-WRITE, E-READV, E-WRITEV, E-FORK, E-JOIN, E-RE-ENTER, E-ACQUIRE, E-RELEASE, E-WAIT, E-WAKE, E-NOTIFY, E-NOTIFYALL, Convertsᶜ, E-NOTNOTTRUE, E-ANDTRUE, E-ANDFALSE, E-EQUALTRUE, E-EQUALFALSE, Moves, EVAL, EVALᶜ}
+use Rattle.rules.specs.Step.{Stuck, missingField, notThread, notHeld, noRule, equalAct, Act, waits, sticks, lacks, does, forNotify, act, actᶜ, Actᶜ, Move, Attempt, moves, attempt, attemptBy, attemptAt, around, callAct, readAct, writeAct, joinAct, joinValue, synchAct, holdAct, signalMove, signalAct, wakeAct}
+use Rattle.rules.specs.Room.{Blocked, MONITOR-HELD, UNFINISHED, NO-FIELD-TO-READ, NO-FIELD-TO-WRITE, NO-THREAD, NOT-NOTIFIED, NOT-FREE, NOT-HELD, PassedOver, ABSENT, FINISHED, BLOCKED, Answer, answer, withinRoom, Room, noRoomFor, step}
 use Rattle.keys.proofs.KeyLaws.{subset-singleton}
 use Rattle.rules.proofs.OneKey.{OneKey, its-cell}
 use Rattle.rules.proofs.Decompose.{whole, whole-focus}
@@ -41,6 +42,10 @@ module _ (g : Program) (s : State) (p : ℕ) (t : Thread) where
   acts (E-RE-ENTER {o} {e} h) = (Redex.synch o e, refl, rw (h, eq-eqb (t .self) (t .self) refl))
   acts (E-ACQUIRE {o} {e} h n) = (Redex.synch o e, refl, rw (h, n))
   acts (E-RELEASE {o} {v} h) = (Redex.hold o v, refl, rw (h, eq-eqb (t .self) (t .self) refl))
+  acts (E-WAIT {o} h) = (Redex.signal Signal.wait o, refl, rw (h, eq-eqb (t .self) (t .self) refl))
+  acts (E-WAKE {o} z h n) = (Redex.waiting o, refl, rw (h, z, n))
+  acts (E-NOTIFY {o} h) = (Redex.signal Signal.notify o, refl, rw (h, eq-eqb (t .self) (t .self) refl))
+  acts (E-NOTIFYALL {o} h) = (Redex.signal Signal.notifyAll o, refl, rw (h, eq-eqb (t .self) (t .self) refl))
 
   acts-lacking : {e : Expression} {r : Record} → LacksHere g s p t e r → (x : Redex) × (redexExpression x ≡ e) × (act g s p t x ≡ lacks r)
   unfolding act redexExpression
@@ -77,7 +82,7 @@ module _ (s : State) (g : Program) (p : ℕ) (t : Thread) where
   abbrev Blocks : Act → Attempt → Type 0
   Blocks x a = (K : Context) → around s p K x ≡ a
 
-  acts-blocked : {e : Expression} {a : Attempt} → Blocked s (t .self) e a → (x : Redex) × (redexExpression x ≡ e) × Blocks (act g s p t x) a
+  acts-blocked : {e : Expression} {a : Attempt} → Blocked s t e a → (x : Redex) × (redexExpression x ≡ e) × Blocks (act g s p t x) a
   unfolding act redexExpression around isEmpty
   acts-blocked (MONITOR-HELD {o} {u} {e} h n) = (Redex.synch o e, refl, λ K. rw (h, ne-eqb u (t .self) n))
   acts-blocked (UNFINISHED {o} {q} h n) = (Redex.join o, refl, λ K. rw (h, unfinished (q .thread .expression) n))
@@ -91,6 +96,18 @@ module _ (s : State) (g : Program) (p : ℕ) (t : Thread) where
   acts-blocked (NO-FIELD-TO-READ {o} {f} h) = (Redex.read o f, refl, λ K. rw h)
   acts-blocked (NO-FIELD-TO-WRITE {o} {f} {v} h) = (Redex.write o f v, refl, λ K. rw h)
   acts-blocked (NO-THREAD {o} h) = (Redex.join o, refl, λ K. rw h)
+  acts-blocked (NOT-NOTIFIED {o} {u} {W} n h) = (Redex.waiting o, refl, λ K. rw h (go K (t .place .number) n))
+    where
+      go : (K : Context) (m : ℕ) → (m ≡ 0 → ⊥) → around s p K (wakeAct s p t o m (some (cell W u))) ≡ Attempt.waiting (forNotify o)
+      go K zero n = absurd (n refl)
+      go K (suc m) n = refl
+  acts-blocked (NOT-FREE {o} z h) = (Redex.waiting o, refl, λ K. rw (h, z))
+  acts-blocked (NOT-HELD {o} {u} {k} {W} h n) = (Redex.signal k o, refl, λ K. rw h (go K (isEmpty W) (eqb u (t .self)) refl refl))
+    where
+      go : (K : Context) (a b : Bool) → isEmpty W ≡ a → eqb u (t .self) ≡ b → around s p K (cond a (cond b (signalMove s p t o k) (sticks (notHeld o))) (sticks (notHeld o))) ≡ Attempt.stuck (notHeld o)
+      go K true true e e′ = absurd (n e (eqb-true u (t .self) e′))
+      go K true false e e′ = refl
+      go K false b e e′ = refl
 
 pub complete-passed : (g : Program) (s : State) (p : ℕ) {a : Attempt} → PassedOver s p a → attempt g s p ≡ a
 unfolding attempt
@@ -116,6 +133,7 @@ complete-lacks g s p (LACKS K {t} ht he w) =
 abbrev pub Unless : Stuck → Type 0 → Type 0
 Unless (missingField o f) A = A
 Unless (notThread o) A = A
+Unless (notHeld o) A = A
 Unless noRule A = Unit {0}
 
 -- ---- an act of the function is a rule of the relation
@@ -123,8 +141,8 @@ Unless noRule A = Unit {0}
 module _ (g : Program) (s : State) (I : OneKey g s) (p : ℕ) (t : Thread) where
   -- an act that is a move is a rule
   abbrev Ruled : Expression → Act → Type 0
-  Ruled e (waits w) = Blocked s (t .self) e (Attempt.waiting w)
-  Ruled e (sticks r) = Unless r (Blocked s (t .self) e (Attempt.stuck r))
+  Ruled e (waits w) = Blocked s t e (Attempt.waiting w)
+  Ruled e (sticks r) = Unless r (Blocked s t e (Attempt.stuck r))
   Ruled e (lacks r) = LacksHere g s p t e r
   Ruled e (does R r s′ e′) = Converts g s p t e R r s′ e′
 
@@ -195,6 +213,28 @@ module _ (g : Program) (s : State) (I : OneKey g s) (p : ℕ) (t : Thread) where
       (λ k. which _ (eqb (c .value) (t .self)) _ _ (λ q. E-RELEASE (h ∙ ap {B = Option Cell} some (held c k q))) (λ q. tt))
       (λ k. tt)
 
+  move-ruled : (k : Signal) (o : ℕ) → monitor s o ≡ some (record { keys = empty; value = t .self }) → Ruled (Expression.signal k (literal o)) (signalMove s p t o k)
+  unfolding signalMove
+  move-ruled Signal.wait o h = E-WAIT h
+  move-ruled Signal.notify o h = E-NOTIFY h
+  move-ruled Signal.notifyAll o h = E-NOTIFYALL h
+
+  signal-ruled : (k : Signal) (o : ℕ) (c : Option Cell) → monitor s o ≡ c → Ruled (Expression.signal k (literal o)) (signalAct s p t k o c)
+  unfolding signalAct
+  signal-ruled k o none h = tt
+  signal-ruled k o (some c) h =
+      which _ (isEmpty (c .keys)) _ _
+      (λ e. which _ (eqb (c .value) (t .self)) _ _ (λ v. move-ruled k o (h ∙ ap {B = Option Cell} some (held c e v))) (λ v. NOT-HELD {u = c .value} {W = c .keys} h (λ _ q. eqb-false (c .value) (t .self) v q)))
+      (λ e. NOT-HELD {u = c .value} {W = c .keys} h (λ z _. true≢false (sym z ∙ e)))
+
+  wake-ruled : (o n : ℕ) (c : Option Cell) → t .place .number ≡ n → monitor s o ≡ c → Ruled (Expression.waiting o) (wakeAct s p t o n c)
+  unfolding wakeAct
+  wake-ruled o zero none z h = tt
+  wake-ruled o (suc n) none z h = tt
+  wake-ruled o (suc n) (some c) z h = NOT-NOTIFIED {u = c .value} {W = c .keys} (λ y. omega (arith, y, z)) h
+  wake-ruled o zero (some c) z h =
+      which _ (isEmpty (c .keys)) _ _ (λ k. NOT-FREE z (h ∙ ap {B = Option Cell} some (emptied c k))) (λ k. E-WAKE {u = c .value} {W = c .keys} z h k)
+
   ruled : (x : Redex) → Ruled (redexExpression x) (act g s p t x)
   unfolding act redexExpression
   ruled (Redex.variable x) = tt
@@ -209,6 +249,8 @@ module _ (g : Program) (s : State) (I : OneKey g s) (p : ℕ) (t : Thread) where
   ruled (Redex.join o) = join-ruled o (threadOf 0 (s .threads) o) refl
   ruled (Redex.synch o e) = synch-ruled o e (monitor s o) refl
   ruled (Redex.hold o v) = hold-ruled o v (monitor s o) refl
+  ruled (Redex.signal k o) = signal-ruled k o (monitor s o) refl
+  ruled (Redex.waiting o) = wake-ruled o (t .place .number) (monitor s o) refl refl
 
 ruled-equal : (o o′ : ℕ) (b : Bool) → eqb o o′ ≡ b → Convertsᶜ (Condition.equal (literal o) (literal o′)) (equalAct b .rule) (equalAct b .result)
 unfolding equalAct
@@ -236,6 +278,7 @@ module _ (g : Program) (s : State) (I : OneKey g s) (p : ℕ) where
   unless-around : (r : Stuck) (A B : Type 0) → (A → B) → Unless r A → Unless r B
   unless-around (missingField o f) A B h a = h a
   unless-around (notThread o) A B h a = h a
+  unless-around (notHeld o) A B h a = h a
   unless-around noRule A B h a = tt
 
   module _ (t : Thread) (ht : getElem? (s .threads) p ≡ some t) where

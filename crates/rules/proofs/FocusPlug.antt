@@ -5,7 +5,7 @@ use mathlib.Core.Bool.{true, false}
 use mathlib.Core.List.{List, [], _∷_, _++_, append-nil, append-assoc}
 use mathlib.Core.Option.{none, Option·some-ne-none}
 use Rattle.packed.specs.Syntax.{Expression, Condition, Arguments, literal, end, argument}
-use Rattle.rules.specs.Context.{Context, Contextᶜ, top, read, write₁, write₂, call, letIn, synch, hold, join, equal₁, equal₂, literals, plug, plugᶜ, Redex, Redexᶜ, here, hereᶜ, focus, focusᶜ, focusᵃ, asLiteral, asBool, redexExpression, redexCondition}
+use Rattle.rules.specs.Context.{Context, Contextᶜ, top, read, write₁, write₂, call, letIn, synch, hold, join, signal, equal₁, equal₂, literals, plug, plugᶜ, Redex, Redexᶜ, here, hereᶜ, focus, focusᶜ, focusᵃ, asLiteral, asBool, redexExpression, redexCondition}
 
 focus-args : (K : Context) (m : ℕ) (vs os : List ℕ) (es : Arguments) (e : Expression) → asLiteral e ≡ none
     → focusᵃ K m vs (literals os (argument e es)) ≡ focus (call K m (vs ++ os) es) e
@@ -34,6 +34,7 @@ mutual
   focus-plug (synch K e′) e h = focus-plug K (Expression.synch e e′) refl ∙ rw h
   focus-plug (hold K o) e h = focus-plug K (Expression.hold o e) refl ∙ rw h
   focus-plug (join K) e h = focus-plug K (Expression.join e) refl ∙ rw h
+  focus-plug (signal K j) e h = focus-plug K (Expression.signal j e) refl ∙ rw h
   focus-plug (equal₁ K e′) e h = focus-plugᶜ K (Condition.equal e e′) refl ∙ rw h
   focus-plug (equal₂ K o) e h = focus-plugᶜ K (Condition.equal (literal o) e) refl ∙ rw h
 
@@ -62,6 +63,8 @@ focus-term K (Redex.fork e) = refl
 focus-term K (Redex.join o) = refl
 focus-term K (Redex.synch o e) = refl
 focus-term K (Redex.hold o v) = refl
+focus-term K (Redex.signal j o) = refl
+focus-term K (Redex.waiting o) = refl
 
 pub focus-termᶜ : (K : Contextᶜ) (r : Redexᶜ) → focusᶜ K (redexCondition r) ≡ hereᶜ K r
 unfolding focus redexCondition
@@ -84,6 +87,8 @@ term-none (Redex.fork e) = refl
 term-none (Redex.join o) = refl
 term-none (Redex.synch o e) = refl
 term-none (Redex.hold o v) = refl
+term-none (Redex.signal j o) = refl
+term-none (Redex.waiting o) = refl
 
 term-noneᶜ : (r : Redexᶜ) → asBool (redexCondition r) ≡ none
 unfolding asBool redexCondition

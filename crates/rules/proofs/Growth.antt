@@ -3,7 +3,7 @@ use Prim.Native.Nat.{ℕ, zero, suc, _+_, _-_, _≤_, _<_}
 use native.Mathlib.Omega.{arith}
 use native.Mathlib.Decide.{ℕ-discrete}
 use mathlib.Core.Path.{_≡_, refl, sym, ap, _∙_, subst as along}
-use mathlib.Core.Bool.{Bool, true, false, cond, _&&_, true≢false}
+use mathlib.Core.Bool.{true, false, cond, _&&_, true≢false}
 use mathlib.Core.List.{List, [], _∷_, _++_}
 use mathlib.Core.Logic.{_⊎_, inl, inr}
 use mathlib.Core.Option.{Option, some, none}
@@ -14,11 +14,13 @@ use Rattle.keys.specs.Keys.{Keys, singleton, holds, union, size, countNew}
 use Rattle.keys.proofs.CountLaws.{size-le, size-union, new-again}
 use Rattle.packed.specs.Syntax.{Expression, Condition, Arguments, Program}
 use Rattle.records.specs.Record.{Record}
-use Rattle.rules.specs.State.{Thread, State, start, changeAt, gain, hear, learn, become, addObject, addThread, store, storeMonitor, useKey}
-use Rattle.rules.specs.Rules.{Rule, passedOn, Converts, E-CALL, E-LET, E-IF, E-WHILE, E-NEW, E-READ, E-WRITE, E-READV, E-WRITEV, E-FORK, E-JOIN, E-RE-ENTER, E-ACQUIRE, E-RELEASE, Convertsᶜ, E-NOTNOTTRUE, E-ANDTRUE, E-ANDFALSE, E-EQUALTRUE, E-EQUALFALSE, Moves, EVAL, EVALᶜ}
+use Rattle.rules.specs.Queue.{awake}
+use Rattle.rules.specs.State.{cell, Thread, State, start, changeAt, gain, hear, learn, become, addObject, addThread, store, storeMonitor, useKey, enqueue, signalled}
+use Rattle.rules.specs.Rules.{Rule, passedOn, Converts, E-CALL, E-LET, E-IF, E-WHILE, E-NEW, E-READ, E-WRITE, E-READV, E-WRITEV, E-FORK, E-JOIN, E-RE-ENTER, E-ACQUIRE, E-RELEASE, E-WAIT, E-WAKE, E-NOTIFY, E-NOTIFYALL, Convertsᶜ, E-NOTNOTTRUE, E-ANDTRUE, E-ANDFALSE, E-EQUALTRUE, E-EQUALFALSE, Moves, EVAL, EVALᶜ}
 use Rattle.rules.specs.Run.{Run, stopped, afterPass, afterMove, totalOf, totalsFrom}
 use Rattle.rules.specs.Execution.{Execution, ends, passes, lacks-key, no-room, moves}
 use Rattle.rules.specs.Growth.{keysOfThread, counts, larger, growth}
+use Rattle.rules.proofs.Relocated.{Relocated, was-there, enqueue-relocated, signalled-relocated}
 use Rattle.rules.proofs.StateLaws.{change-same, change-other, changed, added}
 
 -- ---- what is read off one thread
@@ -45,6 +47,15 @@ made-none [] y (suc p) e = refl
 made-none (x ∷ xs) y zero e = refl
 made-none (x ∷ xs) y (suc p) e = made-none xs y p e
 
+-- a thread at another place has learnt as much
+relocated-total : (ts us : List Thread) → Relocated ts us → (p : ℕ) → totalOf (getElem? us p) ≡ totalOf (getElem? ts p)
+unfolding totalOf
+relocated-total [] [] r p = refl
+relocated-total [] (u ∷ us) r p = absurd r
+relocated-total (t ∷ ts) [] r p = absurd r
+relocated-total (t ∷ ts) (u ∷ us) r zero = ap (λ (x : Thread). x .learnt) (sym (r .0))
+relocated-total (t ∷ ts) (u ∷ us) r (suc p) = relocated-total ts us (r .1) p
+
 become-total : (s : State) (q : ℕ) (e : Expression) (p : ℕ) → total (become s q e) p ≡ total s p
 unfolding become totalOf
 become-total s q e p = read-same totalOf (s .threads) q _ p (λ x. refl)
@@ -57,7 +68,7 @@ become-larger s s′ q e p = ap (λ (K : Keys). size K - size (keysOfThread (get
 
 -- a thread after a gain, and after it heard of a set
 abbrev gainedOf : Keys → (Keys → ℕ) → Thread → Thread
-gainedOf W n x = record { self = x .self; expression = x .expression; keys = union W (x .keys); learnt = x .learnt + n (x .keys) }
+gainedOf W n x = record { self = x .self; expression = x .expression; keys = union W (x .keys); learnt = x .learnt + n (x .keys); place = x .place }
 
 abbrev heardOf : Keys → Thread → Thread
 heardOf W = gainedOf W (countNew W)
@@ -95,7 +106,7 @@ module _ (g : Program) (s : State) (q : ℕ) (t : Thread) (ht : getElem? (s .thr
       go (no x) = rw (ne-eqb q p x, change-other (s₁ .threads) q _ p x, e) (none-more (total s p))
 
   rises : {e : Expression} {R : Rule} {r : Option Record} {s′ : State} {e′ : Expression} → Converts g s q t e R r s′ e′ → total s′ p ≡ total s p + rise p q R s s′
-  unfolding counts addObject addThread store storeMonitor useKey
+  unfolding counts addObject addThread store storeMonitor useKey enqueue signalled
   rises (E-CALL os hd hp) = none-more (total s p)
   rises E-LET = none-more (total s p)
   rises (E-IF b) = none-more (total s p)
@@ -110,6 +121,10 @@ module _ (g : Program) (s : State) (q : ℕ) (t : Thread) (ht : getElem? (s .thr
   rises (E-RE-ENTER h) = none-more (total s p)
   rises (E-ACQUIRE {W = W} h n) = other _ W refl
   rises (E-RELEASE h) = none-more (total s p)
+  rises (E-WAIT {o} h) = relocated-total (s .threads) _ (enqueue-relocated (storeMonitor s o (cell (t .keys) 0)) q o) p ∙ none-more (total s p)
+  rises (E-WAKE {W = W} z h n) = other _ W refl
+  rises (E-NOTIFY {o} h) = relocated-total (s .threads) _ (signalled-relocated _ s o) p ∙ none-more (total s p)
+  rises (E-NOTIFYALL {o} h) = relocated-total (s .threads) _ (signalled-relocated _ s o) p ∙ none-more (total s p)
 
 uncounted : {c c′ : Condition} {R : Rule} → Convertsᶜ c R c′ → counts R ≡ false
 unfolding counts
@@ -213,6 +228,11 @@ modest-added xs y l M p u e = go (added xs y p u e)
     go (inl (_, at)) = M p u at
     go (inr (_, x)) = along (λ (z : Thread). z .learnt < size (z .keys)) x l
 
+-- places alone change
+modest-relocated : (ts us : List Thread) → Relocated ts us → ((p : ℕ) (t : Thread) → getElem? ts p ≡ some t → t .learnt < size (t .keys))
+    → (p : ℕ) (u : Thread) → getElem? us p ≡ some u → u .learnt < size (u .keys)
+modest-relocated ts us r M p u e = let w = was-there ts us r p u e in along (λ (z : Thread). z .learnt < size (z .keys)) (w .2) (M p (w .0) (w .1))
+
 -- a set that grows
 learn-keeps : (W : Keys) → Keeps (gainedOf W (λ K. 0))
 learn-keeps W x l = omega (arith, l, size-union W (x .keys))
@@ -222,7 +242,7 @@ hear-keeps W x l = omega (arith, l, size-union W (x .keys))
 
 module _ (g : Program) (s : State) (q : ℕ) (t : Thread) (ht : getElem? (s .threads) q ≡ some t) (M : Modest s) where
   modest : {e : Expression} {R : Rule} {r : Option Record} {s′ : State} {e′ : Expression} → Converts g s q t e R r s′ e′ → Modest s′
-  unfolding gain addObject addThread store storeMonitor useKey
+  unfolding gain addObject addThread store storeMonitor useKey enqueue signalled
   modest (E-CALL os hd hp) = M
   modest E-LET = M
   modest (E-IF b) = M
@@ -237,6 +257,10 @@ module _ (g : Program) (s : State) (q : ℕ) (t : Thread) (ht : getElem? (s .thr
   modest (E-RE-ENTER h) = M
   modest (E-ACQUIRE {W = W} h n) = modest-change (s .threads) q _ (hear-keeps W) M
   modest (E-RELEASE h) = M
+  modest (E-WAIT {o} h) = modest-relocated (s .threads) _ (enqueue-relocated (storeMonitor s o (cell (t .keys) 0)) q o) M
+  modest (E-WAKE {W = W} z h n) = modest-change (s .threads) q _ (hear-keeps W) M
+  modest (E-NOTIFY {o} h) = modest-relocated (s .threads) _ (signalled-relocated _ s o) M
+  modest (E-NOTIFYALL {o} h) = modest-relocated (s .threads) _ (signalled-relocated _ s o) M
 
 modest-become : (s : State) (q : ℕ) (e : Expression) → Modest s → Modest (become s q e)
 unfolding become
@@ -250,6 +274,6 @@ modest-move g s q M (EVALᶜ K ht he c) = modest-become s q _ M
 pub modest-start : Modest start
 unfolding start size holds
 modest-start zero t h =
-    let e : record { self = 0; expression = Expression.call 0 Arguments.end; keys = singleton 0; learnt = 0 } ≡ t = cc in
+    let e : record { self = 0; expression = Expression.call 0 Arguments.end; keys = singleton 0; learnt = 0; place = awake } ≡ t = cc in
     along (λ (z : Thread). z .learnt < size (z .keys)) e (omega arith)
 modest-start (suc p) t h = absurd (true≢false cc)

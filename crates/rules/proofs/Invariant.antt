@@ -1,5 +1,5 @@
 -- The invariant of runs: every thread's expression is closed and names what is there; a pending hold of a thread has its monitor, held by that
--- thread, and is pending once; and the parts of a move keep it. Assumes nothing.
+-- thread unless it waits there, and is pending once; and the parts of a move keep it. Assumes nothing.
 use Prim.Native.Nat.{ℕ, suc, _<_, _≤_}
 use native.Mathlib.Omega.{arith}
 use native.Mathlib.Decide.{ℕ-discrete}
@@ -10,10 +10,11 @@ use mathlib.Core.Option.{some, none}
 use lib.ListN.{length, getElem?}
 use Rattle.keys.specs.Keys.{Keys, empty}
 use Rattle.packed.specs.Syntax.{Expression, Program}
-use Rattle.rules.specs.Context.{focus, top}
+use Rattle.rules.specs.Context.{Redex, Focus, value, here, hereᶜ, focus, top}
 use Rattle.rules.specs.State.{Cell, Thread, State, fresh, freshObject, lookup, monitor, store, storeMonitor, addObject, changeAt, gain, become, addThread, useKey}
 use Rattle.rules.proofs.Placed.{Good, holds, Landed}
 use Rattle.rules.proofs.MoreObjects.{good-more}
+use Rattle.rules.proofs.Relocated.{at, Relocated, withThreads, was-there}
 use Rattle.rules.proofs.StateLaws.{added, length-added, change-length, store-same, store-other, store-monitor, lock-same, lock-other, lock-lookup, new-lookup, new-monitor, new-monitors, who, whose}
 
 abbrev pub In : ℕ → List ℕ → Type 0
@@ -28,6 +29,28 @@ Once (a ∷ os) = (In a os → ⊥) × Once os
 abbrev pub owed : Thread → List ℕ
 owed t = holds (focus top (t .expression))
 
+-- the part has given up the monitor of o, which a pending hold has still to release (document 02, E3: "Wait gives up the monitor")
+abbrev pub GivesUp : Redex → ℕ → Type 0
+GivesUp (Redex.variable x) o = ⊥
+GivesUp (Redex.new fs) o = ⊥
+GivesUp (Redex.read a f) o = ⊥
+GivesUp (Redex.write a f v) o = ⊥
+GivesUp (Redex.letIn x a e) o = ⊥
+GivesUp (Redex.if b e e′) o = ⊥
+GivesUp (Redex.while c e) o = ⊥
+GivesUp (Redex.call m os) o = ⊥
+GivesUp (Redex.fork e) o = ⊥
+GivesUp (Redex.join a) o = ⊥
+GivesUp (Redex.synch a e) o = ⊥
+GivesUp (Redex.hold a v) o = ⊥
+GivesUp (Redex.signal k a) o = ⊥
+GivesUp (Redex.waiting a) o = o ≡ a
+
+abbrev pub GivenUp : Focus → ℕ → Type 0
+GivenUp (value v) o = ⊥
+GivenUp (here K r) o = GivesUp r o
+GivenUp (hereᶜ K r) o = ⊥
+
 -- a monitor that the thread holds
 abbrev pub heldBy : Thread → Cell
 heldBy t = record { keys = empty; value = t .self }
@@ -35,7 +58,7 @@ heldBy t = record { keys = empty; value = t .self }
 pub record Sound (g : Program) (s : State) (t : Thread) : Type 0 where
   pub good : Good g (length (s .objects)) (focus top (t .expression))
   pub self-there : t .self < length (s .objects)
-  pub held : (o : ℕ) → In o (owed t) → monitor s o ≡ some (heldBy t)
+  pub held : (o : ℕ) → In o (owed t) → (GivenUp (focus top (t .expression)) o → ⊥) → monitor s o ≡ some (heldBy t)
   pub once : Once (owed t)
 
 pub record Inv (g : Program) (s : State) : Type 0 where
@@ -48,7 +71,7 @@ pub record Inv (g : Program) (s : State) : Type 0 where
 -- ---- the threads stay, the objects change
 
 module _ (g : Program) (s s₁ : State) (I : Inv g s) (threads : s₁ .threads ≡ s .threads) (grows : length (s .objects) ≤ length (s₁ .objects))
-    (monitors : (q : ℕ) (u : Thread) (o : ℕ) → getElem? (s .threads) q ≡ some u → In o (owed u) → monitor s o ≡ some (heldBy u) → monitor s₁ o ≡ some (heldBy u))
+    (monitors : (q : ℕ) (u : Thread) (o : ℕ) → getElem? (s .threads) q ≡ some u → In o (owed u) → (GivenUp (focus top (u .expression)) o → ⊥) → monitor s o ≡ some (heldBy u) → monitor s₁ o ≡ some (heldBy u))
     (values : (o f : ℕ) (c : Cell) → lookup s₁ o f ≡ some c → c .value < length (s₁ .objects))
     (owners′ : (o : ℕ) (c : Cell) → monitor s₁ o ≡ some c → c .value < length (s₁ .objects)) where
   was : (q : ℕ) (u : Thread) → getElem? (s₁ .threads) q ≡ some u → getElem? (s .threads) q ≡ some u
@@ -62,7 +85,7 @@ module _ (g : Program) (s s₁ : State) (I : Inv g s) (threads : s₁ .threads �
         record {
           good = good-more g (length (s .objects)) (length (s₁ .objects)) grows (focus top (u .expression)) (d .good);
           self-there = let b = d .self-there in omega arith;
-          held = λ o i. monitors q u o (was q u h) i (d .held o i);
+          held = λ o i n. monitors q u o (was q u h) i n (d .held o i n);
           once = d .once;
         };
     apart = λ p q t u h k e. I .apart p q t u (was p t h) (was q u k) e;
@@ -72,7 +95,7 @@ module _ (g : Program) (s s₁ : State) (I : Inv g s) (threads : s₁ .threads �
 
 pub inv-store : (g : Program) (s : State) (o f : ℕ) (c d : Cell) → Inv g s → lookup s o f ≡ some d → c .value < length (s .objects) → Inv g (store s o f c)
 unfolding store
-inv-store g s o f c d I h v = inv-objects g s (store s o f c) I refl (omega (arith, len)) (λ q u o′ k i e. store-monitor s o f c o′ ∙ e) (λ o′ f′ c′ e. let b = value o′ f′ c′ e in omega (arith, len)) (λ o′ c′ e. let b = I .owners o′ c′ (sym (store-monitor s o f c o′) ∙ e) in omega (arith, len))
+inv-store g s o f c d I h v = inv-objects g s (store s o f c) I refl (omega (arith, len)) (λ q u o′ k i n e. store-monitor s o f c o′ ∙ e) (λ o′ f′ c′ e. let b = value o′ f′ c′ e in omega (arith, len)) (λ o′ c′ e. let b = I .owners o′ c′ (sym (store-monitor s o f c o′) ∙ e) in omega (arith, len))
   where
     len : length (store s o f c .objects) ≡ length (s .objects)
     len = change-length (s .objects) o _
@@ -90,14 +113,14 @@ inv-store g s o f c d I h v = inv-objects g s (store s o f c) I refl (omega (ari
 
 pub inv-key : (g : Program) (s : State) → Inv g s → Inv g (useKey s)
 unfolding useKey lookup monitor
-inv-key g s I = inv-objects g s (useKey s) I refl (omega arith) (λ q u o k i e. e) (λ o f c e. I .cells o f c e) (λ o c e. I .owners o c e)
+inv-key g s I = inv-objects g s (useKey s) I refl (omega arith) (λ q u o k i n e. e) (λ o f c e. I .cells o f c e) (λ o c e. I .owners o c e)
 
 -- a monitor that unbound has to release
-pub inv-lock : (g : Program) (s : State) (o : ℕ) (c d : Cell) → Inv g s → monitor s o ≡ some d → c .value < length (s .objects) → ((q : ℕ) (u : Thread) → getElem? (s .threads) q ≡ some u → In o (owed u) → ⊥) → Inv g (storeMonitor s o c)
+pub inv-lock : (g : Program) (s : State) (o : ℕ) (c d : Cell) → Inv g s → monitor s o ≡ some d → c .value < length (s .objects) → ((q : ℕ) (u : Thread) → getElem? (s .threads) q ≡ some u → In o (owed u) → (GivenUp (focus top (u .expression)) o → ⊥) → ⊥) → Inv g (storeMonitor s o c)
 unfolding storeMonitor
 inv-lock g s o c d I was v n =
     inv-objects g s (storeMonitor s o c) I refl (omega (arith, len))
-    (λ q u o′ k i e. lock-other s o c o′ (λ x. n q u k (rw x i)) ∙ e)
+    (λ q u o′ k i m e. lock-other s o c o′ (λ x. n q u k (rw x i) (rw x m)) ∙ e)
     (λ o′ f′ c′ e. let b = I .cells o′ f′ c′ (sym (lock-lookup s o c o′ f′) ∙ e) in omega (arith, len))
     (λ o′ c′ e. let b = owner o′ c′ e (ℕ-discrete o o′) in omega (arith, len))
   where
@@ -119,7 +142,7 @@ pub inv-new : (g : Program) (s : State) (fs : List ℕ) → Inv g s → Inv g (a
 unfolding addObject fresh
 inv-new g s fs I =
     inv-objects g s (addObject s (freshObject fs)) I refl (omega (arith, length-new s fs))
-    (λ q u o k i e. new-monitor s fs o (heldBy u) e) value owner
+    (λ q u o k i n e. new-monitor s fs o (heldBy u) e) value owner
   where
     owner : (o : ℕ) (c : Cell) → monitor (addObject s (freshObject fs)) o ≡ some c → c .value < length (addObject s (freshObject fs) .objects)
     owner o c e = go (new-monitors s fs o)
@@ -153,7 +176,7 @@ unfolding monitor
 sound-same g s s₁ t u o e d = record {
   good = rw (o, e .expression) (d .good);
   self-there = rw (o, e .self) (d .self-there);
-  held = λ a i. rw (o, e .self) (d .held a (rw (e .expression) at i));
+  held = λ a i n. rw (o, e .self) (d .held a (rw (e .expression) at i) (rw (e .expression) at n));
   once = rw (e .expression) (d .once);
 }
 
@@ -181,14 +204,14 @@ unfolding gain
 inv-gain g s p W n t I at = inv-change g s I p _ t at refl (sound-same g s (gain s p W n) t _ refl (record { self = refl; expression = refl }) (I .each p t at))
 
 pub inv-become : (g : Program) (s : State) (p : ℕ) (e : Expression) (t : Thread) (os : List ℕ) → Inv g s → getElem? (s .threads) p ≡ some t
-    → Landed g (length (s .objects)) os (focus top e) → ((o : ℕ) → In o os → monitor s o ≡ some (heldBy t)) → Once os → Inv g (become s p e)
+    → Landed g (length (s .objects)) os (focus top e) → ((o : ℕ) → In o os → (GivenUp (focus top e) o → ⊥) → monitor s o ≡ some (heldBy t)) → Once os → Inv g (become s p e)
 unfolding become monitor
 inv-become g s p e t os I at l held once =
     inv-change g s I p _ t at refl
     (record {
       good = l .good;
       self-there = I .each p t at .self-there;
-      held = λ o i. held o (rw (l .theirs) at i);
+      held = λ o i n. held o (rw (l .theirs) at i) n;
       once = rw (l .theirs) once;
     })
 
@@ -211,3 +234,18 @@ inv-thread g s u I d n = record {
     two {q} {r} {w} {x} (inl (a, b)) (inr (c, d)) y = absurd (n q w b (y ∙ ap (λ (z : Thread). z .self) (sym d)))
     two {q} {r} {w} {x} (inr (a, b)) (inl (c, d)) y = absurd (n r x d (sym y ∙ ap (λ (z : Thread). z .self) (sym b)))
     two (inr (a, b)) (inr (c, d)) y = a ∙ sym c
+
+-- ---- places alone change
+
+pub inv-relocated : (g : Program) (s : State) (us : List Thread) → Relocated (s .threads) us → Inv g s → Inv g (withThreads s us)
+unfolding monitor lookup
+inv-relocated g s us r I = record {
+  null-there = I .null-there;
+  each = λ q u e. let w = was q u e in along (Sound g (withThreads s us)) (w .2) (sound-same g s (withThreads s us) (w .0) (at (u .place) (w .0)) refl (record { self = refl; expression = refl }) (I .each q (w .0) (w .1)));
+  apart = λ p q t u h k e. let w = was p t h in let x = was q u k in I .apart p q (w .0) (x .0) (w .1) (x .1) (ap (λ (z : Thread). z .self) (w .2) ∙ e ∙ ap (λ (z : Thread). z .self) (sym (x .2)));
+  cells = λ o f c e. I .cells o f c e;
+  owners = λ o c e. I .owners o c e;
+}
+  where
+    was : (q : ℕ) (u : Thread) → getElem? us q ≡ some u → (t : Thread) × (getElem? (s .threads) q ≡ some t) × (at (u .place) t ≡ u)
+    was q u e = was-there (s .threads) us r q u e

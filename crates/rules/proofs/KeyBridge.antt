@@ -15,6 +15,7 @@ use Rattle.rules.specs.State.{Cell, Thread, State, fresh, freshObject, l
 use Rattle.order.proofs.KeySets.{KeySet, noKeys, put, put-same, put-other, put₂, put₂-same, put₂-other}
 use Rattle.order.proofs.KeyMachine.{KeyState, monitorTaken, threadKnows, plainKeyed, volatileKnows, monitorFreed, threadForked}
 use Rattle.rules.specs.Rules.{isVolatile}
+use Rattle.rules.proofs.Relocated.{Relocated, withThreads, relocated-length, was-there}
 use Rattle.rules.proofs.StateLaws.{added, length-added, change-length, store-same, store-other, store-monitor, lock-same, lock-other, lock-lookup, new-lookup, new-monitors, who, whose}
 use Rattle.keys.proofs.KeyLaws.{holds-empty, empty-union}
 
@@ -299,3 +300,18 @@ agrees-started g s κ u a A same new = record {
     owner′ : (o : ℕ) (c : Cell) → monitor s o ≡ some c → isEmpty (c .keys) ≡ true → (q : ℕ) (w : Thread) → c .value ≡ w .self → ((q < L) × (getElem? (s .threads) q ≡ some w)) ⊎ ((q ≡ L) × (u ≡ w)) → κ .owner o ≡ q
     owner′ o c m e q w v (inl (x, y)) = A .owner o c m e q w y v
     owner′ o c m e q w v (inr (x, y)) = absurd (new o c m e (v ∙ ap (λ (z : Thread). z .self) (sym y)))
+
+-- ---- places alone change
+
+pub agrees-relocated : (g : Program) (s : State) (κ : KeyState) (us : List Thread) → Relocated (s .threads) us → Agrees g s κ → Agrees g (withThreads s us) κ
+unfolding lookup monitor
+agrees-relocated g s κ us r A = record {
+  present = λ p u e. let w = was-there (s .threads) us r p u e in A .present p (w .0) (w .1);
+  absent = λ p e. A .absent p (omega (arith, relocated-length (s .threads) us r));
+  knows = λ p u e k. let w = was-there (s .threads) us r p u e in A .knows p (w .0) (w .1) k ∙ ap (λ (z : Thread). holds (z .keys) k) (w .2);
+  plain = A .plain;
+  volatiles = A .volatiles;
+  monitors = A .monitors;
+  owner = λ o c m i p u e v. let w = was-there (s .threads) us r p u e in A .owner o c m i p (w .0) (w .1) (v ∙ sym (ap (λ (z : Thread). z .self) (w .2)));
+  next = A .next;
+}

@@ -5,6 +5,7 @@ pub mod Closing
 pub mod Placed
 pub mod MoreObjects
 pub mod StateLaws
+pub mod Relocated
 pub mod Invariant
 pub mod OneKey
 pub mod Growth
@@ -14,8 +15,12 @@ pub mod Preserved
 pub mod Progress
 pub mod ThreadStates
 pub mod Executed
+pub mod QueueLaws
+pub mod Queues
+pub mod QueueTheorems
 pub mod RunAppend
 pub mod Marked
+pub mod Waits
 pub mod Depths
 pub mod KeyBridge
 pub mod Bridge

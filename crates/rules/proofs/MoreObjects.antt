@@ -4,7 +4,7 @@ use native.Mathlib.Omega.{arith}
 use mathlib.Core.List.{List, [], _∷_}
 use Rattle.packed.specs.Syntax.{Program}
 use Rattle.packed.specs.Slots.{bound}
-use Rattle.rules.specs.Context.{Context, Contextᶜ, top, read, write₁, write₂, call, letIn, synch, hold, join, equal₁, equal₂, Redex, Redexᶜ, Focus, value, here, hereᶜ}
+use Rattle.rules.specs.Context.{Context, Contextᶜ, top, read, write₁, write₂, call, letIn, synch, hold, join, signal, equal₁, equal₂, Redex, Redexᶜ, Focus, value, here, hereᶜ}
 use Rattle.packed.proofs.WellFormed.{unbound}
 use Rattle.rules.proofs.Closing.{more, moreᶜ, moreᵃ, Below}
 use Rattle.rules.proofs.Placed.{Around, Aroundᶜ, Ready, Readyᶜ, Good}
@@ -25,6 +25,7 @@ module _ (g : Program) (n m : ℕ) (le : n ≤ m) where
     around-more (synch K e′) h = (more g n m le unbound e′ (h .0), around-more K (h .1))
     around-more (hold K o) h = (let b = h .0 in omega arith, around-more K (h .1))
     around-more (join K) h = around-more K h
+    around-more (signal K j) h = around-more K h
     around-more (equal₁ K e′) h = (more g n m le unbound e′ (h .0), around-moreᶜ K (h .1))
     around-more (equal₂ K o) h = (let b = h .0 in omega arith, around-moreᶜ K (h .1))
 
@@ -46,6 +47,8 @@ module _ (g : Program) (n m : ℕ) (le : n ≤ m) where
   ready-more (Redex.join o) h = omega arith
   ready-more (Redex.synch o e) h = ((let b = h .0 in omega arith), more g n m le unbound e (h .1))
   ready-more (Redex.hold o v) h = ((let b = h .0 in omega arith), (let b = h .1 in omega arith))
+  ready-more (Redex.signal j o) h = omega arith
+  ready-more (Redex.waiting o) h = omega arith
 
   ready-moreᶜ : (r : Redexᶜ) → Readyᶜ g n r → Readyᶜ g m r
   ready-moreᶜ Redexᶜ.notFalse h = tt

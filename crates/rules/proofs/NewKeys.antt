@@ -14,11 +14,13 @@ use Rattle.keys.specs.Keys.{Keys, empty, singleton, holds, union, isEmpty}
 use Rattle.keys.proofs.KeyLaws.{holds-empty, holds-singleton, holds-union, no-key}
 use Rattle.packed.specs.Syntax.{Expression, Condition, Arguments, Program}
 use Rattle.records.specs.Record.{Kind, Record, entry}
-use Rattle.rules.specs.State.{Cell, cell, Thread, State, fresh, freshObject, lookup, monitor, store, storeMonitor, addObject, gain, become, addThread, useKey, start, changeAt}
-use Rattle.rules.specs.Rules.{Rule, passedOn, e-write, Converts, E-CALL, E-LET, E-IF, E-WHILE, E-NEW, E-READ, E-WRITE, E-READV, E-WRITEV, E-FORK, E-JOIN, E-RE-ENTER, E-ACQUIRE, E-RELEASE, Convertsᶜ, E-NOTNOTTRUE, E-ANDTRUE, E-ANDFALSE, E-EQUALTRUE, E-EQUALFALSE, Moves, EVAL, EVALᶜ}
+use Rattle.rules.specs.Queue.{awake}
+use Rattle.rules.specs.State.{Cell, cell, Thread, State, fresh, freshObject, lookup, monitor, store, storeMonitor, addObject, gain, become, addThread, useKey, enqueue, signalled, start, changeAt}
+use Rattle.rules.specs.Rules.{Rule, passedOn, e-write, Converts, E-CALL, E-LET, E-IF, E-WHILE, E-NEW, E-READ, E-WRITE, E-READV, E-WRITEV, E-FORK, E-JOIN, E-RE-ENTER, E-ACQUIRE, E-RELEASE, E-WAIT, E-WAKE, E-NOTIFY, E-NOTIFYALL, Convertsᶜ, E-NOTNOTTRUE, E-ANDTRUE, E-ANDFALSE, E-EQUALTRUE, E-EQUALFALSE, Moves, EVAL, EVALᶜ}
 use Rattle.rules.specs.Run.{Run}
 use Rattle.rules.specs.Execution.{Execution, ends, passes, lacks-key, no-room, moves}
 use Rattle.rules.specs.NewKeys.{Below, Unused, Held, BY-THREAD, BY-FIELD, BY-MONITOR, NeverHeld, StoresNew, WritesNew}
+use Rattle.rules.proofs.Relocated.{Relocated, withThreads, was-there, enqueue-relocated, signalled-relocated}
 use Rattle.rules.proofs.StateLaws.{added, changed, store-same, store-other, store-monitor, lock-same, lock-other, lock-lookup, new-lookup, new-monitors, found-thread}
 
 below-singleton : (w n : ℕ) → w < n → Below (singleton w) n
@@ -145,11 +147,21 @@ unused-thread s u b U = record {
     go q w (inl (_, e)) = U .threads q w e
     go q w (inr (_, e)) = along (λ (z : Thread). Below (z .keys) (s .nextKey)) e b
 
+-- places alone change
+unused-relocated : (s : State) (us : List Thread) → Relocated (s .threads) us → Unused s → Unused (withThreads s us)
+unfolding lookup monitor
+unused-relocated s us r U = record {
+  threads = λ q u e. let w = was-there (s .threads) us r q u e in along (λ (z : Thread). Below (z .keys) (s .nextKey)) (w .2) (U .threads q (w .0) (w .1));
+  fields = λ o f c e. U .fields o f c e;
+  monitors = λ o c e. U .monitors o c e;
+  positive = U .positive;
+}
+
 -- ---- moves
 
 module _ (g : Program) (s : State) (p : ℕ) (t : Thread) (ht : getElem? (s .threads) p ≡ some t) (U : Unused s) where
   kept : {e : Expression} {R : Rule} {r : Option Record} {s′ : State} {e′ : Expression} → Converts g s p t e R r s′ e′ → Unused s′
-  unfolding useKey addObject storeMonitor store lookup
+  unfolding useKey addObject storeMonitor store lookup enqueue signalled
   kept (E-CALL os hd hp) = U
   kept E-LET = U
   kept (E-IF b) = U
@@ -164,7 +176,7 @@ module _ (g : Program) (s : State) (p : ℕ) (t : Thread) (ht : getElem? (s .thr
   kept (E-WRITEV {o} {f} {u} {v} {W} h vol) =
       let W′ = passedOn (g .version) (t .keys) in
       unused-store s o f (cell (union W W′) v) (cell W u) h (below-union W W′ (s .nextKey) (U .fields o f (cell W u) h) (below-passed (g .version) (t .keys) (s .nextKey) (U .threads p t ht))) U
-  kept (E-FORK {e}) = unused-thread (addObject s (freshObject [])) (record { self = length (s .objects); expression = e; keys = t .keys; learnt = 0 }) (U .threads p t ht) (unused-new s [] U)
+  kept (E-FORK {e}) = unused-thread (addObject s (freshObject [])) (record { self = length (s .objects); expression = e; keys = t .keys; learnt = 0; place = awake }) (U .threads p t ht) (unused-new s [] U)
   kept (E-JOIN {o} {v} {q} h l) =
       let j = found-thread (s .threads) 0 o q h in
       unused-gain s p (q .thread .keys) _ (U .threads (j .0) (q .thread) (j .2)) U
@@ -172,6 +184,12 @@ module _ (g : Program) (s : State) (p : ℕ) (t : Thread) (ht : getElem? (s .thr
   kept (E-ACQUIRE {o} {u} {W} h n) =
       unused-gain (storeMonitor s o (cell empty (t .self))) p W _ (U .monitors o (cell W u) h) (unused-lock s o (cell empty (t .self)) (cell W u) h (below-empty (s .nextKey)) U)
   kept (E-RELEASE {o} h) = unused-lock s o (cell (t .keys) 0) (cell empty (t .self)) h (U .threads p t ht) U
+  kept (E-WAIT {o} h) =
+      unused-relocated (storeMonitor s o (cell (t .keys) 0)) _ (enqueue-relocated (storeMonitor s o (cell (t .keys) 0)) p o) (unused-lock s o (cell (t .keys) 0) (cell empty (t .self)) h (U .threads p t ht) U)
+  kept (E-WAKE {o} {u} {W} z h n) =
+      unused-gain (storeMonitor s o (cell empty (t .self))) p W _ (U .monitors o (cell W u) h) (unused-lock s o (cell empty (t .self)) (cell W u) h (below-empty (s .nextKey)) U)
+  kept (E-NOTIFY {o} h) = unused-relocated s _ (signalled-relocated _ s o) U
+  kept (E-NOTIFYALL {o} h) = unused-relocated s _ (signalled-relocated _ s o) U
 
 -- every move keeps it
 pub unused-move : (g : Program) (s : State) (p : ℕ) → Unused s → {R : Rule} {r : Option Record} {s′ : State} → Moves g s p R r s′ → Unused s′
@@ -189,7 +207,7 @@ unused-start = record {
   where
     one : (p : ℕ) (t : Thread) → getElem? (start .threads) p ≡ some t → Below (t .keys) 1
     one zero t h =
-        let e : record { self = 0; expression = Expression.call 0 Arguments.end; keys = singleton 0; learnt = 0 } ≡ t = cc in
+        let e : record { self = 0; expression = Expression.call 0 Arguments.end; keys = singleton 0; learnt = 0; place = awake } ≡ t = cc in
         along (λ (z : Thread). Below (z .keys) 1) e (below-singleton 0 1 (omega arith))
     one (suc p) t h = absurd (true≢false cc)
 
@@ -224,7 +242,7 @@ older-never (s ∷ past) n a = (λ b. let c = a .0 n b in omega arith, older-nev
 -- the next key never falls
 next-converts : {g : Program} {s : State} {p : ℕ} {t : Thread} {e : Expression} {R : Rule} {r : Option Record} {s′ : State} {e′ : Expression}
     → Converts g s p t e R r s′ e′ → s .nextKey ≤ s′ .nextKey
-unfolding gain store storeMonitor addObject addThread useKey
+unfolding gain store storeMonitor addObject addThread useKey enqueue signalled
 next-converts (E-CALL os hd hp) = omega arith
 next-converts E-LET = omega arith
 next-converts (E-IF b) = omega arith
@@ -239,6 +257,10 @@ next-converts (E-JOIN h l) = omega arith
 next-converts (E-RE-ENTER h) = omega arith
 next-converts (E-ACQUIRE h n) = omega arith
 next-converts (E-RELEASE h) = omega arith
+next-converts (E-WAIT h) = omega arith
+next-converts (E-WAKE z h n) = omega arith
+next-converts (E-NOTIFY h) = omega arith
+next-converts (E-NOTIFYALL h) = omega arith
 
 next-moves : {g : Program} {s : State} {p : ℕ} {R : Rule} {r : Option Record} {s′ : State} → Moves g s p R r s′ → s .nextKey ≤ s′ .nextKey
 unfolding become
@@ -270,6 +292,10 @@ module _ (g : Program) (s : State) (p : ℕ) (past : List State) (a : NeverHeld 
   stores (E-RE-ENTER h) w q = absurd (true≢false cc)
   stores (E-ACQUIRE h n) w q = absurd (true≢false cc)
   stores (E-RELEASE h) w q = absurd (true≢false cc)
+  stores (E-WAIT h) w q = absurd (true≢false cc)
+  stores (E-WAKE z h n) w q = absurd (true≢false cc)
+  stores (E-NOTIFY h) w q = absurd (true≢false cc)
+  stores (E-NOTIFYALL h) w q = absurd (true≢false cc)
 
   stores-move : {R : Rule} {r : Option Record} {s′ : State} → Moves g s p R r s′ → R ≡ e-write → StoresNew past r s′
   stores-move (EVAL K ht he c) q = stores c _ q

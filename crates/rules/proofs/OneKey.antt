@@ -10,8 +10,8 @@ use lib.ListN.{length}
 use Rattle.keys.specs.Keys.{singleton, union}
 use Rattle.packed.specs.Syntax.{Expression, Program}
 use Rattle.records.specs.Record.{Record}
-use Rattle.rules.specs.State.{Cell, cell, Thread, State, fresh, freshObject, lookup, store, storeMonitor, addObject, gain, become, addThread, useKey, start}
-use Rattle.rules.specs.Rules.{Rule, isVolatile, passedOn, Converts, E-CALL, E-LET, E-IF, E-WHILE, E-NEW, E-READ, E-WRITE, E-READV, E-WRITEV, E-FORK, E-JOIN, E-RE-ENTER, E-ACQUIRE, E-RELEASE, Moves, EVAL, EVALᶜ}
+use Rattle.rules.specs.State.{Cell, cell, Thread, State, fresh, freshObject, lookup, store, storeMonitor, addObject, gain, become, addThread, useKey, enqueue, signalled, start}
+use Rattle.rules.specs.Rules.{Rule, isVolatile, passedOn, Converts, E-CALL, E-LET, E-IF, E-WHILE, E-NEW, E-READ, E-WRITE, E-READV, E-WRITEV, E-FORK, E-JOIN, E-RE-ENTER, E-ACQUIRE, E-RELEASE, E-WAIT, E-WAKE, E-NOTIFY, E-NOTIFYALL, Moves, EVAL, EVALᶜ}
 use Rattle.rules.proofs.StateLaws.{store-same, store-other, lock-lookup, new-lookup}
 
 -- document 001, section 4: "For a normal field, W = {w}"
@@ -63,7 +63,7 @@ added g s fs I = record { its = λ o f c h v. go o f c h v (new-lookup s fs o f)
 
 module _ (g : Program) (s : State) (p : ℕ) (t : Thread) (I : OneKey g s) where
   kept : {e : Expression} {R : Rule} {r : Option Record} {s′ : State} {e′ : Expression} → Converts g s p t e R r s′ e′ → OneKey g s′
-  unfolding gain useKey addThread lookup
+  unfolding gain useKey addThread enqueue signalled lookup
   kept (E-CALL os hd hp) = I
   kept E-LET = I
   kept (E-IF b) = I
@@ -78,6 +78,10 @@ module _ (g : Program) (s : State) (p : ℕ) (t : Thread) (I : OneKey g s) where
   kept (E-RE-ENTER h) = I
   kept (E-ACQUIRE {o} h n) = same-fields g (storeMonitor s o (cell 0 (t .self))) _ (λ a b. refl) (same-fields g s (storeMonitor s o (cell 0 (t .self))) (lock-lookup s o (cell 0 (t .self))) I)
   kept (E-RELEASE {o} h) = same-fields g s (storeMonitor s o (cell (t .keys) 0)) (lock-lookup s o (cell (t .keys) 0)) I
+  kept (E-WAIT {o} h) = same-fields g (storeMonitor s o (cell (t .keys) 0)) _ (λ a b. refl) (same-fields g s (storeMonitor s o (cell (t .keys) 0)) (lock-lookup s o (cell (t .keys) 0)) I)
+  kept (E-WAKE {o} z h n) = same-fields g (storeMonitor s o (cell 0 (t .self))) _ (λ a b. refl) (same-fields g s (storeMonitor s o (cell 0 (t .self))) (lock-lookup s o (cell 0 (t .self))) I)
+  kept (E-NOTIFY h) = same-fields g s _ (λ a b. refl) I
+  kept (E-NOTIFYALL h) = same-fields g s _ (λ a b. refl) I
 
 become-fields : (s : State) (p : ℕ) (e : Expression) (o f : ℕ) → lookup (become s p e) o f ≡ lookup s o f
 unfolding become lookup

@@ -9,7 +9,7 @@ use mathlib.Core.Option.{Option, some, none}
 use lib.ListN.{length, length-append}
 use Rattle.packed.specs.Syntax.{Expression, Condition, Arguments, literal, end, argument, Program, bool}
 use Rattle.packed.specs.Slots.{bound}
-use Rattle.rules.specs.Context.{Context, Contextᶜ, top, read, write₁, write₂, call, letIn, synch, hold, join, equal₁, equal₂, literals, plug, plugᶜ, Redex, Redexᶜ, Focus, value, here, hereᶜ, focus, focusᶜ, focusᵃ, asLiteral, asBool, redexExpression, onLiteral, onBool, onNot}
+use Rattle.rules.specs.Context.{Context, Contextᶜ, top, read, write₁, write₂, call, letIn, synch, hold, join, signal, equal₁, equal₂, literals, plug, plugᶜ, Redex, Redexᶜ, Focus, value, here, hereᶜ, focus, focusᶜ, focusᵃ, asLiteral, asBool, redexExpression, onLiteral, onBool, onNot}
 use Rattle.packed.proofs.WellFormed.{WellFormed, WellFormedᶜ, WellFormedᵃ, count, Callable, unbound}
 use Rattle.rules.proofs.Closing.{Below}
 use Rattle.rules.proofs.FocusPlug.{focus-plug, focus-plugᶜ, found}
@@ -36,6 +36,7 @@ abbrev mutual
   Around g n (synch K e′) = Text g n e′ × Around g n K
   Around g n (hold K o) = (o < n) × Around g n K
   Around g n (join K) = Around g n K
+  Around g n (signal K j) = Around g n K
   Around g n (equal₁ K e′) = Text g n e′ × Aroundᶜ g n K
   Around g n (equal₂ K o) = (o < n) × Aroundᶜ g n K
 
@@ -58,6 +59,8 @@ Ready g n (Redex.fork e) = Text g n e
 Ready g n (Redex.join o) = o < n
 Ready g n (Redex.synch o e) = (o < n) × Text g n e
 Ready g n (Redex.hold o v) = (o < n) × (v < n)
+Ready g n (Redex.signal j o) = o < n
+Ready g n (Redex.waiting o) = o < n
 
 abbrev pub Readyᶜ : Program → ℕ → Redexᶜ → Type 0
 Readyᶜ g n Redexᶜ.notFalse = Unit {0}
@@ -81,6 +84,7 @@ abbrev mutual
   pending (synch K e′) = pending K
   pending (hold K o) = o ∷ pending K
   pending (join K) = pending K
+  pending (signal K j) = pending K
   pending (equal₁ K e′) = pendingᶜ K
   pending (equal₂ K o) = pendingᶜ K
 
@@ -102,6 +106,8 @@ held (Redex.fork e) os = os
 held (Redex.join o) os = os
 held (Redex.synch o e) os = os
 held (Redex.hold o v) os = o ∷ os
+held (Redex.signal j o) os = os
+held (Redex.waiting o) os = os
 
 abbrev pub holds : Focus → List ℕ
 holds (value o) = []
@@ -161,6 +167,8 @@ module _ (g : Program) (n : ℕ) where
     land K (Expression.join e) h k c = land-lit (Lands (pending K)) (asLiteral e) _ _ (λ o q. record { good = (k, text-lit e o q c); theirs = refl }) (λ q. land (join K) e q k c)
     land K (Expression.synch e e′) h k c = land-lit (Lands (pending K)) (asLiteral e) _ _ (λ o q. record { good = (k, (text-lit e o q (c .0), c .1)); theirs = refl }) (λ q. land (synch K e′) e q (c .1, k) (c .0))
     land K (Expression.hold o e) h k c = absurd c
+    land K (Expression.signal j e) h k c = land-lit (Lands (pending K)) (asLiteral e) _ _ (λ o q. record { good = (k, text-lit e o q c); theirs = refl }) (λ q. land (signal K j) e q k c)
+    land K (Expression.waiting o) h k c = absurd c
 
     pub landᶜ : (K : Contextᶜ) (b : Condition) → asBool b ≡ none → Aroundᶜ g n K → Textᶜ g n b → Lands (pendingᶜ K) (focusᶜ K b)
     landᶜ K Condition.truth h k c = absurd (true≢false cc)
@@ -209,6 +217,7 @@ module _ (g : Program) (n : ℕ) where
   rise-lit (synch K e′) v h k = risen K (Expression.synch (literal v) e′) refl (k .1) (h, k .0)
   rise-lit (hold K o) v h k = rw (found K (Redex.hold o v)) (record { good = (k .1, (k .0, h)); theirs = refl })
   rise-lit (join K) v h k = risen K (Expression.join (literal v)) refl k h
+  rise-lit (signal K j) v h k = risen K (Expression.signal j (literal v)) refl k h
   rise-lit (equal₁ K e′) v h k = risenᶜ K (Condition.equal (literal v) e′) refl (k .1) (h, k .0)
   rise-lit (equal₂ K o) v h k = risenᶜ K (Condition.equal (literal o) (literal v)) refl (k .1) (k .0, h)
 

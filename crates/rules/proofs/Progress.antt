@@ -10,21 +10,23 @@ use lib.ListN.{length, getElem?}
 use lib.Dec.{eqb}
 use borrow.Author.Tests.{eq-eqb}
 use Rattle.keys.specs.Keys.{singleton, isEmpty, subset}
-use Rattle.packed.specs.Syntax.{Expression, Arguments, Program}
+use Rattle.packed.specs.Syntax.{Signal, Expression, Arguments, Program}
 use Rattle.rules.specs.Context.{Context, Focus, focus, top, value, here, hereᶜ, asLiteral, Redex}
+use Rattle.rules.specs.Queue.{awake}
 use Rattle.rules.specs.State.{Cell, Thread, State, start, fresh, freshObject, lookup, monitor, threadOf, Numbered}
 use Rattle.rules.specs.Rules.{isVolatile}
-use Rattle.rules.specs.Step.{Stuck, notThread, missingField, noRule, Act, waits, sticks, lacks, does, callAct, readAct, writeAct, joinAct, joinValue, synchAct, holdAct, act, Attempt, around, attemptAt, attemptBy, attempt}
+use Rattle.rules.specs.Step.{Stuck, notThread, missingField, notHeld, noRule, Act, waits, sticks, lacks, does, callAct, readAct, writeAct, joinAct, joinValue, synchAct, holdAct, signalMove, signalAct, wakeAct, act, Attempt, around, attemptAt, attemptBy, attempt}
 use Rattle.packed.proofs.WellFormed.{WellFormedProgram, Callable}
 use Rattle.rules.proofs.Placed.{Good, Ready, holds, held, pending}
 use Rattle.rules.proofs.StateLaws.{monitor-there}
-use Rattle.rules.proofs.Invariant.{In, heldBy, Sound, Inv}
+use Rattle.rules.proofs.Invariant.{In, GivesUp, GivenUp, heldBy, Sound, Inv}
 use Rattle.rules.proofs.Equivalence.{Unless}
 
 -- not stuck for want of a rule
 abbrev Known : Stuck → Type 0
 Known (missingField o f) = Unit {0}
 Known (notThread o) = Unit {0}
+Known (notHeld o) = Unit {0}
 Known noRule = ⊥
 
 abbrev Fine : Act → Type 0
@@ -44,6 +46,7 @@ Ruled (Attempt.moves m) = Unit {0}
 pub unless-ruled : (r : Stuck) (A : Type 0) → Ruled (Attempt.stuck r) → Unless r A → A
 unless-ruled (missingField o f) A k h = h
 unless-ruled (notThread o) A k h = h
+unless-ruled (notHeld o) A k h = h
 unless-ruled noRule A k h = absurd k
 
 either : (b : Bool) (x y : Act) → Fine x → Fine y → Fine (cond b x y)
@@ -83,6 +86,21 @@ module _ (g : Program) (s : State) (I : Inv g s) (p : ℕ) (t : Thread) (ht : ge
   unfolding holdAct isEmpty
   fine-hold o v h = rw (h, eq-eqb (t .self) (t .self) refl) tt
 
+  fine-move : (k : Signal) (o : ℕ) → Fine (signalMove s p t o k)
+  unfolding signalMove
+  fine-move Signal.wait o = tt
+  fine-move Signal.notify o = tt
+  fine-move Signal.notifyAll o = tt
+
+  fine-signal : (k : Signal) (o : ℕ) → o < length (s .objects) → Fine (signalAct s p t k o (monitor s o))
+  unfolding signalAct
+  fine-signal k o h = let m = monitor-there s o h in rw (m .1) (either (isEmpty (m .0 .keys)) _ _ (either (eqb (m .0 .value) (t .self)) _ _ (fine-move k o) tt) tt)
+
+  fine-wake : (o n : ℕ) → o < length (s .objects) → Fine (wakeAct s p t o n (monitor s o))
+  unfolding wakeAct
+  fine-wake o zero h = let m = monitor-there s o h in rw (m .1) (either (isEmpty (m .0 .keys)) _ _ tt tt)
+  fine-wake o (suc n) h = let m = monitor-there s o h in rw (m .1) tt
+
   fine : (x : Redex) → Ready g (length (s .objects)) x → ((o : ℕ) → In o (held x []) → monitor s o ≡ some (heldBy t)) → Fine (act g s p t x)
   unfolding act
   fine (Redex.variable x) r h = r
@@ -97,6 +115,8 @@ module _ (g : Program) (s : State) (I : Inv g s) (p : ℕ) (t : Thread) (ht : ge
   fine (Redex.join o) r h = fine-join o (threadOf 0 (s .threads) o)
   fine (Redex.synch o e) r h = fine-synch o e (r .0)
   fine (Redex.hold o v) r h = fine-hold o v (h o (inl refl))
+  fine (Redex.signal k o) r h = fine-signal k o r
+  fine (Redex.waiting o) r h = fine-wake o (t .place .number) r
 
   fine-around : (K : Context) (a : Act) → Fine a → Ruled (around s p K a)
   unfolding around
@@ -120,11 +140,29 @@ module _ (g : Program) (s : State) (I : Inv g s) (p : ℕ) (t : Thread) (ht : ge
   own-part (Redex.synch a e) os o i = absurd i
   own-part (Redex.hold a v) os o (inl e) = inl e
   own-part (Redex.hold a v) os o (inr i) = absurd i
+  own-part (Redex.signal k a) os o i = absurd i
+  own-part (Redex.waiting a) os o i = absurd i
 
-  fine-at : (F : Focus) → Good g (length (s .objects)) F → ((o : ℕ) → In o (holds F) → monitor s o ≡ some (heldBy t)) → Ruled (attemptAt g s p t F)
+  own-kept : (x : Redex) (o : ℕ) → In o (held x []) → GivesUp x o → ⊥
+  own-kept (Redex.variable x) o i z = z
+  own-kept (Redex.new fs) o i z = z
+  own-kept (Redex.read a f) o i z = z
+  own-kept (Redex.write a f v) o i z = z
+  own-kept (Redex.letIn x a e) o i z = z
+  own-kept (Redex.if b e e′) o i z = z
+  own-kept (Redex.while c e) o i z = z
+  own-kept (Redex.call m vs) o i z = z
+  own-kept (Redex.fork e) o i z = z
+  own-kept (Redex.join a) o i z = z
+  own-kept (Redex.synch a e) o i z = z
+  own-kept (Redex.hold a v) o i z = z
+  own-kept (Redex.signal k a) o i z = z
+  own-kept (Redex.waiting a) o i z = i
+
+  fine-at : (F : Focus) → Good g (length (s .objects)) F → ((o : ℕ) → In o (holds F) → (GivenUp F o → ⊥) → monitor s o ≡ some (heldBy t)) → Ruled (attemptAt g s p t F)
   unfolding attemptAt
   fine-at (value o) h k = tt
-  fine-at (here K x) h k = fine-around K (act g s p t x) (fine x (h .1) (λ o i. k o (own-part x (pending K) o i)))
+  fine-at (here K x) h k = fine-around K (act g s p t x) (fine x (h .1) (λ o i. k o (own-part x (pending K) o i) (own-kept x o i)))
   fine-at (hereᶜ K x) h k = tt
 
 pub ruled : (g : Program) (s : State) → Inv g s → (p : ℕ) → Ruled (attempt g s p)
@@ -149,8 +187,8 @@ inv-start g P = record {
   where
     one : (p : ℕ) (t : Thread) → getElem? (start .threads) p ≡ some t → Sound g start t
     one zero t h =
-        let e : record { self = 0; expression = Expression.call 0 Arguments.end; keys = singleton 0; learnt = 0 } ≡ t = cc in
-        along (Sound g start) e (record { good = (tt, (P .main, tt)); self-there = omega arith; held = λ o i. absurd i; once = tt })
+        let e : record { self = 0; expression = Expression.call 0 Arguments.end; keys = singleton 0; learnt = 0; place = awake } ≡ t = cc in
+        along (Sound g start) e (record { good = (tt, (P .main, tt)); self-there = omega arith; held = λ o i n. absurd i; once = tt })
     one (suc p) t h = absurd (true≢false cc)
 
     two : (p q : ℕ) (t u : Thread) → getElem? (start .threads) p ≡ some t → getElem? (start .threads) q ≡ some u → p ≡ q

@@ -17,6 +17,7 @@ use Rattle.order.proofs.EverySet.{WouldReach, every-set}
 use Rattle.packed.specs.Syntax.{Expression, Arguments, Program}
 use Rattle.packed.proofs.WellFormed.{WellFormedProgram}
 use Rattle.records.specs.Record.{Record}
+use Rattle.rules.specs.Queue.{awake}
 use Rattle.rules.specs.State.{Cell, Thread, State, start, fresh, freshObject, lookup, monitor}
 use Rattle.rules.specs.Rules.{LACKS-READ, LACKS-WRITE, Lacks, LACKS}
 use Rattle.rules.specs.Run.{Run, logged, stopped, afterPass, afterMove, play}
@@ -60,7 +61,7 @@ kept-start g = record {
 
     known : (p : ℕ) (t : Thread) → getElem? (start .threads) p ≡ some t → (k : ℕ) → eqb k 0 ≡ holds (t .keys) k
     known zero t h k =
-        let e : record { self = 0; expression = Expression.call 0 Arguments.end; keys = singleton 0; learnt = 0 } ≡ t = cc in
+        let e : record { self = 0; expression = Expression.call 0 Arguments.end; keys = singleton 0; learnt = 0; place = awake } ≡ t = cc in
         sym (holds-singleton 0 k) ∙ ap (λ (z : Thread). holds (z .keys) k) e
     known (suc p) t h k = absurd (true≢false cc)
 

@@ -9,16 +9,18 @@ use lib.ListN.{length, getElem?}
 use lib.Dec.{eqb}
 use borrow.Author.Tests.{ne-eqb, le-ltb}
 use Rattle.keys.specs.Keys.{Keys, singleton, empty}
-use Rattle.packed.specs.Syntax.{Program, Expression}
+use Rattle.packed.specs.Syntax.{Signal, Program, Expression}
 use Rattle.rules.specs.Context.{Context, focus, top, plug, redexExpression, Redex}
-use Rattle.rules.specs.State.{Cell, Thread, State, start, freshObject, store, storeMonitor, addObject, gain, become, addThread, useKey}
+use Rattle.rules.specs.Queue.{awake}
+use Rattle.rules.specs.State.{Cell, Thread, State, start, freshObject, store, storeMonitor, addObject, gain, become, addThread, useKey, enqueue, signalled}
 use Rattle.records.specs.Record.{Record}
-use Rattle.rules.specs.Rules.{Rule, passedOn, LacksHere, LACKS-READ, LACKS-WRITE, Lacks, LACKS, Converts, E-CALL, E-LET, E-IF, E-WHILE, E-NEW, E-READ, E-WRITE, E-READV, E-WRITEV, E-FORK, E-JOIN, E-RE-ENTER, E-ACQUIRE, E-RELEASE, Moves, EVAL, EVALᶜ}
+use Rattle.rules.specs.Rules.{Rule, passedOn, LacksHere, LACKS-READ, LACKS-WRITE, Lacks, LACKS, Converts, E-CALL, E-LET, E-IF, E-WHILE, E-NEW, E-READ, E-WRITE, E-READV, E-WRITEV, E-FORK, E-JOIN, E-RE-ENTER, E-ACQUIRE, E-RELEASE, E-WAIT, E-WAKE, E-NOTIFY, E-NOTIFYALL, Moves, EVAL, EVALᶜ}
 use Rattle.rules.specs.Room.{Room, noRoomBefore, noRoomAfter, noRoomFor}
 use Rattle.rules.specs.Run.{Run, logged, stopped, afterPass, afterMove, play}
 use Rattle.packed.proofs.WellFormed.{WellFormedProgram}
 use Rattle.records.proofs.Tidy.{Tidy, AllTidy}
 use Rattle.rules.proofs.Placed.{Good}
+use Rattle.rules.proofs.Relocated.{Relocated, withThreads, relocated-length, enqueue-relocated, signalled-relocated}
 use Rattle.rules.proofs.StateLaws.{inside, length-added, change-length, found-thread}
 use Rattle.rules.proofs.Invariant.{Inv}
 use Rattle.rules.proofs.Preserved.{placed}
@@ -37,7 +39,7 @@ pub roomy-become : (s : State) (p : ℕ) (e : Expression) → Roomy s → Roomy 
 unfolding become
 roomy-become s p e z =
     let a = z .threads8 in
-    record { threads8 = omega (arith, change-length (s .threads) p (λ x. record { self = x .self; expression = e; keys = x .keys; learnt = x .learnt })); objects32 = z .objects32; keys256 = z .keys256 }
+    record { threads8 = omega (arith, change-length (s .threads) p (λ x. record { self = x .self; expression = e; keys = x .keys; learnt = x .learnt; place = x .place })); objects32 = z .objects32; keys256 = z .keys256 }
 
 roomy-gain : (s : State) (p : ℕ) (W : Keys) (n : Keys → ℕ) → Roomy s → Roomy (gain s p W n)
 unfolding gain
@@ -57,6 +59,12 @@ roomy-lock s o c z =
     let a = z .objects32 in
     record { threads8 = z .threads8; objects32 = along (λ (n : ℕ). n ≤ 32) (sym (change-length (s .objects) o _)) a; keys256 = z .keys256 }
 
+-- places alone change
+roomy-relocated : (s : State) (us : List Thread) → Relocated (s .threads) us → Roomy s → Roomy (withThreads s us)
+roomy-relocated s us r z =
+    let a = z .threads8 in
+    record { threads8 = omega (arith, relocated-length (s .threads) us r); objects32 = z .objects32; keys256 = z .keys256 }
+
 nonzero : (f : ℕ) → 0 < f → eqb f 0 ≡ false
 nonzero f h = ne-eqb f 0 (λ e. omega arith)
 
@@ -73,7 +81,7 @@ module _ (g : Program) (s : State) (I : Inv g s) (z : Roomy s) (p : ℕ) (t : Th
 
   -- room before the move is enough after it
   fits : {e : Expression} {R : Rule} {r : Option Record} {s′ : State} {e′ : Expression} → Converts g s p t e R r s′ e′ → noRoomBefore s R ≡ none → Roomy s′
-  unfolding noRoomBefore useKey addObject addThread
+  unfolding noRoomBefore useKey addObject addThread enqueue signalled
   fits (E-CALL os hd hp) l = z
   fits E-LET l = z
   fits (E-IF b) l = z
@@ -91,11 +99,17 @@ module _ (g : Program) (s : State) (I : Inv g s) (z : Roomy s) (p : ℕ) (t : Th
       let b = room-for 8 (length (s .threads)) Room.thread _ l in
       let d = room-for 32 (length (s .objects)) Room.object none (b .1) .0 in
       let c = b .0 in
-      record { threads8 = omega (arith, length-added (s .threads) (record { self = length (s .objects); expression = e; keys = t .keys; learnt = 0 })); objects32 = omega (arith, length-added (s .objects) (freshObject [])); keys256 = z .keys256 }
+      record { threads8 = omega (arith, length-added (s .threads) (record { self = length (s .objects); expression = e; keys = t .keys; learnt = 0; place = awake })); objects32 = omega (arith, length-added (s .objects) (freshObject [])); keys256 = z .keys256 }
   fits (E-JOIN {q = q} h l′) l = roomy-gain s p (q .thread .keys) _ z
   fits (E-RE-ENTER h) l = z
   fits (E-ACQUIRE {o} {W = W} h n) l = roomy-gain (storeMonitor s o (record { keys = empty; value = t .self })) p W _ (roomy-lock s o (record { keys = empty; value = t .self }) z)
   fits (E-RELEASE {o} h) l = roomy-lock s o (record { keys = t .keys; value = 0 }) z
+  fits (E-WAIT {o} h) l =
+      let s₁ = storeMonitor s o (record { keys = t .keys; value = 0 }) in
+      roomy-relocated s₁ _ (enqueue-relocated s₁ p o) (roomy-lock s o (record { keys = t .keys; value = 0 }) z)
+  fits (E-WAKE {o} {W = W} n h m) l = roomy-gain (storeMonitor s o (record { keys = empty; value = t .self })) p W _ (roomy-lock s o (record { keys = empty; value = t .self }) z)
+  fits (E-NOTIFY {o} h) l = roomy-relocated s _ (signalled-relocated _ s o) z
+  fits (E-NOTIFYALL {o} h) l = roomy-relocated s _ (signalled-relocated _ s o) z
 
   tidy : {e : Expression} {R : Rule} {r : Option Record} {s′ : State} {e′ : Expression} → Converts g s p t e R r s′ e′ → t .expression ≡ plug K e → noRoomBefore s R ≡ none → TidyOr r
   unfolding noRoomBefore redexExpression focus
@@ -133,6 +147,10 @@ module _ (g : Program) (s : State) (I : Inv g s) (z : Roomy s) (p : ℕ) (t : Th
   tidy (E-RE-ENTER h) he l = tt
   tidy (E-ACQUIRE {o} {u} {W} {e} h n) he l = record { thread-below = three; object-below = five o (placed g s p t K I ht (Redex.synch o e) he .1 .0); field-below = omega arith; value-below = omega arith; columns = refl }
   tidy (E-RELEASE {o} {v} h) he l = record { thread-below = three; object-below = five o (placed g s p t K I ht (Redex.hold o v) he .1 .0); field-below = omega arith; value-below = omega arith; columns = refl }
+  tidy (E-WAIT {o} h) he l = record { thread-below = three; object-below = five o (placed g s p t K I ht (Redex.signal Signal.wait o) he .1); field-below = omega arith; value-below = omega arith; columns = refl }
+  tidy (E-WAKE {o} z h n) he l = record { thread-below = three; object-below = five o (placed g s p t K I ht (Redex.waiting o) he .1); field-below = omega arith; value-below = omega arith; columns = refl }
+  tidy (E-NOTIFY h) he l = tt
+  tidy (E-NOTIFYALL h) he l = tt
 
   tidy-lacks : {e : Expression} {r : Record} → LacksHere g s p t e r → t .expression ≡ plug K e → Tidy r
   unfolding redexExpression

@@ -4,7 +4,7 @@ use Prim.Native.Nat.{ℕ, suc}
 use mathlib.Core.Bool.{Bool, true, false}
 use mathlib.Core.List.{List, [], _∷_, _++_}
 use mathlib.Core.Option.{Option, some, none}
-use Rattle.packed.specs.Syntax.{Expression, Condition, Arguments, literal, end, argument, bool}
+use Rattle.packed.specs.Syntax.{Signal, Expression, Condition, Arguments, literal, end, argument, bool}
 
 -- T[•], from the hole outwards: `read K f` is the context T[•.f] where K is T[•]. "Operands are evaluated left to right."; "The source's list of
 -- contexts leaves out the operand of `join`; it is evaluated first, as elsewhere."
@@ -20,6 +20,7 @@ mutual
     synch : Context → Expression → Context  -- synch • do e
     hold : Context → ℕ → Context  -- hold o do •
     join : Context → Context  -- join •
+    signal : Context → Signal → Context  -- wait •, notify •, notify all •
     equal₁ : Contextᶜ → Expression → Context  -- • == e
     equal₂ : Contextᶜ → ℕ → Context  -- o == •
 
@@ -48,6 +49,7 @@ unfoldable mutual
   plug (synch K e′) e = plug K (Expression.synch e e′)
   plug (hold K o) e = plug K (Expression.hold o e)
   plug (join K) e = plug K (Expression.join e)
+  plug (signal K k) e = plug K (Expression.signal k e)
   plug (equal₁ K e′) e = plugᶜ K (Condition.equal e e′)
   plug (equal₂ K o) e = plugᶜ K (Condition.equal (literal o) e)
 
@@ -68,6 +70,7 @@ unfoldable mutual
   depth (synch K e′) = suc (depth K)
   depth (hold K o) = suc (depth K)
   depth (join K) = suc (depth K)
+  depth (signal K k) = suc (depth K)
   depth (equal₁ K e′) = suc (depthᶜ K)
   depth (equal₂ K o) = suc (depthᶜ K)
 
@@ -92,6 +95,8 @@ pub data Redex : Type 0 where
   join : ℕ → Redex
   synch : ℕ → Expression → Redex
   hold : ℕ → ℕ → Redex
+  signal : Signal → ℕ → Redex
+  waiting : ℕ → Redex
 
 -- a condition whose operands are values. "`not true` is the value false, so it needs no move."
 pub data Redexᶜ : Type 0 where
@@ -114,6 +119,8 @@ redexExpression (fork e) = Expression.fork e
 redexExpression (join o) = Expression.join (literal o)
 redexExpression (synch o e) = Expression.synch (literal o) e
 redexExpression (hold o v) = Expression.hold o (literal v)
+redexExpression (signal k o) = Expression.signal k (literal o)
+redexExpression (waiting o) = Expression.waiting o
 
 unfoldable pub redexCondition : Redexᶜ → Condition
 unfolding bool
@@ -136,6 +143,8 @@ asLiteral (Expression.fork e) = none
 asLiteral (Expression.join e) = none
 asLiteral (Expression.synch e e′) = none
 asLiteral (Expression.hold o e) = none
+asLiteral (Expression.signal k e) = none
+asLiteral (Expression.waiting o) = none
 
 -- the condition is `true`
 unfoldable pub isTruth : Condition → Bool
@@ -195,6 +204,8 @@ unfoldable mutual
   focus K (Expression.join e) = onLiteral (asLiteral e) (λ o. here K (join o)) (focus (join K) e)
   focus K (Expression.synch e e′) = onLiteral (asLiteral e) (λ o. here K (synch o e′)) (focus (synch K e′) e)
   focus K (Expression.hold o e) = onLiteral (asLiteral e) (λ v. here K (hold o v)) (focus (hold K o) e)
+  focus K (Expression.signal k e) = onLiteral (asLiteral e) (λ o. here K (signal k o)) (focus (signal K k) e)
+  focus K (Expression.waiting o) = here K (waiting o)
 
   pub focusᶜ : Contextᶜ → Condition → Focus
   focusᶜ K Condition.truth = value 0  -- never asked, as in `onNot`

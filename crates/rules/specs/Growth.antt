@@ -8,7 +8,7 @@ use lib.ListN.{getElem?}
 use Rattle.keys.specs.Keys.{Keys, empty, size}
 use Rattle.packed.specs.Syntax.{Program}
 use Rattle.rules.specs.State.{Thread, State}
-use Rattle.rules.specs.Rules.{Rule, e-call, e-let, e-if, e-while, e-notnottrue, e-andtrue, e-andfalse, e-equaltrue, e-equalfalse, e-new, e-read, e-write, e-readv, e-writev, e-fork, e-join, e-re-enter, e-acquire, e-release}
+use Rattle.rules.specs.Rules.{Rule, e-call, e-let, e-if, e-while, e-notnottrue, e-andtrue, e-andfalse, e-equaltrue, e-equalfalse, e-new, e-read, e-write, e-readv, e-writev, e-fork, e-join, e-re-enter, e-acquire, e-release, e-wait, e-wake, e-notify, e-notifyall}
 use Rattle.rules.specs.Run.{Run}
 use Rattle.rules.specs.Execution.{Execution, ends, passes, lacks-key, no-room, moves}
 
@@ -17,7 +17,7 @@ unfoldable pub keysOfThread : Option Thread → Keys
 keysOfThread none = empty
 keysOfThread (some t) = t .keys
 
--- "acquire, volatile read and join": the moves that count
+-- "acquire, volatile read and join": the moves that count. The acquire after a wait is one.
 unfoldable pub counts : Rule → Bool
 counts e-call = false
 counts e-let = false
@@ -38,6 +38,10 @@ counts e-join = true
 counts e-re-enter = false
 counts e-acquire = true
 counts e-release = false
+counts e-wait = false
+counts e-wake = true
+counts e-notify = false
+counts e-notifyall = false
 
 -- by how much the set of thread p is larger in the second state
 unfoldable pub larger : ℕ → State → State → ℕ

@@ -1,4 +1,5 @@
 pub mod Context
+pub mod Queue
 pub mod State
 pub mod Rules
 pub mod Step
@@ -9,6 +10,8 @@ pub mod NewKeys
 pub mod Growth
 pub mod ThreadStates
 pub mod Executed
+pub mod Waking
 pub mod Play
 pub mod ShotList
 pub mod Observed
+pub mod WaitShots

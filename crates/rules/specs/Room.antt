@@ -1,27 +1,27 @@
 -- Passing over and stopping: the answer to a pick (document 01, "How a thread moves"). Assumes nothing.
 use Prim.Native.Nat.{ℕ}
 use mathlib.Core.Path.{_≡_}
-use mathlib.Core.Bool.{Bool, false, cond, _||_}
+use mathlib.Core.Bool.{Bool, true, false, cond, _||_}
 use mathlib.Core.List.{List, [], _∷_}
 use mathlib.Core.Option.{Option, some, none, orElse}
 use lib.Dec.{ltb, leb}
 use lib.ListN.{length, getElem?, drop}
-use Rattle.keys.specs.Keys.{empty}
-use Rattle.packed.specs.Syntax.{Expression, Program, literal}
+use Rattle.keys.specs.Keys.{Keys, empty, isEmpty}
+use Rattle.packed.specs.Syntax.{Signal, Expression, Program, literal}
 use Rattle.records.specs.Record.{Record}
 use Rattle.rules.specs.Context.{Context, top, plug, focus, depthOf}
 use Rattle.rules.specs.State.{cell, Thread, State, Numbered, lookup, monitor, threadOf}
-use Rattle.rules.specs.Rules.{Rule, e-call, e-let, e-if, e-while, e-notnottrue, e-andtrue, e-andfalse, e-equaltrue, e-equalfalse, e-new, e-read, e-write, e-readv, e-writev, e-fork, e-join, e-re-enter, e-acquire, e-release}
-use Rattle.rules.specs.Step.{forMonitor, forJoin, missingField, notThread, Move, Attempt, absent, finished, waiting, stuck, lacking, moves, attempt}
+use Rattle.rules.specs.Rules.{Rule, e-call, e-let, e-if, e-while, e-notnottrue, e-andtrue, e-andfalse, e-equaltrue, e-equalfalse, e-new, e-read, e-write, e-readv, e-writev, e-fork, e-join, e-re-enter, e-acquire, e-release, e-wait, e-wake, e-notify, e-notifyall}
+use Rattle.rules.specs.Step.{forMonitor, forJoin, forNotify, missingField, notThread, notHeld, Move, Attempt, absent, finished, waiting, stuck, lacking, moves, attempt}
 
 -- ---- passing over, as a relation
 
--- the redex e of the thread that object `self` stands for cannot move, and why
-module _ (s : State) (self : ℕ) where
+-- the redex e of thread t cannot move, and why
+module _ (s : State) (t : Thread) where
   pub data Blocked : Expression → Attempt → Type 0 where
     -- "monitor held by another"
     MONITOR-HELD : {o u : ℕ} {e : Expression}
-        → monitor s o ≡ some (cell empty u) → (u ≡ self → ⊥)
+        → monitor s o ≡ some (cell empty u) → (u ≡ t .self → ⊥)
         → Blocked (Expression.synch (literal o) e) (waiting (forMonitor o))
     -- "join of an unfinished thread, itself included"
     UNFINISHED : {o : ℕ} {q : Numbered}
@@ -38,6 +38,18 @@ module _ (s : State) (self : ℕ) where
     NO-THREAD : {o : ℕ}
         → threadOf 0 (s .threads) o ≡ none
         → Blocked (Expression.join (literal o)) (stuck (notThread o))
+    -- document 02, E3: "The thread then waits until notified"
+    NOT-NOTIFIED : {o u : ℕ} {W : Keys}
+        → (t .place .number ≡ 0 → ⊥) → monitor s o ≡ some (cell W u)
+        → Blocked (Expression.waiting o) (waiting (forNotify o))
+    -- "its next move needs the monitor free"
+    NOT-FREE : {o u : ℕ}
+        → t .place .number ≡ 0 → monitor s o ≡ some (cell empty u)
+        → Blocked (Expression.waiting o) (waiting (forMonitor o))
+    -- "Each needs the monitor held by the mover, else the thread is stuck with a reason of its own."
+    NOT-HELD : {o u : ℕ} {k : Signal} {W : Keys}
+        → monitor s o ≡ some (cell W u) → (isEmpty W ≡ true → u ≡ t .self → ⊥)
+        → Blocked (Expression.signal k (literal o)) (stuck (notHeld o))
 
 -- "A pick is passed over, changing nothing, if that thread is absent, finished, waiting [..] or stuck [..]."
 module _ (s : State) (p : ℕ) where
@@ -45,7 +57,7 @@ module _ (s : State) (p : ℕ) where
     ABSENT : getElem? (s .threads) p ≡ none → PassedOver absent
     FINISHED : {t : Thread} {v : ℕ} → getElem? (s .threads) p ≡ some t → t .expression ≡ literal v → PassedOver (finished v)
     BLOCKED : (K : Context) {t : Thread} {e : Expression} {a : Attempt}
-        → getElem? (s .threads) p ≡ some t → t .expression ≡ plug K e → Blocked s (t .self) e a
+        → getElem? (s .threads) p ≡ some t → t .expression ≡ plug K e → Blocked s t e a
         → PassedOver a
 
 -- ---- room
@@ -76,6 +88,10 @@ noRoomAmong threads objects keys e-join = none
 noRoomAmong threads objects keys e-re-enter = none
 noRoomAmong threads objects keys e-acquire = none
 noRoomAmong threads objects keys e-release = none
+noRoomAmong threads objects keys e-wait = none
+noRoomAmong threads objects keys e-wake = none
+noRoomAmong threads objects keys e-notify = none
+noRoomAmong threads objects keys e-notifyall = none
 
 -- the room that the state before the move lacks
 unfoldable pub noRoomBefore : State → Rule → Option Room

@@ -1,5 +1,5 @@
--- The evaluation rules of document 001, figures 7 and 8, as document 01 changes them, one constructor to a rule. Assumes nothing.
-use Prim.Native.Nat.{ℕ}
+-- The evaluation rules of document 001, figures 7 and 8, as document 01 changes them, and those of document 02, E3, one constructor to a rule. Assumes nothing.
+use Prim.Native.Nat.{ℕ, pred}
 use mathlib.Core.Path.{_≡_}
 use mathlib.Core.Bool.{Bool, true, false, cond}
 use mathlib.Core.List.{List, []}
@@ -8,16 +8,18 @@ use lib.Dec.{eqb}
 use lib.ListN.{length, getElem?}
 use Rattle.format.specs.Version.{Version, v0, v1}
 use Rattle.keys.specs.Keys.{Keys, empty, singleton, holds, union, isEmpty}
-use Rattle.packed.specs.Syntax.{Expression, Condition, Procedure, Program, literal, end, sequence, bool, bind, bindParameters, substitute}
+use Rattle.packed.specs.Syntax.{Signal, Expression, Condition, Procedure, Program, literal, end, sequence, bool, bind, bindParameters, substitute}
 use Rattle.packed.specs.Format.{maskBit}
 use Rattle.records.specs.Record.{Kind, Record, entry}
 use Rattle.rules.specs.Context.{Context, Contextᶜ, plug, plugᶜ, literals}
-use Rattle.rules.specs.State.{cell, Thread, State, Numbered, freshObject, lookup, monitor, store, storeMonitor, addObject, learn, hear, become, addThread, useKey, threadOf}
+use Rattle.rules.specs.Queue.{awake}
+use Rattle.rules.specs.State.{cell, Thread, State, Numbered, freshObject, lookup, monitor, store, storeMonitor, addObject, learn, hear, become, addThread, useKey, enqueue, signalled, threadOf}
 
 -- the rules' names
 pub data Rule : Type 0 where
   e-call e-let e-if e-while e-notnottrue e-andtrue e-andfalse e-equaltrue e-equalfalse : Rule
   e-new e-read e-write e-readv e-writev e-fork e-join e-re-enter e-acquire e-release : Rule
+  e-wait e-wake e-notify e-notifyall : Rule
 
 -- f ∈ F_V
 unfoldable pub isVolatile : Program → ℕ → Bool
@@ -68,7 +70,7 @@ module _ (g : Program) (s : State) (p : ℕ) (t : Thread) where
     -- "a fork makes one of each"; "A forked thread starts with its maker's set."
     E-FORK : {e : Expression}
         → Converts (Expression.fork e) e-fork (some (entry Kind.fork p (length (s .objects)) (length (s .threads)) 0))
-        (addThread (addObject s (freshObject [])) (record { self = length (s .objects); expression = e; keys = t .keys; learnt = 0 })) (literal (length (s .objects)))
+        (addThread (addObject s (freshObject [])) (record { self = length (s .objects); expression = e; keys = t .keys; learnt = 0; place = awake })) (literal (length (s .objects)))
     -- "Join waits for a thread that has become a value, and adds its set."
     E-JOIN : {o v : ℕ} {q : Numbered}
         → threadOf 0 (s .threads) o ≡ some q → q .thread .expression ≡ literal v
@@ -86,6 +88,25 @@ module _ (g : Program) (s : State) (p : ℕ) (t : Thread) where
     E-RELEASE : {o v : ℕ}
         → monitor s o ≡ some (cell empty (t .self))
         → Converts (Expression.hold o (literal v)) e-release (some (entry Kind.release p o 0 0)) (storeMonitor s o (cell (t .keys) 0)) (literal v)
+    -- document 02, E3: "Wait gives up the monitor with the thread's keys and is logged as a release."
+    E-WAIT : {o : ℕ}
+        → monitor s o ≡ some (cell empty (t .self))
+        → Converts (Expression.signal Signal.wait (literal o)) e-wait (some (entry Kind.release p o 0 0))
+        (enqueue (storeMonitor s o (cell (t .keys) 0)) p o) (Expression.waiting o)
+    -- "The thread then waits until notified, and its next move needs the monitor free and is logged as an acquire with its result null."
+    E-WAKE : {o u : ℕ} {W : Keys}
+        → t .place .number ≡ 0 → monitor s o ≡ some (cell W u) → isEmpty W ≡ false
+        → Converts (Expression.waiting o) e-wake (some (entry Kind.acquire p o 0 0))
+        (hear (storeMonitor s o (cell empty (t .self))) p W) (literal 0)
+    -- "Notify wakes, of the threads not yet notified, the one that has waited longest on that object": that at place 1, and the others move up;
+    -- "both give null, are moves even where nobody waits, and leave no record."
+    E-NOTIFY : {o : ℕ}
+        → monitor s o ≡ some (cell empty (t .self))
+        → Converts (Expression.signal Signal.notify (literal o)) e-notify none (signalled pred s o) (literal 0)
+    -- "notify all wakes every one"
+    E-NOTIFYALL : {o : ℕ}
+        → monitor s o ≡ some (cell empty (t .self))
+        → Converts (Expression.signal Signal.notifyAll (literal o)) e-notifyall none (signalled (λ n. 0) s o) (literal 0)
 
 -- Figure 7, the rules for conditions, which neither read nor change the state
 pub data Convertsᶜ : Condition → Rule → Condition → Type 0 where

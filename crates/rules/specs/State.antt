@@ -1,12 +1,13 @@
 -- The state of a run: μ, θ and κ of document 001, section 4, with the next unused key (document 01, "How a thread moves"). Assumes nothing.
 use Prim.Native.Nat.{ℕ, zero, suc, _+_}
 use mathlib.Core.Bool.{cond}
-use mathlib.Core.List.{List, [], _∷_, _++_}
+use mathlib.Core.List.{List, [], _∷_, _++_, map}
 use mathlib.Core.Option.{Option, some, none}
 use lib.Dec.{eqb}
 use lib.ListN.{getElem?}
 use Rattle.keys.specs.Keys.{Keys, singleton, union, countNew}
 use Rattle.packed.specs.Syntax.{Expression, Arguments}
+use Rattle.rules.specs.Queue.{Place, awake, lastPlace, movedUp}
 
 -- what a location holds: (W, o)
 pub record Cell : Type 0 where
@@ -27,12 +28,13 @@ pub record Object : Type 0 where
   pub monitor : Cell
   pub fields : List Field
 
--- a thread: the object that stands for it, its expression θ, its key set κ, and how many keys it has heard of that were new to it
+-- a thread: the object that stands for it, its expression θ, its key set κ, how many keys it has heard of that were new to it, and its place in a queue
 pub record Thread : Type 0 where
   pub self : ℕ
   pub expression : Expression
   pub keys : Keys
   pub learnt : ℕ
+  pub place : Place
 
 -- "Objects and threads are numbered in order of creation and live to the end of the run"
 pub record State : Type 0 where
@@ -123,7 +125,7 @@ unfoldable pub gain : State → ℕ → Keys → (Keys → ℕ) → State
 unfolding changeAt union
 gain s p W count = record {
   objects = s .objects;
-  threads = changeAt (s .threads) p (λ x. record { self = x .self; expression = x .expression; keys = union W (x .keys); learnt = x .learnt + count (x .keys) });
+  threads = changeAt (s .threads) p (λ x. record { self = x .self; expression = x .expression; keys = union W (x .keys); learnt = x .learnt + count (x .keys); place = x .place });
   nextKey = s .nextKey;
 }
 
@@ -140,7 +142,7 @@ unfoldable pub become : State → ℕ → Expression → State
 unfolding changeAt
 become s p e = record {
   objects = s .objects;
-  threads = changeAt (s .threads) p (λ x. record { self = x .self; expression = e; keys = x .keys; learnt = x .learnt });
+  threads = changeAt (s .threads) p (λ x. record { self = x .self; expression = e; keys = x .keys; learnt = x .learnt; place = x .place });
   nextKey = s .nextKey;
 }
 
@@ -151,6 +153,34 @@ addThread s x = record { objects = s .objects; threads = s .threads ++ (x ∷ []
 -- "the next unused key, 1 upward"
 unfoldable pub useKey : State → State
 useKey s = record { objects = s .objects; threads = s .threads; nextKey = suc (s .nextKey) }
+
+-- ---- the queues (document 02, E3)
+
+-- thread p takes the last place of the queue of o
+unfoldable pub enqueue : State → ℕ → ℕ → State
+unfolding changeAt lastPlace
+enqueue s p o = record {
+  objects = s .objects;
+  threads = changeAt (s .threads) p (λ x. record {
+    self = x .self;
+    expression = x .expression;
+    keys = x .keys;
+    learnt = x .learnt;
+    place = lastPlace o (map (λ (y : Thread). y .place) (s .threads));
+  });
+  nextKey = s .nextKey;
+}
+
+-- the numbers of the places on o are changed by h
+unfoldable pub signalled : (ℕ → ℕ) → State → ℕ → State
+unfolding movedUp
+signalled h s o = record {
+  objects = s .objects;
+  threads = map (λ (x : Thread). record { self = x .self; expression = x .expression; keys = x .keys; learnt = x .learnt; place = movedUp h o (x .place) }) (s .threads);
+  nextKey = s .nextKey;
+}
+
+-- ---- threads by their objects
 
 -- a thread with its number
 pub record Numbered : Type 0 where
@@ -168,6 +198,6 @@ unfoldable pub start : State
 unfolding freshObject
 start = record {
   objects = freshObject [] ∷ [];
-  threads = record { self = 0; expression = Expression.call 0 Arguments.end; keys = singleton 0; learnt = 0 } ∷ [];
+  threads = record { self = 0; expression = Expression.call 0 Arguments.end; keys = singleton 0; learnt = 0; place = awake } ∷ [];
   nextKey = 1;
 }

@@ -1,26 +1,31 @@
 -- The rules as a function: what a thread can do next (document 01, "How a thread moves"). Assumes nothing.
-use Prim.Native.Nat.{ℕ}
+use Prim.Native.Nat.{ℕ, zero, suc, pred}
 use mathlib.Core.Bool.{Bool, true, false, cond}
 use mathlib.Core.List.{List, []}
 use mathlib.Core.Option.{Option, some, none}
 use lib.Dec.{eqb}
 use lib.ListN.{length, getElem?}
 use Rattle.keys.specs.Keys.{empty, singleton, union, subset, isEmpty}
-use Rattle.packed.specs.Syntax.{Expression, Condition, Procedure, Program, literal, sequence, bool, bind, bindParameters, substitute}
+use Rattle.packed.specs.Syntax.{Signal, Expression, Condition, Procedure, Program, literal, sequence, bool, bind, bindParameters, substitute}
 use Rattle.records.specs.Record.{Kind, Record, entry}
 use Rattle.rules.specs.Context.{Context, top, plug, plugᶜ, Redex, Redexᶜ, Focus, value, here, hereᶜ, focus, asLiteral}
-use Rattle.rules.specs.State.{Cell, cell, Thread, State, Numbered, freshObject, lookup, monitor, store, storeMonitor, addObject, gain, learn, hear, become, addThread, useKey, threadOf}
-use Rattle.rules.specs.Rules.{Rule, isVolatile, passedOn, e-call, e-let, e-if, e-while, e-notnottrue, e-andtrue, e-andfalse, e-equaltrue, e-equalfalse, e-new, e-read, e-write, e-readv, e-writev, e-fork, e-join, e-re-enter, e-acquire, e-release}
+use Rattle.rules.specs.Queue.{awake}
+use Rattle.rules.specs.State.{Cell, cell, Thread, State, Numbered, freshObject, lookup, monitor, store, storeMonitor, addObject, gain, learn, hear, become, addThread, useKey, enqueue, signalled, threadOf}
+use Rattle.rules.specs.Rules.{Rule, isVolatile, passedOn, e-call, e-let, e-if, e-while, e-notnottrue, e-andtrue, e-andfalse, e-equaltrue, e-equalfalse, e-new, e-read, e-write, e-readv, e-writev, e-fork, e-join, e-re-enter, e-acquire, e-release, e-wait, e-wake, e-notify, e-notifyall}
 
--- "waiting (monitor held by another, or join of an unfinished thread, itself included)", with the object
+-- "waiting (monitor held by another, or join of an unfinished thread, itself included)", with the object; and "The thread then waits until notified"
+-- (document 02, E3)
 pub data Wait : Type 0 where
   forMonitor : ℕ → Wait
   forJoin : ℕ → Wait
+  forNotify : ℕ → Wait
 
--- "stuck (field missing from the object, or join of an object that is no thread)", with the object, and the field
+-- "stuck (field missing from the object, or join of an object that is no thread)", with the object, and the field; and "Each needs the monitor held by the
+-- mover, else the thread is stuck with a reason of its own." (document 02, E3)
 pub data Stuck : Type 0 where
   missingField : ℕ → ℕ → Stuck
   notThread : ℕ → Stuck
+  notHeld : ℕ → Stuck
   noRule : Stuck  -- a slot that nothing binds, a call without its procedure or arguments, an object or a held monitor that is not there: no accepted plan comes here
 
 -- what a redex comes to. Of a rule: its record, the state after it but for the mover's expression, and what replaces the redex
@@ -89,9 +94,34 @@ holdAct s p t o v (some c) =
     (sticks noRule))
     (sticks noRule)
 
+-- E-WAIT, E-NOTIFY, E-NOTIFYALL, where the mover holds the monitor
+unfoldable pub signalMove : State → ℕ → Thread → ℕ → Signal → Act
+unfolding storeMonitor enqueue signalled
+signalMove s p t o Signal.wait = does e-wait (some (entry Kind.release p o 0 0)) (enqueue (storeMonitor s o (cell (t .keys) 0)) p o) (Expression.waiting o)
+signalMove s p t o Signal.notify = does e-notify none (signalled pred s o) (literal 0)
+signalMove s p t o Signal.notifyAll = does e-notifyall none (signalled (λ n. 0) s o) (literal 0)
+
+unfoldable pub signalAct : State → ℕ → Thread → Signal → ℕ → Option Cell → Act
+unfolding isEmpty signalMove
+signalAct s p t k o none = sticks noRule
+signalAct s p t k o (some c) =
+    cond (isEmpty (c .keys))
+    (cond (eqb (c .value) (t .self)) (signalMove s p t o k) (sticks (notHeld o)))
+    (sticks (notHeld o))
+
+-- E-WAKE, by the number of the thread's place
+unfoldable pub wakeAct : State → ℕ → Thread → ℕ → ℕ → Option Cell → Act
+unfolding isEmpty gain storeMonitor
+wakeAct s p t o n none = sticks noRule
+wakeAct s p t o (suc n) (some c) = waits (forNotify o)
+wakeAct s p t o zero (some c) =
+    cond (isEmpty (c .keys))
+    (waits (forMonitor o))
+    (does e-wake (some (entry Kind.acquire p o 0 0)) (hear (storeMonitor s o (cell empty (t .self))) p (c .keys)) (literal 0))
+
 -- the rules for expressions: thread p, which is t
 unfoldable pub act : Program → State → ℕ → Thread → Redex → Act
-unfolding callAct readAct writeAct joinAct synchAct holdAct bind substitute sequence freshObject addObject addThread lookup monitor threadOf
+unfolding callAct readAct writeAct joinAct synchAct holdAct signalAct wakeAct bind substitute sequence freshObject addObject addThread lookup monitor threadOf
 act g s p t (Redex.variable x) = sticks noRule
 act g s p t (Redex.new fs) = does e-new (some (entry Kind.new p (length (s .objects)) 0 0)) (addObject s (freshObject fs)) (literal (length (s .objects)))
 act g s p t (Redex.read o f) = readAct g s p t o f (lookup s o f)
@@ -102,11 +132,13 @@ act g s p t (Redex.while c e) = does e-while none s (Expression.if c (sequence e
 act g s p t (Redex.call m os) = callAct s (getElem? (g .procedures) m) os
 act g s p t (Redex.fork e) =
     does e-fork (some (entry Kind.fork p (length (s .objects)) (length (s .threads)) 0))
-    (addThread (addObject s (freshObject [])) (record { self = length (s .objects); expression = e; keys = t .keys; learnt = 0 }))
+    (addThread (addObject s (freshObject [])) (record { self = length (s .objects); expression = e; keys = t .keys; learnt = 0; place = awake }))
     (literal (length (s .objects)))
 act g s p t (Redex.join o) = joinAct s p o (threadOf 0 (s .threads) o)
 act g s p t (Redex.synch o e) = synchAct s p t o e (monitor s o)
 act g s p t (Redex.hold o v) = holdAct s p t o v (monitor s o)
+act g s p t (Redex.signal k o) = signalAct s p t k o (monitor s o)
+act g s p t (Redex.waiting o) = wakeAct s p t o (t .place .number) (monitor s o)
 
 -- the rules for conditions, and what replaces the redex
 pub record Actᶜ : Type 0 where

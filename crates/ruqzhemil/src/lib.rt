@@ -55,5 +55,5 @@ pub extern "C" fn ruqzhemil_judge(version: u64, log: &[u8]) -> u64
 pub extern "C" fn ruqzhemil_version() -> u64
     ensures { λ r. ⌜ r ≡ version ⌝ }
 {
-    65536
+    65792
 }
