@@ -15,7 +15,7 @@ pub const THIRD: usize = 32; // a term after two
 
 pub const SLOT: usize = 2147483648;
 
-const VALUE: usize = 2097152; // the term after a let's slot
+pub const VALUE: usize = 2097152; // the term after a let's slot
 
 pub const BODY: usize = 2048; // the term after that
 
@@ -23,7 +23,7 @@ pub const FIELD: usize = 1048576; // the field after a term
 
 pub const WRITTEN: usize = 1024; // the term after that
 
-const PROCEDURE: usize = 1073741824;
+pub const PROCEDURE: usize = 1073741824;
 
 pub const ARGUMENTS: usize = 1048576; // the list after a procedure
 
