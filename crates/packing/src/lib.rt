@@ -41,12 +41,14 @@ pub fn two(word: usize, first: usize, second: usize) -> usize
     let tag = operands::tag(word);
     let head = tag * operands::TAG;
     match tag {
-        tags::WRITE =>
-            head + first * operands::FIRST + operands::field_of(word) * operands::FIELD
-                + second * operands::WRITTEN,
-        tags::LET =>
-            head + operands::slot_of(word) * operands::SLOT + first * operands::VALUE
-                + second * operands::BODY,
+        tags::WRITE => head
+            + first * operands::FIRST
+            + operands::field_of(word) * operands::FIELD
+            + second * operands::WRITTEN,
+        tags::LET => head
+            + operands::slot_of(word) * operands::SLOT
+            + first * operands::VALUE
+            + second * operands::BODY,
         _ => head + first * operands::FIRST + second * operands::SECOND,
     }
 }
@@ -56,7 +58,9 @@ pub fn three(first: usize, second: usize, third: usize) -> usize
     requires { ⌜ (first < 1024) × (second < 1024) × (third < 1024) ⌝ }
     ensures { λ r. ⌜ r ≡ wordOf 6 first second third ⌝ }
 {
-    tags::IF * operands::TAG + first * operands::FIRST + second * operands::SECOND
+    tags::IF * operands::TAG
+        + first * operands::FIRST
+        + second * operands::SECOND
         + third * operands::THIRD
 }
 
@@ -65,7 +69,8 @@ pub fn call(word: usize, list: usize) -> usize
     requires { ⌜ list < 1024 ⌝ }
     ensures { λ r. ⌜ r ≡ wordOf 8 (procedureBits word) list 0 ⌝ }
 {
-    tags::CALL * operands::TAG + operands::procedure_of(word) * operands::PROCEDURE
+    tags::CALL * operands::TAG
+        + operands::procedure_of(word) * operands::PROCEDURE
         + list * operands::ARGUMENTS
 }
 

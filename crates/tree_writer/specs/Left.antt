@@ -2,7 +2,7 @@
 use Prim.Native.Nat.{ℕ, _+_, _*_, _≤_, _<_}
 use mathlib.Core.Path.{_≡_}
 use mathlib.Core.Bool.{cond}
-use mathlib.Core.List.{List}
+use mathlib.Core.List.{List, [], _∷_}
 use lib.Dec.{eqb}
 use lib.ListN.{length}
 use lib.Seq.{sets}
@@ -23,7 +23,14 @@ conditionsIn words t = termsOfᶜ (conditionIn words t)
 abbrev pub listsIn : List ℕ → ℕ → TermTree
 listsIn words t = termsOfᵃ (listIn words t)
 
--- the children of a term with two
+-- the tags of expressions with one child, an expression, and with two
+abbrev pub singles : List ℕ
+singles = 20 ∷ 19 ∷ 18 ∷ 10 ∷ 9 ∷ 3 ∷ []
+
+abbrev pub pairs : List ℕ
+pairs = 11 ∷ 5 ∷ 4 ∷ []
+
+-- the children of an expression with two
 abbrev pub pairFirst : ℕ → ℕ
 pairFirst w = cond (eqb (tagOf w) 5) (letFirst w) (firstOf w)
 

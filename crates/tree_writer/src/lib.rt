@@ -2,12 +2,10 @@
 // below it before the next. A term's last child is a turn of the loop and every other one a call, so what is left of a term is an answer (`Left`).
 use operands::tags;
 ghost use mathlib.Core.Path.{_≡_};
-ghost use Prim.Native.Nat.{_+_, _*_, _≤_, _<_};
-ghost use lib.ListN.{length};
-ghost use Rattle.packed.specs.Operands.{tagOf};
+ghost use Prim.Native.Nat.{_<_};
 ghost use Rattle.packed.specs.Steps.{Ordered};
-ghost use Rattle.tree_writer.specs.Left.{expressionsIn, conditionsIn, listsIn, Room, Wrote, Going, pairFirst, pairSecond};
-ghost use Rattle.packing.specs.Words.{oneWord};
+ghost use mir.Val.{hasKey};
+ghost use Rattle.tree_writer.specs.Left.{singles, pairs, pairFirst, pairSecond, expressionsIn, conditionsIn, listsIn, Room, Wrote, Going};
 
 // What is left to write of a tree: nothing, and the next term has this number; or the tree at a term, whose root has this number.
 enum Left {
@@ -15,7 +13,34 @@ enum Left {
     At(usize, usize),
 }
 
-// The first child of a term with two.
+// An expression of this tag has one child, an expression.
+fn has_one(tag: usize) -> bool
+    ensures { λ r. ⌜ r ≡ hasKey singles tag ⌝ }
+{
+    match tag {
+        tags::READ => true,
+        tags::FORK => true,
+        tags::JOIN => true,
+        tags::WAIT => true,
+        tags::NOTIFY => true,
+        tags::NOTIFY_ALL => true,
+        _ => false,
+    }
+}
+
+// It has two, both expressions.
+fn has_two(tag: usize) -> bool
+    ensures { λ r. ⌜ r ≡ hasKey pairs tag ⌝ }
+{
+    match tag {
+        tags::WRITE => true,
+        tags::LET => true,
+        tags::SYNCH => true,
+        _ => false,
+    }
+}
+
+// The first child of an expression with two.
 fn pair_first(word: usize) -> usize
     ensures { λ r. ⌜ r ≡ pairFirst word ⌝ }
 {
@@ -49,18 +74,19 @@ fn begin_expression(
     ensures { λ r. ⌜ Going (expressionsIn (now (words .entry))) base term number (now (area .entry)) (now (area .exit)) r ⌝ }
 {
     let word = words[term];
+    let tag = operands::tag(word);
     let place = base + 5 * number;
     let next = number + 1;
-    match operands::tag(word) {
-        tags::READ | tags::FORK | tags::JOIN | tags::WAIT | tags::NOTIFY | tags::NOTIFY_ALL => {
-            packing::put(area, place, packing::one(word, next));
-            Left::At(operands::first(word), next)
-        }
-        tags::WRITE | tags::LET | tags::SYNCH => {
-            let second = write_expression(words, pair_first(word), area, base, next);
-            packing::put(area, place, packing::two(word, next, second));
-            Left::At(pair_second(word), second)
-        }
+    if has_one(tag) {
+        packing::put(area, place, packing::one(word, next));
+        return Left::At(operands::first(word), next);
+    }
+    if has_two(tag) {
+        let second = write_expression(words, pair_first(word), area, base, next);
+        packing::put(area, place, packing::two(word, next, second));
+        return Left::At(pair_second(word), second);
+    }
+    match tag {
         tags::IF => {
             let second = write_condition(words, operands::first(word), area, base, next);
             let third = write_expression(words, operands::second(word), area, base, second);
