@@ -7,6 +7,6 @@ use Rattle.rules.specs.WaitShots.{waitShots}
 use Rattle.rules.specs.Observed.{observed}
 
 -- every case comes out as the list says
-pub waits : map observed waitShots ≡ map (λ (x : Shot). x .expected) waitShots
+pub observed-waits : map observed waitShots ≡ map (λ (x : Shot). x .expected) waitShots
 unfolding observed waitShots countNew holds
-waits = refl
+observed-waits = refl
