@@ -106,7 +106,7 @@ module _ (b : List ℕ) where
   unfolding usesUnboundSlot
   passes-slots p e = ap not e
 
-  plan-length : planLength b ≡ 8 + 2 * Format.procedures b + 5 * terms b
+  pub plan-length : planLength b ≡ 8 + 2 * Format.procedures b + 5 * terms b
   unfolding planLength
   plan-length = refl
 
@@ -187,21 +187,21 @@ module _ (b : List ℕ) (h : refusal b ≡ none) where
   from-length p zero = refl
   from-length p (suc n) = ap suc (from-length (suc p) n)
 
-  count-is : length ds ≡ Format.procedures b
+  pub count-is : length ds ≡ Format.procedures b
   count-is = ap length (program-procedures b) ∙ from-length 0 (Format.procedures b)
 
-  total-is : sizeOfAll ds ≡ terms b
+  pub total-is : sizeOfAll ds ≡ terms b
   total-is = all-terms b (given .six) trees
 
-  body-is : (p : ℕ) → procedureAt b p .body ≡ treeAt b (root b p)
+  pub body-is : (p : ℕ) → procedureAt b p .body ≡ treeAt b (root b p)
   unfolding procedureAt
   body-is p = refl
 
-  parameters-are : (p : ℕ) → procedureAt b p .parameters ≡ parameters b p
+  pub parameters-are : (p : ℕ) → procedureAt b p .parameters ≡ parameters b p
   unfolding procedureAt
   parameters-are p = refl
 
-  mask-is : g .volatiles ≡ volatiles b
+  pub mask-is : g .volatiles ≡ volatiles b
   unfolding programOf
   mask-is = refl
 
@@ -227,7 +227,7 @@ module _ (b : List ℕ) (h : refusal b ≡ none) where
   volatiles-same : volatiles w ≡ volatiles b
   volatiles-same = volatiles-is g fitted ∙ mask-is
 
-  version-back : (v : ℕ) → v ≤ 1 → versionNumber (versionOf v) ≡ v
+  pub version-back : (v : ℕ) → v ≤ 1 → versionNumber (versionOf v) ≡ v
   unfolding versionNumber versionOf
   version-back v q = go (ℕ-discrete v 1)
     where
@@ -235,7 +235,7 @@ module _ (b : List ℕ) (h : refusal b ≡ none) where
       go (yes e) = rw e
       go (no d) = rw (ne-eqb v 1 d) (omega (arith, d))
 
-  version-of : g .version ≡ versionOf (version b)
+  pub version-of : g .version ≡ versionOf (version b)
   unfolding programOf
   version-of = refl
 

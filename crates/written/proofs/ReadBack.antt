@@ -38,7 +38,7 @@ unfolding termWords sizeOfAll
 terms-length [] n = refl
 terms-length (d ∷ ds) n = omega (arith, length-append (wordsFrom n (termsOf (d .body))) (termWords (n + size (termsOf (d .body))) ds), tree-length (termsOf (d .body)) n, terms-length ds (n + size (termsOf (d .body))))
 
-procedures-length : (ds : List Procedure) (n : ℕ) → length (procedureBytes n ds) ≡ 2 * length ds
+pub procedures-length : (ds : List Procedure) (n : ℕ) → length (procedureBytes n ds) ≡ 2 * length ds
 unfolding procedureBytes
 procedures-length [] n = refl
 procedures-length (d ∷ ds) n =
