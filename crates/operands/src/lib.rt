@@ -7,29 +7,29 @@ ghost use mathlib.Core.Path.{_≡_};
 ghost use Rattle.packed.specs.Operands.{tagOf, firstOf, secondOf, thirdOf, slotBits, fieldBits, writeSecond, letFirst, letSecond, procedureBits, listBits, maskBits};
 
 // The power of two that is the place of a part's last bit: a part is a quotient by it.
-const TAG: usize = 34359738368;
+pub const TAG: usize = 34359738368;
 
-const FIRST: usize = 33554432; // a term as the first operand
+pub const FIRST: usize = 33554432; // a term as the first operand
 
-const SECOND: usize = 32768; // a term after a term
+pub const SECOND: usize = 32768; // a term after a term
 
-const THIRD: usize = 32; // a term after two
+pub const THIRD: usize = 32; // a term after two
 
-const SLOT: usize = 2147483648;
+pub const SLOT: usize = 2147483648;
 
-const VALUE: usize = 2097152; // the term after a let's slot
+pub const VALUE: usize = 2097152; // the term after a let's slot
 
-const BODY: usize = 2048; // the term after that
+pub const BODY: usize = 2048; // the term after that
 
-const FIELD: usize = 1048576; // the field after a term
+pub const FIELD: usize = 1048576; // the field after a term
 
-const WRITTEN: usize = 1024; // the term after that
+pub const WRITTEN: usize = 1024; // the term after that
 
-const PROCEDURE: usize = 1073741824;
+pub const PROCEDURE: usize = 1073741824;
 
-const ARGUMENTS: usize = 1048576; // the list after a procedure
+pub const ARGUMENTS: usize = 1048576; // the list after a procedure
 
-const MASK: usize = 8;
+pub const MASK: usize = 8;
 
 pub fn tag(word: usize) -> usize
     ensures { λ r. ⌜ r ≡ tagOf word ⌝ }

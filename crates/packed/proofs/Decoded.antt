@@ -55,11 +55,11 @@ procedures-inside b m d h =
 -- ---- tags in a row
 
 -- a proof for each of the n numbers from i on
-data Cases (P : ℕ → Type 0) : ℕ → ℕ → Type 0 where
+pub data Cases (P : ℕ → Type 0) : ℕ → ℕ → Type 0 where
   done : {i : ℕ} → Cases P i zero
   _gives_then_ : (i : ℕ) {n : ℕ} → P i → Cases P (suc i) n → Cases P i (suc n)
 
-pick : {P : ℕ → Type 0} {i n : ℕ} → Cases P i n → (k : ℕ) → i ≤ k → k < i + n → P k
+pub pick : {P : ℕ → Type 0} {i n : ℕ} → Cases P i n → (k : ℕ) → i ≤ k → k < i + n → P k
 pick done k p q = absurd (omega arith)
 pick {P} (_gives_then_ i {n} x xs) k p q = go (ℕ-discrete i k) (pick xs k)
   where
@@ -104,23 +104,23 @@ module _ (b : List ℕ) where
   -- ---- the rows of the table
 
   module _ (t : ℕ) where
-    abbrev x : ℕ
+    abbrev pub x : ℕ
     x = termAt b t .value₁
 
-    abbrev y : ℕ
+    abbrev pub y : ℕ
     y = termAt b t .value₂
 
-    abbrev z : ℕ
+    abbrev pub z : ℕ
     z = termAt b t .value₃
 
     -- what holds of the node if term t has tag k
-    abbrev Row : (Node → Type 0) → ℕ → Type 0
+    abbrev pub Row : (Node → Type 0) → ℕ → Type 0
     Row P k =
         tagAt b t ≡ k → Fits b t (layout k .first) x → Fits b t (layout k .second) y → Fits b t (layout k .third) z
         → P (getD nodes k (λ x y z. Node.unknown) x y z)
 
     -- the row of the term's own tag
-    at-tag : (P : Node → Type 0) → RightTerm b t → Row P (tagAt b t) → P (nodeAt b t)
+    pub at-tag : (P : Node → Type 0) → RightTerm b t → Row P (tagAt b t) → P (nodeAt b t)
     at-tag P right row = subst P (sym (node-is b t (tagAt b t) refl)) (row refl (right .first-fits) (right .second-fits) (right .third-fits))
 
     module _ (a : Readable b) (n : ℕ) (ih : AllGood n) (inside : t < terms b) (near : terms b ≤ t + suc n) where

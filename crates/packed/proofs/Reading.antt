@@ -72,7 +72,7 @@ monitor-bit v g h = let e : v / 2147483648 % 2 ≡ 1 = omega arith in simp e
 -- ---- a term as its 40 bits
 
 -- the operands of every row fit the 35 bits after the tag: one test over all rows
-abbrev total : Row → ℕ
+abbrev pub total : Row → ℕ
 total r = width (r .first) + width (r .second) + width (r .third)
 
 rowsFit : List Row → Bool
@@ -85,7 +85,7 @@ rows-fit [] d k h f = leb→le _ _ h
 rows-fit (r ∷ rs) d zero h f = leb→le _ _ (and-yes (leb (total r) 35) (rowsFit rs) f .0)
 rows-fit (r ∷ rs) d (suc k) h f = rows-fit rs d k h (and-yes (leb (total r) 35) (rowsFit rs) f .1)
 
-fits : (k : ℕ) → total (layout k) ≤ 35
+pub fits : (k : ℕ) → total (layout k) ≤ 35
 unfolding layout table rowsFit
 fits k = rows-fit table (operands absent absent absent) k tt tt
 

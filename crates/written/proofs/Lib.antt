@@ -1,0 +1,16 @@
+pub mod Samples
+pub mod Words
+pub mod Bytes
+pub mod Masks
+pub mod Heads
+pub mod Original
+pub mod RightTrees
+pub mod Sums
+pub mod Sizes
+pub mod ReadBack
+pub mod Placed
+pub mod Fine
+pub mod Named
+pub mod Segments
+pub mod Passes
+pub mod OneWay

@@ -1,0 +1,1 @@
+// The one way to write a plan, on trees: definitions and proofs alone.
