@@ -1,0 +1,2 @@
+pub mod PlaysAs
+pub mod Examples

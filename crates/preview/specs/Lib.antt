@@ -1,0 +1,3 @@
+pub mod Preview
+pub mod PlaysAs
+pub mod Examples
