@@ -120,6 +120,9 @@ fn rest_of(words: &[usize; 1024], term: usize, bound: usize) -> Rest
         tags::FORK => Rest::At(first, bound),
         tags::JOIN => Rest::At(first, bound),
         tags::SYNCH => rest_of_two(words, first, bound, second, bound),
+        tags::WAIT => Rest::At(first, bound),
+        tags::NOTIFY => Rest::At(first, bound),
+        tags::NOTIFY_ALL => Rest::At(first, bound),
         _ => Rest::Closed,
     }
 }

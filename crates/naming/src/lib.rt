@@ -66,7 +66,13 @@ fn name_children(words: &[usize; 1024], times: &mut [u8; 1024], term: usize, bes
     let first = operands::first(word);
     let second = operands::second(word);
     match operands::tag(word) {
-        tags::READ | tags::FORK | tags::JOIN => name(words, times, EXPRESSION, first, best),
+        tags::READ | tags::FORK | tags::JOIN | tags::WAIT | tags::NOTIFY | tags::NOTIFY_ALL => name(
+            words,
+            times,
+            EXPRESSION,
+            first,
+            best,
+        ),
         tags::WRITE => {
             let value = operands::write_second(word);
             name_two(words, times, EXPRESSION, first, EXPRESSION, value, best)

@@ -20,7 +20,10 @@ fn sort_of(tag: usize) -> usize
     if tag < tags::TRUE {
         return EXPRESSION;
     }
-    if tag < tags::LIST { CONDITION } else { LIST }
+    if tag < tags::LIST {
+        return CONDITION;
+    }
+    if tag < tags::WAIT { LIST } else { EXPRESSION }
 }
 
 // The lower of `best` and term `index`, if that is of another sort than the table wants.

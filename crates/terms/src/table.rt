@@ -161,7 +161,8 @@ fn wrong_term(word: usize, term: usize, procedures: usize, count: usize) -> bool
             count,
         ),
         tags::CALL => wrong_call(word, term, procedures, count),
-        tags::NOT | tags::JOIN | tags::FORK => wrong_single(word, term, count),
+        tags::NOTIFY_ALL | tags::NOTIFY | tags::WAIT | tags::NOT | tags::JOIN | tags::FORK =>
+            wrong_single(word, term, count),
         _ => true,
     }
 }
