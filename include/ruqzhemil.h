@@ -185,7 +185,9 @@ enum ruqzhemil_state {
     RUQZHEMIL_WAITS_JOIN = 4,    /* for the end of the thread that this object stands for */
     RUQZHEMIL_STUCK_FIELD = 5,   /* this object has no such field */
     RUQZHEMIL_STUCK_THREAD = 6,  /* this object stands for no thread */
-    RUQZHEMIL_LACKING = 7        /* the key of this object's field */
+    RUQZHEMIL_LACKING = 7,       /* the key of this object's field */
+    RUQZHEMIL_WAITS_NOTIFY = 8,  /* in the queue of this object, until it is notified */
+    RUQZHEMIL_STUCK_MONITOR = 9  /* it waits or notifies on this object, whose monitor it does not hold */
 };
 
 struct ruqzhemil_thread {
@@ -232,6 +234,8 @@ static inline const char *ruqzhemil_state_text(unsigned state) {
     case RUQZHEMIL_STUCK_FIELD: return "stuck, no field";
     case RUQZHEMIL_STUCK_THREAD: return "stuck, no thread";
     case RUQZHEMIL_LACKING: return "lacks a key";
+    case RUQZHEMIL_WAITS_NOTIFY: return "waits to be notified";
+    case RUQZHEMIL_STUCK_MONITOR: return "stuck, monitor not held";
     default: return "unknown";
     }
 }

@@ -7,14 +7,15 @@ import sys
 
 import header
 
-LANDED = "E2,E6,E7,E8"  # document 02's requests that the product has
+LANDED = "E2,E3,E6,E7,E8"  # document 02's requests that the product has
 FILL = 0xA5  # what every lent area is filled with before a play
 NUMBERS = header.numbers()
 OUT = NUMBERS["OUT_BYTES"]
 OUTCOMES = {word: NUMBERS[word.upper().replace("-", "_")] for word in ("end", "race", "no-thread", "no-object", "no-key", "no-depth")}
 STATES = {("absent",): NUMBERS["ABSENT"], ("finished",): NUMBERS["FINISHED"], ("ready",): NUMBERS["READY"],
           ("waiting", "monitor"): NUMBERS["WAITS_MONITOR"], ("waiting", "join"): NUMBERS["WAITS_JOIN"], ("stuck", "field"): NUMBERS["STUCK_FIELD"],
-          ("stuck", "thread"): NUMBERS["STUCK_THREAD"], ("lacking",): NUMBERS["LACKING"]}
+          ("stuck", "thread"): NUMBERS["STUCK_THREAD"], ("lacking",): NUMBERS["LACKING"], ("waiting", "notify"): NUMBERS["WAITS_NOTIFY"],
+          ("stuck", "monitor"): NUMBERS["STUCK_MONITOR"]}
 # the papers' numbers, by the header's
 REFUSALS = dict(zip([*range(1, 13), 14], [NUMBERS["REFUSAL_" + name] for name in (
     "PLAN_LENGTH", "HEADER", "PROCEDURE", "TERM", "SORT", "NAMING", "SLOT", "SCHEDULE_LENGTH", "PICK", "LOG_AREA", "LOG_LENGTH", "RECORD", "VERSION")]))

@@ -74,6 +74,14 @@ pub enum ThreadState {
         object: u8,
         field: u8,
     },
+    /// In the queue of the object, until it is notified.
+    WaitsNotify {
+        object: u8,
+    },
+    /// It waits or notifies on the object, whose monitor it does not hold.
+    StuckMonitor {
+        object: u8,
+    },
     Other(u8),
 }
 
@@ -90,6 +98,8 @@ impl ThreadState {
             5 => ThreadState::StuckField { object, field },
             6 => ThreadState::StuckThread { object },
             7 => ThreadState::Lacking { object, field },
+            8 => ThreadState::WaitsNotify { object },
+            9 => ThreadState::StuckMonitor { object },
             number => ThreadState::Other(number),
         }
     }

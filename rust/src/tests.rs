@@ -51,7 +51,7 @@ fn numbers_are_the_headers() {
     {
         assert_eq!(header_name(&format!("{:?}", states(n as u64).0)), *name);
     }
-    let names = ["ABSENT", "FINISHED", "READY", "WAITS_MONITOR", "WAITS_JOIN", "STUCK_FIELD", "STUCK_THREAD", "LACKING"];
+    let names = ["ABSENT", "FINISHED", "READY", "WAITS_MONITOR", "WAITS_JOIN", "STUCK_FIELD", "STUCK_THREAD", "LACKING", "WAITS_NOTIFY", "STUCK_MONITOR"];
     for (name, n) in names.iter().map(|name| (name, number(&format!("RUQZHEMIL_{name}")))) {
         assert_eq!(header_name(&format!("{:?}", states(n as u64).1)), *name);
     }

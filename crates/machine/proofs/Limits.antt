@@ -12,7 +12,7 @@ use borrow.Author.Tests.{ltb-false}
 use Rattle.format.proofs.RefusalLaws.{neither}
 use Rattle.keys.specs.Keys.{Keys, empty, singleton, subset, isEmpty}
 use Rattle.packed.specs.Syntax.{Signal}
-use Rattle.rules.specs.Queue.{Place, awake, movedUp}
+use Rattle.rules.specs.Queue.{awake, movedUp}
 use Rattle.rules.specs.State.{Cell, cell}
 use Rattle.rules.specs.Rules.{Rule, e-new, e-write, e-fork, passedOn}
 use Rattle.rules.specs.Room.{Room}

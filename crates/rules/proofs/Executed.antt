@@ -13,7 +13,7 @@ use Rattle.packed.proofs.Decoded.{well-formed}
 use Rattle.records.specs.Record.{Record}
 use Rattle.rules.specs.State.{Thread, State, start}
 use Rattle.rules.specs.Rules.{Rule, Moves}
-use Rattle.rules.specs.Step.{Stuck, missingField, notThread, noRule, Move, Attempt, attempt}
+use Rattle.rules.specs.Step.{noRule, Move, Attempt, attempt}
 use Rattle.rules.specs.Room.{Blocked, MONITOR-HELD, UNFINISHED, NO-FIELD-TO-READ, NO-FIELD-TO-WRITE, NO-THREAD, NOT-NOTIFIED, NOT-FREE, NOT-HELD, PassedOver, ABSENT, FINISHED, BLOCKED, Room, noRoomFor, Answer, withinRoom, answer, step}
 use Rattle.rules.specs.Run.{Run, resume, run, play, stopped, afterPass, afterMove, outcomeOf}
 use Rattle.rules.specs.Execution.{Execution, ends, passes, lacks-key, no-room, moves, moveCount}
@@ -23,7 +23,7 @@ use Rattle.rules.proofs.Invariant.{Inv}
 use Rattle.rules.proofs.OneKey.{OneKey, one-key-start, one-key-move}
 use Rattle.rules.proofs.NewKeys.{unused-start, unused-move, writes-new}
 use Rattle.rules.proofs.Growth.{Modest, modest-start, modest-move, eight-totals, listed-total, listed-small}
-use Rattle.rules.proofs.Equivalence.{Unless, Described, described, complete, complete-lacks, complete-passed}
+use Rattle.rules.proofs.Equivalence.{Described, described, complete, complete-lacks, complete-passed}
 use Rattle.rules.proofs.Preserved.{keeps}
 use Rattle.rules.proofs.Progress.{Ruled, unless-ruled, ruled, inv-start}
 use Rattle.rules.proofs.ThreadStates.{eight-statuses, listed-status}
@@ -109,7 +109,7 @@ moves-counted (moves h k x) = ap suc (moves-counted x)
 
 -- ---- plays
 
-reachable-after : (g : Program) → WellFormedProgram g → {s : State} {ps : List ℕ} {r : Run} → Reachable g s → Execution g s ps r → Reachable g (r .final)
+pub reachable-after : (g : Program) → WellFormedProgram g → {s : State} {ps : List ℕ} {r : Run} → Reachable g s → Execution g s ps r → Reachable g (r .final)
 unfolding stopped afterPass afterMove
 reachable-after g P I ends = I
 reachable-after g P I (passes h x) = reachable-after g P I x

@@ -15,8 +15,12 @@ pub mod Preserved
 pub mod Progress
 pub mod ThreadStates
 pub mod Executed
+pub mod QueueLaws
+pub mod Queues
+pub mod QueueTheorems
 pub mod RunAppend
 pub mod Marked
+pub mod Waits
 pub mod Depths
 pub mod KeyBridge
 pub mod Bridge

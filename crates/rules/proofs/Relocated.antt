@@ -5,10 +5,9 @@ use mathlib.Core.Bool.{true≢false}
 use mathlib.Core.List.{List, [], _∷_, map}
 use mathlib.Core.Option.{some}
 use lib.ListN.{length, getElem?}
-use Rattle.keys.specs.Keys.{Keys}
 use Rattle.packed.specs.Syntax.{Expression}
 use Rattle.rules.specs.Queue.{Place}
-use Rattle.rules.specs.State.{Thread, State, changeAt, become, enqueue, signalled}
+use Rattle.rules.specs.State.{Thread, State, changeAt, enqueue, signalled}
 
 -- the thread at another place
 abbrev pub at : Place → Thread → Thread

@@ -10,6 +10,8 @@ pub mod NewKeys
 pub mod Growth
 pub mod ThreadStates
 pub mod Executed
+pub mod Waking
 pub mod Play
 pub mod ShotList
 pub mod Observed
+pub mod WaitShots
