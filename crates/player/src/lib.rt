@@ -48,7 +48,8 @@ pub fn play(plan: &[u8], schedule: &[u8], log: &mut [u8]) -> Played
         mask: mask,
         version: version,
     };
-    let outcome = engine::run(&words, &roots, setting, schedule, log);
+    let ran = engine::run(&words, &roots, setting, schedule, log);
+    let outcome = ran.outcome;
     Played {
         checked: checked,
         outcome: outcome,

@@ -66,16 +66,16 @@ same-length c = search needs
 
 returns-2 : tie.Need-returns-2
 returns-2 c =
-    let a = c .before .before .before .before .before .before .before .before .before .before .before .before .before .before .before .before .before .args in
-    let e = c .before .before .before .before .before .before .before .before .before .before .enum-told .given .1 in
-    let x = c .before .before .before .before .before .before .before .before .before .before .before .before .refusal in
+    let a = c .before .before .before .before .before .before .before .before .before .before .before .before .before .before .before .before .before .before .args in
+    let e = c .before .before .before .before .before .before .before .before .before .before .before .enum-told .given .1 in
+    let x = c .before .before .before .before .before .before .before .before .before .before .before .before .before .refusal in
     let w = x .ensures .1 e in
-    let r : Roots (a .plan .now) (procedures (a .plan .now)) (c .before .before .before .before .before .before .before .before .roots .result) = λ i q. c .before .before .before .before .before .before .before .before .roots .ensures i (omega (arith, c .before .before .before .before .before .before .before .before .before .procedures .ensures)) in
-    let m = c .before .before .before .before .before .before .before .volatiles .ensures in
-    let v = c .before .before .before .before .before .before .version .ensures in
+    let r : Roots (a .plan .now) (procedures (a .plan .now)) (c .before .before .before .before .before .before .before .before .before .roots .result) = λ i q. c .before .before .before .before .before .before .before .before .before .roots .ensures i (omega (arith, c .before .before .before .before .before .before .before .before .before .before .procedures .ensures)) in
+    let m = c .before .before .before .before .before .before .before .before .volatiles .ensures in
+    let v = c .before .before .before .before .before .before .before .version .ensures in
     ran-whole (a .plan .now) (a .schedule .now) (a .log .now) _ _ e
-    (ran-answer (a .plan .now) (a .schedule .now) (a .log .now) _ (x .ensures .0) e _ _ w r _ _ m v _ (c .before .before .run .ensures .0))
-    (c .before .before .run .ensures .1 ∙ ran-area (a .plan .now) (a .schedule .now) (a .log .now) _ (x .ensures .0) e _ _ w r _ _ m v)
+    (ran-answer (a .plan .now) (a .schedule .now) (a .log .now) _ (x .ensures .0) e _ _ w r _ _ m v _ (c .before .before .before .run .ensures .0))
+    (c .before .before .before .run .ensures .1 .0 ∙ ran-area (a .plan .now) (a .schedule .now) (a .log .now) _ (x .ensures .0) e _ _ w r _ _ m v)
 
 pub play-spec : {M : Type 1} → statement M
 play-spec =
