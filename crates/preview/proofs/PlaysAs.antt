@@ -5,9 +5,9 @@ use mathlib.Core.Path.{_≡_, refl, ap, sym, _∙_, subst as along}
 use mathlib.Core.Bool.{true≢false}
 use mathlib.Core.List.{List, [], _∷_, _++_, append-nil}
 use mathlib.Core.Option.{Option, some, none}
+use Rattle.format.specs.Refusal.{Refusal}
 use Rattle.packed.specs.Syntax.{Program}
 use Rattle.packed.specs.Trees.{programOf}
-use Rattle.packed.specs.Check.{refusal}
 use Rattle.packed.proofs.WellFormed.{WellFormedProgram}
 use Rattle.packed.proofs.Decoded.{well-formed}
 use Rattle.records.specs.Record.{Record}
@@ -21,8 +21,9 @@ use Rattle.rules.proofs.Equivalence.{Described, described, complete, complete-l
 use Rattle.rules.proofs.Progress.{Ruled, unless-ruled, ruled}
 use Rattle.rules.proofs.Executed.{Reachable, reachable-start, reachable-run, over-passed}
 use Rattle.rules.proofs.RunAppend.{andThen, run-stopped, pick-meets}
-use Rattle.preview.specs.Preview.{Preview, shownBy, shown, shownAt, shownAfter, withPick}
-use Rattle.preview.specs.PlaysAs.{onePickMore, stoppedNext, PlaysAs, STOPPED, PASSED, MOVED, RACE, NO-ROOM}
+use Rattle.play_refusals.proofs.Passed.{Scheduled, scheduled}
+use Rattle.preview.specs.Preview.{Preview, shownBy, shown, shownAt, shownAfter, withPick, previewRefusal, Previewed, previewedBy, previewed}
+use Rattle.preview.specs.PlaysAs.{onePickMore, stoppedNext, PlaysAs, STOPPED, PASSED, MOVED, RACE, NO-ROOM, PlaysIfShown}
 
 -- the rest of a run that has no more picks
 abbrev nothingMore : State → Run
@@ -88,12 +89,6 @@ module _ (g : Program) (P : WellFormedProgram g) (ps : List ℕ) (p : ℕ) where
   unfolding shownAfter
   preview-plays = by-stop (play g ps .stop) refl
 
--- of an accepted plan
-pub plan-preview-plays : (b : List ℕ) → refusal b ≡ none → (ps : List ℕ) (p : ℕ)
-    → PlaysAs (programOf b) p (runOf b ps) (shownAfter (programOf b) (runOf b ps) p) (runOf b (withPick ps p))
-unfolding runOf
-plan-preview-plays b h ps p = preview-plays (programOf b) (well-formed b h) ps p
-
 -- ---- what plays as two runs is the preview, and no other
 
 module _ (g : Program) (p : ℕ) (r : Run) where
@@ -118,3 +113,33 @@ module _ (g : Program) (p : ℕ) (r : Run) where
   -- two that play as the same two runs are one
   pub one-preview : {x y : Preview} {t : Run} → PlaysAs g p r x t → PlaysAs g p r y t → x ≡ y
   one-preview h k = only-preview h ∙ sym (only-preview k)
+
+-- ---- the answer to a preview
+
+shows-is : {x y : Preview} → Previewed.shows x ≡ Previewed.shows y → x ≡ y
+shows-is h = cc
+
+module _ (plan schedule : List ℕ) (pick : ℕ) (x : Preview) (h : previewed plan schedule pick ≡ Previewed.shows x) where
+  not-refused-by : (r : Option Refusal) → previewRefusal plan schedule pick ≡ r → previewRefusal plan schedule pick ≡ none
+  unfolding previewed previewedBy
+  not-refused-by none q = q
+  not-refused-by (some r) q =
+      let y : Previewed.refused r ≡ Previewed.shows x = sym (ap (previewedBy plan schedule pick) q) ∙ h in
+      absurd (true≢false cc)
+
+  -- the plan is accepted, and the schedule with the pick added
+  pub shown-scheduled : Scheduled plan (withPick schedule pick)
+  unfolding previewRefusal
+  shown-scheduled = scheduled plan (withPick schedule pick) (not-refused-by (previewRefusal plan schedule pick) refl)
+
+  pub shown-is : x ≡ shownAfter (programOf plan) (runOf plan schedule) pick
+  unfolding previewed previewedBy
+  shown-is = shows-is (sym h ∙ ap (previewedBy plan schedule pick) (not-refused-by (previewRefusal plan schedule pick) refl))
+
+-- of every plan, schedule and pick
+pub previewed-plays : (plan schedule : List ℕ) (pick : ℕ) → PlaysIfShown plan schedule pick (previewed plan schedule pick)
+unfolding runOf
+previewed-plays plan schedule pick x h =
+    let g = programOf plan in
+    along (λ (y : Preview). PlaysAs g pick (play g schedule) y (play g (withPick schedule pick))) (sym (shown-is plan schedule pick x h))
+    (preview-plays g (well-formed plan (shown-scheduled plan schedule pick x h .plan-passes)) schedule pick)

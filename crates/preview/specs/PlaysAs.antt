@@ -5,13 +5,15 @@ use mathlib.Core.Path.{_≡_}
 use mathlib.Core.List.{List, [], _∷_, _++_}
 use mathlib.Core.Option.{Option, some, none}
 use Rattle.packed.specs.Syntax.{Program}
+use Rattle.packed.specs.Trees.{programOf}
 use Rattle.records.specs.Record.{Record}
 use Rattle.rules.specs.State.{State}
 use Rattle.rules.specs.Rules.{Rule, Moves, Lacks}
 use Rattle.rules.specs.Step.{Attempt}
 use Rattle.rules.specs.Room.{PassedOver, Room, noRoomFor}
 use Rattle.rules.specs.Run.{Stop, Run, status, logged}
-use Rattle.preview.specs.Preview.{Preview}
+use Rattle.rules.specs.Play.{runOf}
+use Rattle.preview.specs.Preview.{Preview, withPick, Previewed}
 
 -- a run with one pick more dealt with: it did not stop, these rules and these records came last, and it stands in this state
 abbrev pub onePickMore : Run → List Rule → List Record → State → Run
@@ -42,3 +44,8 @@ module _ (g : Program) (p : ℕ) (r : Run) where
     NO-ROOM : {R : Rule} {e : Option Record} {s′ : State} {k : Room}
         → r .stop ≡ Stop.end → Moves g (r .final) p R e s′ → noRoomFor R (r .final) p s′ ≡ some k
         → PlaysAs (Preview.noRoom k) (stoppedNext r (Stop.noRoom k) [])
+
+-- of the answer to a preview, where it is not refused
+abbrev pub PlaysIfShown : (plan schedule : List ℕ) → ℕ → Previewed → Type 0
+PlaysIfShown plan schedule pick a =
+    (x : Preview) → a ≡ Previewed.shows x → PlaysAs (programOf plan) pick (runOf plan schedule) x (runOf plan (withPick schedule pick))
