@@ -1,10 +1,10 @@
 -- The run of a schedule over flat lists of records: the machine that the code runs; no reader of the entries' promises needs it. Assumes nothing.
-use Prim.Native.Nat.{ℕ, _+_, _*_, _/_, _%_, _<_}
+use Prim.Native.Nat.{ℕ, _+_, _-_, _*_, _/_, _%_, _<_, min}
 use mathlib.Core.Path.{_≡_}
 use mathlib.Core.Bool.{Bool, cond}
 use mathlib.Core.List.{List, [], _∷_}
 use lib.Dec.{leb}
-use lib.ListN.{getD, set, replicate}
+use lib.ListN.{length, getD, set, take, replicate}
 use Rattle.keys.specs.KeySet.{emptySet, zeroSet}
 use Rattle.frames.specs.Parts.{Part as part}
 use Rattle.frames.specs.declared.go.Ready.{Ready}
@@ -30,6 +30,7 @@ use Rattle.pick.specs.declared.Answer.{Answer}
 use Rattle.pick.specs.declared.Answer.the-variants as answer
 use Rattle.pick.specs.Pick.{noHead, Picked, picked, pickOf}
 use Rattle.queue.specs.Queue.{afterOf}
+use Rattle.engine.specs.declared.Ran.{Ran}
 use Rattle.tally.specs.declared.Tally.{Tally}
 use Rattle.tally.specs.Tally.{tallyFirst, tallyPut, tallyMoved, logPut}
 
@@ -154,6 +155,17 @@ playOf ws rs g m (p ∷ ps) i =
     (playOf ws rs g (stayed m (turnBy ws rs g m (p % 8) .stack)) ps (i + 1))
     (λ v. playOf ws rs g (after m (p % 8) v (turnBy ws rs g m (p % 8) .stack)) ps (i + 1))
     (λ e x. stopped g m (p % 8) x e i)
+
+-- ---- before the last pick
+
+-- the picks before the last that a run met: where it stopped, all that it dealt with
+abbrev pub picksBefore : ℕ → List ℕ → List ℕ
+picksBefore dealt ps = take (min dealt (length ps - 1)) ps
+
+-- the counts before that pick are those of their run
+pub record CountedBefore (ws rs : List ℕ) (g : Setting) (m : Machine) (ps : List ℕ) (r : Ran) : Type 0 where
+  pub moves : r .before .moves ≡ playOf ws rs g m (picksBefore (r .outcome .picks) ps) 0 .outcome .moves
+  pub records : r .before .records ≡ playOf ws rs g m (picksBefore (r .outcome .picks) ps) 0 .outcome .records
 
 -- ---- about to call main
 

@@ -4,7 +4,7 @@
 ghost use mathlib.Core.Path.{_≡_};
 ghost use Prim.Native.Nat.{_<_, _≤_, _+_, _*_};
 ghost use lib.ListN.{length};
-ghost use Rattle.engine.specs.Machine.{Placed, headOf, cellFirst, noThing, absent, threadBy, startOf, playOf};
+ghost use Rattle.engine.specs.Machine.{Placed, headOf, cellFirst, noThing, absent, threadBy, startOf, playOf, CountedBefore};
 use frames::go;
 use frames::part;
 use keys::KeySet;
@@ -91,6 +91,18 @@ fn thread_of(setting: Setting, met: Met) -> Thread
     }
 }
 
+// How many moves and records a run had before the last pick that it met; none where it met no pick.
+pub struct Before {
+    pub moves: usize,
+    pub records: usize,
+}
+
+// What a run comes to.
+pub struct Ran {
+    pub outcome: Outcome,
+    pub before: Before,
+}
+
 // The run of the picks from the start, with its records in the log; then what each of the eight threads would meet. It owns arrays of structs, which
 // no function can be lent, so both loops stand in it.
 pub fn run(
@@ -99,10 +111,11 @@ pub fn run(
     setting: Setting,
     picks: &[u8],
     log: &mut [u8],
-) -> Outcome
+) -> Ran
     requires { ⌜ (length (now picks) ≤ 4096) × (length (now picks) * 3 ≤ length (now log)) ⌝ }
-    ensures ran { λ r. ⌜ r ≡ playOf (now (words .entry)) (now (roots .entry)) setting (startOf (now (roots .entry)) (now (log .entry))) (now (picks .entry)) 0 .outcome ⌝ }
+    ensures ran { λ r. ⌜ r .outcome ≡ playOf (now (words .entry)) (now (roots .entry)) setting (startOf (now (roots .entry)) (now (log .entry))) (now (picks .entry)) 0 .outcome ⌝ }
     ensures area { λ r. ⌜ now (log .exit) ≡ playOf (now (words .entry)) (now (roots .entry)) setting (startOf (now (roots .entry)) (now (log .entry))) (now (picks .entry)) 0 .area ⌝ }
+    ensures before { λ r. ⌜ CountedBefore (now (words .entry)) (now (roots .entry)) setting (startOf (now (roots .entry)) (now (log .entry))) (now (picks .entry)) r ⌝ }
 {
     let mut heads = [first_head(roots[0]); 9];
     let mut cells = [first_cell(); 1024];
@@ -112,7 +125,11 @@ pub fn run(
     let mut tally = tally::first();
     let mut stop = Stop::End;
     let mut dealt = picks.len();
+    let mut moves_before = 0;
+    let mut records_before = 0;
     for i in 0..picks.len() {
+        moves_before = tally.moves;
+        records_before = tally.records;
         let thread = (picks[i] % 8) as usize;
         let counts = tally.counts;
         if counts.threads <= thread {
@@ -182,11 +199,19 @@ pub fn run(
         };
         threads[thread] = thread_of(setting, met);
     }
-    Outcome {
+    let outcome = Outcome {
         stop: stop,
         picks: dealt,
         moves: tally.moves,
         records: tally.records,
         threads: threads,
+    };
+    let before = Before {
+        moves: moves_before,
+        records: records_before,
+    };
+    Ran {
+        outcome: outcome,
+        before: before,
     }
 }

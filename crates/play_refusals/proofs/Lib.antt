@@ -1,2 +1,3 @@
 pub mod RefusalChain
+pub mod WithPick
 pub mod Passed

@@ -1,12 +1,18 @@
--- The answer of a play that nothing refuses is the defined one. Assumes nothing.
-use Prim.Native.Nat.{ℕ}
-use mathlib.Core.Path.{_≡_, refl, _∙_}
+-- The code's run on an accepted plan is the defined one. Assumes nothing.
+use Prim.Native.Nat.{ℕ, _*_, _-_, _≤_, _<_, min}
+use native.Mathlib.Omega.{arith}
+use mathlib.Core.Path.{_≡_, refl, sym, ap, ap₂, _∙_, subst as along}
 use mathlib.Core.List.{List, [], _∷_, map}
+use mathlib.Core.Option.{none}
+use lib.ListN.{length, getD, take, length-take}
+use lib.Seq.{getD-take}
 use Rattle.format.specs.Area.{overwrite}
-use Rattle.packed.specs.Format.{procedures, terms}
+use Rattle.packed.specs.Format.{version, procedures, terms, volatiles}
 use Rattle.packed.specs.Trees.{programOf}
+use Rattle.packed.specs.Check.{refusal}
 use Rattle.records.specs.Packed.{bytesOf}
 use Rattle.rules.specs.Run as run
+use Rattle.rules.specs.Play.{runOf}
 use Rattle.run_outcome.specs.declared.NoRoom.the-variants as room
 use Rattle.run_outcome.specs.declared.Stop.{Stop}
 use Rattle.run_outcome.specs.declared.Stop.the-variants as stop
@@ -16,14 +22,15 @@ use Rattle.run_outcome.specs.declared.ThreadState.{ThreadState}
 use Rattle.run_outcome.specs.declared.ThreadState.the-variants as state
 use Rattle.run_outcome.specs.declared.Thread.{Thread}
 use Rattle.run_outcome.specs.declared.Outcome.{Outcome}
-use Rattle.engine.specs.Machine.{playOf, startOf}
+use Rattle.engine.specs.Machine.{Played, playOf, startOf, CountedBefore}
+use Rattle.engine.specs.declared.Ran.{Ran}
 use Rattle.refinement.proofs.Meant as meant
 use Rattle.refinement.proofs.States.{settingOf}
 use Rattle.refinement.proofs.Plays.{stateMeant, stopMeant, outcomeMeant, plays-defined}
 use Rattle.packed.specs.Steps.{wordAt, Loaded}
 use Rattle.player.specs.Roots.{Roots}
 use Rattle.player.specs.Answer.{roomOf, stopOf, waitOf, stuckOf, statusOf, outcomeOf}
-use Rattle.play_refusals.proofs.Passed.{Passed}
+use Rattle.player.specs.RunOn.{Given, RunOn}
 
 -- ---- the code's words mean what the refinement says
 
@@ -60,19 +67,64 @@ outcome-same o = λ i. record { stop = stop-same (o .stop) i; picks = o .picks; 
 
 -- ---- the run
 
-module _ (plan schedule area ws rs : List ℕ) (pass : Passed plan schedule area) (words : Loaded plan (terms plan) ws) (roots : Roots plan (procedures plan) rs) where
+module _ (plan ws rs area : List ℕ) (passes : refusal plan ≡ none) (words : Loaded plan (terms plan) ws) (roots : Roots plan (procedures plan) rs) where
   loaded : meant.Loaded plan ws rs
   unfolding wordAt
   loaded = record { words = words .each; roots = roots }
 
-  defined : (outcomeMeant (playOf ws rs (settingOf plan) (startOf rs area) schedule 0 .outcome) ≡ run.outcomeOf (programOf plan) (run.play (programOf plan) schedule))
-      × (playOf ws rs (settingOf plan) (startOf rs area) schedule 0 .area ≡ overwrite (bytesOf (run.play (programOf plan) schedule .log)) area)
-  defined = plays-defined plan ws rs (pass .plan-passes) loaded schedule area (pass .small) (pass .wide)
+  -- the code's play of these picks
+  abbrev code : List ℕ → Played
+  code ps = playOf ws rs (settingOf plan) (startOf rs area) ps 0
 
-  -- the outcome
-  pub outcome-defined : outcomeOf (playOf ws rs (settingOf plan) (startOf rs area) schedule 0 .outcome) ≡ run.outcomeOf (programOf plan) (run.play (programOf plan) schedule)
-  outcome-defined = outcome-same _ ∙ defined .0
+  module _ (ps : List ℕ) (small : (j : ℕ) → j < length ps → getD ps j 0 ≤ 7) (wide : 3 * length ps ≤ length area) where
+    defined : (outcomeMeant (code ps .outcome) ≡ run.outcomeOf (programOf plan) (run.play (programOf plan) ps))
+        × (code ps .area ≡ overwrite (bytesOf (run.play (programOf plan) ps .log)) area)
+    defined = plays-defined plan ws rs passes loaded ps area small wide
 
-  -- the log area
-  pub area-defined : playOf ws rs (settingOf plan) (startOf rs area) schedule 0 .area ≡ overwrite (bytesOf (run.play (programOf plan) schedule .log)) area
-  area-defined = defined .1
+    outcome-defined : outcomeOf (code ps .outcome) ≡ run.outcomeOf (programOf plan) (runOf plan ps)
+    unfolding runOf
+    outcome-defined = outcome-same _ ∙ defined .0
+
+    area-defined : code ps .area ≡ overwrite (bytesOf (runOf plan ps .log)) area
+    unfolding runOf
+    area-defined = defined .1
+
+    moves-defined : code ps .outcome .moves ≡ length (runOf plan ps .instances)
+    unfolding outcomeOf run.outcomeOf
+    moves-defined = ap (λ (o : run.Outcome). o .moves) outcome-defined
+
+    records-defined : code ps .outcome .records ≡ length (runOf plan ps .log)
+    unfolding outcomeOf run.outcomeOf
+    records-defined = ap (λ (o : run.Outcome). o .records) outcome-defined
+
+-- the first picks of a schedule are picks of eight threads too, and fewer
+module _ (ps : List ℕ) (k : ℕ) where
+  first-small : ((j : ℕ) → j < length ps → getD ps j 0 ≤ 7) → (j : ℕ) → j < length (take k ps) → getD (take k ps) j 0 ≤ 7
+  first-small h j l =
+      let q : length (take k ps) ≡ min k (length ps) = length-take k ps in
+      along (λ (x : ℕ). x ≤ 7) (sym (getD-take k ps j 0 (omega arith))) (h j (omega arith))
+
+  first-wide : (n : ℕ) → 3 * length ps ≤ n → 3 * length (take k ps) ≤ n
+  first-wide n h = let q : length (take k ps) ≡ min k (length ps) = length-take k ps in omega arith
+
+-- the code's run is the defined one
+pub run-on : (plan ws rs picks area : List ℕ) → Given plan ws picks area → Roots plan (procedures plan) rs → (mask v : ℕ) → mask ≡ volatiles plan → v ≡ version plan
+    → (r : Ran) (after : List ℕ)
+    → r .outcome ≡ playOf ws rs (record { mask = mask; version = v }) (startOf rs area) picks 0 .outcome
+    → after ≡ playOf ws rs (record { mask = mask; version = v }) (startOf rs area) picks 0 .area
+    → CountedBefore ws rs (record { mask = mask; version = v }) (startOf rs area) picks r
+    → RunOn plan picks area after r
+run-on plan ws rs picks area given roots mask v em ev r after eo ea eb =
+    let k : ℕ = min (r .outcome .picks) (length picks - 1) in
+    let p = given .plan-passes in
+    let w = given .loaded in
+    let s = first-small picks k (given .small) in
+    let l = first-wide picks k (length area) (given .wide) in
+    let same : (ps : List ℕ) → playOf ws rs (record { mask = mask; version = v }) (startOf rs area) ps 0 ≡ code plan ws rs area p w roots ps =
+    λ ps. ap₂ (λ (x y : ℕ). playOf ws rs (record { mask = x; version = y }) (startOf rs area) ps 0) em ev in
+    record {
+      outcome = ap outcomeOf (eo ∙ ap (λ (x : Played). x .outcome) (same picks)) ∙ outcome-defined plan ws rs area p w roots picks (given .small) (given .wide);
+      area = ea ∙ ap (λ (x : Played). x .area) (same picks) ∙ area-defined plan ws rs area p w roots picks (given .small) (given .wide);
+      moves-before = eb .moves ∙ ap (λ (x : Played). x .outcome .moves) (same (take k picks)) ∙ moves-defined plan ws rs area p w roots (take k picks) s l;
+      records-before = eb .records ∙ ap (λ (x : Played). x .outcome .records) (same (take k picks)) ∙ records-defined plan ws rs area p w roots (take k picks) s l;
+    }

@@ -1,25 +1,23 @@
 -- The two ways that a play ends: it is refused, or its run is answered. Assumes nothing.
 use Prim.Native.Nat.{ℕ}
-use mathlib.Core.Path.{_≡_, refl, sym, ap, ap₂, _∙_}
+use mathlib.Core.Path.{_≡_, refl, sym, ap, _∙_}
 use mathlib.Core.List.{List}
 use mathlib.Core.Option.{some, none}
 use lib.ListN.{length}
-use Rattle.packed.specs.Format.{version, procedures, terms, volatiles}
+use Rattle.packed.specs.Format.{terms}
 use Rattle.refusals.specs.Answer as check
 use Rattle.refusals.specs.declared.Checked.{Checked}
 use Rattle.refusals.specs.declared.Checked.the-variants as checked
 use Rattle.rules.specs.Run as run
 use Rattle.rules.specs.Play as play
-use Rattle.rules.specs.Play.{playRefusal, played, playedBy, areaAfter, areaBy, runOf}
-use Rattle.engine.specs.Machine.{playOf, startOf}
-use Rattle.run_outcome.specs.declared.Outcome.{Outcome}
+use Rattle.rules.specs.Play.{playRefusal, played, playedBy, areaAfter, areaBy}
+use Rattle.engine.specs.declared.Ran.{Ran}
 use Rattle.player.specs.declared.outcome.Played.{Played}
 use Rattle.play_refusals.specs.Refused.{RefusedAs}
 use Rattle.packed.specs.Steps.{Loaded}
-use Rattle.player.specs.Roots.{Roots}
-use Rattle.player.specs.Answer.{outcomeOf, answeredBy, answered}
-use Rattle.play_refusals.proofs.Passed.{Passed, by-code}
-use Rattle.player.proofs.Answers.{outcome-defined, area-defined}
+use Rattle.player.specs.RunOn.{Given, RunOn}
+use Rattle.player.specs.Answer.{answeredBy, answered}
+use Rattle.play_refusals.proofs.Passed.{by-code}
 
 module _ (plan schedule area : List ℕ) (x : Checked) (h : RefusedAs plan schedule (length area) (check.answered x)) where
   -- refused
@@ -37,25 +35,22 @@ module _ (plan schedule area : List ℕ) (x : Checked) (h : RefusedAs plan sched
     refused-area = sym (ap (areaBy plan schedule area) refusal-is)
 
   -- not refused
-  module _ (e : x ≡ checked.Passed) (ws rs : List ℕ) (words : Loaded plan (terms plan) ws) (roots : Roots plan (procedures plan) rs) (mask v : ℕ) (m : mask ≡ volatiles plan) (n : v ≡ version plan) where
-    pass : Passed plan schedule area
-    pass = by-code plan schedule area x h e
-
+  module _ (e : x ≡ checked.Passed) where
     refusal-none : playRefusal plan schedule area ≡ none
     unfolding check.answered
     refusal-none = sym (h area refl) ∙ ap check.answered e
 
-    pub ran-answer : (o : Outcome) → o ≡ playOf ws rs (record { mask = mask; version = v }) (startOf rs area) schedule 0 .outcome → answered (record { checked = x; outcome = o }) ≡ played plan schedule area
-    unfolding answered played playedBy runOf outcomeOf
-    ran-answer o q =
-        ap (λ (y : Checked). answeredBy y o) e
-        ∙ ap (λ (y : Outcome). answeredBy checked.Passed y) (q ∙ ap₂ (λ (k l : ℕ). playOf ws rs (record { mask = k; version = l }) (startOf rs area) schedule 0 .outcome) m n)
-        ∙ ap (λ (y : run.Outcome). play.Played.ran y) (outcome-defined plan schedule area ws rs pass words roots)
-        ∙ sym (ap (playedBy plan schedule) refusal-none)
+    pub given : (ws : List ℕ) → Loaded plan (terms plan) ws → Given plan ws schedule area
+    given ws words = let pass = by-code plan schedule area x h e in record { plan-passes = pass .plan-passes; loaded = words; few = pass .few; small = pass .small; wide = pass .wide }
 
-    pub ran-area : playOf ws rs (record { mask = mask; version = v }) (startOf rs area) schedule 0 .area ≡ areaAfter plan schedule area
-    unfolding areaAfter areaBy runOf
-    ran-area =
-        ap₂ (λ (k l : ℕ). playOf ws rs (record { mask = k; version = l }) (startOf rs area) schedule 0 .area) m n
-        ∙ area-defined plan schedule area ws rs pass words roots
-        ∙ sym (ap (areaBy plan schedule area) refusal-none)
+    module _ (r : Ran) (after : List ℕ) (ran : RunOn plan schedule area after r) where
+      pub ran-answer : answered (record { checked = x; outcome = r .outcome }) ≡ played plan schedule area
+      unfolding answered played playedBy
+      ran-answer =
+          ap (λ (y : Checked). answeredBy y (r .outcome)) e
+          ∙ ap (λ (y : run.Outcome). play.Played.ran y) (ran .outcome)
+          ∙ sym (ap (playedBy plan schedule) refusal-none)
+
+      pub ran-area : after ≡ areaAfter plan schedule area
+      unfolding areaAfter areaBy
+      ran-area = ran .area ∙ sym (ap (areaBy plan schedule area) refusal-none)

@@ -8,7 +8,9 @@ ghost use Rattle.rules.specs.Play.{played, areaAfter};
 ghost use Rattle.player.specs.Answer.{answered, NoRunIfRefused};
 ghost use Rattle.player.specs.ExecutedOn.{ExecutedIfPassed};
 ghost use Rattle.player.specs.Roots.{Roots};
+ghost use Rattle.player.specs.RunOn.{Given, RunOn};
 use crate::outcome::Played;
+use engine::Ran;
 use header::layout;
 use refusals::Checked;
 use state::Setting;
@@ -27,6 +29,22 @@ fn roots(plan: &[u8], procedures: usize) -> [usize; 32]
     all
 }
 
+// The run of picks on an accepted plan whose words are loaded, its records into the log.
+pub fn run(plan: &[u8], words: &[usize; 1024], picks: &[u8], log: &mut [u8]) -> Ran
+    requires { ⌜ Given (now plan) (now words) (now picks) (now log) ⌝ }
+    ensures { λ r. ⌜ RunOn (now (plan .entry)) (now (picks .entry)) (now (log .entry)) (now (log .exit)) r ⌝ }
+{
+    let procedures = layout::procedures(plan);
+    let roots = roots(plan, procedures);
+    let mask = layout::volatiles(plan);
+    let version = layout::version(plan);
+    let setting = Setting {
+        mask: mask,
+        version: version,
+    };
+    engine::run(words, &roots, setting, picks, log)
+}
+
 // Every plan, schedule and log area gets document 01's answer: a refusal of number 1 to 10 with its place, and no byte of the area changed; or the
 // run's outcome, and an area that begins with the run's records and is otherwise as it was. The run is an execution by the rules.
 pub fn play(plan: &[u8], schedule: &[u8], log: &mut [u8]) -> Played
@@ -40,15 +58,8 @@ pub fn play(plan: &[u8], schedule: &[u8], log: &mut [u8]) -> Played
     let Checked::Passed = checked else {
         return outcome::refused(checked);
     };
-    let procedures = layout::procedures(plan);
-    let roots = roots(plan, procedures);
-    let mask = layout::volatiles(plan);
-    let version = layout::version(plan);
-    let setting = Setting {
-        mask: mask,
-        version: version,
-    };
-    let outcome = engine::run(&words, &roots, setting, schedule, log);
+    let ran = run(plan, &words, schedule, log);
+    let outcome = ran.outcome;
     Played {
         checked: checked,
         outcome: outcome,

@@ -83,7 +83,7 @@ blocked-passed p (NOT-NOTIFIED n h) = refl
 blocked-passed p (NOT-FREE z h) = refl
 blocked-passed p (NOT-HELD h n) = refl
 
-over-passed : {s : State} {p : ℕ} {a : Attempt} → PassedOver s p a → answer s p a ≡ Answer.passed
+pub over-passed : {s : State} {p : ℕ} {a : Attempt} → PassedOver s p a → answer s p a ≡ Answer.passed
 unfolding answer
 over-passed (ABSENT h) = refl
 over-passed (FINISHED h e) = refl

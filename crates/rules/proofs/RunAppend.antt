@@ -1,12 +1,12 @@
 -- A run of some picks and then of others: where the first did not stop, it is the first run and then the others' run from the state where it stands;
 -- where it stopped, it is the first run. So "after every pick" and "the state that a pick meets" speak of runs. Assumes nothing.
-use Prim.Native.Nat.{ℕ, suc, _+_}
+use Prim.Native.Nat.{ℕ, suc, _+_, _≤_, _<_}
 use native.Mathlib.Omega.{arith}
 use mathlib.Core.Path.{_≡_, refl, ap, _∙_}
 use mathlib.Core.Bool.{true≢false}
 use mathlib.Core.List.{List, [], _∷_, _++_}
 use mathlib.Core.Option.{Option, some, none}
-use lib.ListN.{length}
+use lib.ListN.{length, length-append}
 use Rattle.packed.specs.Syntax.{Program}
 use Rattle.records.specs.Record.{Record}
 use Rattle.rules.specs.State.{State}
@@ -96,6 +96,31 @@ module _ (g : Program) where
       go (Answer.race r) h ih = absurd (true≢false cc)
       go (Answer.noRoom k) h ih = absurd (true≢false cc)
       go (Answer.moved m) h ih = ap suc (ih (m .state) h)
+
+  -- a run that stopped has not
+  pub stopped-short : (s : State) (ps : List ℕ) → (run g s ps .stop ≡ Stop.end → ⊥) → run g s ps .picks < length ps
+  unfolding run resume stopped
+  stopped-short s [] n = absurd (n refl)
+  stopped-short s (p ∷ ps) n = go (step g s p) n (λ z k. stopped-short z ps k)
+    where
+      go : (a : Answer) → (resume s (λ z. run g z ps) a .stop ≡ Stop.end → ⊥) → ((z : State) → (run g z ps .stop ≡ Stop.end → ⊥) → run g z ps .picks < length ps)
+          → resume s (λ z. run g z ps) a .picks < suc (length ps)
+      go Answer.passed n ih = let h = ih s n in omega arith
+      go (Answer.race r) n ih = omega arith
+      go (Answer.noRoom k) n ih = omega arith
+      go (Answer.moved m) n ih = let h = ih (m .state) n in omega arith
+
+  -- more picks make no fewer records
+  pub records-grow : (s : State) (ps qs : List ℕ) → length (run g s ps .log) ≤ length (run g s (ps ++ qs) .log)
+  records-grow s ps qs = go (run g s ps .stop) refl
+    where
+      halted : (run g s ps .stop ≡ Stop.end → ⊥) → length (run g s ps .log) ≤ length (run g s (ps ++ qs) .log)
+      halted n = rw (run-stopped s ps qs n) (omega arith)
+
+      go : (e : Stop) → run g s ps .stop ≡ e → length (run g s ps .log) ≤ length (run g s (ps ++ qs) .log)
+      go Stop.end h = rw (run-append s ps qs h, length-append) (omega arith)
+      go Stop.race h = halted (λ q. true≢false cc)
+      go (Stop.noRoom k) h = halted (λ q. true≢false cc)
 
   -- the state that a pick meets is the one where the run of the picks before it stands
   pub pick-meets : (s : State) (ps : List ℕ) (p : ℕ) (qs : List ℕ) → run g s ps .stop ≡ Stop.end

@@ -1,12 +1,12 @@
 -- `run` meets its contract. The first loop's invariant: the rest of the run from here is the whole run; the second's: what is left to see makes up all that is seen. Assumes nothing.
 use mathlib.Core.Path.{_≡_, refl, sym, ap, _∙_}
-use mathlib.Core.List.{List, [], _∷_}
+use mathlib.Core.List.{List, [], _∷_, _++_, append-nil, append-assoc}
 use mathlib.Core.Logic.{⊎-elim}
-use Prim.Native.Nat.{ℕ, _≤_, _<_, _+_, _-_, _*_, _/_, _%_}
+use Prim.Native.Nat.{ℕ, _≤_, _<_, _+_, _-_, _*_, _/_, _%_, min}
 use native.Mathlib.Numerals.{add-one}
 use native.Mathlib.Omega.{arith}
-use lib.ListN.{length, getD, set, drop, drop-of-length-le, replicate}
-use lib.Seq.{drop-cons}
+use lib.ListN.{length, getD, set, take, drop, take-append-drop, replicate}
+use lib.Seq.{take-suc, take-length}
 use Rattle.format.proofs.Turns.{turns, one-turn, no-turn}
 use Rattle.run_outcome.specs.declared.Stop.the-variants as stop
 use Rattle.run_outcome.specs.declared.Thread.{Thread}
@@ -22,20 +22,24 @@ use Rattle.engine.proofs.run.Statement.{statement}
 use Rattle.engine.proofs.run.Tie as tie
 
 abbrev Inv-loop : tie.InvT-loop
-Inv-loop words roots setting picks log₀ heads₀ cells₀ objects₀ places₀ stack₀ tally₀ stop₀ dealt₀ i₀ i-end log heads cells objects places stack tally halt dealt i =
+Inv-loop words roots setting picks log₀ heads₀ cells₀ objects₀ places₀ stack₀ tally₀ stop₀ dealt₀ moves-before₀ records-before₀ i₀ i-end log heads cells objects places stack tally halt dealt moves-before records-before i =
     (i-end ≡ length picks) × (i ≤ length picks) × (tally .moves ≤ i) × (tally .records ≤ i) × (length log ≡ length log₀)
-    × (playOf words roots setting (record { heads = heads; cells = cells; objects = objects; places = places; stack = stack; tally = tally; log = log }) (drop i picks) i ≡ playOf words roots setting (startOf roots log₀) picks 0)
+    × ((qs : List ℕ)
+    → playOf words roots setting (record { heads = heads; cells = cells; objects = objects; places = places; stack = stack; tally = tally; log = log }) qs i
+    ≡ playOf words roots setting (startOf roots log₀) (take i picks ++ qs) 0)
     × (halt ≡ stop.End) × (dealt ≡ length picks) × (length places ≡ 8)
+    × (moves-before ≡ playOf words roots setting (startOf roots log₀) (take (i - 1) picks) 0 .outcome .moves)
+    × (records-before ≡ playOf words roots setting (startOf roots log₀) (take (i - 1) picks) 0 .outcome .records)
 
 abbrev μ-loop : tie.MeasureT-loop
-μ-loop words roots setting picks log₀ heads₀ cells₀ objects₀ places₀ stack₀ tally₀ stop₀ dealt₀ i₀ i-end log heads cells objects places stack tally halt dealt i = length picks - i
+μ-loop words roots setting picks log₀ heads₀ cells₀ objects₀ places₀ stack₀ tally₀ stop₀ dealt₀ moves-before₀ records-before₀ i₀ i-end log heads cells objects places stack tally halt dealt moves-before records-before i = length picks - i
 
 abbrev Inv-loop2 : tie.InvT-loop2
-Inv-loop2 words roots setting picks log heads cells objects places tally halt dealt counts threads₀ thread₀ threads thread =
+Inv-loop2 words roots setting picks log heads cells objects places tally halt dealt moves-before records-before counts threads₀ thread₀ threads thread =
     (thread ≤ 8) × (turns (putThread counts heads cells objects places setting) (8 - thread) thread threads ≡ threadsOf setting counts heads cells objects places)
 
 abbrev μ-loop2 : tie.MeasureT-loop2
-μ-loop2 words roots setting picks log heads cells objects places tally halt dealt counts threads₀ thread₀ threads thread = 8 - thread
+μ-loop2 words roots setting picks log heads cells objects places tally halt dealt moves-before records-before counts threads₀ thread₀ threads thread = 8 - thread
 
 -- ---- where a turn begins: the plan, the picks, the machine
 
@@ -75,14 +79,35 @@ machine l =
       log = l .loop .log;
     }
 
+-- the run of these picks from the start
+abbrev played : Turn → List ℕ → Played
+played l ps = playOf (words l) (roots l) (setting l) (startOf (roots l) (start l .args .log .now)) ps 0
+
 abbrev whole : Turn → Played
-whole l = playOf (words l) (roots l) (setting l) (startOf (roots l) (start l .args .log .now)) (list l) 0
+whole l = played l (list l)
+
+-- this pick and others are met after those before it
+next : (l : Turn) → l .loop .i < length (list l) → (qs : List ℕ) → playOf (words l) (roots l) (setting l) (machine l) (pick l ∷ qs) (l .loop .i) ≡ played l (take (l .loop .i + 1) (list l) ++ qs)
+next l h qs =
+    let e : take (l .loop .i) (list l) ++ (pick l ∷ qs) ≡ take (l .loop .i + 1) (list l) ++ qs = rw (add-one, take-suc (list l) (l .loop .i) 0, append-assoc) in
+    l .loop .inv .5 (pick l ∷ qs) ∙ ap (played l) e
 
 -- the rest of the picks begins with this one
 rest : (l : Turn) → l .loop .i < length (list l) → playOf (words l) (roots l) (setting l) (machine l) (pick l ∷ later l) (l .loop .i) ≡ whole l
-rest l h =
-    let e : drop (l .loop .i) (list l) ≡ pick l ∷ later l = rw (add-one, drop-cons (list l) (l .loop .i) 0) in
-    rw e at (l .loop .inv .5)
+rest l h = next l h (later l) ∙ ap (played l) (take-append-drop (l .loop .i + 1) (list l))
+
+-- the counts where the turn begins are those of the picks before
+module _ (l : Turn) (k : ℕ) (h : k ≡ l .loop .i) where
+  before : playOf (words l) (roots l) (setting l) (machine l) [] (l .loop .i) ≡ played l (take k (list l))
+  before = l .loop .inv .5 [] ∙ ap (played l) (append-nil (take (l .loop .i) (list l)) ∙ ap (λ (n : ℕ). take n (list l)) (sym h))
+
+  moves-before : l .loop .tally .moves ≡ played l (take k (list l)) .outcome .moves
+  unfolding playOf
+  moves-before = ap (λ (x : Played). x .outcome .moves) before
+
+  records-before : l .loop .tally .records ≡ played l (take k (list l)) .outcome .records
+  unfolding playOf
+  records-before = ap (λ (x : Played). x .outcome .records) before
 
 -- the pick, whose cell is at k, is answered as the machine's is
 answered : (l : Turn) (k : ℕ) (x : Picked) → Placed (headAt (l .loop .heads) (pick l % 8) .ready) k
@@ -99,10 +124,12 @@ loop-holds c =
       rw (c .first .ensures) (omega arith),
       rw (c .first .ensures) (omega arith),
       refl,
-      begins (a .words .now) (a .roots .now) (a .setting) (a .picks .now) (a .log .now) _ _ _ _ (c .before .before .before .first-head .ensures) (c .before .before .first-cell .ensures) (c .before .first-object .ensures) (c .first .ensures),
+      λ qs. begins (a .words .now) (a .roots .now) (a .setting) qs (a .log .now) _ _ _ _ (c .before .before .before .first-head .ensures) (c .before .before .first-cell .ensures) (c .before .first-object .ensures) (c .first .ensures),
       refl,
       refl,
       refl,
+      unfold playOf startOf in refl,
+      unfold playOf startOf in refl,
     )
 
 -- ---- the pick of a thread that is not there
@@ -112,7 +139,7 @@ loop-again c =
     let l = c .before .before .before .before .before in
     let v = l .loop .inv in
     let t = c .before .before .before .before .loop-test .taken in
-    (v .0, omega arith, omega arith, omega arith, v .4, absent-passed (words l) (roots l) (setting l) (machine l) (pick l) (later l) (l .loop .i) (c .if1 .taken) ∙ rest l (omega arith), v .6, v .7, v .8)
+    (v .0, omega arith, omega arith, omega arith, v .4, λ qs. absent-passed (words l) (roots l) (setting l) (machine l) (pick l) qs (l .loop .i) (c .if1 .taken) ∙ next l (omega arith) qs, v .6, v .7, v .8, moves-before l (l .loop .i + 1 - 1) (omega arith), records-before l (l .loop .i + 1 - 1) (omega arith))
 
 -- ---- a pick that is passed over
 
@@ -152,10 +179,12 @@ loop-again-2 c =
       omega arith,
       omega arith,
       v .4,
-      passed (words l) (roots l) (setting l) (machine l) (pick l) (later l) (l .loop .i) (given x) (x .before .before .before .before .before .before .before .before .if1 .left) (came x) (c .before .match .keys2) (c .match2 .keys2) ∙ rest l t,
+      λ qs. passed (words l) (roots l) (setting l) (machine l) (pick l) qs (l .loop .i) (given x) (x .before .before .before .before .before .before .before .before .if1 .left) (came x) (c .before .match .keys2) (c .match2 .keys2) ∙ next l t qs,
       v .6,
       v .7,
       v .8,
+      moves-before l (l .loop .i + 1 - 1) (omega arith),
+      records-before l (l .loop .i + 1 - 1) (omega arith),
     )
 
 -- ---- a pick that moves, or stops the run
@@ -189,14 +218,16 @@ loop-again-3 c =
       omega (arith, before, moves, v .2),
       omega (arith, records, put .ensures .0 .1, v .3),
       put .kept .0 ∙ v .4,
-      moved (words l) (roots l) (setting l) (machine l) (pick l) (later l) (l .loop .i) (given x) (x .before .before .before .before .before .before .before .before .if1 .left) (came x) (c .before .before .before .before .before .before .before .before .before .before .before .before .before .before .before .before .before .answer .given .1) (placed x .cell-of .result) (j .heads) (queue .last .0) (put .result) (c .moved .result) (put .last .0)
+      λ qs. moved (words l) (roots l) (setting l) (machine l) (pick l) qs (l .loop .i) (given x) (x .before .before .before .before .before .before .before .before .if1 .left) (came x) (c .before .before .before .before .before .before .before .before .before .before .before .before .before .before .before .before .before .answer .given .1) (placed x .cell-of .result) (j .heads) (queue .last .0) (put .result) (c .moved .result) (put .last .0)
           (placed x .cell-of .ensures .cell)
           (⊎-elim (λ w. young-made _ (l .loop .heads) _ (l .loop .tally .counts .threads % 9) _ (w .0 .taken) (w .3)) (λ w. young-none _ (l .loop .heads) _ (l .loop .tally .counts .threads % 9) _ (w .0 .left) (w .1)) (j .came))
           (queue .ensures) (put .ensures .0 .0) (c .moved .ensures .0) (put .ensures .1)
-          ∙ rest l t,
+          ∙ next l t qs,
       v .6,
       v .7,
       queue .kept .0 ∙ v .8,
+      moves-before l (l .loop .i + 1 - 1) (omega arith),
+      records-before l (l .loop .i + 1 - 1) (omega arith),
     )
 
 -- ---- the end of the run
@@ -217,11 +248,38 @@ ended c =
     ⊎-elim (λ w.
     let t : length (list l) ≤ l .loop .i = omega (arith, w .0 .left, v .0) in
     let i : l .loop .dealt ≡ l .loop .i = omega (arith, t, v .1, v .7) in
-    let q : playOf (words l) (roots l) (setting l) (machine l) [] (l .loop .i) ≡ whole l = rw (drop-of-length-le (list l) t) at (v .5) in
+    let q : playOf (words l) (roots l) (setting l) (machine l) [] (l .loop .i) ≡ whole l = before l (length (list l)) (omega arith) ∙ ap (played l) (take-length (list l)) in
     ends-as (setting l) (l .loop .heads) (l .loop .cells) (l .loop .objects) (l .loop .places) _ _ _ _ _ _ _ _ (w .3 ∙ v .6) (w .4 ∙ i) (w .2) (w .1) ∙ q) (λ w.
     stops (words l) (roots l) (setting l) (machine l) (pick l) (later l) (l .loop .i) (record { stack = w .12 .last .1 .1 .0; answer = w .12 .result }) (w .4 .left)
     (answered l (w .6 .result) _ (w .6 .ensures) (w .12 .ensures)) (w .15 .given .1) _ _ _ _ (w .23) (w .24) (w .22 ∙ w .18 .ensures .0 .0) (w .21 ∙ w .18 .ensures .1)
     ∙ rest l (omega (arith, w .0 .taken, v .0))) (c .loop-test .came)
+
+-- the counts before the last pick that was met
+module _ (c : Left) where
+  abbrev l : Turn
+  l = c .before
+
+  -- so many picks came before it
+  abbrev k : ℕ
+  k = min (c .loop-test .dealt) (length (list l) - 1)
+
+  -- the loop was left at its end
+  at-end : length (list l) ≤ l .loop .i → c .loop-test .dealt ≡ l .loop .dealt → l .loop .i - 1 ≡ k
+  at-end h e = omega (arith, h, e, l .loop .inv .1, l .loop .inv .7)
+
+  -- or by a stop
+  at-stop : l .loop .i < length (list l) → c .loop-test .dealt ≡ l .loop .i → k ≡ l .loop .i
+  at-stop h e = omega (arith, h, e)
+
+  counted-moves : c .loop-test .moves-before ≡ played l (take k (list l)) .outcome .moves
+  counted-moves =
+      ⊎-elim (λ w. w .5 ∙ l .loop .inv .9 ∙ ap (λ (n : ℕ). played l (take n (list l)) .outcome .moves) (at-end (omega (arith, w .0 .left, l .loop .inv .0)) (w .4)))
+      (λ w. w .25 ∙ moves-before l k (at-stop (omega (arith, w .0 .taken, l .loop .inv .0)) (w .24))) (c .loop-test .came)
+
+  counted-records : c .loop-test .records-before ≡ played l (take k (list l)) .outcome .records
+  counted-records =
+      ⊎-elim (λ w. w .6 ∙ l .loop .inv .10 ∙ ap (λ (n : ℕ). played l (take n (list l)) .outcome .records) (at-end (omega (arith, w .0 .left, l .loop .inv .0)) (w .4)))
+      (λ w. w .26 ∙ records-before l k (at-stop (omega (arith, w .0 .taken, l .loop .inv .0)) (w .24))) (c .loop-test .came)
 
 abbrev Last : Type 0
 Last = tie.At-loop2 Inv-loop μ-loop Inv-loop2 μ-loop2
@@ -265,7 +323,7 @@ returns c =
     let e = sym (no-turn (put l) 8 (a .loop2 .thread) (a .loop2 .threads) z) ∙ a .loop2 .inv .1 in (
       ap (λ (x : List Thread). record { stop = l .loop-test .stop; picks = l .loop-test .dealt; moves = l .loop-test .tally .moves; records = l .loop-test .tally .records; threads = x }) e
           ∙ ap (λ (x : Played). x .outcome) (ended l),
-      ap (λ (x : Played). x .area) (ended l),
+      (ap (λ (x : Played). x .area) (ended l), record { moves = counted-moves l; records = counted-records l }),
     )
 
 pub run-spec : {M : Type 1} → statement M

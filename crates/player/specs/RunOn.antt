@@ -1,0 +1,32 @@
+-- A run on an accepted plan: what it is given, and what it comes to. No reader of the entry's promise needs it. Assumes nothing.
+use Prim.Native.Nat.{ℕ, _*_, _≤_, _<_}
+use mathlib.Core.Path.{_≡_}
+use mathlib.Core.List.{List}
+use mathlib.Core.Option.{none}
+use lib.ListN.{length, getD}
+use Rattle.format.specs.Area.{overwrite}
+use Rattle.packed.specs.Format.{terms}
+use Rattle.packed.specs.Trees.{programOf}
+use Rattle.packed.specs.Check.{refusal}
+use Rattle.packed.specs.Steps.{Loaded}
+use Rattle.records.specs.Packed.{bytesOf}
+use Rattle.rules.specs.Run as run
+use Rattle.rules.specs.Play.{runOf}
+use Rattle.engine.specs.Machine.{picksBefore}
+use Rattle.engine.specs.declared.Ran.{Ran}
+use Rattle.player.specs.Answer.{outcomeOf}
+
+-- a plan that passes, its words, few picks of eight threads, a log area with room for a record to each
+pub record Given (plan words picks area : List ℕ) : Type 0 where
+  pub plan-passes : refusal plan ≡ none
+  pub loaded : Loaded plan (terms plan) words
+  pub few : length picks ≤ 4096
+  pub small : (j : ℕ) → j < length picks → getD picks j 0 ≤ 7
+  pub wide : 3 * length picks ≤ length area
+
+-- the defined run's outcome and log; and how many moves and records the run of the picks before the last that it met has
+pub record RunOn (plan picks before after : List ℕ) (r : Ran) : Type 0 where
+  pub outcome : outcomeOf (r .outcome) ≡ run.outcomeOf (programOf plan) (runOf plan picks)
+  pub area : after ≡ overwrite (bytesOf (runOf plan picks .log)) before
+  pub moves-before : r .before .moves ≡ length (runOf plan (picksBefore (r .outcome .picks) picks) .instances)
+  pub records-before : r .before .records ≡ length (runOf plan (picksBefore (r .outcome .picks) picks) .log)

@@ -1,0 +1,5 @@
+pub mod PlaysAs
+pub mod Examples
+pub mod LastPick
+pub mod Found
+pub mod Entry
