@@ -251,6 +251,10 @@ EDGES = [
     (handed_on(0), HANDED_PICKS, ("race", 16, 10, 6), ()),
 ]
 
+# document 02's figures: a plan, picks that make 0, 100 and 101 moves, and its cents without the option and with it
+ROUND = plan(node(7, TRUE, NULL))
+CHARGES = [(ROUND, [], (1200, 1380)), (ROUND, [0] * 100, (1235, 1421)), (ROUND, [0] * 101, (1270, 1461))]
+
 # a log, the version that the judge is told, and what is right: the refusal, or the index that is named, or none
 NEW = bytes.fromhex("100000")
 HANDED_LOG = bytes.fromhex("101000" "802080" "301080" "501100" "421100" "221080")  # new, fork, write, volatile write, volatile read, read
@@ -266,6 +270,30 @@ LOGS = [
     (b"", (1 << 64) - 1, [14, 0]),
     (HANDED_LOG, 1, None),
     (HANDED_LOG, 0, 5),
+]
+
+
+# a log, the length of an area, and what is right: the refusal, or the length of the data file
+ACQUIRE, RELEASE, ACQUIRE_LAST = bytes.fromhex("600000"), bytes.fromhex("700000"), bytes.fromhex("61f000")  # of objects 0, 0 and 31
+FILES = [
+    (b"", 1, 1),
+    (b"", 0, [24, 0]),
+    (NEW, 70, 70),
+    (NEW, 69, [24, 0]),
+    (NEW[:1], 0, [11, 0]),
+    (bytes(3), 0, [12, 0]),
+    (ACQUIRE + RELEASE, 200, 142),
+    (RELEASE + ACQUIRE + ACQUIRE_LAST, 300, 214),
+    (ACQUIRE + ACQUIRE + RELEASE, 214, 214),
+    (NEW * 9, 646, 646),
+    (NEW * 9, 645, [24, 0]),
+    (NEW * 10, 719, 719),
+    (NEW * 11, 793, 793),
+    (NEW * 100, 7380, 7380),
+    (NEW * 101, 7456, 7456),
+    (NEW * 101, 7455, [24, 0]),
+    (NEW * LOG_RECORDS, 317268, [24, 0]),
+    (NEW * (LOG_RECORDS + 1), 317269, [11, 0]),
 ]
 
 

@@ -261,6 +261,13 @@ pub fn area(random: &mut Random, picks: usize) -> Vec<u8> {
     random.bytes(length)
 }
 
+/// An area for the data file of a log of so many bytes: mostly long enough, filled with anything.
+pub fn file_area(random: &mut Random, bytes: usize) -> Vec<u8> {
+    let enough = 80 * (bytes / 3) + 1;
+    let length = if random.percent(90) { enough } else { random.below(enough) };
+    random.bytes(length)
+}
+
 /// A record of a log that no run need have written.
 fn record(random: &mut Random, last: bool) -> u32 {
     let kind = if last && random.percent(20) { 10 + random.below(2) } else { 1 + random.below(9) } as u32;
