@@ -16,7 +16,7 @@ use Rattle.state.specs.declared.acted.Act.{Act}
 use Rattle.state.specs.Acted.{goOn}
 use Rattle.accesses.specs.Accesses.{actRead, actWrite}
 use Rattle.objects.specs.Objects.{actNew, actFork, actJoin}
-use Rattle.monitors.specs.Monitors.{actSynch, actHold}
+use Rattle.monitors.specs.Monitors.{actSynch, actHold, actSignal, actWake}
 
 -- where a move that leaves no record goes on, by its part p
 unfoldable pub pureBy : ℕ → Ready → Go
@@ -41,7 +41,9 @@ actBy p g n h c t q =
     (cond (isPart part.Fork p) (actFork n h c)
     (cond (isPart part.Join p) (actJoin n h c t q (h .ready .first))
     (cond (isPart part.Synch p) (actSynch n h c (h .ready .first) (h .ready .second) (h .ready .environment))
-    (cond (isPart part.Hold p) (actHold n h (h .ready .first) (h .ready .second)) (goOn (actPure h) n h c)))))))
+    (cond (isPart part.Hold p) (actHold n h (h .ready .first) (h .ready .second))
+    (cond (isPart part.Signal p) (actSignal n h c (h .ready .first) (h .ready .second))
+    (cond (isPart part.Waiting p) (actWake n h c (h .ready .first)) (goOn (actPure h) n h c)))))))))
 
 abbrev pub actOf : Setting → Counts → Head → Cell → Object → Head → Act
 actOf g n h c t q = actBy (h .ready .part) g n h c t q

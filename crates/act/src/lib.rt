@@ -80,6 +80,8 @@ pub fn act(
             ready.environment,
         ),
         part::HOLD => monitors::act_hold(counts, head, ready.first, ready.second),
+        part::SIGNAL => monitors::act_signal(counts, head, cell, ready.first, ready.second),
+        part::WAITING => monitors::act_wake(counts, head, cell, ready.first),
         _ => acted::go_on(act_pure(head), counts, head, cell),
     }
 }

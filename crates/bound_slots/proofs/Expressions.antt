@@ -164,10 +164,22 @@ module _ (words : List ℕ) (o : Ordered words) (t m : ℕ) where
   unfolding seen nodeOf inWord layout table nodes expressionOf closed
   join-left e = (sym (ap (closed (slots m)) (expr-is words o t 10 e)), (row-below words o t 10 e, mod-below _))
 
+  pub wait-left : Tagged words t 18 → Answer (At (firstOf words t) m)
+  unfolding seen nodeOf inWord layout table nodes expressionOf closed
+  wait-left e = (sym (ap (closed (slots m)) (expr-is words o t 18 e)), (row-below words o t 18 e, mod-below _))
+
+  pub notify-left : Tagged words t 19 → Answer (At (firstOf words t) m)
+  unfolding seen nodeOf inWord layout table nodes expressionOf closed
+  notify-left e = (sym (ap (closed (slots m)) (expr-is words o t 19 e)), (row-below words o t 19 e, mod-below _))
+
+  pub notify-all-left : Tagged words t 20 → Answer (At (firstOf words t) m)
+  unfolding seen nodeOf inWord layout table nodes expressionOf closed
+  notify-all-left e = (sym (ap (closed (slots m)) (expr-is words o t 20 e)), (row-below words o t 20 e, mod-below _))
+
   pub synch-left : (r : Rest) → Tagged words t 11 → Two words (firstOf words t) m (secondOf words t) m r → Answer r
   unfolding nodeOf inWord layout table nodes expressionOf closed
   synch-left r e b = let k = row-below words o t 11 e in rest-of r _ _ _ _ b (k .0) (k .1) (sym (ap (closed (slots m)) (expr-is words o t 11 e)))
 
-  pub nothing-left : NoneOf (word.tagOf (getD words t 0)) (11 ∷ 10 ∷ 9 ∷ 8 ∷ 7 ∷ 6 ∷ 5 ∷ 4 ∷ 3 ∷ 1 ∷ []) → Answer Closed
+  pub nothing-left : NoneOf (word.tagOf (getD words t 0)) (20 ∷ 19 ∷ 18 ∷ 11 ∷ 10 ∷ 9 ∷ 8 ∷ 7 ∷ 6 ∷ 5 ∷ 4 ∷ 3 ∷ 1 ∷ []) → Answer Closed
   unfolding seen
   nothing-left n = (sym (ap (closed (slots m)) (expr-is words o t _ refl) ∙ expr-rest (treeIn words) (conditionIn words) (listIn words) (slots m) _ _ n), tt)

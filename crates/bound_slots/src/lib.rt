@@ -2,6 +2,7 @@
 // Of two operands one is a call and the other a turn of the loop, whichever side the deeper one is on: a leaf is seen in place (`rest_of_two`). With a call for
 // each operand the deepest plans would take more stack, and every leaf the time of a call; so a term's rest is an answer (`Rest`) and not a call of its own.
 use header::layout;
+use operands::tags;
 ghost use mathlib.Core.Path.{_≡_};
 ghost use mathlib.Core.Bool.{_&&_};
 ghost use Prim.Native.Nat.{ℕ, _<_};
@@ -51,7 +52,7 @@ fn closed_leaf(word: usize, bound: usize) -> bool
     requires { ⌜ tagOf word < 3 ⌝ }
     ensures { λ r. ⌜ r ≡ closed (slots bound) (leafIn word) ⌝ }
 {
-    if operands::tag(word) != 1 {
+    if operands::tag(word) != tags::VARIABLE {
         return true;
     }
     holds(bound, operands::slot_of(word))
@@ -71,7 +72,7 @@ fn rest_of_two(
     ensures { λ r. ⌜ ((term : ℕ) → term < first → term < second → After term r) ⌝ }
 {
     let word = words[second];
-    if operands::tag(word) < 3 {
+    if operands::tag(word) < tags::READ {
         if closed_leaf(word, inner) {
             return Rest::At(first, bound);
         }
@@ -94,31 +95,34 @@ fn rest_of(words: &[usize; 1024], term: usize, bound: usize) -> Rest
     let first = operands::first(word);
     let second = operands::second(word);
     match operands::tag(word) {
-        1 => told(holds(bound, operands::slot_of(word))),
-        3 => Rest::At(first, bound),
-        4 => rest_of_two(words, first, bound, operands::write_second(word), bound),
-        5 => {
+        tags::VARIABLE => told(holds(bound, operands::slot_of(word))),
+        tags::READ => Rest::At(first, bound),
+        tags::WRITE => rest_of_two(words, first, bound, operands::write_second(word), bound),
+        tags::LET => {
             let inner = with(bound, operands::slot_of(word));
             let value = operands::let_first(word);
             let body = operands::let_second(word);
             rest_of_two(words, value, bound, body, inner)
         }
-        6 => {
+        tags::IF => {
             if closed_condition(words, first, bound) {
                 return rest_of_two(words, second, bound, operands::third(word), bound);
             }
             Rest::Open
         }
-        7 => {
+        tags::WHILE => {
             if closed_condition(words, first, bound) {
                 return Rest::At(second, bound);
             }
             Rest::Open
         }
-        8 => told(closed_list(words, operands::list_of(word), bound)),
-        9 => Rest::At(first, bound),
-        10 => Rest::At(first, bound),
-        11 => rest_of_two(words, first, bound, second, bound),
+        tags::CALL => told(closed_list(words, operands::list_of(word), bound)),
+        tags::FORK => Rest::At(first, bound),
+        tags::JOIN => Rest::At(first, bound),
+        tags::SYNCH => rest_of_two(words, first, bound, second, bound),
+        tags::WAIT => Rest::At(first, bound),
+        tags::NOTIFY => Rest::At(first, bound),
+        tags::NOTIFY_ALL => Rest::At(first, bound),
         _ => Rest::Closed,
     }
 }
@@ -156,12 +160,12 @@ fn closed_condition(words: &[usize; 1024], from: usize, bound: usize) -> bool
         let first = operands::first(word);
         let second = operands::second(word);
         match operands::tag(word) {
-            13 => {
+            tags::NOT => {
                 term = first;
                 continue;
             }
-            14 => {
-                if operands::tag(words[second]) == 12 {
+            tags::AND => {
+                if operands::tag(words[second]) == tags::TRUE {
                     term = first;
                     continue;
                 }
@@ -171,7 +175,7 @@ fn closed_condition(words: &[usize; 1024], from: usize, bound: usize) -> bool
                 term = second;
                 continue;
             }
-            15 => {
+            tags::EQUAL => {
                 let rest = rest_of_two(words, first, bound, second, bound);
                 match rest {
                     Rest::Closed => return true,
@@ -193,7 +197,7 @@ fn closed_list(words: &[usize; 1024], from: usize, bound: usize) -> bool
     let mut term = from;
     loop {
         let word = words[term];
-        if operands::tag(word) != 16 {
+        if operands::tag(word) != tags::LIST {
             return true;
         }
         if !closed_expression(words, operands::first(word), bound) {

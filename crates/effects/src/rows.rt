@@ -6,6 +6,7 @@ ghost use Prim.Native.Nat.{_≤_};
 ghost use Rattle.format.specs.Version.{versionOf};
 ghost use Rattle.effects.specs.Rows.{Known, placeRow, isAccess, passes, sourceRow, targetRow, writesRow};
 use decoding::Columns;
+use records::kind;
 
 // Chooses without a branch, since a log's kinds follow no pattern.
 fn choose(test: bool, yes: usize, no: usize) -> usize
@@ -21,11 +22,11 @@ pub fn first(number: u16) -> usize
     8 + 3 * number as usize
 }
 
-// A plain access: kinds 2 and 10, 3 and 11.
+// A plain access: a read or a write, or one that lacks its key, whose kind is 8 more.
 pub fn access(kind: usize) -> bool
     ensures { λ r. ⌜ r ≡ isAccess kind ⌝ }
 {
-    (kind % 8 == 2) | (kind % 8 == 3)
+    (kind % 8 == kind::READ) | (kind % 8 == kind::WRITE)
 }
 
 // One of the two kinds that pass on what has come to the place: of its monitor, or in version 1 of its volatile field.
@@ -41,10 +42,14 @@ pub fn source(version: usize, columns: Columns, at: usize) -> usize
     requires { ⌜ Known columns ⌝ ∗ ⌜ at ≤ 65536 ⌝ }
     ensures { λ r. ⌜ r ≡ sourceRow (versionOf version) columns at ⌝ }
 {
-    let of_write = choose(columns.kind % 8 == 3, at + 1, columns.thread);
-    let of_access = choose(columns.kind % 8 == 2, at + 2, of_write);
-    let of_thread = choose(columns.kind == 9, columns.field, of_access);
-    choose(passing(version, columns.kind, 6, 4), at, of_thread)
+    let of_write = choose(columns.kind % 8 == kind::WRITE, at + 1, columns.thread);
+    let of_access = choose(columns.kind % 8 == kind::READ, at + 2, of_write);
+    let of_thread = choose(columns.kind == kind::JOIN, columns.field, of_access);
+    choose(
+        passing(version, columns.kind, kind::ACQUIRE, kind::VOLATILE_READ),
+        at,
+        of_thread,
+    )
 }
 
 // The row that a record tells besides its thread's own, or its own: a release the monitor's, a fork the thread's, a volatile write the field's, a plain
@@ -54,8 +59,12 @@ pub fn target(version: usize, columns: Columns, at: usize) -> usize
     ensures { λ r. ⌜ r ≡ targetRow (versionOf version) columns at ⌝ }
 {
     let of_access = choose(access(columns.kind), at + 1, columns.thread);
-    let of_thread = choose(columns.kind == 8, columns.field, of_access);
-    choose(passing(version, columns.kind, 7, 5), at, of_thread)
+    let of_thread = choose(columns.kind == kind::FORK, columns.field, of_access);
+    choose(
+        passing(version, columns.kind, kind::RELEASE, kind::VOLATILE_WRITE),
+        at,
+        of_thread,
+    )
 }
 
 // The row of the field's writes, which a plain write tells too; of the other records their thread's own.
@@ -63,5 +72,5 @@ pub fn writes(columns: Columns, at: usize) -> usize
     requires { ⌜ at ≤ 65536 ⌝ }
     ensures { λ r. ⌜ r ≡ writesRow columns at ⌝ }
 {
-    choose(columns.kind % 8 == 3, at + 2, columns.thread)
+    choose(columns.kind % 8 == kind::WRITE, at + 2, columns.thread)
 }

@@ -12,16 +12,16 @@ use Rattle.state.specs.declared.Object.{Object}
 use Rattle.state.specs.declared.Counts.{Counts}
 use Rattle.engine.specs.Machine.{headAt, Placed, metAt, metBy, absent, threadAt, threadsOf}
 
-module _ (n : Counts) (l : List Head) (cs : List Cell) (ts : List Object) where
-  pub met : (p k : ℕ) → Placed (headAt l p .ready) k → metAt n l cs ts p k (k / 32) ≡ metBy n l cs ts p
+module _ (n : Counts) (l : List Head) (cs : List Cell) (ts : List Object) (qs : List ℕ) where
+  pub met : (p k : ℕ) → Placed (headAt l p .ready) k → metAt n l cs ts qs p k (k / 32) ≡ metBy n l cs ts qs p
   unfolding metBy
   met p k q = rw (q .object, q .cell)
 
   module _ (setting : Setting) where
     -- a thread put at its number
     abbrev pub putThread : ℕ → List Thread → List Thread
-    putThread p all = set all p (threadAt setting n l cs ts p)
+    putThread p all = set all p (threadAt setting n l cs ts qs p)
 
-    pub all-threads : turns putThread 8 0 (replicate 8 absent) ≡ threadsOf setting n l cs ts
+    pub all-threads : turns putThread 8 0 (replicate 8 absent) ≡ threadsOf setting n l cs ts qs
     unfolding turns threadsOf
     all-threads = refl

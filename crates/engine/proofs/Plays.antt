@@ -21,6 +21,7 @@ use Rattle.pick.specs.declared.Move.{Move}
 use Rattle.pick.specs.declared.Answer.{Answer}
 use Rattle.pick.specs.declared.Answer.the-variants as answer
 use Rattle.pick.specs.Pick.{Picked}
+use Rattle.queue.specs.Queue.{afterOf}
 use Rattle.engine.specs.Machine.{Machine, Played, headAt, cellNumber, headOf, cellFirst, noThing, endOf, stopped, withYoung, stayed, after, pickedBy, turnBy, onAnswer, startOf, playOf}
 
 -- an answer that neither moves nor stops
@@ -36,6 +37,7 @@ module _ (ws rs : List ℕ) (setting : Setting) where
         heads = replicate 9 h;
         cells = replicate 1024 c;
         objects = replicate 33 t;
+        places = replicate 8 0;
         stack = replicate 891 0;
         tally = s;
         log = l;
@@ -71,23 +73,25 @@ module _ (ws rs : List ℕ) (setting : Setting) where
           → playOf ws rs setting (stayed m (x .stack)) ps (i + 1) ≡ playOf ws rs setting m (p ∷ ps) i
       passed h k = goes answer.Passed (neither (x .answer) h k)
 
-      pub moved : {v : Move} → x .answer ≡ answer.Moved v → (n : ℕ) (hs : List Head) (s s′ : Tally) (l : List ℕ)
+      pub moved : {v : Move} → x .answer ≡ answer.Moved v → (n : ℕ) (hs : List Head) (qs : List ℕ) (s s′ : Tally) (l : List ℕ)
           → n ≡ cellNumber (headAt (m .heads) (p % 8) .ready)
           → hs ≡ withYoung (v .forks) (m .heads) (m .tally .counts .threads % 9) (v .young)
+          → qs ≡ afterOf (m .places) (headAt (m .heads) (p % 8) .ready) (p % 8)
           → s ≡ tallyPut (m .tally) (v .entry) → s′ ≡ tallyMoved s (v .counts) → l ≡ logPut (m .log) (m .tally .records) (p % 8) (v .entry)
           → playOf ws rs setting (record {
             heads = set hs (p % 8) (v .mover);
             cells = set (m .cells) n (v .cell);
             objects = set (m .objects) (m .tally .counts .objects % 33) (v .thing);
+            places = qs;
             stack = x .stack;
             tally = s′;
             log = l;
           }) ps (i + 1) ≡ playOf ws rs setting m (p ∷ ps) i
-      moved {v} e n hs s s′ l qn qh qs qs′ ql = rw (qn, qh, qs′, qs, ql) (goes (answer.Moved v) e)
+      moved {v} e n hs qs s s′ l en eh eq es es′ el = rw (en, eh, eq, es′, es, el) (goes (answer.Moved v) e)
 
       pub stops : {e : Stop} {y : Entry} → x .answer ≡ answer.Stopped e y → (e′ : Stop) (j : ℕ) (s : Tally) (l : List ℕ) → e′ ≡ e → j ≡ i → s ≡ tallyPut (m .tally) y
           → l ≡ logPut (m .log) (m .tally .records) (p % 8) y
-          → record { outcome = endOf e′ j setting s (m .heads) (m .cells) (m .objects); area = l } ≡ playOf ws rs setting m (p ∷ ps) i
+          → record { outcome = endOf e′ j setting s (m .heads) (m .cells) (m .objects) (m .places); area = l } ≡ playOf ws rs setting m (p ∷ ps) i
       stops {e} {y} h e′ j s l qe qj qs ql = rw (qe, qj, qs, ql) (goes (answer.Stopped e y) h)
 
 -- the heads, where a thread was made and where none was
@@ -98,6 +102,6 @@ pub young-none : (forks : Bool) (hs hs′ : List Head) (q : ℕ) (y : Head) → 
 young-none forks hs hs′ q y k h = h ∙ ap (λ (x : Bool). withYoung x hs q y) (sym k)
 
 -- an end by the same numbers is the same end
-pub ends-as : (setting : Setting) (hs : List Head) (cs : List Cell) (ts : List Object) (e e′ : Stop) (i i′ : ℕ) (s s′ : Tally) (l l′ : List ℕ) → e ≡ e′ → i ≡ i′ → s ≡ s′ → l ≡ l′
-    → _≡_ {A = Played} (record { outcome = endOf e i setting s hs cs ts; area = l }) (record { outcome = endOf e′ i′ setting s′ hs cs ts; area = l′ })
-ends-as setting hs cs ts e e′ i i′ s s′ l l′ qe qi qs ql = rw (qe, qi, qs, ql)
+pub ends-as : (setting : Setting) (hs : List Head) (cs : List Cell) (ts : List Object) (qs : List ℕ) (e e′ : Stop) (i i′ : ℕ) (s s′ : Tally) (l l′ : List ℕ) → e ≡ e′ → i ≡ i′ → s ≡ s′ → l ≡ l′
+    → _≡_ {A = Played} (record { outcome = endOf e i setting s hs cs ts qs; area = l }) (record { outcome = endOf e′ i′ setting s′ hs cs ts qs; area = l′ })
+ends-as setting hs cs ts qs e e′ i i′ s s′ l l′ ee ei es el = rw (ee, ei, es, el)

@@ -29,6 +29,7 @@ use Rattle.pick.specs.declared.Move.{Move}
 use Rattle.pick.specs.declared.Answer.{Answer}
 use Rattle.pick.specs.declared.Answer.the-variants as answer
 use Rattle.pick.specs.Pick.{noHead, Picked, picked, pickOf}
+use Rattle.queue.specs.Queue.{afterOf}
 use Rattle.tally.specs.declared.Tally.{Tally}
 use Rattle.tally.specs.Tally.{tallyFirst, tallyPut, tallyMoved, logPut}
 
@@ -43,6 +44,7 @@ pub record Machine : Type 0 where
   pub heads : List Head
   pub cells : List Cell
   pub objects : List Object
+  pub places : List ℕ
   pub stack : Stack
   pub tally : Tally
   pub log : List ℕ
@@ -62,12 +64,20 @@ pub record Placed (r : Ready) (k : ℕ) : Type 0 where
   pub inside : k < 1024
 
 -- with its cell at k, of the object at o
-abbrev pub metAt : Counts → List Head → List Cell → List Object → ℕ → ℕ → ℕ → Met
-metAt n l cs ts p k o =
-    record { counts = n; head = headAt l p; cell = getD cs k noCell; thing = getD ts o noThing; other = getD l (getD ts o noThing .thread % 9) noHead; thread = p }
+abbrev pub metAt : Counts → List Head → List Cell → List Object → List ℕ → ℕ → ℕ → ℕ → Met
+metAt n l cs ts qs p k o =
+    record {
+      counts = n;
+      head = headAt l p;
+      cell = getD cs k noCell;
+      thing = getD ts o noThing;
+      other = getD l (getD ts o noThing .thread % 9) noHead;
+      thread = p;
+      place = getD qs p 0;
+    }
 
-unfoldable pub metBy : Counts → List Head → List Cell → List Object → ℕ → Met
-metBy n l cs ts p = metAt n l cs ts p (cellNumber (headAt l p .ready)) (objectOf (headAt l p .ready))
+unfoldable pub metBy : Counts → List Head → List Cell → List Object → List ℕ → ℕ → Met
+metBy n l cs ts qs p = metAt n l cs ts qs p (cellNumber (headAt l p .ready)) (objectOf (headAt l p .ready))
 
 -- ---- the threads at the end
 
@@ -75,21 +85,21 @@ abbrev pub absent : Thread
 absent = record { state = state.Absent; learnt = 0 }
 
 abbrev pub stateBy : Setting → Met → ThreadState
-stateBy g x = stateOf (lookOf g (x .head) (x .cell) (x .thing) (x .other .ready .part)) (x .head .ready)
+stateBy g x = stateOf (lookOf g (x .head) (x .cell) (x .thing) (x .other .ready .part) (x .place)) (x .head .ready)
 
 unfoldable pub threadBy : Setting → Met → Thread
 threadBy g x = cond (leb (x .counts .threads) (x .thread)) absent (record { state = stateBy g x; learnt = x .head .learnt % 256 })
 
-abbrev pub threadAt : Setting → Counts → List Head → List Cell → List Object → ℕ → Thread
-threadAt g n l cs ts p = threadBy g (metBy n l cs ts p)
+abbrev pub threadAt : Setting → Counts → List Head → List Cell → List Object → List ℕ → ℕ → Thread
+threadAt g n l cs ts qs p = threadBy g (metBy n l cs ts qs p)
 
-unfoldable pub threadsOf : Setting → Counts → List Head → List Cell → List Object → List Thread
-threadsOf g n l cs ts =
-    threadAt g n l cs ts 0 ∷ threadAt g n l cs ts 1 ∷ threadAt g n l cs ts 2 ∷ threadAt g n l cs ts 3
-    ∷ threadAt g n l cs ts 4 ∷ threadAt g n l cs ts 5 ∷ threadAt g n l cs ts 6 ∷ threadAt g n l cs ts 7 ∷ []
+unfoldable pub threadsOf : Setting → Counts → List Head → List Cell → List Object → List ℕ → List Thread
+threadsOf g n l cs ts qs =
+    threadAt g n l cs ts qs 0 ∷ threadAt g n l cs ts qs 1 ∷ threadAt g n l cs ts qs 2 ∷ threadAt g n l cs ts qs 3
+    ∷ threadAt g n l cs ts qs 4 ∷ threadAt g n l cs ts qs 5 ∷ threadAt g n l cs ts qs 6 ∷ threadAt g n l cs ts qs 7 ∷ []
 
-abbrev pub endOf : Stop → ℕ → Setting → Tally → List Head → List Cell → List Object → Outcome
-endOf e i g s l cs ts = record { stop = e; picks = i; moves = s .moves; records = s .records; threads = threadsOf g (s .counts) l cs ts }
+abbrev pub endOf : Stop → ℕ → Setting → Tally → List Head → List Cell → List Object → List ℕ → Outcome
+endOf e i g s l cs ts qs = record { stop = e; picks = i; moves = s .moves; records = s .records; threads = threadsOf g (s .counts) l cs ts qs }
 
 -- ---- the run
 
@@ -101,7 +111,7 @@ pub record Played : Type 0 where
 abbrev pub stopped : Setting → Machine → ℕ → Entry → Stop → ℕ → Played
 stopped g m p x e i =
     record {
-      outcome = endOf e i g (tallyPut (m .tally) x) (m .heads) (m .cells) (m .objects);
+      outcome = endOf e i g (tallyPut (m .tally) x) (m .heads) (m .cells) (m .objects) (m .places);
       area = logPut (m .log) (m .tally .records) p x;
     }
 
@@ -111,7 +121,7 @@ withYoung forks l q y = cond forks (set l q y) l
 
 -- the machine after a pick that was passed over, and after one that moved
 abbrev pub stayed : Machine → Stack → Machine
-stayed m k = record { heads = m .heads; cells = m .cells; objects = m .objects; stack = k; tally = m .tally; log = m .log }
+stayed m k = record { heads = m .heads; cells = m .cells; objects = m .objects; places = m .places; stack = k; tally = m .tally; log = m .log }
 
 abbrev pub after : Machine → ℕ → Move → Stack → Machine
 after m p v k =
@@ -119,6 +129,7 @@ after m p v k =
       heads = set (withYoung (v .forks) (m .heads) (m .tally .counts .threads % 9) (v .young)) p (v .mover);
       cells = set (m .cells) (cellNumber (headAt (m .heads) p .ready)) (v .cell);
       objects = set (m .objects) (m .tally .counts .objects % 33) (v .thing);
+      places = afterOf (m .places) (headAt (m .heads) p .ready) p;
       stack = k;
       tally = tallyMoved (tallyPut (m .tally) (v .entry)) (v .counts);
       log = logPut (m .log) (m .tally .records) p (v .entry);
@@ -126,7 +137,7 @@ after m p v k =
 
 -- the pick of thread p; an absent thread's is passed over
 abbrev pub pickedBy : List ℕ → List ℕ → Setting → Machine → ℕ → Picked
-pickedBy ws rs g m p = pickOf ws rs g (metBy (m .tally .counts) (m .heads) (m .cells) (m .objects) p) (m .stack)
+pickedBy ws rs g m p = pickOf ws rs g (metBy (m .tally .counts) (m .heads) (m .cells) (m .objects) (m .places) p) (m .stack)
 
 unfoldable pub turnBy : List ℕ → List ℕ → Setting → Machine → ℕ → Picked
 turnBy ws rs g m p = cond (leb (m .tally .counts .threads) p) (picked (m .stack) answer.Passed) (pickedBy ws rs g m p)
@@ -137,7 +148,7 @@ onAnswer (answer.Moved v) pass move halt = move v
 onAnswer (answer.Stopped e x) pass move halt = halt e x
 
 unfoldable pub playOf : List ℕ → List ℕ → Setting → Machine → List ℕ → ℕ → Played
-playOf ws rs g m [] i = record { outcome = endOf stop.End i g (m .tally) (m .heads) (m .cells) (m .objects); area = m .log }
+playOf ws rs g m [] i = record { outcome = endOf stop.End i g (m .tally) (m .heads) (m .cells) (m .objects) (m .places); area = m .log }
 playOf ws rs g m (p ∷ ps) i =
     onAnswer (turnBy ws rs g m (p % 8) .answer)
     (playOf ws rs g (stayed m (turnBy ws rs g m (p % 8) .stack)) ps (i + 1))
@@ -158,6 +169,7 @@ startOf rs l =
       heads = replicate 9 (headOf (getD rs 0 0));
       cells = replicate 1024 cellFirst;
       objects = replicate 33 noThing;
+      places = replicate 8 0;
       stack = replicate 891 0;
       tally = tallyFirst;
       log = l;

@@ -1,5 +1,6 @@
 // The run of a schedule over a loaded plan. `run` owns flat arrays of small structs, 32 cells to an object, the monitor at field 0; the frames lie in
-// an array of numbers that only landing touches. What is made is stored past the present ones, and counts once it is counted.
+// an array of numbers that only landing touches, the places of threads in queues in one that only a signal changes. What is made is stored past the
+// present ones, and counts once it is counted.
 ghost use mathlib.Core.Path.{_≡_};
 ghost use Prim.Native.Nat.{_<_, _≤_, _+_, _*_};
 ghost use lib.ListN.{length};
@@ -83,7 +84,7 @@ fn thread_of(setting: Setting, met: Met) -> Thread
     let other = met.other;
     let ready = head.ready;
     let joined = other.ready;
-    let sight = look::look(setting, head, cell, thing, joined.part);
+    let sight = look::look(setting, head, cell, thing, joined.part, met.place);
     let state = look::state_of(sight, ready);
     let learnt = (head.learnt % 256) as u8;
     Thread {
@@ -108,6 +109,7 @@ pub fn run(
     let mut heads = [first_head(roots[0]); 9];
     let mut cells = [first_cell(); 1024];
     let mut objects = [first_object(); 33];
+    let mut places = [0usize; 8];
     let mut stack = [0usize; 891];
     let mut tally = tally::first();
     let mut stop = Stop::End;
@@ -130,6 +132,7 @@ pub fn run(
             thing: thing,
             other: other,
             thread: thread,
+            place: places[thread],
         };
         let answer = pick::pick(words, roots, &mut stack, setting, met);
         let Answer::Moved(left) = answer else {
@@ -145,6 +148,8 @@ pub fn run(
             dealt = i;
             break;
         };
+        let ready = head.ready;
+        queue::after(&mut places, ready, thread);
         let entry = left.entry;
         tally = tally::put(&mut *log, tally, thread, entry);
         if left.forks {
@@ -175,6 +180,7 @@ pub fn run(
             thing: thing,
             other: other,
             thread: thread,
+            place: places[thread],
         };
         threads[thread] = thread_of(setting, met);
     }

@@ -24,11 +24,12 @@ codeOf kind.And = 11
 codeOf kind.Not = 12
 codeOf kind.Test = 13
 codeOf kind.Body = 14
+codeOf kind.Signal = 15
 
 abbrev pub kinds : List Kind
 kinds =
     kind.Read ∷ kind.Write1 ∷ kind.Write2 ∷ kind.Call ∷ kind.Let ∷ kind.Synch ∷ kind.Hold ∷ kind.Join ∷ kind.Equal1 ∷ kind.Equal2
-    ∷ kind.If ∷ kind.And ∷ kind.Not ∷ kind.Test ∷ kind.Body ∷ []
+    ∷ kind.If ∷ kind.And ∷ kind.Not ∷ kind.Test ∷ kind.Body ∷ kind.Signal ∷ []
 
 unfoldable pub kindOf : ℕ → Kind
 kindOf n = getD kinds n kind.Read

@@ -79,6 +79,7 @@ feedBy kind.And f v = goAt noRule
 feedBy kind.Not f v = goAt noRule
 feedBy kind.Test f v = goAt noRule
 feedBy kind.Body f v = goAt (readyOf part.Again (f .first) (f .second) 0 (f .environment))
+feedBy kind.Signal f v = goAt (readyOf part.Signal v (f .member) 0 0)
 
 unfoldable pub feedOf : Frame → ℕ → Go
 feedOf f v = feedBy (f .kind) f v
@@ -99,6 +100,7 @@ feedIfBy kind.And f b = goAt noRule
 feedIfBy kind.Not f b = goAt noRule
 feedIfBy kind.Test f b = cond (eqb b 1) (goAt (readyOf part.Body (f .first) (f .second) 0 (f .environment))) (goAt (readyOf part.Val 0 0 0 0))
 feedIfBy kind.Body f b = goAt noRule
+feedIfBy kind.Signal f b = goAt noRule
 
 unfoldable pub feedIfOf : Frame → ℕ → Go
 feedIfOf f b = feedIfBy (f .kind) f b
@@ -119,6 +121,7 @@ feedConditionBy kind.And f b = cond (eqb b 1) (goAt (readyOf part.RunCondition (
 feedConditionBy kind.Not f b = cond (eqb b 1) (goTruth 0) (goAt (readyOf part.Truth 1 0 0 0))
 feedConditionBy kind.Test f b = feedIfOf f b
 feedConditionBy kind.Body f b = feedIfOf f b
+feedConditionBy kind.Signal f b = feedIfOf f b
 
 unfoldable pub feedConditionOf : Frame → ℕ → Go
 feedConditionOf f b = feedConditionBy (f .kind) f b

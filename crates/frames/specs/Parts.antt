@@ -4,7 +4,7 @@ use mathlib.Core.Bool.{Bool}
 use lib.Dec.{eqb}
 
 pub data Part : Type 0 where
-  Done NoRule Run RunCondition Val Truth While Body Again New Read Write Fork Join Synch Hold : Part
+  Done NoRule Run RunCondition Val Truth While Body Again New Read Write Fork Join Synch Hold Signal Waiting : Part
 
 abbrev pub numberOf : Part → ℕ
 numberOf Part.Done = 0
@@ -23,6 +23,8 @@ numberOf Part.Fork = 12
 numberOf Part.Join = 13
 numberOf Part.Synch = 14
 numberOf Part.Hold = 15
+numberOf Part.Signal = 16
+numberOf Part.Waiting = 17
 
 -- whether a number is a part's
 abbrev pub isPart : Part → ℕ → Bool

@@ -20,6 +20,7 @@ pub enum Kind {
     Not,
     Test,
     Body,
+    Signal,
 }
 
 // A construct: terms `first` and `second`, a field or a procedure `member`, a slot or a count `count`, the slots `environment`, and a value or the
@@ -36,6 +37,7 @@ pub enum Kind {
 //   If                  first and second: the two branches
 //   Test, Body          first and second: the condition and the body of a loop
 //   Join, Not           nothing
+//   Signal              member: which signal, 0 wait, 1 notify, 2 notify all
 pub struct Frame {
     pub first: usize,
     pub second: usize,
@@ -54,7 +56,7 @@ pub struct Packed {
 }
 
 fn code(kind: Kind) -> usize
-    ensures { λ r. ⌜ (r ≡ codeOf kind) × (r < 15) ⌝ }
+    ensures { λ r. ⌜ (r ≡ codeOf kind) × (r < 16) ⌝ }
 {
     match kind {
         Kind::Read => 0,
@@ -72,6 +74,7 @@ fn code(kind: Kind) -> usize
         Kind::Not => 12,
         Kind::Test => 13,
         Kind::Body => 14,
+        Kind::Signal => 15,
     }
 }
 
@@ -94,6 +97,7 @@ fn kind_of(code: usize) -> Kind
         12 => Kind::Not,
         13 => Kind::Test,
         14 => Kind::Body,
+        15 => Kind::Signal,
         _ => Kind::Read,
     }
 }

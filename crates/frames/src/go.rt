@@ -16,6 +16,8 @@ use term_words::slots;
 //   JOIN                        first: the object
 //   SYNCH                       first: the object; second: the body
 //   HOLD                        first: the object; second: the value
+//   SIGNAL                      first: the object; second: which signal, 0 wait, 1 notify, 2 notify all
+//   WAITING                     first: the object
 //   NO_RULE                     nothing
 pub struct Ready {
     pub part: usize,
@@ -192,6 +194,7 @@ pub fn feed(frame: Frame, value: usize) -> Go
         Kind::Equal1 => want(frame::second_frame(Kind::Equal2, frame, value), frame.first),
         Kind::Equal2 => at(ready_of(part::TRUTH, same(frame.arguments, value), 0, 0, 0)),
         Kind::Body => at(ready_of(part::AGAIN, frame.first, frame.second, 0, frame.environment)),
+        Kind::Signal => at(ready_of(part::SIGNAL, value, frame.member, 0, 0)),
         Kind::If => at(ready_of(part::NO_RULE, 0, 0, 0, 0)),
         Kind::And => at(ready_of(part::NO_RULE, 0, 0, 0, 0)),
         Kind::Not => at(ready_of(part::NO_RULE, 0, 0, 0, 0)),

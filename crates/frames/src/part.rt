@@ -31,3 +31,7 @@ pub const JOIN: usize = 13;
 pub const SYNCH: usize = 14;
 
 pub const HOLD: usize = 15;
+
+pub const SIGNAL: usize = 16;
+
+pub const WAITING: usize = 17;

@@ -49,14 +49,26 @@ unfoldable pub listOf : List ℕ → List ℕ → Frame → Go
 unfolding listBy
 listOf ws rs f = listBy rs (wordAt ws (f .first)) f
 
--- an expression whose operands need no look, by its tag k
+-- wait, notify and notify all, by their tag k
+unfoldable pub signalBy : ℕ → ℕ → ℕ → Go
+signalBy k w environment =
+    cond (eqb k 18) (goWant (framed kind.Signal 0 0 0 environment) (firstOf w))
+    (cond (eqb k 19) (goWant (framed kind.Signal 0 0 1 environment) (firstOf w))
+    (cond (eqb k 20) (goWant (framed kind.Signal 0 0 2 environment) (firstOf w)) (goAt noRule)))
+
+unfoldable pub signalOf : ℕ → ℕ → Go
+unfolding signalBy
+signalOf w environment = signalBy (tagOf w) w environment
+
+-- an expression whose operands need no look, by its tag k, or a signal
 unfoldable pub simpleBy : ℕ → ℕ → ℕ → Go
+unfolding signalOf
 simpleBy k w environment =
     cond (eqb k 2) (goAt (readyOf part.New (maskBits w) 0 0 0))
     (cond (eqb k 7) (goAt (readyOf part.While (firstOf w) (secondOf w) 0 environment))
     (cond (eqb k 9) (goAt (readyOf part.Fork (firstOf w) 0 0 environment))
     (cond (eqb k 0) (goValue 0)
-    (cond (eqb k 1) (goValue (slotOf environment (slotBits w))) (goAt noRule)))))
+    (cond (eqb k 1) (goValue (slotOf environment (slotBits w))) (signalOf w environment)))))
 
 unfoldable pub simpleOf : ℕ → ℕ → Go
 unfolding simpleBy

@@ -1,6 +1,6 @@
 // One step of landing: the way down (an operand, a call's list, a term), or up with a value.
 ghost use mathlib.Core.Path.{_≡_};
-ghost use Rattle.landing_step.specs.Down.{stayOf, pushOf, wantOf, wantConditionOf, rootAt, listOf, simpleOf, runOf, runConditionOf, openedOf, listedOf, wantedOf, backOf, backConditionOf, stepOf};
+ghost use Rattle.landing_step.specs.Down.{stayOf, pushOf, wantOf, wantConditionOf, rootAt, listOf, signalOf, simpleOf, runOf, runConditionOf, openedOf, listedOf, wantedOf, backOf, backConditionOf, stepOf};
 use frames::frame;
 use frames::frame::Frame;
 use frames::frame::Kind;
@@ -8,6 +8,7 @@ use frames::go;
 use frames::go::Go;
 use frames::go::Stage;
 use frames::part;
+use operands::tags;
 use term_words::slots;
 use term_words::words;
 
@@ -81,7 +82,7 @@ fn list(words: &[usize; 1024], roots: &[usize; 32], frame: Frame) -> Go
     ensures { λ r. ⌜ r ≡ listOf (now (words .entry)) (now (roots .entry)) frame ⌝ }
 {
     let word = words::word(words, frame.first);
-    if operands::tag(word) == 16 {
+    if operands::tag(word) == tags::LIST {
         return go::want(
             frame::rest(frame, operands::second(word)),
             operands::first(word),
@@ -91,24 +92,38 @@ fn list(words: &[usize; 1024], roots: &[usize; 32], frame: Frame) -> Go
     go::at(go::ready_of(part::RUN, term, 0, 0, frame.arguments))
 }
 
-// Down from an expression whose operands need no look: a value, `new`, `while`, `fork`.
+// Down from a wait, a notify or a notify all.
+fn signal(word: usize, environment: usize) -> Go
+    ensures { λ r. ⌜ r ≡ signalOf word environment ⌝ }
+{
+    let tag = operands::tag(word);
+    let first = operands::first(word);
+    match tag {
+        tags::WAIT => go::want(frame::frame_of(Kind::Signal, 0, 0, 0, environment), first),
+        tags::NOTIFY => go::want(frame::frame_of(Kind::Signal, 0, 0, 1, environment), first),
+        tags::NOTIFY_ALL => go::want(frame::frame_of(Kind::Signal, 0, 0, 2, environment), first),
+        _ => go::at(go::ready_of(part::NO_RULE, 0, 0, 0, 0)),
+    }
+}
+
+// Down from an expression whose operands need no look: a value, `new`, `while`, `fork`; or from a signal.
 fn simple(word: usize, environment: usize) -> Go
     ensures { λ r. ⌜ r ≡ simpleOf word environment ⌝ }
 {
     let tag = operands::tag(word);
     match tag {
-        2 => go::at(go::ready_of(part::NEW, operands::mask_of(word), 0, 0, 0)),
-        7 => go::at(go::ready_of(
+        tags::NEW => go::at(go::ready_of(part::NEW, operands::mask_of(word), 0, 0, 0)),
+        tags::WHILE => go::at(go::ready_of(
             part::WHILE,
             operands::first(word),
             operands::second(word),
             0,
             environment,
         )),
-        9 => go::at(go::ready_of(part::FORK, operands::first(word), 0, 0, environment)),
-        0 => go::value(0),
-        1 => go::value(slots::slot(environment, operands::slot_of(word))),
-        _ => go::at(go::ready_of(part::NO_RULE, 0, 0, 0, 0)),
+        tags::FORK => go::at(go::ready_of(part::FORK, operands::first(word), 0, 0, environment)),
+        tags::NULL => go::value(0),
+        tags::VARIABLE => go::value(slots::slot(environment, operands::slot_of(word))),
+        _ => signal(word, environment),
     }
 }
 
@@ -121,13 +136,13 @@ fn run(word: usize, environment: usize) -> Go
     let second = operands::second(word);
     let field = operands::field_of(word);
     match tag {
-        3 => go::want(frame::frame_of(Kind::Read, 0, 0, field, environment), first),
-        4 => {
+        tags::READ => go::want(frame::frame_of(Kind::Read, 0, 0, field, environment), first),
+        tags::WRITE => {
             let value = operands::write_second(word);
             let frame = frame::frame_of(Kind::Write1, value, 0, field, environment);
             go::want(frame, first)
         }
-        5 => go::want(
+        tags::LET => go::want(
             frame::let_frame(
                 operands::slot_of(word),
                 operands::let_second(word),
@@ -135,19 +150,19 @@ fn run(word: usize, environment: usize) -> Go
             ),
             operands::let_first(word),
         ),
-        6 => go::want_condition(
+        tags::IF => go::want_condition(
             frame::frame_of(Kind::If, second, operands::third(word), 0, environment),
             first,
         ),
-        8 => go::list(frame::frame_of(
+        tags::CALL => go::list(frame::frame_of(
             Kind::Call,
             operands::list_of(word),
             0,
             operands::procedure_of(word),
             environment,
         )),
-        10 => go::want(frame::frame_of(Kind::Join, 0, 0, 0, environment), first),
-        11 => go::want(
+        tags::JOIN => go::want(frame::frame_of(Kind::Join, 0, 0, 0, environment), first),
+        tags::SYNCH => go::want(
             frame::frame_of(Kind::Synch, second, 0, 0, environment),
             first,
         ),
@@ -163,10 +178,13 @@ fn run_condition(word: usize, environment: usize) -> Go
     let first = operands::first(word);
     let second = operands::second(word);
     match tag {
-        12 => go::truth(1),
-        13 => go::want_condition(frame::frame_of(Kind::Not, 0, 0, 0, environment), first),
-        14 => go::want_condition(frame::frame_of(Kind::And, second, 0, 0, environment), first),
-        15 => go::want(
+        tags::TRUE => go::truth(1),
+        tags::NOT => go::want_condition(frame::frame_of(Kind::Not, 0, 0, 0, environment), first),
+        tags::AND => go::want_condition(
+            frame::frame_of(Kind::And, second, 0, 0, environment),
+            first,
+        ),
+        tags::EQUAL => go::want(
             frame::frame_of(Kind::Equal1, second, 0, 0, environment),
             first,
         ),

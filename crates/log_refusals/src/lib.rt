@@ -10,6 +10,7 @@ ghost use Rattle.records.specs.Refusals.{wrongLogLength, wrongColumns, wrongRec
 ghost use Rattle.decoding.specs.Columns.{Narrow};
 ghost use Rattle.log_refusals.specs.Limits.{leastField, fieldEnd, valueEnd};
 use decoding::Columns;
+use records::kind;
 
 // Refusal 11: the length is no multiple of 3, or over 12,288.
 pub fn wrong_length(log: &[u8]) -> bool
@@ -57,7 +58,7 @@ fn wrong_record<'a>(
 {
     let columns = decoding::columns_at(log, index);
     let last = index + 1 == log.len() / 3;
-    let lacks_early = (10 <= columns.kind) & !last;
+    let lacks_early = (kind::LACKS_READ <= columns.kind) & !last;
     let wrong = wrong_columns(columns, least, fields, values);
     wrong | lacks_early | (columns.spare != 0)
 }

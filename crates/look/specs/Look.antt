@@ -22,7 +22,10 @@ use Rattle.look.specs.declared.Sight.the-variants as sight
 unfoldable pub objectBy : ℕ → ℕ → ℕ
 objectBy p a =
     cond (isPart part.Read p) (a % 32)
-    (cond (isPart part.Write p) (a % 32) (cond (isPart part.Join p) (a % 32) (cond (isPart part.Synch p) (a % 32) (cond (isPart part.Hold p) (a % 32) 0))))
+    (cond (isPart part.Write p) (a % 32)
+    (cond (isPart part.Join p) (a % 32)
+    (cond (isPart part.Synch p) (a % 32)
+    (cond (isPart part.Hold p) (a % 32) (cond (isPart part.Signal p) (a % 32) (cond (isPart part.Waiting p) (a % 32) 0))))))
 
 abbrev pub objectOf : Ready → ℕ
 objectOf r = objectBy (r .part) (r .first)
@@ -47,26 +50,38 @@ lookJoin t q = cond (leb 8 (t .thread)) (sight.Blocked block.Thread) (cond (isPa
 unfoldable pub lookSynch : Head → Cell → Sight
 lookSynch h c = cond (isEmptyOf (c .keys)) (cond (eqb (c .value) (h .object)) sight.Ready (sight.Blocked block.Monitor)) sight.Ready
 
+-- a signal needs the monitor held by the mover
+unfoldable pub lookSignal : Head → Cell → Sight
+lookSignal h c = cond (isEmptyOf (c .keys)) (cond (eqb (c .value) (h .object)) sight.Ready (sight.Blocked block.NotHeld)) (sight.Blocked block.NotHeld)
+
+-- a thread that waits in the place w, number * 32 + object, needs to be notified, and the monitor free
+unfoldable pub lookWaiting : Cell → ℕ → Sight
+lookWaiting c w = cond (eqb (w / 32) 0) (cond (isEmptyOf (c .keys)) (sight.Blocked block.Monitor) sight.Ready) (sight.Blocked block.Notify)
+
 unfoldable pub aboutField : ℕ → Bool
 aboutField p = cond (isPart part.Read p) true (isPart part.Write p)
 
--- what the pick of a thread with part p meets
-unfoldable pub lookBy : ℕ → Setting → Head → Cell → Object → ℕ → Sight
-lookBy p g h c t q =
+-- what the pick of a thread with part p meets, in the place w of a queue
+unfoldable pub lookBy : ℕ → Setting → Head → Cell → Object → ℕ → ℕ → Sight
+lookBy p g h c t q w =
     cond (aboutField p) (lookField g h c t (h .ready .second))
     (cond (isPart part.Done p) (sight.Blocked block.Finished)
-    (cond (isPart part.NoRule p) (sight.Blocked block.NoRule) (cond (isPart part.Join p) (lookJoin t q) (cond (isPart part.Synch p) (lookSynch h c) sight.Ready))))
+    (cond (isPart part.NoRule p) (sight.Blocked block.NoRule)
+    (cond (isPart part.Join p) (lookJoin t q)
+    (cond (isPart part.Synch p) (lookSynch h c) (cond (isPart part.Signal p) (lookSignal h c) (cond (isPart part.Waiting p) (lookWaiting c w) sight.Ready))))))
 
-abbrev pub lookOf : Setting → Head → Cell → Object → ℕ → Sight
-lookOf g h c t q = lookBy (h .ready .part) g h c t q
+abbrev pub lookOf : Setting → Head → Cell → Object → ℕ → ℕ → Sight
+lookOf g h c t q w = lookBy (h .ready .part) g h c t q w
 
 -- the state of a thread whose next pick meets this
 abbrev pub blockedOf : Block → Ready → ThreadState
 blockedOf block.Finished r = state.Finished (r .first)
 blockedOf block.Monitor r = state.Waiting (wait.Monitor (objectOf r))
 blockedOf block.Join r = state.Waiting (wait.Join (objectOf r))
+blockedOf block.Notify r = state.Waiting (wait.Notify (objectOf r))
 blockedOf block.Field r = state.Stuck (stuck.Field (objectOf r) (fieldOf r))
 blockedOf block.Thread r = state.Stuck (stuck.Thread (objectOf r))
+blockedOf block.NotHeld r = state.Stuck (stuck.Monitor (objectOf r))
 blockedOf block.NoRule r = state.Stuck stuck.NoRule
 
 abbrev pub stateOf : Sight → Ready → ThreadState

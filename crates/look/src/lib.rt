@@ -1,7 +1,7 @@
 // Look: what a thread's next pick meets, apart from room, and the state that an outcome gives it.
 ghost use mathlib.Core.Path.{_≡_};
 ghost use Prim.Native.Nat.{_<_};
-ghost use Rattle.look.specs.Look.{objectOf, fieldOf, hasOf, lookField, lookJoin, lookSynch, aboutField, lookOf, blockedOf, stateOf};
+ghost use Rattle.look.specs.Look.{objectOf, fieldOf, hasOf, lookField, lookJoin, lookSynch, lookSignal, lookWaiting, aboutField, lookOf, blockedOf, stateOf};
 use frames::go::Ready;
 use frames::part;
 use run_outcome::Stuck;
@@ -12,13 +12,16 @@ use state::Head;
 use state::Object;
 use state::Setting;
 
-// Why a present thread's pick is passed over: it has finished; waits for a monitor or for a join; is stuck for a field, for a thread or for a rule.
+// Why a present thread's pick is passed over: it has finished; waits for a monitor, for a join or to be notified; is stuck for a field, for a thread, for a monitor
+// that it does not hold or for a rule.
 pub enum Block {
     Finished,
     Monitor,
     Join,
+    Notify,
     Field,
     Thread,
+    NotHeld,
     NoRule,
 }
 
@@ -41,6 +44,8 @@ pub fn object_of(ready: Ready) -> usize
         part::JOIN => ready.first % 32,
         part::SYNCH => ready.first % 32,
         part::HOLD => ready.first % 32,
+        part::SIGNAL => ready.first % 32,
+        part::WAITING => ready.first % 32,
         _ => 0,
     }
 }
@@ -107,6 +112,33 @@ fn look_synch(head: Head, cell: Cell) -> Sight
     Sight::Ready
 }
 
+// A wait, a notify and a notify all need the monitor held by the mover.
+fn look_signal(head: Head, cell: Cell) -> Sight
+    ensures { λ r. ⌜ r ≡ lookSignal head cell ⌝ }
+{
+    let keys = cell.keys;
+    if keys.is_empty() {
+        if cell.value as usize == head.object {
+            return Sight::Ready;
+        }
+    }
+    Sight::Blocked(Block::NotHeld)
+}
+
+// A thread that waits in its place, number * 32 + object, needs to be notified, and then the monitor free.
+fn look_waiting(cell: Cell, place: usize) -> Sight
+    ensures { λ r. ⌜ r ≡ lookWaiting cell place ⌝ }
+{
+    if place / 32 != 0 {
+        return Sight::Blocked(Block::Notify);
+    }
+    let keys = cell.keys;
+    if keys.is_empty() {
+        return Sight::Blocked(Block::Monitor);
+    }
+    Sight::Ready
+}
+
 // Whether the part reads or writes a field.
 fn about_field(part: usize) -> bool
     ensures { λ r. ⌜ r ≡ aboutField part ⌝ }
@@ -117,10 +149,17 @@ fn about_field(part: usize) -> bool
     part == part::WRITE
 }
 
-// What a present thread's next pick meets, by its head, the cell and the object that its part is about, and the part of the thread that the object
-// stands for.
-pub fn look(setting: Setting, head: Head, cell: Cell, thing: Object, other: usize) -> Sight
-    ensures { λ r. ⌜ r ≡ lookOf setting head cell thing other ⌝ }
+// What a present thread's next pick meets, by its head, the cell and the object that its part is about, the part of the thread that the object
+// stands for, and its place in a queue.
+pub fn look(
+    setting: Setting,
+    head: Head,
+    cell: Cell,
+    thing: Object,
+    other: usize,
+    place: usize,
+) -> Sight
+    ensures { λ r. ⌜ r ≡ lookOf setting head cell thing other place ⌝ }
 {
     let ready = head.ready;
     let part = ready.part;
@@ -132,6 +171,8 @@ pub fn look(setting: Setting, head: Head, cell: Cell, thing: Object, other: usiz
         part::NO_RULE => Sight::Blocked(Block::NoRule),
         part::JOIN => look_join(thing, other),
         part::SYNCH => look_synch(head, cell),
+        part::SIGNAL => look_signal(head, cell),
+        part::WAITING => look_waiting(cell, place),
         _ => Sight::Ready,
     }
 }
@@ -145,11 +186,13 @@ fn blocked(block: Block, ready: Ready) -> ThreadState
         Block::Finished => ThreadState::Finished { value: ready.first },
         Block::Monitor => ThreadState::Waiting(Wait::Monitor { object: object }),
         Block::Join => ThreadState::Waiting(Wait::Join { object: object }),
+        Block::Notify => ThreadState::Waiting(Wait::Notify { object: object }),
         Block::Field => ThreadState::Stuck(Stuck::Field {
             object: object,
             field: field,
         }),
         Block::Thread => ThreadState::Stuck(Stuck::Thread { object: object }),
+        Block::NotHeld => ThreadState::Stuck(Stuck::Monitor { object: object }),
         Block::NoRule => ThreadState::Stuck(Stuck::NoRule),
     }
 }

@@ -1,10 +1,12 @@
--- What a synch does at its start and at its end, by value. The machine that the code runs; no reader of the entries' promises needs it. Assumes nothing.
+-- What a synch does at its start and at its end, what a signal does, and what a thread does that wakes, by value. The machine that the code runs; no reader of the entries' promises needs it. Assumes nothing.
 use Prim.Native.Nat.{ℕ}
 use mathlib.Core.Bool.{cond}
+use lib.Dec.{eqb}
 use Rattle.keys.specs.KeySet.{emptySet, joinedOf, isEmptyOf}
 use Rattle.frames.specs.declared.frame.Kind.the-variants as kind
 use Rattle.frames.specs.declared.frame.Frame.{Frame}
-use Rattle.frames.specs.Going.{goRun, goWant, goValue}
+use Rattle.frames.specs.Parts.{Part as part}
+use Rattle.frames.specs.Going.{readyOf, goAt, goRun, goWant, goValue}
 use Rattle.state.specs.declared.Head.{Head}
 use Rattle.state.specs.declared.Cell.{Cell}
 use Rattle.state.specs.declared.Counts.{Counts}
@@ -23,3 +25,15 @@ actSynch n h c o t environment =
 
 abbrev pub actHold : Counts → Head → ℕ → ℕ → Act
 actHold n h o v = actedOf (goValue v) n (h .keys) (cellOf 0 0 (h .keys)) (entryOf (kindNumber Kind.release) o 0 0)
+
+-- a wait gives up the monitor with the thread's keys, and goes on in the queue
+abbrev pub actWait : Counts → Head → ℕ → Act
+actWait n h o = actedOf (goAt (readyOf part.Waiting o 0 0 0)) n (h .keys) (cellOf 0 0 (h .keys)) (entryOf (kindNumber Kind.release) o 0 0)
+
+-- signal k: 0 wait, 1 notify, 2 notify all, which change the queue alone
+unfoldable pub actSignal : Counts → Head → Cell → ℕ → ℕ → Act
+actSignal n h c o k = cond (eqb k 0) (actWait n h o) (goOn (goValue 0) n h c)
+
+-- a thread that was notified takes the monitor again
+abbrev pub actWake : Counts → Head → Cell → ℕ → Act
+actWake n h c o = heardOf (goValue 0) n (joinedOf (h .keys) (c .keys)) (cellOf (h .object) 0 emptySet) (entryOf (kindNumber Kind.acquire) o 0 0)

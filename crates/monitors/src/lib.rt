@@ -1,9 +1,10 @@
-// What a synch does at its start and at its end, by value.
+// What a synch does at its start and at its end, what a signal does, and what a thread does that wakes, by value.
 ghost use mathlib.Core.Path.{_≡_};
-ghost use Rattle.monitors.specs.Monitors.{actSynch, actHold};
+ghost use Rattle.monitors.specs.Monitors.{actSynch, actHold, actWait, actSignal, actWake};
 use frames::frame::Frame;
 use frames::frame::Kind;
 use frames::go;
+use frames::part;
 use keys::KeySet;
 use records::kind;
 use state::Cell;
@@ -56,4 +57,39 @@ pub fn act_hold(counts: Counts, head: Head, object: usize, value: usize) -> Act
     let go = go::value(value);
     let entry = entry(kind::RELEASE, object, 0, 0);
     acted_of(go, counts, keys, changed, entry)
+}
+
+// A wait gives up the monitor with the thread's keys, and goes on in the queue.
+fn act_wait(counts: Counts, head: Head, object: usize) -> Act
+    ensures { λ r. ⌜ r ≡ actWait counts head object ⌝ }
+{
+    let keys = head.keys;
+    let changed = cell_with(0, 0, keys);
+    let go = go::at(go::ready_of(part::WAITING, object, 0, 0, 0));
+    let entry = entry(kind::RELEASE, object, 0, 0);
+    acted_of(go, counts, keys, changed, entry)
+}
+
+// A wait; a notify or a notify all, which change the queue alone.
+pub fn act_signal(counts: Counts, head: Head, cell: Cell, object: usize, signal: usize) -> Act
+    ensures { λ r. ⌜ r ≡ actSignal counts head cell object signal ⌝ }
+{
+    if signal == 0 {
+        return act_wait(counts, head, object);
+    }
+    go_on(go::value(0), counts, head, cell)
+}
+
+// A thread that was notified takes the monitor again.
+pub fn act_wake(counts: Counts, head: Head, cell: Cell, object: usize) -> Act
+    ensures { λ r. ⌜ r ≡ actWake counts head cell object ⌝ }
+{
+    let keys = head.keys;
+    let cell_keys = cell.keys;
+    let joined = keys.join(cell_keys);
+    let none = KeySet::new();
+    let changed = cell_with(head.object, 0, none);
+    let go = go::value(0);
+    let entry = entry(kind::ACQUIRE, object, 0, 0);
+    heard(go, counts, joined, changed, entry)
 }

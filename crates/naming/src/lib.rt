@@ -5,6 +5,7 @@ use crate::sorts::CONDITION;
 use crate::sorts::EXPRESSION;
 use crate::sorts::LIST;
 use header::layout;
+use operands::tags;
 ghost use mathlib.Core.Path.{_≡_};
 ghost use mathlib.Core.List.{[], _∷_};
 ghost use Prim.Native.Nat.{_≤_, _<_};
@@ -65,27 +66,41 @@ fn name_children(words: &[usize; 1024], times: &mut [u8; 1024], term: usize, bes
     let first = operands::first(word);
     let second = operands::second(word);
     match operands::tag(word) {
-        3 | 9 | 10 => name(words, times, EXPRESSION, first, best),
-        4 => {
+        tags::READ | tags::FORK | tags::JOIN | tags::WAIT | tags::NOTIFY | tags::NOTIFY_ALL => name(
+            words,
+            times,
+            EXPRESSION,
+            first,
+            best,
+        ),
+        tags::WRITE => {
             let value = operands::write_second(word);
             name_two(words, times, EXPRESSION, first, EXPRESSION, value, best)
         }
-        5 => {
+        tags::LET => {
             let value = operands::let_first(word);
             let body = operands::let_second(word);
             name_two(words, times, EXPRESSION, value, EXPRESSION, body, best)
         }
-        6 => {
+        tags::IF => {
             let least = name(words, times, CONDITION, first, best);
             let third = operands::third(word);
             name_two(words, times, EXPRESSION, second, EXPRESSION, third, least)
         }
-        7 => name_two(words, times, CONDITION, first, EXPRESSION, second, best),
-        8 => name(words, times, LIST, operands::list_of(word), best),
-        11 | 15 => name_two(words, times, EXPRESSION, first, EXPRESSION, second, best),
-        13 => name(words, times, CONDITION, first, best),
-        14 => name_two(words, times, CONDITION, first, CONDITION, second, best),
-        16 => name_two(words, times, EXPRESSION, first, LIST, second, best),
+        tags::WHILE => name_two(words, times, CONDITION, first, EXPRESSION, second, best),
+        tags::CALL => name(words, times, LIST, operands::list_of(word), best),
+        tags::SYNCH | tags::EQUAL => name_two(
+            words,
+            times,
+            EXPRESSION,
+            first,
+            EXPRESSION,
+            second,
+            best,
+        ),
+        tags::NOT => name(words, times, CONDITION, first, best),
+        tags::AND => name_two(words, times, CONDITION, first, CONDITION, second, best),
+        tags::LIST => name_two(words, times, EXPRESSION, first, LIST, second, best),
         _ => best,
     }
 }

@@ -1,5 +1,6 @@
 // Check 5: terms of the right sort, and calls with as many arguments as there are parameters.
 use header::layout;
+use operands::tags;
 ghost use mathlib.Core.Path.{_≡_};
 ghost use Prim.Native.Nat.{_<_};
 ghost use Rattle.packed.specs.Refusals.{listLength, wrongCall};
@@ -16,10 +17,13 @@ pub const LIST: usize = 3;
 fn sort_of(tag: usize) -> usize
     ensures { λ r. ⌜ r ≡ tagSort tag ⌝ }
 {
-    if tag < 12 {
+    if tag < tags::TRUE {
         return EXPRESSION;
     }
-    if tag < 16 { CONDITION } else { LIST }
+    if tag < tags::LIST {
+        return CONDITION;
+    }
+    if tag < tags::WAIT { LIST } else { EXPRESSION }
 }
 
 // The lower of `best` and term `index`, if that is of another sort than the table wants.
@@ -33,7 +37,7 @@ pub fn lower(words: &[usize; 1024], sort: usize, index: usize, best: usize) -> u
     if index < best { index } else { best }
 }
 
-// The terms of tag 16 from term `from` on, up to the first other tag; counted to nine at most, one more than any parameters.
+// The terms of tag `LIST` from term `from` on, up to the first other tag; counted to nine at most, one more than any parameters.
 fn list_length(
     plan: &[u8],
     procedures: usize,
@@ -50,7 +54,7 @@ fn list_length(
     let mut term = from;
     while length < 9 {
         let word = words[term];
-        if operands::tag(word) != 16 {
+        if operands::tag(word) != tags::LIST {
             return length;
         }
         term = operands::second(word);
@@ -74,7 +78,7 @@ pub fn lower_call(
     ensures { λ r. ⌜ r ≡ lowerIf (wrongCall (now (plan .entry)) term) term best ⌝ }
 {
     let word = words[term];
-    if operands::tag(word) != 8 {
+    if operands::tag(word) != tags::CALL {
         return best;
     }
     let length = list_length(plan, procedures, count, words, operands::list_of(word));

@@ -1,4 +1,6 @@
 // The parts of a term's 40 bits: the tag, then the operands of the table, then spare bits. Checks 4 to 7 and the run take terms apart here.
+pub mod tags; // tags.rt: the tags by name
+
 ghost use mathlib.Core.Path.{_≡_};
 ghost use Rattle.packed.specs.Operands.{tagOf, firstOf, secondOf, thirdOf, slotBits, fieldBits, writeSecond, letFirst, letSecond, procedureBits, listBits, maskBits};
 

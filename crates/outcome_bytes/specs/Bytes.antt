@@ -20,16 +20,19 @@ abbrev pub three : ℕ → ℕ → ℕ → ThreadBytes
 three s n f = record { state = s; named = n; field = f }
 
 -- of a thread: 0 absent, 1 finished, 2 ready, 3 waiting for a monitor, 4 waiting for a join, 5 stuck for a missing field, 6 stuck for no thread,
--- 7 lacking; then the value or the object; then the field; 0 where there is none. 8 is a part without a rule, to which no accepted plan comes.
+-- 7 lacking, 8 waiting to be notified, 9 stuck for a monitor that it does not hold; then the value or the object; then the field; 0 where there is none. 10 is a
+-- part without a rule, to which no accepted plan comes.
 unfoldable pub threadBytes : Status → ThreadBytes
 threadBytes Status.absent = three 0 0 0
 threadBytes (Status.finished v) = three 1 v 0
 threadBytes Status.ready = three 2 0 0
 threadBytes (Status.waiting (Wait.forMonitor o)) = three 3 o 0
 threadBytes (Status.waiting (Wait.forJoin o)) = three 4 o 0
+threadBytes (Status.waiting (Wait.forNotify o)) = three 8 o 0
 threadBytes (Status.stuck (Stuck.missingField o f)) = three 5 o f
 threadBytes (Status.stuck (Stuck.notThread o)) = three 6 o 0
-threadBytes (Status.stuck Stuck.noRule) = three 8 0 0
+threadBytes (Status.stuck (Stuck.notHeld o)) = three 9 o 0
+threadBytes (Status.stuck Stuck.noRule) = three 10 0 0
 threadBytes (Status.lacking o f) = three 7 o f
 
 -- four bytes to a thread, the fourth its total

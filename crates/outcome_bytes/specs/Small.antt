@@ -9,10 +9,12 @@ use Rattle.rules.specs.Run.{Status, Outcome}
 abbrev pub SmallWait : Wait → Type 0
 SmallWait (Wait.forMonitor o) = o < 256
 SmallWait (Wait.forJoin o) = o < 256
+SmallWait (Wait.forNotify o) = o < 256
 
 abbrev pub SmallStuck : Stuck → Type 0
 SmallStuck (Stuck.missingField o f) = (o < 256) × (f < 256)
 SmallStuck (Stuck.notThread o) = o < 256
+SmallStuck (Stuck.notHeld o) = o < 256
 SmallStuck Stuck.noRule = Unit {0}
 
 abbrev pub SmallStatus : Status → Type 0

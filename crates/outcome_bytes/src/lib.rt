@@ -71,6 +71,7 @@ fn waiting_bytes(wait: Wait) -> ThreadBytes
     match wait {
         Wait::Monitor { object } => named(3, object, 0),
         Wait::Join { object } => named(4, object, 0),
+        Wait::Notify { object } => named(8, object, 0),
     }
 }
 
@@ -81,7 +82,8 @@ fn stuck_bytes(stuck: Stuck) -> ThreadBytes
     match stuck {
         Stuck::Field { object, field } => named(5, object, field),
         Stuck::Thread { object } => named(6, object, 0),
-        Stuck::NoRule => named(8, 0, 0),
+        Stuck::Monitor { object } => named(9, object, 0),
+        Stuck::NoRule => named(10, 0, 0),
     }
 }
 

@@ -1,4 +1,4 @@
--- Samples, computed: the rows of the table in document 01's words, and three plans, read and checked. Assumes nothing.
+-- Samples, computed: the rows of the table in document 01's words, and four plans, read and checked. Assumes nothing.
 use Prim.Native.Nat.{ℕ}
 use Prim.Native.String.{String}
 use mathlib.Core.Path.{_≡_, refl}
@@ -6,7 +6,7 @@ use mathlib.Core.List.{List, [], _∷_, _++_, map}
 use mathlib.Core.Option.{Option, some, none}
 use Rattle.format.specs.Version.{v1}
 use Rattle.format.specs.Refusal.{Refusal}
-use Rattle.packed.specs.Syntax.{literal, variable, new, read, write, letIn, if, while, call, fork, join, synch, truth, not, and, equal, end, argument, Program}
+use Rattle.packed.specs.Syntax.{Signal, literal, variable, new, read, write, letIn, if, while, call, fork, join, synch, signal, truth, not, and, equal, end, argument, Program}
 use Rattle.packed.specs.Format.{Operand, absent, slot, binder, mask, fieldName, procedure, expression, condition, list, Row, table}
 use Rattle.packed.specs.Trees.{programOf}
 use Rattle.packed.specs.Check.{refusal}
@@ -96,7 +96,7 @@ sampleP =
       answer = none;
     }
 
--- every tag of the table: two procedures, 29 terms
+-- every tag of document 01's table: two procedures, 29 terms
 planEveryTag : List ℕ
 planEveryTag =
     0x10 ∷ 0x80 ∷ 0x74 ∷ 0x00  -- header
@@ -155,6 +155,42 @@ sampleEveryTag =
       answer = none;
     }
 
+-- document 02, E3: main is `synch null do let - = notify null in let - = notify all null in wait null`
+planSignals : List ℕ
+planSignals =
+    0x10 ∷ 0x40 ∷ 0x28 ∷ 0x00  -- header
+    ∷ 0x80 ∷ 0x00 ∷ 0x00 ∷ 0x00  -- volatile mask
+    ∷ 0x00 ∷ 0x00  -- procedure 0
+    ∷ 0x58 ∷ 0x02 ∷ 0x01 ∷ 0x00 ∷ 0x00  -- term 0
+    ∷ 0x00 ∷ 0x00 ∷ 0x00 ∷ 0x00 ∷ 0x00  -- term 1
+    ∷ 0x2f ∷ 0x80 ∷ 0x60 ∷ 0x28 ∷ 0x00  -- term 2
+    ∷ 0x98 ∷ 0x08 ∷ 0x00 ∷ 0x00 ∷ 0x00  -- term 3
+    ∷ 0x00 ∷ 0x00 ∷ 0x00 ∷ 0x00 ∷ 0x00  -- term 4
+    ∷ 0x2f ∷ 0x80 ∷ 0xc0 ∷ 0x40 ∷ 0x00  -- term 5
+    ∷ 0xa0 ∷ 0x0e ∷ 0x00 ∷ 0x00 ∷ 0x00  -- term 6
+    ∷ 0x00 ∷ 0x00 ∷ 0x00 ∷ 0x00 ∷ 0x00  -- term 7
+    ∷ 0x90 ∷ 0x12 ∷ 0x00 ∷ 0x00 ∷ 0x00  -- term 8
+    ∷ 0x00 ∷ 0x00 ∷ 0x00 ∷ 0x00 ∷ 0x00  -- term 9
+    ∷ []
+
+sampleSignals : Sample
+unfolding planSignals
+sampleSignals =
+    record {
+      plan = planSignals;
+      program = record {
+        version = v1;
+        volatiles = 0x80000000;
+        procedures = record {
+          parameters = 0;
+          body = synch (literal 0)
+              (letIn none (signal Signal.notify (literal 0))
+              (letIn none (signal Signal.notifyAll (literal 0)) (signal Signal.wait (literal 0))));
+        } ∷ [];
+      };
+      answer = none;
+    }
+
 -- procedure 1, of one parameter, is `let 2 = v2 in v0`: "A let binds its slot in its second operand only."
 planUnbound : List ℕ
 planUnbound =
@@ -182,8 +218,8 @@ sampleUnbound =
     }
 
 samples : List Sample
-unfolding sampleP sampleEveryTag sampleUnbound
-samples = sampleP ∷ sampleEveryTag ∷ sampleUnbound ∷ []
+unfolding sampleP sampleEveryTag sampleSignals sampleUnbound
+samples = sampleP ∷ sampleEveryTag ∷ sampleSignals ∷ sampleUnbound ∷ []
 
 samples-read : map (λ (s : Sample). programOf (s .plan)) samples ≡ map (λ (s : Sample). s .program) samples
 unfolding programOf samples

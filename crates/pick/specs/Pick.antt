@@ -126,7 +126,7 @@ pickBy ws rs g x (sight.Blocked b) k = picked k answer.Passed
 
 -- what a pick meets
 abbrev pub lookMet : Setting → Met → Sight
-lookMet g x = lookOf g (x .head) (x .cell) (x .thing) (x .other .ready .part)
+lookMet g x = lookOf g (x .head) (x .cell) (x .thing) (x .other .ready .part) (x .place)
 
 unfoldable pub pickOf : List ℕ → List ℕ → Setting → Met → Stack → Picked
 pickOf ws rs g x k = pickBy ws rs g x (lookMet g x) k

@@ -25,7 +25,7 @@ use state::acted::Act;
 use state::acted::Acted;
 
 // What a pick meets: the counts, the thread's head, the cell and the object that its part is about, the head of the thread that the object stands for,
-// and the thread's number.
+// the thread's number, and its place in a queue.
 pub struct Met {
     pub counts: Counts,
     pub head: Head,
@@ -33,6 +33,7 @@ pub struct Met {
     pub thing: Object,
     pub other: Head,
     pub thread: usize,
+    pub place: usize,
 }
 
 // What a move leaves: the mover, the thread that it makes if it forks, the cell, the object that it makes, the counts, the record.
@@ -234,7 +235,7 @@ pub fn pick(
     let other = met.other;
     let ready = head.ready;
     let joined = other.ready;
-    let sight = look::look(setting, head, cell, thing, joined.part);
+    let sight = look::look(setting, head, cell, thing, joined.part, met.place);
     match sight {
         Sight::Ready => make(words, roots, stack, setting, met),
         Sight::Lacking => race(ready),

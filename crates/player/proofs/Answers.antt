@@ -43,8 +43,10 @@ state-same (state.Finished v) = refl
 state-same state.Ready = refl
 state-same (state.Waiting (wait.Monitor o)) = refl
 state-same (state.Waiting (wait.Join o)) = refl
+state-same (state.Waiting (wait.Notify o)) = refl
 state-same (state.Stuck (stuck.Field o f)) = refl
 state-same (state.Stuck (stuck.Thread o)) = refl
+state-same (state.Stuck (stuck.Monitor o)) = refl
 state-same (state.Stuck stuck.NoRule) = refl
 state-same (state.Lacking o f) = refl
 

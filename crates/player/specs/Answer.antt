@@ -1,4 +1,4 @@
--- What the entry's answer says: document 01's words for each case. Assumes nothing.
+-- What the entry's answer says: document 01's words for each case, and those of document 02, E3. Assumes nothing.
 use Prim.Native.Nat.{ℕ}
 use mathlib.Core.Path.{_≡_}
 use mathlib.Core.List.{map}
@@ -37,15 +37,18 @@ stopOf stop.End = run.Stop.end
 stopOf stop.Race = run.Stop.race
 stopOf (stop.NoRoom r) = run.Stop.noRoom (roomOf r)
 
--- "waiting (monitor held by another, or join of an unfinished thread, itself included)"
+-- "waiting (monitor held by another, or join of an unfinished thread, itself included)"; and "The thread then waits until notified" (E3)
 unfoldable pub waitOf : Wait → step.Wait
 waitOf (wait.Monitor o) = step.Wait.forMonitor o
 waitOf (wait.Join o) = step.Wait.forJoin o
+waitOf (wait.Notify o) = step.Wait.forNotify o
 
--- "stuck (field missing from the object, or join of an object that is no thread)"; the third case is the definitions' own, to which no accepted plan comes
+-- "stuck (field missing from the object, or join of an object that is no thread)"; and "Each needs the monitor held by the mover, else the thread is stuck with a
+-- reason of its own." (E3); the last case is the definitions' own, to which no accepted plan comes
 unfoldable pub stuckOf : Stuck → step.Stuck
 stuckOf (stuck.Field o f) = step.Stuck.missingField o f
 stuckOf (stuck.Thread o) = step.Stuck.notThread o
+stuckOf (stuck.Monitor o) = step.Stuck.notHeld o
 stuckOf stuck.NoRule = step.Stuck.noRule
 
 -- "absent, finished with its value, ready, waiting, stuck with its reason, or lacking the key of a named object's named field"

@@ -6,6 +6,7 @@ ghost use Rattle.text.specs.Wrote.{Wrote};
 ghost use Rattle.record_lines.specs.Lines.{kindWord, recordLine};
 ghost use Rattle.record_lines.specs.Columns.{recordOf};
 use decoding::Columns;
+use records::kind;
 
 // The word of a kind of access, or new.
 fn put_access(area: &mut [u8], at: usize, kind: usize) -> usize
@@ -13,26 +14,26 @@ fn put_access(area: &mut [u8], at: usize, kind: usize) -> usize
     ensures { λ r. ⌜ Wrote (now (area .entry)) at (kindWord (kindOf kind)) (now (area .exit)) r ⌝ }
 {
     match kind {
-        2 => text::put_word(area, at, b"read"),
-        3 => text::put_word(area, at, b"write"),
-        4 => text::put_word(area, at, b"readv"),
-        5 => text::put_word(area, at, b"writev"),
+        kind::READ => text::put_word(area, at, b"read"),
+        kind::WRITE => text::put_word(area, at, b"write"),
+        kind::VOLATILE_READ => text::put_word(area, at, b"readv"),
+        kind::VOLATILE_WRITE => text::put_word(area, at, b"writev"),
         _ => text::put_word(area, at, b"new"),
     }
 }
 
-// The word of a kind; a number that is no kind's is read as 1.
+// The word of a kind; a number that is no kind's is read as NEW.
 fn put_kind(area: &mut [u8], at: usize, kind: usize) -> usize
     requires { ⌜ at + length (kindWord (kindOf kind)) ≤ length (now area) ⌝ }
     ensures { λ r. ⌜ Wrote (now (area .entry)) at (kindWord (kindOf kind)) (now (area .exit)) r ⌝ }
 {
     match kind {
-        6 => text::put_word(area, at, b"acquire"),
-        7 => text::put_word(area, at, b"release"),
-        8 => text::put_word(area, at, b"fork"),
-        9 => text::put_word(area, at, b"join"),
-        10 => text::put_word(area, at, b"lacks-read"),
-        11 => text::put_word(area, at, b"lacks-write"),
+        kind::ACQUIRE => text::put_word(area, at, b"acquire"),
+        kind::RELEASE => text::put_word(area, at, b"release"),
+        kind::FORK => text::put_word(area, at, b"fork"),
+        kind::JOIN => text::put_word(area, at, b"join"),
+        kind::LACKS_READ => text::put_word(area, at, b"lacks-read"),
+        kind::LACKS_WRITE => text::put_word(area, at, b"lacks-write"),
         _ => put_access(area, at, kind),
     }
 }

@@ -35,6 +35,8 @@ stands-height b part.Fork r S X h = ap height (h .2)
 stands-height b part.Join r S X h = ap height (h .2)
 stands-height b part.Synch r S X h = ap height (h .3)
 stands-height b part.Hold r S X h = ap height (h .3)
+stands-height b part.Signal r S X h = ap height (h .2)
+stands-height b part.Waiting r S X h = ap height (h .2)
 
 -- landing is full where there are too many frames
 pub found-full : (b : List ℕ) (g : Stage) (E : Ended) (base : ℕ) (X : frames.Found) → FoundBy b g E base X → fullBy g ≡ ltb 32 (height X)

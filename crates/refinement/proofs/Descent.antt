@@ -5,6 +5,7 @@ use mathlib.Core.Bool.{Bool, true, false}
 use mathlib.Core.List.{List, _∷_}
 use mathlib.Core.Option.{Option, some, none}
 use lib.ListN.{length}
+use Rattle.packed.specs.Syntax.{Signal}
 use Rattle.packed.specs.Trees.{Node}
 use Rattle.packed.specs.Steps.{Descending}
 use Rattle.rules.specs.Context.{falseWhen}
@@ -124,6 +125,10 @@ module _ {h : ℕ → Node} {N : ℕ} (o : Descending h N) where
     pub enter-synch : {i j : ℕ} → h t ≡ Node.synch i j → enter h N S (closure t ρ) ≡ enter h N (Frame.synch (closure j ρ) ∷ S) (closure i ρ)
     unfolding downBy valueOf landTurn land enter up
     enter-synch {i} {j} e = by (Node.synch i j) e refl ∙ given-same (valueIn h (closure i ρ)) _ _ _ _ (λ v. refl) refl
+
+    pub enter-signal : {k : Signal} {i : ℕ} → h t ≡ Node.signal k i → enter h N S (closure t ρ) ≡ enter h N (Frame.signal k ∷ S) (closure i ρ)
+    unfolding downBy valueOf landTurn land enter up
+    enter-signal {k} {i} e = by (Node.signal k i) e refl ∙ given-same (valueIn h (closure i ρ)) _ _ _ _ (λ v. refl) refl
 
     -- ---- conditions
 

@@ -48,6 +48,8 @@ stands-ends b part.Fork r S X h = ends-here part.Fork (r .first) X S _ refl (h .
 stands-ends b part.Join r S X h = ends-here part.Join (r .first) X S _ refl (h .2)
 stands-ends b part.Synch r S X h = ends-here part.Synch (r .first) X S _ refl (h .3)
 stands-ends b part.Hold r S X h = ends-here part.Hold (r .first) X S _ refl (h .3)
+stands-ends b part.Signal r S X h = ends-here part.Signal (r .first) X S _ refl (h .2)
+stands-ends b part.Waiting r S X h = ends-here part.Waiting (r .first) X S _ refl (h .2)
 
 pub ends : (b : List ℕ) (r : Ready) (S : List frames.Frame) (X : frames.Found) → Stands b r S X → Ends (r .part) (r .first) X
 ends b r S X (P, e, h) = along (λ (q : ℕ). Ends q (r .first) X) (sym e) (stands-ends b P r S X h)

@@ -4,8 +4,9 @@ use native.Mathlib.Omega.{arith}
 use mathlib.Core.Path.{_≡_, refl, sym, ap, _∙_}
 use mathlib.Core.List.{List}
 use lib.ListN.{length}
-use Rattle.packed.specs.Format.{terms}
-use Rattle.packed.specs.Trees.{nodeAt}
+use Rattle.packed.specs.Format.{terms, expression}
+use Rattle.packed.specs.Trees.{Node, nodeAt}
+use Rattle.packed.proofs.Accepted.{Child}
 use Rattle.machine.specs.Frames.{Slots}
 use Rattle.machine.specs.Frames as frames
 use Rattle.machine.specs.Landing.{downᵃ, up, enter}
@@ -18,13 +19,13 @@ use Rattle.packed.specs.Operands.{tagOf, firstOf, secondOf, thirdOf, slotBits, 
 use Rattle.term_words.specs.Words.{wordAt, valueBy, valueOf}
 use Rattle.frames.specs.Frames.{framed, letFrame}
 use Rattle.frames.specs.Going.{readyOf, goAt, goValue}
-use Rattle.landing_step.specs.Down.{simpleBy, simpleOf, runBy, runOf, listedOf, wantedOf}
+use Rattle.landing_step.specs.Down.{signalBy, signalOf, simpleBy, simpleOf, runBy, runOf, listedOf, wantOf, wantedOf}
 use Rattle.landing.specs.Landing.{Stack}
-use Rattle.refinement.proofs.Meant.{slots, closed, IsExpression}
+use Rattle.refinement.proofs.Meant.{signalMeant, slots, closed, IsExpression}
 use Rattle.refinement.proofs.SlotLaws.{none-bound, slot-below}
 use Rattle.refinement.proofs.Words.{Expression, expression-at}
 use Rattle.refinement.proofs.Values.{Valued, valued}
-use Rattle.refinement.proofs.Descent.{enter-value, enter-new, enter-while, enter-fork, enter-call, enter-read, enter-write, enter-let, enter-if, enter-join, enter-synch}
+use Rattle.refinement.proofs.Descent.{enter-value, enter-new, enter-while, enter-fork, enter-call, enter-read, enter-write, enter-let, enter-if, enter-join, enter-synch, enter-signal}
 use Rattle.refinement.proofs.Fuel.{left}
 use Rattle.refinement.proofs.Operands.{Placed, Next, stays, want, wantᶜ, child, childᶜ, less, less-one, plain-fine}
 use Rattle.refinement.proofs.Calls.{list-step}
@@ -53,8 +54,15 @@ module _ {b ws rs : List ℕ} {k : Stack} {base : ℕ} {S : List frames.Frame} (
   one : 1 ≤ n
   one = omega arith
 
+  -- a signal, by its number
+  signal-step : (j : ℕ) → j < 32 → nodeAt b t ≡ Node.signal (signalMeant j) (firstOf word) → Child b t expression (firstOf word)
+      → Next b ws k base n X (wantOf ws (framed kind.Signal 0 0 j e) (firstOf word) (length S))
+  signal-step j h q i =
+      want c (framed kind.Signal 0 0 j e) (firstOf word) (plain-fine kind.Signal 0 0 j e (omega arith) (omega arith) h tt)
+      w (child i) (x ∙ enter-signal (ordered b (c .right)) S t (slots e) q) (less-one (c .right) l i) one
+
   run-by : (valueOf ws e t < 32 → 2055 ≤ suc n) → Valued b ws t e → Expression b t word → Next b ws k base n X (wantedOf ws (listedOf ws rs (runOf (wordAt ws t) e)) (length S))
-  unfolding runOf runBy simpleOf simpleBy
+  unfolding runOf runBy simpleOf simpleBy signalOf signalBy
   run-by m v (Expression.null p q) =
       let z = null-value ws t e p in
       let r : valueOf ws e t < 32 = omega arith in
@@ -98,6 +106,9 @@ module _ {b ws rs : List ℕ} {k : Stack} {base : ℕ} {S : List frames.Frame} (
       rw p
       (want c (framed kind.Synch (secondOf word) 0 0 e) (firstOf word) (plain-fine kind.Synch (secondOf word) 0 0 e (omega arith) (omega arith) (omega arith) (child j))
       w (child i) (x ∙ enter-synch (ordered b (c .right)) S t (slots e) q) (less-one (c .right) l i) one)
+  run-by m v (Expression.wait p q i) = rw p (signal-step 0 (omega arith) q i)
+  run-by m v (Expression.notify p q i) = rw p (signal-step 1 (omega arith) q i)
+  run-by m v (Expression.notifyAll p q i) = rw p (signal-step 2 (omega arith) q i)
 
   pub run-step : (valueOf ws e t < 32 → 2055 ≤ suc n) → Next b ws k base n X (wantedOf ws (listedOf ws rs (runOf (wordAt ws t) e)) (length S))
   run-step m = run-by m (valued b ws rs (c .right) (c .loaded) t e s) (expression-at b ws rs (c .right) (c .loaded) t (s .0) (s .1))

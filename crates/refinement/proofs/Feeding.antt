@@ -132,6 +132,7 @@ module _ (b : List ℕ) where
     feed-by kind.Test f v hm hn s l w e = absurd w
     feed-by kind.Body f v hm hn s l w e =
         (part.Again, refl, (w, s .0, s .1, (frames.Ready.whileBody v (branches (f .first) (f .second) (slots (f .environment))), e, again-unlogged v (branches (f .first) (f .second) (slots (f .environment))))))
+    feed-by kind.Signal f v hm hn s l w e = (part.Signal, refl, (w, l, e))
 
     -- an expression's value
     pub feed-goes : (f : Frame) (v : ℕ) → Fine b f → v < 32 → Well (frameOf f ∷ S) → X ≡ up (nodeAt b) (terms b) (frameOf f ∷ S) v → Goes b (feedOf f v) S X
@@ -183,6 +184,7 @@ module _ (b : List ℕ) where
         (λ t. (part.Body, refl, (w, s .0, s .1, e ∙ ap (upᶜ (nodeAt b) (terms b) (frames.Frame.whileTest y ∷ S)) t)))
         (λ t. (part.Val, refl, (w, refl, (frames.Ready.whileTest false y, e ∙ ap (upᶜ (nodeAt b) (terms b) (frames.Frame.whileTest y ∷ S)) t, test-unlogged y)))))
     feed-condition-by kind.Body f x q s l w e = absurd w
+    feed-condition-by kind.Signal f x q s l w e = absurd w
 
     pub feed-condition-goes : (f : Frame) (x : ℕ) → Fine b f → x < 2 → Wellᶜ (frameOf f ∷ S) → X ≡ upᶜ (nodeAt b) (terms b) (frameOf f ∷ S) (eqb x 1) → Goes b (feedConditionOf f x) S X
     unfolding feedConditionOf

@@ -126,7 +126,7 @@ module _ {b : List ℕ} {m : engine.Machine} {s : machine.State} {p : ℕ} (move
         _,
         attempts mover (frames.Ready.read o f) code (ap (machine.readAct (tableOf b) s p t o f) e ∙ test-true (tableOf b .isVolatile f) _ _ v),
         moved mover _ i e-readv (some (entry records.Kind.readv p o f (c .value))) (machine.hear s p heard) (up (nodeAt b) (terms b) S (c .value)) (goValue (c .value)) n
-            (joinOf ks (passedOf (settingOf b) (c .keys))) (newOf ks (passedOf (settingOf b) (c .keys))) c nothing (entryOf (records.kindNumber records.Kind.readv) o f (c .value)) refl (written mover records.Kind.readv o f (c .value) ho hf (value-fits true e)) refl
+            (joinOf ks (passedOf (settingOf b) (c .keys))) (newOf ks (passedOf (settingOf b) (c .keys))) c nothing (entryOf (records.kindNumber records.Kind.readv) o f (c .value)) refl (written mover records.Kind.readv o f (c .value) ho hf (value-fits true e)) refl refl
             (well, value-fits true e, refl) (fits-join fits (passed-fits (c .keys) (fit .keys)))
             (gained mover heard _ (countNew heard) _ (ap (λ (W : Keys). union W (t .keys)) (sym (passed-keys (c .keys))) ∙ joined mover (passedOf (settingOf b) (c .keys)) (passed-fits (c .keys) (fit .keys)))
             (ap (λ (W : Keys). countNew W (t .keys)) (sym (passed-keys (c .keys))) ∙ joined-new mover (passedOf (settingOf b) (c .keys)) (passed-fits (c .keys) (fit .keys))))
@@ -137,7 +137,7 @@ module _ {b : List ℕ} {m : engine.Machine} {s : machine.State} {p : ℕ} (move
         attempts mover (frames.Ready.read o f) code
             (ap (machine.readAct (tableOf b) s p t o f) e ∙ test-false (tableOf b .isVolatile f) _ _ v ∙ test-true (subset (cellMeant false c .keys) (t .keys)) _ _ q),
         moved mover _ i e-read (some (entry records.Kind.read p o f (c .value))) s (up (nodeAt b) (terms b) S (c .value)) (goValue (c .value)) n
-            ks 0 c nothing (entryOf (records.kindNumber records.Kind.read) o f (c .value)) refl (written mover records.Kind.read o f (c .value) ho hf (value-fits false e)) refl
+            ks 0 c nothing (entryOf (records.kindNumber records.Kind.read) o f (c .value)) refl (written mover records.Kind.read o f (c .value) ho hf (value-fits false e)) refl refl
             (well, value-fits false e, refl) fits (unlearnt mover) (kept-past (kept-same k i) nothing),
       )
       by true false false e v q = (
@@ -190,7 +190,7 @@ module _ {b : List ℕ} {m : engine.Machine} {s : machine.State} {p : ℕ} (move
         _,
         attempts mover (frames.Ready.write o f w) code (ap (machine.writeAct (tableOf b) s p t o f w) e ∙ test-true (tableOf b .isVolatile f) _ _ v),
         moved mover _ i e-writev (some (entry records.Kind.writev p o f w)) (machine.store s o f (rules.cell (union (keysOf (c .keys)) (passedOn (tableOf b .version) (t .keys))) w)) (up (nodeAt b) (terms b) S w) (goValue w) n
-            ks 0 (cellOf w 0 (joinOf (c .keys) (passedOf (settingOf b) ks))) nothing (entryOf (records.kindNumber records.Kind.writev) o f w) refl (written mover records.Kind.writev o f w ho hf hw) refl
+            ks 0 (cellOf w 0 (joinOf (c .keys) (passedOf (settingOf b) ks))) nothing (entryOf (records.kindNumber records.Kind.writev) o f w) refl (written mover records.Kind.writev o f w ho hf hw) refl refl
             (well, hw, refl) fits (unlearnt mover)
             (stored true (cellOf w 0 (joinOf (c .keys) (passedOf (settingOf b) ks))) _ g
             (ap₂ rules.cell (keys-join (fit .keys) (passed-fits ks fits) ∙ ap (union (keysOf (c .keys))) (passed-keys ks ∙ ap (passedOn (tableOf b .version)) known)) (mod-eq-of-lt hw))
@@ -210,7 +210,7 @@ module _ {b : List ℕ} {m : engine.Machine} {s : machine.State} {p : ℕ} (move
             moved mover _ i e-write (some (entry records.Kind.write p o f w)) (machine.learn (machine.store (machine.useKey s) o f (rules.cell (singleton (s .nextKey)) w)) p (singleton (s .nextKey)))
                 (up (nodeAt b) (terms b) S w) (goValue w) (countsOf (n .threads) (n .objects) (n .keys + 1))
                 (learnOf ks (n .keys)) 0 (cellOf w (n .keys) (c .keys)) nothing (entryOf (records.kindNumber records.Kind.write) o f w)
-                (test-false (leb 256 (s .nextKey)) _ _ (ap (leb 256) (sym (k .keys-count)) ∙ r)) (written mover records.Kind.write o f w ho hf hw) refl
+                (test-false (leb 256 (s .nextKey)) _ _ (ap (leb 256) (sym (k .keys-count)) ∙ r)) (written mover records.Kind.write o f w ho hf hw) refl refl
                 (well, hw, refl) (fits-learn (n .keys) fits)
                 (gained mover (singleton (s .nextKey)) _ (λ K. 0) 0
                 (ap₂ (λ (a : ℕ) (K : Keys). union (singleton a) K) (sym (k .keys-count)) (sym known) ∙ sym (keys-learn (n .keys) room-left fits)) refl)

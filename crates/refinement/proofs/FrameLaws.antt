@@ -35,6 +35,7 @@ code-small kind.And = omega arith
 code-small kind.Not = omega arith
 code-small kind.Test = omega arith
 code-small kind.Body = omega arith
+code-small kind.Signal = omega arith
 
 code-kind : (k : Kind) → kindOf (codeOf k) ≡ k
 unfolding kindOf
@@ -53,6 +54,7 @@ code-kind kind.And = refl
 code-kind kind.Not = refl
 code-kind kind.Test = refl
 code-kind kind.Body = refl
+code-kind kind.Signal = refl
 
 -- five fields in one number
 top-of : ℕ → ℕ → ℕ → ℕ → ℕ → ℕ

@@ -37,6 +37,7 @@ needs kind.And a = 1
 needs kind.Not a = 1
 needs kind.Test a = 1
 needs kind.Body a = 1
+needs kind.Signal a = 1
 
 pub needs-most : (k : Kind) (a : ℕ) → needs k a ≤ 2053
 needs-most kind.Read a = omega arith
@@ -54,6 +55,7 @@ needs-most kind.And a = omega arith
 needs-most kind.Not a = omega arith
 needs-most kind.Test a = omega arith
 needs-most kind.Body a = omega arith
+needs-most kind.Signal a = omega arith
 
 module _ (ws : List ℕ) (n : ℕ) where
   -- n steps are enough from here, the last of them to see that landing has ended
@@ -89,6 +91,7 @@ module _ (ws : List ℕ) (n : ℕ) where
   feed-by kind.Not f v h = h
   feed-by kind.Test f v h = h
   feed-by kind.Body f v h = h
+  feed-by kind.Signal f v h = h
 
   pub feed-enough : (f : Frame) (v : ℕ) → needs (f .kind) (f .first) ≤ n → Enough (feedOf f v)
   unfolding feedOf
@@ -114,6 +117,7 @@ module _ (ws : List ℕ) (n : ℕ) where
   feed-if-by kind.Not f x h = h
   feed-if-by kind.Test f x h = either (eqb x 1) (goAt (readyOf part.Body (f .first) (f .second) 0 (f .environment))) (goAt (readyOf part.Val 0 0 0 0)) h h
   feed-if-by kind.Body f x h = h
+  feed-if-by kind.Signal f x h = h
 
   feed-if : (f : Frame) (x : ℕ) → 1 ≤ n → Enough (feedIfOf f x)
   unfolding feedIfOf
@@ -139,6 +143,7 @@ module _ (ws : List ℕ) (n : ℕ) where
       at false p = l
   feed-condition-by kind.Test f x h l = feed-if f x l
   feed-condition-by kind.Body f x h l = feed-if f x l
+  feed-condition-by kind.Signal f x h l = feed-if f x l
 
   pub feed-condition-enough : (f : Frame) (x : ℕ) → x + 1 ≤ n → Enough (feedConditionOf f x)
   unfolding feedConditionOf

@@ -4,9 +4,9 @@ use native.Mathlib.Omega.{arith}
 use native.Mathlib.Decide.{ℕ-discrete}
 use mathlib.Core.Path.{_≡_, refl, sym, ap, ap₂, _∙_}
 use mathlib.Core.Bool.{Bool, true, false, cond, _&&_, and-eq-true-iff}
-use mathlib.Core.List.{List, [], _∷_, _++_}
+use mathlib.Core.List.{List, [], _∷_, _++_, map}
 use lib.Dec.{eqb, ltb}
-use lib.ListN.{length, getD, set, length-set}
+use lib.ListN.{length, getD, set, length-set, length-map}
 use lib.Seq.{getD-set-same, getD-set-other, set-getD}
 use borrow.Author.Tests.{ltb-true}
 use Rattle.packed.specs.Format.{maskBit, fieldsFrom}
@@ -24,7 +24,7 @@ use Rattle.look.specs.Look.{hasOf}
 use Rattle.engine.specs.Machine.{noCell, noThing}
 use Rattle.refinement.proofs.States.{cellMeant, CellFits, memoryOf, numberOf, Kept}
 use Rattle.refinement.proofs.MemoryOf.{fresh-meant, memory-store, memory-past, memory-more}
-use Rattle.refinement.proofs.ThreadNumbers.{numbers-change}
+use Rattle.refinement.proofs.ThreadNumbers.{numbers-change, numbers-map}
 
 past-fresh : {setting : Setting} {cs : List Cell} {ts : List Object} {n : Counts} {s : machine.State} → Kept setting cs ts n s → FreshPast (memoryOf setting cs ts (n .objects))
 unfolding memoryOf
@@ -52,6 +52,21 @@ module _ {setting : Setting} {cs : List Cell} {ts : List Object} {n : Counts} {s
     cells-fit = k .cells-fit;
     fresh-past = k .fresh-past;
     numbers = λ o l. k .numbers o l ∙ sym (numbers-change (s .threads) 0 p h same o);
+  }
+
+  -- every thread changes, and keeps its object
+  pub kept-mapped : (h : machine.Thread → machine.Thread) → ((x : machine.Thread) → h x .self ≡ x .self)
+      → Kept setting cs ts n (record { objects = s .objects; threads = map h (s .threads); nextKey = s .nextKey })
+  kept-mapped h same = record {
+    cells-size = k .cells-size;
+    things-size = k .things-size;
+    threads-count = k .threads-count ∙ sym (length-map (s .threads) h);
+    objects-count = k .objects-count;
+    keys-count = k .keys-count;
+    objects = k .objects;
+    cells-fit = k .cells-fit;
+    fresh-past = k .fresh-past;
+    numbers = λ o l. k .numbers o l ∙ sym (numbers-map (s .threads) 0 h same o);
   }
 
   -- the object past the last is set, and does not count

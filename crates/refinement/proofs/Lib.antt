@@ -12,7 +12,9 @@ pub mod Expressions
 pub mod Conditions
 pub mod Steps
 pub mod Landing
+pub mod Queues
 pub mod States
+mod Alike
 mod Tests
 mod MemoryOf
 mod ThreadNumbers
@@ -24,6 +26,7 @@ mod Ended
 mod Moving
 mod FieldActs
 mod MonitorActs
+mod SignalActs
 mod ObjectActs
 mod PlainActs
 pub mod Acts

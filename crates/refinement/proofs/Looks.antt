@@ -20,7 +20,7 @@ use Rattle.packed.proofs.Accepted.{accepted}
 use Rattle.records.specs.Record.{Record, kindNumber}
 use Rattle.rules.specs.State.{fieldOf, monitorOf}
 use Rattle.rules.specs.State as rules
-use Rattle.rules.specs.Step.{forMonitor, forJoin, missingField, notThread}
+use Rattle.rules.specs.Step.{forMonitor, forJoin, forNotify, missingField, notThread, notHeld}
 use Rattle.rules.proofs.Placed as placed
 use Rattle.rules.proofs.StateLaws.{outside}
 use Rattle.machine.specs.Frames as frames
@@ -73,8 +73,10 @@ abbrev pub BlockedBy : Block → Ready → machine.Attempt → Type 0
 BlockedBy block.Finished r A = A ≡ machine.Attempt.finished (r .first)
 BlockedBy block.Monitor r A = A ≡ machine.Attempt.waiting (forMonitor (objectOf r))
 BlockedBy block.Join r A = A ≡ machine.Attempt.waiting (forJoin (objectOf r))
+BlockedBy block.Notify r A = A ≡ machine.Attempt.waiting (forNotify (objectOf r))
 BlockedBy block.Field r A = A ≡ machine.Attempt.stuck (missingField (objectOf r) (look.fieldOf r))
 BlockedBy block.Thread r A = A ≡ machine.Attempt.stuck (notThread (objectOf r))
+BlockedBy block.NotHeld r A = A ≡ machine.Attempt.stuck (notHeld (objectOf r))
 BlockedBy block.NoRule r A = ⊥
 
 -- thread p, at part r, sees w; where it is ready, Z holds of its move

@@ -2,13 +2,14 @@
 -- Assumes nothing.
 use Prim.Native.Nat.{ℕ, suc, _+_, _^_, _≤_, _<_}
 use mathlib.Core.Path.{_≡_}
-use mathlib.Core.Bool.{true, false}
+use mathlib.Core.Bool.{true, false, cond}
 use mathlib.Core.List.{List, [], _∷_}
 use mathlib.Core.Option.{none}
 use mathlib.Core.Logic.{_⊎_}
 use lib.Dec.{eqb}
 use lib.ListN.{length, getD}
 use Rattle.format.specs.Bits.{bitsAt}
+use Rattle.packed.specs.Syntax.{Signal}
 use Rattle.packed.specs.Format.{procedures, terms, root, expression, condition, list, fieldsFrom, maskBit, termBit, tagAt}
 use Rattle.packed.specs.Trees.{binderOf, nodeAt}
 use Rattle.packed.proofs.Accepted.{OfSort}
@@ -48,6 +49,10 @@ slots e = slotOf e
 abbrev pub closed : ℕ → ℕ → Closure
 closed t e = closure t (slots e)
 
+-- the signal of a number: 0 wait, 1 notify, 2 notify all
+abbrev pub signalMeant : ℕ → Signal
+signalMeant k = cond (eqb k 0) Signal.wait (cond (eqb k 1) Signal.notify Signal.notifyAll)
+
 abbrev pub frameBy : Kind → Frame → frames.Frame
 frameBy kind.Read f = frames.Frame.read (f .member)
 frameBy kind.Write1 f = frames.Frame.write₁ (f .member) (closed (f .first) (f .environment))
@@ -64,6 +69,7 @@ frameBy kind.And f = frames.Frame.and (closed (f .first) (f .environment))
 frameBy kind.Not f = frames.Frame.not
 frameBy kind.Test f = frames.Frame.whileTest (branches (f .first) (f .second) (slots (f .environment)))
 frameBy kind.Body f = frames.Frame.whileBody (branches (f .first) (f .second) (slots (f .environment)))
+frameBy kind.Signal f = frames.Frame.signal (signalMeant (f .member))
 
 -- the frame that a code frame stands for
 abbrev pub frameOf : Frame → frames.Frame
@@ -97,6 +103,7 @@ module _ (b : List ℕ) where
   SortedBy kind.Not f = Unit {0}
   SortedBy kind.Test f = IsCondition (f .first) × IsExpression (f .second)
   SortedBy kind.Body f = IsCondition (f .first) × IsExpression (f .second)
+  SortedBy kind.Signal f = Unit {0}
 
   -- a frame that the code can hold: its numbers fit, its terms are of the right sort
   pub record Fine (f : Frame) : Type 0 where
@@ -148,6 +155,8 @@ module _ (b : List ℕ) where
   StandsBy part.Join r S X = Well S × (r .first < 32) × (X ≡ frames.Found.here S (frames.Ready.join (r .first)))
   StandsBy part.Synch r S X = Well S × (r .first < 32) × IsExpression (r .second) × (X ≡ frames.Found.here S (frames.Ready.synch (r .first) (closed (r .second) (r .environment))))
   StandsBy part.Hold r S X = Well S × (r .first < 32) × (r .second < 32) × (X ≡ frames.Found.here S (frames.Ready.hold (r .first) (r .second)))
+  StandsBy part.Signal r S X = Well S × (r .first < 32) × (X ≡ frames.Found.here S (frames.Ready.signal (signalMeant (r .second)) (r .first)))
+  StandsBy part.Waiting r S X = Well S × (r .first < 32) × (X ≡ frames.Found.here S (frames.Ready.waiting (r .first)))
 
   abbrev pub Stands : Ready → List frames.Frame → frames.Found → Type 0
   Stands r S X = (P : Part) × (r .part ≡ numberOf P) × StandsBy P r S X

@@ -62,7 +62,7 @@ module _ {b : List ℕ} {m : engine.Machine} {s : machine.State} {p : ℕ} (move
   self = headAt (m .heads) p .object
 
   -- a monitor is stored to
-  monitor-stored : (o i : ℕ) (c : Cell) (x : rules.Cell) → i ≡ o * 32 + 0 → cellMeant true c ≡ x → CellFits c → o < n .objects → o < 32
+  pub monitor-stored : (o i : ℕ) (c : Cell) (x : rules.Cell) → i ≡ o * 32 + 0 → cellMeant true c ≡ x → CellFits c → o < n .objects → o < 32
       → Kept (settingOf b) (set cs i c) (set ts (n .objects) nothing) n (machine.storeMonitor s o x)
   monitor-stored o i c x ei e fit o-there ho =
       let z = kept-past (kept-monitor k o c (monitor-bit b ok) o-there ho fit) nothing in
@@ -107,7 +107,7 @@ module _ {b : List ℕ} {m : engine.Machine} {s : machine.State} {p : ℕ} (move
         _,
         attempts mover (frames.Ready.synch o (closed u environment)) code
             (acted ∙ test-true (isEmpty (keysOf (c .keys))) _ _ e ∙ test-true (eqb (c .value) (t .self)) _ _ q),
-        plain mover _ i e-re-enter (enter (nodeAt b) (terms b) S (closed u environment)) (goRun u environment) refl refl (well, hu, refl),
+        plain mover _ i e-re-enter (enter (nodeAt b) (terms b) S (closed u environment)) (goRun u environment) refl refl refl (well, hu, refl),
       )
       by true false e q =
           attempts mover (frames.Ready.synch o (closed u environment)) code
@@ -118,7 +118,7 @@ module _ {b : List ℕ} {m : engine.Machine} {s : machine.State} {p : ℕ} (move
         attempts mover (frames.Ready.synch o (closed u environment)) code (acted ∙ test-false (isEmpty (keysOf (c .keys))) _ _ e),
         moved mover _ i e-acquire (some (entry records.Kind.acquire p o 0 0)) (machine.hear (machine.storeMonitor s o (rules.cell empty (t .self))) p (keysOf (c .keys)))
             (enter (nodeAt b) (terms b) (frames.Frame.hold o ∷ S) (closed u environment)) (goWant (holdFrame environment o) u) n
-            (joinOf ks (c .keys)) (newOf ks (c .keys)) c′ nothing (entryOf (records.kindNumber records.Kind.acquire) o 0 0) refl (written mover records.Kind.acquire o 0 0 ho (omega arith) (omega arith)) refl
+            (joinOf ks (c .keys)) (newOf ks (c .keys)) c′ nothing (entryOf (records.kindNumber records.Kind.acquire) o 0 0) refl (written mover records.Kind.acquire o 0 0 ho (omega arith) (omega arith)) refl refl
             (record { first-fits = omega arith; second-fits = omega arith; member-fits = omega arith; count-fits = omega arith; sorted = ho }, well, hu, refl)
             (fits-join fits (fit .keys)) (gained mover (keysOf (c .keys)) _ (countNew (keysOf (c .keys))) _ (joined mover (c .keys) (fit .keys)) (joined-new mover (c .keys) (fit .keys)))
             (kept-changed (monitor-stored o i c′ _ ei (ap₂ rules.cell keys-empty (ap (λ (a : ℕ). a % 32) same ∙ mod-eq-of-lt self-fits)) (record { key = omega arith; keys = fits-empty }) o-there ho) p _ (λ x. refl)),
@@ -132,7 +132,7 @@ module _ {b : List ℕ} {m : engine.Machine} {s : machine.State} {p : ℕ} (move
     _,
     attempts mover (frames.Ready.hold o v) code refl,
     moved mover _ i e-release (some (entry records.Kind.release p o 0 0)) (machine.storeMonitor s o (rules.cell (t .keys) 0)) (up (nodeAt b) (terms b) S v) (goValue v) n
-        ks 0 (cellOf 0 0 ks) nothing (entryOf (records.kindNumber records.Kind.release) o 0 0) refl (written mover records.Kind.release o 0 0 ho (omega arith) (omega arith)) refl
+        ks 0 (cellOf 0 0 ks) nothing (entryOf (records.kindNumber records.Kind.release) o 0 0) refl (written mover records.Kind.release o 0 0 ho (omega arith) (omega arith)) refl refl
         (well, hv, refl) fits (unlearnt mover)
         (monitor-stored o i (cellOf 0 0 ks) _ ei (ap (λ (K : Keys). rules.cell K 0) known) (record { key = omega arith; keys = fits })
         (object-there mover o (ready-there b s p t reach there S (frames.Ready.hold o v) code .0)) ho),

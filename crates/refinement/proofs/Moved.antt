@@ -12,9 +12,10 @@ use lib.Dec.{ltb}
 use lib.ListN.{length, getD, set, getElem?, drop, length-set}
 use lib.Seq.{getD-set-same, getD-set-other}
 use Rattle.keys.specs.KeySet.{keysOf}
+use Rattle.rules.specs.Queue.{Place}
 use Rattle.rules.specs.State.{changeAt}
 use Rattle.rules.specs.Room as rooms
-use Rattle.rules.proofs.StateLaws.{inside, added, change-same, change-other, change-length}
+use Rattle.rules.proofs.StateLaws.{there as present, inside, added, change-same, change-other, change-length}
 use Rattle.machine.specs.Frames.{height}
 use Rattle.machine.specs.Machine as machine
 use Rattle.machine.specs.Playing as playing
@@ -26,12 +27,15 @@ use Rattle.state.specs.declared.acted.Acted.{Acted}
 use Rattle.pick.specs.declared.Met.{Met}
 use Rattle.pick.specs.declared.Move.{Move}
 use Rattle.pick.specs.Pick.{noHead, forksOf, fullOf, moverOf, bornOf, moveOf, landMover, youngGo, landYoung}
+use Rattle.queue.specs.Queue.{afterOf}
 use Rattle.engine.specs.Machine as engine
 use Rattle.engine.specs.Machine.{headAt, cellNumber, after}
 use Rattle.refinement.proofs.Meant.{Loaded, Sized, Lands}
 use Rattle.refinement.proofs.FrameLaws.{holds-same}
 use Rattle.refinement.proofs.Landing.{landed}
+use Rattle.refinement.proofs.Queues.{placesOf, Places, places-kept, places-more, after-size}
 use Rattle.refinement.proofs.States.{settingOf, Kept, Headed, Related}
+use Rattle.refinement.proofs.Alike.{alike-length, alike-there, headed-same}
 use Rattle.refinement.proofs.Moves.{withYoung, moverIn, Mover, Born, Does, met}
 use Rattle.refinement.proofs.Moving.{few-threads}
 use Rattle.refinement.proofs.Depths.{found-full, found-at}
@@ -84,7 +88,7 @@ module _ {b ws rs : List ℕ} (loaded : Loaded b ws rs) {m : engine.Machine} {s 
   gone = moverIn (D .code) (keysOf (a .keys)) (h .learnt % 256 + a .new)
 
   abbrev olds : List machine.Thread
-  olds = changeAt (s .threads) p gone
+  olds = changeAt (D .placed) p gone
 
   few-objects : n .objects ≤ 32
   few-objects = let x = rel .kept .objects-count in let y = reach .limits .counts .few-objects in omega arith
@@ -116,7 +120,7 @@ module _ {b ws rs : List ℕ} (loaded : Loaded b ws rs) {m : engine.Machine} {s 
         full = ap (λ (x : Bool). x && fullOf (Y .landed)) k;
         head = λ y z. absurd (Option·none-ne-some y z);
       }
-  second (some y) (k, few, o, known, unlearnt, goes) =
+  second (some y) (k, few, o, known, unlearnt, out, goes) =
       let e : n .threads % 9 ≡ n .threads = mod-eq-of-lt (omega arith) in
       let q : landOf 2100 ws rs (n .threads % 9 * 33) (L .stack) (youngGo h) 0 ≡ Y =
       ap (landed-young ws rs X L) (sym k) in
@@ -137,8 +141,26 @@ module _ {b ws rs : List ℕ} (loaded : Loaded b ws rs) {m : engine.Machine} {s 
 
   -- ---- the room after the move
 
-  mover-there : getElem? olds p ≡ some (gone t)
-  mover-there = change-same (s .threads) p _ t there
+  size : length (D .placed) ≡ length (s .threads)
+  size = alike-length (s .threads) (D .placed) (D .alike)
+
+  -- the mover, in the place that it then has
+  there′ : (u : machine.Thread) × (getElem? (D .placed) p ≡ some u)
+  there′ = present (D .placed) p (let x = size in let y = inside (s .threads) p t there in omega arith)
+
+  t′ : machine.Thread
+  t′ = there′ .0
+
+  same-self : t .self ≡ t′ .self
+  unfolding t′
+  same-self =
+      let (u, was, same) = alike-there (s .threads) (D .placed) p t′ (D .alike) (there′ .1) in
+      let z : t ≡ u = cc in
+      ap (λ (x : machine.Thread). x .self) z ∙ same .self
+
+  mover-there : getElem? olds p ≡ some (gone t′)
+  unfolding t′
+  mover-there = change-same (D .placed) p _ t′ (there′ .1)
 
   two : Second (D .young)
   two = second (D .young) (D .born)
@@ -150,7 +172,7 @@ module _ {b ws rs : List ℕ} (loaded : Loaded b ws rs) {m : engine.Machine} {s 
   unfolding playing.noRoomAfter
   deep-after =
       ap (λ (xs : List machine.Thread). cond (playing.deepAt (getElem? xs p) || playing.anyDeep (drop (length (s .threads)) xs)) (some rooms.Room.depth) none) (D .threads)
-      ∙ room-after olds (D .young) _ p (length (s .threads)) (change-length (s .threads) p _) mover-there
+      ∙ room-after olds (D .young) _ p (length (s .threads)) (change-length (D .placed) p _ ∙ size) mover-there
       ∙ ap₂ (λ (x y : Bool). cond (x || y) (some rooms.Room.depth) none) (sym mover-full) (sym (two .full))
 
   -- ---- the state after the move
@@ -186,7 +208,7 @@ module _ {b ws rs : List ℕ} (loaded : Loaded b ws rs) {m : engine.Machine} {s 
   forked y e = along (λ (young : Option machine.Thread). Born mover (h .ready) young) e (D .born) .0
 
   -- its frames are as they were, or as the first landing left them
-  mover-headed : fullOf (L .landed) ≡ false → Headed b (Y .stack) (p * 33) (moverOf X a (L .landed)) (gone t)
+  mover-headed : fullOf (L .landed) ≡ false → Headed b (Y .stack) (p * 33) (moverOf X a (L .landed)) (gone t′)
   mover-headed f =
       let F = found-at b (L .landed .stage) L (p * 33) (D .code) (lands .found) f in
       let sh = F .3 in
@@ -197,7 +219,7 @@ module _ {b ws rs : List ℕ} (loaded : Loaded b ws rs) {m : engine.Machine} {s 
         depth = F .2;
         shallow = F .3;
         stands = F .4;
-        object = H .object;
+        object = H .object ∙ same-self;
         keys = refl;
         keys-fit = D .keys-fit;
         learnt = refl;
@@ -237,16 +259,17 @@ module _ {b ws rs : List ℕ} (loaded : Loaded b ws rs) {m : engine.Machine} {s 
         where
           at : Dec (q ≡ p) → Headed b (Y .stack) (q * 33) (headAt heads′ q) u
           at (yes e) =
-              let x : some (gone t) ≡ some u =
+              let x : some (gone t′) ≡ some u =
               sym mover-there ∙ ap (getElem? olds) (sym e) ∙ g in
-              let y : gone t ≡ u = cc in
+              let y : gone t′ ≡ u = cc in
               along (λ (u : machine.Thread). Headed b (Y .stack) (q * 33) (headAt heads′ q) u) y
-              (along (λ (q : ℕ). Headed b (Y .stack) (q * 33) (headAt heads′ q) (gone t)) (sym e)
-              (along (λ (h : Head). Headed b (Y .stack) (p * 33) h (gone t)) (sym head-mover) (mover-headed fl)))
+              (along (λ (q : ℕ). Headed b (Y .stack) (q * 33) (headAt heads′ q) (gone t′)) (sym e)
+              (along (λ (h : Head). Headed b (Y .stack) (p * 33) h (gone t′)) (sym head-mover) (mover-headed fl)))
           at (no e) =
-              let g₁ = sym (change-other (s .threads) p gone q (λ x. e (sym x))) ∙ g in
-              let l : q < n .threads = (let x = rel .kept .threads-count in let y = inside (s .threads) q u g₁ in omega arith) in
-              along (λ (h : Head). Headed b (Y .stack) (q * 33) h u) (sym (head-other q e l)) (other-headed q u e g₁)
+              let g₁ = sym (change-other (D .placed) p gone q (λ x. e (sym x))) ∙ g in
+              let (v, g₂, same) = alike-there (s .threads) (D .placed) q u (D .alike) g₁ in
+              let l : q < n .threads = (let x = rel .kept .threads-count in let y = inside (s .threads) q v g₂ in omega arith) in
+              along (λ (h : Head). Headed b (Y .stack) (q * 33) h u) (sym (head-other q e l)) (headed-same same (other-headed q v e g₂))
 
       by : (young : Option machine.Thread) → D .young ≡ young → getElem? (withYoung olds young) q ≡ some u
           → Headed b (Y .stack) (q * 33) (headAt heads′ q) u
@@ -257,10 +280,23 @@ module _ {b ws rs : List ℕ} (loaded : Loaded b ws rs) {m : engine.Machine} {s 
               ⊎ ((q ≡ length olds) × (y ≡ u)) → Headed b (Y .stack) (q * 33) (headAt heads′ q) u
           at (inl (l, g)) = old g
           at (inr (l, z)) =
-              let c : n .threads ≡ q = rel .kept .threads-count ∙ sym (l ∙ change-length (s .threads) p _) in
+              let c : n .threads ≡ q = rel .kept .threads-count ∙ sym (l ∙ change-length (D .placed) p _ ∙ size) in
               along (λ (u : machine.Thread). Headed b (Y .stack) (q * 33) (headAt heads′ q) u) z
               (along (λ (q : ℕ). Headed b (Y .stack) (q * 33) (headAt heads′ q) y) c
               (along (λ (h : Head). Headed b (Y .stack) (n .threads * 33) h y) (sym (head-young (forked y e))) (two .head y e fy)))
+
+  -- ---- the places
+
+  young-awake : (young : Option machine.Thread) → Born mover (h .ready) young → Places (afterOf (m .places) (h .ready) p) (placesOf olds)
+      → Places (afterOf (m .places) (h .ready) p) (placesOf (withYoung olds young))
+  young-awake none born e = e
+  young-awake (some y) born e = places-more (afterOf (m .places) (h .ready) p) olds y (born .5) e
+
+  places-after : Places (afterOf (m .places) (h .ready) p) (placesOf (v .state .threads))
+  places-after =
+      along (λ (xs : List machine.Thread). Places (afterOf (m .places) (h .ready) p) (placesOf xs)) (sym (D .threads))
+      (young-awake (D .young) (D .born)
+      (along (λ (ws : List Place). Places (afterOf (m .places) (h .ready) p) ws) (sym (places-kept (D .placed) p gone (λ x. refl))) (D .places)))
 
   pub related-after : fullOf (L .landed) ≡ false → youngFull ≡ false → Related b (after m p (left ws rs X a (m .stack) forks) (Y .stack)) (v .state)
   related-after fl fy = record {
@@ -269,5 +305,7 @@ module _ {b ws rs : List ℕ} (loaded : Loaded b ws rs) {m : engine.Machine} {s 
     kept =
         along (λ (i : ℕ). Kept (settingOf b) (set (m .cells) (cellNumber (h .ready)) (a .cell)) (set (m .objects) i (a .thing)) (a .counts) (v .state))
         (sym (mod-eq-of-lt (let x = few-objects in omega arith))) (D .kept);
+    places-size = after-size (m .places) (h .ready) p ∙ rel .places-size;
+    places = places-after;
     each = λ q u g. each-after (D .young) refl fl fy q u (ap (λ (xs : List machine.Thread). getElem? xs q) (sym (D .threads)) ∙ g);
   }

@@ -10,6 +10,7 @@ use Rattle.keys.specs.KeySet.{keysOf}
 use Rattle.keys.proofs.KeySetLaws.{Fits}
 use Rattle.packed.specs.Trees.{programOf}
 use Rattle.packed.specs.Check.{refusal}
+use Rattle.rules.specs.Queue.{awake}
 use Rattle.rules.specs.State.{changeAt}
 use Rattle.rules.specs.Room as rooms
 use Rattle.machine.specs.Frames as frames
@@ -28,10 +29,13 @@ use Rattle.state.specs.declared.acted.Acted.{Acted}
 use Rattle.look.specs.Look.{objectOf}
 use Rattle.pick.specs.declared.Met.{Met}
 use Rattle.pick.specs.Pick.{actMet}
+use Rattle.queue.specs.Queue.{afterOf}
 use Rattle.engine.specs.Machine as engine
 use Rattle.engine.specs.Machine.{headAt, cellNumber, metAt}
 use Rattle.refinement.proofs.Meant.{Goes}
+use Rattle.refinement.proofs.Queues.{placesOf, Places}
 use Rattle.refinement.proofs.States.{settingOf, Kept, Headed, Related}
+use Rattle.refinement.proofs.Alike.{Alike}
 use Rattle.refinement.proofs.Looks.{Entered}
 
 -- what there is no room for
@@ -48,7 +52,7 @@ withYoung xs (some y) = xs ++ (y ∷ [])
 
 -- a thread that has come to F, and knows the keys K, of which it has learnt this many
 abbrev pub moverIn : frames.Found → Keys → ℕ → machine.Thread → machine.Thread
-moverIn F K l x = record { self = x .self; code = F; keys = K; learnt = l }
+moverIn F K l x = record { self = x .self; code = F; keys = K; learnt = l; place = x .place }
 
 -- thread p is there, in a state s that a run of the accepted plan b has reached and that the engine's state m stands for
 pub record Mover (b : List ℕ) (m : engine.Machine) (s : machine.State) (p : ℕ) : Type 0 where
@@ -65,7 +69,7 @@ module _ {b : List ℕ} {m : engine.Machine} {s : machine.State} {p : ℕ} (move
   abbrev pub Born : Ready → Option machine.Thread → Type 0
   Born r none = isPart part.Fork (r .part) ≡ false
   Born r (some y) =
-      (isPart part.Fork (r .part) ≡ true) × (m .tally .counts .threads < 8) × (m .tally .counts .objects ≡ y .self) × (keysOf (headAt (m .heads) p .keys) ≡ y .keys) × (0 ≡ y .learnt) × Goes b (goRun (r .first) (r .environment)) [] (y .code)
+      (isPart part.Fork (r .part) ≡ true) × (m .tally .counts .threads < 8) × (m .tally .counts .objects ≡ y .self) × (keysOf (headAt (m .heads) p .keys) ≡ y .keys) × (0 ≡ y .learnt) × (awake ≡ y .place) × Goes b (goRun (r .first) (r .environment)) [] (y .code)
 
   -- the thread, at part r, makes the move v, for which there is room: a is what the code does, with cell i
   pub record Does (r : Ready) (i : ℕ) (a : Acted) (v : machine.Move) : Type 0 where
@@ -75,7 +79,11 @@ module _ {b : List ℕ} {m : engine.Machine} {s : machine.State} {p : ℕ} (move
     pub goes : Goes b (a .go) (mover .headed .stack) code
     pub young : Option machine.Thread
     pub born : Born r young
-    pub threads : v .state .threads ≡ withYoung (changeAt (s .threads) p (moverIn code (keysOf (a .keys)) (headAt (m .heads) p .learnt % 256 + a .new))) young
+    -- the threads, with the places that the move leaves them
+    pub placed : List machine.Thread
+    pub alike : Alike (s .threads) placed
+    pub places : Places (afterOf (m .places) r p) (placesOf placed)
+    pub threads : v .state .threads ≡ withYoung (changeAt placed p (moverIn code (keysOf (a .keys)) (headAt (m .heads) p .learnt % 256 + a .new))) young
     pub keys-fit : Fits (a .keys)
     pub kept : Kept (settingOf b) (set (m .cells) i (a .cell)) (set (m .objects) (m .tally .counts .objects) (a .thing)) (a .counts) (v .state)
 
@@ -86,7 +94,7 @@ module _ {b : List ℕ} {m : engine.Machine} {s : machine.State} {p : ℕ} (move
 
 -- what a pick of thread p meets
 abbrev pub met : engine.Machine → ℕ → Met
-met m p = metAt (m .tally .counts) (m .heads) (m .cells) (m .objects) p (cellNumber (headAt (m .heads) p .ready)) (objectOf (headAt (m .heads) p .ready))
+met m p = metAt (m .tally .counts) (m .heads) (m .cells) (m .objects) (m .places) p (cellNumber (headAt (m .heads) p .ready)) (objectOf (headAt (m .heads) p .ready))
 
 -- thread p is there, and what the code does is its move v
 pub record Ahead (b : List ℕ) (m : engine.Machine) (s : machine.State) (p : ℕ) (v : machine.Move) : Type 0 where

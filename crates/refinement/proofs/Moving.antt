@@ -2,7 +2,7 @@
 use Prim.Native.Nat.{ℕ, _+_, _%_, _≤_, _<_}
 use native.Mathlib.Nat.{mod-eq-of-lt}
 use native.Mathlib.Omega.{arith}
-use mathlib.Core.Path.{_≡_, refl, sym, ap, ap₂, _∙_}
+use mathlib.Core.Path.{_≡_, refl, sym, ap, ap₂, _∙_, subst as along}
 use mathlib.Core.Bool.{false}
 use mathlib.Core.List.{List}
 use mathlib.Core.Option.{Option, none}
@@ -16,6 +16,7 @@ use Rattle.records.specs.Record.{Record, entry}
 use Rattle.records.specs.Record as records
 use Rattle.rules.specs.State.{changeAt}
 use Rattle.rules.specs.Rules.{Rule}
+use Rattle.rules.proofs.StateLaws.{inside, there as present}
 use Rattle.machine.specs.Frames as frames
 use Rattle.machine.specs.Machine as machine
 use Rattle.machine.specs.Playing.{tableOf}
@@ -30,10 +31,13 @@ use Rattle.state.specs.declared.Object.{Object}
 use Rattle.state.specs.declared.Counts.{Counts}
 use Rattle.state.specs.declared.Entry.{Entry}
 use Rattle.state.specs.Acted.{entryOf, noEntry, nothing, actedOf}
+use Rattle.queue.specs.Queue.{afterOf}
 use Rattle.engine.specs.Machine as engine
 use Rattle.engine.specs.Machine.{noCell, headAt}
 use Rattle.refinement.proofs.Meant.{Goes}
+use Rattle.refinement.proofs.Queues.{placesOf, Places, after-quiet}
 use Rattle.refinement.proofs.States.{settingOf, Kept, Headed, Related}
+use Rattle.refinement.proofs.Alike.{Alike, alike-same, alike-length, alike-there}
 use Rattle.refinement.proofs.KeptLaws.{kept-changed, kept-past, kept-same}
 use Rattle.refinement.proofs.Looks.{Written, Entered, attempt-act}
 use Rattle.refinement.proofs.Moves.{Mover, Does, Acts}
@@ -41,7 +45,7 @@ use Rattle.refinement.proofs.ChangeLaws.{change-agree, change-none, cha
 
 -- a thread that knows the keys K, of which it has learnt this many
 abbrev knowing : Keys → ℕ → machine.Thread → machine.Thread
-knowing K l x = record { self = x .self; code = x .code; keys = K; learnt = l }
+knowing K l x = record { self = x .self; code = x .code; keys = K; learnt = l; place = x .place }
 
 -- thread p's head, were r its part
 abbrev pub headFor : engine.Machine → ℕ → Ready → Head
@@ -73,14 +77,23 @@ module _ {b : List ℕ} {m : engine.Machine} {s : machine.State} {p : ℕ} (move
       let l = reached-total (tableOf b) reach p t there in
       sym e ∙ sym (mod-eq-of-lt (omega (arith, e, l)))
 
-  -- what the mover knows
+  -- what the mover knows, in whatever place
+  pub unlearnt-among : (xs : List machine.Thread) → Alike (s .threads) xs → xs ≡ changeAt xs p (knowing (keysOf ks) (total 0))
+  unlearnt-among xs alike =
+      let l = alike-length (s .threads) xs alike in
+      let y = inside (s .threads) p t there in
+      let (u, at) = present xs p (omega arith) in
+      let (v, was, same) = alike-there (s .threads) xs p u alike at in
+      let z : v ≡ t = cc in
+      let K : u .keys ≡ keysOf ks = sym (same .keys) ∙ ap (λ (x : machine.Thread). x .keys) z ∙ sym known in
+      let L : u .learnt ≡ total 0 = sym (same .learnt) ∙ ap (λ (x : machine.Thread). x .learnt) z ∙ omega (arith, same-total) in
+      sym (change-none xs p) ∙ change-agree xs p (λ x. x) (knowing (keysOf ks) (total 0)) u at (ap₂ (λ (K : Keys) (l : ℕ). knowing K l u) K L)
+
   pub unlearnt : s .threads ≡ changeAt (s .threads) p (knowing (keysOf ks) (total 0))
-  unlearnt =
-      sym (change-none (s .threads) p)
-      ∙ change-agree (s .threads) p (λ x. x) (knowing (keysOf ks) (total 0)) t there (ap₂ (λ (K : Keys) (l : ℕ). knowing K l t) (sym known) (omega (arith, same-total)))
+  unlearnt = unlearnt-among (s .threads) (alike-same (s .threads))
 
   pub gained : (K L : Keys) (count : Keys → ℕ) (i : ℕ) → union K (t .keys) ≡ L → count (t .keys) ≡ i
-      → changeAt (s .threads) p (λ x. record { self = x .self; code = x .code; keys = union K (x .keys); learnt = x .learnt + count (x .keys) }) ≡ changeAt (s .threads) p (knowing L (total i))
+      → changeAt (s .threads) p (λ x. record { self = x .self; code = x .code; keys = union K (x .keys); learnt = x .learnt + count (x .keys); place = x .place }) ≡ changeAt (s .threads) p (knowing L (total i))
   gained K L count i e z =
       change-agree (s .threads) p _ (knowing L (total i)) t there (ap₂ (λ (K : Keys) (l : ℕ). knowing K l t) e (ap₂ (λ (x y : ℕ). x + y) same-total z))
 
@@ -92,30 +105,43 @@ module _ {b : List ℕ} {m : engine.Machine} {s : machine.State} {p : ℕ} (move
   unfolding union
   joined c f = ap (union (keysOf c)) (sym known) ∙ or-comm (keysOf c) (keysOf ks) ∙ sym (keys-join fits f)
 
-  -- a move that forks no thread
-  pub moved : (r₀ : Ready) (i : ℕ) (R : Rule) (r : Option Record) (s′ : machine.State) (F : frames.Found) (g : Go) (n′ : Counts) (ks′ : KeySet) (new : ℕ) (c : Cell) (x : Object) (e : Entry)
+  -- a move that forks no thread, and leaves these places
+  pub moved-among : (xs : List machine.Thread) (r₀ : Ready) (i : ℕ) (R : Rule) (r : Option Record) (s′ : machine.State) (F : frames.Found) (g : Go) (n′ : Counts) (ks′ : KeySet) (new : ℕ) (c : Cell) (x : Object) (e : Entry)
+      → Alike (s .threads) xs → Places (afterOf (m .places) r₀ p) (placesOf xs)
       → playing.noRoomBefore s R ≡ none → Entered p e r → isPart part.Fork (r₀ .part) ≡ false → Goes b g S F → Fits ks′
-      → s′ .threads ≡ changeAt (s .threads) p (knowing (keysOf ks′) (total new)) → Kept (settingOf b) (set cs i c) (set ts (n .objects) x) n′ s′
+      → s′ .threads ≡ changeAt xs p (knowing (keysOf ks′) (total new)) → Kept (settingOf b) (set cs i c) (set ts (n .objects) x) n′ s′
       → Does mover r₀ i (record { go = g; keys = ks′; cell = c; thing = x; counts = n′; entry = e; new = new }) (record { rule = R; entry = r; state = machine.become s′ p F })
   unfolding machine.become
-  moved r₀ i R r s′ F g n′ ks′ new c x e lack ent forks goes fit threads kept = record {
+  moved-among xs r₀ i R r s′ F g n′ ks′ new c x e alike places lack ent forks goes fit threads kept = record {
     lacks = lack;
     entered = ent;
     code = F;
     goes = goes;
     young = none;
     born = forks;
+    placed = xs;
+    alike = alike;
+    places = places;
     threads =
-        ap (λ (xs : List machine.Thread). changeAt xs p (λ x. record { self = x .self; code = F; keys = x .keys; learnt = x .learnt })) threads
-        ∙ change-twice (s .threads) p (knowing (keysOf ks′) (total new)) (λ x. record { self = x .self; code = F; keys = x .keys; learnt = x .learnt });
+        ap (λ (xs : List machine.Thread). changeAt xs p (λ x. record { self = x .self; code = F; keys = x .keys; learnt = x .learnt; place = x .place })) threads
+        ∙ change-twice xs p (knowing (keysOf ks′) (total new)) (λ x. record { self = x .self; code = F; keys = x .keys; learnt = x .learnt; place = x .place });
     keys-fit = fit;
     kept = kept-changed kept p _ (λ x. refl);
   }
 
-  -- a move that leaves the memory and the keys as they are, and no record
-  pub plain : (r₀ : Ready) (i : ℕ) (R : Rule) (F : frames.Found) (g : Go) → isPart part.Fork (r₀ .part) ≡ false → playing.noRoomBefore s R ≡ none → Goes b g S F
+  -- a move that forks no thread and makes no signal
+  pub moved : (r₀ : Ready) (i : ℕ) (R : Rule) (r : Option Record) (s′ : machine.State) (F : frames.Found) (g : Go) (n′ : Counts) (ks′ : KeySet) (new : ℕ) (c : Cell) (x : Object) (e : Entry)
+      → playing.noRoomBefore s R ≡ none → Entered p e r → isPart part.Fork (r₀ .part) ≡ false → isPart part.Signal (r₀ .part) ≡ false → Goes b g S F → Fits ks′
+      → s′ .threads ≡ changeAt (s .threads) p (knowing (keysOf ks′) (total new)) → Kept (settingOf b) (set cs i c) (set ts (n .objects) x) n′ s′
+      → Does mover r₀ i (record { go = g; keys = ks′; cell = c; thing = x; counts = n′; entry = e; new = new }) (record { rule = R; entry = r; state = machine.become s′ p F })
+  moved r₀ i R r s′ F g n′ ks′ new c x e lack ent forks signals goes fit threads kept =
+      moved-among (s .threads) r₀ i R r s′ F g n′ ks′ new c x e (alike-same (s .threads))
+      (along (λ (ws : List ℕ). Places ws (placesOf (s .threads))) (sym (after-quiet (m .places) r₀ p signals)) (mover .related .places)) lack ent forks goes fit threads kept
+
+  -- a move that leaves the memory, the keys and the places as they are, and no record
+  pub plain : (r₀ : Ready) (i : ℕ) (R : Rule) (F : frames.Found) (g : Go) → isPart part.Fork (r₀ .part) ≡ false → isPart part.Signal (r₀ .part) ≡ false → playing.noRoomBefore s R ≡ none → Goes b g S F
       → Acts mover r₀ i (actedOf g n ks (getD cs i noCell) noEntry) (record { rule = R; entry = none; state = machine.become s p F })
-  plain r₀ i R F g forks lack goes = moved r₀ i R none s F g n ks 0 (getD cs i noCell) nothing noEntry lack refl forks goes fits unlearnt (kept-past (kept-same k i) nothing)
+  plain r₀ i R F g forks signals lack goes = moved r₀ i R none s F g n ks 0 (getD cs i noCell) nothing noEntry lack refl forks signals goes fits unlearnt (kept-past (kept-same k i) nothing)
 
   pub few-threads : n .threads ≤ 8
   few-threads = let a = k .threads-count in let c = reach .limits .counts .few-threads in omega arith

@@ -18,6 +18,7 @@ use Rattle.packed.specs.Format.{terms, maskBit, fieldsFrom}
 use Rattle.packed.specs.Trees.{nodeAt, programOf}
 use Rattle.records.specs.Record.{entry}
 use Rattle.records.specs.Record as records
+use Rattle.rules.specs.Queue.{awake}
 use Rattle.rules.specs.State.{changeAt}
 use Rattle.rules.specs.Rules.{e-new, e-join}
 use Rattle.rules.specs.Step.{forJoin, notThread}
@@ -43,12 +44,14 @@ use Rattle.look.specs.declared.Sight.the-variants as sight
 use Rattle.look.specs.Look.{objectBy, fieldBy, lookJoin}
 use Rattle.state.specs.Acted.{entryOf, nothing, countsOf, heardOf}
 use Rattle.objects.specs.Objects.{actNew, actFork, actJoin}
+use Rattle.queue.specs.Queue.{afterOf}
 use Rattle.engine.specs.Machine as engine
 use Rattle.pick.specs.Pick.{noHead}
 use Rattle.engine.specs.Machine.{noCell, noThing, headAt}
 use Rattle.refinement.proofs.Meant.{closed, IsExpression}
 use Rattle.refinement.proofs.States.{settingOf, numberOf, Kept, Headed, Related}
 use Rattle.refinement.proofs.Tests.{test-true, test-false}
+use Rattle.refinement.proofs.Alike.{alike-same}
 use Rattle.refinement.proofs.ThreadNumbers.{Strange, strange-number, added-number, other-number, found-thread}
 use Rattle.refinement.proofs.KeptLaws.{kept-changed, kept-past, kept-object, kept-same, no-fields, no-bit}
 use Rattle.refinement.proofs.Looks.{Written, MeetsBy, ready-there}
@@ -115,13 +118,13 @@ module _ {b : List ℕ} {m : engine.Machine} {s : machine.State} {p : ℕ} (move
                 (countsOf (n .threads) (n .objects + 1) (n .keys)) ks 0 (getD cs i noCell) (record { mask = a; thread = 8 }) (entryOf (records.kindNumber records.Kind.new) (n .objects) 0 0)
                 (test-false (leb 32 (length (s .objects))) _ _ (ap (leb 32) (sym count) ∙ e))
                 (along (λ (o : ℕ). Written p (entryOf (records.kindNumber records.Kind.new) (n .objects) 0 0) (entry records.Kind.new p o 0 0)) count (written mover records.Kind.new (n .objects) 0 0 h (omega arith) (omega arith)))
-                refl (well, h, ap (up (nodeAt b) (terms b) S) (sym count)) fits (unlearnt mover) (kept h),
+                refl refl (well, h, ap (up (nodeAt b) (terms b) S) (sym count)) fits (unlearnt mover) (kept h),
           )
 
   -- E-FORK
   pub fork-meets : (u b′ w environment i : ℕ) → Well S → IsExpression b u → t .code ≡ frames.Found.here S (frames.Ready.fork (closed u environment))
       → MeetsBy sight.Ready p (readyOf part.Fork u b′ w environment) (machine.attempt (tableOf b) s p) (Acts mover (readyOf part.Fork u b′ w environment) i (actFork n (headFor m p (readyOf part.Fork u b′ w environment)) (getD cs i noCell)))
-  unfolding actFork machine.act machine.around machine.addObject machine.addThread machine.become playing.noRoomBefore land.go tableOf
+  unfolding afterOf actFork machine.act machine.around machine.addObject machine.addThread machine.become playing.noRoomBefore land.go tableOf
   fork-meets u b′ w environment i well hu code = by (leb 8 (n .threads)) (leb 32 (n .objects)) refl refl
     where
       count : n .objects ≡ length (s .objects)
@@ -131,7 +134,7 @@ module _ {b : List ℕ} {m : engine.Machine} {s : machine.State} {p : ℕ} (move
       count-threads = k .threads-count
 
       y : machine.Thread
-      y = record { self = length (s .objects); code = enter (nodeAt b) (terms b) [] (closed u environment); keys = t .keys; learnt = 0 }
+      y = record { self = length (s .objects); code = enter (nodeAt b) (terms b) [] (closed u environment); keys = t .keys; learnt = 0; place = awake }
 
       x : Object
       x = record { mask = 0; thread = n .threads }
@@ -206,7 +209,10 @@ module _ {b : List ℕ} {m : engine.Machine} {s : machine.State} {p : ℕ} (move
               code = F;
               goes = (well, h, ap (up (nodeAt b) (terms b) S) (sym count));
               young = some y;
-              born = (refl, g, count, known, refl, (tt, hu, refl));
+              born = (refl, g, count, known, refl, refl, (tt, hu, refl));
+              placed = s .threads;
+              alike = alike-same (s .threads);
+              places = mover .related .places;
               threads = threads-after;
               keys-fit = fits;
               kept = kept-changed (kept h) p _ (λ x. refl);
@@ -242,7 +248,7 @@ module _ {b : List ℕ} {m : engine.Machine} {s : machine.State} {p : ℕ} (move
             _,
             acted (some q) e ∙ ap (λ (v : Option ℕ). machine.around (tableOf b) p S (machine.joinValue s p o q v)) f,
             moved mover _ i e-join (some (entry records.Kind.join p o (q .number) (h .ready .first))) (machine.hear s p (q .thread .keys)) (up (nodeAt b) (terms b) S (h .ready .first)) (goValue (h .ready .first)) n
-                (joinOf ks (h .keys)) (newOf ks (h .keys)) (getD cs i noCell) nothing (entryOf (records.kindNumber records.Kind.join) o (q .number) (h .ready .first)) refl (written mover records.Kind.join o (q .number) (h .ready .first) ho (omega arith) v) refl
+                (joinOf ks (h .keys)) (newOf ks (h .keys)) (getD cs i noCell) nothing (entryOf (records.kindNumber records.Kind.join) o (q .number) (h .ready .first)) refl (written mover records.Kind.join o (q .number) (h .ready .first) ho (omega arith) v) refl refl
                 (well, v, refl) (fits-join fits fit) (gained mover (q .thread .keys) _ (countNew (q .thread .keys)) _ (ap (λ (K : Keys). union K (t .keys)) (sym eq) ∙ joined mover (h .keys) fit)
                 (ap (λ (K : Keys). countNew K (t .keys)) (sym eq) ∙ joined-new mover (h .keys) fit))
                 (kept-changed (kept-past (kept-same k i) nothing) p _ (λ x. refl)),

@@ -67,8 +67,10 @@ unfolding playing.step playing.answer
 passed-by b s p block.Finished r h = ap (playing.answer s p) h
 passed-by b s p block.Monitor r h = ap (playing.answer s p) h
 passed-by b s p block.Join r h = ap (playing.answer s p) h
+passed-by b s p block.Notify r h = ap (playing.answer s p) h
 passed-by b s p block.Field r h = ap (playing.answer s p) h
 passed-by b s p block.Thread r h = ap (playing.answer s p) h
+passed-by b s p block.NotHeld r h = ap (playing.answer s p) h
 passed-by b s p block.NoRule r h = absurd h
 
 module _ {b ws rs : List ℕ} (loaded : Loaded b ws rs) {m : engine.Machine} {s : machine.State} {p : ℕ} (mover : Mover b m s p) {v : machine.Move}

@@ -15,7 +15,7 @@ use Rattle.packed.specs.Check.{refusal}
 use Rattle.records.specs.Record.{Record}
 use Rattle.records.specs.Packed.{bytesOf}
 use Rattle.rules.specs.Step as step
-use Rattle.rules.specs.Step.{forMonitor, forJoin, missingField, notThread}
+use Rattle.rules.specs.Step.{forMonitor, forJoin, forNotify, missingField, notThread, notHeld}
 use Rattle.rules.specs.Run.{Stop, Status, Outcome, play, outcomeOf}
 use Rattle.rules.proofs.StateLaws.{there as present, outside}
 use Rattle.format.specs.Area.{overwrite}
@@ -63,10 +63,12 @@ use Rattle.refinement.proofs.Logs.{overlay, no-records, put-logged, put
 abbrev waitMeant : Wait → step.Wait
 waitMeant (wait.Monitor o) = forMonitor o
 waitMeant (wait.Join o) = forJoin o
+waitMeant (wait.Notify o) = forNotify o
 
 abbrev stuckMeant : Stuck → step.Stuck
 stuckMeant (stuck.Field o f) = missingField o f
 stuckMeant (stuck.Thread o) = notThread o
+stuckMeant (stuck.Monitor o) = notHeld o
 stuckMeant stuck.NoRule = step.Stuck.noRule
 
 abbrev pub stateMeant : ThreadState → Status
@@ -86,8 +88,10 @@ unfolding playing.status
 blocked-status block.Finished r A h = ap playing.status (sym h)
 blocked-status block.Monitor r A h = ap playing.status (sym h)
 blocked-status block.Join r A h = ap playing.status (sym h)
+blocked-status block.Notify r A h = ap playing.status (sym h)
 blocked-status block.Field r A h = ap playing.status (sym h)
 blocked-status block.Thread r A h = ap playing.status (sym h)
+blocked-status block.NotHeld r A h = ap playing.status (sym h)
 blocked-status block.NoRule r A h = absurd h
 
 meets-status : (w : Sight) (p : ℕ) (r : Ready) (A : machine.Attempt) (Z : machine.Move → Type 0) → MeetsBy w p r A Z → stateMeant (stateOf w r) ≡ playing.status A
@@ -101,13 +105,13 @@ cons-same {A} e h = ap₂ {C = List A} (λ x xs. x ∷ xs) e h
 
 -- what the code says of its threads is what they can do
 statuses : (b : List ℕ) → refusal b ≡ none → (m : engine.Machine) (s : machine.State) → Related b m s → Reached (tableOf b) (programOf b) s
-    → map statusOf (threadsOf (settingOf b) (m .tally .counts) (m .heads) (m .cells) (m .objects)) ≡ playing.statusesFrom (tableOf b) s 0 8
+    → map statusOf (threadsOf (settingOf b) (m .tally .counts) (m .heads) (m .cells) (m .objects) (m .places)) ≡ playing.statusesFrom (tableOf b) s 0 8
 unfolding threadsOf metBy threadBy playing.statusesFrom playing.status
 statuses b ok m s rel reach =
     cons-same (at 0 (omega arith)) (cons-same (at 1 (omega arith)) (cons-same (at 2 (omega arith)) (cons-same (at 3 (omega arith))
     (cons-same (at 4 (omega arith)) (cons-same (at 5 (omega arith)) (cons-same (at 6 (omega arith)) (cons-same (at 7 (omega arith)) refl)))))))
   where
-    at : (p : ℕ) → p < 8 → statusOf (threadAt (settingOf b) (m .tally .counts) (m .heads) (m .cells) (m .objects) p) ≡ playing.status (machine.attempt (tableOf b) s p)
+    at : (p : ℕ) → p < 8 → statusOf (threadAt (settingOf b) (m .tally .counts) (m .heads) (m .cells) (m .objects) (m .places) p) ≡ playing.status (machine.attempt (tableOf b) s p)
     at p h = by (leb (m .tally .counts .threads) p) refl
       where
         by : (z : Bool) → leb (m .tally .counts .threads) p ≡ z
@@ -119,7 +123,7 @@ statuses b ok m s rel reach =
 
 -- what it says of their totals too
 totals : (b : List ℕ) (m : engine.Machine) (s : machine.State) → Related b m s → Reached (tableOf b) (programOf b) s
-    → map (λ (t : Thread). t .learnt) (threadsOf (settingOf b) (m .tally .counts) (m .heads) (m .cells) (m .objects)) ≡ playing.totalsFrom s 0 8
+    → map (λ (t : Thread). t .learnt) (threadsOf (settingOf b) (m .tally .counts) (m .heads) (m .cells) (m .objects) (m .places)) ≡ playing.totalsFrom s 0 8
 unfolding threadsOf metBy threadBy playing.totalsFrom playing.totalOf
 totals b m s rel reach =
     cons-same (at 0) (cons-same (at 1) (cons-same (at 2) (cons-same (at 3) (cons-same (at 4) (cons-same (at 5) (cons-same (at 6) (cons-same (at 7) refl)))))))
@@ -127,7 +131,7 @@ totals b m s rel reach =
     count : m .tally .counts .threads ≡ length (s .threads)
     count = rel .kept .threads-count
 
-    at : (p : ℕ) → threadAt (settingOf b) (m .tally .counts) (m .heads) (m .cells) (m .objects) p .learnt ≡ playing.totalOf (getElem? (s .threads) p)
+    at : (p : ℕ) → threadAt (settingOf b) (m .tally .counts) (m .heads) (m .cells) (m .objects) (m .places) p .learnt ≡ playing.totalOf (getElem? (s .threads) p)
     at p = by (leb (m .tally .counts .threads) p) refl
       where
         by : (z : Bool) → leb (m .tally .counts .threads) p ≡ z
@@ -190,7 +194,7 @@ module _ (b ws rs : List ℕ) (ok : refusal b ≡ none) (loaded : Loaded b ws rs
     passed-plays : (k : Stack) → k ≡ m .stack → Plays answer.Passed k (playing.resume s goOn playing.Answer.passed)
     unfolding playing.resume playing.afterPass
     passed-plays k e =
-        let same : Related b (stayed m (m .stack)) s = record { heads-size = rel .heads-size; sized = rel .sized; kept = rel .kept; each = rel .each } in
+        let same : Related b (stayed m (m .stack)) s = record { heads-size = rel .heads-size; sized = rel .sized; kept = rel .kept; each = rel .each; places-size = rel .places-size; places = rel .places } in
         let r = rest (stayed m k) s (along (λ (k : Stack). Related b (stayed m k) s) (sym e) same) reach (omega arith) in
         record { stop = r .stop; picks = (let q = r .picks in omega arith); moves = r .moves; records = r .records; threads = r .threads; totals = r .totals; area = r .area }
 

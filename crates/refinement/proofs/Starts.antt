@@ -12,6 +12,7 @@ use Rattle.keys.proofs.KeySetLaws.{fits-zero, fits-empty, keys-zero}
 use Rattle.packed.specs.Format.{procedures, root}
 use Rattle.packed.specs.Check.{refusal}
 use Rattle.packed.proofs.Accepted.{accepted}
+use Rattle.rules.specs.Queue.{awake}
 use Rattle.rules.specs.State.{freshObject}
 use Rattle.rules.specs.Rules.{e-call}
 use Rattle.machine.specs.Frames.{Slots, noSlots, closure}
@@ -29,6 +30,7 @@ use Rattle.state.specs.Acted.{countsOf}
 use Rattle.engine.specs.Machine.{noCell, noThing, headAt, headOf, cellFirst, startOf}
 use Rattle.refinement.proofs.Meant.{Loaded, IsExpression, Stands}
 use Rattle.refinement.proofs.SlotLaws.{none-bound}
+use Rattle.refinement.proofs.Queues.{placeMeant, placesOf, Places}
 use Rattle.refinement.proofs.States.{settingOf, CellFits, memoryOf, Kept, Headed, Related}
 use Rattle.refinement.proofs.KeptLaws.{kept-object, no-fields, no-bit}
 
@@ -94,16 +96,32 @@ module _ (b ws rs : List ℕ) (ok : refusal b ≡ none) (loaded : Loaded b ws rs
 
   start-headed : (k : Stack)
       → Headed b k (0 * 33) (headOf (getD rs 0 0))
-      (record { self = 0; code = frames.Found.here [] (frames.Ready.call 0 0 noSlots); keys = singleton 0; learnt = 0 })
+      (record { self = 0; code = frames.Found.here [] (frames.Ready.call 0 0 noSlots); keys = singleton 0; learnt = 0; place = awake })
   start-headed k = record { stack = []; held = tt; depth = refl; shallow = omega arith; stands = start-stands; object = refl; keys = keys-zero; keys-fit = fits-zero; learnt = refl }
 
   start-each : (area : List ℕ) (p : ℕ) (t : machine.Thread) → getElem? (playing.start .threads) p ≡ some t
       → Headed b (startOf rs area .stack) (p * 33) (headAt (startOf rs area .heads) p) t
   unfolding startOf playing.start
   start-each area zero t h =
-      let e : record { self = 0; code = frames.Found.here [] (frames.Ready.call 0 0 noSlots); keys = singleton 0; learnt = 0 } ≡ t = cc in
+      let e : record { self = 0; code = frames.Found.here [] (frames.Ready.call 0 0 noSlots); keys = singleton 0; learnt = 0; place = awake } ≡ t = cc in
       along (λ (t : machine.Thread). Headed b (startOf rs area .stack) (0 * 33) (headAt (startOf rs area .heads) 0) t) e (start-headed (startOf rs area .stack))
   start-each area (suc p) t h = absurd (Option·none-ne-some t h)
+
+  -- every thread is awake
+  start-places : Places (replicate 8 0) (placesOf (playing.start .threads))
+  unfolding playing.start
+  start-places i = ap placeMeant (none-placed i) ∙ at i
+    where
+      none-placed : (i : ℕ) → _≡_ {A = ℕ} (getD (replicate 8 0) i 0) 0
+      none-placed i = by (decLt i 8)
+        where
+          by : Dec (i < 8) → _≡_ {A = ℕ} (getD (replicate 8 0) i 0) 0
+          by (yes h) = getD-replicate 8 i 0 0 h
+          by (no h) = List·getD-eq-default (replicate 8 0) 0 {n = i} (let l = length-replicate {A = ℕ} 8 0 in omega (arith, h))
+
+      at : (i : ℕ) → placeMeant 0 ≡ getD (awake ∷ []) i awake
+      at zero = refl
+      at (suc i) = refl
 
   pub start-related : (area : List ℕ) → Related b (startOf rs area) playing.start
   unfolding startOf
@@ -114,4 +132,6 @@ module _ (b ws rs : List ℕ) (ok : refusal b ≡ none) (loaded : Loaded b ws rs
         start-kept (settingOf b) (replicate 1024 cellFirst) (replicate 33 noThing) (length-replicate 1024 cellFirst)
         (λ i h. getD-replicate 1024 i cellFirst noCell h) (length-replicate 33 noThing) refl;
     each = start-each area;
+    places-size = length-replicate {A = ℕ} 8 0;
+    places = start-places;
   }

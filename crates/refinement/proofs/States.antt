@@ -1,4 +1,4 @@
--- What the engine's state stands for: cells, objects and heads as numbers against a state of the abstract machine. Assumes nothing.
+-- What the engine's state stands for: cells, objects, heads and places as numbers against a state of the abstract machine. Assumes nothing.
 use Prim.Native.Nat.{ℕ, _+_, _*_, _≤_, _<_}
 use mathlib.Core.Path.{_≡_}
 use mathlib.Core.Bool.{Bool, true, false, cond, _&&_}
@@ -25,6 +25,7 @@ use Rattle.look.specs.Look.{hasOf}
 use Rattle.engine.specs.Machine as engine
 use Rattle.engine.specs.Machine.{noCell, noThing, headAt, cellFirst}
 use Rattle.refinement.proofs.Meant.{Holds, Stands, Sized}
+use Rattle.refinement.proofs.Queues.{placesOf, Places}
 
 -- what the run of plan b goes by
 abbrev pub settingOf : List ℕ → Setting
@@ -84,3 +85,5 @@ pub record Related (b : List ℕ) (m : engine.Machine) (s : machine.State) : Typ
   pub sized : Sized b (m .stack)
   pub kept : Kept (settingOf b) (m .cells) (m .objects) (m .tally .counts) s
   pub each : (p : ℕ) (t : machine.Thread) → getElem? (s .threads) p ≡ some t → Headed b (m .stack) (p * 33) (headAt (m .heads) p) t
+  pub places-size : length (m .places) ≡ 8
+  pub places : Places (m .places) (placesOf (s .threads))

@@ -3,7 +3,7 @@ use Prim.Native.Nat.{ℕ, zero, suc, _+_}
 use native.Mathlib.Omega.{arith}
 use mathlib.Core.Path.{_≡_, refl, ap, _∙_}
 use mathlib.Core.Bool.{Bool, true, false, cond}
-use mathlib.Core.List.{List, [], _∷_, _++_}
+use mathlib.Core.List.{List, [], _∷_, _++_, map}
 use mathlib.Core.Option.{some, none, Option·none-ne-some}
 use lib.Dec.{eqb}
 use lib.ListN.{length, getElem?}
@@ -29,6 +29,20 @@ numbers-change (x ∷ xs) i (suc p) k h o = at (eqb (x .self) o) (numbers-change
   where
     at : (t : Bool) → numberOf (machine.threadOf (suc i) (changeAt xs p k) o) ≡ numberOf (machine.threadOf (suc i) xs o)
         → numberOf (cond t (some (record { number = i; thread = x })) (machine.threadOf (suc i) (changeAt xs p k) o)) ≡ numberOf (cond t (some (record { number = i; thread = x })) (machine.threadOf (suc i) xs o))
+    at true q = refl
+    at false q = q
+
+-- and where every thread does
+pub numbers-map : (xs : List machine.Thread) (i : ℕ) (k : machine.Thread → machine.Thread) → ((x : machine.Thread) → k x .self ≡ x .self) → (o : ℕ)
+    → numberOf (machine.threadOf i (map k xs) o) ≡ numberOf (machine.threadOf i xs o)
+unfolding machine.threadOf
+numbers-map [] i k h o = refl
+numbers-map (x ∷ xs) i k h o =
+    ap (λ (a : ℕ). numberOf (cond (eqb a o) (some (record { number = i; thread = k x })) (machine.threadOf (suc i) (map k xs) o))) (h x)
+    ∙ at (eqb (x .self) o) (numbers-map xs (suc i) k h o)
+  where
+    at : (t : Bool) → numberOf (machine.threadOf (suc i) (map k xs) o) ≡ numberOf (machine.threadOf (suc i) xs o)
+        → numberOf (cond t (some (record { number = i; thread = k x })) (machine.threadOf (suc i) (map k xs) o)) ≡ numberOf (cond t (some (record { number = i; thread = x })) (machine.threadOf (suc i) xs o))
     at true q = refl
     at false q = q
 

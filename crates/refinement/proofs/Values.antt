@@ -55,6 +55,9 @@ module _ (b ws : List ℕ) (t e : ℕ) where
   at-any (Expression.fork p q _) = Valued.other (rw p) (rw q)
   at-any (Expression.join p q _) = Valued.other (rw p) (rw q)
   at-any (Expression.synch p q _ _) = Valued.other (rw p) (rw q)
+  at-any (Expression.wait p q _) = Valued.other (rw p) (rw q)
+  at-any (Expression.notify p q _) = Valued.other (rw p) (rw q)
+  at-any (Expression.notifyAll p q _) = Valued.other (rw p) (rw q)
 
 -- ---- a condition
 

@@ -8,6 +8,7 @@ use mathlib.Core.List.{List}
 use mathlib.Core.Logic.{_⊎_, inl, inr}
 use lib.Dec.{eqb}
 use lib.ListN.{getD}
+use Rattle.packed.specs.Syntax.{Signal}
 use Rattle.packed.specs.Format.{procedures, terms, maskBit, fieldsFrom, expression, condition, list, width, table, layout, tagAt, termAt}
 use Rattle.packed.specs.Trees.{Node, binderOf, nodes, nodeAt}
 use Rattle.packed.specs.Steps as packed
@@ -41,6 +42,9 @@ pub data Expression (b : List ℕ) (t w : ℕ) : Type 0 where
   fork : tagOf w ≡ 9 → nodeAt b t ≡ Node.fork (firstOf w) → Child b t expression (firstOf w) → Expression b t w
   join : tagOf w ≡ 10 → nodeAt b t ≡ Node.join (firstOf w) → Child b t expression (firstOf w) → Expression b t w
   synch : tagOf w ≡ 11 → nodeAt b t ≡ Node.synch (firstOf w) (secondOf w) → Child b t expression (firstOf w) → Child b t expression (secondOf w) → Expression b t w
+  wait : tagOf w ≡ 18 → nodeAt b t ≡ Node.signal Signal.wait (firstOf w) → Child b t expression (firstOf w) → Expression b t w
+  notify : tagOf w ≡ 19 → nodeAt b t ≡ Node.signal Signal.notify (firstOf w) → Child b t expression (firstOf w) → Expression b t w
+  notifyAll : tagOf w ≡ 20 → nodeAt b t ≡ Node.signal Signal.notifyAll (firstOf w) → Child b t expression (firstOf w) → Expression b t w
 
 -- a condition
 pub data Condition (b : List ℕ) (t w : ℕ) : Type 0 where
@@ -156,6 +160,18 @@ module _ (b ws rs : List ℕ) (a : Accepted b) (loaded : Loaded b ws rs) (t : �
   unfolding nodes layout table
   at-synch e = let n = known 11 e in Expression.synch (tagged 11 e) (n .node) (n .first) (n .second)
 
+  at-wait : tagAt b t ≡ 18 → Expression b t w
+  unfolding nodes layout table
+  at-wait e = let n = known 18 e in Expression.wait (tagged 18 e) (n .node) (n .first)
+
+  at-notify : tagAt b t ≡ 19 → Expression b t w
+  unfolding nodes layout table
+  at-notify e = let n = known 19 e in Expression.notify (tagged 19 e) (n .node) (n .first)
+
+  at-notify-all : tagAt b t ≡ 20 → Expression b t w
+  unfolding nodes layout table
+  at-notify-all e = let n = known 20 e in Expression.notifyAll (tagged 20 e) (n .node) (n .first)
+
   at-truth : tagAt b t ≡ 12 → Condition b t w
   unfolding nodes
   at-truth e = Condition.truth (tagged 12 e) (node-is b t 12 e)
@@ -193,9 +209,10 @@ module _ (b ws rs : List ℕ) (a : Accepted b) (loaded : Loaded b ws rs) (t : �
   last k p q = omega arith
 
   pub expression-at : OfSort expression (tagAt b t) → Expression b t (wordAt ws t)
-  expression-at s =
+  expression-at (inl s) =
       from 0 (omega arith) at-null (λ l. from 1 l at-variable (λ l. from 2 l at-new (λ l. from 3 l at-read (λ l. from 4 l at-write (λ l. from 5 l at-let (λ l.
       from 6 l at-if (λ l. from 7 l at-while (λ l. from 8 l at-call (λ l. from 9 l at-fork (λ l. from 10 l at-join (λ l. at-synch (last 11 l s))))))))))))
+  expression-at (inr s) = from 18 (s .0) at-wait (λ l. from 19 l at-notify (λ l. at-notify-all (last 20 l (s .1))))
 
   pub condition-at : OfSort condition (tagAt b t) → Condition b t (wordAt ws t)
   condition-at s = from 12 (s .0) at-truth (λ l. from 13 l at-not (λ l. from 14 l at-and (λ l. at-equal (last 15 l (s .1)))))

@@ -8,11 +8,11 @@ use mathlib.Core.Option.{Option, some, none}
 use lib.Dec.{eqb}
 use lib.ListN.{length, getElem?}
 use Rattle.keys.specs.Keys.{subset, isEmpty}
-use Rattle.packed.specs.Syntax.{Program, Procedure, Expression}
+use Rattle.packed.specs.Syntax.{Signal, Program, Procedure, Expression}
 use Rattle.rules.specs.Context.{Context, Redex, Focus, value, here, hereᶜ, focus, top, asLiteral}
 use Rattle.rules.specs.State.{Cell, Thread, State, Numbered, lookup, monitor, threadOf}
 use Rattle.rules.specs.Rules.{isVolatile}
-use Rattle.rules.specs.Step.{Act, waits, sticks, lacks, does, callAct, readAct, writeAct, joinValue, joinAct, synchAct, holdAct, act, around, attemptAt, attemptBy, attempt}
+use Rattle.rules.specs.Step.{Act, waits, sticks, lacks, does, callAct, readAct, writeAct, joinValue, joinAct, synchAct, holdAct, signalMove, signalAct, wakeAct, act, around, attemptAt, attemptBy, attempt}
 use Rattle.rules.specs.Run.{status, statusesFrom}
 use Rattle.rules.proofs.Placed.{Ready, Good}
 use Rattle.rules.proofs.Invariant.{Inv}
@@ -68,6 +68,22 @@ module _ (g : Program) (s : State) (z : Roomy s) (p : ℕ) (t : Thread) where
   small-hold o v none = tt
   small-hold o v (some c) = either (isEmpty (c .keys)) _ _ (either (eqb (c .value) (t .self)) _ _ tt tt) tt
 
+  small-signal : (k : Signal) (o : ℕ) → o < 256 → (c : Option Cell) → SmallAct (signalAct s p t k o c)
+  unfolding signalAct signalMove
+  small-signal k o a none = tt
+  small-signal k o a (some c) = either (isEmpty (c .keys)) _ _ (either (eqb (c .value) (t .self)) _ _ (move k) a) a
+    where
+      move : (k : Signal) → SmallAct (signalMove s p t o k)
+      move Signal.wait = tt
+      move Signal.notify = tt
+      move Signal.notifyAll = tt
+
+  small-wake : (o n : ℕ) → o < 256 → (c : Option Cell) → SmallAct (wakeAct s p t o n c)
+  unfolding wakeAct
+  small-wake o n a none = tt
+  small-wake o (suc n) a (some c) = a
+  small-wake o zero a (some c) = either (isEmpty (c .keys)) _ _ a tt
+
   small-act : (x : Redex) → Ready g (length (s .objects)) x → SmallAct (act g s p t x)
   unfolding act
   small-act (Redex.variable x) r = tt
@@ -82,6 +98,8 @@ module _ (g : Program) (s : State) (z : Roomy s) (p : ℕ) (t : Thread) where
   small-act (Redex.join o) r = small-join o (below o r) (threadOf 0 (s .threads) o)
   small-act (Redex.synch o e) r = small-synch o e (below o (r .0)) (monitor s o)
   small-act (Redex.hold o v) r = small-hold o v (monitor s o)
+  small-act (Redex.signal k o) r = small-signal k o (below o r) (monitor s o)
+  small-act (Redex.waiting o) r = small-wake o (t .place .number) (below o r) (monitor s o)
 
   small-around : (K : Context) (a : Act) → SmallAct a → SmallStatus (status (around s p K a))
   unfolding around status

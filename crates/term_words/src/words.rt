@@ -1,6 +1,7 @@
 // Terms by their 40-bit words: which word a term has, and the values that need no move.
 ghost use mathlib.Core.Path.{_≡_};
 ghost use Rattle.term_words.specs.Words.{wordAt, valueOf, truthOf};
+use operands::tags;
 
 // The word of a term; an index over 1,023 wraps.
 pub fn word(words: &[usize; 1024], term: usize) -> usize
@@ -15,10 +16,10 @@ pub fn value(words: &[usize; 1024], environment: usize, term: usize) -> usize
 {
     let word = word(words, term);
     let tag = operands::tag(word);
-    if tag == 0 {
+    if tag == tags::NULL {
         return 0;
     }
-    if tag == 1 {
+    if tag == tags::VARIABLE {
         return crate::slots::slot(environment, operands::slot_of(word));
     }
     32
@@ -30,12 +31,12 @@ pub fn truth(words: &[usize; 1024], term: usize) -> usize
 {
     let word = word(words, term);
     let tag = operands::tag(word);
-    if tag == 12 {
+    if tag == tags::TRUE {
         return 1;
     }
-    if tag == 13 {
+    if tag == tags::NOT {
         let operand = crate::words::word(words, operands::first(word));
-        if operands::tag(operand) == 12 {
+        if operands::tag(operand) == tags::TRUE {
             return 0;
         }
     }

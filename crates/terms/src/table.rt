@@ -10,6 +10,7 @@ use operands::SLOT;
 use operands::TAG;
 use operands::THIRD;
 use operands::WRITTEN;
+use operands::tags;
 ghost use mathlib.Core.Path.{_≡_};
 ghost use mathlib.Core.Bool.{_&&_, _||_, not};
 ghost use Prim.Native.Nat.{_<_, _≤_};
@@ -147,16 +148,21 @@ fn wrong_term(word: usize, term: usize, procedures: usize, count: usize) -> bool
     ensures { λ r. ⌜ r ≡ breaksTable procedures count term (termIn word) ⌝ }
 {
     match operands::tag(word) {
-        17 | 12 | 0 => word % TAG != 0,
-        1 => wrong_variable(word),
-        2 => wrong_new(word),
-        3 => wrong_read(word, term, count),
-        4 => wrong_write(word, term, count),
-        5 => wrong_let(word, term, count),
-        6 => wrong_if(word, term, count),
-        16 | 15 | 14 | 11 | 7 => wrong_pair(word, term, count),
-        8 => wrong_call(word, term, procedures, count),
-        13 | 10 | 9 => wrong_single(word, term, count),
+        tags::LIST_END | tags::TRUE | tags::NULL => word % TAG != 0,
+        tags::VARIABLE => wrong_variable(word),
+        tags::NEW => wrong_new(word),
+        tags::READ => wrong_read(word, term, count),
+        tags::WRITE => wrong_write(word, term, count),
+        tags::LET => wrong_let(word, term, count),
+        tags::IF => wrong_if(word, term, count),
+        tags::LIST | tags::EQUAL | tags::AND | tags::SYNCH | tags::WHILE => wrong_pair(
+            word,
+            term,
+            count,
+        ),
+        tags::CALL => wrong_call(word, term, procedures, count),
+        tags::NOTIFY_ALL | tags::NOTIFY | tags::WAIT | tags::NOT | tags::JOIN | tags::FORK =>
+            wrong_single(word, term, count),
         _ => true,
     }
 }

@@ -26,6 +26,12 @@ act-synch-requires c κs = search needs
 act-hold-requires : tie.Need-act-hold-requires
 act-hold-requires c κs = search needs
 
+act-signal-requires : tie.Need-act-signal-requires
+act-signal-requires c κs = search needs
+
+act-wake-requires : tie.Need-act-wake-requires
+act-wake-requires c κs = search needs
+
 act-pure-requires : tie.Need-act-pure-requires
 act-pure-requires c κs = search needs
 
@@ -62,7 +68,28 @@ returns-7 c = simp (c .act-hold .ensures, c .before .match .keys7)
 
 returns-8 : tie.Need-returns-8
 unfolding actBy
-returns-8 c = simp (c .go-on .ensures, c .before .act-pure .ensures, ne-eqb _ _ (c .before .before .match .rest .0 .0 .0 .0 .0 .0 .1), ne-eqb _ _ (c .before .before .match .rest .0 .0 .0 .0 .0 .1), ne-eqb _ _ (c .before .before .match .rest .0 .0 .0 .0 .1), ne-eqb _ _ (c .before .before .match .rest .0 .0 .0 .1), ne-eqb _ _ (c .before .before .match .rest .0 .0 .1), ne-eqb _ _ (c .before .before .match .rest .0 .1), ne-eqb _ _ (c .before .before .match .rest .1))
+returns-8 c = simp (c .act-signal .ensures, c .before .match .keys8)
+
+returns-9 : tie.Need-returns-9
+unfolding actBy
+returns-9 c = simp (c .act-wake .ensures, c .before .match .keys9)
+
+returns-10 : tie.Need-returns-10
+unfolding actBy
+returns-10 c =
+    simp (
+      c .go-on .ensures,
+      c .before .act-pure .ensures,
+      ne-eqb _ _ (c .before .before .match .rest .0 .0 .0 .0 .0 .0 .0 .0 .1),
+      ne-eqb _ _ (c .before .before .match .rest .0 .0 .0 .0 .0 .0 .0 .1),
+      ne-eqb _ _ (c .before .before .match .rest .0 .0 .0 .0 .0 .0 .1),
+      ne-eqb _ _ (c .before .before .match .rest .0 .0 .0 .0 .0 .1),
+      ne-eqb _ _ (c .before .before .match .rest .0 .0 .0 .0 .1),
+      ne-eqb _ _ (c .before .before .match .rest .0 .0 .0 .1),
+      ne-eqb _ _ (c .before .before .match .rest .0 .0 .1),
+      ne-eqb _ _ (c .before .before .match .rest .0 .1),
+      ne-eqb _ _ (c .before .before .match .rest .1),
+    )
 
 pub act-spec : {M : Type 1} → statement M
 act-spec =
@@ -75,6 +102,8 @@ act-spec =
     act-join-requires
     act-synch-requires
     act-hold-requires
+    act-signal-requires
+    act-wake-requires
     act-pure-requires
     go-on-requires
     returns
@@ -84,4 +113,6 @@ act-spec =
     returns-5
     returns-6
     returns-7
-    returns-8)
+    returns-8
+    returns-9
+    returns-10)

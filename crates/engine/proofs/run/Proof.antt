@@ -22,19 +22,20 @@ use Rattle.engine.proofs.run.Statement.{statement}
 use Rattle.engine.proofs.run.Tie as tie
 
 abbrev Inv-loop : tie.InvT-loop
-Inv-loop words roots setting picks log₀ heads₀ cells₀ objects₀ stack₀ tally₀ stop₀ dealt₀ i₀ i-end log heads cells objects stack tally halt dealt i =
+Inv-loop words roots setting picks log₀ heads₀ cells₀ objects₀ places₀ stack₀ tally₀ stop₀ dealt₀ i₀ i-end log heads cells objects places stack tally halt dealt i =
     (i-end ≡ length picks) × (i ≤ length picks) × (tally .moves ≤ i) × (tally .records ≤ i) × (length log ≡ length log₀)
-    × (playOf words roots setting (record { heads = heads; cells = cells; objects = objects; stack = stack; tally = tally; log = log }) (drop i picks) i ≡ playOf words roots setting (startOf roots log₀) picks 0)
-    × (halt ≡ stop.End) × (dealt ≡ length picks)
+    × (playOf words roots setting (record { heads = heads; cells = cells; objects = objects; places = places; stack = stack; tally = tally; log = log }) (drop i picks) i ≡ playOf words roots setting (startOf roots log₀) picks 0)
+    × (halt ≡ stop.End) × (dealt ≡ length picks) × (length places ≡ 8)
 
 abbrev μ-loop : tie.MeasureT-loop
-μ-loop words roots setting picks log₀ heads₀ cells₀ objects₀ stack₀ tally₀ stop₀ dealt₀ i₀ i-end log heads cells objects stack tally halt dealt i = length picks - i
+μ-loop words roots setting picks log₀ heads₀ cells₀ objects₀ places₀ stack₀ tally₀ stop₀ dealt₀ i₀ i-end log heads cells objects places stack tally halt dealt i = length picks - i
 
 abbrev Inv-loop2 : tie.InvT-loop2
-Inv-loop2 words roots setting picks log heads cells objects tally halt dealt counts threads₀ thread₀ threads thread = (thread ≤ 8) × (turns (putThread counts heads cells objects setting) (8 - thread) thread threads ≡ threadsOf setting counts heads cells objects)
+Inv-loop2 words roots setting picks log heads cells objects places tally halt dealt counts threads₀ thread₀ threads thread =
+    (thread ≤ 8) × (turns (putThread counts heads cells objects places setting) (8 - thread) thread threads ≡ threadsOf setting counts heads cells objects places)
 
 abbrev μ-loop2 : tie.MeasureT-loop2
-μ-loop2 words roots setting picks log heads cells objects tally halt dealt counts threads₀ thread₀ threads thread = 8 - thread
+μ-loop2 words roots setting picks log heads cells objects places tally halt dealt counts threads₀ thread₀ threads thread = 8 - thread
 
 -- ---- where a turn begins: the plan, the picks, the machine
 
@@ -68,6 +69,7 @@ machine l =
       heads = l .loop .heads;
       cells = l .loop .cells;
       objects = l .loop .objects;
+      places = l .loop .places;
       stack = l .loop .stack;
       tally = l .loop .tally;
       log = l .loop .log;
@@ -84,10 +86,10 @@ rest l h =
 
 -- the pick, whose cell is at k, is answered as the machine's is
 answered : (l : Turn) (k : ℕ) (x : Picked) → Placed (headAt (l .loop .heads) (pick l % 8) .ready) k
-    → x ≡ pickOf (words l) (roots l) (setting l) (metAt (l .loop .tally .counts) (l .loop .heads) (l .loop .cells) (l .loop .objects) (pick l % 8) k (k / 32)) (l .loop .stack)
+    → x ≡ pickOf (words l) (roots l) (setting l) (metAt (l .loop .tally .counts) (l .loop .heads) (l .loop .cells) (l .loop .objects) (l .loop .places) (pick l % 8) k (k / 32)) (l .loop .stack)
     → x ≡ pickedBy (words l) (roots l) (setting l) (machine l) (pick l % 8)
 answered l k x h e =
-    e ∙ ap (λ (y : Met). pickOf (words l) (roots l) (setting l) y (l .loop .stack)) (met (l .loop .tally .counts) (l .loop .heads) (l .loop .cells) (l .loop .objects) (pick l % 8) k h)
+    e ∙ ap (λ (y : Met). pickOf (words l) (roots l) (setting l) y (l .loop .stack)) (met (l .loop .tally .counts) (l .loop .heads) (l .loop .cells) (l .loop .objects) (l .loop .places) (pick l % 8) k h)
 
 loop-holds : tie.Need-loop-holds Inv-loop μ-loop Inv-loop2 μ-loop2
 loop-holds c =
@@ -100,6 +102,7 @@ loop-holds c =
       begins (a .words .now) (a .roots .now) (a .setting) (a .picks .now) (a .log .now) _ _ _ _ (c .before .before .before .first-head .ensures) (c .before .before .first-cell .ensures) (c .before .first-object .ensures) (c .first .ensures),
       refl,
       refl,
+      refl,
     )
 
 -- ---- the pick of a thread that is not there
@@ -109,7 +112,7 @@ loop-again c =
     let l = c .before .before .before .before .before in
     let v = l .loop .inv in
     let t = c .before .before .before .before .loop-test .taken in
-    (v .0, omega arith, omega arith, omega arith, v .4, absent-passed (words l) (roots l) (setting l) (machine l) (pick l) (later l) (l .loop .i) (c .if1 .taken) ∙ rest l (omega arith), v .6, v .7)
+    (v .0, omega arith, omega arith, omega arith, v .4, absent-passed (words l) (roots l) (setting l) (machine l) (pick l) (later l) (l .loop .i) (c .if1 .taken) ∙ rest l (omega arith), v .6, v .7, v .8)
 
 -- ---- a pick that is passed over
 
@@ -152,23 +155,31 @@ loop-again-2 c =
       passed (words l) (roots l) (setting l) (machine l) (pick l) (later l) (l .loop .i) (given x) (x .before .before .before .before .before .before .before .before .if1 .left) (came x) (c .before .match .keys2) (c .match2 .keys2) ∙ rest l t,
       v .6,
       v .7,
+      v .8,
     )
 
 -- ---- a pick that moves, or stops the run
 
+slice-aggregate-after : tie.Need-slice-aggregate-after Inv-loop μ-loop Inv-loop2 μ-loop2
+slice-aggregate-after c = sym (turn (c .before .before .before .before .before) .loop .inv .8)
+
+after-requires : tie.Need-after-requires Inv-loop μ-loop Inv-loop2 μ-loop2
+after-requires c κs = (turn (c .before .before .before .before .before) .loop .inv .8, omega arith)
+
 moved-requires : tie.Need-moved-requires Inv-loop μ-loop Inv-loop2 μ-loop2
 moved-requires c κs =
-    let x = c .before .before .before .before .before .before .before .before .before .before .before .before .before .before in
+    let x = c .before .before .before .before .before .before .before .before .before .before .before .before .before .before .before .before .before .before in
     let e : c .before .before .before .before .before .before .before .before .put2 .result .moves ≡ turn x .loop .tally .moves = ap (λ (s : Tally). s .moves) (c .before .before .before .before .before .before .before .before .put2 .ensures .0 .0) in
     omega (arith, e, turn x .loop .inv .2, few x)
 
 loop-again-3 : tie.Need-loop-again-3 Inv-loop μ-loop Inv-loop2 μ-loop2
 loop-again-3 c =
-    let x = c .before .before .before .before .before .before .before .before .before .before .before .before .before .before .before in
+    let x = c .before .before .before .before .before .before .before .before .before .before .before .before .before .before .before .before .before .before .before in
     let l = turn x in
     let v = l .loop .inv in
     let t = begun x in
     let put = c .before .before .before .before .before .before .before .before .before .put2 in
+    let queue = c .before .before .before .before .before .before .before .before .before .before .before .before .before .after in
     let j = c .before .before .before .before .before .before .if2 in
     let before : put .result .moves ≡ l .loop .tally .moves = ap (λ (s : Tally). s .moves) (put .ensures .0 .0) in
     let moves : c .moved .result .moves ≡ put .result .moves + 1 = ap (λ (s : Tally). s .moves) (c .moved .ensures .0) in
@@ -178,13 +189,14 @@ loop-again-3 c =
       omega (arith, before, moves, v .2),
       omega (arith, records, put .ensures .0 .1, v .3),
       put .kept .0 ∙ v .4,
-      moved (words l) (roots l) (setting l) (machine l) (pick l) (later l) (l .loop .i) (given x) (x .before .before .before .before .before .before .before .before .if1 .left) (came x) (c .before .before .before .before .before .before .before .before .before .before .before .before .before .answer .given .1) (placed x .cell-of .result) (j .heads) (put .result) (c .moved .result) (put .last .0)
+      moved (words l) (roots l) (setting l) (machine l) (pick l) (later l) (l .loop .i) (given x) (x .before .before .before .before .before .before .before .before .if1 .left) (came x) (c .before .before .before .before .before .before .before .before .before .before .before .before .before .before .before .before .before .answer .given .1) (placed x .cell-of .result) (j .heads) (queue .last .0) (put .result) (c .moved .result) (put .last .0)
           (placed x .cell-of .ensures .cell)
           (⊎-elim (λ w. young-made _ (l .loop .heads) _ (l .loop .tally .counts .threads % 9) _ (w .0 .taken) (w .3)) (λ w. young-none _ (l .loop .heads) _ (l .loop .tally .counts .threads % 9) _ (w .0 .left) (w .1)) (j .came))
-          (put .ensures .0 .0) (c .moved .ensures .0) (put .ensures .1)
+          (queue .ensures) (put .ensures .0 .0) (c .moved .ensures .0) (put .ensures .1)
           ∙ rest l t,
       v .6,
       v .7,
+      queue .kept .0 ∙ v .8,
     )
 
 -- ---- the end of the run
@@ -195,7 +207,7 @@ Left = tie.Left-loop Inv-loop μ-loop Inv-loop2 μ-loop2
 -- the loop was left at its end, or by a stop
 ended : (c : Left)
     → _≡_ {A = Played} (record {
-      outcome = endOf (c .loop-test .stop) (c .loop-test .dealt) (setting (c .before)) (c .loop-test .tally) (c .before .loop .heads) (c .before .loop .cells) (c .before .loop .objects);
+      outcome = endOf (c .loop-test .stop) (c .loop-test .dealt) (setting (c .before)) (c .loop-test .tally) (c .before .loop .heads) (c .before .loop .cells) (c .before .loop .objects) (c .before .loop .places);
       area = c .loop-test .log;
     }) (whole (c .before))
 unfolding playOf
@@ -206,7 +218,7 @@ ended c =
     let t : length (list l) ≤ l .loop .i = omega (arith, w .0 .left, v .0) in
     let i : l .loop .dealt ≡ l .loop .i = omega (arith, t, v .1, v .7) in
     let q : playOf (words l) (roots l) (setting l) (machine l) [] (l .loop .i) ≡ whole l = rw (drop-of-length-le (list l) t) at (v .5) in
-    ends-as (setting l) (l .loop .heads) (l .loop .cells) (l .loop .objects) _ _ _ _ _ _ _ _ (w .3 ∙ v .6) (w .4 ∙ i) (w .2) (w .1) ∙ q) (λ w.
+    ends-as (setting l) (l .loop .heads) (l .loop .cells) (l .loop .objects) (l .loop .places) _ _ _ _ _ _ _ _ (w .3 ∙ v .6) (w .4 ∙ i) (w .2) (w .1) ∙ q) (λ w.
     stops (words l) (roots l) (setting l) (machine l) (pick l) (later l) (l .loop .i) (record { stack = w .12 .last .1 .1 .0; answer = w .12 .result }) (w .4 .left)
     (answered l (w .6 .result) _ (w .6 .ensures) (w .12 .ensures)) (w .15 .given .1) _ _ _ _ (w .23) (w .24) (w .22 ∙ w .18 .ensures .0 .0) (w .21 ∙ w .18 .ensures .1)
     ∙ rest l (omega (arith, w .0 .taken, v .0))) (c .loop-test .came)
@@ -220,13 +232,13 @@ left c = c .before .before .before
 
 -- a thread put at its number
 abbrev put : Left → ℕ → List Thread → List Thread
-put c = putThread (c .loop-test .tally .counts) (c .before .loop .heads) (c .before .loop .cells) (c .before .loop .objects) (setting (c .before))
+put c = putThread (c .loop-test .tally .counts) (c .before .loop .heads) (c .before .loop .cells) (c .before .loop .objects) (c .before .loop .places) (setting (c .before))
 
 loop2-holds : tie.Need-loop2-holds Inv-loop μ-loop Inv-loop2 μ-loop2
 loop2-holds c =
     let l = c .before .before in
     let m = l .before in
-    (omega arith, ap (λ (x : Thread). turns (put l) 8 0 (replicate 8 x)) (c .no-thread .ensures) ∙ all-threads (l .loop-test .tally .counts) (m .loop .heads) (m .loop .cells) (m .loop .objects) (setting m))
+    (omega arith, ap (λ (x : Thread). turns (put l) 8 0 (replicate 8 x)) (c .no-thread .ensures) ∙ all-threads (l .loop-test .tally .counts) (m .loop .heads) (m .loop .cells) (m .loop .objects) (m .loop .places) (setting m))
 
 loop2-again : tie.Need-loop2-again Inv-loop μ-loop Inv-loop2 μ-loop2
 loop2-again c =
@@ -236,7 +248,7 @@ loop2-again c =
     let p = a .loop2 .thread in
     let k = c .before .before .before .before .before .cell-of2 in
     let h : p < 8 = c .before .before .before .before .before .before .before .loop2-test .taken in
-    let e = c .thread-of .ensures ∙ ap (threadBy (setting m)) (met (l .loop-test .tally .counts) (m .loop .heads) (m .loop .cells) (m .loop .objects) p (k .result) (k .ensures)) in
+    let e = c .thread-of .ensures ∙ ap (threadBy (setting m)) (met (l .loop-test .tally .counts) (m .loop .heads) (m .loop .cells) (m .loop .objects) (m .loop .places) p (k .result) (k .ensures)) in
     (omega arith, ap (λ (x : Thread). turns (put l) (8 - (p + 1)) (p + 1) (set (a .loop2 .threads) p x)) e ∙ sym (one-turn (put l) 8 p (a .loop2 .threads) h) ∙ a .loop2 .inv .1)
 
 same-length : tie.Need-same-length Inv-loop μ-loop Inv-loop2 μ-loop2
@@ -271,22 +283,22 @@ run-spec =
     (λ c. omega (arith, c .before .before .before .before .loop-test .taken, c .before .before .before .before .before .loop .inv .0)) loop-again
     -- what the pick meets
     (λ c. search needs) (λ c. search needs) (λ c κs. search needs) (λ c. search needs) (λ c. search needs) (λ c. search needs) (λ c. search needs)
-    (λ c. search needs) (λ c. search needs)
+    (λ c. search needs) (λ c. search needs) (λ c. search needs) (λ c. search needs)
     -- its answer
     (λ c κs. search needs) (λ c. search needs) (λ c. search needs)
     -- it is passed over
     (λ c. record { fits = omega (arith, few (c .before .before)) }) (λ c. omega (arith, begun (c .before .before))) loop-again-2
-    -- it stops, or its record is put
-    (λ c κs. fits (c .before .before .before .before .before)) (λ c κs. fits (c .before .before .before .before .before))
+    -- it stops, or the queues are changed and its record is put
+    (λ c κs. fits (c .before .before .before .before .before)) slice-aggregate-after after-requires (λ c κs. fits (c .before .before .before .before .before .before .before .before .before))
     -- a new thread, the mover, the cell, the object
     (λ c. search needs) (λ c. search needs) (λ c. search needs) (λ c. search needs)
-    (λ c. record { fits = omega (arith, placed (c .before .before .before .before .before .before .before .before .before .before .before .before .before) .cell-of .ensures .inside) }) (λ c. omega (arith, placed (c .before .before .before .before .before .before .before .before .before .before .before .before .before) .cell-of .ensures .inside))
+    (λ c. record { fits = omega (arith, placed (c .before .before .before .before .before .before .before .before .before .before .before .before .before .before .before .before .before) .cell-of .ensures .inside) }) (λ c. omega (arith, placed (c .before .before .before .before .before .before .before .before .before .before .before .before .before .before .before .before .before) .cell-of .ensures .inside))
     (λ c. search needs) (λ c. search needs)
     -- the counts, and the next pick
-    moved-requires (λ c. record { fits = omega (arith, few (c .before .before .before .before .before .before .before .before .before .before .before .before .before .before .before)) }) (λ c. omega (arith, begun (c .before .before .before .before .before .before .before .before .before .before .before .before .before .before .before))) loop-again-3
+    moved-requires (λ c. record { fits = omega (arith, few (c .before .before .before .before .before .before .before .before .before .before .before .before .before .before .before .before .before .before .before)) }) (λ c. omega (arith, begun (c .before .before .before .before .before .before .before .before .before .before .before .before .before .before .before .before .before .before .before))) loop-again-3
     -- the threads at the end
     (λ c κs. search needs) loop2-holds (λ c. search needs) (λ c. search needs) (λ c κs. search needs) (λ c. search needs) (λ c. search needs)
-    (λ c. search needs) (λ c. search needs) (λ c. search needs) (λ c. search needs) (λ c κs. search needs) (λ c. search needs) (λ c. search needs)
-    (λ c. search needs) (λ c. search needs) loop2-again
+    (λ c. search needs) (λ c. search needs) (λ c. search needs) (λ c. search needs) (λ c. search needs) (λ c. search needs) (λ c κs. search needs) (λ c. search needs)
+    (λ c. search needs) (λ c. search needs) (λ c. search needs) loop2-again
     -- the end
     same-length returns)

@@ -50,11 +50,8 @@ slot-requires c κs = search needs
 value-requires-2 : tie.Need-value-requires-2
 value-requires-2 c κs = search needs
 
-ready-of-requires-4 : tie.Need-ready-of-requires-4
-ready-of-requires-4 c κs = search needs
-
-at-requires-4 : tie.Need-at-requires-4
-at-requires-4 c κs = search needs
+signal-requires : tie.Need-signal-requires
+signal-requires c κs = search needs
 
 returns : tie.Need-returns
 unfolding simpleOf simpleBy
@@ -78,7 +75,16 @@ returns-5 c = rw (← c .before .before .before .before .tag .ensures) (simp (c 
 
 returns-6 : tie.Need-returns-6
 unfolding simpleOf simpleBy
-returns-6 c = simp (c .at4 .ensures, c .before .ready-of4 .ensures) (rw (← c .before .before .before .tag .ensures) (simp (ne-eqb _ _ (c .before .before .match .rest .0 .0 .0 .0 .1), ne-eqb _ _ (c .before .before .match .rest .0 .0 .0 .1), ne-eqb _ _ (c .before .before .match .rest .0 .0 .1), ne-eqb _ _ (c .before .before .match .rest .0 .1), ne-eqb _ _ (c .before .before .match .rest .1))))
+returns-6 c =
+    simp (c .signal .ensures)
+    (rw (← c .before .before .tag .ensures)
+    (simp (
+      ne-eqb _ _ (c .before .match .rest .0 .0 .0 .0 .1),
+      ne-eqb _ _ (c .before .match .rest .0 .0 .0 .1),
+      ne-eqb _ _ (c .before .match .rest .0 .0 .1),
+      ne-eqb _ _ (c .before .match .rest .0 .1),
+      ne-eqb _ _ (c .before .match .rest .1),
+    )))
 
 pub simple-spec : {M : Type 1} → statement M
 simple-spec =
@@ -99,8 +105,7 @@ simple-spec =
     slot-of-requires
     slot-requires
     value-requires-2
-    ready-of-requires-4
-    at-requires-4
+    signal-requires
     returns
     returns-2
     returns-3

@@ -22,6 +22,12 @@ look-join-requires c κs = search needs
 look-synch-requires : tie.Need-look-synch-requires
 look-synch-requires c κs = search needs
 
+look-signal-requires : tie.Need-look-signal-requires
+look-signal-requires c κs = search needs
+
+look-waiting-requires : tie.Need-look-waiting-requires
+look-waiting-requires c κs = search needs
+
 returns-2 : tie.Need-returns-2
 unfolding lookBy aboutField
 returns-2 c = simp (c .match .keys1)
@@ -39,8 +45,25 @@ unfolding lookBy aboutField
 returns-5 c = simp (c .look-synch .ensures, c .before .match .keys4)
 
 returns-6 : tie.Need-returns-6
+unfolding lookBy aboutField
+returns-6 c = simp (c .look-signal .ensures, c .before .match .keys5)
+
+returns-7 : tie.Need-returns-7
+unfolding lookBy aboutField
+returns-7 c = simp (c .look-waiting .ensures, c .before .match .keys6)
+
+returns-8 : tie.Need-returns-8
 unfolding lookBy
-returns-6 c = simp (sym (c .before .before .about-field .ensures) ∙ c .before .if1 .left, ne-eqb _ _ (c .match .rest .0 .0 .0 .1), ne-eqb _ _ (c .match .rest .0 .0 .1), ne-eqb _ _ (c .match .rest .0 .1), ne-eqb _ _ (c .match .rest .1))
+returns-8 c =
+    simp (
+      sym (c .before .before .about-field .ensures) ∙ c .before .if1 .left,
+      ne-eqb _ _ (c .match .rest .0 .0 .0 .0 .0 .1),
+      ne-eqb _ _ (c .match .rest .0 .0 .0 .0 .1),
+      ne-eqb _ _ (c .match .rest .0 .0 .0 .1),
+      ne-eqb _ _ (c .match .rest .0 .0 .1),
+      ne-eqb _ _ (c .match .rest .0 .1),
+      ne-eqb _ _ (c .match .rest .1),
+    )
 
 pub look-spec : {M : Type 1} → statement M
 look-spec =
@@ -51,8 +74,12 @@ look-spec =
     returns
     look-join-requires
     look-synch-requires
+    look-signal-requires
+    look-waiting-requires
     returns-2
     returns-3
     returns-4
     returns-5
-    returns-6)
+    returns-6
+    returns-7
+    returns-8)

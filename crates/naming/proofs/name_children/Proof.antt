@@ -17,26 +17,46 @@ use Rattle.packed.proofs.NameLaws.{named, no-children}
 use Rattle.naming.proofs.name_children.Statement.{statement}
 use Rattle.naming.proofs.name_children.Tie as tie
 
--- the tags that stand alone in their arms, the latest first; 9 and 10 are a range
+-- the tags that stand alone in their arms, the latest first; 9 and 10, and 18 to 20, are ranges
 abbrev alone : List (List ℕ)
 alone = (16 ∷ []) ∷ (14 ∷ []) ∷ (13 ∷ []) ∷ (11 ∷ 15 ∷ []) ∷ (8 ∷ []) ∷ (7 ∷ []) ∷ (6 ∷ []) ∷ (5 ∷ []) ∷ (4 ∷ []) ∷ (3 ∷ []) ∷ []
 
+-- below the ranges, between them, or past them
+abbrev Off : ℕ → Type 0
+Off x = (x < 3) ⊎ (((11 ≤ x) × (x < 18)) ⊎ (21 ≤ x))
+
+no-range : (x : ℕ) → Off x → OneOf (9 ∷ 10 ∷ 18 ∷ 19 ∷ 20 ∷ []) x → ⊥
+no-range x (inl h) = ⊎-elim (λ e. omega arith) (⊎-elim (λ e. omega arith) (⊎-elim (λ e. omega arith) (⊎-elim (λ e. omega arith) (λ e. omega arith))))
+no-range x (inr (inl h)) =
+    let l = h .0 in
+    let g = h .1 in
+    ⊎-elim (λ e. omega arith) (⊎-elim (λ e. omega arith) (⊎-elim (λ e. omega arith) (⊎-elim (λ e. omega arith) (λ e. omega arith))))
+no-range x (inr (inr h)) = ⊎-elim (λ e. omega arith) (⊎-elim (λ e. omega arith) (⊎-elim (λ e. omega arith) (⊎-elim (λ e. omega arith) (λ e. omega arith))))
+
 -- a tag of no arm
 module _ (ws : List ℕ) (t x best : ℕ) (counts : List ℕ) (e : x ≡ tagOf (getD ws t 0)) (n : NoneIn x alone) where
-  unnamed : (x < 3) ⊎ (11 ≤ x) → (best ≡ lowerAll ws (childrenOf (nodeIn ws t)) best) × (counts ≡ countAll (childrenOf (nodeIn ws t)) counts)
+  unnamed : Off x → (best ≡ lowerAll ws (childrenOf (nodeIn ws t)) best) × (counts ≡ countAll (childrenOf (nodeIn ws t)) counts)
   unfolding lowerAll countAll
   unnamed h =
-      let range : OneOf (9 ∷ 10 ∷ []) x → ⊥ = ⊎-elim (λ p. ⊎-elim (λ l. omega arith) (λ g. omega arith) h) (λ p. ⊎-elim (λ l. omega arith) (λ g. omega arith) h) in
-      let none = no-children (getD ws t 0) x (none-of x (16 ∷ 15 ∷ 14 ∷ 13 ∷ 11 ∷ 10 ∷ 9 ∷ 8 ∷ 7 ∷ 6 ∷ 5 ∷ 4 ∷ 3 ∷ []) ((9 ∷ 10 ∷ []) ∷ alone) tt (n, range)) in
+      let lists : List (List ℕ) = (9 ∷ 10 ∷ 18 ∷ 19 ∷ 20 ∷ []) ∷ alone in
+      let none = no-children (getD ws t 0) x (none-of x (20 ∷ 19 ∷ 18 ∷ 16 ∷ 15 ∷ 14 ∷ 13 ∷ 11 ∷ 10 ∷ 9 ∷ 8 ∷ 7 ∷ 6 ∷ 5 ∷ 4 ∷ 3 ∷ []) lists tt (n, no-range x h)) in
       named ws t x best best counts counts (sym e) (rw none) (rw none)
 
--- a tag of the range
+-- a tag of a range
 nine-or-ten : (x : ℕ) → NoneIn x alone → 3 ≤ x → x < 11 → (x ≡ 9) ⊎ (x ≡ 10)
 nine-or-ten x n h l = go (past-each 9 x ((0 ∷ 1 ∷ 2 ∷ []) ∷ alone) tt (n, ⊎-elim (λ e. omega arith) (⊎-elim (λ e. omega arith) (λ e. omega arith)))) (ℕ-discrete x 9)
   where
     go : 9 ≤ x → Dec (x ≡ 9) → (x ≡ 9) ⊎ (x ≡ 10)
     go m (yes e) = inl e
     go m (no e) = inr (omega (arith, e))
+
+signal : (x : ℕ) → 18 ≤ x → x < 21 → (x ≡ 18) ⊎ ((x ≡ 19) ⊎ (x ≡ 20))
+signal x h l = go (ℕ-discrete x 18) (ℕ-discrete x 19)
+  where
+    go : Dec (x ≡ 18) → Dec (x ≡ 19) → (x ≡ 18) ⊎ ((x ≡ 19) ⊎ (x ≡ 20))
+    go (yes e) d = inl e
+    go (no e) (yes d) = inr (inl d)
+    go (no e) (no d) = inr (inr (omega (arith, e, d)))
 
 mul-word : tie.Need-mul-word
 mul-word c = search needs
@@ -173,13 +193,19 @@ returns-10 c =
 
 returns-11 : tie.Need-returns-11
 returns-11 c =
-    let a = c .before .before .before .before .before .before .before .args in
-    let x = c .before .before .before .tag in
-    unnamed (a .words .now) (a .term) (x .result) _ _ (x .ensures) (c .before .before .match .rest) (inr (c .if2 .left))
+    let a = c .before .before .before .before .before .before .before .before .args in
+    let x = c .before .before .before .before .tag in
+    unnamed (a .words .now) (a .term) (x .result) _ _ (x .ensures) (c .before .before .before .match .rest) (inr (inl (c .before .if2 .left, c .if3 .taken)))
 
 returns-12 : tie.Need-returns-12
-unfolding childrenOf nodeOf inWord layout table nodes
 returns-12 c =
+    let a = c .before .before .before .before .before .before .before .before .before .args in
+    let x = c .before .before .before .before .before .tag in
+    unnamed (a .words .now) (a .term) (x .result) _ _ (x .ensures) (c .before .before .before .before .match .rest) (inr (inr (c .if4 .left)))
+
+returns-13 : tie.Need-returns-13
+unfolding childrenOf nodeOf inWord layout table nodes
+returns-13 c =
     let a = c .before .before .before .before .before .before .before .args in
     let x = c .before .before .before in
     let least = rw (x .before .before .first .ensures) at (c .name4 .ensures .0) in
@@ -187,11 +213,19 @@ returns-12 c =
     let key = sym (x .tag .ensures) in
     ⊎-elim
     (λ m. named (a .words .now) (a .term) 3 _ _ _ _ (key ∙ m .keys1) least counts)
+    (⊎-elim
     (λ m.
     ⊎-elim
     (λ k. named (a .words .now) (a .term) 9 _ _ _ _ (key ∙ k) least counts)
     (λ k. named (a .words .now) (a .term) 10 _ _ _ _ (key ∙ k) least counts)
     (nine-or-ten (x .tag .result) (m .0 .rest) (m .1 .left) (m .2 .taken)))
+    (λ m.
+    ⊎-elim
+    (λ k. named (a .words .now) (a .term) 18 _ _ _ _ (key ∙ k) least counts)
+    (⊎-elim
+    (λ k. named (a .words .now) (a .term) 19 _ _ _ _ (key ∙ k) least counts)
+    (λ k. named (a .words .now) (a .term) 20 _ _ _ _ (key ∙ k) least counts))
+    (signal (x .tag .result) (m .3 .left) (m .4 .taken))))
     (c .before .before .match .came)
 
 pub name-children-spec : {M : Type 1} → statement M
@@ -230,4 +264,5 @@ name-children-spec =
     returns-9
     returns-10
     returns-11
-    returns-12)
+    returns-12
+    returns-13)

@@ -20,11 +20,18 @@ named-requires-2 : tie.Need-named-requires-2
 unfolding statusOf stuckOf
 named-requires-2 c κs = let h = rw (c .before .stuck2 .given .1) at (c .before .before .before .pre) in (omega arith, omega arith)
 
+enum-known-stuck-3 : tie.Need-enum-known-stuck-3
+enum-known-stuck-3 c = search needs
+
+named-requires-3 : tie.Need-named-requires-3
+unfolding statusOf stuckOf
+named-requires-3 c κs = let h = rw (c .before .stuck3 .given .1) at (c .before .before .before .pre) in (omega arith, omega arith)
+
 enum-told : tie.Need-enum-told
 enum-told c = search needs
 
-named-requires-3 : tie.Need-named-requires-3
-named-requires-3 c κs = search needs
+named-requires-4 : tie.Need-named-requires-4
+named-requires-4 c κs = search needs
 
 returns : tie.Need-returns
 unfolding threadBytes statusOf stuckOf
@@ -36,7 +43,11 @@ returns-2 c = simp (c .named2 .ensures, c .before .before .stuck2 .given .1)
 
 returns-3 : tie.Need-returns-3
 unfolding threadBytes statusOf stuckOf
-returns-3 c = simp (c .named3 .ensures, c .before .enum-told .given .1)
+returns-3 c = simp (c .named3 .ensures, c .before .before .stuck3 .given .1)
+
+returns-4 : tie.Need-returns-4
+unfolding threadBytes statusOf stuckOf
+returns-4 c = simp (c .named4 .ensures, c .before .enum-told .given .1)
 
 pub stuck-bytes-spec : {M : Type 1} → statement M
 stuck-bytes-spec =
@@ -46,8 +57,11 @@ stuck-bytes-spec =
     named-requires
     enum-known-stuck-2
     named-requires-2
-    enum-told
+    enum-known-stuck-3
     named-requires-3
+    enum-told
+    named-requires-4
     returns
     returns-2
-    returns-3)
+    returns-3
+    returns-4)

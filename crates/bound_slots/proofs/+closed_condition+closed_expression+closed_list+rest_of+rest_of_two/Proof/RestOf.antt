@@ -4,7 +4,7 @@ use mathlib.Core.List.{[], _∷_}
 use Prim.Native.Nat.{ℕ}
 use native.Mathlib.Omega.{arith}
 use Rattle.format.proofs.Ranges.{NoneOf}
-use Rattle.bound_slots.proofs.Expressions.{write-call, let-call, if-test, if-call, while-test, call-list, synch-call, variable-left, read-left, write-left, let-left, if-left, if-open, while-left, while-open, call-left, fork-left, join-left, synch-left, nothing-left}
+use Rattle.bound_slots.proofs.Expressions.{write-call, let-call, if-test, if-call, while-test, call-list, synch-call, variable-left, read-left, write-left, let-left, if-left, if-open, while-left, while-open, call-left, fork-left, join-left, synch-left, wait-left, notify-left, notify-all-left, nothing-left}
 use Rattle.operands.proofs.first.Reads as first
 use Rattle.operands.proofs.second.Reads as second
 use Rattle.operands.proofs.tag.Reads as tag
@@ -205,7 +205,22 @@ module _ (span : ℕ) where
   returns-13 : lts.Need-returns-13 callees (rest-of-at span) Post
   returns-13 c =
       let k = c .before in
-      nothing-left _ (k .before .before .before .before .pre .1 .0) _ _ (subst (λ (x : ℕ). NoneOf x (11 ∷ 10 ∷ 9 ∷ 8 ∷ 7 ∷ 6 ∷ 5 ∷ 4 ∷ 3 ∷ 1 ∷ [])) (k .tag .ensures) (c .match .rest))
+      rw (k .before .before .first .ensures) (wait-left _ (k .before .before .before .before .pre .1 .0) _ _ (sym (k .tag .ensures) ∙ c .match .keys11))
+
+  returns-14 : lts.Need-returns-14 callees (rest-of-at span) Post
+  returns-14 c =
+      let k = c .before in
+      rw (k .before .before .first .ensures) (notify-left _ (k .before .before .before .before .pre .1 .0) _ _ (sym (k .tag .ensures) ∙ c .match .keys12))
+
+  returns-15 : lts.Need-returns-15 callees (rest-of-at span) Post
+  returns-15 c =
+      let k = c .before in
+      rw (k .before .before .first .ensures) (notify-all-left _ (k .before .before .before .before .pre .1 .0) _ _ (sym (k .tag .ensures) ∙ c .match .keys13))
+
+  returns-16 : lts.Need-returns-16 callees (rest-of-at span) Post
+  returns-16 c =
+      let k = c .before in
+      nothing-left _ (k .before .before .before .before .pre .1 .0) _ _ (subst (λ (x : ℕ). NoneOf x (20 ∷ 19 ∷ 18 ∷ 11 ∷ 10 ∷ 9 ∷ 8 ∷ 7 ∷ 6 ∷ 5 ∷ 4 ∷ 3 ∷ 1 ∷ [])) (k .tag .ensures) (c .match .rest))
 
   pub rest-of : {M : Type 1} → lts.Closed callees (rest-of-at span) Post M
   rest-of =
@@ -214,4 +229,4 @@ module _ (span : ℕ) where
       with-requires let-first-requires let-second-requires rest-of-two-requires-2 closed-condition-requires
       third-requires rest-of-two-requires-3 returns closed-condition-requires-2 returns-2 list-of-requires
       closed-list-requires told-requires-2 rest-of-two-requires-4 returns-3 returns-4 returns-5 returns-6 returns-7
-      returns-8 returns-9 returns-10 returns-11 returns-12 returns-13
+      returns-8 returns-9 returns-10 returns-11 returns-12 returns-13 returns-14 returns-15 returns-16

@@ -69,7 +69,11 @@ returns-15 c = rw (c .match .keys15)
 
 returns-16 : tie.Need-returns-16
 unfolding kindOf
-returns-16 c = sym (List·getD-eq-default kinds kind.Read (past-all 15 _ (c .match .rest)))
+returns-16 c = rw (c .match .keys16)
+
+returns-17 : tie.Need-returns-17
+unfolding kindOf
+returns-17 c = sym (List·getD-eq-default kinds kind.Read (past-all 16 _ (c .match .rest)))
 
 pub kind-of-spec : {M : Type 1} → statement M
 kind-of-spec =
@@ -90,4 +94,5 @@ kind-of-spec =
     returns-13
     returns-14
     returns-15
-    returns-16)
+    returns-16
+    returns-17)

@@ -145,6 +145,15 @@ ready-of-requires-12 c κs = search needs
 at-requires-12 : tie.Need-at-requires-12
 at-requires-12 c κs = search needs
 
+enum-told-16 : tie.Need-enum-told-16
+enum-told-16 c = search needs
+
+ready-of-requires-13 : tie.Need-ready-of-requires-13
+ready-of-requires-13 c κs = search needs
+
+at-requires-13 : tie.Need-at-requires-13
+at-requires-13 c κs = search needs
+
 returns : tie.Need-returns
 unfolding feedOf
 returns c = simp (c .at .ensures, c .before .ready-of .ensures, c .before .before .enum-told .given .1)
@@ -205,6 +214,10 @@ returns-15 : tie.Need-returns-15
 unfolding feedOf
 returns-15 c = simp (c .at12 .ensures, c .before .ready-of12 .ensures, c .before .before .enum-told15 .given .1)
 
+returns-16 : tie.Need-returns-16
+unfolding feedOf
+returns-16 c = simp (c .at13 .ensures, c .before .ready-of13 .ensures, c .before .before .enum-told16 .given .1)
+
 pub feed-spec : {M : Type 1} → statement M
 feed-spec =
     tie.close
@@ -256,6 +269,9 @@ feed-spec =
     enum-told-15
     ready-of-requires-12
     at-requires-12
+    enum-told-16
+    ready-of-requires-13
+    at-requires-13
     returns
     returns-2
     returns-3
@@ -270,4 +286,5 @@ feed-spec =
     returns-12
     returns-13
     returns-14
-    returns-15)
+    returns-15
+    returns-16)

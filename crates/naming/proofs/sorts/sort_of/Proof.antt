@@ -1,4 +1,4 @@
--- `sort_of`: by the two comparisons.
+-- `sort_of`: by the three comparisons.
 use borrow.Author.Tests.{lt-ltb, le-ltb}
 use Rattle.packed.specs.Steps.{tagSort}
 use Rattle.naming.proofs.sorts.sort_of.Statement.{statement}
@@ -14,7 +14,11 @@ returns-2 c = simp (le-ltb _ _ (c .before .if1 .left), lt-ltb _ _ (c .if2 .taken
 
 returns-3 : tie.Need-returns-3
 unfolding tagSort
-returns-3 c = simp (le-ltb _ _ (c .before .if1 .left), le-ltb _ _ (c .if2 .left))
+returns-3 c = simp (le-ltb _ _ (c .before .before .if1 .left), le-ltb _ _ (c .before .if2 .left), lt-ltb _ _ (c .if3 .taken))
+
+returns-4 : tie.Need-returns-4
+unfolding tagSort
+returns-4 c = simp (le-ltb _ _ (c .before .before .if1 .left), le-ltb _ _ (c .before .if2 .left), le-ltb _ _ (c .if3 .left))
 
 pub sort-of-spec : {M : Type 1} → statement M
-sort-of-spec = tie.close (tie.spec returns returns-2 returns-3)
+sort-of-spec = tie.close (tie.spec returns returns-2 returns-3 returns-4)

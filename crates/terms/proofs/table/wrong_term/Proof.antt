@@ -14,12 +14,9 @@ use Rattle.packed.proofs.SingleTerm.{tested, past-table}
 use Rattle.terms.proofs.table.wrong_term.Statement.{statement}
 use Rattle.terms.proofs.table.wrong_term.Tie as tie
 
--- the tags that stand alone in their arms, the latest first; 9 and 10, and 14 to 16, are ranges
+-- the tags that stand alone in their arms, the latest first; 9 and 10, 14 to 16, and 18 to 20 are ranges
 abbrev alone : List (List ℕ)
 alone = (13 ∷ []) ∷ (8 ∷ []) ∷ (7 ∷ 11 ∷ []) ∷ (6 ∷ []) ∷ (5 ∷ []) ∷ (4 ∷ []) ∷ (3 ∷ []) ∷ (2 ∷ []) ∷ (1 ∷ []) ∷ (0 ∷ 12 ∷ 17 ∷ []) ∷ []
-
-above : (j k : ℕ) → j ≤ k → (k ≡ j → ⊥) → j < k
-above j k h n = omega (arith, n)
 
 tag-requires : tie.Need-tag-requires
 tag-requires c κs = search needs
@@ -107,10 +104,9 @@ returns-8 c =
 
 returns-9 : tie.Need-returns-9
 returns-9 c =
-    let a = c .before .before .before .before .args in
-    let x = c .before .before .before .tag in
-    past-table (a .procedures) (a .count) (a .term) (a .word)
-    (subst (λ (k : ℕ). 17 < k) (x .ensures) (above 17 (x .result) (c .if2 .left) (not-in (x .result) 17 alone tt (c .before .before .match .rest))))
+    let a = c .before .before .before .before .before .args in
+    let x = c .before .before .before .before .tag in
+    past-table (a .procedures) (a .count) (a .term) (a .word) (subst (λ (k : ℕ). 20 < k) (x .ensures) (c .if3 .left))
 
 returns-10 : tie.Need-returns-10
 unfolding breaksTable someOperand inWord layout table
@@ -120,11 +116,18 @@ returns-10 c =
     let k = sym (x .ensures) in
     ⊎-elim
     (λ m. tested (a .procedures) (a .count) (a .term) (a .word) 13 _ (k ∙ m .keys10) (c .wrong-single .ensures ∙ simp or-false))
+    (⊎-elim
     (λ m.
     by-range (λ j. x .result ≡ j → c .wrong-single .result ≡ breaksTable (a .procedures) (a .count) (a .term) (termIn (a .word))) 9 2 _ (λ all. all (x .result))
     (λ e. tested (a .procedures) (a .count) (a .term) (a .word) 9 _ (k ∙ e) (c .wrong-single .ensures ∙ simp or-false))
     (λ e. tested (a .procedures) (a .count) (a .term) (a .word) 10 _ (k ∙ e) (c .wrong-single .ensures ∙ simp or-false))
     (past-each 9 (x .result) alone tt (m .0 .rest)) (m .1 .taken) refl)
+    (λ m.
+    by-range (λ j. x .result ≡ j → c .wrong-single .result ≡ breaksTable (a .procedures) (a .count) (a .term) (termIn (a .word))) 18 3 _ (λ all. all (x .result))
+    (λ e. tested (a .procedures) (a .count) (a .term) (a .word) 18 _ (k ∙ e) (c .wrong-single .ensures ∙ simp or-false))
+    (λ e. tested (a .procedures) (a .count) (a .term) (a .word) 19 _ (k ∙ e) (c .wrong-single .ensures ∙ simp or-false))
+    (λ e. tested (a .procedures) (a .count) (a .term) (a .word) 20 _ (k ∙ e) (c .wrong-single .ensures ∙ simp or-false))
+    (omega (arith, m .2 .left, not-in (x .result) 17 alone tt (m .0 .rest))) (m .3 .taken) refl))
     (c .before .match .came)
 
 returns-11 : tie.Need-returns-11
