@@ -12,8 +12,8 @@ use state::Head;
 use state::Object;
 use state::Setting;
 
-// Why a present thread's pick is passed over: it has finished; waits for a monitor, for a join or to be notified; is stuck for a field, for a thread, for a monitor
-// that it does not hold or for a rule.
+// Why a present thread's pick is passed over: it has finished; waits for a monitor, for a join or to be notified; is stuck for a field, for a thread, for
+// a monitor that it does not hold or for a rule.
 pub enum Block {
     Finished,
     Monitor,
@@ -134,9 +134,10 @@ fn look_waiting(cell: Cell, place: usize) -> Sight
     }
     let keys = cell.keys;
     if keys.is_empty() {
-        return Sight::Blocked(Block::Monitor);
+        Sight::Blocked(Block::Monitor)
+    } else {
+        Sight::Ready
     }
-    Sight::Ready
 }
 
 // Whether the part reads or writes a field.

@@ -1,4 +1,5 @@
--- What a synch does at its start and at its end, what a signal does, and what a thread does that wakes, by value. The machine that the code runs; no reader of the entries' promises needs it. Assumes nothing.
+-- What a synch does at its start and at its end, a wait or a notify, and a thread that wakes, by value. The machine that the code runs; no reader of the
+-- entries' promises needs it. Assumes nothing.
 use Prim.Native.Nat.{ℕ}
 use mathlib.Core.Bool.{cond}
 use lib.Dec.{eqb}

@@ -1,4 +1,4 @@
-// What a synch does at its start and at its end, what a signal does, and what a thread does that wakes, by value.
+// What a synch does at its start and at its end, a wait or a notify, and a thread that wakes, by value.
 ghost use mathlib.Core.Path.{_≡_};
 ghost use Rattle.monitors.specs.Monitors.{actSynch, actHold, actWait, actSignal, actWake};
 use frames::frame::Frame;
@@ -85,8 +85,8 @@ pub fn act_wake(counts: Counts, head: Head, cell: Cell, object: usize) -> Act
     ensures { λ r. ⌜ r ≡ actWake counts head cell object ⌝ }
 {
     let keys = head.keys;
-    let cell_keys = cell.keys;
-    let joined = keys.join(cell_keys);
+    let given = cell.keys;
+    let joined = keys.join(given);
     let none = KeySet::new();
     let changed = cell_with(head.object, 0, none);
     let go = go::value(0);

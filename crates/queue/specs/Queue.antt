@@ -1,5 +1,5 @@
--- The places of eight threads in the queues of monitors, as numbers: number * 32 + object, where a number of 0 is no place in the queue. The machine that the code runs; no reader of the entries'
--- promises needs it. Assumes nothing.
+-- The places of threads in the queues of monitors, as numbers: number * 32 + object, where a number of 0 is no place in the queue. The machine that the
+-- code runs; no reader of the entries' promises needs it. Assumes nothing.
 use Prim.Native.Nat.{ℕ, suc, _+_, _-_, _*_, _/_, _%_}
 use mathlib.Core.Bool.{Bool, _&&_, cond}
 use mathlib.Core.List.{List, [], _∷_, map}

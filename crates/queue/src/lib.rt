@@ -1,5 +1,5 @@
-// The places of eight threads in the queues of monitors: number * 32 + object, where the number says how many threads that are not yet notified have waited on
-// the object as long or longer, and 0 is no place in the queue.
+// The places of eight threads in the queues of monitors: number * 32 + object, where the number says how many threads that are not yet notified have
+// waited on the object as long or longer, and 0 is no place in the queue.
 ghost use mathlib.Core.Path.{_≡_};
 ghost use Prim.Native.Nat.{_≤_, _<_};
 ghost use lib.ListN.{length};

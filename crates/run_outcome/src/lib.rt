@@ -14,15 +14,16 @@ pub enum Stop {
     NoRoom(NoRoom),
 }
 
-// What a waiting thread waits for: a monitor that another thread holds; the end of a thread, named by its object; or, in an object's queue, until it is notified.
+// What a waiting thread waits for: a monitor that another thread holds; the end of a thread, named by its object; or, after a wait on an object, until it
+// is notified.
 pub enum Wait {
     Monitor { object: usize },
     Join { object: usize },
     Notify { object: usize },
 }
 
-// Why a thread is stuck: the object has no such field, or is no thread, or its monitor is not held by the mover; or no rule is for its part, to which no accepted
-// plan comes.
+// Why a thread is stuck: the object has no such field, or is no thread, or its monitor is not held by the mover; or no rule is for its part, to which no
+// accepted plan comes.
 pub enum Stuck {
     Field { object: usize, field: usize },
     Thread { object: usize },

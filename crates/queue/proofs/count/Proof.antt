@@ -42,7 +42,10 @@ loop-again : tie.Need-loop-again Inv-loop μ-loop
 loop-again c =
     let l = c .before .before .before .before in
     let e = count-next (l .before .before .args .object) (l .before .before .args .places .now) (l .loop .i) (omega arith) in
-    ⊎-elim (λ w. (refl, omega arith, omega arith, let q = rw (sym (c .before .queued .ensures) ∙ w .0 .taken) at e in omega arith)) (λ w. (refl, omega arith, omega arith, let q = rw (sym (c .before .queued .ensures) ∙ w .0 .left) at e in omega arith)) (c .if1 .came)
+    let test = c .before .queued .ensures in
+    ⊎-elim (λ w. (refl, omega arith, omega arith, let q = rw (sym test ∙ w .0 .taken) at e in omega arith))
+    (λ w. (refl, omega arith, omega arith, let q = rw (sym test ∙ w .0 .left) at e in omega arith))
+    (c .if1 .came)
 
 returns : tie.Need-returns Inv-loop μ-loop
 unfolding countOf
