@@ -1,5 +1,6 @@
 -- What a term costs (document 02, E12). Assumes nothing.
 use Prim.Native.Nat.{ℕ, zero, suc, _+_, max}
+use mathlib.Core.Path.{_≡_}
 use mathlib.Core.Option.{Option, some, none}
 use lib.ListN.{length, getElem?}
 use Rattle.packed.specs.Syntax.{Signal, Expression, Condition, Arguments, Procedure, Program}
@@ -44,6 +45,10 @@ unfoldable mutual
 abbrev pub costOfBody : (ℕ → ℕ) → Option Procedure → ℕ
 costOfBody B none = 0
 costOfBody B (some d) = cost B (d .body)
+
+-- "a call adds the called body": B m is what the body of procedure m costs, for every procedure, and 0 where there is none
+pub record Costs (g : Program) (B : ℕ → ℕ) : Type 0 where
+  pub bodies : (m : ℕ) → costOfBody B (getElem? (g .procedures) m) ≡ B m
 
 -- what the body of procedure m costs, where at most k calls stand one in the other
 unfoldable pub bodyCost : Program → ℕ → ℕ → ℕ
