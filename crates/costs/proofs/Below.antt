@@ -51,6 +51,9 @@ any-true (suc n) f k h e = go (λ b. any-true n f k b e) (ℕ-discrete k n)
 pub none-below : (n : ℕ) (f : ℕ → Bool) → anyBelow n f ≡ false → (k : ℕ) → k < n → f k ≡ false
 none-below n f h k b = by-true (f k) (λ e. true≢false (sym (any-true n f k b e) ∙ h))
 
+pub none-any : (n : ℕ) (f : ℕ → Bool) → ((k : ℕ) → k < n → f k ≡ false) → anyBelow n f ≡ false
+none-any n f h = by-true (anyBelow n f) (λ e. let a = any-found n f e in true≢false (sym (a .2) ∙ h (a .0) (a .1)))
+
 -- ---- how many numbers below n a test passes
 
 -- the test without p

@@ -13,6 +13,7 @@ use Rattle.packed.specs.Syntax.{Procedure, Program}
 use Rattle.packed.specs.Refusals.{anyBelow}
 use Rattle.rules.proofs.StateLaws.{inside}
 use Rattle.costs.specs.Calls.{callsBy, called, chain, cyclic}
+use Rattle.costs.specs.Leading.{leadsOn}
 use Rattle.costs.proofs.Below.{both, by-true, any-found, any-true, minus, minus-other, count, count-most, count-minus}
 
 module _ (g : Program) where
@@ -31,40 +32,35 @@ module _ (g : Program) where
 
   -- ---- calls that lead on
 
-  -- k calls lead on from procedure p
-  unfoldable pub leadsOn : ℕ → ℕ → Bool
-  leadsOn zero p = true
-  leadsOn (suc k) p = anyBelow procedureCount (λ q. called g p q && leadsOn k q)
-
   -- the first of one more
-  pub goes : (k p : ℕ) → leadsOn (suc k) p ≡ true → (q : ℕ) × (q < procedureCount) × (called g p q ≡ true) × (leadsOn k q ≡ true)
+  pub goes : (k p : ℕ) → leadsOn g (suc k) p ≡ true → (q : ℕ) × (q < procedureCount) × (called g p q ≡ true) × (leadsOn g k q ≡ true)
   unfolding leadsOn
   goes k p h =
-      let a = any-found procedureCount (λ q. called g p q && leadsOn k q) h in
-      let b = both (called g p (a .0)) (leadsOn k (a .0)) (a .2) in
+      let a = any-found procedureCount (λ q. called g p q && leadsOn g k q) h in
+      let b = both (called g p (a .0)) (leadsOn g k (a .0)) (a .2) in
       (a .0, a .1, b .0, b .1)
 
-  pub one-more : (k p q : ℕ) → q < procedureCount → called g p q ≡ true → leadsOn k q ≡ true → leadsOn (suc k) p ≡ true
+  pub one-more : (k p q : ℕ) → q < procedureCount → called g p q ≡ true → leadsOn g k q ≡ true → leadsOn g (suc k) p ≡ true
   unfolding leadsOn
-  one-more k p q h c e = any-true procedureCount (λ r. called g p r && leadsOn k r) q h (rw (c, e))
+  one-more k p q h c e = any-true procedureCount (λ r. called g p r && leadsOn g k r) q h (rw (c, e))
 
-  one-less : (k p : ℕ) → leadsOn (suc k) p ≡ true → leadsOn k p ≡ true
+  pub one-less : (k p : ℕ) → leadsOn g (suc k) p ≡ true → leadsOn g k p ≡ true
   unfolding leadsOn
   one-less zero p h = refl
   one-less (suc k) p h = let a = goes (suc k) p h in one-more k p (a .0) (a .1) (a .2) (one-less k (a .0) (a .3))
 
-  fewer : (j k p : ℕ) → leadsOn (j + k) p ≡ true → leadsOn k p ≡ true
-  fewer zero k p h = subst (λ (n : ℕ). leadsOn n p ≡ true) (let a = k in omega arith) h
-  fewer (suc j) k p h = fewer j k p (one-less (j + k) p (subst (λ (n : ℕ). leadsOn n p ≡ true) (omega arith) h))
+  fewer : (j k p : ℕ) → leadsOn g (j + k) p ≡ true → leadsOn g k p ≡ true
+  fewer zero k p h = subst (λ (n : ℕ). leadsOn g n p ≡ true) (let a = k in omega arith) h
+  fewer (suc j) k p h = fewer j k p (one-less (j + k) p (subst (λ (n : ℕ). leadsOn g n p ≡ true) (omega arith) h))
 
   -- a chain, and what leads on from its end
-  past-chain : (k j p q : ℕ) → q < procedureCount → chain g k p q ≡ true → leadsOn j q ≡ true → leadsOn (suc (k + j)) p ≡ true
+  past-chain : (k j p q : ℕ) → q < procedureCount → chain g k p q ≡ true → leadsOn g j q ≡ true → leadsOn g (suc (k + j)) p ≡ true
   unfolding chain
-  past-chain zero j p q b h e = subst (λ (n : ℕ). leadsOn n p ≡ true) (omega arith) (one-more j p q b h e)
+  past-chain zero j p q b h e = subst (λ (n : ℕ). leadsOn g n p ≡ true) (omega arith) (one-more j p q b h e)
   past-chain (suc k) j p q b h e =
       let a = any-found procedureCount (λ r. called g p r && chain g k r q) h in
       let c = both (called g p (a .0)) (chain g k (a .0) q) (a .2) in
-      subst (λ (n : ℕ). leadsOn n p ≡ true) (omega arith) (one-more (suc (k + j)) p (a .0) (a .1) (c .0) (past-chain k j (a .0) q b (c .1) e))
+      subst (λ (n : ℕ). leadsOn g n p ≡ true) (omega arith) (one-more (suc (k + j)) p (a .0) (a .1) (c .0) (past-chain k j (a .0) q b (c .1) e))
 
   chain-there : (k p q : ℕ) → chain g k p q ≡ true → p < procedureCount
   unfolding chain
@@ -74,12 +70,12 @@ module _ (g : Program) where
       caller-there p (a .0) (both (called g p (a .0)) (chain g k (a .0) q) (a .2) .0)
 
   -- a cycle leads on and on
-  pub round-leads : (k p : ℕ) → chain g k p p ≡ true → (j : ℕ) → leadsOn j p ≡ true
+  pub round-leads : (k p : ℕ) → chain g k p p ≡ true → (j : ℕ) → leadsOn g j p ≡ true
   unfolding leadsOn
   round-leads k p h zero = refl
   round-leads k p h (suc j) =
       let e : suc (k + j) ≡ k + suc j = omega arith in
-      fewer k (suc j) p (subst (λ (n : ℕ). leadsOn n p ≡ true) e (past-chain k j p p (chain-there k p p h) h (round-leads k p h j)))
+      fewer k (suc j) p (subst (λ (n : ℕ). leadsOn g n p ≡ true) e (past-chain k j p p (chain-there k p p h) h (round-leads k p h j)))
 
   -- ---- the procedures on the way
 
@@ -88,7 +84,7 @@ module _ (g : Program) where
   Way p [] = Unit {0}
   Way p (q ∷ qs) = (q < procedureCount) × (called g p q ≡ true) × Way q qs
 
-  way : (k p : ℕ) → leadsOn k p ≡ true → (qs : List ℕ) × (length qs ≡ k) × Way p qs
+  way : (k p : ℕ) → leadsOn g k p ≡ true → (qs : List ℕ) × (length qs ≡ k) × Way p qs
   way zero p h = ([], refl, tt)
   way (suc k) p h = let a = goes k p h in let w = way k (a .0) (a .3) in (a .0 ∷ w .0, ap suc (w .1), (a .1, a .2, w .2))
 
@@ -146,7 +142,7 @@ module _ (g : Program) where
   all-true (q ∷ qs) = (refl, all-true qs)
 
   -- as many calls as there are procedures lead on from one: there is a cycle
-  found : (p : ℕ) → p < procedureCount → leadsOn procedureCount p ≡ true → Round procedureCount
+  found : (p : ℕ) → p < procedureCount → leadsOn g procedureCount p ≡ true → Round procedureCount
   found p h e = let w = way procedureCount p e in go (w .1) (crowded procedureCount p (w .0) (λ x. true) (let l = w .1 in omega arith) h (w .2) refl (all-true (w .0)))
     where
       go : {n : ℕ} → n ≡ procedureCount → Round procedureCount ⊎ (n < count (λ x. true) procedureCount) → Round procedureCount
@@ -162,7 +158,7 @@ module _ (g : Program) where
   -- ---- what refusal 21 says
 
   -- as many calls as there are procedures lead on from one: calls form a cycle
-  pub long-cyclic : (p : ℕ) → p < procedureCount → leadsOn procedureCount p ≡ true → cyclic g ≡ true
+  pub long-cyclic : (p : ℕ) → p < procedureCount → leadsOn g procedureCount p ≡ true → cyclic g ≡ true
   long-cyclic p h e = round-cyclic (found p h e)
 
   -- "calls [..] form a cycle": a chain of calls, however long, leads from a procedure to itself
@@ -178,9 +174,9 @@ module _ (g : Program) where
       (b .0, a .0, b .2)
 
   -- where calls form no cycle, no more of them stand one in the other than there are procedures
-  pub ends-soon : cyclic g ≡ false → (p : ℕ) → p < procedureCount → leadsOn procedureCount p ≡ false
-  ends-soon h p b = by-true (leadsOn procedureCount p) (λ e. true≢false (sym (long-cyclic p b e) ∙ h))
+  pub ends-soon : cyclic g ≡ false → (p : ℕ) → p < procedureCount → leadsOn g procedureCount p ≡ false
+  ends-soon h p b = by-true (leadsOn g procedureCount p) (λ e. true≢false (sym (long-cyclic p b e) ∙ h))
 
   -- where calls do not lead on for ever from any procedure, they form no cycle
-  pub ends-acyclic : (n : ℕ) → ((p : ℕ) → p < procedureCount → leadsOn n p ≡ false) → cyclic g ≡ false
+  pub ends-acyclic : (n : ℕ) → ((p : ℕ) → p < procedureCount → leadsOn g n p ≡ false) → cyclic g ≡ false
   ends-acyclic n h = by-true (cyclic g) (λ e. let c = some-cycle e in true≢false (sym (round-leads (c .0) (c .1) (c .2) n) ∙ h (c .1) (chain-there (c .0) (c .1) (c .1) (c .2))))

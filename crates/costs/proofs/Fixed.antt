@@ -12,8 +12,9 @@ use Rattle.packed.specs.Syntax.{Expression, Condition, Arguments, Procedure, Pr
 use Rattle.rules.proofs.StateLaws.{outside}
 use Rattle.costs.specs.Cost.{oneMore, cost, costᶜ, costᵃ, costOfBody, Costs, bodyCost, total}
 use Rattle.costs.specs.Calls.{calls, callsᶜ, callsᵃ, callsBy, called, cyclic}
+use Rattle.costs.specs.Leading.{leadsOn}
 use Rattle.costs.proofs.Below.{by-true}
-use Rattle.costs.proofs.Chains.{procedureCount, leadsOn, one-more, ends-soon}
+use Rattle.costs.proofs.Chains.{procedureCount, one-more, ends-soon}
 
 -- ---- the cost of a tree depends on the bodies that it calls
 
@@ -85,7 +86,7 @@ module _ (g : Program) where
   -- ---- the costs are there
 
   -- where k calls do not lead on, it does not matter whether one more is looked into
-  stable : (k m : ℕ) → leadsOn g k m ≡ false → bodyCost g k m ≡ bodyCost g (suc k) m
+  pub stable : (k m : ℕ) → leadsOn g k m ≡ false → bodyCost g k m ≡ bodyCost g (suc k) m
   unfolding bodyCost leadsOn called
   stable zero m h = absurd (true≢false h)
   stable (suc k) m h = same-body (bodyCost g k) (bodyCost g (suc k)) (getElem? (g .procedures) m) (λ q c. at q c (decLt q (procedureCount g)) (λ f. stable k q f))

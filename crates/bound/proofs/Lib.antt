@@ -1,0 +1,5 @@
+pub mod Counting
+pub mod CallSets
+pub mod Sets
+pub mod Bodies
+pub mod Rounds
