@@ -102,6 +102,9 @@ module _ (b : List ℕ) (ok : refusal b ≡ none) where
         terms-right = a .right₄;
       }
 
+  pub long-enough : 8 ≤ length b
+  long-enough = let z = right-of .headed .sized .long in omega arith
+
 -- ---- the bodies in the array
 
 module _ {b words : List ℕ} {n : ℕ} (l : Loads b n words) where

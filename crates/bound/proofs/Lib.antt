@@ -3,3 +3,4 @@ pub mod CallSets
 pub mod Sets
 pub mod Bodies
 pub mod Rounds
+pub mod Answers

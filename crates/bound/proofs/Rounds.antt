@@ -79,7 +79,7 @@ module _ {b words : List ℕ} {n : ℕ} (l : Loads b n words) {sets : List ℕ} 
     ends-here =
         by-true (leadsOn (programOf b) (suc (S .depth)) p)
         (λ e. let a = goes (programOf b) (S .depth) p e in
-            true≢false (sym (a .3) ∙ S .by-depth .ends (a .0) (counted-out b (l .passes) (a .0) (a .1)) (known (a .0) (a .2))))
+        true≢false (sym (a .3) ∙ S .by-depth .ends (a .0) (counted-out b (l .passes) (a .0) (a .1)) (known (a .0) (a .2))))
 
     ends-still : (q : ℕ) → leadsOn (programOf b) (S .depth) q ≡ false → leadsOn (programOf b) (suc (S .depth)) q ≡ false
     ends-still q e = by-true (leadsOn (programOf b) (suc (S .depth)) q) (λ y. true≢false (sym (one-less (programOf b) (S .depth) q y) ∙ e))
@@ -130,6 +130,10 @@ none-settled b = record {
   small = omega arith;
   size = refl;
 }
+
+-- the set by another name
+pub settled-as : {b costs : List ℕ} {d e : ℕ} → d ≡ e → Settled b d costs → Settled b e costs
+settled-as {b} {costs} q s = subst (λ (x : ℕ). Settled b x costs) q s
 
 -- ---- the procedures that a round has passed
 

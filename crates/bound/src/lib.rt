@@ -8,7 +8,7 @@ ghost use Rattle.packed.specs.Format.{terms};
 ghost use Rattle.packed.specs.Steps.{tagIn};
 ghost use Rattle.packed.specs.Refusals.{anyBelow};
 ghost use Rattle.costs.specs.Bound.{bounded};
-ghost use Rattle.bound.specs.Answer.{answered};
+ghost use Rattle.bound.specs.Answer.{answered, NoMoreMoves};
 ghost use Rattle.bound.specs.Settling.{Loads};
 use header::layout;
 use operands::tags;
@@ -70,7 +70,8 @@ fn total_of(plan: &[u8], procedures: usize, count: usize, words: &[usize; 1024])
 
 // The entry `bound`, for any bytes: a refusal, or a number of moves that no schedule of the plan goes beyond.
 pub fn bound(plan: &[u8]) -> Bounded
-    ensures { λ r. ⌜ answered r ≡ bounded (now (plan .entry)) ⌝ }
+    ensures answer { λ r. ⌜ answered r ≡ bounded (now (plan .entry)) ⌝ }
+    ensures most { λ r. ⌜ NoMoreMoves (now (plan .entry)) r ⌝ }
 {
     let mut words = [0usize; 1024];
     let checked = plan::load(plan, &mut words);

@@ -23,11 +23,7 @@ fn bits() -> [usize; 32]
 }
 
 // The procedures that each procedure calls.
-pub fn calls(
-    plan: &[u8],
-    procedures: usize,
-    words: &[usize; 1024],
-) -> [usize; 32]
+pub fn calls(plan: &[u8], procedures: usize, words: &[usize; 1024]) -> [usize; 32]
     requires { ⌜ Loads (now plan) procedures (now words) ⌝ }
     ensures { λ r. ⌜ Called (now (plan .entry)) procedures r ⌝ }
 {

@@ -2,7 +2,7 @@
 use Prim.Native.Nat.{ℕ, zero, suc, _+_, _≤_, _<_}
 use native.Mathlib.Decide.{ℕ-discrete}
 use native.Mathlib.Omega.{arith}
-use mathlib.Core.Path.{_≡_, refl, sym, ap, _∙_}
+use mathlib.Core.Path.{_≡_, refl, sym, ap, ap₂, _∙_}
 use mathlib.Core.Bool.{Bool, true, false, cond, _&&_, _||_, true≢false}
 use mathlib.Core.Logic.{_⊎_, inl, inr}
 use lib.Dec.{eqb}
@@ -47,6 +47,11 @@ any-true (suc n) f k h e = go (λ b. any-true n f k b e) (ℕ-discrete k n)
     go : (k < n → anyBelow n f ≡ true) → Dec (k ≡ n) → (anyBelow n f || f n) ≡ true
     go i (yes q) = last (anyBelow n f) (f n) (ap f (sym q) ∙ e)
     go i (no q) = ap (λ (x : Bool). x || f n) (i (omega (arith, q)))
+
+pub any-same : (n : ℕ) (f h : ℕ → Bool) → ((k : ℕ) → k < n → f k ≡ h k) → anyBelow n f ≡ anyBelow n h
+unfolding anyBelow
+any-same zero f h e = refl
+any-same (suc n) f h e = ap₂ _||_ (any-same n f h (λ k b. e k (omega arith))) (e n (omega arith))
 
 pub none-below : (n : ℕ) (f : ℕ → Bool) → anyBelow n f ≡ false → (k : ℕ) → k < n → f k ≡ false
 none-below n f h k b = by-true (f k) (λ e. true≢false (sym (any-true n f k b e) ∙ h))

@@ -39,8 +39,7 @@ loop-again : tie.Need-loop-again Inv-loop μ-loop
 loop-again c =
     let l = c .before .loop in
     let b = l .inv .1 in
-    let n : l .procedure < length (l .all) = rw (b .size) (omega arith) in
-    (
+    let n : l .procedure < length (l .all) = rw (b .size) (omega arith) in (
       search needs,
       record {
         each = filled {A = ℕ} (l .all) (l .procedure) _ 0 (λ (q x : ℕ). x ≡ singleton q) n (b .each) (shl-one (l .procedure) (omega arith));

@@ -54,8 +54,7 @@ loop-again c =
     let n : l .procedure < length (l .all) = rw (l .inv .1) (let t = i .loop-test .taken in omega arith) in
     let d = i .before .before .bits .ensures in
     let e = set-each d (s .pre) (l .procedure) (i .loop-test .taken) (c .before .before .root .ensures) (c .walk-expression .ensures) in
-    let f = set-small d (s .pre) (l .procedure) (i .loop-test .taken) (c .before .before .root .ensures) (c .walk-expression .ensures) in
-    (
+    let f = set-small d (s .pre) (l .procedure) (i .loop-test .taken) (c .before .before .root .ensures) (c .walk-expression .ensures) in (
       search needs,
       length-set (l .all) (l .procedure) _ ∙ l .inv .1,
       record {
