@@ -2,7 +2,7 @@
  *
  * A plan is a small concurrent program in a byte table. check says whether the table is one; play runs it under a schedule, one byte to a pick, each
  * pick the number of the thread that moves next, and writes a log of 3-byte records and an outcome; judge takes a log alone and names an access that
- * nothing orders. This header is enough to call them and to read what they give; docs/FORMAT.md says how to write a plan.
+ * nothing orders; comtrade writes a log as a file for a waveform viewer; charge says what a run costs. This header is enough to call them and to read what they give; docs/FORMAT.md says how to write a plan.
  *
  * THE ANSWER of every function is a uint64_t of two halves. The upper half says which kind of answer it is, enum ruqzhemil_answer:
  *
@@ -20,8 +20,8 @@
  * nothing, so threads may call them at the same time on areas of their own.
  *
  * WHAT IS ASKED of the caller: each pointer leads to as many bytes as its length says (out to RUQZHEMIL_OUT_BYTES); a length of 0 may go with any
- * pointer, null too; log and out overlap neither each other nor the plan and the schedule, and while a call runs no other thread writes to its bytes; and
- * there is stack: check needs up to 48 KB, play up to 128 KB, judge up to 64 KB (bench/run.sh measures them).
+ * pointer, null too; what a function writes (log and out of play, area of comtrade) overlaps none of its other bytes, and while a call runs no other thread
+ * writes to its bytes; and there is stack: check needs up to 48 KB, play up to 128 KB, judge up to 64 KB, charge up to 144 KB, comtrade up to 4 KB (bench/run.sh measures them).
  *
  * WHAT IT NEEDS: x86-64, the System V calling convention (Linux), and from outside the archive memcpy and memset alone.
  *
@@ -40,7 +40,7 @@ extern "C" {
 
 /* ---- versions: major * 65536 + minor * 256 + patch */
 
-#define RUQZHEMIL_VERSION 0x010000 /* 1.0.0, of this header */
+#define RUQZHEMIL_VERSION 0x010100 /* 1.1.0, of this header */
 
 /* The version of the archive that is linked, which RUQZHEMIL_VERSION should be. */
 uint64_t ruqzhemil_version(void);
@@ -51,6 +51,7 @@ uint64_t ruqzhemil_version(void);
 #define RUQZHEMIL_MOST_PICKS 4096        /* of any schedule that passes */
 #define RUQZHEMIL_MOST_LOG_BYTES 12288   /* of any log: a record to each of 4,096 picks. An area of this size is enough for every play */
 #define RUQZHEMIL_MOST_TEXT_BYTES 131072 /* an area of this size is enough for the text that the printing program writes of any run */
+#define RUQZHEMIL_MOST_FILE_BYTES 317269 /* of the data file of any log: that of 4,096 records. An area of this size is enough for every log */
 #define RUQZHEMIL_RECORD_BYTES 3         /* of a record */
 #define RUQZHEMIL_OUT_BYTES 40           /* of an outcome */
 #define RUQZHEMIL_THREADS 8              /* of a run; they are numbered 0 to 7, as the picks are */
@@ -83,7 +84,8 @@ enum ruqzhemil_refusal {
     RUQZHEMIL_REFUSAL_LOG_AREA = 10,       /* place 0 */
     RUQZHEMIL_REFUSAL_LOG_LENGTH = 11,     /* place 0 */
     RUQZHEMIL_REFUSAL_RECORD = 12,         /* the lowest such record */
-    RUQZHEMIL_REFUSAL_VERSION = 14         /* place 0 */
+    RUQZHEMIL_REFUSAL_VERSION = 14,        /* place 0 */
+    RUQZHEMIL_REFUSAL_FILE_AREA = 24       /* place 0 */
 };
 
 static inline const char *ruqzhemil_refusal_text(unsigned number) {
@@ -101,6 +103,7 @@ static inline const char *ruqzhemil_refusal_text(unsigned number) {
     case RUQZHEMIL_REFUSAL_LOG_LENGTH: return "a log whose length is no multiple of 3, or over 12,288";
     case RUQZHEMIL_REFUSAL_RECORD: return "a record with a wrong kind, column or spare bit, or lacking its key and not last";
     case RUQZHEMIL_REFUSAL_VERSION: return "a version other than 0 or 1 given to the judge";
+    case RUQZHEMIL_REFUSAL_FILE_AREA: return "an area too short for the whole data file";
     default: return "a refusal that this header does not know";
     }
 }
@@ -181,11 +184,13 @@ enum ruqzhemil_state {
     RUQZHEMIL_ABSENT = 0,        /* there is no such thread */
     RUQZHEMIL_FINISHED = 1,      /* with this value */
     RUQZHEMIL_READY = 2,         /* it can move, or only lacks room */
-    RUQZHEMIL_WAITS_MONITOR = 3, /* for the monitor of this object */
+    RUQZHEMIL_WAITS_MONITOR = 3, /* for the monitor of this object: to enter it, or to go on after it was notified */
     RUQZHEMIL_WAITS_JOIN = 4,    /* for the end of the thread that this object stands for */
     RUQZHEMIL_STUCK_FIELD = 5,   /* this object has no such field */
     RUQZHEMIL_STUCK_THREAD = 6,  /* this object stands for no thread */
-    RUQZHEMIL_LACKING = 7        /* the key of this object's field */
+    RUQZHEMIL_LACKING = 7,       /* the key of this object's field */
+    RUQZHEMIL_WAITS_NOTIFY = 8,  /* to be notified on this object */
+    RUQZHEMIL_STUCK_MONITOR = 9  /* it does not hold the monitor of this object, which its wait or notify needs */
 };
 
 struct ruqzhemil_thread {
@@ -232,6 +237,8 @@ static inline const char *ruqzhemil_state_text(unsigned state) {
     case RUQZHEMIL_STUCK_FIELD: return "stuck, no field";
     case RUQZHEMIL_STUCK_THREAD: return "stuck, no thread";
     case RUQZHEMIL_LACKING: return "lacks a key";
+    case RUQZHEMIL_WAITS_NOTIFY: return "waits to be notified";
+    case RUQZHEMIL_STUCK_MONITOR: return "stuck, monitor not held";
     default: return "unknown";
     }
 }
@@ -250,6 +257,15 @@ uint64_t ruqzhemil_play(const uint8_t *plan, size_t plan_len, const uint8_t *sch
  * chain leads to it from some earlier access to its field, one of the two a write. An answer: no access is unordered, value 0. The other answer: the
  * record with this index, from 0, is the first unordered access. Refusals 14, 11 and 12, in this order. */
 uint64_t ruqzhemil_judge(uint64_t version, const uint8_t *log, size_t log_len);
+
+/* What a run of the schedule on the plan is charged: 1,200 cents and 35 for each started hundred moves; with the one-millisecond option, an option that is
+ * not 0, 15 percent more, a part of a cent counting as a whole one; 0 for a run that stops for room. An answer: the cents, at most 3,031. Refusals 1 to 9. */
+uint64_t ruqzhemil_charge(const uint8_t *plan, size_t plan_len, const uint8_t *schedule, size_t schedule_len, uint64_t option);
+
+/* Writes a log as an ASCII data file of IEEE C37.111-1999 (COMTRADE): a line for each record, with 32 digital values, of which value o is 1 while the
+ * monitor of object o is held. An answer: the file's length in bytes; area begins with the file and keeps its other bytes. Refusals 11, 12 and, where area
+ * is too short for the whole file, 24 leave it as it was. The length depends on the count of records alone, and is at most RUQZHEMIL_MOST_FILE_BYTES. */
+uint64_t ruqzhemil_comtrade(const uint8_t *log, size_t log_len, uint8_t *area, size_t area_len);
 
 /* The version of a plan that passes the check, for the judge. */
 static inline uint64_t ruqzhemil_plan_version(const uint8_t *plan) {
@@ -273,6 +289,9 @@ static inline uint8_t *ruqzhemil_area(uint8_t *area) {
 #define ruqzhemil_play(plan, plan_len, schedule, schedule_len, log, log_len, out) \
     ruqzhemil_play(ruqzhemil_bytes(plan), plan_len, ruqzhemil_bytes(schedule), schedule_len, ruqzhemil_area(log), log_len, out)
 #define ruqzhemil_judge(version, log, log_len) ruqzhemil_judge(version, ruqzhemil_bytes(log), log_len)
+#define ruqzhemil_charge(plan, plan_len, schedule, schedule_len, option) \
+    ruqzhemil_charge(ruqzhemil_bytes(plan), plan_len, ruqzhemil_bytes(schedule), schedule_len, option)
+#define ruqzhemil_comtrade(log, log_len, area, area_len) ruqzhemil_comtrade(ruqzhemil_bytes(log), log_len, ruqzhemil_area(area), area_len)
 
 #ifdef __cplusplus
 }

@@ -14,6 +14,8 @@ unsafe extern "C" {
         out: *mut u8,
     ) -> u64;
     fn ruqzhemil_judge(version: u64, log: *const u8, log_len: usize) -> u64;
+    fn ruqzhemil_charge(plan: *const u8, plan_len: usize, schedule: *const u8, schedule_len: usize, option: u64) -> u64;
+    fn ruqzhemil_comtrade(log: *const u8, log_len: usize, area: *mut u8, area_len: usize) -> u64;
 }
 
 /// Bytes of an outcome.
@@ -34,4 +36,12 @@ pub fn play(plan: &[u8], schedule: &[u8], log: &mut [u8], out: &mut [u8; OUT_BYT
 
 pub fn judge(version: u64, log: &[u8]) -> u64 {
     unsafe { ruqzhemil_judge(version, log.as_ptr(), log.len()) }
+}
+
+pub fn charge(plan: &[u8], schedule: &[u8], option: u64) -> u64 {
+    unsafe { ruqzhemil_charge(plan.as_ptr(), plan.len(), schedule.as_ptr(), schedule.len(), option) }
+}
+
+pub fn comtrade(log: &[u8], area: &mut [u8]) -> u64 {
+    unsafe { ruqzhemil_comtrade(log.as_ptr(), log.len(), area.as_mut_ptr(), area.len()) }
 }

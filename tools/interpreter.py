@@ -7,17 +7,19 @@ import sys
 
 import header
 
-LANDED = "E2,E6,E7,E8"  # document 02's requests that the product has
+LANDED = "E2,E3,E4,E6,E7,E8,E9,E13,E14"  # document 02's requests that the product has
 FILL = 0xA5  # what every lent area is filled with before a play
 NUMBERS = header.numbers()
 OUT = NUMBERS["OUT_BYTES"]
 OUTCOMES = {word: NUMBERS[word.upper().replace("-", "_")] for word in ("end", "race", "no-thread", "no-object", "no-key", "no-depth")}
 STATES = {("absent",): NUMBERS["ABSENT"], ("finished",): NUMBERS["FINISHED"], ("ready",): NUMBERS["READY"],
           ("waiting", "monitor"): NUMBERS["WAITS_MONITOR"], ("waiting", "join"): NUMBERS["WAITS_JOIN"], ("stuck", "field"): NUMBERS["STUCK_FIELD"],
-          ("stuck", "thread"): NUMBERS["STUCK_THREAD"], ("lacking",): NUMBERS["LACKING"]}
+          ("stuck", "thread"): NUMBERS["STUCK_THREAD"], ("lacking",): NUMBERS["LACKING"], ("waiting", "notify"): NUMBERS["WAITS_NOTIFY"],
+          ("stuck", "monitor"): NUMBERS["STUCK_MONITOR"]}
 # the papers' numbers, by the header's
-REFUSALS = dict(zip([*range(1, 13), 14], [NUMBERS["REFUSAL_" + name] for name in (
-    "PLAN_LENGTH", "HEADER", "PROCEDURE", "TERM", "SORT", "NAMING", "SLOT", "SCHEDULE_LENGTH", "PICK", "LOG_AREA", "LOG_LENGTH", "RECORD", "VERSION")]))
+REFUSALS = dict(zip([*range(1, 13), 14, 24], [NUMBERS["REFUSAL_" + name] for name in (
+    "PLAN_LENGTH", "HEADER", "PROCEDURE", "TERM", "SORT", "NAMING", "SLOT", "SCHEDULE_LENGTH", "PICK", "LOG_AREA", "LOG_LENGTH", "RECORD", "VERSION",
+    "FILE_AREA")]))
 KINDS = [NUMBERS["KIND_" + name] for name in ("NEW", "READ", "WRITE", "VOLATILE_READ", "VOLATILE_WRITE", "ACQUIRE", "RELEASE", "FORK", "JOIN",
                                               "LACKS_READ", "LACKS_WRITE")]
 
@@ -67,6 +69,16 @@ def judged(want):
     if "refused" in want:
         return refused(*want["refused"])
     return other(want["unordered"][0]) if want["unordered"] else value(0)
+
+
+def charged(want):
+    """What charge returns for a plan, a schedule and an option."""
+    return refused(*want["refused"]) if "refused" in want else value(want["cents"])
+
+
+def filed(want):
+    """What comtrade returns for a log and an area."""
+    return refused(*want["refused"]) if "refused" in want else value(want["length"])
 
 
 def outcome_bytes(want):

@@ -106,6 +106,18 @@ def synch(e, body):
     return node(11, e, body)
 
 
+def wait(e):
+    return node(18, e)
+
+
+def notify(e):
+    return node(19, e)
+
+
+def notify_all(e):
+    return node(20, e)
+
+
 def no(c):
     return node(13, c)
 
@@ -152,10 +164,10 @@ SHOTS = [
 
 # ---- cases at the edges, which a definition and its code could get wrong together
 
-# every tag from 0 to 17, and the index of the first term of each
+# every tag from 0 to 20, and the index of the first term of each
 EVERY_TAG = plan(
     then(new(1), synch(NULL, NULL), write(NULL, 1, NULL), join(fork(NULL)), node(7, node(14, TRUE, no(TRUE)), NULL),
-         choice(node(15, NULL, NULL), NULL, NULL), call(1, read(NULL, 1))),
+         choice(node(15, NULL, NULL), NULL, NULL), wait(NULL), notify(NULL), notify_all(NULL), call(1, read(NULL, 1))),
     variable(0), parameters=[0, 1])
 EVERY_TAG_ROOT = 8 + 2 * 2
 
@@ -184,13 +196,23 @@ def handed_on(version):
     return plan(HANDED_ON, mask=0xA0000000, version=version)
 
 
+WAITING = fork(synch(NULL, wait(NULL)))                                                    # a thread that waits on null
+WOKEN = plan(then(WAITING, synch(NULL, notify(NULL))))
+WOKEN_PICKS = [0, 0, 0, 1, 1, 0, 0, 1, 0, 1, 1]                                            # it waits, is notified, is kept out, goes on
+TWO_WAITING = [0] * 5 + [1, 1, 2, 2] + [0, 0, 0] + [2, 2, 1, 1]                            # two wait, one is notified or both, and the second is picked first
+
+
+def two_waiting(e):
+    return plan(then(WAITING, WAITING, synch(NULL, e)))
+
+
 LARGEST = plan(*[fork(then(*[NULL] * 16))] * 32)                                           # 32 procedures, 1,024 terms
 
 # plan, picks, what is right, as above, and the requests with which something else is right
 EDGES = [
     (flipped(CALLS_NOTHING, 2, 1, bit), [], [4, 1], ()) for bit in range(31, 35)  # a list end with a bit set where a slot would stand
 ] + [
-    (flipped(EVERY_TAG, 2, first_of(tag), 0), [], [4, first_of(tag)], ()) for tag in range(18)  # a term with its lowest spare bit alone set
+    (flipped(EVERY_TAG, 2, first_of(tag), 0), [], [4, first_of(tag)], ()) for tag in range(21)  # a term with its lowest spare bit alone set
 ] + [
     (EVERY_TAG, [], ("end", 0, 0, 0), ()),
     (plan(let(0, new(31), read(variable(0), 31))), [0] * 5, ("end", 5, 4, 2), ()),
@@ -198,9 +220,16 @@ EDGES = [
     (header(0, 0), [], [2, 0], ()),
     (plan(call(31), *[NULL] * 31), [0] * 3, ("end", 3, 2, 0), ()),
     (plan(*[NULL] * 33), [], [2, 0], ()),
-    (tagged(18), [], [4, 0], ("E3",)),
-    (tagged(19), [], [4, 0], ("E3",)),
-    (tagged(20), [], [4, 0], ("E3",)),
+    (tagged(18), [0, 0], ("end", 2, 1, 0), ()),
+    (tagged(19), [0, 0], ("end", 2, 1, 0), ()),
+    (tagged(20), [0, 0], ("end", 2, 1, 0), ()),
+    (plan(synch(NULL, notify(NULL))), [0] * 9, (4, 2), ()),
+    (plan(synch(NULL, notify_all(NULL))), [0] * 9, (4, 2), ()),
+    (plan(synch(NULL, wait(NULL))), [0] * 9, (3, 2), ()),
+    (plan(synch(NULL, synch(NULL, wait(NULL)))), [0] * 9, (4, 2), ()),
+    (WOKEN, WOKEN_PICKS, ("end", 11, 10, 7), ()),
+    (two_waiting(notify(NULL)), TWO_WAITING, ("end", 16, 14, 10), ()),
+    (two_waiting(notify_all(NULL)), TWO_WAITING, ("end", 16, 16, 12), ()),
     (tagged(21), [], [4, 0], ()),
     (tagged(31), [], [4, 0], ()),
     (plan(choice(END, NULL, NULL)), [], [5, 1], ()),
@@ -222,6 +251,10 @@ EDGES = [
     (handed_on(0), HANDED_PICKS, ("race", 16, 10, 6), ()),
 ]
 
+# document 02's figures: a plan, picks that make 0, 100 and 101 moves, and its cents without the option and with it
+ROUND = plan(node(7, TRUE, NULL))
+CHARGES = [(ROUND, [], (1200, 1380)), (ROUND, [0] * 100, (1235, 1421)), (ROUND, [0] * 101, (1270, 1461))]
+
 # a log, the version that the judge is told, and what is right: the refusal, or the index that is named, or none
 NEW = bytes.fromhex("100000")
 HANDED_LOG = bytes.fromhex("101000" "802080" "301080" "501100" "421100" "221080")  # new, fork, write, volatile write, volatile read, read
@@ -237,6 +270,30 @@ LOGS = [
     (b"", (1 << 64) - 1, [14, 0]),
     (HANDED_LOG, 1, None),
     (HANDED_LOG, 0, 5),
+]
+
+
+# a log, the length of an area, and what is right: the refusal, or the length of the data file
+ACQUIRE, RELEASE, ACQUIRE_LAST = bytes.fromhex("600000"), bytes.fromhex("700000"), bytes.fromhex("61f000")  # of objects 0, 0 and 31
+FILES = [
+    (b"", 1, 1),
+    (b"", 0, [24, 0]),
+    (NEW, 70, 70),
+    (NEW, 69, [24, 0]),
+    (NEW[:1], 0, [11, 0]),
+    (bytes(3), 0, [12, 0]),
+    (ACQUIRE + RELEASE, 200, 142),
+    (RELEASE + ACQUIRE + ACQUIRE_LAST, 300, 214),
+    (ACQUIRE + ACQUIRE + RELEASE, 214, 214),
+    (NEW * 9, 646, 646),
+    (NEW * 9, 645, [24, 0]),
+    (NEW * 10, 719, 719),
+    (NEW * 11, 793, 793),
+    (NEW * 100, 7380, 7380),
+    (NEW * 101, 7456, 7456),
+    (NEW * 101, 7455, [24, 0]),
+    (NEW * LOG_RECORDS, 317268, [24, 0]),
+    (NEW * (LOG_RECORDS + 1), 317269, [11, 0]),
 ]
 
 

@@ -13,11 +13,16 @@ and its text. The same words give the same files. Every case stands behind its l
   version                        the number of the header's version, in eight bytes
   shots, edges, runs, refused    plays: of document 01's shot list, by hand, random ones that run, random ones that are refused
   edge_logs, logs                logs for the judge: by hand, and random ones
-  changed_version, changed_checks, changed_plays, changed_runs, changed_both, changed_logs
+  edge_files, files              logs for comtrade: by hand, and random ones
+  charges                        plays for charge: the figures of document 02, and random ones
+  changed_version, changed_checks, changed_plays, changed_runs, changed_both, changed_logs, changed_files,
+  changed_charges
                                  cases of the kinds above with one part of the answer, or one length, changed: each must differ
 
 A play: lengths of plan, schedule and log area; what check, play and judge return, in eight bytes each, judge for the run's records or for none; the
-bytes of the outcome; plan, schedule, records. A log: the version that judge is told and what it returns, in eight bytes each; the log.
+bytes of the outcome; plan, schedule, records. A log: the version that judge is told and what it returns, in eight bytes each; the log. A file:
+the area's length in four bytes and the log's in two, what comtrade returns in eight; the log, and the file where it is not refused. A charge:
+lengths of plan and schedule, the option and what charge returns, in eight bytes each; plan, schedule.
 """
 
 import collections
@@ -26,11 +31,13 @@ import sys
 import header
 import interpreter
 import rows
-from interpreter import (FILL, KINDS, NUMBERS, OUTCOMES, REFUSALS, STATES, checked, judged, other, outcome_bytes, played, record_bytes, refused,
+from interpreter import (FILL, KINDS, NUMBERS, OUTCOMES, REFUSALS, STATES, charged, checked, filed, judged, other, outcome_bytes, played, record_bytes, refused,
                          state_words, value)
 
 LONG = 6000  # bytes of a case from which on only a few are kept
-KEPT = {"refused": 45, "end": 330, "long": 10, "log": 390}  # of each number, of runs to the end, of long cases, of logs with an unordered access and without
+MOST = 65535  # bytes of any case: its length has two
+# of each number, of runs to the end, of long cases, of logs with an unordered access and without, of files, of each number that refuses one
+KEPT = {"refused": 45, "end": 330, "long": 10, "log": 390, "file": 80, "refused file": 15, "charge": 60, "refused charge": 12}
 
 
 # ---- the bytes of a case
@@ -39,12 +46,18 @@ def two(number):
     return number.to_bytes(2, "big")
 
 
+def four(number):
+    return number.to_bytes(4, "big")
+
+
 def eight(number):
     return number.to_bytes(8, "big")
 
 
 Play = collections.namedtuple("Play", "plan schedule area checked played judged out records lengths")
 Log = collections.namedtuple("Log", "version judged log")
+File = collections.namedtuple("File", "area filed log file length")
+Charge = collections.namedtuple("Charge", "plan schedule option charged lengths")
 
 
 def play_of(plan, schedule, area, want):
@@ -62,12 +75,27 @@ def log_of(log, want, version=1):
     return Log(version, judged(want), record_bytes(log))
 
 
+def charge_of(plan, schedule, option, want):
+    """A charge as it is stored; `lengths` are those of plan and schedule."""
+    return Charge(plan, schedule, option, charged(want), (len(plan), len(schedule)))
+
+
+def file_of(log, area, want):
+    """A log and the length of an area as they are stored, with the file where the area gets it; `length` is the log's."""
+    file = b"" if "refused" in want else bytes.fromhex(want["area"])[:want["length"]]
+    return File(area, filed(want), record_bytes(log), file, len(log))
+
+
 def stored(case):
     """The bytes of a case."""
     if isinstance(case, bytes):
         return case
     if isinstance(case, Log):
         return eight(case.version) + eight(case.judged) + case.log
+    if isinstance(case, Charge):
+        return b"".join(map(two, case.lengths)) + eight(case.option) + eight(case.charged) + case.plan + case.schedule
+    if isinstance(case, File):
+        return four(case.area) + two(case.length) + eight(case.filed) + case.log + case.file
     lengths = b"".join(map(two, case.lengths)) + two(case.area)
     return lengths + eight(case.checked) + eight(case.played) + eight(case.judged) + case.out + case.plan + case.schedule + case.records
 
@@ -77,6 +105,12 @@ def stored(case):
 def case_of(case):
     if "judge" in case:
         return log_of(bytes.fromhex(case["judge"]), case["want"], case["version"])
+    if "charge" in case:
+        asked = case["charge"]
+        return charge_of(bytes.fromhex(asked["plan"]), bytes.fromhex(asked["schedule"]), int(asked["option"]), case["want"])
+    if "comtrade" in case:
+        lent = case["comtrade"]
+        return file_of(bytes.fromhex(lent["log"]), len(lent["area"]) // 2, case["want"])
     play = case["play"]
     return play_of(bytes.fromhex(play["plan"]), bytes.fromhex(play["schedule"]), play["area"], case["want"])
 
@@ -84,6 +118,10 @@ def case_of(case):
 def kind_of(case):
     """The file of a case, and what it is counted as where only some are kept."""
     want = case["want"]
+    if "charge" in case:
+        return "charges", (("refused charge", want["refused"][0]) if "refused" in want else ("charge", want["cents"] == 0))
+    if "comtrade" in case:
+        return "files", (("refused file", want["refused"][0]) if "refused" in want else ("file", ""))
     if "refused" in want:
         return ("logs" if "judge" in case else "refused"), ("refused", want["refused"][0])
     if "judge" in case:
@@ -103,6 +141,11 @@ ALL_MARKS = ([("refused", n) for n in REFUSALS] + list(OUTCOMES) + list(STATES.v
              + [("picks", NUMBERS["MOST_PICKS"])])
 
 
+def storable(made):
+    """Whether two bytes have its length, and the test program an area that is long enough."""
+    return len(stored(made)) <= MOST and not (isinstance(made, File) and made.area > NUMBERS["MOST_FILE_BYTES"])
+
+
 def chosen(cases):
     """The stored cases, by file."""
     kept, files, marks = collections.Counter(), collections.defaultdict(list), set()
@@ -111,6 +154,8 @@ def chosen(cases):
         made = case_of(case)
         if len(stored(made)) > LONG:
             kind = ("long", name)
+        if not storable(made):
+            continue
         if kept[kind] < KEPT.get(kind[0], 1 << 20):
             kept[kind] += 1
             files[name].append(made)
@@ -154,6 +199,22 @@ def edge_logs(oracle):
         yield log_of(log, want, version)
 
 
+def figures(oracle):
+    """Document 02's figures: a run of 0, 100 and 101 moves, without the option and with it."""
+    for plan, picks, cents in rows.CHARGES:
+        for option, right in zip((0, 1, 1 << 63), (*cents, cents[1])):
+            want = oracle.charged(plan, bytes(picks), option != 0)
+            assert want == {"cents": right}, (plan.hex(), picks, option, want)
+            yield charge_of(plan, bytes(picks), option, want)
+
+
+def edge_files(oracle):
+    for log, area, stated in rows.FILES:
+        want = oracle.data_file(log, bytes([FILL]) * area)
+        assert want.get("length", want.get("refused")) == stated, (log.hex(), area, want)
+        yield file_of(log, area, want)
+
+
 # ---- cases that must differ
 
 def flips(data):
@@ -172,9 +233,9 @@ def wrong(right):
     return [right ^ change for change in (1, 1 << 16, 1 << 32, 1 << 33, 3 << 32, 1 << 63)]
 
 
-def changed(race, ended, refused_plan, refused_pick, unordered, ordered, refused_log):
-    """Cases by file, of seven right ones: plays that stop for a race, come to their end, have a refused plan and a refused pick; logs with an unordered
-    access, with none, and refused."""
+def changed(race, ended, refused_plan, refused_pick, unordered, ordered, refused_log, file, refused_file, charge):
+    """Cases by file, of ten right ones: plays that stop for a race, come to their end, have a refused plan and a refused pick; logs with an unordered
+    access, with none, and refused; a log with its data file, and one that is refused; a charge."""
     end = len(stored(race))
     lengths = [(end, 0), (len(race.plan), end)]
     return {
@@ -187,6 +248,10 @@ def changed(race, ended, refused_plan, refused_pick, unordered, ordered, refused
         "changed_both": by(race, judged=wrong(race.judged)) + by(ended, judged=wrong(ended.judged)) + by(refused_pick, played=wrong(refused_pick.played))
         + by(race, lengths=lengths) + by(race, area=[3 * len(race.schedule) - 1, 16385]),
         "changed_logs": [changed for case in (unordered, ordered, refused_log) for changed in by(case, judged=wrong(case.judged))],
+        "changed_files": by(file, filed=wrong(file.filed)) + by(file, file=flips(file.file)) + by(file, file=[file.file[:-1], file.file + bytes(1)])
+        + by(file, area=[len(file.file) - 1, NUMBERS["MOST_FILE_BYTES"] + 1]) + by(file, length=[len(stored(file))])
+        + by(refused_file, filed=wrong(refused_file.filed)) + by(refused_file, file=[bytes(1)]),
+        "changed_charges": by(charge, charged=wrong(charge.charged)) + by(charge, option=[0]) + by(charge, lengths=[(len(charge.plan), len(charge.schedule) + 1)]),
     }
 
 
@@ -197,7 +262,8 @@ def changed_of(files):
     return changed(files["shots"][0], first("runs", lambda c: c.judged == value(0) and c.out[0] == OUTCOMES["end"] and len(c.records) > 9),
                    first("refused", lambda c: c.checked > refused(4, 0)), first("refused", lambda c: refused(9, 0) < c.played < refused(10, 0)),
                    first("logs", lambda c: other(0) < c.judged < refused(1, 0)), first("logs", lambda c: c.judged == value(0) and len(c.log) > 9),
-                   first("logs", lambda c: c.judged > refused(12, 0)))
+                   first("logs", lambda c: c.judged > refused(12, 0)), first("files", lambda c: len(c.log) == 3 and c.file),
+                   first("files", lambda c: c.filed == refused(24, 0)), first("charges", lambda c: c.option and value(0) < c.charged < other(0)))
 
 
 # ---- the files
@@ -207,9 +273,10 @@ GROUPS = [("version", "version"),
           ("edges, checked", "edges"), ("edges, played", "edges"), ("edges, judged", "edges"), ("logs at the edges, judged", "edge_logs"),
           ("runs, checked", "runs"), ("runs, played", "runs"), ("runs, judged", "runs"), ("runs, played and judged", "runs"),
           ("refused plays, checked", "refused"), ("refused plays, played", "refused"), ("refused plays, played and judged", "refused"),
-          ("other logs, judged", "logs")]
+          ("other logs, judged", "logs"), ("data files at the edges", "edge_files"), ("data files", "files"), ("charges", "charges")]
 CHANGED = [("changed version", "changed_version"), ("changed, checked", "changed_checks"), ("changed, played", "changed_plays"),
-           ("changed runs, judged", "changed_runs"), ("changed, played and judged", "changed_both"), ("changed logs, judged", "changed_logs")]
+           ("changed runs, judged", "changed_runs"), ("changed, played and judged", "changed_both"), ("changed logs, judged", "changed_logs"),
+           ("changed data files", "changed_files"), ("changed charges", "changed_charges")]
 
 
 def lines(files):
@@ -231,12 +298,15 @@ def main(argv):
         sys.exit(__doc__)
     crates = words[-1]
     sys.path.insert(0, words[0])
+    import answers
     import landed
     import oracle
     import run
     landed.land(*landed.named(names))
     files = chosen(interpreter.cases(["-"] if made_before else words[:3], names))
     files["shots"], files["edges"], files["edge_logs"] = shots(oracle), list(edges(oracle, landed.now())), list(edge_logs(oracle))
+    files["edge_files"] = list(edge_files(answers))
+    files["charges"] = list(figures(answers)) + files["charges"]
     files.update(changed_of(files))
     files["version"] = [eight(NUMBERS["VERSION"])]
     files["changed_version"] = flips(files["version"][0]) + [files["version"][0] + bytes(1)]

@@ -29,6 +29,14 @@ pub fn judge(version: u64, log: &[u8]) -> u64 {
     }
 }
 
+pub fn charge(plan: &[u8], schedule: &[u8], option: u64) -> u64 {
+    independent::charge(plan, schedule, option != 0).map_or_else(number, |cents| cents as u64)
+}
+
+pub fn comtrade(log: &[u8], area: &mut [u8]) -> u64 {
+    independent::comtrade(log, area).map_or_else(number, |length| length as u64)
+}
+
 fn bytes(outcome: &Outcome) -> [u8; OUT_BYTES] {
     let mut out = [0; OUT_BYTES];
     out[0] = outcome.word;
@@ -52,5 +60,7 @@ fn thread_bytes(state: State) -> [u8; 3] {
         State::StuckField(object, field) => [5, object, field],
         State::StuckThread(object) => [6, object, 0],
         State::Lacking(object, field) => [7, object, field],
+        State::WaitNotify(object) => [8, object, 0],
+        State::StuckMonitor(object) => [9, object, 0],
     }
 }

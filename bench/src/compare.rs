@@ -1,4 +1,4 @@
-//! The library's answers beside the independent implementation's: the number, all bytes of the outcome and the whole log area.
+//! The library's answers beside the independent implementation's: the number, all bytes of the outcome and the whole of a lent area.
 
 use crate::random::Random;
 use crate::library::OUT_BYTES;
@@ -7,12 +7,14 @@ use crate::{answers, generate, library};
 /// How many cases had each answer.
 #[derive(Default)]
 struct Seen {
-    refusals: [usize; 15],
+    refusals: [usize; 25],
     passed: usize,
     stops: [usize; 6],
-    states: [usize; 8],
+    states: [usize; 10],
     learnt: [usize; 2],
     judged: [usize; 2],
+    files: usize,
+    charges: [usize; 2],
 }
 
 impl Seen {
@@ -34,14 +36,15 @@ impl Seen {
     }
 
     fn print(&self) {
-        println!("  plans passed {}; refusals 1 to 12 {:?}, 14 {}", self.passed, &self.refusals[1..13], self.refusals[14]);
+        let (first, later) = (&self.refusals[1..13], [self.refusals[14], self.refusals[24]]);
+        println!("  plans passed {}; refusals 1 to 12 {first:?}, 14 and 24 {later:?}", self.passed);
         println!("  runs end, race, no-thread, no-object, no-key, no-depth {:?}", self.stops);
-        println!("  threads absent, finished, ready, monitor, join, no field, no thread, lacking {:?}", self.states);
+        println!("  threads absent, finished, ready, monitor, join, no field, no thread, lacking, notify, monitor not held {:?}", self.states);
         println!("  threads that learnt no key from another, some {:?}", self.learnt);
-        println!("  logs ordered, unordered {:?}", self.judged);
+        println!("  logs ordered, unordered {:?}; data files {}; runs free, charged {:?}", self.judged, self.files, self.charges);
         let counts =
-            self.refusals[1..13].iter().chain(&self.refusals[14..]).chain(&self.stops).chain(&self.states).chain(&self.learnt).chain(&self.judged);
-        assert!(self.passed > 0 && counts.min() > Some(&0), "an answer that no case had: more cases are needed");
+            first.iter().chain(&later).chain(&self.stops).chain(&self.states).chain(&self.learnt).chain(&self.judged).chain(&self.charges).chain([&self.passed, &self.files]);
+        assert!( counts.min() > Some(&0), "an answer that no case had: more cases are needed");
     }
 }
 
@@ -89,6 +92,35 @@ fn judge(version: u64, log: &[u8], seen: &mut Seen) {
     seen.judgement(same("judge", &[&version.to_be_bytes(), log], library::judge(version, log), answers::judge(version, log)));
 }
 
+fn charge(plan: &[u8], schedule: &[u8], option: u64, seen: &mut Seen) {
+    let input = [plan, schedule, &option.to_be_bytes()[..]];
+    let answer = same("charge", &input, library::charge(plan, schedule, option), answers::charge(plan, schedule, option));
+    if answer >> 32 != 2 {
+        seen.charges[usize::from(answer > 0)] += 1;
+    }
+}
+
+/// The answer and the whole area.
+fn comtrade_once(log: &[u8], area: &[u8]) -> u64 {
+    let (mut ours, mut theirs) = (area.to_vec(), area.to_vec());
+    let input = [log, area];
+    let answer = same("comtrade", &input, library::comtrade(log, &mut ours), answers::comtrade(log, &mut theirs));
+    same("the data file's area", &input, ours, theirs);
+    answer
+}
+
+/// In the area, and where it is long enough also in one of just the file's length and in one a byte short.
+fn comtrade(log: &[u8], area: &[u8], seen: &mut Seen) {
+    let answer = comtrade_once(log, area);
+    if answer >> 32 == 2 {
+        seen.refused(answer);
+        return;
+    }
+    comtrade_once(log, &area[..answer as usize]);
+    comtrade_once(log, &area[..answer as usize - 1]);
+    seen.files += 1;
+}
+
 fn plan(random: &mut Random) -> Vec<u8> {
     let size = random.pick(&[5, 20, 60, 60, 150, 400]);
     let plan = match random.below(100) {
@@ -117,15 +149,19 @@ pub fn run(cases: usize, seed: u64) {
         let plan = plan(random);
         check(&plan, &mut seen);
         let schedule = generate::schedule(random);
+        charge(&plan, &schedule, random.pick(&[0, 1, 1 << 63]), &mut seen);
         let area = generate::area(random, schedule.len());
         let mut before = [0; OUT_BYTES];
         before.fill_with(|| random.byte());
         if let Some(log) = play(&plan, &schedule, &area, before, &mut seen) {
             judge(0, &log, &mut seen);
             judge(1, &log, &mut seen);
+            comtrade(&log, &generate::file_area(random, log.len()), &mut seen);
             judge(generate::version(random), &generate::damaged_log(random, log), &mut seen);
         }
-        judge(generate::version(random), &generate::log(random), &mut seen);
+        let log = generate::log(random);
+        comtrade(&log, &generate::file_area(random, log.len()), &mut seen);
+        judge(generate::version(random), &log, &mut seen);
     }
     println!("compared: {cases} cases, seed {seed}, {:.1} s, no difference", began.elapsed().as_secs_f64());
     seen.print();

@@ -63,7 +63,8 @@ impl Any<'_> {
             73..=75 => repeat(self.condition(slots, deep), self.expression(slots, deep)),
             76..=80 => self.calling(slots, deep),
             81..=88 => fork(self.expression(slots, deep)),
-            89..=92 => join(self.operand(slots, deep)),
+            89..=91 => join(self.operand(slots, deep)),
+            92..=94 => signal(self.random.below(3) as u8, self.operand(slots, deep)),
             _ => synch(self.operand(slots, deep), self.expression(slots, deep)),
         }
     }
@@ -118,12 +119,14 @@ fn action(random: &mut Random, depth: usize) -> Tree {
     let object = var(random.below(2) as u32);
     let other = var(random.below(2) as u32);
     let field = random.pick(&[1, 3]);
-    match random.below(if depth < 3 { 10 } else { 6 }) {
+    match random.below(if depth < 3 { 12 } else { 6 }) {
         0..=1 => write(object, field, other),
         2..=3 => read(object, field),
         4 => write(object, 2, other),
         5 => read(object, 2),
         6..=7 => synch(object, actions(random, depth + 1)),
+        10 => synch(object.clone(), sequence(signal(0, object), actions(random, depth + 1))),
+        11 => synch(object.clone(), sequence(signal(1 + random.below(2) as u8, object), actions(random, depth + 1))),
         8 => repeat(equal(read(object, 2), null()), actions(random, depth + 1)),
         _ => branch(equal(object, other), action(random, depth + 1), action(random, depth + 1)),
     }
@@ -217,7 +220,7 @@ fn bend(random: &mut Random, plan: &mut [u8]) {
     let (at, from) = (base + 5 * random.below(terms), base + 5 * random.below(terms));
     match random.below(3) {
         0 => plan.copy_within(from..from + 5, at),
-        1 => plan[at] = plan[at] & 7 | (random.below(18) as u8) << 3,
+        1 => plan[at] = plan[at] & 7 | (random.below(21) as u8) << 3,
         _ => plan[at + 1 + random.below(3)] ^= 1 << random.below(8),
     }
 }
@@ -255,6 +258,13 @@ pub fn area(random: &mut Random, picks: usize) -> Vec<u8> {
         96..=97 => (3 * picks).saturating_sub(1),
         _ => random.below(3 * picks + 1),
     };
+    random.bytes(length)
+}
+
+/// An area for the data file of a log of so many bytes: mostly long enough, filled with anything.
+pub fn file_area(random: &mut Random, bytes: usize) -> Vec<u8> {
+    let enough = 80 * (bytes / 3) + 1;
+    let length = if random.percent(90) { enough } else { random.below(enough) };
     random.bytes(length)
 }
 

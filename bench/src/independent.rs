@@ -1,10 +1,14 @@
-//! An independent implementation of the three entries: written in plain Rust from the papers alone, apart from the product and without proofs, and tuned by
+//! An independent implementation of the entries: written in plain Rust from the papers alone, apart from the product and without proofs, and tuned by
 //! hand. Answers are compared with its answers, and times with its times.
 
+mod charge;
+mod comtrade;
 mod judge;
 mod plan;
 mod run;
 
+pub use charge::charge;
+pub use comtrade::comtrade;
 pub use judge::judge;
 pub use plan::check;
 pub use run::{play, Outcome, State};

@@ -50,6 +50,7 @@ fn moving() -> Vec<Input> {
     let all = nested(7, eight.clone(), |then| sequence(fork(eight.clone()), then));
     let test = and(not(equal(var(0), null())), not(not(equal(var(0), var(0)))));
     let tests = repeat(test.clone(), branch(test, read(var(0), 1), null()));
+    let turns = synch(var(0), repeat(yes(), sequence(signal(1, var(0)), signal(0, var(0)))));
     let ring: Vec<Procedure> = (0..32).map(|p| (0, call((p + 1) % 32, vec![]))).collect();
     let started = bind(0, object(), sequence(write(var(0), 2, var(0)), sequence(fork(deep.clone()), deep)));
     let calls = bind(0, object(), sequence(fork(first()), first()));
@@ -58,6 +59,7 @@ fn moving() -> Vec<Input> {
     let input = |name, plan, schedule: &[u8]| Input { name, plan, schedule: schedule.to_vec() };
     vec![
         input("monitors", packed(MONITOR, &[(0, both(locked))]), &two),
+        input("waits", packed(MONITOR, &[(0, both(turns))]), &two),
         input("volatile fields", packed(VOLATILE, &[(0, both(flags.clone()))]), &two),
         input("version 0", version_0(packed(VOLATILE, &[(0, both(flags))])), &two),
         input("calls", packed(VOLATILE, &[(0, calls), (4, again)]), &two),
@@ -81,6 +83,7 @@ fn passed() -> Vec<Input> {
         input("stuck", read(null(), 1), vec![0; 4096]),
         input("self join", join(null()), vec![0; 4096]),
         input("held monitor", held, second),
+        input("not notified", synch(null(), signal(0, null())), vec![0; 4096]),
     ]
 }
 
@@ -115,6 +118,7 @@ pub fn deepest() -> Vec<Input> {
     all.extend([
         input("forks", nested(1022, null(), fork)),
         input("joins", nested(1022, null(), join)),
+        input("waits", nested(1022, null(), |e| signal(0, e))),
         input("reads", nested(1022, null(), |e| read(e, 1))),
         input("nots", test(nested(1019, yes(), not))),
         input("ands", test(nested(509, yes(), |c| and(c, yes())))),

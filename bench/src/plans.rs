@@ -54,6 +54,10 @@ pub fn join(object: Tree) -> Tree {
 pub fn synch(object: Tree, body: Tree) -> Tree {
     tree(11, 0, vec![object, body])
 }
+/// A wait, a notify or a notify all.
+pub fn signal(which: u8, object: Tree) -> Tree {
+    tree(18 + which, 0, vec![object])
+}
 pub fn yes() -> Tree {
     tree(12, 0, vec![])
 }
@@ -80,7 +84,7 @@ fn layout(tag: u8) -> (u32, &'static [u32]) {
         5 => (31, &[21, 11]),
         6 => (0, &[25, 15, 5]),
         8 => (30, &[20]),
-        9 | 10 | 13 => (0, &[25]),
+        9 | 10 | 13 | 18..=20 => (0, &[25]),
         7 | 11 | 14 | 15 | 16 => (0, &[25, 15]),
         _ => (0, &[]),
     }

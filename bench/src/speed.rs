@@ -73,6 +73,19 @@ fn judging<'a>(judge: fn(u64, &[u8]) -> u64, version: u64, log: &'a [u8]) -> Ent
     })
 }
 
+fn charging<'a>(charge: fn(&[u8], &[u8], u64) -> u64, plan: &'a [u8], schedule: &'a [u8]) -> Entry<'a> {
+    Box::new(move || {
+        black_box(charge(black_box(plan), black_box(schedule), 1));
+    })
+}
+
+fn filing<'a>(comtrade: fn(&[u8], &mut [u8]) -> u64, log: &'a [u8]) -> Entry<'a> {
+    let mut area = vec![0; 80 * (log.len() / 3) + 1];
+    Box::new(move || {
+        black_box(comtrade(black_box(log), &mut area));
+    })
+}
+
 /// The log of an input's run, and its counts of picks, moves and records.
 fn played(input: &Input) -> (Vec<u8>, [usize; 3]) {
     let Input { name, plan, schedule } = input;
@@ -83,12 +96,12 @@ fn played(input: &Input) -> (Vec<u8>, [usize; 3]) {
     (log, counts)
 }
 
-/// The pairs of one input: a pick, a play without picks, a checked byte, a judged record.
-fn row(input: &Input) -> [Option<Pair>; 4] {
+/// The pairs of one input: a pick, a play without picks, a checked byte, a judged record, a line of a data file, a charge.
+fn row(input: &Input) -> [Option<Pair>; 6] {
     let Input { name, plan, schedule } = input;
     let (log, [picks, moves, records]) = played(input);
     let version = u64::from(plan[0] >> 4);
-    let [play, play2, start, start2, check, check2, judge, judge2] = best([
+    let [play, play2, start, start2, check, check2, judge, judge2, file, file2, charge, charge2] = best([
         playing(library::play, plan, schedule),
         playing(answers::play, plan, schedule),
         playing(library::play, plan, &[]),
@@ -97,6 +110,10 @@ fn row(input: &Input) -> [Option<Pair>; 4] {
         on(answers::check, plan),
         judging(library::judge, version, &log),
         judging(answers::judge, version, &log),
+        filing(library::comtrade, &log),
+        filing(answers::comtrade, &log),
+        charging(library::charge, plan, schedule),
+        charging(answers::charge, plan, schedule),
     ]);
     let per = |count: usize, ours: f64, theirs: f64| Some(Pair(ours / count as f64, theirs / count as f64));
     let pairs = [
@@ -104,9 +121,11 @@ fn row(input: &Input) -> [Option<Pair>; 4] {
         per(1, start, start2),
         per(plan.len(), check, check2),
         if records < FEW_RECORDS { None } else { per(records, judge, judge2) },
+        if records < FEW_RECORDS { None } else { per(records, file, file2) },
+        per(1, charge, charge2),
     ];
     print!("{name:16} {:5} {picks:5} {moves:5} {records:5}", plan.len());
-    for (pair, digits) in pairs.iter().zip([1, 0, 2, 1]) {
+    for (pair, digits) in pairs.iter().zip([1, 0, 2, 1, 1, 0]) {
         print!(" |{:>23}", pair.as_ref().map_or("-".into(), |pair| pair.text(digits)));
     }
     println!();
@@ -136,12 +155,12 @@ fn short_row(name: &str, log: &[u8]) {
 pub fn run() {
     println!("\nspeed, nanoseconds: the library, the independent implementation, the ratio; best of {ROUNDS} rounds");
     println!(
-        "{:16} {:>5} {:>5} {:>5} {:>5} |{:^23} |{:^23} |{:^23} |{:^23}",
-        "", "bytes", "picks", "moves", "recs", "a pick", "a play without picks", "a checked byte", "a judged record"
+        "{:16} {:>5} {:>5} {:>5} {:>5} |{:^23} |{:^23} |{:^23} |{:^23} |{:^23} |{:^23}",
+        "", "bytes", "picks", "moves", "recs", "a pick", "a play without picks", "a checked byte", "a judged record", "a data file's line", "a charge"
     );
-    let rows: Vec<[Option<Pair>; 4]> = inputs::timed().iter().map(row).collect();
+    let rows: Vec<[Option<Pair>; 6]> = inputs::timed().iter().map(row).collect();
     print!("{:40}", "geometric mean of the ratios");
-    for column in 0..4 {
+    for column in 0..6 {
         let logs: Vec<f64> = rows.iter().filter_map(|pairs| pairs[column].as_ref()).map(|pair| pair.ratio().ln()).collect();
         print!(" |{:23.2}", (logs.iter().sum::<f64>() / logs.len() as f64).exp());
     }

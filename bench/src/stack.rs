@@ -71,4 +71,11 @@ pub fn print() {
     most("judge", 64, &logs, |i| {
         library::judge(1, &i.schedule);
     });
+    most("charge", 144, &all, |i| {
+        library::charge(&i.plan, &i.schedule, 1);
+    });
+    let mut area = vec![0; 317269];
+    most("comtrade", 4, &logs, |i| {
+        library::comtrade(&i.schedule, &mut area);
+    });
 }

@@ -1,5 +1,5 @@
 /* Plan P of document 01's shot list: a field written by one thread and read by another, with nothing between them. It is checked and played, and the judge
- * gets the run's records. All that is printed is read by the header's own functions. */
+ * gets the run's records. The log of two monitors is written as a data file for a viewer. All that is printed is read by the header's own functions. */
 #include <stdio.h>
 
 #include "ruqzhemil.h"
@@ -68,6 +68,33 @@ static void play(const uint8_t *schedule, size_t picks) {
     judge(log, RUQZHEMIL_RECORD_BYTES * records);
 }
 
+/* acquire and release of object 1, by thread 0 */
+static const uint8_t monitors[] = {0x60, 0x10, 0x00, 0x70, 0x10, 0x00};
+
+static void comtrade(size_t size) {
+    static uint8_t area[RUQZHEMIL_MOST_FILE_BYTES];
+    uint64_t answer = ruqzhemil_comtrade(monitors, sizeof monitors, area, size);
+    printf("data file in %u bytes: ", (unsigned)size);
+    if (RUQZHEMIL_REFUSED(answer)) {
+        refused(answer);
+        return;
+    }
+    printf("%u bytes, end mark %02x\n", (unsigned)RUQZHEMIL_VALUE(answer), area[RUQZHEMIL_VALUE(answer) - 1]);
+    for (size_t i = 0; i + 1 < RUQZHEMIL_VALUE(answer); i++) {
+        if (area[i] != '\r') putchar(area[i]);
+    }
+}
+
+static void charge(const uint8_t *schedule, size_t picks, uint64_t option) {
+    uint64_t answer = ruqzhemil_charge(plan, sizeof plan, schedule, picks, option);
+    printf("%s the option: ", option ? "with" : "without");
+    if (RUQZHEMIL_REFUSED(answer)) {
+        refused(answer);
+        return;
+    }
+    printf("%u cents\n", (unsigned)RUQZHEMIL_VALUE(answer));
+}
+
 int main(void) {
     static const uint8_t race[] = {0, 0, 0, 0, 0, 1, 0}, none[] = {0, 0, 0, 0, 0, 0, 1}, wrong[] = {0, 8};
     if (ruqzhemil_version() != RUQZHEMIL_VERSION) {
@@ -81,5 +108,10 @@ int main(void) {
     play(none, sizeof none);
     play(NULL, 0);
     play(wrong, sizeof wrong);
+    charge(race, sizeof race, 0);
+    charge(race, sizeof race, 1);
+    charge(wrong, sizeof wrong, 1);
+    comtrade(142);
+    comtrade(141);
     return 0;
 }

@@ -1,6 +1,6 @@
 //! Ruqzhemil: a verified checker of plans for relay test sets.
 //!
-//! [`check`] a plan, [`play`] a schedule on it, [`judge`] a log. Each takes any bytes; `include/ruqzhemil.h` says what the answers mean, and the proofs of the
+//! [`check`] a plan, [`play`] a schedule on it, [`judge`] a log, write it as a [`comtrade`] data file, and [`charge`] for a run. Each takes any bytes; `include/ruqzhemil.h` says what the answers mean, and the proofs of the
 //! static library below show that they are right. Later versions may have more refusals, kinds, stops and states than are named here: `Other` has their number.
 
 #[path = "../../include/ruqzhemil.rs"]
@@ -17,7 +17,7 @@ pub use outcome::{Outcome, Stop, ThreadState};
 pub use refusal::{Reason, Refusal};
 
 /// The version of this package's numbers, and of the archive: major * 65536 + minor * 256 + patch.
-pub const VERSION: u32 = 0x010000;
+pub const VERSION: u32 = 0x010100;
 /// Bytes of any plan that passes, at most.
 pub const MOST_PLAN_BYTES: usize = 5192;
 /// Picks of any schedule that passes, at most.
@@ -26,6 +26,8 @@ pub const MOST_PICKS: usize = 4096;
 pub const MOST_LOG_BYTES: usize = 12288;
 /// Bytes of the printing program's text of any run, at most.
 pub const MOST_TEXT_BYTES: usize = 131072;
+/// Bytes of the COMTRADE data file of any log, at most: an area of this size is enough for every log.
+pub const MOST_FILE_BYTES: usize = 317269;
 /// Bytes of a record.
 pub const RECORD_BYTES: usize = 3;
 /// Bytes of an outcome.
@@ -79,5 +81,20 @@ pub fn judge(version: u64, log: &[u8]) -> Result<Option<usize>, Refusal> {
     answer(raw::judge(version, log)).map(|said| match said {
         Answer::Value(_) => None,
         Answer::Other(index) => Some(index as usize),
+    })
+}
+
+/// What a run of the schedule on the plan is charged, in cents, with the one-millisecond option or without; 0 for a run that stops for room.
+pub fn charge(plan: &[u8], schedule: &[u8], option: bool) -> Result<usize, Refusal> {
+    answer(raw::charge(plan, schedule, u64::from(option))).map(|said| match said {
+        Answer::Value(cents) | Answer::Other(cents) => cents as usize,
+    })
+}
+
+/// Writes a log as an ASCII data file of IEEE C37.111-1999, with a digital value to each object that is 1 while its monitor is held. `area` begins with the file,
+/// whose length is the answer, and keeps its other bytes; a refusal leaves it as it was.
+pub fn comtrade(log: &[u8], area: &mut [u8]) -> Result<usize, Refusal> {
+    answer(raw::comtrade(log, area)).map(|said| match said {
+        Answer::Value(length) | Answer::Other(length) => length as usize,
     })
 }

@@ -74,6 +74,14 @@ pub enum ThreadState {
         object: u8,
         field: u8,
     },
+    /// It waits to be notified on the object.
+    WaitsNotify {
+        object: u8,
+    },
+    /// It does not hold the object's monitor, which its wait or notify needs.
+    StuckMonitor {
+        object: u8,
+    },
     Other(u8),
 }
 
@@ -90,6 +98,8 @@ impl ThreadState {
             5 => ThreadState::StuckField { object, field },
             6 => ThreadState::StuckThread { object },
             7 => ThreadState::Lacking { object, field },
+            8 => ThreadState::WaitsNotify { object },
+            9 => ThreadState::StuckMonitor { object },
             number => ThreadState::Other(number),
         }
     }

@@ -25,6 +25,7 @@ pub enum Reason {
     LogLength,
     Record,
     Version,
+    FileArea,
     Other(u16),
 }
 
@@ -44,6 +45,7 @@ impl Refusal {
             11 => Reason::LogLength,
             12 => Reason::Record,
             14 => Reason::Version,
+            24 => Reason::FileArea,
             number => Reason::Other(number),
         }
     }
@@ -65,6 +67,7 @@ impl fmt::Display for Reason {
             Reason::LogLength => "a log whose length is no multiple of 3, or over 12,288",
             Reason::Record => "a record with a wrong kind, column or spare bit, or lacking its key and not last",
             Reason::Version => "a version other than 0 or 1 given to the judge",
+            Reason::FileArea => "an area too short for the whole data file",
             Reason::Other(_) => "a refusal that this package does not know",
         })
     }

@@ -43,7 +43,7 @@ fn same<T: std::fmt::Debug>(prefix: &str, count: usize, of: impl Fn(u64) -> T) {
 
 #[test]
 fn numbers_are_the_headers() {
-    same("RUQZHEMIL_REFUSAL_", 13, |n| Refusal { number: n as u16, place: 0 }.reason());
+    same("RUQZHEMIL_REFUSAL_", 14, |n| Refusal { number: n as u16, place: 0 }.reason());
     same("RUQZHEMIL_KIND_", 11, |n| Kind::of(n as u8));
     let states = |n: u64| (Stop::of(n as u8), ThreadState::of(n as u8, 0, 0));
     for (name, n) in
@@ -51,7 +51,7 @@ fn numbers_are_the_headers() {
     {
         assert_eq!(header_name(&format!("{:?}", states(n as u64).0)), *name);
     }
-    let names = ["ABSENT", "FINISHED", "READY", "WAITS_MONITOR", "WAITS_JOIN", "STUCK_FIELD", "STUCK_THREAD", "LACKING"];
+    let names = ["ABSENT", "FINISHED", "READY", "WAITS_MONITOR", "WAITS_JOIN", "STUCK_FIELD", "STUCK_THREAD", "LACKING", "WAITS_NOTIFY", "STUCK_MONITOR"];
     for (name, n) in names.iter().map(|name| (name, number(&format!("RUQZHEMIL_{name}")))) {
         assert_eq!(header_name(&format!("{:?}", states(n as u64).1)), *name);
     }
@@ -63,6 +63,7 @@ fn limits_are_the_headers() {
     assert_eq!(number("RUQZHEMIL_MOST_PICKS"), MOST_PICKS);
     assert_eq!(number("RUQZHEMIL_MOST_LOG_BYTES"), MOST_LOG_BYTES);
     assert_eq!(number("RUQZHEMIL_MOST_TEXT_BYTES"), MOST_TEXT_BYTES);
+    assert_eq!(number("RUQZHEMIL_MOST_FILE_BYTES"), MOST_FILE_BYTES);
     assert_eq!(number("RUQZHEMIL_RECORD_BYTES"), RECORD_BYTES);
     assert_eq!(number("RUQZHEMIL_OUT_BYTES"), OUT_BYTES);
     assert_eq!(number("RUQZHEMIL_THREADS"), THREADS);
@@ -71,7 +72,7 @@ fn limits_are_the_headers() {
 
 #[test]
 fn texts_are_the_headers() {
-    for n in 1..=15 {
+    for n in 1..=25 {
         let text = Refusal { number: n, place: 0 }.reason().to_string().replace("package", "header");
         assert!(HEADER.contains(&format!("return \"{text}\";")), "{text}");
     }
@@ -86,4 +87,31 @@ fn versions_are_one() {
     assert_eq!(number("RUQZHEMIL_VERSION") as u32, VERSION);
     assert_eq!(version(), VERSION);
     assert_eq!(VERSION, env!("CARGO_PKG_VERSION").split('.').fold(0, |n, part| n * 256 + part.parse::<u32>().unwrap()));
+}
+
+#[test]
+fn data_files_by_hand() {
+    let mut area = [7; 72];
+    assert_eq!(comtrade(&[], &mut area), Ok(1));
+    assert_eq!((area[0], area[1]), (0x1a, 7));
+    let acquire = [0x60, 0x10, 0x00];
+    assert_eq!(comtrade(&acquire, &mut area), Ok(70));
+    assert_eq!(area[..10], *b"1,0,0,1,0,");
+    assert_eq!(area[67..], [b'\r', b'\n', 0x1a, 7, 7]);
+    let before = area;
+    assert_eq!(comtrade(&acquire, &mut area[..69]), Err(Refusal { number: 24, place: 0 }));
+    assert_eq!(comtrade(&acquire[..2], &mut area), Err(Refusal { number: 11, place: 0 }));
+    assert_eq!(area, before);
+    let most = [0x10, 0, 0].repeat(MOST_LOG_BYTES / RECORD_BYTES);
+    assert_eq!(comtrade(&most, &mut vec![0; MOST_FILE_BYTES]), Ok(MOST_FILE_BYTES));
+}
+
+#[test]
+fn charges_by_hand() {
+    let round = [0x10, 0x40, 0x0c, 0x00, 0x80, 0, 0, 0, 0, 0, 0x38, 0x02, 0x01, 0, 0, 0x60, 0, 0, 0, 0, 0, 0, 0, 0, 0];
+    for (moves, plain, with_option) in [(0, 1200, 1380), (100, 1235, 1421), (101, 1270, 1461)] {
+        assert_eq!(charge(&round, &vec![0; moves], false), Ok(plain));
+        assert_eq!(charge(&round, &vec![0; moves], true), Ok(with_option));
+    }
+    assert_eq!(charge(&round, &[8], true), Err(Refusal { number: 9, place: 0 }));
 }

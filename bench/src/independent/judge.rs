@@ -2,10 +2,8 @@
 
 use super::Refusal;
 
-pub fn judge(version: u64, log: &[u8]) -> Result<Option<usize>, Refusal> {
-    if version > 1 {
-        return Err((14, 0));
-    }
+/// Refusals 11 and 12.
+pub fn refused(log: &[u8]) -> Result<(), Refusal> {
     if log.len() % 3 != 0 || log.len() > 12288 {
         return Err((11, 0));
     }
@@ -25,6 +23,15 @@ pub fn judge(version: u64, log: &[u8]) -> Result<Option<usize>, Refusal> {
             return Err((12, i));
         }
     }
+    Ok(())
+}
+
+pub fn judge(version: u64, log: &[u8]) -> Result<Option<usize>, Refusal> {
+    if version > 1 {
+        return Err((14, 0));
+    }
+    refused(log)?;
+    let n = log.len() / 3;
     let mut clock = [[0u16; 8]; 8];
     let mut rel = [[0u16; 8]; 32];
     let mut vol = vec![[0u16; 8]; 1024];

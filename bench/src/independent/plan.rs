@@ -15,7 +15,7 @@ const EXPR: u8 = 0;
 const COND: u8 = 1;
 const LIST: u8 = 2;
 fn sort(tag: u8) -> u8 {
-    if tag <= 11 {
+    if tag <= 11 || tag >= 18 {
         EXPR
     } else if tag <= 15 {
         COND
@@ -25,7 +25,7 @@ fn sort(tag: u8) -> u8 {
 }
 fn kids(tag: u8) -> &'static [u8] {
     match tag {
-        3 | 9 | 10 => &[EXPR],
+        3 | 9 | 10 | 18..=20 => &[EXPR],
         4 | 5 | 11 | 15 => &[EXPR, EXPR],
         6 => &[COND, EXPR, EXPR],
         7 => &[COND, EXPR],
@@ -122,7 +122,7 @@ pub fn check(plan: &[u8]) -> Result<Plan, Refusal> {
                 t.kids[0] = bits(20, 10) as u16;
                 ((t.small as usize) < procs, 20)
             }
-            9 | 10 | 13 => {
+            9 | 10 | 13 | 18..=20 => {
                 t.kids[0] = bits(25, 10) as u16;
                 (true, 15)
             }

@@ -27,6 +27,8 @@ pub enum State {
     StuckField(u8, u8),
     StuckThread(u8),
     Lacking(u8, u8),
+    WaitNotify(u8),
+    StuckMonitor(u8),
 }
 
 // A frame is a construct with its operand under way: stage counts the operands already evaluated.
@@ -41,6 +43,7 @@ struct Frame {
 }
 const HOLD: u8 = 255;
 const WHILE_IF: u8 = 254;
+const AWAIT: u8 = 251;
 
 #[derive(Clone, Copy)]
 struct Thread {
@@ -55,6 +58,9 @@ struct Thread {
     frames: [Frame; 34],
     keys: Keys,
     learnt: u8,
+    // the object that it waits on or waited on last, and its place among those that are not notified
+    on: u8,
+    place: u8,
 }
 impl Default for Thread {
     fn default() -> Self {
@@ -70,6 +76,8 @@ impl Default for Thread {
             frames: [Frame::default(); 34],
             keys: [0; 4],
             learnt: 0,
+            on: 0,
+            place: 0,
         }
     }
 }
@@ -172,7 +180,7 @@ impl<'a> Run<'a> {
                         term = x.kids[0];
                     }
                 }
-                3 | 6 | 10 | 11 | 13 | 14 => {
+                3 | 6 | 10 | 11 | 13 | 14 | 18..=20 => {
                     if let Some(v) = self.is_value(x.kids[0], env) {
                         return self.ready(t, f, x.tag, v, 0);
                     }
@@ -290,6 +298,20 @@ impl<'a> Run<'a> {
                     return State::WaitMonitor(t.a);
                 }
             }
+            18..=20 => {
+                let o = t.a as usize;
+                if self.mon[o] != [0; 4] || self.owner[o] as usize != n {
+                    return State::StuckMonitor(t.a);
+                }
+            }
+            AWAIT => {
+                if t.place > 0 {
+                    return State::WaitNotify(t.a);
+                }
+                if self.mon[t.a as usize] == [0; 4] {
+                    return State::WaitMonitor(t.a);
+                }
+            }
             10 => {
                 let q = self.thread_of[t.a as usize];
                 if q == 255 {
@@ -348,7 +370,9 @@ pub fn play(plan: &[u8], schedule: &[u8], log: &mut [u8]) -> Result<Outcome, Ref
             | State::WaitMonitor(_)
             | State::WaitJoin(_)
             | State::StuckField(..)
-            | State::StuckThread(_) => {
+            | State::StuckThread(_)
+            | State::WaitNotify(_)
+            | State::StuckMonitor(_) => {
                 picks += 1;
                 continue;
             }
@@ -478,6 +502,12 @@ pub fn play(plan: &[u8], schedule: &[u8], log: &mut [u8]) -> Result<Outcome, Ref
                 }
             }
             HOLD => r.give(&mut t, b),
+            18 => r.ready(&mut t, x, AWAIT, a, 0),
+            19 | 20 => r.give(&mut t, 0),
+            AWAIT => {
+                t.learnt += join(&mut t.keys, &r.mon[o]);
+                r.give(&mut t, 0)
+            }
             _ => unreachable!(),
         };
         if let Land::Deep = land {
@@ -533,6 +563,24 @@ pub fn play(plan: &[u8], schedule: &[u8], log: &mut [u8]) -> Result<Outcome, Ref
             HOLD => {
                 r.mon[o] = t.keys;
                 put(log, rec, 7, n, a, 0, 0);
+                rec += 1;
+            }
+            18 => {
+                let queued = r.threads.iter().filter(|q| q.on == a && q.place > 0).count() as u8;
+                (t.on, t.place) = (a, queued + 1);
+                r.mon[o] = t.keys;
+                put(log, rec, 7, n, a, 0, 0);
+                rec += 1;
+            }
+            19 | 20 => {
+                for q in r.threads.iter_mut().filter(|q| q.on == a && q.place > 0) {
+                    q.place = if op == 19 { q.place - 1 } else { 0 };
+                }
+            }
+            AWAIT => {
+                r.mon[o] = [0; 4];
+                r.owner[o] = n as u8;
+                put(log, rec, 6, n, a, 0, 0);
                 rec += 1;
             }
             _ => {}

@@ -12,7 +12,7 @@ use Rattle.order.specs.Chains.{At}
 use Rattle.packed.specs.Syntax.{Expression, Program}
 use Rattle.records.specs.Record.{Record, lacksKey}
 use Rattle.rules.specs.State.{Thread, State}
-use Rattle.rules.specs.Rules.{Rule, Converts, E-CALL, E-LET, E-IF, E-WHILE, E-NEW, E-READ, E-WRITE, E-READV, E-WRITEV, E-FORK, E-JOIN, E-RE-ENTER, E-ACQUIRE, E-RELEASE, Moves, EVAL, EVALᶜ, LACKS-READ, LACKS-WRITE, Lacks, LACKS}
+use Rattle.rules.specs.Rules.{Rule, Converts, E-CALL, E-LET, E-IF, E-WHILE, E-NEW, E-READ, E-WRITE, E-READV, E-WRITEV, E-FORK, E-JOIN, E-RE-ENTER, E-ACQUIRE, E-RELEASE, E-WAIT, E-WAKE, E-NOTIFY, E-NOTIFYALL, Moves, EVAL, EVALᶜ, LACKS-READ, LACKS-WRITE, Lacks, LACKS}
 use Rattle.rules.specs.Run.{Stop, end, race, noRoom, Run, logged, stopped, afterPass, afterMove}
 use Rattle.rules.specs.Execution.{Execution, ends, passes, lacks-key, no-room, moves}
 use Rattle.agreement.specs.Agreement.{StoppedAt}
@@ -38,6 +38,10 @@ complete (E-JOIN h l) = tt
 complete (E-RE-ENTER h) = tt
 complete (E-ACQUIRE h n) = tt
 complete (E-RELEASE h) = tt
+complete (E-WAIT h) = tt
+complete (E-WAKE n h k) = tt
+complete (E-NOTIFY h) = tt
+complete (E-NOTIFYALL h) = tt
 
 -- a move's record lacks no key
 complete-move : {g : Program} {s : State} {p : ℕ} {R : Rule} {r : Option Record} {s′ : State} → Moves g s p R r s′ → Complete r

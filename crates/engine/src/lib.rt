@@ -82,10 +82,8 @@ fn thread_of(setting: Setting, met: Met) -> Thread
     let cell = met.cell;
     let thing = met.thing;
     let other = met.other;
-    let ready = head.ready;
     let joined = other.ready;
-    let sight = look::look(setting, head, cell, thing, joined.part, met.place);
-    let state = look::state_of(sight, ready);
+    let state = look::status(setting, head, cell, thing, joined.part, met.place);
     let learnt = (head.learnt % 256) as u8;
     Thread {
         state: state,

@@ -1,4 +1,3 @@
-pub mod Refused
 pub mod PlaceNumbers
 pub mod PortRows
 pub mod RecordPorts

@@ -1,1 +1,2 @@
 pub mod WrongRecords
+pub mod Refused

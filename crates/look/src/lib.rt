@@ -211,3 +211,30 @@ pub fn state_of(sight: Sight, ready: Ready) -> ThreadState
         Sight::Blocked(block) => blocked(block, ready),
     }
 }
+
+// The state of a present thread, by what its next pick meets. It goes the way of `look` once more: called by nothing else, `look` is compiled into the pick.
+pub fn status(
+    setting: Setting,
+    head: Head,
+    cell: Cell,
+    thing: Object,
+    other: usize,
+    place: usize,
+) -> ThreadState
+    ensures { λ r. ⌜ r ≡ stateOf (lookOf setting head cell thing other place) (head .ready) ⌝ }
+{
+    let ready = head.ready;
+    let part = ready.part;
+    if about_field(part) {
+        return state_of(look_field(setting, head, cell, thing, ready.second), ready);
+    }
+    match part {
+        part::DONE => state_of(Sight::Blocked(Block::Finished), ready),
+        part::NO_RULE => state_of(Sight::Blocked(Block::NoRule), ready),
+        part::JOIN => state_of(look_join(thing, other), ready),
+        part::SYNCH => state_of(look_synch(head, cell), ready),
+        part::SIGNAL => state_of(look_signal(head, cell), ready),
+        part::WAITING => state_of(look_waiting(cell, place), ready),
+        _ => ThreadState::Ready,
+    }
+}

@@ -21,7 +21,7 @@ use Rattle.format.proofs.RefusalLaws.{both-none}
 use Rattle.rules.proofs.RoomLaws.{room-for}
 use Rattle.machine.specs.Frames.{noSlots, Closure, Frame, Ready, Found, height}
 use Rattle.machine.specs.Landing.{go}
-use Rattle.machine.specs.Machine.{Thread, State, Numbered, Table, Act, waits, sticks, lacks, does, Move, Attempt, absent, finished, waiting, stuck, lacking, moves, store, storeMonitor, addObject, addThread, useKey, gain, become, enqueue, signalled, lookup, monitor, threadOf, finishedWith, joinValue, joinAct, synchAct, signalMove, signalAct, wakeAct, readAct, writeAct, act, actᶜ, around, attemptAt, attemptBy, attempt}
+use Rattle.machine.specs.Machine.{Thread, State, Numbered, Table, Act, waits, sticks, lacks, does, Move, Attempt, absent, finished, waiting, stuck, lacking, moves, store, storeMonitor, addObject, addThread, useKey, gain, become, inPlace, enqueue, signalled, lookup, monitor, threadOf, finishedWith, joinValue, joinAct, synchAct, signalMove, signalAct, wakeAct, readAct, writeAct, act, actᶜ, around, attemptAt, attemptBy, attempt}
 use Rattle.machine.specs.Playing.{noRoomBefore, deep, deepAt, anyDeep, noRoomAfter, noRoomFor, moved, withinRoom, answer, step, start}
 
 pub record Counts (s : State) : Type 0 where
@@ -92,7 +92,7 @@ module _ (R : Rule) (s : State) (p : ℕ) where
   }
     where
       moved : Thread → Thread
-      moved x = record { self = x .self; code = x .code; keys = x .keys; learnt = x .learnt; place = movedUp h o (x .place) }
+      moved x = inPlace (movedUp h o (x .place)) x
 
       at : (ts : List Thread) (q : ℕ) → heightAt (getElem? (map moved ts) q) ≡ heightAt (getElem? ts q)
       at [] q = refl

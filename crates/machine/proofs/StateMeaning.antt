@@ -13,7 +13,7 @@ use Rattle.packed.specs.Steps.{Descending}
 use Rattle.packed.proofs.TreeLaws.{tree, treeᶜ}
 use Rattle.rules.specs.Context.{asLiteral}
 use Rattle.rules.specs.Queue.{Place, lastPlace, movedUp}
-use Rattle.rules.specs.State.{Thread, State, Numbered, changeAt, gain, become, enqueue, signalled, threadOf}
+use Rattle.rules.specs.State.{Thread, State, Numbered, changeAt, gain, become, inPlace, enqueue, signalled, threadOf}
 use Rattle.rules.specs.Rules.{isVolatile}
 use Rattle.rules.specs.Step.{Act, waits, sticks, lacks, does, joinValue, joinAct, Attempt}
 use Rattle.rules.proofs.Decompose.{whole, no-literal}
@@ -96,13 +96,13 @@ module _ (table : Table) where
   unfolding machine.enqueue enqueue
   enqueue-of s p o =
       ap (λ (l : List Thread). record { objects = s .objects; threads = l; nextKey = s .nextKey })
-      (change-of (s .threads) p _ _ (λ x. ap (λ (l : List Place). record { self = x .self; expression = meant (x .code); keys = x .keys; learnt = x .learnt; place = lastPlace o l }) (sym (places-of (s .threads)))))
+      (change-of (s .threads) p _ _ (λ x. ap (λ (l : List Place). inPlace (lastPlace o l) (threadMeant x)) (sym (places-of (s .threads)))))
 
   moved-of : (h : ℕ → ℕ) (o : ℕ) (xs : List machine.Thread)
-      → map threadMeant (map (λ (x : machine.Thread). record { self = x .self; code = x .code; keys = x .keys; learnt = x .learnt; place = movedUp h o (x .place) }) xs)
-      ≡ map (λ (x : Thread). record { self = x .self; expression = x .expression; keys = x .keys; learnt = x .learnt; place = movedUp h o (x .place) }) (map threadMeant xs)
+      → map threadMeant (map (λ (x : machine.Thread). machine.inPlace (movedUp h o (x .place)) x) xs)
+      ≡ map (λ (x : Thread). inPlace (movedUp h o (x .place)) x) (map threadMeant xs)
   moved-of h o [] = refl
-  moved-of h o (x ∷ xs) = ap (λ (l : List Thread). threadMeant (record { self = x .self; code = x .code; keys = x .keys; learnt = x .learnt; place = movedUp h o (x .place) }) ∷ l) (moved-of h o xs)
+  moved-of h o (x ∷ xs) = ap (λ (l : List Thread). threadMeant (machine.inPlace (movedUp h o (x .place)) x) ∷ l) (moved-of h o xs)
 
   pub signalled-of : (h : ℕ → ℕ) (s : machine.State) (o : ℕ) → stateOf (machine.signalled h s o) ≡ signalled h (stateOf s) o
   unfolding machine.signalled signalled

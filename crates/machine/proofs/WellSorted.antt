@@ -12,7 +12,7 @@ use Rattle.rules.specs.Rules.{passedOn}
 use Rattle.rules.specs.State.{Cell, cell, changeAt, fieldOf}
 use Rattle.machine.specs.Frames.{Closure, Frame, Ready, Readyᶜ, Found}
 use Rattle.machine.specs.Landing.{go}
-use Rattle.machine.specs.Machine.{Thread, State, Numbered, Table, Act, waits, sticks, lacks, does, Attempt, absent, finished, waiting, stuck, lacking, moves, store, storeMonitor, useKey, gain, become, enqueue, signalled, monitor, threadOf, finishedWith, joinValue, joinAct, synchAct, signalMove, signalAct, wakeAct, readAct, writeAct, act, actᶜ, around, attemptAt, attemptBy, attempt}
+use Rattle.machine.specs.Machine.{Thread, State, Numbered, Table, Act, waits, sticks, lacks, does, Attempt, absent, finished, waiting, stuck, lacking, moves, store, storeMonitor, useKey, gain, become, inPlace, enqueue, signalled, monitor, threadOf, finishedWith, joinValue, joinAct, synchAct, signalMove, signalAct, wakeAct, readAct, writeAct, act, actᶜ, around, attemptAt, attemptBy, attempt}
 use Rattle.machine.proofs.Sorted.{Well, Wellᶜ, WellFound, go-well, enter-well, enter-wellᶜ, up-wellᶜ}
 
 abbrev pub WellAll : List Thread → Type 0
@@ -56,7 +56,7 @@ unfolding enqueue
 enqueue-well s p o w = well-change (s .threads) p _ (λ x v. v) w
 
 moved-well : (h : ℕ → ℕ) (o : ℕ) (xs : List Thread) → WellAll xs
-    → WellAll (map (λ (x : Thread). record { self = x .self; code = x .code; keys = x .keys; learnt = x .learnt; place = movedUp h o (x .place) }) xs)
+    → WellAll (map (λ (x : Thread). inPlace (movedUp h o (x .place)) x) xs)
 moved-well h o [] w = tt
 moved-well h o (x ∷ xs) w = (w .0, moved-well h o xs (w .1))
 

@@ -70,23 +70,19 @@ unfoldable pub become : State → ℕ → Found → State
 unfolding onThreads changeAt
 become s p F = onThreads s (changeAt (s .threads) p (λ x. record { self = x .self; code = F; keys = x .keys; learnt = x .learnt; place = x .place }))
 
+-- the thread at this place
+abbrev pub inPlace : Place → Thread → Thread
+inPlace w t = record { self = t .self; code = t .code; keys = t .keys; learnt = t .learnt; place = w }
+
 -- thread p takes the last place of the queue of o
 unfoldable pub enqueue : State → ℕ → ℕ → State
 unfolding onThreads changeAt lastPlace
-enqueue s p o =
-    onThreads s (changeAt (s .threads) p (λ x. record {
-      self = x .self;
-      code = x .code;
-      keys = x .keys;
-      learnt = x .learnt;
-      place = lastPlace o (map (λ (y : Thread). y .place) (s .threads));
-    }))
+enqueue s p o = onThreads s (changeAt (s .threads) p (inPlace (lastPlace o (map (λ (y : Thread). y .place) (s .threads)))))
 
 -- the numbers of the places on o are changed by h
 unfoldable pub signalled : (ℕ → ℕ) → State → ℕ → State
 unfolding onThreads movedUp
-signalled h s o =
-    onThreads s (map (λ (x : Thread). record { self = x .self; code = x .code; keys = x .keys; learnt = x .learnt; place = movedUp h o (x .place) }) (s .threads))
+signalled h s o = onThreads s (map (λ (x : Thread). inPlace (movedUp h o (x .place)) x) (s .threads))
 
 unfoldable pub useKey : State → State
 useKey s = record { objects = s .objects; threads = s .threads; nextKey = suc (s .nextKey) }

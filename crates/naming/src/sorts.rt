@@ -1,40 +1,27 @@
 // Check 5: terms of the right sort, and calls with as many arguments as there are parameters.
 use header::layout;
+use operands::rows;
+use operands::rows::Rows;
 use operands::tags;
 ghost use mathlib.Core.Path.{_≡_};
 ghost use Prim.Native.Nat.{_<_};
 ghost use Rattle.packed.specs.Refusals.{listLength, wrongCall};
-ghost use Rattle.packed.specs.Steps.{Right, Loaded, tagSort, wrongSort, tagIn, lowerIf};
+ghost use Rattle.packed.specs.Rows.{layoutRows, Tagged};
+ghost use Rattle.packed.specs.Steps.{Right, Loaded, wrongSort, tagIn, lowerIf};
 
-// The sorts of terms.
-pub const EXPRESSION: usize = 1;
-
-pub const CONDITION: usize = 2;
-
-pub const LIST: usize = 3;
-
-// The sort of a tag.
-fn sort_of(tag: usize) -> usize
-    ensures { λ r. ⌜ r ≡ tagSort tag ⌝ }
-{
-    if tag < tags::TRUE {
-        return EXPRESSION;
-    }
-    if tag < tags::LIST {
-        return CONDITION;
-    }
-    if tag < tags::WAIT { LIST } else { EXPRESSION }
-}
-
-// The lower of `best` and term `index`, if that is of another sort than the table wants.
-pub fn lower(words: &[usize; 1024], sort: usize, index: usize, best: usize) -> usize
+// The lower of `best` and term `index`, if that is of another sort than the table wants. Chosen without a branch, since the sorts of a plan follow no pattern.
+pub fn lower(rows: &Rows, words: &[usize; 1024], sort: u8, index: usize, best: usize) -> usize
     requires { ⌜ index < 1024 ⌝ }
+    requires { ⌜ now rows ≡ layoutRows ⌝ }
+    requires { ⌜ Tagged (now words) ⌝ }
     ensures { λ r. ⌜ r ≡ lowerIf (wrongSort sort (tagIn (now (words .entry)) index)) index best ⌝ }
 {
-    if sort_of(operands::tag(words[index])) == sort {
-        return best;
+    let own = rows::number(rows, operands::tag(words[index]), rows::SORT);
+    if (own != sort) & (index < best) {
+        index
+    } else {
+        best
     }
-    if index < best { index } else { best }
 }
 
 // The terms of tag `LIST` from term `from` on, up to the first other tag; counted to nine at most, one more than any parameters.

@@ -6,6 +6,7 @@ use mathlib.Core.Option.{Option, some, none}
 use Rattle.format.specs.Refusal.{Refusal}
 use Rattle.conflicts.specs.Judge.{Judged, refused, named, AnswersTold}
 use Rattle.rules.specs.Play as play
+use Rattle.answers.specs.Answer as tool
 
 -- ---- the convention of every entry: a number of 64 bits, whose upper half says which kind of answer it is
 
@@ -38,6 +39,11 @@ unfoldable pub judgeNumber : Judged → ℕ
 judgeNumber (named none) = valueNumber 0
 judgeNumber (named (some j)) = otherNumber j
 judgeNumber (refused r) = refusalNumber r
+
+-- a tool of document 02: its value
+unfoldable pub answerNumber : tool.Answer → ℕ
+answerNumber (tool.Answer.value n) = valueNumber n
+answerNumber (tool.Answer.refused r) = refusalNumber r
 
 -- the judge returns the number of its answer to the version and the log
 pub record JudgeReturns (version : ℕ) (log : List ℕ) (n : ℕ) : Type 0 where

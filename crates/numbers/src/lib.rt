@@ -4,8 +4,10 @@ ghost use Prim.Native.Nat.{_+_, _*_, _^_, _≤_};
 ghost use Rattle.refusals.specs.Answer as refusals;
 ghost use Rattle.refusals.specs.Small.{Small, SmallCheck};
 ghost use Rattle.judge.specs.Answer as judge;
-ghost use Rattle.numbers.specs.Numbers.{checkNumber, judgeNumber};
-ghost use Rattle.numbers.specs.Small.{SmallJudged};
+ghost use Rattle.answers.specs.Answer as tool;
+ghost use Rattle.numbers.specs.Numbers.{checkNumber, judgeNumber, answerNumber};
+ghost use Rattle.numbers.specs.Small.{SmallJudged, SmallAnswer};
+use answers::Answered;
 use judge::Judgement;
 use refusals::Checked;
 
@@ -45,5 +47,16 @@ pub fn of_judge(judgement: Judgement) -> u64
         Judgement::Ordered => 0,
         Judgement::Unordered(at) => index(at),
         Judgement::Refused { number, place } => refusal(number, place),
+    }
+}
+
+// Of a tool's answer.
+pub fn of_answer(answered: Answered) -> u64
+    requires { ⌜ SmallAnswer (tool.answered answered) ⌝ }
+    ensures { λ r. ⌜ r ≡ answerNumber (tool.answered answered) ⌝ }
+{
+    match answered {
+        Answered::Value(value) => value as u64,
+        Answered::Refused { number, place } => refusal(number, place),
     }
 }

@@ -1,33 +1,35 @@
-// The parts of a term's 40 bits: the tag, then the operands of the table, then spare bits. Checks 4 to 7 and the run take terms apart here.
+// The parts of a term's 40 bits: the tag, then the operands of the table, then spare bits. Check 7 and the run, which know what a term means, take it apart by
+// the functions here; checks 4 to 6 take a tag's operands from its row.
+pub mod rows; // rows.rt: the operands of each tag
 pub mod tags; // tags.rt: the tags by name
 
 ghost use mathlib.Core.Path.{_≡_};
 ghost use Rattle.packed.specs.Operands.{tagOf, firstOf, secondOf, thirdOf, slotBits, fieldBits, writeSecond, letFirst, letSecond, procedureBits, listBits, maskBits};
 
-// The power of two that is the place of a part's last bit: a part is a quotient by it, and what stands after the part a remainder.
-pub const TAG: usize = 34359738368;
+// The power of two that is the place of a part's last bit: a part is a quotient by it.
+const TAG: usize = 34359738368;
 
-pub const FIRST: usize = 33554432; // a term as the first operand
+const FIRST: usize = 33554432; // a term as the first operand
 
-pub const SECOND: usize = 32768; // a term after a term
+const SECOND: usize = 32768; // a term after a term
 
-pub const THIRD: usize = 32; // a term after two
+const THIRD: usize = 32; // a term after two
 
-pub const SLOT: usize = 2147483648;
+const SLOT: usize = 2147483648;
 
 const VALUE: usize = 2097152; // the term after a let's slot
 
-pub const BODY: usize = 2048; // the term after that
+const BODY: usize = 2048; // the term after that
 
-pub const FIELD: usize = 1048576; // the field after a term
+const FIELD: usize = 1048576; // the field after a term
 
-pub const WRITTEN: usize = 1024; // the term after that
+const WRITTEN: usize = 1024; // the term after that
 
 const PROCEDURE: usize = 1073741824;
 
-pub const ARGUMENTS: usize = 1048576; // the list after a procedure
+const ARGUMENTS: usize = 1048576; // the list after a procedure
 
-pub const MASK: usize = 8;
+const MASK: usize = 8;
 
 pub fn tag(word: usize) -> usize
     ensures { λ r. ⌜ r ≡ tagOf word ⌝ }

@@ -11,6 +11,7 @@ pub mod Children
 pub mod ListLaws
 pub mod SortLaws
 pub mod NameLaws
+pub mod RowLaws
 pub mod TreeLaws
 pub mod NodeOrder
 pub mod SlotMasks

@@ -19,9 +19,8 @@ use Rattle.packed.specs.Operands.{tagOf}
 use Rattle.packed.specs.Trees.{nodes, nodeOf, nodeAt}
 use Rattle.packed.specs.Refusals.{sumBelow, oneIf, wrongTerm, timesIn, timesNamed, notNamedOnce}
 use Rattle.packed.specs.Steps.{Headed, Loaded, nodeIn, Child, childOf, childrenOf, moreOf, countAll, cap, rootTimes, allTimes, Counted, notOnce, inWord, lowerAll}
-use Rattle.packed.proofs.Tags.{by-tag, except}
+use Rattle.packed.proofs.Tags.{by-tag}
 use Rattle.format.proofs.Filled.{zeros}
-use Rattle.format.proofs.Ranges.{NoneOf}
 use Rattle.packed.proofs.SingleTerm.{rowOf, node-in}
 use Rattle.packed.proofs.Children.{Within, nodes-are, children-within, termOf, nodeOfTag}
 
@@ -147,8 +146,3 @@ all-names b n r c e h k l = lowest-ext (notOnce c) (notNamedOnce b) n r (λ t q.
 pub named : (ws : List ℕ) (t k best r : ℕ) (c c′ : List ℕ) → tagOf (getD ws t 0) ≡ k → r ≡ lowerAll ws (childrenOf (rowOf k (getD ws t 0))) best → c′ ≡ countAll (childrenOf (rowOf k (getD ws t 0))) c
     → (r ≡ lowerAll ws (childrenOf (nodeIn ws t)) best) × (c′ ≡ countAll (childrenOf (nodeIn ws t)) c)
 named ws t k best r c c′ e p q = rw (node-in ws t k e) (p, q)
-
--- a tag without children
-pub no-children : (w k : ℕ) → NoneOf k (20 ∷ 19 ∷ 18 ∷ 16 ∷ 15 ∷ 14 ∷ 13 ∷ 11 ∷ 10 ∷ 9 ∷ 8 ∷ 7 ∷ 6 ∷ 5 ∷ 4 ∷ 3 ∷ []) → childrenOf (rowOf k w) ≡ []
-unfolding childrenOf nodeOf inWord layout table nodes
-no-children w k = except (λ k. childrenOf (rowOf k w) ≡ []) (20 ∷ 19 ∷ 18 ∷ 16 ∷ 15 ∷ 14 ∷ 13 ∷ 11 ∷ 10 ∷ 9 ∷ 8 ∷ 7 ∷ 6 ∷ 5 ∷ 4 ∷ 3 ∷ []) refl refl refl tt tt tt tt tt tt tt tt tt refl tt tt tt tt refl tt tt tt (λ j. refl) k

@@ -2,7 +2,7 @@
 use mathlib.Core.Path.{_≡_, ap, sym, _∙_}
 use mathlib.Core.Bool.{Bool, true, false, _||_, false≢true}
 use mathlib.Core.List.{List}
-use Prim.Native.Nat.{ℕ, suc, _<_}
+use Prim.Native.Nat.{ℕ, suc, _≤_, _<_}
 use native.Mathlib.Omega.{arith}
 use lib.Dec.{leb}
 use lib.ListN.{getD, set, length-set, replicate, length-replicate}
@@ -15,6 +15,7 @@ use Rattle.packed.specs.Format.{terms, Operand, absent, slot, binder, ma
 use Rattle.packed.specs.Operands.{tagOf}
 use Rattle.packed.specs.Trees.{nodeOf, Node}
 use Rattle.packed.specs.Refusals.{wrongOperand, breaksTable, wrongTerm, isChild}
+use Rattle.packed.specs.Rows.{tagCount}
 use Rattle.packed.specs.Steps.{Sized, Loaded, wordAt, inWord, termIn, nodeIn}
 use Rattle.packed.proofs.Passing.{PassesTable, table-of}
 use Rattle.packed.proofs.Reading.{term-is}
@@ -56,7 +57,7 @@ loaded-more b t ws w h e l =
     }
 
 -- a tag past the table
-pub past-table : (procedures n t w : ℕ) → 20 < tagOf w → true ≡ breaksTable procedures n t (termIn w)
+pub past-table : (procedures n t w : ℕ) → tagCount ≤ tagOf w → true ≡ breaksTable procedures n t (termIn w)
 unfolding breaksTable termIn inWord
 past-table procedures n t w h = rw (lt-ltb 20 (tagOf w) h)
 

@@ -6,3 +6,4 @@ pub mod Slots
 pub mod Refusals
 pub mod Check
 pub mod Steps
+pub mod Rows

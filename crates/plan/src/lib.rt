@@ -1,5 +1,7 @@
 // The packed plan: is it one that can be played, and if not, what is wrong with it, and where (document 01, refusals 1 to 7).
 use header::layout;
+use operands::rows;
+use operands::rows::Rows;
 use refusals::Checked;
 use refusals::refused;
 use terms::table;
@@ -8,6 +10,7 @@ ghost use lib.ListN.{take, drop, replicate};
 ghost use Rattle.format.specs.Refusal.{firstRefusal};
 ghost use Rattle.packed.specs.Check.{checks, refusal};
 ghost use Rattle.packed.specs.Format.{terms};
+ghost use Rattle.packed.specs.Rows.{layoutRows};
 ghost use Rattle.packed.specs.Steps.{Right, Loaded};
 ghost use Rattle.refusals.specs.Answer.{answered};
 
@@ -31,13 +34,20 @@ fn check_header(plan: &[u8]) -> Checked
 }
 
 // Refusals 5 to 7, of a plan whose terms are right and in `words`.
-fn check_trees(plan: &[u8], procedures: usize, count: usize, words: &[usize; 1024]) -> Checked
+fn check_trees(
+    rows: &Rows,
+    plan: &[u8],
+    procedures: usize,
+    count: usize,
+    words: &[usize; 1024],
+) -> Checked
     requires { ⌜ Right (now plan) procedures count ⌝ }
     requires { ⌜ Loaded (now plan) count (now words) ⌝ }
+    requires { ⌜ now rows ≡ layoutRows ⌝ }
     ensures { λ r. ⌜ answered r ≡ firstRefusal (drop 4 (checks (now (plan .entry)))) ⌝ }
 {
     let mut times = [0u8; 1024];
-    let misplaced = naming::name_all(plan, procedures, count, words, &mut times);
+    let misplaced = naming::name_all(rows, plan, procedures, count, words, &mut times);
     let miscounted = naming::lowest_miscounted(&times, count);
     if misplaced < count {
         return refused(5, misplaced);
@@ -53,7 +63,7 @@ fn check_trees(plan: &[u8], procedures: usize, count: usize, words: &[usize; 102
 }
 
 // The checks run in the order of their numbers; the answer is the first that finds a fault, at its lowest place. Where none does, every term's 40 bits
-// are then in `words`, which came as zeros.
+// are then in `words`, which came as zeros. The rows of the operand layouts are laid out here, once a check, and lent.
 pub fn load(plan: &[u8], words: &mut [usize; 1024]) -> Checked
     requires { ⌜ now words ≡ replicate 1024 0 ⌝ }
     ensures { λ r. ⌜ answered r ≡ refusal (now (plan .entry)) ⌝ }
@@ -65,11 +75,12 @@ pub fn load(plan: &[u8], words: &mut [usize; 1024]) -> Checked
     };
     let procedures = layout::procedures(plan);
     let count = layout::terms(plan);
-    let term = table::load(plan, procedures, count, words);
+    let rows = rows::layouts();
+    let term = table::load(&rows, plan, procedures, count, words);
     if term < count {
         return refused(4, term);
     }
-    check_trees(plan, procedures, count, words)
+    check_trees(&rows, plan, procedures, count, words)
 }
 
 // The entry `check`.

@@ -2,3 +2,4 @@ pub mod Answers
 pub mod Entry
 pub mod Ran
 pub mod Executed
+pub mod Moves

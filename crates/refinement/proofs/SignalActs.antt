@@ -77,14 +77,6 @@ module _ (ws : List ℕ) (o j w environment p : ℕ) (ho : o < 32) where
   unfolding signalledOf
   after-notify-all e q = sym (after-signal ∙ test-false (eqb j 0) _ _ e ∙ test-false (eqb j 1) _ _ q)
 
--- a thread with another place
-abbrev withPlace : Place → machine.Thread → machine.Thread
-withPlace w x = record { self = x .self; code = x .code; keys = x .keys; learnt = x .learnt; place = w }
-
--- a thread whose place has moved up
-abbrev withMoved : (ℕ → ℕ) → ℕ → machine.Thread → machine.Thread
-withMoved h o x = record { self = x .self; code = x .code; keys = x .keys; learnt = x .learnt; place = movedUp h o (x .place) }
-
 module _ {b : List ℕ} {m : engine.Machine} {s : machine.State} {p : ℕ} (mover : Mover b m s p) where
   open engine.Machine m using (cells as cs, objects as ts)
   open Mover mover using (ok, thread as t, there, small, reached as reach)
@@ -126,7 +118,7 @@ module _ {b : List ℕ} {m : engine.Machine} {s : machine.State} {p : ℕ} (move
 
     -- the threads after a wait
     waiters : List machine.Thread
-    waiters = changeAt (s .threads) p (withPlace (lastPlace o (placesOf (s .threads))))
+    waiters = changeAt (s .threads) p (machine.inPlace (lastPlace o (placesOf (s .threads))))
 
     wait-acts : Held → eqb j 0 ≡ true → MeetsBy sight.Ready p ready (machine.attempt (tableOf b) s p) (Acts mover ready i (actWait n (headFor m p ready) o))
     unfolding waiters machine.signalMove machine.around machine.enqueue machine.storeMonitor playing.noRoomBefore land.go tableOf
@@ -144,7 +136,7 @@ module _ {b : List ℕ} {m : engine.Machine} {s : machine.State} {p : ℕ} (move
 
     -- the threads after a notify or a notify all
     woken : (ℕ → ℕ) → List machine.Thread
-    woken h = map (withMoved h o) (s .threads)
+    woken h = map (λ (x : machine.Thread). machine.inPlace (movedUp h o (x .place)) x) (s .threads)
 
     notify-does : (h : ℕ → ℕ) (R : Rule) → playing.noRoomBefore s R ≡ none → Places (afterOf (m .places) ready p) (placesOf (woken h))
         → Acts mover ready i (actedOf (goValue 0) n ks c noEntry) (record { rule = R; entry = none; state = machine.become (machine.signalled h s o) p (up (nodeAt b) (terms b) S 0) })

@@ -12,8 +12,7 @@ use Rattle.keys.specs.Keys.{Keys, empty, singleton, union, holds, isEmpty}
 use Rattle.keys.proofs.KeyLaws.{holds-union, union-empty, holds-singleton, singleton-injective, some-key, no-key}
 use Rattle.packed.specs.Syntax.{Expression, Program}
 use Rattle.rules.specs.Context.{plug, plugᶜ}
-use Rattle.rules.specs.Queue.{awake}
-use Rattle.rules.specs.State.{Cell, cell, Thread, State, fresh, freshObject, lookup, monitor, store, storeMonitor, addObject, gain, become, addThread, useKey, enqueue, signalled, threadOf, Numbered}
+use Rattle.rules.specs.State.{Cell, cell, Thread, State, fresh, freshObject, lookup, monitor, store, storeMonitor, addObject, gain, become, addThread, forked, useKey, enqueue, signalled, threadOf, Numbered}
 use Rattle.records.specs.Record.{Kind, Record, entry}
 use Rattle.format.specs.Version.{Version, v0, v1}
 use Rattle.order.proofs.Ports.{ofThread}
@@ -80,7 +79,7 @@ module _ (g : Program) (s : State) (I : Inv g s) (p : ℕ) (t : Thread) (ht : ge
       new : (k : ℕ) → learnKey (κ .next) (κ .knows p) k ≡ holds (union (singleton (s .nextKey)) (t .keys)) k
       new k = unfold learnKey in (ap₂ _||_ (ap (eqb k) (A .next) ∙ sym (holds-singleton (s .nextKey) k)) (A .knows p t ht k) ∙ sym (holds-union (singleton (s .nextKey)) (t .keys) k))
 
-  kept-fork : (e e′ : Expression) → Kept g (become (addThread (addObject s (freshObject [])) (record { self = length (s .objects); expression = e; keys = t .keys; learnt = 0; place = awake })) p e′) (entry Kind.fork p (length (s .objects)) (length (s .threads)) 0 ∷ H)
+  kept-fork : (e e′ : Expression) → Kept g (become (addThread (addObject s (freshObject [])) (forked s t e)) p e′) (entry Kind.fork p (length (s .objects)) (length (s .threads)) 0 ∷ H)
   unfolding addThread addObject
   kept-fork e e′ = record {
     agrees = agrees-become g (addThread s₁ u) _ p e′ t (added-old (s .threads) u p (inside (s .threads) p t ht) ∙ ht) (agrees-started g s₁ κ u (κ .knows p) (agrees-new g s κ [] A) (λ k. A .knows p t ht k) free);
@@ -88,7 +87,7 @@ module _ (g : Program) (s : State) (I : Inv g s) (p : ℕ) (t : Thread) (ht : ge
   }
     where
       u : Thread
-      u = record { self = length (s .objects); expression = e; keys = t .keys; learnt = 0; place = awake }
+      u = forked s t e
 
       s₁ : State
       s₁ = addObject s (freshObject [])

@@ -11,10 +11,10 @@ use lib.ListN.{length, getElem?}
 use Rattle.keys.specs.Keys.{Keys, empty}
 use Rattle.packed.specs.Syntax.{Expression, Program}
 use Rattle.rules.specs.Context.{Redex, Focus, value, here, hereᶜ, focus, top}
-use Rattle.rules.specs.State.{Cell, Thread, State, fresh, freshObject, lookup, monitor, store, storeMonitor, addObject, changeAt, gain, become, addThread, useKey}
+use Rattle.rules.specs.State.{Cell, Thread, State, fresh, freshObject, lookup, monitor, store, storeMonitor, addObject, changeAt, gain, become, addThread, useKey, inPlace}
 use Rattle.rules.proofs.Placed.{Good, holds, Landed}
 use Rattle.rules.proofs.MoreObjects.{good-more}
-use Rattle.rules.proofs.Relocated.{at, Relocated, withThreads, was-there}
+use Rattle.rules.proofs.Relocated.{Relocated, withThreads, was-there}
 use Rattle.rules.proofs.StateLaws.{added, length-added, change-length, store-same, store-other, store-monitor, lock-same, lock-other, lock-lookup, new-lookup, new-monitor, new-monitors, who, whose}
 
 abbrev pub In : ℕ → List ℕ → Type 0
@@ -241,11 +241,11 @@ pub inv-relocated : (g : Program) (s : State) (us : List Thread) → Relocated (
 unfolding monitor lookup
 inv-relocated g s us r I = record {
   null-there = I .null-there;
-  each = λ q u e. let w = was q u e in along (Sound g (withThreads s us)) (w .2) (sound-same g s (withThreads s us) (w .0) (at (u .place) (w .0)) refl (record { self = refl; expression = refl }) (I .each q (w .0) (w .1)));
+  each = λ q u e. let w = was q u e in along (Sound g (withThreads s us)) (w .2) (sound-same g s (withThreads s us) (w .0) (inPlace (u .place) (w .0)) refl (record { self = refl; expression = refl }) (I .each q (w .0) (w .1)));
   apart = λ p q t u h k e. let w = was p t h in let x = was q u k in I .apart p q (w .0) (x .0) (w .1) (x .1) (ap (λ (z : Thread). z .self) (w .2) ∙ e ∙ ap (λ (z : Thread). z .self) (sym (x .2)));
   cells = λ o f c e. I .cells o f c e;
   owners = λ o c e. I .owners o c e;
 }
   where
-    was : (q : ℕ) (u : Thread) → getElem? us q ≡ some u → (t : Thread) × (getElem? (s .threads) q ≡ some t) × (at (u .place) t ≡ u)
+    was : (q : ℕ) (u : Thread) → getElem? us q ≡ some u → (t : Thread) × (getElem? (s .threads) q ≡ some t) × (inPlace (u .place) t ≡ u)
     was q u e = was-there (s .threads) us r q u e

@@ -20,7 +20,7 @@ pub mod Queues
 pub mod QueueTheorems
 pub mod RunAppend
 pub mod Marked
-pub mod Waits
+pub mod ObservedWaits
 pub mod Depths
 pub mod KeyBridge
 pub mod Bridge

@@ -15,7 +15,7 @@ use Rattle.keys.proofs.KeyLaws.{holds-empty, holds-singleton, holds-union, no-k
 use Rattle.packed.specs.Syntax.{Expression, Condition, Arguments, Program}
 use Rattle.records.specs.Record.{Kind, Record, entry}
 use Rattle.rules.specs.Queue.{awake}
-use Rattle.rules.specs.State.{Cell, cell, Thread, State, fresh, freshObject, lookup, monitor, store, storeMonitor, addObject, gain, become, addThread, useKey, enqueue, signalled, start, changeAt}
+use Rattle.rules.specs.State.{Cell, cell, Thread, State, fresh, freshObject, lookup, monitor, store, storeMonitor, addObject, gain, become, addThread, forked, useKey, enqueue, signalled, start, changeAt}
 use Rattle.rules.specs.Rules.{Rule, passedOn, e-write, Converts, E-CALL, E-LET, E-IF, E-WHILE, E-NEW, E-READ, E-WRITE, E-READV, E-WRITEV, E-FORK, E-JOIN, E-RE-ENTER, E-ACQUIRE, E-RELEASE, E-WAIT, E-WAKE, E-NOTIFY, E-NOTIFYALL, Convertsᶜ, E-NOTNOTTRUE, E-ANDTRUE, E-ANDFALSE, E-EQUALTRUE, E-EQUALFALSE, Moves, EVAL, EVALᶜ}
 use Rattle.rules.specs.Run.{Run}
 use Rattle.rules.specs.Execution.{Execution, ends, passes, lacks-key, no-room, moves}
@@ -176,7 +176,7 @@ module _ (g : Program) (s : State) (p : ℕ) (t : Thread) (ht : getElem? (s .thr
   kept (E-WRITEV {o} {f} {u} {v} {W} h vol) =
       let W′ = passedOn (g .version) (t .keys) in
       unused-store s o f (cell (union W W′) v) (cell W u) h (below-union W W′ (s .nextKey) (U .fields o f (cell W u) h) (below-passed (g .version) (t .keys) (s .nextKey) (U .threads p t ht))) U
-  kept (E-FORK {e}) = unused-thread (addObject s (freshObject [])) (record { self = length (s .objects); expression = e; keys = t .keys; learnt = 0; place = awake }) (U .threads p t ht) (unused-new s [] U)
+  kept (E-FORK {e}) = unused-thread (addObject s (freshObject [])) (forked s t e) (U .threads p t ht) (unused-new s [] U)
   kept (E-JOIN {o} {v} {q} h l) =
       let j = found-thread (s .threads) 0 o q h in
       unused-gain s p (q .thread .keys) _ (U .threads (j .0) (q .thread) (j .2)) U

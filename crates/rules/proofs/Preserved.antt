@@ -13,8 +13,7 @@ use Rattle.keys.specs.Keys.{Keys, empty, singleton, union, isEmpty}
 use Rattle.packed.specs.Syntax.{Signal, Expression, Condition, Arguments, literal, bind, bindParameters, substitute, Program, Procedure, bool, sequence}
 use Rattle.packed.specs.Slots.{bound}
 use Rattle.rules.specs.Context.{Context, Contextᶜ, Focus, focus, top, here, hold, plug, plugᶜ, Redex, Redexᶜ, redexExpression, redexCondition, literals}
-use Rattle.rules.specs.Queue.{awake}
-use Rattle.rules.specs.State.{Cell, cell, Thread, State, freshObject, lookup, monitor, store, storeMonitor, addObject, gain, become, addThread, useKey, enqueue, signalled}
+use Rattle.rules.specs.State.{Cell, cell, Thread, State, freshObject, lookup, monitor, store, storeMonitor, addObject, gain, become, addThread, forked, useKey, enqueue, signalled}
 use Rattle.records.specs.Record.{Record}
 use Rattle.rules.specs.Rules.{Rule, Converts, E-CALL, E-LET, E-IF, E-WHILE, E-NEW, E-READ, E-WRITE, E-READV, E-WRITEV, E-FORK, E-JOIN, E-RE-ENTER, E-ACQUIRE, E-RELEASE, E-WAIT, E-WAKE, E-NOTIFY, E-NOTIFYALL, Convertsᶜ, E-NOTNOTTRUE, E-ANDTRUE, E-ANDFALSE, E-EQUALTRUE, E-EQUALFALSE, Moves, EVAL, EVALᶜ}
 use Rattle.packed.proofs.WellFormed.{WellFormedProgram, unbound}
@@ -176,13 +175,13 @@ module _ (g : Program) (P : WellFormedProgram g) (s : State) (I : Inv g s) (p : 
               let j : heldBy t ≡ heldBy u = cc in
               e (I₁ .apart p q _ u at₁ hu (ap (λ (c : Cell). c .value) j))
 
-  -- a wait gives up the monitor, which a hold has still to release
-  kept-wait : (o : ℕ) → monitor s o ≡ some (heldBy t) → t .expression ≡ plug K (Expression.signal Signal.wait (literal o))
-      → Inv g (become (enqueue (storeMonitor s o (cell (t .keys) 0)) p o) p (plug K (Expression.waiting o)))
+  -- a wait leaves the monitor, which a hold has still to release, to others, whatever it stores there
+  kept-wait : (o : ℕ) (c : Cell) → monitor s o ≡ some (heldBy t) → t .expression ≡ plug K (Expression.signal Signal.wait (literal o)) → c .value < N
+      → Inv g (become (enqueue (storeMonitor s o c) p o) p (plug K (Expression.waiting o)))
   unfolding redexExpression storeMonitor become enqueue
-  kept-wait o m he =
-      inv-relocated g (storeMonitor s₁ o (cell (t .keys) 0)) _ (relocated-become (s .threads) _ (enqueue-relocated (storeMonitor s o (cell (t .keys) 0)) p o) p (plug K (Expression.waiting o)))
-      (inv-lock g s₁ o (cell (t .keys) 0) (heldBy t) I₁ m₁ (I .null-there) alone)
+  kept-wait o c m he there =
+      inv-relocated g (storeMonitor s₁ o c) _ (relocated-become (s .threads) _ (enqueue-relocated (storeMonitor s o c) p o) p (plug K (Expression.waiting o)))
+      (inv-lock g s₁ o c (heldBy t) I₁ m₁ there alone)
     where
       s₁ : State
       s₁ = become s p (plug K (Expression.waiting o))
@@ -260,7 +259,7 @@ module _ (g : Program) (P : WellFormedProgram g) (s : State) (I : Inv g s) (p : 
       settle g (signalled h s o) p _ K (inv-relocated g s _ (signalled-relocated h s o) I) (w .1) (Redex.signal k o) he (λ o z. z) (literal 0) refl (I .null-there)
 
   kept-fork : (e : Expression) → t .expression ≡ plug K (Expression.fork e)
-      → Inv g (become (addThread (addObject s (freshObject [])) (record { self = length (s .objects); expression = e; keys = t .keys; learnt = 0; place = awake })) p (plug K (literal (length (s .objects)))))
+      → Inv g (become (addThread (addObject s (freshObject [])) (forked s t e)) p (plug K (literal (length (s .objects)))))
   unfolding redexExpression addThread addObject plug
   kept-fork e he = settle g s₂ p t K I₂ at₂ (Redex.fork e) he (λ o z. z) (literal N) refl more-there
     where
@@ -268,7 +267,7 @@ module _ (g : Program) (P : WellFormedProgram g) (s : State) (I : Inv g s) (p : 
       s₁ = addObject s (freshObject [])
 
       u : Thread
-      u = record { self = N; expression = e; keys = t .keys; learnt = 0; place = awake }
+      u = forked s t e
 
       s₂ : State
       s₂ = addThread s₁ u
@@ -332,8 +331,8 @@ module _ (g : Program) (P : WellFormedProgram g) (s : State) (I : Inv g s) (p : 
   kept (E-RE-ENTER {o} {e} h) he = settle g s p t K I ht (Redex.synch o e) he (λ o z. z) e refl (placed g s p t K I ht (Redex.synch o e) he .1 .1)
   kept (E-ACQUIRE {o} {u} {W} {e} h n) he = kept-acquire o e (cell W u) _ _ h n he
   kept (E-RELEASE {o} {v} h) he = kept-release o v h he
-  kept (E-WAIT {o} h) he = kept-wait o h he
-  kept (E-WAKE {o} {u} {W} z h n) he = kept-wake o (cell W u) W _ h n he
+  kept (E-WAIT {o} h) he = kept-wait o _ h he (omega (arith, I .null-there, I .each p t ht .self-there))
+  kept (E-WAKE {o} {u} {W} z h n) he = kept-wake o (cell W u) _ _ h n he
   kept (E-NOTIFY {o} h) he = kept-signal _ Signal.notify o he
   kept (E-NOTIFYALL {o} h) he = kept-signal _ Signal.notifyAll o he
 

@@ -1,6 +1,6 @@
 -- The theorems of the queues (document 02, E3), of the states that executions of well-formed programs come to: the places of a queue are 1 to its length, each
--- once; notify wakes the one that has waited longest, and no other; notify all wakes every one; nothing else wakes anyone; who waits again stands behind those
--- who wait. Assumes nothing.
+-- once; notify wakes the one that has waited longest, and no other; notify all wakes every one; nothing else wakes anyone; the woken wait for the monitor; who
+-- waits again stands behind those who wait. Assumes nothing.
 use Prim.Native.Nat.{ℕ, zero, suc, pred, _<_, _≤_}
 use native.Mathlib.Omega.{arith}
 use native.Mathlib.Decide.{ℕ-discrete}
@@ -18,15 +18,15 @@ use Rattle.packed.specs.Trees.{programOf}
 use Rattle.packed.proofs.WellFormed.{WellFormedProgram}
 use Rattle.packed.proofs.Decoded.{well-formed}
 use Rattle.records.specs.Record.{Record}
-use Rattle.rules.specs.Context.{plug, focus, top, here, Redex, redexExpression}
+use Rattle.rules.specs.Context.{Context, plug, focus, top, here, Redex, redexExpression}
 use Rattle.rules.specs.Queue.{Place, awake, queueLength, lastPlace, movedUp}
-use Rattle.rules.specs.State.{Cell, cell, Thread, State, start, monitor, changeAt, become, storeMonitor, enqueue, signalled}
+use Rattle.rules.specs.State.{Cell, cell, Thread, State, start, monitor, changeAt, become, storeMonitor, enqueue, signalled, placesOf}
 use Rattle.rules.specs.Rules.{Rule, e-notify, e-notifyall, Moves}
-use Rattle.rules.specs.Step.{forNotify, Stuck, notHeld, noRule, sticks, does, Move, Attempt, moves, signalMove, signalAct, act, around, attemptAt, attemptBy, attempt}
+use Rattle.rules.specs.Step.{forMonitor, forNotify, Stuck, notHeld, noRule, sticks, does, Move, Attempt, moves, signalMove, signalAct, act, around, attemptAt, attemptBy, attempt}
 use Rattle.rules.specs.Room.{Blocked, MONITOR-HELD, UNFINISHED, NO-FIELD-TO-READ, NO-FIELD-TO-WRITE, NO-THREAD, NOT-NOTIFIED, NOT-FREE, NOT-HELD, PassedOver, ABSENT, FINISHED, BLOCKED}
 use Rattle.rules.specs.Run.{Run}
 use Rattle.rules.specs.Execution.{Execution}
-use Rattle.rules.specs.Waking.{Awaits, Woken, Signals, lastWait, Longest, placesOf, holders, InLine, Queueing}
+use Rattle.rules.specs.Waking.{Awaits, Woken, Signals, lastWait, Longest, holders, InLine, Queueing}
 use Rattle.rules.proofs.FocusPlug.{found}
 use Rattle.rules.proofs.Placed.{Good}
 use Rattle.rules.proofs.StateLaws.{added-old, change-same, change-other, inside, monitor-there}
@@ -34,7 +34,7 @@ use Rattle.rules.proofs.Invariant.{Inv}
 use Rattle.rules.proofs.Equivalence.{complete}
 use Rattle.rules.proofs.Executed.{Reachable, reachable-start, reachable-move, reachable-after, plan-executes}
 use Rattle.rules.proofs.QueueLaws.{In, all, within, alone, holder, Holder, moved-number, moved-other, moved-object, mapped, mapped-at}
-use Rattle.rules.proofs.Queues.{placeOf, places-taken, places-moved, become-places, Requeues, keeps, joined, queues, wakes, wakes-all, requeues, Queues, queues-move, mover-at, Kept, kept-queues}
+use Rattle.rules.proofs.Queues.{placeOf, places-taken, places-moved, become-places, Requeues, keeps, joined, queues, wakes, wakes-all, requeues, HeldIn, stands-still, Queues, queues-move, mover-at, Kept, kept-queues}
 
 -- ---- (a) THE PLACES OF A QUEUE ARE 1 TO ITS LENGTH, EACH ONCE
 
@@ -103,7 +103,7 @@ queued-awaits g s I Q o p (w, h, i) =
 
 -- ---- (c) NOTHING ELSE WAKES ANYONE
 
-still-queued : {ws : List Place} {p : ℕ} {R : Rule} {ws′ : List Place} → Requeues ws p R ws′ → (R ≡ e-notify → ⊥) → (R ≡ e-notifyall → ⊥)
+still-queued : {ws : List Place} {p : ℕ} {H : ℕ → Type 0} {R : Rule} {ws′ : List Place} → Requeues ws p H R ws′ → (R ≡ e-notify → ⊥) → (R ≡ e-notifyall → ⊥)
     → (w : Place) → getElem? ws p ≡ some w → w .number ≡ 0 → (o q : ℕ) → Queued ws o q → Queued ws′ o q
 still-queued (keeps k) n n′ w h z o q i = i
 still-queued {ws} joined n n′ w h z o q (v, hv, i) = (v, added-old ws awake q (inside ws q v hv) ∙ hv, i)
@@ -114,8 +114,23 @@ still-queued {ws} {p} (queues a) n n′ w h z o q (v, hv, i) = (v, change-other 
         let k : some w ≡ some v = sym h ∙ ap (getElem? ws) d ∙ hv in
         let e : w ≡ v = cc in
         omega (arith, i .1, z, ap (λ (x : Place). x .number) e)
-still-queued (wakes a) n n′ w h z o q i = absurd (n refl)
-still-queued (wakes-all a) n n′ w h z o q i = absurd (n′ refl)
+still-queued (wakes a m) n n′ w h z o q i = absurd (n refl)
+still-queued (wakes-all a m) n n′ w h z o q i = absurd (n′ refl)
+
+on-object : (f : ℕ → ℕ) (ws : List Place) (H : ℕ → Type 0) (a : ℕ) → H a → (o q : ℕ) (v : Place) → getElem? ws q ≡ some v → In o v → (Queued (map (movedUp f a) ws) o q → ⊥) → Dec (a ≡ o) → H o
+on-object f ws H a m o q v hv i n (yes e) = rw e at m
+on-object f ws H a m o q v hv i n (no e) =
+    let d : a ≡ v .object → ⊥ = λ k. e (k ∙ sym (i .0)) in
+    absurd (n (movedUp f a v, mapped-at (movedUp f a) ws q v hv, (i .0 ∙ sym (moved-object f a v), along (λ (n : ℕ). 0 < n) (sym (moved-other f a v d)) (i .1))))
+
+-- whoever a move wakes waited on an object whose monitor is held after it
+woken-held : {ws : List Place} {p : ℕ} {H : ℕ → Type 0} {R : Rule} {ws′ : List Place} → Requeues ws p H R ws′ → (w : Place) → getElem? ws p ≡ some w → w .number ≡ 0
+    → (o q : ℕ) → Queued ws o q → (Queued ws′ o q → ⊥) → H o
+woken-held (keeps k) w h z o q i n = absurd (n i)
+woken-held {ws} {p} {H} joined w h z o q i n = absurd (n (still-queued {ws = ws} {p = p} {H = H} joined (λ e. true≢false cc) (λ e. true≢false cc) w h z o q i))
+woken-held {ws} {p} {H} (queues a) w h z o q i n = absurd (n (still-queued {ws = ws} {p = p} {H = H} (queues a) (λ e. true≢false cc) (λ e. true≢false cc) w h z o q i))
+woken-held {ws} {H = H} (wakes a m) w h z o q (v, hv, i) n = on-object pred ws H a m o q v hv i n (ℕ-discrete a o)
+woken-held {ws} {H = H} (wakes-all a m) w h z o q (v, hv, i) n = on-object all ws H a m o q v hv i n (ℕ-discrete a o)
 
 -- ---- what a signal does to the places
 
@@ -262,6 +277,29 @@ module _ (g : Program) (P : WellFormedProgram g) {ps : List ℕ} {r : Run} (x : 
     nothing-else-wakes : (R ≡ e-notify → ⊥) → (R ≡ e-notifyall → ⊥) → (o q : ℕ) → Awaits s o q → Awaits s′ o q
     nothing-else-wakes n n′ o q h = let w = mover-at g s p Q m in awaits′ o q (still-queued (requeues m) n n′ (w .0) (w .1) (w .2) o q (queued o q h))
 
+    woken-kept-out : (o q : ℕ) → Woken s s′ o q → PassedOver s′ q (Attempt.waiting (forMonitor o))
+    woken-kept-out o q (a, n) = kept-out (queued o q a) (ℕ-discrete p q)
+      where
+        kept-out : Queued ws o q → Dec (p ≡ q) → PassedOver s′ q (Attempt.waiting (forMonitor o))
+        kept-out (w, hw, i) (yes d) =
+            let y = mover-at g s p Q m in
+            let k : some (y .0) ≡ some w = sym (y .1) ∙ ap (getElem? ws) d ∙ hw in
+            let j : y .0 ≡ w = cc in
+            absurd (omega (arith, y .2, i .1, ap (λ (z : Place). z .number) j))
+        kept-out (w, hw, i) (no d) =
+            let y = mover-at g s p Q m in
+            let held = woken-held (requeues m) (y .0) (y .1) (y .2) o q (w, hw, i) (λ k. n (awaits′ o q k)) in
+            let v = mapped placeOf (s .threads) q w hw in
+            let k = Q .attends q (v .0) (v .1) (λ z. omega (arith, z, i .1, ap (λ (z : Place). z .number) (v .2))) in
+            let u = stands-still m q (v .0) d (v .1) in
+            let he : u .0 .expression ≡ plug (k .0) (Expression.waiting o) = u .2 ∙ k .1 ∙ ap (λ (b : ℕ). plug (k .0) (Expression.waiting b)) (ap (λ (z : Place). z .object) (v .2) ∙ sym (i .0)) in
+            notified (k .0) (u .0) (u .1) he held (ℕ-discrete (u .0 .place .number) 0)
+          where
+            notified : (C : Context) (u : Thread) → getElem? (s′ .threads) q ≡ some u → u .expression ≡ plug C (Expression.waiting o) → HeldIn s′ o → Dec (u .place .number ≡ 0)
+                → PassedOver s′ q (Attempt.waiting (forMonitor o))
+            notified C u hu he held (yes z) = BLOCKED C hu he (NOT-FREE z (held .1))
+            notified C u hu he held (no z) = absurd (n (BLOCKED C hu he (NOT-NOTIFIED z (held .1))))
+
     -- the places on o move up
     module _ (h : ℕ → ℕ) (o : ℕ) (moved : placesOf s′ ≡ map (movedUp h o) ws) where
       now-at : (q : ℕ) (w : Place) → getElem? ws q ≡ some w → getElem? (placesOf s′) q ≡ some (movedUp h o w)
@@ -359,6 +397,7 @@ module _ (g : Program) (P : WellFormedProgram g) {ps : List ℕ} {r : Run} (x : 
     notify-wakes = λ p R e s′ m. notify-wakes p R e s′ m;
     notify-all-wakes = λ p R e s′ m. notify-all-wakes p R e s′ m;
     nothing-else-wakes = λ p R e s′ m. nothing-else-wakes p R e s′ m;
+    woken-kept-out = λ p R e s′ m. woken-kept-out p R e s′ m;
     waits-behind = λ p R e s′ m. waits-behind p R e s′ m;
   }
 

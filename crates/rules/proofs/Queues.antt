@@ -10,23 +10,27 @@ use mathlib.Core.Logic.{_⊎_, inl, inr}
 use mathlib.Core.Option.{Option, some, none}
 use lib.ListN.{length, getElem?}
 use borrow.Author.Tests.{eq-eqb, ne-eqb}
-use Rattle.keys.specs.Keys.{singleton}
+use Rattle.keys.specs.Keys.{empty, singleton}
 use Rattle.packed.specs.Syntax.{Expression, Condition, Arguments, Program, literal}
 use Rattle.records.specs.Record.{Record}
 use Rattle.rules.specs.Context.{Context, plug, focus, top, Redex, redexExpression}
 use Rattle.rules.specs.Queue.{Place, awake, queueLength, lastPlace, movedUp}
-use Rattle.rules.specs.State.{Cell, Thread, State, start, monitor, changeAt, gain, become, addObject, addThread, store, storeMonitor, useKey, enqueue, signalled}
+use Rattle.rules.specs.State.{Cell, cell, Thread, State, start, monitor, changeAt, gain, become, addObject, addThread, store, storeMonitor, useKey, enqueue, signalled, placesOf}
 use Rattle.rules.specs.Rules.{Rule, e-fork, e-wait, e-notify, e-notifyall, Converts, E-CALL, E-LET, E-IF, E-WHILE, E-NEW, E-READ, E-WRITE, E-READV, E-WRITEV, E-FORK, E-JOIN, E-RE-ENTER, E-ACQUIRE, E-RELEASE, E-WAIT, E-WAKE, E-NOTIFY, E-NOTIFYALL, Convertsᶜ, E-NOTNOTTRUE, E-ANDTRUE, E-ANDFALSE, E-EQUALTRUE, E-EQUALFALSE, Moves, EVAL, EVALᶜ}
 use Rattle.rules.specs.Step.{Move, moves, wakeAct, act, around, attemptAt, attemptBy, attempt}
 use Rattle.rules.specs.Run.{Run, stopped, afterPass, afterMove}
 use Rattle.rules.specs.Execution.{Execution, ends, passes, lacks-key, no-room}
-use Rattle.rules.specs.Waking.{isWait, noted, lastWaitAfter, lastWait, placesOf, holders}
+use Rattle.rules.specs.Waking.{isWait, noted, lastWaitAfter, lastWait, holders}
 use Rattle.rules.proofs.FocusPlug.{found}
 use Rattle.rules.proofs.Equivalence.{complete}
 use Rattle.rules.proofs.StateLaws.{inside, added, added-old, changed, change-same, change-other}
 use Rattle.rules.proofs.QueueLaws.{In, Line, line-awake, line-behind, line-notified, line-all, all, within, moved-number, moved-other, moved-object, mapped, mapped-at, length-awake, holders-awake}
 
 -- ---- what a move does to the threads
+
+-- the monitor of o is held
+abbrev pub HeldIn : State → ℕ → Type 0
+HeldIn s o = (u : ℕ) × (monitor s o ≡ some (cell empty u))
 
 -- of a move of thread p by a rule, but for its last part, where p becomes e
 module _ (s : State) (p : ℕ) where
@@ -38,12 +42,12 @@ module _ (s : State) (p : ℕ) where
     waits : {s₁ : State} (o : ℕ) (h : Thread → Thread) → ((x : Thread) → h x .place ≡ lastPlace o (placesOf s)) → s₁ .threads ≡ changeAt (s .threads) p h
         → Shape e-wait s₁ (Expression.waiting o)
     notifies : {s₁ : State} {e : Expression} (o : ℕ) (h : Thread → Thread) → ((x : Thread) → (h x .expression ≡ x .expression) × (h x .place ≡ movedUp pred o (x .place)))
-        → s₁ .threads ≡ map h (s .threads) → Shape e-notify s₁ e
+        → s₁ .threads ≡ map h (s .threads) → HeldIn s₁ o → Shape e-notify s₁ e
     notifies-all : {s₁ : State} {e : Expression} (o : ℕ) (h : Thread → Thread) → ((x : Thread) → (h x .expression ≡ x .expression) × (h x .place ≡ movedUp all o (x .place)))
-        → s₁ .threads ≡ map h (s .threads) → Shape e-notifyall s₁ e
+        → s₁ .threads ≡ map h (s .threads) → HeldIn s₁ o → Shape e-notifyall s₁ e
 
 shaped : {g : Program} {s : State} {p : ℕ} {t : Thread} {e : Expression} {R : Rule} {r : Option Record} {s₁ : State} {e′ : Expression} → Converts g s p t e R r s₁ e′ → Shape s p R s₁ e′
-unfolding isWait gain addObject addThread store storeMonitor useKey enqueue signalled
+unfolding isWait gain addObject addThread store storeMonitor useKey enqueue signalled monitor
 shaped (E-CALL os hd hp) = same refl refl
 shaped E-LET = same refl refl
 shaped (E-IF b) = same refl refl
@@ -60,8 +64,8 @@ shaped (E-ACQUIRE h n) = gains _ refl (λ x. (refl, refl)) refl
 shaped (E-RELEASE h) = same refl refl
 shaped (E-WAIT {o} h) = waits o _ (λ x. refl) refl
 shaped (E-WAKE z h n) = gains _ refl (λ x. (refl, refl)) refl
-shaped (E-NOTIFY {o} h) = notifies o _ (λ x. (refl, refl)) refl
-shaped (E-NOTIFYALL {o} h) = notifies-all o _ (λ x. (refl, refl)) refl
+shaped {t = t} (E-NOTIFY {o} h) = notifies o _ (λ x. (refl, refl)) refl (t .self, h)
+shaped {t = t} (E-NOTIFYALL {o} h) = notifies-all o _ (λ x. (refl, refl)) refl (t .self, h)
 
 no-wait : {c c′ : Condition} {R : Rule} → Convertsᶜ c R c′ → isWait R ≡ false
 unfolding isWait
@@ -96,32 +100,33 @@ places-more : (ts : List Thread) (u : Thread) → map placeOf (ts ++ (u ∷ []))
 places-more [] u = refl
 places-more (t ∷ ts) u = ap (λ (ws : List Place). t .place ∷ ws) (places-more ts u)
 
--- of a move of thread p by a rule, where the places were ws
-module _ (ws : List Place) (p : ℕ) where
+-- of a move of thread p by a rule, where the places were ws, and where H holds of an object whose monitor is held after it
+module _ (ws : List Place) (p : ℕ) (H : ℕ → Type 0) where
   pub data Requeues : Rule → List Place → Type 0 where
     keeps : {R : Rule} → isWait R ≡ false → Requeues R ws
     joined : Requeues e-fork (ws ++ (awake ∷ []))
     queues : (o : ℕ) → Requeues e-wait (changeAt ws p (λ x. lastPlace o ws))
-    wakes : (o : ℕ) → Requeues e-notify (map (movedUp pred o) ws)
-    wakes-all : (o : ℕ) → Requeues e-notifyall (map (movedUp all o) ws)
+    wakes : (o : ℕ) → H o → Requeues e-notify (map (movedUp pred o) ws)
+    wakes-all : (o : ℕ) → H o → Requeues e-notifyall (map (movedUp all o) ws)
 
 pub become-places : (s : State) (p : ℕ) (e : Expression) → placesOf (become s p e) ≡ placesOf s
 unfolding become
 become-places s p e = places-kept (s .threads) p _ (λ x. refl)
 
-requeued : {s : State} {p : ℕ} {R : Rule} {s₁ : State} {e : Expression} → Shape s p R s₁ e → Requeues (placesOf s) p R (placesOf s₁)
-requeued {s} {p} {R} (same n e) = along (λ (ts : List Thread). Requeues (placesOf s) p R (map placeOf ts)) (sym e) (keeps n)
-requeued {s} {p} {R} (gains h n k e) =
-    along (Requeues (placesOf s) p R) (sym (ap (map placeOf) e ∙ places-kept (s .threads) p h (λ x. k x .1))) (keeps n)
-requeued {s} {p} (forks u k e) =
-    along (Requeues (placesOf s) p e-fork) (sym (ap (map placeOf) e ∙ places-more (s .threads) u ∙ ap (λ (w : Place). placesOf s ++ (w ∷ [])) k)) joined
-requeued {s} {p} (waits o h k e) = along (Requeues (placesOf s) p e-wait) (sym (ap (map placeOf) e ∙ places-taken (s .threads) p h _ k)) (queues o)
-requeued {s} {p} (notifies o h k e) = along (Requeues (placesOf s) p e-notify) (sym (ap (map placeOf) e ∙ places-moved (s .threads) h _ (λ x. k x .1))) (wakes o)
-requeued {s} {p} (notifies-all o h k e) = along (Requeues (placesOf s) p e-notifyall) (sym (ap (map placeOf) e ∙ places-moved (s .threads) h _ (λ x. k x .1))) (wakes-all o)
+requeued : {s : State} {p : ℕ} {R : Rule} {s₁ : State} {e : Expression} → Shape s p R s₁ e → Requeues (placesOf s) p (HeldIn s₁) R (placesOf s₁)
+requeued {s} {p} {R} {s₁} (same n e) = along (λ (ts : List Thread). Requeues (placesOf s) p (HeldIn s₁) R (map placeOf ts)) (sym e) (keeps n)
+requeued {s} {p} {R} {s₁} (gains h n k e) =
+    along (Requeues (placesOf s) p (HeldIn s₁) R) (sym (ap (map placeOf) e ∙ places-kept (s .threads) p h (λ x. k x .1))) (keeps n)
+requeued {s} {p} {s₁ = s₁} (forks u k e) =
+    along (Requeues (placesOf s) p (HeldIn s₁) e-fork) (sym (ap (map placeOf) e ∙ places-more (s .threads) u ∙ ap (λ (w : Place). placesOf s ++ (w ∷ [])) k)) joined
+requeued {s} {p} {s₁ = s₁} (waits o h k e) = along (Requeues (placesOf s) p (HeldIn s₁) e-wait) (sym (ap (map placeOf) e ∙ places-taken (s .threads) p h _ k)) (queues o)
+requeued {s} {p} {s₁ = s₁} (notifies o h k e m) = along (Requeues (placesOf s) p (HeldIn s₁) e-notify) (sym (ap (map placeOf) e ∙ places-moved (s .threads) h _ (λ x. k x .1))) (wakes o m)
+requeued {s} {p} {s₁ = s₁} (notifies-all o h k e m) = along (Requeues (placesOf s) p (HeldIn s₁) e-notifyall) (sym (ap (map placeOf) e ∙ places-moved (s .threads) h _ (λ x. k x .1))) (wakes-all o m)
 
-pub requeues : {g : Program} {s : State} {p : ℕ} {R : Rule} {r : Option Record} {s′ : State} → Moves g s p R r s′ → Requeues (placesOf s) p R (placesOf s′)
-requeues {s = s} {p} {R} (EVAL K {s′ = s₁} ht he c) = along (Requeues (placesOf s) p R) (sym (become-places s₁ p _)) (requeued (shaped c))
-requeues {s = s} {p} {R} (EVALᶜ K ht he c) = along (Requeues (placesOf s) p R) (sym (become-places s p _)) (keeps (no-wait c))
+pub requeues : {g : Program} {s : State} {p : ℕ} {R : Rule} {r : Option Record} {s′ : State} → Moves g s p R r s′ → Requeues (placesOf s) p (HeldIn s′) R (placesOf s′)
+unfolding become monitor
+requeues {s = s} {p} {R} (EVAL K {s′ = s₁} ht he c) = along (Requeues (placesOf s) p (HeldIn s₁) R) (sym (become-places s₁ p _)) (requeued (shaped c))
+requeues {s = s} {p} {R} (EVALᶜ K ht he c) = along (Requeues (placesOf s) p (HeldIn s) R) (sym (become-places s p _)) (keeps (no-wait c))
 
 -- ---- the invariant
 
@@ -190,8 +195,24 @@ stood {s} (forks w k e) q u d a = go (added (s .threads) w q u (sym (ap (λ (ts 
     go (inl (_, b)) = inr (u, b, refl, refl, λ z. z)
     go (inr (_, b)) = inl (ap (λ (x : Thread). x .place .number) (sym b) ∙ ap (λ (y : Place). y .number) k)
 stood {s} {p} (waits o h k e) q u d a = inr (u, sym (change-other (s .threads) p h q d) ∙ sym (ap (λ (ts : List Thread). getElem? ts q) e) ∙ a, refl, refl, λ z. z)
-stood {s} (notifies o h k e) q u d a = stood-moved s q u pred o h refl k (sym (ap (λ (ts : List Thread). getElem? ts q) e) ∙ a)
-stood {s} (notifies-all o h k e) q u d a = stood-moved s q u all o h refl k (sym (ap (λ (ts : List Thread). getElem? ts q) e) ∙ a)
+stood {s} (notifies o h k e m) q u d a = stood-moved s q u pred o h refl k (sym (ap (λ (ts : List Thread). getElem? ts q) e) ∙ a)
+stood {s} (notifies-all o h k e m) q u d a = stood-moved s q u all o h refl k (sym (ap (λ (ts : List Thread). getElem? ts q) e) ∙ a)
+
+-- who stood at q, which is not the mover, stands there with the same expression
+stands-on : {s : State} {p : ℕ} {R : Rule} {s₁ : State} {e : Expression} → Shape s p R s₁ e → (q : ℕ) (v : Thread) → (p ≡ q → ⊥) → getElem? (s .threads) q ≡ some v
+    → (u : Thread) × (getElem? (s₁ .threads) q ≡ some u) × (u .expression ≡ v .expression)
+stands-on (same n e) q v d a = (v, ap (λ (ts : List Thread). getElem? ts q) e ∙ a, refl)
+stands-on {s} {p} (gains h n k e) q v d a = (v, ap (λ (ts : List Thread). getElem? ts q) e ∙ change-other (s .threads) p h q d ∙ a, refl)
+stands-on {s} (forks w k e) q v d a = (v, ap (λ (ts : List Thread). getElem? ts q) e ∙ added-old (s .threads) w q (inside (s .threads) q v a) ∙ a, refl)
+stands-on {s} {p} (waits o h k e) q v d a = (v, ap (λ (ts : List Thread). getElem? ts q) e ∙ change-other (s .threads) p h q d ∙ a, refl)
+stands-on {s} (notifies o h k e m) q v d a = (h v, ap (λ (ts : List Thread). getElem? ts q) e ∙ mapped-at h (s .threads) q v a, k v .0)
+stands-on {s} (notifies-all o h k e m) q v d a = (h v, ap (λ (ts : List Thread). getElem? ts q) e ∙ mapped-at h (s .threads) q v a, k v .0)
+
+pub stands-still : {g : Program} {s : State} {p : ℕ} {R : Rule} {r : Option Record} {s′ : State} → Moves g s p R r s′ → (q : ℕ) (v : Thread) → (p ≡ q → ⊥) → getElem? (s .threads) q ≡ some v
+    → (u : Thread) × (getElem? (s′ .threads) q ≡ some u) × (u .expression ≡ v .expression)
+unfolding become
+stands-still {p = p} (EVAL K {s′ = s₁} ht he c) q v d a = let u = stands-on (shaped c) q v d a in (u .0, change-other (s₁ .threads) p _ q d ∙ u .1, u .2)
+stands-still {s = s} {p} (EVALᶜ K ht he c) q v d a = (v, change-other (s .threads) p _ q d ∙ a, refl)
 
 -- the mover after a rule: in no queue, or before the part that waits
 mover-place : {s : State} {p : ℕ} {R : Rule} {s₁ : State} {e : Expression} → Shape s p R s₁ e → (t : Thread) → getElem? (s .threads) p ≡ some t → t .place .number ≡ 0
@@ -213,11 +234,11 @@ mover-place {s} {p} (waits o h k e) t ht z u a =
     let j : some (h t) ≡ some u = sym (change-same (s .threads) p h t ht) ∙ sym (ap (λ (ts : List Thread). getElem? ts p) e) ∙ a in
     let q : h t ≡ u = cc in
     inr (ap Expression.waiting (sym (ap (λ (w : Place). w .object) (ap placeOf (sym q) ∙ k t))))
-mover-place {s} {p} (notifies o h k e) t ht z u a =
+mover-place {s} {p} (notifies o h k e m) t ht z u a =
     let j : some (h t) ≡ some u = sym (mapped-at h (s .threads) p t ht) ∙ sym (ap (λ (ts : List Thread). getElem? ts p) e) ∙ a in
     let q : h t ≡ u = cc in
     inl (ap (λ (w : Place). w .number) (ap placeOf (sym q) ∙ k t .1) ∙ moved-zero pred o (t .place) refl z)
-mover-place {s} {p} (notifies-all o h k e) t ht z u a =
+mover-place {s} {p} (notifies-all o h k e m) t ht z u a =
     let j : some (h t) ≡ some u = sym (mapped-at h (s .threads) p t ht) ∙ sym (ap (λ (ts : List Thread). getElem? ts p) e) ∙ a in
     let q : h t ≡ u = cc in
     inl (ap (λ (w : Place). w .number) (ap placeOf (sym q) ∙ k t .1) ∙ moved-zero all o (t .place) refl z)
@@ -260,12 +281,12 @@ module _ (g : Program) (s : State) (Q : Queues s) (p : ℕ) (t : Thread) (ht : g
       go (no d) = other d (stood S q u d (sym (change-other (s₁ .threads) p B q d) ∙ a))
 
 -- the places after a move, where the mover was in no queue
-pub line-after : {ws : List Place} {p : ℕ} {R : Rule} {ws′ : List Place} → Requeues ws p R ws′ → (w : Place) → getElem? ws p ≡ some w → w .number ≡ 0 → Line ws → Line ws′
+pub line-after : {ws : List Place} {p : ℕ} {H : ℕ → Type 0} {R : Rule} {ws′ : List Place} → Requeues ws p H R ws′ → (w : Place) → getElem? ws p ≡ some w → w .number ≡ 0 → Line ws → Line ws′
 line-after (keeps n) w h z l = l
 line-after {ws} joined w h z l = line-awake ws l
 line-after {ws} {p} (queues o) w h z l = line-behind o ws p w h z l
-line-after {ws} (wakes o) w h z l = line-notified o ws l
-line-after {ws} (wakes-all o) w h z l = line-all o ws l
+line-after {ws} (wakes o m) w h z l = line-notified o ws l
+line-after {ws} (wakes-all o m) w h z l = line-all o ws l
 
 module _ (g : Program) (s : State) (p : ℕ) where
   pub mover : {R : Rule} {r : Option Record} {s′ : State} → Moves g s p R r s′ → (t : Thread) × (getElem? (s .threads) p ≡ some t)
@@ -424,19 +445,19 @@ not-noted : (since : ℕ → Option ℕ) (n : ℕ) (R : Rule) (p : ℕ) → isWa
 unfolding noted
 not-noted since n R p e q = rw e
 
-ordered-after : {ws : List Place} {p : ℕ} {R : Rule} {ws′ : List Place} → Requeues ws p R ws′ → (w : Place) → getElem? ws p ≡ some w → Line ws → (n : ℕ) (since : ℕ → Option ℕ)
+ordered-after : {ws : List Place} {p : ℕ} {H : ℕ → Type 0} {R : Rule} {ws′ : List Place} → Requeues ws p H R ws′ → (w : Place) → getElem? ws p ≡ some w → Line ws → (n : ℕ) (since : ℕ → Option ℕ)
     → Ordered ws n since → Ordered ws′ (suc n) (noted since n R p)
 unfolding isWait
-ordered-after {p = p} {R} (keeps k) w h l n since O = ordered-as (λ w. w) orderly-same (not-noted since n R p k) (λ q v hv z. (v, hv, refl)) O
+ordered-after {p = p} {R = R} (keeps k) w h l n since O = ordered-as (λ w. w) orderly-same (not-noted since n R p k) (λ q v hv z. (v, hv, refl)) O
 ordered-after {ws} {p} joined w h l n since O = ordered-as (λ w. w) orderly-same (not-noted since n e-fork p refl) (λ q v hv z. old q v z (added ws awake q v hv)) O
   where
     old : (q : ℕ) (v : Place) → 0 < v .number → ((q < length ws) × (getElem? ws q ≡ some v)) ⊎ ((q ≡ length ws) × (awake ≡ v)) → (x : Place) × (getElem? ws q ≡ some x) × (x ≡ v)
     old q v z (inl (_, e)) = (v, e, refl)
     old q v z (inr (_, e)) = absurd (omega (arith, z, ap (λ (x : Place). x .number) e))
 ordered-after {ws} {p} (queues o) w h l n since O = ordered-behind o ws p w n since h l O
-ordered-after {ws} {p} (wakes o) w h l n since O =
+ordered-after {ws} {p} (wakes o m) w h l n since O =
     ordered-as (movedUp pred o) (orderly-notified o) (not-noted since n e-notify p refl) (λ q v hv z. mapped (movedUp pred o) ws q v hv) O
-ordered-after {ws} {p} (wakes-all o) w h l n since O =
+ordered-after {ws} {p} (wakes-all o m) w h l n since O =
     ordered-as (movedUp all o) (orderly-all o) (not-noted since n e-notifyall p refl) (λ q v hv z. mapped (movedUp all o) ws q v hv) O
 
 -- ---- executions

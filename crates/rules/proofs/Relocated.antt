@@ -7,18 +7,14 @@ use mathlib.Core.Option.{some}
 use lib.ListN.{length, getElem?}
 use Rattle.packed.specs.Syntax.{Expression}
 use Rattle.rules.specs.Queue.{Place}
-use Rattle.rules.specs.State.{Thread, State, changeAt, enqueue, signalled}
-
--- the thread at another place
-abbrev pub at : Place → Thread → Thread
-at w t = record { self = t .self; expression = t .expression; keys = t .keys; learnt = t .learnt; place = w }
+use Rattle.rules.specs.State.{Thread, State, changeAt, inPlace, enqueue, signalled}
 
 -- the second threads are the first ones at other places
 abbrev pub Relocated : List Thread → List Thread → Type 0
 Relocated [] [] = Unit {0}
 Relocated [] (u ∷ us) = ⊥
 Relocated (t ∷ ts) [] = ⊥
-Relocated (t ∷ ts) (u ∷ us) = (at (u .place) t ≡ u) × Relocated ts us
+Relocated (t ∷ ts) (u ∷ us) = (inPlace (u .place) t ≡ u) × Relocated ts us
 
 -- the state with these threads
 abbrev pub withThreads : State → List Thread → State
@@ -35,7 +31,7 @@ relocated-length (t ∷ ts) [] r = absurd r
 relocated-length (t ∷ ts) (u ∷ us) r = ap suc (relocated-length ts us (r .1))
 
 -- whoever stands at q stood there, at another place
-pub was-there : (ts us : List Thread) → Relocated ts us → (q : ℕ) (u : Thread) → getElem? us q ≡ some u → (t : Thread) × (getElem? ts q ≡ some t) × (at (u .place) t ≡ u)
+pub was-there : (ts us : List Thread) → Relocated ts us → (q : ℕ) (u : Thread) → getElem? us q ≡ some u → (t : Thread) × (getElem? ts q ≡ some t) × (inPlace (u .place) t ≡ u)
 was-there [] [] r q u h = absurd (true≢false cc)
 was-there [] (x ∷ us) r q u h = absurd r
 was-there (t ∷ ts) [] r q u h = absurd r
@@ -43,7 +39,7 @@ was-there (t ∷ ts) (x ∷ us) r zero u h = let e : x ≡ u = cc in (t, refl, r
 was-there (t ∷ ts) (x ∷ us) r (suc q) u h = was-there ts us (r .1) q u h
 
 -- whoever stood at q stands there, at another place
-pub is-there : (ts us : List Thread) → Relocated ts us → (q : ℕ) (t : Thread) → getElem? ts q ≡ some t → (w : Place) × (getElem? us q ≡ some (at w t))
+pub is-there : (ts us : List Thread) → Relocated ts us → (q : ℕ) (t : Thread) → getElem? ts q ≡ some t → (w : Place) × (getElem? us q ≡ some (inPlace w t))
 is-there [] [] r q t h = absurd (true≢false cc)
 is-there [] (x ∷ us) r q t h = absurd r
 is-there (y ∷ ts) [] r q t h = absurd r
@@ -62,7 +58,7 @@ relocated-become (t ∷ ts) (u ∷ us) r zero e =
     (ap (λ (x : Thread). record { self = x .self; expression = e; keys = x .keys; learnt = x .learnt; place = u .place }) (r .0), r .1)
 relocated-become (t ∷ ts) (u ∷ us) r (suc p) e = (r .0, relocated-become ts us (r .1) p e)
 
-changed-place : (ts : List Thread) (p : ℕ) (w : Place) → Relocated ts (changeAt ts p (λ x. record { self = x .self; expression = x .expression; keys = x .keys; learnt = x .learnt; place = w }))
+changed-place : (ts : List Thread) (p : ℕ) (w : Place) → Relocated ts (changeAt ts p (inPlace w))
 unfolding changeAt
 changed-place [] p w = tt
 changed-place (t ∷ ts) zero w = (refl, relocated-same ts)
@@ -73,7 +69,7 @@ pub enqueue-relocated : (s : State) (p o : ℕ) → Relocated (s .threads) (enqu
 unfolding enqueue
 enqueue-relocated s p o = changed-place (s .threads) p _
 
-mapped-places : (h : Place → Place) (ts : List Thread) → Relocated ts (map (λ (x : Thread). record { self = x .self; expression = x .expression; keys = x .keys; learnt = x .learnt; place = h (x .place) }) ts)
+mapped-places : (h : Place → Place) (ts : List Thread) → Relocated ts (map (λ (x : Thread). inPlace (h (x .place)) x) ts)
 mapped-places h [] = tt
 mapped-places h (t ∷ ts) = (refl, mapped-places h ts)
 

@@ -11,8 +11,7 @@ use borrow.Author.Tests.{ne-eqb, le-ltb}
 use Rattle.keys.specs.Keys.{Keys, singleton, empty}
 use Rattle.packed.specs.Syntax.{Signal, Program, Expression}
 use Rattle.rules.specs.Context.{Context, focus, top, plug, redexExpression, Redex}
-use Rattle.rules.specs.Queue.{awake}
-use Rattle.rules.specs.State.{Cell, Thread, State, start, freshObject, store, storeMonitor, addObject, gain, become, addThread, useKey, enqueue, signalled}
+use Rattle.rules.specs.State.{Cell, Thread, State, start, freshObject, store, storeMonitor, addObject, gain, become, addThread, forked, useKey, enqueue, signalled}
 use Rattle.records.specs.Record.{Record}
 use Rattle.rules.specs.Rules.{Rule, passedOn, LacksHere, LACKS-READ, LACKS-WRITE, Lacks, LACKS, Converts, E-CALL, E-LET, E-IF, E-WHILE, E-NEW, E-READ, E-WRITE, E-READV, E-WRITEV, E-FORK, E-JOIN, E-RE-ENTER, E-ACQUIRE, E-RELEASE, E-WAIT, E-WAKE, E-NOTIFY, E-NOTIFYALL, Moves, EVAL, EVALᶜ}
 use Rattle.rules.specs.Room.{Room, noRoomBefore, noRoomAfter, noRoomFor}
@@ -99,7 +98,7 @@ module _ (g : Program) (s : State) (I : Inv g s) (z : Roomy s) (p : ℕ) (t : Th
       let b = room-for 8 (length (s .threads)) Room.thread _ l in
       let d = room-for 32 (length (s .objects)) Room.object none (b .1) .0 in
       let c = b .0 in
-      record { threads8 = omega (arith, length-added (s .threads) (record { self = length (s .objects); expression = e; keys = t .keys; learnt = 0; place = awake })); objects32 = omega (arith, length-added (s .objects) (freshObject [])); keys256 = z .keys256 }
+      record { threads8 = omega (arith, length-added (s .threads) (forked s t e)); objects32 = omega (arith, length-added (s .objects) (freshObject [])); keys256 = z .keys256 }
   fits (E-JOIN {q = q} h l′) l = roomy-gain s p (q .thread .keys) _ z
   fits (E-RE-ENTER h) l = z
   fits (E-ACQUIRE {o} {W = W} h n) l = roomy-gain (storeMonitor s o (record { keys = empty; value = t .self })) p W _ (roomy-lock s o (record { keys = empty; value = t .self }) z)

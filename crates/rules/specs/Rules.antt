@@ -12,8 +12,7 @@ use Rattle.packed.specs.Syntax.{Signal, Expression, Condition, Procedure, Progr
 use Rattle.packed.specs.Format.{maskBit}
 use Rattle.records.specs.Record.{Kind, Record, entry}
 use Rattle.rules.specs.Context.{Context, Contextᶜ, plug, plugᶜ, literals}
-use Rattle.rules.specs.Queue.{awake}
-use Rattle.rules.specs.State.{cell, Thread, State, Numbered, freshObject, lookup, monitor, store, storeMonitor, addObject, learn, hear, become, addThread, useKey, enqueue, signalled, threadOf}
+use Rattle.rules.specs.State.{cell, Thread, State, Numbered, freshObject, lookup, monitor, store, storeMonitor, addObject, learn, hear, become, addThread, forked, useKey, enqueue, signalled, threadOf}
 
 -- the rules' names
 pub data Rule : Type 0 where
@@ -70,7 +69,7 @@ module _ (g : Program) (s : State) (p : ℕ) (t : Thread) where
     -- "a fork makes one of each"; "A forked thread starts with its maker's set."
     E-FORK : {e : Expression}
         → Converts (Expression.fork e) e-fork (some (entry Kind.fork p (length (s .objects)) (length (s .threads)) 0))
-        (addThread (addObject s (freshObject [])) (record { self = length (s .objects); expression = e; keys = t .keys; learnt = 0; place = awake })) (literal (length (s .objects)))
+        (addThread (addObject s (freshObject [])) (forked s t e)) (literal (length (s .objects)))
     -- "Join waits for a thread that has become a value, and adds its set."
     E-JOIN : {o v : ℕ} {q : Numbered}
         → threadOf 0 (s .threads) o ≡ some q → q .thread .expression ≡ literal v

@@ -64,7 +64,8 @@ play g ps = run g start ps
 
 -- ---- the outcome
 
--- "absent, finished with its value, ready, waiting, stuck with its reason, or lacking the key of a named object's named field"
+-- "absent, finished with its value, ready, waiting, stuck with its reason, or lacking the key of a named object's named field"; of a thread that waits in a queue
+-- or was notified "the outcome calls it waiting, or ready once that acquire can be made" (document 02, E3)
 pub data Status : Type 0 where
   absent : Status
   finished : ℕ → Status

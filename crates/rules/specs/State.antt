@@ -4,7 +4,7 @@ use mathlib.Core.Bool.{cond}
 use mathlib.Core.List.{List, [], _∷_, _++_, map}
 use mathlib.Core.Option.{Option, some, none}
 use lib.Dec.{eqb}
-use lib.ListN.{getElem?}
+use lib.ListN.{length, getElem?}
 use Rattle.keys.specs.Keys.{Keys, singleton, union, countNew}
 use Rattle.packed.specs.Syntax.{Expression, Arguments}
 use Rattle.rules.specs.Queue.{Place, awake, lastPlace, movedUp}
@@ -125,7 +125,13 @@ unfoldable pub gain : State → ℕ → Keys → (Keys → ℕ) → State
 unfolding changeAt union
 gain s p W count = record {
   objects = s .objects;
-  threads = changeAt (s .threads) p (λ x. record { self = x .self; expression = x .expression; keys = union W (x .keys); learnt = x .learnt + count (x .keys); place = x .place });
+  threads = changeAt (s .threads) p (λ x. record {
+    self = x .self;
+    expression = x .expression;
+    keys = union W (x .keys);
+    learnt = x .learnt + count (x .keys);
+    place = x .place;
+  });
   nextKey = s .nextKey;
 }
 
@@ -154,20 +160,26 @@ addThread s x = record { objects = s .objects; threads = s .threads ++ (x ∷ []
 unfoldable pub useKey : State → State
 useKey s = record { objects = s .objects; threads = s .threads; nextKey = suc (s .nextKey) }
 
+-- "A forked thread starts with its maker's set." It runs e, has heard of no set and waits on nothing; t is its maker
+abbrev pub forked : State → Thread → Expression → Thread
+forked s t e = record { self = length (s .objects); expression = e; keys = t .keys; learnt = 0; place = awake }
+
 -- ---- the queues (document 02, E3)
+
+-- the places of the threads
+abbrev pub placesOf : State → List Place
+placesOf s = map (λ (t : Thread). t .place) (s .threads)
+
+-- the thread at this place
+abbrev pub inPlace : Place → Thread → Thread
+inPlace w t = record { self = t .self; expression = t .expression; keys = t .keys; learnt = t .learnt; place = w }
 
 -- thread p takes the last place of the queue of o
 unfoldable pub enqueue : State → ℕ → ℕ → State
 unfolding changeAt lastPlace
 enqueue s p o = record {
   objects = s .objects;
-  threads = changeAt (s .threads) p (λ x. record {
-    self = x .self;
-    expression = x .expression;
-    keys = x .keys;
-    learnt = x .learnt;
-    place = lastPlace o (map (λ (y : Thread). y .place) (s .threads));
-  });
+  threads = changeAt (s .threads) p (inPlace (lastPlace o (placesOf s)));
   nextKey = s .nextKey;
 }
 
@@ -176,7 +188,7 @@ unfoldable pub signalled : (ℕ → ℕ) → State → ℕ → State
 unfolding movedUp
 signalled h s o = record {
   objects = s .objects;
-  threads = map (λ (x : Thread). record { self = x .self; expression = x .expression; keys = x .keys; learnt = x .learnt; place = movedUp h o (x .place) }) (s .threads);
+  threads = map (λ (x : Thread). inPlace (movedUp h o (x .place)) x) (s .threads);
   nextKey = s .nextKey;
 }
 

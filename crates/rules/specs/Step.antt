@@ -9,8 +9,7 @@ use Rattle.keys.specs.Keys.{empty, singleton, union, subset, isEmpty}
 use Rattle.packed.specs.Syntax.{Signal, Expression, Condition, Procedure, Program, literal, sequence, bool, bind, bindParameters, substitute}
 use Rattle.records.specs.Record.{Kind, Record, entry}
 use Rattle.rules.specs.Context.{Context, top, plug, plugᶜ, Redex, Redexᶜ, Focus, value, here, hereᶜ, focus, asLiteral}
-use Rattle.rules.specs.Queue.{awake}
-use Rattle.rules.specs.State.{Cell, cell, Thread, State, Numbered, freshObject, lookup, monitor, store, storeMonitor, addObject, gain, learn, hear, become, addThread, useKey, enqueue, signalled, threadOf}
+use Rattle.rules.specs.State.{Cell, cell, Thread, State, Numbered, freshObject, lookup, monitor, store, storeMonitor, addObject, gain, learn, hear, become, addThread, forked, useKey, enqueue, signalled, threadOf}
 use Rattle.rules.specs.Rules.{Rule, isVolatile, passedOn, e-call, e-let, e-if, e-while, e-notnottrue, e-andtrue, e-andfalse, e-equaltrue, e-equalfalse, e-new, e-read, e-write, e-readv, e-writev, e-fork, e-join, e-re-enter, e-acquire, e-release, e-wait, e-wake, e-notify, e-notifyall}
 
 -- "waiting (monitor held by another, or join of an unfinished thread, itself included)", with the object; and "The thread then waits until notified"
@@ -115,8 +114,7 @@ unfolding isEmpty gain storeMonitor
 wakeAct s p t o n none = sticks noRule
 wakeAct s p t o (suc n) (some c) = waits (forNotify o)
 wakeAct s p t o zero (some c) =
-    cond (isEmpty (c .keys))
-    (waits (forMonitor o))
+    cond (isEmpty (c .keys)) (waits (forMonitor o))
     (does e-wake (some (entry Kind.acquire p o 0 0)) (hear (storeMonitor s o (cell empty (t .self))) p (c .keys)) (literal 0))
 
 -- the rules for expressions: thread p, which is t
@@ -132,7 +130,7 @@ act g s p t (Redex.while c e) = does e-while none s (Expression.if c (sequence e
 act g s p t (Redex.call m os) = callAct s (getElem? (g .procedures) m) os
 act g s p t (Redex.fork e) =
     does e-fork (some (entry Kind.fork p (length (s .objects)) (length (s .threads)) 0))
-    (addThread (addObject s (freshObject [])) (record { self = length (s .objects); expression = e; keys = t .keys; learnt = 0; place = awake }))
+    (addThread (addObject s (freshObject [])) (forked s t e))
     (literal (length (s .objects)))
 act g s p t (Redex.join o) = joinAct s p o (threadOf 0 (s .threads) o)
 act g s p t (Redex.synch o e) = synchAct s p t o e (monitor s o)

@@ -103,6 +103,26 @@ waitNull =
     ∷ 0x00 ∷ 0x00 ∷ 0x00 ∷ 0x00 ∷ 0x00  -- term 1
     ∷ []
 
+-- `notify null`
+unfoldable pub notifyAlone : List ℕ
+notifyAlone =
+    0x10 ∷ 0x40 ∷ 0x08 ∷ 0x00  -- header
+    ∷ 0x80 ∷ 0x00 ∷ 0x00 ∷ 0x00  -- volatile mask
+    ∷ 0x00 ∷ 0x00  -- procedure 0
+    ∷ 0x98 ∷ 0x02 ∷ 0x00 ∷ 0x00 ∷ 0x00  -- term 0
+    ∷ 0x00 ∷ 0x00 ∷ 0x00 ∷ 0x00 ∷ 0x00  -- term 1
+    ∷ []
+
+-- `notify all null`
+unfoldable pub notifyAllAlone : List ℕ
+notifyAllAlone =
+    0x10 ∷ 0x40 ∷ 0x08 ∷ 0x00  -- header
+    ∷ 0x80 ∷ 0x00 ∷ 0x00 ∷ 0x00  -- volatile mask
+    ∷ 0x00 ∷ 0x00  -- procedure 0
+    ∷ 0xa0 ∷ 0x02 ∷ 0x00 ∷ 0x00 ∷ 0x00  -- term 0
+    ∷ 0x00 ∷ 0x00 ∷ 0x00 ∷ 0x00 ∷ 0x00  -- term 1
+    ∷ []
+
 -- `let 0 = new(1) in let - = fork (synch v0 do wait v0) in let - = fork (synch v0 do wait v0) in synch v0 do notify v0`
 unfoldable pub twoWaiters : List ℕ
 twoWaiters =
@@ -179,54 +199,126 @@ waitTwice =
 
 -- the cases
 unfoldable pub waitShots : List Shot
-unfolding bookPlan notifyNull waitNull twoWaiters twoWaitersAll waitTwice
+unfolding bookPlan notifyNull waitNull notifyAlone notifyAllAlone twoWaiters twoWaitersAll waitTwice
 waitShots =
     -- The publisher waits, an author appends and wakes it, and so on until the book is full; then all go on to the end.
     record {
       plan = bookPlan;
-      picks = 0 ∷ 0 ∷ 0 ∷ 0 ∷ 0 ∷ 0 ∷ 0 ∷ 0 ∷ 0 ∷ 0 ∷ 0 ∷ 0 ∷ 0 ∷ 0 ∷ 0 ∷ 1 ∷ 1 ∷ 1 ∷ 1 ∷ 1 ∷ 1 ∷ 1 ∷ 1 ∷ 1 ∷ 1 ∷ 1 ∷ 1 ∷ 1 ∷ 1 ∷ 0 ∷ 0 ∷ 0 ∷ 0 ∷ 0 ∷ 0 ∷ 0 ∷ 0 ∷ 0 ∷ 2 ∷ 2 ∷ 2 ∷ 2 ∷ 2 ∷ 2 ∷ 2 ∷ 2 ∷ 2 ∷ 2 ∷ 2 ∷ 2 ∷ 2 ∷ 2 ∷ 0 ∷ 0 ∷ 0 ∷ 0 ∷ 0 ∷ 0 ∷ 0 ∷ 0 ∷ 0 ∷ 0 ∷ 0 ∷ 1 ∷ 1 ∷ 1 ∷ 1 ∷ 1 ∷ 1 ∷ 1 ∷ 1 ∷ 1 ∷ 2 ∷ 2 ∷ 2 ∷ 2 ∷ 2 ∷ 2 ∷ 2 ∷ 2 ∷ 2 ∷ [];
-      expected = ran (outcome end 81 81 29 (finished 0 ∷ finished 0 ∷ finished 0 ∷ absent ∷ absent ∷ absent ∷ absent ∷ absent ∷ []) (2 ∷ 1 ∷ 1 ∷ 0 ∷ 0 ∷ 0 ∷ 0 ∷ 0 ∷ [])) (entry new 0 1 0 0 ∷ entry fork 0 2 1 0 ∷ entry fork 0 3 2 0 ∷ entry acquire 0 1 0 0 ∷ entry read 0 1 2 0 ∷ entry release 0 1 0 0 ∷ entry acquire 1 1 0 0 ∷ entry read 1 1 2 0 ∷ entry read 1 1 1 0 ∷ entry write 1 1 1 1 ∷ entry release 1 1 0 0 ∷ entry acquire 0 1 0 0 ∷ entry read 0 1 2 0 ∷ entry release 0 1 0 0 ∷ entry acquire 2 1 0 0 ∷ entry read 2 1 2 0 ∷ entry read 2 1 1 1 ∷ entry write 2 1 2 1 ∷ entry release 2 1 0 0 ∷ entry acquire 0 1 0 0 ∷ entry read 0 1 2 1 ∷ entry read 0 1 1 1 ∷ entry release 0 1 0 0 ∷ entry acquire 1 1 0 0 ∷ entry read 1 1 2 1 ∷ entry release 1 1 0 0 ∷ entry acquire 2 1 0 0 ∷ entry read 2 1 2 1 ∷ entry release 2 1 0 0 ∷ []) (0x10 ∷ 0x10 ∷ 0x00 ∷ 0x80 ∷ 0x20 ∷ 0x80 ∷ 0x80 ∷ 0x31 ∷ 0x00 ∷ 0x60 ∷ 0x10 ∷ 0x00 ∷ 0x20 ∷ 0x11 ∷ 0x00 ∷ 0x70 ∷ 0x10 ∷ 0x00 ∷ 0x62 ∷ 0x10 ∷ 0x00 ∷ 0x22 ∷ 0x11 ∷ 0x00 ∷ 0x22 ∷ 0x10 ∷ 0x80 ∷ 0x32 ∷ 0x10 ∷ 0x84 ∷ 0x72 ∷ 0x10 ∷ 0x00 ∷ 0x60 ∷ 0x10 ∷ 0x00 ∷ 0x20 ∷ 0x11 ∷ 0x00 ∷ 0x70 ∷ 0x10 ∷ 0x00 ∷ 0x64 ∷ 0x10 ∷ 0x00 ∷ 0x24 ∷ 0x11 ∷ 0x00 ∷ 0x24 ∷ 0x10 ∷ 0x84 ∷ 0x34 ∷ 0x11 ∷ 0x04 ∷ 0x74 ∷ 0x10 ∷ 0x00 ∷ 0x60 ∷ 0x10 ∷ 0x00 ∷ 0x20 ∷ 0x11 ∷ 0x04 ∷ 0x20 ∷ 0x10 ∷ 0x84 ∷ 0x70 ∷ 0x10 ∷ 0x00 ∷ 0x62 ∷ 0x10 ∷ 0x00 ∷ 0x22 ∷ 0x11 ∷ 0x04 ∷ 0x72 ∷ 0x10 ∷ 0x00 ∷ 0x64 ∷ 0x10 ∷ 0x00 ∷ 0x24 ∷ 0x11 ∷ 0x04 ∷ 0x74 ∷ 0x10 ∷ 0x00 ∷ []);
+      picks = 0 ∷ 0 ∷ 0 ∷ 0 ∷ 0 ∷ 0 ∷ 0 ∷ 0 ∷ 0 ∷ 0 ∷ 0 ∷ 0 ∷ 0 ∷ 0 ∷ 0 ∷ 1 ∷ 1 ∷ 1 ∷ 1 ∷ 1 ∷ 1 ∷ 1 ∷ 1 ∷ 1 ∷ 1 ∷ 1 ∷ 1 ∷ 1 ∷ 1 ∷ 0 ∷ 0 ∷ 0 ∷ 0 ∷ 0 ∷ 0
+          ∷ 0 ∷ 0 ∷ 0 ∷ 2 ∷ 2 ∷ 2 ∷ 2 ∷ 2 ∷ 2 ∷ 2 ∷ 2 ∷ 2 ∷ 2 ∷ 2 ∷ 2 ∷ 2 ∷ 2 ∷ 0 ∷ 0 ∷ 0 ∷ 0 ∷ 0 ∷ 0 ∷ 0 ∷ 0 ∷ 0 ∷ 0 ∷ 0 ∷ 1 ∷ 1 ∷ 1 ∷ 1 ∷ 1 ∷ 1 ∷ 1
+          ∷ 1 ∷ 1 ∷ 2 ∷ 2 ∷ 2 ∷ 2 ∷ 2 ∷ 2 ∷ 2 ∷ 2 ∷ 2 ∷ [];
+      expected =
+          ran (outcome end 81 81 29 (finished 0 ∷ finished 0 ∷ finished 0 ∷ absent ∷ absent ∷ absent ∷ absent ∷ absent ∷ [])
+          (2 ∷ 1 ∷ 1 ∷ 0 ∷ 0 ∷ 0 ∷ 0 ∷ 0 ∷ []))
+          (entry new 0 1 0 0 ∷ entry fork 0 2 1 0 ∷ entry fork 0 3 2 0 ∷ entry acquire 0 1 0 0 ∷ entry read 0 1 2 0 ∷ entry release 0 1 0 0
+          ∷ entry acquire 1 1 0 0 ∷ entry read 1 1 2 0 ∷ entry read 1 1 1 0 ∷ entry write 1 1 1 1 ∷ entry release 1 1 0 0 ∷ entry acquire 0 1 0 0
+          ∷ entry read 0 1 2 0 ∷ entry release 0 1 0 0 ∷ entry acquire 2 1 0 0 ∷ entry read 2 1 2 0 ∷ entry read 2 1 1 1 ∷ entry write 2 1 2 1
+          ∷ entry release 2 1 0 0 ∷ entry acquire 0 1 0 0 ∷ entry read 0 1 2 1 ∷ entry read 0 1 1 1 ∷ entry release 0 1 0 0 ∷ entry acquire 1 1 0 0
+          ∷ entry read 1 1 2 1 ∷ entry release 1 1 0 0 ∷ entry acquire 2 1 0 0 ∷ entry read 2 1 2 1 ∷ entry release 2 1 0 0 ∷ [])
+          (0x10 ∷ 0x10 ∷ 0x00 ∷ 0x80 ∷ 0x20 ∷ 0x80 ∷ 0x80 ∷ 0x31 ∷ 0x00 ∷ 0x60 ∷ 0x10 ∷ 0x00 ∷ 0x20 ∷ 0x11 ∷ 0x00 ∷ 0x70 ∷ 0x10 ∷ 0x00 ∷ 0x62 ∷ 0x10
+          ∷ 0x00 ∷ 0x22 ∷ 0x11 ∷ 0x00 ∷ 0x22 ∷ 0x10 ∷ 0x80 ∷ 0x32 ∷ 0x10 ∷ 0x84 ∷ 0x72 ∷ 0x10 ∷ 0x00 ∷ 0x60 ∷ 0x10 ∷ 0x00 ∷ 0x20 ∷ 0x11 ∷ 0x00 ∷ 0x70
+          ∷ 0x10 ∷ 0x00 ∷ 0x64 ∷ 0x10 ∷ 0x00 ∷ 0x24 ∷ 0x11 ∷ 0x00 ∷ 0x24 ∷ 0x10 ∷ 0x84 ∷ 0x34 ∷ 0x11 ∷ 0x04 ∷ 0x74 ∷ 0x10 ∷ 0x00 ∷ 0x60 ∷ 0x10 ∷ 0x00
+          ∷ 0x20 ∷ 0x11 ∷ 0x04 ∷ 0x20 ∷ 0x10 ∷ 0x84 ∷ 0x70 ∷ 0x10 ∷ 0x00 ∷ 0x62 ∷ 0x10 ∷ 0x00 ∷ 0x22 ∷ 0x11 ∷ 0x04 ∷ 0x72 ∷ 0x10 ∷ 0x00 ∷ 0x64 ∷ 0x10
+          ∷ 0x00 ∷ 0x24 ∷ 0x11 ∷ 0x04 ∷ 0x74 ∷ 0x10 ∷ 0x00 ∷ []);
     }
     -- "are moves even where nobody waits, and leave no record": four moves, two records
     ∷ record {
       plan = notifyNull;
       picks = 0 ∷ 0 ∷ 0 ∷ 0 ∷ 0 ∷ [];
-      expected = ran (outcome end 5 4 2 (finished 0 ∷ absent ∷ absent ∷ absent ∷ absent ∷ absent ∷ absent ∷ absent ∷ []) (0 ∷ 0 ∷ 0 ∷ 0 ∷ 0 ∷ 0 ∷ 0 ∷ 0 ∷ [])) (entry acquire 0 0 0 0 ∷ entry release 0 0 0 0 ∷ []) (0x60 ∷ 0x00 ∷ 0x00 ∷ 0x70 ∷ 0x00 ∷ 0x00 ∷ []);
+      expected =
+          ran (outcome end 5 4 2 (finished 0 ∷ absent ∷ absent ∷ absent ∷ absent ∷ absent ∷ absent ∷ absent ∷ [])
+          (0 ∷ 0 ∷ 0 ∷ 0 ∷ 0 ∷ 0 ∷ 0 ∷ 0 ∷ []))
+          (entry acquire 0 0 0 0 ∷ entry release 0 0 0 0 ∷ [])
+          (0x60 ∷ 0x00 ∷ 0x00 ∷ 0x70 ∷ 0x00 ∷ 0x00 ∷ []);
     }
     -- "Each needs the monitor held by the mover, else the thread is stuck": a free monitor of owner 0 is not thread 0's
     ∷ record {
       plan = waitNull;
       picks = 0 ∷ 0 ∷ [];
-      expected = ran (outcome end 2 1 0 (stuck (notHeld 0) ∷ absent ∷ absent ∷ absent ∷ absent ∷ absent ∷ absent ∷ absent ∷ []) (0 ∷ 0 ∷ 0 ∷ 0 ∷ 0 ∷ 0 ∷ 0 ∷ 0 ∷ [])) ([]) ([]);
+      expected =
+          ran (outcome end 2 1 0 (stuck (notHeld 0) ∷ absent ∷ absent ∷ absent ∷ absent ∷ absent ∷ absent ∷ absent ∷ [])
+          (0 ∷ 0 ∷ 0 ∷ 0 ∷ 0 ∷ 0 ∷ 0 ∷ 0 ∷ []))
+          ([])
+          ([]);
+    }
+    -- the same of notify
+    ∷ record {
+      plan = notifyAlone;
+      picks = 0 ∷ 0 ∷ [];
+      expected =
+          ran (outcome end 2 1 0 (stuck (notHeld 0) ∷ absent ∷ absent ∷ absent ∷ absent ∷ absent ∷ absent ∷ absent ∷ [])
+          (0 ∷ 0 ∷ 0 ∷ 0 ∷ 0 ∷ 0 ∷ 0 ∷ 0 ∷ []))
+          ([])
+          ([]);
+    }
+    -- and of notify all
+    ∷ record {
+      plan = notifyAllAlone;
+      picks = 0 ∷ 0 ∷ [];
+      expected =
+          ran (outcome end 2 1 0 (stuck (notHeld 0) ∷ absent ∷ absent ∷ absent ∷ absent ∷ absent ∷ absent ∷ absent ∷ [])
+          (0 ∷ 0 ∷ 0 ∷ 0 ∷ 0 ∷ 0 ∷ 0 ∷ 0 ∷ []))
+          ([])
+          ([]);
     }
     -- "Notify wakes [..] the one that has waited longest": thread 2 waited first, and is kept out while thread 0 holds the monitor
     ∷ record {
       plan = twoWaiters;
       picks = 0 ∷ 0 ∷ 0 ∷ 0 ∷ 0 ∷ 0 ∷ 0 ∷ 2 ∷ 2 ∷ 1 ∷ 1 ∷ 0 ∷ 0 ∷ 1 ∷ 2 ∷ [];
-      expected = ran (outcome end 15 13 8 (ready ∷ waiting (forNotify 1) ∷ waiting (forMonitor 1) ∷ absent ∷ absent ∷ absent ∷ absent ∷ absent ∷ []) (0 ∷ 0 ∷ 0 ∷ 0 ∷ 0 ∷ 0 ∷ 0 ∷ 0 ∷ [])) (entry new 0 1 0 0 ∷ entry fork 0 2 1 0 ∷ entry fork 0 3 2 0 ∷ entry acquire 2 1 0 0 ∷ entry release 2 1 0 0 ∷ entry acquire 1 1 0 0 ∷ entry release 1 1 0 0 ∷ entry acquire 0 1 0 0 ∷ []) (0x10 ∷ 0x10 ∷ 0x00 ∷ 0x80 ∷ 0x20 ∷ 0x80 ∷ 0x80 ∷ 0x31 ∷ 0x00 ∷ 0x64 ∷ 0x10 ∷ 0x00 ∷ 0x74 ∷ 0x10 ∷ 0x00 ∷ 0x62 ∷ 0x10 ∷ 0x00 ∷ 0x72 ∷ 0x10 ∷ 0x00 ∷ 0x60 ∷ 0x10 ∷ 0x00 ∷ []);
+      expected =
+          ran (outcome end 15 13 8 (ready ∷ waiting (forNotify 1) ∷ waiting (forMonitor 1) ∷ absent ∷ absent ∷ absent ∷ absent ∷ absent ∷ [])
+          (0 ∷ 0 ∷ 0 ∷ 0 ∷ 0 ∷ 0 ∷ 0 ∷ 0 ∷ []))
+          (entry new 0 1 0 0 ∷ entry fork 0 2 1 0 ∷ entry fork 0 3 2 0 ∷ entry acquire 2 1 0 0 ∷ entry release 2 1 0 0 ∷ entry acquire 1 1 0 0
+          ∷ entry release 1 1 0 0 ∷ entry acquire 0 1 0 0 ∷ [])
+          (0x10 ∷ 0x10 ∷ 0x00 ∷ 0x80 ∷ 0x20 ∷ 0x80 ∷ 0x80 ∷ 0x31 ∷ 0x00 ∷ 0x64 ∷ 0x10 ∷ 0x00 ∷ 0x74 ∷ 0x10 ∷ 0x00 ∷ 0x62 ∷ 0x10 ∷ 0x00 ∷ 0x72 ∷ 0x10
+          ∷ 0x00 ∷ 0x60 ∷ 0x10 ∷ 0x00 ∷ []);
     }
     -- "or ready once that acquire can be made": thread 2, once the monitor is free
     ∷ record {
       plan = twoWaiters;
       picks = 0 ∷ 0 ∷ 0 ∷ 0 ∷ 0 ∷ 0 ∷ 0 ∷ 2 ∷ 2 ∷ 1 ∷ 1 ∷ 0 ∷ 0 ∷ 0 ∷ 1 ∷ [];
-      expected = ran (outcome end 15 14 9 (finished 0 ∷ waiting (forNotify 1) ∷ ready ∷ absent ∷ absent ∷ absent ∷ absent ∷ absent ∷ []) (0 ∷ 0 ∷ 0 ∷ 0 ∷ 0 ∷ 0 ∷ 0 ∷ 0 ∷ [])) (entry new 0 1 0 0 ∷ entry fork 0 2 1 0 ∷ entry fork 0 3 2 0 ∷ entry acquire 2 1 0 0 ∷ entry release 2 1 0 0 ∷ entry acquire 1 1 0 0 ∷ entry release 1 1 0 0 ∷ entry acquire 0 1 0 0 ∷ entry release 0 1 0 0 ∷ []) (0x10 ∷ 0x10 ∷ 0x00 ∷ 0x80 ∷ 0x20 ∷ 0x80 ∷ 0x80 ∷ 0x31 ∷ 0x00 ∷ 0x64 ∷ 0x10 ∷ 0x00 ∷ 0x74 ∷ 0x10 ∷ 0x00 ∷ 0x62 ∷ 0x10 ∷ 0x00 ∷ 0x72 ∷ 0x10 ∷ 0x00 ∷ 0x60 ∷ 0x10 ∷ 0x00 ∷ 0x70 ∷ 0x10 ∷ 0x00 ∷ []);
+      expected =
+          ran (outcome end 15 14 9 (finished 0 ∷ waiting (forNotify 1) ∷ ready ∷ absent ∷ absent ∷ absent ∷ absent ∷ absent ∷ [])
+          (0 ∷ 0 ∷ 0 ∷ 0 ∷ 0 ∷ 0 ∷ 0 ∷ 0 ∷ []))
+          (entry new 0 1 0 0 ∷ entry fork 0 2 1 0 ∷ entry fork 0 3 2 0 ∷ entry acquire 2 1 0 0 ∷ entry release 2 1 0 0 ∷ entry acquire 1 1 0 0
+          ∷ entry release 1 1 0 0 ∷ entry acquire 0 1 0 0 ∷ entry release 0 1 0 0 ∷ [])
+          (0x10 ∷ 0x10 ∷ 0x00 ∷ 0x80 ∷ 0x20 ∷ 0x80 ∷ 0x80 ∷ 0x31 ∷ 0x00 ∷ 0x64 ∷ 0x10 ∷ 0x00 ∷ 0x74 ∷ 0x10 ∷ 0x00 ∷ 0x62 ∷ 0x10 ∷ 0x00 ∷ 0x72 ∷ 0x10
+          ∷ 0x00 ∷ 0x60 ∷ 0x10 ∷ 0x00 ∷ 0x70 ∷ 0x10 ∷ 0x00 ∷ []);
     }
     -- the wake "is logged as an acquire with its result null"; thread 1 is still not notified
     ∷ record {
       plan = twoWaiters;
       picks = 0 ∷ 0 ∷ 0 ∷ 0 ∷ 0 ∷ 0 ∷ 0 ∷ 2 ∷ 2 ∷ 1 ∷ 1 ∷ 0 ∷ 0 ∷ 0 ∷ 1 ∷ 2 ∷ 2 ∷ 1 ∷ [];
-      expected = ran (outcome end 18 16 11 (finished 0 ∷ waiting (forNotify 1) ∷ finished 0 ∷ absent ∷ absent ∷ absent ∷ absent ∷ absent ∷ []) (0 ∷ 0 ∷ 0 ∷ 0 ∷ 0 ∷ 0 ∷ 0 ∷ 0 ∷ [])) (entry new 0 1 0 0 ∷ entry fork 0 2 1 0 ∷ entry fork 0 3 2 0 ∷ entry acquire 2 1 0 0 ∷ entry release 2 1 0 0 ∷ entry acquire 1 1 0 0 ∷ entry release 1 1 0 0 ∷ entry acquire 0 1 0 0 ∷ entry release 0 1 0 0 ∷ entry acquire 2 1 0 0 ∷ entry release 2 1 0 0 ∷ []) (0x10 ∷ 0x10 ∷ 0x00 ∷ 0x80 ∷ 0x20 ∷ 0x80 ∷ 0x80 ∷ 0x31 ∷ 0x00 ∷ 0x64 ∷ 0x10 ∷ 0x00 ∷ 0x74 ∷ 0x10 ∷ 0x00 ∷ 0x62 ∷ 0x10 ∷ 0x00 ∷ 0x72 ∷ 0x10 ∷ 0x00 ∷ 0x60 ∷ 0x10 ∷ 0x00 ∷ 0x70 ∷ 0x10 ∷ 0x00 ∷ 0x64 ∷ 0x10 ∷ 0x00 ∷ 0x74 ∷ 0x10 ∷ 0x00 ∷ []);
+      expected =
+          ran (outcome end 18 16 11 (finished 0 ∷ waiting (forNotify 1) ∷ finished 0 ∷ absent ∷ absent ∷ absent ∷ absent ∷ absent ∷ [])
+          (0 ∷ 0 ∷ 0 ∷ 0 ∷ 0 ∷ 0 ∷ 0 ∷ 0 ∷ []))
+          (entry new 0 1 0 0 ∷ entry fork 0 2 1 0 ∷ entry fork 0 3 2 0 ∷ entry acquire 2 1 0 0 ∷ entry release 2 1 0 0 ∷ entry acquire 1 1 0 0
+          ∷ entry release 1 1 0 0 ∷ entry acquire 0 1 0 0 ∷ entry release 0 1 0 0 ∷ entry acquire 2 1 0 0 ∷ entry release 2 1 0 0 ∷ [])
+          (0x10 ∷ 0x10 ∷ 0x00 ∷ 0x80 ∷ 0x20 ∷ 0x80 ∷ 0x80 ∷ 0x31 ∷ 0x00 ∷ 0x64 ∷ 0x10 ∷ 0x00 ∷ 0x74 ∷ 0x10 ∷ 0x00 ∷ 0x62 ∷ 0x10 ∷ 0x00 ∷ 0x72 ∷ 0x10
+          ∷ 0x00 ∷ 0x60 ∷ 0x10 ∷ 0x00 ∷ 0x70 ∷ 0x10 ∷ 0x00 ∷ 0x64 ∷ 0x10 ∷ 0x00 ∷ 0x74 ∷ 0x10 ∷ 0x00 ∷ []);
     }
     -- "notify all wakes every one"
     ∷ record {
       plan = twoWaitersAll;
       picks = 0 ∷ 0 ∷ 0 ∷ 0 ∷ 0 ∷ 0 ∷ 0 ∷ 2 ∷ 2 ∷ 1 ∷ 1 ∷ 0 ∷ 0 ∷ 0 ∷ [];
-      expected = ran (outcome end 14 14 9 (finished 0 ∷ ready ∷ ready ∷ absent ∷ absent ∷ absent ∷ absent ∷ absent ∷ []) (0 ∷ 0 ∷ 0 ∷ 0 ∷ 0 ∷ 0 ∷ 0 ∷ 0 ∷ [])) (entry new 0 1 0 0 ∷ entry fork 0 2 1 0 ∷ entry fork 0 3 2 0 ∷ entry acquire 2 1 0 0 ∷ entry release 2 1 0 0 ∷ entry acquire 1 1 0 0 ∷ entry release 1 1 0 0 ∷ entry acquire 0 1 0 0 ∷ entry release 0 1 0 0 ∷ []) (0x10 ∷ 0x10 ∷ 0x00 ∷ 0x80 ∷ 0x20 ∷ 0x80 ∷ 0x80 ∷ 0x31 ∷ 0x00 ∷ 0x64 ∷ 0x10 ∷ 0x00 ∷ 0x74 ∷ 0x10 ∷ 0x00 ∷ 0x62 ∷ 0x10 ∷ 0x00 ∷ 0x72 ∷ 0x10 ∷ 0x00 ∷ 0x60 ∷ 0x10 ∷ 0x00 ∷ 0x70 ∷ 0x10 ∷ 0x00 ∷ []);
+      expected =
+          ran (outcome end 14 14 9 (finished 0 ∷ ready ∷ ready ∷ absent ∷ absent ∷ absent ∷ absent ∷ absent ∷ [])
+          (0 ∷ 0 ∷ 0 ∷ 0 ∷ 0 ∷ 0 ∷ 0 ∷ 0 ∷ []))
+          (entry new 0 1 0 0 ∷ entry fork 0 2 1 0 ∷ entry fork 0 3 2 0 ∷ entry acquire 2 1 0 0 ∷ entry release 2 1 0 0 ∷ entry acquire 1 1 0 0
+          ∷ entry release 1 1 0 0 ∷ entry acquire 0 1 0 0 ∷ entry release 0 1 0 0 ∷ [])
+          (0x10 ∷ 0x10 ∷ 0x00 ∷ 0x80 ∷ 0x20 ∷ 0x80 ∷ 0x80 ∷ 0x31 ∷ 0x00 ∷ 0x64 ∷ 0x10 ∷ 0x00 ∷ 0x74 ∷ 0x10 ∷ 0x00 ∷ 0x62 ∷ 0x10 ∷ 0x00 ∷ 0x72 ∷ 0x10
+          ∷ 0x00 ∷ 0x60 ∷ 0x10 ∷ 0x00 ∷ 0x70 ∷ 0x10 ∷ 0x00 ∷ []);
     }
     -- A wait within a synch that is entered again gives up the monitor whole, and one acquire takes it back.
     ∷ record {
       plan = waitTwice;
       picks = 0 ∷ 0 ∷ 0 ∷ 0 ∷ 0 ∷ 1 ∷ 1 ∷ 1 ∷ 0 ∷ 0 ∷ 0 ∷ 1 ∷ 1 ∷ 1 ∷ [];
-      expected = ran (outcome end 14 13 8 (finished 0 ∷ finished 0 ∷ absent ∷ absent ∷ absent ∷ absent ∷ absent ∷ absent ∷ []) (0 ∷ 0 ∷ 0 ∷ 0 ∷ 0 ∷ 0 ∷ 0 ∷ 0 ∷ [])) (entry new 0 1 0 0 ∷ entry fork 0 2 1 0 ∷ entry acquire 1 1 0 0 ∷ entry release 1 1 0 0 ∷ entry acquire 0 1 0 0 ∷ entry release 0 1 0 0 ∷ entry acquire 1 1 0 0 ∷ entry release 1 1 0 0 ∷ []) (0x10 ∷ 0x10 ∷ 0x00 ∷ 0x80 ∷ 0x20 ∷ 0x80 ∷ 0x62 ∷ 0x10 ∷ 0x00 ∷ 0x72 ∷ 0x10 ∷ 0x00 ∷ 0x60 ∷ 0x10 ∷ 0x00 ∷ 0x70 ∷ 0x10 ∷ 0x00 ∷ 0x62 ∷ 0x10 ∷ 0x00 ∷ 0x72 ∷ 0x10 ∷ 0x00 ∷ []);
+      expected =
+          ran (outcome end 14 13 8 (finished 0 ∷ finished 0 ∷ absent ∷ absent ∷ absent ∷ absent ∷ absent ∷ absent ∷ [])
+          (0 ∷ 0 ∷ 0 ∷ 0 ∷ 0 ∷ 0 ∷ 0 ∷ 0 ∷ []))
+          (entry new 0 1 0 0 ∷ entry fork 0 2 1 0 ∷ entry acquire 1 1 0 0 ∷ entry release 1 1 0 0 ∷ entry acquire 0 1 0 0 ∷ entry release 0 1 0 0
+          ∷ entry acquire 1 1 0 0 ∷ entry release 1 1 0 0 ∷ [])
+          (0x10 ∷ 0x10 ∷ 0x00 ∷ 0x80 ∷ 0x20 ∷ 0x80 ∷ 0x62 ∷ 0x10 ∷ 0x00 ∷ 0x72 ∷ 0x10 ∷ 0x00 ∷ 0x60 ∷ 0x10 ∷ 0x00 ∷ 0x70 ∷ 0x10 ∷ 0x00 ∷ 0x62 ∷ 0x10
+          ∷ 0x00 ∷ 0x72 ∷ 0x10 ∷ 0x00 ∷ []);
     }
     ∷ []

@@ -2,7 +2,7 @@
 use Prim.Native.Nat.{ℕ, suc, _<_, _≤_}
 use mathlib.Core.Path.{_≡_}
 use mathlib.Core.Bool.{Bool, true, false, cond, _&&_}
-use mathlib.Core.List.{List, [], _∷_, map}
+use mathlib.Core.List.{List, [], _∷_}
 use mathlib.Core.Logic.{_↔_}
 use mathlib.Core.Option.{Option, some, none}
 use lib.Dec.{eqb}
@@ -11,9 +11,9 @@ use Rattle.packed.specs.Syntax.{Signal, Expression, Program, literal}
 use Rattle.records.specs.Record.{Record}
 use Rattle.rules.specs.Context.{Context, plug}
 use Rattle.rules.specs.Queue.{Place, queueLength}
-use Rattle.rules.specs.State.{Thread, State, start}
+use Rattle.rules.specs.State.{Thread, State, placesOf, start}
 use Rattle.rules.specs.Rules.{Rule, e-call, e-let, e-if, e-while, e-notnottrue, e-andtrue, e-andfalse, e-equaltrue, e-equalfalse, e-new, e-read, e-write, e-readv, e-writev, e-fork, e-join, e-re-enter, e-acquire, e-release, e-wait, e-wake, e-notify, e-notifyall, Moves}
-use Rattle.rules.specs.Step.{Attempt, forNotify}
+use Rattle.rules.specs.Step.{Attempt, forMonitor, forNotify}
 use Rattle.rules.specs.Room.{PassedOver}
 use Rattle.rules.specs.Run.{Run}
 use Rattle.rules.specs.Execution.{Execution, ends, passes, lacks-key, no-room, moves}
@@ -34,6 +34,7 @@ Signals s p k o = (K : Context) × (t : Thread) × (getElem? (s .threads) p ≡ 
 
 -- ---- who has waited longest
 
+-- the rule is E-WAIT
 unfoldable pub isWait : Rule → Bool
 isWait e-call = false
 isWait e-let = false
@@ -88,10 +89,6 @@ pub record Longest {g : Program} {ps : List ℕ} {r : Run} (x : Execution g star
 
 -- ---- the places
 
--- the places of the threads
-abbrev pub placesOf : State → List Place
-placesOf s = map (λ (t : Thread). t .place) (s .threads)
-
 -- how many of these are place n of the queue of o
 unfoldable pub holders : ℕ → ℕ → List Place → ℕ
 holders o n [] = 0
@@ -104,7 +101,7 @@ pub record InLine (s : State) : Type 0 where
   pub waits-there : (p : ℕ) (t : Thread) → getElem? (s .threads) p ≡ some t → (t .place .number ≡ 0 → ⊥)
       → (K : Context) × (t .expression ≡ plug K (Expression.waiting (t .place .object)))
 
--- ---- what E3 says of the queues, of an execution
+-- ---- what E3 says of the queues, where an execution stands
 
 pub record Queueing {g : Program} {ps : List ℕ} {r : Run} (x : Execution g start ps r) : Type 0 where
   pub line : InLine (r .final)
@@ -123,7 +120,11 @@ pub record Queueing {g : Program} {ps : List ℕ} {r : Run} (x : Execution g sta
   -- "The thread then waits until notified": no other move wakes anyone
   pub nothing-else-wakes : (p : ℕ) (R : Rule) (e : Option Record) (s′ : State) → Moves g (r .final) p R e s′ → (R ≡ e-notify → ⊥) → (R ≡ e-notifyall → ⊥)
       → (o q : ℕ) → Awaits (r .final) o q → Awaits s′ o q
+  -- "its next move needs the monitor free": whoever is woken waits for the monitor, which the waker holds
+  pub woken-kept-out : (p : ℕ) (R : Rule) (e : Option Record) (s′ : State) → Moves g (r .final) p R e s′
+      → (o q : ℕ) → Woken (r .final) s′ o q → PassedOver s′ q (Attempt.waiting (forMonitor o))
   -- a thread that waits, for the first time or again, stands behind those who wait
   pub waits-behind : (p : ℕ) (R : Rule) (e : Option Record) (s′ : State) → Moves g (r .final) p R e s′ → (o : ℕ) → Signals (r .final) p Signal.wait o
       → Awaits s′ o p
-      × ((q : ℕ) (t u : Thread) → Awaits (r .final) o q → getElem? (s′ .threads) p ≡ some t → getElem? (s′ .threads) q ≡ some u → u .place .number < t .place .number)
+      × ((q : ℕ) (t u : Thread) → Awaits (r .final) o q → getElem? (s′ .threads) p ≡ some t → getElem? (s′ .threads) q ≡ some u
+      → u .place .number < t .place .number)

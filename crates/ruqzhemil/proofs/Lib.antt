@@ -3,3 +3,4 @@ pub mod Judged
 pub mod Statuses
 pub mod Outcomes
 pub mod Played
+pub mod Tools

@@ -5,27 +5,17 @@ use mathlib.Core.Path.{_≡_}
 use mathlib.Core.List.{List}
 use mathlib.Core.Option.{none}
 use lib.ListN.{length}
-use Rattle.packed.specs.Syntax.{Program}
 use Rattle.packed.specs.Check.{refusal}
 use Rattle.packed.specs.Trees.{programOf}
 use Rattle.packed.proofs.Decoded.{well-formed}
-use Rattle.rules.specs.State.{State, start}
-use Rattle.rules.specs.Run.{Run, stopped, afterPass, afterMove, run, play, outcomeOf}
-use Rattle.rules.specs.Execution.{Execution, ends, passes, lacks-key, no-room, moves}
+use Rattle.rules.specs.State.{start}
+use Rattle.rules.specs.Run.{run, play, outcomeOf}
 use Rattle.rules.proofs.Executed.{reachable-start, reachable-run, play-executes}
 use Rattle.rules.proofs.ThreadStates.{eight-statuses}
 use Rattle.rules.proofs.TidyRuns.{tidy-play}
+use Rattle.player.proofs.Moves.{few}
 use Rattle.outcome_bytes.specs.Small.{SmallOutcome}
 use Rattle.ruqzhemil.proofs.Statuses.{small-threads}
-
--- no more picks are dealt with, and no more moves made, than there are picks
-few : {g : Program} {s : State} {ps : List ℕ} {r : Run} → Execution g s ps r → (r .picks ≤ length ps) × (length (r .instances) ≤ length ps)
-unfolding stopped afterPass afterMove
-few ends = (omega arith, omega arith)
-few (passes h x) = let d = few x in (omega arith, omega arith)
-few (lacks-key h) = (omega arith, omega arith)
-few (no-room h e) = (omega arith, omega arith)
-few (moves h k x) = let d = few x in (omega arith, omega arith)
 
 pub small-outcome : (plan ps : List ℕ) → refusal plan ≡ none → length ps ≤ 4096 → SmallOutcome (outcomeOf (programOf plan) (play (programOf plan) ps))
 unfolding outcomeOf play

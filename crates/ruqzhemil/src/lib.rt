@@ -1,9 +1,13 @@
-// The entries for programs in C, Rust and other languages: check, play and judge, each with a number for its answer. A slice is a pointer and a length.
+// The entries for programs in C, Rust and other languages, each with a number for its answer. A slice is a pointer and a length.
 // The upper half of a number is 0 for an answer, 1 for the entry's other answer, 2 for a refusal, with number * 65536 + place in the lower half.
 ghost use mathlib.Core.Path.{_≡_};
 ghost use Rattle.packed.specs.Check.{refusal};
 ghost use Rattle.rules.specs.Play.{played, areaAfter};
-ghost use Rattle.numbers.specs.Numbers.{checkNumber, playNumber, JudgeReturns};
+ghost use Rattle.numbers.specs.Numbers.{checkNumber, playNumber, answerNumber, JudgeReturns};
+ghost use mathlib.Core.Bool.{not};
+ghost use lib.Dec.{eqb};
+ghost use Rattle.charge.specs.Charge.{charged};
+ghost use Rattle.waveform.specs.Comtrade.{comtradeAnswer, comtradeArea};
 ghost use Rattle.ruqzhemil.specs.Bytes.{outAfter};
 ghost use Rattle.ruqzhemil.specs.Version.{version};
 use refusals::Checked;
@@ -50,10 +54,29 @@ pub extern "C" fn ruqzhemil_judge(version: u64, log: &[u8]) -> u64
     numbers::of_judge(judgement)
 }
 
+// The length in bytes of the log's COMTRADE data file, which begins the area; the area's other bytes, and all of them after a refusal, are as they were.
+#[no_mangle]
+pub extern "C" fn ruqzhemil_comtrade(log: &[u8], area: &mut [u8]) -> u64
+    ensures answer { λ r. ⌜ r ≡ answerNumber (comtradeAnswer (now (log .entry)) (now (area .entry))) ⌝ }
+    ensures area { λ r. ⌜ now (area .exit) ≡ comtradeArea (now (log .entry)) (now (area .entry)) ⌝ }
+{
+    let answered = waveform::comtrade(log, area);
+    numbers::of_answer(answered)
+}
+
+// What a run of the schedule on the plan is charged, in cents; an option of 0 is without, any other with.
+#[no_mangle]
+pub extern "C" fn ruqzhemil_charge(plan: &[u8], schedule: &[u8], option: u64) -> u64
+    ensures { λ r. ⌜ r ≡ answerNumber (charged (now (plan .entry)) (now (schedule .entry)) (not (eqb option 0))) ⌝ }
+{
+    let answered = charge::charge(plan, schedule, option != 0);
+    numbers::of_answer(answered)
+}
+
 // The version of these entries.
 #[no_mangle]
 pub extern "C" fn ruqzhemil_version() -> u64
     ensures { λ r. ⌜ r ≡ version ⌝ }
 {
-    65536
+    65792
 }

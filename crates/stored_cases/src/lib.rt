@@ -3,8 +3,10 @@
 //
 // A case of a play: the lengths of plan, schedule and log area, two bytes each; what check, play and judge return, eight bytes each, judge for the run's
 // records, or for none, where it is told the version in the plan's first bits; the 40 bytes for the outcome; then plan, schedule and records. A case of
-// a log: the version that judge is told and what it returns, eight bytes each; then the log. A case that ends before the parts that its
-// lengths name is wrong.
+// a log: the version that judge is told and what it returns, eight bytes each; then the log. A case of a data file: the length of the area, four bytes,
+// and of the log, two; what comtrade returns, eight; then the log and the file, empty where it is refused. A case of a charge: the lengths of plan and
+// schedule, two bytes each; the option and what charge returns, eight each; then plan and schedule. A case that ends before the parts that its lengths
+// name is wrong.
 ghost use Prim.Native.Nat.{_+_, _≤_};
 ghost use lib.ListN.{length};
 use judge::Judgement;
@@ -175,4 +177,45 @@ pub fn log_case(case: &[u8]) -> bool {
         return false;
     }
     ruqzhemil::ruqzhemil_judge(number_at(case, 0), &case[16..]) == number_at(case, 8)
+}
+
+// A data file in an area of that size, or in the whole area.
+fn comtrade_in(log: &[u8], area: &mut [u8], size: usize) -> u64 {
+    if size < area.len() {
+        ruqzhemil::ruqzhemil_comtrade(log, &mut area[..size])
+    } else {
+        ruqzhemil::ruqzhemil_comtrade(log, area)
+    }
+}
+
+// What comtrade returns for a log, and the whole area.
+pub fn file_case(case: &[u8]) -> bool {
+    if case.len() < 14 {
+        return false;
+    }
+    let size = byte_numbers::half(case, 0) * 65536 + byte_numbers::half(case, 2);
+    let end = 14 + byte_numbers::half(case, 4);
+    if case.len() < end {
+        return false;
+    }
+    if 317269 < size {
+        return false;
+    }
+    let mut area = [FILL; 317269];
+    let got = comtrade_in(&case[14..end], &mut area, size);
+    (got == number_at(case, 6)) & begins(&area, &case[end..])
+}
+
+// What charge returns for a plan, a schedule and an option.
+pub fn charge_case(case: &[u8]) -> bool {
+    if case.len() < 20 {
+        return false;
+    }
+    let end = 20 + byte_numbers::half(case, 0);
+    let last = end + byte_numbers::half(case, 2);
+    if case.len() != last {
+        return false;
+    }
+    let got = ruqzhemil::ruqzhemil_charge(&case[20..end], &case[end..last], number_at(case, 4));
+    got == number_at(case, 12)
 }

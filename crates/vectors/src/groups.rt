@@ -8,6 +8,8 @@ pub enum Group {
     Run,
     Both,
     Log,
+    File,
+    Charge,
 }
 
 // What the next case of a file is.
@@ -30,6 +32,8 @@ fn right(group: Group, case: &[u8]) -> bool {
         Group::Run => stored_cases::run_case(case),
         Group::Both => stored_cases::both_case(case),
         Group::Log => stored_cases::log_case(case),
+        Group::File => stored_cases::file_case(case),
+        Group::Charge => stored_cases::charge_case(case),
     }
 }
 

@@ -1,5 +1,5 @@
-// The test program: document 01's shot list and the stored cases of a second interpreter, held to the static library's check, play and judge, and the
-// numbers of include/ruqzhemil.h, with which their answers are written. A line for each group of cases and one for all of them; then the same for cases
+// The test program: document 01's shot list and the stored cases of a second interpreter, held to the static library's functions, and the numbers of
+// include/ruqzhemil.h, with which their answers are written. A line for each group of cases and one for all of them; then the same for cases
 // that must differ.
 mod groups; // groups.rt: the cases of a file
 
@@ -65,6 +65,20 @@ fn others(all: Tally) -> Tally {
     group(b"other logs, judged: ", b"logs", Group::Log, all)
 }
 
+fn files(all: Tally) -> Tally {
+    let all = group(
+        b"data files at the edges: ",
+        b"edge_files",
+        Group::File,
+        all,
+    );
+    group(b"data files: ", b"files", Group::File, all)
+}
+
+fn charges(all: Tally) -> Tally {
+    group(b"charges: ", b"charges", Group::Charge, all)
+}
+
 // Cases with one part of their answer changed, so that each must differ.
 fn changed() -> Tally {
     let all = groups::tally_of(b"changed_version", Group::Version);
@@ -78,11 +92,13 @@ fn changed() -> Tally {
         Group::Both,
         all,
     );
-    group(b"changed logs, judged: ", b"changed_logs", Group::Log, all)
+    let all = group(b"changed logs, judged: ", b"changed_logs", Group::Log, all);
+    let all = group(b"changed data files: ", b"changed_files", Group::File, all);
+    group(b"changed charges: ", b"changed_charges", Group::Charge, all)
 }
 
 fn main() {
-    let all = others(runs(edges(shot_list(version()))));
+    let all = charges(files(others(runs(edges(shot_list(version()))))));
     print(b"", all);
     let all = changed();
     print(b"must differ: ", all);

@@ -1,5 +1,5 @@
 //! Plan P of document 01's shot list: a field written by one thread and read by another, with nothing between them. It is checked and played, and the
-//! judge gets the run's records.
+//! judge gets the run's records. The log of two monitors is written as a data file for a viewer.
 
 use ruqzhemil::ThreadState;
 
@@ -39,6 +39,28 @@ fn play(schedule: &[u8]) -> Result<(), ruqzhemil::Refusal> {
     Ok(())
 }
 
+/// acquire and release of object 1, by thread 0
+const MONITORS: [u8; 6] = [0x60, 0x10, 0x00, 0x70, 0x10, 0x00];
+
+fn comtrade(size: usize) {
+    let mut area = vec![0; size];
+    match ruqzhemil::comtrade(&MONITORS, &mut area) {
+        Ok(length) => {
+            println!("data file in {size} bytes: {length} bytes, end mark {:02x}", area[length - 1]);
+            print!("{}", String::from_utf8_lossy(&area[..length - 1]).replace('\r', ""));
+        }
+        Err(refusal) => println!("data file in {size} bytes: {refusal}"),
+    }
+}
+
+fn charge(schedule: &[u8], option: bool) {
+    let word = if option { "with" } else { "without" };
+    match ruqzhemil::charge(&PLAN, schedule, option) {
+        Ok(cents) => println!("{word} the option: {cents} cents"),
+        Err(refusal) => println!("{word} the option: {refusal}"),
+    }
+}
+
 fn main() {
     assert_eq!(ruqzhemil::version(), ruqzhemil::VERSION, "the archive is of another version than its package");
     check("P", &PLAN);
@@ -49,4 +71,9 @@ fn main() {
             println!("{refusal}");
         }
     }
+    charge(&[0, 0, 0, 0, 0, 1, 0], false);
+    charge(&[0, 0, 0, 0, 0, 1, 0], true);
+    charge(&[0, 8], true);
+    comtrade(142);
+    comtrade(141);
 }

@@ -12,18 +12,15 @@ returns : tie.Need-returns
 unfolding threadBy
 returns c = simp (c .no-thread .ensures, le-leb _ _ (c .before .if1 .taken))
 
-look-requires : tie.Need-look-requires
-look-requires c κs = search needs
-
-state-of-requires : tie.Need-state-of-requires
-state-of-requires c κs = search needs
+status-requires : tie.Need-status-requires
+status-requires c κs = search needs
 
 cast-learnt : tie.Need-cast-learnt
 cast-learnt c = search needs
 
 returns-2 : tie.Need-returns-2
 unfolding threadBy
-returns-2 c = simp (c .before .state-of .ensures, c .before .before .look .ensures, lt-leb _ _ (c .before .before .before .before .before .before .before .before .before .if1 .left))
+returns-2 c = simp (c .before .status .ensures, lt-leb _ _ (c .before .before .before .before .before .before .before .if1 .left))
 
 pub thread-of-spec : {M : Type 1} → statement M
-thread-of-spec = tie.close (tie.spec no-thread-requires returns look-requires state-of-requires cast-learnt returns-2)
+thread-of-spec = tie.close (tie.spec no-thread-requires returns status-requires cast-learnt returns-2)

@@ -1,5 +1,5 @@
 -- `judge::judge_version` meets its contract: the refusals in the order of their numbers, then the pass. Assumes nothing.
-use Rattle.judge.proofs.Refused.{refused-length, refused-record, not-refused}
+use Rattle.log_refusals.proofs.Refused.{refused-length, refused-record, not-refused}
 use Rattle.conflicts.specs.Judge.{refuses}
 use Rattle.records.specs.Refusals.{logRefusal}
 use mathlib.Core.Path.{_≡_, sym, _∙_}

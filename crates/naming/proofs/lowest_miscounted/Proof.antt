@@ -17,15 +17,23 @@ Inv-loop times count term₀ term = (term ≤ count) × ((k : ℕ) → k < term 
 abbrev μ-loop : tie.MeasureT-loop
 μ-loop times count term₀ term = count - term
 
+all-once-requires : tie.Need-all-once-requires Inv-loop μ-loop
+all-once-requires c κs = search needs
+
+returns : tie.Need-returns Inv-loop μ-loop
+returns c =
+    let a = c .before .before .args in
+    found-none (notOnce (a .times .now)) (a .count) (a .count) (omega arith) (omega arith) (c .before .all-once .ensures (c .if1 .taken))
+
 loop-holds : tie.Need-loop-holds Inv-loop μ-loop
 loop-holds c = (search needs, λ k h. absurd (omega arith))
 
-element-copy-out-if1 : tie.Need-element-copy-out-if1 Inv-loop μ-loop
-element-copy-out-if1 c = search needs
+element-copy-out-if2 : tie.Need-element-copy-out-if2 Inv-loop μ-loop
+element-copy-out-if2 c = search needs
 
-returns : tie.Need-returns Inv-loop μ-loop
+returns-2 : tie.Need-returns-2 Inv-loop μ-loop
 unfolding notOnce
-returns c = found (notOnce (c .before .before .before .before .args .times .now)) _ _ (c .before .before .loop-test .taken) (simp (ne-eqb _ _ (c .if1 .taken))) (c .before .before .before .loop .inv .1)
+returns-2 c = found (notOnce (c .before .before .before .before .before .before .args .times .now)) _ _ (c .before .before .loop-test .taken) (simp (ne-eqb _ _ (c .if2 .taken))) (c .before .before .before .loop .inv .1)
 
 add-term : tie.Need-add-term Inv-loop μ-loop
 add-term c = search needs
@@ -35,10 +43,10 @@ loop-less c = search needs
 
 loop-again : tie.Need-loop-again Inv-loop μ-loop
 unfolding notOnce
-loop-again c = (search needs, below-more _ _ (c .before .before .before .loop .inv .1) (simp (eq-eqb _ _ (c .if1 .left))))
+loop-again c = (search needs, below-more _ _ (c .before .before .before .loop .inv .1) (simp (eq-eqb _ _ (c .if2 .left))))
 
-returns-2 : tie.Need-returns-2 Inv-loop μ-loop
-returns-2 c = found-none (notOnce (c .before .before .args .times .now)) _ _ (search needs) (search needs) (c .before .loop .inv .1)
+returns-3 : tie.Need-returns-3 Inv-loop μ-loop
+returns-3 c = found-none (notOnce (c .before .before .before .before .args .times .now)) _ _ (search needs) (search needs) (c .before .loop .inv .1)
 
 pub lowest-miscounted-spec : {M : Type 1} → statement M
 lowest-miscounted-spec =
@@ -46,10 +54,12 @@ lowest-miscounted-spec =
     (tie.spec
     Inv-loop
     μ-loop
-    loop-holds
-    element-copy-out-if1
+    all-once-requires
     returns
+    loop-holds
+    element-copy-out-if2
+    returns-2
     add-term
     loop-less
     loop-again
-    returns-2)
+    returns-3)

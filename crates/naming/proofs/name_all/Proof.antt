@@ -8,14 +8,15 @@ use Rattle.format.specs.Lowest.{Lowest}
 use Rattle.packed.specs.Steps.{Counted, faults, allTimes}
 use Rattle.packed.proofs.SortLaws.{no-faults, one-term, all-faults}
 use Rattle.packed.proofs.NameLaws.{no-terms, term-step}
+use Rattle.packed.proofs.RowLaws.{tagged}
 use Rattle.naming.proofs.name_all.Statement.{statement}
 use Rattle.naming.proofs.name_all.Tie as tie
 
 abbrev Inv-loop : tie.InvT-loop
-Inv-loop plan procedures count words times₀ best₀ term₀ times best term = (term ≤ count) × Lowest (faults plan term) count best × Counted (allTimes plan term) times
+Inv-loop rows plan procedures count words times₀ best₀ term₀ times best term = (term ≤ count) × Lowest (faults plan term) count best × Counted (allTimes plan term) times
 
 abbrev μ-loop : tie.MeasureT-loop
-μ-loop plan procedures count words times₀ best₀ term₀ times best term = count - term
+μ-loop rows plan procedures count words times₀ best₀ term₀ times best term = count - term
 
 name-roots-requires : tie.Need-name-roots-requires Inv-loop μ-loop
 name-roots-requires c κs = c .before .before .pre
@@ -38,7 +39,7 @@ name-children-requires c κs =
     let r = s .pre .0 in
     let d = s .pre .1 .0 in
     let f = r .headed .few in
-    omega arith
+    (omega arith, (s .pre .1 .1 .1, tagged b (a .procedures) (a .count) (a .words .now) r d))
 
 lower-call-requires : tie.Need-lower-call-requires Inv-loop μ-loop
 lower-call-requires c κs =

@@ -20,7 +20,7 @@ named-once c =
     all-names _ _ _ _ (h .sized .terms-are) (h .few) (c .before .before .name-all .ensures .1) (c .lowest-miscounted .ensures)
 
 name-all-requires : tie.Need-name-all-requires
-name-all-requires c κs = let s = c .before .before in (s .pre .0, (s .pre .1, refl))
+name-all-requires c κs = let s = c .before .before in (s .pre .0, (s .pre .1 .0, (refl, s .pre .1 .1)))
 
 lowest-miscounted-requires : tie.Need-lowest-miscounted-requires
 lowest-miscounted-requires c κs = c .before .before .before .before .pre .0 .headed .few
@@ -51,7 +51,7 @@ returns-2 c =
     ap answered (c .refused2 .ensures) ∙ sym (rw (m5, m6))
 
 lowest-open-requires : tie.Need-lowest-open-requires
-lowest-open-requires c κs = let s = c .before .before .before .before .before .before .before in (s .pre .0, s .pre .1)
+lowest-open-requires c κs = let s = c .before .before .before .before .before .before .before in (s .pre .0, s .pre .1 .0)
 
 refused-requires-3 : tie.Need-refused-requires-3
 refused-requires-3 c κs = search needs

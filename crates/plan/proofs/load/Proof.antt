@@ -40,31 +40,34 @@ terms-requires c κs =
     let s = make-headed (c .before .before .before .before .before .args .plan .now) _ _ refl refl (headed _ _ (c .before .before .before .check-header .ensures) (c .before .enum-told .given .1)) .sized in
     omega (arith, s .long)
 
+layouts-requires : tie.Need-layouts-requires
+layouts-requires c κs = search needs
+
 load-requires : tie.Need-load-requires
-load-requires c κs = (shown (c .before), c .before .before .before .before .before .before .before .pre)
+load-requires c κs = (c .before .before .layouts .ensures, (shown (c .before .before .before), c .before .before .before .before .before .before .before .before .before .pre))
 
 refused-requires : tie.Need-refused-requires
 refused-requires c κs = search needs
 
 returns-2 : tie.Need-returns-2
 returns-2 c =
-    let b = c .before .before .before .before .before .before .before .before .before .before .args .plan .now in
-    let m4 : lowest (wrongTerm b) (terms b) ≡ some (c .before .before .load .result) = struck (wrongTerm b) _ (terms b) _ (c .before .before .before .before .terms .ensures) (c .before .before .load .ensures .0) (c .before .if1 .taken) in
-    (by-term b _ (c .before .before .before .before .before .before .before .before .check-header .ensures) (c .before .before .before .before .before .before .enum-told .given .1) _ _ m4 (c .refused .ensures), λ q. passed-refused q (c .refused .ensures))
+    let b = c .before .before .before .before .before .before .before .before .before .before .before .before .args .plan .now in
+    let m4 : lowest (wrongTerm b) (terms b) ≡ some (c .before .before .load .result) = struck (wrongTerm b) _ (terms b) _ (c .before .before .before .before .before .before .terms .ensures) (c .before .before .load .ensures .0) (c .before .if1 .taken) in
+    (by-term b _ (c .before .before .before .before .before .before .before .before .before .before .check-header .ensures) (c .before .before .before .before .before .before .before .before .enum-told .given .1) _ _ m4 (c .refused .ensures), λ q. passed-refused q (c .refused .ensures))
 
 check-trees-requires : tie.Need-check-trees-requires
 check-trees-requires c κs =
-    let l = c .before .before .load in
-    let h = shown (c .before .before .before .before) in
-    (make-right _ _ _ _ h (l .ensures .0) (c .before .if1 .left), l .ensures .1 (c .before .if1 .left))
+    let l = c .before .before .before .load in
+    let h = shown (c .before .before .before .before .before .before .before) in
+    (make-right _ _ _ _ h (l .ensures .0) (c .before .before .if1 .left), (l .ensures .1 (c .before .before .if1 .left), c .before .before .before .before .before .before .layouts .ensures))
 
 returns-3 : tie.Need-returns-3
 returns-3 c =
-    let b = c .before .before .before .before .before .before .before .before .before .before .before .args .plan .now in
-    let l = c .before .before .before .load in
-    let n = c .before .before .before .before .before .terms .ensures in
-    let m4 : lowest (wrongTerm b) (terms b) ≡ none = missed (wrongTerm b) _ (terms b) _ n (l .ensures .0) (c .before .before .if1 .left) in
-    (by-trees b _ (c .before .before .before .before .before .before .before .before .before .check-header .ensures) (c .before .before .before .before .before .before .before .enum-told .given .1) _ m4 (c .check-trees .ensures), λ q. loaded-as n (l .ensures .1 (c .before .before .if1 .left)))
+    let b = c .before .before .before .before .before .before .before .before .before .before .before .before .before .before .args .plan .now in
+    let l = c .before .before .before .before .load in
+    let n = c .before .before .before .before .before .before .before .before .terms .ensures in
+    let m4 : lowest (wrongTerm b) (terms b) ≡ none = missed (wrongTerm b) _ (terms b) _ n (l .ensures .0) (c .before .before .before .if1 .left) in
+    (by-trees b _ (c .before .before .before .before .before .before .before .before .before .before .before .before .check-header .ensures) (c .before .before .before .before .before .before .before .before .before .before .enum-told .given .1) _ m4 (c .check-trees .ensures), λ q. loaded-as n (l .ensures .1 (c .before .before .before .if1 .left)))
 
 pub load-spec : {M : Type 1} → statement M
 load-spec =
@@ -76,6 +79,7 @@ load-spec =
     returns
     procedures-requires
     terms-requires
+    layouts-requires
     load-requires
     refused-requires
     returns-2

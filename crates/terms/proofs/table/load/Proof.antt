@@ -14,17 +14,17 @@ use Rattle.terms.proofs.table.load.Statement.{statement}
 use Rattle.terms.proofs.table.load.Tie as tie
 
 abbrev Inv-loop : tie.InvT-loop
-Inv-loop plan procedures count words₀ term₀ words term = (term ≤ count) × ((k : ℕ) → k < term → wrongTerm plan k ≡ false) × Loaded plan term words
+Inv-loop rows plan procedures count words₀ term₀ words term = (term ≤ count) × ((k : ℕ) → k < term → wrongTerm plan k ≡ false) × Loaded plan term words
 
 abbrev μ-loop : tie.MeasureT-loop
-μ-loop plan procedures count words₀ term₀ words term = count - term
+μ-loop rows plan procedures count words₀ term₀ words term = count - term
 
 loop-holds : tie.Need-loop-holds Inv-loop μ-loop
-loop-holds c = (search needs, (λ k h. absurd (omega arith)), unloaded (c .before .args .plan .now) _ (c .before .pre .1))
+loop-holds c = (search needs, (λ k h. absurd (omega arith)), unloaded (c .before .args .plan .now) _ (c .before .pre .1 .1))
 
 word-at-requires : tie.Need-word-at-requires Inv-loop μ-loop
 word-at-requires c κs =
-    let h = c .before .before .before .pre .0 in
+    let h = c .before .before .before .pre .1 .0 in
     let s = h .sized in
     (s .procedures-are, omega (arith, h), omega (arith, s))
 
@@ -35,13 +35,13 @@ returns : tie.Need-returns Inv-loop μ-loop
 returns c =
     let a = c .before .before .before .before .before .before .args in
     let l = c .before .before .before .before .loop in
-    (found (wrongTerm (a .plan .now)) _ _ (c .before .before .before .loop-test .taken) (judged (a .plan .now) (a .procedures) (a .count) (l .term) (c .before .before .word-at .result) (c .before .wrong-term .result) true (c .before .before .before .before .before .before .pre .0 .sized) (c .before .before .word-at .ensures) (c .before .wrong-term .ensures) (c .if1 .taken)) (l .inv .1), λ q. absurd (omega arith))
+    (found (wrongTerm (a .plan .now)) _ _ (c .before .before .before .loop-test .taken) (judged (a .plan .now) (a .procedures) (a .count) (l .term) (c .before .before .word-at .result) (c .before .wrong-term .result) true (c .before .before .before .before .before .before .pre .1 .0 .sized) (c .before .before .word-at .ensures) (c .before .wrong-term .ensures) (c .if1 .taken)) (l .inv .1), λ q. absurd (omega arith))
 
 mul-words : tie.Need-mul-words Inv-loop μ-loop
-mul-words c = let f = c .before .before .before .before .before .before .pre .0 .few in omega arith
+mul-words c = let f = c .before .before .before .before .before .before .pre .1 .0 .few in omega arith
 
 element-write-words : tie.Need-element-write-words Inv-loop μ-loop
-element-write-words c = let f = c .before .before .before .before .before .before .pre .0 .few in omega arith
+element-write-words c = let f = c .before .before .before .before .before .before .pre .1 .0 .few in omega arith
 
 add-term : tie.Need-add-term Inv-loop μ-loop
 add-term c = search needs
@@ -53,8 +53,8 @@ loop-again : tie.Need-loop-again Inv-loop μ-loop
 loop-again c =
     let a = c .before .before .before .before .before .before .args in
     let l = c .before .before .before .before .loop in
-    let f = c .before .before .before .before .before .before .pre .0 .few in
-    (search needs, below-more _ _ (l .inv .1) (judged (a .plan .now) (a .procedures) (a .count) (l .term) (c .before .before .word-at .result) (c .before .wrong-term .result) false (c .before .before .before .before .before .before .pre .0 .sized) (c .before .before .word-at .ensures) (c .before .wrong-term .ensures) (c .if1 .left)), rw add-one (loaded-more (a .plan .now) (l .term) (l .words) (c .before .before .word-at .result) (omega arith) (c .before .before .word-at .ensures) (l .inv .2)))
+    let f = c .before .before .before .before .before .before .pre .1 .0 .few in
+    (search needs, below-more _ _ (l .inv .1) (judged (a .plan .now) (a .procedures) (a .count) (l .term) (c .before .before .word-at .result) (c .before .wrong-term .result) false (c .before .before .before .before .before .before .pre .1 .0 .sized) (c .before .before .word-at .ensures) (c .before .wrong-term .ensures) (c .if1 .left)), rw add-one (loaded-more (a .plan .now) (l .term) (l .words) (c .before .before .word-at .result) (omega arith) (c .before .before .word-at .ensures) (l .inv .2)))
 
 returns-2 : tie.Need-returns-2 Inv-loop μ-loop
 returns-2 c =

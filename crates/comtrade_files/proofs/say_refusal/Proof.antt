@@ -1,0 +1,43 @@
+-- `comtrade_files::say_refusal` is safe. Assumes nothing.
+use native.Mathlib.Omega.{arith}
+use mathlib.Core.Path.{sym}
+use lib.Seq.{length-take-le}
+use Rattle.last_lines.proofs.LineParts.{refusal-short}
+use borrow.Author.Needs.{needs}
+use Rattle.comtrade_files.proofs.say_refusal.Statement.{statement}
+use Rattle.comtrade_files.proofs.say_refusal.Tie as tie
+
+slice-aggregate-put-refusal : tie.Need-slice-aggregate-put-refusal
+slice-aggregate-put-refusal c = search needs
+
+put-refusal-requires : tie.Need-put-refusal-requires
+put-refusal-requires c κs = let a = c .before .args in omega (arith, refusal-short (record { number = a .number; place = a .place }) (omega arith) (omega arith))
+
+array-share-prefix-area : tie.Need-array-share-prefix-area
+array-share-prefix-area c =
+    let a = c .before .before .before .args in
+    let w = c .before .put-refusal .ensures in
+    omega (arith, w .next, w .kept, refusal-short (record { number = a .number; place = a .place }) (omega arith) (omega arith))
+
+slice-aggregate-write-all : tie.Need-slice-aggregate-write-all
+slice-aggregate-write-all c =
+    let a = c .before .before .before .before .args in
+    let w = c .before .before .put-refusal .ensures in
+    sym (length-take-le _ _ (omega (arith, w .next, w .kept, refusal-short (record { number = a .number; place = a .place }) (omega arith) (omega arith))))
+
+write-all-requires : tie.Need-write-all-requires
+write-all-requires c κs = search needs
+
+returns : tie.Need-returns
+returns c = search needs
+
+pub say-refusal-spec : {M : Type 1} → statement M
+say-refusal-spec =
+    tie.close
+    (tie.spec
+    slice-aggregate-put-refusal
+    put-refusal-requires
+    array-share-prefix-area
+    slice-aggregate-write-all
+    write-all-requires
+    returns)

@@ -1,0 +1,51 @@
+// What the program comtrade does (document 02, E14): reads a log, and writes its data file and its configuration file, or says the refusal.
+ghost use Prim.Native.Nat.{_≤_};
+use answers::Answered;
+use libc::STDIN_FILENO;
+use libc::STDOUT_FILENO;
+
+// The bytes into the file of this name. What fails is said on standard error.
+fn write_file(name: &[u8], bytes: &[u8]) {
+    let file = os::open_overwrite(name);
+    if file < 0 {
+        os::fail(name);
+        return;
+    }
+    if !io::write_all(file, bytes) {
+        os::fail(name);
+    }
+    libc::close(file);
+}
+
+// The configuration file for so many samples.
+fn write_configuration(name: &[u8], samples: usize)
+    requires { ⌜ samples ≤ 4096 ⌝ }
+{
+    let mut area = [0u8; 1024];
+    let length = configuration::put_configuration(&mut area, samples);
+    write_file(name, &area[..length]);
+}
+
+// The line of a refusal, on standard output.
+fn say_refusal(number: usize, place: usize) {
+    let mut area = [0u8; 64];
+    let length = last_lines::put_refusal(&mut area, 0, number, place);
+    io::write_all(STDOUT_FILENO, &area[..length]);
+}
+
+// The first 12,289 bytes decide what is written: one more than a log may have.
+pub fn write_pair(data: &[u8], configuration: &[u8]) {
+    let mut log = [0u8; 12289];
+    let size = io::read_full(STDIN_FILENO, &mut log);
+    let mut area = [0u8; 317269];
+    let answered = waveform::comtrade(&log[..size], &mut area);
+    match answered {
+        Answered::Refused { number, place } => {
+            say_refusal(number, place);
+        }
+        Answered::Value(length) => {
+            write_file(data, &area[..length]);
+            write_configuration(configuration, size / 3);
+        }
+    }
+}

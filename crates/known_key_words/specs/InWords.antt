@@ -1,0 +1,29 @@
+-- Every set, at every moment (document 02, E9), in the words of the running code: "Support staff read key sets in the debugger and want to rely on them."
+-- Assumes nothing.
+use Prim.Native.Nat.{ℕ, _<_}
+use mathlib.Core.Path.{_≡_}
+use mathlib.Core.List.{List}
+use lib.ListN.{length, take}
+use Rattle.format.specs.Area.{overwrite}
+use Rattle.keys.specs.KeySet.{keysOf}
+use Rattle.packed.specs.Trees.{programOf}
+use Rattle.records.specs.Packed.{bytesOf}
+use Rattle.rules.specs.Play.{runOf}
+use Rattle.state.specs.declared.Setting.{Setting}
+use Rattle.engine.specs.Machine.{headAt, startOf}
+use Rattle.known_keys.specs.KnownKeys.{HoldsJust}
+use Rattle.known_key_words.specs.Standing.{Standing, machineOf, areaOf, standing}
+
+-- of the run of these picks on the plan, and of where the run on numbers stands that was lent the area
+pub record InWords (plan picks area : List ℕ) (s : Standing) : Type 0 where
+  -- "a present thread": as many as are counted
+  pub present : machineOf s .tally .counts .threads ≡ length (runOf plan picks .final .threads)
+  -- its "set": the one that the four words of its head stand for
+  pub sets : (t : ℕ) → t < machineOf s .tally .counts .threads
+      → HoldsJust (programOf plan .version) (runOf plan picks .log) t (keysOf (headAt (machineOf s .heads) t .keys))
+  -- "the log": the area begins with its records
+  pub log : areaOf s ≡ overwrite (bytesOf (runOf plan picks .log)) area
+
+-- "After every pick of every run": ws are the words of the plan's terms, rs its roots, g its setting
+abbrev pub InWordsAfterEveryPick : (plan schedule area ws rs : List ℕ) → Setting → Type 0
+InWordsAfterEveryPick plan schedule area ws rs g = (n : ℕ) → InWords plan (take n schedule) area (standing ws rs g (startOf rs area) (take n schedule) 0)

@@ -1,0 +1,4 @@
+pub mod Chained
+pub mod EverySet
+pub mod Computed
+pub mod Examples

@@ -1,0 +1,3 @@
+pub mod WriteKeys
+pub mod KnownKeys
+pub mod Examples

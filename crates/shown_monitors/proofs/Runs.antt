@@ -1,0 +1,141 @@
+-- On the log of a run a digital value is 1 exactly when the monitor is held in the state after the record. It rests on the bridge from runs to logs, which
+-- has every rule. Assumes nothing.
+use Prim.Native.Nat.{ℕ, zero, suc, _≤_}
+use native.Mathlib.Omega.{arith}
+use mathlib.Core.Path.{_≡_, refl, sym, ap, _∙_, subst}
+use mathlib.Core.Bool.{Bool, true, false, true≢false, false≢true}
+use mathlib.Core.List.{List, [], _∷_, _++_, reverse, reverse-reverse}
+use mathlib.Core.Logic.{_⊎_, inl, inr, _↔_}
+use mathlib.Core.Option.{Option, some, none}
+use lib.Dec.{T}
+use lib.ListN.{length, take, drop, take-append-drop}
+use lib.Seq.{take-append-seam, take-all}
+use Rattle.keys.specs.Keys.{Keys, singleton, holds, isEmpty}
+use Rattle.keys.proofs.KeyLaws.{some-key, no-key}
+use Rattle.packed.specs.Syntax.{Program}
+use Rattle.packed.specs.Trees.{programOf}
+use Rattle.packed.specs.Check.{refusal}
+use Rattle.packed.proofs.WellFormed.{WellFormedProgram}
+use Rattle.packed.proofs.Decoded.{well-formed}
+use Rattle.records.specs.Record.{Record}
+use Rattle.order.proofs.KeySets.{KeySet}
+use Rattle.rules.specs.State.{Cell, State, start, monitor}
+use Rattle.rules.specs.Step.{Move}
+use Rattle.rules.specs.Room.{Answer, step}
+use Rattle.rules.specs.Run.{Stop, Run, logged, stopped, afterPass, afterMove, resume, run, play}
+use Rattle.rules.specs.Play.{runOf}
+use Rattle.rules.proofs.KeyBridge.{keysOf}
+use Rattle.rules.proofs.Bridge.{Kept}
+use Rattle.rules.proofs.RunKeys.{kept-play}
+use Rattle.rules.proofs.RunAppend.{run-append, run-stopped}
+use Rattle.sample_lines.specs.DataFile.{digital}
+use Rattle.shown_monitors.specs.Held.{Held}
+use Rattle.shown_monitors.proofs.Taken.{Shows, shows}
+
+-- ---- a state whose sets are those of its log
+
+module _ (g : Program) (s : State) (L : List Record) (J : Kept g s (reverse L)) (o : ℕ) where
+  abbrev set : KeySet
+  set = λ k. holds (keysOf (monitor s o)) k
+
+  shown-here : Shows set (digital o L)
+  shown-here =
+      subst (λ (M : List Record). Shows set (digital o M)) (reverse-reverse L)
+      (subst (λ (a : KeySet). Shows a (digital o (reverse (reverse L)))) (λ i k. J .agrees .monitors o k i) (shows (g .version) (reverse L) (J .legal) o))
+
+  held-by : (c : Option Cell) → monitor s o ≡ c → ((k : ℕ) → T (holds (keysOf c) k) → ⊥) → Held s o
+  unfolding holds
+  held-by none e h = absurd (h 0 tt)
+  held-by (some c) e h = record { lock = c; there = e; taken = go (isEmpty (c .keys)) refl }
+    where
+      go : (b : Bool) → isEmpty (c .keys) ≡ b → isEmpty (c .keys) ≡ true
+      go true q = q
+      go false q = let x = some-key (c .keys) q in absurd (h (x .0) (x .1))
+
+  free-by : (k : ℕ) → T (holds (keysOf (monitor s o)) k) → Held s o → ⊥
+  free-by k x h = no-key (h .lock .keys) k (h .taken) (subst (λ (c : Option Cell). T (holds (keysOf c) k)) (h .there) x)
+
+  pub held-exactly : (digital o L ≡ 1) ↔ Held s o
+  held-exactly = go shown-here
+    where
+      go : Shows set (digital o L) → (digital o L ≡ 1) ↔ Held s o
+      go (inl (none-in, e)) = (λ q. held-by (monitor s o) refl none-in, λ h. e)
+      go (inr ((k, x), e)) = (λ q. absurd (omega arith), λ h. absurd (free-by k x h))
+
+-- ---- the records of a run's first picks
+
+module _ (g : Program) where
+  -- they begin the log of the whole run
+  first-records : (s : State) (ps qs : List ℕ) → take (length (run g s ps .log)) (run g s (ps ++ qs) .log) ≡ run g s ps .log
+  first-records s ps qs = go (run g s ps .stop) refl
+    where
+      all : (run g s ps .stop ≡ Stop.end → ⊥) → take (length (run g s ps .log)) (run g s (ps ++ qs) .log) ≡ run g s ps .log
+      all n = ap (λ (r : Run). take (length (run g s ps .log)) (r .log)) (run-stopped g s ps qs n) ∙ take-all (length (run g s ps .log)) (run g s ps .log) (omega arith)
+
+      go : (e : Stop) → run g s ps .stop ≡ e → take (length (run g s ps .log)) (run g s (ps ++ qs) .log) ≡ run g s ps .log
+      go Stop.end e = ap (λ (r : Run). take (length (run g s ps .log)) (r .log)) (run-append g s ps qs e) ∙ take-append-seam (run g s ps .log) (run g (run g s ps .final) qs .log)
+      go Stop.race e = all (λ q. true≢false cc)
+      go (Stop.noRoom k) e = all (λ q. true≢false cc)
+
+  -- after some number of picks there are just n records
+  written-after : (s : State) (ps : List ℕ) (n : ℕ) → n ≤ length (run g s ps .log) → (k : ℕ) × (length (run g s (take k ps) .log) ≡ n)
+  unfolding run resume stopped afterPass afterMove logged
+  written-after s [] n h = (0, omega arith)
+  written-after s (p ∷ ps) n h = go n (step g s p) refl h (λ z m l. written-after z ps m l)
+    where
+      After : ℕ → Type 0
+      After n = (k : ℕ) × (length (run g s (take k (p ∷ ps)) .log) ≡ n)
+
+      go : (n : ℕ) (a : Answer) → step g s p ≡ a → n ≤ length (resume s (λ z. run g z ps) a .log)
+          → ((z : State) (m : ℕ) → m ≤ length (run g z ps .log) → (k : ℕ) × (length (run g z (take k ps) .log) ≡ m)) → After n
+      go zero a e l ih = (0, refl)
+      go (suc n) Answer.passed e l ih = let x = ih s (suc n) l in (suc (x .0), rw e (x .1))
+      go (suc n) (Answer.race r) e l ih = (1, rw e (let z : 1 ≡ suc n = omega arith in z))
+      go (suc n) (Answer.noRoom w) e l ih = absurd (omega arith)
+      go (suc n) (Answer.moved m) e l ih = moved (m .entry) refl l
+        where
+          one-more : (r : Record) → m .entry ≡ some r → (k : ℕ) × (length (run g (m .state) (take k ps) .log) ≡ n) → After (suc n)
+          one-more r q (k, x) = (suc k, rw (e, q) (ap suc x))
+
+          moved : (r : Option Record) → m .entry ≡ r → suc n ≤ length (logged r (run g (m .state) ps .log)) → After (suc n)
+          moved none q l = let x = ih (m .state) (suc n) l in (suc (x .0), rw (e, q) (x .1))
+          moved (some r) q l = one-more r q (ih (m .state) n (omega arith))
+
+-- ---- runs
+
+module _ (g : Program) (P : WellFormedProgram g) where
+  -- after any picks
+  shown-after : (ps : List ℕ) (o : ℕ) → (digital o (play g ps .log) ≡ 1) ↔ Held (play g ps .final) o
+  shown-after ps o = held-exactly g (play g ps .final) (play g ps .log) (kept-play g P ps) o
+
+  -- of the line of each record: after any of the picks by which so many records are written
+  line-shown : (ps qs : List ℕ) (n o : ℕ) → length (play g ps .log) ≡ n → (digital o (take n (play g (ps ++ qs) .log)) ≡ 1) ↔ Held (play g ps .final) o
+  unfolding play
+  line-shown ps qs n o e =
+      subst (λ (L : List Record). (digital o L ≡ 1) ↔ Held (play g ps .final) o)
+      (sym (first-records g start ps qs) ∙ ap (λ (k : ℕ). take k (play g (ps ++ qs) .log)) e)
+      (shown-after ps o)
+
+  -- and there are such picks
+  every-line : (ps : List ℕ) (n o : ℕ) → n ≤ length (play g ps .log)
+      → (k : ℕ) × (length (play g (take k ps) .log) ≡ n) × ((digital o (take n (play g ps .log)) ≡ 1) ↔ Held (play g (take k ps) .final) o)
+  unfolding play
+  every-line ps n o h =
+      let x = written-after g start ps n h in (
+        x .0,
+        x .1,
+        subst (λ (rs : List ℕ). (digital o (take n (play g rs .log)) ≡ 1) ↔ Held (play g (take (x .0) ps) .final) o) (take-append-drop (x .0) ps) (line-shown (take (x .0) ps) (drop (x .0) ps) n o (x .1)),
+      )
+
+-- of plans that pass the check
+module _ (plan : List ℕ) (e : refusal plan ≡ none) where
+  -- at line n of a run's log digital value o is 1 exactly when the monitor of object o is held after any first picks that write n records
+  pub monitors-shown : (ps qs : List ℕ) (n o : ℕ) → length (runOf plan ps .log) ≡ n → (digital o (take n (runOf plan (ps ++ qs) .log)) ≡ 1) ↔ Held (runOf plan ps .final) o
+  unfolding runOf
+  monitors-shown = line-shown (programOf plan) (well-formed plan e)
+
+  -- and for each line there are such first picks
+  pub each-line-shown : (ps : List ℕ) (n o : ℕ) → n ≤ length (runOf plan ps .log)
+      → (k : ℕ) × (length (runOf plan (take k ps) .log) ≡ n) × ((digital o (take n (runOf plan ps .log)) ≡ 1) ↔ Held (runOf plan (take k ps) .final) o)
+  unfolding runOf
+  each-line-shown = every-line (programOf plan) (well-formed plan e)

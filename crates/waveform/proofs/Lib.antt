@@ -1,0 +1,3 @@
+pub mod FileLength
+pub mod Records
+pub mod Answers

@@ -1,0 +1,2 @@
+pub mod Comtrade
+pub mod Lengths
