@@ -1,0 +1,84 @@
+// How many moves a plan can need (document 02, E12): refusals 1 to 7, then 21 to 23, else the total.
+pub mod settling; // settling.rt: whom each procedure calls, and what bodies cost, callees first
+
+ghost use mathlib.Core.Path.{_≡_};
+ghost use Prim.Native.Nat.{_<_};
+ghost use lib.Dec.{eqb};
+ghost use Rattle.packed.specs.Format.{terms};
+ghost use Rattle.packed.specs.Steps.{tagIn};
+ghost use Rattle.packed.specs.Refusals.{anyBelow};
+ghost use Rattle.costs.specs.Bound.{bounded};
+ghost use Rattle.bound.specs.Answer.{answered, NoMoreMoves};
+ghost use Rattle.bound.specs.Settling.{Loads};
+use header::layout;
+use operands::tags;
+use refusals::Checked;
+
+// What is answered to a plan.
+pub enum Bounded {
+    // The plan is refused: the papers' number of the refusal, and its place.
+    Refused { number: usize, place: usize },
+    // No schedule makes more moves than these.
+    Moves(usize),
+}
+
+// A while occurs among the terms.
+fn has_while(words: &[usize; 1024], count: usize) -> bool
+    requires { ⌜ count < 1025 ⌝ }
+    ensures { λ r. ⌜ r ≡ anyBelow count (λ t. eqb (tagIn (now (words .entry)) t) 7) ⌝ }
+{
+    let mut term = 0;
+    while term < count {
+        if operands::tag(words[term]) == tags::WHILE {
+            return true;
+        }
+        term += 1;
+    }
+    false
+}
+
+// Refusals 21 to 23 of a plan that passes the others and is in `words`, else the total.
+fn total_of(plan: &[u8], procedures: usize, count: usize, words: &[usize; 1024]) -> Bounded
+    requires { ⌜ Loads (now plan) procedures (now words) ⌝ }
+    requires { ⌜ count ≡ terms (now plan) ⌝ }
+    ensures { λ r. ⌜ answered r ≡ bounded (now (plan .entry)) ⌝ }
+{
+    let calls = settling::calls(plan, procedures, words);
+    let mut costs = [0usize; 32];
+    let done = settling::settle(plan, procedures, words, &calls, &mut costs);
+    if settling::lowest_left(done, procedures) < procedures {
+        return Bounded::Refused {
+            number: 21,
+            place: 0,
+        };
+    }
+    if has_while(words, count) {
+        return Bounded::Refused {
+            number: 22,
+            place: 0,
+        };
+    }
+    let total = costs[0] + 1;
+    if total > 65535 {
+        return Bounded::Refused {
+            number: 23,
+            place: 0,
+        };
+    }
+    Bounded::Moves(total)
+}
+
+// The entry `bound`, for any bytes: a refusal, or a number of moves that no schedule of the plan goes beyond.
+pub fn bound(plan: &[u8]) -> Bounded
+    ensures answer { λ r. ⌜ answered r ≡ bounded (now (plan .entry)) ⌝ }
+    ensures most { λ r. ⌜ NoMoreMoves (now (plan .entry)) r ⌝ }
+{
+    let mut words = [0usize; 1024];
+    let checked = plan::load(plan, &mut words);
+    if let Checked::Refused { number, place } = checked {
+        return Bounded::Refused { number, place };
+    }
+    let procedures = layout::procedures(plan);
+    let count = layout::terms(plan);
+    total_of(plan, procedures, count, &words)
+}

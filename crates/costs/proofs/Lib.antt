@@ -1,0 +1,9 @@
+pub mod Samples
+pub mod Measure
+pub mod Loopless
+pub mod Falls
+pub mod Below
+pub mod Chains
+pub mod Fixed
+pub mod Whileless
+pub mod Plans

@@ -1,0 +1,179 @@
+-- Samples, computed: what plans answer, what a doubling of calls costs, and that a schedule reaches the total. Assumes nothing.
+use Prim.Native.Nat.{ℕ, zero, suc}
+use mathlib.Core.Path.{_≡_, refl}
+use mathlib.Core.Bool.{Bool, true, false}
+use mathlib.Core.List.{List, [], _∷_, map}
+use mathlib.Core.Option.{none}
+use lib.ListN.{length}
+use Rattle.format.specs.Version.{v1}
+use Rattle.packed.specs.Syntax.{letIn, call, new, end, Procedure, Program}
+use Rattle.keys.specs.Keys.{holds, countNew}
+use Rattle.rules.specs.Play.{runOf}
+use Rattle.rules.specs.ShotList.{planP}
+use Rattle.costs.specs.Cost.{total}
+use Rattle.costs.specs.Calls.{cyclic}
+use Rattle.costs.specs.Bound.{Bounded, refused, moves, bounded, overMost}
+
+-- ---- plans
+
+record Sample : Type 0 where
+  plan : List ℕ
+  answer : Bounded
+
+-- every tag but while: main is `let 0 = new() in let - = fork (synch v0 do (notify v0; notify all v0)) in let - = (synch v0 do wait v0) in` and
+-- `if not (null == v0) and null == null then one(v0) else null`; procedure 1 is `let 1 = new(1) in join (v1.1 := v0; fork v1.1)`
+everyCost : List ℕ
+everyCost =
+    0x10 ∷ 0x80 ∷ 0xa0 ∷ 0x00  -- header
+    ∷ 0x80 ∷ 0x00 ∷ 0x00 ∷ 0x00  -- volatile mask
+    ∷ 0x00 ∷ 0x00  -- procedure 0
+    ∷ 0x10 ∷ 0x1e  -- procedure 1
+    ∷ 0x28 ∷ 0x00 ∷ 0x20 ∷ 0x10 ∷ 0x00  -- term 0
+    ∷ 0x10 ∷ 0x00 ∷ 0x00 ∷ 0x00 ∷ 0x00  -- term 1
+    ∷ 0x2f ∷ 0x80 ∷ 0x60 ∷ 0x58 ∷ 0x00  -- term 2
+    ∷ 0x48 ∷ 0x08 ∷ 0x00 ∷ 0x00 ∷ 0x00  -- term 3
+    ∷ 0x58 ∷ 0x0a ∷ 0x03 ∷ 0x00 ∷ 0x00  -- term 4
+    ∷ 0x08 ∷ 0x00 ∷ 0x00 ∷ 0x00 ∷ 0x00  -- term 5
+    ∷ 0x2f ∷ 0x80 ∷ 0xe0 ∷ 0x48 ∷ 0x00  -- term 6
+    ∷ 0x98 ∷ 0x10 ∷ 0x00 ∷ 0x00 ∷ 0x00  -- term 7
+    ∷ 0x08 ∷ 0x00 ∷ 0x00 ∷ 0x00 ∷ 0x00  -- term 8
+    ∷ 0xa0 ∷ 0x14 ∷ 0x00 ∷ 0x00 ∷ 0x00  -- term 9
+    ∷ 0x08 ∷ 0x00 ∷ 0x00 ∷ 0x00 ∷ 0x00  -- term 10
+    ∷ 0x2f ∷ 0x81 ∷ 0x80 ∷ 0x80 ∷ 0x00  -- term 11
+    ∷ 0x58 ∷ 0x1a ∷ 0x07 ∷ 0x00 ∷ 0x00  -- term 12
+    ∷ 0x08 ∷ 0x00 ∷ 0x00 ∷ 0x00 ∷ 0x00  -- term 13
+    ∷ 0x90 ∷ 0x1e ∷ 0x00 ∷ 0x00 ∷ 0x00  -- term 14
+    ∷ 0x08 ∷ 0x00 ∷ 0x00 ∷ 0x00 ∷ 0x00  -- term 15
+    ∷ 0x30 ∷ 0x22 ∷ 0x0c ∷ 0x83 ∷ 0xa0  -- term 16
+    ∷ 0x70 ∷ 0x24 ∷ 0x0b ∷ 0x00 ∷ 0x00  -- term 17
+    ∷ 0x68 ∷ 0x26 ∷ 0x00 ∷ 0x00 ∷ 0x00  -- term 18
+    ∷ 0x78 ∷ 0x28 ∷ 0x0a ∷ 0x80 ∷ 0x00  -- term 19
+    ∷ 0x00 ∷ 0x00 ∷ 0x00 ∷ 0x00 ∷ 0x00  -- term 20
+    ∷ 0x08 ∷ 0x00 ∷ 0x00 ∷ 0x00 ∷ 0x00  -- term 21
+    ∷ 0x78 ∷ 0x2e ∷ 0x0c ∷ 0x00 ∷ 0x00  -- term 22
+    ∷ 0x00 ∷ 0x00 ∷ 0x00 ∷ 0x00 ∷ 0x00  -- term 23
+    ∷ 0x00 ∷ 0x00 ∷ 0x00 ∷ 0x00 ∷ 0x00  -- term 24
+    ∷ 0x40 ∷ 0x41 ∷ 0xa0 ∷ 0x00 ∷ 0x00  -- term 25
+    ∷ 0x80 ∷ 0x36 ∷ 0x0e ∷ 0x00 ∷ 0x00  -- term 26
+    ∷ 0x08 ∷ 0x00 ∷ 0x00 ∷ 0x00 ∷ 0x00  -- term 27
+    ∷ 0x88 ∷ 0x00 ∷ 0x00 ∷ 0x00 ∷ 0x00  -- term 28
+    ∷ 0x00 ∷ 0x00 ∷ 0x00 ∷ 0x00 ∷ 0x00  -- term 29
+    ∷ 0x28 ∷ 0x83 ∷ 0xe1 ∷ 0x00 ∷ 0x00  -- term 30
+    ∷ 0x12 ∷ 0x00 ∷ 0x00 ∷ 0x00 ∷ 0x00  -- term 31
+    ∷ 0x50 ∷ 0x42 ∷ 0x00 ∷ 0x00 ∷ 0x00  -- term 32
+    ∷ 0x2f ∷ 0x84 ∷ 0x41 ∷ 0x28 ∷ 0x00  -- term 33
+    ∷ 0x20 ∷ 0x46 ∷ 0x10 ∷ 0x90 ∷ 0x00  -- term 34
+    ∷ 0x08 ∷ 0x80 ∷ 0x00 ∷ 0x00 ∷ 0x00  -- term 35
+    ∷ 0x08 ∷ 0x00 ∷ 0x00 ∷ 0x00 ∷ 0x00  -- term 36
+    ∷ 0x48 ∷ 0x4c ∷ 0x00 ∷ 0x00 ∷ 0x00  -- term 37
+    ∷ 0x18 ∷ 0x4e ∷ 0x10 ∷ 0x00 ∷ 0x00  -- term 38
+    ∷ 0x08 ∷ 0x80 ∷ 0x00 ∷ 0x00 ∷ 0x00  -- term 39
+    ∷ []
+
+-- main is null; procedures 1 and 2, which main never comes to, call each other
+cycleUncalled : List ℕ
+cycleUncalled =
+    0x10 ∷ 0xc0 ∷ 0x20 ∷ 0x00  -- header
+    ∷ 0x80 ∷ 0x00 ∷ 0x00 ∷ 0x00  -- volatile mask
+    ∷ 0x00 ∷ 0x00  -- procedure 0
+    ∷ 0x00 ∷ 0x01  -- procedure 1
+    ∷ 0x00 ∷ 0x04  -- procedure 2
+    ∷ 0x00 ∷ 0x00 ∷ 0x00 ∷ 0x00 ∷ 0x00  -- term 0
+    ∷ 0x48 ∷ 0x04 ∷ 0x00 ∷ 0x00 ∷ 0x00  -- term 1
+    ∷ 0x40 ∷ 0x80 ∷ 0x30 ∷ 0x00 ∷ 0x00  -- term 2
+    ∷ 0x88 ∷ 0x00 ∷ 0x00 ∷ 0x00 ∷ 0x00  -- term 3
+    ∷ 0x2f ∷ 0x80 ∷ 0xa0 ∷ 0x38 ∷ 0x00  -- term 4
+    ∷ 0x40 ∷ 0x40 ∷ 0x60 ∷ 0x00 ∷ 0x00  -- term 5
+    ∷ 0x88 ∷ 0x00 ∷ 0x00 ∷ 0x00 ∷ 0x00  -- term 6
+    ∷ 0x00 ∷ 0x00 ∷ 0x00 ∷ 0x00 ∷ 0x00  -- term 7
+    ∷ []
+
+-- `if main() == null then null else null`
+callsItself : List ℕ
+callsItself =
+    0x10 ∷ 0x40 ∷ 0x1c ∷ 0x00  -- header
+    ∷ 0x80 ∷ 0x00 ∷ 0x00 ∷ 0x00  -- volatile mask
+    ∷ 0x00 ∷ 0x00  -- procedure 0
+    ∷ 0x30 ∷ 0x02 ∷ 0x02 ∷ 0x80 ∷ 0xc0  -- term 0
+    ∷ 0x78 ∷ 0x04 ∷ 0x02 ∷ 0x00 ∷ 0x00  -- term 1
+    ∷ 0x40 ∷ 0x00 ∷ 0x30 ∷ 0x00 ∷ 0x00  -- term 2
+    ∷ 0x88 ∷ 0x00 ∷ 0x00 ∷ 0x00 ∷ 0x00  -- term 3
+    ∷ 0x00 ∷ 0x00 ∷ 0x00 ∷ 0x00 ∷ 0x00  -- term 4
+    ∷ 0x00 ∷ 0x00 ∷ 0x00 ∷ 0x00 ∷ 0x00  -- term 5
+    ∷ 0x00 ∷ 0x00 ∷ 0x00 ∷ 0x00 ∷ 0x00  -- term 6
+    ∷ []
+
+-- main calls procedure 1, which is null; procedure 2 is `while true do null`
+whileUncalled : List ℕ
+whileUncalled =
+    0x10 ∷ 0xc0 ∷ 0x18 ∷ 0x00  -- header
+    ∷ 0x80 ∷ 0x00 ∷ 0x00 ∷ 0x00  -- volatile mask
+    ∷ 0x00 ∷ 0x00  -- procedure 0
+    ∷ 0x00 ∷ 0x02  -- procedure 1
+    ∷ 0x00 ∷ 0x03  -- procedure 2
+    ∷ 0x40 ∷ 0x40 ∷ 0x10 ∷ 0x00 ∷ 0x00  -- term 0
+    ∷ 0x88 ∷ 0x00 ∷ 0x00 ∷ 0x00 ∷ 0x00  -- term 1
+    ∷ 0x00 ∷ 0x00 ∷ 0x00 ∷ 0x00 ∷ 0x00  -- term 2
+    ∷ 0x38 ∷ 0x08 ∷ 0x02 ∷ 0x80 ∷ 0x00  -- term 3
+    ∷ 0x60 ∷ 0x00 ∷ 0x00 ∷ 0x00 ∷ 0x00  -- term 4
+    ∷ 0x00 ∷ 0x00 ∷ 0x00 ∷ 0x00 ∷ 0x00  -- term 5
+    ∷ []
+
+-- `while true do main()`
+cycleAndWhile : List ℕ
+cycleAndWhile =
+    0x10 ∷ 0x40 ∷ 0x10 ∷ 0x00  -- header
+    ∷ 0x80 ∷ 0x00 ∷ 0x00 ∷ 0x00  -- volatile mask
+    ∷ 0x00 ∷ 0x00  -- procedure 0
+    ∷ 0x38 ∷ 0x02 ∷ 0x01 ∷ 0x00 ∷ 0x00  -- term 0
+    ∷ 0x60 ∷ 0x00 ∷ 0x00 ∷ 0x00 ∷ 0x00  -- term 1
+    ∷ 0x40 ∷ 0x00 ∷ 0x30 ∷ 0x00 ∷ 0x00  -- term 2
+    ∷ 0x88 ∷ 0x00 ∷ 0x00 ∷ 0x00 ∷ 0x00  -- term 3
+    ∷ []
+
+samples : List Sample
+unfolding planP everyCost cycleUncalled callsItself whileUncalled cycleAndWhile
+samples =
+    record { plan = planP; answer = moves 7 }
+    ∷ record { plan = everyCost; answer = moves 28 }
+    ∷ record { plan = cycleUncalled; answer = refused (record { number = 21; place = 0 }) }
+    ∷ record { plan = callsItself; answer = refused (record { number = 21; place = 0 }) }
+    ∷ record { plan = whileUncalled; answer = refused (record { number = 22; place = 0 }) }
+    ∷ record { plan = cycleAndWhile; answer = refused (record { number = 21; place = 0 }) }
+    ∷ []
+
+sample-answers : map (λ (x : Sample). bounded (x .plan)) samples ≡ map (λ (x : Sample). x .answer) samples
+unfolding samples bounded
+sample-answers = refl
+
+-- ---- the total is reached: "how many moves a plan can take at most"
+
+everyMove : List ℕ
+everyMove = 0 ∷ 0 ∷ 0 ∷ 0 ∷ 0 ∷ 0 ∷ 0 ∷ 1 ∷ 1 ∷ 1 ∷ 1 ∷ 1 ∷ 0 ∷ 0 ∷ 0 ∷ 0 ∷ 0 ∷ 0 ∷ 0 ∷ 0 ∷ 0 ∷ 0 ∷ 0 ∷ 0 ∷ 0 ∷ 0 ∷ 2 ∷ 0 ∷ []
+
+reached : length (runOf everyCost everyMove .instances) ≡ 28
+unfolding runOf everyCost everyMove countNew holds
+reached = refl
+
+-- ---- calls that double: procedure p calls the next one twice, and the last is `new()`
+
+doubling : ℕ → ℕ → List Procedure
+doubling p zero = record { parameters = 0; body = new [] } ∷ []
+doubling p (suc n) = record { parameters = 0; body = letIn none (call (suc p) end) (call (suc p) end) } ∷ doubling (suc p) n
+
+doubled : ℕ → Program
+unfolding doubling
+doubled n = record { version = v1; volatiles = 0x80000000; procedures = doubling 0 n }
+
+doubled-costs : map (λ n. total (doubled n)) (0 ∷ 1 ∷ 2 ∷ 14 ∷ 15 ∷ []) ≡ (2 ∷ 6 ∷ 14 ∷ 65534 ∷ 131070 ∷ [])
+unfolding total doubled
+doubled-costs = refl
+
+doubled-ends : map (λ n. cyclic (doubled n)) (0 ∷ 1 ∷ 4 ∷ []) ≡ (false ∷ false ∷ false ∷ [])
+unfolding cyclic doubled
+doubled-ends = refl
+
+-- "over 65,535"
+over : map overMost (0 ∷ 65535 ∷ 65536 ∷ 131070 ∷ []) ≡ (false ∷ false ∷ true ∷ true ∷ [])
+unfolding overMost
+over = refl
