@@ -7,7 +7,8 @@
 ORACLE is the folder of the second interpreter; CASES are its JSON lines, made before; the list names the requests of document 02 that count as landed.
 The library is target/staticlib/libruqzhemil.a
 (`rt staticlib ruqzhemil` makes it), linked into a shared object by the C compiler. Compared are: what check returns; what play returns, the 40
-bytes of the outcome and the whole log area, beyond the records too; what judge returns for the log of each run and for each log of the cases.
+bytes of the outcome and the whole log area, beyond the records too; what judge returns for the log of each run and for each log of the cases; what
+comtrade returns and the whole area; what charge returns.
 """
 
 import ctypes
@@ -17,7 +18,7 @@ import subprocess
 import sys
 
 import interpreter
-from interpreter import FILL, OUT, checked, judged, outcome_bytes, played, record_bytes
+from interpreter import FILL, OUT, charged, checked, filed, judged, outcome_bytes, played, record_bytes
 
 
 def library(root):
@@ -27,7 +28,7 @@ def library(root):
     archive = root + "/target/staticlib/libruqzhemil.a"
     subprocess.run(["cc", "-shared", "-o", made, "-Wl,--whole-archive", archive, "-Wl,--no-whole-archive"], check=True)
     loaded = ctypes.CDLL(made)
-    for name in ("check", "play", "judge"):
+    for name in ("check", "play", "judge", "comtrade", "charge"):
         getattr(loaded, "ruqzhemil_" + name).restype = ctypes.c_uint64
     return loaded
 
@@ -56,6 +57,33 @@ def played_right(lib, case):
     return right and ("judge" not in want or judged_right(lib, log, want["judge"], plan[0] >> 4))
 
 
+def filed_right(lib, case):
+    """Whether comtrade returns what the case asks, and the whole area is right."""
+    given, want = case["comtrade"], case["want"]
+    before = bytes.fromhex(given["area"])
+    area, length = lent(before)
+    got = lib.ruqzhemil_comtrade(*lent(bytes.fromhex(given["log"])), area, length)
+    return got == filed(want) and bytes(area)[:len(before)] == bytes.fromhex(want["area"])
+
+
+def charged_right(lib, case):
+    """Whether charge returns what the case asks."""
+    given = case["charge"]
+    got = lib.ruqzhemil_charge(*lent(bytes.fromhex(given["plan"])), *lent(bytes.fromhex(given["schedule"])), ctypes.c_uint64(given["option"]))
+    return got == charged(case["want"])
+
+
+def right(lib, case):
+    """Whether the library answers a case of any kind as it asks."""
+    if "play" in case:
+        return played_right(lib, case)
+    if "comtrade" in case:
+        return filed_right(lib, case)
+    if "charge" in case:
+        return charged_right(lib, case)
+    return judged_right(lib, bytes.fromhex(case["judge"]), case["want"], case["version"])
+
+
 def main(argv):
     words, landed = interpreter.split(argv[1:])
     if len(words) not in (1, 3):
@@ -63,9 +91,8 @@ def main(argv):
     lib = library(os.path.dirname(os.path.dirname(os.path.abspath(__file__))))
     compared = differ = 0
     for case in interpreter.cases(words, landed):
-        right = played_right(lib, case) if "play" in case else judged_right(lib, bytes.fromhex(case["judge"]), case["want"], case["version"])
         compared += 1
-        if not right:
+        if not right(lib, case):
             differ += 1
             print(json.dumps(case))
     print("%d cases, %d differ" % (compared, differ))
