@@ -2,7 +2,8 @@
  *
  * A plan is a small concurrent program in a byte table. check says whether the table is one; play runs it under a schedule, one byte to a pick, each
  * pick the number of the thread that moves next, and writes a log of 3-byte records and an outcome; judge takes a log alone and names an access that
- * nothing orders; comtrade writes a log as a file for a waveform viewer; charge says what a run costs. This header is enough to call them and to read what they give; docs/FORMAT.md says how to write a plan.
+ * nothing orders; preview says what a pick would do before it is taken; comtrade writes a log as a file for a waveform viewer; charge says what a run
+ * costs. This header is enough to call them and to read what they give; docs/FORMAT.md says how to write a plan.
  *
  * THE ANSWER of every function is a uint64_t of two halves. The upper half says which kind of answer it is, enum ruqzhemil_answer:
  *
@@ -16,12 +17,13 @@
  *   }
  *
  * WHAT IS PROMISED: for all bytes, however malformed, each function returns the number that crates/numbers/specs/Numbers defines, with the bytes of
- * crates/outcome_bytes/specs/Bytes; the proofs of crates/ruqzhemil show it. Functions keep nothing between calls, have no global state and allocate
+ * crates/outcome_bytes/specs/Bytes and crates/preview_bytes/specs/Bytes; the proofs of crates/ruqzhemil show it. Functions keep nothing between calls, have no global state and allocate
  * nothing, so threads may call them at the same time on areas of their own.
  *
- * WHAT IS ASKED of the caller: each pointer leads to as many bytes as its length says (out to RUQZHEMIL_OUT_BYTES); a length of 0 may go with any
- * pointer, null too; what a function writes (log and out of play, area of comtrade) overlaps none of its other bytes, and while a call runs no other thread
- * writes to its bytes; and there is stack: check needs up to 48 KB, play up to 128 KB, judge up to 64 KB, charge up to 144 KB, comtrade up to 4 KB (bench/run.sh measures them).
+ * WHAT IS ASKED of the caller: each pointer leads to as many bytes as its length says (out of play to RUQZHEMIL_OUT_BYTES, of preview to
+ * RUQZHEMIL_PREVIEW_BYTES); a length of 0 may go with any pointer, null too; what a function writes (log, area, out) overlaps none of its other bytes, and
+ * while a call runs no other thread writes to its bytes; and there is stack: check needs up to 48 KB, play up to 128 KB, judge up to 64 KB, preview up to
+ * 144 KB (of it 12,288 bytes for a log of its own), charge up to 144 KB, comtrade up to 4 KB (bench/run.sh measures them).
  *
  * WHAT IT NEEDS: x86-64, the System V calling convention (Linux), and from outside the archive memcpy and memset alone.
  *
@@ -54,6 +56,7 @@ uint64_t ruqzhemil_version(void);
 #define RUQZHEMIL_MOST_FILE_BYTES 317269 /* of the data file of any log: that of 4,096 records. An area of this size is enough for every log */
 #define RUQZHEMIL_RECORD_BYTES 3         /* of a record */
 #define RUQZHEMIL_OUT_BYTES 40           /* of an outcome */
+#define RUQZHEMIL_PREVIEW_BYTES 8        /* of a preview */
 #define RUQZHEMIL_THREADS 8              /* of a run; they are numbered 0 to 7, as the picks are */
 #define RUQZHEMIL_OBJECTS 32             /* of a run, null (0) included; values are objects */
 
@@ -243,6 +246,54 @@ static inline const char *ruqzhemil_state_text(unsigned state) {
     }
 }
 
+/* ---- a preview: RUQZHEMIL_PREVIEW_BYTES bytes
+ *
+ *   byte 0           what the pick would do, enum ruqzhemil_preview_kind
+ *   bytes 1 to 3     passed over: the thread's state, and what it names, as an outcome has them; race, no room, stopped: the stop in byte 1
+ *   bytes 4 to 6     the record of a move that has one, and of a race
+ *   byte 7           0, as all that is not said
+ */
+
+enum ruqzhemil_preview_kind {
+    RUQZHEMIL_PREVIEW_PASSED = 0,   /* it would be passed over, for the state of its thread */
+    RUQZHEMIL_PREVIEW_MOVED = 1,    /* it would move, without a record */
+    RUQZHEMIL_PREVIEW_RECORDED = 2, /* it would move, with this record */
+    RUQZHEMIL_PREVIEW_RACE = 3,     /* the run would stop for want of a key, with this record, of kind 10 or 11 */
+    RUQZHEMIL_PREVIEW_NO_ROOM = 4,  /* the run would stop for room, of this kind */
+    RUQZHEMIL_PREVIEW_STOPPED = 5   /* the schedule itself has stopped, so */
+};
+
+static inline unsigned ruqzhemil_preview_of(const uint8_t out[RUQZHEMIL_PREVIEW_BYTES]) { return out[0]; }
+/* Of a race, no room and stopped: how the run would stop or has stopped, enum ruqzhemil_stop. */
+static inline unsigned ruqzhemil_preview_stop(const uint8_t out[RUQZHEMIL_PREVIEW_BYTES]) { return out[1]; }
+
+/* Of a pick that would be passed over: the state of its thread; how many keys it learnt is not said. */
+static inline struct ruqzhemil_thread ruqzhemil_preview_thread(const uint8_t out[RUQZHEMIL_PREVIEW_BYTES]) {
+    struct ruqzhemil_thread thread;
+    thread.state = out[1];
+    thread.named = out[2];
+    thread.field = out[3];
+    thread.learnt = 0;
+    return thread;
+}
+
+/* Of a move with a record and of a race: the record. */
+static inline struct ruqzhemil_record ruqzhemil_preview_record(const uint8_t out[RUQZHEMIL_PREVIEW_BYTES]) {
+    return ruqzhemil_record_at(out + 4, 0);
+}
+
+static inline const char *ruqzhemil_preview_text(unsigned preview) {
+    switch (preview) {
+    case RUQZHEMIL_PREVIEW_PASSED: return "passed over";
+    case RUQZHEMIL_PREVIEW_MOVED: return "moved";
+    case RUQZHEMIL_PREVIEW_RECORDED: return "moved, with a record";
+    case RUQZHEMIL_PREVIEW_RACE: return "race";
+    case RUQZHEMIL_PREVIEW_NO_ROOM: return "no room";
+    case RUQZHEMIL_PREVIEW_STOPPED: return "stopped before";
+    default: return "unknown";
+    }
+}
+
 /* ---- the functions */
 
 /* Checks a plan. An answer: it passes, value 0. Refusals 1 to 7. */
@@ -257,6 +308,12 @@ uint64_t ruqzhemil_play(const uint8_t *plan, size_t plan_len, const uint8_t *sch
  * chain leads to it from some earlier access to its field, one of the two a write. An answer: no access is unordered, value 0. The other answer: the
  * record with this index, from 0, is the first unordered access. Refusals 14, 11 and 12, in this order. */
 uint64_t ruqzhemil_judge(uint64_t version, const uint8_t *log, size_t log_len);
+
+/* What the pick would do after the schedule, and nothing changed: what playing the schedule with the pick added does. An answer: a preview, value 0; out
+ * is its bytes, whole. Refusals 1 to 9 leave out as it was; the pick counts as the schedule's last for 8 and 9, so after 4,096 picks there is no preview,
+ * and the place of 9 is the schedule's length where it is the pick that is over 7. */
+uint64_t ruqzhemil_preview(const uint8_t *plan, size_t plan_len, const uint8_t *schedule, size_t schedule_len, uint64_t pick,
+                           uint8_t out[RUQZHEMIL_PREVIEW_BYTES]);
 
 /* What a run of the schedule on the plan is charged: 1,200 cents and 35 for each started hundred moves; with the one-millisecond option, an option that is
  * not 0, 15 percent more, a part of a cent counting as a whole one; 0 for a run that stops for room. An answer: the cents, at most 3,031. Refusals 1 to 9. */
@@ -289,6 +346,8 @@ static inline uint8_t *ruqzhemil_area(uint8_t *area) {
 #define ruqzhemil_play(plan, plan_len, schedule, schedule_len, log, log_len, out) \
     ruqzhemil_play(ruqzhemil_bytes(plan), plan_len, ruqzhemil_bytes(schedule), schedule_len, ruqzhemil_area(log), log_len, out)
 #define ruqzhemil_judge(version, log, log_len) ruqzhemil_judge(version, ruqzhemil_bytes(log), log_len)
+#define ruqzhemil_preview(plan, plan_len, schedule, schedule_len, pick, out) \
+    ruqzhemil_preview(ruqzhemil_bytes(plan), plan_len, ruqzhemil_bytes(schedule), schedule_len, pick, out)
 #define ruqzhemil_charge(plan, plan_len, schedule, schedule_len, option) \
     ruqzhemil_charge(ruqzhemil_bytes(plan), plan_len, ruqzhemil_bytes(schedule), schedule_len, option)
 #define ruqzhemil_comtrade(log, log_len, area, area_len) ruqzhemil_comtrade(ruqzhemil_bytes(log), log_len, ruqzhemil_area(area), area_len)

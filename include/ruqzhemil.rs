@@ -14,12 +14,15 @@ unsafe extern "C" {
         out: *mut u8,
     ) -> u64;
     fn ruqzhemil_judge(version: u64, log: *const u8, log_len: usize) -> u64;
+    fn ruqzhemil_preview(plan: *const u8, plan_len: usize, schedule: *const u8, schedule_len: usize, pick: u64, out: *mut u8) -> u64;
     fn ruqzhemil_charge(plan: *const u8, plan_len: usize, schedule: *const u8, schedule_len: usize, option: u64) -> u64;
     fn ruqzhemil_comtrade(log: *const u8, log_len: usize, area: *mut u8, area_len: usize) -> u64;
 }
 
 /// Bytes of an outcome.
 pub const OUT_BYTES: usize = 40;
+/// Bytes of a preview.
+pub const PREVIEW_BYTES: usize = 8;
 
 #[allow(dead_code)]
 pub fn version() -> u64 {
@@ -36,6 +39,10 @@ pub fn play(plan: &[u8], schedule: &[u8], log: &mut [u8], out: &mut [u8; OUT_BYT
 
 pub fn judge(version: u64, log: &[u8]) -> u64 {
     unsafe { ruqzhemil_judge(version, log.as_ptr(), log.len()) }
+}
+
+pub fn preview(plan: &[u8], schedule: &[u8], pick: u64, out: &mut [u8; PREVIEW_BYTES]) -> u64 {
+    unsafe { ruqzhemil_preview(plan.as_ptr(), plan.len(), schedule.as_ptr(), schedule.len(), pick, out.as_mut_ptr()) }
 }
 
 pub fn charge(plan: &[u8], schedule: &[u8], option: u64) -> u64 {

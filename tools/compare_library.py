@@ -8,7 +8,7 @@ ORACLE is the folder of the second interpreter; CASES are its JSON lines, made b
 The library is target/staticlib/libruqzhemil.a
 (`rt staticlib ruqzhemil` makes it), linked into a shared object by the C compiler. Compared are: what check returns; what play returns, the 40
 bytes of the outcome and the whole log area, beyond the records too; what judge returns for the log of each run and for each log of the cases; what
-comtrade returns and the whole area; what charge returns.
+comtrade returns and the whole area; what charge returns; what preview returns and its 8 bytes.
 """
 
 import ctypes
@@ -18,7 +18,7 @@ import subprocess
 import sys
 
 import interpreter
-from interpreter import FILL, OUT, charged, checked, filed, judged, outcome_bytes, played, record_bytes
+from interpreter import (FILL, OUT, PREVIEW, charged, checked, filed, judged, outcome_bytes, played, preview_bytes, previewed, record_bytes)
 
 
 def library(root):
@@ -28,7 +28,7 @@ def library(root):
     archive = root + "/target/staticlib/libruqzhemil.a"
     subprocess.run(["cc", "-shared", "-o", made, "-Wl,--whole-archive", archive, "-Wl,--no-whole-archive"], check=True)
     loaded = ctypes.CDLL(made)
-    for name in ("check", "play", "judge", "comtrade", "charge"):
+    for name in ("check", "play", "judge", "comtrade", "charge", "preview"):
         getattr(loaded, "ruqzhemil_" + name).restype = ctypes.c_uint64
     return loaded
 
@@ -73,6 +73,14 @@ def charged_right(lib, case):
     return got == charged(case["want"])
 
 
+def previewed_right(lib, case):
+    """Whether preview returns what the case asks, and its bytes are right."""
+    given = case["preview"]
+    out = (ctypes.c_uint8 * PREVIEW)(*([FILL] * PREVIEW))
+    got = lib.ruqzhemil_preview(*lent(bytes.fromhex(given["plan"])), *lent(bytes.fromhex(given["schedule"])), ctypes.c_uint64(given["pick"]), out)
+    return got == previewed(case["want"]) and bytes(out) == preview_bytes(case["want"])
+
+
 def right(lib, case):
     """Whether the library answers a case of any kind as it asks."""
     if "play" in case:
@@ -81,6 +89,8 @@ def right(lib, case):
         return filed_right(lib, case)
     if "charge" in case:
         return charged_right(lib, case)
+    if "preview" in case:
+        return previewed_right(lib, case)
     return judged_right(lib, bytes.fromhex(case["judge"]), case["want"], case["version"])
 
 

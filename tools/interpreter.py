@@ -7,10 +7,11 @@ import sys
 
 import header
 
-LANDED = "E2,E3,E4,E6,E7,E8,E9,E13,E14"  # document 02's requests that the product has
+LANDED = "E1,E2,E3,E4,E6,E7,E8,E9,E13,E14"  # document 02's requests that the product has
 FILL = 0xA5  # what every lent area is filled with before a play
 NUMBERS = header.numbers()
 OUT = NUMBERS["OUT_BYTES"]
+PREVIEW = NUMBERS["PREVIEW_BYTES"]
 OUTCOMES = {word: NUMBERS[word.upper().replace("-", "_")] for word in ("end", "race", "no-thread", "no-object", "no-key", "no-depth")}
 STATES = {("absent",): NUMBERS["ABSENT"], ("finished",): NUMBERS["FINISHED"], ("ready",): NUMBERS["READY"],
           ("waiting", "monitor"): NUMBERS["WAITS_MONITOR"], ("waiting", "join"): NUMBERS["WAITS_JOIN"], ("stuck", "field"): NUMBERS["STUCK_FIELD"],
@@ -69,6 +70,27 @@ def judged(want):
     if "refused" in want:
         return refused(*want["refused"])
     return other(want["unordered"][0]) if want["unordered"] else value(0)
+
+
+def previewed(want):
+    """What preview returns for a plan, a schedule and a pick."""
+    return refused(*want["refused"]) if "refused" in want else value(0)
+
+
+def preview_bytes(want):
+    """The static library's bytes of a preview, which a refused one leaves as they were filled."""
+    if "refused" in want:
+        return bytes([FILL]) * PREVIEW
+    said, record = want["preview"], record_bytes(bytes.fromhex(want.get("record") or ""))
+    if said == "passed":
+        return bytes([NUMBERS["PREVIEW_PASSED"]]) + thread_bytes(want["state"], 0) + bytes(3)
+    if said == "moved":
+        return bytes([NUMBERS["PREVIEW_RECORDED" if record else "PREVIEW_MOVED"]]) + bytes(3) + (record or bytes(3)) + bytes(1)
+    if said == "race":
+        return bytes([NUMBERS["PREVIEW_RACE"], OUTCOMES["race"]]) + bytes(2) + record + bytes(1)
+    if said == "stopped":
+        return bytes([NUMBERS["PREVIEW_STOPPED"], OUTCOMES[want["outcome"]]]) + bytes(6)
+    return bytes([NUMBERS["PREVIEW_NO_ROOM"], OUTCOMES[said]]) + bytes(6)
 
 
 def charged(want):

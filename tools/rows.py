@@ -255,6 +255,24 @@ EDGES = [
 ROUND = plan(node(7, TRUE, NULL))
 CHARGES = [(ROUND, [], (1200, 1380)), (ROUND, [0] * 100, (1235, 1421)), (ROUND, [0] * 101, (1270, 1461))]
 
+# a plan, the picks before, the pick, and what is right, as a preview's word or its refusal
+SEVEN_FORKS = plan(node(7, TRUE, fork(NULL)))
+PREVIEWS = [
+    (PLAN_P, [], 0, "moved"),
+    (PLAN_P, [0] * 5, 1, "moved"),
+    (PLAN_P, [0] * 5 + [1], 1, "passed"),
+    (PLAN_P, [0] * 5 + [1], 7, "passed"),
+    (PLAN_P, [0] * 5 + [1], 0, "race"),
+    (PLAN_P, [0] * 5 + [1, 0], 1, "stopped"),
+    (SEVEN_FORKS, [0] * 31, 0, "no-thread"),
+    (SEVEN_FORKS, [0] * 32, 1, "stopped"),
+    (PLAN_P, [0], 8, [9, 1]),
+    (PLAN_P, [0, 9], 8, [9, 1]),
+    (PLAN_P, [0] * PICKS, 8, [8, 0]),
+    (PLAN_P, [0] * (PICKS - 1), 0, "passed"),
+    (PLAN_P[:-1], [8], 8, [1, 0]),
+]
+
 # a log, the version that the judge is told, and what is right: the refusal, or the index that is named, or none
 NEW = bytes.fromhex("100000")
 HANDED_LOG = bytes.fromhex("101000" "802080" "301080" "501100" "421100" "221080")  # new, fork, write, volatile write, volatile read, read

@@ -15,14 +15,16 @@ and its text. The same words give the same files. Every case stands behind its l
   edge_logs, logs                logs for the judge: by hand, and random ones
   edge_files, files              logs for comtrade: by hand, and random ones
   charges                        plays for charge: the figures of document 02, and random ones
+  previews                       plays and picks for preview: by hand, and random ones
   changed_version, changed_checks, changed_plays, changed_runs, changed_both, changed_logs, changed_files,
-  changed_charges
+  changed_charges, changed_previews
                                  cases of the kinds above with one part of the answer, or one length, changed: each must differ
 
 A play: lengths of plan, schedule and log area; what check, play and judge return, in eight bytes each, judge for the run's records or for none; the
 bytes of the outcome; plan, schedule, records. A log: the version that judge is told and what it returns, in eight bytes each; the log. A file:
 the area's length in four bytes and the log's in two, what comtrade returns in eight; the log, and the file where it is not refused. A charge:
-lengths of plan and schedule, the option and what charge returns, in eight bytes each; plan, schedule.
+lengths of plan and schedule, the option and what charge returns, in eight bytes each; plan, schedule. A preview: lengths of plan and schedule, the pick
+and what preview returns, in eight bytes each; the bytes of the preview; plan, schedule.
 """
 
 import collections
@@ -31,13 +33,14 @@ import sys
 import header
 import interpreter
 import rows
-from interpreter import (FILL, KINDS, NUMBERS, OUTCOMES, REFUSALS, STATES, charged, checked, filed, judged, other, outcome_bytes, played, record_bytes, refused,
-                         state_words, value)
+from interpreter import (FILL, KINDS, NUMBERS, OUTCOMES, REFUSALS, STATES, charged, checked, filed, judged, other, outcome_bytes, played, preview_bytes,
+                         previewed, record_bytes, refused, state_words, value)
 
 LONG = 6000  # bytes of a case from which on only a few are kept
 MOST = 65535  # bytes of any case: its length has two
-# of each number, of runs to the end, of long cases, of logs with an unordered access and without, of files, of each number that refuses one
-KEPT = {"refused": 45, "end": 330, "long": 10, "log": 390, "file": 80, "refused file": 15, "charge": 60, "refused charge": 12}
+# of each number, of runs to the end, of long cases, of logs with an unordered access and without, of files, charges and previews of each kind, of each
+# number that refuses one
+KEPT = {"refused": 45, "end": 330, "long": 10, "log": 390, "file": 80, "refused file": 15, "charge": 60, "refused charge": 12, "preview": 20, "refused preview": 8}
 
 
 # ---- the bytes of a case
@@ -58,6 +61,7 @@ Play = collections.namedtuple("Play", "plan schedule area checked played judged 
 Log = collections.namedtuple("Log", "version judged log")
 File = collections.namedtuple("File", "area filed log file length")
 Charge = collections.namedtuple("Charge", "plan schedule option charged lengths")
+Preview = collections.namedtuple("Preview", "plan schedule pick previewed out lengths")
 
 
 def play_of(plan, schedule, area, want):
@@ -80,6 +84,11 @@ def charge_of(plan, schedule, option, want):
     return Charge(plan, schedule, option, charged(want), (len(plan), len(schedule)))
 
 
+def preview_of(plan, schedule, pick, want):
+    """A preview as it is stored; `lengths` are those of plan and schedule."""
+    return Preview(plan, schedule, pick, previewed(want), preview_bytes(want), (len(plan), len(schedule)))
+
+
 def file_of(log, area, want):
     """A log and the length of an area as they are stored, with the file where the area gets it; `length` is the log's."""
     file = b"" if "refused" in want else bytes.fromhex(want["area"])[:want["length"]]
@@ -94,6 +103,8 @@ def stored(case):
         return eight(case.version) + eight(case.judged) + case.log
     if isinstance(case, Charge):
         return b"".join(map(two, case.lengths)) + eight(case.option) + eight(case.charged) + case.plan + case.schedule
+    if isinstance(case, Preview):
+        return b"".join(map(two, case.lengths)) + eight(case.pick) + eight(case.previewed) + case.out + case.plan + case.schedule
     if isinstance(case, File):
         return four(case.area) + two(case.length) + eight(case.filed) + case.log + case.file
     lengths = b"".join(map(two, case.lengths)) + two(case.area)
@@ -108,6 +119,9 @@ def case_of(case):
     if "charge" in case:
         asked = case["charge"]
         return charge_of(bytes.fromhex(asked["plan"]), bytes.fromhex(asked["schedule"]), int(asked["option"]), case["want"])
+    if "preview" in case:
+        asked = case["preview"]
+        return preview_of(bytes.fromhex(asked["plan"]), bytes.fromhex(asked["schedule"]), asked["pick"], case["want"])
     if "comtrade" in case:
         lent = case["comtrade"]
         return file_of(bytes.fromhex(lent["log"]), len(lent["area"]) // 2, case["want"])
@@ -120,6 +134,8 @@ def kind_of(case):
     want = case["want"]
     if "charge" in case:
         return "charges", (("refused charge", want["refused"][0]) if "refused" in want else ("charge", want["cents"] == 0))
+    if "preview" in case:
+        return "previews", (("refused preview", want["refused"][0]) if "refused" in want else ("preview", str(preview_bytes(want)[:2])))
     if "comtrade" in case:
         return "files", (("refused file", want["refused"][0]) if "refused" in want else ("file", ""))
     if "refused" in want:
@@ -131,7 +147,7 @@ def kind_of(case):
 
 def marks_of(want):
     """What a case covers: a refusal, or an outcome, states, kinds of records, a schedule of full length."""
-    if "outcome" not in want:
+    if "log" not in want:
         return [("refused", want["refused"][0])] if "refused" in want else []
     kinds = bytes.fromhex(want["log"])[::3]
     return [want["outcome"]] + [STATES[state_words(s)] for s in want["states"]] + [("kind", k >> 4) for k in kinds] + [("picks", want["picks"])]
@@ -208,6 +224,13 @@ def figures(oracle):
             yield charge_of(plan, bytes(picks), option, want)
 
 
+def edge_previews(oracle):
+    for plan, picks, pick, stated in rows.PREVIEWS:
+        want = oracle.previewed(plan, bytes(picks), pick)
+        assert want.get("preview", want.get("refused")) == stated, (plan.hex(), picks, pick, want)
+        yield preview_of(plan, bytes(picks), pick, want)
+
+
 def edge_files(oracle):
     for log, area, stated in rows.FILES:
         want = oracle.data_file(log, bytes([FILL]) * area)
@@ -233,9 +256,9 @@ def wrong(right):
     return [right ^ change for change in (1, 1 << 16, 1 << 32, 1 << 33, 3 << 32, 1 << 63)]
 
 
-def changed(race, ended, refused_plan, refused_pick, unordered, ordered, refused_log, file, refused_file, charge):
-    """Cases by file, of ten right ones: plays that stop for a race, come to their end, have a refused plan and a refused pick; logs with an unordered
-    access, with none, and refused; a log with its data file, and one that is refused; a charge."""
+def changed(race, ended, refused_plan, refused_pick, unordered, ordered, refused_log, file, refused_file, charge, preview, refused_preview):
+    """Cases by file, of twelve right ones: plays that stop for a race, come to their end, have a refused plan and a refused pick; logs with an unordered
+    access, with none, and refused; a log with its data file, and one that is refused; a charge; a preview, and one that is refused."""
     end = len(stored(race))
     lengths = [(end, 0), (len(race.plan), end)]
     return {
@@ -252,6 +275,9 @@ def changed(race, ended, refused_plan, refused_pick, unordered, ordered, refused
         + by(file, area=[len(file.file) - 1, NUMBERS["MOST_FILE_BYTES"] + 1]) + by(file, length=[len(stored(file))])
         + by(refused_file, filed=wrong(refused_file.filed)) + by(refused_file, file=[bytes(1)]),
         "changed_charges": by(charge, charged=wrong(charge.charged)) + by(charge, option=[0]) + by(charge, lengths=[(len(charge.plan), len(charge.schedule) + 1)]),
+        "changed_previews": by(preview, previewed=wrong(preview.previewed)) + by(preview, out=flips(preview.out)) + by(preview, pick=[preview.pick + 1])
+        + by(preview, lengths=[(len(preview.plan), len(preview.schedule) + 1)])
+        + by(refused_preview, previewed=wrong(refused_preview.previewed)) + by(refused_preview, out=flips(refused_preview.out)),
     }
 
 
@@ -263,7 +289,8 @@ def changed_of(files):
                    first("refused", lambda c: c.checked > refused(4, 0)), first("refused", lambda c: refused(9, 0) < c.played < refused(10, 0)),
                    first("logs", lambda c: other(0) < c.judged < refused(1, 0)), first("logs", lambda c: c.judged == value(0) and len(c.log) > 9),
                    first("logs", lambda c: c.judged > refused(12, 0)), first("files", lambda c: len(c.log) == 3 and c.file),
-                   first("files", lambda c: c.filed == refused(24, 0)), first("charges", lambda c: c.option and value(0) < c.charged < other(0)))
+                   first("files", lambda c: c.filed == refused(24, 0)), first("charges", lambda c: c.option and value(0) < c.charged < other(0)),
+                   first("previews", lambda c: c.out[0] == NUMBERS["PREVIEW_RACE"]), first("previews", lambda c: c.previewed > refused(9, 0)))
 
 
 # ---- the files
@@ -273,10 +300,10 @@ GROUPS = [("version", "version"),
           ("edges, checked", "edges"), ("edges, played", "edges"), ("edges, judged", "edges"), ("logs at the edges, judged", "edge_logs"),
           ("runs, checked", "runs"), ("runs, played", "runs"), ("runs, judged", "runs"), ("runs, played and judged", "runs"),
           ("refused plays, checked", "refused"), ("refused plays, played", "refused"), ("refused plays, played and judged", "refused"),
-          ("other logs, judged", "logs"), ("data files at the edges", "edge_files"), ("data files", "files"), ("charges", "charges")]
+          ("other logs, judged", "logs"), ("data files at the edges", "edge_files"), ("data files", "files"), ("charges", "charges"), ("previews", "previews")]
 CHANGED = [("changed version", "changed_version"), ("changed, checked", "changed_checks"), ("changed, played", "changed_plays"),
            ("changed runs, judged", "changed_runs"), ("changed, played and judged", "changed_both"), ("changed logs, judged", "changed_logs"),
-           ("changed data files", "changed_files"), ("changed charges", "changed_charges")]
+           ("changed data files", "changed_files"), ("changed charges", "changed_charges"), ("changed previews", "changed_previews")]
 
 
 def lines(files):
@@ -307,6 +334,7 @@ def main(argv):
     files["shots"], files["edges"], files["edge_logs"] = shots(oracle), list(edges(oracle, landed.now())), list(edge_logs(oracle))
     files["edge_files"] = list(edge_files(answers))
     files["charges"] = list(figures(answers)) + files["charges"]
+    files["previews"] = list(edge_previews(answers)) + files["previews"]
     files.update(changed_of(files))
     files["version"] = [eight(NUMBERS["VERSION"])]
     files["changed_version"] = flips(files["version"][0]) + [files["version"][0] + bytes(1)]

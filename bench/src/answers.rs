@@ -1,7 +1,7 @@
 //! The independent implementation's answers as the numbers and bytes that include/ruqzhemil.h gives.
 
-use crate::independent::{self, Outcome, Refusal, State};
-use crate::library::OUT_BYTES;
+use crate::independent::{self, Outcome, Preview, Refusal, State};
+use crate::library::{OUT_BYTES, PREVIEW_BYTES};
 
 fn number(refusal: Refusal) -> u64 {
     (2 << 32) + u64::from(refusal.0) * 65536 + refusal.1 as u64
@@ -29,6 +29,16 @@ pub fn judge(version: u64, log: &[u8]) -> u64 {
     }
 }
 
+pub fn preview(plan: &[u8], schedule: &[u8], pick: u64, out: &mut [u8; PREVIEW_BYTES]) -> u64 {
+    match independent::preview(plan, schedule, pick) {
+        Ok(preview) => {
+            *out = preview_bytes(preview);
+            0
+        }
+        Err(refusal) => number(refusal),
+    }
+}
+
 pub fn charge(plan: &[u8], schedule: &[u8], option: u64) -> u64 {
     independent::charge(plan, schedule, option != 0).map_or_else(number, |cents| cents as u64)
 }
@@ -48,6 +58,20 @@ fn bytes(outcome: &Outcome) -> [u8; OUT_BYTES] {
         out[11 + 4 * t] = outcome.totals[t];
     }
     out
+}
+
+fn preview_bytes(preview: Preview) -> [u8; PREVIEW_BYTES] {
+    match preview {
+        Preview::Passed(state) => {
+            let [state, named, field] = thread_bytes(state);
+            [0, state, named, field, 0, 0, 0, 0]
+        }
+        Preview::Moved => [1, 0, 0, 0, 0, 0, 0, 0],
+        Preview::Recorded([high, middle, low]) => [2, 0, 0, 0, high, middle, low, 0],
+        Preview::Race([high, middle, low]) => [3, 1, 0, 0, high, middle, low, 0],
+        Preview::NoRoom(stop) => [4, stop, 0, 0, 0, 0, 0, 0],
+        Preview::Stopped(stop) => [5, stop, 0, 0, 0, 0, 0, 0],
+    }
 }
 
 fn thread_bytes(state: State) -> [u8; 3] {

@@ -1,7 +1,7 @@
 //! The library's answers beside the independent implementation's: the number, all bytes of the outcome and the whole of a lent area.
 
 use crate::random::Random;
-use crate::library::OUT_BYTES;
+use crate::library::{OUT_BYTES, PREVIEW_BYTES};
 use crate::{answers, generate, library};
 
 /// How many cases had each answer.
@@ -15,6 +15,7 @@ struct Seen {
     judged: [usize; 2],
     files: usize,
     charges: [usize; 2],
+    previews: [usize; 6],
 }
 
 impl Seen {
@@ -42,9 +43,10 @@ impl Seen {
         println!("  threads absent, finished, ready, monitor, join, no field, no thread, lacking, notify, monitor not held {:?}", self.states);
         println!("  threads that learnt no key from another, some {:?}", self.learnt);
         println!("  logs ordered, unordered {:?}; data files {}; runs free, charged {:?}", self.judged, self.files, self.charges);
-        let counts =
-            first.iter().chain(&later).chain(&self.stops).chain(&self.states).chain(&self.learnt).chain(&self.judged).chain(&self.charges).chain([&self.passed, &self.files]);
-        assert!( counts.min() > Some(&0), "an answer that no case had: more cases are needed");
+        println!("  picks passed over, moved, moved with a record, race, no room, stopped before {:?}", self.previews);
+        let counts: [&[usize]; 9] =
+            [first, &later, &self.stops, &self.states, &self.learnt, &self.judged, &self.charges, &self.previews, &[self.passed, self.files]];
+        assert!(counts.into_iter().flatten().min() > Some(&0), "an answer that no case had: more cases are needed");
     }
 }
 
@@ -71,8 +73,8 @@ fn check(plan: &[u8], seen: &mut Seen) {
     }
 }
 
-/// The records of a run, or none.
-fn play(plan: &[u8], schedule: &[u8], area: &[u8], before: [u8; OUT_BYTES], seen: &mut Seen) -> Option<Vec<u8>> {
+/// The records of a run and the picks that it dealt with, or none.
+fn play(plan: &[u8], schedule: &[u8], area: &[u8], before: [u8; OUT_BYTES], seen: &mut Seen) -> Option<(Vec<u8>, usize)> {
     let (mut ours, mut theirs) = ((area.to_vec(), before), (area.to_vec(), before));
     let input = [plan, schedule, area, &before];
     let answer = library::play(plan, schedule, &mut ours.0, &mut ours.1);
@@ -84,12 +86,35 @@ fn play(plan: &[u8], schedule: &[u8], area: &[u8], before: [u8; OUT_BYTES], seen
         return None;
     }
     seen.outcome(&out);
-    let records = usize::from(out[5]) << 8 | usize::from(out[6]);
-    Some(area[..3 * records].to_vec())
+    let [picks, records] = [1, 5].map(|at| usize::from(out[at]) << 8 | usize::from(out[at + 1]));
+    Some((area[..3 * records].to_vec(), picks))
 }
 
 fn judge(version: u64, log: &[u8], seen: &mut Seen) {
     seen.judgement(same("judge", &[&version.to_be_bytes(), log], library::judge(version, log), answers::judge(version, log)));
+}
+
+/// Some pick after some of the schedule's picks: mostly those around the place where the run stopped.
+fn preview(random: &mut Random, plan: &[u8], schedule: &[u8], picks: usize, seen: &mut Seen) {
+    let length = match random.below(4) {
+        0 => random.below(schedule.len() + 1),
+        1 => schedule.len(),
+        _ => (picks + random.below(2)).min(schedule.len()),
+    };
+    let pick = match schedule.get(length) {
+        Some(pick) if random.percent(80) => u64::from(*pick),
+        _ => random.pick(&[0, 1, 2, 3, 7, 8, 1 << 32]),
+    };
+    let mut before = [0; PREVIEW_BYTES];
+    before.fill_with(|| random.byte());
+    let (mut ours, mut theirs) = (before, before);
+    let (schedule, told) = (&schedule[..length], pick.to_be_bytes());
+    let input = [plan, schedule, &told[..], &before];
+    let answer = same("preview", &input, library::preview(plan, schedule, pick, &mut ours), answers::preview(plan, schedule, pick, &mut theirs));
+    let out = same("the preview's bytes", &input, ours, theirs);
+    if answer == 0 {
+        seen.previews[usize::from(out[0])] += 1;
+    }
 }
 
 fn charge(plan: &[u8], schedule: &[u8], option: u64, seen: &mut Seen) {
@@ -153,7 +178,9 @@ pub fn run(cases: usize, seed: u64) {
         let area = generate::area(random, schedule.len());
         let mut before = [0; OUT_BYTES];
         before.fill_with(|| random.byte());
-        if let Some(log) = play(&plan, &schedule, &area, before, &mut seen) {
+        let played = play(&plan, &schedule, &area, before, &mut seen);
+        preview(random, &plan, &schedule, played.as_ref().map_or(schedule.len(), |(_, picks)| *picks), &mut seen);
+        if let Some((log, _)) = played {
             judge(0, &log, &mut seen);
             judge(1, &log, &mut seen);
             comtrade(&log, &generate::file_area(random, log.len()), &mut seen);

@@ -5,12 +5,14 @@ mod charge;
 mod comtrade;
 mod judge;
 mod plan;
+mod preview;
 mod run;
 
 pub use charge::charge;
 pub use comtrade::comtrade;
 pub use judge::judge;
 pub use plan::check;
+pub use preview::{preview, Preview};
 pub use run::{play, Outcome, State};
 
 /// Number and place.

@@ -73,6 +73,15 @@ fn judging<'a>(judge: fn(u64, &[u8]) -> u64, version: u64, log: &'a [u8]) -> Ent
     })
 }
 
+/// The schedule's last pick, after the others.
+fn previewing<'a>(preview: fn(&[u8], &[u8], u64, &mut [u8; library::PREVIEW_BYTES]) -> u64, plan: &'a [u8], schedule: &'a [u8]) -> Entry<'a> {
+    let (last, before) = schedule.split_last().expect("a pick");
+    let mut out = [0; library::PREVIEW_BYTES];
+    Box::new(move || {
+        black_box(preview(black_box(plan), black_box(before), u64::from(*last), &mut out));
+    })
+}
+
 fn charging<'a>(charge: fn(&[u8], &[u8], u64) -> u64, plan: &'a [u8], schedule: &'a [u8]) -> Entry<'a> {
     Box::new(move || {
         black_box(charge(black_box(plan), black_box(schedule), 1));
@@ -96,12 +105,15 @@ fn played(input: &Input) -> (Vec<u8>, [usize; 3]) {
     (log, counts)
 }
 
-/// The pairs of one input: a pick, a play without picks, a checked byte, a judged record, a line of a data file, a charge.
-fn row(input: &Input) -> [Option<Pair>; 6] {
+/// What is timed of each input.
+const COLUMNS: [&str; 7] = ["a pick", "a play without picks", "a checked byte", "a judged record", "a data file's line", "a charge", "a preview"];
+
+/// The pairs of one input, by column.
+fn row(input: &Input) -> [Option<Pair>; COLUMNS.len()] {
     let Input { name, plan, schedule } = input;
     let (log, [picks, moves, records]) = played(input);
     let version = u64::from(plan[0] >> 4);
-    let [play, play2, start, start2, check, check2, judge, judge2, file, file2, charge, charge2] = best([
+    let [play, play2, start, start2, check, check2, judge, judge2, file, file2, charge, charge2, preview, preview2] = best([
         playing(library::play, plan, schedule),
         playing(answers::play, plan, schedule),
         playing(library::play, plan, &[]),
@@ -114,6 +126,8 @@ fn row(input: &Input) -> [Option<Pair>; 6] {
         filing(answers::comtrade, &log),
         charging(library::charge, plan, schedule),
         charging(answers::charge, plan, schedule),
+        previewing(library::preview, plan, schedule),
+        previewing(answers::preview, plan, schedule),
     ]);
     let per = |count: usize, ours: f64, theirs: f64| Some(Pair(ours / count as f64, theirs / count as f64));
     let pairs = [
@@ -123,9 +137,10 @@ fn row(input: &Input) -> [Option<Pair>; 6] {
         if records < FEW_RECORDS { None } else { per(records, judge, judge2) },
         if records < FEW_RECORDS { None } else { per(records, file, file2) },
         per(1, charge, charge2),
+        per(1, preview, preview2),
     ];
     print!("{name:16} {:5} {picks:5} {moves:5} {records:5}", plan.len());
-    for (pair, digits) in pairs.iter().zip([1, 0, 2, 1, 1, 0]) {
+    for (pair, digits) in pairs.iter().zip([1, 0, 2, 1, 1, 0, 0]) {
         print!(" |{:>23}", pair.as_ref().map_or("-".into(), |pair| pair.text(digits)));
     }
     println!();
@@ -154,13 +169,12 @@ fn short_row(name: &str, log: &[u8]) {
 
 pub fn run() {
     println!("\nspeed, nanoseconds: the library, the independent implementation, the ratio; best of {ROUNDS} rounds");
-    println!(
-        "{:16} {:>5} {:>5} {:>5} {:>5} |{:^23} |{:^23} |{:^23} |{:^23} |{:^23} |{:^23}",
-        "", "bytes", "picks", "moves", "recs", "a pick", "a play without picks", "a checked byte", "a judged record", "a data file's line", "a charge"
-    );
-    let rows: Vec<[Option<Pair>; 6]> = inputs::timed().iter().map(row).collect();
+    print!("{:16} {:>5} {:>5} {:>5} {:>5}", "", "bytes", "picks", "moves", "recs");
+    COLUMNS.iter().for_each(|name| print!(" |{name:^23}"));
+    println!();
+    let rows: Vec<_> = inputs::timed().iter().map(row).collect();
     print!("{:40}", "geometric mean of the ratios");
-    for column in 0..6 {
+    for column in 0..COLUMNS.len() {
         let logs: Vec<f64> = rows.iter().filter_map(|pairs| pairs[column].as_ref()).map(|pair| pair.ratio().ln()).collect();
         print!(" |{:23.2}", (logs.iter().sum::<f64>() / logs.len() as f64).exp());
     }

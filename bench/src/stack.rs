@@ -71,6 +71,10 @@ pub fn print() {
     most("judge", 64, &logs, |i| {
         library::judge(1, &i.schedule);
     });
+    let mut shown = [0; library::PREVIEW_BYTES];
+    most("preview", 144, &all, |i| {
+        library::preview(&i.plan, &i.schedule[..i.schedule.len() - 1], u64::from(i.schedule[i.schedule.len() - 1]), &mut shown);
+    });
     most("charge", 144, &all, |i| {
         library::charge(&i.plan, &i.schedule, 1);
     });

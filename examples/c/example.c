@@ -68,6 +68,28 @@ static void play(const uint8_t *schedule, size_t picks) {
     judge(log, RUQZHEMIL_RECORD_BYTES * records);
 }
 
+static void preview(const uint8_t *schedule, size_t picks, unsigned pick) {
+    uint8_t out[RUQZHEMIL_PREVIEW_BYTES];
+    uint64_t answer = ruqzhemil_preview(plan, sizeof plan, schedule, picks, pick, out);
+    printf("after ");
+    picks_of(schedule, picks);
+    if (RUQZHEMIL_REFUSED(answer)) {
+        refused(answer);
+        return;
+    }
+    unsigned kind = ruqzhemil_preview_of(out);
+    printf("%u would be %s", pick, ruqzhemil_preview_text(kind));
+    if (kind == RUQZHEMIL_PREVIEW_PASSED) {
+        printf(", %s", ruqzhemil_state_text(ruqzhemil_preview_thread(out).state));
+    } else if (kind == RUQZHEMIL_PREVIEW_NO_ROOM || kind == RUQZHEMIL_PREVIEW_STOPPED) {
+        printf(", %s", ruqzhemil_stop_word(ruqzhemil_preview_stop(out)));
+    } else if (kind != RUQZHEMIL_PREVIEW_MOVED) {
+        struct ruqzhemil_record r = ruqzhemil_preview_record(out);
+        printf(": %s %u %u %u %u", ruqzhemil_kind_word(r.kind), r.thread, r.object, r.field, r.value);
+    }
+    printf("\n");
+}
+
 /* acquire and release of object 1, by thread 0 */
 static const uint8_t monitors[] = {0x60, 0x10, 0x00, 0x70, 0x10, 0x00};
 
@@ -108,6 +130,12 @@ int main(void) {
     play(none, sizeof none);
     play(NULL, 0);
     play(wrong, sizeof wrong);
+    preview(race, 0, 0);
+    preview(race, 5, 1);
+    preview(race, 6, 1);
+    preview(race, 6, 0);
+    preview(race, 7, 1);
+    preview(race, 6, 8);
     charge(race, sizeof race, 0);
     charge(race, sizeof race, 1);
     charge(wrong, sizeof wrong, 1);

@@ -1,19 +1,21 @@
 //! Ruqzhemil: a verified checker of plans for relay test sets.
 //!
-//! [`check`] a plan, [`play`] a schedule on it, [`judge`] a log, write it as a [`comtrade`] data file, and [`charge`] for a run. Each takes any bytes; `include/ruqzhemil.h` says what the answers mean, and the proofs of the
-//! static library below show that they are right. Later versions may have more refusals, kinds, stops and states than are named here: `Other` has their number.
+//! [`check`] a plan, [`play`] a schedule on it, [`judge`] a log, [`preview`] a pick, write a log as a [`comtrade`] data file, and [`charge`] for a run. Each
+//! takes any bytes; `include/ruqzhemil.h` says what the answers mean, and the proofs of the static library below show that they are right. Later versions may have more refusals, kinds, stops and states than are named here: `Other` has their number.
 
 #[path = "../../include/ruqzhemil.rs"]
 pub mod raw;
 
 mod log;
 mod outcome;
+mod preview;
 mod refusal;
 #[cfg(test)]
 mod tests;
 
 pub use log::{Kind, Record, records};
 pub use outcome::{Outcome, Stop, ThreadState};
+pub use preview::Preview;
 pub use refusal::{Reason, Refusal};
 
 /// The version of this package's numbers, and of the archive: major * 65536 + minor * 256 + patch.
@@ -32,6 +34,8 @@ pub const MOST_FILE_BYTES: usize = 317269;
 pub const RECORD_BYTES: usize = 3;
 /// Bytes of an outcome.
 pub const OUT_BYTES: usize = raw::OUT_BYTES;
+/// Bytes of a preview.
+pub const PREVIEW_BYTES: usize = raw::PREVIEW_BYTES;
 /// Threads of a run, at most.
 pub const THREADS: usize = 8;
 /// Objects of a run, at most, null included.
@@ -82,6 +86,13 @@ pub fn judge(version: u64, log: &[u8]) -> Result<Option<usize>, Refusal> {
         Answer::Value(_) => None,
         Answer::Other(index) => Some(index as usize),
     })
+}
+
+/// What the pick would do after the schedule: what playing the schedule with the pick added does. Nothing changes. The pick counts as the schedule's last for
+/// refusals 8 and 9.
+pub fn preview(plan: &[u8], schedule: &[u8], pick: u64) -> Result<Preview, Refusal> {
+    let mut out = [0; PREVIEW_BYTES];
+    answer(raw::preview(plan, schedule, pick, &mut out)).map(|_| Preview::of(&out))
 }
 
 /// What a run of the schedule on the plan is charged, in cents, with the one-millisecond option or without; 0 for a run that stops for room.

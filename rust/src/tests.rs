@@ -58,6 +58,13 @@ fn numbers_are_the_headers() {
 }
 
 #[test]
+fn previews_are_the_headers() {
+    for (name, n) in ["PASSED", "MOVED", "RECORDED", "RACE", "NO_ROOM", "STOPPED"].iter().map(|name| (name, number(&format!("RUQZHEMIL_PREVIEW_{name}")))) {
+        assert_eq!(header_name(&format!("{:?}", Preview::of(&[n as u8, 1, 0, 0, 0x10, 0, 0, 0]))), *name);
+    }
+}
+
+#[test]
 fn limits_are_the_headers() {
     assert_eq!(number("RUQZHEMIL_MOST_PLAN_BYTES"), MOST_PLAN_BYTES);
     assert_eq!(number("RUQZHEMIL_MOST_PICKS"), MOST_PICKS);
@@ -66,6 +73,7 @@ fn limits_are_the_headers() {
     assert_eq!(number("RUQZHEMIL_MOST_FILE_BYTES"), MOST_FILE_BYTES);
     assert_eq!(number("RUQZHEMIL_RECORD_BYTES"), RECORD_BYTES);
     assert_eq!(number("RUQZHEMIL_OUT_BYTES"), OUT_BYTES);
+    assert_eq!(number("RUQZHEMIL_PREVIEW_BYTES"), PREVIEW_BYTES);
     assert_eq!(number("RUQZHEMIL_THREADS"), THREADS);
     assert_eq!(number("RUQZHEMIL_OBJECTS"), OBJECTS);
 }
@@ -104,6 +112,21 @@ fn data_files_by_hand() {
     assert_eq!(area, before);
     let most = [0x10, 0, 0].repeat(MOST_LOG_BYTES / RECORD_BYTES);
     assert_eq!(comtrade(&most, &mut vec![0; MOST_FILE_BYTES]), Ok(MOST_FILE_BYTES));
+}
+
+#[test]
+fn previews_by_hand() {
+    let fork_null = [0x10, 0x40, 0x08, 0x00, 0x80, 0, 0, 0, 0, 0, 0x48, 0x02, 0, 0, 0, 0, 0, 0, 0, 0];
+    assert_eq!(preview(&fork_null, &[], 0), Ok(Preview::Moved));
+    let fork = Record { kind: Kind::Fork, thread: 0, object: 1, field: 1, value: 0 };
+    assert_eq!(preview(&fork_null, &[0], 0), Ok(Preview::Recorded(fork)));
+    assert_eq!(preview(&fork_null, &[0], 1), Ok(Preview::Passed(ThreadState::Absent)));
+    assert_eq!(preview(&fork_null, &[0, 0], 0), Ok(Preview::Passed(ThreadState::Finished { value: 1 })));
+    assert_eq!(preview(&fork_null, &[0, 0], 8), Err(Refusal { number: 9, place: 2 }));
+    assert_eq!(preview(&fork_null, &[0, 9], 8), Err(Refusal { number: 9, place: 1 }));
+    assert_eq!(preview(&fork_null, &[0; MOST_PICKS], 8), Err(Refusal { number: 8, place: 0 }));
+    assert_eq!(preview(&fork_null, &[0; MOST_PICKS - 1], 0), Ok(Preview::Passed(ThreadState::Finished { value: 1 })));
+    assert_eq!(preview(&fork_null, &[], 1 << 32), Err(Refusal { number: 9, place: 0 }));
 }
 
 #[test]

@@ -89,6 +89,8 @@ pub struct Outcome {
     pub records: usize,
     pub states: [State; 8],
     pub totals: [u8; 8],
+    /// Moves and records before the last pick that was met.
+    pub before: (usize, usize),
 }
 
 struct Run<'a> {
@@ -362,7 +364,9 @@ pub fn play(plan: &[u8], schedule: &[u8], log: &mut [u8]) -> Result<Outcome, Ref
     r.threads[0].keys = [1, 0, 0, 0];
     r.threads[0].op = 252; // about to call main
     let (mut word, mut picks, mut moves, mut rec) = (0u8, 0, 0, 0);
+    let mut before = (0, 0);
     for &p in schedule {
+        before = (moves, rec);
         let n = p as usize;
         match r.status(n) {
             State::Absent
@@ -594,7 +598,7 @@ pub fn play(plan: &[u8], schedule: &[u8], log: &mut [u8]) -> Result<Outcome, Ref
         states[n] = r.status(n);
     }
     let totals = r.threads.map(|t| t.learnt);
-    Ok(Outcome { word, picks, moves, records: rec, states, totals })
+    Ok(Outcome { word, picks, moves, records: rec, states, totals, before })
 }
 
 // ---- judge: vector clocks, with the last write as an epoch

@@ -30,7 +30,7 @@ fn room_byte(room: NoRoom) -> u8
     }
 }
 
-fn stop_byte(stop: Stop) -> u8
+pub fn stop_byte(stop: Stop) -> u8
     ensures { λ r. ⌜ r ≡ stopByte (stopOf stop) ⌝ }
 {
     match stop {
@@ -87,7 +87,7 @@ fn stuck_bytes(stuck: Stuck) -> ThreadBytes
     }
 }
 
-fn thread_bytes(state: ThreadState) -> ThreadBytes
+pub fn thread_bytes(state: ThreadState) -> ThreadBytes
     requires { ⌜ SmallStatus (statusOf state) ⌝ }
     ensures { λ r. ⌜ r ≡ threadBytes (statusOf state) ⌝ }
 {

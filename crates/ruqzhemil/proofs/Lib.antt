@@ -3,4 +3,5 @@ pub mod Judged
 pub mod Statuses
 pub mod Outcomes
 pub mod Played
+pub mod Previewed
 pub mod Tools

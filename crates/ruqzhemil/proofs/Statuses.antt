@@ -115,7 +115,7 @@ module _ (g : Program) (s : State) (z : Roomy s) (p : ℕ) (t : Thread) where
   small-at (hereᶜ K x) h = tt
 
 module _ (g : Program) (s : State) (I : Inv g s) (z : Roomy s) where
-  small-thread : (p : ℕ) → SmallStatus (status (attempt g s p))
+  pub small-thread : (p : ℕ) → SmallStatus (status (attempt g s p))
   unfolding attempt attemptBy status
   small-thread p = go (getElem? (s .threads) p) refl
     where

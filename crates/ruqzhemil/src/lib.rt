@@ -6,6 +6,9 @@ ghost use Rattle.rules.specs.Play.{played, areaAfter};
 ghost use Rattle.numbers.specs.Numbers.{checkNumber, playNumber, answerNumber, JudgeReturns};
 ghost use mathlib.Core.Bool.{not};
 ghost use lib.Dec.{eqb};
+ghost use Rattle.preview.specs.Preview.{previewed};
+ghost use Rattle.preview_bytes.specs.Bytes.{previewNumber};
+ghost use Rattle.preview_bytes.specs.Bytes as preview;
 ghost use Rattle.charge.specs.Charge.{charged};
 ghost use Rattle.waveform.specs.Comtrade.{comtradeAnswer, comtradeArea};
 ghost use Rattle.ruqzhemil.specs.Bytes.{outAfter};
@@ -52,6 +55,21 @@ pub extern "C" fn ruqzhemil_judge(version: u64, log: &[u8]) -> u64
 {
     let judgement = judge::judge(version as usize, log);
     numbers::of_judge(judgement)
+}
+
+// 0 for a preview, whose bytes are in `out`; else the refusal, and no byte changed.
+#[no_mangle]
+pub extern "C" fn ruqzhemil_preview(
+    plan: &[u8],
+    schedule: &[u8],
+    pick: u64,
+    out: &mut [u8; 8],
+) -> u64
+    ensures answer { λ r. ⌜ r ≡ previewNumber (previewed (now (plan .entry)) (now (schedule .entry)) pick) ⌝ }
+    ensures bytes { λ r. ⌜ now (out .exit) ≡ preview.outAfter (now (out .entry)) (previewed (now (plan .entry)) (now (schedule .entry)) pick) ⌝ }
+{
+    let previewed = preview::preview(plan, schedule, pick as usize);
+    preview_bytes::write(out, previewed)
 }
 
 // The length in bytes of the log's COMTRADE data file, which begins the area; the area's other bytes, and all of them after a refusal, are as they were.

@@ -5,8 +5,8 @@
 // records, or for none, where it is told the version in the plan's first bits; the 40 bytes for the outcome; then plan, schedule and records. A case of
 // a log: the version that judge is told and what it returns, eight bytes each; then the log. A case of a data file: the length of the area, four bytes,
 // and of the log, two; what comtrade returns, eight; then the log and the file, empty where it is refused. A case of a charge: the lengths of plan and
-// schedule, two bytes each; the option and what charge returns, eight each; then plan and schedule. A case that ends before the parts that its lengths
-// name is wrong.
+// schedule, two bytes each; the option and what charge returns, eight each; then plan and schedule. A case of a preview: the same with the pick and what
+// preview returns, and the eight bytes of the preview before the plan. A case that ends before the parts that its lengths name is wrong.
 ghost use Prim.Native.Nat.{_+_, _≤_};
 ghost use lib.ListN.{length};
 use judge::Judgement;
@@ -218,4 +218,31 @@ pub fn charge_case(case: &[u8]) -> bool {
     }
     let got = ruqzhemil::ruqzhemil_charge(&case[20..end], &case[end..last], number_at(case, 4));
     got == number_at(case, 12)
+}
+
+// Whether the bytes for the preview are those stored.
+fn same_preview(out: &[u8; 8], stored: &[u8]) -> bool
+    requires { ⌜ 8 ≤ length (now stored) ⌝ }
+{
+    let mut same = true;
+    for index in 0..8 {
+        same = same & (out[index] == stored[index]);
+    }
+    same
+}
+
+// What preview returns for a plan, a schedule and a pick, and the eight bytes.
+pub fn preview_case(case: &[u8]) -> bool {
+    if case.len() < 28 {
+        return false;
+    }
+    let end = 28 + byte_numbers::half(case, 0);
+    let last = end + byte_numbers::half(case, 2);
+    if case.len() != last {
+        return false;
+    }
+    let mut out = [FILL; 8];
+    let pick = number_at(case, 4);
+    let got = ruqzhemil::ruqzhemil_preview(&case[28..end], &case[end..last], pick, &mut out);
+    (got == number_at(case, 12)) & same_preview(&out, &case[20..28])
 }

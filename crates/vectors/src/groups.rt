@@ -10,6 +10,7 @@ pub enum Group {
     Log,
     File,
     Charge,
+    Preview,
 }
 
 // What the next case of a file is.
@@ -34,6 +35,7 @@ fn right(group: Group, case: &[u8]) -> bool {
         Group::Log => stored_cases::log_case(case),
         Group::File => stored_cases::file_case(case),
         Group::Charge => stored_cases::charge_case(case),
+        Group::Preview => stored_cases::preview_case(case),
     }
 }
 

@@ -75,8 +75,9 @@ fn files(all: Tally) -> Tally {
     group(b"data files: ", b"files", Group::File, all)
 }
 
-fn charges(all: Tally) -> Tally {
-    group(b"charges: ", b"charges", Group::Charge, all)
+fn tools(all: Tally) -> Tally {
+    let all = group(b"charges: ", b"charges", Group::Charge, all);
+    group(b"previews: ", b"previews", Group::Preview, all)
 }
 
 // Cases with one part of their answer changed, so that each must differ.
@@ -94,11 +95,17 @@ fn changed() -> Tally {
     );
     let all = group(b"changed logs, judged: ", b"changed_logs", Group::Log, all);
     let all = group(b"changed data files: ", b"changed_files", Group::File, all);
-    group(b"changed charges: ", b"changed_charges", Group::Charge, all)
+    let all = group(b"changed charges: ", b"changed_charges", Group::Charge, all);
+    group(
+        b"changed previews: ",
+        b"changed_previews",
+        Group::Preview,
+        all,
+    )
 }
 
 fn main() {
-    let all = charges(files(others(runs(edges(shot_list(version()))))));
+    let all = tools(files(others(runs(edges(shot_list(version()))))));
     print(b"", all);
     let all = changed();
     print(b"must differ: ", all);

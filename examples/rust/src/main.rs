@@ -39,6 +39,14 @@ fn play(schedule: &[u8]) -> Result<(), ruqzhemil::Refusal> {
     Ok(())
 }
 
+fn preview(schedule: &[u8], pick: u64) {
+    let picks: String = schedule.iter().map(|pick| format!(" {pick}")).collect();
+    match ruqzhemil::preview(&PLAN, schedule, pick) {
+        Ok(preview) => println!("after picks{picks}: {pick} would be {preview:?}"),
+        Err(refusal) => println!("after picks{picks}: {refusal}"),
+    }
+}
+
 /// acquire and release of object 1, by thread 0
 const MONITORS: [u8; 6] = [0x60, 0x10, 0x00, 0x70, 0x10, 0x00];
 
@@ -70,6 +78,9 @@ fn main() {
         if let Err(refusal) = play(schedule) {
             println!("{refusal}");
         }
+    }
+    for (schedule, pick) in [(&[][..], 0), (&[0; 5], 1), (&[0, 0, 0, 0, 0, 1], 1), (&[0, 0, 0, 0, 0, 1], 0), (&[0, 0, 0, 0, 0, 1, 0], 1), (&[0, 0, 0, 0, 0, 1], 8)] {
+        preview(schedule, pick);
     }
     charge(&[0, 0, 0, 0, 0, 1, 0], false);
     charge(&[0, 0, 0, 0, 0, 1, 0], true);
