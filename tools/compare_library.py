@@ -8,7 +8,8 @@ ORACLE is the folder of the second interpreter; CASES are its JSON lines, made b
 The library is target/staticlib/libruqzhemil.a
 (`rt staticlib ruqzhemil` makes it), linked into a shared object by the C compiler. Compared are: what check returns; what play returns, the 40
 bytes of the outcome and the whole log area, beyond the records too; what judge returns for the log of each run and for each log of the cases; what
-comtrade returns and the whole area; what charge returns; what preview returns and its 8 bytes.
+comtrade returns and the whole area; what charge returns; what preview returns and its 8 bytes; what canonical returns and the
+whole area.
 """
 
 import ctypes
@@ -18,7 +19,7 @@ import subprocess
 import sys
 
 import interpreter
-from interpreter import (FILL, OUT, PREVIEW, charged, checked, filed, judged, outcome_bytes, played, preview_bytes, previewed, record_bytes)
+from interpreter import (FILL, OUT, PREVIEW, charged, checked, judged, outcome_bytes, played, preview_bytes, previewed, record_bytes, written)
 
 
 def library(root):
@@ -28,7 +29,7 @@ def library(root):
     archive = root + "/target/staticlib/libruqzhemil.a"
     subprocess.run(["cc", "-shared", "-o", made, "-Wl,--whole-archive", archive, "-Wl,--no-whole-archive"], check=True)
     loaded = ctypes.CDLL(made)
-    for name in ("check", "play", "judge", "comtrade", "charge", "preview"):
+    for name in ("check", "play", "judge", "comtrade", "charge", "preview", "canonical"):
         getattr(loaded, "ruqzhemil_" + name).restype = ctypes.c_uint64
     return loaded
 
@@ -57,13 +58,24 @@ def played_right(lib, case):
     return right and ("judge" not in want or judged_right(lib, log, want["judge"], plan[0] >> 4))
 
 
-def filed_right(lib, case):
-    """Whether comtrade returns what the case asks, and the whole area is right."""
-    given, want = case["comtrade"], case["want"]
+def written_right(entry, given, want):
+    """Whether a function that writes into an area returns what the case asks, and the whole area is right."""
     before = bytes.fromhex(given["area"])
     area, length = lent(before)
-    got = lib.ruqzhemil_comtrade(*lent(bytes.fromhex(given["log"])), area, length)
-    return got == filed(want) and bytes(area)[:len(before)] == bytes.fromhex(want["area"])
+    got = entry(area, length)
+    return got == written(want) and bytes(area)[:len(before)] == bytes.fromhex(want["area"])
+
+
+def filed_right(lib, case):
+    """Whether comtrade answers as the case asks."""
+    given = case["comtrade"]
+    return written_right(lambda *area: lib.ruqzhemil_comtrade(*lent(bytes.fromhex(given["log"])), *area), given, case["want"])
+
+
+def canonical_right(lib, case):
+    """Whether canonical answers as the case asks."""
+    given = case["canonical"]
+    return written_right(lambda *area: lib.ruqzhemil_canonical(*lent(bytes.fromhex(given["plan"])), *area), given, case["want"])
 
 
 def charged_right(lib, case):
@@ -91,6 +103,8 @@ def right(lib, case):
         return charged_right(lib, case)
     if "preview" in case:
         return previewed_right(lib, case)
+    if "canonical" in case:
+        return canonical_right(lib, case)
     return judged_right(lib, bytes.fromhex(case["judge"]), case["want"], case["version"])
 
 

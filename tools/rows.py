@@ -273,6 +273,21 @@ PREVIEWS = [
     (PLAN_P[:-1], [8], 8, [1, 0]),
 ]
 
+# a plan, the length of an area, and what is right: the refusal, or the length
+TURNED = plan(synch(new(), NULL))
+TURNED = TURNED[:10] + term(11, (10, 2), (10, 1)) + TURNED[20:] + TURNED[15:20]  # the body's term before the object's
+WRITTEN = [
+    (PLAN_P, len(PLAN_P), len(PLAN_P)),
+    (PLAN_P, len(PLAN_P) - 1, [13, 0]),
+    (PLAN_P, len(PLAN_P) + 9, len(PLAN_P)),
+    (PLAN_P[:-1], 0, [1, 0]),
+    (TURNED, len(TURNED), len(TURNED)),
+    (TURNED, 0, [13, 0]),
+    (EVERY_TAG, len(EVERY_TAG), len(EVERY_TAG)),
+    (LARGEST, len(LARGEST), len(LARGEST)),
+    (LARGEST, len(LARGEST) - 1, [13, 0]),
+]
+
 # a log, the version that the judge is told, and what is right: the refusal, or the index that is named, or none
 NEW = bytes.fromhex("100000")
 HANDED_LOG = bytes.fromhex("101000" "802080" "301080" "501100" "421100" "221080")  # new, fork, write, volatile write, volatile read, read

@@ -39,6 +39,10 @@ pub fn preview(plan: &[u8], schedule: &[u8], pick: u64, out: &mut [u8; PREVIEW_B
     }
 }
 
+pub fn canonical(plan: &[u8], area: &mut [u8]) -> u64 {
+    independent::canonical(plan, area).map_or_else(number, |length| length as u64)
+}
+
 pub fn charge(plan: &[u8], schedule: &[u8], option: u64) -> u64 {
     independent::charge(plan, schedule, option != 0).map_or_else(number, |cents| cents as u64)
 }

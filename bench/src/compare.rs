@@ -16,6 +16,7 @@ struct Seen {
     files: usize,
     charges: [usize; 2],
     previews: [usize; 6],
+    plans: [usize; 2],
 }
 
 impl Seen {
@@ -37,15 +38,17 @@ impl Seen {
     }
 
     fn print(&self) {
-        let (first, later) = (&self.refusals[1..13], [self.refusals[14], self.refusals[24]]);
-        println!("  plans passed {}; refusals 1 to 12 {first:?}, 14 and 24 {later:?}", self.passed);
+        let (first, later) = (&self.refusals[1..13], [self.refusals[13], self.refusals[14], self.refusals[24]]);
+        println!("  plans passed {}; refusals 1 to 12 {first:?}, 13, 14 and 24 {later:?}", self.passed);
         println!("  runs end, race, no-thread, no-object, no-key, no-depth {:?}", self.stops);
         println!("  threads absent, finished, ready, monitor, join, no field, no thread, lacking, notify, monitor not held {:?}", self.states);
         println!("  threads that learnt no key from another, some {:?}", self.learnt);
         println!("  logs ordered, unordered {:?}; data files {}; runs free, charged {:?}", self.judged, self.files, self.charges);
         println!("  picks passed over, moved, moved with a record, race, no room, stopped before {:?}", self.previews);
-        let counts: [&[usize]; 9] =
-            [first, &later, &self.stops, &self.states, &self.learnt, &self.judged, &self.charges, &self.previews, &[self.passed, self.files]];
+        println!("  plans written as they were, otherwise {:?}", self.plans);
+        let alone = [self.passed, self.files];
+        let counts: [&[usize]; 10] =
+            [first, &later, &self.stops, &self.states, &self.learnt, &self.judged, &self.charges, &self.previews, &self.plans, &alone];
         assert!(counts.into_iter().flatten().min() > Some(&0), "an answer that no case had: more cases are needed");
     }
 }
@@ -125,6 +128,24 @@ fn charge(plan: &[u8], schedule: &[u8], option: u64, seen: &mut Seen) {
     }
 }
 
+/// The answer and the whole area; a plan that is written is written again.
+fn canonical(random: &mut Random, plan: &[u8], seen: &mut Seen) {
+    let length = (plan.len() + random.pick(&[0, 1, 1, 1, 2, 20])).saturating_sub(1);
+    let area = random.bytes(length);
+    let (mut ours, mut theirs) = (area.clone(), area.clone());
+    let input = [plan, &area];
+    let answer = same("canonical", &input, library::canonical(plan, &mut ours), answers::canonical(plan, &mut theirs));
+    let written = same("the written plan's area", &input, ours, theirs);
+    if answer >> 32 == 2 {
+        seen.refused(answer);
+        return;
+    }
+    seen.plans[usize::from(written[..plan.len()] != *plan)] += 1;
+    let mut again = written.clone();
+    same("a plan written twice", &input, library::canonical(&written[..plan.len()], &mut again), answer);
+    same("the area of a plan written twice", &input, again, written);
+}
+
 /// The answer and the whole area.
 fn comtrade_once(log: &[u8], area: &[u8]) -> u64 {
     let (mut ours, mut theirs) = (area.to_vec(), area.to_vec());
@@ -173,6 +194,7 @@ pub fn run(cases: usize, seed: u64) {
     for _ in 0..cases {
         let plan = plan(random);
         check(&plan, &mut seen);
+        canonical(random, &plan, &mut seen);
         let schedule = generate::schedule(random);
         charge(&plan, &schedule, random.pick(&[0, 1, 1 << 63]), &mut seen);
         let area = generate::area(random, schedule.len());

@@ -73,6 +73,13 @@ fn judging<'a>(judge: fn(u64, &[u8]) -> u64, version: u64, log: &'a [u8]) -> Ent
     })
 }
 
+fn writing<'a>(canonical: fn(&[u8], &mut [u8]) -> u64, plan: &'a [u8]) -> Entry<'a> {
+    let mut area = vec![0; plan.len()];
+    Box::new(move || {
+        black_box(canonical(black_box(plan), &mut area));
+    })
+}
+
 /// The schedule's last pick, after the others.
 fn previewing<'a>(preview: fn(&[u8], &[u8], u64, &mut [u8; library::PREVIEW_BYTES]) -> u64, plan: &'a [u8], schedule: &'a [u8]) -> Entry<'a> {
     let (last, before) = schedule.split_last().expect("a pick");
@@ -106,14 +113,15 @@ fn played(input: &Input) -> (Vec<u8>, [usize; 3]) {
 }
 
 /// What is timed of each input.
-const COLUMNS: [&str; 7] = ["a pick", "a play without picks", "a checked byte", "a judged record", "a data file's line", "a charge", "a preview"];
+const COLUMNS: [&str; 8] =
+    ["a pick", "a play without picks", "a checked byte", "a judged record", "a data file's line", "a charge", "a preview", "a written byte"];
 
 /// The pairs of one input, by column.
 fn row(input: &Input) -> [Option<Pair>; COLUMNS.len()] {
     let Input { name, plan, schedule } = input;
     let (log, [picks, moves, records]) = played(input);
     let version = u64::from(plan[0] >> 4);
-    let [play, play2, start, start2, check, check2, judge, judge2, file, file2, charge, charge2, preview, preview2] = best([
+    let [play, play2, start, start2, check, check2, judge, judge2, file, file2, charge, charge2, preview, preview2, write, write2] = best([
         playing(library::play, plan, schedule),
         playing(answers::play, plan, schedule),
         playing(library::play, plan, &[]),
@@ -128,6 +136,8 @@ fn row(input: &Input) -> [Option<Pair>; COLUMNS.len()] {
         charging(answers::charge, plan, schedule),
         previewing(library::preview, plan, schedule),
         previewing(answers::preview, plan, schedule),
+        writing(library::canonical, plan),
+        writing(answers::canonical, plan),
     ]);
     let per = |count: usize, ours: f64, theirs: f64| Some(Pair(ours / count as f64, theirs / count as f64));
     let pairs = [
@@ -138,9 +148,10 @@ fn row(input: &Input) -> [Option<Pair>; COLUMNS.len()] {
         if records < FEW_RECORDS { None } else { per(records, file, file2) },
         per(1, charge, charge2),
         per(1, preview, preview2),
+        per(plan.len(), write, write2),
     ];
     print!("{name:16} {:5} {picks:5} {moves:5} {records:5}", plan.len());
-    for (pair, digits) in pairs.iter().zip([1, 0, 2, 1, 1, 0, 0]) {
+    for (pair, digits) in pairs.iter().zip([1, 0, 2, 1, 1, 0, 0, 2]) {
         print!(" |{:>23}", pair.as_ref().map_or("-".into(), |pair| pair.text(digits)));
     }
     println!();

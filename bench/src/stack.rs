@@ -75,6 +75,10 @@ pub fn print() {
     most("preview", 144, &all, |i| {
         library::preview(&i.plan, &i.schedule[..i.schedule.len() - 1], u64::from(i.schedule[i.schedule.len() - 1]), &mut shown);
     });
+    let mut written = [0; 5192];
+    most("canonical", 96, &all, |i| {
+        library::canonical(&i.plan, &mut written);
+    });
     most("charge", 144, &all, |i| {
         library::charge(&i.plan, &i.schedule, 1);
     });

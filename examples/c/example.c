@@ -90,6 +90,24 @@ static void preview(const uint8_t *schedule, size_t picks, unsigned pick) {
     printf("\n");
 }
 
+/* synch new() do null, with the body's term before the object's */
+static const uint8_t turned[25] = {
+    0x10, 0x40, 0x0c, 0x00, 0x80, 0x00, 0x00, 0x00, 0x00, 0x00, 0x58, 0x04, 0x00, 0x80, 0x00, 0x00, 0x00, 0x00, 0x00, 0x00, 0x10, 0x00, 0x00, 0x00, 0x00,
+};
+
+static void canonical(size_t size) {
+    uint8_t area[sizeof turned];
+    uint64_t answer = ruqzhemil_canonical(turned, sizeof turned, area, size);
+    printf("written in %u bytes: ", (unsigned)size);
+    if (RUQZHEMIL_REFUSED(answer)) {
+        refused(answer);
+        return;
+    }
+    printf("%u bytes, terms", (unsigned)RUQZHEMIL_VALUE(answer));
+    for (size_t i = 10; i < RUQZHEMIL_VALUE(answer); i++) printf(i % 5 ? "%02x" : " %02x", area[i]);
+    printf("\n");
+}
+
 /* acquire and release of object 1, by thread 0 */
 static const uint8_t monitors[] = {0x60, 0x10, 0x00, 0x70, 0x10, 0x00};
 
@@ -136,6 +154,8 @@ int main(void) {
     preview(race, 6, 0);
     preview(race, 7, 1);
     preview(race, 6, 8);
+    canonical(sizeof turned);
+    canonical(sizeof turned - 1);
     charge(race, sizeof race, 0);
     charge(race, sizeof race, 1);
     charge(wrong, sizeof wrong, 1);

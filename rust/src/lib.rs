@@ -1,7 +1,8 @@
 //! Ruqzhemil: a verified checker of plans for relay test sets.
 //!
-//! [`check`] a plan, [`play`] a schedule on it, [`judge`] a log, [`preview`] a pick, write a log as a [`comtrade`] data file, and [`charge`] for a run. Each
-//! takes any bytes; `include/ruqzhemil.h` says what the answers mean, and the proofs of the static library below show that they are right. Later versions may have more refusals, kinds, stops and states than are named here: `Other` has their number.
+//! [`check`] a plan, [`play`] a schedule on it, [`judge`] a log, [`preview`] a pick, write a plan in the one [`canonical`] way and a log as a [`comtrade`]
+//! data file, and [`charge`] for a run. Each takes any bytes; `include/ruqzhemil.h` says what the answers mean, and the proofs of the static library below show
+//! that they are right. Later versions may have more refusals, kinds, stops and states than are named here: `Other` has their number.
 
 #[path = "../../include/ruqzhemil.rs"]
 pub mod raw;
@@ -93,6 +94,14 @@ pub fn judge(version: u64, log: &[u8]) -> Result<Option<usize>, Refusal> {
 pub fn preview(plan: &[u8], schedule: &[u8], pick: u64) -> Result<Preview, Refusal> {
     let mut out = [0; PREVIEW_BYTES];
     answer(raw::preview(plan, schedule, pick, &mut out)).map(|_| Preview::of(&out))
+}
+
+/// Writes a plan in the one way in which all plans of the same version, volatile mask, parameter counts and trees are written; it plays as its original. `area`
+/// begins with it and keeps its other bytes; the answer is its length, which is the plan's. A refusal leaves `area` as it was.
+pub fn canonical(plan: &[u8], area: &mut [u8]) -> Result<usize, Refusal> {
+    answer(raw::canonical(plan, area)).map(|said| match said {
+        Answer::Value(length) | Answer::Other(length) => length as usize,
+    })
 }
 
 /// What a run of the schedule on the plan is charged, in cents, with the one-millisecond option or without; 0 for a run that stops for room.

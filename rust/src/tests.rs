@@ -43,7 +43,7 @@ fn same<T: std::fmt::Debug>(prefix: &str, count: usize, of: impl Fn(u64) -> T) {
 
 #[test]
 fn numbers_are_the_headers() {
-    same("RUQZHEMIL_REFUSAL_", 14, |n| Refusal { number: n as u16, place: 0 }.reason());
+    same("RUQZHEMIL_REFUSAL_", 15, |n| Refusal { number: n as u16, place: 0 }.reason());
     same("RUQZHEMIL_KIND_", 11, |n| Kind::of(n as u8));
     let states = |n: u64| (Stop::of(n as u8), ThreadState::of(n as u8, 0, 0));
     for (name, n) in
@@ -127,6 +127,21 @@ fn previews_by_hand() {
     assert_eq!(preview(&fork_null, &[0; MOST_PICKS], 8), Err(Refusal { number: 8, place: 0 }));
     assert_eq!(preview(&fork_null, &[0; MOST_PICKS - 1], 0), Ok(Preview::Passed(ThreadState::Finished { value: 1 })));
     assert_eq!(preview(&fork_null, &[], 1 << 32), Err(Refusal { number: 9, place: 0 }));
+}
+
+#[test]
+fn plans_are_written_in_one_way() {
+    // synch new() do null: the second has its terms in the order in which they are written
+    let plan = [0x10, 0x40, 0x0c, 0x00, 0x80, 0, 0, 0, 0, 0, 0x58, 0x04, 0, 0x80, 0, 0, 0, 0, 0, 0, 0x10, 0, 0, 0, 0];
+    let written = [0x10, 0x40, 0x0c, 0x00, 0x80, 0, 0, 0, 0, 0, 0x58, 0x02, 0x01, 0, 0, 0x10, 0, 0, 0, 0, 0, 0, 0, 0, 0];
+    let mut area = [7; 26];
+    assert_eq!(canonical(&plan, &mut area), Ok(25));
+    assert_eq!((&area[..25], area[25]), (&written[..], 7));
+    assert_eq!(canonical(&written, &mut area[..25]), Ok(25));
+    assert_eq!(area[..25], written);
+    assert_eq!(canonical(&plan, &mut area[..24]), Err(Refusal { number: 13, place: 0 }));
+    assert_eq!(canonical(&plan[..24], &mut area), Err(Refusal { number: 1, place: 0 }));
+    assert_eq!((&area[..25], area[25]), (&written[..], 7));
 }
 
 #[test]

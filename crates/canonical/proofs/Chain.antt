@@ -17,11 +17,11 @@ use Rattle.refusals.specs.declared.Checked.the-variants.{Passed, Refused}
 use Rattle.canonical.specs.Canonical.{shortOutput, canonicalChecks, canonicalRefusal}
 
 -- check 13
-abbrev outputChecks : List ℕ → List ℕ → List Check
+abbrev pub outputChecks : List ℕ → List ℕ → List Check
 outputChecks plan area = checkWhole 13 (shortOutput plan area) ∷ []
 
 module _ (plan area : List ℕ) where
-  stages : canonicalRefusal plan area ≡ orElse (refusal plan) (firstRefusal (outputChecks plan area))
+  pub stages : canonicalRefusal plan area ≡ orElse (refusal plan) (firstRefusal (outputChecks plan area))
   unfolding canonicalRefusal canonicalChecks refusal
   stages = refusal-append (checks plan) (outputChecks plan area)
 

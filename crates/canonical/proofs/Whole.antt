@@ -3,10 +3,11 @@ use Prim.Native.Nat.{ℕ, _+_, _*_, _≤_, _<_}
 use native.Mathlib.Omega.{arith}
 use mathlib.Core.Path.{_≡_, refl, sym, ap, _∙_}
 use mathlib.Core.List.{List, [], _++_}
-use mathlib.Core.Option.{some, none}
+use mathlib.Core.Option.{Option, some, none}
 use lib.ListN.{length, take, drop, getD, length-append}
 use lib.Seq.{sets, sets-eq}
 use Rattle.format.specs.Area.{overwrite}
+use Rattle.format.specs.Refusal.{Refusal}
 use Rattle.packed.specs.Syntax.{Procedure, Program}
 use Rattle.packed.specs.Format
 use Rattle.packed.specs.Trees.{programOf}
@@ -20,11 +21,10 @@ use Rattle.written.proofs.Passes.{count-is}
 use Rattle.written.proofs.OneWay.{same-length}
 use Rattle.written.proofs.ReadBack.{procedures-length}
 use Rattle.tree_writer.proofs.Areas.{sets-append}
-use Rattle.canonical.specs.Canonical as defined
-use Rattle.canonical.specs.Canonical.{canonicalRefusal, canonicalBy, canonical, areaBy, areaAfter}
-use Rattle.canonical.specs.Answer.{answered}
+use Rattle.answers.specs.Answer.{answered, value, answerBy}
+use Rattle.answers.specs.declared.Answered.the-variants.{Value, Refused}
+use Rattle.canonical.specs.Canonical.{canonicalRefusal, canonicalAnswer, areaBy, canonicalArea}
 use Rattle.canonical.specs.Begun.{treesWritten}
-use Rattle.canonical.specs.declared.Answer.the-variants.{Written, Refused}
 use Rattle.canonical.proofs.Chain.{passes-both}
 use Rattle.canonical.proofs.HeaderBytes.{first-eight}
 use Rattle.canonical.proofs.Procedures.{rest-all}
@@ -75,16 +75,16 @@ module _ (plan area : List ℕ) (small : (j : ℕ) → getD plan j 0 < 256) (h :
 -- ---- the answer
 
 module _ (plan area : List ℕ) where
-  pub refused-answer : (r : Checked) (k i : ℕ) → refusals.answered r ≡ canonicalRefusal plan area → r ≡ checked.Refused k i → (answered (Refused k i) ≡ canonical plan area) × (area ≡ areaAfter plan area)
-  unfolding refusals.answered answered canonical canonicalBy areaAfter areaBy
+  pub refused-answer : (r : Checked) (k i : ℕ) → refusals.answered r ≡ canonicalRefusal plan area → r ≡ checked.Refused k i → (answered (Refused k i) ≡ canonicalAnswer plan area) × (area ≡ canonicalArea plan area)
+  unfolding refusals.answered canonicalAnswer answerBy canonicalArea areaBy
   refused-answer r k i e q =
       let s : canonicalRefusal plan area ≡ some (record { number = k; place = i }) = sym e ∙ ap refusals.answered q in
-      (sym (ap (canonicalBy plan) s), sym (ap (areaBy plan area) s))
+      (sym (ap (λ (o : Option Refusal). answerBy o (length (writtenPlan plan))) s), sym (ap (areaBy plan area) s))
 
   pub passed-none : (r : Checked) → refusals.answered r ≡ canonicalRefusal plan area → r ≡ checked.Passed → canonicalRefusal plan area ≡ none
   unfolding refusals.answered
   passed-none r e q = sym e ∙ ap refusals.answered q
 
-  pub written-answer : {area₁ : List ℕ} → canonicalRefusal plan area ≡ none → area₁ ≡ overwrite (writtenPlan plan) area → (answered (Written (length plan)) ≡ canonical plan area) × (area₁ ≡ areaAfter plan area)
-  unfolding answered canonical canonicalBy areaAfter areaBy
-  written-answer s e = (ap defined.Canonical.written (sym (same-length plan (passes-both plan area s .0))) ∙ sym (ap (canonicalBy plan) s), e ∙ sym (ap (areaBy plan area) s))
+  pub written-answer : {area₁ : List ℕ} → canonicalRefusal plan area ≡ none → area₁ ≡ overwrite (writtenPlan plan) area → (answered (Value (length plan)) ≡ canonicalAnswer plan area) × (area₁ ≡ canonicalArea plan area)
+  unfolding canonicalAnswer answerBy canonicalArea areaBy
+  written-answer s e = (ap value (sym (same-length plan (passes-both plan area s .0))) ∙ sym (ap (λ (o : Option Refusal). answerBy o (length (writtenPlan plan))) s), e ∙ sym (ap (areaBy plan area) s))

@@ -8,6 +8,7 @@ use lib.ListN.{length}
 use Rattle.format.specs.Area.{overwrite}
 use Rattle.format.specs.Refusal.{Refusal, Check, checkWhole, firstRefusal}
 use Rattle.packed.specs.Check.{checks}
+use Rattle.answers.specs.Answer.{Answer, answerBy}
 use Rattle.written.specs.Written.{writtenPlan}
 
 -- ---- 13: "output area shorter than the plan"
@@ -29,20 +30,9 @@ canonicalRefusal plan area = firstRefusal (canonicalChecks plan area)
 -- ---- the answer
 
 -- "Wherever something is written into a lent area, the answer also gives its length: [..] in bytes."
-pub data Canonical : Type 0 where
-  refused : Refusal → Canonical
-  written : ℕ → Canonical
-
--- the answer, by the refusal
-unfoldable pub canonicalBy : List ℕ → Option Refusal → Canonical
-unfolding writtenPlan
-canonicalBy plan (some r) = refused r
-canonicalBy plan none = written (length (writtenPlan plan))
-
--- the answer
-unfoldable pub canonical : List ℕ → List ℕ → Canonical
-unfolding canonicalBy canonicalRefusal
-canonical plan area = canonicalBy plan (canonicalRefusal plan area)
+unfoldable pub canonicalAnswer : List ℕ → List ℕ → Answer
+unfolding answerBy canonicalRefusal writtenPlan
+canonicalAnswer plan area = answerBy (canonicalRefusal plan area) (length (writtenPlan plan))
 
 -- ---- the area
 
@@ -53,6 +43,6 @@ areaBy plan area (some r) = area
 areaBy plan area none = overwrite (writtenPlan plan) area
 
 -- the whole area afterwards
-unfoldable pub areaAfter : List ℕ → List ℕ → List ℕ
+unfoldable pub canonicalArea : List ℕ → List ℕ → List ℕ
 unfolding areaBy canonicalRefusal
-areaAfter plan area = areaBy plan area (canonicalRefusal plan area)
+canonicalArea plan area = areaBy plan area (canonicalRefusal plan area)

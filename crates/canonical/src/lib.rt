@@ -1,4 +1,5 @@
 // The entry `canonical`: a plan, written in the one way that document 02, E5, names, into an output area.
+use answers::Answered;
 use header::layout;
 use refusals::Checked;
 use refusals::refused;
@@ -11,15 +12,9 @@ ghost use Rattle.packed.specs.Format.{terms, procedures};
 ghost use Rattle.packed.specs.Steps.{Loaded};
 ghost use Rattle.refusals.specs.Answer as refusals;
 ghost use Rattle.written.specs.Written.{bytesOf, writtenPlan};
-ghost use Rattle.canonical.specs.Canonical.{canonical, areaAfter};
-ghost use Rattle.canonical.specs.Answer.{answered};
+ghost use Rattle.canonical.specs.Canonical.{canonicalAnswer, canonicalArea};
+ghost use Rattle.answers.specs.Answer.{answered};
 ghost use Rattle.canonical.specs.Begun.{RefusedAs, Ready, treesWritten};
-
-// What the entry answers: the length of what it wrote, in bytes, or document 01's number and place of the refusal.
-pub enum Answer {
-    Written(usize),
-    Refused { number: usize, place: usize },
-}
 
 // What turns away a plan with an output area of this length, if anything does. Where nothing does, every term's 40 bits are then in `words`, which came as
 // zeros.
@@ -91,17 +86,17 @@ fn write(plan: &[u8], words: &[usize; 1024], area: &mut [u8])
 
 // Every plan and every area gets document 02's answer: a refusal of number 1 to 7 with its place, or of number 13, and no byte of the area changed; or the
 // length of the written plan, with which the area then begins, and otherwise is as it was.
-pub fn canonical(plan: &[u8], area: &mut [u8]) -> Answer
-    ensures answer { λ r. ⌜ answered r ≡ canonical (now (plan .entry)) (now (area .entry)) ⌝ }
-    ensures area { λ r. ⌜ now (area .exit) ≡ areaAfter (now (plan .entry)) (now (area .entry)) ⌝ }
+pub fn canonical(plan: &[u8], area: &mut [u8]) -> Answered
+    ensures answer { λ r. ⌜ answered r ≡ canonicalAnswer (now (plan .entry)) (now (area .entry)) ⌝ }
+    ensures area { λ r. ⌜ now (area .exit) ≡ canonicalArea (now (plan .entry)) (now (area .entry)) ⌝ }
 {
     let mut words = [0usize; 1024];
     let checked = refusal(plan, area.len(), &mut words);
     match checked {
-        Checked::Refused { number, place } => Answer::Refused { number, place },
+        Checked::Refused { number, place } => Answered::Refused { number, place },
         Checked::Passed => {
             write(plan, &words, area);
-            Answer::Written(plan.len())
+            Answered::Value(plan.len())
         }
     }
 }

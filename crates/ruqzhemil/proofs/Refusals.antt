@@ -24,11 +24,11 @@ whole k h = (h, omega arith)
 
 -- ---- of a plan
 
-few-procedures : (b : List ℕ) → procedures b ≤ 4096
+pub few-procedures : (b : List ℕ) → procedures b ≤ 4096
 unfolding procedures
 few-procedures b = let h : procedures b < 64 = bits-below b 4 6 in omega arith
 
-few-terms : (b : List ℕ) → terms b ≤ 4096
+pub few-terms : (b : List ℕ) → terms b ≤ 4096
 unfolding terms
 few-terms b = let h : terms b < 4096 = bits-below b 10 12 in omega arith
 

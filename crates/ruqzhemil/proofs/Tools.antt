@@ -1,12 +1,12 @@
 -- What the tools of document 02 answer is small: a value of 32 bits, or a refusal's number and place. Assumes nothing.
-use Prim.Native.Nat.{ℕ, _<_, _^_}
+use Prim.Native.Nat.{ℕ, _+_, _*_, _≤_, _<_, _^_}
 use native.Mathlib.Omega.{arith}
 use mathlib.Core.Path.{_≡_, refl, sym, _∙_}
 use mathlib.Core.Bool.{Bool}
 use mathlib.Core.List.{List, [], _∷_}
 use mathlib.Core.Option.{Option, some, none}
 use lib.ListN.{length}
-use Rattle.format.specs.Refusal.{Refusal, checkWhole}
+use Rattle.format.specs.Refusal.{Refusal, checkWhole, firstRefusal}
 use Rattle.format.proofs.RefusalLaws.{both-none}
 use Rattle.records.specs.Refusals.{logRefusal}
 use Rattle.records.proofs.Accepted.{accepted}
@@ -26,7 +26,15 @@ use Rattle.play_refusals.proofs.Passed.{scheduled}
 use Rattle.player.proofs.Moves.{few}
 use Rattle.charge.specs.Charge.{priceBy, chargeOf, charged}
 use Rattle.charge.proofs.Prices.{price-small}
-use Rattle.ruqzhemil.proofs.Refusals.{small-log, small-schedule}
+use Rattle.packed.specs.Format.{planLength}
+use Rattle.packed.specs.Check.{refusal}
+use Rattle.packed.proofs.Passing.{length-of, all-right}
+use Rattle.written.specs.Written.{writtenPlan}
+use Rattle.written.proofs.OneWay.{same-length}
+use Rattle.canonical.specs.Canonical.{canonicalRefusal, canonicalAnswer}
+use Rattle.canonical.proofs.Chain.{outputChecks, passes-both}
+use Rattle.canonical.proofs.Chain as chain
+use Rattle.ruqzhemil.proofs.Refusals.{few-procedures, few-terms, small-plan, small-log, small-schedule}
 
 small-answer : (o : Option Refusal) (n : ℕ) → SmallCheck o → (o ≡ none → n < 2 ^ 32) → SmallAnswer (answerBy o n)
 unfolding answerBy
@@ -55,3 +63,22 @@ small-comtrade log area = small-answer (comtradeRefusal log area) (length (fileO
     few e =
         let passed = both-none (logRefusal log) (last log area (shortOutput log area)) (sym (stages log area) ∙ e) .0 in
         omega (arith, file-most log (accepted log passed .length-most))
+
+few-by : (n p t : ℕ) → n ≡ 8 + 2 * p + 5 * t → p ≤ 4096 → t ≤ 4096 → n < 2 ^ 32
+few-by n p t e few many = omega arith
+
+few-bytes : (plan : List ℕ) → refusal plan ≡ none → length plan < 2 ^ 32
+unfolding planLength
+few-bytes plan e = few-by _ _ _ (length-of plan (all-right plan e .six .right₁)) (few-procedures plan) (few-terms plan)
+
+pub small-canonical : (plan area : List ℕ) → SmallAnswer (canonicalAnswer plan area)
+unfolding canonicalAnswer
+small-canonical plan area = small-answer (canonicalRefusal plan area) (length (writtenPlan plan)) small few
+  where
+    small : SmallCheck (canonicalRefusal plan area)
+    small =
+        rw (chain.stages plan area)
+        (small-stages (refusal plan) (firstRefusal (outputChecks plan area)) (small-plan plan) (small-checks (outputChecks plan area) ((omega arith, omega arith), tt)))
+
+    few : canonicalRefusal plan area ≡ none → length (writtenPlan plan) < 2 ^ 32
+    few e = let passed = passes-both plan area e .0 in omega (arith, same-length plan passed, few-bytes plan passed)

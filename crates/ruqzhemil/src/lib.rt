@@ -9,6 +9,7 @@ ghost use lib.Dec.{eqb};
 ghost use Rattle.preview.specs.Preview.{previewed};
 ghost use Rattle.preview_bytes.specs.Bytes.{previewNumber};
 ghost use Rattle.preview_bytes.specs.Bytes as preview;
+ghost use Rattle.canonical.specs.Canonical.{canonicalAnswer, canonicalArea};
 ghost use Rattle.charge.specs.Charge.{charged};
 ghost use Rattle.waveform.specs.Comtrade.{comtradeAnswer, comtradeArea};
 ghost use Rattle.ruqzhemil.specs.Bytes.{outAfter};
@@ -70,6 +71,16 @@ pub extern "C" fn ruqzhemil_preview(
 {
     let previewed = preview::preview(plan, schedule, pick as usize);
     preview_bytes::write(out, previewed)
+}
+
+// The length in bytes of the plan, written in the one way, which begins the area; the area's other bytes, and all of them after a refusal, are as they were.
+#[no_mangle]
+pub extern "C" fn ruqzhemil_canonical(plan: &[u8], area: &mut [u8]) -> u64
+    ensures answer { λ r. ⌜ r ≡ answerNumber (canonicalAnswer (now (plan .entry)) (now (area .entry))) ⌝ }
+    ensures area { λ r. ⌜ now (area .exit) ≡ canonicalArea (now (plan .entry)) (now (area .entry)) ⌝ }
+{
+    let answered = canonical::canonical(plan, area);
+    numbers::of_answer(answered)
 }
 
 // The length in bytes of the log's COMTRADE data file, which begins the area; the area's other bytes, and all of them after a refusal, are as they were.

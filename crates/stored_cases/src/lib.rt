@@ -6,7 +6,8 @@
 // a log: the version that judge is told and what it returns, eight bytes each; then the log. A case of a data file: the length of the area, four bytes,
 // and of the log, two; what comtrade returns, eight; then the log and the file, empty where it is refused. A case of a charge: the lengths of plan and
 // schedule, two bytes each; the option and what charge returns, eight each; then plan and schedule. A case of a preview: the same with the pick and what
-// preview returns, and the eight bytes of the preview before the plan. A case that ends before the parts that its lengths name is wrong.
+// preview returns, and the eight bytes of the preview before the plan. A case of a plan: the lengths of plan and area, two bytes each; what canonical
+// returns, eight; then the plan and the written plan, empty where it is refused. A case that ends before the parts that its lengths name is wrong.
 ghost use Prim.Native.Nat.{_+_, _≤_};
 ghost use lib.ListN.{length};
 use judge::Judgement;
@@ -245,4 +246,31 @@ pub fn preview_case(case: &[u8]) -> bool {
     let pick = number_at(case, 4);
     let got = ruqzhemil::ruqzhemil_preview(&case[28..end], &case[end..last], pick, &mut out);
     (got == number_at(case, 12)) & same_preview(&out, &case[20..28])
+}
+
+// A plan written in an area of that size, or in the whole area.
+fn canonical_in(plan: &[u8], area: &mut [u8], size: usize) -> u64 {
+    if size < area.len() {
+        ruqzhemil::ruqzhemil_canonical(plan, &mut area[..size])
+    } else {
+        ruqzhemil::ruqzhemil_canonical(plan, area)
+    }
+}
+
+// What canonical returns for a plan, and the whole area.
+pub fn plan_case(case: &[u8]) -> bool {
+    if case.len() < 12 {
+        return false;
+    }
+    let end = 12 + byte_numbers::half(case, 0);
+    let size = byte_numbers::half(case, 2);
+    if case.len() < end {
+        return false;
+    }
+    if 16384 < size {
+        return false;
+    }
+    let mut area = [FILL; 16384];
+    let got = canonical_in(&case[12..end], &mut area, size);
+    (got == number_at(case, 4)) & begins(&area, &case[end..])
 }

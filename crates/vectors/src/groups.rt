@@ -11,6 +11,7 @@ pub enum Group {
     File,
     Charge,
     Preview,
+    Plan,
 }
 
 // What the next case of a file is.
@@ -36,6 +37,7 @@ fn right(group: Group, case: &[u8]) -> bool {
         Group::File => stored_cases::file_case(case),
         Group::Charge => stored_cases::charge_case(case),
         Group::Preview => stored_cases::preview_case(case),
+        Group::Plan => stored_cases::plan_case(case),
     }
 }
 

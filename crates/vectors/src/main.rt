@@ -77,7 +77,8 @@ fn files(all: Tally) -> Tally {
 
 fn tools(all: Tally) -> Tally {
     let all = group(b"charges: ", b"charges", Group::Charge, all);
-    group(b"previews: ", b"previews", Group::Preview, all)
+    let all = group(b"previews: ", b"previews", Group::Preview, all);
+    group(b"plans, written: ", b"plans", Group::Plan, all)
 }
 
 // Cases with one part of their answer changed, so that each must differ.
@@ -96,10 +97,16 @@ fn changed() -> Tally {
     let all = group(b"changed logs, judged: ", b"changed_logs", Group::Log, all);
     let all = group(b"changed data files: ", b"changed_files", Group::File, all);
     let all = group(b"changed charges: ", b"changed_charges", Group::Charge, all);
-    group(
+    let all = group(
         b"changed previews: ",
         b"changed_previews",
         Group::Preview,
+        all,
+    );
+    group(
+        b"changed plans, written: ",
+        b"changed_plans",
+        Group::Plan,
         all,
     )
 }

@@ -47,6 +47,22 @@ fn preview(schedule: &[u8], pick: u64) {
     }
 }
 
+/// synch new() do null, with the body's term before the object's
+const TURNED: [u8; 25] = [
+    0x10, 0x40, 0x0c, 0x00, 0x80, 0x00, 0x00, 0x00, 0x00, 0x00, 0x58, 0x04, 0x00, 0x80, 0x00, 0x00, 0x00, 0x00, 0x00, 0x00, 0x10, 0x00, 0x00, 0x00, 0x00,
+];
+
+fn canonical(size: usize) {
+    let mut area = vec![0; size];
+    match ruqzhemil::canonical(&TURNED, &mut area) {
+        Ok(length) => {
+            let terms: String = area[10..length].chunks(5).map(|term| format!(" {}", term.iter().map(|b| format!("{b:02x}")).collect::<String>())).collect();
+            println!("written in {size} bytes: {length} bytes, terms{terms}");
+        }
+        Err(refusal) => println!("written in {size} bytes: {refusal}"),
+    }
+}
+
 /// acquire and release of object 1, by thread 0
 const MONITORS: [u8; 6] = [0x60, 0x10, 0x00, 0x70, 0x10, 0x00];
 
@@ -82,6 +98,8 @@ fn main() {
     for (schedule, pick) in [(&[][..], 0), (&[0; 5], 1), (&[0, 0, 0, 0, 0, 1], 1), (&[0, 0, 0, 0, 0, 1], 0), (&[0, 0, 0, 0, 0, 1, 0], 1), (&[0, 0, 0, 0, 0, 1], 8)] {
         preview(schedule, pick);
     }
+    canonical(TURNED.len());
+    canonical(TURNED.len() - 1);
     charge(&[0, 0, 0, 0, 0, 1, 0], false);
     charge(&[0, 0, 0, 0, 0, 1, 0], true);
     charge(&[0, 8], true);
