@@ -16,6 +16,7 @@ unsafe extern "C" {
     fn ruqzhemil_judge(version: u64, log: *const u8, log_len: usize) -> u64;
     fn ruqzhemil_preview(plan: *const u8, plan_len: usize, schedule: *const u8, schedule_len: usize, pick: u64, out: *mut u8) -> u64;
     fn ruqzhemil_canonical(plan: *const u8, plan_len: usize, area: *mut u8, area_len: usize) -> u64;
+    fn ruqzhemil_bound(plan: *const u8, plan_len: usize) -> u64;
     fn ruqzhemil_charge(plan: *const u8, plan_len: usize, schedule: *const u8, schedule_len: usize, option: u64) -> u64;
     fn ruqzhemil_comtrade(log: *const u8, log_len: usize, area: *mut u8, area_len: usize) -> u64;
 }
@@ -48,6 +49,10 @@ pub fn preview(plan: &[u8], schedule: &[u8], pick: u64, out: &mut [u8; PREVIEW_B
 
 pub fn canonical(plan: &[u8], area: &mut [u8]) -> u64 {
     unsafe { ruqzhemil_canonical(plan.as_ptr(), plan.len(), area.as_mut_ptr(), area.len()) }
+}
+
+pub fn bound(plan: &[u8]) -> u64 {
+    unsafe { ruqzhemil_bound(plan.as_ptr(), plan.len()) }
 }
 
 pub fn charge(plan: &[u8], schedule: &[u8], option: u64) -> u64 {

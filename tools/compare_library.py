@@ -9,7 +9,7 @@ The library is target/staticlib/libruqzhemil.a
 (`rt staticlib ruqzhemil` makes it), linked into a shared object by the C compiler. Compared are: what check returns; what play returns, the 40
 bytes of the outcome and the whole log area, beyond the records too; what judge returns for the log of each run and for each log of the cases; what
 comtrade returns and the whole area; what charge returns; what preview returns and its 8 bytes; what canonical returns and the
-whole area.
+whole area; what bound returns.
 """
 
 import ctypes
@@ -19,7 +19,7 @@ import subprocess
 import sys
 
 import interpreter
-from interpreter import (FILL, OUT, PREVIEW, charged, checked, judged, outcome_bytes, played, preview_bytes, previewed, record_bytes, written)
+from interpreter import (FILL, OUT, PREVIEW, bounded, charged, checked, judged, outcome_bytes, played, preview_bytes, previewed, record_bytes, written)
 
 
 def library(root):
@@ -29,7 +29,7 @@ def library(root):
     archive = root + "/target/staticlib/libruqzhemil.a"
     subprocess.run(["cc", "-shared", "-o", made, "-Wl,--whole-archive", archive, "-Wl,--no-whole-archive"], check=True)
     loaded = ctypes.CDLL(made)
-    for name in ("check", "play", "judge", "comtrade", "charge", "preview", "canonical"):
+    for name in ("check", "play", "judge", "comtrade", "charge", "preview", "canonical", "bound"):
         getattr(loaded, "ruqzhemil_" + name).restype = ctypes.c_uint64
     return loaded
 
@@ -105,6 +105,8 @@ def right(lib, case):
         return previewed_right(lib, case)
     if "canonical" in case:
         return canonical_right(lib, case)
+    if "bound" in case:
+        return lib.ruqzhemil_bound(*lent(bytes.fromhex(case["bound"]["plan"]))) == bounded(case["want"])
     return judged_right(lib, bytes.fromhex(case["judge"]), case["want"], case["version"])
 
 

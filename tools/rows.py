@@ -288,6 +288,38 @@ WRITTEN = [
     (LARGEST, len(LARGEST) - 1, [13, 0]),
 ]
 
+# a plan, and what is right: the refusal, or how many moves it can need
+LOOP = node(7, TRUE, NULL)
+
+
+def doubling(last):
+    """A chain of procedures, of which each calls the next twice: procedure p costs 3 * (2 ** (last - p) - 1)."""
+    return plan(*[then(call(p + 1), call(p + 1)) for p in range(last)], NULL)
+
+
+BOUNDS = [
+    (plan(NULL), 1),
+    (PLAN_P, 7),
+    (plan(synch(NULL, NULL)), 3),
+    (plan(wait(NULL)), 3),
+    (plan(notify(NULL)), 2),
+    (plan(notify_all(NULL)), 2),
+    (plan(choice(node(15, NULL, NULL), fork(NULL), NULL)), 4),
+    (plan(choice(node(15, NULL, NULL), NULL, fork(NULL))), 4),
+    (plan(fork(fork(NULL))), 3),
+    (plan(call(1), fork(NULL)), 3),
+    (plan(NULL, call(1)), [21, 0]),
+    (plan(NULL, call(2), call(1)), [21, 0]),
+    (plan(call(0)), [21, 0]),
+    (plan(NULL, LOOP), [22, 0]),
+    (plan(LOOP, call(1)), [21, 0]),
+    (doubling(14), 49150),
+    (doubling(15), [23, 0]),
+    (doubling(31), [23, 0]),
+    (plan(NULL, *[then(call(p + 1), call(p + 1)) for p in range(1, 31)], NULL), 1),
+    (PLAN_P[:-1], [1, 0]),
+]
+
 # a log, the version that the judge is told, and what is right: the refusal, or the index that is named, or none
 NEW = bytes.fromhex("100000")
 HANDED_LOG = bytes.fromhex("101000" "802080" "301080" "501100" "421100" "221080")  # new, fork, write, volatile write, volatile read, read

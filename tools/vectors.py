@@ -17,8 +17,9 @@ and its text. The same words give the same files. Every case stands behind its l
   charges                        plays for charge: the figures of document 02, and random ones
   previews                       plays and picks for preview: by hand, and random ones
   plans                          plans for canonical: by hand, and random ones
+  bounds                         plans for bound: by hand, and random ones
   changed_version, changed_checks, changed_plays, changed_runs, changed_both, changed_logs, changed_files,
-  changed_charges, changed_previews, changed_plans
+  changed_charges, changed_previews, changed_plans, changed_bounds
                                  cases of the kinds above with one part of the answer, or one length, changed: each must differ
 
 A play: lengths of plan, schedule and log area; what check, play and judge return, in eight bytes each, judge for the run's records or for none; the
@@ -26,7 +27,7 @@ bytes of the outcome; plan, schedule, records. A log: the version that judge is 
 the area's length in four bytes and the log's in two, what comtrade returns in eight; the log, and the file where it is not refused. A charge:
 lengths of plan and schedule, the option and what charge returns, in eight bytes each; plan, schedule. A preview: lengths of plan and schedule, the pick
 and what preview returns, in eight bytes each; the bytes of the preview; plan, schedule. A plan: the lengths of plan and area, what canonical returns in
-eight bytes; plan, written plan where it is not refused.
+eight bytes; plan, written plan where it is not refused. A bound: what bound returns in eight bytes; plan.
 """
 
 import collections
@@ -35,14 +36,14 @@ import sys
 import header
 import interpreter
 import rows
-from interpreter import (FILL, KINDS, NUMBERS, OUTCOMES, REFUSALS, STATES, charged, checked, judged, other, outcome_bytes, played, preview_bytes, previewed,
+from interpreter import (FILL, KINDS, NUMBERS, OUTCOMES, REFUSALS, STATES, bounded, charged, checked, judged, other, outcome_bytes, played, preview_bytes, previewed,
                          record_bytes, refused, state_words, value, written)
 
 LONG = 6000  # bytes of a case from which on only a few are kept
 MOST = 65535  # bytes of any case: its length has two
-# of each number, of runs to the end, of long cases, of logs with an unordered access and without, of files, charges, previews and written plans of
-# each kind, of each number that refuses one
-KEPT = {"refused": 45, "end": 330, "long": 10, "log": 390, "file": 80, "refused file": 15, "charge": 60, "refused charge": 12, "preview": 20, "refused preview": 8, "plan": 60, "refused plan": 8}
+# of each number, of runs to the end, of long cases, of logs with an unordered access and without, of files, charges, previews, written plans and bounds
+# of each kind, of each number that refuses one
+KEPT = {"refused": 45, "end": 330, "long": 10, "log": 390, "file": 80, "refused file": 15, "charge": 60, "refused charge": 12, "preview": 20, "refused preview": 8, "plan": 60, "refused plan": 8, "bound": 60, "refused bound": 15}
 
 
 # ---- the bytes of a case
@@ -65,6 +66,7 @@ File = collections.namedtuple("File", "area filed log file length")
 Charge = collections.namedtuple("Charge", "plan schedule option charged lengths")
 Preview = collections.namedtuple("Preview", "plan schedule pick previewed out lengths")
 Plan = collections.namedtuple("Plan", "plan area written bytes length")
+Bound = collections.namedtuple("Bound", "bounded plan")
 
 
 def play_of(plan, schedule, area, want):
@@ -114,6 +116,8 @@ def stored(case):
         return b"".join(map(two, case.lengths)) + eight(case.option) + eight(case.charged) + case.plan + case.schedule
     if isinstance(case, Preview):
         return b"".join(map(two, case.lengths)) + eight(case.pick) + eight(case.previewed) + case.out + case.plan + case.schedule
+    if isinstance(case, Bound):
+        return eight(case.bounded) + case.plan
     if isinstance(case, Plan):
         return two(case.length) + two(case.area) + eight(case.written) + case.plan + case.bytes
     if isinstance(case, File):
@@ -133,6 +137,8 @@ def case_of(case):
     if "preview" in case:
         asked = case["preview"]
         return preview_of(bytes.fromhex(asked["plan"]), bytes.fromhex(asked["schedule"]), asked["pick"], case["want"])
+    if "bound" in case:
+        return Bound(bounded(case["want"]), bytes.fromhex(case["bound"]["plan"]))
     if "canonical" in case:
         lent = case["canonical"]
         return plan_of(bytes.fromhex(lent["plan"]), len(lent["area"]) // 2, case["want"])
@@ -150,6 +156,8 @@ def kind_of(case):
         return "charges", (("refused charge", want["refused"][0]) if "refused" in want else ("charge", want["cents"] == 0))
     if "preview" in case:
         return "previews", (("refused preview", want["refused"][0]) if "refused" in want else ("preview", str(preview_bytes(want)[:2])))
+    if "bound" in case:
+        return "bounds", (("refused bound", want["refused"][0]) if "refused" in want else ("bound", ""))
     if "canonical" in case:
         return "plans", (("refused plan", want["refused"][0]) if "refused" in want else ("plan", ""))
     if "comtrade" in case:
@@ -254,6 +262,13 @@ def edge_plans(oracle):
         yield plan_of(plan, area, want)
 
 
+def edge_bounds(oracle):
+    for plan, stated in rows.BOUNDS:
+        want = oracle.bounded(plan)
+        assert want.get("moves", want.get("refused")) == stated, (plan.hex(), want)
+        yield Bound(bounded(want), plan)
+
+
 def edge_files(oracle):
     for log, area, stated in rows.FILES:
         want = oracle.data_file(log, bytes([FILL]) * area)
@@ -279,10 +294,10 @@ def wrong(right):
     return [right ^ change for change in (1, 1 << 16, 1 << 32, 1 << 33, 3 << 32, 1 << 63)]
 
 
-def changed(race, ended, refused_plan, refused_pick, unordered, ordered, refused_log, file, refused_file, charge, preview, refused_preview, plan, refused_area):
-    """Cases by file, of fourteen right ones: plays that stop for a race, come to their end, have a refused plan and a refused pick; logs with an unordered
+def changed(race, ended, refused_plan, refused_pick, unordered, ordered, refused_log, file, refused_file, charge, preview, refused_preview, plan, refused_area, bound, refused_bound):
+    """Cases by file, of sixteen right ones: plays that stop for a race, come to their end, have a refused plan and a refused pick; logs with an unordered
     access, with none, and refused; a log with its data file, and one that is refused; a charge; a preview, and one that is refused; a
-    plan that is written, and one that is refused."""
+    plan that is written, and one that is refused; a bound, and one that is refused."""
     end = len(stored(race))
     lengths = [(end, 0), (len(race.plan), end)]
     return {
@@ -305,6 +320,7 @@ def changed(race, ended, refused_plan, refused_pick, unordered, ordered, refused
         "changed_plans": by(plan, written=wrong(plan.written)) + by(plan, bytes=flips(plan.bytes)) + by(plan, bytes=[plan.bytes[:-1], plan.bytes + bytes(1)])
         + by(plan, area=[len(plan.plan) - 1, 65535]) + by(plan, length=[len(stored(plan))])
         + by(refused_area, written=wrong(refused_area.written)) + by(refused_area, bytes=[bytes(1)]),
+        "changed_bounds": by(bound, bounded=wrong(bound.bounded)) + by(bound, plan=[bound.plan[:-1]]) + by(refused_bound, bounded=wrong(refused_bound.bounded)),
     }
 
 
@@ -318,7 +334,8 @@ def changed_of(files):
                    first("logs", lambda c: c.judged > refused(12, 0)), first("files", lambda c: len(c.log) == 3 and c.file),
                    first("files", lambda c: c.filed == refused(24, 0)), first("charges", lambda c: c.option and value(0) < c.charged < other(0)),
                    first("previews", lambda c: c.out[0] == NUMBERS["PREVIEW_RACE"]), first("previews", lambda c: c.previewed > refused(9, 0)),
-                   first("plans", lambda c: c.bytes and c.bytes != c.plan), first("plans", lambda c: c.written == refused(13, 0)))
+                   first("plans", lambda c: c.bytes and c.bytes != c.plan), first("plans", lambda c: c.written == refused(13, 0)),
+                   first("bounds", lambda c: c.bounded < other(0)), first("bounds", lambda c: c.bounded == refused(21, 0)))
 
 
 # ---- the files
@@ -328,11 +345,11 @@ GROUPS = [("version", "version"),
           ("edges, checked", "edges"), ("edges, played", "edges"), ("edges, judged", "edges"), ("logs at the edges, judged", "edge_logs"),
           ("runs, checked", "runs"), ("runs, played", "runs"), ("runs, judged", "runs"), ("runs, played and judged", "runs"),
           ("refused plays, checked", "refused"), ("refused plays, played", "refused"), ("refused plays, played and judged", "refused"),
-          ("other logs, judged", "logs"), ("data files at the edges", "edge_files"), ("data files", "files"), ("charges", "charges"), ("previews", "previews"), ("plans, written", "plans")]
+          ("other logs, judged", "logs"), ("data files at the edges", "edge_files"), ("data files", "files"), ("charges", "charges"), ("previews", "previews"), ("plans, written", "plans"), ("bounds", "bounds")]
 CHANGED = [("changed version", "changed_version"), ("changed, checked", "changed_checks"), ("changed, played", "changed_plays"),
            ("changed runs, judged", "changed_runs"), ("changed, played and judged", "changed_both"), ("changed logs, judged", "changed_logs"),
            ("changed data files", "changed_files"), ("changed charges", "changed_charges"), ("changed previews", "changed_previews"),
-           ("changed plans, written", "changed_plans")]
+           ("changed plans, written", "changed_plans"), ("changed bounds", "changed_bounds")]
 
 
 def lines(files):
@@ -365,6 +382,7 @@ def main(argv):
     files["charges"] = list(figures(answers)) + files["charges"]
     files["previews"] = list(edge_previews(answers)) + files["previews"]
     files["plans"] = list(edge_plans(answers)) + files["plans"]
+    files["bounds"] = list(edge_bounds(answers)) + files["bounds"]
     files.update(changed_of(files))
     files["version"] = [eight(NUMBERS["VERSION"])]
     files["changed_version"] = flips(files["version"][0]) + [files["version"][0] + bytes(1)]

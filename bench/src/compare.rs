@@ -17,6 +17,7 @@ struct Seen {
     charges: [usize; 2],
     previews: [usize; 6],
     plans: [usize; 2],
+    bounds: usize,
 }
 
 impl Seen {
@@ -38,15 +39,15 @@ impl Seen {
     }
 
     fn print(&self) {
-        let (first, later) = (&self.refusals[1..13], [self.refusals[13], self.refusals[14], self.refusals[24]]);
-        println!("  plans passed {}; refusals 1 to 12 {first:?}, 13, 14 and 24 {later:?}", self.passed);
+        let (first, later) = (&self.refusals[1..13], [13, 14, 21, 22, 23, 24].map(|number| self.refusals[number]));
+        println!("  plans passed {}; refusals 1 to 12 {first:?}, 13, 14, 21 to 24 {later:?}", self.passed);
         println!("  runs end, race, no-thread, no-object, no-key, no-depth {:?}", self.stops);
         println!("  threads absent, finished, ready, monitor, join, no field, no thread, lacking, notify, monitor not held {:?}", self.states);
         println!("  threads that learnt no key from another, some {:?}", self.learnt);
         println!("  logs ordered, unordered {:?}; data files {}; runs free, charged {:?}", self.judged, self.files, self.charges);
         println!("  picks passed over, moved, moved with a record, race, no room, stopped before {:?}", self.previews);
-        println!("  plans written as they were, otherwise {:?}", self.plans);
-        let alone = [self.passed, self.files];
+        println!("  plans written as they were, otherwise {:?}; plans with a total {}", self.plans, self.bounds);
+        let alone = [self.passed, self.files, self.bounds];
         let counts: [&[usize]; 10] =
             [first, &later, &self.stops, &self.states, &self.learnt, &self.judged, &self.charges, &self.previews, &self.plans, &alone];
         assert!(counts.into_iter().flatten().min() > Some(&0), "an answer that no case had: more cases are needed");
@@ -128,6 +129,14 @@ fn charge(plan: &[u8], schedule: &[u8], option: u64, seen: &mut Seen) {
     }
 }
 
+fn bound(plan: &[u8], seen: &mut Seen) {
+    let answer = same("bound", &[plan], library::bound(plan), answers::bound(plan));
+    match answer >> 32 {
+        2 => seen.refused(answer),
+        _ => seen.bounds += 1,
+    }
+}
+
 /// The answer and the whole area; a plan that is written is written again.
 fn canonical(random: &mut Random, plan: &[u8], seen: &mut Seen) {
     let length = (plan.len() + random.pick(&[0, 1, 1, 1, 2, 20])).saturating_sub(1);
@@ -192,9 +201,10 @@ pub fn run(cases: usize, seed: u64) {
     let mut seen = Seen::default();
     let began = std::time::Instant::now();
     for _ in 0..cases {
-        let plan = plan(random);
+        let plan = if random.percent(1) { generate::doubling(random) } else { plan(random) };
         check(&plan, &mut seen);
         canonical(random, &plan, &mut seen);
+        bound(&plan, &mut seen);
         let schedule = generate::schedule(random);
         charge(&plan, &schedule, random.pick(&[0, 1, 1 << 63]), &mut seen);
         let area = generate::area(random, schedule.len());

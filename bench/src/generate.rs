@@ -10,6 +10,14 @@ fn volatile(random: &mut Random) -> u32 {
     FIELDS.iter().fold(MONITOR, |mask, f| if random.percent(30) { mask | 1 << (31 - f) } else { mask })
 }
 
+/// A chain of procedures, each of which calls the next twice, so that the last one counts many times.
+pub fn doubling(random: &mut Random) -> Vec<u8> {
+    let last = random.pick(&[3, 13, 14, 15, 31]);
+    let twice = |p: u32| sequence(call(p + 1, vec![]), call(p + 1, vec![]));
+    let bodies: Vec<_> = (0..last).map(|p| (0, twice(p))).chain([(0, null())]).collect();
+    packed(MONITOR, &bodies)
+}
+
 /// Programs of every form, whose threads share objects.
 struct Any<'a> {
     random: &'a mut Random,

@@ -1,6 +1,7 @@
 //! An independent implementation of the entries: written in plain Rust from the papers alone, apart from the product and without proofs, and tuned by
 //! hand. Answers are compared with its answers, and times with its times.
 
+mod bound;
 mod canonical;
 mod charge;
 mod comtrade;
@@ -9,6 +10,7 @@ mod plan;
 mod preview;
 mod run;
 
+pub use bound::bound;
 pub use canonical::canonical;
 pub use charge::charge;
 pub use comtrade::comtrade;

@@ -113,15 +113,24 @@ fn played(input: &Input) -> (Vec<u8>, [usize; 3]) {
 }
 
 /// What is timed of each input.
-const COLUMNS: [&str; 8] =
-    ["a pick", "a play without picks", "a checked byte", "a judged record", "a data file's line", "a charge", "a preview", "a written byte"];
+const COLUMNS: [&str; 9] = [
+    "a pick",
+    "a play without picks",
+    "a checked byte",
+    "a judged record",
+    "a data file's line",
+    "a charge",
+    "a preview",
+    "a written byte",
+    "a bound, a byte",
+];
 
 /// The pairs of one input, by column.
 fn row(input: &Input) -> [Option<Pair>; COLUMNS.len()] {
     let Input { name, plan, schedule } = input;
     let (log, [picks, moves, records]) = played(input);
     let version = u64::from(plan[0] >> 4);
-    let [play, play2, start, start2, check, check2, judge, judge2, file, file2, charge, charge2, preview, preview2, write, write2] = best([
+    let [play, play2, start, start2, check, check2, judge, judge2, file, file2, charge, charge2, preview, preview2, write, write2, bound, bound2] = best([
         playing(library::play, plan, schedule),
         playing(answers::play, plan, schedule),
         playing(library::play, plan, &[]),
@@ -138,6 +147,8 @@ fn row(input: &Input) -> [Option<Pair>; COLUMNS.len()] {
         previewing(answers::preview, plan, schedule),
         writing(library::canonical, plan),
         writing(answers::canonical, plan),
+        on(library::bound, plan),
+        on(answers::bound, plan),
     ]);
     let per = |count: usize, ours: f64, theirs: f64| Some(Pair(ours / count as f64, theirs / count as f64));
     let pairs = [
@@ -149,9 +160,10 @@ fn row(input: &Input) -> [Option<Pair>; COLUMNS.len()] {
         per(1, charge, charge2),
         per(1, preview, preview2),
         per(plan.len(), write, write2),
+        per(plan.len(), bound, bound2),
     ];
     print!("{name:16} {:5} {picks:5} {moves:5} {records:5}", plan.len());
-    for (pair, digits) in pairs.iter().zip([1, 0, 2, 1, 1, 0, 0, 2]) {
+    for (pair, digits) in pairs.iter().zip([1, 0, 2, 1, 1, 0, 0, 2, 2]) {
         print!(" |{:>23}", pair.as_ref().map_or("-".into(), |pair| pair.text(digits)));
     }
     println!();

@@ -79,6 +79,9 @@ pub fn print() {
     most("canonical", 96, &all, |i| {
         library::canonical(&i.plan, &mut written);
     });
+    most("bound", 96, &all, |i| {
+        library::bound(&i.plan);
+    });
     most("charge", 144, &all, |i| {
         library::charge(&i.plan, &i.schedule, 1);
     });

@@ -90,6 +90,21 @@ static void preview(const uint8_t *schedule, size_t picks, unsigned pick) {
     printf("\n");
 }
 
+/* while true do null */
+static const uint8_t endless[25] = {
+    0x10, 0x40, 0x0c, 0x00, 0x80, 0x00, 0x00, 0x00, 0x00, 0x00, 0x38, 0x02, 0x01, 0x00, 0x00, 0x60, 0x00, 0x00, 0x00, 0x00, 0x00, 0x00, 0x00, 0x00, 0x00,
+};
+
+static void bound(const char *name, const uint8_t *bytes, size_t length) {
+    uint64_t answer = ruqzhemil_bound(bytes, length);
+    printf("%s needs ", name);
+    if (RUQZHEMIL_REFUSED(answer)) {
+        refused(answer);
+    } else {
+        printf("at most %u moves\n", (unsigned)RUQZHEMIL_VALUE(answer));
+    }
+}
+
 /* synch new() do null, with the body's term before the object's */
 static const uint8_t turned[25] = {
     0x10, 0x40, 0x0c, 0x00, 0x80, 0x00, 0x00, 0x00, 0x00, 0x00, 0x58, 0x04, 0x00, 0x80, 0x00, 0x00, 0x00, 0x00, 0x00, 0x00, 0x10, 0x00, 0x00, 0x00, 0x00,
@@ -156,6 +171,8 @@ int main(void) {
     preview(race, 6, 8);
     canonical(sizeof turned);
     canonical(sizeof turned - 1);
+    bound("P", plan, sizeof plan);
+    bound("a loop", endless, sizeof endless);
     charge(race, sizeof race, 0);
     charge(race, sizeof race, 1);
     charge(wrong, sizeof wrong, 1);

@@ -1,7 +1,7 @@
 //! Ruqzhemil: a verified checker of plans for relay test sets.
 //!
 //! [`check`] a plan, [`play`] a schedule on it, [`judge`] a log, [`preview`] a pick, write a plan in the one [`canonical`] way and a log as a [`comtrade`]
-//! data file, and [`charge`] for a run. Each takes any bytes; `include/ruqzhemil.h` says what the answers mean, and the proofs of the static library below show
+//! data file, say how many moves a plan can need ([`bound`]), and [`charge`] for a run. Each takes any bytes; `include/ruqzhemil.h` says what the answers mean, and the proofs of the static library below show
 //! that they are right. Later versions may have more refusals, kinds, stops and states than are named here: `Other` has their number.
 
 #[path = "../../include/ruqzhemil.rs"]
@@ -31,6 +31,8 @@ pub const MOST_LOG_BYTES: usize = 12288;
 pub const MOST_TEXT_BYTES: usize = 131072;
 /// Bytes of the COMTRADE data file of any log, at most: an area of this size is enough for every log.
 pub const MOST_FILE_BYTES: usize = 317269;
+/// Moves that [`bound`] answers, at most.
+pub const MOST_TOTAL: usize = 65535;
 /// Bytes of a record.
 pub const RECORD_BYTES: usize = 3;
 /// Bytes of an outcome.
@@ -101,6 +103,13 @@ pub fn preview(plan: &[u8], schedule: &[u8], pick: u64) -> Result<Preview, Refus
 pub fn canonical(plan: &[u8], area: &mut [u8]) -> Result<usize, Refusal> {
     answer(raw::canonical(plan, area)).map(|said| match said {
         Answer::Value(length) | Answer::Other(length) => length as usize,
+    })
+}
+
+/// How many moves a plan can need at most: no schedule makes more, forked threads included.
+pub fn bound(plan: &[u8]) -> Result<usize, Refusal> {
+    answer(raw::bound(plan)).map(|said| match said {
+        Answer::Value(moves) | Answer::Other(moves) => moves as usize,
     })
 }
 

@@ -26,6 +26,9 @@ pub enum Reason {
     Record,
     PlanArea,
     Version,
+    Cycle,
+    While,
+    Total,
     FileArea,
     Other(u16),
 }
@@ -47,6 +50,9 @@ impl Refusal {
             12 => Reason::Record,
             13 => Reason::PlanArea,
             14 => Reason::Version,
+            21 => Reason::Cycle,
+            22 => Reason::While,
+            23 => Reason::Total,
             24 => Reason::FileArea,
             number => Reason::Other(number),
         }
@@ -70,6 +76,9 @@ impl fmt::Display for Reason {
             Reason::Record => "a record with a wrong kind, column or spare bit, or lacking its key and not last",
             Reason::PlanArea => "an area shorter than the plan",
             Reason::Version => "a version other than 0 or 1 given to the judge",
+            Reason::Cycle => "calls that form a cycle",
+            Reason::While => "a while in a plan whose moves are asked for",
+            Reason::Total => "a total of over 65,535 moves",
             Reason::FileArea => "an area too short for the whole data file",
             Reason::Other(_) => "a refusal that this package does not know",
         })

@@ -43,7 +43,7 @@ fn same<T: std::fmt::Debug>(prefix: &str, count: usize, of: impl Fn(u64) -> T) {
 
 #[test]
 fn numbers_are_the_headers() {
-    same("RUQZHEMIL_REFUSAL_", 15, |n| Refusal { number: n as u16, place: 0 }.reason());
+    same("RUQZHEMIL_REFUSAL_", 18, |n| Refusal { number: n as u16, place: 0 }.reason());
     same("RUQZHEMIL_KIND_", 11, |n| Kind::of(n as u8));
     let states = |n: u64| (Stop::of(n as u8), ThreadState::of(n as u8, 0, 0));
     for (name, n) in
@@ -71,6 +71,7 @@ fn limits_are_the_headers() {
     assert_eq!(number("RUQZHEMIL_MOST_LOG_BYTES"), MOST_LOG_BYTES);
     assert_eq!(number("RUQZHEMIL_MOST_TEXT_BYTES"), MOST_TEXT_BYTES);
     assert_eq!(number("RUQZHEMIL_MOST_FILE_BYTES"), MOST_FILE_BYTES);
+    assert_eq!(number("RUQZHEMIL_MOST_TOTAL"), MOST_TOTAL);
     assert_eq!(number("RUQZHEMIL_RECORD_BYTES"), RECORD_BYTES);
     assert_eq!(number("RUQZHEMIL_OUT_BYTES"), OUT_BYTES);
     assert_eq!(number("RUQZHEMIL_PREVIEW_BYTES"), PREVIEW_BYTES);
@@ -142,6 +143,17 @@ fn plans_are_written_in_one_way() {
     assert_eq!(canonical(&plan, &mut area[..24]), Err(Refusal { number: 13, place: 0 }));
     assert_eq!(canonical(&plan[..24], &mut area), Err(Refusal { number: 1, place: 0 }));
     assert_eq!((&area[..25], area[25]), (&written[..], 7));
+}
+
+#[test]
+fn bounds_by_hand() {
+    let fork_null = [0x10, 0x40, 0x08, 0x00, 0x80, 0, 0, 0, 0, 0, 0x48, 0x02, 0, 0, 0, 0, 0, 0, 0, 0];
+    assert_eq!(bound(&fork_null), Ok(2));
+    let round = [0x10, 0x40, 0x0c, 0x00, 0x80, 0, 0, 0, 0, 0, 0x38, 0x02, 0x01, 0, 0, 0x60, 0, 0, 0, 0, 0, 0, 0, 0, 0];
+    assert_eq!(bound(&round), Err(Refusal { number: 22, place: 0 }));
+    let calls_itself = [0x10, 0x40, 0x08, 0x00, 0x80, 0, 0, 0, 0, 0, 0x40, 0x00, 0x10, 0, 0, 0x88, 0, 0, 0, 0];
+    assert_eq!(bound(&calls_itself), Err(Refusal { number: 21, place: 0 }));
+    assert_eq!(bound(&round[..24]), Err(Refusal { number: 1, place: 0 }));
 }
 
 #[test]

@@ -25,32 +25,30 @@ use Rattle.refusals.specs.declared.Checked.the-variants.{Refused}
 use Rattle.costs.specs.Cost.{bodyCost, total}
 use Rattle.costs.specs.Calls.{called, cyclic}
 use Rattle.costs.specs.Leading.{leadsOn}
-use Rattle.costs.specs.Bound as papers
-use Rattle.costs.specs.Bound.{hasWhile, overMost, boundRefusal, boundedBy, bounded}
+use Rattle.costs.specs.Bound.{hasWhile, overMost, boundRefusal, bounded}
 use Rattle.costs.proofs.Below.{both, any-found, any-true, any-same}
 use Rattle.costs.proofs.Chains.{procedureCount, one-more, long-cyclic, ends-acyclic}
 use Rattle.costs.proofs.Fixed.{fixed, once}
 use Rattle.costs.proofs.Plans.{laterChecks, bound-stages, no-more-moves}
 use Rattle.cost_walk.specs.Walked.{capped}
-use Rattle.bound.specs.Answer.{answered, NoMoreMoves}
-use Rattle.bound.specs.declared.Bounded.{Bounded}
-use Rattle.bound.specs.declared.Bounded.the-variants as entry
+use Rattle.answers.specs.Answer.{Answer, value, refused, answerBy}
+use Rattle.bound.specs.NoMoreMoves.{NoMoreMoves}
 use Rattle.bound.specs.Settling.{Loads, Called, Settled, Stuck}
 use Rattle.bound.proofs.Sets.{make-subset}
 use Rattle.bound.proofs.Bodies.{few-procedures, counted-in, counted-out, callee-inside}
 
 -- an answer that is the papers' holds of runs
-pub no-more : (b : List ℕ) (r : Bounded) → answered r ≡ bounded b → NoMoreMoves b r
-unfolding answered NoMoreMoves
-no-more b (entry.Refused k i) e = tt
-no-more b (entry.Moves n) e = λ picks. no-more-moves b n (sym e) picks
+pub no-more : (b : List ℕ) (r : Answer) → r ≡ bounded b → NoMoreMoves b r
+unfolding NoMoreMoves
+no-more b (refused r) e = tt
+no-more b (value n) e = λ picks. no-more-moves b n (sym e) picks
 
 -- a refusal of the check is the answer
-pub by-check : (b : List ℕ) (r : Checked) (k i : ℕ) → checked.answered r ≡ refusal b → r ≡ Refused k i → papers.Bounded.refused (record { number = k; place = i }) ≡ bounded b
-unfolding bounded boundedBy orElse checked.answered
+pub by-check : (b : List ℕ) (r : Checked) (k i : ℕ) → checked.answered r ≡ refusal b → r ≡ Refused k i → refused (record { number = k; place = i }) ≡ bounded b
+unfolding bounded answerBy orElse checked.answered
 by-check b r k i e q =
     let s : refusal b ≡ some (record { number = k; place = i }) = sym e ∙ ap checked.answered q in
-    ap (boundedBy b) (sym (bound-stages b ∙ ap (λ (x : Option Refusal). orElse x (firstRefusal (laterChecks b))) s))
+    ap (λ (o : Option Refusal). answerBy o (total (programOf b))) (sym (bound-stages b ∙ ap (λ (x : Option Refusal). orElse x (firstRefusal (laterChecks b))) s))
 
 -- what is not false
 unless : (x : Bool) → (x ≡ false → ⊥) → x ≡ true
@@ -123,35 +121,35 @@ module _ {b words : List ℕ} {n : ℕ} (l : Loads b n words) where
   unfolding orElse
   later = bound-stages b ∙ rw (l .passes)
 
-  said : (r : Option Refusal) → firstRefusal (laterChecks b) ≡ r → boundedBy b r ≡ bounded b
+  said : (r : Option Refusal) → firstRefusal (laterChecks b) ≡ r → answerBy r (total (programOf b)) ≡ bounded b
   unfolding bounded
-  said r e = ap (boundedBy b) (sym (later ∙ e))
+  said r e = ap (λ (o : Option Refusal). answerBy o (total (programOf b))) (sym (later ∙ e))
 
-  pub answer-21 : cyclic (programOf b) ≡ true → papers.Bounded.refused (record { number = 21; place = 0 }) ≡ bounded b
-  unfolding boundedBy firstRefusal refuse
+  pub answer-21 : cyclic (programOf b) ≡ true → refused (record { number = 21; place = 0 }) ≡ bounded b
+  unfolding answerBy firstRefusal refuse
   answer-21 e = let m : lowest (λ place. cyclic (programOf b)) 1 ≡ some 0 = whole (cyclic (programOf b)) e in said (some (record { number = 21; place = 0 })) (rw m)
 
   module _ (a : cyclic (programOf b) ≡ false) where
     m21 : lowest (λ place. cyclic (programOf b)) 1 ≡ none
     m21 = whole-none (cyclic (programOf b)) a
 
-    pub answer-22 : hasWhile b ≡ true → papers.Bounded.refused (record { number = 22; place = 0 }) ≡ bounded b
-    unfolding boundedBy firstRefusal refuse
+    pub answer-22 : hasWhile b ≡ true → refused (record { number = 22; place = 0 }) ≡ bounded b
+    unfolding answerBy firstRefusal refuse
     answer-22 e = let m : lowest (λ place. hasWhile b) 1 ≡ some 0 = whole (hasWhile b) e in said (some (record { number = 22; place = 0 })) (rw (m21, m))
 
     module _ (w : hasWhile b ≡ false) (v : ℕ) (t : v ≡ min (total (programOf b)) 65537) where
       m22 : lowest (λ place. hasWhile b) 1 ≡ none
       m22 = whole-none (hasWhile b) w
 
-      pub answer-23 : 65535 < v → papers.Bounded.refused (record { number = 23; place = 0 }) ≡ bounded b
-      unfolding boundedBy firstRefusal refuse overMost
+      pub answer-23 : 65535 < v → refused (record { number = 23; place = 0 }) ≡ bounded b
+      unfolding answerBy firstRefusal refuse overMost
       answer-23 h =
           let m : lowest (λ place. overMost (total (programOf b))) 1 ≡ some 0 = whole (overMost (total (programOf b))) (lt-ltb 65535 (total (programOf b)) (omega arith)) in
           said (some (record { number = 23; place = 0 })) (rw (m21, m22, m))
 
-      pub answer-moves : v ≤ 65535 → papers.Bounded.moves v ≡ bounded b
-      unfolding boundedBy firstRefusal refuse overMost
+      pub answer-moves : v ≤ 65535 → value v ≡ bounded b
+      unfolding answerBy firstRefusal refuse overMost
       answer-moves h =
           let m : lowest (λ place. overMost (total (programOf b))) 1 ≡ none = whole-none (overMost (total (programOf b))) (le-ltb 65535 (total (programOf b)) (omega arith)) in
           let e : v ≡ total (programOf b) = omega arith in
-          ap papers.Bounded.moves e ∙ said none (rw (m21, m22, m))
+          ap value e ∙ said none (rw (m21, m22, m))

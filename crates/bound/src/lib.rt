@@ -8,19 +8,13 @@ ghost use Rattle.packed.specs.Format.{terms};
 ghost use Rattle.packed.specs.Steps.{tagIn};
 ghost use Rattle.packed.specs.Refusals.{anyBelow};
 ghost use Rattle.costs.specs.Bound.{bounded};
-ghost use Rattle.bound.specs.Answer.{answered, NoMoreMoves};
+ghost use Rattle.answers.specs.Answer.{answered};
+ghost use Rattle.bound.specs.NoMoreMoves.{NoMoreMoves};
 ghost use Rattle.bound.specs.Settling.{Loads};
+use answers::Answered;
 use header::layout;
 use operands::tags;
 use refusals::Checked;
-
-// What is answered to a plan.
-pub enum Bounded {
-    // The plan is refused: the papers' number of the refusal, and its place.
-    Refused { number: usize, place: usize },
-    // No schedule makes more moves than these.
-    Moves(usize),
-}
 
 // A while occurs among the terms.
 fn has_while(words: &[usize; 1024], count: usize) -> bool
@@ -38,7 +32,7 @@ fn has_while(words: &[usize; 1024], count: usize) -> bool
 }
 
 // Refusals 21 to 23 of a plan that passes the others and is in `words`, else the total.
-fn total_of(plan: &[u8], procedures: usize, count: usize, words: &[usize; 1024]) -> Bounded
+fn total_of(plan: &[u8], procedures: usize, count: usize, words: &[usize; 1024]) -> Answered
     requires { ⌜ Loads (now plan) procedures (now words) ⌝ }
     requires { ⌜ count ≡ terms (now plan) ⌝ }
     ensures { λ r. ⌜ answered r ≡ bounded (now (plan .entry)) ⌝ }
@@ -47,36 +41,36 @@ fn total_of(plan: &[u8], procedures: usize, count: usize, words: &[usize; 1024])
     let mut costs = [0usize; 32];
     let done = settling::settle(plan, procedures, words, &calls, &mut costs);
     if settling::lowest_left(done, procedures) < procedures {
-        return Bounded::Refused {
+        return Answered::Refused {
             number: 21,
             place: 0,
         };
     }
     if has_while(words, count) {
-        return Bounded::Refused {
+        return Answered::Refused {
             number: 22,
             place: 0,
         };
     }
     let total = costs[0] + 1;
     if total > 65535 {
-        return Bounded::Refused {
+        return Answered::Refused {
             number: 23,
             place: 0,
         };
     }
-    Bounded::Moves(total)
+    Answered::Value(total)
 }
 
 // The entry `bound`, for any bytes: a refusal, or a number of moves that no schedule of the plan goes beyond.
-pub fn bound(plan: &[u8]) -> Bounded
+pub fn bound(plan: &[u8]) -> Answered
     ensures answer { λ r. ⌜ answered r ≡ bounded (now (plan .entry)) ⌝ }
-    ensures most { λ r. ⌜ NoMoreMoves (now (plan .entry)) r ⌝ }
+    ensures most { λ r. ⌜ NoMoreMoves (now (plan .entry)) (answered r) ⌝ }
 {
     let mut words = [0usize; 1024];
     let checked = plan::load(plan, &mut words);
     if let Checked::Refused { number, place } = checked {
-        return Bounded::Refused { number, place };
+        return Answered::Refused { number, place };
     }
     let procedures = layout::procedures(plan);
     let count = layout::terms(plan);

@@ -20,7 +20,8 @@ use Rattle.rules.specs.Play.{runOf}
 use Rattle.rules.proofs.Executed.{plan-executes}
 use Rattle.costs.specs.Cost.{Costs, bodyCost, total}
 use Rattle.costs.specs.Calls.{cyclic}
-use Rattle.costs.specs.Bound.{hasWhile, overMost, boundChecks, boundRefusal, refused, moves, boundedBy, bounded}
+use Rattle.answers.specs.Answer.{value, answerBy}
+use Rattle.costs.specs.Bound.{hasWhile, overMost, boundChecks, boundRefusal, bounded}
 use Rattle.costs.proofs.Chains.{procedureCount}
 use Rattle.costs.proofs.Fixed.{fixed, total-is}
 use Rattle.costs.proofs.Loopless.{Loopless}
@@ -47,11 +48,11 @@ pub record Totalled (b : List ℕ) (n : ℕ) : Type 0 where
   pub most : n ≤ 65535
   pub total-of : n ≡ total (programOf b)
 
-pub totalled : (b : List ℕ) (n : ℕ) → bounded b ≡ moves n → Totalled b n
-unfolding bounded boundedBy overMost
+pub totalled : (b : List ℕ) (n : ℕ) → bounded b ≡ value n → Totalled b n
+unfolding bounded answerBy overMost
 totalled b n h = go (boundRefusal b) refl h
   where
-    go : (r : Option Refusal) → boundRefusal b ≡ r → boundedBy b r ≡ moves n → Totalled b n
+    go : (r : Option Refusal) → boundRefusal b ≡ r → answerBy r (total (programOf b)) ≡ value n → Totalled b n
     go (some r) e k = absurd (true≢false cc)
     go none e k =
         let s = both-none (refusal b) (firstRefusal (laterChecks b)) (sym (bound-stages b) ∙ e) in
@@ -76,7 +77,7 @@ main-simple zero t h =
 main-simple (suc p) t h = absurd (true≢false cc)
 
 -- for every plan that is answered a number, and every list of picks
-pub no-more-moves : (b : List ℕ) (n : ℕ) → bounded b ≡ moves n → (ps : List ℕ) → length (runOf b ps .instances) ≤ n
+pub no-more-moves : (b : List ℕ) (n : ℕ) → bounded b ≡ value n → (ps : List ℕ) → length (runOf b ps .instances) ≤ n
 unfolding start measure runOf total
 no-more-moves b n h ps =
     let k = totalled b n h in
@@ -86,14 +87,14 @@ no-more-moves b n h ps =
     omega arith
 
 -- the outcome's count too
-pub no-more-counted : (b : List ℕ) (n : ℕ) → bounded b ≡ moves n → (ps : List ℕ) → outcomeOf (programOf b) (runOf b ps) .moves ≤ n
+pub no-more-counted : (b : List ℕ) (n : ℕ) → bounded b ≡ value n → (ps : List ℕ) → outcomeOf (programOf b) (runOf b ps) .moves ≤ n
 unfolding outcomeOf
 no-more-counted b n h ps = no-more-moves b n h ps
 
 -- "The total is main's body and 1.", where "a call adds the called body", whatever says what bodies cost
-pub total-right : (b : List ℕ) (n : ℕ) → bounded b ≡ moves n → (B : ℕ → ℕ) → Costs (programOf b) B → n ≡ suc (B 0)
+pub total-right : (b : List ℕ) (n : ℕ) → bounded b ≡ value n → (B : ℕ → ℕ) → Costs (programOf b) B → n ≡ suc (B 0)
 total-right b n h B C = let k = totalled b n h in k .total-of ∙ total-is (programOf b) B C (k .acyclic)
 
 -- and something does
-pub costs-there : (b : List ℕ) (n : ℕ) → bounded b ≡ moves n → (B : ℕ → ℕ) × Costs (programOf b) B
+pub costs-there : (b : List ℕ) (n : ℕ) → bounded b ≡ value n → (B : ℕ → ℕ) × Costs (programOf b) B
 costs-there b n h = (bodyCost (programOf b) (procedureCount (programOf b)), fixed (programOf b) (totalled b n h .acyclic))

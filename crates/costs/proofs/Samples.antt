@@ -12,13 +12,14 @@ use Rattle.rules.specs.Play.{runOf}
 use Rattle.rules.specs.ShotList.{planP}
 use Rattle.costs.specs.Cost.{total}
 use Rattle.costs.specs.Calls.{cyclic}
-use Rattle.costs.specs.Bound.{Bounded, refused, moves, bounded, overMost}
+use Rattle.answers.specs.Answer.{Answer, value, refused}
+use Rattle.costs.specs.Bound.{bounded, overMost}
 
 -- ---- plans
 
 record Sample : Type 0 where
   plan : List ℕ
-  answer : Bounded
+  answer : Answer
 
 -- every tag but while: main is `let 0 = new() in let - = fork (synch v0 do (notify v0; notify all v0)) in let - = (synch v0 do wait v0) in` and
 -- `if not (null == v0) and null == null then one(v0) else null`; procedure 1 is `let 1 = new(1) in join (v1.1 := v0; fork v1.1)`
@@ -134,8 +135,8 @@ cycleAndWhile =
 samples : List Sample
 unfolding planP everyCost cycleUncalled callsItself whileUncalled cycleAndWhile
 samples =
-    record { plan = planP; answer = moves 7 }
-    ∷ record { plan = everyCost; answer = moves 28 }
+    record { plan = planP; answer = value 7 }
+    ∷ record { plan = everyCost; answer = value 28 }
     ∷ record { plan = cycleUncalled; answer = refused (record { number = 21; place = 0 }) }
     ∷ record { plan = callsItself; answer = refused (record { number = 21; place = 0 }) }
     ∷ record { plan = whileUncalled; answer = refused (record { number = 22; place = 0 }) }

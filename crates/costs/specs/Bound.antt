@@ -2,13 +2,14 @@
 use Prim.Native.Nat.{ℕ}
 use mathlib.Core.Bool.{Bool}
 use mathlib.Core.List.{List, [], _∷_, _++_}
-use mathlib.Core.Option.{Option, some, none}
+use mathlib.Core.Option.{Option}
 use lib.Dec.{eqb, ltb}
 use Rattle.format.specs.Refusal.{Refusal, Check, checkWhole, firstRefusal}
 use Rattle.packed.specs.Format.{terms, tagAt}
 use Rattle.packed.specs.Trees.{programOf}
 use Rattle.packed.specs.Refusals.{anyBelow}
 use Rattle.packed.specs.Check.{checks}
+use Rattle.answers.specs.Answer.{Answer, answerBy}
 use Rattle.costs.specs.Cost.{total}
 use Rattle.costs.specs.Calls.{cyclic}
 
@@ -39,18 +40,7 @@ unfoldable pub boundRefusal : List ℕ → Option Refusal
 unfolding boundChecks firstRefusal
 boundRefusal b = firstRefusal (boundChecks b)
 
--- a refusal, or "how many moves a plan can take at most"
-pub data Bounded : Type 0 where
-  refused : Refusal → Bounded
-  moves : ℕ → Bounded
-
--- the answer, by the refusal
-unfoldable pub boundedBy : List ℕ → Option Refusal → Bounded
-unfolding total programOf
-boundedBy b (some r) = refused r
-boundedBy b none = moves (total (programOf b))
-
--- the answer to a plan
-unfoldable pub bounded : List ℕ → Bounded
-unfolding boundedBy boundRefusal
-bounded b = boundedBy b (boundRefusal b)
+-- the answer to a plan: a refusal, or "how many moves a plan can take at most"
+unfoldable pub bounded : List ℕ → Answer
+unfolding answerBy boundRefusal total programOf
+bounded b = answerBy (boundRefusal b) (total (programOf b))

@@ -1,7 +1,7 @@
 -- What the tools of document 02 answer is small: a value of 32 bits, or a refusal's number and place. Assumes nothing.
 use Prim.Native.Nat.{ℕ, _+_, _*_, _≤_, _<_, _^_}
 use native.Mathlib.Omega.{arith}
-use mathlib.Core.Path.{_≡_, refl, sym, _∙_}
+use mathlib.Core.Path.{_≡_, refl, sym, ap, _∙_}
 use mathlib.Core.Bool.{Bool}
 use mathlib.Core.List.{List, [], _∷_}
 use mathlib.Core.Option.{Option, some, none}
@@ -10,7 +10,7 @@ use Rattle.format.specs.Refusal.{Refusal, checkWhole, firstRefusal}
 use Rattle.format.proofs.RefusalLaws.{both-none}
 use Rattle.records.specs.Refusals.{logRefusal}
 use Rattle.records.proofs.Accepted.{accepted}
-use Rattle.refusals.specs.Small.{SmallCheck}
+use Rattle.refusals.specs.Small.{Small, SmallCheck}
 use Rattle.refusals.proofs.Bounds.{small-checks, small-stages}
 use Rattle.answers.specs.Answer.{answerBy}
 use Rattle.numbers.specs.Small.{SmallAnswer}
@@ -34,6 +34,9 @@ use Rattle.written.proofs.OneWay.{same-length}
 use Rattle.canonical.specs.Canonical.{canonicalRefusal, canonicalAnswer}
 use Rattle.canonical.proofs.Chain.{outputChecks, passes-both}
 use Rattle.canonical.proofs.Chain as chain
+use Rattle.costs.specs.Cost.{total}
+use Rattle.costs.specs.Bound.{boundRefusal, bounded}
+use Rattle.costs.proofs.Plans.{laterChecks, bound-stages, totalled}
 use Rattle.ruqzhemil.proofs.Refusals.{few-procedures, few-terms, small-plan, small-log, small-schedule}
 
 small-answer : (o : Option Refusal) (n : ℕ) → SmallCheck o → (o ≡ none → n < 2 ^ 32) → SmallAnswer (answerBy o n)
@@ -82,3 +85,18 @@ small-canonical plan area = small-answer (canonicalRefusal plan area) (length (w
 
     few : canonicalRefusal plan area ≡ none → length (writtenPlan plan) < 2 ^ 32
     few e = let passed = passes-both plan area e .0 in omega (arith, same-length plan passed, few-bytes plan passed)
+
+pub small-bound : (plan : List ℕ) → SmallAnswer (bounded plan)
+unfolding bounded answerBy
+small-bound plan = small-answer (boundRefusal plan) (total (programOf plan)) small few
+  where
+    one : (k : ℕ) → k ≤ 24 → Small k 1
+    one k h = (h, omega arith)
+
+    small : SmallCheck (boundRefusal plan)
+    small =
+        rw (bound-stages plan)
+        (small-stages (refusal plan) (firstRefusal (laterChecks plan)) (small-plan plan) (small-checks (laterChecks plan) (one 21 (omega arith), (one 22 (omega arith), (one 23 (omega arith), tt)))))
+
+    few : boundRefusal plan ≡ none → total (programOf plan) < 2 ^ 32
+    few e = omega (arith, totalled plan (total (programOf plan)) (ap (λ (o : Option Refusal). answerBy o (total (programOf plan))) e) .most)

@@ -10,6 +10,7 @@ ghost use Rattle.preview.specs.Preview.{previewed};
 ghost use Rattle.preview_bytes.specs.Bytes.{previewNumber};
 ghost use Rattle.preview_bytes.specs.Bytes as preview;
 ghost use Rattle.canonical.specs.Canonical.{canonicalAnswer, canonicalArea};
+ghost use Rattle.costs.specs.Bound.{bounded};
 ghost use Rattle.charge.specs.Charge.{charged};
 ghost use Rattle.waveform.specs.Comtrade.{comtradeAnswer, comtradeArea};
 ghost use Rattle.ruqzhemil.specs.Bytes.{outAfter};
@@ -90,6 +91,15 @@ pub extern "C" fn ruqzhemil_comtrade(log: &[u8], area: &mut [u8]) -> u64
     ensures area { λ r. ⌜ now (area .exit) ≡ comtradeArea (now (log .entry)) (now (area .entry)) ⌝ }
 {
     let answered = waveform::comtrade(log, area);
+    numbers::of_answer(answered)
+}
+
+// How many moves a plan can need at most: no schedule makes more.
+#[no_mangle]
+pub extern "C" fn ruqzhemil_bound(plan: &[u8]) -> u64
+    ensures { λ r. ⌜ r ≡ answerNumber (bounded (now (plan .entry))) ⌝ }
+{
+    let answered = bound::bound(plan);
     numbers::of_answer(answered)
 }
 

@@ -7,7 +7,8 @@
 // and of the log, two; what comtrade returns, eight; then the log and the file, empty where it is refused. A case of a charge: the lengths of plan and
 // schedule, two bytes each; the option and what charge returns, eight each; then plan and schedule. A case of a preview: the same with the pick and what
 // preview returns, and the eight bytes of the preview before the plan. A case of a plan: the lengths of plan and area, two bytes each; what canonical
-// returns, eight; then the plan and the written plan, empty where it is refused. A case that ends before the parts that its lengths name is wrong.
+// returns, eight; then the plan and the written plan, empty where it is refused. A case of a bound: what bound returns, eight bytes; then the plan. A case
+// that ends before the parts that its lengths name is wrong.
 ghost use Prim.Native.Nat.{_+_, _≤_};
 ghost use lib.ListN.{length};
 use judge::Judgement;
@@ -273,4 +274,12 @@ pub fn plan_case(case: &[u8]) -> bool {
     let mut area = [FILL; 16384];
     let got = canonical_in(&case[12..end], &mut area, size);
     (got == number_at(case, 4)) & begins(&area, &case[end..])
+}
+
+// What bound returns for a plan.
+pub fn bound_case(case: &[u8]) -> bool {
+    if case.len() < 8 {
+        return false;
+    }
+    ruqzhemil::ruqzhemil_bound(&case[8..]) == number_at(case, 0)
 }

@@ -12,6 +12,7 @@ pub enum Group {
     Charge,
     Preview,
     Plan,
+    Bound,
 }
 
 // What the next case of a file is.
@@ -38,6 +39,7 @@ fn right(group: Group, case: &[u8]) -> bool {
         Group::Charge => stored_cases::charge_case(case),
         Group::Preview => stored_cases::preview_case(case),
         Group::Plan => stored_cases::plan_case(case),
+        Group::Bound => stored_cases::bound_case(case),
     }
 }
 

@@ -78,7 +78,8 @@ fn files(all: Tally) -> Tally {
 fn tools(all: Tally) -> Tally {
     let all = group(b"charges: ", b"charges", Group::Charge, all);
     let all = group(b"previews: ", b"previews", Group::Preview, all);
-    group(b"plans, written: ", b"plans", Group::Plan, all)
+    let all = group(b"plans, written: ", b"plans", Group::Plan, all);
+    group(b"bounds: ", b"bounds", Group::Bound, all)
 }
 
 // Cases with one part of their answer changed, so that each must differ.
@@ -103,12 +104,13 @@ fn changed() -> Tally {
         Group::Preview,
         all,
     );
-    group(
+    let all = group(
         b"changed plans, written: ",
         b"changed_plans",
         Group::Plan,
         all,
-    )
+    );
+    group(b"changed bounds: ", b"changed_bounds", Group::Bound, all)
 }
 
 fn main() {

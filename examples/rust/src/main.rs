@@ -47,6 +47,18 @@ fn preview(schedule: &[u8], pick: u64) {
     }
 }
 
+/// while true do null
+const ENDLESS: [u8; 25] = [
+    0x10, 0x40, 0x0c, 0x00, 0x80, 0x00, 0x00, 0x00, 0x00, 0x00, 0x38, 0x02, 0x01, 0x00, 0x00, 0x60, 0x00, 0x00, 0x00, 0x00, 0x00, 0x00, 0x00, 0x00, 0x00,
+];
+
+fn bound(name: &str, plan: &[u8]) {
+    match ruqzhemil::bound(plan) {
+        Ok(moves) => println!("{name} needs at most {moves} moves"),
+        Err(refusal) => println!("{name} needs {refusal}"),
+    }
+}
+
 /// synch new() do null, with the body's term before the object's
 const TURNED: [u8; 25] = [
     0x10, 0x40, 0x0c, 0x00, 0x80, 0x00, 0x00, 0x00, 0x00, 0x00, 0x58, 0x04, 0x00, 0x80, 0x00, 0x00, 0x00, 0x00, 0x00, 0x00, 0x10, 0x00, 0x00, 0x00, 0x00,
@@ -100,6 +112,8 @@ fn main() {
     }
     canonical(TURNED.len());
     canonical(TURNED.len() - 1);
+    bound("P", &PLAN);
+    bound("a loop", &ENDLESS);
     charge(&[0, 0, 0, 0, 0, 1, 0], false);
     charge(&[0, 0, 0, 0, 0, 1, 0], true);
     charge(&[0, 8], true);

@@ -3,7 +3,7 @@ use mathlib.Core.Path.{refl}
 use native.Mathlib.Omega.{arith}
 use borrow.Author.Needs.{needs}
 use Rattle.refusals.proofs.Stages.{passed-none}
-use Rattle.bound.specs.Answer.{answered, NoMoreMoves}
+use Rattle.bound.specs.NoMoreMoves.{NoMoreMoves}
 use Rattle.bound.proofs.Answers.{by-check, no-more}
 use Rattle.bound.proofs.Bodies.{long-enough}
 use Rattle.bound.proofs.bound.Statement.{statement}
@@ -16,7 +16,7 @@ enum-known-checked : tie.Need-enum-known-checked
 enum-known-checked c = search needs
 
 returns : tie.Need-returns
-unfolding answered NoMoreMoves
+unfolding NoMoreMoves
 returns c = let k = c .before in (by-check _ _ _ _ (k .before .before .load .ensures .0) (k .checked .given .1), tt)
 
 enum-told : tie.Need-enum-told

@@ -9,7 +9,6 @@ use Rattle.keys.specs.Keys.{holds}
 use Rattle.packed.specs.Trees.{programOf}
 use Rattle.packed.proofs.Accepted.{accepted}
 use Rattle.costs.specs.Calls.{cyclic}
-use Rattle.bound.specs.Answer.{answered}
 use Rattle.bound.proofs.Bodies.{few-procedures}
 use Rattle.bound.proofs.Answers.{left-cyclic, all-acyclic, total-in, main-cost, while-in, answer-21, answer-22, answer-23, answer-moves}
 use Rattle.bound.proofs.total_of.Statement.{statement}
@@ -25,7 +24,6 @@ lowest-left-requires : tie.Need-lowest-left-requires
 lowest-left-requires c κs = let m = few-procedures (c .before .before .before .before .before .pre .0) in omega arith
 
 returns : tie.Need-returns
-unfolding answered
 returns c =
     let f = c .before in
     let d = f .before in
@@ -46,7 +44,6 @@ has-while-requires c κs =
     omega arith
 
 returns-2 : tie.Need-returns-2
-unfolding answered
 returns-2 c =
     let h = c .before in
     let e = h .before in
@@ -64,7 +61,6 @@ add-total c =
     omega (arith, main-cost (s .pre .0) (e .before .before .settle .ensures .0) (all-known e))
 
 returns-3 : tie.Need-returns-3
-unfolding answered
 returns-3 c =
     let n = c .before in
     let h = n .before in
@@ -75,7 +71,6 @@ returns-3 c =
     _ (total-in (s .pre .0) S (all-known e) _ refl) (c .if3 .taken)
 
 returns-4 : tie.Need-returns-4
-unfolding answered
 returns-4 c =
     let n = c .before in
     let h = n .before in
