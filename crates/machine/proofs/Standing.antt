@@ -6,8 +6,8 @@ use lib.ListN.{length, getElem?}
 use Rattle.packed.specs.Syntax.{Program}
 use Rattle.rules.specs.State.{Cell, Thread, monitorOf, lookup, monitor}
 use Rattle.rules.proofs.Decompose.{focus-whole}
-use Rattle.rules.proofs.Placed.{Good, holds}
-use Rattle.rules.proofs.Invariant.{GivenUp, In, heldBy}
+use Rattle.rules.proofs.Placed.{Good, holds, GivenUp}
+use Rattle.rules.proofs.Invariant.{In, heldBy}
 use Rattle.machine.specs.Machine as machine
 use Rattle.machine.specs.Machine.{Table}
 use Rattle.machine.proofs.Meaning.{mean}

@@ -10,9 +10,9 @@ use mathlib.Core.Option.{some, none}
 use lib.ListN.{length, getElem?}
 use Rattle.keys.specs.Keys.{Keys, empty}
 use Rattle.packed.specs.Syntax.{Expression, Program}
-use Rattle.rules.specs.Context.{Redex, Focus, value, here, hereᶜ, focus, top}
+use Rattle.rules.specs.Context.{focus, top}
 use Rattle.rules.specs.State.{Cell, Thread, State, fresh, freshObject, lookup, monitor, store, storeMonitor, addObject, changeAt, gain, become, addThread, useKey, inPlace}
-use Rattle.rules.proofs.Placed.{Good, holds, Landed}
+use Rattle.rules.proofs.Placed.{Good, holds, GivenUp}
 use Rattle.rules.proofs.MoreObjects.{good-more}
 use Rattle.rules.proofs.Relocated.{Relocated, withThreads, was-there}
 use Rattle.rules.proofs.StateLaws.{added, length-added, change-length, store-same, store-other, store-monitor, lock-same, lock-other, lock-lookup, new-lookup, new-monitor, new-monitors, who, whose}
@@ -28,28 +28,6 @@ Once (a ∷ os) = (In a os → ⊥) × Once os
 -- the objects that a thread has still to release
 abbrev pub owed : Thread → List ℕ
 owed t = holds (focus top (t .expression))
-
--- the part has given up the monitor of o, which a pending hold has still to release (document 02, E3: "Wait gives up the monitor")
-abbrev pub GivesUp : Redex → ℕ → Type 0
-GivesUp (Redex.variable x) o = ⊥
-GivesUp (Redex.new fs) o = ⊥
-GivesUp (Redex.read a f) o = ⊥
-GivesUp (Redex.write a f v) o = ⊥
-GivesUp (Redex.letIn x a e) o = ⊥
-GivesUp (Redex.if b e e′) o = ⊥
-GivesUp (Redex.while c e) o = ⊥
-GivesUp (Redex.call m os) o = ⊥
-GivesUp (Redex.fork e) o = ⊥
-GivesUp (Redex.join a) o = ⊥
-GivesUp (Redex.synch a e) o = ⊥
-GivesUp (Redex.hold a v) o = ⊥
-GivesUp (Redex.signal k a) o = ⊥
-GivesUp (Redex.waiting a) o = o ≡ a
-
-abbrev pub GivenUp : Focus → ℕ → Type 0
-GivenUp (value v) o = ⊥
-GivenUp (here K r) o = GivesUp r o
-GivenUp (hereᶜ K r) o = ⊥
 
 -- a monitor that the thread holds
 abbrev pub heldBy : Thread → Cell
@@ -204,15 +182,15 @@ unfolding gain
 inv-gain g s p W n t I at = inv-change g s I p _ t at refl (sound-same g s (gain s p W n) t _ refl (record { self = refl; expression = refl }) (I .each p t at))
 
 pub inv-become : (g : Program) (s : State) (p : ℕ) (e : Expression) (t : Thread) (os : List ℕ) → Inv g s → getElem? (s .threads) p ≡ some t
-    → Landed g (length (s .objects)) os (focus top e) → ((o : ℕ) → In o os → (GivenUp (focus top e) o → ⊥) → monitor s o ≡ some (heldBy t)) → Once os → Inv g (become s p e)
+    → Good g (length (s .objects)) (focus top e) → holds (focus top e) ≡ os → ((o : ℕ) → In o os → (GivenUp (focus top e) o → ⊥) → monitor s o ≡ some (heldBy t)) → Once os → Inv g (become s p e)
 unfolding become monitor
-inv-become g s p e t os I at l held once =
+inv-become g s p e t os I at good theirs held once =
     inv-change g s I p _ t at refl
     (record {
-      good = l .good;
+      good = good;
       self-there = I .each p t at .self-there;
-      held = λ o i n. held o (rw (l .theirs) at i) n;
-      once = rw (l .theirs) once;
+      held = λ o i n. held o (rw theirs at i) n;
+      once = rw theirs once;
     })
 
 pub inv-thread : (g : Program) (s : State) (u : Thread) → Inv g s → Sound g s u → ((q : ℕ) (t : Thread) → getElem? (s .threads) q ≡ some t → t .self ≡ u .self → ⊥) → Inv g (addThread s u)

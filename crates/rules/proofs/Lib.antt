@@ -27,3 +27,4 @@ pub mod Bridge
 pub mod RoomLaws
 pub mod TidyRuns
 pub mod RunKeys
+pub mod Holders

@@ -13,14 +13,14 @@ use Rattle.keys.specs.Keys.{Keys, empty, singleton, union, isEmpty}
 use Rattle.packed.specs.Syntax.{Signal, Expression, Condition, Arguments, literal, bind, bindParameters, substitute, Program, Procedure, bool, sequence}
 use Rattle.packed.specs.Slots.{bound}
 use Rattle.rules.specs.Context.{Context, Contextᶜ, Focus, focus, top, here, hold, plug, plugᶜ, Redex, Redexᶜ, redexExpression, redexCondition, literals}
-use Rattle.rules.specs.State.{Cell, cell, Thread, State, freshObject, lookup, monitor, store, storeMonitor, addObject, gain, become, addThread, forked, useKey, enqueue, signalled}
+use Rattle.rules.specs.State.{Cell, cell, Thread, State, freshObject, lookup, monitor, store, storeMonitor, addObject, gain, become, addThread, forked, useKey, enqueue, signalled, threadOf, Numbered}
 use Rattle.records.specs.Record.{Record}
 use Rattle.rules.specs.Rules.{Rule, Converts, E-CALL, E-LET, E-IF, E-WHILE, E-NEW, E-READ, E-WRITE, E-READV, E-WRITEV, E-FORK, E-JOIN, E-RE-ENTER, E-ACQUIRE, E-RELEASE, E-WAIT, E-WAKE, E-NOTIFY, E-NOTIFYALL, Convertsᶜ, E-NOTNOTTRUE, E-ANDTRUE, E-ANDFALSE, E-EQUALTRUE, E-EQUALFALSE, Moves, EVAL, EVALᶜ}
 use Rattle.packed.proofs.WellFormed.{WellFormedProgram, unbound}
 use Rattle.rules.proofs.Closing.{more, filled, covers-one, covers-params}
-use Rattle.rules.proofs.Placed.{Landed, Text, Textᶜ, Around, Ready, Readyᶜ, Good, held, holds, pending, pendingᶜ, rise, riseᶜ}
+use Rattle.rules.proofs.Placed.{Landed, Text, Textᶜ, Around, Ready, Readyᶜ, Good, held, holds, pending, pendingᶜ, GivesUp, GivenUp, rise, riseᶜ}
 use Rattle.rules.proofs.StateLaws.{inside, added-old, change-same, lock-same, lock-other, found-thread}
-use Rattle.rules.proofs.Invariant.{In, Once, owed, GivesUp, GivenUp, heldBy, Sound, Inv, inv-store, inv-key, inv-lock, length-new, inv-new, inv-gain, inv-become, inv-thread, inv-relocated}
+use Rattle.rules.proofs.Invariant.{In, Once, owed, heldBy, Sound, Inv, inv-store, inv-key, inv-lock, length-new, inv-new, inv-gain, inv-become, inv-thread, inv-relocated}
 use Rattle.rules.proofs.Relocated.{is-there, relocated-become, enqueue-relocated, signalled-relocated}
 use Rattle.rules.proofs.FocusPlug.{found, foundᶜ}
 
@@ -57,18 +57,43 @@ module _ (g : Program) (s : State) (p : ℕ) (t : Thread) (K : Context) (I : Inv
 
   pub settle : Keeping → (e : Expression) → held x (pending K) ≡ pending K → Text g (length (s .objects)) e → Inv g (become s p (plug K e))
   settle w e q c =
-      inv-become g s p (plug K e) t (pending K) I at (rise g (length (s .objects)) K e (placed .0) c)
-      (λ o i n. owing w o (rw q i)) (rw q at owing-once)
+      let l = rise g (length (s .objects)) K e (placed .0) c in
+      inv-become g s p (plug K e) t (pending K) I at (l .good) (l .theirs) (λ o i n. owing w o (rw q i)) (rw q at owing-once)
 
 module _ (g : Program) (P : WellFormedProgram g) (s : State) (I : Inv g s) (p : ℕ) (t : Thread) (ht : getElem? (s .threads) p ≡ some t) (K : Context) where
   abbrev N : ℕ
   N = length (s .objects)
 
-  kept-call : (m : ℕ) (os : List ℕ) (d : Procedure) → getElem? (g .procedures) m ≡ some d → d .parameters ≡ length os → t .expression ≡ plug K (Expression.call m (literals os Arguments.end)) → Inv g (become s p (plug K (substitute (bindParameters os) (d .body))))
+  -- ---- what a rule leaves is text
+
+  pub text-call : (m : ℕ) (os : List ℕ) (d : Procedure) → getElem? (g .procedures) m ≡ some d → d .parameters ≡ length os → t .expression ≡ plug K (Expression.call m (literals os Arguments.end))
+      → Text g N (substitute (bindParameters os) (d .body))
   unfolding redexExpression
-  kept-call m os d hd hp he =
-      settle g s p t K I ht (Redex.call m os) he (λ o z. z) (substitute (bindParameters os) (d .body)) refl
-      (filled g N (bindParameters os) _ unbound (covers-params N (d .parameters) os (placed g s p t K I ht (Redex.call m os) he .1 .1) hp) (d .body) (more g 1 N (I .null-there) _ (d .body) (P .bodies m d hd)))
+  text-call m os d hd hp he =
+      filled g N (bindParameters os) _ unbound (covers-params N (d .parameters) os (placed g s p t K I ht (Redex.call m os) he .1 .1) hp) (d .body) (more g 1 N (I .null-there) _ (d .body) (P .bodies m d hd))
+
+  pub text-let : (x : Option ℕ) (o : ℕ) (e : Expression) → t .expression ≡ plug K (Expression.letIn x (literal o) e) → Text g N (substitute (bind x o) e)
+  unfolding redexExpression bound
+  text-let x o e he = let pl = placed g s p t K I ht (Redex.letIn x o e) he in filled g N (bind x o) _ unbound (covers-one N x o (pl .1 .0)) e (pl .1 .1)
+
+  choose-text : (b : Bool) (e e′ : Expression) → Text g N e → Text g N e′ → Text g N (cond b e e′)
+  choose-text true e e′ h k = h
+  choose-text false e e′ h k = k
+
+  pub text-if : (b : Bool) (e e′ : Expression) → t .expression ≡ plug K (Expression.if (bool b) e e′) → Text g N (cond b e e′)
+  unfolding redexExpression
+  text-if b e e′ he = let pl = placed g s p t K I ht (Redex.if b e e′) he in choose-text b e e′ (pl .1 .0) (pl .1 .1)
+
+  pub text-while : (c : Condition) (e : Expression) → t .expression ≡ plug K (Expression.while c e) → Text g N (Expression.if c (sequence e (Expression.while c e)) (literal 0))
+  unfolding redexExpression sequence bound
+  text-while c e he = let pl = placed g s p t K I ht (Redex.while c e) he in (pl .1 .0, (pl .1 .1, (pl .1 .0, pl .1 .1)), I .null-there)
+
+  -- the value of a thread that has become one
+  pub value-there : (o v : ℕ) (q : Numbered) → threadOf 0 (s .threads) o ≡ some q → q .thread .expression ≡ literal v → v < N
+  unfolding focus
+  value-there o v q h l = let j = found-thread (s .threads) 0 o q h in along (λ (e : Expression). Good g N (focus top e)) l (I .each (j .0) (q .thread) (j .2) .good)
+
+  -- ---- the rules
 
   -- no thread has to release a monitor that is free
   free-of : (o : ℕ) (c : Cell) → monitor s o ≡ some c → isEmpty (c .keys) ≡ false → (q : ℕ) (u : Thread) → getElem? (s .threads) q ≡ some u → In o (owed u)
@@ -83,7 +108,8 @@ module _ (g : Program) (P : WellFormedProgram g) (s : State) (I : Inv g s) (p : 
   kept-acquire : (o : ℕ) (e : Expression) (c : Cell) (W : Keys) (count : Keys → ℕ) → monitor s o ≡ some c → isEmpty (c .keys) ≡ false → t .expression ≡ plug K (Expression.synch (literal o) e)
       → Inv g (become (gain (storeMonitor s o (cell empty (t .self))) p W count) p (plug K (Expression.hold o e)))
   unfolding redexExpression plug gain storeMonitor monitor
-  kept-acquire o e c W count m f he = inv-become g s₂ p (plug (hold K o) e) (gained t W count) (o ∷ pending K) I₂ at₂ (rise g (length (s₂ .objects)) (hold K o) e (pl .1 .0, pl .0) (pl .1 .1)) (λ a i n. mine a i) (first, owing-once g s p t K I ht (Redex.synch o e) he)
+  kept-acquire o e c W count m f he =
+      inv-become g s₂ p (plug (hold K o) e) (gained t W count) (o ∷ pending K) I₂ at₂ (landed .good) (landed .theirs) (λ a i n. mine a i) (first, owing-once g s p t K I ht (Redex.synch o e) he)
     where
       s₁ : State
       s₁ = storeMonitor s o (record { keys = empty; value = t .self })
@@ -102,6 +128,9 @@ module _ (g : Program) (P : WellFormedProgram g) (s : State) (I : Inv g s) (p : 
 
       pl : Around g (length (s₂ .objects)) K × Ready g (length (s₂ .objects)) (Redex.synch o e)
       pl = placed g s₂ p (gained t W count) K I₂ at₂ (Redex.synch o e) he
+
+      landed : Landed g (length (s₂ .objects)) (o ∷ pending K) (focus top (plug (hold K o) e))
+      landed = rise g (length (s₂ .objects)) (hold K o) e (pl .1 .0, pl .0) (pl .1 .1)
 
       first : In o (pending K) → ⊥
       first i = free-of o c m f p t ht (rw (owes g s p t K I ht (Redex.synch o e) he) i) (λ z. rw (seen g s p t K I ht (Redex.synch o e) he) at z)
@@ -152,8 +181,11 @@ module _ (g : Program) (P : WellFormedProgram g) (s : State) (I : Inv g s) (p : 
       once : Once (o ∷ pending K)
       once = owing-once g s p t K I ht (Redex.hold o v) he
 
+      landed : Landed g N (pending K) (focus top (plug K (literal v)))
+      landed = rise g N K (literal v) (pl .0) (pl .1 .1)
+
       I₁ : Inv g s₁
-      I₁ = inv-become g s p (plug K (literal v)) t (pending K) I ht (rise g N K (literal v) (pl .0) (pl .1 .1)) (λ a i n. owing g s p t K I ht (Redex.hold o v) he (λ o z. z) a (inr i)) (once .1)
+      I₁ = inv-become g s p (plug K (literal v)) t (pending K) I ht (landed .good) (landed .theirs) (λ a i n. owing g s p t K I ht (Redex.hold o v) he (λ o z. z) a (inr i)) (once .1)
 
       at₁ : getElem? (s₁ .threads) p ≡ some (record { self = t .self; expression = plug K (literal v); keys = t .keys; learnt = t .learnt; place = t .place })
       at₁ = change-same (s .threads) p _ t ht
@@ -169,7 +201,7 @@ module _ (g : Program) (P : WellFormedProgram g) (s : State) (I : Inv g s) (p : 
           go (yes e) =
               let k : some (record { self = t .self; expression = plug K (literal v); keys = t .keys; learnt = t .learnt; place = t .place }) ≡ some u = sym at₁ ∙ ap (λ (a : ℕ). getElem? (s₁ .threads) a) e ∙ hu in
               let j : record { self = t .self; expression = plug K (literal v); keys = t .keys; learnt = t .learnt; place = t .place } ≡ u = cc in
-              once .0 (rw (rise g N K (literal v) (pl .0) (pl .1 .1) .theirs) at (along (λ (w : Thread). In o (owed w)) (sym j) i))
+              once .0 (rw (landed .theirs) at (along (λ (w : Thread). In o (owed w)) (sym j) i))
           go (no e) =
               let k : some (heldBy t) ≡ some (heldBy u) = sym m₁ ∙ here′ in
               let j : heldBy t ≡ heldBy u = cc in
@@ -195,11 +227,8 @@ module _ (g : Program) (P : WellFormedProgram g) (s : State) (I : Inv g s) (p : 
       now : focus top (plug K (Expression.waiting o)) ≡ here K (Redex.waiting o)
       now = found K (Redex.waiting o)
 
-      landed : Landed g N (pending K) (focus top (plug K (Expression.waiting o)))
-      landed = rw now (record { good = (pl .0, pl .1); theirs = refl })
-
       I₁ : Inv g s₁
-      I₁ = inv-become g s p (plug K (Expression.waiting o)) t (pending K) I ht landed (λ a i k. owing g s p t K I ht (Redex.signal Signal.wait o) he (λ o z. z) a i) (owing-once g s p t K I ht (Redex.signal Signal.wait o) he)
+      I₁ = inv-become g s p (plug K (Expression.waiting o)) t (pending K) I ht (rw now (pl .0, pl .1)) (ap holds now) (λ a i k. owing g s p t K I ht (Redex.signal Signal.wait o) he (λ o z. z) a i) (owing-once g s p t K I ht (Redex.signal Signal.wait o) he)
 
       t₁ : Thread
       t₁ = record { self = t .self; expression = plug K (Expression.waiting o); keys = t .keys; learnt = t .learnt; place = t .place }
@@ -225,7 +254,8 @@ module _ (g : Program) (P : WellFormedProgram g) (s : State) (I : Inv g s) (p : 
   kept-wake : (o : ℕ) (c : Cell) (W : Keys) (count : Keys → ℕ) → monitor s o ≡ some c → isEmpty (c .keys) ≡ false → t .expression ≡ plug K (Expression.waiting o)
       → Inv g (become (gain (storeMonitor s o (cell empty (t .self))) p W count) p (plug K (literal 0)))
   unfolding redexExpression gain storeMonitor monitor
-  kept-wake o c W count m f he = inv-become g s₂ p (plug K (literal 0)) (gained t W count) (pending K) I₂ at₂ (rise g (length (s₂ .objects)) K (literal 0) (pl .0) (I₂ .null-there)) (λ a i n. mine a i (ℕ-discrete o a)) (owing-once g s p t K I ht (Redex.waiting o) he)
+  kept-wake o c W count m f he =
+      inv-become g s₂ p (plug K (literal 0)) (gained t W count) (pending K) I₂ at₂ (landed .good) (landed .theirs) (λ a i n. mine a i (ℕ-discrete o a)) (owing-once g s p t K I ht (Redex.waiting o) he)
     where
       s₁ : State
       s₁ = storeMonitor s o (heldBy t)
@@ -244,6 +274,9 @@ module _ (g : Program) (P : WellFormedProgram g) (s : State) (I : Inv g s) (p : 
 
       pl : Around g (length (s₂ .objects)) K × Ready g (length (s₂ .objects)) (Redex.waiting o)
       pl = placed g s₂ p (gained t W count) K I₂ at₂ (Redex.waiting o) he
+
+      landed : Landed g (length (s₂ .objects)) (pending K) (focus top (plug K (literal 0)))
+      landed = rise g (length (s₂ .objects)) K (literal 0) (pl .0) (I₂ .null-there)
 
       mine : (a : ℕ) → In a (pending K) → Dec (o ≡ a) → monitor s₂ a ≡ some (heldBy t)
       mine a i (yes q) = rw (← q) (lock-same s o (heldBy t) c m)
@@ -303,31 +336,19 @@ module _ (g : Program) (P : WellFormedProgram g) (s : State) (I : Inv g s) (p : 
       at₂ : getElem? (s₂ .threads) p ≡ some t
       at₂ = added-old (s .threads) u p (inside (s .threads) p t ht) ∙ ht
 
-  choose-text : (b : Bool) (e e′ : Expression) → Text g N e → Text g N e′ → Text g N (cond b e e′)
-  choose-text true e e′ h k = h
-  choose-text false e e′ h k = k
-
   pub kept : {e : Expression} {R : Rule} {r : Option Record} {s′ : State} {e′ : Expression} → Converts g s p t e R r s′ e′ → t .expression ≡ plug K e → Inv g (become s′ p (plug K e′))
-  unfolding redexExpression sequence bound store useKey addObject lookup focus
-  kept (E-CALL {m} os {d} hd hp) he = kept-call m os d hd hp he
-  kept (E-LET {x} {o} {e}) he =
-      let pl = placed g s p t K I ht (Redex.letIn x o e) he in
-      settle g s p t K I ht (Redex.letIn x o e) he (λ o z. z) (substitute (bind x o) e) refl (filled g N (bind x o) _ unbound (covers-one N x o (pl .1 .0)) e (pl .1 .1))
-  kept (E-IF b {e} {e′}) he =
-      let pl = placed g s p t K I ht (Redex.if b e e′) he in
-      settle g s p t K I ht (Redex.if b e e′) he (λ o z. z) (cond b e e′) refl (choose-text b e e′ (pl .1 .0) (pl .1 .1))
-  kept (E-WHILE {c} {e}) he =
-      let pl = placed g s p t K I ht (Redex.while c e) he in
-      settle g s p t K I ht (Redex.while c e) he (λ o z. z) _ refl (pl .1 .0, (pl .1 .1, (pl .1 .0, pl .1 .1)), I .null-there)
+  unfolding redexExpression store useKey addObject lookup
+  kept (E-CALL {m} os {d} hd hp) he = settle g s p t K I ht (Redex.call m os) he (λ o z. z) _ refl (text-call m os d hd hp he)
+  kept (E-LET {x} {o} {e}) he = settle g s p t K I ht (Redex.letIn x o e) he (λ o z. z) _ refl (text-let x o e he)
+  kept (E-IF b {e} {e′}) he = settle g s p t K I ht (Redex.if b e e′) he (λ o z. z) _ refl (text-if b e e′ he)
+  kept (E-WHILE {c} {e}) he = settle g s p t K I ht (Redex.while c e) he (λ o z. z) _ refl (text-while c e he)
   kept (E-NEW {fs}) he = settle g (addObject s (freshObject fs)) p t K (inv-new g s fs I) ht (Redex.new fs) he (λ o z. z) (literal N) refl (omega (arith, length-new s fs))
   kept (E-READ w {o} {f} {v} h k vol) he = settle g s p t K I ht (Redex.read o f) he (λ o z. z) (literal v) refl (I .cells o f _ h)
   kept (E-WRITE w {o} {f} {u} {v} h k vol) he = kept-write o f v _ _ h he
   kept (E-READV {o} {f} {v} h vol) he = settle-gain _ _ (Redex.read o f) (λ o z. z) v he refl (I .cells o f _ h)
   kept (E-WRITEV {o} {f} h vol) he = settle-write _ o f _ h he
   kept (E-FORK {e}) he = kept-fork e he
-  kept (E-JOIN {o} {v} {q} h l) he =
-      let j = found-thread (s .threads) 0 o q h in
-      settle-gain _ _ (Redex.join o) (λ o z. z) v he refl (along (λ (e : Expression). Good g N (focus top e)) l (I .each (j .0) (q .thread) (j .2) .good))
+  kept (E-JOIN {o} {v} {q} h l) he = settle-gain _ _ (Redex.join o) (λ o z. z) v he refl (value-there o v q h l)
   kept (E-RE-ENTER {o} {e} h) he = settle g s p t K I ht (Redex.synch o e) he (λ o z. z) e refl (placed g s p t K I ht (Redex.synch o e) he .1 .1)
   kept (E-ACQUIRE {o} {u} {W} {e} h n) he = kept-acquire o e (cell W u) _ _ h n he
   kept (E-RELEASE {o} {v} h) he = kept-release o v h he
@@ -342,7 +363,8 @@ module _ (g : Program) (s : State) (I : Inv g s) (p : ℕ) (t : Thread) (ht : ge
       let seen′ = ap (focus top) h ∙ foundᶜ K x in
       let d = I .each p t ht in
       let pl = along (Good g (length (s .objects))) seen′ (d .good) in
-      inv-become g s p (plugᶜ K b) t (pendingᶜ K) I ht (riseᶜ g (length (s .objects)) K b (pl .0) (c (pl .1)))
+      let l = riseᶜ g (length (s .objects)) K b (pl .0) (c (pl .1)) in
+      inv-become g s p (plugᶜ K b) t (pendingᶜ K) I ht (l .good) (l .theirs)
       (λ o i n. d .held o (rw seen′ i) (λ z. rw seen′ at z)) (along (λ (F : Focus). Once (holds F)) seen′ (d .once))
 
   pub keptᶜ : {c : Condition} {R : Rule} {c′ : Condition} → Convertsᶜ c R c′ → t .expression ≡ plugᶜ K c → Inv g (become s p (plugᶜ K c′))

@@ -17,9 +17,9 @@ use Rattle.rules.specs.State.{Cell, Thread, State, start, fresh, freshOb
 use Rattle.rules.specs.Rules.{isVolatile}
 use Rattle.rules.specs.Step.{Stuck, notThread, missingField, notHeld, noRule, Act, waits, sticks, lacks, does, callAct, readAct, writeAct, joinAct, joinValue, synchAct, holdAct, signalMove, signalAct, wakeAct, act, Attempt, around, attemptAt, attemptBy, attempt}
 use Rattle.packed.proofs.WellFormed.{WellFormedProgram, Callable}
-use Rattle.rules.proofs.Placed.{Good, Ready, holds, held, pending}
+use Rattle.rules.proofs.Placed.{Good, Ready, holds, held, pending, GivesUp, GivenUp}
 use Rattle.rules.proofs.StateLaws.{monitor-there}
-use Rattle.rules.proofs.Invariant.{In, GivesUp, GivenUp, heldBy, Sound, Inv}
+use Rattle.rules.proofs.Invariant.{In, heldBy, Sound, Inv}
 use Rattle.rules.proofs.Equivalence.{Unless}
 
 -- not stuck for want of a rule

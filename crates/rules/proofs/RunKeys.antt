@@ -35,7 +35,7 @@ module _ (g : Program) (s : State) (I : Reachable g s) (p : ℕ) (H : List Recor
 
 -- ---- the start
 
-kept-start : (g : Program) → Kept g start []
+pub kept-start : (g : Program) → Kept g start []
 unfolding start startKeys onlyZero lookup monitor freshObject isEmpty
 kept-start g = record {
   agrees = record {

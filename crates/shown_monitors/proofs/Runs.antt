@@ -1,16 +1,17 @@
--- On the log of a run a digital value is 1 exactly when the monitor is held in the state after the record. It rests on the bridge from runs to logs, which
--- has every rule. Assumes nothing.
+-- On the log of a run a digital value is 1 exactly when some thread holds the monitor in the state after the record. It rests on the bridge from runs to logs
+-- and on the holders of monitors, which have every rule. Assumes nothing.
 use Prim.Native.Nat.{ℕ, zero, suc, _≤_}
 use native.Mathlib.Omega.{arith}
-use mathlib.Core.Path.{_≡_, refl, sym, ap, _∙_, subst}
-use mathlib.Core.Bool.{Bool, true, false, true≢false, false≢true}
+use mathlib.Core.Path.{_≡_, refl, sym, ap, ap₂, _∙_, subst}
+use mathlib.Core.Bool.{Bool, true, false, true≢false}
 use mathlib.Core.List.{List, [], _∷_, _++_, reverse, reverse-reverse}
-use mathlib.Core.Logic.{_⊎_, inl, inr, _↔_}
+use mathlib.Core.Logic.{inl, inr, _↔_}
 use mathlib.Core.Option.{Option, some, none}
 use lib.Dec.{T}
+use borrow.Author.Tests.{eqb-true}
 use lib.ListN.{length, take, drop, take-append-drop}
 use lib.Seq.{take-append-seam, take-all}
-use Rattle.keys.specs.Keys.{Keys, singleton, holds, isEmpty}
+use Rattle.keys.specs.Keys.{Keys, empty, holds, isEmpty}
 use Rattle.keys.proofs.KeyLaws.{some-key, no-key}
 use Rattle.packed.specs.Syntax.{Program}
 use Rattle.packed.specs.Trees.{programOf}
@@ -19,14 +20,14 @@ use Rattle.packed.proofs.WellFormed.{WellFormedProgram}
 use Rattle.packed.proofs.Decoded.{well-formed}
 use Rattle.records.specs.Record.{Record}
 use Rattle.order.proofs.KeySets.{KeySet}
-use Rattle.rules.specs.State.{Cell, State, start, monitor}
-use Rattle.rules.specs.Step.{Move}
+use Rattle.rules.specs.State.{Cell, cell, State, start, monitor}
 use Rattle.rules.specs.Room.{Answer, step}
 use Rattle.rules.specs.Run.{Stop, Run, logged, stopped, afterPass, afterMove, resume, run, play}
 use Rattle.rules.specs.Play.{runOf}
 use Rattle.rules.proofs.KeyBridge.{keysOf}
 use Rattle.rules.proofs.Bridge.{Kept}
 use Rattle.rules.proofs.RunKeys.{kept-play}
+use Rattle.rules.proofs.Holders.{Holders, holders-play, holding}
 use Rattle.rules.proofs.RunAppend.{run-append, run-stopped}
 use Rattle.sample_lines.specs.DataFile.{digital}
 use Rattle.shown_monitors.specs.Held.{Held}
@@ -34,7 +35,7 @@ use Rattle.shown_monitors.proofs.Taken.{Shows, shows}
 
 -- ---- a state whose sets are those of its log
 
-module _ (g : Program) (s : State) (L : List Record) (J : Kept g s (reverse L)) (o : ℕ) where
+module _ (g : Program) (s : State) (L : List Record) (J : Kept g s (reverse L)) (H : Holders s) (o : ℕ) where
   abbrev set : KeySet
   set = λ k. holds (keysOf (monitor s o)) k
 
@@ -43,17 +44,34 @@ module _ (g : Program) (s : State) (L : List Record) (J : Kept g s (reverse L)) 
       subst (λ (M : List Record). Shows set (digital o M)) (reverse-reverse L)
       (subst (λ (a : KeySet). Shows a (digital o (reverse (reverse L)))) (λ i k. J .agrees .monitors o k i) (shows (g .version) (reverse L) (J .legal) o))
 
+  -- a monitor whose set is empty is held by some thread
+  held-cell : (c : Cell) → monitor s o ≡ some c → isEmpty (c .keys) ≡ true → Held s o
+  unfolding isEmpty
+  held-cell c e q =
+      let h = H .taken o c e q in
+      let b = holding (h .thread) o (h .owing) in
+      record {
+        number = h .number;
+        thread = h .thread;
+        there = h .there;
+        owned = e ∙ ap₂ (λ (W : Keys) (v : ℕ). some (cell W v)) (eqb-true (c .keys) 0 q) (h .owner);
+        around = b .0;
+        body = b .1;
+        pending = b .2;
+      }
+
   held-by : (c : Option Cell) → monitor s o ≡ c → ((k : ℕ) → T (holds (keysOf c) k) → ⊥) → Held s o
   unfolding holds
   held-by none e h = absurd (h 0 tt)
-  held-by (some c) e h = record { lock = c; there = e; taken = go (isEmpty (c .keys)) refl }
+  held-by (some c) e h = go (isEmpty (c .keys)) refl
     where
-      go : (b : Bool) → isEmpty (c .keys) ≡ b → isEmpty (c .keys) ≡ true
-      go true q = q
+      go : (b : Bool) → isEmpty (c .keys) ≡ b → Held s o
+      go true q = held-cell c e q
       go false q = let x = some-key (c .keys) q in absurd (h (x .0) (x .1))
 
   free-by : (k : ℕ) → T (holds (keysOf (monitor s o)) k) → Held s o → ⊥
-  free-by k x h = no-key (h .lock .keys) k (h .taken) (subst (λ (c : Option Cell). T (holds (keysOf c) k)) (h .there) x)
+  unfolding isEmpty
+  free-by k x h = no-key empty k refl (subst (λ (c : Option Cell). T (holds (keysOf c) k)) (h .owned) x)
 
   pub held-exactly : (digital o L ≡ 1) ↔ Held s o
   held-exactly = go shown-here
@@ -106,7 +124,7 @@ module _ (g : Program) where
 module _ (g : Program) (P : WellFormedProgram g) where
   -- after any picks
   shown-after : (ps : List ℕ) (o : ℕ) → (digital o (play g ps .log) ≡ 1) ↔ Held (play g ps .final) o
-  shown-after ps o = held-exactly g (play g ps .final) (play g ps .log) (kept-play g P ps) o
+  shown-after ps o = held-exactly g (play g ps .final) (play g ps .log) (kept-play g P ps) (holders-play g P ps) o
 
   -- of the line of each record: after any of the picks by which so many records are written
   line-shown : (ps qs : List ℕ) (n o : ℕ) → length (play g ps .log) ≡ n → (digital o (take n (play g (ps ++ qs) .log)) ≡ 1) ↔ Held (play g ps .final) o
@@ -129,7 +147,7 @@ module _ (g : Program) (P : WellFormedProgram g) where
 
 -- of plans that pass the check
 module _ (plan : List ℕ) (e : refusal plan ≡ none) where
-  -- at line n of a run's log digital value o is 1 exactly when the monitor of object o is held after any first picks that write n records
+  -- at line n of a run's log digital value o is 1 exactly when some thread holds the monitor of object o after any first picks that write n records
   pub monitors-shown : (ps qs : List ℕ) (n o : ℕ) → length (runOf plan ps .log) ≡ n → (digital o (take n (runOf plan (ps ++ qs) .log)) ≡ 1) ↔ Held (runOf plan ps .final) o
   unfolding runOf
   monitors-shown = line-shown (programOf plan) (well-formed plan e)
