@@ -1,0 +1,4 @@
+pub mod Order
+pub mod Listed
+pub mod WholeList
+pub mod CanFollow
