@@ -4,13 +4,13 @@ use native.Mathlib.Omega.{arith}
 use native.Mathlib.Decide.{ℕ-discrete}
 use mathlib.Core.Path.{_≡_, refl, sym, ap, _∙_, subst as along}
 use mathlib.Core.Bool.{Bool, true, false, cond, true≢false}
-use mathlib.Core.List.{List, [], _∷_, _++_, append-nil, List·Memᴰ, List·Memᴰ·head, List·Memᴰ·tail, List·Memᴰ·not-nil, List·Memᴰ·cases-cons, List·Memᴰ·append-cases, List·Memᴰ·eq-of-singleton, Memᴰ·append-left, Memᴰ·append-right}
+use mathlib.Core.List.{List, [], _∷_, _++_, append-nil, List·Memᴰ, List·Memᴰ·head, List·Memᴰ·tail, List·Memᴰ·not-nil, List·Memᴰ·append-cases, List·Memᴰ·eq-of-singleton, Memᴰ·append-left, Memᴰ·append-right}
 use mathlib.Core.Logic.{_⊎_, inl, inr}
 use lib.ListN.{length, length-append}
 use lib.Seq.{append-snoc}
 use Rattle.listing.specs.Order.{Before}
 use Rattle.listing.proofs.Order.{higher-before, higher-here}
-use Rattle.listing.proofs.Ways.{Way, Complete, no-picks, one-more, pick-of-eight, pick-follows, no-longer}
+use Rattle.listing.proofs.Ways.{Way, Complete, one-more, pick-of-eight, pick-follows, no-longer}
 
 abbrev pub Mem : List ℕ → List (List ℕ) → Type 0
 Mem ps L = List·Memᴰ ps L

@@ -2,7 +2,7 @@
 -- as the picks. Assumes nothing.
 use Prim.Native.Nat.{ℕ, zero, suc, _+_, _≤_, _<_}
 use native.Mathlib.Omega.{arith}
-use mathlib.Core.Path.{_≡_, refl, sym, ap, _∙_, subst as along}
+use mathlib.Core.Path.{_≡_, refl}
 use mathlib.Core.Bool.{true≢false}
 use mathlib.Core.List.{List, [], _∷_}
 use lib.ListN.{length, getD, take}
@@ -75,6 +75,10 @@ module _ (g : Program) where
       go (Answer.moved m) e ih = (λ q. true≢false cc, ih (m .state) (omega arith))
 
 -- ---- of a listed schedule
+
+pub counts-few : (g : Program) (ps : List ℕ) → counted (play g ps) ≤ length ps
+unfolding play
+counts-few g ps = few g start ps
 
 module _ (g : Program) (n : ℕ) (ps : List ℕ) where
   pub listed-counts : Listed g n ps → counted (play g ps) ≡ length ps

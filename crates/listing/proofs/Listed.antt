@@ -7,14 +7,11 @@ use mathlib.Core.List.{List, [], _∷_, _++_}
 use mathlib.Core.Logic.{_⊎_, inl, inr, _↔_}
 use lib.ListN.{length, getD, take}
 use Rattle.packed.specs.Syntax.{Program}
-use Rattle.rules.specs.State.{State}
 use Rattle.rules.specs.Room.{Answer, step}
 use Rattle.rules.specs.Run.{Stop, play}
-use Rattle.listing.specs.Order.{Before}
 use Rattle.listing.specs.Listed.{Whole, HAS-N, STOPS, NONE-CAN, Listed}
 use Rattle.listing.specs.CanFollow.{goesOn, movesOrStops, canFollow}
-use Rattle.listing.proofs.Order.{Longer}
-use Rattle.listing.proofs.Ways.{Way, Complete, no-picks, no-longer}
+use Rattle.listing.proofs.Ways.{Complete, no-picks, no-longer}
 
 both : (x y : Bool) → (x && y) ≡ true → (x ≡ true) × (y ≡ true)
 both true y e = (refl, e)
@@ -73,7 +70,7 @@ module _ (g : Program) (ps : List ℕ) (p : ℕ) where
 
 module _ (g : Program) (n : ℕ) (ps : List ℕ) where
   -- "that cannot be extended"
-  ends-of : Whole g n ps → (length ps ≡ n) ⊎ ((p : ℕ) → p < 8 → canFollow g ps p ≡ false)
+  pub ends-of : Whole g n ps → (length ps ≡ n) ⊎ ((p : ℕ) → p < 8 → canFollow g ps p ≡ false)
   ends-of (HAS-N e) = inl e
   ends-of (STOPS h) = inr (λ p b. after-stop g ps p h)
   ends-of (NONE-CAN h) = inr (λ p b. by p b (play g ps .stop) refl)
@@ -83,7 +80,7 @@ module _ (g : Program) (n : ℕ) (ps : List ℕ) where
       by p b Stop.race q = after-stop g ps p (λ z. true≢false cc)
       by p b (Stop.noRoom k) q = after-stop g ps p (λ z. true≢false cc)
 
-  whole-by : (length ps ≡ n) ⊎ ((p : ℕ) → p < 8 → canFollow g ps p ≡ false) → Whole g n ps
+  pub whole-by : (length ps ≡ n) ⊎ ((p : ℕ) → p < 8 → canFollow g ps p ≡ false) → Whole g n ps
   whole-by (inl e) = HAS-N e
   whole-by (inr h) = by (play g ps .stop) refl
     where

@@ -5,7 +5,7 @@ use mathlib.Core.List.{List}
 use lib.ListN.{length, getD, take}
 use Rattle.packed.specs.Syntax.{Program}
 use Rattle.rules.specs.Room.{Answer, step}
-use Rattle.rules.specs.Run.{Stop, Run, play}
+use Rattle.rules.specs.Run.{Stop, play}
 use Rattle.listing.specs.Order.{Least, LeastAbove, NoneAbove}
 
 module _ (g : Program) (n : ℕ) (ps : List ℕ) where
