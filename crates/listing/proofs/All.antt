@@ -9,8 +9,9 @@ use mathlib.Core.Logic.{_⊎_, inl, inr}
 use lib.ListN.{length, length-append}
 use lib.Seq.{append-snoc}
 use Rattle.listing.specs.Order.{Before}
+use Rattle.listing.specs.Ways.{Way, Complete}
 use Rattle.listing.proofs.Order.{higher-before, higher-here}
-use Rattle.listing.proofs.Ways.{Way, Complete, one-more, pick-of-eight, pick-follows, no-longer}
+use Rattle.listing.proofs.Ways.{one-more, pick-of-eight, pick-follows, no-longer}
 
 abbrev pub Mem : List ℕ → List (List ℕ) → Type 0
 Mem ps L = List·Memᴰ ps L

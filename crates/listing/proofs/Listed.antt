@@ -11,7 +11,8 @@ use Rattle.rules.specs.Room.{Answer, step}
 use Rattle.rules.specs.Run.{Stop, play}
 use Rattle.listing.specs.Listed.{Whole, HAS-N, STOPS, NONE-CAN, Listed}
 use Rattle.listing.specs.CanFollow.{goesOn, movesOrStops, canFollow}
-use Rattle.listing.proofs.Ways.{Complete, no-picks, no-longer}
+use Rattle.listing.specs.Ways.{Complete}
+use Rattle.listing.proofs.Ways.{no-picks, no-longer}
 
 both : (x y : Bool) → (x && y) ≡ true → (x ≡ true) × (y ≡ true)
 both true y e = (refl, e)

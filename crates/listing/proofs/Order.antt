@@ -23,6 +23,11 @@ transitive (p ∷ ps) (q ∷ qs) (r ∷ rs) (inl h) (inr (d, k)) = inl (omega ar
 transitive (p ∷ ps) (q ∷ qs) (r ∷ rs) (inr (e, h)) (inl k) = inl (omega arith)
 transitive (p ∷ ps) (q ∷ qs) (r ∷ rs) (inr (e, h)) (inr (d, k)) = inr (e ∙ d, transitive ps qs rs h k)
 
+-- the empty schedule is the lowest
+pub empty-lowest : (ps : List ℕ) → AtMost [] ps
+empty-lowest [] = inl refl
+empty-lowest (p ∷ ps) = inr tt
+
 -- two that are both at most the other are one
 pub antisymmetric : (ps qs : List ℕ) → AtMost ps qs → AtMost qs ps → ps ≡ qs
 antisymmetric ps qs (inl e) k = e
@@ -38,6 +43,10 @@ abbrev pub Higher : List ℕ → List ℕ → Type 0
 Higher ps [] = ⊥
 Higher [] (q ∷ qs) = ⊥
 Higher (p ∷ ps) (q ∷ qs) = (p < q) ⊎ ((p ≡ q) × Higher ps qs)
+
+pub none-higher : (qs : List ℕ) → Higher [] qs → ⊥
+none-higher [] h = h
+none-higher (q ∷ qs) h = h
 
 pub higher-before : (ps qs : List ℕ) → Higher ps qs → Before ps qs
 higher-before ps [] h = h
@@ -89,11 +98,7 @@ higher-at-last ps p [] h = absurd (none ps h)
     none [] h = h
     none (x ∷ ps) h = h
 higher-at-last [] p (r ∷ rs) (inl h) = inr (r, rs, h, refl)
-higher-at-last [] p (r ∷ rs) (inr (e, h)) = absurd (none rs h)
-  where
-    none : (rs : List ℕ) → Higher [] rs → ⊥
-    none [] h = h
-    none (x ∷ rs) h = h
+higher-at-last [] p (r ∷ rs) (inr (e, h)) = absurd (none-higher rs h)
 higher-at-last (x ∷ ps) p (r ∷ rs) (inl h) = inl (inl h)
 higher-at-last (x ∷ ps) p (r ∷ rs) (inr (e, h)) = by (higher-at-last ps p rs h)
   where

@@ -2,3 +2,4 @@ pub mod Order
 pub mod Listed
 pub mod WholeList
 pub mod CanFollow
+pub mod Ways
