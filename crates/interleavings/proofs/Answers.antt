@@ -75,7 +75,7 @@ passed-is x r h e = sym h ∙ ap check.answered e
 -- ---- to begin
 
 module _ (plan : List ℕ) (n : ℕ) (area : List ℕ) where
-  first-stages : firstRefused plan n area ≡ orElse (refusal plan) (firstRefusal (checkWhole 18 (overBound n) ∷ checkWhole 20 (shortOutput n area) ∷ []))
+  pub first-stages : firstRefused plan n area ≡ orElse (refusal plan) (firstRefusal (checkWhole 18 (overBound n) ∷ checkWhole 20 (shortOutput n area) ∷ []))
   unfolding firstRefused refusal
   first-stages = refusal-append (checks plan) (checkWhole 18 (overBound n) ∷ checkWhole 20 (shortOutput n area) ∷ [])
 
@@ -176,7 +176,7 @@ module _ (g : Program) (n : ℕ) (ps : List ℕ) (x : Listed g n ps) (area : Lis
             ∙ drop-drop (at - from) from area ∙ ap (λ (k : ℕ). drop k area) e
 
 module _ (plan : List ℕ) (n : ℕ) (schedule area : List ℕ) where
-  next-stages : nextRefused plan n schedule ≡ orElse (scheduleRefusal plan schedule) (firstRefusal (checkWhole 18 (overBound n) ∷ []))
+  pub next-stages : nextRefused plan n schedule ≡ orElse (scheduleRefusal plan schedule) (firstRefusal (checkWhole 18 (overBound n) ∷ []))
   unfolding nextRefused scheduleRefusal
   next-stages = refusal-append (scheduleChecks plan schedule) (checkWhole 18 (overBound n) ∷ [])
 
