@@ -74,7 +74,7 @@ module _ (g : Program) (n : ℕ) where
 
   -- ---- the list
 
-  abbrev schedules : List (List ℕ)
+  abbrev pub schedules : List (List ℕ)
   schedules = all (canFollow g) n []
 
   found : AllOf (canFollow g) n [] schedules
@@ -90,17 +90,15 @@ module _ (g : Program) (n : ℕ) where
   begun = begin schedules (found .sorted) listed-there there (found .some .0) (found .some .1)
 
   -- "For a bound n list each schedule [..]. The order is dictionary order by thread number, each once"
-  pub whole-list : (L : List (List ℕ)) × WholeList g n L
-  whole-list = (
-    schedules,
-    record {
-      begins = begun;
-      each = λ ps l. at-place schedules ps (there ps l);
-      listed = λ i ps e. listed-there ps (in-list schedules i ps e);
-      in-order = ascending schedules (found .sorted);
-      once = once;
-    },
-  )
+  pub schedules-whole : WholeList g n schedules
+  schedules-whole =
+      record {
+        begins = begun;
+        each = λ ps l. at-place schedules ps (there ps l);
+        listed = λ i ps e. listed-there ps (in-list schedules i ps e);
+        in-order = ascending schedules (found .sorted);
+        once = once;
+      }
     where
       once : (i j : ℕ) (ps : List ℕ) → getElem? schedules i ≡ some ps → getElem? schedules j ≡ some ps → i ≡ j
       once i j ps d e = by (decLt i j) (decLt j i)
@@ -109,6 +107,9 @@ module _ (g : Program) (n : ℕ) where
           by (yes h) k = absurd (irreflexive ps (ascending schedules (found .sorted) i j ps ps h d e))
           by (no h) (yes k) = absurd (irreflexive ps (ascending schedules (found .sorted) j i ps ps k e d))
           by (no h) (no k) = omega (arith, h, k)
+
+  pub whole-list : (L : List (List ℕ)) × WholeList g n L
+  whole-list = (schedules, schedules-whole)
 
   -- ---- there is one list only that begins so and goes on so
 
