@@ -157,9 +157,12 @@ module _ (g : Program) (n : ℕ) (ps : List ℕ) (x : Listed g n ps) (area : Lis
 
     pub followed : (after : List ℕ) (at : ℕ) → Reached g n from middle after at → Followed g n ps area after (next.Written at)
     followed after at y =
-        let v = y .went in
-        let m : length qs ≡ at = taken g n from middle after at v still-long in
-        (qs, record { has = y .listed; above = along (Before ps) (sym whole-is) (turned-above g n ps x place pick t (drop from qs)); least = λ rs l b. v .least rs l (along (λ (l : List ℕ). AtMost l rs) (sym front) (turned-least g n ps x place pick t rs l b)) }, sym m, overwrite-only qs area after (ap (λ (k : ℕ). take k after) m) (ap (λ (k : ℕ). drop k after) m ∙ past ∙ ap (λ (k : ℕ). drop k area) (sym m)))
+        let m : length qs ≡ at = taken g n from middle after at (y .went) still-long in (
+          qs,
+          record { has = y .listed; above = along (Before ps) (sym whole-is) (turned-above g n ps x place pick t (drop from qs)); least = least },
+          sym m,
+          overwrite-only qs area after (ap (λ (k : ℕ). take k after) m) (ap (λ (k : ℕ). drop k after) m ∙ past ∙ ap (λ (k : ℕ). drop k area) (sym m)),
+        )
       where
         qs : List ℕ
         qs = take at after
@@ -168,6 +171,9 @@ module _ (g : Program) (n : ℕ) (ps : List ℕ) (x : Listed g n ps) (area : Lis
         whole-is =
             sym (take-append-drop from (take at after))
             ∙ ap (λ (l : List ℕ). l ++ drop from (take at after)) (take-take from at after (y .went .reached) ∙ y .went .front ∙ front)
+
+        least : (rs : List ℕ) → Listed g n rs → Before ps rs → AtMost qs rs
+        least rs l b = y .went .least rs l (along (λ (l : List ℕ). AtMost l rs) (sym front) (turned-least g n ps x place pick t rs l b))
 
         past : drop at after ≡ drop at area
         past =

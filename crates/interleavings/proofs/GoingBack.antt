@@ -95,7 +95,9 @@ module _ (g : Program) (n : ℕ) (ps : List ℕ) (x : Listed g n ps) where
 
     pub turned-above : (qs : List ℕ) → Before ps (turned ++ qs)
     turned-above qs =
-        let h : Before (take place ps ++ (getD ps place 0 ∷ drop (suc place) ps)) (take place ps ++ (pick ∷ qs)) =
-        higher-before (take place ps ++ (getD ps place 0 ∷ drop (suc place) ps)) (take place ps ++ (pick ∷ qs))
-        (higher-here (take place ps) (getD ps place 0) pick (drop (suc place) ps) qs (t .higher)) in
-        along (λ (l : List ℕ). Before l (turned ++ qs)) (sym (split-at ps place 0 (t .inside))) (along (Before (take place ps ++ (getD ps place 0 ∷ drop (suc place) ps))) (sym (append-snoc (take place ps) pick qs)) h)
+        along (λ (l : List ℕ). Before l (turned ++ qs)) (sym (split-at ps place 0 (t .inside)))
+        (along (Before lower) (sym (append-snoc (take place ps) pick qs))
+        (higher-before lower (take place ps ++ (pick ∷ qs)) (higher-here (take place ps) (getD ps place 0) pick (drop (suc place) ps) qs (t .higher))))
+      where
+        lower : List ℕ
+        lower = take place ps ++ (getD ps place 0 ∷ drop (suc place) ps)

@@ -49,7 +49,8 @@ module _ (g : Program) (n from : ℕ) (before : List ℕ) where
           way = along (Way (canFollow g)) (sym grown) (one-more (canFollow g) (take at after) pick (x .way) b (can .here b));
           least = λ rs l a.
               along (λ (ps : List ℕ). AtMost ps rs) (sym grown)
-              (go-on (canFollow g) (take at after) pick (omega (arith, h, taken)) b (can .here b) (λ k d. can .before k (omega arith) d) rs (complete-of g n rs l) (x .least rs l a));
+              (go-on (canFollow g) (take at after) pick (omega (arith, h, taken)) b (can .here b) (λ k d. can .before k (omega arith) d)
+              rs (complete-of g n rs l) (x .least rs l a));
         }
       where
         can : LowestFrom (canFollow g (take at after)) 0 pick

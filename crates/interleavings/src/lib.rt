@@ -58,7 +58,8 @@ fn go_on(plan: &[u8], words: &[usize; 1024], n: usize, area: &mut [u8], from: us
     at
 }
 
-// The schedule that follows a listed one, into the area, or that the list is over: back to the last place where a higher thread can be picked, and on from there.
+// The schedule that follows a listed one, into the area, or that the list is over: back to the last place where a higher thread can be picked, and on from
+// there.
 fn following(plan: &[u8], words: &[usize; 1024], n: usize, schedule: &[u8], area: &mut [u8]) -> Next
     requires { ⌜ Listing (now plan) (now words) n (now schedule) (now area) ⌝ }
     ensures { λ r. ⌜ Followed (programOf (now (plan .entry))) n (now (schedule .entry)) (now (area .entry)) (now (area .exit)) r ⌝ }
@@ -74,8 +75,8 @@ fn following(plan: &[u8], words: &[usize; 1024], n: usize, schedule: &[u8], area
     }
 }
 
-// Every plan, bound and area gets document 02's answer: a refusal of number 1 to 7 with its place, or of number 18 or 20, and no byte of the area changed; or the
-// length of the least listed schedule, with which the area then begins, and otherwise is as it was.
+// Every plan, bound and area gets document 02's answer: a refusal of number 1 to 7 with its place, or of number 18 or 20, and no byte of the area changed; or
+// the length of the least listed schedule, with which the area then begins, and otherwise is as it was.
 pub fn first_interleaving(plan: &[u8], n: usize, area: &mut [u8]) -> Answered
     ensures { λ r. ⌜ FirstAnswer (now (plan .entry)) n (now (area .entry)) (answer.answered r) (now (area .exit)) ⌝ }
 {
@@ -102,8 +103,8 @@ pub fn first_interleaving(plan: &[u8], n: usize, area: &mut [u8]) -> Answered
 }
 
 // Every plan, bound, schedule and area gets document 02's answer: a refusal of number 1 to 9 with its place, or of number 18 to 20, and no byte of the area
-// changed; or the length of the least listed schedule above the given one, with which the area then begins, and otherwise is as it was; or that the list is over,
-// and no byte changed.
+// changed; or the length of the least listed schedule above the given one, with which the area then begins, and otherwise is as it was; or that the list is
+// over, and no byte changed.
 pub fn next_interleaving(plan: &[u8], n: usize, schedule: &[u8], area: &mut [u8]) -> Next
     ensures { λ r. ⌜ NextAnswer (now (plan .entry)) n (now (schedule .entry)) (now (area .entry)) (answered r) (now (area .exit)) ⌝ }
 {

@@ -4,3 +4,4 @@ pub mod All
 pub mod Listed
 pub mod WholeList
 pub mod Counted
+pub mod Examples

@@ -1,5 +1,5 @@
--- Ways down a tree: schedules each of whose picks can follow the picks before it, and the complete ones among them, which cannot be extended. What can follow is
--- any test. Here are the steps by which the least whole way above a given one is found. Assumes nothing.
+-- Ways down a tree: schedules each of whose picks can follow the picks before it, and the complete ones among them, which cannot be extended. What can follow
+-- is any test. Here are the steps by which the least complete way above a given one is found. Assumes nothing.
 use Prim.Native.Nat.{ℕ, suc, _+_, _≤_, _<_}
 use native.Mathlib.Omega.{arith}
 use native.Mathlib.Decide.{ℕ-discrete, decLt}

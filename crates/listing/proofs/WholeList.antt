@@ -41,40 +41,34 @@ ascending (x ∷ L) (a, s) zero (suc j) ps qs h d e = let q : x ≡ ps = cc in a
 ascending (x ∷ L) (a, s) (suc i) (suc j) ps qs h d e = ascending L s i j ps qs (omega arith) d e
 
 module _ (g : Program) (n : ℕ) where
+  -- of a list whose first is before all others
+  at-most-all : (qs : List ℕ) (L : List (List ℕ)) → ((rs : List ℕ) → Mem rs L → Before qs rs) → (rs : List ℕ) → (rs ≡ qs) ⊎ Mem rs L → AtMost qs rs
+  at-most-all qs L b rs (inl e) = inl (sym e)
+  at-most-all qs L b rs (inr m) = inr (b rs m)
+
+  behind-it : (qs : List ℕ) (L : List (List ℕ)) (rs : List ℕ) → Before qs rs → (rs ≡ qs) ⊎ Mem rs L → Mem rs L
+  behind-it qs L rs h (inl e) = absurd (irreflexive qs (along (Before qs) e h))
+  behind-it qs L rs h (inr m) = m
+
   -- what stands behind a schedule comes after it one by one
   chain : (ps : List ℕ) (L : List (List ℕ)) → Sorted (ps ∷ L) → ((rs : List ℕ) → Mem rs L → Listed g n rs)
       → ((rs : List ℕ) → Listed g n rs → Before ps rs → Mem rs L) → GoesOn g n ps L
   chain ps [] s x each = OVER (λ rs l b. List·Memᴰ·not-nil (each rs l b))
   chain ps (qs ∷ L) (a, (b, s)) x each =
-      NEXT (record { has = x qs (List·Memᴰ·head refl); above = a qs (List·Memᴰ·head refl); least = λ rs l h. least rs (List·Memᴰ·cases-cons (each rs l h)) })
-      (chain qs L (b, s) (λ rs m. x rs (List·Memᴰ·tail m)) (λ rs l h. later rs h (List·Memᴰ·cases-cons (each rs l (transitive ps qs rs (a qs (List·Memᴰ·head refl)) h)))))
-    where
-      least : (rs : List ℕ) → (rs ≡ qs) ⊎ Mem rs L → AtMost qs rs
-      least rs (inl e) = inl (sym e)
-      least rs (inr m) = inr (b rs m)
-
-      later : (rs : List ℕ) → Before qs rs → (rs ≡ qs) ⊎ Mem rs L → Mem rs L
-      later rs h (inl e) = absurd (irreflexive qs (along (Before qs) e h))
-      later rs h (inr m) = m
+      let above = a qs (List·Memᴰ·head refl) in
+      NEXT (record { has = x qs (List·Memᴰ·head refl); above = above; least = λ rs l h. at-most-all qs L b rs (List·Memᴰ·cases-cons (each rs l h)) })
+      (chain qs L (b, s) (λ rs m. x rs (List·Memᴰ·tail m)) (λ rs l h. behind-it qs L rs h (List·Memᴰ·cases-cons (each rs l (transitive ps qs rs above h)))))
 
   begin : (L : List (List ℕ)) → Sorted L → ((rs : List ℕ) → Mem rs L → Listed g n rs)
       → ((rs : List ℕ) → Listed g n rs → Mem rs L) → (ps : List ℕ) → Mem ps L → Begins g n L
   begin [] s x each ps m = absurd (List·Memᴰ·not-nil m)
   begin (qs ∷ L) (a, s) x each ps m =
-      FIRST (record { has = x qs (List·Memᴰ·head refl); least = λ rs l. least rs (List·Memᴰ·cases-cons (each rs l)) })
-      (chain qs L (a, s) (λ rs k. x rs (List·Memᴰ·tail k)) (λ rs l h. later rs h (List·Memᴰ·cases-cons (each rs l))))
-    where
-      least : (rs : List ℕ) → (rs ≡ qs) ⊎ Mem rs L → AtMost qs rs
-      least rs (inl e) = inl (sym e)
-      least rs (inr k) = inr (a rs k)
-
-      later : (rs : List ℕ) → Before qs rs → (rs ≡ qs) ⊎ Mem rs L → Mem rs L
-      later rs h (inl e) = absurd (irreflexive qs (along (Before qs) e h))
-      later rs h (inr k) = k
+      FIRST (record { has = x qs (List·Memᴰ·head refl); least = λ rs l. at-most-all qs L a rs (List·Memᴰ·cases-cons (each rs l)) })
+      (chain qs L (a, s) (λ rs k. x rs (List·Memᴰ·tail k)) (λ rs l h. behind-it qs L rs h (List·Memᴰ·cases-cons (each rs l))))
 
   -- ---- the list
 
-  abbrev schedules : List (List ℕ)
+  abbrev pub schedules : List (List ℕ)
   schedules = all (canFollow g) n []
 
   found : AllOf (canFollow g) n [] schedules
@@ -90,17 +84,15 @@ module _ (g : Program) (n : ℕ) where
   begun = begin schedules (found .sorted) listed-there there (found .some .0) (found .some .1)
 
   -- "For a bound n list each schedule [..]. The order is dictionary order by thread number, each once"
-  pub whole-list : (L : List (List ℕ)) × WholeList g n L
-  whole-list = (
-    schedules,
-    record {
-      begins = begun;
-      each = λ ps l. at-place schedules ps (there ps l);
-      listed = λ i ps e. listed-there ps (in-list schedules i ps e);
-      in-order = ascending schedules (found .sorted);
-      once = once;
-    },
-  )
+  pub schedules-whole : WholeList g n schedules
+  schedules-whole =
+      record {
+        begins = begun;
+        each = λ ps l. at-place schedules ps (there ps l);
+        listed = λ i ps e. listed-there ps (in-list schedules i ps e);
+        in-order = ascending schedules (found .sorted);
+        once = once;
+      }
     where
       once : (i j : ℕ) (ps : List ℕ) → getElem? schedules i ≡ some ps → getElem? schedules j ≡ some ps → i ≡ j
       once i j ps d e = by (decLt i j) (decLt j i)
@@ -109,6 +101,9 @@ module _ (g : Program) (n : ℕ) where
           by (yes h) k = absurd (irreflexive ps (ascending schedules (found .sorted) i j ps ps h d e))
           by (no h) (yes k) = absurd (irreflexive ps (ascending schedules (found .sorted) j i ps ps k e d))
           by (no h) (no k) = omega (arith, h, k)
+
+  pub whole-list : (L : List (List ℕ)) × WholeList g n L
+  whole-list = (schedules, schedules-whole)
 
   -- ---- there is one list only that begins so and goes on so
 

@@ -8,7 +8,15 @@ slice-aggregate-run : tie.Need-slice-aggregate-run
 slice-aggregate-run c = search needs
 
 run-requires : tie.Need-run-requires
-run-requires c κs = let p = c .before .before .before .pre in record { plan-passes = p .accepted .plan-passes; loaded = p .accepted .loaded; few = omega (arith, p .few); small = λ j h. omega (arith, p .of-eight j h); wide = omega (arith, p .few) }
+run-requires c κs =
+    let p = c .before .before .before .pre in
+    record {
+      plan-passes = p .accepted .plan-passes;
+      loaded = p .accepted .loaded;
+      few = omega (arith, p .few);
+      small = λ j h. omega (arith, p .of-eight j h);
+      wide = omega (arith, p .few);
+    }
 
 returns : tie.Need-returns
 returns c = c .before .before .run .ensures .outcome
