@@ -141,7 +141,7 @@ fn bound(plan: &[u8], seen: &mut Seen) {
 
 /// The first interleaving of a plan, some that follow, and a schedule that may not be listed.
 fn interleavings(random: &mut Random, plan: &[u8], other: &[u8], seen: &mut Seen) {
-    let n = random.pick(&[0, 2, 5, 9, 20, 64, 65]);
+    let n: u64 = random.pick(&[0, 2, 5, 9, 20, 64, 65]);
     let length = (n as usize + random.pick(&[0, 1, 1, 1, 9])).saturating_sub(1);
     let area = random.bytes(length);
     let (mut ours, mut theirs) = (area.clone(), area.clone());
