@@ -3,7 +3,7 @@
  * A plan is a small concurrent program in a byte table. check says whether the table is one; play runs it under a schedule, one byte to a pick, each
  * pick the number of the thread that moves next, and writes a log of 3-byte records and an outcome; judge takes a log alone and names an access that
  * nothing orders; preview says what a pick would do before it is taken; canonical writes a plan in the one way that all equal plans share; bound says how many
- * moves a plan can need; comtrade writes a log as a file for a waveform viewer; charge says what a run
+ * moves a plan can need; first_interleaving and next_interleaving list every way in which the threads of a short plan can take turns; comtrade writes a log as a file for a waveform viewer; charge says what a run
  * costs. This header is enough to call them and to read what they give; docs/FORMAT.md says how to write a plan.
  *
  * THE ANSWER of every function is a uint64_t of two halves. The upper half says which kind of answer it is, enum ruqzhemil_answer:
@@ -24,7 +24,8 @@
  * WHAT IS ASKED of the caller: each pointer leads to as many bytes as its length says (out of play to RUQZHEMIL_OUT_BYTES, of preview to
  * RUQZHEMIL_PREVIEW_BYTES); a length of 0 may go with any pointer, null too; what a function writes (log, area, out) overlaps none of its other bytes, and
  * while a call runs no other thread writes to its bytes; and there is stack: check needs up to 48 KB, play up to 128 KB, judge up to 64 KB, preview up to
- * 144 KB (of it 12,288 bytes for a log of its own), canonical up to 96 KB, bound up to 96 KB, charge up to 144 KB, comtrade up to 4 KB (bench/run.sh measures them).
+ * 144 KB (of it 12,288 bytes for a log of its own), canonical up to 96 KB, bound up to 96 KB, first_interleaving and next_interleaving up to
+ * 96 KB, charge up to 144 KB, comtrade up to 4 KB (bench/run.sh measures them).
  *
  * WHAT IT NEEDS: x86-64, the System V calling convention (Linux), and from outside the archive memcpy and memset alone.
  *
@@ -56,6 +57,7 @@ uint64_t ruqzhemil_version(void);
 #define RUQZHEMIL_MOST_TEXT_BYTES 131072 /* an area of this size is enough for the text that the printing program writes of any run */
 #define RUQZHEMIL_MOST_FILE_BYTES 317269 /* of the data file of any log: that of 4,096 records. An area of this size is enough for every log */
 #define RUQZHEMIL_MOST_TOTAL 65535       /* of the moves that bound answers */
+#define RUQZHEMIL_MOST_BOUND 64          /* of a bound n for interleavings: an area of this size is enough for every listed schedule */
 #define RUQZHEMIL_RECORD_BYTES 3         /* of a record */
 #define RUQZHEMIL_OUT_BYTES 40           /* of an outcome */
 #define RUQZHEMIL_PREVIEW_BYTES 8        /* of a preview */
@@ -91,6 +93,9 @@ enum ruqzhemil_refusal {
     RUQZHEMIL_REFUSAL_RECORD = 12,         /* the lowest such record */
     RUQZHEMIL_REFUSAL_PLAN_AREA = 13,      /* place 0 */
     RUQZHEMIL_REFUSAL_VERSION = 14,        /* place 0 */
+    RUQZHEMIL_REFUSAL_BOUND = 18,          /* place 0 */
+    RUQZHEMIL_REFUSAL_NOT_LISTED = 19,     /* place 0 */
+    RUQZHEMIL_REFUSAL_BOUND_AREA = 20,     /* place 0 */
     RUQZHEMIL_REFUSAL_CYCLE = 21,          /* place 0 */
     RUQZHEMIL_REFUSAL_WHILE = 22,          /* place 0 */
     RUQZHEMIL_REFUSAL_TOTAL = 23,          /* place 0 */
@@ -113,6 +118,9 @@ static inline const char *ruqzhemil_refusal_text(unsigned number) {
     case RUQZHEMIL_REFUSAL_RECORD: return "a record with a wrong kind, column or spare bit, or lacking its key and not last";
     case RUQZHEMIL_REFUSAL_PLAN_AREA: return "an area shorter than the plan";
     case RUQZHEMIL_REFUSAL_VERSION: return "a version other than 0 or 1 given to the judge";
+    case RUQZHEMIL_REFUSAL_BOUND: return "a bound over 64";
+    case RUQZHEMIL_REFUSAL_NOT_LISTED: return "a schedule that is not listed";
+    case RUQZHEMIL_REFUSAL_BOUND_AREA: return "an area shorter than the bound";
     case RUQZHEMIL_REFUSAL_CYCLE: return "calls that form a cycle";
     case RUQZHEMIL_REFUSAL_WHILE: return "a while in a plan whose moves are asked for";
     case RUQZHEMIL_REFUSAL_TOTAL: return "a total of over 65,535 moves";
@@ -331,6 +339,18 @@ uint64_t ruqzhemil_preview(const uint8_t *plan, size_t plan_len, const uint8_t *
  * area is shorter than the plan, 13 leave it as it was. An area of RUQZHEMIL_MOST_PLAN_BYTES is enough for every plan. */
 uint64_t ruqzhemil_canonical(const uint8_t *plan, size_t plan_len, uint8_t *area, size_t area_len);
 
+/* The first interleaving of at most n picks. Listed is each schedule of at most n picks, none passed over and none after a stop, that cannot be extended: it
+ * has n picks, or its last pick stops the run, or no thread can move or stop after it. The order is dictionary order by thread number. An answer: the
+ * schedule's length; area begins with it and keeps its other bytes. Refusals 1 to 7, 18 for n over RUQZHEMIL_MOST_BOUND, 20 for an area shorter than n
+ * leave area as it was. */
+uint64_t ruqzhemil_first_interleaving(const uint8_t *plan, size_t plan_len, uint64_t n, uint8_t *area, size_t area_len);
+
+/* The interleaving that follows a listed schedule: from the first on, every listed one comes once. An answer: its length; area begins with it and keeps its
+ * other bytes. The other answer, value 0: the list is over, and area is as it was. Refusals 1 to 9, 18, 19 for a schedule that is not listed, and 20 leave
+ * area as it was. */
+uint64_t ruqzhemil_next_interleaving(const uint8_t *plan, size_t plan_len, uint64_t n, const uint8_t *schedule, size_t schedule_len, uint8_t *area,
+                                     size_t area_len);
+
 /* How many moves a plan can need at most: no schedule makes more, forked threads included. An answer: the total, at most RUQZHEMIL_MOST_TOTAL. Refusals 1
  * to 7, then 21 for calls that form a cycle, in procedures that nothing calls too, 22 for a while anywhere, 23 for a total over RUQZHEMIL_MOST_TOTAL. */
 uint64_t ruqzhemil_bound(const uint8_t *plan, size_t plan_len);
@@ -370,6 +390,10 @@ static inline uint8_t *ruqzhemil_area(uint8_t *area) {
     ruqzhemil_preview(ruqzhemil_bytes(plan), plan_len, ruqzhemil_bytes(schedule), schedule_len, pick, out)
 #define ruqzhemil_canonical(plan, plan_len, area, area_len) ruqzhemil_canonical(ruqzhemil_bytes(plan), plan_len, ruqzhemil_area(area), area_len)
 #define ruqzhemil_bound(plan, plan_len) ruqzhemil_bound(ruqzhemil_bytes(plan), plan_len)
+#define ruqzhemil_first_interleaving(plan, plan_len, n, area, area_len) \
+    ruqzhemil_first_interleaving(ruqzhemil_bytes(plan), plan_len, n, ruqzhemil_area(area), area_len)
+#define ruqzhemil_next_interleaving(plan, plan_len, n, schedule, schedule_len, area, area_len) \
+    ruqzhemil_next_interleaving(ruqzhemil_bytes(plan), plan_len, n, ruqzhemil_bytes(schedule), schedule_len, ruqzhemil_area(area), area_len)
 #define ruqzhemil_charge(plan, plan_len, schedule, schedule_len, option) \
     ruqzhemil_charge(ruqzhemil_bytes(plan), plan_len, ruqzhemil_bytes(schedule), schedule_len, option)
 #define ruqzhemil_comtrade(log, log_len, area, area_len) ruqzhemil_comtrade(ruqzhemil_bytes(log), log_len, ruqzhemil_area(area), area_len)

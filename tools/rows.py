@@ -320,6 +320,34 @@ BOUNDS = [
     (PLAN_P[:-1], [1, 0]),
 ]
 
+# a plan, a bound, the given schedule or None to begin, the length of an area, and what is right: the refusal, the end of the list, or the schedule
+RACE, NO_RACE = [0] * 5 + [1, 0], [0] * 5 + [0, 1]  # of P: thread 1 writes before thread 0 reads, and after
+FORKING = plan(node(7, TRUE, fork(NULL)))
+INTERLEAVINGS = [
+    (plan(NULL), 0, None, 0, []),
+    (plan(NULL), 0, [], 0, "over"),
+    (plan(NULL), 64, None, 64, [0]),
+    (plan(NULL), 64, [0], 64, "over"),
+    (PLAN_P, 7, None, 7, NO_RACE),
+    (PLAN_P, 7, NO_RACE, 7, RACE),
+    (PLAN_P, 64, NO_RACE, 64, RACE),
+    (PLAN_P, 3, None, 3, [0, 0, 0]),
+    (PLAN_P, 3, [0, 0, 0], 9, "over"),
+    (PLAN_P, 64, NO_RACE, 63, [20, 0]),
+    (PLAN_P, 64, None, 63, [20, 0]),
+    (PLAN_P, 64, NO_RACE[:-1], 64, [19, 0]),
+    (PLAN_P, 64, RACE + [1], 64, [19, 0]),
+    (PLAN_P, 64, [1], 0, [19, 0]),
+    (PLAN_P, 6, NO_RACE, 6, [19, 0]),
+    (PLAN_P, 65, [1], 0, [18, 0]),
+    (PLAN_P, 65, None, 0, [18, 0]),
+    (PLAN_P, (1 << 64) - 1, None, 0, [18, 0]),
+    (PLAN_P, 65, [8], 0, [9, 0]),
+    (PLAN_P[:-1], 65, [8], 0, [1, 0]),
+    (FORKING, 40, [0] * 31, 40, [19, 0]),
+    (plan(join(NULL)), 64, None, 64, [0]),
+]
+
 # a log, the version that the judge is told, and what is right: the refusal, or the index that is named, or none
 NEW = bytes.fromhex("100000")
 HANDED_LOG = bytes.fromhex("101000" "802080" "301080" "501100" "421100" "221080")  # new, fork, write, volatile write, volatile read, read

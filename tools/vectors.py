@@ -18,8 +18,10 @@ and its text. The same words give the same files. Every case stands behind its l
   previews                       plays and picks for preview: by hand, and random ones
   plans                          plans for canonical: by hand, and random ones
   bounds                         plans for bound: by hand, and random ones
+  interleavings                  plans and schedules for first_interleaving and next_interleaving: by hand, and random ones
   changed_version, changed_checks, changed_plays, changed_runs, changed_both, changed_logs, changed_files,
-  changed_charges, changed_previews, changed_plans, changed_bounds
+  changed_charges, changed_previews, changed_plans, changed_bounds,
+  changed_interleavings
                                  cases of the kinds above with one part of the answer, or one length, changed: each must differ
 
 A play: lengths of plan, schedule and log area; what check, play and judge return, in eight bytes each, judge for the run's records or for none; the
@@ -27,7 +29,9 @@ bytes of the outcome; plan, schedule, records. A log: the version that judge is 
 the area's length in four bytes and the log's in two, what comtrade returns in eight; the log, and the file where it is not refused. A charge:
 lengths of plan and schedule, the option and what charge returns, in eight bytes each; plan, schedule. A preview: lengths of plan and schedule, the pick
 and what preview returns, in eight bytes each; the bytes of the preview; plan, schedule. A plan: the lengths of plan and area, what canonical returns in
-eight bytes; plan, written plan where it is not refused. A bound: what bound returns in eight bytes; plan.
+eight bytes; plan, written plan where it is not refused. A bound: what bound returns in eight bytes; plan. An interleaving:
+lengths of plan, schedule and area; 0 to begin, 1 to go on; n and what is returned, in eight bytes each; plan, schedule, and the written schedule where there
+is one.
 """
 
 import collections
@@ -41,9 +45,10 @@ from interpreter import (FILL, KINDS, NUMBERS, OUTCOMES, REFUSALS, STATES, bound
 
 LONG = 6000  # bytes of a case from which on only a few are kept
 MOST = 65535  # bytes of any case: its length has two
-# of each number, of runs to the end, of long cases, of logs with an unordered access and without, of files, charges, previews, written plans and bounds
-# of each kind, of each number that refuses one
-KEPT = {"refused": 45, "end": 330, "long": 10, "log": 390, "file": 80, "refused file": 15, "charge": 60, "refused charge": 12, "preview": 20, "refused preview": 8, "plan": 60, "refused plan": 8, "bound": 60, "refused bound": 15}
+# of each number, of runs to the end, of long cases, of logs with an unordered access and without, of files, charges, previews, written plans, bounds and
+# interleavings of each kind, of each number that refuses one
+KEPT = {"refused": 45, "end": 330, "long": 10, "log": 390, "file": 80, "refused file": 15, "charge": 60, "refused charge": 12, "preview": 20, "refused preview": 8, "plan": 60, "refused plan": 8, "bound": 60, "refused bound": 15, "interleaving": 60,
+        "refused interleaving": 12}
 
 
 # ---- the bytes of a case
@@ -67,6 +72,7 @@ Charge = collections.namedtuple("Charge", "plan schedule option charged lengths"
 Preview = collections.namedtuple("Preview", "plan schedule pick previewed out lengths")
 Plan = collections.namedtuple("Plan", "plan area written bytes length")
 Bound = collections.namedtuple("Bound", "bounded plan")
+Interleaving = collections.namedtuple("Interleaving", "plan schedule area going n written bytes lengths")
 
 
 def play_of(plan, schedule, area, want):
@@ -106,6 +112,13 @@ def plan_of(plan, area, want):
     return Plan(plan, area, written(want), got, len(plan))
 
 
+def interleaving_of(plan, n, given, area, want):
+    """An interleaving as it is stored; `given` is None to begin, `area` the length of an area, `lengths` are those of plan and schedule."""
+    got = b"" if "refused" in want or "over" in want else bytes.fromhex(want["area"])[:want["length"]]
+    schedule = given or b""
+    return Interleaving(plan, schedule, area, int(given is not None), n, written(want), got, (len(plan), len(schedule)))
+
+
 def stored(case):
     """The bytes of a case."""
     if isinstance(case, bytes):
@@ -116,6 +129,9 @@ def stored(case):
         return b"".join(map(two, case.lengths)) + eight(case.option) + eight(case.charged) + case.plan + case.schedule
     if isinstance(case, Preview):
         return b"".join(map(two, case.lengths)) + eight(case.pick) + eight(case.previewed) + case.out + case.plan + case.schedule
+    if isinstance(case, Interleaving):
+        numbers = b"".join(map(two, case.lengths)) + two(case.area) + bytes([case.going]) + eight(case.n) + eight(case.written)
+        return numbers + case.plan + case.schedule + case.bytes
     if isinstance(case, Bound):
         return eight(case.bounded) + case.plan
     if isinstance(case, Plan):
@@ -137,6 +153,10 @@ def case_of(case):
     if "preview" in case:
         asked = case["preview"]
         return preview_of(bytes.fromhex(asked["plan"]), bytes.fromhex(asked["schedule"]), asked["pick"], case["want"])
+    if "interleaving" in case:
+        lent = case["interleaving"]
+        given = None if lent["given"] is None else bytes.fromhex(lent["given"])
+        return interleaving_of(bytes.fromhex(lent["plan"]), lent["n"], given, len(lent["area"]) // 2, case["want"])
     if "bound" in case:
         return Bound(bounded(case["want"]), bytes.fromhex(case["bound"]["plan"]))
     if "canonical" in case:
@@ -156,6 +176,9 @@ def kind_of(case):
         return "charges", (("refused charge", want["refused"][0]) if "refused" in want else ("charge", want["cents"] == 0))
     if "preview" in case:
         return "previews", (("refused preview", want["refused"][0]) if "refused" in want else ("preview", str(preview_bytes(want)[:2])))
+    if "interleaving" in case:
+        begin = case["interleaving"]["given"] is None
+        return "interleavings", (("refused interleaving", want["refused"][0]) if "refused" in want else ("interleaving", (begin, "over" in want)))
     if "bound" in case:
         return "bounds", (("refused bound", want["refused"][0]) if "refused" in want else ("bound", ""))
     if "canonical" in case:
@@ -269,6 +292,15 @@ def edge_bounds(oracle):
         yield Bound(bounded(want), plan)
 
 
+def edge_interleavings(oracle):
+    for plan, n, given, area, stated in rows.INTERLEAVINGS:
+        given = None if given is None else bytes(given)
+        want = oracle.interleaved(plan, n, given, bytes([FILL]) * area)
+        got = want.get("refused") or ("over" if "over" in want else list(bytes.fromhex(want["area"])[:want["length"]]))
+        assert got == stated, (plan.hex(), n, given, area, want)
+        yield interleaving_of(plan, n, given, area, want)
+
+
 def edge_files(oracle):
     for log, area, stated in rows.FILES:
         want = oracle.data_file(log, bytes([FILL]) * area)
@@ -294,10 +326,12 @@ def wrong(right):
     return [right ^ change for change in (1, 1 << 16, 1 << 32, 1 << 33, 3 << 32, 1 << 63)]
 
 
-def changed(race, ended, refused_plan, refused_pick, unordered, ordered, refused_log, file, refused_file, charge, preview, refused_preview, plan, refused_area, bound, refused_bound):
-    """Cases by file, of sixteen right ones: plays that stop for a race, come to their end, have a refused plan and a refused pick; logs with an unordered
+def changed(race, ended, refused_plan, refused_pick, unordered, ordered, refused_log, file, refused_file, charge, preview, refused_preview, plan, refused_area, bound, refused_bound, first, following,
+            over, refused_listing):
+    """Cases by file, of twenty right ones: plays that stop for a race, come to their end, have a refused plan and a refused pick; logs with an unordered
     access, with none, and refused; a log with its data file, and one that is refused; a charge; a preview, and one that is refused; a
-    plan that is written, and one that is refused; a bound, and one that is refused."""
+    plan that is written, and one that is refused; a bound, and one that is refused; a first interleaving, a
+    following one, an end of the list, and one that is refused."""
     end = len(stored(race))
     lengths = [(end, 0), (len(race.plan), end)]
     return {
@@ -321,6 +355,10 @@ def changed(race, ended, refused_plan, refused_pick, unordered, ordered, refused
         + by(plan, area=[len(plan.plan) - 1, 65535]) + by(plan, length=[len(stored(plan))])
         + by(refused_area, written=wrong(refused_area.written)) + by(refused_area, bytes=[bytes(1)]),
         "changed_bounds": by(bound, bounded=wrong(bound.bounded)) + by(bound, plan=[bound.plan[:-1]]) + by(refused_bound, bounded=wrong(refused_bound.bounded)),
+        "changed_interleavings": [changed for case in (first, following) for changed in by(case, written=wrong(case.written)) + by(case, bytes=flips(case.bytes))
+                                  + by(case, bytes=[case.bytes[:-1], case.bytes + bytes(1)]) + by(case, area=[case.n - 1, 65535]) + by(case, n=[65])]
+        + by(over, written=wrong(over.written)) + by(over, bytes=[bytes(1)]) + by(following, going=[0]) + by(following, lengths=[(len(stored(following)), 0)])
+        + by(refused_listing, written=wrong(refused_listing.written)) + by(refused_listing, bytes=[bytes(1)]),
     }
 
 
@@ -335,7 +373,9 @@ def changed_of(files):
                    first("files", lambda c: c.filed == refused(24, 0)), first("charges", lambda c: c.option and value(0) < c.charged < other(0)),
                    first("previews", lambda c: c.out[0] == NUMBERS["PREVIEW_RACE"]), first("previews", lambda c: c.previewed > refused(9, 0)),
                    first("plans", lambda c: c.bytes and c.bytes != c.plan), first("plans", lambda c: c.written == refused(13, 0)),
-                   first("bounds", lambda c: c.bounded < other(0)), first("bounds", lambda c: c.bounded == refused(21, 0)))
+                   first("bounds", lambda c: c.bounded < other(0)), first("bounds", lambda c: c.bounded == refused(21, 0)),
+                   first("interleavings", lambda c: not c.going and c.n > 4 and c.bytes), first("interleavings", lambda c: c.going and c.n > 4 and c.bytes),
+                   first("interleavings", lambda c: c.written == other(0)), first("interleavings", lambda c: c.written == refused(19, 0)))
 
 
 # ---- the files
@@ -345,11 +385,12 @@ GROUPS = [("version", "version"),
           ("edges, checked", "edges"), ("edges, played", "edges"), ("edges, judged", "edges"), ("logs at the edges, judged", "edge_logs"),
           ("runs, checked", "runs"), ("runs, played", "runs"), ("runs, judged", "runs"), ("runs, played and judged", "runs"),
           ("refused plays, checked", "refused"), ("refused plays, played", "refused"), ("refused plays, played and judged", "refused"),
-          ("other logs, judged", "logs"), ("data files at the edges", "edge_files"), ("data files", "files"), ("charges", "charges"), ("previews", "previews"), ("plans, written", "plans"), ("bounds", "bounds")]
+          ("other logs, judged", "logs"), ("data files at the edges", "edge_files"), ("data files", "files"), ("charges", "charges"), ("previews", "previews"), ("plans, written", "plans"), ("bounds", "bounds"), ("interleavings", "interleavings")]
 CHANGED = [("changed version", "changed_version"), ("changed, checked", "changed_checks"), ("changed, played", "changed_plays"),
            ("changed runs, judged", "changed_runs"), ("changed, played and judged", "changed_both"), ("changed logs, judged", "changed_logs"),
            ("changed data files", "changed_files"), ("changed charges", "changed_charges"), ("changed previews", "changed_previews"),
-           ("changed plans, written", "changed_plans"), ("changed bounds", "changed_bounds")]
+           ("changed plans, written", "changed_plans"), ("changed bounds", "changed_bounds"),
+           ("changed interleavings", "changed_interleavings")]
 
 
 def lines(files):
@@ -383,6 +424,7 @@ def main(argv):
     files["previews"] = list(edge_previews(answers)) + files["previews"]
     files["plans"] = list(edge_plans(answers)) + files["plans"]
     files["bounds"] = list(edge_bounds(answers)) + files["bounds"]
+    files["interleavings"] = list(edge_interleavings(answers)) + files["interleavings"]
     files.update(changed_of(files))
     files["version"] = [eight(NUMBERS["VERSION"])]
     files["changed_version"] = flips(files["version"][0]) + [files["version"][0] + bytes(1)]

@@ -47,6 +47,18 @@ pub fn bound(plan: &[u8]) -> u64 {
     independent::bound(plan).map_or_else(number, |total| total as u64)
 }
 
+pub fn first_interleaving(plan: &[u8], n: u64, area: &mut [u8]) -> u64 {
+    independent::first_interleaving(plan, n, area).map_or_else(number, |length| length as u64)
+}
+
+pub fn next_interleaving(plan: &[u8], n: u64, schedule: &[u8], area: &mut [u8]) -> u64 {
+    match independent::next_interleaving(plan, n, schedule, area) {
+        Ok(Some(length)) => length as u64,
+        Ok(None) => 1 << 32,
+        Err(refusal) => number(refusal),
+    }
+}
+
 pub fn charge(plan: &[u8], schedule: &[u8], option: u64) -> u64 {
     independent::charge(plan, schedule, option != 0).map_or_else(number, |cents| cents as u64)
 }

@@ -18,6 +18,7 @@ struct Seen {
     previews: [usize; 6],
     plans: [usize; 2],
     bounds: usize,
+    listed: [usize; 3],
 }
 
 impl Seen {
@@ -39,17 +40,18 @@ impl Seen {
     }
 
     fn print(&self) {
-        let (first, later) = (&self.refusals[1..13], [13, 14, 21, 22, 23, 24].map(|number| self.refusals[number]));
-        println!("  plans passed {}; refusals 1 to 12 {first:?}, 13, 14, 21 to 24 {later:?}", self.passed);
+        let (first, later) = (&self.refusals[1..13], [13, 14, 18, 19, 20, 21, 22, 23, 24].map(|number| self.refusals[number]));
+        println!("  plans passed {}; refusals 1 to 12 {first:?}, 13, 14, 18 to 24 {later:?}", self.passed);
         println!("  runs end, race, no-thread, no-object, no-key, no-depth {:?}", self.stops);
         println!("  threads absent, finished, ready, monitor, join, no field, no thread, lacking, notify, monitor not held {:?}", self.states);
         println!("  threads that learnt no key from another, some {:?}", self.learnt);
         println!("  logs ordered, unordered {:?}; data files {}; runs free, charged {:?}", self.judged, self.files, self.charges);
         println!("  picks passed over, moved, moved with a record, race, no room, stopped before {:?}", self.previews);
         println!("  plans written as they were, otherwise {:?}; plans with a total {}", self.plans, self.bounds);
+        println!("  interleavings begun, followed, over {:?}", self.listed);
         let alone = [self.passed, self.files, self.bounds];
-        let counts: [&[usize]; 10] =
-            [first, &later, &self.stops, &self.states, &self.learnt, &self.judged, &self.charges, &self.previews, &self.plans, &alone];
+        let counts: [&[usize]; 11] =
+            [first, &later, &self.stops, &self.states, &self.learnt, &self.judged, &self.charges, &self.previews, &self.plans, &self.listed, &alone];
         assert!(counts.into_iter().flatten().min() > Some(&0), "an answer that no case had: more cases are needed");
     }
 }
@@ -137,6 +139,43 @@ fn bound(plan: &[u8], seen: &mut Seen) {
     }
 }
 
+/// The first interleaving of a plan, some that follow, and a schedule that may not be listed.
+fn interleavings(random: &mut Random, plan: &[u8], other: &[u8], seen: &mut Seen) {
+    let n: u64 = random.pick(&[0, 2, 5, 9, 20, 64, 65]);
+    let length = (n as usize + random.pick(&[0, 1, 1, 1, 9])).saturating_sub(1);
+    let area = random.bytes(length);
+    let (mut ours, mut theirs) = (area.clone(), area.clone());
+    let told = n.to_be_bytes();
+    let input = [plan, &told, &area];
+    let answer = library::first_interleaving(plan, n, &mut ours);
+    same("first_interleaving", &input, answer, answers::first_interleaving(plan, n, &mut theirs));
+    let mut schedule = same("the first interleaving's area", &input, ours, theirs);
+    if answer >> 32 == 2 {
+        seen.refused(answer);
+        schedule = other.to_vec();
+    } else {
+        seen.listed[0] += 1;
+        schedule.truncate(answer as usize);
+    }
+    for _ in 0..4 {
+        let (mut ours, mut theirs) = (area.clone(), area.clone());
+        let input = [plan, &told, &schedule, &area];
+        let answer = library::next_interleaving(plan, n, &schedule, &mut ours);
+        same("next_interleaving", &input, answer, answers::next_interleaving(plan, n, &schedule, &mut theirs));
+        let written = same("the following interleaving's area", &input, ours, theirs);
+        match answer >> 32 {
+            0 => seen.listed[1] += 1,
+            1 => seen.listed[2] += 1,
+            _ => seen.refused(answer),
+        }
+        if answer >> 32 > 0 {
+            schedule = other.to_vec();
+        } else {
+            schedule = written[..answer as usize].to_vec();
+        }
+    }
+}
+
 /// The answer and the whole area; a plan that is written is written again.
 fn canonical(random: &mut Random, plan: &[u8], seen: &mut Seen) {
     let length = (plan.len() + random.pick(&[0, 1, 1, 1, 2, 20])).saturating_sub(1);
@@ -206,6 +245,7 @@ pub fn run(cases: usize, seed: u64) {
         canonical(random, &plan, &mut seen);
         bound(&plan, &mut seen);
         let schedule = generate::schedule(random);
+        interleavings(random, &plan, &schedule, &mut seen);
         charge(&plan, &schedule, random.pick(&[0, 1, 1 << 63]), &mut seen);
         let area = generate::area(random, schedule.len());
         let mut before = [0; OUT_BYTES];

@@ -190,6 +190,53 @@ fn short_row(name: &str, log: &[u8]) {
     println!();
 }
 
+/// Whole calls of both for 64 picks on two threads that never end: the first schedule; the one after it; the one after a schedule that leaves its follower at
+/// the last place where it can, far back; and the last schedule of all.
+fn listing_rows() {
+    println!("\n{:16} |{:^23}", "interleavings", "a call for 64 picks");
+    let input = &inputs::timed()[0];
+    let mut schedule = [0; 64];
+    let length = library::first_interleaving(&input.plan, 64, &mut schedule) as usize;
+    let first = schedule[..length].to_vec();
+    let begun = (0..64).find(|i| has_follower(&input.plan, &first, *i)).expect("a second thread");
+    let far: Vec<u8> = last_from(&input.plan, first[..=begun].to_vec());
+    let last: Vec<u8> = last_from(&input.plan, first[..begun].to_vec());
+    let begin = |entry: fn(&[u8], u64, &mut [u8]) -> u64| -> Entry {
+        let mut area = [0; 64];
+        Box::new(move || {
+            black_box(entry(black_box(&input.plan), 64, &mut area));
+        })
+    };
+    let pair = |[ours, theirs]: [f64; 2]| Pair(ours, theirs).text(0);
+    println!("{:16} |{:>23}", "first", pair(best([begin(library::first_interleaving), begin(answers::first_interleaving)])));
+    for (name, schedule) in [("next", &first), ("next, far back", &far), ("over", &last)] {
+        let going = |entry: fn(&[u8], u64, &[u8], &mut [u8]) -> u64| -> Entry {
+            let mut area = [0; 64];
+            Box::new(move || {
+                black_box(entry(black_box(&input.plan), 64, black_box(schedule), &mut area));
+            })
+        };
+        println!("{name:16} |{:>23}", pair(best([going(library::next_interleaving), going(answers::next_interleaving)])));
+    }
+}
+
+/// Whether thread 1 can move after the first `at` picks.
+fn has_follower(plan: &[u8], schedule: &[u8], at: usize) -> bool {
+    let (mut log, mut out) = ([0; 192], [0; library::OUT_BYTES]);
+    library::play(plan, &schedule[..at], &mut log, &mut out);
+    out[12] == 2
+}
+
+/// These picks, and then always the highest thread that can move.
+fn last_from(plan: &[u8], mut schedule: Vec<u8>) -> Vec<u8> {
+    let (mut log, mut out) = ([0; 192], [0; library::OUT_BYTES]);
+    while schedule.len() < 64 {
+        library::play(plan, &schedule, &mut log, &mut out);
+        schedule.push((0..8u8).rev().find(|t| matches!(out[8 + 4 * usize::from(*t)], 2 | 7)).expect("a thread that moves"));
+    }
+    schedule
+}
+
 pub fn run() {
     println!("\nspeed, nanoseconds: the library, the independent implementation, the ratio; best of {ROUNDS} rounds");
     print!("{:16} {:>5} {:>5} {:>5} {:>5}", "", "bytes", "picks", "moves", "recs");
@@ -207,4 +254,5 @@ pub fn run() {
     println!();
     inputs::timed().iter().for_each(|input| short_row(input.name, &played(input).0));
     short_row("scattered", &scattered(SHORT[SHORT.len() - 1]));
+    listing_rows();
 }

@@ -82,6 +82,15 @@ pub fn print() {
     most("bound", 96, &all, |i| {
         library::bound(&i.plan);
     });
+    let mut listed = [0; 64];
+    most("first_interleaving", 96, &all, |i| {
+        library::first_interleaving(&i.plan, 64, &mut listed);
+    });
+    let mut next = [0; 64];
+    most("next_interleaving", 96, &all, |i| {
+        let length = library::first_interleaving(&i.plan, 64, &mut listed) as usize;
+        library::next_interleaving(&i.plan, 64, &listed[..length], &mut next);
+    });
     most("charge", 144, &all, |i| {
         library::charge(&i.plan, &i.schedule, 1);
     });

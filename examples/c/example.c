@@ -105,6 +105,21 @@ static void bound(const char *name, const uint8_t *bytes, size_t length) {
     }
 }
 
+/* Every interleaving of at most n picks, and how it ends. */
+static void interleavings(uint64_t n) {
+    uint8_t schedule[RUQZHEMIL_MOST_BOUND], next[RUQZHEMIL_MOST_BOUND], log[3 * RUQZHEMIL_MOST_BOUND], out[RUQZHEMIL_OUT_BYTES];
+    uint64_t answer = ruqzhemil_first_interleaving(plan, sizeof plan, n, schedule, sizeof schedule);
+    if (RUQZHEMIL_REFUSED(answer)) refused(answer);
+    while (RUQZHEMIL_ANSWER(answer) == RUQZHEMIL_IS_VALUE) {
+        size_t length = RUQZHEMIL_VALUE(answer);
+        ruqzhemil_play(plan, sizeof plan, schedule, length, log, sizeof log, out);
+        picks_of(schedule, length);
+        printf("%s\n", ruqzhemil_stop_word(ruqzhemil_stop_of(out)));
+        answer = ruqzhemil_next_interleaving(plan, sizeof plan, n, schedule, length, next, sizeof next);
+        for (size_t i = 0; i < sizeof next; i++) schedule[i] = next[i];
+    }
+}
+
 /* synch new() do null, with the body's term before the object's */
 static const uint8_t turned[25] = {
     0x10, 0x40, 0x0c, 0x00, 0x80, 0x00, 0x00, 0x00, 0x00, 0x00, 0x58, 0x04, 0x00, 0x80, 0x00, 0x00, 0x00, 0x00, 0x00, 0x00, 0x10, 0x00, 0x00, 0x00, 0x00,
@@ -173,6 +188,8 @@ int main(void) {
     canonical(sizeof turned - 1);
     bound("P", plan, sizeof plan);
     bound("a loop", endless, sizeof endless);
+    interleavings(10);
+    interleavings(65);
     charge(race, sizeof race, 0);
     charge(race, sizeof race, 1);
     charge(wrong, sizeof wrong, 1);

@@ -1,12 +1,13 @@
 //! Ruqzhemil: a verified checker of plans for relay test sets.
 //!
 //! [`check`] a plan, [`play`] a schedule on it, [`judge`] a log, [`preview`] a pick, write a plan in the one [`canonical`] way and a log as a [`comtrade`]
-//! data file, say how many moves a plan can need ([`bound`]), and [`charge`] for a run. Each takes any bytes; `include/ruqzhemil.h` says what the answers mean, and the proofs of the static library below show
+//! data file, say how many moves a plan can need ([`bound`]), list the [`interleavings`] of a short plan, and [`charge`] for a run. Each takes any bytes; `include/ruqzhemil.h` says what the answers mean, and the proofs of the static library below show
 //! that they are right. Later versions may have more refusals, kinds, stops and states than are named here: `Other` has their number.
 
 #[path = "../../include/ruqzhemil.rs"]
 pub mod raw;
 
+mod interleavings;
 mod log;
 mod outcome;
 mod preview;
@@ -14,6 +15,7 @@ mod refusal;
 #[cfg(test)]
 mod tests;
 
+pub use interleavings::{first_interleaving, interleavings, next_interleaving, Interleavings};
 pub use log::{Kind, Record, records};
 pub use outcome::{Outcome, Stop, ThreadState};
 pub use preview::Preview;
@@ -33,6 +35,8 @@ pub const MOST_TEXT_BYTES: usize = 131072;
 pub const MOST_FILE_BYTES: usize = 317269;
 /// Moves that [`bound`] answers, at most.
 pub const MOST_TOTAL: usize = 65535;
+/// Picks of a listed schedule, at most: an area of this size is enough for every one.
+pub const MOST_BOUND: usize = 64;
 /// Bytes of a record.
 pub const RECORD_BYTES: usize = 3;
 /// Bytes of an outcome.

@@ -43,7 +43,7 @@ fn same<T: std::fmt::Debug>(prefix: &str, count: usize, of: impl Fn(u64) -> T) {
 
 #[test]
 fn numbers_are_the_headers() {
-    same("RUQZHEMIL_REFUSAL_", 18, |n| Refusal { number: n as u16, place: 0 }.reason());
+    same("RUQZHEMIL_REFUSAL_", 21, |n| Refusal { number: n as u16, place: 0 }.reason());
     same("RUQZHEMIL_KIND_", 11, |n| Kind::of(n as u8));
     let states = |n: u64| (Stop::of(n as u8), ThreadState::of(n as u8, 0, 0));
     for (name, n) in
@@ -72,6 +72,7 @@ fn limits_are_the_headers() {
     assert_eq!(number("RUQZHEMIL_MOST_TEXT_BYTES"), MOST_TEXT_BYTES);
     assert_eq!(number("RUQZHEMIL_MOST_FILE_BYTES"), MOST_FILE_BYTES);
     assert_eq!(number("RUQZHEMIL_MOST_TOTAL"), MOST_TOTAL);
+    assert_eq!(number("RUQZHEMIL_MOST_BOUND"), MOST_BOUND);
     assert_eq!(number("RUQZHEMIL_RECORD_BYTES"), RECORD_BYTES);
     assert_eq!(number("RUQZHEMIL_OUT_BYTES"), OUT_BYTES);
     assert_eq!(number("RUQZHEMIL_PREVIEW_BYTES"), PREVIEW_BYTES);
@@ -143,6 +144,21 @@ fn plans_are_written_in_one_way() {
     assert_eq!(canonical(&plan, &mut area[..24]), Err(Refusal { number: 13, place: 0 }));
     assert_eq!(canonical(&plan[..24], &mut area), Err(Refusal { number: 1, place: 0 }));
     assert_eq!((&area[..25], area[25]), (&written[..], 7));
+}
+
+#[test]
+fn interleavings_by_hand() {
+    let fork_fork_null = [0x10, 0x40, 0x0c, 0x00, 0x80, 0, 0, 0, 0, 0, 0x48, 0x02, 0, 0, 0, 0x48, 0x04, 0, 0, 0, 0, 0, 0, 0, 0];
+    let all = |n| interleavings(&fork_fork_null, n).unwrap().collect::<Vec<_>>();
+    assert_eq!(all(0), [[0u8; 0]]);
+    assert_eq!(all(2), [[0, 0]]);
+    assert_eq!(all(64), [[0, 0, 1]]);
+    let mut area = [7; 3];
+    assert_eq!(first_interleaving(&fork_fork_null, 65, &mut area), Err(Refusal { number: 18, place: 0 }));
+    assert_eq!(next_interleaving(&fork_fork_null, 3, &[0, 0], &mut area), Err(Refusal { number: 19, place: 0 }));
+    assert_eq!(next_interleaving(&fork_fork_null, 4, &[0, 0, 1], &mut area), Err(Refusal { number: 20, place: 0 }));
+    assert_eq!(next_interleaving(&fork_fork_null, 3, &[0, 0, 1], &mut area), Ok(None));
+    assert_eq!(area, [7; 3]);
 }
 
 #[test]

@@ -346,8 +346,13 @@ pub fn play(plan: &[u8], schedule: &[u8], log: &mut [u8]) -> Result<Outcome, Ref
     if log.len() < 3 * schedule.len() {
         return Err((10, 0));
     }
+    Ok(run(&plan, schedule, log))
+}
+
+/// A schedule that nothing refuses.
+pub(super) fn run(plan: &Plan, schedule: &[u8], log: &mut [u8]) -> Outcome {
     let mut r = Run {
-        plan: &plan,
+        plan,
         threads: [Thread::default(); 8],
         nthreads: 1,
         nobjects: 1,
@@ -598,7 +603,7 @@ pub fn play(plan: &[u8], schedule: &[u8], log: &mut [u8]) -> Result<Outcome, Ref
         states[n] = r.status(n);
     }
     let totals = r.threads.map(|t| t.learnt);
-    Ok(Outcome { word, picks, moves, records: rec, states, totals, before })
+    Outcome { word, picks, moves, records: rec, states, totals, before }
 }
 
 // ---- judge: vector clocks, with the last write as an epoch

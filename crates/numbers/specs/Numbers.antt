@@ -7,6 +7,7 @@ use Rattle.format.specs.Refusal.{Refusal}
 use Rattle.conflicts.specs.Judge.{Judged, refused, named, AnswersTold}
 use Rattle.rules.specs.Play as play
 use Rattle.answers.specs.Answer as tool
+use Rattle.interleavings.specs.Interleavings.{Next, FirstAnswer, NextAnswer}
 
 -- ---- the convention of every entry: a number of 64 bits, whose upper half says which kind of answer it is
 
@@ -45,8 +46,26 @@ unfoldable pub answerNumber : tool.Answer → ℕ
 answerNumber (tool.Answer.value n) = valueNumber n
 answerNumber (tool.Answer.refused r) = refusalNumber r
 
+-- next_interleaving: the length of the following schedule; its other answer is that the list is over
+unfoldable pub nextNumber : Next → ℕ
+nextNumber (Next.written n) = valueNumber n
+nextNumber Next.over = otherNumber 0
+nextNumber (Next.refused r) = refusalNumber r
+
 -- the judge returns the number of its answer to the version and the log
 pub record JudgeReturns (version : ℕ) (log : List ℕ) (n : ℕ) : Type 0 where
   pub answer : Judged
   pub answers : AnswersTold version log answer
   pub numbered : n ≡ judgeNumber answer
+
+-- first_interleaving returns the number of its answer to the plan, the bound and the area, and leaves the area as that answer has it
+pub record FirstReturns (plan : List ℕ) (n : ℕ) (before : List ℕ) (number : ℕ) (after : List ℕ) : Type 0 where
+  pub answer : tool.Answer
+  pub answers : FirstAnswer plan n before answer after
+  pub numbered : number ≡ answerNumber answer
+
+-- next_interleaving the same, to a schedule too
+pub record NextReturns (plan : List ℕ) (n : ℕ) (schedule before : List ℕ) (number : ℕ) (after : List ℕ) : Type 0 where
+  pub answer : Next
+  pub answers : NextAnswer plan n schedule before answer after
+  pub numbered : number ≡ nextNumber answer

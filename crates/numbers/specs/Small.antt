@@ -4,6 +4,7 @@ use mathlib.Core.Option.{some, none}
 use Rattle.conflicts.specs.Judge.{Judged, refused, named}
 use Rattle.refusals.specs.Small.{SmallRefusal}
 use Rattle.answers.specs.Answer as tool
+use Rattle.interleavings.specs.Interleavings.{Next}
 
 -- a judge's answer
 abbrev pub SmallJudged : Judged → Type 0
@@ -15,3 +16,9 @@ SmallJudged (refused r) = SmallRefusal r
 abbrev pub SmallAnswer : tool.Answer → Type 0
 SmallAnswer (tool.Answer.value n) = n < 2 ^ 32
 SmallAnswer (tool.Answer.refused r) = SmallRefusal r
+
+-- of next_interleaving
+abbrev pub SmallNext : Next → Type 0
+SmallNext (Next.written n) = n < 2 ^ 32
+SmallNext Next.over = Unit {0}
+SmallNext (Next.refused r) = SmallRefusal r

@@ -5,9 +5,11 @@ ghost use Rattle.refusals.specs.Answer as refusals;
 ghost use Rattle.refusals.specs.Small.{Small, SmallCheck};
 ghost use Rattle.judge.specs.Answer as judge;
 ghost use Rattle.answers.specs.Answer as tool;
-ghost use Rattle.numbers.specs.Numbers.{checkNumber, judgeNumber, answerNumber};
-ghost use Rattle.numbers.specs.Small.{SmallJudged, SmallAnswer};
+ghost use Rattle.interleavings.specs.Answer as listing;
+ghost use Rattle.numbers.specs.Numbers.{checkNumber, judgeNumber, answerNumber, nextNumber};
+ghost use Rattle.numbers.specs.Small.{SmallJudged, SmallAnswer, SmallNext};
 use answers::Answered;
+use interleavings::Next;
 use judge::Judgement;
 use refusals::Checked;
 
@@ -58,5 +60,17 @@ pub fn of_answer(answered: Answered) -> u64
     match answered {
         Answered::Value(value) => value as u64,
         Answered::Refused { number, place } => refusal(number, place),
+    }
+}
+
+// Of the answer of next_interleaving.
+pub fn of_next(next: Next) -> u64
+    requires { ⌜ SmallNext (listing.answered next) ⌝ }
+    ensures { λ r. ⌜ r ≡ nextNumber (listing.answered next) ⌝ }
+{
+    match next {
+        Next::Refused { number, place } => refusal(number, place),
+        Next::Written(length) => length as u64,
+        Next::Over => 4294967296,
     }
 }

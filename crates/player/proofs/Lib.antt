@@ -3,3 +3,4 @@ pub mod Entry
 pub mod Ran
 pub mod Executed
 pub mod Moves
+pub mod Threads

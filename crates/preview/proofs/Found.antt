@@ -1,11 +1,11 @@
 -- What the code finds of the last pick is the preview. Assumes nothing.
-use Prim.Native.Nat.{ℕ, zero, suc, _+_, _*_, _-_, _/_, _%_, _≤_, _<_, min}
+use Prim.Native.Nat.{ℕ, _+_, _*_, _-_, _/_, _%_, _≤_, _<_, min}
 use native.Mathlib.Omega.{arith}
-use native.Mathlib.Nat.{zero-add, sub-zero}
+use native.Mathlib.Nat.{sub-zero}
 use mathlib.Core.Path.{_≡_, refl, sym, ap, _∙_, subst as along}
 use mathlib.Core.Bool.{true≢false}
-use mathlib.Core.List.{List, [], _∷_, _++_, map, append-nil}
-use mathlib.Core.Option.{Option, some, none}
+use mathlib.Core.List.{List, [], _∷_, _++_, append-nil}
+use mathlib.Core.Option.{some, none}
 use lib.ListN.{length, getD, getElem?, take, drop, length-append, take-append-drop}
 use lib.Seq.{getD-take, take-at, getD-append-seam}
 use Rattle.format.specs.Area.{overwrite}
@@ -16,25 +16,24 @@ use Rattle.records.specs.Record.{Record}
 use Rattle.records.specs.Packed.{packed, threeBytes, bytesOf, recordAt}
 use Rattle.records.proofs.Tidy.{Tidy, tidy-at}
 use Rattle.records.proofs.RoundTrip.{length-bytes, Placed, bytes-placed, packed-back}
-use Rattle.rules.specs.State.{start}
-use Rattle.rules.specs.Step.{Attempt, attempt}
+use Rattle.rules.specs.State.{State, start}
+use Rattle.rules.specs.Step.{attempt}
 use Rattle.rules.specs.Room.{Room}
 use Rattle.rules.specs.Run as run
-use Rattle.rules.specs.Run.{Run, Status, status, statusesFrom, logged, play}
+use Rattle.rules.specs.Run.{Run, Status, status, logged, play}
 use Rattle.rules.specs.Play.{runOf}
 use Rattle.rules.proofs.Equivalence.{complete-passed}
-use Rattle.rules.proofs.ThreadStates.{status-at}
 use Rattle.rules.proofs.TidyRuns.{tidy-play}
 use Rattle.rules.proofs.RunAppend.{stopped-short, all-dealt-with, records-grow}
 use Rattle.run_outcome.specs.declared.NoRoom.{NoRoom}
 use Rattle.run_outcome.specs.declared.NoRoom.the-variants as room
 use Rattle.run_outcome.specs.declared.Stop.{Stop}
 use Rattle.run_outcome.specs.declared.Stop.the-variants as stop
-use Rattle.run_outcome.specs.declared.Thread.{Thread}
 use Rattle.engine.specs.Machine.{absent, picksBefore}
 use Rattle.engine.specs.declared.Ran.{Ran}
 use Rattle.player.specs.Answer.{roomOf, stopOf, statusOf, outcomeOf}
 use Rattle.player.specs.RunOn.{Given, RunOn}
+use Rattle.player.proofs.Threads.{status-of}
 use Rattle.text.specs.Wrote.{Wrote}
 use Rattle.preview.specs.declared.Previewed.{Previewed}
 use Rattle.preview.specs.Preview as preview
@@ -65,19 +64,12 @@ no-room stop.End k e = absurd (true≢false cc)
 no-room stop.Race k e = absurd (true≢false cc)
 no-room (stop.NoRoom x) k e = (x, refl, cc)
 
--- ---- an element of a list, and what it is mapped to
-
-mapped : (l : List Thread) (p : ℕ) (y : Status) → getElem? (map (λ (t : Thread). statusOf (t .state)) l) p ≡ some y → statusOf (getD l p absent .state) ≡ y
-mapped [] p y e = absurd (true≢false cc)
-mapped (t ∷ l) zero y e = cc
-mapped (t ∷ l) (suc p) y e = mapped l p y e
+-- ---- the bytes of the last record
 
 -- the last of some records and one more
 last-of : (L : List Record) (e : Record) → getElem? (L ++ (e ∷ [])) (length L) ≡ some e
 last-of [] e = refl
 last-of (x ∷ L) e = last-of L e
-
--- ---- the bytes of the last record
 
 module _ (L : List Record) (area after : List ℕ) (left : after ≡ overwrite (bytesOf L) area) where
   begins : take (length (bytesOf L)) after ≡ bytesOf L
@@ -158,10 +150,6 @@ module _ (plan schedule : List ℕ) (pick : ℕ) (ws area : List ℕ) (given : G
     unfolding outcomeOf run.outcomeOf
     records-are = ap (λ (o : run.Outcome). o .records) (ran .outcome) ∙ ap (λ (y : Run). length (y .log)) (sym same)
 
-    threads-are : map (λ (y : Thread). statusOf (y .state)) (r .outcome .threads) ≡ statusesFrom (programOf plan) (t .final) 0 8
-    unfolding outcomeOf run.outcomeOf
-    threads-are = ap (λ (o : run.Outcome). o .threads) (ran .outcome) ∙ ap (λ (y : Run). statusesFrom (programOf plan) (y .final) 0 8) (sym same)
-
     moves-before : t .picks ≡ n + 1 → r .before .moves ≡ length (shorter .instances)
     moves-before e = ran .moves-before ∙ ap (λ (ps : List ℕ). length (runOf plan ps .instances)) (before-is (picks-are ∙ e))
 
@@ -232,9 +220,8 @@ module _ (plan schedule : List ℕ) (pick : ℕ) (ws area : List ℕ) (given : G
       let e : r .outcome .stop ≡ stop.End = ended _ (stop-is _ same) in
       let m : r .outcome .moves ≡ r .before .moves = moves-are _ same ∙ ap length (append-nil (shorter .instances)) ∙ sym (moves-before _ same (one-more h)) in
       let y : statusOf (getD (r .outcome .threads) pick absent .state) ≡ status a =
-      mapped (r .outcome .threads) pick (status a)
-      (ap (λ (l : List Status). getElem? l pick) (threads-are _ same) ∙ status-at (programOf plan) (shorter .final) 0 8 pick small
-      ∙ ap (λ (q : ℕ). some (status (attempt (programOf plan) (shorter .final) q))) (zero-add pick) ∙ ap (λ (z : Attempt). some (status z)) (complete-passed (programOf plan) (shorter .final) pick p)) in
+      status-of (programOf plan) longer (r .outcome) (ran .outcome) pick small ∙ ap (λ (z : State). status (attempt (programOf plan) z pick)) (ap (λ (u : Run). u .final) (sym same))
+      ∙ ap status (complete-passed (programOf plan) (shorter .final) pick p) in
       found-as _ _ (passed r n pick after (omega (arith, picks-are _ same, one-more h)) e m) (ap (λ (z : Status). preview.Previewed.shows (Preview.passed z)) y) tt (ended-once e)
   found x t same (MOVED {R} {e = none} h m k) =
       let e : r .outcome .stop ≡ stop.End = ended _ (stop-is _ same) in

@@ -4,4 +4,5 @@ pub mod Statuses
 pub mod Outcomes
 pub mod Played
 pub mod Previewed
+pub mod Interleavings
 pub mod Tools

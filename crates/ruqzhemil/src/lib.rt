@@ -3,7 +3,7 @@
 ghost use mathlib.Core.Path.{_≡_};
 ghost use Rattle.packed.specs.Check.{refusal};
 ghost use Rattle.rules.specs.Play.{played, areaAfter};
-ghost use Rattle.numbers.specs.Numbers.{checkNumber, playNumber, answerNumber, JudgeReturns};
+ghost use Rattle.numbers.specs.Numbers.{checkNumber, playNumber, answerNumber, JudgeReturns, FirstReturns, NextReturns};
 ghost use mathlib.Core.Bool.{not};
 ghost use lib.Dec.{eqb};
 ghost use Rattle.preview.specs.Preview.{previewed};
@@ -92,6 +92,31 @@ pub extern "C" fn ruqzhemil_comtrade(log: &[u8], area: &mut [u8]) -> u64
 {
     let answered = waveform::comtrade(log, area);
     numbers::of_answer(answered)
+}
+
+// The length of the first schedule of at most n picks that is listed, which begins the area; the area's other bytes, and all of them after a refusal, are as they
+// were.
+#[no_mangle]
+pub extern "C" fn ruqzhemil_first_interleaving(plan: &[u8], n: u64, area: &mut [u8]) -> u64
+    ensures { λ r. ⌜ FirstReturns (now (plan .entry)) n (now (area .entry)) r (now (area .exit)) ⌝ }
+{
+    let answered = interleavings::first_interleaving(plan, n as usize, area);
+    numbers::of_answer(answered)
+}
+
+// The length of the schedule that follows a listed one, which begins the area; the other answer is that the list is over. The area's other bytes, and all of
+// them where the list is over or after a refusal, are as they were.
+#[no_mangle]
+pub extern "C" fn ruqzhemil_next_interleaving(
+    plan: &[u8],
+    n: u64,
+    schedule: &[u8],
+    area: &mut [u8],
+) -> u64
+    ensures { λ r. ⌜ NextReturns (now (plan .entry)) n (now (schedule .entry)) (now (area .entry)) r (now (area .exit)) ⌝ }
+{
+    let next = interleavings::next_interleaving(plan, n as usize, schedule, area);
+    numbers::of_next(next)
 }
 
 // How many moves a plan can need at most: no schedule makes more.

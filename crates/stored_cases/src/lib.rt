@@ -8,7 +8,8 @@
 // schedule, two bytes each; the option and what charge returns, eight each; then plan and schedule. A case of a preview: the same with the pick and what
 // preview returns, and the eight bytes of the preview before the plan. A case of a plan: the lengths of plan and area, two bytes each; what canonical
 // returns, eight; then the plan and the written plan, empty where it is refused. A case of a bound: what bound returns, eight bytes; then the plan. A case
-// that ends before the parts that its lengths name is wrong.
+// of an interleaving: the lengths of plan, schedule and area, two bytes each; a byte, 0 for first_interleaving; n and what is returned, eight bytes each;
+// then plan, schedule and the written schedule, empty where there is none. A case that ends before the parts that its lengths name is wrong.
 ghost use Prim.Native.Nat.{_+_, _≤_};
 ghost use lib.ListN.{length};
 use judge::Judgement;
@@ -282,4 +283,56 @@ pub fn bound_case(case: &[u8]) -> bool {
         return false;
     }
     ruqzhemil::ruqzhemil_bound(&case[8..]) == number_at(case, 0)
+}
+
+// The first interleaving, or the one that follows the schedule, in the whole area.
+fn interleaving(going: bool, plan: &[u8], n: u64, schedule: &[u8], area: &mut [u8]) -> u64 {
+    if going {
+        ruqzhemil::ruqzhemil_next_interleaving(plan, n, schedule, area)
+    } else {
+        ruqzhemil::ruqzhemil_first_interleaving(plan, n, area)
+    }
+}
+
+// The same in an area of that size, or in the whole area.
+fn interleaving_in(
+    going: bool,
+    plan: &[u8],
+    n: u64,
+    schedule: &[u8],
+    area: &mut [u8],
+    size: usize,
+) -> u64 {
+    if size < area.len() {
+        interleaving(going, plan, n, schedule, &mut area[..size])
+    } else {
+        interleaving(going, plan, n, schedule, area)
+    }
+}
+
+// What first_interleaving or next_interleaving returns, and the whole area.
+pub fn interleaving_case(case: &[u8]) -> bool {
+    if case.len() < 23 {
+        return false;
+    }
+    let end = 23 + byte_numbers::half(case, 0);
+    let last = end + byte_numbers::half(case, 2);
+    let size = byte_numbers::half(case, 4);
+    if case.len() < last {
+        return false;
+    }
+    if 512 < size {
+        return false;
+    }
+    let mut area = [FILL; 512];
+    let n = number_at(case, 7);
+    let got = interleaving_in(
+        case[6] != 0,
+        &case[23..end],
+        n,
+        &case[end..last],
+        &mut area,
+        size,
+    );
+    (got == number_at(case, 15)) & begins(&area, &case[last..])
 }

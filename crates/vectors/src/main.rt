@@ -79,7 +79,13 @@ fn tools(all: Tally) -> Tally {
     let all = group(b"charges: ", b"charges", Group::Charge, all);
     let all = group(b"previews: ", b"previews", Group::Preview, all);
     let all = group(b"plans, written: ", b"plans", Group::Plan, all);
-    group(b"bounds: ", b"bounds", Group::Bound, all)
+    let all = group(b"bounds: ", b"bounds", Group::Bound, all);
+    group(
+        b"interleavings: ",
+        b"interleavings",
+        Group::Interleaving,
+        all,
+    )
 }
 
 // Cases with one part of their answer changed, so that each must differ.
@@ -110,7 +116,13 @@ fn changed() -> Tally {
         Group::Plan,
         all,
     );
-    group(b"changed bounds: ", b"changed_bounds", Group::Bound, all)
+    let all = group(b"changed bounds: ", b"changed_bounds", Group::Bound, all);
+    group(
+        b"changed interleavings: ",
+        b"changed_interleavings",
+        Group::Interleaving,
+        all,
+    )
 }
 
 fn main() {

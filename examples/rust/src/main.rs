@@ -59,6 +59,16 @@ fn bound(name: &str, plan: &[u8]) {
     }
 }
 
+/// Every interleaving of at most n picks, and how it ends.
+fn interleavings(n: u64) -> Result<(), ruqzhemil::Refusal> {
+    for schedule in ruqzhemil::interleavings(&PLAN, n)? {
+        let outcome = ruqzhemil::play(&PLAN, &schedule, &mut vec![0; 3 * schedule.len()])?;
+        let picks: String = schedule.iter().map(|pick| format!(" {pick}")).collect();
+        println!("picks{picks}: {}", outcome.stop);
+    }
+    Ok(())
+}
+
 /// synch new() do null, with the body's term before the object's
 const TURNED: [u8; 25] = [
     0x10, 0x40, 0x0c, 0x00, 0x80, 0x00, 0x00, 0x00, 0x00, 0x00, 0x58, 0x04, 0x00, 0x80, 0x00, 0x00, 0x00, 0x00, 0x00, 0x00, 0x10, 0x00, 0x00, 0x00, 0x00,
@@ -114,6 +124,11 @@ fn main() {
     canonical(TURNED.len() - 1);
     bound("P", &PLAN);
     bound("a loop", &ENDLESS);
+    for n in [10, 65] {
+        if let Err(refusal) = interleavings(n) {
+            println!("{refusal}");
+        }
+    }
     charge(&[0, 0, 0, 0, 0, 1, 0], false);
     charge(&[0, 0, 0, 0, 0, 1, 0], true);
     charge(&[0, 8], true);

@@ -1,0 +1,3 @@
+pub mod Interleavings
+pub mod Answer
+pub mod Steps

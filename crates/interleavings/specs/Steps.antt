@@ -1,0 +1,78 @@
+-- Going back and going on, step by step. For inner contracts; no reader of the entries' promise needs it. Assumes nothing.
+use Prim.Native.Nat.{ℕ, _≤_, _<_}
+use mathlib.Core.Path.{_≡_}
+use mathlib.Core.Bool.{true, false}
+use mathlib.Core.List.{List}
+use lib.ListN.{length, getD, take, drop}
+use Rattle.format.specs.Area.{overwrite}
+use Rattle.packed.specs.Syntax.{Program}
+use Rattle.packed.specs.Trees.{programOf}
+use Rattle.listing.specs.Order.{AtMost}
+use Rattle.listing.specs.Listed as listing
+use Rattle.listing.specs.Listed.{Listed, Following}
+use Rattle.listing.specs.CanFollow.{canFollow}
+use Rattle.listing.specs.Ways.{Way}
+use Rattle.replays.specs.Replay.{Accepted}
+use Rattle.interleavings.specs.declared.Turn.{Turn}
+use Rattle.interleavings.specs.declared.Turn.the-variants as turn
+use Rattle.interleavings.specs.declared.Next.{Next}
+use Rattle.interleavings.specs.declared.Next.the-variants as next
+
+-- ---- going on
+
+-- a plan and its words, a bound, an area that is long enough for it and begins with picks each of which can follow those before it
+pub record Begins (plan words : List ℕ) (n : ℕ) (area : List ℕ) (from : ℕ) : Type 0 where
+  pub accepted : Accepted plan words
+  pub bound : n ≤ 64
+  pub long : n ≤ length area
+  pub within : from ≤ n
+  pub way : Way (canFollow (programOf plan)) (take from area)
+
+-- the first `from` picks of an area, gone on with up to `at`: the same bytes past it, and no listed schedule that is not before the first picks is before all
+pub record WentOn (g : Program) (n from : ℕ) (before after : List ℕ) (at : ℕ) : Type 0 where
+  pub within : at ≤ n
+  pub reached : from ≤ at
+  pub kept : length after ≡ length before
+  pub front : take from after ≡ take from before
+  pub rest : drop at after ≡ drop at before
+  pub way : Way (canFollow g) (take at after)
+  pub least : (rs : List ℕ) → Listed g n rs → AtMost (take from before) rs → AtMost (take at after) rs
+
+-- to the end
+pub record Reached (g : Program) (n from : ℕ) (before after : List ℕ) (at : ℕ) : Type 0 where
+  pub went : WentOn g n from before after at
+  pub listed : Listed g n (take at after)
+
+-- ---- going back
+
+-- no thread above pick i can be picked in its place
+abbrev pub NoneHigher : Program → List ℕ → ℕ → Type 0
+NoneHigher g ps i = (k : ℕ) → getD ps i 0 < k → k < 8 → canFollow g (take i ps) k ≡ false
+
+-- the lowest thread that can be picked in the place of a lower one, at the last place where there is one
+pub record TurnsAt (g : Program) (ps : List ℕ) (place pick : ℕ) : Type 0 where
+  pub inside : place < length ps
+  pub higher : getD ps place 0 < pick
+  pub of-eight : pick < 8
+  pub can : canFollow g (take place ps) pick ≡ true
+  pub lowest : (k : ℕ) → getD ps place 0 < k → k < pick → canFollow g (take place ps) k ≡ false
+  pub last : (i : ℕ) → place < i → i < length ps → NoneHigher g ps i
+
+abbrev pub Turns : Program → List ℕ → Turn → Type 0
+Turns g ps (turn.At place pick) = TurnsAt g ps place pick
+Turns g ps turn.Over = (i : ℕ) → i < length ps → NoneHigher g ps i
+
+-- ---- both
+
+-- a listed schedule, an accepted plan, an area that is long enough
+pub record Listing (plan words : List ℕ) (n : ℕ) (schedule area : List ℕ) : Type 0 where
+  pub accepted : Accepted plan words
+  pub bound : n ≤ 64
+  pub long : n ≤ length area
+  pub listed : Listed (programOf plan) n schedule
+
+-- the following schedule is written, or the list is over
+abbrev pub Followed : Program → ℕ → List ℕ → List ℕ → List ℕ → Next → Type 0
+Followed g n ps before after (next.Refused number place) = ⊥
+Followed g n ps before after (next.Written r) = (qs : List ℕ) × Following g n ps qs × (r ≡ length qs) × (after ≡ overwrite qs before)
+Followed g n ps before after next.Over = listing.Over g n ps × (after ≡ before)

@@ -1,0 +1,137 @@
+// The entries `first_interleaving` and `next_interleaving`: all interleavings of a short plan, one after the other (document 02, E11).
+ghost use Rattle.packed.specs.Trees.{programOf};
+ghost use Rattle.answers.specs.Answer as answer;
+ghost use Rattle.replays.specs.Replay.{Replayable};
+ghost use Rattle.interleavings.specs.Interleavings.{FirstAnswer, NextAnswer};
+ghost use Rattle.interleavings.specs.Answer.{answered};
+ghost use Rattle.interleavings.specs.Steps.{Begins, Reached, Turns, Listing, Followed};
+use answers::Answered;
+use refusals::Checked;
+
+// What `next_interleaving` answers.
+pub enum Next {
+    // It is refused: document 01's number and place.
+    Refused { number: usize, place: usize },
+    // The following schedule is written; its length.
+    Written(usize),
+    // The list is over.
+    Over,
+}
+
+// Where the following schedule leaves a given one, and its pick there.
+pub enum Turn {
+    At { place: usize, pick: usize },
+    Over,
+}
+
+// The last place of a schedule where a higher thread can be picked, and the lowest such thread.
+fn go_back(plan: &[u8], words: &[usize; 1024], schedule: &[u8]) -> Turn
+    requires { ⌜ Replayable (now plan) (now words) (now schedule) ⌝ }
+    ensures { λ r. ⌜ Turns (programOf (now (plan .entry))) (now (schedule .entry)) r ⌝ }
+{
+    let mut place = schedule.len();
+    while place > 0 {
+        place -= 1;
+        let higher = schedule[place] as usize + 1;
+        let pick = replays::next_pick(plan, words, &schedule[0..place], higher);
+        if pick < 8 {
+            return Turn::At { place, pick };
+        }
+    }
+    Turn::Over
+}
+
+// From the first `from` picks of the area on, the lowest pick that can follow, until there are n or none can; how many picks that makes.
+fn go_on(plan: &[u8], words: &[usize; 1024], n: usize, area: &mut [u8], from: usize) -> usize
+    requires { ⌜ Begins (now plan) (now words) n (now area) from ⌝ }
+    ensures { λ r. ⌜ Reached (programOf (now (plan .entry))) n from (now (area .entry)) (now (area .exit)) r ⌝ }
+{
+    let mut at = from;
+    while at < n {
+        let pick = replays::next_pick(plan, words, &area[0..at], 0);
+        if pick == 8 {
+            return at;
+        }
+        area[at] = pick as u8;
+        at += 1;
+    }
+    at
+}
+
+// The schedule that follows a listed one, into the area, or that the list is over: back to the last place where a higher thread can be picked, and on from
+// there.
+fn following(plan: &[u8], words: &[usize; 1024], n: usize, schedule: &[u8], area: &mut [u8]) -> Next
+    requires { ⌜ Listing (now plan) (now words) n (now schedule) (now area) ⌝ }
+    ensures { λ r. ⌜ Followed (programOf (now (plan .entry))) n (now (schedule .entry)) (now (area .entry)) (now (area .exit)) r ⌝ }
+{
+    let turn = go_back(plan, words, schedule);
+    match turn {
+        Turn::Over => Next::Over,
+        Turn::At { place, pick } => {
+            let end = text::put_word(area, 0, &schedule[0..place]);
+            let from = text::put_byte(area, end, pick as u8);
+            Next::Written(go_on(plan, words, n, area, from))
+        }
+    }
+}
+
+// Every plan, bound and area gets document 02's answer: a refusal of number 1 to 7 with its place, or of number 18 or 20, and no byte of the area changed; or
+// the length of the least listed schedule, with which the area then begins, and otherwise is as it was.
+pub fn first_interleaving(plan: &[u8], n: usize, area: &mut [u8]) -> Answered
+    ensures { λ r. ⌜ FirstAnswer (now (plan .entry)) n (now (area .entry)) (answer.answered r) (now (area .exit)) ⌝ }
+{
+    let mut words = [0usize; 1024];
+    let checked = plan::load(plan, &mut words);
+    match checked {
+        Checked::Refused { number, place } => Answered::Refused { number, place },
+        Checked::Passed => {
+            if n > 64 {
+                return Answered::Refused {
+                    number: 18,
+                    place: 0,
+                };
+            }
+            if area.len() < n {
+                return Answered::Refused {
+                    number: 20,
+                    place: 0,
+                };
+            }
+            Answered::Value(go_on(plan, &words, n, area, 0))
+        }
+    }
+}
+
+// Every plan, bound, schedule and area gets document 02's answer: a refusal of number 1 to 9 with its place, or of number 18 to 20, and no byte of the area
+// changed; or the length of the least listed schedule above the given one, with which the area then begins, and otherwise is as it was; or that the list is
+// over, and no byte changed.
+pub fn next_interleaving(plan: &[u8], n: usize, schedule: &[u8], area: &mut [u8]) -> Next
+    ensures { λ r. ⌜ NextAnswer (now (plan .entry)) n (now (schedule .entry)) (now (area .entry)) (answered r) (now (area .exit)) ⌝ }
+{
+    let mut words = [0usize; 1024];
+    let checked = play_refusals::schedule_refusal(plan, schedule, &mut words);
+    match checked {
+        Checked::Refused { number, place } => Next::Refused { number, place },
+        Checked::Passed => {
+            if n > 64 {
+                return Next::Refused {
+                    number: 18,
+                    place: 0,
+                };
+            }
+            if !replays::listed(plan, &words, n, schedule) {
+                return Next::Refused {
+                    number: 19,
+                    place: 0,
+                };
+            }
+            if area.len() < n {
+                return Next::Refused {
+                    number: 20,
+                    place: 0,
+                };
+            }
+            following(plan, &words, n, schedule, area)
+        }
+    }
+}

@@ -1,0 +1,6 @@
+pub mod Order
+pub mod Listed
+pub mod WholeList
+pub mod Examples
+pub mod CanFollow
+pub mod Ways
