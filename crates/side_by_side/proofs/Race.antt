@@ -160,7 +160,7 @@ answer-race s p (Attempt.moves m) r h = go (noRoomFor (m .rule) s p (m .state)) 
     go (some k) h = absurd (true≢false cc)
 
 module _ (g : Program) (P : WellFormedProgram g) where
-  step-lacks : (s : State) → Reachable g s → (p : ℕ) (r : Record) → step g s p ≡ Answer.race r → Lacks g s p r
+  pub step-lacks : (s : State) → Reachable g s → (p : ℕ) (r : Record) → step g s p ≡ Answer.race r → Lacks g s p r
   unfolding step
   step-lacks s I p r h = sound-lacks g s (I .one-key) p r (answer-race s p (attempt g s p) r h)
 
@@ -197,7 +197,7 @@ plays-below g P {s} I z (pick {q = q₀} {qs = qs} m e ps) i q h = go i h (λ j.
     go zero h ih = let w = mover (y .0) in let b = inside (s .threads) q₀ (w .0) (w .1) in let c = z .threads8 in let d : q₀ ≡ q = cc in omega arith
     go (suc i) h ih = ih i h
 
-roomy-start : Roomy start
+pub roomy-start : Roomy start
 unfolding start
 roomy-start = record { threads8 = omega arith; objects32 = omega arith; keys256 = omega arith }
 
@@ -335,6 +335,50 @@ module _ (g : Program) (P : WellFormedProgram g) (version-1 : g .version ≡ v1)
       into : {k : ℕ} → O.Chain v1 L k (length M) ⊎ O.Chain v1 L k i → Chain v1 (r ∷ M) k (length M) ⊎ Chain v1 (r ∷ M) k i
       into {k} (inl c) = inl (rw turned at (chain← v1 L c))
       into {k} (inr c) = inr (rw turned at (chain← v1 L c))
+
+  -- marks by the chains to the failing access and to the last write make a schedule that is written
+  module _ (failing last : ℕ) (access : Record) (there : O.At L failing access) (at-end : suc failing ≡ length L) (is-last : O.LastWrite L failing (access .object) (access .field) last) where
+    its-end : failing ≡ length M
+    its-end = let a = sym (ap length turned) ∙ length-reverse L in omega (arith, a)
+
+    its-access : r ≡ access
+    its-access =
+        let a : getElem? L failing ≡ some r = ap (getElem? L) its-end ∙ at→ L (length M) r (rw turned (here refl)) in
+        let b : some r ≡ some access = sym a ∙ there in
+        cc
+
+    -- the last write has no chain to the failing access
+    unordered : O.Chain v1 L last failing → ⊥
+    unfolding written
+    unordered c =
+        let d : O.LastWrite L (length M) (r .object) (r .field) last = along (λ (n : ℕ). O.LastWrite L n (r .object) (r .field) last) its-end
+        (along (λ (z : Record). O.LastWrite L failing (z .object) (z .field) last) (sym its-access) is-last) in
+        let e = written .is-last in
+        let a : last ≤ i = e .latest last (d .write-record) (d .at-i) (d .writes) (d .before) in
+        let b : i ≤ last = d .latest i (e .write-record) (e .at-i) (e .writes) (e .before) in
+        let same : last ≡ i = omega arith in
+        U .no-chain (rw turned at (chain← v1 L (along (λ (n : ℕ). O.Chain v1 L i n) its-end (along (λ (n : ℕ). O.Chain v1 L n failing) same c))))
+
+    chain-up : {a b : ℕ} → O.Chain v1 L a b → a < b
+    chain-up (O.one l) = l .before
+    chain-up (O.more c l) = let x = chain-up c in let y = l .before in omega arith
+
+    pub written-by : (kept : ℕ → Bool) → ((k : ℕ) → T (kept k) ↔ (O.Chain v1 L k failing ⊎ O.Chain v1 L k last)) → Written g ps (picksOf kept L)
+    written-by kept by-chains = record {
+      failing = failing;
+      access = access;
+      at-failing = there;
+      at-end = at-end;
+      last = last;
+      is-last = is-last;
+      kept = kept;
+      kept-stays = λ k. (λ h. record { chain = by-chains k .0 h; not-write = not-last k (by-chains k .0 h) }, λ s. by-chains k .1 (s .chain));
+      picks-are = refl;
+    }
+      where
+        not-last : (k : ℕ) → O.Chain v1 L k failing ⊎ O.Chain v1 L k last → k ≡ last → ⊥
+        not-last k (inl c) e = unordered (along (λ (n : ℕ). O.Chain v1 L n failing) e c)
+        not-last k (inr c) e = let b = chain-up c in omega arith
 
   its-write : written .is-last .write-record ≡ w₀
   unfolding written

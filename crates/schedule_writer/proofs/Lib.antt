@@ -1,0 +1,4 @@
+pub mod KindTests
+pub mod LastWrites
+pub mod Counts
+pub mod Picks
