@@ -5,7 +5,10 @@ ghost use Prim.Native.Nat.{_<_, _≤_, _/_};
 ghost use lib.ListN.{length};
 ghost use Rattle.format.specs.Area.{overwrite};
 ghost use Rattle.records.specs.Packed.{logOf};
+ghost use Rattle.answers.specs.Answer.{answered};
 ghost use Rattle.schedule_writer.specs.Kept.{flagged, countKept, HasLast, IsLast, Small, picksIn};
+ghost use Rattle.schedule_writer.specs.WritesFrom.{RacedIn, WritesFrom};
+use answers::Answered;
 use records::kind;
 
 // The index of the last write of the field that the record at `failing` accesses, before that record.
@@ -68,4 +71,25 @@ pub fn put_picks(log: &[u8], kept: &[bool], area: &mut [u8])
         }
         index += 1;
     }
+}
+
+// The schedule that is written from the moves of a run that raced, at the area's start, and its length; or refusal 17 where the area is shorter.
+pub fn write(log: &[u8], area: &mut [u8]) -> Answered
+    requires { ⌜ RacedIn (now log) ⌝ }
+    ensures { λ r. ⌜ WritesFrom (now (log .entry)) (now (area .entry)) (answered r) (now (area .exit)) ⌝ }
+{
+    let moves = log.len() / 3;
+    let failing = moves - 1;
+    let last = last_write(log, failing);
+    let mut kept = [false; 4096];
+    marking::mark(log, failing, last, &mut kept);
+    let length = count(&kept, moves);
+    if area.len() < length {
+        return Answered::Refused {
+            number: 17,
+            place: 0,
+        };
+    }
+    put_picks(log, &kept, area);
+    Answered::Value(length)
 }

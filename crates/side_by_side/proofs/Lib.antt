@@ -13,6 +13,7 @@ pub mod Cut
 pub mod Marks
 pub mod Side
 pub mod Race
+pub mod Written
 pub mod TidyMoves
 pub mod Conflict
 pub mod Plans

@@ -40,7 +40,7 @@ use Rattle.side_by_side.proofs.Correspondence.{Marks, Closed, Live}
 use Rattle.side_by_side.proofs.Trail.{Trail, begin, move, Later, none-yet, then, Plays, done, pick}
 use Rattle.side_by_side.proofs.Marks.{marksOf, marked}
 use Rattle.side_by_side.proofs.Newest.{made, numbers, schedule, turned-schedule, turned-numbers, schedule-length}
-use Rattle.order.proofs.Turned.{at→, chain→, chain←, last→}
+use Rattle.order.proofs.Turned.{at→, chain→, chain←, last→, unordered→}
 use Rattle.side_by_side.proofs.Cut.{trail-kept, closed-older, mover, plays-run}
 use Rattle.side_by_side.proofs.Side.{Met, met, met-field, marks-closed, marks-write, marks-feed}
 use Rattle.order.specs.Chains as O
@@ -336,49 +336,12 @@ module _ (g : Program) (P : WellFormedProgram g) (version-1 : g .version ≡ v1)
       into {k} (inl c) = inl (rw turned at (chain← v1 L c))
       into {k} (inr c) = inr (rw turned at (chain← v1 L c))
 
-  -- marks by the chains to the failing access and to the last write make a schedule that is written
-  module _ (failing last : ℕ) (access : Record) (there : O.At L failing access) (at-end : suc failing ≡ length L) (is-last : O.LastWrite L failing (access .object) (access .field) last) where
-    its-end : failing ≡ length M
-    its-end = let a = sym (ap length turned) ∙ length-reverse L in omega (arith, a)
+  -- the failing access is unordered after the last write
+  raced-unordered : O.Unordered v1 L (length M)
+  raced-unordered = unordered→ v1 L (length M) (rw turned U)
 
-    its-access : r ≡ access
-    its-access =
-        let a : getElem? L failing ≡ some r = ap (getElem? L) its-end ∙ at→ L (length M) r (rw turned (here refl)) in
-        let b : some r ≡ some access = sym a ∙ there in
-        cc
-
-    -- the last write has no chain to the failing access
-    unordered : O.Chain v1 L last failing → ⊥
-    unfolding written
-    unordered c =
-        let d : O.LastWrite L (length M) (r .object) (r .field) last = along (λ (n : ℕ). O.LastWrite L n (r .object) (r .field) last) its-end
-        (along (λ (z : Record). O.LastWrite L failing (z .object) (z .field) last) (sym its-access) is-last) in
-        let e = written .is-last in
-        let a : last ≤ i = e .latest last (d .write-record) (d .at-i) (d .writes) (d .before) in
-        let b : i ≤ last = d .latest i (e .write-record) (e .at-i) (e .writes) (e .before) in
-        let same : last ≡ i = omega arith in
-        U .no-chain (rw turned at (chain← v1 L (along (λ (n : ℕ). O.Chain v1 L i n) its-end (along (λ (n : ℕ). O.Chain v1 L n failing) same c))))
-
-    chain-up : {a b : ℕ} → O.Chain v1 L a b → a < b
-    chain-up (O.one l) = l .before
-    chain-up (O.more c l) = let x = chain-up c in let y = l .before in omega arith
-
-    pub written-by : (kept : ℕ → Bool) → ((k : ℕ) → T (kept k) ↔ (O.Chain v1 L k failing ⊎ O.Chain v1 L k last)) → Written g ps (picksOf kept L)
-    written-by kept by-chains = record {
-      failing = failing;
-      access = access;
-      at-failing = there;
-      at-end = at-end;
-      last = last;
-      is-last = is-last;
-      kept = kept;
-      kept-stays = λ k. (λ h. record { chain = by-chains k .0 h; not-write = not-last k (by-chains k .0 h) }, λ s. by-chains k .1 (s .chain));
-      picks-are = refl;
-    }
-      where
-        not-last : (k : ℕ) → O.Chain v1 L k failing ⊎ O.Chain v1 L k last → k ≡ last → ⊥
-        not-last k (inl c) e = unordered (along (λ (n : ℕ). O.Chain v1 L n failing) e c)
-        not-last k (inr c) e = let b = chain-up c in omega arith
+  raced-end : suc (length M) ≡ length L
+  raced-end = sym (ap length turned) ∙ length-reverse L
 
   its-write : written .is-last .write-record ≡ w₀
   unfolding written
@@ -423,53 +386,11 @@ module _ (g : Program) (P : WellFormedProgram g) (version-1 : g .version ≡ v1)
       field : (o : ℕ) → Z .ω (r .object) ≡ some o → (d : Cell) × (lookup (Z .end) o (r .field) ≡ some d)
       field o h = met-field g P Q S (D .trail) (D .thread) (Y .thread) (Y .there) (Y .around) (Redex.write (w₀ .object) (w₀ .field) (w₀ .value)) (Y .next-is) (D .entry) (D .moves) (D .room) (D .rest) (R .thread) (X .thread) (X .there) (X .around) (X .part) (X .next-is) cl off live-p live-q (r .object) o (r .field) (X .cell) h (X .field-there)
 
+-- its failing access, the last of its moves, is unordered after the last write
+pub race-unordered : (g : Program) → WellFormedProgram g → g .version ≡ v1 → WaitlessProgram g → (ps : List ℕ) → play g ps .stop ≡ Stop.race
+    → (j : ℕ) × (suc j ≡ length (movesOf g ps)) × O.Unordered v1 (movesOf g ps) j
+race-unordered g P version-1 Q ps h = (_, raced-end g P version-1 Q ps h, raced-unordered g P version-1 Q ps h)
+
 -- E10, from any run of a well-formed program that stops for a missing key
 pub from-race : (g : Program) → WellFormedProgram g → g .version ≡ v1 → WaitlessProgram g → (ps : List ℕ) → play g ps .stop ≡ Stop.race → (qs : List ℕ) × (w : Written g ps qs) × SideBySide g ps qs w
 from-race g P version-1 Q ps h = (picks g P version-1 Q ps h, written g P version-1 Q ps h, side-by-side g P version-1 Q ps h)
-
--- what is written is determined
-pub written-once : (g : Program) (ps qs qs′ : List ℕ) → Written g ps qs → Written g ps qs′ → qs ≡ qs′
-unfolding picksOf
-written-once g ps qs qs′ a b = a .picks-are ∙ same-picks (movesOf g ps) 0 firstNumbers 1 ∙ sym (b .picks-are)
-  where
-    ends-same : a .failing ≡ b .failing
-    ends-same = let x = a .at-end in let y = b .at-end in omega arith
-
-    access-same : a .access ≡ b .access
-    access-same =
-        let x : getElem? (movesOf g ps) (b .failing) ≡ some (a .access) = ap (getElem? (movesOf g ps)) (sym ends-same) ∙ a .at-failing in
-        let y : some (a .access) ≡ some (b .access) = sym x ∙ b .at-failing in
-        cc
-
-    last-same : a .last ≡ b .last
-    last-same =
-        let d = b .is-last in
-        let c : O.LastWrite (movesOf g ps) (b .failing) (b .access .object) (b .access .field) (a .last) = along (λ (z : Record). O.LastWrite (movesOf g ps) (b .failing) (z .object) (z .field) (a .last)) access-same (along (λ (n : ℕ). O.LastWrite (movesOf g ps) n (a .access .object) (a .access .field) (a .last)) ends-same (a .is-last)) in
-        let x : a .last ≤ b .last = d .latest (a .last) (c .write-record) (c .at-i) (c .writes) (c .before) in
-        let y : b .last ≤ a .last = c .latest (b .last) (d .write-record) (d .at-i) (d .writes) (d .before) in
-        omega arith
-
-    forth : (k : ℕ) → T (a .kept k) → T (b .kept k)
-    forth k h = b .kept-stays k .1 (along (λ (n : ℕ). Stays (movesOf g ps) (b .failing) n k) last-same (along (λ (n : ℕ). Stays (movesOf g ps) n (a .last) k) ends-same (a .kept-stays k .0 h)))
-
-    back′ : (k : ℕ) → T (b .kept k) → T (a .kept k)
-    back′ k h = a .kept-stays k .1 (along (λ (n : ℕ). Stays (movesOf g ps) (a .failing) n k) (sym last-same) (along (λ (n : ℕ). Stays (movesOf g ps) n (b .last) k) (sym ends-same) (b .kept-stays k .0 h)))
-
-    same : (k : ℕ) → a .kept k ≡ b .kept k
-    same k = go (a .kept k) (b .kept k) (forth k) (back′ k)
-      where
-        go : (x y : Bool) → (T x → T y) → (T y → T x) → x ≡ y
-        go true true f h = refl
-        go true false f h = absurd (f tt)
-        go false true f h = absurd (h tt)
-        go false false f h = refl
-
-    same-picks : (K : List Record) (i : ℕ) (τ : Numbers) (n : ℕ) → picksFrom (a .kept) i τ n K ≡ picksFrom (b .kept) i τ n K
-    same-picks [] i τ n = refl
-    same-picks (z ∷ K) i τ n = go (a .kept i) (b .kept i) (same i) (same-picks K (suc i) (numbersAfter z τ n) (nextAfter z n)) (same-picks K (suc i) τ n)
-      where
-        go : (x y : Bool) → x ≡ y → {A B A′ B′ : List ℕ} → A ≡ A′ → B ≡ B′ → cond x (orZero (τ (z .thread)) ∷ A) B ≡ cond y (orZero (τ (z .thread)) ∷ A′) B′
-        go true true e p q = ap (λ (l : List ℕ). orZero (τ (z .thread)) ∷ l) p
-        go true false e p q = absurd (true≢false e)
-        go false true e p q = absurd (true≢false (sym e))
-        go false false e p q = q

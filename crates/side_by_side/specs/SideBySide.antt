@@ -24,17 +24,21 @@ pub record Stays (L : List Record) (j i k : ℕ) : Type 0 where
   pub not-write : k ≡ i → ⊥
 
 -- "its moving picks, in order, without those moves (unlogged ones counted as moves too) that have no chain to the failing access or to the last
--- write, and without that write; picks are renumbered": qs is what is written from the run of ps
-pub record Written (g : Program) (ps qs : List ℕ) : Type 0 where
+-- write, and without that write; picks are renumbered": qs is what is written from the moves L
+pub record WrittenFrom (L : List Record) (qs : List ℕ) : Type 0 where
   pub failing : ℕ  -- the failing access is the last of all
   pub access : Record
-  pub at-failing : At (movesOf g ps) failing access
-  pub at-end : suc failing ≡ length (movesOf g ps)
+  pub at-failing : At L failing access
+  pub at-end : suc failing ≡ length L
   pub last : ℕ  -- the last write of its field
-  pub is-last : LastWrite (movesOf g ps) failing (access .object) (access .field) last
+  pub is-last : LastWrite L failing (access .object) (access .field) last
   pub kept : ℕ → Bool
-  pub kept-stays : (k : ℕ) → T (kept k) ↔ Stays (movesOf g ps) failing last k
-  pub picks-are : qs ≡ picksOf kept (movesOf g ps)
+  pub kept-stays : (k : ℕ) → T (kept k) ↔ Stays L failing last k
+  pub picks-are : qs ≡ picksOf kept L
+
+-- and from the run of ps
+abbrev pub Written : Program → List ℕ → List ℕ → Type 0
+Written g ps qs = WrittenFrom (movesOf g ps) qs
 
 -- thread p of state s is about to do x
 pub record About (s : State) (p : ℕ) (x : Redex) : Type 0 where
