@@ -26,7 +26,8 @@ use Rattle.rules.proofs.FocusPlug.{found, foundᶜ}
 use Rattle.rules.proofs.Decompose.{whole, whole-focus}
 use Rattle.rules.proofs.StateLaws.{inside, added-old, length-added, change-same, change-length, new-monitors, found-thread}
 use Rattle.rules.proofs.Relocated.{relocated-length, is-there, signalled-relocated}
-use Rattle.rules.proofs.Invariant.{Inv, GivesUp, heldBy}
+use Rattle.rules.proofs.Placed.{GivesUp}
+use Rattle.rules.proofs.Invariant.{Inv, heldBy}
 use Rattle.rules.proofs.Preserved.{gained}
 use Rattle.rules.proofs.Bridge.{Kept, its-key, full}
 use Rattle.side_by_side.proofs.Like.{Naming, Like, e-lit, e-lets, e-if, e-while, e-hold, Likeᶜ, LikeContext, k-top, LikeContextᶜ, LikePart, r-var, r-new, r-read, r-write, r-lets, r-if, r-while, r-call, r-fork, r-join, r-synch, r-hold, r-signal, LikePartᶜ, r-notFalse, r-and, r-equal, LikeFocus}
