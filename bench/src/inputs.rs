@@ -87,10 +87,11 @@ fn passed() -> Vec<Input> {
     ]
 }
 
-/// Two threads that take turns at a monitor, and a third that then reads what nothing hands on to it.
+/// Two threads that take turns at a monitor, and a third that at the end reads what was written at the start and nothing hands on to it.
 pub fn racing() -> Input {
-    let turns = repeat(yes(), synch(var(0), write(var(0), 1, read(var(0), 1))));
-    let body = bind(0, object(), sequence(fork(turns.clone()), sequence(fork(read(var(0), 1)), turns)));
+    let turns = repeat(yes(), synch(var(0), read(var(0), 2)));
+    let once = sequence(write(var(0), 1, null()), turns.clone());
+    let body = bind(0, object(), sequence(fork(turns), sequence(fork(read(var(0), 1)), once)));
     let mut schedule: Vec<u8> = [vec![0; 16], picks(2, 4079)].concat();
     schedule.push(2);
     Input { name: "racing", plan: packed(MONITOR, &[(0, body)]), schedule }

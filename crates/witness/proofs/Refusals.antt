@@ -5,7 +5,7 @@ use mathlib.Core.Bool.{true, false}
 use mathlib.Core.List.{List, [], _∷_}
 use mathlib.Core.Option.{Option, some, none}
 use Rattle.format.specs.Refusal.{Refusal, Check, checkWhole, orElse, lowest, refuse, firstRefusal}
-use Rattle.format.proofs.RefusalLaws.{refusal-append}
+use Rattle.format.proofs.RefusalLaws.{both-none, refusal-append}
 use Rattle.format.proofs.LowestLaws.{whole, whole-none}
 use Rattle.rules.specs.Play.{scheduleChecks, scheduleRefusal, runOf}
 use Rattle.side_by_side.specs.LeftOut.{leftOut}
@@ -25,6 +25,9 @@ module _ (plan schedule : List ℕ) where
   pub by-schedule : (r : Refusal) → scheduleRefusal plan schedule ≡ some r → raceRefusal plan schedule ≡ some r
   unfolding orElse
   by-schedule r e = stages ∙ ap (λ (x : Option Refusal). orElse x (firstRefusal laterChecks)) e
+
+  pub no-earlier : raceRefusal plan schedule ≡ none → scheduleRefusal plan schedule ≡ none
+  no-earlier e = both-none (scheduleRefusal plan schedule) (firstRefusal laterChecks) (sym stages ∙ e) .0
 
   module _ (s : scheduleRefusal plan schedule ≡ none) where
     later : raceRefusal plan schedule ≡ firstRefusal laterChecks
