@@ -2,7 +2,7 @@
  *
  * A plan is a small concurrent program in a byte table. check says whether the table is one; play runs it under a schedule, one byte to a pick, each
  * pick the number of the thread that moves next, and writes a log of 3-byte records and an outcome; judge takes a log alone and names an access that
- * nothing orders; preview says what a pick would do before it is taken; canonical writes a plan in the one way that all equal plans share; bound says how many
+ * nothing orders; preview says what a pick would do before it is taken; witness brings the two threads of a race to their accesses; canonical writes a plan in the one way that all equal plans share; bound says how many
  * moves a plan can need; first_interleaving and next_interleaving list every way in which the threads of a short plan can take turns; comtrade writes a log as a file for a waveform viewer; charge says what a run
  * costs. This header is enough to call them and to read what they give; docs/FORMAT.md says how to write a plan.
  *
@@ -24,7 +24,8 @@
  * WHAT IS ASKED of the caller: each pointer leads to as many bytes as its length says (out of play to RUQZHEMIL_OUT_BYTES, of preview to
  * RUQZHEMIL_PREVIEW_BYTES); a length of 0 may go with any pointer, null too; what a function writes (log, area, out) overlaps none of its other bytes, and
  * while a call runs no other thread writes to its bytes; and there is stack: check needs up to 48 KB, play up to 128 KB, judge up to 64 KB, preview up to
- * 144 KB (of it 12,288 bytes for a log of its own), canonical up to 96 KB, bound up to 96 KB, first_interleaving and next_interleaving up to
+ * 144 KB (of it 12,288 bytes for a log of its own), canonical up to 96 KB, witness up to 144 KB
+ * (of it 12,288 bytes for its moves), bound up to 96 KB, first_interleaving and next_interleaving up to
  * 96 KB, charge up to 144 KB, comtrade up to 4 KB (bench/run.sh measures them).
  *
  * WHAT IT NEEDS: x86-64, the System V calling convention (Linux), and from outside the archive memcpy and memset alone.
@@ -93,6 +94,9 @@ enum ruqzhemil_refusal {
     RUQZHEMIL_REFUSAL_RECORD = 12,         /* the lowest such record */
     RUQZHEMIL_REFUSAL_PLAN_AREA = 13,      /* place 0 */
     RUQZHEMIL_REFUSAL_VERSION = 14,        /* place 0 */
+    RUQZHEMIL_REFUSAL_LEFT_OUT = 15,       /* place 0 */
+    RUQZHEMIL_REFUSAL_NO_RACE = 16,        /* place 0 */
+    RUQZHEMIL_REFUSAL_SCHEDULE_AREA = 17,  /* place 0 */
     RUQZHEMIL_REFUSAL_BOUND = 18,          /* place 0 */
     RUQZHEMIL_REFUSAL_NOT_LISTED = 19,     /* place 0 */
     RUQZHEMIL_REFUSAL_BOUND_AREA = 20,     /* place 0 */
@@ -118,6 +122,9 @@ static inline const char *ruqzhemil_refusal_text(unsigned number) {
     case RUQZHEMIL_REFUSAL_RECORD: return "a record with a wrong kind, column or spare bit, or lacking its key and not last";
     case RUQZHEMIL_REFUSAL_PLAN_AREA: return "an area shorter than the plan";
     case RUQZHEMIL_REFUSAL_VERSION: return "a version other than 0 or 1 given to the judge";
+    case RUQZHEMIL_REFUSAL_LEFT_OUT: return "a plan of version 0, or with a wait, which have no witness";
+    case RUQZHEMIL_REFUSAL_NO_RACE: return "a run without a missing key";
+    case RUQZHEMIL_REFUSAL_SCHEDULE_AREA: return "an area shorter than the schedule to be written";
     case RUQZHEMIL_REFUSAL_BOUND: return "a bound over 64";
     case RUQZHEMIL_REFUSAL_NOT_LISTED: return "a schedule that is not listed";
     case RUQZHEMIL_REFUSAL_BOUND_AREA: return "an area shorter than the bound";
@@ -339,6 +346,13 @@ uint64_t ruqzhemil_preview(const uint8_t *plan, size_t plan_len, const uint8_t *
  * area is shorter than the plan, 13 leave it as it was. An area of RUQZHEMIL_MOST_PLAN_BYTES is enough for every plan. */
 uint64_t ruqzhemil_canonical(const uint8_t *plan, size_t plan_len, uint8_t *area, size_t area_len);
 
+/* From a run that stops for a missing key, a schedule after which both threads stand at their accesses: played, every pick of it moves and it comes to its
+ * end, and the next moves of two threads are then the last write of the field and the access that lacked its key, on the same field of the same object up to
+ * numbering. It has the run's moves, but those that lead to neither access, and without the write; threads are renumbered, since forks may drop out. An
+ * answer: the schedule's length, less than the given one's; area begins with it and keeps its other bytes. Refusals 1 to 9, then 15 for a plan of version 0
+ * or with a wait, 16 for a run without a missing key, 17 for an area shorter than the schedule leave area as it was. */
+uint64_t ruqzhemil_witness(const uint8_t *plan, size_t plan_len, const uint8_t *schedule, size_t schedule_len, uint8_t *area, size_t area_len);
+
 /* The first interleaving of at most n picks. Listed is each schedule of at most n picks, none passed over and none after a stop, that cannot be extended: it
  * has n picks, or its last pick stops the run, or no thread can move or stop after it. The order is dictionary order by thread number. An answer: the
  * schedule's length; area begins with it and keeps its other bytes. Refusals 1 to 7, 18 for n over RUQZHEMIL_MOST_BOUND, 20 for an area shorter than n
@@ -390,6 +404,8 @@ static inline uint8_t *ruqzhemil_area(uint8_t *area) {
     ruqzhemil_preview(ruqzhemil_bytes(plan), plan_len, ruqzhemil_bytes(schedule), schedule_len, pick, out)
 #define ruqzhemil_canonical(plan, plan_len, area, area_len) ruqzhemil_canonical(ruqzhemil_bytes(plan), plan_len, ruqzhemil_area(area), area_len)
 #define ruqzhemil_bound(plan, plan_len) ruqzhemil_bound(ruqzhemil_bytes(plan), plan_len)
+#define ruqzhemil_witness(plan, plan_len, schedule, schedule_len, area, area_len) \
+    ruqzhemil_witness(ruqzhemil_bytes(plan), plan_len, ruqzhemil_bytes(schedule), schedule_len, ruqzhemil_area(area), area_len)
 #define ruqzhemil_first_interleaving(plan, plan_len, n, area, area_len) \
     ruqzhemil_first_interleaving(ruqzhemil_bytes(plan), plan_len, n, ruqzhemil_area(area), area_len)
 #define ruqzhemil_next_interleaving(plan, plan_len, n, schedule, schedule_len, area, area_len) \

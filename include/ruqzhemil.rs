@@ -17,6 +17,7 @@ unsafe extern "C" {
     fn ruqzhemil_preview(plan: *const u8, plan_len: usize, schedule: *const u8, schedule_len: usize, pick: u64, out: *mut u8) -> u64;
     fn ruqzhemil_canonical(plan: *const u8, plan_len: usize, area: *mut u8, area_len: usize) -> u64;
     fn ruqzhemil_bound(plan: *const u8, plan_len: usize) -> u64;
+    fn ruqzhemil_witness(plan: *const u8, plan_len: usize, schedule: *const u8, schedule_len: usize, area: *mut u8, area_len: usize) -> u64;
     fn ruqzhemil_first_interleaving(plan: *const u8, plan_len: usize, n: u64, area: *mut u8, area_len: usize) -> u64;
     fn ruqzhemil_next_interleaving(
         plan: *const u8,
@@ -63,6 +64,10 @@ pub fn canonical(plan: &[u8], area: &mut [u8]) -> u64 {
 
 pub fn bound(plan: &[u8]) -> u64 {
     unsafe { ruqzhemil_bound(plan.as_ptr(), plan.len()) }
+}
+
+pub fn witness(plan: &[u8], schedule: &[u8], area: &mut [u8]) -> u64 {
+    unsafe { ruqzhemil_witness(plan.as_ptr(), plan.len(), schedule.as_ptr(), schedule.len(), area.as_mut_ptr(), area.len()) }
 }
 
 pub fn first_interleaving(plan: &[u8], n: u64, area: &mut [u8]) -> u64 {

@@ -9,7 +9,8 @@ The library is target/staticlib/libruqzhemil.a
 (`rt staticlib ruqzhemil` makes it), linked into a shared object by the C compiler. Compared are: what check returns; what play returns, the 40
 bytes of the outcome and the whole log area, beyond the records too; what judge returns for the log of each run and for each log of the cases; what
 comtrade returns and the whole area; what charge returns; what preview returns and its 8 bytes; what canonical returns and the
-whole area; what bound returns; what first_interleaving and next_interleaving return and the whole area.
+whole area; what bound returns; what witness, first_interleaving and next_interleaving return and the
+whole area.
 """
 
 import ctypes
@@ -29,7 +30,7 @@ def library(root):
     archive = root + "/target/staticlib/libruqzhemil.a"
     subprocess.run(["cc", "-shared", "-o", made, "-Wl,--whole-archive", archive, "-Wl,--no-whole-archive"], check=True)
     loaded = ctypes.CDLL(made)
-    for name in ("check", "play", "judge", "comtrade", "charge", "preview", "canonical", "bound", "first_interleaving", "next_interleaving"):
+    for name in ("check", "play", "judge", "comtrade", "charge", "preview", "canonical", "bound", "witness", "first_interleaving", "next_interleaving"):
         getattr(loaded, "ruqzhemil_" + name).restype = ctypes.c_uint64
     return loaded
 
@@ -93,6 +94,13 @@ def previewed_right(lib, case):
     return got == previewed(case["want"]) and bytes(out) == preview_bytes(case["want"])
 
 
+def witness_right(lib, case):
+    """Whether witness answers as the case asks."""
+    given = case["witness"]
+    plan, schedule = lent(bytes.fromhex(given["plan"])), lent(bytes.fromhex(given["schedule"]))
+    return written_right(lambda *area: lib.ruqzhemil_witness(*plan, *schedule, *area), given, case["want"])
+
+
 def listed_right(lib, case):
     """Whether first_interleaving, or next_interleaving where a schedule is given, answers as the case asks."""
     given = case["interleaving"]
@@ -115,6 +123,8 @@ def right(lib, case):
         return previewed_right(lib, case)
     if "canonical" in case:
         return canonical_right(lib, case)
+    if "witness" in case:
+        return witness_right(lib, case)
     if "interleaving" in case:
         return listed_right(lib, case)
     if "bound" in case:

@@ -7,7 +7,7 @@ import sys
 
 import header
 
-LANDED = "E1,E2,E3,E4,E5,E6,E7,E8,E9,E11,E12,E13,E14"  # document 02's requests that the product has
+LANDED = "E1,E2,E3,E4,E5,E6,E7,E8,E9,E10,E11,E12,E13,E14"  # document 02's requests that the product has
 FILL = 0xA5  # what every lent area is filled with before a play
 NUMBERS = header.numbers()
 OUT = NUMBERS["OUT_BYTES"]
@@ -18,9 +18,9 @@ STATES = {("absent",): NUMBERS["ABSENT"], ("finished",): NUMBERS["FINISHED"], ("
           ("stuck", "thread"): NUMBERS["STUCK_THREAD"], ("lacking",): NUMBERS["LACKING"], ("waiting", "notify"): NUMBERS["WAITS_NOTIFY"],
           ("stuck", "monitor"): NUMBERS["STUCK_MONITOR"]}
 # the papers' numbers, by the header's
-REFUSALS = dict(zip([*range(1, 15), *range(18, 25)], [NUMBERS["REFUSAL_" + name] for name in (
+REFUSALS = dict(zip(range(1, 25), [NUMBERS["REFUSAL_" + name] for name in (
     "PLAN_LENGTH", "HEADER", "PROCEDURE", "TERM", "SORT", "NAMING", "SLOT", "SCHEDULE_LENGTH", "PICK", "LOG_AREA", "LOG_LENGTH", "RECORD", "PLAN_AREA", "VERSION",
-    "BOUND", "NOT_LISTED", "BOUND_AREA", "CYCLE", "WHILE", "TOTAL", "FILE_AREA")]))
+    "LEFT_OUT", "NO_RACE", "SCHEDULE_AREA", "BOUND", "NOT_LISTED", "BOUND_AREA", "CYCLE", "WHILE", "TOTAL", "FILE_AREA")]))
 KINDS = [NUMBERS["KIND_" + name] for name in ("NEW", "READ", "WRITE", "VOLATILE_READ", "VOLATILE_WRITE", "ACQUIRE", "RELEASE", "FORK", "JOIN",
                                               "LACKS_READ", "LACKS_WRITE")]
 
@@ -104,7 +104,7 @@ def bounded(want):
 
 
 def written(want):
-    """What a function returns that writes into an area: comtrade, canonical, first_interleaving, next_interleaving."""
+    """What a function returns that writes into an area: comtrade, canonical, witness, first_interleaving, next_interleaving."""
     if "over" in want:
         return other(0)
     return refused(*want["refused"]) if "refused" in want else value(want["length"])

@@ -320,6 +320,24 @@ BOUNDS = [
     (PLAN_P[:-1], [1, 0]),
 ]
 
+# a plan, picks, the length of an area, and what is right: the refusal, or the schedule
+RACING = [0] * 5 + [1, 0]  # of P
+VERSION_0 = bytes([PLAN_P[0] & 15]) + PLAN_P[1:]
+WITNESSES = [
+    (PLAN_P, RACING, 7, [0] * 5),
+    (PLAN_P, RACING, 5, [0] * 5),
+    (PLAN_P, RACING, 4, [17, 0]),
+    (PLAN_P, [7, 0, 0, 0, 3, 0, 0, 1, 0, 1], 7, [0] * 5),
+    (PLAN_P, [0] * 6 + [1], 7, [16, 0]),
+    (PLAN_P, [], 0, [16, 0]),
+    (VERSION_0, RACING, 0, [15, 0]),
+    (plan(then(NULL, wait(NULL))), [0], 0, [15, 0]),
+    (plan(then(NULL, notify(NULL))), [0], 0, [16, 0]),
+    (SEVEN_FORKS, [0] * 32, 32, [16, 0]),
+    (PLAN_P, RACING + [8], 0, [9, 7]),
+    (PLAN_P[:-1], [8], 0, [1, 0]),
+]
+
 # a plan, a bound, the given schedule or None to begin, the length of an area, and what is right: the refusal, the end of the list, or the schedule
 RACE, NO_RACE = [0] * 5 + [1, 0], [0] * 5 + [0, 1]  # of P: thread 1 writes before thread 0 reads, and after
 FORKING = plan(node(7, TRUE, fork(NULL)))

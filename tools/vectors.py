@@ -18,10 +18,11 @@ and its text. The same words give the same files. Every case stands behind its l
   previews                       plays and picks for preview: by hand, and random ones
   plans                          plans for canonical: by hand, and random ones
   bounds                         plans for bound: by hand, and random ones
+  witnesses                      plays for witness: by hand, and random ones
   interleavings                  plans and schedules for first_interleaving and next_interleaving: by hand, and random ones
   changed_version, changed_checks, changed_plays, changed_runs, changed_both, changed_logs, changed_files,
   changed_charges, changed_previews, changed_plans, changed_bounds,
-  changed_interleavings
+  changed_witnesses, changed_interleavings
                                  cases of the kinds above with one part of the answer, or one length, changed: each must differ
 
 A play: lengths of plan, schedule and log area; what check, play and judge return, in eight bytes each, judge for the run's records or for none; the
@@ -29,7 +30,8 @@ bytes of the outcome; plan, schedule, records. A log: the version that judge is 
 the area's length in four bytes and the log's in two, what comtrade returns in eight; the log, and the file where it is not refused. A charge:
 lengths of plan and schedule, the option and what charge returns, in eight bytes each; plan, schedule. A preview: lengths of plan and schedule, the pick
 and what preview returns, in eight bytes each; the bytes of the preview; plan, schedule. A plan: the lengths of plan and area, what canonical returns in
-eight bytes; plan, written plan where it is not refused. A bound: what bound returns in eight bytes; plan. An interleaving:
+eight bytes; plan, written plan where it is not refused. A bound: what bound returns in eight bytes; plan. A witness:
+lengths of plan, schedule and area; what witness returns in eight bytes; plan, schedule, and the written schedule where it is not refused. An interleaving:
 lengths of plan, schedule and area; 0 to begin, 1 to go on; n and what is returned, in eight bytes each; plan, schedule, and the written schedule where there
 is one.
 """
@@ -45,9 +47,9 @@ from interpreter import (FILL, KINDS, NUMBERS, OUTCOMES, REFUSALS, STATES, bound
 
 LONG = 6000  # bytes of a case from which on only a few are kept
 MOST = 65535  # bytes of any case: its length has two
-# of each number, of runs to the end, of long cases, of logs with an unordered access and without, of files, charges, previews, written plans, bounds and
-# interleavings of each kind, of each number that refuses one
-KEPT = {"refused": 45, "end": 330, "long": 10, "log": 390, "file": 80, "refused file": 15, "charge": 60, "refused charge": 12, "preview": 20, "refused preview": 8, "plan": 60, "refused plan": 8, "bound": 60, "refused bound": 15, "interleaving": 60,
+# of each number, of runs to the end, of long cases, of logs with an unordered access and without, of files, charges, previews, written plans, bounds,
+# witnesses and interleavings of each kind, of each number that refuses one
+KEPT = {"refused": 45, "end": 330, "long": 10, "log": 390, "file": 80, "refused file": 15, "charge": 60, "refused charge": 12, "preview": 20, "refused preview": 8, "plan": 60, "refused plan": 8, "bound": 60, "refused bound": 15, "witness": 60, "refused witness": 12, "interleaving": 60,
         "refused interleaving": 12}
 
 
@@ -72,6 +74,7 @@ Charge = collections.namedtuple("Charge", "plan schedule option charged lengths"
 Preview = collections.namedtuple("Preview", "plan schedule pick previewed out lengths")
 Plan = collections.namedtuple("Plan", "plan area written bytes length")
 Bound = collections.namedtuple("Bound", "bounded plan")
+Witness = collections.namedtuple("Witness", "plan schedule area written bytes lengths")
 Interleaving = collections.namedtuple("Interleaving", "plan schedule area going n written bytes lengths")
 
 
@@ -112,6 +115,12 @@ def plan_of(plan, area, want):
     return Plan(plan, area, written(want), got, len(plan))
 
 
+def witness_of(plan, schedule, area, want):
+    """A witness as it is stored; `area` is the length of an area, `lengths` are those of plan and schedule."""
+    got = b"" if "refused" in want else bytes.fromhex(want["area"])[:want["length"]]
+    return Witness(plan, schedule, area, written(want), got, (len(plan), len(schedule)))
+
+
 def interleaving_of(plan, n, given, area, want):
     """An interleaving as it is stored; `given` is None to begin, `area` the length of an area, `lengths` are those of plan and schedule."""
     got = b"" if "refused" in want or "over" in want else bytes.fromhex(want["area"])[:want["length"]]
@@ -129,6 +138,8 @@ def stored(case):
         return b"".join(map(two, case.lengths)) + eight(case.option) + eight(case.charged) + case.plan + case.schedule
     if isinstance(case, Preview):
         return b"".join(map(two, case.lengths)) + eight(case.pick) + eight(case.previewed) + case.out + case.plan + case.schedule
+    if isinstance(case, Witness):
+        return b"".join(map(two, case.lengths)) + two(case.area) + eight(case.written) + case.plan + case.schedule + case.bytes
     if isinstance(case, Interleaving):
         numbers = b"".join(map(two, case.lengths)) + two(case.area) + bytes([case.going]) + eight(case.n) + eight(case.written)
         return numbers + case.plan + case.schedule + case.bytes
@@ -153,6 +164,9 @@ def case_of(case):
     if "preview" in case:
         asked = case["preview"]
         return preview_of(bytes.fromhex(asked["plan"]), bytes.fromhex(asked["schedule"]), asked["pick"], case["want"])
+    if "witness" in case:
+        lent = case["witness"]
+        return witness_of(bytes.fromhex(lent["plan"]), bytes.fromhex(lent["schedule"]), len(lent["area"]) // 2, case["want"])
     if "interleaving" in case:
         lent = case["interleaving"]
         given = None if lent["given"] is None else bytes.fromhex(lent["given"])
@@ -176,6 +190,8 @@ def kind_of(case):
         return "charges", (("refused charge", want["refused"][0]) if "refused" in want else ("charge", want["cents"] == 0))
     if "preview" in case:
         return "previews", (("refused preview", want["refused"][0]) if "refused" in want else ("preview", str(preview_bytes(want)[:2])))
+    if "witness" in case:
+        return "witnesses", (("refused witness", want["refused"][0]) if "refused" in want else ("witness", ""))
     if "interleaving" in case:
         begin = case["interleaving"]["given"] is None
         return "interleavings", (("refused interleaving", want["refused"][0]) if "refused" in want else ("interleaving", (begin, "over" in want)))
@@ -292,6 +308,14 @@ def edge_bounds(oracle):
         yield Bound(bounded(want), plan)
 
 
+def edge_witnesses(oracle):
+    for plan, picks, area, stated in rows.WITNESSES:
+        want = oracle.witnessed(plan, bytes(picks), bytes([FILL]) * area)
+        got = want.get("refused") or list(bytes.fromhex(want["area"])[:want["length"]])
+        assert got == stated, (plan.hex(), picks, area, want)
+        yield witness_of(plan, bytes(picks), area, want)
+
+
 def edge_interleavings(oracle):
     for plan, n, given, area, stated in rows.INTERLEAVINGS:
         given = None if given is None else bytes(given)
@@ -326,12 +350,12 @@ def wrong(right):
     return [right ^ change for change in (1, 1 << 16, 1 << 32, 1 << 33, 3 << 32, 1 << 63)]
 
 
-def changed(race, ended, refused_plan, refused_pick, unordered, ordered, refused_log, file, refused_file, charge, preview, refused_preview, plan, refused_area, bound, refused_bound, first, following,
-            over, refused_listing):
-    """Cases by file, of twenty right ones: plays that stop for a race, come to their end, have a refused plan and a refused pick; logs with an unordered
+def changed(race, ended, refused_plan, refused_pick, unordered, ordered, refused_log, file, refused_file, charge, preview, refused_preview, plan, refused_area, bound, refused_bound, witness,
+            refused_witness, first, following, over, refused_listing):
+    """Cases by file, of twenty-two right ones: plays that stop for a race, come to their end, have a refused plan and a refused pick; logs with an unordered
     access, with none, and refused; a log with its data file, and one that is refused; a charge; a preview, and one that is refused; a
-    plan that is written, and one that is refused; a bound, and one that is refused; a first interleaving, a
-    following one, an end of the list, and one that is refused."""
+    plan that is written, and one that is refused; a bound, and one that is refused; a witness, and one that
+    is refused; a first interleaving, a following one, an end of the list, and one that is refused."""
     end = len(stored(race))
     lengths = [(end, 0), (len(race.plan), end)]
     return {
@@ -355,6 +379,10 @@ def changed(race, ended, refused_plan, refused_pick, unordered, ordered, refused
         + by(plan, area=[len(plan.plan) - 1, 65535]) + by(plan, length=[len(stored(plan))])
         + by(refused_area, written=wrong(refused_area.written)) + by(refused_area, bytes=[bytes(1)]),
         "changed_bounds": by(bound, bounded=wrong(bound.bounded)) + by(bound, plan=[bound.plan[:-1]]) + by(refused_bound, bounded=wrong(refused_bound.bounded)),
+        "changed_witnesses": by(witness, written=wrong(witness.written)) + by(witness, bytes=flips(witness.bytes))
+        + by(witness, bytes=[witness.bytes[:-1], witness.bytes + bytes(1)]) + by(witness, area=[len(witness.bytes) - 1, 65535])
+        + by(witness, lengths=[(len(stored(witness)), 0)])
+        + by(refused_witness, written=wrong(refused_witness.written)) + by(refused_witness, bytes=[bytes(1)]),
         "changed_interleavings": [changed for case in (first, following) for changed in by(case, written=wrong(case.written)) + by(case, bytes=flips(case.bytes))
                                   + by(case, bytes=[case.bytes[:-1], case.bytes + bytes(1)]) + by(case, area=[case.n - 1, 65535]) + by(case, n=[65])]
         + by(over, written=wrong(over.written)) + by(over, bytes=[bytes(1)]) + by(following, going=[0]) + by(following, lengths=[(len(stored(following)), 0)])
@@ -374,6 +402,7 @@ def changed_of(files):
                    first("previews", lambda c: c.out[0] == NUMBERS["PREVIEW_RACE"]), first("previews", lambda c: c.previewed > refused(9, 0)),
                    first("plans", lambda c: c.bytes and c.bytes != c.plan), first("plans", lambda c: c.written == refused(13, 0)),
                    first("bounds", lambda c: c.bounded < other(0)), first("bounds", lambda c: c.bounded == refused(21, 0)),
+                   first("witnesses", lambda c: len(c.bytes) > 9), first("witnesses", lambda c: c.written == refused(16, 0)),
                    first("interleavings", lambda c: not c.going and c.n > 4 and c.bytes), first("interleavings", lambda c: c.going and c.n > 4 and c.bytes),
                    first("interleavings", lambda c: c.written == other(0)), first("interleavings", lambda c: c.written == refused(19, 0)))
 
@@ -385,12 +414,12 @@ GROUPS = [("version", "version"),
           ("edges, checked", "edges"), ("edges, played", "edges"), ("edges, judged", "edges"), ("logs at the edges, judged", "edge_logs"),
           ("runs, checked", "runs"), ("runs, played", "runs"), ("runs, judged", "runs"), ("runs, played and judged", "runs"),
           ("refused plays, checked", "refused"), ("refused plays, played", "refused"), ("refused plays, played and judged", "refused"),
-          ("other logs, judged", "logs"), ("data files at the edges", "edge_files"), ("data files", "files"), ("charges", "charges"), ("previews", "previews"), ("plans, written", "plans"), ("bounds", "bounds"), ("interleavings", "interleavings")]
+          ("other logs, judged", "logs"), ("data files at the edges", "edge_files"), ("data files", "files"), ("charges", "charges"), ("previews", "previews"), ("plans, written", "plans"), ("bounds", "bounds"), ("witnesses", "witnesses"), ("interleavings", "interleavings")]
 CHANGED = [("changed version", "changed_version"), ("changed, checked", "changed_checks"), ("changed, played", "changed_plays"),
            ("changed runs, judged", "changed_runs"), ("changed, played and judged", "changed_both"), ("changed logs, judged", "changed_logs"),
            ("changed data files", "changed_files"), ("changed charges", "changed_charges"), ("changed previews", "changed_previews"),
            ("changed plans, written", "changed_plans"), ("changed bounds", "changed_bounds"),
-           ("changed interleavings", "changed_interleavings")]
+           ("changed witnesses", "changed_witnesses"), ("changed interleavings", "changed_interleavings")]
 
 
 def lines(files):
@@ -424,6 +453,7 @@ def main(argv):
     files["previews"] = list(edge_previews(answers)) + files["previews"]
     files["plans"] = list(edge_plans(answers)) + files["plans"]
     files["bounds"] = list(edge_bounds(answers)) + files["bounds"]
+    files["witnesses"] = list(edge_witnesses(answers)) + files["witnesses"]
     files["interleavings"] = list(edge_interleavings(answers)) + files["interleavings"]
     files.update(changed_of(files))
     files["version"] = [eight(NUMBERS["VERSION"])]

@@ -47,6 +47,10 @@ pub fn bound(plan: &[u8]) -> u64 {
     independent::bound(plan).map_or_else(number, |total| total as u64)
 }
 
+pub fn witness(plan: &[u8], schedule: &[u8], area: &mut [u8]) -> u64 {
+    independent::witness(plan, schedule, area).map_or_else(number, |length| length as u64)
+}
+
 pub fn first_interleaving(plan: &[u8], n: u64, area: &mut [u8]) -> u64 {
     independent::first_interleaving(plan, n, area).map_or_else(number, |length| length as u64)
 }

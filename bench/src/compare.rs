@@ -19,6 +19,7 @@ struct Seen {
     plans: [usize; 2],
     bounds: usize,
     listed: [usize; 3],
+    witnesses: usize,
 }
 
 impl Seen {
@@ -40,18 +41,18 @@ impl Seen {
     }
 
     fn print(&self) {
-        let (first, later) = (&self.refusals[1..13], [13, 14, 18, 19, 20, 21, 22, 23, 24].map(|number| self.refusals[number]));
-        println!("  plans passed {}; refusals 1 to 12 {first:?}, 13, 14, 18 to 24 {later:?}", self.passed);
+        let (first, later) = (&self.refusals[1..13], &self.refusals[13..25]);
+        println!("  plans passed {}; refusals 1 to 12 {first:?}, 13 to 24 {later:?}", self.passed);
         println!("  runs end, race, no-thread, no-object, no-key, no-depth {:?}", self.stops);
         println!("  threads absent, finished, ready, monitor, join, no field, no thread, lacking, notify, monitor not held {:?}", self.states);
         println!("  threads that learnt no key from another, some {:?}", self.learnt);
         println!("  logs ordered, unordered {:?}; data files {}; runs free, charged {:?}", self.judged, self.files, self.charges);
         println!("  picks passed over, moved, moved with a record, race, no room, stopped before {:?}", self.previews);
         println!("  plans written as they were, otherwise {:?}; plans with a total {}", self.plans, self.bounds);
-        println!("  interleavings begun, followed, over {:?}", self.listed);
-        let alone = [self.passed, self.files, self.bounds];
+        println!("  interleavings begun, followed, over {:?}; witnesses {}", self.listed, self.witnesses);
+        let alone = [self.passed, self.files, self.bounds, self.witnesses];
         let counts: [&[usize]; 11] =
-            [first, &later, &self.stops, &self.states, &self.learnt, &self.judged, &self.charges, &self.previews, &self.plans, &self.listed, &alone];
+            [first, later, &self.stops, &self.states, &self.learnt, &self.judged, &self.charges, &self.previews, &self.plans, &self.listed, &alone];
         assert!(counts.into_iter().flatten().min() > Some(&0), "an answer that no case had: more cases are needed");
     }
 }
@@ -137,6 +138,30 @@ fn bound(plan: &[u8], seen: &mut Seen) {
         2 => seen.refused(answer),
         _ => seen.bounds += 1,
     }
+}
+
+/// The answer and the whole area, also in an area of just the schedule's length and in one a pick short; what is written plays to its end, every pick a move.
+fn witness(plan: &[u8], schedule: &[u8], area: &[u8], seen: &mut Seen) {
+    let once = |area: &[u8]| {
+        let (mut ours, mut theirs) = (area.to_vec(), area.to_vec());
+        let input = [plan, schedule, area];
+        let answer = same("witness", &input, library::witness(plan, schedule, &mut ours), answers::witness(plan, schedule, &mut theirs));
+        (answer, same("the witness's area", &input, ours, theirs))
+    };
+    let (answer, written) = once(area);
+    if answer >> 32 == 2 {
+        seen.refused(answer);
+        return;
+    }
+    let length = answer as usize;
+    once(&area[..length]);
+    if length > 0 {
+        seen.refused(once(&area[..length - 1]).0);
+    }
+    let (mut log, mut out) = (vec![0; 3 * length], [0; OUT_BYTES]);
+    library::play(plan, &written[..length], &mut log, &mut out);
+    same("a witness played", &[plan, schedule], [out[0], out[3], out[4]], [0, (length >> 8) as u8, length as u8]);
+    seen.witnesses += 1;
 }
 
 /// The first interleaving of a plan, some that follow, and a schedule that may not be listed.
@@ -246,6 +271,8 @@ pub fn run(cases: usize, seed: u64) {
         bound(&plan, &mut seen);
         let schedule = generate::schedule(random);
         interleavings(random, &plan, &schedule, &mut seen);
+        let length = schedule.len() - random.below(2).min(schedule.len());
+        witness(&plan, &schedule, &random.bytes(length), &mut seen);
         charge(&plan, &schedule, random.pick(&[0, 1, 1 << 63]), &mut seen);
         let area = generate::area(random, schedule.len());
         let mut before = [0; OUT_BYTES];

@@ -10,6 +10,7 @@ mod judge;
 mod plan;
 mod preview;
 mod run;
+mod witness;
 
 pub use bound::bound;
 pub use canonical::canonical;
@@ -20,6 +21,7 @@ pub use judge::judge;
 pub use plan::check;
 pub use preview::{preview, Preview};
 pub use run::{play, Outcome, State};
+pub use witness::witness;
 
 /// Number and place.
 pub type Refusal = (u8, usize);

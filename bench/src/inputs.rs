@@ -87,6 +87,16 @@ fn passed() -> Vec<Input> {
     ]
 }
 
+/// Two threads that take turns at a monitor, and a third that at the end reads what was written at the start and nothing hands on to it.
+pub fn racing() -> Input {
+    let turns = repeat(yes(), synch(var(0), read(var(0), 2)));
+    let once = sequence(write(var(0), 1, null()), turns.clone());
+    let body = bind(0, object(), sequence(fork(turns), sequence(fork(read(var(0), 1)), once)));
+    let mut schedule: Vec<u8> = [vec![0; 16], picks(2, 4079)].concat();
+    schedule.push(2);
+    Input { name: "racing", plan: packed(MONITOR, &[(0, body)]), schedule }
+}
+
 /// The largest of many random plans of about so many terms.
 fn random_plan(size: usize) -> Vec<u8> {
     let random = &mut Random::new(size as u64);

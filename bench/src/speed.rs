@@ -220,6 +220,21 @@ fn listing_rows() {
     }
 }
 
+/// Whole calls of both on a run that moves as long as it can and then races: beside a play of the schedule.
+fn witness_row() {
+    let Input { name, plan, schedule } = &inputs::racing();
+    let (mut log, mut out) = (vec![0; 3 * schedule.len()], [0; library::OUT_BYTES]);
+    assert_eq!((library::play(plan, schedule, &mut log, &mut out), out[0]), (0, 1), "{name} does not race");
+    let witnessing = |entry: fn(&[u8], &[u8], &mut [u8]) -> u64| -> Entry {
+        let mut area = vec![0; schedule.len()];
+        Box::new(move || {
+            black_box(entry(black_box(plan), black_box(schedule), &mut area));
+        })
+    };
+    let [play, ours, theirs] = best([playing(library::play, plan, schedule), witnessing(library::witness), witnessing(answers::witness)]);
+    println!("\nwitness of {} picks |{:>23}; a play of them takes {play:.0}", schedule.len(), Pair(ours, theirs).text(0));
+}
+
 /// Whether thread 1 can move after the first `at` picks.
 fn has_follower(plan: &[u8], schedule: &[u8], at: usize) -> bool {
     let (mut log, mut out) = ([0; 192], [0; library::OUT_BYTES]);
@@ -255,4 +270,5 @@ pub fn run() {
     inputs::timed().iter().for_each(|input| short_row(input.name, &played(input).0));
     short_row("scattered", &scattered(SHORT[SHORT.len() - 1]));
     listing_rows();
+    witness_row();
 }

@@ -82,6 +82,11 @@ pub fn print() {
     most("bound", 96, &all, |i| {
         library::bound(&i.plan);
     });
+    let racing = [inputs::racing()];
+    let mut witnessed = [0; 4096];
+    most("witness", 144, &racing, |i| {
+        library::witness(&i.plan, &i.schedule, &mut witnessed);
+    });
     let mut listed = [0; 64];
     most("first_interleaving", 96, &all, |i| {
         library::first_interleaving(&i.plan, 64, &mut listed);

@@ -90,6 +90,21 @@ static void preview(const uint8_t *schedule, size_t picks, unsigned pick) {
     printf("\n");
 }
 
+/* The two accesses of a race side by side: a schedule after which both threads stand at them, and what each would do next. */
+static void witness(const uint8_t *schedule, size_t picks) {
+    uint8_t area[RUQZHEMIL_MOST_PICKS];
+    uint64_t answer = ruqzhemil_witness(plan, sizeof plan, schedule, picks, area, sizeof area);
+    printf("witness of ");
+    picks_of(schedule, picks);
+    if (RUQZHEMIL_REFUSED(answer)) {
+        refused(answer);
+        return;
+    }
+    picks_of(area, RUQZHEMIL_VALUE(answer));
+    printf("both stand at their accesses\n");
+    for (unsigned t = 0; t < 2; t++) preview(area, RUQZHEMIL_VALUE(answer), t);
+}
+
 /* while true do null */
 static const uint8_t endless[25] = {
     0x10, 0x40, 0x0c, 0x00, 0x80, 0x00, 0x00, 0x00, 0x00, 0x00, 0x38, 0x02, 0x01, 0x00, 0x00, 0x60, 0x00, 0x00, 0x00, 0x00, 0x00, 0x00, 0x00, 0x00, 0x00,
@@ -184,6 +199,8 @@ int main(void) {
     preview(race, 6, 0);
     preview(race, 7, 1);
     preview(race, 6, 8);
+    witness(race, sizeof race);
+    witness(none, sizeof none);
     canonical(sizeof turned);
     canonical(sizeof turned - 1);
     bound("P", plan, sizeof plan);

@@ -1,6 +1,6 @@
 //! Ruqzhemil: a verified checker of plans for relay test sets.
 //!
-//! [`check`] a plan, [`play`] a schedule on it, [`judge`] a log, [`preview`] a pick, write a plan in the one [`canonical`] way and a log as a [`comtrade`]
+//! [`check`] a plan, [`play`] a schedule on it, [`judge`] a log, [`preview`] a pick, bring the two threads of a race to their accesses ([`witness`]), write a plan in the one [`canonical`] way and a log as a [`comtrade`]
 //! data file, say how many moves a plan can need ([`bound`]), list the [`interleavings`] of a short plan, and [`charge`] for a run. Each takes any bytes; `include/ruqzhemil.h` says what the answers mean, and the proofs of the static library below show
 //! that they are right. Later versions may have more refusals, kinds, stops and states than are named here: `Other` has their number.
 
@@ -106,6 +106,14 @@ pub fn preview(plan: &[u8], schedule: &[u8], pick: u64) -> Result<Preview, Refus
 /// begins with it and keeps its other bytes; the answer is its length, which is the plan's. A refusal leaves `area` as it was.
 pub fn canonical(plan: &[u8], area: &mut [u8]) -> Result<usize, Refusal> {
     answer(raw::canonical(plan, area)).map(|said| match said {
+        Answer::Value(length) | Answer::Other(length) => length as usize,
+    })
+}
+
+/// From a run that stops for a missing key, a schedule after which both threads stand at their accesses. `area` begins with it and keeps its other bytes; the
+/// answer is its length. A refusal leaves `area` as it was.
+pub fn witness(plan: &[u8], schedule: &[u8], area: &mut [u8]) -> Result<usize, Refusal> {
+    answer(raw::witness(plan, schedule, area)).map(|said| match said {
         Answer::Value(length) | Answer::Other(length) => length as usize,
     })
 }

@@ -43,7 +43,7 @@ fn same<T: std::fmt::Debug>(prefix: &str, count: usize, of: impl Fn(u64) -> T) {
 
 #[test]
 fn numbers_are_the_headers() {
-    same("RUQZHEMIL_REFUSAL_", 21, |n| Refusal { number: n as u16, place: 0 }.reason());
+    same("RUQZHEMIL_REFUSAL_", 24, |n| Refusal { number: n as u16, place: 0 }.reason());
     same("RUQZHEMIL_KIND_", 11, |n| Kind::of(n as u8));
     let states = |n: u64| (Stop::of(n as u8), ThreadState::of(n as u8, 0, 0));
     for (name, n) in
@@ -144,6 +144,22 @@ fn plans_are_written_in_one_way() {
     assert_eq!(canonical(&plan, &mut area[..24]), Err(Refusal { number: 13, place: 0 }));
     assert_eq!(canonical(&plan[..24], &mut area), Err(Refusal { number: 1, place: 0 }));
     assert_eq!((&area[..25], area[25]), (&written[..], 7));
+}
+
+#[test]
+fn witnesses_by_hand() {
+    // let 0 = new(1) in let - = fork (v0.1 := null) in v0.1
+    let plan = [
+        0x10, 0x40, 0x24, 0x00, 0x80, 0x00, 0x00, 0x00, 0x00, 0x00, 0x28, 0x00, 0x20, 0x10, 0x00, 0x12, 0x00, 0x00, 0x00, 0x00, 0x2f, 0x80, 0x60, 0x38,
+        0x00, 0x48, 0x08, 0x00, 0x00, 0x00, 0x20, 0x0a, 0x10, 0x18, 0x00, 0x08, 0x00, 0x00, 0x00, 0x00, 0x00, 0x00, 0x00, 0x00, 0x00, 0x18, 0x10, 0x10,
+        0x00, 0x00, 0x08, 0x00, 0x00, 0x00, 0x00,
+    ];
+    let mut area = [7; 6];
+    assert_eq!(witness(&plan, &[0, 0, 0, 7, 0, 0, 1, 0], &mut area), Ok(5));
+    assert_eq!(area, [0, 0, 0, 0, 0, 7]);
+    assert_eq!(witness(&plan, &[0, 0, 0, 0, 0, 1, 0], &mut area[..4]), Err(Refusal { number: 17, place: 0 }));
+    assert_eq!(witness(&plan, &[0, 0, 0, 0, 0, 0, 1], &mut area), Err(Refusal { number: 16, place: 0 }));
+    assert_eq!(area, [0, 0, 0, 0, 0, 7]);
 }
 
 #[test]

@@ -351,6 +351,11 @@ pub fn play(plan: &[u8], schedule: &[u8], log: &mut [u8]) -> Result<Outcome, Ref
 
 /// A schedule that nothing refuses.
 pub(super) fn run(plan: &Plan, schedule: &[u8], log: &mut [u8]) -> Outcome {
+    run_seen(plan, schedule, log, |_, _| ())
+}
+
+/// The same; of each move its thread and how many records there are after it are seen.
+pub(super) fn run_seen(plan: &Plan, schedule: &[u8], log: &mut [u8], mut seen: impl FnMut(usize, usize)) -> Outcome {
     let mut r = Run {
         plan,
         threads: [Thread::default(); 8],
@@ -597,6 +602,7 @@ pub(super) fn run(plan: &Plan, schedule: &[u8], log: &mut [u8]) -> Outcome {
         r.threads[n] = t;
         picks += 1;
         moves += 1;
+        seen(n, rec);
     }
     let mut states = [State::Absent; 8];
     for n in 0..8 {

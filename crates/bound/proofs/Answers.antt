@@ -12,13 +12,12 @@ use Rattle.format.specs.Refusal.{Refusal, orElse, lowest, refuse, firstRefusal}
 use Rattle.format.specs.Lowest.{Lowest}
 use Rattle.format.proofs.LowestLaws.{whole, whole-none}
 use Rattle.keys.specs.Keys.{holds, subset}
-use Rattle.packed.specs.Format.{procedures, terms, tagAt}
+use Rattle.packed.specs.Format.{procedures, terms}
 use Rattle.packed.specs.Trees.{programOf}
 use Rattle.packed.specs.Check.{refusal}
 use Rattle.packed.specs.Refusals.{anyBelow}
 use Rattle.packed.specs.Steps.{tagIn}
 use Rattle.packed.proofs.Accepted.{accepted}
-use Rattle.packed.proofs.SortLaws.{tags-are}
 use Rattle.refusals.specs.Answer as checked
 use Rattle.refusals.specs.declared.Checked.{Checked}
 use Rattle.refusals.specs.declared.Checked.the-variants.{Refused}
@@ -26,10 +25,11 @@ use Rattle.costs.specs.Cost.{bodyCost, total}
 use Rattle.costs.specs.Calls.{called, cyclic}
 use Rattle.costs.specs.Leading.{leadsOn}
 use Rattle.costs.specs.Bound.{hasWhile, overMost, boundRefusal, bounded}
-use Rattle.costs.proofs.Below.{both, any-found, any-true, any-same}
+use Rattle.costs.proofs.Below.{both, any-found, any-true}
 use Rattle.costs.proofs.Chains.{procedureCount, one-more, long-cyclic, ends-acyclic}
 use Rattle.costs.proofs.Fixed.{fixed, once}
 use Rattle.costs.proofs.Plans.{laterChecks, bound-stages, no-more-moves}
+use Rattle.tag_search.proofs.Tags.{tag-in}
 use Rattle.cost_walk.specs.Walked.{capped}
 use Rattle.answers.specs.Answer.{Answer, value, refused, answerBy}
 use Rattle.bound.specs.NoMoreMoves.{NoMoreMoves}
@@ -111,9 +111,7 @@ module _ {b words : List ℕ} {n : ℕ} (l : Loads b n words) where
 
   pub while-in : (m : ℕ) → m ≡ terms b → anyBelow m (λ t. eqb (tagIn words t) 7) ≡ hasWhile b
   unfolding hasWhile
-  while-in m e =
-      ap (λ (k : ℕ). anyBelow k (λ t. eqb (tagIn words t) 7)) e
-      ∙ any-same (terms b) (λ t. eqb (tagIn words t) 7) (λ t. eqb (tagAt b t) 7) (λ t h. ap (λ (k : ℕ). eqb k 7) (tags-are b (terms b) words (l .loaded) t h))
+  while-in m e = tag-in b words (l .loaded) m 7 e
 
   -- ---- the answer
 

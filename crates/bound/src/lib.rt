@@ -2,11 +2,7 @@
 pub mod settling; // settling.rt: whom each procedure calls, and what bodies cost, callees first
 
 ghost use mathlib.Core.Path.{_≡_};
-ghost use Prim.Native.Nat.{_<_};
-ghost use lib.Dec.{eqb};
 ghost use Rattle.packed.specs.Format.{terms};
-ghost use Rattle.packed.specs.Steps.{tagIn};
-ghost use Rattle.packed.specs.Refusals.{anyBelow};
 ghost use Rattle.costs.specs.Bound.{bounded};
 ghost use Rattle.answers.specs.Answer.{answered};
 ghost use Rattle.bound.specs.NoMoreMoves.{NoMoreMoves};
@@ -15,21 +11,6 @@ use answers::Answered;
 use header::layout;
 use operands::tags;
 use refusals::Checked;
-
-// A while occurs among the terms.
-fn has_while(words: &[usize; 1024], count: usize) -> bool
-    requires { ⌜ count < 1025 ⌝ }
-    ensures { λ r. ⌜ r ≡ anyBelow count (λ t. eqb (tagIn (now (words .entry)) t) 7) ⌝ }
-{
-    let mut term = 0;
-    while term < count {
-        if operands::tag(words[term]) == tags::WHILE {
-            return true;
-        }
-        term += 1;
-    }
-    false
-}
 
 // Refusals 21 to 23 of a plan that passes the others and is in `words`, else the total.
 fn total_of(plan: &[u8], procedures: usize, count: usize, words: &[usize; 1024]) -> Answered
@@ -46,7 +27,7 @@ fn total_of(plan: &[u8], procedures: usize, count: usize, words: &[usize; 1024])
             place: 0,
         };
     }
-    if has_while(words, count) {
+    if tag_search::occurs(words, count, tags::WHILE) {
         return Answered::Refused {
             number: 22,
             place: 0,

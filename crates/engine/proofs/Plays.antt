@@ -15,7 +15,7 @@ use Rattle.state.specs.declared.Cell.{Cell}
 use Rattle.state.specs.declared.Object.{Object}
 use Rattle.state.specs.declared.Entry.{Entry}
 use Rattle.tally.specs.declared.Tally.{Tally}
-use Rattle.tally.specs.Tally.{tallyFirst, tallyPut, tallyMoved, logPut}
+use Rattle.tally.specs.Tally.{shownEntry, tallyFirst, tallyPut, tallyMoved, logPut}
 use Rattle.pick.proofs.Answer as answer-type
 use Rattle.pick.specs.declared.Move.{Move}
 use Rattle.pick.specs.declared.Answer.{Answer}
@@ -43,10 +43,10 @@ module _ (ws rs : List ℕ) (setting : Setting) where
         log = l;
       }
 
-  pub begins : (ps l : List ℕ) (h : Head) (c : Cell) (t : Object) (s : Tally) → h ≡ headOf (getD rs 0 0) → c ≡ cellFirst → t ≡ noThing → s ≡ tallyFirst
-      → playOf ws rs setting (begun h c t s l) ps 0 ≡ playOf ws rs setting (startOf rs l) ps 0
+  pub begins : (every : Bool) (ps l : List ℕ) (h : Head) (c : Cell) (t : Object) (s : Tally) → h ≡ headOf (getD rs 0 0) → c ≡ cellFirst → t ≡ noThing → s ≡ tallyFirst every
+      → playOf ws rs setting (begun h c t s l) ps 0 ≡ playOf ws rs setting (startOf every rs l) ps 0
   unfolding startOf
-  begins ps l h c t s qh qc qt qs =
+  begins every ps l h c t s qh qc qt qs =
       ap (λ (h : Head). playOf ws rs setting (begun h c t s l) ps 0) qh
       ∙ ap (λ (c : Cell). playOf ws rs setting (begun (headOf (getD rs 0 0)) c t s l) ps 0) qc
       ∙ ap (λ (t : Object). playOf ws rs setting (begun (headOf (getD rs 0 0)) cellFirst t s l) ps 0) qt
@@ -77,7 +77,8 @@ module _ (ws rs : List ℕ) (setting : Setting) where
           → n ≡ cellNumber (headAt (m .heads) (p % 8) .ready)
           → hs ≡ withYoung (v .forks) (m .heads) (m .tally .counts .threads % 9) (v .young)
           → qs ≡ afterOf (m .places) (headAt (m .heads) (p % 8) .ready) (p % 8)
-          → s ≡ tallyPut (m .tally) (v .entry) → s′ ≡ tallyMoved s (v .counts) → l ≡ logPut (m .log) (m .tally .records) (p % 8) (v .entry)
+          → s ≡ tallyPut (m .tally) (shownEntry (m .tally .every) (v .entry)) → s′ ≡ tallyMoved s (v .counts)
+          → l ≡ logPut (m .log) (m .tally .records) (p % 8) (shownEntry (m .tally .every) (v .entry))
           → playOf ws rs setting (record {
             heads = set hs (p % 8) (v .mover);
             cells = set (m .cells) n (v .cell);

@@ -32,7 +32,7 @@ use Rattle.pick.specs.Pick.{noHead, Picked, picked, pickOf}
 use Rattle.queue.specs.Queue.{afterOf}
 use Rattle.engine.specs.declared.Ran.{Ran}
 use Rattle.tally.specs.declared.Tally.{Tally}
-use Rattle.tally.specs.Tally.{tallyFirst, tallyPut, tallyMoved, logPut}
+use Rattle.tally.specs.Tally.{shownEntry, tallyFirst, tallyPut, tallyMoved, logPut}
 
 -- past the end of a list: zeros, no keys
 abbrev pub noCell : Cell
@@ -132,8 +132,8 @@ after m p v k =
       objects = set (m .objects) (m .tally .counts .objects % 33) (v .thing);
       places = afterOf (m .places) (headAt (m .heads) p .ready) p;
       stack = k;
-      tally = tallyMoved (tallyPut (m .tally) (v .entry)) (v .counts);
-      log = logPut (m .log) (m .tally .records) p (v .entry);
+      tally = tallyMoved (tallyPut (m .tally) (shownEntry (m .tally .every) (v .entry))) (v .counts);
+      log = logPut (m .log) (m .tally .records) p (shownEntry (m .tally .every) (v .entry));
     }
 
 -- the pick of thread p; an absent thread's is passed over
@@ -175,14 +175,15 @@ headOf root = record { ready = readyOf part.Run root 0 0 0; depth = 0; object = 
 abbrev pub cellFirst : Cell
 cellFirst = cellOf 0 0 zeroSet
 
-unfoldable pub startOf : List ℕ → List ℕ → Machine
-startOf rs l =
+-- with a record for every move, or for those that have one
+unfoldable pub startOf : Bool → List ℕ → List ℕ → Machine
+startOf every rs l =
     record {
       heads = replicate 9 (headOf (getD rs 0 0));
       cells = replicate 1024 cellFirst;
       objects = replicate 33 noThing;
       places = replicate 8 0;
       stack = replicate 891 0;
-      tally = tallyFirst;
+      tally = tallyFirst every;
       log = l;
     }

@@ -103,26 +103,27 @@ pub struct Ran {
     pub before: Before,
 }
 
-// The run of the picks from the start, with its records in the log; then what each of the eight threads would meet. It owns arrays of structs, which
-// no function can be lent, so both loops stand in it.
+// The run of the picks from the start, with its records in the log, of every move or of those that have one; then what each of the eight threads would
+// meet. It owns arrays of structs, which no function can be lent, so both loops stand in it.
 pub fn run(
     words: &[usize; 1024],
     roots: &[usize; 32],
     setting: Setting,
+    every: bool,
     picks: &[u8],
     log: &mut [u8],
 ) -> Ran
     requires { ⌜ (length (now picks) ≤ 4096) × (length (now picks) * 3 ≤ length (now log)) ⌝ }
-    ensures ran { λ r. ⌜ r .outcome ≡ playOf (now (words .entry)) (now (roots .entry)) setting (startOf (now (roots .entry)) (now (log .entry))) (now (picks .entry)) 0 .outcome ⌝ }
-    ensures area { λ r. ⌜ now (log .exit) ≡ playOf (now (words .entry)) (now (roots .entry)) setting (startOf (now (roots .entry)) (now (log .entry))) (now (picks .entry)) 0 .area ⌝ }
-    ensures before { λ r. ⌜ CountedBefore (now (words .entry)) (now (roots .entry)) setting (startOf (now (roots .entry)) (now (log .entry))) (now (picks .entry)) r ⌝ }
+    ensures ran { λ r. ⌜ r .outcome ≡ playOf (now (words .entry)) (now (roots .entry)) setting (startOf every (now (roots .entry)) (now (log .entry))) (now (picks .entry)) 0 .outcome ⌝ }
+    ensures area { λ r. ⌜ now (log .exit) ≡ playOf (now (words .entry)) (now (roots .entry)) setting (startOf every (now (roots .entry)) (now (log .entry))) (now (picks .entry)) 0 .area ⌝ }
+    ensures before { λ r. ⌜ CountedBefore (now (words .entry)) (now (roots .entry)) setting (startOf every (now (roots .entry)) (now (log .entry))) (now (picks .entry)) r ⌝ }
 {
     let mut heads = [first_head(roots[0]); 9];
     let mut cells = [first_cell(); 1024];
     let mut objects = [first_object(); 33];
     let mut places = [0usize; 8];
     let mut stack = [0usize; 891];
-    let mut tally = tally::first();
+    let mut tally = tally::first(every);
     let mut stop = Stop::End;
     let mut dealt = picks.len();
     let mut moves_before = 0;
@@ -166,7 +167,7 @@ pub fn run(
         let ready = head.ready;
         queue::after(&mut places, ready, thread);
         let entry = left.entry;
-        tally = tally::put(&mut *log, tally, thread, entry);
+        tally = tally::put_move(&mut *log, tally, thread, entry);
         if left.forks {
             let young = left.young;
             heads[counts.threads % 9] = young;

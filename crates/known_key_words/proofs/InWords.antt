@@ -2,6 +2,7 @@
 use Prim.Native.Nat.{ℕ, _+_, _*_, _≤_, _<_, min}
 use native.Mathlib.Omega.{arith}
 use mathlib.Core.Path.{_≡_, refl, sym, ap, _∙_, subst as along}
+use mathlib.Core.Bool.{false}
 use mathlib.Core.List.{List, [], map, append-nil}
 use mathlib.Core.Option.{Option, some, none, Option·map}
 use lib.ListN.{length, getD, getElem?, take, length-take, length-map}
@@ -45,14 +46,14 @@ area-here ws rs g i (halted m r) = refl
 module _ (plan area ws rs : List ℕ) (ok : refusal plan ≡ none) (loaded : Loaded plan ws rs)
     (ps : List ℕ) (small : (j : ℕ) → j < length ps → getD ps j 0 ≤ 7) (wide : 3 * length ps ≤ length area) where
   abbrev here : Standing
-  here = standing ws rs (settingOf plan) (startOf rs area) ps 0
+  here = standing ws rs (settingOf plan) (startOf false rs area) ps 0
 
   abbrev final : machine.State
   final = playing.runOf plan ps .final
 
   related : Related plan (machineOf here) final
   unfolding playing.runOf
-  related = stands-for plan ws rs ok loaded ps 0 small (startOf rs area) playing.start (start-related plan ws rs ok loaded area) (start-reached plan ok)
+  related = stands-for plan ws rs ok loaded ps 0 small (startOf false rs area) playing.start (start-related plan ws rs ok loaded false area) (start-reached plan ok)
 
   run-threads : play (programOf plan) ps .final .threads ≡ map (threadMeant (tableOf plan)) (final .threads)
   run-threads = ap (λ (r : Run). r .final .threads) (plays plan ok ps)
@@ -80,8 +81,8 @@ module _ (plan area ws rs : List ℕ) (ok : refusal plan ≡ none) (loaded : Loa
   log-there : areaOf here ≡ overwrite (bytesOf (play (programOf plan) ps .log)) area
   log-there =
       area-here ws rs (settingOf plan) (0 + length ps) here
-      ∙ ap (λ (r : Played). r .area) (sym (plays-on ws rs (settingOf plan) ps [] (startOf rs area) 0))
-      ∙ ap (λ (l : List ℕ). playOf ws rs (settingOf plan) (startOf rs area) l 0 .area) (append-nil ps)
+      ∙ ap (λ (r : Played). r .area) (sym (plays-on ws rs (settingOf plan) ps [] (startOf false rs area) 0))
+      ∙ ap (λ (l : List ℕ). playOf ws rs (settingOf plan) (startOf false rs area) l 0 .area) (append-nil ps)
       ∙ plays-defined plan ws rs ok loaded ps area small wide .1
 
   -- where the run on numbers stands after any picks

@@ -2,6 +2,7 @@
 -- Assumes nothing.
 use Prim.Native.Nat.{ℕ, _<_}
 use mathlib.Core.Path.{_≡_}
+use mathlib.Core.Bool.{false}
 use mathlib.Core.List.{List}
 use lib.ListN.{length, take}
 use Rattle.format.specs.Area.{overwrite}
@@ -26,4 +27,4 @@ pub record InWords (plan picks area : List ℕ) (s : Standing) : Type 0 where
 
 -- "After every pick of every run": ws are the words of the plan's terms, rs its roots, g its setting
 abbrev pub InWordsAfterEveryPick : (plan schedule area ws rs : List ℕ) → Setting → Type 0
-InWordsAfterEveryPick plan schedule area ws rs g = (n : ℕ) → InWords plan (take n schedule) area (standing ws rs g (startOf rs area) (take n schedule) 0)
+InWordsAfterEveryPick plan schedule area ws rs g = (n : ℕ) → InWords plan (take n schedule) area (standing ws rs g (startOf false rs area) (take n schedule) 0)

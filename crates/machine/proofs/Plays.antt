@@ -22,7 +22,7 @@ use Rattle.machine.proofs.Runs.{Reached, step-reached, runMeant, run-of
 use Rattle.machine.proofs.PlanTable.{tabulates}
 use Rattle.machine.proofs.StateMeaning.{stateOf}
 
-start-of : (table : machine.Table) → start ≡ stateOf table playing.start
+pub start-of : (table : machine.Table) → start ≡ stateOf table playing.start
 unfolding start playing.start whole plug redexExpression literals firstSlots
 start-of table = refl
 

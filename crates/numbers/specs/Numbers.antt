@@ -8,6 +8,7 @@ use Rattle.conflicts.specs.Judge.{Judged, refused, named, AnswersTold}
 use Rattle.rules.specs.Play as play
 use Rattle.answers.specs.Answer as tool
 use Rattle.interleavings.specs.Interleavings.{Next, FirstAnswer, NextAnswer}
+use Rattle.witness.specs.Witness.{Witnesses}
 
 -- ---- the convention of every entry: a number of 64 bits, whose upper half says which kind of answer it is
 
@@ -69,3 +70,9 @@ pub record NextReturns (plan : List ℕ) (n : ℕ) (schedule before : List ℕ) 
   pub answer : Next
   pub answers : NextAnswer plan n schedule before answer after
   pub numbered : number ≡ nextNumber answer
+
+-- witness returns the number of its answer to the plan, the schedule and the area, and leaves the area as that answer has it
+pub record WitnessReturns (plan schedule before : List ℕ) (number : ℕ) (after : List ℕ) : Type 0 where
+  pub answer : tool.Answer
+  pub answers : Witnesses plan schedule before answer after
+  pub numbered : number ≡ answerNumber answer

@@ -265,6 +265,10 @@ pub refused-tree : (b : List ℕ) (p : ℕ) → refusal b ≡ some (record { num
 unfolding usesUnboundSlot
 refused-tree b p h = let s = seventh b p h in (s .1, stands b (s .0) p (s .1), not-true _ (s .2))
 
+-- and so it is in a plan that is not refused
+pub accepted-stands : (b : List ℕ) → refusal b ≡ none → (p : ℕ) → p < procedures b → Stands (nodeAt b) (root b p) (treeAt b (root b p))
+accepted-stands b h p q = root-good b (its-trees b (accepted b h)) p q .0
+
 body-well-formed : (b : List ℕ) → Accepted b → (m : ℕ) → m < procedures b → WellFormed (programOf b) 1 (λ x. ltb x (procedureAt b m .parameters)) (procedureAt b m .body)
 unfolding procedureAt
 body-well-formed b a m q = root-good b (its-trees b a) m q .1 (λ x. ltb x (parameters b m)) (subst T (sym (a .each-procedure m q .all-bound)) tt)

@@ -99,7 +99,7 @@ table-of procedures n t m h =
 
 -- ---- 5: sorts
 
-none-of : (n : ℕ) (f : ℕ → Bool) → anyBelow n f ≡ false → (k : ℕ) → k < n → f k ≡ false
+pub none-of : (n : ℕ) (f : ℕ → Bool) → anyBelow n f ≡ false → (k : ℕ) → k < n → f k ≡ false
 unfolding anyBelow
 none-of zero f h k q = absurd (omega arith)
 none-of (suc n) f h k q = go (λ p. none-of n f (neither (anyBelow n f) (f n) h .0) k p) (ℕ-discrete k n)

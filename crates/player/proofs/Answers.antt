@@ -1,7 +1,8 @@
 -- The code's run on an accepted plan is the defined one. Assumes nothing.
 use Prim.Native.Nat.{ℕ, _*_, _-_, _≤_, _<_, min}
 use native.Mathlib.Omega.{arith}
-use mathlib.Core.Path.{_≡_, refl, sym, ap, ap₂, _∙_, subst as along}
+use mathlib.Core.Path.{_≡_, refl, sym, ap, _∙_, subst as along}
+use mathlib.Core.Bool.{Bool, true, false}
 use mathlib.Core.List.{List, [], _∷_, map}
 use mathlib.Core.Option.{none}
 use lib.ListN.{length, getD, take, length-take}
@@ -10,6 +11,7 @@ use Rattle.format.specs.Area.{overwrite}
 use Rattle.packed.specs.Format.{version, procedures, terms, volatiles}
 use Rattle.packed.specs.Trees.{programOf}
 use Rattle.packed.specs.Check.{refusal}
+use Rattle.records.specs.Record.{Record}
 use Rattle.records.specs.Packed.{bytesOf}
 use Rattle.rules.specs.Run as run
 use Rattle.rules.specs.Play.{runOf}
@@ -22,15 +24,17 @@ use Rattle.run_outcome.specs.declared.ThreadState.{ThreadState}
 use Rattle.run_outcome.specs.declared.ThreadState.the-variants as state
 use Rattle.run_outcome.specs.declared.Thread.{Thread}
 use Rattle.run_outcome.specs.declared.Outcome.{Outcome}
+use Rattle.state.specs.declared.Setting.{Setting}
 use Rattle.engine.specs.Machine.{Played, playOf, startOf, CountedBefore}
 use Rattle.engine.specs.declared.Ran.{Ran}
 use Rattle.refinement.proofs.Meant as meant
 use Rattle.refinement.proofs.States.{settingOf}
-use Rattle.refinement.proofs.Plays.{stateMeant, stopMeant, outcomeMeant, plays-defined}
+use Rattle.refinement.proofs.Plays.{stateMeant, stopMeant, outcomeMeant, plays-recorded, plays-defined}
 use Rattle.packed.specs.Steps.{wordAt, Loaded}
 use Rattle.player.specs.Roots.{Roots}
 use Rattle.player.specs.Answer.{roomOf, stopOf, waitOf, stuckOf, statusOf, outcomeOf}
-use Rattle.player.specs.RunOn.{Given, RunOn}
+use Rattle.player.specs.RunOn.{Given, RunOn, MovesOn, RunBy}
+use Rattle.player.proofs.EveryMove.{records-are-moves, machine-stop}
 
 -- ---- the code's words mean what the refinement says
 
@@ -74,7 +78,7 @@ module _ (plan ws rs area : List ℕ) (passes : refusal plan ≡ none) (words : 
 
   -- the code's play of these picks
   abbrev code : List ℕ → Played
-  code ps = playOf ws rs (settingOf plan) (startOf rs area) ps 0
+  code ps = playOf ws rs (settingOf plan) (startOf false rs area) ps 0
 
   module _ (ps : List ℕ) (small : (j : ℕ) → j < length ps → getD ps j 0 ≤ 7) (wide : 3 * length ps ≤ length area) where
     defined : (outcomeMeant (code ps .outcome) ≡ run.outcomeOf (programOf plan) (run.play (programOf plan) ps))
@@ -108,23 +112,41 @@ module _ (ps : List ℕ) (k : ℕ) where
   first-wide n h = let q : length (take k ps) ≡ min k (length ps) = length-take k ps in omega arith
 
 -- the code's run is the defined one
-pub run-on : (plan ws rs picks area : List ℕ) → Given plan ws picks area → Roots plan (procedures plan) rs → (mask v : ℕ) → mask ≡ volatiles plan → v ≡ version plan
-    → (r : Ran) (after : List ℕ)
-    → r .outcome ≡ playOf ws rs (record { mask = mask; version = v }) (startOf rs area) picks 0 .outcome
-    → after ≡ playOf ws rs (record { mask = mask; version = v }) (startOf rs area) picks 0 .area
-    → CountedBefore ws rs (record { mask = mask; version = v }) (startOf rs area) picks r
-    → RunOn plan picks area after r
-run-on plan ws rs picks area given roots mask v em ev r after eo ea eb =
-    let k : ℕ = min (r .outcome .picks) (length picks - 1) in
-    let p = given .plan-passes in
-    let w = given .loaded in
-    let s = first-small picks k (given .small) in
-    let l = first-wide picks k (length area) (given .wide) in
-    let same : (ps : List ℕ) → playOf ws rs (record { mask = mask; version = v }) (startOf rs area) ps 0 ≡ code plan ws rs area p w roots ps =
-    λ ps. ap₂ (λ (x y : ℕ). playOf ws rs (record { mask = x; version = y }) (startOf rs area) ps 0) em ev in
-    record {
-      outcome = ap outcomeOf (eo ∙ ap (λ (x : Played). x .outcome) (same picks)) ∙ outcome-defined plan ws rs area p w roots picks (given .small) (given .wide);
-      area = ea ∙ ap (λ (x : Played). x .area) (same picks) ∙ area-defined plan ws rs area p w roots picks (given .small) (given .wide);
-      moves-before = eb .moves ∙ ap (λ (x : Played). x .outcome .moves) (same (take k picks)) ∙ moves-defined plan ws rs area p w roots (take k picks) s l;
-      records-before = eb .records ∙ ap (λ (x : Played). x .outcome .records) (same (take k picks)) ∙ records-defined plan ws rs area p w roots (take k picks) s l;
-    }
+module _ (plan ws rs picks area : List ℕ) (given : Given plan ws picks area) (roots : Roots plan (procedures plan) rs) (r : Ran) (after : List ℕ) where
+  -- it did what the machine does, with a record for every move or for those that have one
+  pub record RanAs (every : Bool) (g : Setting) : Type 0 where
+    pub outcome : r .outcome ≡ playOf ws rs g (startOf every rs area) picks 0 .outcome
+    pub area-left : after ≡ playOf ws rs g (startOf every rs area) picks 0 .area
+    pub before : CountedBefore ws rs g (startOf every rs area) picks r
+
+  records-on : RanAs false (settingOf plan) → RunOn plan picks area after r
+  records-on e =
+      let k : ℕ = min (r .outcome .picks) (length picks - 1) in
+      let p = given .plan-passes in
+      let w = given .loaded in
+      let s = first-small picks k (given .small) in
+      let l = first-wide picks k (length area) (given .wide) in
+      record {
+        outcome = ap outcomeOf (e .outcome) ∙ outcome-defined plan ws rs area p w roots picks (given .small) (given .wide);
+        area = e .area-left ∙ area-defined plan ws rs area p w roots picks (given .small) (given .wide);
+        moves-before = e .before .moves ∙ moves-defined plan ws rs area p w roots (take k picks) s l;
+        records-before = e .before .records ∙ records-defined plan ws rs area p w roots (take k picks) s l;
+      }
+
+  moves-on : RanAs true (settingOf plan) → MovesOn plan picks area after r
+  moves-on e =
+      let p = given .plan-passes in
+      let x = plays-recorded plan ws rs p (loaded plan ws rs area p (given .loaded) roots) picks area (given .small) (given .wide) true in
+      let L = records-are-moves plan p picks in
+      record {
+        stop = stop-same (r .outcome .stop) ∙ ap (λ (o : Outcome). stopMeant (o .stop)) (e .outcome) ∙ x .0 ∙ machine-stop plan p picks;
+        records = ap (λ (o : Outcome). o .records) (e .outcome) ∙ x .1 ∙ ap length L;
+        area = e .area-left ∙ x .2 ∙ ap (λ (K : List Record). overwrite (bytesOf K) area) L;
+      }
+
+  by-records : (every : Bool) → RanAs every (settingOf plan) → RunBy every plan picks area after r
+  by-records true e = moves-on e
+  by-records false e = records-on e
+
+  pub run-on : (every : Bool) (mask v : ℕ) → mask ≡ volatiles plan → v ≡ version plan → RanAs every (record { mask = mask; version = v }) → RunBy every plan picks area after r
+  run-on every mask v em ev e = by-records every (along (λ (x : ℕ). RanAs every (record { mask = volatiles plan; version = x })) ev (along (λ (x : ℕ). RanAs every (record { mask = x; version = v })) em e))

@@ -1,3 +1,4 @@
+pub mod EveryMove
 pub mod Answers
 pub mod Entry
 pub mod Ran

@@ -1,6 +1,7 @@
 -- A run on an accepted plan: what it is given, and what it comes to. No reader of the entry's promise needs it. Assumes nothing.
 use Prim.Native.Nat.{ℕ, _*_, _≤_, _<_}
 use mathlib.Core.Path.{_≡_}
+use mathlib.Core.Bool.{Bool, true, false}
 use mathlib.Core.List.{List}
 use mathlib.Core.Option.{none}
 use lib.ListN.{length, getD}
@@ -12,9 +13,10 @@ use Rattle.packed.specs.Steps.{Loaded}
 use Rattle.records.specs.Packed.{bytesOf}
 use Rattle.rules.specs.Run as run
 use Rattle.rules.specs.Play.{runOf}
+use Rattle.side_by_side.specs.Moves.{movesOf}
 use Rattle.engine.specs.Machine.{picksBefore}
 use Rattle.engine.specs.declared.Ran.{Ran}
-use Rattle.player.specs.Answer.{outcomeOf}
+use Rattle.player.specs.Answer.{stopOf, outcomeOf}
 
 -- a plan that passes, its words, few picks of eight threads, a log area with room for a record to each
 pub record Given (plan words picks area : List ℕ) : Type 0 where
@@ -30,3 +32,14 @@ pub record RunOn (plan picks before after : List ℕ) (r : Ran) : Type 0 where
   pub area : after ≡ overwrite (bytesOf (runOf plan picks .log)) before
   pub moves-before : r .before .moves ≡ length (runOf plan (picksBefore (r .outcome .picks) picks) .instances)
   pub records-before : r .before .records ≡ length (runOf plan (picksBefore (r .outcome .picks) picks) .log)
+
+-- where every move is to have a record: the defined run's stop, and its moves
+pub record MovesOn (plan picks before after : List ℕ) (r : Ran) : Type 0 where
+  pub stop : stopOf (r .outcome .stop) ≡ runOf plan picks .stop
+  pub records : r .outcome .records ≡ length (movesOf (programOf plan) picks)
+  pub area : after ≡ overwrite (bytesOf (movesOf (programOf plan) picks)) before
+
+-- the one or the other
+abbrev pub RunBy : Bool → (plan picks before after : List ℕ) → Ran → Type 0
+RunBy true plan picks before after r = MovesOn plan picks before after r
+RunBy false plan picks before after r = RunOn plan picks before after r

@@ -8,7 +8,7 @@ ghost use Rattle.rules.specs.Play.{played, areaAfter};
 ghost use Rattle.player.specs.Answer.{answered, NoRunIfRefused};
 ghost use Rattle.player.specs.ExecutedOn.{ExecutedIfPassed};
 ghost use Rattle.player.specs.Roots.{Roots};
-ghost use Rattle.player.specs.RunOn.{Given, RunOn};
+ghost use Rattle.player.specs.RunOn.{Given, RunBy};
 use crate::outcome::Played;
 use engine::Ran;
 use header::layout;
@@ -29,10 +29,10 @@ fn roots(plan: &[u8], procedures: usize) -> [usize; 32]
     all
 }
 
-// The run of picks on an accepted plan whose words are loaded, its records into the log.
-pub fn run(plan: &[u8], words: &[usize; 1024], picks: &[u8], log: &mut [u8]) -> Ran
+// The run of picks on an accepted plan whose words are loaded, its records into the log: of every move, or of those that have one.
+pub fn run(plan: &[u8], words: &[usize; 1024], every: bool, picks: &[u8], log: &mut [u8]) -> Ran
     requires { ⌜ Given (now plan) (now words) (now picks) (now log) ⌝ }
-    ensures { λ r. ⌜ RunOn (now (plan .entry)) (now (picks .entry)) (now (log .entry)) (now (log .exit)) r ⌝ }
+    ensures { λ r. ⌜ RunBy every (now (plan .entry)) (now (picks .entry)) (now (log .entry)) (now (log .exit)) r ⌝ }
 {
     let procedures = layout::procedures(plan);
     let roots = roots(plan, procedures);
@@ -42,7 +42,7 @@ pub fn run(plan: &[u8], words: &[usize; 1024], picks: &[u8], log: &mut [u8]) -> 
         mask: mask,
         version: version,
     };
-    engine::run(words, &roots, setting, picks, log)
+    engine::run(words, &roots, setting, every, picks, log)
 }
 
 // Every plan, schedule and log area gets document 01's answer: a refusal of number 1 to 10 with its place, and no byte of the area changed; or the
@@ -58,7 +58,7 @@ pub fn play(plan: &[u8], schedule: &[u8], log: &mut [u8]) -> Played
     let Checked::Passed = checked else {
         return outcome::refused(checked);
     };
-    let ran = run(plan, &words, schedule, log);
+    let ran = run(plan, &words, false, schedule, log);
     let outcome = ran.outcome;
     Played {
         checked: checked,

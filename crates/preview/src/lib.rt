@@ -99,7 +99,7 @@ fn shown(plan: &[u8], words: &[usize; 1024], schedule: &[u8], pick: usize) -> Pr
     let mut picks = [0u8; 4096];
     let mut log = [0u8; 12288];
     let end = add_pick(&mut picks, schedule, pick as u8);
-    let ran = player::run(plan, words, &picks[0..end], &mut log);
+    let ran = player::run(plan, words, false, &picks[0..end], &mut log);
     last_pick(ran, schedule.len(), pick, &log)
 }
 

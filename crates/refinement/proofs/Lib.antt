@@ -33,6 +33,7 @@ pub mod Acts
 mod Depths
 mod RoomAfter
 mod Moved
+pub mod Shown
 pub mod Picks
 pub mod Logs
 pub mod Starts

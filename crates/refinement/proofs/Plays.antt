@@ -6,7 +6,7 @@ use native.Mathlib.Omega.{arith}
 use mathlib.Core.Path.{_≡_, refl, sym, ap, ap₂, _∙_, subst as along}
 use mathlib.Core.Bool.{Bool, true, false, cond}
 use mathlib.Core.List.{List, [], _∷_, _++_, map}
-use mathlib.Core.Option.{none}
+use mathlib.Core.Option.{Option, none}
 use lib.Dec.{leb}
 use lib.ListN.{length, getD, getElem?, drop}
 use borrow.Author.Tests.{leb-false, leb-true}
@@ -47,6 +47,7 @@ use Rattle.pick.specs.declared.Move.{Move}
 use Rattle.pick.specs.declared.Answer.{Answer}
 use Rattle.pick.specs.declared.Answer.the-variants as answer
 use Rattle.pick.specs.Pick.{Picked, lookMet}
+use Rattle.tally.specs.Tally.{shownEntry}
 use Rattle.engine.specs.Machine as engine
 use Rattle.engine.specs.Machine.{headAt, metBy, absent, stateBy, threadBy, threadAt, threadsOf, stopped, stayed, after, turnBy, onAnswer, playOf, startOf}
 use Rattle.refinement.proofs.Meant.{Loaded}
@@ -54,6 +55,7 @@ use Rattle.refinement.proofs.States.{settingOf, Related}
 use Rattle.refinement.proofs.Looks.{Written, Entered, BlockedBy, MeetsBy, attempt-absent}
 use Rattle.refinement.proofs.Moves.{roomMeant, met, Ahead}
 use Rattle.refinement.proofs.Acts.{looks}
+use Rattle.refinement.proofs.Shown.{shownIn, entered-shown, recordsBy, recordsFrom, records-log}
 use Rattle.refinement.proofs.Picks.{AnsweredBy, picks}
 use Rattle.refinement.proofs.Starts.{start-related}
 use Rattle.refinement.proofs.Logs.{overlay, no-records, put-logged, put-none, put-last, record-counts, log-length, count-grows}
@@ -150,15 +152,15 @@ stopMeant stop.End = Stop.end
 stopMeant stop.Race = Stop.race
 stopMeant (stop.NoRoom r) = Stop.noRoom (roomMeant r)
 
--- the play P, from i picks, n moves, k records and the area l on, is the run R
-record PlaysAs (b : List ℕ) (i n k : ℕ) (l : List ℕ) (P : engine.Played) (R : playing.Run) : Type 0 where
+-- the play P, from i picks, n moves, k records and the area l on, is the run R, with the records L
+record PlaysAs (b : List ℕ) (i n k : ℕ) (l : List ℕ) (P : engine.Played) (R : playing.Run) (L : List Record) : Type 0 where
   stop : stopMeant (P .outcome .stop) ≡ R .stop
   picks : P .outcome .picks ≡ i + R .picks
   moves : P .outcome .moves ≡ n + length (R .instances)
-  records : P .outcome .records ≡ k + length (R .log)
+  records : P .outcome .records ≡ k + length L
   threads : map statusOf (P .outcome .threads) ≡ playing.statusesFrom (tableOf b) (R .final) 0 8
   totals : map (λ (t : Thread). t .learnt) (P .outcome .threads) ≡ playing.totalsFrom (R .final) 0 8
-  area : P .area ≡ overlay l (3 * k) (bytesOf (R .log))
+  area : P .area ≡ overlay l (3 * k) (bytesOf L)
 
 -- the outcome that the code's answer means
 abbrev pub outcomeMeant : code-outcome.Outcome → Outcome
@@ -178,34 +180,44 @@ module _ (b ws rs : List ℕ) (ok : refusal b ≡ none) (loaded : Loaded b ws rs
   abbrev Rest : List ℕ → ℕ → Type 0
   Rest ps i =
       (m : engine.Machine) (s : machine.State) → Related b m s → Reached (tableOf b) (programOf b) s → 3 * (m .tally .records + length ps) ≤ length (m .log)
-      → PlaysAs b i (m .tally .moves) (m .tally .records) (m .log) (playOf ws rs (settingOf b) m ps i) (playing.run (tableOf b) s ps)
+      → PlaysAs b i (m .tally .moves) (m .tally .records) (m .log) (playOf ws rs (settingOf b) m ps i) (playing.run (tableOf b) s ps) (recordsFrom (m .tally .every) (tableOf b) s ps)
 
   module _ (m : engine.Machine) (s : machine.State) (rel : Related b m s) (reach : Reached (tableOf b) (programOf b) s) (p : ℕ) (small : p < 8) (ps : List ℕ) (i : ℕ)
       (wide : 3 * (m .tally .records + suc (length ps)) ≤ length (m .log)) (rest : Rest ps (i + 1)) where
     abbrev goOn : machine.State → playing.Run
     goOn s = playing.run (tableOf b) s ps
 
-    -- the play and the run after the pick, by its answer
-    abbrev Plays : Answer → Stack → playing.Run → Type 0
-    Plays z k R =
-        PlaysAs b i (m .tally .moves) (m .tally .records) (m .log)
-        (onAnswer z (playOf ws rs (settingOf b) (stayed m k) ps (i + 1)) (λ v. playOf ws rs (settingOf b) (after m p v k) ps (i + 1)) (λ e x. stopped (settingOf b) m p x e i)) R
+    -- the records after the pick, and with the pick's, by its answer
+    abbrev goOnWith : machine.State → List Record
+    goOnWith s = recordsFrom (m .tally .every) (tableOf b) s ps
 
-    passed-plays : (k : Stack) → k ≡ m .stack → Plays answer.Passed k (playing.resume s goOn playing.Answer.passed)
-    unfolding playing.resume playing.afterPass
+    abbrev recorded : playing.Answer → List Record
+    recorded a = recordsBy (m .tally .every) s goOnWith p a
+
+    -- the play and the run after the pick, by its answer
+    abbrev Plays : Answer → Stack → playing.Run → List Record → Type 0
+    Plays z k R L =
+        PlaysAs b i (m .tally .moves) (m .tally .records) (m .log)
+        (onAnswer z (playOf ws rs (settingOf b) (stayed m k) ps (i + 1)) (λ v. playOf ws rs (settingOf b) (after m p v k) ps (i + 1)) (λ e x. stopped (settingOf b) m p x e i)) R L
+
+    passed-plays : (k : Stack) → k ≡ m .stack → Plays answer.Passed k (playing.resume s goOn playing.Answer.passed) (recorded playing.Answer.passed)
+    unfolding playing.resume playing.afterPass recordsBy
     passed-plays k e =
         let same : Related b (stayed m (m .stack)) s = record { heads-size = rel .heads-size; sized = rel .sized; kept = rel .kept; each = rel .each; places-size = rel .places-size; places = rel .places } in
         let r = rest (stayed m k) s (along (λ (k : Stack). Related b (stayed m k) s) (sym e) same) reach (omega arith) in
         record { stop = r .stop; picks = (let q = r .picks in omega arith); moves = r .moves; records = r .records; threads = r .threads; totals = r .totals; area = r .area }
 
     moved-plays : (v : Move) (k : Stack) (u : machine.Move) → playing.step (tableOf b) s p ≡ playing.Answer.moved u → Entered p (v .entry) (u .entry) → Related b (after m p v k) (u .state)
-        → Plays (answer.Moved v) k (playing.resume s goOn (playing.Answer.moved u))
-    unfolding playing.resume playing.afterMove
+        → Plays (answer.Moved v) k (playing.resume s goOn (playing.Answer.moved u)) (recorded (playing.Answer.moved u))
+    unfolding playing.resume playing.afterMove recordsBy
     moved-plays v k u e entered rel′ =
-        let c = count-grows (m .tally .records) p (v .entry) (u .entry) entered in
-        let w = log-length (m .log) (m .tally .records) p (v .entry) in
+        let x : Entry = shownEntry (m .tally .every) (v .entry) in
+        let y : Option Record = shownIn (m .tally .every) p (u .entry) in
+        let shown : Entered p x y = entered-shown (m .tally .every) p (v .entry) (u .entry) small entered in
+        let c = count-grows (m .tally .records) p x y shown in
+        let w = log-length (m .log) (m .tally .records) p x in
         let r = rest (after m p v k) (u .state) rel′ (move-reached b ok s p u reach e) (omega arith) in
-        let q = put-logged (m .log) (m .tally .records) p (v .entry) (u .entry) (goOn (u .state) .log) entered (omega arith) in
+        let q = put-logged (m .log) (m .tally .records) p x y (goOnWith (u .state)) shown (omega arith) in
         record {
           stop = r .stop;
           picks = (let q = r .picks in omega arith);
@@ -216,8 +228,8 @@ module _ (b ws rs : List ℕ) (ok : refusal b ≡ none) (loaded : Loaded b ws rs
           area = r .area ∙ q .0;
         }
 
-    race-plays : (x : Entry) (y : Record) (k : Stack) → Written p x y → Plays (answer.Stopped stop.Race x) k (playing.resume s goOn (playing.Answer.race y))
-    unfolding playing.resume playing.stopped
+    race-plays : (x : Entry) (y : Record) (k : Stack) → Written p x y → Plays (answer.Stopped stop.Race x) k (playing.resume s goOn (playing.Answer.race y)) (recorded (playing.Answer.race y))
+    unfolding playing.resume playing.stopped recordsBy
     race-plays x y k written = record {
       stop = refl;
       picks = omega arith;
@@ -228,8 +240,8 @@ module _ (b ws rs : List ℕ) (ok : refusal b ≡ none) (loaded : Loaded b ws rs
       area = put-last (m .log) (m .tally .records) p x y written (omega arith);
     }
 
-    full-plays : (x : Entry) (R : NoRoom) (k : Stack) → x .kind ≡ 0 → Plays (answer.Stopped (stop.NoRoom R) x) k (playing.resume s goOn (playing.Answer.noRoom (roomMeant R)))
-    unfolding playing.resume playing.stopped
+    full-plays : (x : Entry) (R : NoRoom) (k : Stack) → x .kind ≡ 0 → Plays (answer.Stopped (stop.NoRoom R) x) k (playing.resume s goOn (playing.Answer.noRoom (roomMeant R))) (recorded (playing.Answer.noRoom (roomMeant R)))
+    unfolding playing.resume playing.stopped recordsBy
     full-plays x R k none-written =
         let q = put-none (m .log) (m .tally .records) p x none-written in
         record {
@@ -243,25 +255,25 @@ module _ (b ws rs : List ℕ) (ok : refusal b ≡ none) (loaded : Loaded b ws rs
         }
 
     -- one pick, and the rest
-    answered-plays : (z : Answer) (k : Stack) → AnsweredBy b m s p z k → Plays z k (playing.resume s goOn (playing.step (tableOf b) s p))
-    answered-plays answer.Passed k (e, same) = along (λ (a : playing.Answer). Plays answer.Passed k (playing.resume s goOn a)) (sym e) (passed-plays k same)
-    answered-plays (answer.Moved v) k (u, e, entered, rel′) = along (λ (a : playing.Answer). Plays (answer.Moved v) k (playing.resume s goOn a)) (sym e) (moved-plays v k u e entered rel′)
+    answered-plays : (z : Answer) (k : Stack) → AnsweredBy b m s p z k → Plays z k (playing.resume s goOn (playing.step (tableOf b) s p)) (recorded (playing.step (tableOf b) s p))
+    answered-plays answer.Passed k (e, same) = along (λ (a : playing.Answer). Plays answer.Passed k (playing.resume s goOn a) (recorded a)) (sym e) (passed-plays k same)
+    answered-plays (answer.Moved v) k (u, e, entered, rel′) = along (λ (a : playing.Answer). Plays (answer.Moved v) k (playing.resume s goOn a) (recorded a)) (sym e) (moved-plays v k u e entered rel′)
     answered-plays (answer.Stopped stop.End x) k h = absurd h
-    answered-plays (answer.Stopped stop.Race x) k (y, e, written) = along (λ (a : playing.Answer). Plays (answer.Stopped stop.Race x) k (playing.resume s goOn a)) (sym e) (race-plays x y k written)
+    answered-plays (answer.Stopped stop.Race x) k (y, e, written) = along (λ (a : playing.Answer). Plays (answer.Stopped stop.Race x) k (playing.resume s goOn a) (recorded a)) (sym e) (race-plays x y k written)
     answered-plays (answer.Stopped (stop.NoRoom R) x) k (e, none-written) =
-        along (λ (a : playing.Answer). Plays (answer.Stopped (stop.NoRoom R) x) k (playing.resume s goOn a)) (sym e) (full-plays x R k none-written)
+        along (λ (a : playing.Answer). Plays (answer.Stopped (stop.NoRoom R) x) k (playing.resume s goOn a) (recorded a)) (sym e) (full-plays x R k none-written)
 
     abbrev turn : Picked
     turn = turnBy ws rs (settingOf b) m p
 
-    pick-plays : Plays (turn .answer) (turn .stack) (playing.resume s goOn (playing.step (tableOf b) s p))
+    pick-plays : Plays (turn .answer) (turn .stack) (playing.resume s goOn (playing.step (tableOf b) s p)) (recorded (playing.step (tableOf b) s p))
     pick-plays = answered-plays (turn .answer) (turn .stack) (picks b ws rs ok loaded m s rel reach p small)
 
   -- THE CODE'S PLAY FROM A STATE IS THE ABSTRACT MACHINE'S RUN FROM WHAT IT STANDS FOR
   plays : (ps : List ℕ) (i : ℕ) → Small ps → (m : engine.Machine) (s : machine.State) → Related b m s → Reached (tableOf b) (programOf b) s
       → 3 * (m .tally .records + length ps) ≤ length (m .log)
-      → PlaysAs b i (m .tally .moves) (m .tally .records) (m .log) (playOf ws rs (settingOf b) m ps i) (playing.run (tableOf b) s ps)
-  unfolding playOf playing.run playing.stopped
+      → PlaysAs b i (m .tally .moves) (m .tally .records) (m .log) (playOf ws rs (settingOf b) m ps i) (playing.run (tableOf b) s ps) (recordsFrom (m .tally .every) (tableOf b) s ps)
+  unfolding playOf playing.run playing.stopped recordsFrom
   plays [] i small m s rel reach wide = record {
     stop = refl;
     picks = omega arith;
@@ -278,34 +290,49 @@ module _ (b ws rs : List ℕ) (ok : refusal b ≡ none) (loaded : Loaded b ws rs
       PlaysAs b i (m .tally .moves) (m .tally .records) (m .log)
       (onAnswer (turnBy ws rs (settingOf b) m q .answer) (playOf ws rs (settingOf b) (stayed m (turnBy ws rs (settingOf b) m q .stack)) ps (i + 1))
       (λ v. playOf ws rs (settingOf b) (after m q v (turnBy ws rs (settingOf b) m q .stack)) ps (i + 1)) (λ e x. stopped (settingOf b) m q x e i))
-      (playing.resume s (λ s. playing.run (tableOf b) s ps) (playing.step (tableOf b) s p)))
+      (playing.resume s (λ s. playing.run (tableOf b) s ps) (playing.step (tableOf b) s p))
+      (recordsBy (m .tally .every) s (λ s. recordsFrom (m .tally .every) (tableOf b) s ps) p (playing.step (tableOf b) s p)))
       (sym (mod-eq-of-lt {m = 8} (omega arith)))
       (pick-plays m s rel reach p (omega arith) ps i wide (λ m s rel reach wide. plays ps (i + 1) (λ j h. small (suc j) (omega arith)) m s rel reach wide))
 
   -- ---- from the start
 
   module _ (ps area : List ℕ) (small : Small ps) (wide : 3 * length ps ≤ length area) where
-    from-start : PlaysAs b 0 0 0 area (playOf ws rs (settingOf b) (startOf rs area) ps 0) (playing.runOf b ps)
+    from-start : (every : Bool) → PlaysAs b 0 0 0 area (playOf ws rs (settingOf b) (startOf every rs area) ps 0) (playing.runOf b ps) (recordsFrom every (tableOf b) playing.start ps)
     unfolding startOf playing.runOf
-    from-start = plays ps 0 small (startOf rs area) playing.start (start-related b ws rs ok loaded area) (start-reached b ok) (let e = zero-add (length ps) in omega arith)
+    from-start every = plays ps 0 small (startOf every rs area) playing.start (start-related b ws rs ok loaded every area) (start-reached b ok) (let e = zero-add (length ps) in omega arith)
 
     overlay-start : (bs : List ℕ) → overlay area (3 * 0) bs ≡ overwrite bs area
     unfolding overlay overwrite
     overlay-start bs = ap (λ (k : ℕ). bs ++ drop k area) (zero-add (length bs))
 
+    -- with records for every move or for those that have one: its stop, and the records
+    pub plays-recorded : (every : Bool) → (stopMeant (playOf ws rs (settingOf b) (startOf every rs area) ps 0 .outcome .stop) ≡ playing.runOf b ps .stop)
+        × (playOf ws rs (settingOf b) (startOf every rs area) ps 0 .outcome .records ≡ length (recordsFrom every (tableOf b) playing.start ps))
+        × (playOf ws rs (settingOf b) (startOf every rs area) ps 0 .area ≡ overwrite (bytesOf (recordsFrom every (tableOf b) playing.start ps)) area)
+    plays-recorded every =
+        let r = from-start every in
+        let L = recordsFrom every (tableOf b) playing.start ps in
+        (r .stop, r .records ∙ zero-add (length L), r .area ∙ overlay-start (bytesOf L))
+
+    its-log : recordsFrom false (tableOf b) playing.start ps ≡ playing.runOf b ps .log
+    unfolding playing.runOf
+    its-log = records-log (tableOf b) ps playing.start
+
     -- THE CODE'S PLAY IS THE ABSTRACT MACHINE'S RUN
-    plays-machine : (outcomeMeant (playOf ws rs (settingOf b) (startOf rs area) ps 0 .outcome) ≡ playing.outcomeOf (tableOf b) (playing.runOf b ps))
-        × (playOf ws rs (settingOf b) (startOf rs area) ps 0 .area ≡ overwrite (bytesOf (playing.runOf b ps .log)) area)
+    plays-machine : (outcomeMeant (playOf ws rs (settingOf b) (startOf false rs area) ps 0 .outcome) ≡ playing.outcomeOf (tableOf b) (playing.runOf b ps))
+        × (playOf ws rs (settingOf b) (startOf false rs area) ps 0 .area ≡ overwrite (bytesOf (playing.runOf b ps .log)) area)
     unfolding playing.outcomeOf
     plays-machine =
-        let r = from-start in
+        let r = from-start false in
+        let x = plays-recorded false in
         let R = playing.runOf b ps in (
-          outcome-same (r .stop) (r .picks ∙ zero-add (R .picks)) (r .moves ∙ zero-add (length (R .instances))) (r .records ∙ zero-add (length (R .log))) (r .threads) (r .totals),
-          r .area ∙ overlay-start (bytesOf (R .log)),
+          outcome-same (r .stop) (r .picks ∙ zero-add (R .picks)) (r .moves ∙ zero-add (length (R .instances))) (x .1 ∙ ap length its-log) (r .threads) (r .totals),
+          x .2 ∙ ap (λ (L : List Record). overwrite (bytesOf L) area) its-log,
         )
 
     -- AND SO THE DEFINED ONE
-    pub plays-defined : (outcomeMeant (playOf ws rs (settingOf b) (startOf rs area) ps 0 .outcome) ≡ outcomeOf (programOf b) (play (programOf b) ps))
-        × (playOf ws rs (settingOf b) (startOf rs area) ps 0 .area ≡ overwrite (bytesOf (play (programOf b) ps .log)) area)
+    pub plays-defined : (outcomeMeant (playOf ws rs (settingOf b) (startOf false rs area) ps 0 .outcome) ≡ outcomeOf (programOf b) (play (programOf b) ps))
+        × (playOf ws rs (settingOf b) (startOf false rs area) ps 0 .area ≡ overwrite (bytesOf (play (programOf b) ps .log)) area)
     plays-defined =
         (plays-machine .0 ∙ sym (plays-outcome b ok ps), plays-machine .1 ∙ ap (λ (L : List Record). overwrite (bytesOf L) area) (sym (plays-log b ok ps)))

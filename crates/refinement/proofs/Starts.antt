@@ -3,6 +3,7 @@ use Prim.Native.Nat.{ℕ, zero, suc, _*_, _<_}
 use native.Mathlib.Omega.{arith}
 use native.Mathlib.Decide.{decLt}
 use mathlib.Core.Path.{_≡_, refl, sym, ap, ap₂, _∙_, subst as along}
+use mathlib.Core.Bool.{Bool}
 use mathlib.Core.List.{List, [], _∷_}
 use mathlib.Core.Option.{some, none, Option·none-ne-some}
 use lib.ListN.{length, getD, set, getElem?, replicate, length-replicate, getD-replicate, List·getD-eq-default}
@@ -99,13 +100,13 @@ module _ (b ws rs : List ℕ) (ok : refusal b ≡ none) (loaded : Loaded b ws rs
       (record { self = 0; code = frames.Found.here [] (frames.Ready.call 0 0 noSlots); keys = singleton 0; learnt = 0; place = awake })
   start-headed k = record { stack = []; held = tt; depth = refl; shallow = omega arith; stands = start-stands; object = refl; keys = keys-zero; keys-fit = fits-zero; learnt = refl }
 
-  start-each : (area : List ℕ) (p : ℕ) (t : machine.Thread) → getElem? (playing.start .threads) p ≡ some t
-      → Headed b (startOf rs area .stack) (p * 33) (headAt (startOf rs area .heads) p) t
+  start-each : (every : Bool) (area : List ℕ) (p : ℕ) (t : machine.Thread) → getElem? (playing.start .threads) p ≡ some t
+      → Headed b (startOf every rs area .stack) (p * 33) (headAt (startOf every rs area .heads) p) t
   unfolding startOf playing.start
-  start-each area zero t h =
+  start-each every area zero t h =
       let e : record { self = 0; code = frames.Found.here [] (frames.Ready.call 0 0 noSlots); keys = singleton 0; learnt = 0; place = awake } ≡ t = cc in
-      along (λ (t : machine.Thread). Headed b (startOf rs area .stack) (0 * 33) (headAt (startOf rs area .heads) 0) t) e (start-headed (startOf rs area .stack))
-  start-each area (suc p) t h = absurd (Option·none-ne-some t h)
+      along (λ (t : machine.Thread). Headed b (startOf every rs area .stack) (0 * 33) (headAt (startOf every rs area .heads) 0) t) e (start-headed (startOf every rs area .stack))
+  start-each every area (suc p) t h = absurd (Option·none-ne-some t h)
 
   -- every thread is awake
   start-places : Places (replicate 8 0) (placesOf (playing.start .threads))
@@ -123,15 +124,15 @@ module _ (b ws rs : List ℕ) (ok : refusal b ≡ none) (loaded : Loaded b ws rs
       at zero = refl
       at (suc i) = refl
 
-  pub start-related : (area : List ℕ) → Related b (startOf rs area) playing.start
+  pub start-related : (every : Bool) (area : List ℕ) → Related b (startOf every rs area) playing.start
   unfolding startOf
-  start-related area = record {
+  start-related every area = record {
     heads-size = refl;
     sized = length-replicate {A = ℕ} 891 0;
     kept =
         start-kept (settingOf b) (replicate 1024 cellFirst) (replicate 33 noThing) (length-replicate 1024 cellFirst)
         (λ i h. getD-replicate 1024 i cellFirst noCell h) (length-replicate 33 noThing) refl;
-    each = start-each area;
+    each = start-each every area;
     places-size = length-replicate {A = ℕ} 8 0;
     places = start-places;
   }

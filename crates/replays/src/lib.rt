@@ -78,7 +78,7 @@ fn replay(plan: &[u8], words: &[usize; 1024], picks: &[u8]) -> Outcome
     ensures { λ r. ⌜ OutcomeOf (now (plan .entry)) (now (picks .entry)) r ⌝ }
 {
     let mut log = [0u8; 192];
-    let ran = player::run(plan, words, picks, &mut log);
+    let ran = player::run(plan, words, false, picks, &mut log);
     ran.outcome
 }
 

@@ -168,7 +168,7 @@ tidy-move g s I z p (EVAL K {t} {e} {e′} {R} {r} {s′} ht he c) l =
     (roomy-become s′ p (plug K e′) (fits g s I z p t ht K c b), tidy g s I z p t ht K c he b)
 tidy-move g s I z p (EVALᶜ K {t} ht he k) l = (roomy-become s p _ z, tt)
 
-tidy-lacking : (g : Program) (s : State) → Inv g s → Roomy s → (p : ℕ) {r : Record} → Lacks g s p r → Tidy r
+pub tidy-lacking : (g : Program) (s : State) → Inv g s → Roomy s → (p : ℕ) {r : Record} → Lacks g s p r → Tidy r
 tidy-lacking g s I z p (LACKS K {t} ht he w) = tidy-lacks g s I z p t ht K w he
 
 tidy-logged : (r : Option Record) (L : List Record) → TidyOr r → AllTidy L → AllTidy (logged r L)

@@ -5,4 +5,5 @@ pub mod Outcomes
 pub mod Played
 pub mod Previewed
 pub mod Interleavings
+pub mod Witnessed
 pub mod Tools

@@ -3,7 +3,7 @@
 ghost use mathlib.Core.Path.{_≡_};
 ghost use Rattle.packed.specs.Check.{refusal};
 ghost use Rattle.rules.specs.Play.{played, areaAfter};
-ghost use Rattle.numbers.specs.Numbers.{checkNumber, playNumber, answerNumber, JudgeReturns, FirstReturns, NextReturns};
+ghost use Rattle.numbers.specs.Numbers.{checkNumber, playNumber, answerNumber, JudgeReturns, WitnessReturns, FirstReturns, NextReturns};
 ghost use mathlib.Core.Bool.{not};
 ghost use lib.Dec.{eqb};
 ghost use Rattle.preview.specs.Preview.{previewed};
@@ -91,6 +91,16 @@ pub extern "C" fn ruqzhemil_comtrade(log: &[u8], area: &mut [u8]) -> u64
     ensures area { λ r. ⌜ now (area .exit) ≡ comtradeArea (now (log .entry)) (now (area .entry)) ⌝ }
 {
     let answered = waveform::comtrade(log, area);
+    numbers::of_answer(answered)
+}
+
+// From a run that stopped for a missing key, the length of the schedule after which the two accesses stand side by side, which begins the area; the area's
+// other bytes, and all of them after a refusal, are as they were.
+#[no_mangle]
+pub extern "C" fn ruqzhemil_witness(plan: &[u8], schedule: &[u8], area: &mut [u8]) -> u64
+    ensures { λ r. ⌜ WitnessReturns (now (plan .entry)) (now (schedule .entry)) (now (area .entry)) r (now (area .exit)) ⌝ }
+{
+    let answered = witness::witness(plan, schedule, area);
     numbers::of_answer(answered)
 }
 

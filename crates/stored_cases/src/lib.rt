@@ -8,7 +8,8 @@
 // schedule, two bytes each; the option and what charge returns, eight each; then plan and schedule. A case of a preview: the same with the pick and what
 // preview returns, and the eight bytes of the preview before the plan. A case of a plan: the lengths of plan and area, two bytes each; what canonical
 // returns, eight; then the plan and the written plan, empty where it is refused. A case of a bound: what bound returns, eight bytes; then the plan. A case
-// of an interleaving: the lengths of plan, schedule and area, two bytes each; a byte, 0 for first_interleaving; n and what is returned, eight bytes each;
+// of a witness: the lengths of plan, schedule and area, two bytes each; what witness returns, eight; then plan, schedule and the written schedule, empty where
+// it is refused. A case of an interleaving: the lengths of plan, schedule and area, two bytes each; a byte, 0 for first_interleaving; n and what is returned, eight bytes each;
 // then plan, schedule and the written schedule, empty where there is none. A case that ends before the parts that its lengths name is wrong.
 ghost use Prim.Native.Nat.{_+_, _≤_};
 ghost use lib.ListN.{length};
@@ -335,4 +336,32 @@ pub fn interleaving_case(case: &[u8]) -> bool {
         size,
     );
     (got == number_at(case, 15)) & begins(&area, &case[last..])
+}
+
+// A witness in an area of that size, or in the whole area.
+fn witness_in(plan: &[u8], schedule: &[u8], area: &mut [u8], size: usize) -> u64 {
+    if size < area.len() {
+        ruqzhemil::ruqzhemil_witness(plan, schedule, &mut area[..size])
+    } else {
+        ruqzhemil::ruqzhemil_witness(plan, schedule, area)
+    }
+}
+
+// What witness returns for a plan and a schedule, and the whole area.
+pub fn witness_case(case: &[u8]) -> bool {
+    if case.len() < 14 {
+        return false;
+    }
+    let end = 14 + byte_numbers::half(case, 0);
+    let last = end + byte_numbers::half(case, 2);
+    let size = byte_numbers::half(case, 4);
+    if case.len() < last {
+        return false;
+    }
+    if 16384 < size {
+        return false;
+    }
+    let mut area = [FILL; 16384];
+    let got = witness_in(&case[14..end], &case[end..last], &mut area, size);
+    (got == number_at(case, 6)) & begins(&area, &case[last..])
 }

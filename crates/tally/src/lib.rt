@@ -1,22 +1,24 @@
-// What a run counts and records: threads, objects and keys; moves; records, three bytes each in the log.
+// What a run counts and records: threads, objects and keys; moves; records, three bytes each in the log, for the moves that have one or for every move.
 ghost use mathlib.Core.Path.{_≡_};
 ghost use Prim.Native.Nat.{_≤_, _+_, _*_};
 ghost use lib.ListN.{length};
-ghost use Rattle.tally.specs.Tally.{tallyFirst, tallyPut, tallyMoved, logPut};
+ghost use Rattle.tally.specs.Tally.{shownEntry, tallyFirst, tallyPut, tallyMoved, logPut};
 use records::kind;
 use state::Counts;
 use state::Entry;
+use state::acted;
 
-// What a run has counted.
+// What a run has counted, and whether every move is to have a record.
 pub struct Tally {
     pub counts: Counts,
     pub moves: usize,
     pub records: usize,
+    pub every: bool,
 }
 
 // One thread, one object, one key.
-pub fn first() -> Tally
-    ensures { λ r. ⌜ r ≡ tallyFirst ⌝ }
+pub fn first(every: bool) -> Tally
+    ensures { λ r. ⌜ r ≡ tallyFirst every ⌝ }
 {
     let one = Counts {
         threads: 1,
@@ -27,6 +29,7 @@ pub fn first() -> Tally
         counts: one,
         moves: 0,
         records: 0,
+        every: every,
     }
 }
 
@@ -52,7 +55,29 @@ pub fn put(log: &mut [u8], tally: Tally, thread: usize, entry: Entry) -> Tally
         counts: counts,
         moves: tally.moves,
         records: tally.records + 1,
+        every: tally.every,
     }
+}
+
+// A move's record; where every move is to have one, that of a move without is a `new` record of object 0.
+fn shown(every: bool, entry: Entry) -> Entry
+    ensures { λ r. ⌜ r ≡ shownEntry every entry ⌝ }
+{
+    if every {
+        if entry.kind == kind::NONE {
+            return acted::entry(kind::NEW, 0, 0, 0);
+        }
+    }
+    entry
+}
+
+// Writes the record of a move of the thread and counts it, unless it has none.
+pub fn put_move(log: &mut [u8], tally: Tally, thread: usize, entry: Entry) -> Tally
+    requires { ⌜ (tally .records * 3 + 3 ≤ length (now log)) × (tally .records ≤ 4096) ⌝ }
+    ensures { λ r. ⌜ (r ≡ tallyPut tally (shownEntry (tally .every) entry)) × (r .records ≤ tally .records + 1) ⌝ }
+    ensures { λ r. ⌜ now (log .exit) ≡ logPut (now (log .entry)) (tally .records) thread (shownEntry (tally .every) entry) ⌝ }
+{
+    put(log, tally, thread, shown(tally.every, entry))
 }
 
 // The counts after a move.
@@ -64,5 +89,6 @@ pub fn moved(tally: Tally, counts: Counts) -> Tally
         counts: counts,
         moves: tally.moves + 1,
         records: tally.records,
+        every: tally.every,
     }
 }

@@ -13,6 +13,7 @@ pub enum Group {
     Preview,
     Plan,
     Bound,
+    Witness,
     Interleaving,
 }
 
@@ -41,6 +42,7 @@ fn right(group: Group, case: &[u8]) -> bool {
         Group::Preview => stored_cases::preview_case(case),
         Group::Plan => stored_cases::plan_case(case),
         Group::Bound => stored_cases::bound_case(case),
+        Group::Witness => stored_cases::witness_case(case),
         Group::Interleaving => stored_cases::interleaving_case(case),
     }
 }

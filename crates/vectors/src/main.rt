@@ -80,6 +80,7 @@ fn tools(all: Tally) -> Tally {
     let all = group(b"previews: ", b"previews", Group::Preview, all);
     let all = group(b"plans, written: ", b"plans", Group::Plan, all);
     let all = group(b"bounds: ", b"bounds", Group::Bound, all);
+    let all = group(b"witnesses: ", b"witnesses", Group::Witness, all);
     group(
         b"interleavings: ",
         b"interleavings",
@@ -117,6 +118,12 @@ fn changed() -> Tally {
         all,
     );
     let all = group(b"changed bounds: ", b"changed_bounds", Group::Bound, all);
+    let all = group(
+        b"changed witnesses: ",
+        b"changed_witnesses",
+        Group::Witness,
+        all,
+    );
     group(
         b"changed interleavings: ",
         b"changed_interleavings",

@@ -47,6 +47,19 @@ fn preview(schedule: &[u8], pick: u64) {
     }
 }
 
+/// The two accesses of a race side by side: a schedule after which both threads stand at them, and what each would do next.
+fn witness(schedule: &[u8]) {
+    let mut area = vec![0; schedule.len()];
+    let text = |picks: &[u8]| picks.iter().map(|pick| format!(" {pick}")).collect::<String>();
+    match ruqzhemil::witness(&PLAN, schedule, &mut area) {
+        Ok(length) => {
+            println!("witness of picks{}: picks{}: both stand at their accesses", text(schedule), text(&area[..length]));
+            (0..2).for_each(|thread| preview(&area[..length], thread));
+        }
+        Err(refusal) => println!("witness of picks{}: {refusal}", text(schedule)),
+    }
+}
+
 /// while true do null
 const ENDLESS: [u8; 25] = [
     0x10, 0x40, 0x0c, 0x00, 0x80, 0x00, 0x00, 0x00, 0x00, 0x00, 0x38, 0x02, 0x01, 0x00, 0x00, 0x60, 0x00, 0x00, 0x00, 0x00, 0x00, 0x00, 0x00, 0x00, 0x00,
@@ -120,6 +133,8 @@ fn main() {
     for (schedule, pick) in [(&[][..], 0), (&[0; 5], 1), (&[0, 0, 0, 0, 0, 1], 1), (&[0, 0, 0, 0, 0, 1], 0), (&[0, 0, 0, 0, 0, 1, 0], 1), (&[0, 0, 0, 0, 0, 1], 8)] {
         preview(schedule, pick);
     }
+    witness(&[0, 0, 0, 0, 0, 1, 0]);
+    witness(&[0, 0, 0, 0, 0, 0, 1]);
     canonical(TURNED.len());
     canonical(TURNED.len() - 1);
     bound("P", &PLAN);

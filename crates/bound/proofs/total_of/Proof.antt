@@ -36,8 +36,8 @@ returns c =
 all-known : (c : tie.Else1) → (p : ℕ) → p < c .before .before .before .before .before .before .before .args .procedures → holds (c .before .before .settle .result) p ≡ true
 all-known c p h = not-false (holds (c .before .before .settle .result) p) (c .before .lowest-left .ensures .before p (let e = c .if1 .left in omega arith))
 
-has-while-requires : tie.Need-has-while-requires
-has-while-requires c κs =
+occurs-requires : tie.Need-occurs-requires
+occurs-requires c κs =
     let s = c .before .before .before .before .before .before .before in
     let t = s .pre .1 in
     let a = accepted (s .args .plan .now) (s .pre .0 .passes) .few-terms in
@@ -49,7 +49,7 @@ returns-2 c =
     let e = h .before in
     let s = e .before .before .before .before .before .before .before in
     answer-22 (s .pre .0) (all-acyclic (s .pre .0) (e .before .before .settle .ensures .0) (all-known e))
-    (sym (while-in (s .pre .0) (s .args .count) (s .pre .1)) ∙ sym (h .has-while .ensures) ∙ c .if2 .taken)
+    (sym (while-in (s .pre .0) (s .args .count) (s .pre .1)) ∙ sym (h .occurs .ensures) ∙ c .if2 .taken)
 
 array-read-total : tie.Need-array-read-total
 array-read-total c = search needs
@@ -67,7 +67,7 @@ returns-3 c =
     let e = h .before in
     let s = e .before .before .before .before .before .before .before in
     let S = e .before .before .settle .ensures .0 in
-    answer-23 (s .pre .0) (all-acyclic (s .pre .0) S (all-known e)) (sym (while-in (s .pre .0) (s .args .count) (s .pre .1)) ∙ sym (h .has-while .ensures) ∙ n .if2 .left)
+    answer-23 (s .pre .0) (all-acyclic (s .pre .0) S (all-known e)) (sym (while-in (s .pre .0) (s .args .count) (s .pre .1)) ∙ sym (h .occurs .ensures) ∙ n .if2 .left)
     _ (total-in (s .pre .0) S (all-known e) _ refl) (c .if3 .taken)
 
 returns-4 : tie.Need-returns-4
@@ -77,7 +77,7 @@ returns-4 c =
     let e = h .before in
     let s = e .before .before .before .before .before .before .before in
     let S = e .before .before .settle .ensures .0 in
-    answer-moves (s .pre .0) (all-acyclic (s .pre .0) S (all-known e)) (sym (while-in (s .pre .0) (s .args .count) (s .pre .1)) ∙ sym (h .has-while .ensures) ∙ n .if2 .left)
+    answer-moves (s .pre .0) (all-acyclic (s .pre .0) S (all-known e)) (sym (while-in (s .pre .0) (s .args .count) (s .pre .1)) ∙ sym (h .occurs .ensures) ∙ n .if2 .left)
     _ (total-in (s .pre .0) S (all-known e) _ refl) (c .if3 .left)
 
 pub total-of-spec : {M : Type 1} → statement M
@@ -88,7 +88,7 @@ total-of-spec =
     settle-requires
     lowest-left-requires
     returns
-    has-while-requires
+    occurs-requires
     returns-2
     array-read-total
     add-total

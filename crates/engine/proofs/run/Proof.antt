@@ -1,5 +1,6 @@
 -- `run` meets its contract. The first loop's invariant: the rest of the run from here is the whole run; the second's: what is left to see makes up all that is seen. Assumes nothing.
 use mathlib.Core.Path.{_≡_, refl, sym, ap, _∙_}
+use mathlib.Core.Bool.{Bool}
 use mathlib.Core.List.{List, [], _∷_, _++_, append-nil, append-assoc}
 use mathlib.Core.Logic.{⊎-elim}
 use Prim.Native.Nat.{ℕ, _≤_, _<_, _+_, _-_, _*_, _/_, _%_, min}
@@ -22,24 +23,24 @@ use Rattle.engine.proofs.run.Statement.{statement}
 use Rattle.engine.proofs.run.Tie as tie
 
 abbrev Inv-loop : tie.InvT-loop
-Inv-loop words roots setting picks log₀ heads₀ cells₀ objects₀ places₀ stack₀ tally₀ stop₀ dealt₀ moves-before₀ records-before₀ i₀ i-end log heads cells objects places stack tally halt dealt moves-before records-before i =
+Inv-loop words roots setting every picks log₀ heads₀ cells₀ objects₀ places₀ stack₀ tally₀ stop₀ dealt₀ moves-before₀ records-before₀ i₀ i-end log heads cells objects places stack tally halt dealt moves-before records-before i =
     (i-end ≡ length picks) × (i ≤ length picks) × (tally .moves ≤ i) × (tally .records ≤ i) × (length log ≡ length log₀)
     × ((qs : List ℕ)
     → playOf words roots setting (record { heads = heads; cells = cells; objects = objects; places = places; stack = stack; tally = tally; log = log }) qs i
-    ≡ playOf words roots setting (startOf roots log₀) (take i picks ++ qs) 0)
+    ≡ playOf words roots setting (startOf every roots log₀) (take i picks ++ qs) 0)
     × (halt ≡ stop.End) × (dealt ≡ length picks) × (length places ≡ 8)
-    × (moves-before ≡ playOf words roots setting (startOf roots log₀) (take (i - 1) picks) 0 .outcome .moves)
-    × (records-before ≡ playOf words roots setting (startOf roots log₀) (take (i - 1) picks) 0 .outcome .records)
+    × (moves-before ≡ playOf words roots setting (startOf every roots log₀) (take (i - 1) picks) 0 .outcome .moves)
+    × (records-before ≡ playOf words roots setting (startOf every roots log₀) (take (i - 1) picks) 0 .outcome .records)
 
 abbrev μ-loop : tie.MeasureT-loop
-μ-loop words roots setting picks log₀ heads₀ cells₀ objects₀ places₀ stack₀ tally₀ stop₀ dealt₀ moves-before₀ records-before₀ i₀ i-end log heads cells objects places stack tally halt dealt moves-before records-before i = length picks - i
+μ-loop words roots setting every picks log₀ heads₀ cells₀ objects₀ places₀ stack₀ tally₀ stop₀ dealt₀ moves-before₀ records-before₀ i₀ i-end log heads cells objects places stack tally halt dealt moves-before records-before i = length picks - i
 
 abbrev Inv-loop2 : tie.InvT-loop2
-Inv-loop2 words roots setting picks log heads cells objects places tally halt dealt moves-before records-before counts threads₀ thread₀ threads thread =
+Inv-loop2 words roots setting every picks log heads cells objects places tally halt dealt moves-before records-before counts threads₀ thread₀ threads thread =
     (thread ≤ 8) × (turns (putThread counts heads cells objects places setting) (8 - thread) thread threads ≡ threadsOf setting counts heads cells objects places)
 
 abbrev μ-loop2 : tie.MeasureT-loop2
-μ-loop2 words roots setting picks log heads cells objects places tally halt dealt moves-before records-before counts threads₀ thread₀ threads thread = 8 - thread
+μ-loop2 words roots setting every picks log heads cells objects places tally halt dealt moves-before records-before counts threads₀ thread₀ threads thread = 8 - thread
 
 -- ---- where a turn begins: the plan, the picks, the machine
 
@@ -57,6 +58,9 @@ roots l = start l .args .roots .now
 
 abbrev setting : Turn → Setting
 setting l = start l .args .setting
+
+abbrev every : Turn → Bool
+every l = start l .args .every
 
 abbrev list : Turn → List ℕ
 list l = start l .args .picks .now
@@ -81,7 +85,7 @@ machine l =
 
 -- the run of these picks from the start
 abbrev played : Turn → List ℕ → Played
-played l ps = playOf (words l) (roots l) (setting l) (startOf (roots l) (start l .args .log .now)) ps 0
+played l ps = playOf (words l) (roots l) (setting l) (startOf (every l) (roots l) (start l .args .log .now)) ps 0
 
 abbrev whole : Turn → Played
 whole l = played l (list l)
@@ -124,7 +128,7 @@ loop-holds c =
       rw (c .first .ensures) (omega arith),
       rw (c .first .ensures) (omega arith),
       refl,
-      λ qs. begins (a .words .now) (a .roots .now) (a .setting) qs (a .log .now) _ _ _ _ (c .before .before .before .first-head .ensures) (c .before .before .first-cell .ensures) (c .before .first-object .ensures) (c .first .ensures),
+      λ qs. begins (a .words .now) (a .roots .now) (a .setting) (a .every) qs (a .log .now) _ _ _ _ (c .before .before .before .first-head .ensures) (c .before .before .first-cell .ensures) (c .before .first-object .ensures) (c .first .ensures),
       refl,
       refl,
       refl,
@@ -198,7 +202,7 @@ after-requires c κs = (turn (c .before .before .before .before .before) .loop .
 moved-requires : tie.Need-moved-requires Inv-loop μ-loop Inv-loop2 μ-loop2
 moved-requires c κs =
     let x = c .before .before .before .before .before .before .before .before .before .before .before .before .before .before .before .before .before .before in
-    let e : c .before .before .before .before .before .before .before .before .put2 .result .moves ≡ turn x .loop .tally .moves = ap (λ (s : Tally). s .moves) (c .before .before .before .before .before .before .before .before .put2 .ensures .0 .0) in
+    let e : c .before .before .before .before .before .before .before .before .put-move .result .moves ≡ turn x .loop .tally .moves = ap (λ (s : Tally). s .moves) (c .before .before .before .before .before .before .before .before .put-move .ensures .0 .0) in
     omega (arith, e, turn x .loop .inv .2, few x)
 
 loop-again-3 : tie.Need-loop-again-3 Inv-loop μ-loop Inv-loop2 μ-loop2
@@ -207,7 +211,7 @@ loop-again-3 c =
     let l = turn x in
     let v = l .loop .inv in
     let t = begun x in
-    let put = c .before .before .before .before .before .before .before .before .before .put2 in
+    let put = c .before .before .before .before .before .before .before .before .before .put-move in
     let queue = c .before .before .before .before .before .before .before .before .before .before .before .before .before .after in
     let j = c .before .before .before .before .before .before .if2 in
     let before : put .result .moves ≡ l .loop .tally .moves = ap (λ (s : Tally). s .moves) (put .ensures .0 .0) in

@@ -42,7 +42,8 @@ returns c =
     let m = c .before .before .before .before .before .before .volatiles .ensures in
     let v = c .before .before .before .before .before .version .ensures in
     let e = c .before .before .run in
-    run-on (a .plan .now) (a .words .now) (all .result) (a .picks .now) (a .log .now) (start .pre) r _ _ m v (e .result) _ (e .ensures .0) (e .ensures .1 .0) (e .ensures .1 .1)
+    run-on (a .plan .now) (a .words .now) (all .result) (a .picks .now) (a .log .now) (start .pre) r (e .result) _ (a .every) _ _ m v
+    (record { outcome = e .ensures .0; area-left = e .ensures .1 .0; before = e .ensures .1 .1 })
 
 pub run-spec : {M : Type 1} → statement M
 run-spec = tie.close (tie.spec procedures-requires roots-requires volatiles-requires version-requires run-requires same-length returns)

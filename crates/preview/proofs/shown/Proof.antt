@@ -51,23 +51,23 @@ module _ (c : tie.After-run) where
   abbrev start : tie.Start
   start = c .before .before .before .before .before .before .before .before .before
 
-  ran : RunOn (start .args .plan .now) (withPick (start .args .schedule .now) (start .args .pick)) innerLog (c .run .last .1 .1 .1 .0) (c .run .result)
+  ran : RunOn (start .args .plan .now) (withPick (start .args .schedule .now) (start .args .pick)) innerLog (c .run .last .1 .1 .1 .1 .0) (c .run .result)
   unfolding innerLog
   ran =
-      along (λ (ps : List ℕ). RunOn (start .args .plan .now) ps innerLog (c .run .last .1 .1 .1 .0) (c .run .result)) (written (c .before .before .before .before .before .add-pick .ensures))
+      along (λ (ps : List ℕ). RunOn (start .args .plan .now) ps innerLog (c .run .last .1 .1 .1 .1 .0) (c .run .result)) (written (c .before .before .before .before .before .add-pick .ensures))
       (c .run .ensures)
 
 last-pick-requires : tie.Need-last-pick-requires
 last-pick-requires c κs =
     let x = c .before .before in
     let a = start x .args in
-    last-given (a .plan .now) (a .schedule .now) (a .pick) (a .words .now) innerLog (start x .pre) (x .run .result) (x .run .last .1 .1 .1 .0) (ran x)
+    last-given (a .plan .now) (a .schedule .now) (a .pick) (a .words .now) innerLog (start x .pre) (x .run .result) (x .run .last .1 .1 .1 .1 .0) (ran x)
 
 returns : tie.Need-returns
 returns c =
     let x = c .before .before .before in
     let a = start x .args in
-    let f = shown-found (a .plan .now) (a .schedule .now) (a .pick) (a .words .now) innerLog (start x .pre) (x .run .result) (x .run .last .1 .1 .1 .0) (ran x) in
+    let f = shown-found (a .plan .now) (a .schedule .now) (a .pick) (a .words .now) innerLog (start x .pre) (x .run .result) (x .run .last .1 .1 .1 .1 .0) (ran x) in
     record { answer = ap answered (c .last-pick .ensures) ∙ f .answer; logged = along AsLogged (sym (c .last-pick .ensures)) (f .as-logged) }
 
 pub shown-spec : {M : Type 1} → statement M

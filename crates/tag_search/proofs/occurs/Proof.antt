@@ -1,4 +1,4 @@
--- `has_while`: by the tags, one after the other.
+-- `occurs`: by the tags, one after the other.
 use mathlib.Core.Path.{_≡_, sym, ap, _∙_}
 use mathlib.Core.Bool.{true, false}
 use Prim.Native.Nat.{ℕ, _-_, _≤_, _<_}
@@ -10,14 +10,14 @@ use borrow.Author.Tests.{eq-eqb, ne-eqb}
 use Rattle.packed.specs.Refusals.{anyBelow}
 use Rattle.packed.specs.Steps.{tagIn}
 use Rattle.costs.proofs.Below.{any-true, none-any}
-use Rattle.bound.proofs.has_while.Statement.{statement}
-use Rattle.bound.proofs.has_while.Tie as tie
+use Rattle.tag_search.proofs.occurs.Statement.{statement}
+use Rattle.tag_search.proofs.occurs.Tie as tie
 
 abbrev Inv-loop : tie.InvT-loop
-Inv-loop words count term₀ term = (term ≤ count) × ((k : ℕ) → k < term → eqb (tagIn words k) 7 ≡ false)
+Inv-loop words count tag term₀ term = (term ≤ count) × ((k : ℕ) → k < term → eqb (tagIn words k) tag ≡ false)
 
 abbrev μ-loop : tie.MeasureT-loop
-μ-loop words count term₀ term = count - term
+μ-loop words count tag term₀ term = count - term
 
 loop-holds : tie.Need-loop-holds Inv-loop μ-loop
 loop-holds c = (search needs, λ k h. absurd (omega arith))
@@ -36,7 +36,7 @@ unfolding tagIn
 returns c =
     let t = c .before in
     let l = t .before .before .before .loop in
-    sym (any-true _ _ (l .term) (search needs) (eq-eqb _ 7 (sym (t .tag .ensures) ∙ c .if1 .taken)))
+    sym (any-true _ _ (l .term) (search needs) (eq-eqb _ _ (sym (t .tag .ensures) ∙ c .if1 .taken)))
 
 add-term : tie.Need-add-term Inv-loop μ-loop
 add-term c = search needs
@@ -49,13 +49,13 @@ unfolding tagIn
 loop-again c =
     let t = c .before in
     let l = t .before .before .before .loop in
-    (search needs, below-more _ _ (l .inv .1) (ne-eqb _ 7 (λ e. c .if1 .left (t .tag .ensures ∙ e))))
+    (search needs, below-more _ _ (l .inv .1) (ne-eqb _ _ (λ e. c .if1 .left (t .tag .ensures ∙ e))))
 
 returns-2 : tie.Need-returns-2 Inv-loop μ-loop
 returns-2 c = let l = c .before .loop in sym (none-any _ _ (λ k h. l .inv .1 k (omega arith)))
 
-pub has-while-spec : {M : Type 1} → statement M
-has-while-spec =
+pub occurs-spec : {M : Type 1} → statement M
+occurs-spec =
     tie.close
     (tie.spec
     Inv-loop

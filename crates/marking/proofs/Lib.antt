@@ -1,0 +1,3 @@
+pub mod PortRows
+pub mod PortTests
+pub mod Pass

@@ -1,0 +1,30 @@
+-- `left_out` meets its contract. Assumes nothing.
+use native.Mathlib.Omega.{arith}
+use mathlib.Core.Path.{_≡_, refl, ap, ap₂, _∙_}
+use mathlib.Core.Bool.{_||_}
+use lib.Dec.{eqb}
+use Prim.Native.Nat.{ℕ}
+use borrow.Author.Needs.{needs}
+use Rattle.play_refusals.proofs.Passed.{inside}
+use Rattle.tag_search.proofs.Tags.{tag-in}
+use Rattle.side_by_side.specs.LeftOut.{hasWait, leftOut}
+use Rattle.witness.proofs.left_out.Statement.{statement}
+use Rattle.witness.proofs.left_out.Tie as tie
+
+terms-requires : tie.Need-terms-requires
+terms-requires c κs = let w = inside _ (c .before .pre .passes) in omega (arith, w .long)
+
+version-requires : tie.Need-version-requires
+version-requires c κs = let w = inside _ (c .before .before .pre .passes) in omega (arith, w .long)
+
+occurs-requires : tie.Need-occurs-requires
+occurs-requires c κs = let w = inside _ (c .before .before .before .pre .passes) in omega (arith, w .few-terms, c .before .terms .ensures)
+
+returns : tie.Need-returns
+unfolding leftOut hasWait
+returns c =
+    let s = c .before .before .before .before in
+    ap₂ _||_ (ap (λ (n : ℕ). eqb n 0) (c .before .version .ensures)) (c .occurs .ensures ∙ tag-in (s .args .plan .now) (s .args .words .now) (s .pre .loaded) _ 18 (c .before .before .terms .ensures))
+
+pub left-out-spec : {M : Type 1} → statement M
+left-out-spec = tie.close (tie.spec terms-requires version-requires occurs-requires returns)
