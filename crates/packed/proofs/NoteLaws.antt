@@ -1,5 +1,5 @@
 -- Checks 5 and 6 at once: what the notes of the terms say, name by name. Assumes nothing.
-use mathlib.Core.Path.{_≡_, refl, sym, _∙_}
+use mathlib.Core.Path.{_≡_, refl, ap, sym, _∙_}
 use mathlib.Core.Bool.{Bool, false, _&&_, _||_, not, or-false, or-assoc}
 use mathlib.Core.List.{List, [], _∷_}
 use Prim.Native.Nat.{ℕ, zero, suc, _+_, _<_}
@@ -29,6 +29,12 @@ sort-between k = go (tag-sort k)
     go (TagSort.middle a b e) = (omega arith, omega arith)
     go (TagSort.upper a b e) = (omega arith, omega arith)
     go (TagSort.last a e) = (omega arith, omega arith)
+
+-- of a term that was named before
+pub note-again : (n s : ℕ) → (n ≡ 0 → ⊥) → 4 ≡ noteOf n s
+unfolding noteOf
+note-again zero s h = absurd (h refl)
+note-again (suc n) s h = refl
 
 noted-ext : (b : List ℕ) (f g : ℕ → ℕ) (m w : ℕ → Bool) (c : List ℕ) → ((t : ℕ) → f t ≡ g t) → ((t : ℕ) → m t ≡ w t) → Noted b f m c → Noted b g w c
 noted-ext b f g m w c e d k = record {
@@ -124,6 +130,11 @@ note-all b (x ∷ ks) f m c z w k =
     (λ t. or-assoc (m t) (eqb (x .index) t && wrongSort (x .sort) (tagAt b t)) (strays b ks t))
     (note-all b ks (λ t. f t + oneIf (eqb (x .index) t)) (λ t. m t || (eqb (x .index) t && wrongSort (x .sort) (tagAt b t))) _ (z .1) (w .1)
     (note-one b f m c k (x .sort) (x .index) (z .0) (w .0)))
+
+-- one child named, then the others
+pub note-more : (k : Child) (ks : List Child) (c d e : List ℕ) → d ≡ noteAll (k ∷ []) c → e ≡ noteAll ks d → e ≡ noteAll (k ∷ ks) c
+unfolding noteAll
+note-more k ks c d e p q = q ∙ ap (noteAll ks) p
 
 -- ---- the procedures
 

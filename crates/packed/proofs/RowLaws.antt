@@ -26,6 +26,14 @@ sort-is =
     by-range (λ k. numberAt k 0 ≡ tagSort k) 0 tagCount ((k : ℕ) → k < tagCount → numberAt k 0 ≡ tagSort k) (λ all k h. all k (omega arith) (omega arith))
     refl refl refl refl refl refl refl refl refl refl refl refl refl refl refl refl refl refl refl refl refl
 
+-- what the operand that is no term is
+pub kind-small : (k : ℕ) → k < tagCount → numberAt k 2 < 6
+unfolding numberAt
+kind-small =
+    by-range (λ k. numberAt k 2 < 6) 0 tagCount ((k : ℕ) → k < tagCount → numberAt k 2 < 6) (λ all k h. all k (omega arith) (omega arith))
+    (lit< tt) (lit< tt) (lit< tt) (lit< tt) (lit< tt) (lit< tt) (lit< tt) (lit< tt) (lit< tt) (lit< tt) (lit< tt) (lit< tt) (lit< tt) (lit< tt) (lit< tt) (lit< tt)
+    (lit< tt) (lit< tt) (lit< tt) (lit< tt) (lit< tt)
+
 -- the children of a term
 module _ (w : ℕ) where
   abbrev Named : ℕ → Type 0
