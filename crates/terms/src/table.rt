@@ -16,9 +16,9 @@ ghost use Prim.Native.Nat.{_<_, _≤_};
 ghost use lib.Dec.{ltb, eqb};
 ghost use lib.ListN.{replicate};
 ghost use Rattle.format.specs.Lowest.{Lowest};
-ghost use Rattle.packed.specs.Format.{mask};
+ghost use Rattle.packed.specs.Format.{mask, tagCount};
 ghost use Rattle.packed.specs.Refusals.{wrongOperand, breaksTable, wrongTerm};
-ghost use Rattle.packed.specs.Rows.{tagCount, layoutRows, bitsTo, wrongOther, wrongTerms, childrenByRow};
+ghost use Rattle.packed.specs.Rows.{layoutRows, bitsTo, wrongOther, wrongTerms, childrenByRow};
 ghost use Rattle.packed.specs.Steps.{Headed, Loaded, outside, termIn, childOf, childrenOf, noteAll, RootsNoted, TermsNoted};
 ghost use Rattle.packed.specs.Trees.{nodeOf};
 

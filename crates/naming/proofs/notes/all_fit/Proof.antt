@@ -7,9 +7,8 @@ use native.Mathlib.Omega.{arith}
 use borrow.Author.Needs.{needs}
 use borrow.Author.Count.{below-more}
 use lib.ListN.{getD}
-use Rattle.packed.specs.Format.{tagAt}
+use Rattle.packed.specs.Format.{tagAt, tagCount}
 use Rattle.packed.specs.Refusals.{wrongCall}
-use Rattle.packed.specs.Rows.{tagCount}
 use Rattle.packed.specs.Steps.{tagIn, tagSort, Fitting}
 use Rattle.packed.proofs.SortLaws.{tags-are, no-call}
 use Rattle.packed.proofs.NoteLaws.{note-fits}

@@ -6,7 +6,8 @@ use borrow.Author.Needs.{needs}
 use lib.Dec.{eqb}
 use Rattle.packed.specs.Operands.{tagOf}
 use Rattle.packed.specs.Refusals.{breaksTable}
-use Rattle.packed.specs.Rows.{tagCount, numberAt, bitsTo, bitsAfter, wrongOther, wrongTerms, wrongByRow, childrenByRow}
+use Rattle.packed.specs.Format.{tagCount}
+use Rattle.packed.specs.Rows.{numberAt, bitsTo, bitsAfter, wrongOther, wrongTerms, wrongByRow, childrenByRow}
 use Rattle.packed.specs.Steps.{termIn, childrenOf}
 use Rattle.packed.specs.Trees.{nodeOf}
 use Rattle.packed.proofs.RowLaws.{by-row, kind-small, children-are}
