@@ -34,7 +34,7 @@ module _ (ws rs : List ℕ) (setting : Setting) where
   abbrev begun : Head → Cell → Object → Tally → List ℕ → Machine
   begun h c t s l =
       record {
-        heads = replicate 9 h;
+        heads = replicate 16 h;
         cells = replicate 1024 c;
         objects = replicate 33 t;
         places = replicate 8 0;

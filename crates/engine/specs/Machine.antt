@@ -72,7 +72,7 @@ metAt n l cs ts qs p k o =
       head = headAt l p;
       cell = getD cs k noCell;
       thing = getD ts o noThing;
-      other = getD l (getD ts o noThing .thread % 9) noHead;
+      other = getD l (getD ts o noThing .thread % 16) noHead;
       thread = p;
       place = getD qs p 0;
     }
@@ -179,7 +179,7 @@ cellFirst = cellOf 0 0 zeroSet
 unfoldable pub startOf : Bool → List ℕ → List ℕ → Machine
 startOf every rs l =
     record {
-      heads = replicate 9 (headOf (getD rs 0 0));
+      heads = replicate 16 (headOf (getD rs 0 0));
       cells = replicate 1024 cellFirst;
       objects = replicate 33 noThing;
       places = replicate 8 0;

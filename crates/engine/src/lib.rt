@@ -118,10 +118,10 @@ pub fn run(
     ensures area { λ r. ⌜ now (log .exit) ≡ playOf (now (words .entry)) (now (roots .entry)) setting (startOf every (now (roots .entry)) (now (log .entry))) (now (picks .entry)) 0 .area ⌝ }
     ensures before { λ r. ⌜ CountedBefore (now (words .entry)) (now (roots .entry)) setting (startOf every (now (roots .entry)) (now (log .entry))) (now (picks .entry)) r ⌝ }
 {
-    let mut heads = [first_head(roots[0]); 9];
+    let mut heads = [first_head(roots[0]); 16];
     let mut cells = [first_cell(); 1024];
     let mut objects = [first_object(); 33];
-    let mut places = [0usize; 8];
+    let mut places = [0u16; 8];
     let mut stack = [0usize; 891];
     let mut tally = tally::first(every);
     let mut stop = Stop::End;
@@ -140,7 +140,7 @@ pub fn run(
         let number = cell_of(head);
         let cell = cells[number];
         let thing = objects[number / 32];
-        let other = heads[thing.thread % 9];
+        let other = heads[thing.thread % 16];
         let met = Met {
             counts: counts,
             head: head,
@@ -188,7 +188,7 @@ pub fn run(
         let number = cell_of(head);
         let cell = cells[number];
         let thing = objects[number / 32];
-        let other = heads[thing.thread % 9];
+        let other = heads[thing.thread % 16];
         let met = Met {
             counts: counts,
             head: head,

@@ -126,7 +126,7 @@ fn look_signal(head: Head, cell: Cell) -> Sight
 }
 
 // A thread that waits in its place, number * 32 + object, needs to be notified, and then the monitor free.
-fn look_waiting(cell: Cell, place: usize) -> Sight
+fn look_waiting(cell: Cell, place: u16) -> Sight
     ensures { λ r. ⌜ r ≡ lookWaiting cell place ⌝ }
 {
     if place / 32 != 0 {
@@ -158,7 +158,7 @@ pub fn look(
     cell: Cell,
     thing: Object,
     other: usize,
-    place: usize,
+    place: u16,
 ) -> Sight
     ensures { λ r. ⌜ r ≡ lookOf setting head cell thing other place ⌝ }
 {
@@ -219,7 +219,7 @@ pub fn status(
     cell: Cell,
     thing: Object,
     other: usize,
-    place: usize,
+    place: u16,
 ) -> ThreadState
     ensures { λ r. ⌜ r ≡ stateOf (lookOf setting head cell thing other place) (head .ready) ⌝ }
 {

@@ -1,4 +1,5 @@
 // Checks 5 and 6: every name of a term, by a procedure or by a parent, with the sort that the table wants there.
+pub mod notes; // notes.rt: both checks at once, where a plan passes them
 mod sorts; // sorts.rt: the sort of a term, and the arguments of a call
 
 use header::layout;

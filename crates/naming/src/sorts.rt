@@ -50,6 +50,24 @@ fn list_length(
     length
 }
 
+// The term, which is a call, has a list that is not as long as the parameters.
+pub fn wrong_list(
+    plan: &[u8],
+    procedures: usize,
+    count: usize,
+    words: &[usize; 1024],
+    term: usize,
+) -> bool
+    requires { ⌜ Right (now plan) procedures count ⌝ }
+    requires { ⌜ Loaded (now plan) count (now words) ⌝ }
+    requires { ⌜ (term < count) × (tagIn (now words) term ≡ 8) ⌝ }
+    ensures { λ r. ⌜ r ≡ wrongCall (now (plan .entry)) term ⌝ }
+{
+    let word = words[term];
+    let length = list_length(plan, procedures, count, words, operands::list_of(word));
+    length != layout::parameters(plan, operands::procedure_of(word))
+}
+
 // The lower of `best` and the term, if that is a call whose list is not as long as the parameters.
 pub fn lower_call(
     plan: &[u8],
@@ -64,13 +82,12 @@ pub fn lower_call(
     requires { ⌜ term < count ⌝ }
     ensures { λ r. ⌜ r ≡ lowerIf (wrongCall (now (plan .entry)) term) term best ⌝ }
 {
-    let word = words[term];
-    if operands::tag(word) != tags::CALL {
+    if operands::tag(words[term]) != tags::CALL {
         return best;
     }
-    let length = list_length(plan, procedures, count, words, operands::list_of(word));
-    if length == layout::parameters(plan, operands::procedure_of(word)) {
-        return best;
+    if wrong_list(plan, procedures, count, words, term) & (term < best) {
+        term
+    } else {
+        best
     }
-    if term < best { term } else { best }
 }

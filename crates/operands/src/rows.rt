@@ -2,7 +2,8 @@
 use byte_numbers::wide;
 ghost use mathlib.Core.Path.{_≡_};
 ghost use Prim.Native.Nat.{_<_};
-ghost use Rattle.packed.specs.Rows.{tagCount, layoutRows, numberAt, bitsTo, bitsAfter, childAt};
+ghost use Rattle.packed.specs.Format.{tagCount};
+ghost use Rattle.packed.specs.Rows.{layoutRows, numberAt, bitsTo, bitsAfter, childAt};
 
 // How many tags there are.
 pub const TAGS: usize = 21;

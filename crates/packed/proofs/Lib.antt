@@ -18,3 +18,4 @@ pub mod SlotMasks
 pub mod WalkSteps
 pub mod Walk
 pub mod Samples
+pub mod NoteLaws

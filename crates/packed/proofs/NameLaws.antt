@@ -63,7 +63,7 @@ once-more f c v k h =
     go t q (no n) = getD-set-other c v t (moreOf (getD c v 0)) 0 (λ q. n (sym q)) ∙ rw (ne-eqb v t n, add-zero) (k .each t q)
 
 -- how often these name term t
-unfoldable timesOf : List Child → ℕ → ℕ
+unfoldable pub timesOf : List Child → ℕ → ℕ
 timesOf [] t = 0
 timesOf (k ∷ ks) t = oneIf (eqb (k .index) t) + timesOf ks t
 
@@ -114,11 +114,11 @@ times-are t x y z s k =
     (omega arith)
     (λ j. omega arith) k
 
-term-times : (b : List ℕ) (u t : ℕ) → timesIn (termAt b u) t ≡ timesOf (childrenOf (nodeAt b u)) t
+pub term-times : (b : List ℕ) (u t : ℕ) → timesIn (termAt b u) t ≡ timesOf (childrenOf (nodeAt b u)) t
 unfolding termAt laidOut nodeAt nodeOf
 term-times b u t = times-are t _ _ _ _ (tagAt b u)
 
-within-more : (n m : ℕ) (ks : List Child) → n ≤ m → Within n ks → Within m ks
+pub within-more : (n m : ℕ) (ks : List Child) → n ≤ m → Within n ks → Within m ks
 within-more n m [] h z = tt
 within-more n m (k ∷ ks) h z = (omega (arith, z .0), within-more n m ks h (z .1))
 

@@ -7,17 +7,22 @@ use mathlib.Core.List.{List, [], _∷_}
 use Prim.Native.Nat.{ℕ, _<_}
 use native.Mathlib.Omega.{arith}
 use Rattle.format.proofs.Ranges.{by-range}
-use Rattle.packed.specs.Format.{table, layout, laidOut, termAt}
+use Rattle.packed.specs.Format.{table, layout, laidOut, termAt, tagCount}
 use lib.Dec.{eqb, lit<}
-use lib.ListN.{getD}
+use lib.ListN.{getD, length}
 use Rattle.packed.specs.Operands.{tagOf, firstOf, fieldBits, writeSecond, spareSet}
 use Rattle.packed.specs.Trees.{nodes, nodeOf}
 use Rattle.packed.specs.Refusals.{someOperand, breaksTable}
 use Rattle.packed.specs.Steps.{Right, Loaded, inWord, termIn, tagIn, nodeIn, tagSort, Child, childOf, childrenOf, lowerAll, countAll, outside}
-use Rattle.packed.specs.Rows.{tagCount, numberAt, childAt, wrongByRow, Tagged, childrenByRow}
+use Rattle.packed.specs.Rows.{numberAt, childAt, wrongByRow, Tagged, childrenByRow}
 use Rattle.packed.proofs.Reading.{tag-in}
 use Rattle.packed.proofs.SingleTerm.{tested, rowOf, passes}
 use Rattle.packed.proofs.NameLaws.{named}
+
+-- as many rows as tags
+pub a-row-each : length table ≡ tagCount
+unfolding table
+a-row-each = refl
 
 -- the sort of a tag
 pub sort-is : (k : ℕ) → k < tagCount → numberAt k 0 ≡ tagSort k
@@ -25,6 +30,14 @@ unfolding numberAt tagSort
 sort-is =
     by-range (λ k. numberAt k 0 ≡ tagSort k) 0 tagCount ((k : ℕ) → k < tagCount → numberAt k 0 ≡ tagSort k) (λ all k h. all k (omega arith) (omega arith))
     refl refl refl refl refl refl refl refl refl refl refl refl refl refl refl refl refl refl refl refl refl
+
+-- what the operand that is no term is
+pub kind-small : (k : ℕ) → k < tagCount → numberAt k 2 < 6
+unfolding numberAt
+kind-small =
+    by-range (λ k. numberAt k 2 < 6) 0 tagCount ((k : ℕ) → k < tagCount → numberAt k 2 < 6) (λ all k h. all k (omega arith) (omega arith))
+    (lit< tt) (lit< tt) (lit< tt) (lit< tt) (lit< tt) (lit< tt) (lit< tt) (lit< tt) (lit< tt) (lit< tt) (lit< tt) (lit< tt) (lit< tt) (lit< tt) (lit< tt) (lit< tt)
+    (lit< tt) (lit< tt) (lit< tt) (lit< tt) (lit< tt)
 
 -- the children of a term
 module _ (w : ℕ) where

@@ -11,11 +11,10 @@ use borrow.Author.Tests.{lt-ltb, leb-false}
 use Rattle.format.proofs.Filled.{zeros, filled}
 use Rattle.format.proofs.RefusalLaws.{neither}
 use Rattle.packed.specs.Format
-use Rattle.packed.specs.Format.{terms, Operand, absent, slot, binder, mask, fieldName, procedure, expression, condition, list, layout, laidOut, tagAt, termAt}
+use Rattle.packed.specs.Format.{terms, Operand, absent, slot, binder, mask, fieldName, procedure, expression, condition, list, layout, laidOut, tagAt, termAt, tagCount}
 use Rattle.packed.specs.Operands.{tagOf}
 use Rattle.packed.specs.Trees.{nodeOf, Node}
 use Rattle.packed.specs.Refusals.{wrongOperand, breaksTable, wrongTerm, isChild}
-use Rattle.packed.specs.Rows.{tagCount}
 use Rattle.packed.specs.Steps.{Sized, Loaded, wordAt, inWord, termIn, nodeIn}
 use Rattle.packed.proofs.Passing.{PassesTable, table-of}
 use Rattle.packed.proofs.Reading.{term-is}

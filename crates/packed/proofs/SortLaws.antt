@@ -23,13 +23,13 @@ use Rattle.packed.proofs.Children.{Within, nodes-are, termOf, nodeOfTag
 -- ---- sorts as numbers
 
 -- a tag is below 12, or below 16, or below 18, or past these
-data TagSort (k : ℕ) : Type 0 where
+pub data TagSort (k : ℕ) : Type 0 where
   low : k < 12 → tagSort k ≡ anExpression → TagSort k
   middle : 12 ≤ k → k < 16 → tagSort k ≡ aCondition → TagSort k
   upper : 16 ≤ k → k < 18 → tagSort k ≡ aList → TagSort k
   last : 18 ≤ k → tagSort k ≡ anExpression → TagSort k
 
-tag-sort : (k : ℕ) → TagSort k
+pub tag-sort : (k : ℕ) → TagSort k
 unfolding tagSort
 tag-sort k = go (decLt k 12) (decLt k 16) (decLt k 18)
   where
@@ -41,7 +41,7 @@ tag-sort k = go (decLt k 12) (decLt k 16) (decLt k 18)
         last (omega (arith, r)) (rw (le-ltb k 12 (omega (arith, p)), le-ltb k 16 (omega (arith, q)), le-ltb k 18 (omega (arith, r))))
 
 -- a sort is wrong where the term is misplaced
-sort₁ : (k : ℕ) → wrongSort 1 k ≡ (leb 12 k && ltb k 18)
+pub sort₁ : (k : ℕ) → wrongSort 1 k ≡ (leb 12 k && ltb k 18)
 unfolding wrongSort
 sort₁ k = go (tag-sort k)
   where
@@ -174,7 +174,7 @@ strays-are b t x y z s k =
     (simp (and-false, or-false, or-assoc, sort₁, sort₂, sort₃))
     (λ j. simp (and-false, or-false)) k
 
-term-strays : (b : List ℕ) (u t : ℕ) → someOperand (λ kind v. eqb v t && misplaced kind (tagAt b t)) (termAt b u) ≡ strays b (childrenOf (nodeAt b u)) t
+pub term-strays : (b : List ℕ) (u t : ℕ) → someOperand (λ kind v. eqb v t && misplaced kind (tagAt b t)) (termAt b u) ≡ strays b (childrenOf (nodeAt b u)) t
 unfolding termAt laidOut nodeAt nodeOf
 term-strays b u t = strays-are b t _ _ _ _ (tagAt b u)
 

@@ -8,7 +8,7 @@ use mathlib.Core.List.{List, [], _∷_}
 use lib.Dec.{eqb}
 use borrow.Author.Tests.{ne-eqb}
 use Rattle.format.proofs.Ranges.{EachOf, by-range, NoneOf}
-use Rattle.packed.specs.Rows.{tagCount}
+use Rattle.packed.specs.Format.{tagCount}
 
 -- the number j past n, which computes by its first n steps
 abbrev pub past : ℕ → ℕ → ℕ

@@ -106,6 +106,10 @@ table =
     ∷ operands expression absent absent  -- 20 notify all: e
     ∷ []
 
+-- how many tags the table has
+abbrev pub tagCount : ℕ
+tagCount = 21
+
 -- the row of a tag: "operands in the order below"; a tag past the table, which check 4 refuses, has none
 unfoldable pub layout : ℕ → Row
 unfolding table

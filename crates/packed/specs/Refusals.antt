@@ -4,7 +4,7 @@ use mathlib.Core.Bool.{Bool, true, false, cond, _&&_, _||_, not}
 use mathlib.Core.List.{List}
 use lib.Dec.{eqb, ltb, leb}
 use lib.ListN.{length}
-use Rattle.packed.specs.Format.{version, procedures, terms, headerSpare, volatiles, maskBit, fieldsFrom, parameters, root, planLength, Operand, absent, slot, binder, mask, fieldName, procedure, expression, condition, list, Term, tagAt, termAt}
+use Rattle.packed.specs.Format.{version, procedures, terms, headerSpare, volatiles, maskBit, fieldsFrom, parameters, root, planLength, Operand, absent, slot, binder, mask, fieldName, procedure, expression, condition, list, tagCount, Term, tagAt, termAt}
 use Rattle.packed.specs.Trees.{treeAt}
 use Rattle.packed.specs.Slots.{closed}
 
@@ -73,7 +73,7 @@ someOperand f m = f (m .first) (m .value₁) || f (m .second) (m .value₂) || f
 unfoldable pub breaksTable : ℕ → ℕ → ℕ → Term → Bool
 unfolding someOperand maskBit fieldsFrom
 breaksTable procedureCount n t m =
-    ltb 20 (m .tag)
+    leb tagCount (m .tag)
     || someOperand (wrongOperand procedureCount n t) m
     || not (eqb (m .spare) 0)  -- "All spare bits are zero."
 

@@ -5,15 +5,11 @@ use mathlib.Core.Bool.{Bool, false, cond, _&&_, _||_, not}
 use mathlib.Core.List.{List, [], _∷_, _++_}
 use lib.Dec.{eqb}
 use lib.ListN.{getD, take}
-use Rattle.packed.specs.Format.{Operand, absent, slot, binder, mask, fieldName, procedure, expression, condition, list, width, Row, table}
+use Rattle.packed.specs.Format.{Operand, absent, slot, binder, mask, fieldName, procedure, expression, condition, list, width, Row, table, tagCount}
 use Rattle.packed.specs.Refusals.{wrongOperand}
 use Rattle.packed.specs.Steps.{anExpression, aCondition, aList, tagSort, Child, childOf, outside, tagIn}
 
 -- ---- the rows
-
--- how many tags there are
-abbrev pub tagCount : ℕ
-tagCount = 21
 
 -- an operand that is a term, after n bits of operands: the number of its sort, and its place, how many bits stand to its right
 abbrev pub termAfter : ℕ → Operand → List ℕ

@@ -12,7 +12,7 @@ use Rattle.packed.specs.Format
 use Rattle.packed.specs.Format.{terms, root, expression, width, Row, layout, Term, termBit, tagAt, termAt}
 use Rattle.packed.specs.Operands.{tagOf, operandIn, spareIn}
 use Rattle.packed.specs.Trees.{Node, nodeOf, expressionOf, expressionAt, conditionAt, argumentsAt}
-use Rattle.packed.specs.Refusals.{anyBelow, sumBelow, oneIf, wrongProcedure, wrongTerm, misplaced, someOperand, wrongCall, timesIn}
+use Rattle.packed.specs.Refusals.{anyBelow, sumBelow, oneIf, wrongProcedure, wrongTerm, misplaced, someOperand, wrongCall, wronglySorted, timesIn, notNamedOnce}
 
 -- ---- what the checks so far have shown
 
@@ -229,6 +229,38 @@ pub record Counted (f : ℕ → ℕ) (counts : List ℕ) : Type 0 where
 -- term t is not counted once
 unfoldable pub notOnce : List ℕ → ℕ → Bool
 notOnce counts t = not (eqb (getD counts t 0) 1)
+
+-- ---- checks 5 and 6 at once, where a plan passes them
+
+-- what is noted of a term that is named where sort s is wanted: the sort, and 4 of a term that was named before
+unfoldable pub noteOf : ℕ → ℕ → ℕ
+noteOf zero s = s
+noteOf (suc n) s = 4
+
+-- these terms named once more
+unfoldable pub noteAll : List Child → List ℕ → List ℕ
+unfolding noteOf
+noteAll [] notes = notes
+noteAll (k ∷ ks) notes = noteAll ks (set notes (k .index) (noteOf (getD notes (k .index) 0) (k .sort)))
+
+-- what the notes of an array say, where f is how often terms are named, and m whether they are misplaced: a term without a note is not named, and one whose
+-- note is its own sort is named once, where that sort is wanted
+pub record Noted (b : List ℕ) (f : ℕ → ℕ) (m : ℕ → Bool) (notes : List ℕ) : Type 0 where
+  pub size : length notes ≡ 1024
+  pub unnamed : (t : ℕ) → t < 1024 → getD notes t 0 ≡ 0 → (f t ≡ 0) × (m t ≡ false)
+  pub named : (t : ℕ) → t < 1024 → getD notes t 0 ≡ tagSort (tagAt b t) → (f t ≡ 1) × (m t ≡ false)
+
+-- the notes after the procedures
+abbrev pub RootsNoted : List ℕ → ℕ → List ℕ → Type 0
+RootsNoted b n notes = Noted b (rootTimes b n) (misplacedRoot b n) notes
+
+-- the notes after the procedures and the first n terms
+abbrev pub TermsNoted : List ℕ → ℕ → List ℕ → Type 0
+TermsNoted b n notes = Noted b (allTimes b n) (misfits b n) notes
+
+-- none of the first n terms is wrong for check 5 or 6
+abbrev pub Fitting : List ℕ → ℕ → Type 0
+Fitting b n = (t : ℕ) → t < n → (wronglySorted b t ≡ false) × (notNamedOnce b t ≡ false)
 
 -- ---- check 7
 

@@ -33,7 +33,7 @@ pub struct Met {
     pub thing: Object,
     pub other: Head,
     pub thread: usize,
-    pub place: usize,
+    pub place: u16,
 }
 
 // What a move leaves: the mover, the thread that it makes if it forks, the cell, the object that it makes, the counts, the record.

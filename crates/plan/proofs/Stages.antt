@@ -1,4 +1,4 @@
--- The answer to a plan, stage by stage: checks 1 to 3, check 4, checks 5 to 7. Assumes nothing.
+-- The answer to a plan, stage by stage: checks 1 to 3, check 4, checks 5 and 6, check 7. Assumes nothing.
 use Prim.Native.Nat.{ℕ}
 use mathlib.Core.Path.{_≡_, sym, ap, _∙_, subst}
 use mathlib.Core.List.{List}
@@ -38,6 +38,20 @@ module _ (b : List ℕ) where
     pub by-trees : (r : Checked) → lowest (wrongTerm b) (terms b) ≡ none → answered r ≡ firstRefusal (drop 4 (checks b)) → answered r ≡ refusal b
     unfolding refuse
     by-trees r l p = passed-first _ _ h r e q (p ∙ sym (rw l)) ∙ sym stages
+
+  -- checks 5 and 6, then check 7
+  names-first : firstRefusal (drop 4 (checks b)) ≡ orElse (firstRefusal (take 2 (drop 4 (checks b)))) (firstRefusal (drop 6 (checks b)))
+  unfolding checks firstRefusal
+  names-first = refusal-append (take 2 (drop 4 (checks b))) (drop 6 (checks b))
+
+  -- one of checks 5 and 6 refuses
+  pub by-names : (r : Checked) (k i : ℕ) → answered r ≡ firstRefusal (take 2 (drop 4 (checks b))) → r ≡ Refused k i → answered r ≡ firstRefusal (drop 4 (checks b))
+  by-names r k i e q = refused-first _ _ r k i e q ∙ sym names-first
+
+  -- neither does
+  pub by-slots : (h r : Checked) → answered h ≡ firstRefusal (take 2 (drop 4 (checks b))) → h ≡ Passed → answered r ≡ firstRefusal (drop 6 (checks b))
+      → answered r ≡ firstRefusal (drop 4 (checks b))
+  by-slots h r e q p = passed-first _ _ h r e q p ∙ sym names-first
 
 -- the count of terms by another name
 pub loaded-as : {b words : List ℕ} {n m : ℕ} → n ≡ m → Loaded b n words → Loaded b m words

@@ -1,5 +1,6 @@
 // The packed plan: is it one that can be played, and if not, what is wrong with it, and where (document 01, refusals 1 to 7).
 use header::layout;
+use naming::notes;
 use operands::rows;
 use operands::rows::Rows;
 use refusals::Checked;
@@ -11,7 +12,7 @@ ghost use Rattle.format.specs.Refusal.{firstRefusal};
 ghost use Rattle.packed.specs.Check.{checks, refusal};
 ghost use Rattle.packed.specs.Format.{terms};
 ghost use Rattle.packed.specs.Rows.{layoutRows};
-ghost use Rattle.packed.specs.Steps.{Right, Loaded};
+ghost use Rattle.packed.specs.Steps.{Right, Loaded, TermsNoted};
 ghost use Rattle.refusals.specs.Answer.{answered};
 
 // Refusals 1 to 3: the length, the header and the mask, the procedures.
@@ -33,19 +34,24 @@ fn check_header(plan: &[u8]) -> Checked
     Checked::Passed
 }
 
-// Refusals 5 to 7, of a plan whose terms are right and in `words`.
-fn check_trees(
+// Refusals 5 and 6, of a plan whose terms are right, in `words` and noted in `notes`. Where the notes do not show that it passes, the lowest places are looked for.
+fn check_names(
     rows: &Rows,
     plan: &[u8],
     procedures: usize,
     count: usize,
     words: &[usize; 1024],
+    notes: &[u8; 1024],
 ) -> Checked
     requires { ⌜ Right (now plan) procedures count ⌝ }
     requires { ⌜ Loaded (now plan) count (now words) ⌝ }
     requires { ⌜ now rows ≡ layoutRows ⌝ }
-    ensures { λ r. ⌜ answered r ≡ firstRefusal (drop 4 (checks (now (plan .entry)))) ⌝ }
+    requires { ⌜ TermsNoted (now plan) count (now notes) ⌝ }
+    ensures { λ r. ⌜ answered r ≡ firstRefusal (take 2 (drop 4 (checks (now (plan .entry))))) ⌝ }
 {
+    if notes::all_fit(rows, plan, procedures, count, words, notes) {
+        return Checked::Passed;
+    }
     let mut times = [0u8; 1024];
     let misplaced = naming::name_all(rows, plan, procedures, count, words, &mut times);
     let miscounted = naming::lowest_miscounted(&times, count);
@@ -55,6 +61,28 @@ fn check_trees(
     if miscounted < count {
         return refused(6, miscounted);
     }
+    Checked::Passed
+}
+
+// Refusals 5 to 7, of such a plan.
+fn check_trees(
+    rows: &Rows,
+    plan: &[u8],
+    procedures: usize,
+    count: usize,
+    words: &[usize; 1024],
+    notes: &[u8; 1024],
+) -> Checked
+    requires { ⌜ Right (now plan) procedures count ⌝ }
+    requires { ⌜ Loaded (now plan) count (now words) ⌝ }
+    requires { ⌜ now rows ≡ layoutRows ⌝ }
+    requires { ⌜ TermsNoted (now plan) count (now notes) ⌝ }
+    ensures { λ r. ⌜ answered r ≡ firstRefusal (drop 4 (checks (now (plan .entry)))) ⌝ }
+{
+    let checked = check_names(rows, plan, procedures, count, words, notes);
+    let Checked::Passed = checked else {
+        return checked;
+    };
     let open = bound_slots::lowest_open(plan, procedures, count, words);
     if open < procedures {
         return refused(7, open);
@@ -76,11 +104,13 @@ pub fn load(plan: &[u8], words: &mut [usize; 1024]) -> Checked
     let procedures = layout::procedures(plan);
     let count = layout::terms(plan);
     let rows = rows::layouts();
-    let term = table::load(&rows, plan, procedures, count, words);
+    let mut notes = [0u8; 1024];
+    notes::name_roots(plan, procedures, count, &mut notes);
+    let term = table::load(&rows, plan, procedures, count, words, &mut notes);
     if term < count {
         return refused(4, term);
     }
-    check_trees(&rows, plan, procedures, count, words)
+    check_trees(&rows, plan, procedures, count, words, &notes)
 }
 
 // The entry `check`.

@@ -8,7 +8,7 @@ use frames::go::Ready;
 use frames::part;
 
 // Whether it is a place in the object's queue.
-fn queued(object: usize, place: usize) -> bool
+fn queued(object: u16, place: u16) -> bool
     ensures { λ r. ⌜ r ≡ queuedOn object place ⌝ }
 {
     if object == place % 32 {
@@ -18,10 +18,11 @@ fn queued(object: usize, place: usize) -> bool
 }
 
 // How many are queued on the object.
-fn count(places: &[usize], object: usize) -> usize
+fn count(places: &[u16], object: u16) -> u16
+    requires { ⌜ length (now places) ≤ 8 ⌝ }
     ensures { λ r. ⌜ (r ≡ countOf object (now (places .entry))) × (r ≤ length (now (places .entry))) ⌝ }
 {
-    let mut count: usize = 0;
+    let mut count: u16 = 0;
     for i in 0..places.len() {
         if queued(object, places[i]) {
             count += 1;
@@ -31,7 +32,7 @@ fn count(places: &[usize], object: usize) -> usize
 }
 
 // A wait takes the last place.
-fn wait(places: &mut [usize], object: usize, thread: usize)
+fn wait(places: &mut [u16], object: u16, thread: usize)
     requires { ⌜ (length (now places) ≡ 8) × (object < 32) × (thread < 8) ⌝ }
     ensures { λ r. ⌜ now (places .exit) ≡ waitedOf object thread (now (places .entry)) ⌝ }
 {
@@ -40,7 +41,7 @@ fn wait(places: &mut [usize], object: usize, thread: usize)
 }
 
 // The place after a notify: one nearer to the front of the object's queue.
-fn nearer(object: usize, place: usize) -> usize
+fn nearer(object: u16, place: u16) -> u16
     ensures { λ r. ⌜ r ≡ nearer object place ⌝ }
 {
     if queued(object, place) {
@@ -50,7 +51,7 @@ fn nearer(object: usize, place: usize) -> usize
 }
 
 // A notify wakes the thread that has waited longest: it has no place in the queue any more.
-fn notify(places: &mut [usize], object: usize)
+fn notify(places: &mut [u16], object: u16)
     ensures { λ r. ⌜ now (places .exit) ≡ notifiedOf object (now (places .entry)) ⌝ }
 {
     for i in 0..places.len() {
@@ -59,14 +60,14 @@ fn notify(places: &mut [usize], object: usize)
 }
 
 // The place after a notify all: none in the object's queue.
-fn freed(object: usize, place: usize) -> usize
+fn freed(object: u16, place: u16) -> u16
     ensures { λ r. ⌜ r ≡ freed object place ⌝ }
 {
     if object == place % 32 { object } else { place }
 }
 
 // A notify all wakes every thread that waits on the object.
-fn notify_all(places: &mut [usize], object: usize)
+fn notify_all(places: &mut [u16], object: u16)
     ensures { λ r. ⌜ now (places .exit) ≡ allNotifiedOf object (now (places .entry)) ⌝ }
 {
     for i in 0..places.len() {
@@ -75,7 +76,7 @@ fn notify_all(places: &mut [usize], object: usize)
 }
 
 // A signal of the thread: 0 wait, 1 notify, 2 notify all.
-fn signalled(places: &mut [usize], signal: usize, object: usize, thread: usize)
+fn signalled(places: &mut [u16], signal: usize, object: u16, thread: usize)
     requires { ⌜ (length (now places) ≡ 8) × (object < 32) × (thread < 8) ⌝ }
     ensures { λ r. ⌜ now (places .exit) ≡ signalledOf signal object thread (now (places .entry)) ⌝ }
 {
@@ -89,11 +90,16 @@ fn signalled(places: &mut [usize], signal: usize, object: usize, thread: usize)
 }
 
 // The places after the thread has moved from this part: only a signal changes them.
-pub fn after(places: &mut [usize], ready: Ready, thread: usize)
+pub fn after(places: &mut [u16], ready: Ready, thread: usize)
     requires { ⌜ (length (now places) ≡ 8) × (thread < 8) ⌝ }
     ensures { λ r. ⌜ now (places .exit) ≡ afterOf (now (places .entry)) ready thread ⌝ }
 {
     if ready.part == part::SIGNAL {
-        signalled(&mut *places, ready.second, ready.first % 32, thread);
+        signalled(
+            &mut *places,
+            ready.second,
+            (ready.first % 32) as u16,
+            thread,
+        );
     }
 }

@@ -44,7 +44,7 @@ use Rattle.refinement.proofs.PlainActs.{pure-meets, condition-meets, wh
 
 -- what the code would see and do, were r thread p's part
 abbrev otherFor : engine.Machine → Ready → Head
-otherFor m r = getD (m .heads) (getD (m .objects) (objectOf r) noThing .thread % 9) noHead
+otherFor m r = getD (m .heads) (getD (m .objects) (objectOf r) noThing .thread % 16) noHead
 
 abbrev sees : Setting → engine.Machine → ℕ → Ready → Sight
 sees setting m p r = lookOf setting (headFor m p r) (getD (m .cells) (cellNumber r) noCell) (getD (m .objects) (objectOf r) noThing) (otherFor m r .ready .part) (getD (m .places) p 0)

@@ -221,8 +221,8 @@ module _ {b : List ℕ} {m : engine.Machine} {s : machine.State} {p : ℕ} (move
 
   -- E-JOIN
   pub join-meets : (o b′ w environment i j : ℕ) → j ≡ o → Well S → o < 32 → t .code ≡ frames.Found.here S (frames.Ready.join o)
-      → MeetsBy (lookJoin (getD ts j noThing) (getD l (getD ts j noThing .thread % 9) noHead .ready .part)) p (readyOf part.Join o b′ w environment) (machine.attempt (tableOf b) s p)
-      (Acts mover (readyOf part.Join o b′ w environment) i (actJoin n (headFor m p (readyOf part.Join o b′ w environment)) (getD cs i noCell) (getD ts j noThing) (getD l (getD ts j noThing .thread % 9) noHead) o))
+      → MeetsBy (lookJoin (getD ts j noThing) (getD l (getD ts j noThing .thread % 16) noHead .ready .part)) p (readyOf part.Join o b′ w environment) (machine.attempt (tableOf b) s p)
+      (Acts mover (readyOf part.Join o b′ w environment) i (actJoin n (headFor m p (readyOf part.Join o b′ w environment)) (getD cs i noCell) (getD ts j noThing) (getD l (getD ts j noThing .thread % 16) noHead) o))
   unfolding objectBy fieldBy lookJoin machine.act machine.joinAct machine.joinValue machine.around machine.gain playing.noRoomBefore land.go tableOf
   join-meets o b′ w environment i j ej well ho code =
       by (machine.threadOf 0 (s .threads) o) refl
@@ -260,9 +260,9 @@ module _ {b : List ℕ} {m : engine.Machine} {s : machine.State} {p : ℕ} (move
           ∙ ap (λ (o : ℕ). machine.Attempt.waiting (forJoin o)) (sym (mod-eq-of-lt ho)))
 
       by : (x : Option machine.Numbered) → machine.threadOf 0 (s .threads) o ≡ x → getD ts j noThing .thread ≡ numberOf x
-          → Goal (getD ts j noThing .thread) (getD l (getD ts j noThing .thread % 9) noHead)
+          → Goal (getD ts j noThing .thread) (getD l (getD ts j noThing .thread % 16) noHead)
       by none e num =
-          along (λ (a : ℕ). Goal a (getD l (a % 9) noHead)) (sym num)
+          along (λ (a : ℕ). Goal a (getD l (a % 16) noHead)) (sym num)
           (acted none e ∙ ap (λ (o : ℕ). machine.Attempt.stuck (notThread o)) (sym (mod-eq-of-lt ho)))
       by (some q) e num =
           let f = found-thread (s .threads) 0 o q e in
@@ -271,8 +271,8 @@ module _ {b : List ℕ} {m : engine.Machine} {s : machine.State} {p : ℕ} (move
           let lt : q .number < 8 =
           (let z = inside (s .threads) (q .number) (q .thread) at in let y = few-threads mover in let c = k .threads-count in omega arith) in
           let H = each (q .number) (q .thread) at in
-          along (λ (a : ℕ). Goal a (getD l (a % 9) noHead)) (sym num)
-          (along (λ (z : ℕ). Goal (q .number) (getD l z noHead)) (sym (mod-eq-of-lt {m = 9} (omega arith)))
+          along (λ (a : ℕ). Goal a (getD l (a % 16) noHead)) (sym num)
+          (along (λ (z : ℕ). Goal (q .number) (getD l z noHead)) (sym (mod-eq-of-lt {m = 16} (omega arith)))
           (along (λ (x : Bool). Sees (cond x (sight.Blocked block.Thread) (joinBy (headAt l (q .number) .ready .part))) (q .number) (headAt l (q .number)))
           (sym (lt-leb 8 (q .number) lt))
           (finish q (headAt l (q .number)) _ e lt (H .keys) (H .keys-fit) (ends b (headAt l (q .number) .ready) (H .stack) (q .thread .code) (H .stands)) refl)))

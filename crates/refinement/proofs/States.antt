@@ -81,7 +81,7 @@ pub record Headed (b : List ℕ) (k : Stack) (base : ℕ) (h : Head) (t : machin
 
 -- the engine's state m stands for s, on plan b
 pub record Related (b : List ℕ) (m : engine.Machine) (s : machine.State) : Type 0 where
-  pub heads-size : length (m .heads) ≡ 9
+  pub heads-size : length (m .heads) ≡ 16
   pub sized : Sized b (m .stack)
   pub kept : Kept (settingOf b) (m .cells) (m .objects) (m .tally .counts) s
   pub each : (p : ℕ) (t : machine.Thread) → getElem? (s .threads) p ≡ some t → Headed b (m .stack) (p * 33) (headAt (m .heads) p) t

@@ -1,5 +1,6 @@
-// Check 4: a single term against the table, and the terms' 40 bits loaded for the checks after it.
+// Check 4: a single term against the table; the terms' 40 bits are loaded, and their names noted, for the checks after it.
 use crate::term;
+use naming::notes;
 use operands::rows;
 use operands::rows::FIRST;
 use operands::rows::OTHER;
@@ -9,15 +10,17 @@ use operands::rows::SPARE;
 use operands::rows::TAGS;
 use operands::rows::THIRD;
 ghost use mathlib.Core.Path.{_≡_};
-ghost use mathlib.Core.Bool.{_&&_, not};
+ghost use mathlib.Core.Bool.{false, _&&_, not};
+ghost use mathlib.Core.List.{[], _∷_};
 ghost use Prim.Native.Nat.{_<_, _≤_};
 ghost use lib.Dec.{ltb, eqb};
 ghost use lib.ListN.{replicate};
 ghost use Rattle.format.specs.Lowest.{Lowest};
-ghost use Rattle.packed.specs.Format.{mask};
+ghost use Rattle.packed.specs.Format.{mask, tagCount};
 ghost use Rattle.packed.specs.Refusals.{wrongOperand, breaksTable, wrongTerm};
-ghost use Rattle.packed.specs.Rows.{tagCount, layoutRows, numberAt, bitsTo, childAt, wrongOther, wrongTerms};
-ghost use Rattle.packed.specs.Steps.{Headed, Loaded, outside, termIn};
+ghost use Rattle.packed.specs.Rows.{layoutRows, bitsTo, wrongOther, wrongTerms, childrenByRow};
+ghost use Rattle.packed.specs.Steps.{Headed, Loaded, outside, termIn, childOf, childrenOf, noteAll, RootsNoted, TermsNoted};
+ghost use Rattle.packed.specs.Trees.{nodeOf};
 
 // A child index not above its parent's, or not below the count.
 fn outside(child: usize, term: usize, count: usize) -> bool
@@ -44,68 +47,94 @@ fn wrong_binder(slot: usize) -> bool
     slot > 7 && slot != 15
 }
 
-// The operand that is no term, by what it is and its place.
+// The operand that is no term, by what it is and its place. By comparisons and not by a match, whose jump would follow no pattern.
 fn wrong_other(kind: u8, word: usize, place: u8, procedures: usize) -> bool
+    requires { ⌜ kind < 6 ⌝ }
     ensures { λ r. ⌜ r ≡ wrongOther procedures kind (bitsTo place word) ⌝ }
 {
     if kind == 0 {
         return false;
     }
     let bits = rows::bits_to(word, place);
-    match kind {
-        rows::SLOT => bits % 16 > 7,
-        rows::BINDER => wrong_binder(bits % 16),
-        rows::MASK => wrong_mask(bits % 4294967296),
-        rows::FIELD => bits % 32 == 0,
-        rows::PROCEDURE => bits % 32 >= procedures,
-        _ => false,
+    if kind == rows::SLOT {
+        return bits % 16 > 7;
     }
+    if kind < rows::MASK {
+        return wrong_binder(bits % 16);
+    }
+    if kind > rows::FIELD {
+        return bits % 32 >= procedures;
+    }
+    if kind > rows::MASK {
+        return bits % 32 == 0;
+    }
+    wrong_mask(bits % 4294967296)
 }
 
-// The operand that is a term and has its place in this column of the row.
-fn wrong_child(
-    rows: &Rows,
-    tag: usize,
-    column: usize,
-    word: usize,
-    term: usize,
-    count: usize,
-) -> bool
-    requires { ⌜ now rows ≡ layoutRows ⌝ }
-    requires { ⌜ (tag < tagCount) × (column < 10) ⌝ }
-    ensures { λ r. ⌜ r ≡ outside count term (childAt (numberAt tag column) word) ⌝ }
+// The operand that is a term of this sort: it is named, unless it is wrong.
+fn wrong_child(notes: &mut [u8; 1024], sort: u8, child: usize, term: usize, count: usize) -> bool
+    requires { ⌜ count ≤ 1024 ⌝ }
+    ensures { λ r. ⌜ r ≡ outside count term child ⌝ }
+    ensures { λ r. ⌜ (r ≡ false → now (notes .exit) ≡ noteAll (childOf sort child ∷ []) (now (notes .entry))) ⌝ }
 {
-    outside(rows::child(rows, tag, column, word), term, count)
+    if outside(child, term, count) {
+        return true;
+    }
+    notes::name(notes, sort, child);
+    false
 }
 
 // The operands that are terms: where one is absent, so are those after it.
-fn wrong_children(rows: &Rows, tag: usize, word: usize, term: usize, count: usize) -> bool
+fn wrong_children(
+    rows: &Rows,
+    tag: usize,
+    word: usize,
+    term: usize,
+    count: usize,
+    notes: &mut [u8; 1024],
+) -> bool
     requires { ⌜ now rows ≡ layoutRows ⌝ }
-    requires { ⌜ tag < tagCount ⌝ }
+    requires { ⌜ (tag < tagCount) × (count ≤ 1024) ⌝ }
     ensures { λ r. ⌜ r ≡ wrongTerms count term word tag ⌝ }
+    ensures { λ r. ⌜ (r ≡ false → now (notes .exit) ≡ noteAll (childrenByRow word tag) (now (notes .entry))) ⌝ }
 {
-    if rows::number(rows, tag, FIRST) == 0 {
+    let first = rows::number(rows, tag, FIRST);
+    if first == 0 {
         return false;
     }
-    if wrong_child(rows, tag, FIRST + 1, word, term, count) {
+    let child = rows::child(rows, tag, FIRST + 1, word);
+    if wrong_child(notes, first, child, term, count) {
         return true;
     }
-    if rows::number(rows, tag, SECOND) == 0 {
+    let second = rows::number(rows, tag, SECOND);
+    if second == 0 {
         return false;
     }
-    if wrong_child(rows, tag, SECOND + 1, word, term, count) {
+    let child = rows::child(rows, tag, SECOND + 1, word);
+    if wrong_child(notes, second, child, term, count) {
         return true;
     }
-    if rows::number(rows, tag, THIRD) == 0 {
+    let third = rows::number(rows, tag, THIRD);
+    if third == 0 {
         return false;
     }
-    wrong_child(rows, tag, THIRD + 1, word, term, count)
+    let child = rows::child(rows, tag, THIRD + 1, word);
+    wrong_child(notes, third, child, term, count)
 }
 
-// The table of terms: `word`, the 40 bits of a term, is wrong by the row of its tag.
-fn wrong_term(rows: &Rows, word: usize, term: usize, procedures: usize, count: usize) -> bool
+// The table of terms: `word`, the 40 bits of a term, is wrong by the row of its tag; else its children are named.
+fn wrong_term(
+    rows: &Rows,
+    word: usize,
+    term: usize,
+    procedures: usize,
+    count: usize,
+    notes: &mut [u8; 1024],
+) -> bool
     requires { ⌜ now rows ≡ layoutRows ⌝ }
+    requires { ⌜ count ≤ 1024 ⌝ }
     ensures { λ r. ⌜ r ≡ breaksTable procedures count term (termIn word) ⌝ }
+    ensures { λ r. ⌜ (r ≡ false → now (notes .exit) ≡ noteAll (childrenOf (nodeOf (termIn word))) (now (notes .entry))) ⌝ }
 {
     let tag = operands::tag(word);
     if tag >= TAGS {
@@ -116,30 +145,34 @@ fn wrong_term(rows: &Rows, word: usize, term: usize, procedures: usize, count: u
     if wrong_other(kind, word, place, procedures) {
         return true;
     }
-    if wrong_children(rows, tag, word, term, count) {
+    if wrong_children(rows, tag, word, term, count, notes) {
         return true;
     }
     rows::bits_after(word, rows::number(rows, tag, SPARE)) != 0
 }
 
-// The lowest wrong term, or the count: then every term's 40 bits are in `words`, which came as zeros.
+// The lowest wrong term, or the count: then every term's 40 bits are in `words`, which came as zeros, and the names of all terms are noted beside those by
+// the procedures.
 pub fn load(
     rows: &Rows,
     plan: &[u8],
     procedures: usize,
     count: usize,
     words: &mut [usize; 1024],
+    notes: &mut [u8; 1024],
 ) -> usize
     requires { ⌜ now rows ≡ layoutRows ⌝ }
     requires { ⌜ Headed (now plan) procedures count ⌝ }
     requires { ⌜ now words ≡ replicate 1024 0 ⌝ }
+    requires { ⌜ RootsNoted (now plan) procedures (now notes) ⌝ }
     ensures { λ r. ⌜ Lowest (wrongTerm (now (plan .entry))) count r ⌝ }
     ensures { λ r. ⌜ (count ≤ r → Loaded (now (plan .entry)) count (now (words .exit))) ⌝ }
+    ensures { λ r. ⌜ (count ≤ r → TermsNoted (now (plan .entry)) count (now (notes .exit))) ⌝ }
 {
     let mut term = 0;
     while term < count {
         let word = term::word_at(plan, procedures, term);
-        if wrong_term(rows, word, term, procedures, count) {
+        if wrong_term(rows, word, term, procedures, count, notes) {
             return term;
         }
         words[term] = word;

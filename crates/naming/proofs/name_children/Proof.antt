@@ -4,7 +4,7 @@ use Prim.Native.Nat.{ℕ, _<_}
 use native.Mathlib.Omega.{arith}
 use borrow.Author.Needs.{needs}
 use lib.ListN.{getD}
-use Rattle.packed.specs.Rows.{tagCount}
+use Rattle.packed.specs.Format.{tagCount}
 use Rattle.packed.specs.Steps.{tagIn, lowerAll, countAll}
 use Rattle.packed.proofs.RowLaws.{no-child, one-child, two-children, three-children, lower-more, count-more, named-by-row}
 use Rattle.naming.proofs.name_children.Statement.{statement}

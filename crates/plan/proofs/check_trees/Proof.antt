@@ -1,94 +1,63 @@
--- `check_trees`: the checks that found nothing, and the first that found something, make the answer of the definition.
-use mathlib.Core.Path.{_≡_, refl, sym, ap, _∙_}
+-- `check_trees`: checks 5 and 6, then check 7.
+use mathlib.Core.Path.{_≡_, sym, ap, _∙_}
 use mathlib.Core.Option.{some, none}
 use borrow.Author.Needs.{needs}
 use Rattle.format.specs.Refusal.{lowest, refuse, firstRefusal}
-use Rattle.format.specs.Lowest.{Lowest}
 use Rattle.format.proofs.LowestLaws.{missed, struck}
-use Rattle.packed.specs.Format.{procedures, terms}
-use Rattle.packed.specs.Refusals.{wronglySorted, notNamedOnce, usesUnboundSlot}
+use Rattle.packed.specs.Format.{procedures}
+use Rattle.packed.specs.Refusals.{usesUnboundSlot}
 use Rattle.packed.specs.Check.{checks}
-use Rattle.packed.proofs.NameLaws.{all-names}
 use Rattle.refusals.specs.Answer.{answered}
+use Rattle.refusals.specs.declared.Checked.the-variants.{Passed}
+use Rattle.plan.proofs.Stages.{by-names, by-slots}
 use Rattle.plan.proofs.check_trees.Statement.{statement}
 use Rattle.plan.proofs.check_trees.Tie as tie
 
--- the lowest term that is not named once
-named-once : (c : tie.After-lowest-miscounted) → Lowest (notNamedOnce (c .before .before .before .before .before .args .plan .now)) (c .before .before .before .before .before .args .count) (c .lowest-miscounted .result)
-named-once c =
-    let h = c .before .before .before .before .before .pre .0 .headed in
-    all-names _ _ _ _ (h .sized .terms-are) (h .few) (c .before .before .name-all .ensures .1) (c .lowest-miscounted .ensures)
+check-names-requires : tie.Need-check-names-requires
+check-names-requires c κs = search needs
 
-name-all-requires : tie.Need-name-all-requires
-name-all-requires c κs = let s = c .before .before in (s .pre .0, (s .pre .1 .0, (refl, s .pre .1 .1)))
+enum-told : tie.Need-enum-told
+enum-told c = search needs
 
-lowest-miscounted-requires : tie.Need-lowest-miscounted-requires
-lowest-miscounted-requires c κs = c .before .before .before .before .pre .0 .headed .few
+enum-told-2 : tie.Need-enum-told-2
+enum-told-2 c = search needs
+
+returns : tie.Need-returns
+returns c = by-names _ _ _ _ (c .before .before .check-names .ensures) (c .enum-told2 .given .1)
+
+lowest-open-requires : tie.Need-lowest-open-requires
+lowest-open-requires c κs = let s = c .before .before .before .before in (s .pre .0, s .pre .1 .0)
 
 refused-requires : tie.Need-refused-requires
 refused-requires c κs = search needs
 
-returns : tie.Need-returns
-unfolding answered refuse firstRefusal checks
-returns c =
-    let s = c .before .before .before .before .before .before .before in
-    let b = s .args .plan .now in
-    let n = s .pre .0 .headed .sized .terms-are in
-    let m5 : lowest (wronglySorted b) (terms b) ≡ some (c .before .before .before .before .name-all .result) = struck (wronglySorted b) _ (terms b) _ n (c .before .before .before .before .name-all .ensures .0) (c .before .if1 .taken) in
-    ap answered (c .refused .ensures) ∙ sym (rw m5)
-
-refused-requires-2 : tie.Need-refused-requires-2
-refused-requires-2 c κs = search needs
-
 returns-2 : tie.Need-returns-2
 unfolding answered refuse firstRefusal checks
 returns-2 c =
-    let s = c .before .before .before .before .before .before .before .before in
+    let t = c .before .before .before in
+    let s = t .before .before .before .before in
     let b = s .args .plan .now in
-    let n = s .pre .0 .headed .sized .terms-are in
-    let m5 : lowest (wronglySorted b) (terms b) ≡ none = missed (wronglySorted b) _ (terms b) _ n (c .before .before .before .before .before .name-all .ensures .0) (c .before .before .if1 .left) in
-    let m6 : lowest (notNamedOnce b) (terms b) ≡ some (c .before .before .before .lowest-miscounted .result) = struck (notNamedOnce b) _ (terms b) _ n (named-once (c .before .before .before)) (c .before .if2 .taken) in
-    ap answered (c .refused2 .ensures) ∙ sym (rw (m5, m6))
-
-lowest-open-requires : tie.Need-lowest-open-requires
-lowest-open-requires c κs = let s = c .before .before .before .before .before .before .before in (s .pre .0, s .pre .1 .0)
-
-refused-requires-3 : tie.Need-refused-requires-3
-refused-requires-3 c κs = search needs
+    let m7 : lowest (usesUnboundSlot b) (procedures b) ≡ some (c .before .before .lowest-open .result) = struck (usesUnboundSlot b) _ (procedures b) _ (s .pre .0 .headed .sized .procedures-are) (c .before .before .lowest-open .ensures) (c .before .if1 .taken) in
+    by-slots b _ (c .refused .result) (t .before .before .check-names .ensures) (t .enum-told .given .1) (ap answered (c .refused .ensures) ∙ sym (rw m7))
 
 returns-3 : tie.Need-returns-3
 unfolding answered refuse firstRefusal checks
 returns-3 c =
-    let s = c .before .before .before .before .before .before .before .before .before .before in
+    let t = c .before .before in
+    let s = t .before .before .before .before in
     let b = s .args .plan .now in
-    let z = s .pre .0 .headed .sized in
-    let m5 : lowest (wronglySorted b) (terms b) ≡ none = missed (wronglySorted b) _ (terms b) _ (z .terms-are) (c .before .before .before .before .before .before .before .name-all .ensures .0) (c .before .before .before .before .if1 .left) in
-    let m6 : lowest (notNamedOnce b) (terms b) ≡ none = missed (notNamedOnce b) _ (terms b) _ (z .terms-are) (named-once (c .before .before .before .before .before)) (c .before .before .before .if2 .left) in
-    let m7 : lowest (usesUnboundSlot b) (procedures b) ≡ some (c .before .before .lowest-open .result) = struck (usesUnboundSlot b) _ (procedures b) _ (z .procedures-are) (c .before .before .lowest-open .ensures) (c .before .if3 .taken) in
-    ap answered (c .refused3 .ensures) ∙ sym (rw (m5, m6, m7))
-
-returns-4 : tie.Need-returns-4
-unfolding answered refuse firstRefusal checks
-returns-4 c =
-    let s = c .before .before .before .before .before .before .before .before .before in
-    let b = s .args .plan .now in
-    let z = s .pre .0 .headed .sized in
-    let m5 : lowest (wronglySorted b) (terms b) ≡ none = missed (wronglySorted b) _ (terms b) _ (z .terms-are) (c .before .before .before .before .before .before .name-all .ensures .0) (c .before .before .before .if1 .left) in
-    let m6 : lowest (notNamedOnce b) (terms b) ≡ none = missed (notNamedOnce b) _ (terms b) _ (z .terms-are) (named-once (c .before .before .before .before)) (c .before .before .if2 .left) in
-    let m7 : lowest (usesUnboundSlot b) (procedures b) ≡ none = missed (usesUnboundSlot b) _ (procedures b) _ (z .procedures-are) (c .before .lowest-open .ensures) (c .if3 .left) in
-    sym (rw (m5, m6, m7))
+    let m7 : lowest (usesUnboundSlot b) (procedures b) ≡ none = missed (usesUnboundSlot b) _ (procedures b) _ (s .pre .0 .headed .sized .procedures-are) (c .before .lowest-open .ensures) (c .if1 .left) in
+    by-slots b _ Passed (t .before .before .check-names .ensures) (t .enum-told .given .1) (sym (rw m7))
 
 pub check-trees-spec : {M : Type 1} → statement M
 check-trees-spec =
     tie.close
     (tie.spec
-    name-all-requires
-    lowest-miscounted-requires
-    refused-requires
+    check-names-requires
+    enum-told
+    enum-told-2
     returns
-    refused-requires-2
-    returns-2
     lowest-open-requires
-    refused-requires-3
-    returns-3
-    returns-4)
+    refused-requires
+    returns-2
+    returns-3)

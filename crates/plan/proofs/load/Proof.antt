@@ -43,31 +43,41 @@ terms-requires c κs =
 layouts-requires : tie.Need-layouts-requires
 layouts-requires c κs = search needs
 
+name-roots-requires : tie.Need-name-roots-requires
+name-roots-requires c κs = (shown (c .before .before), refl)
+
 load-requires : tie.Need-load-requires
-load-requires c κs = (c .before .before .layouts .ensures, (shown (c .before .before .before), c .before .before .before .before .before .before .before .before .before .pre))
+load-requires c κs =
+    let r = c .before .before .before in
+    let h = shown (r .before .before .before) in
+    (r .before .before .layouts .ensures, (h, (r .before .before .before .before .before .before .before .before .before .pre, r .name-roots .ensures)))
 
 refused-requires : tie.Need-refused-requires
 refused-requires c κs = search needs
 
 returns-2 : tie.Need-returns-2
 returns-2 c =
-    let b = c .before .before .before .before .before .before .before .before .before .before .before .before .args .plan .now in
-    let m4 : lowest (wrongTerm b) (terms b) ≡ some (c .before .before .load .result) = struck (wrongTerm b) _ (terms b) _ (c .before .before .before .before .before .before .terms .ensures) (c .before .before .load .ensures .0) (c .before .if1 .taken) in
-    (by-term b _ (c .before .before .before .before .before .before .before .before .before .before .check-header .ensures) (c .before .before .before .before .before .before .before .before .enum-told .given .1) _ _ m4 (c .refused .ensures), λ q. passed-refused q (c .refused .ensures))
+    let l = c .before .before in
+    let t = l .before .before .before .before .before .before .before in
+    let b = t .before .before .before .before .before .before .args .plan .now in
+    let m4 : lowest (wrongTerm b) (terms b) ≡ some (l .load .result) = struck (wrongTerm b) _ (terms b) _ (t .terms .ensures) (l .load .ensures .0) (c .before .if1 .taken) in
+    (by-term b _ (t .before .before .before .before .check-header .ensures) (t .before .before .enum-told .given .1) _ _ m4 (c .refused .ensures), λ q. passed-refused q (c .refused .ensures))
 
 check-trees-requires : tie.Need-check-trees-requires
 check-trees-requires c κs =
-    let l = c .before .before .before .load in
-    let h = shown (c .before .before .before .before .before .before .before) in
-    (make-right _ _ _ _ h (l .ensures .0) (c .before .before .if1 .left), (l .ensures .1 (c .before .before .if1 .left), c .before .before .before .before .before .before .layouts .ensures))
+    let i = c .before .before .before in
+    let l = i .before in
+    let h = shown (l .before .before .before .before .before .before .before) in
+    (make-right _ _ _ _ h (l .load .ensures .0) (i .if1 .left), (l .load .ensures .1 .0 (i .if1 .left), (l .before .before .before .before .before .before .layouts .ensures, l .load .ensures .1 .1 (i .if1 .left))))
 
 returns-3 : tie.Need-returns-3
 returns-3 c =
-    let b = c .before .before .before .before .before .before .before .before .before .before .before .before .before .before .args .plan .now in
-    let l = c .before .before .before .before .load in
-    let n = c .before .before .before .before .before .before .before .before .terms .ensures in
-    let m4 : lowest (wrongTerm b) (terms b) ≡ none = missed (wrongTerm b) _ (terms b) _ n (l .ensures .0) (c .before .before .before .if1 .left) in
-    (by-trees b _ (c .before .before .before .before .before .before .before .before .before .before .before .before .check-header .ensures) (c .before .before .before .before .before .before .before .before .before .before .enum-told .given .1) _ m4 (c .check-trees .ensures), λ q. loaded-as n (l .ensures .1 (c .before .before .before .if1 .left)))
+    let i = c .before .before .before .before in
+    let l = i .before in
+    let t = l .before .before .before .before .before .before .before in
+    let b = t .before .before .before .before .before .before .args .plan .now in
+    let m4 : lowest (wrongTerm b) (terms b) ≡ none = missed (wrongTerm b) _ (terms b) _ (t .terms .ensures) (l .load .ensures .0) (i .if1 .left) in
+    (by-trees b _ (t .before .before .before .before .check-header .ensures) (t .before .before .enum-told .given .1) _ m4 (c .check-trees .ensures), λ q. loaded-as (t .terms .ensures) (l .load .ensures .1 .0 (i .if1 .left)))
 
 pub load-spec : {M : Type 1} → statement M
 load-spec =
@@ -80,6 +90,7 @@ load-spec =
     procedures-requires
     terms-requires
     layouts-requires
+    name-roots-requires
     load-requires
     refused-requires
     returns-2

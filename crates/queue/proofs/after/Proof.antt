@@ -5,6 +5,9 @@ use borrow.Author.Needs.{needs}
 use Rattle.queue.proofs.after.Statement.{statement}
 use Rattle.queue.proofs.after.Tie as tie
 
+cast-signalled : tie.Need-cast-signalled
+cast-signalled c = search needs
+
 signalled-requires : tie.Need-signalled-requires
 signalled-requires c κs = search needs
 
@@ -20,4 +23,4 @@ unfolding afterOf
 returns-2 c = simp (ne-eqb _ _ (c .if1 .left))
 
 pub after-spec : {M : Type 1} → statement M
-after-spec = tie.close (tie.spec signalled-requires same-length returns returns-2)
+after-spec = tie.close (tie.spec cast-signalled signalled-requires same-length returns returns-2)

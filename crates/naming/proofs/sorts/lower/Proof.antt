@@ -4,7 +4,8 @@ use mathlib.Core.Bool.{Bool, true, false, _&&_, not, cond}
 use Prim.Native.Nat.{ℕ, _<_}
 use lib.Dec.{eqb, ltb}
 use borrow.Author.Needs.{needs}
-use Rattle.packed.specs.Rows.{tagCount, numberAt}
+use Rattle.packed.specs.Format.{tagCount}
+use Rattle.packed.specs.Rows.{numberAt}
 use Rattle.packed.specs.Steps.{wrongSort, tagIn, lowerIf}
 use Rattle.packed.proofs.RowLaws.{sort-is}
 use Rattle.naming.proofs.sorts.lower.Statement.{statement}
