@@ -59,16 +59,16 @@ pub fn put(log: &mut [u8], tally: Tally, thread: usize, entry: Entry) -> Tally
     }
 }
 
-// A move's record; where every move is to have one, that of a move without is a `new` record of object 0.
-fn shown(every: bool, entry: Entry) -> Entry
-    ensures { λ r. ⌜ r ≡ shownEntry every entry ⌝ }
+// Writes a record of a move that has none of its own, a `new` record of object 0, where every move is to have one.
+fn put_unlogged(log: &mut [u8], tally: Tally, thread: usize, entry: Entry) -> Tally
+    requires { ⌜ (tally .records * 3 + 3 ≤ length (now log)) × (tally .records ≤ 4096) × (entry .kind ≡ 0) ⌝ }
+    ensures { λ r. ⌜ (r ≡ tallyPut tally (shownEntry (tally .every) entry)) × (r .records ≤ tally .records + 1) ⌝ }
+    ensures { λ r. ⌜ now (log .exit) ≡ logPut (now (log .entry)) (tally .records) thread (shownEntry (tally .every) entry) ⌝ }
 {
-    if every {
-        if entry.kind == kind::NONE {
-            return acted::entry(kind::NEW, 0, 0, 0);
-        }
+    if tally.every {
+        return put(log, tally, thread, acted::entry(kind::NEW, 0, 0, 0));
     }
-    entry
+    tally
 }
 
 // Writes the record of a move of the thread and counts it, unless it has none.
@@ -77,7 +77,10 @@ pub fn put_move(log: &mut [u8], tally: Tally, thread: usize, entry: Entry) -> Ta
     ensures { λ r. ⌜ (r ≡ tallyPut tally (shownEntry (tally .every) entry)) × (r .records ≤ tally .records + 1) ⌝ }
     ensures { λ r. ⌜ now (log .exit) ≡ logPut (now (log .entry)) (tally .records) thread (shownEntry (tally .every) entry) ⌝ }
 {
-    put(log, tally, thread, shown(tally.every, entry))
+    if entry.kind == kind::NONE {
+        return put_unlogged(log, tally, thread, entry);
+    }
+    put(log, tally, thread, entry)
 }
 
 // The counts after a move.
