@@ -1,10 +1,19 @@
 /* Ruqzhemil: a verified checker of plans for relay test sets, as a static library for C and C++.
  *
- * A plan is a small concurrent program in a byte table. check says whether the table is one; play runs it under a schedule, one byte to a pick, each
- * pick the number of the thread that moves next, and writes a log of 3-byte records and an outcome; judge takes a log alone and names an access that
- * nothing orders; preview says what a pick would do before it is taken; witness brings the two threads of a race to their accesses; canonical writes a plan in the one way that all equal plans share; bound says how many
- * moves a plan can need; first_interleaving and next_interleaving list every way in which the threads of a short plan can take turns; comtrade writes a log as a file for a waveform viewer; charge says what a run
- * costs. This header is enough to call them and to read what they give; docs/FORMAT.md says how to write a plan.
+ * A plan is a small concurrent program in a byte table, and a schedule a byte for each pick, the number of the thread that moves next. This header is enough
+ * to call the functions and to read what they give; docs/FORMAT.md says how to write a plan.
+ *
+ *   check                says whether a table is a plan
+ *   play                 runs a plan under a schedule: a log of 3-byte records, and an outcome
+ *   judge                takes a log alone and names an access that nothing orders
+ *   preview              says what a pick would do, before it is taken
+ *   witness              from a race, brings both threads to their accesses
+ *   canonical            writes a plan in the one way that all equal plans share
+ *   first_interleaving,  list every way in which the threads of a short plan can take turns
+ *   next_interleaving
+ *   bound                says how many moves a plan can need
+ *   charge               says what a run costs
+ *   comtrade             writes a log as a file for a waveform viewer
  *
  * THE ANSWER of every function is a uint64_t of two halves. The upper half says which kind of answer it is, enum ruqzhemil_answer:
  *
@@ -18,15 +27,14 @@
  *   }
  *
  * WHAT IS PROMISED: for all bytes, however malformed, each function returns the number that crates/numbers/specs/Numbers defines, with the bytes of
- * crates/outcome_bytes/specs/Bytes and crates/preview_bytes/specs/Bytes; the proofs of crates/ruqzhemil show it. Functions keep nothing between calls, have no global state and allocate
- * nothing, so threads may call them at the same time on areas of their own.
+ * crates/outcome_bytes/specs/Bytes and crates/preview_bytes/specs/Bytes; the proofs of crates/ruqzhemil show it. Functions keep nothing between calls, have
+ * no global state and allocate nothing, so threads may call them at the same time on areas of their own.
  *
  * WHAT IS ASKED of the caller: each pointer leads to as many bytes as its length says (out of play to RUQZHEMIL_OUT_BYTES, of preview to
  * RUQZHEMIL_PREVIEW_BYTES); a length of 0 may go with any pointer, null too; what a function writes (log, area, out) overlaps none of its other bytes, and
- * while a call runs no other thread writes to its bytes; and there is stack: check needs up to 48 KB, play up to 128 KB, judge up to 64 KB, preview up to
- * 144 KB (of it 12,288 bytes for a log of its own), canonical up to 96 KB, witness up to 144 KB
- * (of it 12,288 bytes for its moves), bound up to 96 KB, first_interleaving and next_interleaving up to
- * 96 KB, charge up to 144 KB, comtrade up to 4 KB (bench/run.sh measures them).
+ * while a call runs no other thread writes to its bytes; and there is stack (bench/run.sh measures it): check needs up to 48 KB, play up to 128 KB, judge up
+ * to 64 KB, preview and charge up to 144 KB, witness up to 144 KB (each of the three has a log of 12,288 bytes in it), canonical, bound, first_interleaving
+ * and next_interleaving up to 96 KB, comtrade up to 4 KB.
  *
  * WHAT IT NEEDS: x86-64, the System V calling convention (Linux), and from outside the archive memcpy and memset alone.
  *

@@ -19,8 +19,8 @@ STATES = {("absent",): NUMBERS["ABSENT"], ("finished",): NUMBERS["FINISHED"], ("
           ("stuck", "monitor"): NUMBERS["STUCK_MONITOR"]}
 # the papers' numbers, by the header's
 REFUSALS = dict(zip(range(1, 25), [NUMBERS["REFUSAL_" + name] for name in (
-    "PLAN_LENGTH", "HEADER", "PROCEDURE", "TERM", "SORT", "NAMING", "SLOT", "SCHEDULE_LENGTH", "PICK", "LOG_AREA", "LOG_LENGTH", "RECORD", "PLAN_AREA", "VERSION",
-    "LEFT_OUT", "NO_RACE", "SCHEDULE_AREA", "BOUND", "NOT_LISTED", "BOUND_AREA", "CYCLE", "WHILE", "TOTAL", "FILE_AREA")]))
+    "PLAN_LENGTH", "HEADER", "PROCEDURE", "TERM", "SORT", "NAMING", "SLOT", "SCHEDULE_LENGTH", "PICK", "LOG_AREA", "LOG_LENGTH", "RECORD",
+    "PLAN_AREA", "VERSION", "LEFT_OUT", "NO_RACE", "SCHEDULE_AREA", "BOUND", "NOT_LISTED", "BOUND_AREA", "CYCLE", "WHILE", "TOTAL", "FILE_AREA")]))
 KINDS = [NUMBERS["KIND_" + name] for name in ("NEW", "READ", "WRITE", "VOLATILE_READ", "VOLATILE_WRITE", "ACQUIRE", "RELEASE", "FORK", "JOIN",
                                               "LACKS_READ", "LACKS_WRITE")]
 

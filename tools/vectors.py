@@ -5,9 +5,9 @@
   vectors.py ORACLE - CRATES [--landed E2,E7] < CASES
 
 ORACLE is the folder of the second interpreter, SEED and COUNT go to its `oracle.py vectors`, the list after --landed names the requests of document 02
-that count as landed (those that the product has, where it is left out), CASES are the interpreter's JSON lines, made before, and CRATES is the folder of the crates. CRATES/vectors/data gets the files
-below, and CRATES/vectors/stdout what the test program must print; CRATES/longest_input/stdin and stdout are an input of 9,291 bytes of the printing program
-and its text. The same words give the same files. Every case stands behind its length in two bytes; numbers have the high byte first.
+that count as landed (those that the product has, where it is left out), CASES are the interpreter's JSON lines, made before, and CRATES is the folder of
+the crates. CRATES/vectors/data gets the files below, and CRATES/vectors/stdout what the test program must print; CRATES/longest_input/stdin and stdout are
+an input of 9,291 bytes of the printing program and its text. The same words give the same files. Every case stands behind its length in two bytes; numbers have the high byte first.
 
   header                         the numbers of include/ruqzhemil.h, with which the answers are written, a name and a number to a line
   version                        the number of the header's version, in eight bytes
@@ -42,15 +42,26 @@ import sys
 import header
 import interpreter
 import rows
-from interpreter import (FILL, KINDS, NUMBERS, OUTCOMES, REFUSALS, STATES, bounded, charged, checked, judged, other, outcome_bytes, played, preview_bytes, previewed,
-                         record_bytes, refused, state_words, value, written)
+from interpreter import (FILL, KINDS, NUMBERS, OUTCOMES, REFUSALS, STATES, bounded, charged, checked, judged, other, outcome_bytes, played,
+                         preview_bytes, previewed, record_bytes, refused, state_words, value, written)
 
 LONG = 6000  # bytes of a case from which on only a few are kept
 MOST = 65535  # bytes of any case: its length has two
 # of each number, of runs to the end, of long cases, of logs with an unordered access and without, of files, charges, previews, written plans, bounds,
 # witnesses and interleavings of each kind, of each number that refuses one
-KEPT = {"refused": 45, "end": 330, "long": 10, "log": 390, "file": 80, "refused file": 15, "charge": 60, "refused charge": 12, "preview": 20, "refused preview": 8, "plan": 60, "refused plan": 8, "bound": 60, "refused bound": 15, "witness": 60, "refused witness": 12, "interleaving": 60,
-        "refused interleaving": 12}
+KEPT = {
+    "refused": 45,
+    "end": 330,
+    "long": 10,
+    "log": 390,
+    "file": 80, "refused file": 15,
+    "charge": 60, "refused charge": 12,
+    "preview": 20, "refused preview": 8,
+    "plan": 60, "refused plan": 8,
+    "bound": 60, "refused bound": 15,
+    "witness": 60, "refused witness": 12,
+    "interleaving": 60, "refused interleaving": 12,
+}
 
 
 # ---- the bytes of a case
@@ -81,7 +92,8 @@ Interleaving = collections.namedtuple("Interleaving", "plan schedule area going 
 def play_of(plan, schedule, area, want):
     """A play as it is stored: what check, play and judge return; `lengths` are those of plan and schedule."""
     said = judged(want["judge"]) if "judge" in want else judged_nothing(plan)
-    return Play(plan, schedule, area, checked(want), played(want), said, outcome_bytes(want), record_bytes(bytes.fromhex(want.get("log", ""))), (len(plan), len(schedule)))
+    records = record_bytes(bytes.fromhex(want.get("log", "")))
+    return Play(plan, schedule, area, checked(want), played(want), said, outcome_bytes(want), records, (len(plan), len(schedule)))
 
 
 def judged_nothing(plan):
@@ -350,8 +362,8 @@ def wrong(right):
     return [right ^ change for change in (1, 1 << 16, 1 << 32, 1 << 33, 3 << 32, 1 << 63)]
 
 
-def changed(race, ended, refused_plan, refused_pick, unordered, ordered, refused_log, file, refused_file, charge, preview, refused_preview, plan, refused_area, bound, refused_bound, witness,
-            refused_witness, first, following, over, refused_listing):
+def changed(race, ended, refused_plan, refused_pick, unordered, ordered, refused_log, file, refused_file, charge, preview, refused_preview, plan,
+            refused_area, bound, refused_bound, witness, refused_witness, first, following, over, refused_listing):
     """Cases by file, of twenty-two right ones: plays that stop for a race, come to their end, have a refused plan and a refused pick; logs with an unordered
     access, with none, and refused; a log with its data file, and one that is refused; a charge; a preview, and one that is refused; a
     plan that is written, and one that is refused; a bound, and one that is refused; a witness, and one that
@@ -409,17 +421,21 @@ def changed_of(files):
 
 # ---- the files
 
-GROUPS = [("version", "version"),
-          ("shot list, checked", "shots"), ("shot list, played", "shots"), ("shot list, judged", "shots"),
-          ("edges, checked", "edges"), ("edges, played", "edges"), ("edges, judged", "edges"), ("logs at the edges, judged", "edge_logs"),
-          ("runs, checked", "runs"), ("runs, played", "runs"), ("runs, judged", "runs"), ("runs, played and judged", "runs"),
-          ("refused plays, checked", "refused"), ("refused plays, played", "refused"), ("refused plays, played and judged", "refused"),
-          ("other logs, judged", "logs"), ("data files at the edges", "edge_files"), ("data files", "files"), ("charges", "charges"), ("previews", "previews"), ("plans, written", "plans"), ("bounds", "bounds"), ("witnesses", "witnesses"), ("interleavings", "interleavings")]
-CHANGED = [("changed version", "changed_version"), ("changed, checked", "changed_checks"), ("changed, played", "changed_plays"),
-           ("changed runs, judged", "changed_runs"), ("changed, played and judged", "changed_both"), ("changed logs, judged", "changed_logs"),
-           ("changed data files", "changed_files"), ("changed charges", "changed_charges"), ("changed previews", "changed_previews"),
-           ("changed plans, written", "changed_plans"), ("changed bounds", "changed_bounds"),
-           ("changed witnesses", "changed_witnesses"), ("changed interleavings", "changed_interleavings")]
+GROUPS = [
+    ("version", "version"), ("shot list, checked", "shots"), ("shot list, played", "shots"), ("shot list, judged", "shots"),
+    ("edges, checked", "edges"), ("edges, played", "edges"), ("edges, judged", "edges"), ("logs at the edges, judged", "edge_logs"),
+    ("runs, checked", "runs"), ("runs, played", "runs"), ("runs, judged", "runs"), ("runs, played and judged", "runs"),
+    ("refused plays, checked", "refused"), ("refused plays, played", "refused"), ("refused plays, played and judged", "refused"),
+    ("other logs, judged", "logs"), ("data files at the edges", "edge_files"), ("data files", "files"), ("charges", "charges"),
+    ("previews", "previews"), ("plans, written", "plans"), ("bounds", "bounds"), ("witnesses", "witnesses"), ("interleavings", "interleavings"),
+]
+CHANGED = [
+    ("changed version", "changed_version"), ("changed, checked", "changed_checks"), ("changed, played", "changed_plays"),
+    ("changed runs, judged", "changed_runs"), ("changed, played and judged", "changed_both"), ("changed logs, judged", "changed_logs"),
+    ("changed data files", "changed_files"), ("changed charges", "changed_charges"), ("changed previews", "changed_previews"),
+    ("changed plans, written", "changed_plans"), ("changed bounds", "changed_bounds"), ("changed witnesses", "changed_witnesses"),
+    ("changed interleavings", "changed_interleavings"),
+]
 
 
 def lines(files):

@@ -1,8 +1,10 @@
 //! Ruqzhemil: a verified checker of plans for relay test sets.
 //!
-//! [`check`] a plan, [`play`] a schedule on it, [`judge`] a log, [`preview`] a pick, bring the two threads of a race to their accesses ([`witness`]), write a plan in the one [`canonical`] way and a log as a [`comtrade`]
-//! data file, say how many moves a plan can need ([`bound`]), list the [`interleavings`] of a short plan, and [`charge`] for a run. Each takes any bytes; `include/ruqzhemil.h` says what the answers mean, and the proofs of the static library below show
-//! that they are right. Later versions may have more refusals, kinds, stops and states than are named here: `Other` has their number.
+//! [`check`] a plan, [`play`] a schedule on it and [`judge`] the log; [`preview`] a pick before it is taken; bring both threads of a race to their accesses
+//! ([`witness`]); write a plan in the one way that all equal plans share ([`canonical`]); list the [`interleavings`] of a short plan; say how many moves a
+//! plan can need ([`bound`]); [`charge`] for a run; write a log as a [`comtrade`] data file. Each takes any bytes; `include/ruqzhemil.h` says what the answers
+//! mean, and the proofs of the static library below show that they are right. Later versions may have more refusals, kinds, stops, states and previews than
+//! are named here: `Other` has their number.
 
 #[path = "../../include/ruqzhemil.rs"]
 pub mod raw;

@@ -130,8 +130,9 @@ fn main() {
             println!("{refusal}");
         }
     }
-    for (schedule, pick) in [(&[][..], 0), (&[0; 5], 1), (&[0, 0, 0, 0, 0, 1], 1), (&[0, 0, 0, 0, 0, 1], 0), (&[0, 0, 0, 0, 0, 1, 0], 1), (&[0, 0, 0, 0, 0, 1], 8)] {
-        preview(schedule, pick);
+    let race = [0, 0, 0, 0, 0, 1, 0];
+    for (picks, pick) in [(0, 0), (5, 1), (6, 1), (6, 0), (7, 1), (6, 8)] {
+        preview(&race[..picks], pick);
     }
     witness(&[0, 0, 0, 0, 0, 1, 0]);
     witness(&[0, 0, 0, 0, 0, 0, 1]);
