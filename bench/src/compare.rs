@@ -273,6 +273,8 @@ pub fn run(cases: usize, seed: u64) {
         interleavings(random, &plan, &schedule, &mut seen);
         let length = schedule.len() - random.below(2).min(schedule.len());
         witness(&plan, &schedule, &random.bytes(length), &mut seen);
+        let racing = generate::racing(random);
+        witness(&racing, &schedule, &random.bytes(length), &mut seen);
         charge(&plan, &schedule, random.pick(&[0, 1, 1 << 63]), &mut seen);
         let area = generate::area(random, schedule.len());
         let mut before = [0; OUT_BYTES];

@@ -160,6 +160,11 @@ pub fn shared(random: &mut Random) -> Vec<u8> {
     packed(MONITOR | 1 << 29 | if random.percent(30) { 1 << 28 } else { 0 }, &[(0, main)])
 }
 
+/// The same of version 1 and without a wait: what the witness takes.
+pub fn racing(random: &mut Random) -> Vec<u8> {
+    plans::without_waits(shared(random))
+}
+
 /// Programs that run out of threads, objects, keys or depth, or come close.
 pub fn room(random: &mut Random) -> Vec<u8> {
     let object = || plans::new(&[1, 2]);
