@@ -11,7 +11,7 @@ use Rattle.format.specs.Refusal.{Check, checkWhole, firstRefusal}
 use Rattle.format.proofs.RefusalLaws.{both-none, head-pass, none-is-pass}
 use Rattle.packed.specs.Trees.{programOf}
 use Rattle.packed.specs.Check.{refusal}
-use Rattle.refusals.specs.Small.{Small, SmallCheck}
+use Rattle.refusals.specs.Small.{SmallCheck}
 use Rattle.refusals.proofs.Bounds.{small-checks, small-stages}
 use Rattle.rules.specs.Play.{scheduleRefusal}
 use Rattle.answers.specs.Answer.{Answer}
@@ -19,11 +19,7 @@ use Rattle.listing.specs.Listed.{Listed}
 use Rattle.interleavings.specs.Interleavings.{overBound, shortOutput, firstRefused, FirstAnswer, Next, nextRefused, NextAnswer}
 use Rattle.interleavings.proofs.Answers.{first-stages, next-stages}
 use Rattle.numbers.specs.Small.{SmallAnswer, SmallNext}
-use Rattle.ruqzhemil.proofs.Refusals.{small-plan, small-schedule}
-
--- a check with the one place 0
-whole : (k : ℕ) → k ≤ 24 → Small k 1
-whole k h = (h, omega arith)
+use Rattle.ruqzhemil.proofs.Refusals.{whole, small-plan, small-schedule}
 
 -- 18 comes first
 bounded : (n : ℕ) (cs : List Check) → firstRefusal (checkWhole 18 (overBound n) ∷ cs) ≡ none → n ≤ 64

@@ -19,7 +19,7 @@ use Rattle.rules.specs.Play.{tooManyPicks, scheduleRefusal, playRefusal}
 use Rattle.play_refusals.proofs.RefusalChain.{pickChecks, schedule-stages, areaChecks, play-stages}
 
 -- a check with the one place 0
-whole : (k : ℕ) → k ≤ 24 → Small k 1
+pub whole : (k : ℕ) → k ≤ 24 → Small k 1
 whole k h = (h, omega arith)
 
 -- ---- of a plan

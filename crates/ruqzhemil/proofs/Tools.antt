@@ -10,7 +10,7 @@ use Rattle.format.specs.Refusal.{Refusal, checkWhole, firstRefusal}
 use Rattle.format.proofs.RefusalLaws.{both-none}
 use Rattle.records.specs.Refusals.{logRefusal}
 use Rattle.records.proofs.Accepted.{accepted}
-use Rattle.refusals.specs.Small.{Small, SmallCheck}
+use Rattle.refusals.specs.Small.{SmallCheck}
 use Rattle.refusals.proofs.Bounds.{small-checks, small-stages}
 use Rattle.answers.specs.Answer.{answerBy}
 use Rattle.numbers.specs.Small.{SmallAnswer}
@@ -37,7 +37,7 @@ use Rattle.canonical.proofs.Chain as chain
 use Rattle.costs.specs.Cost.{total}
 use Rattle.costs.specs.Bound.{boundRefusal, bounded}
 use Rattle.costs.proofs.Plans.{laterChecks, bound-stages, totalled}
-use Rattle.ruqzhemil.proofs.Refusals.{few-procedures, few-terms, small-plan, small-log, small-schedule}
+use Rattle.ruqzhemil.proofs.Refusals.{whole, few-procedures, few-terms, small-plan, small-log, small-schedule}
 
 small-answer : (o : Option Refusal) (n : ℕ) → SmallCheck o → (o ≡ none → n < 2 ^ 32) → SmallAnswer (answerBy o n)
 unfolding answerBy
@@ -90,13 +90,10 @@ pub small-bound : (plan : List ℕ) → SmallAnswer (bounded plan)
 unfolding bounded answerBy
 small-bound plan = small-answer (boundRefusal plan) (total (programOf plan)) small few
   where
-    one : (k : ℕ) → k ≤ 24 → Small k 1
-    one k h = (h, omega arith)
-
     small : SmallCheck (boundRefusal plan)
     small =
         rw (bound-stages plan)
-        (small-stages (refusal plan) (firstRefusal (laterChecks plan)) (small-plan plan) (small-checks (laterChecks plan) (one 21 (omega arith), (one 22 (omega arith), (one 23 (omega arith), tt)))))
+        (small-stages (refusal plan) (firstRefusal (laterChecks plan)) (small-plan plan) (small-checks (laterChecks plan) (whole 21 (omega arith), (whole 22 (omega arith), (whole 23 (omega arith), tt)))))
 
     few : boundRefusal plan ≡ none → total (programOf plan) < 2 ^ 32
     few e = omega (arith, totalled plan (total (programOf plan)) (ap (λ (o : Option Refusal). answerBy o (total (programOf plan))) e) .most)

@@ -14,10 +14,10 @@ use Rattle.witness.specs.Witness.{noMissingKey, raceChecks, raceRefusal,
 
 module _ (plan schedule : List ℕ) where
   -- checks 15 and 16
-  abbrev laterChecks : List Check
+  abbrev pub laterChecks : List Check
   laterChecks = checkWhole 15 (leftOut plan) ∷ checkWhole 16 (noMissingKey (runOf plan schedule .stop)) ∷ []
 
-  stages : raceRefusal plan schedule ≡ orElse (scheduleRefusal plan schedule) (firstRefusal laterChecks)
+  pub stages : raceRefusal plan schedule ≡ orElse (scheduleRefusal plan schedule) (firstRefusal laterChecks)
   unfolding raceRefusal raceChecks scheduleRefusal
   stages = refusal-append (scheduleChecks plan schedule) laterChecks
 
