@@ -31,26 +31,27 @@ neither (answer.Moved v) h k = absurd (miss (0 ∷ 2 ∷ []) 1 tt h)
 neither (answer.Stopped e y) h k = absurd (miss (0 ∷ 1 ∷ []) 2 tt k)
 
 module _ (ws rs : List ℕ) (setting : Setting) where
-  abbrev begun : Head → Cell → Object → Tally → List ℕ → Machine
-  begun h c t s l =
+  abbrev begun : Bool → Head → Cell → Object → Tally → List ℕ → Machine
+  begun every h c t s l =
       record {
         heads = replicate 16 h;
         cells = replicate 1024 c;
         objects = replicate 33 t;
         places = replicate 8 0;
         stack = replicate 891 0;
+        every = every;
         tally = s;
         log = l;
       }
 
-  pub begins : (every : Bool) (ps l : List ℕ) (h : Head) (c : Cell) (t : Object) (s : Tally) → h ≡ headOf (getD rs 0 0) → c ≡ cellFirst → t ≡ noThing → s ≡ tallyFirst every
-      → playOf ws rs setting (begun h c t s l) ps 0 ≡ playOf ws rs setting (startOf every rs l) ps 0
+  pub begins : (every : Bool) (ps l : List ℕ) (h : Head) (c : Cell) (t : Object) (s : Tally) → h ≡ headOf (getD rs 0 0) → c ≡ cellFirst → t ≡ noThing → s ≡ tallyFirst
+      → playOf ws rs setting (begun every h c t s l) ps 0 ≡ playOf ws rs setting (startOf every rs l) ps 0
   unfolding startOf
   begins every ps l h c t s qh qc qt qs =
-      ap (λ (h : Head). playOf ws rs setting (begun h c t s l) ps 0) qh
-      ∙ ap (λ (c : Cell). playOf ws rs setting (begun (headOf (getD rs 0 0)) c t s l) ps 0) qc
-      ∙ ap (λ (t : Object). playOf ws rs setting (begun (headOf (getD rs 0 0)) cellFirst t s l) ps 0) qt
-      ∙ ap (λ (s : Tally). playOf ws rs setting (begun (headOf (getD rs 0 0)) cellFirst noThing s l) ps 0) qs
+      ap (λ (h : Head). playOf ws rs setting (begun every h c t s l) ps 0) qh
+      ∙ ap (λ (c : Cell). playOf ws rs setting (begun every (headOf (getD rs 0 0)) c t s l) ps 0) qc
+      ∙ ap (λ (t : Object). playOf ws rs setting (begun every (headOf (getD rs 0 0)) cellFirst t s l) ps 0) qt
+      ∙ ap (λ (s : Tally). playOf ws rs setting (begun every (headOf (getD rs 0 0)) cellFirst noThing s l) ps 0) qs
 
   module _ (m : Machine) (p : ℕ) (ps : List ℕ) (i : ℕ) where
     -- the pick of a thread that is not there
@@ -77,14 +78,15 @@ module _ (ws rs : List ℕ) (setting : Setting) where
           → n ≡ cellNumber (headAt (m .heads) (p % 8) .ready)
           → hs ≡ withYoung (v .forks) (m .heads) (m .tally .counts .threads % 9) (v .young)
           → qs ≡ afterOf (m .places) (headAt (m .heads) (p % 8) .ready) (p % 8)
-          → s ≡ tallyPut (m .tally) (shownEntry (m .tally .every) (v .entry)) → s′ ≡ tallyMoved s (v .counts)
-          → l ≡ logPut (m .log) (m .tally .records) (p % 8) (shownEntry (m .tally .every) (v .entry))
+          → s ≡ tallyPut (m .tally) (shownEntry (m .every) (v .entry)) → s′ ≡ tallyMoved s (v .counts)
+          → l ≡ logPut (m .log) (m .tally .records) (p % 8) (shownEntry (m .every) (v .entry))
           → playOf ws rs setting (record {
             heads = set hs (p % 8) (v .mover);
             cells = set (m .cells) n (v .cell);
             objects = set (m .objects) (m .tally .counts .objects % 33) (v .thing);
             places = qs;
             stack = x .stack;
+            every = m .every;
             tally = s′;
             log = l;
           }) ps (i + 1) ≡ playOf ws rs setting m (p ∷ ps) i

@@ -47,6 +47,7 @@ pub record Machine : Type 0 where
   pub objects : List Object
   pub places : List ℕ
   pub stack : Stack
+  pub every : Bool
   pub tally : Tally
   pub log : List ℕ
 
@@ -122,7 +123,7 @@ withYoung forks l q y = cond forks (set l q y) l
 
 -- the machine after a pick that was passed over, and after one that moved
 abbrev pub stayed : Machine → Stack → Machine
-stayed m k = record { heads = m .heads; cells = m .cells; objects = m .objects; places = m .places; stack = k; tally = m .tally; log = m .log }
+stayed m k = record { heads = m .heads; cells = m .cells; objects = m .objects; places = m .places; stack = k; every = m .every; tally = m .tally; log = m .log }
 
 abbrev pub after : Machine → ℕ → Move → Stack → Machine
 after m p v k =
@@ -132,8 +133,9 @@ after m p v k =
       objects = set (m .objects) (m .tally .counts .objects % 33) (v .thing);
       places = afterOf (m .places) (headAt (m .heads) p .ready) p;
       stack = k;
-      tally = tallyMoved (tallyPut (m .tally) (shownEntry (m .tally .every) (v .entry))) (v .counts);
-      log = logPut (m .log) (m .tally .records) p (shownEntry (m .tally .every) (v .entry));
+      every = m .every;
+      tally = tallyMoved (tallyPut (m .tally) (shownEntry (m .every) (v .entry))) (v .counts);
+      log = logPut (m .log) (m .tally .records) p (shownEntry (m .every) (v .entry));
     }
 
 -- the pick of thread p; an absent thread's is passed over
@@ -184,6 +186,7 @@ startOf every rs l =
       objects = replicate 33 noThing;
       places = replicate 8 0;
       stack = replicate 891 0;
-      tally = tallyFirst every;
+      every = every;
+      tally = tallyFirst;
       log = l;
     }

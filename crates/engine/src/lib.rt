@@ -123,7 +123,7 @@ pub fn run(
     let mut objects = [first_object(); 33];
     let mut places = [0u16; 8];
     let mut stack = [0usize; 891];
-    let mut tally = tally::first(every);
+    let mut tally = tally::first();
     let mut stop = Stop::End;
     let mut dealt = picks.len();
     let mut moves_before = 0;
@@ -167,7 +167,7 @@ pub fn run(
         let ready = head.ready;
         queue::after(&mut places, ready, thread);
         let entry = left.entry;
-        tally = tally::put_move(&mut *log, tally, thread, entry);
+        tally = tally::put_move(&mut *log, tally, every, thread, entry);
         if left.forks {
             let young = left.young;
             heads[counts.threads % 9] = young;

@@ -26,7 +26,7 @@ abbrev Inv-loop : tie.InvT-loop
 Inv-loop words roots setting every picks log₀ heads₀ cells₀ objects₀ places₀ stack₀ tally₀ stop₀ dealt₀ moves-before₀ records-before₀ i₀ i-end log heads cells objects places stack tally halt dealt moves-before records-before i =
     (i-end ≡ length picks) × (i ≤ length picks) × (tally .moves ≤ i) × (tally .records ≤ i) × (length log ≡ length log₀)
     × ((qs : List ℕ)
-    → playOf words roots setting (record { heads = heads; cells = cells; objects = objects; places = places; stack = stack; tally = tally; log = log }) qs i
+    → playOf words roots setting (record { heads = heads; cells = cells; objects = objects; places = places; stack = stack; every = every; tally = tally; log = log }) qs i
     ≡ playOf words roots setting (startOf every roots log₀) (take i picks ++ qs) 0)
     × (halt ≡ stop.End) × (dealt ≡ length picks) × (length places ≡ 8)
     × (moves-before ≡ playOf words roots setting (startOf every roots log₀) (take (i - 1) picks) 0 .outcome .moves)
@@ -79,6 +79,7 @@ machine l =
       objects = l .loop .objects;
       places = l .loop .places;
       stack = l .loop .stack;
+      every = every l;
       tally = l .loop .tally;
       log = l .loop .log;
     }
