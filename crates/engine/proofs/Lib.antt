@@ -1,2 +1,3 @@
 pub mod Looks
 pub mod Plays
+pub mod PassedOver

@@ -25,7 +25,7 @@ use Rattle.queue.specs.Queue.{afterOf}
 use Rattle.engine.specs.Machine.{Machine, Played, headAt, cellNumber, headOf, cellFirst, noThing, endOf, stopped, withYoung, stayed, after, pickedBy, turnBy, onAnswer, startOf, playOf}
 
 -- an answer that neither moves nor stops
-neither : (z : Answer) → OneOf (0 ∷ 2 ∷ []) (tagOf answer-type.the-type z) → OneOf (0 ∷ 1 ∷ []) (tagOf answer-type.the-type z) → z ≡ answer.Passed
+pub neither : (z : Answer) → OneOf (0 ∷ 2 ∷ []) (tagOf answer-type.the-type z) → OneOf (0 ∷ 1 ∷ []) (tagOf answer-type.the-type z) → z ≡ answer.Passed
 neither answer.Passed h k = refl
 neither (answer.Moved v) h k = absurd (miss (0 ∷ 2 ∷ []) 1 tt h)
 neither (answer.Stopped e y) h k = absurd (miss (0 ∷ 1 ∷ []) 2 tt k)

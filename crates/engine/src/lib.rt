@@ -104,7 +104,8 @@ pub struct Ran {
 }
 
 // The run of the picks from the start, with its records in the log, of every move or of those that have one; then what each of the eight threads would
-// meet. It owns arrays of structs, which no function can be lent, so both loops stand in it.
+// meet. It owns arrays of structs, which no function can be lent, so both loops stand in it. A thread whose pick was passed over is not looked at again
+// before the next move: nothing has changed that it would meet.
 pub fn run(
     words: &[usize; 1024],
     roots: &[usize; 32],
@@ -123,6 +124,7 @@ pub fn run(
     let mut objects = [first_object(); 33];
     let mut places = [0u16; 8];
     let mut stack = [0usize; 891];
+    let mut passed = [false; 8];
     let mut tally = tally::first();
     let mut stop = Stop::End;
     let mut dealt = picks.len();
@@ -134,6 +136,9 @@ pub fn run(
         let thread = (picks[i] % 8) as usize;
         let counts = tally.counts;
         if counts.threads <= thread {
+            continue;
+        }
+        if passed[thread] {
             continue;
         }
         let head = heads[thread];
@@ -157,6 +162,7 @@ pub fn run(
                 entry,
             } = answer
             else {
+                passed[thread] = true;
                 continue;
             };
             tally = tally::put(&mut *log, tally, thread, entry);
@@ -164,6 +170,7 @@ pub fn run(
             dealt = i;
             break;
         };
+        passed = [false; 8];
         let ready = head.ready;
         queue::after(&mut places, ready, thread);
         let entry = left.entry;

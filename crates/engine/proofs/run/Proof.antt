@@ -17,13 +17,14 @@ use Rattle.pick.specs.declared.Met.{Met}
 use Rattle.pick.specs.Pick.{Picked, pickOf}
 use Rattle.engine.specs.Machine.{Machine, Played, headAt, Placed, metAt, threadBy, threadsOf, endOf, pickedBy, startOf, playOf}
 use Rattle.engine.proofs.Looks.{met, putThread, all-threads}
-use Rattle.engine.proofs.Plays.{begins, absent-passed, passed, moved, stops, young-made, young-none, ends-as}
+use Rattle.engine.proofs.Plays.{neither, begins, absent-passed, passed, moved, stops, young-made, young-none, ends-as}
+use Rattle.engine.proofs.PassedOver.{Marked, none-marked, marked-too, passed-again}
 use borrow.Author.Needs.{needs}
 use Rattle.engine.proofs.run.Statement.{statement}
 use Rattle.engine.proofs.run.Tie as tie
 
 abbrev Inv-loop : tie.InvT-loop
-Inv-loop words roots setting every picks log₀ heads₀ cells₀ objects₀ places₀ stack₀ tally₀ stop₀ dealt₀ moves-before₀ records-before₀ i₀ i-end log heads cells objects places stack tally halt dealt moves-before records-before i =
+Inv-loop words roots setting every picks log₀ heads₀ cells₀ objects₀ places₀ stack₀ passed₀ tally₀ stop₀ dealt₀ moves-before₀ records-before₀ i₀ i-end log heads cells objects places stack passed tally halt dealt moves-before records-before i =
     (i-end ≡ length picks) × (i ≤ length picks) × (tally .moves ≤ i) × (tally .records ≤ i) × (length log ≡ length log₀)
     × ((qs : List ℕ)
     → playOf words roots setting (record { heads = heads; cells = cells; objects = objects; places = places; stack = stack; every = every; tally = tally; log = log }) qs i
@@ -31,9 +32,10 @@ Inv-loop words roots setting every picks log₀ heads₀ cells₀ objects₀ pla
     × (halt ≡ stop.End) × (dealt ≡ length picks) × (length places ≡ 8)
     × (moves-before ≡ playOf words roots setting (startOf every roots log₀) (take (i - 1) picks) 0 .outcome .moves)
     × (records-before ≡ playOf words roots setting (startOf every roots log₀) (take (i - 1) picks) 0 .outcome .records)
+    × Marked words roots setting (record { heads = heads; cells = cells; objects = objects; places = places; stack = stack; every = every; tally = tally; log = log }) passed
 
 abbrev μ-loop : tie.MeasureT-loop
-μ-loop words roots setting every picks log₀ heads₀ cells₀ objects₀ places₀ stack₀ tally₀ stop₀ dealt₀ moves-before₀ records-before₀ i₀ i-end log heads cells objects places stack tally halt dealt moves-before records-before i = length picks - i
+μ-loop words roots setting every picks log₀ heads₀ cells₀ objects₀ places₀ stack₀ passed₀ tally₀ stop₀ dealt₀ moves-before₀ records-before₀ i₀ i-end log heads cells objects places stack passed tally halt dealt moves-before records-before i = length picks - i
 
 abbrev Inv-loop2 : tie.InvT-loop2
 Inv-loop2 words roots setting every picks log heads cells objects places tally halt dealt moves-before records-before counts threads₀ thread₀ threads thread =
@@ -135,6 +137,7 @@ loop-holds c =
       refl,
       unfold playOf startOf in refl,
       unfold playOf startOf in refl,
+      none-marked (a .words .now) (a .roots .now) (a .setting) _,
     )
 
 -- ---- the pick of a thread that is not there
@@ -143,8 +146,41 @@ loop-again : tie.Need-loop-again Inv-loop μ-loop Inv-loop2 μ-loop2
 loop-again c =
     let l = c .before .before .before .before .before in
     let v = l .loop .inv in
-    let t = c .before .before .before .before .loop-test .taken in
-    (v .0, omega arith, omega arith, omega arith, v .4, λ qs. absent-passed (words l) (roots l) (setting l) (machine l) (pick l) qs (l .loop .i) (c .if1 .taken) ∙ next l (omega arith) qs, v .6, v .7, v .8, moves-before l (l .loop .i + 1 - 1) (omega arith), records-before l (l .loop .i + 1 - 1) (omega arith))
+    let t = c .before .before .before .before .loop-test .taken in (
+      v .0,
+      omega arith,
+      omega arith,
+      omega arith,
+      v .4,
+      λ qs. absent-passed (words l) (roots l) (setting l) (machine l) (pick l) qs (l .loop .i) (c .if1 .taken) ∙ next l (omega arith) qs,
+      v .6,
+      v .7,
+      v .8,
+      moves-before l (l .loop .i + 1 - 1) (omega arith),
+      records-before l (l .loop .i + 1 - 1) (omega arith),
+      v .11,
+    )
+
+-- ---- the pick of one that was passed over since the last move
+
+loop-again-2 : tie.Need-loop-again-2 Inv-loop μ-loop Inv-loop2 μ-loop2
+loop-again-2 c =
+    let l = c .before .before .before .before .before .before in
+    let v = l .loop .inv in
+    let t = c .before .before .before .before .before .loop-test .taken in (
+      v .0,
+      omega arith,
+      omega arith,
+      omega arith,
+      v .4,
+      λ qs. passed-again (words l) (roots l) (setting l) (machine l) (pick l) qs (l .loop .i) (v .11 (pick l % 8) (c .if2 .taken)) ∙ next l (omega arith) qs,
+      v .6,
+      v .7,
+      v .8,
+      moves-before l (l .loop .i + 1 - 1) (omega arith),
+      records-before l (l .loop .i + 1 - 1) (omega arith),
+      v .11,
+    )
 
 -- ---- a pick that is passed over
 
@@ -152,7 +188,7 @@ abbrev Answered : Type 0
 Answered = tie.After-pick Inv-loop μ-loop Inv-loop2 μ-loop2
 
 abbrev turn : Answered → Turn
-turn c = c .before .before .before .before .before .before .before .before .before .before .before .before .before
+turn c = c .before .before .before .before .before .before .before .before .before .before .before .before .before .before
 
 abbrev given : Answered → Picked
 given c = record { stack = c .pick .last .1 .1 .0; answer = c .pick .result }
@@ -164,7 +200,7 @@ came : (c : Answered) → given c ≡ pickedBy (words (turn c)) (roots (turn c))
 came c = answered (turn c) (placed c .cell-of .result) (given c) (placed c .cell-of .ensures) (c .pick .ensures)
 
 begun : (c : Answered) → turn c .loop .i < length (list (turn c))
-begun c = omega (arith, c .before .before .before .before .before .before .before .before .before .before .before .before .loop-test .taken, turn c .loop .inv .0)
+begun c = omega (arith, c .before .before .before .before .before .before .before .before .before .before .before .before .before .loop-test .taken, turn c .loop .inv .0)
 
 few : (c : Answered) → turn c .loop .i < 4096
 few c = omega (arith, begun c, start (turn c) .pre .0)
@@ -173,8 +209,8 @@ few c = omega (arith, begun c, start (turn c) .pre .0)
 fits : (c : Answered) → (turn c .loop .tally .records * 3 + 3 ≤ length (turn c .loop .log)) × (turn c .loop .tally .records ≤ 4096)
 fits c = let v = turn c .loop .inv in (omega (arith, v .3, v .4, begun c, start (turn c) .pre .1), omega (arith, v .3, few c))
 
-loop-again-2 : tie.Need-loop-again-2 Inv-loop μ-loop Inv-loop2 μ-loop2
-loop-again-2 c =
+loop-again-3 : tie.Need-loop-again-3 Inv-loop μ-loop Inv-loop2 μ-loop2
+loop-again-3 c =
     let x = c .before .before in
     let l = turn x in
     let v = l .loop .inv in
@@ -184,12 +220,13 @@ loop-again-2 c =
       omega arith,
       omega arith,
       v .4,
-      λ qs. passed (words l) (roots l) (setting l) (machine l) (pick l) qs (l .loop .i) (given x) (x .before .before .before .before .before .before .before .before .if1 .left) (came x) (c .before .match .keys2) (c .match2 .keys2) ∙ next l t qs,
+      λ qs. passed (words l) (roots l) (setting l) (machine l) (pick l) qs (l .loop .i) (given x) (x .before .before .before .before .before .before .before .before .before .if1 .left) (came x) (c .before .match .keys2) (c .match2 .keys2) ∙ next l t qs,
       v .6,
       v .7,
       v .8,
       moves-before l (l .loop .i + 1 - 1) (omega arith),
       records-before l (l .loop .i + 1 - 1) (omega arith),
+      marked-too (words l) (roots l) (setting l) (machine l) (l .loop .passed) (pick l % 8) (given x) (x .before .before .before .before .before .before .before .before .before .if1 .left) (came x) (neither (x .pick .result) (c .before .match .keys2) (c .match2 .keys2)) (v .11),
     )
 
 -- ---- a pick that moves, or stops the run
@@ -206,15 +243,15 @@ moved-requires c κs =
     let e : c .before .before .before .before .before .before .before .before .put-move .result .moves ≡ turn x .loop .tally .moves = ap (λ (s : Tally). s .moves) (c .before .before .before .before .before .before .before .before .put-move .ensures .0 .0) in
     omega (arith, e, turn x .loop .inv .2, few x)
 
-loop-again-3 : tie.Need-loop-again-3 Inv-loop μ-loop Inv-loop2 μ-loop2
-loop-again-3 c =
+loop-again-4 : tie.Need-loop-again-4 Inv-loop μ-loop Inv-loop2 μ-loop2
+loop-again-4 c =
     let x = c .before .before .before .before .before .before .before .before .before .before .before .before .before .before .before .before .before .before .before in
     let l = turn x in
     let v = l .loop .inv in
     let t = begun x in
     let put = c .before .before .before .before .before .before .before .before .before .put-move in
     let queue = c .before .before .before .before .before .before .before .before .before .before .before .before .before .after in
-    let j = c .before .before .before .before .before .before .if2 in
+    let j = c .before .before .before .before .before .before .if3 in
     let before : put .result .moves ≡ l .loop .tally .moves = ap (λ (s : Tally). s .moves) (put .ensures .0 .0) in
     let moves : c .moved .result .moves ≡ put .result .moves + 1 = ap (λ (s : Tally). s .moves) (c .moved .ensures .0) in
     let records : c .moved .result .records ≡ put .result .records = ap (λ (s : Tally). s .records) (c .moved .ensures .0) in (
@@ -223,7 +260,7 @@ loop-again-3 c =
       omega (arith, before, moves, v .2),
       omega (arith, records, put .ensures .0 .1, v .3),
       put .kept .0 ∙ v .4,
-      λ qs. moved (words l) (roots l) (setting l) (machine l) (pick l) qs (l .loop .i) (given x) (x .before .before .before .before .before .before .before .before .if1 .left) (came x) (c .before .before .before .before .before .before .before .before .before .before .before .before .before .before .before .before .before .answer .given .1) (placed x .cell-of .result) (j .heads) (queue .last .0) (put .result) (c .moved .result) (put .last .0)
+      λ qs. moved (words l) (roots l) (setting l) (machine l) (pick l) qs (l .loop .i) (given x) (x .before .before .before .before .before .before .before .before .before .if1 .left) (came x) (c .before .before .before .before .before .before .before .before .before .before .before .before .before .before .before .before .before .answer .given .1) (placed x .cell-of .result) (j .heads) (queue .last .0) (put .result) (c .moved .result) (put .last .0)
           (placed x .cell-of .ensures .cell)
           (⊎-elim (λ w. young-made _ (l .loop .heads) _ (l .loop .tally .counts .threads % 9) _ (w .0 .taken) (w .3)) (λ w. young-none _ (l .loop .heads) _ (l .loop .tally .counts .threads % 9) _ (w .0 .left) (w .1)) (j .came))
           (queue .ensures) (put .ensures .0 .0) (c .moved .ensures .0) (put .ensures .1)
@@ -233,6 +270,7 @@ loop-again-3 c =
       queue .kept .0 ∙ v .8,
       moves-before l (l .loop .i + 1 - 1) (omega arith),
       records-before l (l .loop .i + 1 - 1) (omega arith),
+      none-marked (words l) (roots l) (setting l) _,
     )
 
 -- ---- the end of the run
@@ -255,8 +293,8 @@ ended c =
     let i : l .loop .dealt ≡ l .loop .i = omega (arith, t, v .1, v .7) in
     let q : playOf (words l) (roots l) (setting l) (machine l) [] (l .loop .i) ≡ whole l = before l (length (list l)) (omega arith) ∙ ap (played l) (take-length (list l)) in
     ends-as (setting l) (l .loop .heads) (l .loop .cells) (l .loop .objects) (l .loop .places) _ _ _ _ _ _ _ _ (w .3 ∙ v .6) (w .4 ∙ i) (w .2) (w .1) ∙ q) (λ w.
-    stops (words l) (roots l) (setting l) (machine l) (pick l) (later l) (l .loop .i) (record { stack = w .12 .last .1 .1 .0; answer = w .12 .result }) (w .4 .left)
-    (answered l (w .6 .result) _ (w .6 .ensures) (w .12 .ensures)) (w .15 .given .1) _ _ _ _ (w .23) (w .24) (w .22 ∙ w .18 .ensures .0 .0) (w .21 ∙ w .18 .ensures .1)
+    stops (words l) (roots l) (setting l) (machine l) (pick l) (later l) (l .loop .i) (record { stack = w .13 .last .1 .1 .0; answer = w .13 .result }) (w .4 .left)
+    (answered l (w .7 .result) _ (w .7 .ensures) (w .13 .ensures)) (w .16 .given .1) _ _ _ _ (w .24) (w .25) (w .23 ∙ w .19 .ensures .0 .0) (w .22 ∙ w .19 .ensures .1)
     ∙ rest l (omega (arith, w .0 .taken, v .0))) (c .loop-test .came)
 
 -- the counts before the last pick that was met
@@ -279,12 +317,12 @@ module _ (c : Left) where
   counted-moves : c .loop-test .moves-before ≡ played l (take k (list l)) .outcome .moves
   counted-moves =
       ⊎-elim (λ w. w .5 ∙ l .loop .inv .9 ∙ ap (λ (n : ℕ). played l (take n (list l)) .outcome .moves) (at-end (omega (arith, w .0 .left, l .loop .inv .0)) (w .4)))
-      (λ w. w .25 ∙ moves-before l k (at-stop (omega (arith, w .0 .taken, l .loop .inv .0)) (w .24))) (c .loop-test .came)
+      (λ w. w .26 ∙ moves-before l k (at-stop (omega (arith, w .0 .taken, l .loop .inv .0)) (w .25))) (c .loop-test .came)
 
   counted-records : c .loop-test .records-before ≡ played l (take k (list l)) .outcome .records
   counted-records =
       ⊎-elim (λ w. w .6 ∙ l .loop .inv .10 ∙ ap (λ (n : ℕ). played l (take n (list l)) .outcome .records) (at-end (omega (arith, w .0 .left, l .loop .inv .0)) (w .4)))
-      (λ w. w .26 ∙ records-before l k (at-stop (omega (arith, w .0 .taken, l .loop .inv .0)) (w .24))) (c .loop-test .came)
+      (λ w. w .27 ∙ records-before l k (at-stop (omega (arith, w .0 .taken, l .loop .inv .0)) (w .25))) (c .loop-test .came)
 
 abbrev Last : Type 0
 Last = tie.At-loop2 Inv-loop μ-loop Inv-loop2 μ-loop2
@@ -318,7 +356,7 @@ same-length : tie.Need-same-length Inv-loop μ-loop Inv-loop2 μ-loop2
 same-length c =
     let l = left (c .before) in
     let v = l .before .loop .inv in
-    ⊎-elim (λ w. ap length (w .1) ∙ v .4) (λ w. ap length (w .21) ∙ w .18 .kept .0 ∙ v .4) (l .loop-test .came)
+    ⊎-elim (λ w. ap length (w .1) ∙ v .4) (λ w. ap length (w .22) ∙ w .19 .kept .0 ∙ v .4) (l .loop-test .came)
 
 returns : tie.Need-returns Inv-loop μ-loop Inv-loop2 μ-loop2
 returns c =
@@ -344,13 +382,16 @@ run-spec =
     -- the thread of a pick, which is absent
     (λ c. search needs) (λ c. search needs) (λ c. record { fits = omega (arith, c .before .before .before .before .loop-test .taken, c .before .before .before .before .before .before .before .before .before .before .before .before .before .pre .0) })
     (λ c. omega (arith, c .before .before .before .before .loop-test .taken, c .before .before .before .before .before .loop .inv .0)) loop-again
+    -- which was passed over since the last move
+    (λ c. search needs) (λ c. record { fits = omega (arith, c .before .before .before .before .before .loop-test .taken, c .before .before .before .before .before .before .before .before .before .before .before .before .before .before .pre .0) })
+    (λ c. omega (arith, c .before .before .before .before .before .loop-test .taken, c .before .before .before .before .before .before .loop .inv .0)) loop-again-2
     -- what the pick meets
     (λ c. search needs) (λ c. search needs) (λ c κs. search needs) (λ c. search needs) (λ c. search needs) (λ c. search needs) (λ c. search needs)
     (λ c. search needs) (λ c. search needs) (λ c. search needs) (λ c. search needs)
     -- its answer
     (λ c κs. search needs) (λ c. search needs) (λ c. search needs)
     -- it is passed over
-    (λ c. record { fits = omega (arith, few (c .before .before)) }) (λ c. omega (arith, begun (c .before .before))) loop-again-2
+    (λ c. search needs) (λ c. record { fits = omega (arith, few (c .before .before)) }) (λ c. omega (arith, begun (c .before .before))) loop-again-3
     -- it stops, or the queues are changed and its record is put
     (λ c κs. fits (c .before .before .before .before .before)) slice-aggregate-after after-requires (λ c κs. fits (c .before .before .before .before .before .before .before .before .before))
     -- a new thread, the mover, the cell, the object
@@ -358,7 +399,7 @@ run-spec =
     (λ c. record { fits = omega (arith, placed (c .before .before .before .before .before .before .before .before .before .before .before .before .before .before .before .before .before) .cell-of .ensures .inside) }) (λ c. omega (arith, placed (c .before .before .before .before .before .before .before .before .before .before .before .before .before .before .before .before .before) .cell-of .ensures .inside))
     (λ c. search needs) (λ c. search needs)
     -- the counts, and the next pick
-    moved-requires (λ c. record { fits = omega (arith, few (c .before .before .before .before .before .before .before .before .before .before .before .before .before .before .before .before .before .before .before)) }) (λ c. omega (arith, begun (c .before .before .before .before .before .before .before .before .before .before .before .before .before .before .before .before .before .before .before))) loop-again-3
+    moved-requires (λ c. record { fits = omega (arith, few (c .before .before .before .before .before .before .before .before .before .before .before .before .before .before .before .before .before .before .before)) }) (λ c. omega (arith, begun (c .before .before .before .before .before .before .before .before .before .before .before .before .before .before .before .before .before .before .before))) loop-again-4
     -- the threads at the end
     (λ c κs. search needs) loop2-holds (λ c. search needs) (λ c. search needs) (λ c κs. search needs) (λ c. search needs) (λ c. search needs)
     (λ c. search needs) (λ c. search needs) (λ c. search needs) (λ c. search needs) (λ c. search needs) (λ c. search needs) (λ c κs. search needs) (λ c. search needs)
