@@ -5,7 +5,7 @@ use mathlib.Core.Bool.{Bool, cond}
 use mathlib.Core.List.{List, [], _∷_}
 use lib.Dec.{leb}
 use lib.ListN.{length, getD, set, take, replicate}
-use Rattle.keys.specs.KeySet.{emptySet, zeroSet}
+use Rattle.keys.specs.KeySet.{zeroSet}
 use Rattle.frames.specs.Parts.{Part as part}
 use Rattle.frames.specs.declared.go.Ready.{Ready}
 use Rattle.frames.specs.Going.{readyOf}
@@ -34,9 +34,9 @@ use Rattle.engine.specs.declared.Ran.{Ran}
 use Rattle.tally.specs.declared.Tally.{Tally}
 use Rattle.tally.specs.Tally.{shownEntry, tallyFirst, tallyPut, tallyMoved, logPut}
 
--- past the end of a list: zeros, no keys
+-- past the end of a list: a first cell, zeros
 abbrev pub noCell : Cell
-noCell = record { value = 0; key = 0; keys = emptySet }
+noCell = record { value = 0; key = 0; keys = zeroSet }
 
 abbrev pub noThing : Object
 noThing = record { mask = 0; thread = 0 }

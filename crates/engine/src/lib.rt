@@ -4,7 +4,7 @@
 ghost use mathlib.Core.Path.{_≡_};
 ghost use Prim.Native.Nat.{_<_, _≤_, _+_, _*_};
 ghost use lib.ListN.{length};
-ghost use Rattle.engine.specs.Machine.{Placed, headOf, cellFirst, noThing, absent, threadBy, startOf, playOf, CountedBefore};
+ghost use Rattle.engine.specs.Machine.{Placed, headOf, noThing, absent, threadBy, startOf, playOf, CountedBefore};
 use frames::go;
 use frames::part;
 use keys::KeySet;
@@ -14,12 +14,12 @@ use run_outcome::Outcome;
 use run_outcome::Stop;
 use run_outcome::Thread;
 use run_outcome::ThreadState;
-use state::Cell;
 use state::Counts;
 use state::Head;
 use state::Object;
 use state::Setting;
-use state::acted::cell_with;
+
+pub mod kept;
 
 // About to call main.
 fn first_head(root: usize) -> Head
@@ -34,13 +34,6 @@ fn first_head(root: usize) -> Head
         keys: one,
         learnt: 0,
     }
-}
-
-// Null, with key 0.
-fn first_cell() -> Cell
-    ensures { λ r. ⌜ r ≡ cellFirst ⌝ }
-{
-    cell_with(0, 0, KeySet::zero())
 }
 
 // No fields; the first object stands for thread 0.
@@ -120,7 +113,7 @@ pub fn run(
     ensures before { λ r. ⌜ CountedBefore (now (words .entry)) (now (roots .entry)) setting (startOf every (now (roots .entry)) (now (log .entry))) (now (picks .entry)) r ⌝ }
 {
     let mut heads = [first_head(roots[0]); 16];
-    let mut cells = [first_cell(); 1024];
+    let mut cells = [kept::zeros(); 1024];
     let mut objects = [first_object(); 33];
     let mut places = [0u16; 8];
     let mut stack = [0usize; 891];
@@ -143,7 +136,8 @@ pub fn run(
         }
         let head = heads[thread];
         let number = cell_of(head);
-        let cell = cells[number];
+        let stored = cells[number];
+        let cell = kept::restore(stored);
         let thing = objects[number / 32];
         let other = heads[thing.thread % 16];
         let met = Met {
@@ -184,7 +178,9 @@ pub fn run(
         let made = left.thing;
         let counted = left.counts;
         heads[thread] = mover;
-        cells[number] = changed;
+        if act::changes(ready.part) {
+            cells[number] = kept::keep(changed);
+        }
         objects[counts.objects % 33] = made;
         tally = tally::moved(tally, counted);
     }
@@ -193,7 +189,8 @@ pub fn run(
     for thread in 0..8 {
         let head = heads[thread];
         let number = cell_of(head);
-        let cell = cells[number];
+        let stored = cells[number];
+        let cell = kept::restore(stored);
         let thing = objects[number / 32];
         let other = heads[thing.thread % 16];
         let met = Met {
