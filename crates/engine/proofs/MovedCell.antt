@@ -48,8 +48,10 @@ module _ (ws rs : List ℕ) (setting : Setting) (v : Move) where
   made-is x (act.Done a) k h = land-is x a _ h
   made-is x (act.NoRoom r) k h = stopped-is v (x .cell) r h
 
-  seen-is : (x : Met) (s : Sight) (k : Stack) → changesBy (x .head .ready .part) ≡ false → pickBy ws rs setting x s k .answer ≡ answer.Moved v → v .cell ≡ x .cell
-  seen-is x sight.Ready k n h = made-is x (actMet setting x) k h ∙ leaves (x .head .ready .part) setting (x .counts) (x .head) (x .cell) (x .thing) (x .other) n
+  seen-is : (x : Met) (s : Sight) (k : Stack) → changesBy (x .head .ready .part) ≡ false
+      → pickBy ws rs setting x s k .answer ≡ answer.Moved v → v .cell ≡ x .cell
+  seen-is x sight.Ready k n h =
+      made-is x (actMet setting x) k h ∙ leaves (x .head .ready .part) setting (x .counts) (x .head) (x .cell) (x .thing) (x .other) n
   seen-is x sight.Lacking k n h = absurd (let z : _≡_ {A = ℕ} 0 1 = cc in omega arith)
   seen-is x (sight.Blocked b) k n h = absurd (let z : _≡_ {A = ℕ} 0 1 = cc in omega arith)
 

@@ -20,7 +20,7 @@ use Rattle.pick.proofs.Answer as answer-type
 use Rattle.pick.specs.declared.Move.{Move}
 use Rattle.pick.specs.declared.Answer.{Answer}
 use Rattle.pick.specs.declared.Answer.the-variants as answer
-use Rattle.pick.specs.Pick.{Picked}
+use Rattle.pick.specs.Pick.{noHead, Picked}
 use Rattle.queue.specs.Queue.{afterOf}
 use Rattle.engine.specs.Machine.{Machine, Played, headAt, cellNumber, headOf, cellFirst, noThing, endOf, stopped, withYoung, stayed, after, pickedBy, turnBy, onAnswer, startOf, playOf}
 
@@ -31,10 +31,10 @@ neither (answer.Moved v) h k = absurd (miss (0 ∷ 2 ∷ []) 1 tt h)
 neither (answer.Stopped e y) h k = absurd (miss (0 ∷ 1 ∷ []) 2 tt k)
 
 module _ (ws rs : List ℕ) (setting : Setting) where
-  abbrev begun : Bool → Head → List Cell → Object → Tally → List ℕ → Machine
-  begun every h cs t s l =
+  abbrev begun : Bool → Head → Head → List Cell → Object → Tally → List ℕ → Machine
+  begun every n h cs t s l =
       record {
-        heads = replicate 16 h;
+        heads = set (replicate 16 n) 0 h;
         cells = cs;
         objects = replicate 33 t;
         places = replicate 8 0;
@@ -44,14 +44,16 @@ module _ (ws rs : List ℕ) (setting : Setting) where
         log = l;
       }
 
-  pub begins : (every : Bool) (ps l : List ℕ) (h : Head) (cs : List Cell) (t : Object) (s : Tally) → h ≡ headOf (getD rs 0 0) → cs ≡ replicate 1024 cellFirst → t ≡ noThing → s ≡ tallyFirst
-      → playOf ws rs setting (begun every h cs t s l) ps 0 ≡ playOf ws rs setting (startOf every rs l) ps 0
+  pub begins : (every : Bool) (ps l : List ℕ) (n h : Head) (cs : List Cell) (t : Object) (s : Tally)
+      → n ≡ noHead → h ≡ headOf (getD rs 0 0) → cs ≡ replicate 1024 cellFirst → t ≡ noThing → s ≡ tallyFirst
+      → playOf ws rs setting (begun every n h cs t s l) ps 0 ≡ playOf ws rs setting (startOf every rs l) ps 0
   unfolding startOf
-  begins every ps l h cs t s qh qc qt qs =
-      ap (λ (h : Head). playOf ws rs setting (begun every h cs t s l) ps 0) qh
-      ∙ ap (λ (cs : List Cell). playOf ws rs setting (begun every (headOf (getD rs 0 0)) cs t s l) ps 0) qc
-      ∙ ap (λ (t : Object). playOf ws rs setting (begun every (headOf (getD rs 0 0)) (replicate 1024 cellFirst) t s l) ps 0) qt
-      ∙ ap (λ (s : Tally). playOf ws rs setting (begun every (headOf (getD rs 0 0)) (replicate 1024 cellFirst) noThing s l) ps 0) qs
+  begins every ps l n h cs t s qn qh qc qt qs =
+      ap (λ (n : Head). playOf ws rs setting (begun every n h cs t s l) ps 0) qn
+      ∙ ap (λ (h : Head). playOf ws rs setting (begun every noHead h cs t s l) ps 0) qh
+      ∙ ap (λ (cs : List Cell). playOf ws rs setting (begun every noHead (headOf (getD rs 0 0)) cs t s l) ps 0) qc
+      ∙ ap (λ (t : Object). playOf ws rs setting (begun every noHead (headOf (getD rs 0 0)) (replicate 1024 cellFirst) t s l) ps 0) qt
+      ∙ ap (λ (s : Tally). playOf ws rs setting (begun every noHead (headOf (getD rs 0 0)) (replicate 1024 cellFirst) noThing s l) ps 0) qs
 
   module _ (m : Machine) (p : ℕ) (ps : List ℕ) (i : ℕ) where
     -- the pick of a thread that is not there

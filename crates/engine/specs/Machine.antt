@@ -123,7 +123,8 @@ withYoung forks l q y = cond forks (set l q y) l
 
 -- the machine after a pick that was passed over, and after one that moved
 abbrev pub stayed : Machine → Stack → Machine
-stayed m k = record { heads = m .heads; cells = m .cells; objects = m .objects; places = m .places; stack = k; every = m .every; tally = m .tally; log = m .log }
+stayed m k =
+    record { heads = m .heads; cells = m .cells; objects = m .objects; places = m .places; stack = k; every = m .every; tally = m .tally; log = m .log }
 
 abbrev pub after : Machine → ℕ → Move → Stack → Machine
 after m p v k =
@@ -181,7 +182,7 @@ cellFirst = cellOf 0 0 zeroSet
 unfoldable pub startOf : Bool → List ℕ → List ℕ → Machine
 startOf every rs l =
     record {
-      heads = replicate 16 (headOf (getD rs 0 0));
+      heads = set (replicate 16 noHead) 0 (headOf (getD rs 0 0));
       cells = replicate 1024 cellFirst;
       objects = replicate 33 noThing;
       places = replicate 8 0;

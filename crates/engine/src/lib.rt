@@ -112,7 +112,8 @@ pub fn run(
     ensures area { λ r. ⌜ now (log .exit) ≡ playOf (now (words .entry)) (now (roots .entry)) setting (startOf every (now (roots .entry)) (now (log .entry))) (now (picks .entry)) 0 .area ⌝ }
     ensures before { λ r. ⌜ CountedBefore (now (words .entry)) (now (roots .entry)) setting (startOf every (now (roots .entry)) (now (log .entry))) (now (picks .entry)) r ⌝ }
 {
-    let mut heads = [first_head(roots[0]); 16];
+    let mut heads = [pick::no_head(); 16];
+    heads[0] = first_head(roots[0]);
     let mut cells = [kept::zeros(); 1024];
     let mut objects = [first_object(); 33];
     let mut places = [0u16; 8];

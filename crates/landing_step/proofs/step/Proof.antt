@@ -46,7 +46,8 @@ unfolding stepOf
 returns-3 c =
     let a = c .before .before .before .before .args in
     simp (c .wanted .ensures, c .before .listed .ensures, c .before .before .opened .ensures)
-    (sym (step-other (a .go .stage) (a .words .now) (a .roots .now) (a .go) (a .depth) (frameAt (a .stack .now) (a .place)) (c .before .before .before .match .keys3)))
+    (sym (step-other (a .go .stage) (a .words .now) (a .roots .now) (a .go) (a .depth) (frameAt (a .stack .now) (a .place))
+    (c .before .before .before .match .keys3)))
 
 pub step-spec : {M : Type 1} → statement M
 step-spec =
