@@ -1,8 +1,9 @@
 -- Act: what a move does, by value. The machine that the code runs; no reader of the entries' promises needs it. Assumes nothing.
 use Prim.Native.Nat.{ℕ}
-use mathlib.Core.Bool.{cond}
+use mathlib.Core.Bool.{Bool, true, cond}
+use lib.Dec.{leb}
 use Rattle.frames.specs.declared.frame.Kind.the-variants as kind
-use Rattle.frames.specs.Parts.{Part as part, isPart}
+use Rattle.frames.specs.Parts.{Part as part, numberOf, isPart}
 use Rattle.frames.specs.declared.go.Ready.{Ready}
 use Rattle.frames.specs.declared.go.Go.{Go}
 use Rattle.frames.specs.Frames.{framed}
@@ -31,6 +32,10 @@ pureBy p r =
 
 abbrev pub actPure : Head → Go
 actPure h = pureBy (h .ready .part) (h .ready)
+
+-- whether a move of part p may change its cell: a write, a synch, a release, a signal, a thread that wakes
+unfoldable pub changesBy : ℕ → Bool
+changesBy p = cond (isPart part.Write p) true (leb (numberOf part.Synch) p)
 
 -- what the move of part p does
 unfoldable pub actBy : ℕ → Setting → Counts → Head → Cell → Object → Head → Act

@@ -1,6 +1,6 @@
 // Act: what a move does, by value.
 ghost use mathlib.Core.Path.{_≡_};
-ghost use Rattle.act.specs.Act.{actPure, actOf};
+ghost use Rattle.act.specs.Act.{actPure, changesBy, actOf};
 use frames::frame;
 use frames::frame::Kind;
 use frames::go;
@@ -42,6 +42,16 @@ fn act_pure(head: Head) -> Go
         )),
         _ => go::full(),
     }
+}
+
+// Whether a move of the part may change its cell.
+pub fn changes(part: usize) -> bool
+    ensures { λ r. ⌜ r ≡ changesBy part ⌝ }
+{
+    if part == part::WRITE {
+        return true;
+    }
+    part::SYNCH <= part
 }
 
 // What the move of a thread that can move does.

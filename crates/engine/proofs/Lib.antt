@@ -1,2 +1,5 @@
 pub mod Looks
 pub mod Plays
+pub mod PassedOver
+pub mod Restored
+pub mod MovedCell

@@ -1,8 +1,8 @@
 -- What a pick meets, found by its cell's number; the threads at the end, seen one after the other. Assumes nothing.
 use mathlib.Core.Path.{_≡_, refl}
 use mathlib.Core.List.{List}
-use Prim.Native.Nat.{ℕ, _/_}
-use lib.ListN.{set, replicate}
+use Prim.Native.Nat.{ℕ, _/_, _%_}
+use lib.ListN.{getD, set, replicate}
 use Rattle.format.proofs.Turns.{turns}
 use Rattle.run_outcome.specs.declared.Thread.{Thread}
 use Rattle.state.specs.declared.Setting.{Setting}
@@ -10,12 +10,27 @@ use Rattle.state.specs.declared.Head.{Head}
 use Rattle.state.specs.declared.Cell.{Cell}
 use Rattle.state.specs.declared.Object.{Object}
 use Rattle.state.specs.declared.Counts.{Counts}
-use Rattle.engine.specs.Machine.{headAt, Placed, metAt, metBy, absent, threadAt, threadsOf}
+use Rattle.pick.specs.declared.Met.{Met}
+use Rattle.pick.specs.Pick.{noHead}
+use Rattle.engine.specs.Machine.{noCell, noThing, headAt, Placed, metBy, absent, threadAt, threadsOf}
 
 module _ (n : Counts) (l : List Head) (cs : List Cell) (ts : List Object) (qs : List ℕ) where
-  pub met : (p k : ℕ) → Placed (headAt l p .ready) k → metAt n l cs ts qs p k (k / 32) ≡ metBy n l cs ts qs p
+  -- with the cell c, of the object at o
+  abbrev pub metWith : ℕ → Cell → ℕ → Met
+  metWith p c o =
+      record {
+        counts = n;
+        head = headAt l p;
+        cell = c;
+        thing = getD ts o noThing;
+        other = getD l (getD ts o noThing .thread % 16) noHead;
+        thread = p;
+        place = getD qs p 0;
+      }
+
+  pub met : (p k : ℕ) (c : Cell) → Placed (headAt l p .ready) k → c ≡ getD cs k noCell → metWith p c (k / 32) ≡ metBy n l cs ts qs p
   unfolding metBy
-  met p k q = rw (q .object, q .cell)
+  met p k c q e = rw (e, q .object, q .cell)
 
   module _ (setting : Setting) where
     -- a thread put at its number

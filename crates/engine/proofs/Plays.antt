@@ -20,37 +20,40 @@ use Rattle.pick.proofs.Answer as answer-type
 use Rattle.pick.specs.declared.Move.{Move}
 use Rattle.pick.specs.declared.Answer.{Answer}
 use Rattle.pick.specs.declared.Answer.the-variants as answer
-use Rattle.pick.specs.Pick.{Picked}
+use Rattle.pick.specs.Pick.{noHead, Picked}
 use Rattle.queue.specs.Queue.{afterOf}
 use Rattle.engine.specs.Machine.{Machine, Played, headAt, cellNumber, headOf, cellFirst, noThing, endOf, stopped, withYoung, stayed, after, pickedBy, turnBy, onAnswer, startOf, playOf}
 
 -- an answer that neither moves nor stops
-neither : (z : Answer) → OneOf (0 ∷ 2 ∷ []) (tagOf answer-type.the-type z) → OneOf (0 ∷ 1 ∷ []) (tagOf answer-type.the-type z) → z ≡ answer.Passed
+pub neither : (z : Answer) → OneOf (0 ∷ 2 ∷ []) (tagOf answer-type.the-type z) → OneOf (0 ∷ 1 ∷ []) (tagOf answer-type.the-type z) → z ≡ answer.Passed
 neither answer.Passed h k = refl
 neither (answer.Moved v) h k = absurd (miss (0 ∷ 2 ∷ []) 1 tt h)
 neither (answer.Stopped e y) h k = absurd (miss (0 ∷ 1 ∷ []) 2 tt k)
 
 module _ (ws rs : List ℕ) (setting : Setting) where
-  abbrev begun : Head → Cell → Object → Tally → List ℕ → Machine
-  begun h c t s l =
+  abbrev begun : Bool → Head → Head → List Cell → Object → Tally → List ℕ → Machine
+  begun every n h cs t s l =
       record {
-        heads = replicate 16 h;
-        cells = replicate 1024 c;
+        heads = set (replicate 16 n) 0 h;
+        cells = cs;
         objects = replicate 33 t;
         places = replicate 8 0;
         stack = replicate 891 0;
+        every = every;
         tally = s;
         log = l;
       }
 
-  pub begins : (every : Bool) (ps l : List ℕ) (h : Head) (c : Cell) (t : Object) (s : Tally) → h ≡ headOf (getD rs 0 0) → c ≡ cellFirst → t ≡ noThing → s ≡ tallyFirst every
-      → playOf ws rs setting (begun h c t s l) ps 0 ≡ playOf ws rs setting (startOf every rs l) ps 0
+  pub begins : (every : Bool) (ps l : List ℕ) (n h : Head) (cs : List Cell) (t : Object) (s : Tally)
+      → n ≡ noHead → h ≡ headOf (getD rs 0 0) → cs ≡ replicate 1024 cellFirst → t ≡ noThing → s ≡ tallyFirst
+      → playOf ws rs setting (begun every n h cs t s l) ps 0 ≡ playOf ws rs setting (startOf every rs l) ps 0
   unfolding startOf
-  begins every ps l h c t s qh qc qt qs =
-      ap (λ (h : Head). playOf ws rs setting (begun h c t s l) ps 0) qh
-      ∙ ap (λ (c : Cell). playOf ws rs setting (begun (headOf (getD rs 0 0)) c t s l) ps 0) qc
-      ∙ ap (λ (t : Object). playOf ws rs setting (begun (headOf (getD rs 0 0)) cellFirst t s l) ps 0) qt
-      ∙ ap (λ (s : Tally). playOf ws rs setting (begun (headOf (getD rs 0 0)) cellFirst noThing s l) ps 0) qs
+  begins every ps l n h cs t s qn qh qc qt qs =
+      ap (λ (n : Head). playOf ws rs setting (begun every n h cs t s l) ps 0) qn
+      ∙ ap (λ (h : Head). playOf ws rs setting (begun every noHead h cs t s l) ps 0) qh
+      ∙ ap (λ (cs : List Cell). playOf ws rs setting (begun every noHead (headOf (getD rs 0 0)) cs t s l) ps 0) qc
+      ∙ ap (λ (t : Object). playOf ws rs setting (begun every noHead (headOf (getD rs 0 0)) (replicate 1024 cellFirst) t s l) ps 0) qt
+      ∙ ap (λ (s : Tally). playOf ws rs setting (begun every noHead (headOf (getD rs 0 0)) (replicate 1024 cellFirst) noThing s l) ps 0) qs
 
   module _ (m : Machine) (p : ℕ) (ps : List ℕ) (i : ℕ) where
     -- the pick of a thread that is not there
@@ -73,22 +76,23 @@ module _ (ws rs : List ℕ) (setting : Setting) where
           → playOf ws rs setting (stayed m (x .stack)) ps (i + 1) ≡ playOf ws rs setting m (p ∷ ps) i
       passed h k = goes answer.Passed (neither (x .answer) h k)
 
-      pub moved : {v : Move} → x .answer ≡ answer.Moved v → (n : ℕ) (hs : List Head) (qs : List ℕ) (s s′ : Tally) (l : List ℕ)
-          → n ≡ cellNumber (headAt (m .heads) (p % 8) .ready)
+      pub moved : {v : Move} → x .answer ≡ answer.Moved v → (cs : List Cell) (hs : List Head) (qs : List ℕ) (s s′ : Tally) (l : List ℕ)
+          → cs ≡ set (m .cells) (cellNumber (headAt (m .heads) (p % 8) .ready)) (v .cell)
           → hs ≡ withYoung (v .forks) (m .heads) (m .tally .counts .threads % 9) (v .young)
           → qs ≡ afterOf (m .places) (headAt (m .heads) (p % 8) .ready) (p % 8)
-          → s ≡ tallyPut (m .tally) (shownEntry (m .tally .every) (v .entry)) → s′ ≡ tallyMoved s (v .counts)
-          → l ≡ logPut (m .log) (m .tally .records) (p % 8) (shownEntry (m .tally .every) (v .entry))
+          → s ≡ tallyPut (m .tally) (shownEntry (m .every) (v .entry)) → s′ ≡ tallyMoved s (v .counts)
+          → l ≡ logPut (m .log) (m .tally .records) (p % 8) (shownEntry (m .every) (v .entry))
           → playOf ws rs setting (record {
             heads = set hs (p % 8) (v .mover);
-            cells = set (m .cells) n (v .cell);
+            cells = cs;
             objects = set (m .objects) (m .tally .counts .objects % 33) (v .thing);
             places = qs;
             stack = x .stack;
+            every = m .every;
             tally = s′;
             log = l;
           }) ps (i + 1) ≡ playOf ws rs setting m (p ∷ ps) i
-      moved {v} e n hs qs s s′ l en eh eq es es′ el = rw (en, eh, eq, es′, es, el) (goes (answer.Moved v) e)
+      moved {v} e cs hs qs s s′ l ec eh eq es es′ el = rw (ec, eh, eq, es′, es, el) (goes (answer.Moved v) e)
 
       pub stops : {e : Stop} {y : Entry} → x .answer ≡ answer.Stopped e y → (e′ : Stop) (j : ℕ) (s : Tally) (l : List ℕ) → e′ ≡ e → j ≡ i → s ≡ tallyPut (m .tally) y
           → l ≡ logPut (m .log) (m .tally .records) (p % 8) y

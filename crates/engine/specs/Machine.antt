@@ -5,7 +5,7 @@ use mathlib.Core.Bool.{Bool, cond}
 use mathlib.Core.List.{List, [], _∷_}
 use lib.Dec.{leb}
 use lib.ListN.{length, getD, set, take, replicate}
-use Rattle.keys.specs.KeySet.{emptySet, zeroSet}
+use Rattle.keys.specs.KeySet.{zeroSet}
 use Rattle.frames.specs.Parts.{Part as part}
 use Rattle.frames.specs.declared.go.Ready.{Ready}
 use Rattle.frames.specs.Going.{readyOf}
@@ -34,9 +34,9 @@ use Rattle.engine.specs.declared.Ran.{Ran}
 use Rattle.tally.specs.declared.Tally.{Tally}
 use Rattle.tally.specs.Tally.{shownEntry, tallyFirst, tallyPut, tallyMoved, logPut}
 
--- past the end of a list: zeros, no keys
+-- past the end of a list: a first cell, zeros
 abbrev pub noCell : Cell
-noCell = record { value = 0; key = 0; keys = emptySet }
+noCell = record { value = 0; key = 0; keys = zeroSet }
 
 abbrev pub noThing : Object
 noThing = record { mask = 0; thread = 0 }
@@ -47,6 +47,7 @@ pub record Machine : Type 0 where
   pub objects : List Object
   pub places : List ℕ
   pub stack : Stack
+  pub every : Bool
   pub tally : Tally
   pub log : List ℕ
 
@@ -122,7 +123,8 @@ withYoung forks l q y = cond forks (set l q y) l
 
 -- the machine after a pick that was passed over, and after one that moved
 abbrev pub stayed : Machine → Stack → Machine
-stayed m k = record { heads = m .heads; cells = m .cells; objects = m .objects; places = m .places; stack = k; tally = m .tally; log = m .log }
+stayed m k =
+    record { heads = m .heads; cells = m .cells; objects = m .objects; places = m .places; stack = k; every = m .every; tally = m .tally; log = m .log }
 
 abbrev pub after : Machine → ℕ → Move → Stack → Machine
 after m p v k =
@@ -132,8 +134,9 @@ after m p v k =
       objects = set (m .objects) (m .tally .counts .objects % 33) (v .thing);
       places = afterOf (m .places) (headAt (m .heads) p .ready) p;
       stack = k;
-      tally = tallyMoved (tallyPut (m .tally) (shownEntry (m .tally .every) (v .entry))) (v .counts);
-      log = logPut (m .log) (m .tally .records) p (shownEntry (m .tally .every) (v .entry));
+      every = m .every;
+      tally = tallyMoved (tallyPut (m .tally) (shownEntry (m .every) (v .entry))) (v .counts);
+      log = logPut (m .log) (m .tally .records) p (shownEntry (m .every) (v .entry));
     }
 
 -- the pick of thread p; an absent thread's is passed over
@@ -179,11 +182,12 @@ cellFirst = cellOf 0 0 zeroSet
 unfoldable pub startOf : Bool → List ℕ → List ℕ → Machine
 startOf every rs l =
     record {
-      heads = replicate 16 (headOf (getD rs 0 0));
+      heads = set (replicate 16 noHead) 0 (headOf (getD rs 0 0));
       cells = replicate 1024 cellFirst;
       objects = replicate 33 noThing;
       places = replicate 8 0;
       stack = replicate 891 0;
-      tally = tallyFirst every;
+      every = every;
+      tally = tallyFirst;
       log = l;
     }

@@ -4,7 +4,7 @@
 ghost use mathlib.Core.Path.{_≡_};
 ghost use Prim.Native.Nat.{_<_, _≤_, _+_, _*_};
 ghost use lib.ListN.{length};
-ghost use Rattle.engine.specs.Machine.{Placed, headOf, cellFirst, noThing, absent, threadBy, startOf, playOf, CountedBefore};
+ghost use Rattle.engine.specs.Machine.{Placed, headOf, noThing, absent, threadBy, startOf, playOf, CountedBefore};
 use frames::go;
 use frames::part;
 use keys::KeySet;
@@ -14,12 +14,12 @@ use run_outcome::Outcome;
 use run_outcome::Stop;
 use run_outcome::Thread;
 use run_outcome::ThreadState;
-use state::Cell;
 use state::Counts;
 use state::Head;
 use state::Object;
 use state::Setting;
-use state::acted::cell_with;
+
+pub mod kept;
 
 // About to call main.
 fn first_head(root: usize) -> Head
@@ -34,13 +34,6 @@ fn first_head(root: usize) -> Head
         keys: one,
         learnt: 0,
     }
-}
-
-// Null, with key 0.
-fn first_cell() -> Cell
-    ensures { λ r. ⌜ r ≡ cellFirst ⌝ }
-{
-    cell_with(0, 0, KeySet::zero())
 }
 
 // No fields; the first object stands for thread 0.
@@ -104,7 +97,8 @@ pub struct Ran {
 }
 
 // The run of the picks from the start, with its records in the log, of every move or of those that have one; then what each of the eight threads would
-// meet. It owns arrays of structs, which no function can be lent, so both loops stand in it.
+// meet. It owns arrays of structs, which no function can be lent, so both loops stand in it. A thread whose pick was passed over is not looked at again
+// before the next move: nothing has changed that it would meet.
 pub fn run(
     words: &[usize; 1024],
     roots: &[usize; 32],
@@ -118,12 +112,14 @@ pub fn run(
     ensures area { λ r. ⌜ now (log .exit) ≡ playOf (now (words .entry)) (now (roots .entry)) setting (startOf every (now (roots .entry)) (now (log .entry))) (now (picks .entry)) 0 .area ⌝ }
     ensures before { λ r. ⌜ CountedBefore (now (words .entry)) (now (roots .entry)) setting (startOf every (now (roots .entry)) (now (log .entry))) (now (picks .entry)) r ⌝ }
 {
-    let mut heads = [first_head(roots[0]); 16];
-    let mut cells = [first_cell(); 1024];
+    let mut heads = [pick::no_head(); 16];
+    heads[0] = first_head(roots[0]);
+    let mut cells = [kept::zeros(); 1024];
     let mut objects = [first_object(); 33];
     let mut places = [0u16; 8];
     let mut stack = [0usize; 891];
-    let mut tally = tally::first(every);
+    let mut passed = [false; 8];
+    let mut tally = tally::first();
     let mut stop = Stop::End;
     let mut dealt = picks.len();
     let mut moves_before = 0;
@@ -136,9 +132,13 @@ pub fn run(
         if counts.threads <= thread {
             continue;
         }
+        if passed[thread] {
+            continue;
+        }
         let head = heads[thread];
         let number = cell_of(head);
-        let cell = cells[number];
+        let stored = cells[number];
+        let cell = kept::restore(stored);
         let thing = objects[number / 32];
         let other = heads[thing.thread % 16];
         let met = Met {
@@ -157,6 +157,7 @@ pub fn run(
                 entry,
             } = answer
             else {
+                passed[thread] = true;
                 continue;
             };
             tally = tally::put(&mut *log, tally, thread, entry);
@@ -164,10 +165,11 @@ pub fn run(
             dealt = i;
             break;
         };
+        passed = [false; 8];
         let ready = head.ready;
         queue::after(&mut places, ready, thread);
         let entry = left.entry;
-        tally = tally::put_move(&mut *log, tally, thread, entry);
+        tally = tally::put_move(&mut *log, tally, every, thread, entry);
         if left.forks {
             let young = left.young;
             heads[counts.threads % 9] = young;
@@ -177,7 +179,9 @@ pub fn run(
         let made = left.thing;
         let counted = left.counts;
         heads[thread] = mover;
-        cells[number] = changed;
+        if act::changes(ready.part) {
+            cells[number] = kept::keep(changed);
+        }
         objects[counts.objects % 33] = made;
         tally = tally::moved(tally, counted);
     }
@@ -186,7 +190,8 @@ pub fn run(
     for thread in 0..8 {
         let head = heads[thread];
         let number = cell_of(head);
-        let cell = cells[number];
+        let stored = cells[number];
+        let cell = kept::restore(stored);
         let thing = objects[number / 32];
         let other = heads[thing.thread % 16];
         let met = Met {

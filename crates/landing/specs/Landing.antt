@@ -3,16 +3,16 @@ use Prim.Native.Nat.{ℕ, zero, suc, _+_, _-_, _*_}
 use mathlib.Core.Bool.{Bool, true, false, cond}
 use mathlib.Core.List.{List}
 use lib.Dec.{eqb, ltb}
-use lib.ListN.{getD, set}
+use lib.ListN.{set}
 use Rattle.frames.specs.declared.frame.Frame.{Frame}
 use Rattle.frames.specs.declared.go.Stage.{Stage}
 use Rattle.frames.specs.declared.go.Stage.the-variants as stage
 use Rattle.frames.specs.declared.go.Go.{Go}
 use Rattle.landing_step.specs.declared.Turn.{Turn}
 use Rattle.landing.specs.declared.Landed.{Landed}
-use Rattle.frames.specs.Frames.{packOf, unpackOf}
+use Rattle.frames.specs.Frames.{packOf}
 use Rattle.frames.specs.Going.{readyIn, goFull}
-use Rattle.landing_step.specs.Down.{stepOf}
+use Rattle.landing_step.specs.Down.{frameAt, stepOf}
 
 abbrev pub liveBy : Stage → Bool
 liveBy stage.Full = false
@@ -44,9 +44,6 @@ landedOf g d = record { stage = g .stage; ready = readyIn g; depth = d }
 
 abbrev pub ended : Stack → Go → ℕ → Ended
 ended k g d = record { stack = k; landed = landedOf g d }
-
-abbrev pub frameAt : Stack → ℕ → Frame
-frameAt k i = unpackOf (getD k (i * 3) 0) (getD k (i * 3 + 1) 0) (getD k (i * 3 + 2) 0)
 
 abbrev pub storeAt : Stack → ℕ → Frame → Stack
 storeAt k i f = set (set (set k (i * 3) (packOf f .top)) (i * 3 + 1) (packOf f .environment)) (i * 3 + 2) (packOf f .arguments)

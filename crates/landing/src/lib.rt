@@ -78,9 +78,8 @@ pub fn land(
         if !live(go) {
             return end_at(go, depth);
         }
-        let place = top(base, depth) * 3;
-        let frame = frame::unpack(stack[place], stack[place + 1], stack[place + 2]);
-        let turn = landing_step::step(words, roots, go, depth, frame);
+        let place = top(base, depth);
+        let turn = landing_step::step(words, roots, stack, place, go, depth);
         let pushed = turn.frame;
         if turn.at < turn.depth {
             let packed = frame::pack(pushed);

@@ -1,5 +1,5 @@
 -- The way down, and one step of landing: the machine that the code runs; no reader of the entries' promises needs it. Assumes nothing.
-use Prim.Native.Nat.{ℕ, _+_, _-_, _%_}
+use Prim.Native.Nat.{ℕ, _+_, _-_, _*_, _%_}
 use mathlib.Core.Bool.{cond}
 use mathlib.Core.List.{List}
 use lib.Dec.{eqb, ltb}
@@ -14,7 +14,7 @@ use Rattle.landing_step.specs.declared.Turn.{Turn}
 use Rattle.term_words.specs.Slots.{slotOf}
 use Rattle.packed.specs.Operands.{tagOf, firstOf, secondOf, thirdOf, slotBits, fieldBits, procedureBits, listBits, letFirst, letSecond, writeSecond, maskBits}
 use Rattle.term_words.specs.Words.{wordAt, valueOf, truthOf}
-use Rattle.frames.specs.Frames.{framed, letFrame, restOf}
+use Rattle.frames.specs.Frames.{framed, letFrame, restOf, unpackOf}
 use Rattle.frames.specs.Going.{readyOf, noRule, goAt, goRun, goRunCondition, goWant, goWantCondition, goList, goValue, goTruth, goFull, feedOf, feedConditionOf}
 
 abbrev pub stayOf : Go → ℕ → Turn
@@ -158,6 +158,10 @@ unfoldable pub backConditionOf : Frame → ℕ → ℕ → Turn
 backConditionOf f b d = cond (eqb d 0) (stayOf (goAt noRule) d) (stayOf (feedConditionOf f b) (d - 1))
 
 -- ---- a step
+
+-- the frames of all threads, three numbers to a frame
+abbrev pub frameAt : List ℕ → ℕ → Frame
+frameAt k i = unpackOf (getD k (i * 3) 0) (getD k (i * 3 + 1) 0) (getD k (i * 3 + 2) 0)
 
 abbrev pub stepBy : Stage → List ℕ → List ℕ → Go → ℕ → Frame → Turn
 stepBy stage.Full ws rs g d f = downOf ws rs g d

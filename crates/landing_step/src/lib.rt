@@ -1,6 +1,7 @@
 // One step of landing: the way down (an operand, a call's list, a term), or up with a value.
 ghost use mathlib.Core.Path.{_≡_};
-ghost use Rattle.landing_step.specs.Down.{stayOf, pushOf, wantOf, wantConditionOf, rootAt, listOf, signalOf, simpleOf, runOf, runConditionOf, openedOf, listedOf, wantedOf, backOf, backConditionOf, stepOf};
+ghost use Prim.Native.Nat.{_<_};
+ghost use Rattle.landing_step.specs.Down.{stayOf, pushOf, wantOf, wantConditionOf, rootAt, listOf, signalOf, simpleOf, runOf, runConditionOf, openedOf, listedOf, wantedOf, backOf, backConditionOf, frameAt, stepOf};
 use frames::frame;
 use frames::frame::Frame;
 use frames::frame::Kind;
@@ -250,14 +251,32 @@ fn back_condition(frame: Frame, truth: usize, depth: usize) -> Turn
     stay(go::feed_condition(frame, truth), depth - 1)
 }
 
-// One step of landing, with the top frame. A way down goes through its three functions one after the other, so that each has one caller.
-pub fn step(words: &[usize; 1024], roots: &[usize; 32], go: Go, depth: usize, frame: Frame) -> Turn
-    ensures { λ r. ⌜ r ≡ stepOf (now (words .entry)) (now (roots .entry)) go depth frame ⌝ }
+// The frame at a place, three numbers to a frame.
+fn frame_at(stack: &[usize; 891], place: usize) -> Frame
+    requires { ⌜ place < 297 ⌝ }
+    ensures { λ r. ⌜ r ≡ frameAt (now (stack .entry)) place ⌝ }
+{
+    let at = place * 3;
+    frame::unpack(stack[at], stack[at + 1], stack[at + 2])
+}
+
+// One step of landing, with the top frame at the place, which only a value on its way up takes from there. A way down goes through its three functions one
+// after the other, so that each has one caller.
+pub fn step(
+    words: &[usize; 1024],
+    roots: &[usize; 32],
+    stack: &[usize; 891],
+    place: usize,
+    go: Go,
+    depth: usize,
+) -> Turn
+    requires { ⌜ place < 297 ⌝ }
+    ensures { λ r. ⌜ r ≡ stepOf (now (words .entry)) (now (roots .entry)) go depth (frameAt (now (stack .entry)) place) ⌝ }
 {
     let stage = go.stage;
     match stage {
-        Stage::Value => back(frame, go.operand, depth),
-        Stage::Truth => back_condition(frame, go.operand, depth),
+        Stage::Value => back(frame_at(stack, place), go.operand, depth),
+        Stage::Truth => back_condition(frame_at(stack, place), go.operand, depth),
         _ => wanted(words, listed(words, roots, opened(words, go)), depth),
     }
 }

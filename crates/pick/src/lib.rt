@@ -109,8 +109,8 @@ fn head_at(landed: Landed, object: usize, keys: KeySet, learnt: usize) -> Head
     }
 }
 
-// No thread is made.
-fn no_head() -> Head
+// No thread: none is made, or none is there yet.
+pub fn no_head() -> Head
     ensures { λ r. ⌜ r ≡ noHead ⌝ }
 {
     let none = go::ready_of(part::DONE, 0, 0, 0, 0);

@@ -15,8 +15,8 @@ use Rattle.frames.specs.declared.frame.Frame.{Frame}
 use Rattle.frames.specs.Frames.{codeOf, kindOf, packOf, unpackOf}
 use Rattle.frames.specs.declared.go.Go.{Go}
 use Rattle.landing_step.specs.declared.Turn.{Turn}
-use Rattle.landing_step.specs.Down.{stayOf}
-use Rattle.landing.specs.Landing.{Stack, frameAt, storeAt, stored}
+use Rattle.landing_step.specs.Down.{stayOf, frameAt}
+use Rattle.landing.specs.Landing.{Stack, storeAt, stored}
 use Rattle.refinement.proofs.Meant.{frameOf, Fine, Holds, Sized}
 
 code-small : (k : Kind) → codeOf k < 16

@@ -14,7 +14,8 @@ use Rattle.machine.specs.Frames as frames
 use Rattle.frames.specs.declared.go.Stage.{Stage}
 use Rattle.frames.specs.declared.go.Stage.the-variants as stage
 use Rattle.frames.specs.declared.go.Go.{Go}
-use Rattle.landing.specs.Landing.{Stack, ended, liveBy, frameAt, stored, turnAt, topOf, landOf}
+use Rattle.landing_step.specs.Down.{frameAt}
+use Rattle.landing.specs.Landing.{Stack, ended, liveBy, stored, turnAt, topOf, landOf}
 use Rattle.landing.proofs.Turns
 use Rattle.landing_step.proofs.Depths.{step-in}
 use Rattle.refinement.proofs.Meant.{Loaded, Holds, Goes, GoesBy, Sized, FoundBy, Lands}

@@ -32,7 +32,8 @@ use Rattle.frames.specs.declared.go.Stage.the-variants as stage
 use Rattle.frames.specs.declared.go.Go.{Go}
 use Rattle.term_words.specs.Slots.{slotOf}
 use Rattle.frames.specs.Going.{readyIn}
-use Rattle.landing.specs.Landing.{Stack, Ended, frameAt}
+use Rattle.landing_step.specs.Down.{frameAt}
+use Rattle.landing.specs.Landing.{Stack, Ended}
 
 -- ---- the plan as numbers
 

@@ -20,7 +20,8 @@ use Rattle.machine.specs.Frames.{height}
 use Rattle.machine.specs.Machine as machine
 use Rattle.machine.specs.Playing as playing
 use Rattle.frames.specs.Going.{goFull}
-use Rattle.landing.specs.Landing.{Stack, Ended, ended, frameAt, landOf}
+use Rattle.landing_step.specs.Down.{frameAt}
+use Rattle.landing.specs.Landing.{Stack, Ended, ended, landOf}
 use Rattle.state.specs.declared.Head.{Head}
 use Rattle.state.specs.declared.Counts.{Counts}
 use Rattle.state.specs.declared.acted.Acted.{Acted}

@@ -180,7 +180,7 @@ module _ (b ws rs : List ℕ) (ok : refusal b ≡ none) (loaded : Loaded b ws rs
   abbrev Rest : List ℕ → ℕ → Type 0
   Rest ps i =
       (m : engine.Machine) (s : machine.State) → Related b m s → Reached (tableOf b) (programOf b) s → 3 * (m .tally .records + length ps) ≤ length (m .log)
-      → PlaysAs b i (m .tally .moves) (m .tally .records) (m .log) (playOf ws rs (settingOf b) m ps i) (playing.run (tableOf b) s ps) (recordsFrom (m .tally .every) (tableOf b) s ps)
+      → PlaysAs b i (m .tally .moves) (m .tally .records) (m .log) (playOf ws rs (settingOf b) m ps i) (playing.run (tableOf b) s ps) (recordsFrom (m .every) (tableOf b) s ps)
 
   module _ (m : engine.Machine) (s : machine.State) (rel : Related b m s) (reach : Reached (tableOf b) (programOf b) s) (p : ℕ) (small : p < 8) (ps : List ℕ) (i : ℕ)
       (wide : 3 * (m .tally .records + suc (length ps)) ≤ length (m .log)) (rest : Rest ps (i + 1)) where
@@ -189,10 +189,10 @@ module _ (b ws rs : List ℕ) (ok : refusal b ≡ none) (loaded : Loaded b ws rs
 
     -- the records after the pick, and with the pick's, by its answer
     abbrev goOnWith : machine.State → List Record
-    goOnWith s = recordsFrom (m .tally .every) (tableOf b) s ps
+    goOnWith s = recordsFrom (m .every) (tableOf b) s ps
 
     abbrev recorded : playing.Answer → List Record
-    recorded a = recordsBy (m .tally .every) s goOnWith p a
+    recorded a = recordsBy (m .every) s goOnWith p a
 
     -- the play and the run after the pick, by its answer
     abbrev Plays : Answer → Stack → playing.Run → List Record → Type 0
@@ -211,9 +211,9 @@ module _ (b ws rs : List ℕ) (ok : refusal b ≡ none) (loaded : Loaded b ws rs
         → Plays (answer.Moved v) k (playing.resume s goOn (playing.Answer.moved u)) (recorded (playing.Answer.moved u))
     unfolding playing.resume playing.afterMove recordsBy
     moved-plays v k u e entered rel′ =
-        let x : Entry = shownEntry (m .tally .every) (v .entry) in
-        let y : Option Record = shownIn (m .tally .every) p (u .entry) in
-        let shown : Entered p x y = entered-shown (m .tally .every) p (v .entry) (u .entry) small entered in
+        let x : Entry = shownEntry (m .every) (v .entry) in
+        let y : Option Record = shownIn (m .every) p (u .entry) in
+        let shown : Entered p x y = entered-shown (m .every) p (v .entry) (u .entry) small entered in
         let c = count-grows (m .tally .records) p x y shown in
         let w = log-length (m .log) (m .tally .records) p x in
         let r = rest (after m p v k) (u .state) rel′ (move-reached b ok s p u reach e) (omega arith) in
@@ -272,7 +272,7 @@ module _ (b ws rs : List ℕ) (ok : refusal b ≡ none) (loaded : Loaded b ws rs
   -- THE CODE'S PLAY FROM A STATE IS THE ABSTRACT MACHINE'S RUN FROM WHAT IT STANDS FOR
   plays : (ps : List ℕ) (i : ℕ) → Small ps → (m : engine.Machine) (s : machine.State) → Related b m s → Reached (tableOf b) (programOf b) s
       → 3 * (m .tally .records + length ps) ≤ length (m .log)
-      → PlaysAs b i (m .tally .moves) (m .tally .records) (m .log) (playOf ws rs (settingOf b) m ps i) (playing.run (tableOf b) s ps) (recordsFrom (m .tally .every) (tableOf b) s ps)
+      → PlaysAs b i (m .tally .moves) (m .tally .records) (m .log) (playOf ws rs (settingOf b) m ps i) (playing.run (tableOf b) s ps) (recordsFrom (m .every) (tableOf b) s ps)
   unfolding playOf playing.run playing.stopped recordsFrom
   plays [] i small m s rel reach wide = record {
     stop = refl;
@@ -291,7 +291,7 @@ module _ (b ws rs : List ℕ) (ok : refusal b ≡ none) (loaded : Loaded b ws rs
       (onAnswer (turnBy ws rs (settingOf b) m q .answer) (playOf ws rs (settingOf b) (stayed m (turnBy ws rs (settingOf b) m q .stack)) ps (i + 1))
       (λ v. playOf ws rs (settingOf b) (after m q v (turnBy ws rs (settingOf b) m q .stack)) ps (i + 1)) (λ e x. stopped (settingOf b) m q x e i))
       (playing.resume s (λ s. playing.run (tableOf b) s ps) (playing.step (tableOf b) s p))
-      (recordsBy (m .tally .every) s (λ s. recordsFrom (m .tally .every) (tableOf b) s ps) p (playing.step (tableOf b) s p)))
+      (recordsBy (m .every) s (λ s. recordsFrom (m .every) (tableOf b) s ps) p (playing.step (tableOf b) s p)))
       (sym (mod-eq-of-lt {m = 8} (omega arith)))
       (pick-plays m s rel reach p (omega arith) ps i wide (λ m s rel reach wide. plays ps (i + 1) (λ j h. small (suc j) (omega arith)) m s rel reach wide))
 

@@ -9,7 +9,7 @@ use mathlib.Core.Option.{some, none, Option·none-ne-some}
 use lib.ListN.{length, getD, set, getElem?, replicate, length-replicate, getD-replicate, List·getD-eq-default}
 use lib.Seq.{set-getD}
 use Rattle.keys.specs.Keys.{singleton}
-use Rattle.keys.proofs.KeySetLaws.{fits-zero, fits-empty, keys-zero}
+use Rattle.keys.proofs.KeySetLaws.{fits-zero, keys-zero}
 use Rattle.packed.specs.Format.{procedures, root}
 use Rattle.packed.specs.Check.{refusal}
 use Rattle.packed.proofs.Accepted.{accepted}
@@ -43,7 +43,7 @@ module _ (setting : Setting) (cs : List Cell) (ts : List Object) (cells-size : l
     where
       at : Dec (i < 1024) → CellFits (getD cs i noCell)
       at (yes h) = along CellFits (sym (new i h)) (record { key = omega arith; keys = fits-zero })
-      at (no h) = along CellFits (sym (List·getD-eq-default cs noCell {n = i} (omega arith))) (record { key = omega arith; keys = fits-empty })
+      at (no h) = along CellFits (sym (List·getD-eq-default cs noCell {n = i} (omega arith))) (record { key = omega arith; keys = fits-zero })
 
   -- with no object yet
   empty-kept : Kept setting cs ts (countsOf 0 0 1) (record { objects = []; threads = []; nextKey = 1 })

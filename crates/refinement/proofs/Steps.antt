@@ -17,8 +17,8 @@ use Rattle.frames.specs.declared.go.Stage.{Stage}
 use Rattle.frames.specs.declared.go.Stage.the-variants as stage
 use Rattle.frames.specs.declared.go.Go.{Go}
 use Rattle.frames.specs.Going.{readyOf, goAt, feedOf, feedConditionOf}
-use Rattle.landing_step.specs.Down.{stayOf, backOf, backConditionOf, stepBy, stepOf}
-use Rattle.landing.specs.Landing.{Stack, liveBy, topOf, frameAt}
+use Rattle.landing_step.specs.Down.{stayOf, backOf, backConditionOf, stepBy, stepOf, frameAt}
+use Rattle.landing.specs.Landing.{Stack, liveBy, topOf}
 use Rattle.refinement.proofs.Meant.{Goes, GoesBy}
 use Rattle.refinement.proofs.Fuel.{needs-most, Enough, EnoughBy, feed-enough, feed-condition-enough}
 use Rattle.refinement.proofs.Feeding.{feed-goes, feed-condition-goes}

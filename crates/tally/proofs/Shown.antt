@@ -18,9 +18,9 @@ kept true e b = rw (ne-eqb (e .kind) 0 b)
 kept false e b = refl
 
 -- a move that is not shown changes nothing
-pub not-counted : (t : Tally) (e : Entry) → t .every ≡ false → e .kind ≡ 0 → t ≡ tallyPut t (shownEntry (t .every) e)
+pub not-counted : (t : Tally) (every : Bool) (e : Entry) → every ≡ false → e .kind ≡ 0 → t ≡ tallyPut t (shownEntry every e)
 unfolding recordsAfter
-not-counted t e a b = rw (a, eq-eqb (e .kind) 0 b) refl
+not-counted t every e a b = rw (a, eq-eqb (e .kind) 0 b) refl
 
 pub not-written : (l : List ℕ) (n p : ℕ) (every : Bool) (e : Entry) → every ≡ false → e .kind ≡ 0 → l ≡ logPut l n p (shownEntry every e)
 unfolding logPut

@@ -23,10 +23,10 @@ abbrev pub shownEntry : Bool → Entry → Entry
 shownEntry every e = cond every (cond (eqb (e .kind) 0) (entryOf 1 0 0 0) e) e
 
 abbrev pub tallyPut : Tally → Entry → Tally
-tallyPut s e = record { counts = s .counts; moves = s .moves; records = recordsAfter (s .records) e; every = s .every }
+tallyPut s e = record { counts = s .counts; moves = s .moves; records = recordsAfter (s .records) e }
 
 abbrev pub tallyMoved : Tally → Counts → Tally
-tallyMoved s n = record { counts = n; moves = s .moves + 1; records = s .records; every = s .every }
+tallyMoved s n = record { counts = n; moves = s .moves + 1; records = s .records }
 
-abbrev pub tallyFirst : Bool → Tally
-tallyFirst every = record { counts = countsOf 1 1 1; moves = 0; records = 0; every = every }
+abbrev pub tallyFirst : Tally
+tallyFirst = record { counts = countsOf 1 1 1; moves = 0; records = 0 }

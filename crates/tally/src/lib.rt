@@ -8,17 +8,16 @@ use state::Counts;
 use state::Entry;
 use state::acted;
 
-// What a run has counted, and whether every move is to have a record.
+// What a run has counted.
 pub struct Tally {
     pub counts: Counts,
     pub moves: usize,
     pub records: usize,
-    pub every: bool,
 }
 
 // One thread, one object, one key.
-pub fn first(every: bool) -> Tally
-    ensures { λ r. ⌜ r ≡ tallyFirst every ⌝ }
+pub fn first() -> Tally
+    ensures { λ r. ⌜ r ≡ tallyFirst ⌝ }
 {
     let one = Counts {
         threads: 1,
@@ -29,7 +28,6 @@ pub fn first(every: bool) -> Tally
         counts: one,
         moves: 0,
         records: 0,
-        every: every,
     }
 }
 
@@ -55,30 +53,29 @@ pub fn put(log: &mut [u8], tally: Tally, thread: usize, entry: Entry) -> Tally
         counts: counts,
         moves: tally.moves,
         records: tally.records + 1,
-        every: tally.every,
     }
 }
 
 // Writes a record of a move that has none of its own, a `new` record of object 0, where every move is to have one.
-fn put_unlogged(log: &mut [u8], tally: Tally, thread: usize, entry: Entry) -> Tally
+fn put_unlogged(log: &mut [u8], tally: Tally, every: bool, thread: usize, entry: Entry) -> Tally
     requires { ⌜ (tally .records * 3 + 3 ≤ length (now log)) × (tally .records ≤ 4096) × (entry .kind ≡ 0) ⌝ }
-    ensures { λ r. ⌜ (r ≡ tallyPut tally (shownEntry (tally .every) entry)) × (r .records ≤ tally .records + 1) ⌝ }
-    ensures { λ r. ⌜ now (log .exit) ≡ logPut (now (log .entry)) (tally .records) thread (shownEntry (tally .every) entry) ⌝ }
+    ensures { λ r. ⌜ (r ≡ tallyPut tally (shownEntry every entry)) × (r .records ≤ tally .records + 1) ⌝ }
+    ensures { λ r. ⌜ now (log .exit) ≡ logPut (now (log .entry)) (tally .records) thread (shownEntry every entry) ⌝ }
 {
-    if tally.every {
+    if every {
         return put(log, tally, thread, acted::entry(kind::NEW, 0, 0, 0));
     }
     tally
 }
 
 // Writes the record of a move of the thread and counts it, unless it has none.
-pub fn put_move(log: &mut [u8], tally: Tally, thread: usize, entry: Entry) -> Tally
+pub fn put_move(log: &mut [u8], tally: Tally, every: bool, thread: usize, entry: Entry) -> Tally
     requires { ⌜ (tally .records * 3 + 3 ≤ length (now log)) × (tally .records ≤ 4096) ⌝ }
-    ensures { λ r. ⌜ (r ≡ tallyPut tally (shownEntry (tally .every) entry)) × (r .records ≤ tally .records + 1) ⌝ }
-    ensures { λ r. ⌜ now (log .exit) ≡ logPut (now (log .entry)) (tally .records) thread (shownEntry (tally .every) entry) ⌝ }
+    ensures { λ r. ⌜ (r ≡ tallyPut tally (shownEntry every entry)) × (r .records ≤ tally .records + 1) ⌝ }
+    ensures { λ r. ⌜ now (log .exit) ≡ logPut (now (log .entry)) (tally .records) thread (shownEntry every entry) ⌝ }
 {
     if entry.kind == kind::NONE {
-        return put_unlogged(log, tally, thread, entry);
+        return put_unlogged(log, tally, every, thread, entry);
     }
     put(log, tally, thread, entry)
 }
@@ -92,6 +89,5 @@ pub fn moved(tally: Tally, counts: Counts) -> Tally
         counts: counts,
         moves: tally.moves + 1,
         records: tally.records,
-        every: tally.every,
     }
 }

@@ -38,18 +38,18 @@ abbrev turn : tie.At-loop Inv-loop μ-loop → Turn
 turn c = turnAt (words c) (roots c) (base c) (stack c) (c .loop .go) (c .loop .depth)
 
 inside : (c : tie.After-step Inv-loop μ-loop) → Within (c .step .result)
-inside c = rw (c .step .ensures) (step-in _ _ _ _ _ (c .before .before .before .before .before .before .before .before .before .loop .inv .1))
+inside c = rw (c .step .ensures) (step-in _ _ _ _ _ (c .before .before .before .before .before .before .loop .inv .1))
 
-took : (c : tie.After-step Inv-loop μ-loop) → c .step .result ≡ turn (c .before .before .before .before .before .before .before .before .before)
-took c = simp (c .step .ensures, c .before .unpack .ensures, c .before .before .before .before .before .top .ensures .0)
+took : (c : tie.After-step Inv-loop μ-loop) → c .step .result ≡ turn (c .before .before .before .before .before .before)
+took c = simp (c .step .ensures, c .before .before .top .ensures .0)
 
 -- the place of the frame is a place
-place : (c : tie.After-struct-known2 Inv-loop μ-loop) → base (c .before .before .before .before .before .before .before .before .before .before .before .before .before .before) + c .before .before .before .before .before .step .result .at < 297
-place c = omega (arith, inside (c .before .before .before .before .before), c .before .before .before .before .before .before .before .before .before .before .before .before .before .before .loop .inv .2)
+place : (c : tie.After-struct-known2 Inv-loop μ-loop) → base (c .before .before .before .before .before .before .before .before .before .before .before) + c .before .before .before .before .before .step .result .at < 297
+place c = omega (arith, inside (c .before .before .before .before .before), c .before .before .before .before .before .before .before .before .before .before .before .loop .inv .2)
 
 -- the frames after the step
 keeps : (c : tie.Joined2 Inv-loop μ-loop)
-    → c .if2 .stack ≡ stored (stack (c .before .before .before .before .before .before .before .before .before .before .before .before)) (base (c .before .before .before .before .before .before .before .before .before .before .before .before)) (c .before .before .before .step .result)
+    → c .if2 .stack ≡ stored (stack (c .before .before .before .before .before .before .before .before .before)) (base (c .before .before .before .before .before .before .before .before .before)) (c .before .before .before .step .result)
 keeps c =
     ⊎-elim (λ w. simp (w .3, w .1 .ensures, lt-ltb _ _ (w .0 .taken))) (λ w. simp (w .1, le-ltb _ _ (w .0 .left))) (c .if2 .came)
 
@@ -72,36 +72,6 @@ returns c =
 
 top-requires : tie.Need-top-requires Inv-loop μ-loop
 top-requires c κs = search needs
-
-mul-place : tie.Need-mul-place Inv-loop μ-loop
-mul-place c = search needs
-
-mul-unpack : tie.Need-mul-unpack Inv-loop μ-loop
-mul-unpack c = search needs
-
-element-copy-out-unpack : tie.Need-element-copy-out-unpack Inv-loop μ-loop
-element-copy-out-unpack c = search needs
-
-add-unpack : tie.Need-add-unpack Inv-loop μ-loop
-add-unpack c = search needs
-
-mul-unpack-2 : tie.Need-mul-unpack-2 Inv-loop μ-loop
-mul-unpack-2 c = search needs
-
-element-copy-out-unpack-2 : tie.Need-element-copy-out-unpack-2 Inv-loop μ-loop
-element-copy-out-unpack-2 c = search needs
-
-add-unpack-2 : tie.Need-add-unpack-2 Inv-loop μ-loop
-add-unpack-2 c = search needs
-
-mul-unpack-3 : tie.Need-mul-unpack-3 Inv-loop μ-loop
-mul-unpack-3 c = search needs
-
-element-copy-out-unpack-3 : tie.Need-element-copy-out-unpack-3 Inv-loop μ-loop
-element-copy-out-unpack-3 c = search needs
-
-unpack-requires : tie.Need-unpack-requires Inv-loop μ-loop
-unpack-requires c κs = search needs
 
 step-requires : tie.Need-step-requires Inv-loop μ-loop
 step-requires c κs = search needs
@@ -140,21 +110,21 @@ element-write-stack-3 : tie.Need-element-write-stack-3 Inv-loop μ-loop
 element-write-stack-3 c = omega (arith, place c)
 
 sub-left : tie.Need-sub-left Inv-loop μ-loop
-sub-left c = omega (arith, c .before .before .before .before .before .before .before .before .before .before .before .before .loop-test .taken)
+sub-left c = omega (arith, c .before .before .before .before .before .before .before .before .before .loop-test .taken)
 
 loop-less : tie.Need-loop-less Inv-loop μ-loop
-loop-less c = omega (arith, c .before .before .before .before .before .before .before .before .before .before .before .before .loop-test .taken)
+loop-less c = omega (arith, c .before .before .before .before .before .before .before .before .before .loop-test .taken)
 
 loop-again : tie.Need-loop-again Inv-loop μ-loop
 loop-again c =
-    let l = c .before .before .before .before .before .before .before .before .before .before .before .before .before in
+    let l = c .before .before .before .before .before .before .before .before .before .before in
     let s = c .before .before .before .before in
     let r = s .step .result in
-    let e : liveOf (l .loop .go) ≡ true = sym (c .before .before .before .before .before .before .before .before .before .before .before .live .ensures) ∙ not-false _ (c .before .before .before .before .before .before .before .before .before .before .if1 .left) in
+    let e : liveOf (l .loop .go) ≡ true = sym (c .before .before .before .before .before .before .before .before .live .ensures) ∙ not-false _ (c .before .before .before .before .before .before .before .if1 .left) in
     let q : _ ≡ landOf (l .loop .left) (words l) (roots l) (base l) (stack l) (l .loop .go) (l .loop .depth) =
     ap (λ (k : Stack). landOf (l .loop .left - 1) (words l) (roots l) (base l) k (r .go) (r .depth)) (keeps (c .before))
     ∙ ap (λ (r : Turn). landOf (l .loop .left - 1) (words l) (roots l) (base l) (stored (stack l) (base l) r) (r .go) (r .depth)) (took s)
-    ∙ sym (goes (l .loop .left) (words l) (roots l) (base l) (stack l) (l .loop .go) (l .loop .depth) (c .before .before .before .before .before .before .before .before .before .before .before .before .loop-test .taken) e) in
+    ∙ sym (goes (l .loop .left) (words l) (roots l) (base l) (stack l) (l .loop .go) (l .loop .depth) (c .before .before .before .before .before .before .before .before .before .loop-test .taken) e) in
     (omega (arith, l .loop .inv .0), inside s .0, l .loop .inv .2, q ∙ l .loop .inv .3)
 
 full-requires : tie.Need-full-requires Inv-loop μ-loop
@@ -182,16 +152,6 @@ land-spec =
     end-at-requires
     returns
     top-requires
-    mul-place
-    mul-unpack
-    element-copy-out-unpack
-    add-unpack
-    mul-unpack-2
-    element-copy-out-unpack-2
-    add-unpack-2
-    mul-unpack-3
-    element-copy-out-unpack-3
-    unpack-requires
     step-requires
     pack-requires
     add-above

@@ -26,7 +26,7 @@ returns-2 : tie.Need-returns-2
 returns-2 c =
     let a = c .before .before .before .before .before .before .before .args in
     let p = c .before .before .put .ensures in
-    let e = sym (kept (a .tally .every) (a .entry) (c .before .before .before .before .if1 .left)) in
+    let e = sym (kept (a .every) (a .entry) (c .before .before .before .before .if1 .left)) in
     ((p .0 .0 ∙ ap (tallyPut (a .tally)) e, p .0 .1), p .1 ∙ ap (λ (x : Entry). logPut (a .log .now) (a .tally .records) (a .thread) x) e)
 
 pub put-move-spec : {M : Type 1} → statement M

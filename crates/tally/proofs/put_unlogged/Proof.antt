@@ -22,14 +22,14 @@ returns c =
     let s = c .before .before .before .before .before .before .before in
     let a = s .args in
     let p = c .before .before .put .ensures in
-    let e = c .before .before .before .entry .ensures ∙ sym (made (a .tally .every) (a .entry) (c .before .before .before .before .before .if1 .taken) (s .pre .2)) in
+    let e = c .before .before .before .entry .ensures ∙ sym (made (a .every) (a .entry) (c .before .before .before .before .before .if1 .taken) (s .pre .2)) in
     ((p .0 .0 ∙ ap (tallyPut (a .tally)) e, p .0 .1), p .1 ∙ ap (λ (x : Entry). logPut (a .log .now) (a .tally .records) (a .thread) x) e)
 
 returns-2 : tie.Need-returns-2
 returns-2 c =
     let s = c .before .before in
     let a = s .args in
-    ((not-counted (a .tally) (a .entry) (c .if1 .left) (s .pre .2), omega arith), not-written (a .log .now) (a .tally .records) (a .thread) (a .tally .every) (a .entry) (c .if1 .left) (s .pre .2))
+    ((not-counted (a .tally) (a .every) (a .entry) (c .if1 .left) (s .pre .2), omega arith), not-written (a .log .now) (a .tally .records) (a .thread) (a .every) (a .entry) (c .if1 .left) (s .pre .2))
 
 pub put-unlogged-spec : {M : Type 1} → statement M
 put-unlogged-spec = tie.close (tie.spec entry-requires put-requires same-length returns returns-2)
