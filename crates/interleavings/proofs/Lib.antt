@@ -2,3 +2,5 @@ pub mod GoingOn
 pub mod GoingBack
 pub mod Answers
 pub mod OneAnswer
+pub mod Putting
+pub mod Closing

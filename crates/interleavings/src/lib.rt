@@ -1,4 +1,7 @@
 // The entries `first_interleaving` and `next_interleaving`: all interleavings of a short plan, one after the other (document 02, E11).
+mod closed; // closed.rt: the places of a schedule where no higher thread can be picked
+mod probes; // probes.rt: picks put in to see whether they are passed over
+
 ghost use Rattle.packed.specs.Trees.{programOf};
 ghost use Rattle.answers.specs.Answer as answer;
 ghost use Rattle.replays.specs.Replay.{Replayable};

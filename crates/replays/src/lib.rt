@@ -113,14 +113,10 @@ pub fn listed(plan: &[u8], words: &[usize; 1024], n: usize, schedule: &[u8]) -> 
     follower(outcome, 0) == 8
 }
 
-fn lesser(left: usize, right: usize) -> usize
+pub fn lesser(left: usize, right: usize) -> usize
     ensures { λ r. ⌜ (r ≤ left) × (r ≤ right) ⌝ }
 {
-    if left < right {
-        left
-    } else {
-        right
-    }
+    if left < right { left } else { right }
 }
 
 // The threads of a log's first records.
