@@ -4,3 +4,4 @@ pub mod Answers
 pub mod OneAnswer
 pub mod Putting
 pub mod Closing
+pub mod Probing
