@@ -1,6 +1,6 @@
 -- Closed places, by a schedule with probes and those of its picks that are taken, side by side. Assumes nothing.
 use Prim.Native.Nat.{ℕ, suc, _+_, _≤_, _<_}
-use native.Mathlib.Decide.{ℕ-discrete}
+use native.Mathlib.Decide.{ℕ-discrete, decLt}
 use native.Mathlib.Numerals.{add-one}
 use native.Mathlib.Omega.{arith}
 use mathlib.Core.Path.{_≡_, refl, sym, ap, _∙_, subst as along}
@@ -12,6 +12,14 @@ use lib.Seq.{take-suc}
 use Rattle.replays.specs.Taken.{taken}
 use Rattle.replays.proofs.Taken.{here-taken, here-cannot, here-passed}
 use Rattle.interleavings.specs.Search.{ClosedAt, Closed, Beside, OneMore}
+
+-- up to a place, and from there on
+pub closed-both : (can : List ℕ → ℕ → Bool) (ps : List ℕ) (from middle to : ℕ) → Closed can ps from middle → Closed can ps middle to → Closed can ps from to
+closed-both can ps from middle to x y i h b = by (decLt i middle)
+  where
+    by : Dec (i < middle) → ClosedAt can ps i
+    by (yes d) = x i h d
+    by (no d) = y i (omega (arith, d)) b
 
 -- the places before `place` are closed, and there the threads next above its pick are passed over
 pub record Along (can : List ℕ → ℕ → Bool) (picks schedule all : List ℕ) (from place at passed : ℕ) : Type 0 where

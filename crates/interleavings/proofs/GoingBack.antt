@@ -77,8 +77,8 @@ module _ (g : Program) (n : ℕ) (ps : List ℕ) (x : Listed g n ps) where
       (none i (omega arith) (omega arith))
 
   -- to the beginning
-  pub over : ((i : ℕ) → i < length ps → NoneHigher g ps i) → Over g n ps
-  over none rs l b = none-higher rs (back-to rs l b (length ps) 0 (omega arith) (λ j h. none j))
+  pub over : ((i : ℕ) → 0 ≤ i → i < length ps → NoneHigher g ps i) → Over g n ps
+  over none rs l b = none-higher rs (back-to rs l b (length ps) 0 (omega arith) none)
 
   -- to the last place where a higher thread can be picked
   module _ (place pick : ℕ) (t : TurnsAt g ps place pick) where

@@ -13,6 +13,7 @@ use Rattle.listing.specs.Listed.{Listed, Following}
 use Rattle.listing.specs.CanFollow.{canFollow}
 use Rattle.listing.specs.Ways.{Way}
 use Rattle.replays.specs.Replay.{Accepted}
+use Rattle.interleavings.specs.Search.{Closed}
 use Rattle.interleavings.specs.declared.Turn.{Turn}
 use Rattle.interleavings.specs.declared.Turn.the-variants as turn
 use Rattle.interleavings.specs.declared.Next.{Next}
@@ -58,9 +59,14 @@ pub record TurnsAt (g : Program) (ps : List ℕ) (place pick : ℕ) : Type 0 whe
   pub lowest : (k : ℕ) → getD ps place 0 < k → k < pick → canFollow g (take place ps) k ≡ false
   pub last : (i : ℕ) → place < i → i < length ps → NoneHigher g ps i
 
-abbrev pub Turns : Program → List ℕ → Turn → Type 0
-Turns g ps (turn.At place pick) = TurnsAt g ps place pick
-Turns g ps turn.Over = (i : ℕ) → i < length ps → NoneHigher g ps i
+-- that, or there is no such place from `start` on
+abbrev pub TurnsFrom : Program → List ℕ → ℕ → Turn → Type 0
+TurnsFrom g ps start (turn.At place pick) = TurnsAt g ps place pick
+TurnsFrom g ps start turn.Over = Closed (canFollow g) ps start (length ps)
+
+-- there is none from `end` on
+abbrev pub ClosedFrom : List ℕ → List ℕ → ℕ → Type 0
+ClosedFrom plan ps end = (end ≤ length ps) × Closed (canFollow (programOf plan)) ps end (length ps)
 
 -- ---- both
 

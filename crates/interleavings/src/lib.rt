@@ -7,7 +7,8 @@ ghost use Rattle.answers.specs.Answer as answer;
 ghost use Rattle.replays.specs.Replay.{Replayable};
 ghost use Rattle.interleavings.specs.Interleavings.{FirstAnswer, NextAnswer};
 ghost use Rattle.interleavings.specs.Answer.{answered};
-ghost use Rattle.interleavings.specs.Steps.{Begins, Reached, Turns, Listing, Followed};
+ghost use Rattle.interleavings.specs.Search.{Replays};
+ghost use Rattle.interleavings.specs.Steps.{Begins, Reached, ClosedFrom, TurnsFrom, Listing, Followed};
 use answers::Answered;
 use refusals::Checked;
 
@@ -27,13 +28,20 @@ pub enum Turn {
     Over,
 }
 
-// The last place of a schedule where a higher thread can be picked, and the lowest such thread.
-fn go_back(plan: &[u8], words: &[usize; 1024], schedule: &[u8]) -> Turn
-    requires { ⌜ Replayable (now plan) (now words) (now schedule) ⌝ }
-    ensures { λ r. ⌜ Turns (programOf (now (plan .entry))) (now (schedule .entry)) r ⌝ }
+// The last place from `start` on and before `end` where a higher thread can be picked, and the lowest such thread; from `end` on there is none. By one replay
+// to each place, the last first.
+fn turn_between(
+    plan: &[u8],
+    words: &[usize; 1024],
+    schedule: &[u8],
+    start: usize,
+    end: usize,
+) -> Turn
+    requires { ⌜ Replayable (now plan) (now words) (now schedule) × ClosedFrom (now plan) (now schedule) end ⌝ }
+    ensures { λ r. ⌜ TurnsFrom (programOf (now (plan .entry))) (now (schedule .entry)) start r ⌝ }
 {
-    let mut place = schedule.len();
-    while place > 0 {
+    let mut place = end;
+    while place > start {
         place -= 1;
         let higher = schedule[place] as usize + 1;
         let pick = replays::next_pick(plan, words, &schedule[0..place], higher);
@@ -42,6 +50,22 @@ fn go_back(plan: &[u8], words: &[usize; 1024], schedule: &[u8]) -> Turn
         }
     }
     Turn::Over
+}
+
+// The last place of a schedule where a higher thread can be picked, and the lowest such thread: among the last three places, and else by halves.
+fn go_back(plan: &[u8], words: &[usize; 1024], schedule: &[u8]) -> Turn
+    requires { ⌜ Replays (now plan) (now words) (now schedule) ⌝ }
+    ensures { λ r. ⌜ TurnsFrom (programOf (now (plan .entry))) (now (schedule .entry)) 0 r ⌝ }
+{
+    let near = schedule.len() - replays::lesser(schedule.len(), 3);
+    let turn = turn_between(plan, words, schedule, near, schedule.len());
+    match turn {
+        Turn::At { place, pick } => Turn::At { place, pick },
+        Turn::Over => {
+            let end = closed::closed_from(plan, words, schedule, near);
+            turn_between(plan, words, schedule, 0, end)
+        }
+    }
 }
 
 // From the first `from` picks of the area on, the lowest pick that can follow, until there are n or none can; how many picks that makes.

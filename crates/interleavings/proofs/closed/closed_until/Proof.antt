@@ -51,10 +51,18 @@ put-probed-requires c κs =
     let s = c .before .before .before .before .before .before .before .before in
     let w = c .before .before .before .put-word .ensures in (
       part-of-eight (s .args .schedule .now) (s .args .from) (s .args .to) (s .pre .2) (s .pre .1) (s .pre .0 .replayable .of-eight),
-      omega (arith, w .kept, w .next, s .pre .0 .replayable .few, s .pre .1, s .pre .2, s .pre .3, part-length (s .args .schedule .now) (s .args .from) (s .args .to) (s .pre .2) (s .pre .1),
-      length-take-le (s .args .from - 0) (s .args .schedule .now) (omega (arith, s .pre .1, s .pre .2))),
+      omega (
+        arith,
+        w .kept,
+        w .next,
+        s .pre .0 .replayable .few,
+        s .pre .1,
+        s .pre .2,
+        s .pre .3,
+        part-length (s .args .schedule .now) (s .args .from) (s .args .to) (s .pre .2) (s .pre .1),
+        length-take-le (s .args .from - 0) (s .args .schedule .now) (omega (arith, s .pre .1, s .pre .2)),
+      ),
     )
-
 
 -- ---- after the probes are put in
 
@@ -66,8 +74,17 @@ module _ (c : tie.After-put-probed) where
   few =
       let s = began in
       let w = c .before .before .before .before .put-word .ensures in
-      omega (arith, c .put-probed .ensures .1, w .next, s .pre .0 .replayable .few, s .pre .1, s .pre .2, s .pre .3, part-length (s .args .schedule .now) (s .args .from) (s .args .to) (s .pre .2) (s .pre .1),
-      length-take-le (s .args .from - 0) (s .args .schedule .now) (omega (arith, s .pre .1, s .pre .2)))
+      omega (
+        arith,
+        c .put-probed .ensures .1,
+        w .next,
+        s .pre .0 .replayable .few,
+        s .pre .1,
+        s .pre .2,
+        s .pre .3,
+        part-length (s .args .schedule .now) (s .args .from) (s .args .to) (s .pre .2) (s .pre .1),
+        length-take-le (s .args .from - 0) (s .args .schedule .now) (omega (arith, s .pre .1, s .pre .2)),
+      )
 
   kept : length (c .put-probed .last .0) ≡ 320
   kept = c .put-probed .ensures .0 .kept ∙ c .before .before .before .before .put-word .ensures .kept
