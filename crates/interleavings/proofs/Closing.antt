@@ -36,7 +36,7 @@ module _ (can : List ℕ → ℕ → Bool) (picks movers schedule : List ℕ) (f
     inside = omega (arith, x .long, d)
 
     -- a probe that is passed over
-    pub along-passed : (getD movers place 0 ≡ getD picks at 0 → ⊥) → (r : ℕ) → OneMore (getD schedule place 0) passed (getD picks at 0) r
+    pub along-passed : (getD movers place 0 ≡ getD picks at 0 → ⊥) → (r : ℕ) → OneMore (getD schedule place 0 + 1) passed (getD picks at 0) r
         → Along can picks schedule (x .all) from place (at + 1) r
     along-passed n r (w, o) =
         record {
@@ -48,7 +48,7 @@ module _ (can : List ℕ → ℕ → Bool) (picks movers schedule : List ℕ) (f
         m : getD (x .all) place 0 ≡ getD picks at 0 → ⊥
         m e = n (sym (x .same place d) ∙ e)
 
-        by : (r ≡ passed) ⊎ ((r ≡ passed + 1) × (getD picks at 0 ≡ getD schedule place 0 + passed + 1))
+        by : (r ≡ passed) ⊎ ((r ≡ passed + 1) × (getD picks at 0 ≡ getD schedule place 0 + 1 + passed))
             → (k : ℕ) → getD schedule place 0 < k → k ≤ getD schedule place 0 + r → can (take place schedule) k ≡ false
         by (inl e) k h l = a .above k h (omega arith)
         by (inr (e, f)) k h l = one (ℕ-discrete k (getD picks at 0))
@@ -82,7 +82,7 @@ module _ (can : List ℕ → ℕ → Bool) (picks movers schedule : List ℕ) (f
 pub record Searching (picks movers schedule : List ℕ) (from limit place at passed : ℕ) : Type 0 where
   pub reached : from ≤ place
   pub within : place ≤ limit
-  pub small : passed ≤ 255
+  pub small : passed ≤ 256
   pub along-all : (can : List ℕ → ℕ → Bool) (x : Beside can picks movers schedule from limit) → Along can picks schedule (x .all) from place at passed
 
 module _ (picks movers schedule : List ℕ) (from limit : ℕ) where
@@ -95,7 +95,7 @@ module _ (picks movers schedule : List ℕ) (from limit : ℕ) where
 
     module _ (own pick mover : ℕ) (b : at < length picks) (d : place < limit) (l : limit ≤ length schedule)
         (eo : own ≡ getD schedule place 0) (ep : pick ≡ getD picks at 0) (em : mover ≡ getD movers place 0) where
-      pub searching-passed : (mover ≡ pick → ⊥) → (r : ℕ) → OneMore own passed pick r → (place′ passed′ : ℕ) → place′ ≡ place → passed′ ≡ r
+      pub searching-passed : (mover ≡ pick → ⊥) → (r : ℕ) → OneMore (own + 1) passed pick r → (place′ passed′ : ℕ) → place′ ≡ place → passed′ ≡ r
           → Searching picks movers schedule from limit place′ (at + 1) passed′
       searching-passed n r o place′ passed′ e f =
           rw (e, f) (record {

@@ -5,3 +5,4 @@ pub mod OneAnswer
 pub mod Putting
 pub mod Closing
 pub mod Probing
+pub mod Stretching

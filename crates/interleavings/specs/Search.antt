@@ -34,9 +34,9 @@ pub record Beside (can : List ℕ → ℕ → Bool) (picks movers schedule : Lis
   pub same : (j : ℕ) → j < limit → getD all j 0 ≡ getD movers j 0
   pub taken-on : taken can (take from schedule) (drop from picks) ≡ drop from all
 
--- one thread more above a pick that is passed over, if it is the next
-abbrev pub OneMore : (own passed pick r : ℕ) → Type 0
-OneMore own passed pick r = (r ≤ 255) × ((r ≡ passed) ⊎ ((r ≡ passed + 1) × (pick ≡ own + passed + 1)))
+-- one thread more that is passed over, from `first` on, if it is the next
+abbrev pub OneMore : (first passed pick r : ℕ) → Type 0
+OneMore first passed pick r = (r ≤ 256) × ((r ≡ passed) ⊎ ((r ≡ passed + 1) × (pick ≡ first + passed)))
 
 -- a plan, and a schedule each of whose picks can follow those before it
 pub record Replays (plan words schedule : List ℕ) : Type 0 where

@@ -13,7 +13,7 @@ use Rattle.listing.specs.Listed.{Listed, Following}
 use Rattle.listing.specs.CanFollow.{canFollow}
 use Rattle.listing.specs.Ways.{Way}
 use Rattle.replays.specs.Replay.{Accepted}
-use Rattle.interleavings.specs.Search.{Closed}
+use Rattle.interleavings.specs.Search.{Closed, Beside}
 use Rattle.interleavings.specs.declared.Turn.{Turn}
 use Rattle.interleavings.specs.declared.Turn.the-variants as turn
 use Rattle.interleavings.specs.declared.Next.{Next}
@@ -38,6 +38,15 @@ pub record WentOn (g : Program) (n from : ℕ) (before after : List ℕ) (at : �
   pub rest : drop at after ≡ drop at before
   pub way : Way (canFollow g) (take at after)
   pub least : (rs : List ℕ) → Listed g n rs → AtMost (take from before) rs → AtMost (take at after) rs
+
+-- going on from `at` to r, whatever the first picks are
+abbrev pub Stretches : Program → (n at : ℕ) → (before after : List ℕ) → ℕ → Type 0
+Stretches g n at before after r = (from : ℕ) (first : List ℕ) → n ≤ length first → WentOn g n from first before at → WentOn g n from first after r
+
+-- the same by the picks of a replay, and those of them that are taken
+abbrev pub WalksOn : (picks movers : List ℕ) → (from limit : ℕ) → (before after : List ℕ) → ℕ → Type 0
+WalksOn picks movers from limit before after r =
+    (g : Program) (n : ℕ) → limit ≤ n → Beside (canFollow g) picks movers before from limit → Stretches g n from before after r
 
 -- to the end
 pub record Reached (g : Program) (n from : ℕ) (before after : List ℕ) (at : ℕ) : Type 0 where

@@ -6,20 +6,8 @@ ghost use mathlib.Core.List.{List};
 ghost use Prim.Native.Nat.{ℕ};
 ghost use Rattle.packed.specs.Trees.{programOf};
 ghost use Rattle.listing.specs.CanFollow.{canFollow};
-ghost use Rattle.interleavings.specs.Search.{Closed, Beside, OneMore, Replays};
+ghost use Rattle.interleavings.specs.Search.{Closed, Beside, Replays};
 use crate::probes;
-
-// How many threads next above a pick are passed over, after one probe more that is.
-fn more_passed(own: usize, passed: usize, pick: usize) -> usize
-    requires { ⌜ (own ≤ 255) × (passed ≤ 255) × (pick ≤ 255) ⌝ }
-    ensures { λ r. ⌜ OneMore own passed pick r ⌝ }
-{
-    if pick == own + passed + 1 {
-        passed + 1
-    } else {
-        passed
-    }
-}
 
 // The first place from `from` on that is not shown closed by probes: by the picks with the probes, and those of them that are taken.
 fn closed_by(picks: &[u8], movers: &[u8], schedule: &[u8], from: usize, limit: usize) -> usize
@@ -37,7 +25,7 @@ fn closed_by(picks: &[u8], movers: &[u8], schedule: &[u8], from: usize, limit: u
         let pick = byte_numbers::wide(picks[at]);
         let mover = byte_numbers::wide(movers[place]);
         if mover != pick {
-            passed = more_passed(own, passed, pick);
+            passed = probes::more_passed(own + 1, passed, pick);
         } else {
             if pick != own {
                 return place;

@@ -1,5 +1,6 @@
 // The entries `first_interleaving` and `next_interleaving`: all interleavings of a short plan, one after the other (document 02, E11).
 mod closed; // closed.rt: the places of a schedule where no higher thread can be picked
+mod lowest; // lowest.rt: going on by the lowest picks that can follow, as far as one replay tells
 mod probes; // probes.rt: picks put in to see whether they are passed over
 
 ghost use Rattle.packed.specs.Trees.{programOf};

@@ -11,7 +11,7 @@ use Rattle.interleavings.proofs.closed.closed_by.Tie as tie
 use Rattle.interleavings.proofs.closed.closed_by.Reads as reads
 use Rattle.interleavings.proofs.closed.closed_by.Lts as lts
 use Rattle.byte_numbers.proofs.wide.Reads as wide-reads
-use Rattle.interleavings.proofs.closed.more_passed.Reads as more-passed-reads
+use Rattle.interleavings.proofs.probes.more_passed.Reads as more-passed-reads
 
 abbrev Inv-loop : tie.InvT-loop
 Inv-loop picks movers schedule from limit place₀ at₀ passed₀ place at passed = Searching picks movers schedule from limit place at passed
@@ -52,6 +52,9 @@ wide-requires-3 : tie.Need-wide-requires-3 Inv-loop μ-loop
 wide-requires-3 c κs = search needs
 
 -- src/closed.rt:40:13
+add-more-passed : tie.Need-add-more-passed Inv-loop μ-loop
+add-more-passed c = search needs
+
 more-passed-requires : tie.Need-more-passed-requires Inv-loop μ-loop
 more-passed-requires c κs = search needs
 
@@ -116,6 +119,7 @@ closed-by-spec =
     wide-requires-2
     shared-slice-read-wide-3
     wide-requires-3
+    add-more-passed
     more-passed-requires
     returns-2
     add-if4
