@@ -69,19 +69,26 @@ fn go_back(plan: &[u8], words: &[usize; 1024], schedule: &[u8]) -> Turn
     }
 }
 
-// From the first `from` picks of the area on, the lowest pick that can follow, until there are n or none can; how many picks that makes.
+// From the first `from` picks of the area on, the lowest pick that can follow, until there are n or none can; how many picks that makes. As far as one replay
+// tells, and one pick more by the threads' states, again and again; the thread of that pick is guessed to go on.
 fn go_on(plan: &[u8], words: &[usize; 1024], n: usize, area: &mut [u8], from: usize) -> usize
     requires { ⌜ Begins (now plan) (now words) n (now area) from ⌝ }
     ensures { λ r. ⌜ Reached (programOf (now (plan .entry))) n from (now (area .entry)) (now (area .exit)) r ⌝ }
 {
     let mut at = from;
+    let mut guess = 0;
     while at < n {
+        at = lowest::stretch(plan, words, n, area, at, guess);
+        if at == n {
+            return at;
+        }
         let pick = replays::next_pick(plan, words, &area[0..at], 0);
         if pick == 8 {
             return at;
         }
         area[at] = pick as u8;
         at += 1;
+        guess = pick;
     }
     at
 }
