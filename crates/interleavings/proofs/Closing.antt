@@ -58,7 +58,8 @@ module _ (can : List ℕ → ℕ → Bool) (picks movers schedule : List ℕ) (f
             one (no q) = a .above k h (omega (arith, l, e, f, q))
 
     -- the schedule's own pick, after all above it
-    pub along-own : getD movers place 0 ≡ getD picks at 0 → getD picks at 0 ≡ getD schedule place 0 → 7 ≤ getD schedule place 0 + passed → place < length schedule
+    pub along-own : getD movers place 0 ≡ getD picks at 0 → getD picks at 0 ≡ getD schedule place 0 → 7 ≤ getD schedule place 0 + passed
+        → place < length schedule
         → Along can picks schedule (x .all) from (place + 1) (at + 1) 0
     along-own e f g l =
         record {
@@ -87,7 +88,8 @@ pub record Searching (picks movers schedule : List ℕ) (from limit place at pas
 
 module _ (picks movers schedule : List ℕ) (from limit : ℕ) where
   pub searching-start : from ≤ limit → Searching picks movers schedule from limit from from 0
-  searching-start h = record { reached = omega arith; within = h; small = omega arith; along-all = λ can x. along-start can picks movers schedule from limit x }
+  searching-start h =
+      record { reached = omega arith; within = h; small = omega arith; along-all = λ can x. along-start can picks movers schedule from limit x }
 
   module _ {place at passed : ℕ} (s : Searching picks movers schedule from limit place at passed) where
     pub searched : (can : List ℕ → ℕ → Bool) → Beside can picks movers schedule from limit → Closed can schedule from place
@@ -114,5 +116,6 @@ module _ (picks movers schedule : List ℕ) (from limit : ℕ) where
             within = omega arith;
             small = omega arith;
             along-all = λ can x.
-                along-own can picks movers schedule from limit x place at passed (s .along-all can x) b d (sym em ∙ q ∙ ep) (sym ep ∙ h ∙ eo) (rw (← eo) k) (omega arith);
+                along-own can picks movers schedule from limit x place at passed (s .along-all can x) b d
+                (sym em ∙ q ∙ ep) (sym ep ∙ h ∙ eo) (rw (← eo) k) (omega arith);
           })

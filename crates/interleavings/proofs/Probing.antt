@@ -15,8 +15,8 @@ use Rattle.replays.specs.Taken.{taken, Searchable, FirstTaken}
 use Rattle.replays.proofs.Taken.{all-taken}
 use Rattle.interleavings.specs.Search.{Put, Beside}
 
-module _ (before ps middle after : List ℕ) (from next end : ℕ) (h : from ≤ length ps) (w : Wrote before 0 (take (from - 0) ps) middle next) (p : Put middle next after end)
-    (room : end ≤ length before) where
+module _ (before ps middle after : List ℕ) (from next end : ℕ) (h : from ≤ length ps) (w : Wrote before 0 (take (from - 0) ps) middle next)
+    (p : Put middle next after end) (room : end ≤ length before) where
   same-first : take (from - 0) ps ≡ take from ps
   same-first = ap (λ (k : ℕ). take k ps) (sub-zero from)
 
@@ -24,8 +24,7 @@ module _ (before ps middle after : List ℕ) (from next end : ℕ) (h : from ≤
   next-is = omega (arith, w .next, ap length same-first, length-take-le from ps h)
 
   front : take from after ≡ take from ps
-  front =
-      ap (λ (k : ℕ). take k after) (sym next-is) ∙ p .front ∙ w .text ∙ same-first
+  front = ap (λ (k : ℕ). take k after) (sym next-is) ∙ p .front ∙ w .text ∙ same-first
 
   -- the picks that are replayed
   abbrev picks : List ℕ
@@ -56,7 +55,8 @@ module _ (before ps middle after : List ℕ) (from next end : ℕ) (h : from ≤
         all = take count movers ++ x .rest;
         long = omega (arith, length-append (take count movers) (x .rest), taken-length, l);
         same = λ j d. List·getD-append (take count movers) (x .rest) 0 j (omega (arith, d, l, taken-length)) ∙ getD-take count movers j 0 (omega arith);
-        taken-on = sym (drop-at (take from ps) (taken can (take from ps) (drop from picks)) from (length-take-le from ps h)) ∙ ap (drop from) (sym whole ∙ x .begins);
+        taken-on = sym (drop-at (take from ps) (taken can (take from ps) (drop from picks)) from (length-take-le from ps h))
+            ∙ ap (drop from) (sym whole ∙ x .begins);
       }
     where
       taken-length : length (take count movers) ≡ count
@@ -73,7 +73,8 @@ module _ (ps : List ℕ) (from to : ℕ) (h : to ≤ length ps) where
   pub part-length : from ≤ to → length (take (to - from) (drop from ps)) ≡ to - from
   part-length d = length-take-le (to - from) (drop from ps) (omega (arith, length-drop from ps))
 
-  pub part-of-eight : from ≤ to → ((j : ℕ) → j < length ps → getD ps j 0 < 8) → (j : ℕ) → j < length (take (to - from) (drop from ps)) → getD (take (to - from) (drop from ps)) j 0 < 8
+  pub part-of-eight : from ≤ to → ((j : ℕ) → j < length ps → getD ps j 0 < 8) → (j : ℕ)
+      → j < length (take (to - from) (drop from ps)) → getD (take (to - from) (drop from ps)) j 0 < 8
   part-of-eight d e j b =
       let k : j < to - from = omega (arith, b, part-length d) in
       along (λ (v : ℕ). v < 8) (sym (getD-take (to - from) (drop from ps) j 0 k ∙ getD-drop from ps j 0)) (e (from + j) (omega arith))

@@ -50,9 +50,11 @@ module _ (picks movers : List ℕ) (from limit : ℕ) (before : List ℕ) where
     pub walked : WalksOn picks movers from limit before area place
     walked g n l x began first m w = s .on-all g n l x began first m w .went
 
-    module _ (pick mover : ℕ) (b : at < length picks) (d : place < limit) (long : limit ≤ length before) (ep : pick ≡ getD picks at 0) (em : mover ≡ getD movers place 0) where
+    module _ (pick mover : ℕ) (b : at < length picks) (d : place < limit) (long : limit ≤ length before) (ep : pick ≡ getD picks at 0)
+        (em : mover ≡ getD movers place 0) where
       -- a probe that is passed over
-      pub walking-passed : (mover ≡ pick → ⊥) → (r : ℕ) → OneMore 0 passed pick r → (area′ : List ℕ) (place′ passed′ : ℕ) → area′ ≡ area → place′ ≡ place → passed′ ≡ r
+      pub walking-passed : (mover ≡ pick → ⊥) → (r : ℕ) → OneMore 0 passed pick r → (area′ : List ℕ) (place′ passed′ : ℕ)
+          → area′ ≡ area → place′ ≡ place → passed′ ≡ r
           → Walking picks movers from limit before area′ place′ (at + 1) passed′
       walking-passed n r o area′ place′ passed′ ea e f =
           rw (ea, e, f) (record {
@@ -66,7 +68,9 @@ module _ (picks movers : List ℕ) (from limit : ℕ) (before : List ℕ) where
                 let q : getD (x .all) place 0 ≡ getD picks at 0 → ⊥ = λ z. n (em ∙ sym (x .same place d) ∙ z ∙ sym ep) in
                 record {
                   taken-on = rw add-one (here-passed (canFollow g) (take place area) picks (x .all) at place b i (a .taken-on) q);
-                  below = by g (a .below) (ap (canFollow g (take place area)) ep ∙ here-cannot (canFollow g) (take place area) picks (x .all) at place b i (a .taken-on) q) (o .1);
+                  below =
+                      by g (a .below)
+                      (ap (canFollow g (take place area)) ep ∙ here-cannot (canFollow g) (take place area) picks (x .all) at place b i (a .taken-on) q) (o .1);
                   went = a .went;
                 };
           })
@@ -81,7 +85,8 @@ module _ (picks movers : List ℕ) (from limit : ℕ) (before : List ℕ) where
               one (no t) = h k (omega (arith, l, z, y, t))
 
       -- the lowest pick that can follow
-      pub walking-on : mover ≡ pick → pick ≡ passed → pick < 8 → (area′ : List ℕ) (place′ passed′ : ℕ) → area′ ≡ set area place pick → place′ ≡ place + 1 → passed′ ≡ 0
+      pub walking-on : mover ≡ pick → pick ≡ passed → pick < 8 → (area′ : List ℕ) (place′ passed′ : ℕ)
+          → area′ ≡ set area place pick → place′ ≡ place + 1 → passed′ ≡ 0
           → Walking picks movers from limit before area′ place′ (at + 1) passed′
       walking-on q h k area′ place′ passed′ ea e f =
           rw (ea, e, f) (record {

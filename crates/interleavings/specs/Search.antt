@@ -1,5 +1,5 @@
--- The search for the last place of a schedule where a higher thread can be picked, by replays with probes: picks of other threads, put in to see whether they are
--- passed over. For inner contracts; no reader of the entries' promise needs it. Assumes nothing.
+-- The search for the last place of a schedule where a higher thread can be picked, by replays with probes: picks of other threads, put in to see whether they
+-- are passed over. For inner contracts; no reader of the entries' promise needs it. Assumes nothing.
 use Prim.Native.Nat.{ℕ, _+_, _≤_, _<_}
 use mathlib.Core.Path.{_≡_}
 use mathlib.Core.Bool.{Bool, true, false}
@@ -33,6 +33,12 @@ pub record Beside (can : List ℕ → ℕ → Bool) (picks movers schedule : Lis
   pub long : limit ≤ length all
   pub same : (j : ℕ) → j < limit → getD all j 0 ≡ getD movers j 0
   pub taken-on : taken can (take from schedule) (drop from picks) ≡ drop from all
+
+-- what `closed_by` tells: the places from `from` to below r are closed
+pub record ClosedBy (picks movers schedule : List ℕ) (from limit r : ℕ) : Type 0 where
+  pub reached : from ≤ r
+  pub within : r ≤ limit
+  pub closed : (can : List ℕ → ℕ → Bool) → Beside can picks movers schedule from limit → Closed can schedule from r
 
 -- one thread more that is passed over, from `first` on, if it is the next
 abbrev pub OneMore : (first passed pick r : ℕ) → Type 0

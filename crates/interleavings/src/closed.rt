@@ -1,18 +1,15 @@
 // The places of a schedule that are closed: where no higher thread can be picked.
 ghost use Prim.Native.Nat.{_+_, _-_, _≤_};
 ghost use lib.ListN.{length};
-ghost use mathlib.Core.Bool.{Bool};
-ghost use mathlib.Core.List.{List};
-ghost use Prim.Native.Nat.{ℕ};
 ghost use Rattle.packed.specs.Trees.{programOf};
 ghost use Rattle.listing.specs.CanFollow.{canFollow};
-ghost use Rattle.interleavings.specs.Search.{Closed, Beside, Replays};
+ghost use Rattle.interleavings.specs.Search.{Closed, ClosedBy, Replays};
 use crate::probes;
 
 // The first place from `from` on that is not shown closed by probes: by the picks with the probes, and those of them that are taken.
 fn closed_by(picks: &[u8], movers: &[u8], schedule: &[u8], from: usize, limit: usize) -> usize
     requires { ⌜ (from ≤ limit) × (limit ≤ length (now movers)) × (limit ≤ length (now schedule)) ⌝ }
-    ensures { λ r. ⌜ (from ≤ r) × (r ≤ limit) × ((can : List ℕ → ℕ → Bool) → Beside can (now (picks .entry)) (now (movers .entry)) (now (schedule .entry)) from limit → Closed can (now (schedule .entry)) from r) ⌝ }
+    ensures { λ r. ⌜ ClosedBy (now (picks .entry)) (now (movers .entry)) (now (schedule .entry)) from limit r ⌝ }
 {
     let mut place = from;
     let mut at = from;

@@ -36,8 +36,8 @@ fn lowest_by(picks: &[u8], movers: &[u8], area: &mut [u8], from: usize, limit: u
     place
 }
 
-// From the first `at` picks of the area on, the lowest pick that can follow, as far as one replay with probes tells where the thread `guess` is guessed to go on
-// and on; how many picks that makes.
+// From the first `at` picks of the area on, the lowest pick that can follow, as far as one replay with probes tells, where the thread `guess` is guessed to go
+// on and on; how many picks that makes.
 pub fn stretch(
     plan: &[u8],
     words: &[usize; 1024],

@@ -47,7 +47,9 @@ one-thread-more log after i c x h b d =
     record { within = omega arith; inside = omega (arith, length-set after i (c .thread)); are = λ k l. by k l (ℕ-discrete k i) }
   where
     by : (k : ℕ) → k < i + 1 → Dec (k ≡ i) → getD (set after i (c .thread)) k 0 ≡ recordAt log k .thread
-    by k l (yes e) = ap (λ (n : ℕ). getD (set after i (c .thread)) n 0) e ∙ getD-set-same after i (c .thread) 0 b ∙ d .thread-is ∙ ap (λ (n : ℕ). recordAt log n .thread) (sym e)
+    by k l (yes e) =
+        ap (λ (n : ℕ). getD (set after i (c .thread)) n 0) e ∙ getD-set-same after i (c .thread) 0 b ∙ d .thread-is
+        ∙ ap (λ (n : ℕ). recordAt log n .thread) (sym e)
     by k l (no n) = getD-set-other after i k (c .thread) 0 n ∙ x .are k (omega (arith, l, n))
 
 -- ---- the threads of a run's moves are the picks that are taken
@@ -61,11 +63,13 @@ threadsOf = map (λ (r : Record). r .thread)
 
 module _ (g : Program) (P : WellFormedProgram g) where
   -- after one move more
-  stands : (ps : List ℕ) (p : ℕ) (s : State) → play g ps .stop ≡ Stop.end → play g ps .final ≡ s → play g (ps ++ (p ∷ [])) .stop ≡ resume s (λ z. run g z []) (step g s p) .stop
+  stands : (ps : List ℕ) (p : ℕ) (s : State) → play g ps .stop ≡ Stop.end → play g ps .final ≡ s
+      → play g (ps ++ (p ∷ [])) .stop ≡ resume s (λ z. run g z []) (step g s p) .stop
   unfolding play
   stands ps p s e f = ap (λ (r : Run). r .stop) (pick-meets g start ps p [] e) ∙ ap (λ (z : State). resume z (λ z. run g z []) (step g z p) .stop) f
 
-  arrives : (ps : List ℕ) (p : ℕ) (s : State) → play g ps .stop ≡ Stop.end → play g ps .final ≡ s → play g (ps ++ (p ∷ [])) .final ≡ resume s (λ z. run g z []) (step g s p) .final
+  arrives : (ps : List ℕ) (p : ℕ) (s : State) → play g ps .stop ≡ Stop.end → play g ps .final ≡ s
+      → play g (ps ++ (p ∷ [])) .final ≡ resume s (λ z. run g z []) (step g s p) .final
   unfolding play
   arrives ps p s e f = ap (λ (r : Run). r .final) (pick-meets g start ps p [] e) ∙ ap (λ (z : State). resume z (λ z. run g z []) (step g z p) .final) f
 
@@ -160,14 +164,16 @@ module _ (plan words picks : List ℕ) (S : Searchable plan words picks) where
     pub enough : (n count : ℕ) → n ≡ 3 * r .outcome .records → count ≤ r .outcome .records → count ≤ length (take (n - 0) after) / 3
     enough n count e h = omega (arith, ap length (begins n e), length-bytes L, ran .records)
 
-    pub first-taken-by : (n : ℕ) → n ≡ 3 * r .outcome .records → (movers : List ℕ) (m : ℕ) → ThreadsOf (take (n - 0) after) movers m → FirstTaken (canFollow g) picks movers m
+    pub first-taken-by : (n : ℕ) → n ≡ 3 * r .outcome .records → (movers : List ℕ) (m : ℕ) → ThreadsOf (take (n - 0) after) movers m
+        → FirstTaken (canFollow g) picks movers m
     unfolding recordCount
     first-taken-by n e movers m x =
         let t = play-taken g good picks in
         record {
           inside = x .inside;
           rest = drop m (threadsOf L) ++ t .0;
-          begins = t .1 ∙ ap (λ (l : List ℕ). l ++ t .0) (sym (take-append-drop m (threadsOf L)) ∙ ap (λ (l : List ℕ). l ++ drop m (threadsOf L)) (sym same)) ∙ append-assoc (take m movers) (drop m (threadsOf L)) (t .0);
+          begins = t .1 ∙ ap (λ (l : List ℕ). l ++ t .0) (sym (take-append-drop m (threadsOf L)) ∙ ap (λ (l : List ℕ). l ++ drop m (threadsOf L))
+              (sym same)) ∙ append-assoc (take m movers) (drop m (threadsOf L)) (t .0);
         }
       where
         b : List ℕ

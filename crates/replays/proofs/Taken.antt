@@ -18,11 +18,13 @@ module _ (can : List ℕ → ℕ → Bool) where
   taken-cannot ps q qs e = rw e
 
   -- picks each of which can follow those before it are all taken
-  pub all-taken : (ps ws qs : List ℕ) → ((i : ℕ) → i < length ws → can (ps ++ take i ws) (getD ws i 0) ≡ true) → taken can ps (ws ++ qs) ≡ ws ++ taken can (ps ++ ws) qs
+  pub all-taken : (ps ws qs : List ℕ) → ((i : ℕ) → i < length ws → can (ps ++ take i ws) (getD ws i 0) ≡ true) → taken can ps (ws ++ qs) ≡ ws ++ taken can
+      (ps ++ ws) qs
   all-taken ps [] qs h = ap (λ (l : List ℕ). taken can l qs) (sym (append-nil ps))
   all-taken ps (w ∷ ws) qs h =
       taken-can ps w (ws ++ qs) (ap (λ (l : List ℕ). can l w) (sym (append-nil ps)) ∙ h 0 (omega arith))
-      ∙ ap (λ (l : List ℕ). w ∷ l) (all-taken (ps ++ (w ∷ [])) ws qs (λ i b. ap (λ (l : List ℕ). can l (getD ws i 0)) (append-snoc ps w (take i ws)) ∙ h (suc i) (omega arith)))
+      ∙ ap (λ (l : List ℕ). w ∷ l) (all-taken (ps ++ (w ∷ [])) ws qs
+      (λ i b. ap (λ (l : List ℕ). can l (getD ws i 0)) (append-snoc ps w (take i ws)) ∙ h (suc i) (omega arith)))
       ∙ ap (λ (l : List ℕ). w ∷ (ws ++ taken can l qs)) (append-snoc ps w ws)
 
   -- the first that is taken can follow
@@ -52,14 +54,18 @@ module _ (can : List ℕ → ℕ → Bool) where
 
     -- the pick is taken where it is the next of the taken ones
     pub here-taken : t ≡ q → taken can (ps ++ (q ∷ [])) (drop (suc at) picks) ≡ drop (suc j) all
-    here-taken h = let z : q ∷ taken can (ps ++ (q ∷ [])) (drop (suc at) picks) ≡ t ∷ drop (suc j) all = sym (taken-can ps q (drop (suc at) picks) (here-can h)) ∙ here in cc
+    here-taken h =
+        let z : q ∷ taken can (ps ++ (q ∷ [])) (drop (suc at) picks) ≡ t ∷ drop (suc j) all = sym (taken-can ps q (drop (suc at) picks) (here-can h))
+        ∙ here in
+        cc
 
     -- and else passed over
     pub here-cannot : (t ≡ q → ⊥) → can ps q ≡ false
     here-cannot n = by (can ps q) refl
       where
         by : (x : Bool) → can ps q ≡ x → can ps q ≡ false
-        by true h = let z : q ∷ taken can (ps ++ (q ∷ [])) (drop (suc at) picks) ≡ t ∷ drop (suc j) all = sym (taken-can ps q (drop (suc at) picks) h) ∙ here in absurd (n cc)
+        by true h = let z : q ∷ taken can (ps ++ (q ∷ [])) (drop (suc at) picks) ≡ t ∷ drop (suc j) all = sym (taken-can ps q (drop (suc at) picks) h)
+            ∙ here in absurd (n cc)
         by false h = h
 
     pub here-passed : (t ≡ q → ⊥) → taken can ps (drop (suc at) picks) ≡ drop j all

@@ -38,7 +38,8 @@ turn-between-requires-2 c κs =
       s .pre .replayable,
       (
         omega (arith, e .0),
-        closed-both (canFollow (programOf (s .args .plan .now))) (s .args .schedule .now) _ (length (s .args .schedule .now) - t .before .lesser .result) _ (e .1)
+        closed-both (canFollow (programOf (s .args .plan .now))) (s .args .schedule .now) _ (length (s .args .schedule .now) - t .before .lesser .result) _
+            (e .1)
             (along (TurnsFrom (programOf (s .args .plan .now)) (s .args .schedule .now) _) (c .before .enum-told .given .1) (t .turn-between .ensures)),
       ),
     )

@@ -16,14 +16,18 @@ abbrev μ-loop : tie.MeasureT-loop
 μ-loop plan words n area₀ from at₀ guess₀ area at guess = n - at
 
 loop-holds : tie.Need-loop-holds Inv-loop μ-loop
-loop-holds c = let s = c .before .before in (start (programOf (s .args .plan .now)) (s .args .n) (s .args .from) (s .args .area .now) (s .pre .within) (s .pre .way), omega arith)
+loop-holds c =
+    let s = c .before .before in
+    (start (programOf (s .args .plan .now)) (s .args .n) (s .args .from) (s .args .area .now) (s .pre .within) (s .pre .way), omega arith)
 
 stretch-requires : tie.Need-stretch-requires Inv-loop μ-loop
 stretch-requires c κs =
     let l = c .before .before in
     let s = l .before .before .before in
-    let w = l .loop .inv .0 in
-    (record { accepted = s .pre .accepted; bound = s .pre .bound; long = omega (arith, s .pre .long, w .kept); within = w .within; way = w .way }, l .loop .inv .1)
+    let w = l .loop .inv .0 in (
+      record { accepted = s .pre .accepted; bound = s .pre .bound; long = omega (arith, s .pre .long, w .kept); within = w .within; way = w .way },
+      l .loop .inv .1,
+    )
 
 -- ---- after a stretch
 
@@ -31,7 +35,8 @@ module _ (c : tie.After-stretch Inv-loop μ-loop) where
   abbrev began : tie.Start Inv-loop μ-loop
   began = c .before .before .before .before .before .before
 
-  went : WentOn (programOf (began .args .plan .now)) (began .args .n) (began .args .from) (began .args .area .now) (c .stretch .last .1 .1 .1 .0) (c .stretch .result)
+  went : WentOn (programOf (began .args .plan .now)) (began .args .n) (began .args .from) (began .args .area .now) (c .stretch .last .1 .1 .1 .0)
+      (c .stretch .result)
   went = c .stretch .ensures .1 (began .args .from) (began .args .area .now) (began .pre .long) (c .before .before .before .loop .inv .0)
 
 same-length : tie.Need-same-length Inv-loop μ-loop
@@ -63,13 +68,16 @@ same-length-2 c = search needs
 returns-2 : tie.Need-returns-2 Inv-loop μ-loop
 returns-2 c =
     let t = c .before .before .before .before .before .before .before in
-    ends _ _ _ _ _ _ (went t) (began t .pre .long) (inr (none-can _ _ _ _ _ _ (went t) (began t .pre .long) (c .before .next-pick .result) (c .if2 .taken) (c .before .next-pick .ensures)))
+    ends _ _ _ _ _ _ (went t) (began t .pre .long)
+    (inr (none-can _ _ _ _ _ _ (went t) (began t .pre .long) (c .before .next-pick .result) (c .if2 .taken) (c .before .next-pick .ensures)))
 
 cast-area : tie.Need-cast-area Inv-loop μ-loop
 cast-area c = search needs
 
 slice-write-area : tie.Need-slice-write-area Inv-loop μ-loop
-slice-write-area c = let t = c .before .before .before .before .before .before .before in omega (arith, went t .within, went t .kept, began t .pre .long, c .before .before .before .before .if1 .left)
+slice-write-area c =
+    let t = c .before .before .before .before .before .before .before in
+    omega (arith, went t .within, went t .kept, began t .pre .long, c .before .before .before .before .if1 .left)
 
 add-at : tie.Need-add-at Inv-loop μ-loop
 add-at c = let t = c .before .before .before .before .before .before .before in omega (arith, went t .within, began t .pre .bound)
@@ -81,8 +89,10 @@ loop-again : tie.Need-loop-again Inv-loop μ-loop
 loop-again c =
     let t = c .before .before .before .before .before .before .before in
     let l = c .before .next-pick in
-    let b : l .result < 8 = omega (arith, c .if2 .left, l .ensures .within) in
-    (more _ _ _ _ _ _ (went t) (began t .pre .long) (l .result) (omega (arith, went t .within, c .before .before .before .before .if1 .left)) b (l .ensures), omega (arith, b))
+    let b : l .result < 8 = omega (arith, c .if2 .left, l .ensures .within) in (
+      more _ _ _ _ _ _ (went t) (began t .pre .long) (l .result) (omega (arith, went t .within, c .before .before .before .before .if1 .left)) b (l .ensures),
+      omega (arith, b),
+    )
 
 same-length-3 : tie.Need-same-length-3 Inv-loop μ-loop
 same-length-3 c = search needs

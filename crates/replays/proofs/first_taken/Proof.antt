@@ -30,14 +30,19 @@ part-threads-end : tie.Need-part-threads-end
 part-threads-end c =
     let r = c .before .before .before .before .before in
     let s = r .before .before .before .before .before in
-    omega (arith, within (s .args .plan .now) (s .args .words .now) (s .args .picks .now) (s .pre) _ (r .run .result) (r .run .ensures) _ (c .before .before .record-bytes .ensures))
+    omega (
+      arith,
+      within (s .args .plan .now) (s .args .words .now) (s .args .picks .now) (s .pre) _ (r .run .result) (r .run .ensures) _
+          (c .before .before .record-bytes .ensures),
+    )
 
 threads-requires : tie.Need-threads-requires
 threads-requires c κs =
     let r = c .before .before .before .before .before .before .before in
     let s = r .before .before .before .before .before in
     let m = c .before .before .before .lesser in (
-      enough (s .args .plan .now) (s .args .words .now) (s .args .picks .now) (s .pre) _ (r .run .result) (r .run .ensures) _ (m .result) (c .before .before .before .before .record-bytes .ensures) (m .ensures .0),
+      enough (s .args .plan .now) (s .args .words .now) (s .args .picks .now) (s .pre) _ (r .run .result) (r .run .ensures) _ (m .result)
+          (c .before .before .before .before .record-bytes .ensures) (m .ensures .0),
       m .ensures .1,
     )
 
@@ -49,7 +54,8 @@ returns c =
     let r = c .before .before .before .before .before .before .before .before .before .before in
     let s = r .before .before .before .before .before in
     let t = c .before .before in
-    first-taken-by (s .args .plan .now) (s .args .words .now) (s .args .picks .now) (s .pre) _ (r .run .result) (r .run .ensures) _ (t .before .before .before .before .before .record-bytes .ensures) _ (t .threads .result) (t .threads .ensures)
+    first-taken-by (s .args .plan .now) (s .args .words .now) (s .args .picks .now) (s .pre) _ (r .run .result) (r .run .ensures) _
+    (t .before .before .before .before .before .record-bytes .ensures) _ (t .threads .result) (t .threads .ensures)
 
 pub first-taken-spec : {M : Type 1} → statement M
 first-taken-spec =

@@ -38,7 +38,8 @@ loop-again : tie.Need-loop-again Inv-loop μ-loop
 loop-again c =
     let l = c .before .before .before .loop in
     let s = c .before .before .before .before .before .before in (
-      one-thread-more (s .args .log .now) (l .movers) (l .index) (c .before .columns-at .result) (l .inv .0) (omega arith) (omega arith) (c .before .columns-at .ensures),
+      one-thread-more (s .args .log .now) (l .movers) (l .index) (c .before .columns-at .result) (l .inv .0) (omega arith) (omega arith)
+          (c .before .columns-at .ensures),
       length-set (l .movers) (l .index) _ ∙ l .inv .1,
     )
 

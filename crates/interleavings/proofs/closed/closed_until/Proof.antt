@@ -89,17 +89,23 @@ module _ (c : tie.After-put-probed) where
   kept : length (c .put-probed .last .0) ≡ 320
   kept = c .put-probed .ensures .0 .kept ∙ c .before .before .before .before .put-word .ensures .kept
 
-  replayed : Searchable (began .args .plan .now) (began .args .words .now) (take (c .put-probed .result - 0) (c .put-probed .last .0))
+  abbrev picks : List ℕ
+  picks = take (c .put-probed .result - 0) (c .put-probed .last .0)
+
+  replayed : Searchable (began .args .plan .now) (began .args .words .now) picks
   replayed =
       let s = began in
-      searchable _ (s .args .schedule .now) _ _ (s .args .from) _ (c .put-probed .result) (omega (arith, s .pre .1, s .pre .2)) (c .before .before .before .before .put-word .ensures) (c .put-probed .ensures .0) few
-      (s .args .plan .now) (s .args .words .now) (s .pre .0 .replayable .accepted) few (λ j b. s .pre .0 .replayable .of-eight j (omega (arith, b, s .pre .1, s .pre .2)))
+      searchable _ (s .args .schedule .now) _ _ (s .args .from) _ (c .put-probed .result) (omega (arith, s .pre .1, s .pre .2))
+      (c .before .before .before .before .put-word .ensures) (c .put-probed .ensures .0) few
+      (s .args .plan .now) (s .args .words .now) (s .pre .0 .replayable .accepted) few
+      (λ j b. s .pre .0 .replayable .of-eight j (omega (arith, b, s .pre .1, s .pre .2)))
 
-  told : (movers : List ℕ) (count limit : ℕ) → FirstTaken (canFollow (programOf (began .args .plan .now))) (take (c .put-probed .result - 0) (c .put-probed .last .0)) movers count
-      → limit ≤ count → Beside (canFollow (programOf (began .args .plan .now))) (take (c .put-probed .result - 0) (c .put-probed .last .0)) movers (began .args .schedule .now) (began .args .from) limit
+  told : (movers : List ℕ) (count limit : ℕ) → FirstTaken (canFollow (programOf (began .args .plan .now))) picks movers count → limit ≤ count
+      → Beside (canFollow (programOf (began .args .plan .now))) picks movers (began .args .schedule .now) (began .args .from) limit
   told movers count limit x l =
       let s = began in
-      beside _ (s .args .schedule .now) _ _ (s .args .from) _ (c .put-probed .result) (omega (arith, s .pre .1, s .pre .2)) (c .before .before .before .before .put-word .ensures) (c .put-probed .ensures .0) few
+      beside _ (s .args .schedule .now) _ _ (s .args .from) _ (c .put-probed .result) (omega (arith, s .pre .1, s .pre .2))
+      (c .before .before .before .before .put-word .ensures) (c .put-probed .ensures .0) few
       (canFollow (programOf (s .args .plan .now))) (first-way _ (s .args .schedule .now) (s .args .from) (s .pre .0 .way)) movers count limit x l
 
 sub-first-taken : tie.Need-sub-first-taken
@@ -121,7 +127,9 @@ lesser-requires : tie.Need-lesser-requires
 lesser-requires c κs = search needs
 
 returns : tie.Need-returns
-returns c = let s = c .before .before .before .before .before .before .before .before .before .before .before .before .before .before .before .before .before in (omega arith, s .pre .1, λ i h b. absurd (omega arith))
+returns c =
+    let s = c .before .before .before .before .before .before .before .before .before .before .before .before .before .before .before .before .before in
+    (omega arith, s .pre .1, λ i h b. absurd (omega arith))
 
 sub-closed-by : tie.Need-sub-closed-by
 sub-closed-by c = search needs
@@ -130,7 +138,9 @@ part-closed-by-start : tie.Need-part-closed-by-start
 part-closed-by-start c = search needs
 
 part-closed-by-end : tie.Need-part-closed-by-end
-part-closed-by-end c = omega (arith, few (c .before .before .before .before .before .before .before .before .before), kept (c .before .before .before .before .before .before .before .before .before))
+part-closed-by-end c =
+    let p = c .before .before .before .before .before .before .before .before .before in
+    omega (arith, few p, kept p)
 
 slice-aggregate-closed-by : tie.Need-slice-aggregate-closed-by
 slice-aggregate-closed-by c = search needs
@@ -139,7 +149,8 @@ closed-by-requires : tie.Need-closed-by-requires
 closed-by-requires c κs =
     let t = c .before .before .before .before .before .before .first-taken in
     let l = c .before .before .before .before .lesser .ensures in
-    let s = c .before .before .before .before .before .before .before .before .before .before .before .before .before .before .before .before .before .before .before .before in
+    let p = c .before .before .before .before .before .before .before .before .before .before .before in
+    let s = began p in
     (omega (arith, c .before .before .before .if1 .left), omega (arith, l .0, t .ensures .inside), omega (arith, l .1, s .pre .2))
 
 returns-2 : tie.Need-returns-2
@@ -147,7 +158,8 @@ returns-2 c =
     let e = c .closed-by .ensures in
     let l = c .before .before .before .before .before .lesser in
     let t = c .before .before .before .before .before .before .before .first-taken in
-    (e .0, omega (arith, e .1, l .ensures .1), e .2 _ (told (c .before .before .before .before .before .before .before .before .before .before .before .before) _ (t .result) (l .result) (t .ensures) (l .ensures .0)))
+    let p = c .before .before .before .before .before .before .before .before .before .before .before .before in
+    (e .reached, omega (arith, e .within, l .ensures .1), e .closed _ (told p _ (t .result) (l .result) (t .ensures) (l .ensures .0)))
 
 pub closed-until-spec : {M : Type 1} → statement M
 closed-until-spec =

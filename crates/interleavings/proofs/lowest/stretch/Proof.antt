@@ -53,19 +53,22 @@ module _ (c : tie.After-put-guess) where
   eight : (j : ℕ) → j < began .args .at → getD (began .args .area .now) j 0 < 8
   eight j b =
       let s = began in
-      along (λ (v : ℕ). v < 8) (getD-take (s .args .at) (s .args .area .now) j 0 b) (s .pre .0 .way .of-eight j (omega (arith, b, length-take-le (s .args .at) (s .args .area .now) inside)))
+      along (λ (v : ℕ). v < 8) (getD-take (s .args .at) (s .args .area .now) j 0 b)
+      (s .pre .0 .way .of-eight j (omega (arith, b, length-take-le (s .args .at) (s .args .area .now) inside)))
 
   replayed : Searchable (began .args .plan .now) (began .args .words .now) picks
   replayed =
       let s = began in
-      searchable _ (s .args .area .now) _ _ (s .args .at) _ (c .put-guess .result) inside (c .before .before .before .put-word .ensures) (c .put-guess .ensures .0) (omega (arith, c .put-guess .ensures .1))
+      searchable _ (s .args .area .now) _ _ (s .args .at) _ (c .put-guess .result) inside (c .before .before .before .put-word .ensures)
+      (c .put-guess .ensures .0) (omega (arith, c .put-guess .ensures .1))
       (s .args .plan .now) (s .args .words .now) (s .pre .0 .accepted) (omega (arith, c .put-guess .ensures .1)) eight
 
   told : (movers : List ℕ) (count limit : ℕ) → FirstTaken (canFollow (programOf (began .args .plan .now))) picks movers count → limit ≤ count
       → Beside (canFollow (programOf (began .args .plan .now))) picks movers (began .args .area .now) (began .args .at) limit
   told movers count limit x l =
       let s = began in
-      beside _ (s .args .area .now) _ _ (s .args .at) _ (c .put-guess .result) inside (c .before .before .before .put-word .ensures) (c .put-guess .ensures .0) (omega (arith, c .put-guess .ensures .1))
+      beside _ (s .args .area .now) _ _ (s .args .at) _ (c .put-guess .result) inside (c .before .before .before .put-word .ensures)
+      (c .put-guess .ensures .0) (omega (arith, c .put-guess .ensures .1))
       (canFollow (programOf (s .args .plan .now))) (s .pre .0 .way) movers count limit x l
 
 sub-first-taken : tie.Need-sub-first-taken

@@ -1,3 +1,4 @@
+-- `put_probed` meets its contract. Assumes nothing.
 use Prim.Native.Nat.{_+_, _-_, _*_, _≤_}
 use native.Mathlib.Omega.{arith}
 use lib.ListN.{length}
@@ -6,10 +7,6 @@ use Rattle.interleavings.proofs.Putting.{put-none, put-one, put-more}
 use borrow.Author.Needs.{needs}
 use Rattle.interleavings.proofs.probes.put_probed.Statement.{statement}
 use Rattle.interleavings.proofs.probes.put_probed.Tie as tie
-use Rattle.interleavings.proofs.probes.put_probed.Reads as reads
-use Rattle.interleavings.proofs.probes.put_probed.Lts as lts
-use Rattle.byte_numbers.proofs.wide.Reads as wide-reads
-use Rattle.interleavings.proofs.probes.put_threads.Reads as put-threads-reads
 
 abbrev Inv-loop : tie.InvT-loop
 Inv-loop area₀ at picks next₀ index₀ area next index = Put area₀ at area next × (index ≤ length picks) × (next ≤ at + 8 * index)
@@ -17,23 +14,18 @@ Inv-loop area₀ at picks next₀ index₀ area next index = Put area₀ at area
 abbrev μ-loop : tie.MeasureT-loop
 μ-loop area₀ at picks next₀ index₀ area next index = length picks - index
 
--- src/probes.rt:30:5
 loop-holds : tie.Need-loop-holds Inv-loop μ-loop
 loop-holds c = (put-none _ _, omega arith, omega arith)
 
--- src/probes.rt:31:20
 shared-slice-read-pick : tie.Need-shared-slice-read-pick Inv-loop μ-loop
 shared-slice-read-pick c = search needs
 
--- src/probes.rt:32:40
 wide-requires : tie.Need-wide-requires Inv-loop μ-loop
 wide-requires c κs = search needs
 
--- src/probes.rt:32:40
 add-put-threads : tie.Need-add-put-threads Inv-loop μ-loop
 add-put-threads c = search needs
 
--- src/probes.rt:32:9
 put-threads-requires : tie.Need-put-threads-requires Inv-loop μ-loop
 put-threads-requires c κs =
     let l = c .before .before .before .before in
@@ -43,7 +35,6 @@ put-threads-requires c κs =
     let w = c .wide .ensures .0 in
     (omega (arith, p, w), omega arith, omega (arith, p, w, i .0 .kept, i .2, s .pre .1, c .before .before .before .loop-test .taken))
 
--- src/probes.rt:33:9
 slice-write-area : tie.Need-slice-write-area Inv-loop μ-loop
 slice-write-area c =
     let l = c .before .before .before .before .before .before .before in
@@ -52,19 +43,15 @@ slice-write-area c =
     let t = c .before .before .put-threads .ensures in
     omega (arith, t .1, t .0 .kept, i .0 .kept, i .2, s .pre .1, c .before .before .before .before .before .before .loop-test .taken)
 
--- src/probes.rt:34:9
 add-next : tie.Need-add-next Inv-loop μ-loop
 add-next c = search needs
 
--- src/probes.rt:35:9
 add-index : tie.Need-add-index Inv-loop μ-loop
 add-index c = search needs
 
--- src/probes.rt:30:5
 loop-less : tie.Need-loop-less Inv-loop μ-loop
 loop-less c = search needs
 
--- src/probes.rt:30:5
 loop-again : tie.Need-loop-again Inv-loop μ-loop
 loop-again c =
     let l = c .before .before .before .before .before .before .before in
@@ -77,11 +64,9 @@ loop-again c =
       omega (arith, t .1, i .2),
     )
 
--- src/probes.rt:24:1
 same-length : tie.Need-same-length Inv-loop μ-loop
 same-length c = search needs
 
--- src/probes.rt:24:1
 returns : tie.Need-returns Inv-loop μ-loop
 returns c = let i = c .before .loop .inv in (i .0, omega (arith, i .1, i .2))
 

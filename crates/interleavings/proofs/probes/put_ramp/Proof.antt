@@ -21,8 +21,9 @@ add-step c = search needs
 
 put-threads-requires : tie.Need-put-threads-requires Inv-loop μ-loop
 put-threads-requires c κs =
-    let l = c .before .before .loop in
-    (omega arith, omega arith, omega (arith, l .inv .0 .kept, l .inv .2, c .before .loop-test .taken, c .before .before .before .before .pre .0, c .before .before .before .before .pre .1))
+    let l = c .before .before in
+    let s = l .before .before in
+    (omega arith, omega arith, omega (arith, l .loop .inv .0 .kept, l .loop .inv .2, c .before .loop-test .taken, s .pre .0, s .pre .1))
 
 loop-less : tie.Need-loop-less Inv-loop μ-loop
 loop-less c = search needs
@@ -30,8 +31,11 @@ loop-less c = search needs
 loop-again : tie.Need-loop-again Inv-loop μ-loop
 loop-again c =
     let l = c .before .before .before .before .before .loop in
-    let t = c .before .before .put-threads .ensures in
-    (put-more _ _ _ _ _ _ (l .inv .0) (t .0), omega arith, omega (arith, t .1, l .inv .2, c .before .before .before .before .loop-test .taken, c .before .before .before .before .before .before .before .pre .0))
+    let t = c .before .before .put-threads .ensures in (
+      put-more _ _ _ _ _ _ (l .inv .0) (t .0),
+      omega arith,
+      omega (arith, t .1, l .inv .2, c .before .before .before .before .loop-test .taken, c .before .before .before .before .before .before .before .pre .0),
+    )
 
 same-length : tie.Need-same-length Inv-loop μ-loop
 same-length c = search needs

@@ -23,7 +23,8 @@ returns : tie.Need-returns Inv-loop μ-loop
 returns c = c .before .before .loop .inv
 
 put-ramp-requires : tie.Need-put-ramp-requires Inv-loop μ-loop
-put-ramp-requires c κs = let l = c .before .before .before in (l .before .before .pre .0, omega (arith, l .loop .inv .0 .kept, c .before .if1 .left, l .before .before .pre .2))
+put-ramp-requires c κs =
+    let l = c .before .before .before in (l .before .before .pre .0, omega (arith, l .loop .inv .0 .kept, c .before .if1 .left, l .before .before .pre .2))
 
 add-index : tie.Need-add-index Inv-loop μ-loop
 add-index c = search needs
@@ -33,8 +34,10 @@ loop-less c = search needs
 
 loop-again : tie.Need-loop-again Inv-loop μ-loop
 loop-again c =
-    let t = c .before .before .put-ramp .ensures in
-    (put-more _ _ _ _ _ _ (c .before .before .before .before .before .before .loop .inv .0) (t .0), omega (arith, t .1, c .before .before .before .before .if1 .left))
+    let t = c .before .before .put-ramp .ensures in (
+      put-more _ _ _ _ _ _ (c .before .before .before .before .before .before .loop .inv .0) (t .0),
+      omega (arith, t .1, c .before .before .before .before .if1 .left),
+    )
 
 same-length-2 : tie.Need-same-length-2 Inv-loop μ-loop
 same-length-2 c = search needs

@@ -1,3 +1,4 @@
+-- `put_threads` meets its contract. Assumes nothing.
 use Prim.Native.Nat.{_+_, _-_, _≤_}
 use native.Mathlib.Omega.{arith}
 use mathlib.Core.Path.{_≡_}
@@ -6,8 +7,6 @@ use Rattle.interleavings.proofs.Putting.{put-none, put-one}
 use borrow.Author.Needs.{needs}
 use Rattle.interleavings.proofs.probes.put_threads.Statement.{statement}
 use Rattle.interleavings.proofs.probes.put_threads.Tie as tie
-use Rattle.interleavings.proofs.probes.put_threads.Reads as reads
-use Rattle.interleavings.proofs.probes.put_threads.Lts as lts
 
 abbrev Inv-loop : tie.InvT-loop
 Inv-loop area₀ at from to next₀ thread₀ area next thread = Put area₀ at area next × (from ≤ thread) × (thread ≤ to) × (next ≡ at + (thread - from))
@@ -15,39 +14,30 @@ Inv-loop area₀ at from to next₀ thread₀ area next thread = Put area₀ at 
 abbrev μ-loop : tie.MeasureT-loop
 μ-loop area₀ at from to next₀ thread₀ area next thread = to - thread
 
--- src/probes.rt:15:5
 loop-holds : tie.Need-loop-holds Inv-loop μ-loop
 loop-holds c = (put-none _ _, omega arith, omega arith, omega arith)
 
--- src/probes.rt:16:22
 cast-area : tie.Need-cast-area Inv-loop μ-loop
 cast-area c = search needs
 
--- src/probes.rt:16:9
 slice-write-area : tie.Need-slice-write-area Inv-loop μ-loop
 slice-write-area c = search needs
 
--- src/probes.rt:17:9
 add-next : tie.Need-add-next Inv-loop μ-loop
 add-next c = search needs
 
--- src/probes.rt:18:9
 add-thread : tie.Need-add-thread Inv-loop μ-loop
 add-thread c = search needs
 
--- src/probes.rt:15:5
 loop-less : tie.Need-loop-less Inv-loop μ-loop
 loop-less c = search needs
 
--- src/probes.rt:15:5
 loop-again : tie.Need-loop-again Inv-loop μ-loop
 loop-again c = let l = c .before .loop in (put-one _ _ _ _ _ (l .inv .0) (omega (arith, l .inv .0 .kept)) (omega arith), omega arith, omega arith, omega arith)
 
--- src/probes.rt:9:1
 same-length : tie.Need-same-length Inv-loop μ-loop
 same-length c = search needs
 
--- src/probes.rt:9:1
 returns : tie.Need-returns Inv-loop μ-loop
 returns c = search needs
 
