@@ -6,3 +6,4 @@ pub mod Putting
 pub mod Closing
 pub mod Probing
 pub mod Stretching
+pub mod Counting

@@ -2,3 +2,4 @@ pub mod Interleavings
 pub mod Answer
 pub mod Steps
 pub mod Search
+pub mod Count

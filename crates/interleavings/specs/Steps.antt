@@ -1,15 +1,17 @@
 -- Going back and going on, step by step. For inner contracts; no reader of the entries' promise needs it. Assumes nothing.
-use Prim.Native.Nat.{ℕ, _≤_, _<_}
+use Prim.Native.Nat.{ℕ, _+_, _≤_, _<_}
 use mathlib.Core.Path.{_≡_}
 use mathlib.Core.Bool.{true, false}
 use mathlib.Core.List.{List}
-use lib.ListN.{length, getD, take, drop}
+use mathlib.Core.Option.{some}
+use lib.ListN.{length, getD, getElem?, take, drop}
 use Rattle.format.specs.Area.{overwrite}
 use Rattle.packed.specs.Syntax.{Program}
 use Rattle.packed.specs.Trees.{programOf}
 use Rattle.listing.specs.Order.{AtMost}
 use Rattle.listing.specs.Listed as listing
 use Rattle.listing.specs.Listed.{Listed, Following}
+use Rattle.listing.specs.WholeList.{WholeList}
 use Rattle.listing.specs.CanFollow.{canFollow}
 use Rattle.listing.specs.Ways.{Way}
 use Rattle.replays.specs.Replay.{Accepted}
@@ -18,6 +20,8 @@ use Rattle.interleavings.specs.declared.Turn.{Turn}
 use Rattle.interleavings.specs.declared.Turn.the-variants as turn
 use Rattle.interleavings.specs.declared.Next.{Next}
 use Rattle.interleavings.specs.declared.Next.the-variants as next
+use Rattle.interleavings.specs.declared.Counted.{Counted}
+use Rattle.interleavings.specs.declared.Counted.the-variants as counted
 
 -- ---- going on
 
@@ -91,3 +95,26 @@ abbrev pub Followed : Program → ℕ → List ℕ → List ℕ → List ℕ →
 Followed g n ps before after (next.Refused number place) = ⊥
 Followed g n ps before after (next.Written r) = (qs : List ℕ) × Following g n ps qs × (r ≡ length qs) × (after ≡ overwrite qs before)
 Followed g n ps before after next.Over = listing.Over g n ps × (after ≡ before)
+
+-- ---- counting
+
+-- a listed schedule at the beginning of an area that is long enough, as the schedule at a place of the whole list
+pub record Stands (plan words : List ℕ) (n : ℕ) (area : List ℕ) (picks place : ℕ) : Type 0 where
+  pub accepted : Accepted plan words
+  pub bound : n ≤ 64
+  pub long : 64 ≤ length area
+  pub few : picks ≤ 64
+  pub listed : Listed (programOf plan) n (take picks area)
+  pub at-place : (L : List (List ℕ)) → WholeList (programOf plan) n L → getElem? L place ≡ some (take picks area)
+
+-- after one step: the next schedule stands there, or the whole list ends here
+abbrev pub Advanced : (plan words : List ℕ) → ℕ → List ℕ → ℕ → Next → Type 0
+Advanced plan words n after place (next.Refused number at) = ⊥
+Advanced plan words n after place (next.Written picks) = Stands plan words n after picks (place + 1)
+Advanced plan words n after place next.Over = (L : List (List ℕ)) → WholeList (programOf plan) n L → length L ≡ place + 1
+
+-- what counting on from the first schedule answers
+abbrev pub CountsOn : (plan : List ℕ) → (n limit : ℕ) → Counted → Type 0
+CountsOn plan n limit (counted.Refused number place) = ⊥
+CountsOn plan n limit (counted.All r) = ((L : List (List ℕ)) → WholeList (programOf plan) n L → r ≡ length L) × (r ≤ limit)
+CountsOn plan n limit counted.More = (L : List (List ℕ)) → WholeList (programOf plan) n L → limit < length L
