@@ -37,6 +37,7 @@ use Rattle.interleavings.specs.declared.Next.{Next}
 use Rattle.interleavings.specs.declared.Next.the-variants as next
 use Rattle.interleavings.specs.Interleavings as papers
 use Rattle.interleavings.specs.Interleavings.{overBound, shortOutput, firstRefused, FirstAnswer, nextRefused, NextAnswer}
+use Rattle.interleavings.specs.Count.{countRefused}
 use Rattle.interleavings.specs.Answer.{answered}
 use Rattle.interleavings.specs.Steps.{Begins, Reached, TurnsAt, Followed}
 use Rattle.interleavings.proofs.GoingOn.{taken}
@@ -219,3 +220,23 @@ module _ (plan : List ℕ) (n : ℕ) (schedule area : List ℕ) where
               along (λ (k : ℕ). NextAnswer plan n schedule area (papers.Next.written k) after) (sym d)
               (along (NextAnswer plan n schedule area (papers.Next.written (length qs))) (sym q) (NextAnswer.FOLLOWS next-none l s f))
           next-followed s after next.Over (f, q) = along (NextAnswer plan n schedule area papers.Next.over) (sym q) (NextAnswer.OVER next-none l s f)
+
+-- ---- counting
+
+module _ (plan : List ℕ) (n : ℕ) where
+  count-stages : countRefused plan n ≡ orElse (refusal plan) (firstRefusal (checkWhole 18 (overBound n) ∷ []))
+  unfolding countRefused refusal
+  count-stages = refusal-append (checks plan) (checkWhole 18 (overBound n) ∷ [])
+
+  module _ (r : Checked) (h : check.answered r ≡ refusal plan) where
+    pub count-refused : (k i : ℕ) → r ≡ checked.Refused k i → countRefused plan n ≡ some (record { number = k; place = i })
+    count-refused k i e = count-stages ∙ first-or _ _ _ (refused-is _ r k i h e)
+
+    module _ (e : r ≡ checked.Passed) where
+      pub count-over-bound : 64 < n → countRefused plan n ≡ some (numbered 18)
+      unfolding overBound
+      count-over-bound b = count-stages ∙ then-other _ _ (passed-is _ r h e) ∙ refuses 18 (overBound n) _ (lt-ltb 64 n b)
+
+      pub count-none : n ≤ 64 → countRefused plan n ≡ none
+      unfolding overBound firstRefusal
+      count-none b = count-stages ∙ then-other _ _ (passed-is _ r h e) ∙ passes 18 (overBound n) [] (le-ltb 64 n b)

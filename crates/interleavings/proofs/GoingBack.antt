@@ -4,6 +4,7 @@ use native.Mathlib.Decide.{ℕ-discrete}
 use native.Mathlib.Nat.{sub-zero}
 use native.Mathlib.Omega.{arith}
 use mathlib.Core.Path.{_≡_, sym, ap, _∙_, subst as along}
+use mathlib.Core.Bool.{Bool}
 use mathlib.Core.List.{List, [], _∷_, _++_}
 use lib.ListN.{length, getD, take, drop, take-append-drop}
 use lib.Seq.{length-take-le, getD-take, take-all, take-suc, split-at, append-snoc}
@@ -41,6 +42,10 @@ module _ (g : Program) (ps : List ℕ) (i r : ℕ) (l : LowestFrom (canFollow g 
         last = last;
       }
 
+-- the picks before a place are a way
+pub first-way : (can : List ℕ → ℕ → Bool) (ps : List ℕ) (i : ℕ) → Way can ps → Way can (take i ps)
+first-way can ps i w = first-picks can (take i ps) (drop i ps) (along (Way can) (sym (take-append-drop i ps)) w)
+
 -- the picks before a place can be replayed
 pub first-few : (plan words ps : List ℕ) (i : ℕ) → Replayable plan words ps → i ≤ length ps → Replayable plan words (take (i - 0) ps)
 first-few plan words ps i x h =
@@ -72,8 +77,8 @@ module _ (g : Program) (n : ℕ) (ps : List ℕ) (x : Listed g n ps) where
       (none i (omega arith) (omega arith))
 
   -- to the beginning
-  pub over : ((i : ℕ) → i < length ps → NoneHigher g ps i) → Over g n ps
-  over none rs l b = none-higher rs (back-to rs l b (length ps) 0 (omega arith) (λ j h. none j))
+  pub over : ((i : ℕ) → 0 ≤ i → i < length ps → NoneHigher g ps i) → Over g n ps
+  over none rs l b = none-higher rs (back-to rs l b (length ps) 0 (omega arith) none)
 
   -- to the last place where a higher thread can be picked
   module _ (place pick : ℕ) (t : TurnsAt g ps place pick) where
@@ -83,7 +88,7 @@ module _ (g : Program) (n : ℕ) (ps : List ℕ) (x : Listed g n ps) where
     pub turned-way : Way (canFollow g) turned
     turned-way =
         one-more (canFollow g) (take place ps) pick
-        (first-picks (canFollow g) (take place ps) (drop place ps) (along (Way (canFollow g)) (sym (take-append-drop place ps)) (complete-of g n ps x .way)))
+        (first-way (canFollow g) ps place (complete-of g n ps x .way))
         (t .of-eight) (t .can)
 
     pub turned-least : (rs : List ℕ) → Listed g n rs → Before ps rs → AtMost turned rs

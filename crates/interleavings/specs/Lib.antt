@@ -1,3 +1,5 @@
 pub mod Interleavings
 pub mod Answer
 pub mod Steps
+pub mod Search
+pub mod Count

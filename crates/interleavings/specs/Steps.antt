@@ -1,22 +1,27 @@
 -- Going back and going on, step by step. For inner contracts; no reader of the entries' promise needs it. Assumes nothing.
-use Prim.Native.Nat.{ℕ, _≤_, _<_}
+use Prim.Native.Nat.{ℕ, _+_, _≤_, _<_}
 use mathlib.Core.Path.{_≡_}
 use mathlib.Core.Bool.{true, false}
 use mathlib.Core.List.{List}
-use lib.ListN.{length, getD, take, drop}
+use mathlib.Core.Option.{some}
+use lib.ListN.{length, getD, getElem?, take, drop}
 use Rattle.format.specs.Area.{overwrite}
 use Rattle.packed.specs.Syntax.{Program}
 use Rattle.packed.specs.Trees.{programOf}
 use Rattle.listing.specs.Order.{AtMost}
 use Rattle.listing.specs.Listed as listing
 use Rattle.listing.specs.Listed.{Listed, Following}
+use Rattle.listing.specs.WholeList.{WholeList}
 use Rattle.listing.specs.CanFollow.{canFollow}
 use Rattle.listing.specs.Ways.{Way}
 use Rattle.replays.specs.Replay.{Accepted}
+use Rattle.interleavings.specs.Search.{Closed, Beside}
 use Rattle.interleavings.specs.declared.Turn.{Turn}
 use Rattle.interleavings.specs.declared.Turn.the-variants as turn
 use Rattle.interleavings.specs.declared.Next.{Next}
 use Rattle.interleavings.specs.declared.Next.the-variants as next
+use Rattle.interleavings.specs.declared.Counted.{Counted}
+use Rattle.interleavings.specs.declared.Counted.the-variants as counted
 
 -- ---- going on
 
@@ -38,6 +43,15 @@ pub record WentOn (g : Program) (n from : ℕ) (before after : List ℕ) (at : �
   pub way : Way (canFollow g) (take at after)
   pub least : (rs : List ℕ) → Listed g n rs → AtMost (take from before) rs → AtMost (take at after) rs
 
+-- going on from `at` to r, whatever the first picks are
+abbrev pub Stretches : Program → (n at : ℕ) → (before after : List ℕ) → ℕ → Type 0
+Stretches g n at before after r = (from : ℕ) (first : List ℕ) → n ≤ length first → WentOn g n from first before at → WentOn g n from first after r
+
+-- the same by the picks of a replay, and those of them that are taken
+abbrev pub WalksOn : (picks movers : List ℕ) → (from limit : ℕ) → (before after : List ℕ) → ℕ → Type 0
+WalksOn picks movers from limit before after r =
+    (g : Program) (n : ℕ) → limit ≤ n → Beside (canFollow g) picks movers before from limit → Stretches g n from before after r
+
 -- to the end
 pub record Reached (g : Program) (n from : ℕ) (before after : List ℕ) (at : ℕ) : Type 0 where
   pub went : WentOn g n from before after at
@@ -58,9 +72,14 @@ pub record TurnsAt (g : Program) (ps : List ℕ) (place pick : ℕ) : Type 0 whe
   pub lowest : (k : ℕ) → getD ps place 0 < k → k < pick → canFollow g (take place ps) k ≡ false
   pub last : (i : ℕ) → place < i → i < length ps → NoneHigher g ps i
 
-abbrev pub Turns : Program → List ℕ → Turn → Type 0
-Turns g ps (turn.At place pick) = TurnsAt g ps place pick
-Turns g ps turn.Over = (i : ℕ) → i < length ps → NoneHigher g ps i
+-- that, or there is no such place from `start` on
+abbrev pub TurnsFrom : Program → List ℕ → ℕ → Turn → Type 0
+TurnsFrom g ps start (turn.At place pick) = TurnsAt g ps place pick
+TurnsFrom g ps start turn.Over = Closed (canFollow g) ps start (length ps)
+
+-- there is none from `end` on
+abbrev pub ClosedFrom : List ℕ → List ℕ → ℕ → Type 0
+ClosedFrom plan ps end = (end ≤ length ps) × Closed (canFollow (programOf plan)) ps end (length ps)
 
 -- ---- both
 
@@ -76,3 +95,26 @@ abbrev pub Followed : Program → ℕ → List ℕ → List ℕ → List ℕ →
 Followed g n ps before after (next.Refused number place) = ⊥
 Followed g n ps before after (next.Written r) = (qs : List ℕ) × Following g n ps qs × (r ≡ length qs) × (after ≡ overwrite qs before)
 Followed g n ps before after next.Over = listing.Over g n ps × (after ≡ before)
+
+-- ---- counting
+
+-- a listed schedule at the beginning of an area that is long enough, as the schedule at a place of the whole list
+pub record Stands (plan words : List ℕ) (n : ℕ) (area : List ℕ) (picks place : ℕ) : Type 0 where
+  pub accepted : Accepted plan words
+  pub bound : n ≤ 64
+  pub long : 64 ≤ length area
+  pub few : picks ≤ 64
+  pub listed : Listed (programOf plan) n (take picks area)
+  pub at-place : (L : List (List ℕ)) → WholeList (programOf plan) n L → getElem? L place ≡ some (take picks area)
+
+-- after one step: the next schedule stands there, or the whole list ends here
+abbrev pub Advanced : (plan words : List ℕ) → ℕ → List ℕ → ℕ → Next → Type 0
+Advanced plan words n after place (next.Refused number at) = ⊥
+Advanced plan words n after place (next.Written picks) = Stands plan words n after picks (place + 1)
+Advanced plan words n after place next.Over = (L : List (List ℕ)) → WholeList (programOf plan) n L → length L ≡ place + 1
+
+-- what counting on from the first schedule answers
+abbrev pub CountsOn : (plan : List ℕ) → (n limit : ℕ) → Counted → Type 0
+CountsOn plan n limit (counted.Refused number place) = ⊥
+CountsOn plan n limit (counted.All r) = ((L : List (List ℕ)) → WholeList (programOf plan) n L → r ≡ length L) × (r ≤ limit)
+CountsOn plan n limit counted.More = (L : List (List ℕ)) → WholeList (programOf plan) n L → limit < length L

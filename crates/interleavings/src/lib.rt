@@ -1,10 +1,17 @@
-// The entries `first_interleaving` and `next_interleaving`: all interleavings of a short plan, one after the other (document 02, E11).
+// The entries `first_interleaving` and `next_interleaving`: all interleavings of a short plan, one after the other (document 02, E11); and `count`, how many
+// there are.
+mod closed; // closed.rt: the places of a schedule where no higher thread can be picked
+mod lowest; // lowest.rt: going on by the lowest picks that can follow, as far as one replay tells
+mod probes; // probes.rt: picks put in to see whether they are passed over
+
 ghost use Rattle.packed.specs.Trees.{programOf};
 ghost use Rattle.answers.specs.Answer as answer;
 ghost use Rattle.replays.specs.Replay.{Replayable};
 ghost use Rattle.interleavings.specs.Interleavings.{FirstAnswer, NextAnswer};
 ghost use Rattle.interleavings.specs.Answer.{answered};
-ghost use Rattle.interleavings.specs.Steps.{Begins, Reached, Turns, Listing, Followed};
+ghost use Rattle.interleavings.specs.Count.{CountAnswer};
+ghost use Rattle.interleavings.specs.Search.{Replays};
+ghost use Rattle.interleavings.specs.Steps.{Begins, Reached, ClosedFrom, TurnsFrom, Listing, Followed, Stands, Advanced, CountsOn};
 use answers::Answered;
 use refusals::Checked;
 
@@ -18,19 +25,36 @@ pub enum Next {
     Over,
 }
 
+// What `count` answers.
+pub enum Counted {
+    // It is refused: document 01's number and place.
+    Refused { number: usize, place: usize },
+    // So many schedules are listed.
+    All(usize),
+    // More than the limit are.
+    More,
+}
+
 // Where the following schedule leaves a given one, and its pick there.
 pub enum Turn {
     At { place: usize, pick: usize },
     Over,
 }
 
-// The last place of a schedule where a higher thread can be picked, and the lowest such thread.
-fn go_back(plan: &[u8], words: &[usize; 1024], schedule: &[u8]) -> Turn
-    requires { ⌜ Replayable (now plan) (now words) (now schedule) ⌝ }
-    ensures { λ r. ⌜ Turns (programOf (now (plan .entry))) (now (schedule .entry)) r ⌝ }
+// The last place from `start` on and before `end` where a higher thread can be picked, and the lowest such thread; from `end` on there is none. By one replay
+// to each place, the last first.
+fn turn_between(
+    plan: &[u8],
+    words: &[usize; 1024],
+    schedule: &[u8],
+    start: usize,
+    end: usize,
+) -> Turn
+    requires { ⌜ Replayable (now plan) (now words) (now schedule) × ClosedFrom (now plan) (now schedule) end ⌝ }
+    ensures { λ r. ⌜ TurnsFrom (programOf (now (plan .entry))) (now (schedule .entry)) start r ⌝ }
 {
-    let mut place = schedule.len();
-    while place > 0 {
+    let mut place = end;
+    while place > start {
         place -= 1;
         let higher = schedule[place] as usize + 1;
         let pick = replays::next_pick(plan, words, &schedule[0..place], higher);
@@ -41,19 +65,42 @@ fn go_back(plan: &[u8], words: &[usize; 1024], schedule: &[u8]) -> Turn
     Turn::Over
 }
 
-// From the first `from` picks of the area on, the lowest pick that can follow, until there are n or none can; how many picks that makes.
+// The last place of a schedule where a higher thread can be picked, and the lowest such thread: among the last three places, and else by halves.
+fn go_back(plan: &[u8], words: &[usize; 1024], schedule: &[u8]) -> Turn
+    requires { ⌜ Replays (now plan) (now words) (now schedule) ⌝ }
+    ensures { λ r. ⌜ TurnsFrom (programOf (now (plan .entry))) (now (schedule .entry)) 0 r ⌝ }
+{
+    let near = schedule.len() - replays::lesser(schedule.len(), 3);
+    let turn = turn_between(plan, words, schedule, near, schedule.len());
+    match turn {
+        Turn::At { place, pick } => Turn::At { place, pick },
+        Turn::Over => {
+            let end = closed::closed_from(plan, words, schedule, near);
+            turn_between(plan, words, schedule, 0, end)
+        }
+    }
+}
+
+// From the first `from` picks of the area on, the lowest pick that can follow, until there are n or none can; how many picks that makes. As far as one replay
+// tells, and one pick more by the threads' states, again and again; the thread of that pick is guessed to go on.
 fn go_on(plan: &[u8], words: &[usize; 1024], n: usize, area: &mut [u8], from: usize) -> usize
     requires { ⌜ Begins (now plan) (now words) n (now area) from ⌝ }
     ensures { λ r. ⌜ Reached (programOf (now (plan .entry))) n from (now (area .entry)) (now (area .exit)) r ⌝ }
 {
     let mut at = from;
+    let mut guess = 0;
     while at < n {
+        at = lowest::stretch(plan, words, n, area, at, guess);
+        if at == n {
+            return at;
+        }
         let pick = replays::next_pick(plan, words, &area[0..at], 0);
         if pick == 8 {
             return at;
         }
         area[at] = pick as u8;
         at += 1;
+        guess = pick;
     }
     at
 }
@@ -132,6 +179,82 @@ pub fn next_interleaving(plan: &[u8], n: usize, schedule: &[u8], area: &mut [u8]
                 };
             }
             following(plan, &words, n, schedule, area)
+        }
+    }
+}
+
+// From the schedule at the beginning of the area to the following one, in its place.
+fn advance(
+    plan: &[u8],
+    words: &[usize; 1024],
+    n: usize,
+    area: &mut [u8],
+    picks: usize,
+    place: usize,
+) -> Next
+    requires { ⌜ Stands (now plan) (now words) n (now area) picks place ⌝ }
+    ensures { λ r. ⌜ Advanced (now (plan .entry)) (now (words .entry)) n (now (area .exit)) place r ⌝ }
+{
+    let mut after = [0u8; 64];
+    let next = following(plan, words, n, &area[0..picks], &mut after);
+    match next {
+        Next::Written(length) => Next::Written(text::put_word(area, 0, &after[0..length])),
+        Next::Over => Next::Over,
+        Next::Refused { number, place } => Next::Refused { number, place },
+    }
+}
+
+// From the first schedule on, one by one, until the list is over or longer than the limit.
+fn count_on(
+    plan: &[u8],
+    words: &[usize; 1024],
+    n: usize,
+    limit: usize,
+    area: &mut [u8],
+    first: usize,
+) -> Counted
+    requires { ⌜ Stands (now plan) (now words) n (now area) first 0 ⌝ }
+    ensures { λ r. ⌜ CountsOn (now (plan .entry)) n limit r ⌝ }
+{
+    let mut picks = first;
+    let mut place = 0;
+    while place < limit {
+        let next = advance(plan, words, n, area, picks, place);
+        match next {
+            Next::Written(length) => {
+                picks = length;
+                place += 1;
+            }
+            Next::Over => {
+                return Counted::All(place + 1);
+            }
+            Next::Refused { number, place } => {
+                return Counted::Refused { number, place };
+            }
+        }
+    }
+    Counted::More
+}
+
+// Every plan, bound and limit gets an answer: a refusal of number 1 to 7 with its place, or of number 18; or how many schedules are listed; or that more than
+// the limit are.
+pub fn count(plan: &[u8], n: usize, limit: usize) -> Counted
+    ensures { λ r. ⌜ CountAnswer (now (plan .entry)) n limit r ⌝ }
+{
+    let mut words = [0usize; 1024];
+    let checked = plan::load(plan, &mut words);
+    match checked {
+        Checked::Refused { number, place } => Counted::Refused { number, place },
+        Checked::Passed => {
+            if n > 64 {
+                return Counted::Refused {
+                    number: 18,
+                    place: 0,
+                };
+            }
+            let mut area = [0u8; 64];
+            let first = go_on(plan, &words, n, &mut area, 0);
+            count_on(plan, &words, n, limit, &mut area, first)
         }
     }
 }

@@ -8,7 +8,7 @@ use mathlib.Core.List.{List, [], _∷_, List·Memᴰ·head, List·Memᴰ·tail, 
 use mathlib.Core.Logic.{_⊎_, inl, inr}
 use mathlib.Core.Option.{Option, some}
 use native.Mathlib.Decide.{decLt}
-use lib.ListN.{getElem?}
+use lib.ListN.{length, getElem?}
 use Rattle.packed.specs.Syntax.{Program}
 use Rattle.listing.specs.Order.{Before, AtMost}
 use Rattle.listing.specs.Listed.{Listed, First, Following, Over}
@@ -150,3 +150,29 @@ module _ (g : Program) (n : ℕ) where
 
   pub one-first : (qs rs : List ℕ) → First g n qs → First g n rs → qs ≡ rs
   one-first qs rs x y = one-least x y
+
+  -- ---- places of the list: the first, and from one to the next
+
+  pub at-first : {M : List (List ℕ)} {qs : List ℕ} → Begins g n M → First g n qs → getElem? M 0 ≡ some qs
+  at-first (FIRST x a) y = ap some (one-least x y)
+
+  next-in : {x : List ℕ} {L : List (List ℕ)} {ps qs : List ℕ} (i : ℕ)
+      → GoesOn g n x L → getElem? (x ∷ L) i ≡ some ps → Following g n ps qs → getElem? L i ≡ some qs
+  next-in {x} {ps = ps} {qs = qs} zero (OVER o) e f = let q : ps ≡ x = cc in absurd (o qs (f .has) (along (λ (z : List ℕ). Before z qs) q (f .above)))
+  next-in (suc i) (OVER o) e f = absurd (true≢false cc)
+  next-in {x} {ps = ps} {qs = qs} zero (NEXT y a) e f =
+      let q : ps ≡ x = cc in
+      ap some (one-least-above y (along (λ (z : List ℕ). Following g n z qs) q f))
+  next-in (suc i) (NEXT y a) e f = next-in i a e f
+
+  pub at-next : {M : List (List ℕ)} {ps qs : List ℕ} (i : ℕ) → Begins g n M → getElem? M i ≡ some ps → Following g n ps qs → getElem? M (suc i) ≡ some qs
+  at-next i (FIRST x a) e f = next-in i a e f
+
+  last-in : {x : List ℕ} {L : List (List ℕ)} {ps : List ℕ} (i : ℕ) → GoesOn g n x L → getElem? (x ∷ L) i ≡ some ps → Over g n ps → length L ≡ i
+  last-in zero (OVER o) e f = refl
+  last-in (suc i) (OVER o) e f = absurd (true≢false cc)
+  last-in {x} {ps = ps} zero (NEXT {qs = qs} y a) e f = let q : x ≡ ps = cc in absurd (f qs (y .has) (along (λ (z : List ℕ). Before z qs) q (y .above)))
+  last-in (suc i) (NEXT y a) e f = ap suc (last-in i a e f)
+
+  pub at-last : {M : List (List ℕ)} {ps : List ℕ} (i : ℕ) → Begins g n M → getElem? M i ≡ some ps → Over g n ps → length M ≡ suc i
+  at-last i (FIRST x a) e f = ap suc (last-in i a e f)

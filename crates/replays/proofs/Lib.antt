@@ -1,2 +1,4 @@
 pub mod Lowest
 pub mod Told
+pub mod Taken
+pub mod FirstTaken

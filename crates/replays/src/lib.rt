@@ -1,11 +1,14 @@
-// What one replay of some picks tells: the lowest thread whose pick can follow them, and whether they are a listed schedule (document 02, E11).
-ghost use Prim.Native.Nat.{_≤_};
+// What one replay of some picks tells: the lowest thread whose pick can follow them, whether they are a listed schedule, and which of them are taken, that is,
+// not passed over (document 02, E11).
+ghost use Prim.Native.Nat.{_/_, _≤_};
 ghost use mathlib.Core.Path.{_≡_};
+ghost use lib.ListN.{length};
 ghost use Rattle.packed.specs.Trees.{programOf};
 ghost use Rattle.listing.specs.Listed.{Listed};
 ghost use Rattle.listing.specs.CanFollow.{canFollow};
 ghost use Rattle.replays.specs.Open.{isOpen, openAt, openAfter, stopCount, LowestFrom};
 ghost use Rattle.replays.specs.Replay.{Accepted, OfEight, Replayable, OutcomeOf, Tells};
+ghost use Rattle.replays.specs.Taken.{Searchable, ThreadsOf, FirstTaken};
 use run_outcome::Outcome;
 use run_outcome::Stop;
 use run_outcome::Thread;
@@ -108,4 +111,38 @@ pub fn listed(plan: &[u8], words: &[usize; 1024], n: usize, schedule: &[u8]) -> 
         return true;
     }
     follower(outcome, 0) == 8
+}
+
+pub fn lesser(left: usize, right: usize) -> usize
+    ensures { λ r. ⌜ (r ≤ left) × (r ≤ right) ⌝ }
+{
+    if left < right { left } else { right }
+}
+
+// The threads of a log's first records.
+fn threads(log: &[u8], count: usize, movers: &mut [u8]) -> usize
+    requires { ⌜ (count ≤ length (now log) / 3) × (count ≤ length (now movers)) ⌝ }
+    ensures { λ r. ⌜ ThreadsOf (now (log .entry)) (now (movers .exit)) r ⌝ }
+{
+    let mut index = 0;
+    while index < count {
+        let columns = decoding::columns_at(log, index);
+        movers[index] = columns.thread as u8;
+        index += 1;
+    }
+    index
+}
+
+// Of some picks, at most 320, the first that are taken, as many as there is room for; how many. A pick that stops the run for room is left out.
+pub fn first_taken(plan: &[u8], words: &[usize; 1024], picks: &[u8], movers: &mut [u8]) -> usize
+    requires { ⌜ Searchable (now plan) (now words) (now picks) ⌝ }
+    ensures { λ r. ⌜ FirstTaken (canFollow (programOf (now (plan .entry)))) (now (picks .entry)) (now (movers .exit)) r ⌝ }
+{
+    let mut log = [0u8; 960];
+    let ran = player::run(plan, words, true, picks, &mut log);
+    let outcome = ran.outcome;
+    let records = outcome.records;
+    let end = player::outcome::record_bytes(records);
+    let count = lesser(records, movers.len());
+    threads(&log[0..end], count, movers)
 }

@@ -7,16 +7,23 @@ use lib.ListN.{length, take}
 use borrow.Author.Needs.{needs}
 use Rattle.packed.specs.Syntax.{Program}
 use Rattle.packed.specs.Trees.{programOf}
+use Rattle.listing.proofs.Listed.{complete-of}
 use Rattle.text.specs.Wrote.{Wrote}
 use Rattle.text.proofs.Added.{added-more}
-use Rattle.interleavings.specs.Steps.{TurnsAt, Turns}
+use Rattle.interleavings.specs.Steps.{TurnsAt, TurnsFrom}
 use Rattle.interleavings.proofs.GoingBack.{over}
 use Rattle.interleavings.proofs.Answers.{turn-fits, begins, followed}
 use Rattle.interleavings.proofs.following.Statement.{statement}
 use Rattle.interleavings.proofs.following.Tie as tie
 
 go-back-requires : tie.Need-go-back-requires
-go-back-requires c κs = let p = c .before .before .before .pre in record { accepted = p .accepted; few = omega (arith, p .listed .at-most, p .bound); of-eight = p .listed .of-eight }
+go-back-requires c κs =
+    let s = c .before .before .before in
+    let p = s .pre in
+    record {
+      replayable = record { accepted = p .accepted; few = omega (arith, p .listed .at-most, p .bound); of-eight = p .listed .of-eight };
+      way = complete-of (programOf (s .args .plan .now)) (s .args .n) (s .args .schedule .now) (p .listed) .way;
+    }
 
 enum-told : tie.Need-enum-told
 enum-told c = search needs
@@ -39,7 +46,7 @@ module _ (c : tie.After-known-told) where
   pick = c .before .turn .given .0 .1 .0
 
   turns : TurnsAt g (began .args .schedule .now) place pick
-  turns = along (Turns g (began .args .schedule .now)) (c .before .turn .given .1) (c .before .before .before .go-back .ensures)
+  turns = along (TurnsFrom g (began .args .schedule .now) 0) (c .before .turn .given .1) (c .before .before .before .go-back .ensures)
 
   room : length (take (place - 0) (began .args .schedule .now)) + 1 ≤ length (began .args .area .now)
   room = let s = began in turn-fits g (s .args .n) (s .args .schedule .now) (s .pre .listed) (s .args .area .now) (s .pre .long) place pick turns
@@ -82,7 +89,7 @@ returns : tie.Need-returns
 returns c =
     let s = c .before .before .before .before .before .before in (
       over (programOf (s .args .plan .now)) (s .args .n) (s .args .schedule .now) (s .pre .listed)
-          (along (Turns (programOf (s .args .plan .now)) (s .args .schedule .now)) (c .enum-told .given .1) (c .before .before .go-back .ensures)),
+          (along (TurnsFrom (programOf (s .args .plan .now)) (s .args .schedule .now) 0) (c .enum-told .given .1) (c .before .before .go-back .ensures)),
       refl,
     )
 

@@ -1,92 +1,68 @@
 -- `go_back` meets its contract. Assumes nothing.
-use Prim.Native.Nat.{ℕ, _-_, _≤_, _<_}
+use Prim.Native.Nat.{_-_}
 use native.Mathlib.Omega.{arith}
+use mathlib.Core.Path.{subst as along}
 use lib.ListN.{length}
 use borrow.Author.Needs.{needs}
 use Rattle.packed.specs.Trees.{programOf}
-use Rattle.interleavings.specs.Steps.{NoneHigher}
-use Rattle.interleavings.proofs.GoingBack.{none-higher-at, turns-at, first-few, none-from}
+use Rattle.listing.specs.CanFollow.{canFollow}
+use Rattle.interleavings.specs.Search.{Closed}
+use Rattle.interleavings.specs.Steps.{TurnsFrom}
+use Rattle.interleavings.proofs.Closing.{closed-both}
 use Rattle.interleavings.proofs.go_back.Statement.{statement}
 use Rattle.interleavings.proofs.go_back.Tie as tie
 
-abbrev Inv-loop : tie.InvT-loop
-Inv-loop plan words schedule place₀ place = (place ≤ length schedule) × ((i : ℕ) → place ≤ i → i < length schedule → NoneHigher (programOf plan) schedule i)
+lesser-requires : tie.Need-lesser-requires
+lesser-requires c κs = search needs
 
-abbrev μ-loop : tie.MeasureT-loop
-μ-loop plan words schedule place₀ place = place
+sub-near : tie.Need-sub-near
+sub-near c = search needs
 
-loop-holds : tie.Need-loop-holds Inv-loop μ-loop
-loop-holds c = (omega arith, λ i h b. absurd (omega arith))
+turn-between-requires : tie.Need-turn-between-requires
+turn-between-requires c κs = (c .before .before .before .pre .replayable, (omega arith, λ i h b. absurd (omega arith)))
 
-sub-place : tie.Need-sub-place Inv-loop μ-loop
-sub-place c = search needs
+enum-known-turn : tie.Need-enum-known-turn
+enum-known-turn c = search needs
 
-shared-slice-read-higher : tie.Need-shared-slice-read-higher Inv-loop μ-loop
-shared-slice-read-higher c = search needs
+enum-told : tie.Need-enum-told
+enum-told c = search needs
 
-cast-higher : tie.Need-cast-higher Inv-loop μ-loop
-cast-higher c = omega (arith, c .shared-slice-known3 .given (c .before .before .loop .place - 1))
+closed-from-requires : tie.Need-closed-from-requires
+closed-from-requires c κs = search needs
 
-add-higher : tie.Need-add-higher Inv-loop μ-loop
-add-higher c = omega (arith, c .shared-slice-known3 .given (c .before .before .loop .place - 1))
-
-sub-next-pick : tie.Need-sub-next-pick Inv-loop μ-loop
-sub-next-pick c = search needs
-
-part-next-pick-start : tie.Need-part-next-pick-start Inv-loop μ-loop
-part-next-pick-start c = search needs
-
-part-next-pick-end : tie.Need-part-next-pick-end Inv-loop μ-loop
-part-next-pick-end c = search needs
-
-next-pick-requires : tie.Need-next-pick-requires Inv-loop μ-loop
-next-pick-requires c κs =
-    let p = c .before .before .before in
-    let s = p .before .before .before in
-    let t = c .before .before .loop-test .taken in (
-      first-few (s .args .plan .now) (s .args .words .now) (s .args .schedule .now) (p .loop .place - 1) (s .pre) (omega (arith, p .loop .inv .0)),
-      omega (arith, s .pre .of-eight (p .loop .place - 1) (omega (arith, t, p .loop .inv .0))),
+turn-between-requires-2 : tie.Need-turn-between-requires-2
+turn-between-requires-2 c κs =
+    let t = c .before .before .before in
+    let s = t .before .before .before .before in
+    let e = c .closed-from .ensures in (
+      s .pre .replayable,
+      (
+        omega (arith, e .0),
+        closed-both (canFollow (programOf (s .args .plan .now))) (s .args .schedule .now) _ (length (s .args .schedule .now) - t .before .lesser .result) _
+            (e .1)
+            (along (TurnsFrom (programOf (s .args .plan .now)) (s .args .schedule .now) _) (c .before .enum-told .given .1) (t .turn-between .ensures)),
+      ),
     )
 
-returns : tie.Need-returns Inv-loop μ-loop
+returns : tie.Need-returns
 returns c =
-    let p = c .before .before .before .before .before in
-    let a = p .before .before .before .args in
-    turns-at (programOf (a .plan .now)) (a .schedule .now) (p .loop .place - 1) (c .before .next-pick .result) (c .before .next-pick .ensures) (c .if1 .taken)
-    (omega (arith, p .loop .inv .0)) (λ j h b. p .loop .inv .1 j (omega arith) b)
+    let t = c .before .before .before in
+    let s = t .before .before .before .before in
+    along (TurnsFrom (programOf (s .args .plan .now)) (s .args .schedule .now) _) (c .before .turn .given .1) (t .turn-between .ensures)
 
-loop-less : tie.Need-loop-less Inv-loop μ-loop
-loop-less c = search needs
-
-loop-again : tie.Need-loop-again Inv-loop μ-loop
-loop-again c =
-    let p = c .before .before .before .before .before in
-    let a = p .before .before .before .args in (
-      omega (arith, p .loop .inv .0),
-      none-from (programOf (a .plan .now)) (a .schedule .now) (p .loop .place - 1)
-          (none-higher-at (programOf (a .plan .now)) (a .schedule .now) (p .loop .place - 1) (c .before .next-pick .result) (c .before .next-pick .ensures) (c .if1 .left))
-          (λ j h b. p .loop .inv .1 j (omega arith) b),
-    )
-
-returns-2 : tie.Need-returns-2 Inv-loop μ-loop
-returns-2 c = λ i b. c .before .loop .inv .1 i (omega arith) b
+returns-2 : tie.Need-returns-2
+returns-2 c = c .turn-between2 .ensures
 
 pub go-back-spec : {M : Type 1} → statement M
 go-back-spec =
     tie.close
     (tie.spec
-    Inv-loop
-    μ-loop
-    loop-holds
-    sub-place
-    shared-slice-read-higher
-    cast-higher
-    add-higher
-    sub-next-pick
-    part-next-pick-start
-    part-next-pick-end
-    next-pick-requires
+    lesser-requires
+    sub-near
+    turn-between-requires
+    enum-known-turn
+    enum-told
+    closed-from-requires
+    turn-between-requires-2
     returns
-    loop-less
-    loop-again
     returns-2)
