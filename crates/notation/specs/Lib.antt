@@ -1,0 +1,5 @@
+pub mod Tokens
+pub mod Lexing
+pub mod Shown
+pub mod Layout
+pub mod Text

@@ -1,0 +1,1 @@
+// A plan as text (docs/FORMAT.md): definitions and their laws alone.
