@@ -1,1 +1,3 @@
+pub mod Right
 pub mod Samples
+pub mod ShownTokens
