@@ -1,2 +1,5 @@
+pub mod Operands
+pub mod ReadBack
+pub mod ReadForms
 pub mod Runs
 pub mod Samples

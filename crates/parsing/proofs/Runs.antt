@@ -65,9 +65,10 @@ module _ {counts : List ℕ} where
           }
 
   -- a term is made
-  pub makes : (k : ℕ) (gs : List Goal) (vs : List Value) (n : ℕ) (ts : List ℕ) → length gs < 8400 → length vs ≤ 3100 → Leads counts (state (make k ∷ gs) vs (suc n) ts) (state gs (made k vs) n ts)
+  pub makes : (k : ℕ) (gs : List Goal) (vs : List Value) (n m : ℕ) (ts : List ℕ) → n ≡ suc m → length gs < 8400 → length vs ≤ 3100
+      → Leads counts (state (make k ∷ gs) vs n ts) (state gs (made k vs) m ts)
   unfolding step
-  makes k gs vs n ts h h′ = by-step (make k) gs [] vs (made k vs) (suc n) n ts ts made-is (h, h′, omega arith)
+  makes k gs vs n m ts q h h′ = by-step (make k) gs [] vs (made k vs) n m ts ts made-is (h, h′, omega arith)
     where
-      made-is : step counts (make k) vs (suc n) ts ≡ go [] (made k vs) n ts
-      made-is = let e : suc n - 1 ≡ n = omega arith in rw (ne-eqb (suc n) 0 (λ z. omega arith), e)
+      made-is : step counts (make k) vs n ts ≡ go [] (made k vs) m ts
+      made-is = let e : n - 1 ≡ m = omega arith in rw (ne-eqb n 0 (λ z. omega arith), e)
