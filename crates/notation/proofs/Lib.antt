@@ -1,3 +1,4 @@
 pub mod Right
+pub mod RightPlans
 pub mod Samples
 pub mod ShownTokens
