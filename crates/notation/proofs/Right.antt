@@ -1,13 +1,17 @@
--- Expressions that a plan can have, where its procedures have these counts of parameters: what document 01's checks ask of terms, on trees. Assumes nothing.
-use Prim.Native.Nat.{ℕ, _≤_, _<_}
+-- Expressions and programs that a plan can have: what document 01's checks ask of its terms, on trees. Assumes nothing.
+use Prim.Native.Nat.{ℕ, _+_, _^_, _≤_, _<_}
 use mathlib.Core.Path.{_≡_}
+use mathlib.Core.Bool.{true}
 use mathlib.Core.List.{List, [], _∷_}
 use mathlib.Core.Option.{Option, some, none}
+use lib.Dec.{ltb}
 use lib.ListN.{length, getD}
-use Rattle.packed.specs.Syntax.{Expression, Condition, Arguments}
+use Rattle.packed.specs.Syntax.{Expression, Condition, Arguments, Procedure, Program}
 use Rattle.packed.specs.Format.{fieldsFrom}
+use Rattle.packed.specs.Slots.{closed}
 use Rattle.packed.proofs.WellFormed.{count}
 use Rattle.written.specs.Terms.{maskOf}
+use Rattle.written.specs.Written.{sizeOfAll}
 
 -- fields, each higher than the one before and than field f
 abbrev pub Ascending : ℕ → List ℕ → Type 0
@@ -35,6 +39,7 @@ pub record RightCall (counts : List ℕ) (m : ℕ) (es : Arguments) : Type 0 whe
   pub present : m < length counts
   pub each-parameter : count es ≡ getD counts m 0
 
+-- an expression, where the procedures have these counts of parameters
 module _ (counts : List ℕ) where
   abbrev mutual
     pub Right : Expression → Type 0
@@ -63,3 +68,26 @@ module _ (counts : List ℕ) where
     pub Rightᵃ : Arguments → Type 0
     Rightᵃ Arguments.end = Unit {0}
     Rightᵃ (Arguments.argument e es) = Right e × Rightᵃ es
+
+-- the counts of parameters of these procedures
+abbrev pub countsIn : List Procedure → List ℕ
+countsIn [] = []
+countsIn (d ∷ ds) = d .parameters ∷ countsIn ds
+
+pub record RightDefinition (counts : List ℕ) (d : Procedure) : Type 0 where
+  pub few-parameters : d .parameters ≤ 8
+  pub right-body : Right counts (d .body)
+  pub all-bound : closed (λ x. ltb x (d .parameters)) (d .body) ≡ true
+
+abbrev pub RightDefinitions : List ℕ → List Procedure → Type 0
+RightDefinitions counts [] = Unit {0}
+RightDefinitions counts (d ∷ ds) = RightDefinition counts d × RightDefinitions counts ds
+
+-- main is first, without parameters; field 0 is volatile
+pub record RightProgram (g : Program) : Type 0 where
+  pub some-procedure : 1 ≤ length (g .procedures)
+  pub few-procedures : length (g .procedures) ≤ 32
+  pub few-terms : sizeOfAll (g .procedures) ≤ 1024
+  pub main-bare : getD (countsIn (g .procedures)) 0 0 ≡ 0
+  pub monitor-volatile : g .volatiles ≡ 2 ^ 31 + maskOf (fieldsFrom (g .volatiles) 1 31)
+  pub each-procedure : RightDefinitions (countsIn (g .procedures)) (g .procedures)

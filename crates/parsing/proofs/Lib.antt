@@ -1,4 +1,5 @@
 pub mod Operands
+pub mod PlanBack
 pub mod ReadBack
 pub mod ReadForms
 pub mod Runs
