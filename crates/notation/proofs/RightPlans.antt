@@ -9,18 +9,22 @@ use mathlib.Core.Option.{some, none}
 use lib.Dec.{eqb}
 use lib.ListN.{length, getD}
 use borrow.Author.Tests.{eqb-false}
-use Rattle.packed.specs.Syntax.{Expression, Condition, Arguments}
-use Rattle.packed.specs.Format.{procedures, terms, parameters, root, maskBit, fieldsFrom, expression, condition, list, table, layout, termAt, tagAt}
-use Rattle.packed.specs.Trees.{nodes, nodeAt, binderOf, expressionOf, conditionOf, argumentsOf, expressionAt, conditionAt, argumentsAt, treeAt}
+use Rattle.format.proofs.BitLaws.{bits-below}
+use Rattle.packed.specs.Syntax.{Expression, Condition, Arguments, Procedure}
+use Rattle.packed.specs.Format.{procedures, terms, parameters, root, volatiles, maskBit, fieldsFrom, expression, condition, list, table, layout, termAt, tagAt}
+use Rattle.packed.specs.Trees.{nodes, nodeAt, binderOf, expressionOf, conditionOf, argumentsOf, expressionAt, conditionAt, argumentsAt, treeAt, proceduresFrom, programOf}
 use Rattle.packed.specs.Refusals.{listLength}
+use Rattle.packed.specs.Check.{refusal}
 use Rattle.packed.proofs.WellFormed.{count}
-use Rattle.packed.proofs.Accepted.{OfSort, Child, Readable}
+use Rattle.packed.proofs.Accepted.{OfSort, Child, Readable, accepted, its-trees}
 use Rattle.packed.proofs.Decoded.{Cases, done, _gives_then_, pick, Row, at-tag}
 use Rattle.packed.proofs.ListLaws.{list-step, list-stop}
 use Rattle.written.specs.Terms.{maskOf}
 use Rattle.written.proofs.Masks.{mask-back}
 use Rattle.written.proofs.Original.{mask-small}
-use Rattle.notation.proofs.Right.{Ascending, RightFields, RightSlot, RightCall, Right, Rightᶜ, Rightᵃ}
+use Rattle.written.proofs.Sizes.{program-procedures}
+use Rattle.written.proofs.Passes.{count-is, total-is, mask-is}
+use Rattle.notation.proofs.Right.{Ascending, RightFields, RightSlot, RightCall, Right, Rightᶜ, Rightᵃ, countsIn, RightDefinitions, RightProgram}
 
 -- ---- masks and slots
 
@@ -50,6 +54,22 @@ right-slot x h = go (eqb x 15) refl
     go : (y : Bool) → eqb x 15 ≡ y → RightSlot (cond y none (some x))
     go true q = tt
     go false q = omega (arith, h (eqb-false x 15 q))
+
+-- a mask of 32 bits that has field 0
+first-field : (m f n : ℕ) → maskBit m f ≡ 1 → fieldsFrom m f (suc n) ≡ f ∷ fieldsFrom m (suc f) n
+unfolding fieldsFrom
+first-field m f n h = rw h
+
+mask-more : (f : ℕ) (fs : List ℕ) → maskOf (f ∷ fs) ≡ 2 ^ (31 - f) + maskOf fs
+unfolding maskOf
+mask-more f fs = refl
+
+pub with-monitor : (m : ℕ) → m < 2 ^ 32 → maskBit m 0 ≡ 1 → m ≡ 2 ^ 31 + maskOf (fieldsFrom m 1 31)
+with-monitor m small h = sym (mask-back m small) ∙ ap maskOf (first-field m 0 31 h) ∙ mask-more 0 (fieldsFrom m 1 31)
+
+pub counts-length : (ds : List Procedure) → length (countsIn ds) ≡ length ds
+counts-length [] = refl
+counts-length (d ∷ ds) = ap suc (counts-length ds)
 
 -- ---- terms
 
@@ -154,3 +174,47 @@ module _ (b : List ℕ) (a : Readable b) (counts : List ℕ) (few : procedures b
     where
       enough : (n t : ℕ) → n ≤ t + (n - t)
       enough n t = omega arith
+
+-- ---- programs
+
+module _ (b : List ℕ) (h : refusal b ≡ none) where
+  -- n procedures from procedure p on
+  from-counts : (p n m : ℕ) → m < n → getD (countsIn (proceduresFrom b p n)) m 0 ≡ parameters b (p + m)
+  unfolding proceduresFrom
+  from-counts p zero m q = absurd (omega arith)
+  from-counts p (suc n) zero q = ap (parameters b) (omega arith)
+  from-counts p (suc n) (suc m) q = from-counts (suc p) n m (omega arith) ∙ ap (parameters b) (omega arith)
+
+  from-right : (counts : List ℕ) (p n : ℕ) → p + n ≤ procedures b → ((m : ℕ) → m < procedures b → Right counts (treeAt b (root b m))) → RightDefinitions counts (proceduresFrom b p n)
+  unfolding proceduresFrom
+  from-right counts p zero q r = tt
+  from-right counts p (suc n) q r =
+      let f = accepted b h .each-procedure p (omega arith) in
+      (record { few-parameters = f .few-parameters; right-body = r p (omega arith); all-bound = f .all-bound }, from-right counts (suc p) n (omega arith) r)
+
+  abbrev ds : List Procedure
+  ds = proceduresFrom b 0 (procedures b)
+
+  counts-are : (m : ℕ) → m < procedures b → getD (countsIn ds) m 0 ≡ parameters b m
+  counts-are m q = from-counts 0 (procedures b) m q ∙ ap (parameters b) (omega arith)
+
+  volatiles-small : volatiles b < 2 ^ 32
+  unfolding volatiles
+  volatiles-small = bits-below b 32 32
+
+  -- the program of an accepted plan is one that a plan can have
+  pub right-program : RightProgram (programOf b)
+  right-program =
+      let a = accepted b h in
+      let n = count-is b h in
+      let e = program-procedures b in
+      record {
+        some-procedure = let q = a .some-procedure in omega arith;
+        few-procedures = let q = a .few-procedures in omega arith;
+        few-terms = let q = a .few-terms in omega (arith, total-is b h);
+        main-bare = rw e (counts-are 0 (a .some-procedure) ∙ a .main-bare);
+        monitor-volatile = rw (mask-is b h) (with-monitor (volatiles b) volatiles-small (a .monitor-volatile));
+        each-procedure = rw e
+            (from-right (countsIn ds) 0 (procedures b) (omega arith)
+            (root-right b (its-trees b a) (countsIn ds) (a .few-procedures) (counts-length ds ∙ sym (ap length e) ∙ n) counts-are));
+      }

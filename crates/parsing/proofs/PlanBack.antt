@@ -5,6 +5,7 @@ use native.Mathlib.Omega.{arith}
 use mathlib.Core.Path.{_≡_, refl, sym, ap, ap₂, _∙_}
 use mathlib.Core.Bool.{Bool, true, false, cond, not, _&&_, and-false}
 use mathlib.Core.List.{List, [], _∷_, _++_, append-assoc}
+use mathlib.Core.Option.{none}
 use lib.Dec.{eqb, ltb}
 use lib.ListN.{length, getD, drop}
 use borrow.Author.Tests.{lt-ltb, le-ltb, eq-eqb, ne-eqb}
@@ -12,12 +13,14 @@ use Rattle.format.specs.Version.{Version, v0, v1, versionOf}
 use Rattle.packed.specs.Syntax.{Expression, Procedure, Program}
 use Rattle.packed.specs.Format.{fieldsFrom}
 use Rattle.packed.specs.Slots.{closed}
+use Rattle.packed.specs.Trees.{programOf}
+use Rattle.packed.specs.Check.{refusal}
 use Rattle.written.specs.Terms.{termsOf, size, maskOf}
 use Rattle.written.specs.Written.{sizeOfAll, versionNumber}
 use Rattle.notation.specs.Tokens.{volatileWord, procedureWord, textEnd}
 use Rattle.notation.specs.Shown.{loose, shown, volatileTokens, procedureTokens, mainFirst, shownPlan}
 use Rattle.notation.proofs.Right.{Ascending, Right, countsIn, RightDefinition, RightDefinitions, RightProgram}
-use Rattle.notation.proofs.RightPlans.{fields-ascend}
+use Rattle.notation.proofs.RightPlans.{fields-ascend, right-program}
 use Rattle.notation.proofs.ShownTokens.{Starts, starts, starts-append, NoProcedure, none-fields, none-shown}
 use Rattle.parsing.specs.Goals.{expression, Goal, expect, operand, count, Value, number, ofExpression, numberIn, expressionIn, valueAt}
 use Rattle.parsing.specs.Parser.{ahead, go, step, Parsed, parsed, parseBy, parse}
@@ -241,3 +244,7 @@ program-back g r = rw (shown-is g) (by-main (g .procedures) (r .some-procedure) 
 
     back : programBy (record { version = v; mask = 2 ^ 31 + maskOf fs; procedures = g .procedures }) ≡ g
     back = program-is g (2 ^ 31 + maskOf fs) (sym (r .monitor-volatile))
+
+-- what is shown of an accepted plan is read back as its program
+pub plan-back : (b : List ℕ) → refusal b ≡ none → readPlan (shownPlan (programOf b) ++ (textEnd ∷ [])) ≡ plan (programOf b)
+plan-back b h = program-back (programOf b) (right-program b h)
