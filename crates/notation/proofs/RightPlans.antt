@@ -32,9 +32,11 @@ use Rattle.notation.proofs.Right.{Ascending, RightFields, RightSlot, Ri
 pub fields-ascend : (m f n g : ℕ) → f + n ≡ 32 → g < f → Ascending g (fieldsFrom m f n)
 unfolding fieldsFrom
 fields-ascend m f zero g e h = tt
-fields-ascend m f (suc n) g e h = go (eqb (maskBit m f) 1) (fields-ascend m (suc f) n f (omega arith) (omega arith)) (fields-ascend m (suc f) n g (omega arith) (omega arith))
+fields-ascend m f (suc n) g e h =
+    go (eqb (maskBit m f) 1) (fields-ascend m (suc f) n f (omega arith) (omega arith)) (fields-ascend m (suc f) n g (omega arith) (omega arith))
   where
-    go : (x : Bool) → Ascending f (fieldsFrom m (suc f) n) → Ascending g (fieldsFrom m (suc f) n) → Ascending g (cond x (f ∷ fieldsFrom m (suc f) n) (fieldsFrom m (suc f) n))
+    go : (x : Bool) → Ascending f (fieldsFrom m (suc f) n) → Ascending g (fieldsFrom m (suc f) n)
+        → Ascending g (cond x (f ∷ fieldsFrom m (suc f) n) (fieldsFrom m (suc f) n))
     go true p q = (h, omega arith, p)
     go false p q = q
 
@@ -45,7 +47,11 @@ not-first m f n h = rw h
 
 right-fields : (m : ℕ) → m < 2 ^ 32 → eqb (maskBit m 0) 1 ≡ false → length (fieldsFrom m 0 32) ≤ 8 → RightFields (fieldsFrom m 0 32)
 right-fields m small h few =
-    record { ascending = rw (not-first m 0 31 h) (fields-ascend m 1 31 0 (omega arith) (omega arith)); few = few; of-mask = ap (λ (n : ℕ). fieldsFrom n 0 32) (mask-back m small) }
+    record {
+      ascending = rw (not-first m 0 31 h) (fields-ascend m 1 31 0 (omega arith) (omega arith));
+      few = few;
+      of-mask = ap (λ (n : ℕ). fieldsFrom n 0 32) (mask-back m small);
+    }
 
 right-slot : (x : ℕ) → ((x ≡ 15 → ⊥) → x ≤ 7) → RightSlot (binderOf x)
 unfolding binderOf
@@ -73,7 +79,8 @@ counts-length (d ∷ ds) = ap suc (counts-length ds)
 
 -- ---- terms
 
-module _ (b : List ℕ) (a : Readable b) (counts : List ℕ) (few : procedures b ≤ 32) (all : length counts ≡ procedures b) (each : (m : ℕ) → m < procedures b → getD counts m 0 ≡ parameters b m) where
+module _ (b : List ℕ) (a : Readable b) (counts : List ℕ) (few : procedures b ≤ 32) (all : length counts ≡ procedures b)
+    (each : (m : ℕ) → m < procedures b → getD counts m 0 ≡ parameters b m) where
   -- and a list is as long as check 5 counts it
   abbrev RightList : ℕ → Arguments → Type 0
   RightList t es = Rightᵃ counts es × ((m : ℕ) → terms b ≤ t + m → count es ≡ listLength b m t)
@@ -130,7 +137,8 @@ module _ (b : List ℕ) (a : Readable b) (counts : List ℕ) (few : procedures b
     conditions : Cases (Row b t (λ m. Rightᶜ counts (conditionOf E C m))) 12 4
     unfolding nodes layout table conditionOf
     conditions =
-        12 gives (λ e p q r. tt) then 13 gives (λ e p q r. belowᶜ _ p) then 14 gives (λ e p q r. (belowᶜ _ p, belowᶜ _ q)) then 15 gives (λ e p q r. (below _ p, below _ q)) then done
+        12 gives (λ e p q r. tt) then 13 gives (λ e p q r. belowᶜ _ p) then 14 gives (λ e p q r. (belowᶜ _ p, belowᶜ _ q)) then 15 gives
+        (λ e p q r. (below _ p, below _ q)) then done
 
     longer : (y : ℕ) → y ≡ termAt b t .value₂ → Child b t list y → tagAt b t ≡ 16 → (m : ℕ) → terms b ≤ t + m → suc (count (L y)) ≡ listLength b m t
     longer y z q e zero h = absurd (omega arith)
@@ -145,7 +153,8 @@ module _ (b : List ℕ) (a : Readable b) (counts : List ℕ) (few : procedures b
 
     expression-here : OfSort expression (tagAt b t) → Right counts (expressionAt (nodeAt b) (suc n) t)
     unfolding expressionAt
-    expression-here (inl s) = at-tag b t (λ m. Right counts (expressionOf E C L m)) (a .each-term t inside) (pick expressions (tagAt b t) (omega arith) (omega arith))
+    expression-here (inl s) =
+        at-tag b t (λ m. Right counts (expressionOf E C L m)) (a .each-term t inside) (pick expressions (tagAt b t) (omega arith) (omega arith))
     expression-here (inr s) =
         at-tag b t (λ m. Right counts (expressionOf E C L m)) (a .each-term t inside) (pick signals (tagAt b t) (s .0) (let h = s .1 in omega arith))
 
@@ -160,7 +169,11 @@ module _ (b : List ℕ) (a : Readable b) (counts : List ℕ) (few : procedures b
 
   all-right : (n : ℕ) → AllRight n
   all-right zero =
-      record { expression-right = λ t h q s. absurd (omega arith); condition-right = λ t h q s. absurd (omega arith); list-right = λ t h q s. absurd (omega arith) }
+      record {
+        expression-right = λ t h q s. absurd (omega arith);
+        condition-right = λ t h q s. absurd (omega arith);
+        list-right = λ t h q s. absurd (omega arith);
+      }
   all-right (suc n) =
       let ih = all-right n in
       record { expression-right = expression-here n ih; condition-right = condition-here n ih; list-right = list-here n ih }
@@ -185,7 +198,8 @@ module _ (b : List ℕ) (h : refusal b ≡ none) where
   from-counts p (suc n) zero q = ap (parameters b) (omega arith)
   from-counts p (suc n) (suc m) q = from-counts (suc p) n m (omega arith) ∙ ap (parameters b) (omega arith)
 
-  from-right : (counts : List ℕ) (p n : ℕ) → p + n ≤ procedures b → ((m : ℕ) → m < procedures b → Right counts (treeAt b (root b m))) → RightDefinitions counts (proceduresFrom b p n)
+  from-right : (counts : List ℕ) (p n : ℕ) → p + n ≤ procedures b → ((m : ℕ) → m < procedures b → Right counts (treeAt b (root b m)))
+      → RightDefinitions counts (proceduresFrom b p n)
   unfolding proceduresFrom
   from-right counts p zero q r = tt
   from-right counts p (suc n) q r =

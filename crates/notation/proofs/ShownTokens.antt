@@ -68,6 +68,10 @@ none-append : (ts us : List ℕ) → NoProcedure ts → NoProcedure us → NoPro
 none-append [] us h g = g
 none-append (t ∷ ts) us h g = (h .0, none-append ts us (h .1) g)
 
+-- with a word between
+none-two : (ts : List ℕ) (w : ℕ) (us : List ℕ) → NoProcedure ts → (w ≡ procedureWord → ⊥) → NoProcedure us → NoProcedure (ts ++ (w ∷ us))
+none-two ts w us h k g = none-append ts (w ∷ us) h (k, g)
+
 none-grouped : (d l : ℕ) (ts : List ℕ) → NoProcedure ts → NoProcedure (grouped d l ts)
 unfolding grouped
 none-grouped d l ts h = go (ltb l d)
@@ -99,34 +103,52 @@ module _ (counts : List ℕ) where
     none-shown (Expression.literal o) d r = (omega arith, tt)
     none-shown (Expression.variable x) d r = (omega arith, tt)
     none-shown (Expression.new fs) d r = (omega arith, (omega arith, none-append fs _ (none-fields fs 0 (r .ascending)) (omega arith, tt)))
-    none-shown (Expression.read e f) d r = none-append (shown tight e) (65 ∷ f ∷ []) (none-shown e tight (r .0)) (omega arith, ((let s = r .1 .1 in omega arith), tt))
+    none-shown (Expression.read e f) d r =
+        none-append (shown tight e) (65 ∷ f ∷ []) (none-shown e tight (r .0)) (omega arith, ((let s = r .1 .1 in omega arith), tt))
     none-shown (Expression.write e f e′) d r =
         none-grouped d 0 (shown tight e ++ (65 ∷ f ∷ 67 ∷ shown loose e′))
         (none-append (shown tight e) _ (none-shown e tight (r .0)) (omega arith, ((let s = r .1 .1 in omega arith), (omega arith, none-shown e′ loose (r .2)))))
     none-shown (Expression.letIn x e e′) d r =
-        none-grouped d 0 (53 ∷ binderToken x ∷ 66 ∷ shown loose e ++ (43 ∷ shown loose e′))
-        (omega arith, (none-binder x (r .0), (omega arith, none-append (shown loose e) _ (none-shown e loose (r .1)) (omega arith, none-shown e′ loose (r .2)))))
+        none-grouped d 0 (53 ∷ binderToken x ∷ 66 ∷ shown loose e ++ (43 ∷ shown loose e′)) (
+          omega arith,
+          (
+            none-binder x (r .0),
+            (
+              omega arith,
+              none-two (shown loose e) 43 (shown loose e′) (none-shown e loose (r .1)) (omega arith)
+                  (none-shown e′ loose (r .2)),
+            ),
+          ),
+        )
     none-shown (Expression.if c e e′) d r =
-        none-grouped d 0 (54 ∷ shownᶜ loose c ++ (44 ∷ shown loose e ++ (45 ∷ shown loose e′)))
-        (omega arith, none-append (shownᶜ loose c) _ (none-shownᶜ c loose (r .0)) (omega arith, none-append (shown loose e) _ (none-shown e loose (r .1)) (omega arith, none-shown e′ loose (r .2))))
+        none-grouped d 0 (54 ∷ shownᶜ loose c ++ (44 ∷ shown loose e ++ (45 ∷ shown loose e′))) (
+          omega arith,
+          none-two (shownᶜ loose c) 44 (shown loose e ++ (45 ∷ shown loose e′)) (none-shownᶜ c loose (r .0)) (omega arith)
+              (none-two (shown loose e) 45 (shown loose e′) (none-shown e loose (r .1)) (omega arith) (none-shown e′ loose (r .2))),
+        )
     none-shown (Expression.while c e) d r =
-        none-grouped d 0 (55 ∷ shownᶜ loose c ++ (46 ∷ shown loose e)) (omega arith, none-append (shownᶜ loose c) _ (none-shownᶜ c loose (r .0)) (omega arith, none-shown e loose (r .1)))
+        none-grouped d 0 (55 ∷ shownᶜ loose c ++ (46 ∷ shown loose e))
+        (omega arith, none-append (shownᶜ loose c) _ (none-shownᶜ c loose (r .0)) (omega arith, none-shown e loose (r .1)))
     none-shown (Expression.call m es) d r = (omega arith, ((let s = r .0 .small in omega arith), (omega arith, none-arguments es (r .1))))
     none-shown (Expression.fork e) d r = none-grouped d 2 (57 ∷ shown prefix e) (omega arith, none-shown e prefix r)
     none-shown (Expression.join e) d r = none-grouped d 2 (58 ∷ shown prefix e) (omega arith, none-shown e prefix r)
     none-shown (Expression.synch e e′) d r =
-        none-grouped d 0 (59 ∷ shown loose e ++ (46 ∷ shown loose e′)) (omega arith, none-append (shown loose e) _ (none-shown e loose (r .0)) (omega arith, none-shown e′ loose (r .1)))
+        none-grouped d 0 (59 ∷ shown loose e ++ (46 ∷ shown loose e′))
+        (omega arith, none-append (shown loose e) _ (none-shown e loose (r .0)) (omega arith, none-shown e′ loose (r .1)))
     none-shown (Expression.hold o e) d r = absurd r
-    none-shown (Expression.signal k e) d r = none-grouped d 2 (signalTokens k ++ shown prefix e) (none-append (signalTokens k) _ (none-signal k) (none-shown e prefix r))
+    none-shown (Expression.signal k e) d r =
+        none-grouped d 2 (signalTokens k ++ shown prefix e) (none-append (signalTokens k) _ (none-signal k) (none-shown e prefix r))
     none-shown (Expression.waiting o) d r = absurd r
 
     none-shownᶜ : (c : Condition) (d : ℕ) → Rightᶜ counts c → NoProcedure (shownᶜ d c)
     none-shownᶜ Condition.truth d r = (omega arith, tt)
     none-shownᶜ (Condition.not c) d r = none-grouped d 1 (50 ∷ shownᶜ testing c) (omega arith, none-shownᶜ c testing r)
     none-shownᶜ (Condition.and c c′) d r =
-        none-grouped d 0 (shownᶜ testing c ++ (48 ∷ shownᶜ loose c′)) (none-append (shownᶜ testing c) _ (none-shownᶜ c testing (r .0)) (omega arith, none-shownᶜ c′ loose (r .1)))
+        none-grouped d 0 (shownᶜ testing c ++ (48 ∷ shownᶜ loose c′))
+        (none-append (shownᶜ testing c) _ (none-shownᶜ c testing (r .0)) (omega arith, none-shownᶜ c′ loose (r .1)))
     none-shownᶜ (Condition.equal e e′) d r =
-        none-grouped d 1 (shown prefix e ++ (66 ∷ shown prefix e′)) (none-append (shown prefix e) _ (none-shown e prefix (r .0)) (omega arith, none-shown e′ prefix (r .1)))
+        none-grouped d 1 (shown prefix e ++ (66 ∷ shown prefix e′))
+        (none-append (shown prefix e) _ (none-shown e prefix (r .0)) (omega arith, none-shown e′ prefix (r .1)))
 
     none-arguments : (es : Arguments) → Rightᵃ counts es → NoProcedure (shownᵃ es)
     none-arguments Arguments.end r = (omega arith, tt)

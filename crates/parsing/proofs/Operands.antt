@@ -75,7 +75,8 @@ takes-condition condition c h = refl
 -- ---- where an operand ends
 
 -- before `)`, whatever it is
-ends-closing : (d : ℕ) (s : Sort) (v : Value) (vs : List Value) (n : ℕ) (ts : List ℕ) → fits s v ≡ true → moreStep d s (v ∷ vs) n (closing ∷ ts) ≡ go [] (v ∷ vs) n (closing ∷ ts)
+ends-closing : (d : ℕ) (s : Sort) (v : Value) (vs : List Value) (n : ℕ) (ts : List ℕ) → fits s v ≡ true
+    → moreStep d s (v ∷ vs) n (closing ∷ ts) ≡ go [] (v ∷ vs) n (closing ∷ ts)
 unfolding moreStep
 ends-closing d s v vs n ts h = rw (and-false (isExpression v), and-false (isCondition v), h)
 
@@ -93,29 +94,41 @@ ends-condition d c vs n ts h = rw h
 pub follows-token : (t d : ℕ) (rest : List ℕ) → eqb t becomes ≡ false → eqb t dot ≡ false → eqb t andWord ≡ false → Follows d (t ∷ rest)
 follows-token t d rest p q r = record { no-becomes = p; no-dot = λ h. q; no-and = λ h. r }
 
+-- `.` follows what binds most tightly, `and` a test
+pub follows-dot : (rest : List ℕ) → Follows 3 (dot ∷ rest)
+follows-dot rest = record { no-becomes = refl; no-dot = λ h. absurd (omega arith); no-and = λ h. refl }
+
+pub follows-and : (rest : List ℕ) → Follows 1 (andWord ∷ rest)
+follows-and rest = record { no-becomes = refl; no-dot = λ h. refl; no-and = λ h. absurd (omega arith) }
+
 module _ {counts : List ℕ} where
   -- this token is there
-  pub expects : (t : ℕ) (gs : List Goal) (vs : List Value) (n : ℕ) (ts : List ℕ) → length gs < 8400 → length vs ≤ 3100 → Leads counts (state (expect t ∷ gs) vs n (t ∷ ts)) (state gs vs n ts)
+  pub expects : (t : ℕ) (gs : List Goal) (vs : List Value) (n : ℕ) (ts : List ℕ) → length gs < 8400 → length vs ≤ 3100
+      → Leads counts (state (expect t ∷ gs) vs n (t ∷ ts)) (state gs vs n ts)
   unfolding step
   expects t gs vs n ts h h′ = by-step (expect t) gs [] vs vs n n (t ∷ ts) ts (rw (eq-eqb t t refl)) (h, h′, omega arith)
 
   -- an expression up to its end
-  pub whole : (l : ℕ) (ts : List ℕ) (e : Expression) (k : ℕ) → Reads counts within l ts (ofExpression e) k → (gs : List Goal) (vs : List Value) (n m : ℕ) (rest : List ℕ) → l < 3 → Follows l rest
+  pub whole : (l : ℕ) (ts : List ℕ) (e : Expression) (k : ℕ) → Reads counts within l ts (ofExpression e) k
+      → (gs : List Goal) (vs : List Value) (n m : ℕ) (rest : List ℕ) → l < 3 → Follows l rest
       → n ≡ k + m → length gs + 8 * k ≤ within → length vs + 3 * k ≤ 3090
       → Leads counts (state (operand l expression ∷ gs) vs n (ts ++ rest)) (state gs (ofExpression e ∷ vs) m rest)
   unfolding step
   whole l ts e k read gs vs n m rest h f q room room′ =
       read l expression gs vs n m rest (omega arith) (suits-expression expression e) f q room room′
-      thence by-step (more l expression) gs [] (ofExpression e ∷ vs) (ofExpression e ∷ vs) m m rest rest (ends-expression l e vs m rest (f .no-dot h)) (omega arith)
+      thence by-step (more l expression) gs [] (ofExpression e ∷ vs) (ofExpression e ∷ vs) m m rest rest (ends-expression l e vs m rest (f .no-dot h))
+      (omega arith)
 
   -- a condition up to its end
-  pub wholeᶜ : (l : ℕ) (ts : List ℕ) (c : Condition) (k : ℕ) → Reads counts within l ts (ofCondition c) k → (gs : List Goal) (vs : List Value) (n m : ℕ) (rest : List ℕ) → l < 3 → Follows l rest
+  pub wholeᶜ : (l : ℕ) (ts : List ℕ) (c : Condition) (k : ℕ) → Reads counts within l ts (ofCondition c) k
+      → (gs : List Goal) (vs : List Value) (n m : ℕ) (rest : List ℕ) → l < 3 → Follows l rest
       → n ≡ k + m → length gs + 8 * k ≤ within → length vs + 3 * k ≤ 3090
       → Leads counts (state (operand l condition ∷ gs) vs n (ts ++ rest)) (state gs (ofCondition c ∷ vs) m rest)
   unfolding step inside fits
   wholeᶜ l ts c k read gs vs n m rest h f q room room′ =
       read l condition gs vs n m rest (omega arith) refl f q room room′
-      thence by-step (more l condition) gs [] (ofCondition c ∷ vs) (ofCondition c ∷ vs) m m rest rest (ends-condition l c vs m rest (no-more (decLt 0 l))) (omega arith)
+      thence by-step (more l condition) gs [] (ofCondition c ∷ vs) (ofCondition c ∷ vs) m m rest rest (ends-condition l c vs m rest (no-more (decLt 0 l)))
+      (omega arith)
     where
       no-more : Dec (0 < l) → (eqb (ahead rest 0) andWord && eqb l loose) ≡ false
       no-more (yes p) = rw (ne-eqb l 0 (λ z. omega arith), and-false (eqb (ahead rest 0) andWord))
@@ -126,11 +139,14 @@ module _ {counts : List ℕ} where
   unfolding grouped step operandStep
   in-parentheses l d₁ ts v k read d s gs vs n m rest h su f q room room′ = choose (ltb l d₁) refl
     where
-      choose : (x : Bool) → ltb l d₁ ≡ x → Leads counts (state (operand d s ∷ gs) vs n (cond x (62 ∷ ts ++ (63 ∷ [])) ts ++ rest)) (state (more d s ∷ gs) (v ∷ vs) m rest)
+      choose : (x : Bool) → ltb l d₁ ≡ x
+          → Leads counts (state (operand d s ∷ gs) vs n (cond x (62 ∷ ts ++ (63 ∷ [])) ts ++ rest)) (state (more d s ∷ gs) (v ∷ vs) m rest)
       choose true z =
           rw append-assoc
           (by-step (operand d s) gs (operand 0 (inside s) ∷ expect 63 ∷ more d s ∷ []) vs vs n n (62 ∷ ts ++ (63 ∷ rest)) (ts ++ (63 ∷ rest)) refl (omega arith)
-          thence read 0 (inside s) (expect 63 ∷ more d s ∷ gs) vs n m (63 ∷ rest) (omega arith) (suits-inside s v su) (follows-token 63 l rest refl refl refl) q (omega arith) room′
-          thence by-step (more 0 (inside s)) (expect 63 ∷ more d s ∷ gs) [] (v ∷ vs) (v ∷ vs) m m (63 ∷ rest) (63 ∷ rest) (ends-closing 0 (inside s) v vs m rest su) (omega arith)
+          thence read 0 (inside s) (expect 63 ∷ more d s ∷ gs) vs n m (63 ∷ rest) (omega arith) (suits-inside s v su)
+          (follows-token 63 l rest refl refl refl) q (omega arith) room′
+          thence by-step (more 0 (inside s)) (expect 63 ∷ more d s ∷ gs) [] (v ∷ vs) (v ∷ vs) m m (63 ∷ rest) (63 ∷ rest)
+          (ends-closing 0 (inside s) v vs m rest su) (omega arith)
           thence expects 63 (more d s ∷ gs) (v ∷ vs) m rest (omega arith) (omega arith))
       choose false z = let y = ltb-false l d₁ z in read d s gs vs n m rest (omega arith) su (looser d₁ l rest y f) q (omega arith) room′

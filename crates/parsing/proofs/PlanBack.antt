@@ -30,7 +30,8 @@ use Rattle.parsing.proofs.Operands.{Follows, follows-token, expects, wh
 use Rattle.parsing.proofs.ReadBack.{reads}
 
 -- reading that leads to no goal ends there
-parse-ends : (counts : List ℕ) (gs : List Goal) (vs vs′ : List Value) (n n′ : ℕ) (ts ts′ : List ℕ) → Leads counts (state gs vs n ts) (state [] vs′ n′ ts′) → parse counts gs vs n ts ≡ parsed vs′ n′ ts′
+parse-ends : (counts : List ℕ) (gs : List Goal) (vs vs′ : List Value) (n n′ : ℕ) (ts ts′ : List ℕ) → Leads counts (state gs vs n ts) (state [] vs′ n′ ts′)
+    → parse counts gs vs n ts ≡ parsed vs′ n′ ts′
 unfolding parse
 parse-ends counts gs vs vs′ n n′ ts ts′ l =
     let c = l .leads (8 * length ts + suc (length gs)) (omega arith) in
@@ -51,18 +52,23 @@ tokensFrom (suc p) ds = procedureTokens (suc p) ds
 behind-body : (p : ℕ) (ds : List Procedure) → Follows 0 (procedureTokens p ds ++ (69 ∷ []))
 unfolding procedureTokens
 behind-body p [] = follows-token 69 0 [] refl refl refl
-behind-body p (d ∷ ds) = follows-token 42 0 ((p ∷ 62 ∷ d .parameters ∷ 63 ∷ 66 ∷ shown loose (d .body) ++ procedureTokens (suc p) ds) ++ (69 ∷ [])) refl refl refl
+behind-body p (d ∷ ds) =
+    follows-token 42 0 ((p ∷ 62 ∷ d .parameters ∷ 63 ∷ 66 ∷ shown loose (d .body) ++ procedureTokens (suc p) ds) ++ (69 ∷ [])) refl refl refl
 
-module _ (counts : List ℕ) (d : Procedure) (ds : List Procedure) (right : RightDefinition counts d) (n m : ℕ) (enough : n ≡ size (termsOf (d .body)) + m) (small : n ≤ 1024) where
+module _ (counts : List ℕ) (d : Procedure) (ds : List Procedure) (right : RightDefinition counts d) (n m : ℕ) (enough : n ≡ size (termsOf (d .body)) + m)
+    (small : n ≤ 1024) where
   -- its body, up to the next procedure
   body-leads : (p : ℕ) (vs : List Value) → length vs ≤ 2
-      → Leads counts (state (operand 0 expression ∷ []) vs n (shown 0 (d .body) ++ (procedureTokens p ds ++ (69 ∷ [])))) (state [] (ofExpression (d .body) ∷ vs) m (procedureTokens p ds ++ (69 ∷ [])))
+      → Leads counts (state (operand 0 expression ∷ []) vs n (shown 0 (d .body) ++ (procedureTokens p ds ++ (69 ∷ []))))
+      (state [] (ofExpression (d .body) ∷ vs) m (procedureTokens p ds ++ (69 ∷ [])))
   body-leads p vs h =
-      whole 0 (shown 0 (d .body)) (d .body) (size (termsOf (d .body))) (reads counts (d .body) 0 (omega arith) (right .right-body)) [] vs n m (procedureTokens p ds ++ (69 ∷ []))
+      whole 0 (shown 0 (d .body)) (d .body) (size (termsOf (d .body))) (reads counts (d .body) 0 (omega arith) (right .right-body)) [] vs n m
+      (procedureTokens p ds ++ (69 ∷ []))
       (omega arith) (behind-body p ds) enough (omega arith) (omega arith)
 
   main-parsed : d .parameters ≡ 0
-      → parse counts (procedureGoals 0) (number 0 ∷ []) n (mainFirst (d ∷ ds) ++ (69 ∷ [])) ≡ parsed (ofExpression (d .body) ∷ number (d .parameters) ∷ []) m (procedureTokens 1 ds ++ (69 ∷ []))
+      → parse counts (procedureGoals 0) (number 0 ∷ []) n (mainFirst (d ∷ ds) ++ (69 ∷ [])) ≡ parsed (ofExpression (d .body) ∷ number (d .parameters) ∷ []) m
+      (procedureTokens 1 ds ++ (69 ∷ []))
   unfolding procedureGoals mainFirst
   main-parsed bare = rw (append-assoc, bare) (parse-ends counts _ _ _ _ _ _ _ (body-leads 1 (number 0 ∷ []) (omega arith)))
 
@@ -76,42 +82,55 @@ module _ (counts : List ℕ) (d : Procedure) (ds : List Procedure) (right : Righ
       thence expects (suc p) (expect 62 ∷ count ∷ expect 63 ∷ expect 66 ∷ operand 0 expression ∷ []) (number 0 ∷ []) n _ (omega arith) (omega arith)
       thence expects 62 (count ∷ expect 63 ∷ expect 66 ∷ operand 0 expression ∷ []) (number 0 ∷ []) n _ (omega arith) (omega arith)
       thence by-step count (expect 63 ∷ expect 66 ∷ operand 0 expression ∷ []) [] (number 0 ∷ []) (number (d .parameters) ∷ number 0 ∷ []) n n
-      (d .parameters ∷ 63 ∷ 66 ∷ shown 0 (d .body) ++ (procedureTokens (suc (suc p)) ds ++ (69 ∷ []))) _ (rw (lt-ltb (d .parameters) 9 (let s = right .few-parameters in omega arith))) (omega arith)
+      (d .parameters ∷ 63 ∷ 66 ∷ shown 0 (d .body) ++ (procedureTokens (suc (suc p)) ds ++ (69 ∷ []))) _
+      (rw (lt-ltb (d .parameters) 9 (let s = right .few-parameters in omega arith))) (omega arith)
       thence expects 63 (expect 66 ∷ operand 0 expression ∷ []) (number (d .parameters) ∷ number 0 ∷ []) n _ (omega arith) (omega arith)
       thence expects 66 (operand 0 expression ∷ []) (number (d .parameters) ∷ number 0 ∷ []) n _ (omega arith) (omega arith)
       thence body-leads (suc (suc p)) (number (d .parameters) ∷ number 0 ∷ []) (omega arith)))
 
+-- procedures of a version and a mask
+abbrev before : ℕ → ℕ → List Procedure → Before
+before v m ds = record { version = v; mask = m; procedures = ds }
+
 -- these procedures behind those before
 abbrev behind : Before → List Procedure → Before
-behind b ds = record { version = b .version; mask = b .mask; procedures = b .procedures ++ ds }
+behind b ds = before (b .version) (b .mask) (b .procedures ++ ds)
 
 module _ (counts : List ℕ) where
   -- a procedure that has been read, whose slots are bound
-  after-procedure : (d : Procedure) (next : Before → ℕ → List ℕ → Reading) (b : Before) (ts : List ℕ) (vs : List Value) (m : ℕ) (rest : List ℕ) → RightDefinition counts d
+  after-procedure : (d : Procedure) (next : Before → ℕ → List ℕ → Reading) (b : Before) (ts : List ℕ) (vs : List Value) (m : ℕ) (rest : List ℕ)
+      → RightDefinition counts d
       → afterProcedure next b ts (parsed (ofExpression (d .body) ∷ number (d .parameters) ∷ vs) m rest)
       ≡ cond (eqb (ahead rest 0) textEnd) (plan (programBy (behind b (d ∷ [])))) (next (behind b (d ∷ [])) m rest)
   unfolding afterProcedure
   after-procedure d next b ts vs m rest right = rw (right .all-bound)
 
   -- procedure p, and what follows it
-  procedure-read : (d : Procedure) (ds : List Procedure) (most p : ℕ) (b : Before) (n m : ℕ) → RightDefinition counts d → n ≡ size (termsOf (d .body)) + m → n ≤ 1024 → (p ≡ 0 → d .parameters ≡ 0)
+  procedure-read : (d : Procedure) (ds : List Procedure) (most p : ℕ) (b : Before) (n m : ℕ) → RightDefinition counts d → n ≡ size (termsOf (d .body)) + m
+      → n ≤ 1024 → (p ≡ 0 → d .parameters ≡ 0)
       → proceduresBy counts (suc most) p b n (tokensFrom p (d ∷ ds) ++ (69 ∷ []))
       ≡ cond (eqb (ahead (procedureTokens (suc p) ds ++ (69 ∷ [])) 0) textEnd) (plan (programBy (behind b (d ∷ []))))
       (proceduresBy counts most (suc p) (behind b (d ∷ [])) m (procedureTokens (suc p) ds ++ (69 ∷ [])))
   unfolding proceduresBy
-  procedure-read d ds most zero b n m right e h bare = rw (main-parsed counts d ds right n m e h (bare refl)) (after-procedure d (λ b′ n′ ts′. proceduresBy counts most 1 b′ n′ ts′) b _ [] m (procedureTokens 1 ds ++ (69 ∷ [])) right)
+  procedure-read d ds most zero b n m right e h bare =
+      rw (main-parsed counts d ds right n m e h (bare refl))
+      (after-procedure d (λ b′ n′ ts′. proceduresBy counts most 1 b′ n′ ts′) b _ [] m (procedureTokens 1 ds ++ (69 ∷ [])) right)
   procedure-read d ds most (suc p) b n m right e h bare =
-      rw (procedure-parsed counts d ds right n m e h p) (after-procedure d (λ b′ n′ ts′. proceduresBy counts most (suc (suc p)) b′ n′ ts′) b _ (number 0 ∷ []) m (procedureTokens (suc (suc p)) ds ++ (69 ∷ [])) right)
+      rw (procedure-parsed counts d ds right n m e h p)
+      (after-procedure d (λ b′ n′ ts′. proceduresBy counts most (suc (suc p)) b′ n′ ts′) b _ (number 0 ∷ []) m
+      (procedureTokens (suc (suc p)) ds ++ (69 ∷ [])) right)
 
-  procedures-read : (ds : List Procedure) (d : Procedure) (most p : ℕ) (b : Before) (n : ℕ) → RightDefinitions counts (d ∷ ds) → length (d ∷ ds) ≤ most → sizeOfAll (d ∷ ds) ≤ n → n ≤ 1024
+  procedures-read : (ds : List Procedure) (d : Procedure) (most p : ℕ) (b : Before) (n : ℕ) → RightDefinitions counts (d ∷ ds) → length (d ∷ ds) ≤ most
+      → sizeOfAll (d ∷ ds) ≤ n → n ≤ 1024
       → (p ≡ 0 → d .parameters ≡ 0) → proceduresBy counts most p b n (tokensFrom p (d ∷ ds) ++ (69 ∷ [])) ≡ plan (programBy (behind b (d ∷ ds)))
   unfolding sizeOfAll procedureTokens
   procedures-read ds d zero p b n right few sized h bare = absurd (omega arith)
   procedures-read [] d (suc most) p b n right few sized h bare = procedure-read d [] most p b n (n - size (termsOf (d .body))) (right .0) (omega arith) h bare
   procedures-read (d′ ∷ ds) d (suc most) p b n right few sized h bare =
       procedure-read d (d′ ∷ ds) most p b n (n - size (termsOf (d .body))) (right .0) (omega arith) h bare
-      ∙ procedures-read ds d′ most (suc p) (behind b (d ∷ [])) (n - size (termsOf (d .body))) (right .1) (omega arith) (omega arith) (omega arith) (λ z. omega arith)
-      ∙ ap (λ (l : List Procedure). plan (programBy (record { version = b .version; mask = b .mask; procedures = l }))) (append-assoc (b .procedures) (d ∷ []) (d′ ∷ ds))
+      ∙ procedures-read ds d′ most (suc p) (behind b (d ∷ [])) (n - size (termsOf (d .body))) (right .1) (omega arith) (omega arith) (omega arith)
+      (λ z. omega arith)
+      ∙ ap (λ (l : List Procedure). plan (programBy (before (b .version) (b .mask) l))) (append-assoc (b .procedures) (d ∷ []) (d′ ∷ ds))
 
 -- ---- the parameter counts
 
@@ -120,7 +139,8 @@ unfolding countsFrom
 skip [] rest h = refl
 skip (t ∷ ts) rest h = rw (ne-eqb t 42 (h .0)) (skip ts rest (h .1))
 
-counts-back : (counts : List ℕ) (ds : List Procedure) (p : ℕ) → RightDefinitions counts ds → p + length ds ≤ 32 → countsFrom (procedureTokens p ds ++ (69 ∷ [])) ≡ countsIn ds
+counts-back : (counts : List ℕ) (ds : List Procedure) (p : ℕ) → RightDefinitions counts ds → p + length ds ≤ 32
+    → countsFrom (procedureTokens p ds ++ (69 ∷ [])) ≡ countsIn ds
 unfolding countsFrom procedureTokens
 counts-back counts [] p right few = refl
 counts-back counts (d ∷ ds) p right few =
@@ -161,7 +181,7 @@ unfolding versionNumber
 version-small v0 = omega arith
 version-small v1 = omega arith
 
-program-is : (g : Program) (m : ℕ) → m ≡ g .volatiles → programBy (record { version = versionNumber (g .version); mask = m; procedures = g .procedures }) ≡ g
+program-is : (g : Program) (m : ℕ) → m ≡ g .volatiles → programBy (before (versionNumber (g .version)) m (g .procedures)) ≡ g
 unfolding programBy
 program-is g m e = λ i. record { version = version-back (g .version) i; volatiles = e i; procedures = g .procedures }
 
@@ -176,7 +196,8 @@ no-volatiles [] up = tt
 no-volatiles (f ∷ fs) up = (omega arith, none-fields (f ∷ fs) 0 up)
 
 -- a program with main d, in its parts
-module _ (d : Procedure) (ds : List Procedure) (right : RightDefinitions (countsIn (d ∷ ds)) (d ∷ ds)) (few : length (d ∷ ds) ≤ 32) (sized : sizeOfAll (d ∷ ds) ≤ 1024) (bare : d .parameters ≡ 0)
+module _ (d : Procedure) (ds : List Procedure) (right : RightDefinitions (countsIn (d ∷ ds)) (d ∷ ds)) (few : length (d ∷ ds) ≤ 32)
+    (sized : sizeOfAll (d ∷ ds) ≤ 1024) (bare : d .parameters ≡ 0)
     (fs : List ℕ) (up : Ascending 0 fs) where
   -- its tokens behind the volatile fields
   abbrev bodies : List ℕ
@@ -197,26 +218,33 @@ module _ (d : Procedure) (ds : List Procedure) (right : RightDefinitions (counts
 
   counts-are : (v : ℕ) → v < 2 → countsOf (40 ∷ v ∷ volatileTokens fs ++ bodies) ≡ countsIn (d ∷ ds)
   unfolding countsOf
-  counts-are v h = rw (ne-eqb v 42 (λ z. omega arith)) (ap₂ (λ (n : ℕ) (l : List ℕ). n ∷ l) (sym bare) (skip (volatileTokens fs) bodies (no-volatiles fs up) ∙ bodies-counts))
+  counts-are v h =
+      rw (ne-eqb v 42 (λ z. omega arith)) (ap₂ (λ (n : ℕ) (l : List ℕ). n ∷ l) (sym bare)
+      (skip (volatileTokens fs) bodies (no-volatiles fs up) ∙ bodies-counts))
 
-  bodies-read : (v m : ℕ) → proceduresBy (countsIn (d ∷ ds)) 32 0 (record { version = v; mask = m; procedures = [] }) 1024 bodies ≡ plan (programBy (record { version = v; mask = m; procedures = d ∷ ds }))
-  bodies-read v m = procedures-read (countsIn (d ∷ ds)) ds d 32 0 (record { version = v; mask = m; procedures = [] }) 1024 right few sized (omega arith) (λ z. bare)
+  bodies-read : (v m : ℕ)
+      → proceduresBy (countsIn (d ∷ ds)) 32 0 (before v m []) 1024 bodies ≡ plan (programBy (before v m (d ∷ ds)))
+  bodies-read v m =
+      procedures-read (countsIn (d ∷ ds)) ds d 32 0 (before v m []) 1024 right few sized (omega arith) (λ z. bare)
 
-  volatiles-read : (v : ℕ) → withVolatiles (countsIn (d ∷ ds)) v (volatileTokens fs ++ bodies) ≡ plan (programBy (record { version = v; mask = 2 ^ 31 + maskOf fs; procedures = d ∷ ds }))
+  volatiles-read : (v : ℕ)
+      → withVolatiles (countsIn (d ∷ ds)) v (volatileTokens fs ++ bodies) ≡ plan (programBy (before v (2 ^ 31 + maskOf fs) (d ∷ ds)))
   unfolding withVolatiles volatileTokens maskOf
   volatiles-read v = by-fields fs up
     where
       first : NoField bodies × (eqb (ahead bodies 0) volatileWord ≡ false)
       first = first-token bodies bodies-start
 
-      by-fields : (gs : List ℕ) → Ascending 0 gs → withVolatiles (countsIn (d ∷ ds)) v (volatileTokens gs ++ bodies) ≡ plan (programBy (record { version = v; mask = 2 ^ 31 + maskOf gs; procedures = d ∷ ds }))
+      by-fields : (gs : List ℕ) → Ascending 0 gs
+          → withVolatiles (countsIn (d ∷ ds)) v (volatileTokens gs ++ bodies) ≡ plan (programBy (before v (2 ^ 31 + maskOf gs) (d ∷ ds)))
       by-fields [] q = rw (first .1) (bodies-read v (2 ^ 31))
       by-fields (g ∷ gs) q =
-          ap₂ (λ (m : ℕ) (l : List ℕ). proceduresBy (countsIn (d ∷ ds)) 32 0 (record { version = v; mask = m; procedures = [] }) 1024 l) (mask-read (g ∷ gs) bodies (2 ^ 31) 0 q (first .0))
+          ap₂ (λ (m : ℕ) (l : List ℕ). proceduresBy (countsIn (d ∷ ds)) 32 0 (before v m []) 1024 l) (mask-read (g ∷ gs) bodies (2 ^ 31) 0 q (first .0))
           (behind-read (g ∷ gs) bodies 0 q (first .0))
           ∙ bodies-read v (2 ^ 31 + maskOf (g ∷ gs))
 
-  parts-read : (v : ℕ) → v < 2 → readPlan (40 ∷ v ∷ (volatileTokens fs ++ mainFirst (d ∷ ds)) ++ (69 ∷ [])) ≡ plan (programBy (record { version = v; mask = 2 ^ 31 + maskOf fs; procedures = d ∷ ds }))
+  parts-read : (v : ℕ) → v < 2
+      → readPlan (40 ∷ v ∷ (volatileTokens fs ++ mainFirst (d ∷ ds)) ++ (69 ∷ [])) ≡ plan (programBy (before v (2 ^ 31 + maskOf fs) (d ∷ ds)))
   unfolding readPlan
   parts-read v h =
       ap (λ (l : List ℕ). readPlan (40 ∷ v ∷ l)) (append-assoc (volatileTokens fs) (mainFirst (d ∷ ds)) (69 ∷ []))
@@ -229,7 +257,8 @@ shown-is g = refl
 
 -- a program that a plan can have is read back
 pub program-back : (g : Program) → RightProgram g → readPlan (shownPlan g ++ (textEnd ∷ [])) ≡ plan g
-program-back g r = rw (shown-is g) (by-main (g .procedures) (r .some-procedure) (r .few-procedures) (r .few-terms) (r .main-bare) (r .each-procedure) ∙ ap plan back)
+program-back g r =
+    rw (shown-is g) (by-main (g .procedures) (r .some-procedure) (r .few-procedures) (r .few-terms) (r .main-bare) (r .each-procedure) ∙ ap plan back)
   where
     v : ℕ
     v = versionNumber (g .version)
@@ -238,11 +267,12 @@ program-back g r = rw (shown-is g) (by-main (g .procedures) (r .some-procedure) 
     fs = fieldsFrom (g .volatiles) 1 31
 
     by-main : (ds : List Procedure) → 1 ≤ length ds → length ds ≤ 32 → sizeOfAll ds ≤ 1024 → getD (countsIn ds) 0 0 ≡ 0 → RightDefinitions (countsIn ds) ds
-        → readPlan (40 ∷ v ∷ (volatileTokens fs ++ mainFirst ds) ++ (69 ∷ [])) ≡ plan (programBy (record { version = v; mask = 2 ^ 31 + maskOf fs; procedures = ds }))
+        → readPlan (40 ∷ v ∷ (volatileTokens fs ++ mainFirst ds) ++ (69 ∷ [])) ≡ plan (programBy (before v (2 ^ 31 + maskOf fs) ds))
     by-main [] h few sized bare right = absurd (omega arith)
-    by-main (d ∷ ds) h few sized bare right = parts-read d ds right few sized bare fs (fields-ascend (g .volatiles) 1 31 0 (omega arith) (omega arith)) v (version-small (g .version))
+    by-main (d ∷ ds) h few sized bare right =
+        parts-read d ds right few sized bare fs (fields-ascend (g .volatiles) 1 31 0 (omega arith) (omega arith)) v (version-small (g .version))
 
-    back : programBy (record { version = v; mask = 2 ^ 31 + maskOf fs; procedures = g .procedures }) ≡ g
+    back : programBy (before v (2 ^ 31 + maskOf fs) (g .procedures)) ≡ g
     back = program-is g (2 ^ 31 + maskOf fs) (sym (r .monitor-volatile))
 
 -- what is shown of an accepted plan is read back as its program

@@ -50,7 +50,8 @@ module _ {counts : List ℕ} where
   pub stays : {s s′ : State} → s ≡ s′ → Leads counts s s′
   stays {s} e = rw (← e) (record { leads = λ k h. record { steps = k; enough = h; same = refl } })
 
-  pub by-step : (g : Goal) (gs gs′ : List Goal) (vs vs′ : List Value) (n n′ : ℕ) (ts ts′ : List ℕ) → step counts g vs n ts ≡ go gs′ vs′ n′ ts′ → Room gs gs′ vs ts ts′
+  pub by-step : (g : Goal) (gs gs′ : List Goal) (vs vs′ : List Value) (n n′ : ℕ) (ts ts′ : List ℕ) → step counts g vs n ts ≡ go gs′ vs′ n′ ts′
+      → Room gs gs′ vs ts ts′
       → Leads counts (state (g ∷ gs) vs n ts) (state (gs′ ++ gs) vs′ n′ ts′)
   unfolding parseBy
   by-step g gs gs′ vs vs′ n n′ ts ts′ e r = record { leads = first }
