@@ -1,4 +1,2 @@
-pub mod Right
-pub mod RightPlans
 pub mod Samples
 pub mod ShownTokens

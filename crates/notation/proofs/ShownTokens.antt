@@ -9,7 +9,7 @@ use lib.Dec.{ltb}
 use Rattle.packed.specs.Syntax.{Signal, Expression, Condition, Arguments}
 use Rattle.notation.specs.Tokens.{volatileWord, procedureWord, allWord}
 use Rattle.notation.specs.Shown.{tight, prefix, loose, testing, grouped, binderToken, signalTokens, shown, shownᶜ, shownᵃ, shownFurther}
-use Rattle.notation.proofs.Right.{Ascending, RightSlot, Right, Rightᶜ, Rightᵃ}
+use Rattle.written.proofs.Right.{Ascending, RightSlot, Right, Rightᶜ, Rightᵃ}
 
 -- ---- the first token
 

@@ -19,8 +19,8 @@ use Rattle.written.specs.Terms.{termsOf, size, maskOf}
 use Rattle.written.specs.Written.{sizeOfAll, versionNumber}
 use Rattle.notation.specs.Tokens.{volatileWord, procedureWord, textEnd}
 use Rattle.notation.specs.Shown.{loose, shown, volatileTokens, procedureTokens, mainFirst, shownPlan}
-use Rattle.notation.proofs.Right.{Ascending, Right, countsIn, RightDefinition, RightDefinitions, RightProgram}
-use Rattle.notation.proofs.RightPlans.{fields-ascend, right-program}
+use Rattle.written.proofs.Right.{Ascending, Right, countsIn, RightDefinition, RightDefinitions, RightProgram}
+use Rattle.written.proofs.RightPlans.{fields-ascend, right-program}
 use Rattle.notation.proofs.ShownTokens.{Starts, starts, starts-append, NoProcedure, none-fields, none-shown}
 use Rattle.parsing.specs.Goals.{expression, Goal, expect, operand, count, Value, number, ofExpression, numberIn, expressionIn, valueAt}
 use Rattle.parsing.specs.Parser.{ahead, go, step, Parsed, parsed, parseBy, parse}

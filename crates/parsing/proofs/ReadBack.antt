@@ -10,7 +10,7 @@ use Rattle.packed.specs.Syntax.{Signal, Expression, Condition, Arguments}
 use Rattle.written.specs.Terms.{termsOf, termsOfᶜ, termsOfᵃ, size}
 use Rattle.notation.specs.Tokens.{allWord}
 use Rattle.notation.specs.Shown.{loose, testing, prefix, tight, binderToken, signalTokens, shown, shownᶜ, shownᵃ, shownFurther}
-use Rattle.notation.proofs.Right.{Right, Rightᶜ, Rightᵃ}
+use Rattle.written.proofs.Right.{Right, Rightᶜ, Rightᵃ}
 use Rattle.notation.proofs.ShownTokens.{Starts, starts}
 use Rattle.parsing.specs.Goals.{Value, ofExpression, ofCondition, forms, made}
 use Rattle.parsing.specs.Parser.{ahead, operandStep, step}

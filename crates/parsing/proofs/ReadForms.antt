@@ -16,7 +16,7 @@ use Rattle.packed.proofs.WellFormed.{count}
 use Rattle.written.specs.Terms.{maskOf, slotOf}
 use Rattle.notation.specs.Tokens.{dot, equals, becomes, allWord}
 use Rattle.notation.specs.Shown.{binderToken}
-use Rattle.notation.proofs.Right.{Ascending, RightFields, RightSlot, RightField, RightCall}
+use Rattle.written.proofs.Right.{Ascending, RightFields, RightSlot, RightField, RightCall}
 use Rattle.parsing.specs.Goals.{Sort, either, expression, condition, Goal, expect, operand, more, make, binder, fields, procedure, further, Value, number, ofExpression, ofCondition, ofArguments, numberIn, made, Form, form, forms, notifyAllForm, argumentGoals}
 use Rattle.parsing.specs.Parser.{ahead, Step, go, stop, takesCondition, begun, wordForm, operandStep, dotStep, moreStep, fieldsStep, furtherStep, step}
 use Rattle.parsing.proofs.Runs.{State, state, Leads, _thence_, stays, Room, by-step, makes}

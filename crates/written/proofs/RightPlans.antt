@@ -19,12 +19,12 @@ use Rattle.packed.proofs.WellFormed.{count}
 use Rattle.packed.proofs.Accepted.{OfSort, Child, Readable, accepted, its-trees}
 use Rattle.packed.proofs.Decoded.{Cases, done, _gives_then_, pick, Row, at-tag}
 use Rattle.packed.proofs.ListLaws.{list-step, list-stop}
 use Rattle.written.specs.Terms.{maskOf}
 use Rattle.written.proofs.Masks.{mask-back}
 use Rattle.written.proofs.Original.{mask-small}
 use Rattle.written.proofs.Sizes.{program-procedures}
 use Rattle.written.proofs.Passes.{count-is, total-is, mask-is}
-use Rattle.notation.proofs.Right.{Ascending, RightFields, RightSlot, RightCall, Right, Rightᶜ, Rightᵃ, countsIn, RightDefinitions, RightProgram}
+use Rattle.written.proofs.Right.{Ascending, RightFields, RightSlot, RightCall, Right, Rightᶜ, Rightᵃ, countsIn, RightDefinitions, RightProgram}
 
 -- ---- masks and slots
 
