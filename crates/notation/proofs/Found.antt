@@ -45,7 +45,9 @@ names t h = not-false (isName (textOf t)) (lowest-none (λ (k : ℕ). not (isNam
 -- the name of a token is that token
 named : (t : ℕ) → t < opening → nameOf (valueOf t) ≡ t
 unfolding nameOf valueOf texts ascii lowest
-named t h = eqb-true (nameOf (valueOf t)) t (not-false (eqb (nameOf (valueOf t)) t) (lowest-none (λ (k : ℕ). not (eqb (nameOf (valueOf k)) k)) opening refl t h))
+named t h =
+    eqb-true (nameOf (valueOf t)) t
+    (not-false (eqb (nameOf (valueOf t)) t) (lowest-none (λ (k : ℕ). not (eqb (nameOf (valueOf k)) k)) opening refl t h))
 
 -- a digit is none of the bytes that are none
 other : (c k : ℕ) → digitOf k ≡ 0 → 0 < digitOf c → eqb c k ≡ false

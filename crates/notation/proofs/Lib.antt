@@ -1,2 +1,3 @@
 pub mod Samples
 pub mod Found
+pub mod Widths
