@@ -1,3 +1,5 @@
 pub mod NameLaws
 pub mod ClassLaws
 pub mod AutomatonLaws
+pub mod TurnLaws
+pub mod KeptLaws

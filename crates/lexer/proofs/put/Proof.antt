@@ -1,3 +1,4 @@
+use Rattle.lexer.proofs.KeptLaws.{adds-none, adds-full, adds-one}
 use borrow.Author.Needs.{needs}
 use Rattle.lexer.proofs.put.Statement.{statement}
 use Rattle.lexer.proofs.put.Tie as tie
@@ -6,7 +7,7 @@ use Rattle.lexer.proofs.put.Lts as lts
 
 -- src/lib.rt:21:9
 returns : tie.Need-returns
-returns c = search needs
+returns c = adds-none _ _ _ (c .if1 .taken)
 
 -- src/lib.rt:24:16
 add-result : tie.Need-add-result
@@ -14,7 +15,7 @@ add-result c = search needs
 
 -- src/lib.rt:24:9
 returns-2 : tie.Need-returns-2
-returns-2 c = search needs
+returns-2 c = adds-full _ _ _ (c .before .if1 .left) (c .if2 .taken)
 
 -- src/lib.rt:26:5
 slice-write-tokens : tie.Need-slice-write-tokens
@@ -30,7 +31,7 @@ same-length c = search needs
 
 -- src/lib.rt:17:1
 returns-3 : tie.Need-returns-3
-returns-3 c = search needs
+returns-3 c = adds-one _ _ _ (c .before .if1 .left) (c .if2 .left)
 
 pub put-spec : {M : Type 1} → statement M
 put-spec =
