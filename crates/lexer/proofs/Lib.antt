@@ -3,3 +3,4 @@ pub mod ClassLaws
 pub mod AutomatonLaws
 pub mod TurnLaws
 pub mod KeptLaws
+pub mod PlaceLaws

@@ -1,3 +1,12 @@
+use Prim.Native.Nat.{ℕ, _-_, _+_, _≤_}
+use native.Mathlib.Omega.{arith}
+use mathlib.Core.Path.{_≡_, refl, sym, ap, _∙_}
+use lib.Dec.{ltb}
+use lib.ListN.{length, drop}
+use mathlib.Core.Logic.{⊎-elim}
+use lib.ListN.{drop-of-length-le}
+use Rattle.notation.specs.Lexing.{Place, placeFrom, placeAfter}
+use Rattle.lexer.proofs.PlaceLaws.{new-line, next-column}
 use borrow.Author.Needs.{needs}
 use Rattle.lexer.proofs.places.spot_after.Statement.{statement}
 use Rattle.lexer.proofs.places.spot_after.Tie as tie
@@ -5,14 +14,16 @@ use Rattle.lexer.proofs.places.spot_after.Reads as reads
 use Rattle.lexer.proofs.places.spot_after.Lts as lts
 
 abbrev Inv-loop : tie.InvT-loop
-Inv-loop bytes line₀ column₀ index₀ line column index = ?
+Inv-loop bytes line₀ column₀ index₀ line column index =
+    (index ≤ length bytes) × (line ≤ index + 1) × (column ≤ index + 1) × (placeAfter bytes ≡ placeFrom line column (drop index bytes))
 
 abbrev μ-loop : tie.MeasureT-loop
-μ-loop bytes line₀ column₀ index₀ line column index = ?
+μ-loop bytes line₀ column₀ index₀ line column index = length bytes - index
 
 -- src/places.rt:84:5
 loop-holds : tie.Need-loop-holds Inv-loop μ-loop
-loop-holds c = search needs
+unfolding placeAfter
+loop-holds c = (omega arith, omega arith, omega arith, refl)
 
 -- src/places.rt:85:12
 shared-slice-read-if1 : tie.Need-shared-slice-read-if1 Inv-loop μ-loop
@@ -36,11 +47,21 @@ loop-less c = search needs
 
 -- src/places.rt:84:5
 loop-again : tie.Need-loop-again Inv-loop μ-loop
-loop-again c = search needs
+loop-again c = 
+    let l = c .before .before .before .loop in
+    let t = c .before .before .loop-test .taken in
+    ⊎-elim
+    (λ w. (omega arith, omega (arith, w .1), omega (arith, w .2), simp (w .1, w .2) (l .inv .3 ∙ new-line _ (l .index) (l .line) (l .column) t (w .0 .taken))))
+    (λ w. (omega arith, omega (arith, w .1), omega (arith, w .2), simp (w .1, w .2) (l .inv .3 ∙ next-column _ (l .index) (l .line) (l .column) t (w .0 .left))))
+    (c .if1 .came)
 
 -- src/places.rt:78:1
 returns : tie.Need-returns Inv-loop μ-loop
-returns c = search needs
+unfolding placeFrom
+returns c = 
+    let l = c .before .loop in
+    let e = l .inv .3 ∙ ap (placeFrom (l .line) (l .column)) (drop-of-length-le _ (c .loop-test .left)) in
+    (sym (ap (λ (p : Place). p .line) e), sym (ap (λ (p : Place). p .column) e))
 
 pub spot-after-spec : {M : Type 1} → statement M
 spot-after-spec =
