@@ -2,12 +2,12 @@
 use Prim.Native.Nat.{ℕ, _<_, _≤_}
 use native.Mathlib.Omega.{arith}
 use mathlib.Core.Path.{_≡_, refl, ap, sym, _∙_}
-use mathlib.Core.Bool.{Bool, true, false, cond, _&&_, _||_, or-true}
-use mathlib.Core.List.{List, [], _∷_, _++_}
+use mathlib.Core.Bool.{Bool, true, false, cond, or-true}
+use mathlib.Core.List.{[], _∷_, _++_}
 use lib.Dec.{eqb, ltb}
 use borrow.Author.Tests.{lt-ltb, le-ltb, eq-eqb, ne-eqb}
 use Rattle.notation.specs.Tokens.{becomes, unknown}
-use Rattle.notation.specs.Lexing.{Token, token, Begun, nothing, comment, name, colon, digitOf, grown, nameOf, begins, alone, begunAfter, endedBy}
+use Rattle.notation.specs.Lexing.{token, Begun, nothing, comment, name, colon, digitOf, grown, nameOf, begins, alone, begunAfter, endedBy}
 use Rattle.lexer.specs.declared.automaton.Ended.{Ended}
 use Rattle.lexer.specs.Classes.{classOf}
 use Rattle.lexer.specs.Begun.{beginsBy}

@@ -1,16 +1,14 @@
 -- The class of a byte says what the lexer asks of the byte: each by a test of all 256. Assumes nothing.
 use Prim.Native.Nat.{ℕ, _<_}
+use native.Mathlib.Omega.{arith}
 use mathlib.Core.Path.{_≡_, refl, ap, sym, _∙_}
 use mathlib.Core.Bool.{Bool, true, false, cond, _||_}
-use mathlib.Core.List.{List, [], _∷_}
-use mathlib.Core.Option.{none}
+use mathlib.Core.List.{[], _∷_}
 use lib.Dec.{eqb, ltb}
-use lib.ListN.{getD}
-use native.Mathlib.Omega.{arith}
 use borrow.Author.Tests.{ltb-true}
 use Rattle.format.specs.Refusal.{lowest}
-use Rattle.notation.specs.Lexing.{Token, token, Begun, nothing, name, isBlank, digitOf, markOf, begins, alone}
-use Rattle.lexer.specs.Classes.{classOf, Classed}
+use Rattle.notation.specs.Lexing.{token, nothing, name, isBlank, digitOf, markOf, begins, alone}
+use Rattle.lexer.specs.Classes.{classOf}
 use Rattle.lexer.specs.Begun.{beginsBy}
 use Rattle.lexer.specs.Ended.{aloneBy}
 use Rattle.lexer.proofs.NameLaws.{tested}

@@ -1,13 +1,11 @@
 -- Tokens in an area: none, and one more behind others, where it has room and where not. Assumes nothing.
-use Prim.Native.Nat.{ℕ, suc, _+_, _≤_, _<_}
-use native.Mathlib.Numerals.{add-one}
+use Prim.Native.Nat.{ℕ, _+_, _≤_, _<_}
 use native.Mathlib.Omega.{arith}
 use native.Mathlib.Decide.{decLe}
 use mathlib.Core.Path.{_≡_, refl, sym, ap, _∙_}
 use mathlib.Core.List.{List, [], _∷_, _++_, append-nil}
 use lib.ListN.{length, length-append, set, length-set}
 use borrow.Author.Tests.{eq-eqb, ne-eqb}
-use Rattle.format.specs.Area.{overwrite}
 use Rattle.format.proofs.AreaLaws.{overwrite-none, overwrite-next}
 use Rattle.lexer.specs.Ended.{coded}
 use Rattle.lexer.specs.Kept.{Kept, Adds}

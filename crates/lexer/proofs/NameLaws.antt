@@ -1,5 +1,5 @@
 -- A name is looked for at one place of a table: it is there, or it is no token's. Assumes nothing.
-use Prim.Native.Nat.{ℕ, zero, suc, _+_, _/_, _%_, _<_, _≤_}
+use Prim.Native.Nat.{ℕ, zero, suc, _+_, _/_, _%_, _<_}
 use native.Mathlib.Omega.{arith}
 use mathlib.Core.Path.{_≡_, refl, ap, sym, _∙_}
 use mathlib.Core.Bool.{Bool, true, false, cond, not}
@@ -7,10 +7,10 @@ use mathlib.Core.List.{List}
 use mathlib.Core.Option.{none}
 use lib.Dec.{eqb}
 use lib.ListN.{getD}
-use borrow.Author.Tests.{eqb-true, eqb-false, not-false}
+use borrow.Author.Tests.{eqb-true, not-false}
 use Rattle.format.specs.Refusal.{lowest}
 use Rattle.format.proofs.RefusalLaws.{lowest-none}
-use Rattle.notation.specs.Tokens.{opening, unknown}
+use Rattle.notation.specs.Tokens.{unknown}
 use Rattle.notation.specs.Lexing.{valueOf, nameFrom, nameOf}
 use Rattle.lexer.specs.Names.{Named}
 

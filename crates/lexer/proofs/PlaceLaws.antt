@@ -9,9 +9,9 @@ use mathlib.Core.Bool.{true, false}
 use lib.Dec.{eqb, ltb}
 use lib.ListN.{length, getD, drop}
 use lib.Seq.{getD-append-add, drop-cons}
-use borrow.Author.Tests.{eq-eqb, ne-eqb, lt-ltb, le-ltb, ltb-true, ltb-false}
+use borrow.Author.Tests.{eq-eqb, ne-eqb, le-ltb, ltb-true, ltb-false}
 use Rattle.notation.specs.Tokens.{textEnd}
-use Rattle.notation.specs.Lexing.{Token, token, Begun, begunAfter, endedAtEnd, tokensFrom, Place, placeFrom}
+use Rattle.notation.specs.Lexing.{Token, token, Begun, begunAfter, endedAtEnd, tokensFrom, placeFrom}
 use Rattle.lexer.specs.declared.automaton.Ended.{Ended}
 use Rattle.lexer.specs.Ended.{listed, beforeOf, withOf}
 use Rattle.lexer.specs.Place.{placeIn}

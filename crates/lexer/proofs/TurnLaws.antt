@@ -8,7 +8,7 @@ use lib.Dec.{eqb}
 use lib.ListN.{length, getD, drop, drop-of-length-le}
 use lib.Seq.{drop-cons}
 use Rattle.notation.specs.Tokens.{textEnd}
-use Rattle.notation.specs.Lexing.{Token, token, Begun, begunAfter, endedBy, endedAtEnd, tokensFrom}
+use Rattle.notation.specs.Lexing.{Token, token, Begun, begunAfter, endedAtEnd, tokensFrom}
 use Rattle.lexer.specs.declared.automaton.Ended.{Ended}
 use Rattle.lexer.specs.Ended.{listed, coded, beforeOf, withOf}
 use Rattle.lexer.proofs.AutomatonLaws.{parted}

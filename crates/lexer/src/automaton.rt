@@ -1,11 +1,11 @@
 // What has begun before a byte of a text, and the tokens that end there.
-use byte_numbers::wide;
 use crate::classes::COLON;
 use crate::classes::HASH;
 use crate::classes::MARK;
 use crate::names;
 use crate::names::Names;
 use crate::names::UNKNOWN;
+use byte_numbers::wide;
 ghost use mathlib.Core.Path.{_≡_};
 ghost use Prim.Native.Nat.{_<_};
 ghost use Rattle.notation.specs.Lexing.{grown, begunAfter, endedAtEnd};

@@ -1,7 +1,7 @@
 // From the bytes of a text to its tokens (docs/FORMAT.md, "A plan as text").
+pub mod automaton;
 pub mod classes;
 pub mod names;
-pub mod automaton;
 pub mod places;
 
 use automaton::Begun;

@@ -1,27 +1,18 @@
+-- `lex` meets its contract. The invariant: the tokens that are kept, and those from the next byte on, are the tokens of the text. Assumes nothing.
 use Prim.Native.Nat.{ℕ, _-_, _≤_}
 use native.Mathlib.Omega.{arith}
-use mathlib.Core.Path.{_≡_, refl, sym, ap, _∙_}
+use mathlib.Core.Path.{_≡_, refl, sym, _∙_}
 use mathlib.Core.List.{List, [], _++_}
 use lib.ListN.{length, drop}
-use Rattle.notation.specs.Lexing.{tokensOf, tokensFrom, codesOf}
+use borrow.Author.Needs.{needs}
+use Rattle.notation.specs.Lexing.{tokensFrom, codesOf}
 use Rattle.lexer.specs.Begun.{begunOf}
-use Rattle.lexer.specs.Ended.{listed, coded}
+use Rattle.lexer.specs.Ended.{coded}
 use Rattle.lexer.specs.Kept.{Kept}
 use Rattle.lexer.proofs.TurnLaws.{codes, one-byte, no-byte, codes-on, codes-last}
 use Rattle.lexer.proofs.KeptLaws.{kept-none, kept-as}
-use borrow.Author.Needs.{needs}
 use Rattle.lexer.proofs.lex.Statement.{statement}
 use Rattle.lexer.proofs.lex.Tie as tie
-use Rattle.lexer.proofs.lex.Reads as reads
-use Rattle.lexer.proofs.lex.Lts as lts
-use Rattle.lexer.proofs.automaton.after.Reads as after-reads
-use Rattle.lexer.proofs.automaton.ended_before.Reads as ended-before-reads
-use Rattle.lexer.proofs.automaton.ended_last.Reads as ended-last-reads
-use Rattle.lexer.proofs.automaton.ended_with.Reads as ended-with-reads
-use Rattle.lexer.proofs.classes.class_of.Reads as class-of-reads
-use Rattle.lexer.proofs.classes.classes.Reads as classes-reads
-use Rattle.lexer.proofs.names.names.Reads as names-reads
-use Rattle.lexer.proofs.put.Reads as put-reads
 
 abbrev Inv-loop : tie.InvT-loop
 Inv-loop text tokens₀ classes names begun₀ count₀ index₀ tokens begun count index =
@@ -37,89 +28,72 @@ abbrev μ-loop : tie.MeasureT-loop
 abbrev begin : tie.After-after Inv-loop μ-loop → tie.In-loop Inv-loop μ-loop
 begin c = c .before .before .before .before .before .before .before .before .before .before .before .before .before .before .before
 
--- src/lib.rt:34:19
 classes-requires : tie.Need-classes-requires Inv-loop μ-loop
 classes-requires c κs = search needs
 
--- src/lib.rt:35:17
 names-requires : tie.Need-names-requires Inv-loop μ-loop
 names-requires c κs = search needs
 
--- src/lib.rt:39:5
 loop-holds : tie.Need-loop-holds Inv-loop μ-loop
 unfolding codesOf begunOf
 loop-holds c = (omega arith, [], refl, kept-none _)
 
--- src/lib.rt:40:20
 shared-slice-read-byte : tie.Need-shared-slice-read-byte Inv-loop μ-loop
 shared-slice-read-byte c = search needs
 
--- src/lib.rt:41:13
 class-of-requires : tie.Need-class-of-requires Inv-loop μ-loop
 class-of-requires c κs = c .before .before .before .before .before .classes .ensures
 
--- src/lib.rt:42:13
 ended-before-requires : tie.Need-ended-before-requires Inv-loop μ-loop
 ended-before-requires c κs = (c .before .before .before .before .before .before .names .ensures, c .before .class-of .ensures)
 
--- src/lib.rt:43:9
 put-requires : tie.Need-put-requires Inv-loop μ-loop
 put-requires c κs = search needs
 
--- src/lib.rt:44:13
 ended-with-requires : tie.Need-ended-with-requires Inv-loop μ-loop
 ended-with-requires c κs = c .before .before .before .before .before .before .class-of .ensures
 
--- src/lib.rt:45:9
 put-requires-2 : tie.Need-put-requires-2 Inv-loop μ-loop
 put-requires-2 c κs = search needs
 
--- src/lib.rt:46:9
 after-requires : tie.Need-after-requires Inv-loop μ-loop
 after-requires c κs = c .before .before .before .before .before .before .before .before .before .before .before .class-of .ensures
 
--- src/lib.rt:47:9
 add-index : tie.Need-add-index Inv-loop μ-loop
 add-index c = search needs
 
--- src/lib.rt:39:5
 loop-less : tie.Need-loop-less Inv-loop μ-loop
 loop-less c = search needs
 
--- src/lib.rt:39:5
 loop-again : tie.Need-loop-again Inv-loop μ-loop
-loop-again c = 
+loop-again c =
     let t = begin c in
     let l = t .before .loop in
     let x = c .before .before .before .before .before .before .before .before .before .before .ended-before in
-    let y = c .before .before .before .before .before .ended-with in
-    (omega arith,
+    let y = c .before .before .before .before .before .ended-with in (
+      omega arith,
       _,
       l .inv .2 ∙ codes-on (l .inv .1) _ (x .result) (y .result) _ (one-byte _ (l .index) (begunOf (l .begun)) (t .loop-test .taken) (begunOf (c .after .result)) _ _ (x .ensures) (y .ensures) (c .after .ensures)),
-      c .before .before .before .put2 .ensures _ _ (c .before .before .before .before .before .before .before .before .put .ensures _ _ (l .inv .3)))
+      c .before .before .before .put2 .ensures _ _ (c .before .before .before .before .before .before .before .before .put .ensures _ _ (l .inv .3)),
+    )
 
--- src/lib.rt:49:9
 ended-last-requires : tie.Need-ended-last-requires Inv-loop μ-loop
 ended-last-requires c κs = c .before .before .before .names .ensures
 
--- src/lib.rt:50:5
 put-requires-3 : tie.Need-put-requires-3 Inv-loop μ-loop
 put-requires-3 c κs = search needs
 
--- src/lib.rt:51:5
 put-requires-4 : tie.Need-put-requires-4 Inv-loop μ-loop
 put-requires-4 c κs = search needs
 
--- src/lib.rt:31:1
 same-length : tie.Need-same-length Inv-loop μ-loop
-same-length c = 
+same-length c =
     let l = c .before .before .before .before .before .before .before .before .before .before .before .loop in
     (c .before .before .put4 .ensures _ _ (c .before .before .before .before .before .before .put3 .ensures _ _ (l .inv .3))) .same
 
--- src/lib.rt:31:1
 returns : tie.Need-returns Inv-loop μ-loop
 unfolding coded
-returns c = 
+returns c =
     let l = c .before .before .before .before .before .before .before .before .before .before .before .loop in
     let z = c .before .before .before .before .before .before .before .before .ended-last in
     kept-as (sym (l .inv .2 ∙ codes-last (l .inv .1) _ (z .result) _ (no-byte _ (l .index) (begunOf (l .begun)) (c .before .before .before .before .before .before .before .before .before .before .loop-test .left) _ (z .ensures))))

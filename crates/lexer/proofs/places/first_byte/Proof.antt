@@ -1,29 +1,15 @@
-use Prim.Native.Nat.{ℕ, _-_, _+_, _≤_}
+-- `first_byte` meets its contract. The invariant: the token is the one that so many are before, from the next byte on. Assumes nothing.
+use Prim.Native.Nat.{_-_, _≤_}
 use native.Mathlib.Omega.{arith}
-use mathlib.Core.Path.{_≡_, refl, sym, ap, _∙_}
-use mathlib.Core.Bool.{true, false}
-use mathlib.Core.List.{List}
-use lib.Dec.{ltb}
-use lib.ListN.{length, getD, drop}
-use Rattle.notation.specs.Lexing.{Token, tokensOf, tokensFrom}
+use mathlib.Core.Path.{_≡_, refl, sym, _∙_}
+use lib.ListN.{length, drop}
+use borrow.Author.Needs.{needs}
+use Rattle.notation.specs.Lexing.{tokensOf, tokensFrom}
 use Rattle.lexer.specs.Begun.{begunOf}
 use Rattle.lexer.specs.Place.{placeIn}
-use Rattle.lexer.proofs.TurnLaws.{one-byte, no-byte}
 use Rattle.lexer.proofs.PlaceLaws.{sought-before, sought-with, sought-behind, sought-last, sought-end}
-use borrow.Author.Needs.{needs}
 use Rattle.lexer.proofs.places.first_byte.Statement.{statement}
 use Rattle.lexer.proofs.places.first_byte.Tie as tie
-use Rattle.lexer.proofs.places.first_byte.Reads as reads
-use Rattle.lexer.proofs.places.first_byte.Lts as lts
-use Rattle.lexer.proofs.automaton.after.Reads as after-reads
-use Rattle.lexer.proofs.automaton.ended_before.Reads as ended-before-reads
-use Rattle.lexer.proofs.automaton.ended_last.Reads as ended-last-reads
-use Rattle.lexer.proofs.automaton.ended_with.Reads as ended-with-reads
-use Rattle.lexer.proofs.classes.class_of.Reads as class-of-reads
-use Rattle.lexer.proofs.classes.classes.Reads as classes-reads
-use Rattle.lexer.proofs.names.names.Reads as names-reads
-use Rattle.lexer.proofs.places.behind.Reads as behind-reads
-use Rattle.lexer.proofs.places.hits.Reads as hits-reads
 
 abbrev Inv-loop : tie.InvT-loop
 Inv-loop text number classes names begun₀ left₀ index₀ begun left index =
@@ -33,55 +19,43 @@ Inv-loop text number classes names begun₀ left₀ index₀ begun left index =
 abbrev μ-loop : tie.MeasureT-loop
 μ-loop text number classes names begun₀ left₀ index₀ begun left index = length text - index
 
--- src/places.rt:49:19
 classes-requires : tie.Need-classes-requires Inv-loop μ-loop
 classes-requires c κs = search needs
 
--- src/places.rt:50:17
 names-requires : tie.Need-names-requires Inv-loop μ-loop
 names-requires c κs = search needs
 
--- src/places.rt:54:5
 loop-holds : tie.Need-loop-holds Inv-loop μ-loop
 unfolding tokensOf begunOf
 loop-holds c = (omega arith, refl)
 
--- src/places.rt:55:20
 shared-slice-read-byte : tie.Need-shared-slice-read-byte Inv-loop μ-loop
 shared-slice-read-byte c = search needs
 
--- src/places.rt:56:13
 class-of-requires : tie.Need-class-of-requires Inv-loop μ-loop
 class-of-requires c κs = c .before .before .before .before .before .classes .ensures
 
--- src/places.rt:57:13
 ended-before-requires : tie.Need-ended-before-requires Inv-loop μ-loop
 ended-before-requires c κs = (c .before .before .before .before .before .before .names .ensures, c .before .class-of .ensures)
 
--- src/places.rt:58:12
 hits-requires : tie.Need-hits-requires Inv-loop μ-loop
 hits-requires c κs = search needs
 
--- src/places.rt:59:13
 returns : tie.Need-returns Inv-loop μ-loop
 returns c = let l = c .before .before .before .before .before .before .before .before .loop in
     let x = c .before .before .ended-before in
     sought-before _ (l .index) (begunOf (l .begun)) (l .left) (c .before .before .before .before .before .before .before .loop-test .taken) (x .result) (x .ensures) (sym (c .before .hits .ensures) ∙ c .if1 .taken)
     ∙ sym (l .inv .1)
 
--- src/places.rt:61:9
 behind-requires : tie.Need-behind-requires Inv-loop μ-loop
 behind-requires c κs = search needs
 
--- src/places.rt:62:13
 ended-with-requires : tie.Need-ended-with-requires Inv-loop μ-loop
 ended-with-requires c κs = c .before .before .before .before .before .class-of .ensures
 
--- src/places.rt:63:12
 hits-requires-2 : tie.Need-hits-requires-2 Inv-loop μ-loop
 hits-requires-2 c κs = search needs
 
--- src/places.rt:64:13
 returns-2 : tie.Need-returns-2 Inv-loop μ-loop
 returns-2 c = let l = c .before .before .before .before .before .before .before .before .before .before .before .before .loop in
     let x = c .before .before .before .before .before .before .ended-before in
@@ -91,49 +65,41 @@ returns-2 c = let l = c .before .before .before .before .before .before .before 
     (sym (c .before .hits2 .ensures) ∙ c .if2 .taken)
     ∙ sym (l .inv .1)
 
--- src/places.rt:66:9
 behind-requires-2 : tie.Need-behind-requires-2 Inv-loop μ-loop
 behind-requires-2 c κs = search needs
 
--- src/places.rt:67:9
 after-requires : tie.Need-after-requires Inv-loop μ-loop
 after-requires c κs = c .before .before .before .before .before .before .before .before .before .class-of .ensures
 
--- src/places.rt:68:9
 add-index : tie.Need-add-index Inv-loop μ-loop
 add-index c = search needs
 
--- src/places.rt:54:5
 loop-less : tie.Need-loop-less Inv-loop μ-loop
 loop-less c = search needs
 
--- src/places.rt:54:5
 loop-again : tie.Need-loop-again Inv-loop μ-loop
 loop-again c = let l = c .before .before .before .before .before .before .before .before .before .before .before .before .before .before .loop in
     let x = c .before .before .before .before .before .before .before .before .ended-before in
-    let y = c .before .before .before .before .ended-with in
-    (omega (arith, c .before .before .before .before .before .before .before .before .before .before .before .before .before .loop-test .taken),
+    let y = c .before .before .before .before .ended-with in (
+      omega (arith, c .before .before .before .before .before .before .before .before .before .before .before .before .before .loop-test .taken),
       l .inv .1
-      ∙ sought-behind _ (l .index) (begunOf (l .begun)) (l .left) (c .before .before .before .before .before .before .before .before .before .before .before .before .before .loop-test .taken) (x .result) (x .ensures)
-      (sym (c .before .before .before .before .before .before .before .hits .ensures) ∙ c .before .before .before .before .before .before .if1 .left) _ (c .before .before .before .before .before .behind .ensures) (y .result) (y .ensures)
-      (sym (c .before .before .before .hits2 .ensures) ∙ c .before .before .if2 .left) _ (c .before .behind2 .ensures) (begunOf (c .after .result)) (c .after .ensures))
+          ∙ sought-behind _ (l .index) (begunOf (l .begun)) (l .left) (c .before .before .before .before .before .before .before .before .before .before .before .before .before .loop-test .taken) (x .result) (x .ensures)
+          (sym (c .before .before .before .before .before .before .before .hits .ensures) ∙ c .before .before .before .before .before .before .if1 .left) _ (c .before .before .before .before .before .behind .ensures) (y .result) (y .ensures)
+          (sym (c .before .before .before .hits2 .ensures) ∙ c .before .before .if2 .left) _ (c .before .behind2 .ensures) (begunOf (c .after .result)) (c .after .ensures),
+    )
 
--- src/places.rt:70:9
 ended-last-requires : tie.Need-ended-last-requires Inv-loop μ-loop
 ended-last-requires c κs = c .before .before .before .names .ensures
 
--- src/places.rt:71:8
 hits-requires-3 : tie.Need-hits-requires-3 Inv-loop μ-loop
 hits-requires-3 c κs = search needs
 
--- src/places.rt:72:9
 returns-3 : tie.Need-returns-3 Inv-loop μ-loop
 returns-3 c = let l = c .before .before .before .before .before .loop in
     let x = c .before .before .ended-last in
     sought-last _ (l .index) (begunOf (l .begun)) (l .left) (c .before .before .before .before .loop-test .left) (x .result) (x .ensures) (sym (c .before .hits3 .ensures) ∙ c .if3 .taken)
     ∙ sym (l .inv .1)
 
--- src/places.rt:46:1
 returns-4 : tie.Need-returns-4 Inv-loop μ-loop
 returns-4 c = let l = c .before .before .before .before .before .loop in
     let x = c .before .before .ended-last in

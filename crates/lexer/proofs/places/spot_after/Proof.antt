@@ -1,17 +1,14 @@
-use Prim.Native.Nat.{ℕ, _-_, _+_, _≤_}
+-- `spot_after` meets its contract. The invariant: the line and the column are those behind the bytes that are passed. Assumes nothing.
+use Prim.Native.Nat.{_-_, _+_, _≤_}
 use native.Mathlib.Omega.{arith}
 use mathlib.Core.Path.{_≡_, refl, sym, ap, _∙_}
-use lib.Dec.{ltb}
-use lib.ListN.{length, drop}
 use mathlib.Core.Logic.{⊎-elim}
-use lib.ListN.{drop-of-length-le}
+use lib.ListN.{length, drop, drop-of-length-le}
+use borrow.Author.Needs.{needs}
 use Rattle.notation.specs.Lexing.{Place, placeFrom, placeAfter}
 use Rattle.lexer.proofs.PlaceLaws.{new-line, next-column}
-use borrow.Author.Needs.{needs}
 use Rattle.lexer.proofs.places.spot_after.Statement.{statement}
 use Rattle.lexer.proofs.places.spot_after.Tie as tie
-use Rattle.lexer.proofs.places.spot_after.Reads as reads
-use Rattle.lexer.proofs.places.spot_after.Lts as lts
 
 abbrev Inv-loop : tie.InvT-loop
 Inv-loop bytes line₀ column₀ index₀ line column index =
@@ -20,34 +17,27 @@ Inv-loop bytes line₀ column₀ index₀ line column index =
 abbrev μ-loop : tie.MeasureT-loop
 μ-loop bytes line₀ column₀ index₀ line column index = length bytes - index
 
--- src/places.rt:84:5
 loop-holds : tie.Need-loop-holds Inv-loop μ-loop
 unfolding placeAfter
 loop-holds c = (omega arith, omega arith, omega arith, refl)
 
--- src/places.rt:85:12
 shared-slice-read-if1 : tie.Need-shared-slice-read-if1 Inv-loop μ-loop
 shared-slice-read-if1 c = search needs
 
--- src/places.rt:86:13
 add-line : tie.Need-add-line Inv-loop μ-loop
 add-line c = search needs
 
--- src/places.rt:89:13
 add-column : tie.Need-add-column Inv-loop μ-loop
 add-column c = search needs
 
--- src/places.rt:91:9
 add-index : tie.Need-add-index Inv-loop μ-loop
 add-index c = search needs
 
--- src/places.rt:84:5
 loop-less : tie.Need-loop-less Inv-loop μ-loop
 loop-less c = search needs
 
--- src/places.rt:84:5
 loop-again : tie.Need-loop-again Inv-loop μ-loop
-loop-again c = 
+loop-again c =
     let l = c .before .before .before .loop in
     let t = c .before .before .loop-test .taken in
     ⊎-elim
@@ -55,10 +45,9 @@ loop-again c =
     (λ w. (omega arith, omega (arith, w .1), omega (arith, w .2), simp (w .1, w .2) (l .inv .3 ∙ next-column _ (l .index) (l .line) (l .column) t (w .0 .left))))
     (c .if1 .came)
 
--- src/places.rt:78:1
 returns : tie.Need-returns Inv-loop μ-loop
 unfolding placeFrom
-returns c = 
+returns c =
     let l = c .before .loop in
     let e = l .inv .3 ∙ ap (placeFrom (l .line) (l .column)) (drop-of-length-le _ (c .loop-test .left)) in
     (sym (ap (λ (p : Place). p .line) e), sym (ap (λ (p : Place). p .column) e))
