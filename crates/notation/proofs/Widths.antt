@@ -41,6 +41,10 @@ short t h =
     (not-false _ (lowest-none (λ (k : ℕ). not (oneLine (textOf k) && ltb (length (textOf k)) 10)) textEnd refl t h)) in
     (e .0, ltb-true (length (textOf t)) 10 (e .1))
 
+pub few-bytes : (t : ℕ) → t < textEnd → length (textOf t) < 10
+unfolding Short
+few-bytes t h = short t h .1
+
 -- more bytes on a line
 along : (xs cs : List ℕ) (k : ℕ) → oneLine xs ≡ true → k + length xs < 100 → Narrow (k + length xs) cs → Narrow k (xs ++ cs)
 unfolding oneLine Narrow
@@ -64,15 +68,20 @@ placed true spaced n k xs cs i h s f r =
 placed false true n k xs cs i h s f r = (h, along xs cs (suc k) (s .0) (omega (arith, f refl)) r)
 placed false false n k xs cs i h s f r = along xs cs k (s .0) (omega (arith, f refl)) r
 
--- the column behind it
 column-by : (new spaced : Bool) (n k m : ℕ) → n ≤ 40 → m < 10 → (new ≡ false → k + m ≤ 98) → cond new n (cond spaced (suc k) k) + m < 100
 column-by true spaced n k m i s f = omega arith
 column-by false true n k m i s f = omega (arith, f refl)
 column-by false false n k m i s f = omega (arith, f refl)
 
-indented : (p : Pen) (t : ℕ) → indentation p t ≤ 40
+pub indented : (p : Pen) (t : ℕ) → indentation p t ≤ 40
 unfolding indentation
 indented p t = omega arith
+
+-- the column behind a token
+pub column-below : (p : Pen) (t : ℕ) → t < textEnd → columnAfter p t < 100
+unfolding columnAfter
+column-below p t h =
+    column-by (onNewLine p t) (apart (p .last) t) (indentation p t) (p .column) (length (textOf t)) (indented p t) (few-bytes t h) (fits p t)
 
 narrow-from : (ts : List ℕ) (p : Pen) → Known ts → p .column < 100 → Narrow (p .column) (laidFrom p ts)
 unfolding Narrow laidFrom gap penAfter columnAfter Short
@@ -81,8 +90,7 @@ narrow-from (t ∷ ts) p k h =
     let s = short t (k 0) in
     let f = fits p t in
     placed (onNewLine p t) (apart (p .last) t) (indentation p t) (p .column) (textOf t) _ (indented p t) h s f
-    (narrow-from ts (penAfter p t) (λ n. k (suc n))
-    (column-by (onNewLine p t) (apart (p .last) t) (indentation p t) (p .column) (length (textOf t)) (indented p t) (s .1) f))
+    (narrow-from ts (penAfter p t) (λ n. k (suc n)) (column-below p t (k 0)))
 
 -- no line has 100 columns or more
 pub narrow : (ts : List ℕ) → Known ts → Narrow 0 (laidOut ts)
