@@ -1,2 +1,4 @@
 pub mod Samples
 pub mod ShownTokens
+pub mod Found
+pub mod Widths

@@ -1,0 +1,6 @@
+pub mod Classes
+pub mod Names
+pub mod Begun
+pub mod Ended
+pub mod Kept
+pub mod Place
