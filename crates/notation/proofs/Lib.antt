@@ -2,3 +2,4 @@ pub mod Samples
 pub mod ShownTokens
 pub mod Found
 pub mod Widths
+pub mod ShownCodes

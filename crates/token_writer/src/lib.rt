@@ -4,7 +4,7 @@ pub mod rows; // rows.rt: the rows
 use crate::rows::Rows;
 use notation::tokens;
 use operands::tags;
-ghost use Prim.Native.Nat.{_+_, _*_, _≤_, _<_};
+ghost use Prim.Native.Nat.{_+_, _-_, _*_, _≤_, _<_};
 ghost use mathlib.Core.Path.{_≡_};
 ghost use mathlib.Core.List.{_∷_, [], _++_};
 ghost use lib.ListN.{length};
@@ -142,7 +142,7 @@ fn push_row(
 }
 
 // The bit of a field, in a mask whose top bit is field 0.
-fn bit(mask: usize, field: usize) -> usize
+pub fn bit(mask: usize, field: usize) -> usize
     requires { ⌜ field < 32 ⌝ }
     ensures { λ r. ⌜ r ≡ maskBit mask field ⌝ }
 {
@@ -160,13 +160,13 @@ fn put_field(area: &mut [u8], at: usize, mask: usize, field: usize) -> usize
     at
 }
 
-// The fields of a mask.
-fn put_fields(area: &mut [u8], at: usize, mask: usize) -> usize
-    requires { ⌜ at + length (fieldsFrom mask 0 32) ≤ length (now area) ⌝ }
-    ensures { λ r. ⌜ Wrote (now (area .entry)) at (fieldsFrom mask 0 32) (now (area .exit)) r ⌝ }
+// The fields of a mask, from one on.
+pub fn put_fields(area: &mut [u8], at: usize, mask: usize, first: usize) -> usize
+    requires { ⌜ (first ≤ 32) × (at + length (fieldsFrom mask first (32 - first)) ≤ length (now area)) ⌝ }
+    ensures { λ r. ⌜ Wrote (now (area .entry)) at (fieldsFrom mask first (32 - first)) (now (area .exit)) r ⌝ }
 {
     let mut next = at;
-    let mut field = 0;
+    let mut field = first;
     while field < 32 {
         next = put_field(area, next, mask, field);
         field += 1;
@@ -181,7 +181,7 @@ fn put_new(area: &mut [u8], at: usize, mask: usize) -> usize
 {
     let next = text::put_byte(area, at, tokens::NEW as u8);
     let next = text::put_byte(area, next, tokens::OPENING as u8);
-    let next = put_fields(area, next, mask);
+    let next = put_fields(area, next, mask, 0);
     text::put_byte(area, next, tokens::CLOSING as u8)
 }
 

@@ -13,7 +13,6 @@ pub mod Fine
 pub mod Named
 pub mod Segments
 pub mod Right
-pub mod RightTerms
 pub mod RightPlans
 pub mod Passes
 pub mod OneWay

@@ -27,7 +27,7 @@ put-fields-requires c κs =
     let s = c .before .before .before .before .before .before .before .before .before .before in
     let p = c .before .before .before .before .before .before .before .put-byte .ensures in
     let q = c .before .before .before .put-byte2 .ensures in
-    omega (arith, s .pre, new-length (s .args .mask), p .next, p .kept, q .next, q .kept)
+    (omega arith, omega (arith, s .pre, new-length (s .args .mask), p .next, p .kept, q .next, q .kept))
 
 cast-put-byte-3 : tie.Need-cast-put-byte-3
 cast-put-byte-3 c = search needs
