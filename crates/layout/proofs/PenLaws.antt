@@ -8,9 +8,9 @@ use mathlib.Core.Bool.{Bool, true, false, cond, _||_}
 use mathlib.Core.List.{List, [], _∷_}
 use lib.Dec.{eqb}
 use lib.ListN.{length, replicate}
-use Rattle.notation.specs.Tokens.{closing, inWord, elseWord, opening, letWord, ifWord, textOf}
+use Rattle.notation.specs.Tokens.{closing, inWord, elseWord, opening, letWord, ifWord, textEnd, textOf}
 use Rattle.notation.specs.Layout.{Pen, apart, depthBefore, depthAfter, indentation, onNewLine, gap, columnAfter, penAfter}
-use Rattle.notation.proofs.Widths.{indented}
+use Rattle.notation.proofs.Widths.{indented, column-below}
 use Rattle.layout.specs.declared.pen.Gap.{Gap}
 use Rattle.layout.specs.Pens.{gapBytes, Parts}
 
@@ -69,3 +69,13 @@ module _ (p : Pen) (t : ℕ) where
   pub pen-is : (k d : ℕ) → k ≡ columnAfter p t → d ≡ depthAfter p t → _≡_ {A = Pen} (record { column = k; depth = d; last = t }) (penAfter p t)
   unfolding penAfter
   pen-is k d e f = simp (e, f)
+
+  -- a pen behind the token
+  module _ (p′ : Pen) (e : p′ ≡ penAfter p t) where
+    pub next-column : t < textEnd → p′ .column < 100
+    unfolding penAfter
+    next-column h = omega (arith, ap (λ (q : Pen). q .column) e, column-below p t h)
+
+    pub next-depth : p′ .depth ≤ suc (p .depth)
+    unfolding penAfter
+    next-depth = omega (arith, ap (λ (q : Pen). q .depth) e, depth-after-below)
