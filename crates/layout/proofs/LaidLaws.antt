@@ -8,7 +8,7 @@ use mathlib.Core.List.{List, [], _∷_, _++_, append-assoc}
 use lib.ListN.{length, length-append, length-replicate, getD, drop, drop-of-length-le, replicate}
 use lib.Seq.{drop-cons}
 use Rattle.notation.specs.Tokens.{textOf}
-use Rattle.notation.specs.Layout.{Pen, gap, penAfter, laidFrom}
+use Rattle.notation.specs.Layout.{Pen, penAfter, laidFrom}
 use Rattle.layout.specs.declared.pen.Gap.{Gap}
 use Rattle.layout.specs.Pens.{gapBytes, Parts}
 

@@ -3,11 +3,10 @@ use Prim.Native.Nat.{ℕ, suc, _+_, _-_, _<_, _≤_}
 use native.Mathlib.Nat.{add-zero}
 use native.Mathlib.Numerals.{add-one}
 use native.Mathlib.Omega.{arith}
-use mathlib.Core.Path.{_≡_, refl, sym, ap, _∙_}
+use mathlib.Core.Path.{_≡_, sym, ap, _∙_}
 use mathlib.Core.Bool.{Bool, true, false, cond, _||_}
-use mathlib.Core.List.{List, [], _∷_}
 use lib.Dec.{eqb}
-use lib.ListN.{length, replicate}
+use lib.ListN.{length}
 use Rattle.notation.specs.Tokens.{closing, inWord, elseWord, opening, letWord, ifWord, textEnd, textOf}
 use Rattle.notation.specs.Layout.{Pen, apart, depthBefore, depthAfter, indentation, onNewLine, gap, columnAfter, penAfter}
 use Rattle.notation.proofs.Widths.{indented, column-below}

@@ -1,32 +1,21 @@
+-- `lay_out` meets its contract. The invariant: what is written, and the rest of the text, are the text. Assumes nothing.
+use Prim.Native.Nat.{ℕ, _-_, _≤_, _<_}
 use native.Mathlib.Nat.{zero-add}
-use mathlib.Core.Path.{_≡_, refl, sym, ap, _∙_}
-use Prim.Native.Nat.{ℕ, _+_, _-_, _*_, _≤_, _<_}
 use native.Mathlib.Omega.{arith}
-use native.Mathlib.Numerals.{add-one}
-use mathlib.Core.List.{List, [], _∷_, _++_}
-use lib.ListN.{length, getD, take, drop, replicate, length-append, length-replicate}
+use mathlib.Core.Path.{_≡_, sym, ap, _∙_}
+use mathlib.Core.List.{List, [], _++_}
+use lib.ListN.{length, drop, length-append}
+use borrow.Author.Needs.{needs}
 use Rattle.text.specs.Wrote.{Wrote}
 use Rattle.text.proofs.Added.{added-none, added-more, added-as, added-whole}
 use Rattle.format.specs.Area.{overwrite}
-use Rattle.notation.specs.Tokens.{textOf}
 use Rattle.notation.specs.Layout.{Pen, laidFrom, laidOut}
 use Rattle.notation.proofs.Widths.{few-bytes}
-use Rattle.layout.specs.Pens.{penOf, gapBytes}
+use Rattle.layout.specs.Pens.{penOf}
 use Rattle.layout.proofs.PenLaws.{next-column, next-depth}
 use Rattle.layout.proofs.LaidLaws.{laid-on, room, laid-none}
-use borrow.Author.Needs.{needs}
 use Rattle.layout.proofs.lay_out.Statement.{statement}
 use Rattle.layout.proofs.lay_out.Tie as tie
-use Rattle.layout.proofs.lay_out.Reads as reads
-use Rattle.layout.proofs.lay_out.Lts as lts
-use Rattle.layout.proofs.pen.after.Reads as after-reads
-use Rattle.layout.proofs.pen.gap_before.Reads as gap-before-reads
-use Rattle.layout.proofs.pen.start.Reads as start-reads
-use Rattle.layout.proofs.put_gap.Reads as put-gap-reads
-use Rattle.layout.proofs.put_token.Reads as put-token-reads
-use Rattle.layout.proofs.rows.rows.Reads as rows-reads
-use Rattle.layout.proofs.rows.width.Reads as width-reads
-use Rattle.text.proofs.put_byte.Reads as put-byte-reads
 
 abbrev Inv-loop : tie.InvT-loop
 Inv-loop tokens area₀ rows pen₀ at₀ index₀ area pen at index =
@@ -40,105 +29,150 @@ Inv-loop tokens area₀ rows pen₀ at₀ index₀ area pen at index =
 abbrev μ-loop : tie.MeasureT-loop
 μ-loop tokens area₀ rows pen₀ at₀ index₀ area pen at index = length tokens - index
 
--- src/lib.rt:82:16
 rows-requires : tie.Need-rows-requires Inv-loop μ-loop
 rows-requires c κs = search needs
 
--- src/lib.rt:83:9
 start-requires : tie.Need-start-requires Inv-loop μ-loop
 start-requires c κs = search needs
 
--- src/lib.rt:86:5
 loop-holds : tie.Need-loop-holds Inv-loop μ-loop
 unfolding laidOut
-loop-holds c = 
-    let e = c .start .ensures in
-    (omega arith, omega (arith, ap (λ (p : Pen). p .column) e), omega (arith, ap (λ (p : Pen). p .depth) e), [],
-    sym (ap (λ (p : Pen). laidFrom p (c .before .before .before .before .args .tokens .now)) e), added-none _ 0)
+loop-holds c =
+    let e = c .start .ensures in (
+      omega arith,
+      omega (arith, ap (λ (p : Pen). p .column) e),
+      omega (arith, ap (λ (p : Pen). p .depth) e),
+      [],
+      sym (ap (λ (p : Pen). laidFrom p (c .before .before .before .before .args .tokens .now)) e),
+      added-none _ 0,
+    )
 
--- src/lib.rt:87:21
 shared-slice-read-token : tie.Need-shared-slice-read-token Inv-loop μ-loop
 shared-slice-read-token c = search needs
 
--- src/lib.rt:88:13
 width-requires : tie.Need-width-requires Inv-loop μ-loop
-width-requires c κs = (c .before .before .before .before .before .rows .ensures, c .before .before .before .before .before .before .before .before .pre .0 .0 (c .before .before .before .loop .index))
+width-requires c κs = (
+  c .before .before .before .before .before .rows .ensures,
+  c .before .before .before .before .before .before .before .before .pre .0 .0
+      (c .before .before .before .loop .index),
+)
 
--- src/lib.rt:89:13
 gap-before-requires : tie.Need-gap-before-requires Inv-loop μ-loop
-gap-before-requires c κs = 
-    let l = c .before .before .before .before .loop in
-    (c .width .ensures, omega (arith, c .width .ensures, few-bytes _ (c .before .before .before .before .before .before .before .before .before .pre .0 .0 (l .index))), l .inv .1)
+gap-before-requires c κs =
+    let l = c .before .before .before .before .loop in (
+      c .width .ensures,
+      omega (
+        arith,
+        c .width .ensures,
+        few-bytes _
+            (c .before .before .before .before .before .before .before .before .before .pre .0 .0 (l .index)),
+      ),
+      l .inv .1,
+    )
 
--- src/lib.rt:90:9
 put-gap-requires : tie.Need-put-gap-requires Inv-loop μ-loop
-put-gap-requires c κs = 
+put-gap-requires c κs =
     let s = c .before .before .before .before .before .before .before .before .before .before .before in
     let l = c .before .before .before .before .before .before .loop in
     let g = c .before .gap-before in
-    omega (arith, s .pre .1, l .inv .5 .next, l .inv .5 .kept,
-    room (s .args .tokens .now) (l .index) (penOf (l .pen)) (c .before .before .before .before .before .loop-test .taken) (g .result) (g .ensures) _ (l .inv .3) (l .inv .4))
+    omega (
+      arith,
+      s .pre .1,
+      l .inv .5 .next,
+      l .inv .5 .kept,
+      room (s .args .tokens .now) (l .index) (penOf (l .pen)) (c .before .before .before .before .before .loop-test .taken) (g .result) (g .ensures) _
+          (l .inv .3) (l .inv .4),
+    )
 
--- src/lib.rt:91:9
 put-token-requires : tie.Need-put-token-requires Inv-loop μ-loop
-put-token-requires c κs = 
-    let s = c .before .before .before .before .before .before .before .before .before .before .before .before .before .before .before .before in
-    let l = c .before .before .before .before .before .before .before .before .before .before .before .loop in
+put-token-requires c κs =
+    let at = c .before .before .before .before .before .before .before .before .before .before .before in
+    let s = at .before .before .before .before .before in
+    let l = at .loop in
     let g = c .before .before .before .before .before .before .gap-before in
-    let w = c .before .before .before .before .put-gap .ensures in
-    (c .before .before .before .before .before .before .before .before .before .before .before .before .before .rows .ensures, (s .pre .0 .0 (l .index), c .before .before .before .before .before .before .before .width .ensures,
-    omega (arith, s .pre .1, l .inv .5 .next, l .inv .5 .kept, w .next, w .kept, c .before .before .before .before .before .before .before .width .ensures,
-    room (s .args .tokens .now) (l .index) (penOf (l .pen)) (c .before .before .before .before .before .before .before .before .before .before .loop-test .taken) (g .result) (g .ensures) _ (l .inv .3) (l .inv .4))))
+    let w = c .before .before .before .before .put-gap .ensures in (
+      c .before .before .before .before .before .before .before .before .before .before .before .before .before .rows .ensures,
+      (
+        s .pre .0 .0 (l .index),
+        c .before .before .before .before .before .before .before .width .ensures,
+        omega (
+          arith,
+          s .pre .1,
+          l .inv .5 .next,
+          l .inv .5 .kept,
+          w .next,
+          w .kept,
+          c .before .before .before .before .before .before .before .width .ensures,
+          room (s .args .tokens .now) (l .index) (penOf (l .pen))
+              (c .before .before .before .before .before .before .before .before .before .before .loop-test .taken) (g .result) (g .ensures) _ (l .inv .3)
+              (l .inv .4),
+        ),
+      ),
+    )
 
--- src/lib.rt:92:9
 after-requires : tie.Need-after-requires Inv-loop μ-loop
-after-requires c κs = 
-    let s = c .before .before .before .before .before .before .before .before .before .before .before .before .before .before .before .before .before .before .before in
-    let l = c .before .before .before .before .before .before .before .before .before .before .before .before .before .before .loop in
-    let w = c .before .before .before .before .before .before .before .before .before .before .width .ensures in
-    ((w, omega (arith, w, few-bytes _ (s .pre .0 .0 (l .index))), l .inv .1, omega (arith, l .inv .2, c .before .before .before .before .before .before .before .before .before .before .before .before .before .loop-test .taken, s .pre .0 .1)),
-    c .before .before .before .before .before .before .before .before .before .gap-before .ensures)
+after-requires c κs =
+    let at = c .before .before .before .before .before .before .before .before .before .before .before .before .before .before in
+    let s = at .before .before .before .before .before in
+    let l = at .loop in
+    let t = c .before .before .before .before .before .before .before .before .before .before .before .before .before .loop-test .taken in
+    let w = c .before .before .before .before .before .before .before .before .before .before .width .ensures in (
+      (
+        w,
+        omega (arith, w, few-bytes _ (s .pre .0 .0 (l .index))),
+        l .inv .1,
+        omega (arith, l .inv .2, t, s .pre .0 .1),
+      ),
+      c .before .before .before .before .before .before .before .before .before .gap-before .ensures,
+    )
 
--- src/lib.rt:93:9
 add-index : tie.Need-add-index Inv-loop μ-loop
 add-index c = search needs
 
--- src/lib.rt:86:5
 loop-less : tie.Need-loop-less Inv-loop μ-loop
 loop-less c = search needs
 
--- src/lib.rt:86:5
 loop-again : tie.Need-loop-again Inv-loop μ-loop
-loop-again c = 
-    let s = c .before .before .before .before .before .before .before .before .before .before .before .before .before .before .before .before .before .before .before .before in
-    let l = c .before .before .before .before .before .before .before .before .before .before .before .before .before .before .before .loop in
+loop-again c =
+    let at = c .before .before .before .before .before .before .before .before .before .before .before .before .before .before .before in
+    let s = at .before .before .before .before .before in
+    let l = at .loop in
     let t = c .before .before .before .before .before .before .before .before .before .before .before .before .before .before .loop-test .taken in
     let g = c .before .before .before .before .before .before .before .before .before .before .gap-before in
-    let e = c .after .ensures in
-    (omega (arith, t), next-column _ _ _ e (s .pre .0 .0 (l .index)), omega (arith, l .inv .2, next-depth _ _ _ e), _,
-    laid-on (s .args .tokens .now) (l .index) (penOf (l .pen)) t (g .result) (g .ensures) (penOf (c .after .result)) e _ (l .inv .3) (l .inv .4),
-    added-more (added-more (l .inv .5) (c .before .before .before .before .before .before .before .before .put-gap .ensures)) (c .before .before .before .put-token .ensures))
+    let e = c .after .ensures in (
+      omega (arith, t),
+      next-column _ _ _ e (s .pre .0 .0 (l .index)),
+      omega (arith, l .inv .2, next-depth _ _ _ e),
+      _,
+      laid-on (s .args .tokens .now) (l .index) (penOf (l .pen)) t (g .result) (g .ensures) (penOf (c .after .result)) e _ (l .inv .3) (l .inv .4),
+      added-more (added-more (l .inv .5) (c .before .before .before .before .before .before .before .before .put-gap .ensures))
+          (c .before .before .before .put-token .ensures),
+    )
 
--- src/lib.rt:95:5
 put-byte-requires : tie.Need-put-byte-requires Inv-loop μ-loop
-put-byte-requires c κs = 
+put-byte-requires c κs =
     let s = c .before .before .before .before .before .before .before in
     let l = c .before .before .loop in
-    omega (arith, s .pre .1, l .inv .5 .next, l .inv .5 .kept, ap length (l .inv .4),
-    length-append (l .inv .3) (laidFrom (penOf (l .pen)) (drop (l .index) (s .args .tokens .now))),
-    ap length (laid-none (s .args .tokens .now) (l .index) (penOf (l .pen)) (c .before .loop-test .left)))
+    omega (
+      arith,
+      s .pre .1,
+      l .inv .5 .next,
+      l .inv .5 .kept,
+      ap length (l .inv .4),
+      length-append (l .inv .3) (laidFrom (penOf (l .pen)) (drop (l .index) (s .args .tokens .now))),
+      ap length (laid-none (s .args .tokens .now) (l .index) (penOf (l .pen)) (c .before .loop-test .left)),
+    )
 
--- src/lib.rt:77:1
 same-length : tie.Need-same-length Inv-loop μ-loop
 same-length c = c .before .before .put-byte .ensures .kept ∙ c .before .before .before .before .before .loop .inv .5 .kept
 
--- src/lib.rt:77:1
 returns : tie.Need-returns Inv-loop μ-loop
 unfolding overwrite
-returns c = 
+returns c =
     let s = c .before .before .before .before .before .before .before .before .before .before in
     let l = c .before .before .before .before .before .loop in
-    let e = l .inv .4 ∙ ap (λ (xs : List ℕ). l .inv .3 ++ xs) (laid-none (s .args .tokens .now) (l .index) (penOf (l .pen)) (c .before .before .before .before .loop-test .left)) in
+    let e = l .inv .4 ∙ ap (λ (xs : List ℕ). l .inv .3 ++ xs)
+    (laid-none (s .args .tokens .now) (l .index) (penOf (l .pen)) (c .before .before .before .before .loop-test .left)) in
     let w = added-as (sym e) (added-more (l .inv .5) (c .before .before .put-byte .ensures)) in
     added-whole w ∙ ap (λ (n : ℕ). laidOut (s .args .tokens .now) ++ drop n (s .args .area .now)) (w .next ∙ zero-add _)
 

@@ -1,18 +1,13 @@
-use mathlib.Core.Path.{_≡_, refl, sym, ap, _∙_}
-use Prim.Native.Nat.{ℕ, _+_, _-_, _*_, _≤_, _<_}
+-- `put_spaces` meets its contract. The invariant: so many spaces are behind the text. Assumes nothing.
+use Prim.Native.Nat.{ℕ, _-_, _≤_}
 use native.Mathlib.Omega.{arith}
-use native.Mathlib.Numerals.{add-one}
-use mathlib.Core.List.{List, [], _∷_, _++_}
-use lib.ListN.{length, getD, take, drop, replicate}
+use mathlib.Core.Path.{_≡_, ap}
+use lib.ListN.{replicate, length-replicate, replicate-append-replicate}
+use borrow.Author.Needs.{needs}
 use Rattle.text.specs.Wrote.{Wrote}
 use Rattle.text.proofs.Added.{added-none, added-more, added-as}
-use lib.ListN.{length-replicate, replicate-append-replicate}
-use borrow.Author.Needs.{needs}
 use Rattle.layout.proofs.put_spaces.Statement.{statement}
 use Rattle.layout.proofs.put_spaces.Tie as tie
-use Rattle.layout.proofs.put_spaces.Reads as reads
-use Rattle.layout.proofs.put_spaces.Lts as lts
-use Rattle.text.proofs.put_byte.Reads as put-byte-reads
 
 abbrev Inv-loop : tie.InvT-loop
 Inv-loop area₀ at count next₀ written₀ area next written = (written ≤ count) × Wrote area₀ at (replicate written 32) area next
@@ -20,37 +15,30 @@ Inv-loop area₀ at count next₀ written₀ area next written = (written ≤ co
 abbrev μ-loop : tie.MeasureT-loop
 μ-loop area₀ at count next₀ written₀ area next written = count - written
 
--- src/lib.rt:44:5
 loop-holds : tie.Need-loop-holds Inv-loop μ-loop
 loop-holds c = (search needs, added-none _ _)
 
--- src/lib.rt:45:9
 put-byte-requires : tie.Need-put-byte-requires Inv-loop μ-loop
-put-byte-requires c κs = 
+put-byte-requires c κs =
     let l = c .before .before .loop in
     omega (arith, l .inv .1 .next, l .inv .1 .kept, c .before .loop-test .taken, length-replicate {A = ℕ} (l .written) 32)
 
--- src/lib.rt:46:9
 add-written : tie.Need-add-written Inv-loop μ-loop
 add-written c = search needs
 
--- src/lib.rt:44:5
 loop-less : tie.Need-loop-less Inv-loop μ-loop
 loop-less c = search needs
 
--- src/lib.rt:44:5
 loop-again : tie.Need-loop-again Inv-loop μ-loop
-loop-again c = 
+loop-again c =
     let l = c .before .before .before .before .before .loop in
     (search needs, added-as (replicate-append-replicate (l .written) 1 32) (added-more (l .inv .1) (c .before .before .put-byte .ensures)))
 
--- src/lib.rt:38:1
 same-length : tie.Need-same-length Inv-loop μ-loop
 same-length c = c .before .loop .inv .1 .kept
 
--- src/lib.rt:38:1
 returns : tie.Need-returns Inv-loop μ-loop
-returns c = 
+returns c =
     let l = c .before .loop in
     let e : l .written ≡ c .before .before .before .args .count = omega (arith, l .inv .0, c .loop-test .left) in
     added-as (ap (λ (n : ℕ). replicate n 32) e) (l .inv .1)

@@ -1,40 +1,30 @@
-use mathlib.Core.Path.{_≡_, refl, sym, ap, _∙_}
+-- `byte_of` meets its contract: the numbers behind the first. Assumes nothing.
 use Prim.Native.Nat.{ℕ, _+_}
 use native.Mathlib.Omega.{arith}
-use native.Mathlib.Numerals.{add-one}
+use mathlib.Core.Path.{ap, _∙_}
 use mathlib.Core.List.{List, []}
-use lib.ListN.{length, getD}
-use Rattle.layout.specs.Rows.{textRows}
-use Rattle.layout.proofs.RowLaws.{first-is, byte-is}
-use Rattle.notation.proofs.Widths.{few-bytes}
+use lib.ListN.{getD}
 use borrow.Author.Needs.{needs}
+use Rattle.notation.proofs.Widths.{few-bytes}
+use Rattle.layout.proofs.RowLaws.{byte-is}
 use Rattle.layout.proofs.rows.byte_of.Statement.{statement}
 use Rattle.layout.proofs.rows.byte_of.Tie as tie
-use Rattle.layout.proofs.rows.byte_of.Reads as reads
-use Rattle.layout.proofs.rows.byte_of.Lts as lts
-use Rattle.byte_numbers.proofs.wide.Reads as wide-reads
 
--- src/rows.rt:109:10
 wide-requires : tie.Need-wide-requires
 wide-requires c κs = search needs
 
--- src/rows.rt:109:23
 add-result : tie.Need-add-result
 add-result c = record { fits = omega (arith, c .before .pre .1 .1, few-bytes (c .before .args .token) (c .before .pre .1 .0)) }
 
--- src/rows.rt:109:5
 mul-result : tie.Need-mul-result
 mul-result c = search needs
 
--- src/rows.rt:109:5
 index-1-result : tie.Need-index-1-result
 index-1-result c = search needs
 
--- src/rows.rt:109:5
 index-2-result : tie.Need-index-2-result
 index-2-result c = omega (arith, c .before .pre .1 .1, few-bytes (c .before .args .token) (c .before .pre .1 .0))
 
--- src/rows.rt:104:1
 returns : tie.Need-returns
 returns c =
     let s = c .before .before in

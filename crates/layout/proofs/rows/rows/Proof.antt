@@ -1,21 +1,11 @@
-use mathlib.Core.Path.{_≡_, refl, sym, ap, _∙_}
-use Prim.Native.Nat.{ℕ, _+_}
-use native.Mathlib.Omega.{arith}
-use native.Mathlib.Numerals.{add-one}
-use mathlib.Core.List.{List, []}
-use lib.ListN.{length, getD}
-use Rattle.layout.specs.Rows.{textRows}
-use Rattle.layout.proofs.RowLaws.{first-is, byte-is}
-use Rattle.notation.proofs.Widths.{few-bytes}
+-- `rows`: the rows of the code and those of the texts, each computed, are the same. Assumes nothing.
+use mathlib.Core.Path.{refl}
 use Rattle.notation.specs.Tokens.{texts}
 use Rattle.text.specs.Text.{ascii}
-use borrow.Author.Needs.{needs}
+use Rattle.layout.specs.Rows.{textRows}
 use Rattle.layout.proofs.rows.rows.Statement.{statement}
 use Rattle.layout.proofs.rows.rows.Tie as tie
-use Rattle.layout.proofs.rows.rows.Reads as reads
-use Rattle.layout.proofs.rows.rows.Lts as lts
 
--- src/rows.rt:88:1
 returns : tie.Need-returns
 unfolding textRows texts ascii
 returns c = refl
