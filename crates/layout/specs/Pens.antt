@@ -1,4 +1,4 @@
--- Where writing stands, and what stands before a token, as the code keeps both, for inner contracts: no reader of an entry's promise needs it. Assumes nothing.
+-- Where writing stands and what stands before a token, as the code keeps both, for inner contracts: no reader of an entry's promise needs it. Assumes nothing.
 use Prim.Native.Nat.{ℕ, _+_, _≤_}
 use mathlib.Core.Path.{_≡_}
 use mathlib.Core.Bool.{cond}

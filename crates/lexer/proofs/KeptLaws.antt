@@ -28,7 +28,9 @@ module _ (before : List ℕ) (n t : ℕ) where
     one area codes k = simp (ne-eqb t 71 some) k
 
     pub adds-full : length before ≤ n → Adds before n (coded t) before (length before + 1)
-    adds-full h area codes k = one area codes (record { fits = λ g. absurd (by (decLe (length codes) (length area)) g); full = λ g. omega (arith, k .same); same = k .same })
+    adds-full h area codes k =
+        one area codes
+        (record { fits = λ g. absurd (by (decLe (length codes) (length area)) g); full = λ g. omega (arith, k .same); same = k .same })
       where
         by : Dec (length codes ≤ length area) → length (codes ++ (t ∷ [])) ≤ length area → ⊥
         by (yes f) g = omega (arith, k .fits f .0, k .same, length-append codes (t ∷ []))
@@ -41,8 +43,9 @@ module _ (before : List ℕ) (n t : ℕ) where
         by (yes f) =
             let e = k .fits f in
             let room : length codes < length area = omega (arith, e .0, k .same) in
+            let next = ap (λ (m : ℕ). set before m t) (e .0) ∙ ap (λ (l : List ℕ). set l (length codes) t) (e .1) ∙ overwrite-next codes area t room in
             one area codes (record {
-              fits = λ g. (omega (arith, e .0, length-append codes (t ∷ [])), ap (λ (m : ℕ). set before m t) (e .0) ∙ ap (λ (l : List ℕ). set l (length codes) t) (e .1) ∙ overwrite-next codes area t room);
+              fits = λ g. (omega (arith, e .0, length-append codes (t ∷ [])), next);
               full = λ g. absurd (omega (arith, length-append codes (t ∷ [])));
               same = length-set before n t ∙ k .same;
             })

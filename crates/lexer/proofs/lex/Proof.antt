@@ -73,7 +73,8 @@ loop-again c =
     let y = c .before .before .before .before .before .ended-with in (
       omega arith,
       _,
-      l .inv .2 ∙ codes-on (l .inv .1) _ (x .result) (y .result) _ (one-byte _ (l .index) (begunOf (l .begun)) (t .loop-test .taken) (begunOf (c .after .result)) _ _ (x .ensures) (y .ensures) (c .after .ensures)),
+      l .inv .2 ∙ codes-on (l .inv .1) _ (x .result) (y .result) _
+          (one-byte _ (l .index) (begunOf (l .begun)) (t .loop-test .taken) (begunOf (c .after .result)) _ _ (x .ensures) (y .ensures) (c .after .ensures)),
       c .before .before .before .put2 .ensures _ _ (c .before .before .before .before .before .before .before .before .put .ensures _ _ (l .inv .3)),
     )
 
@@ -96,7 +97,9 @@ unfolding coded
 returns c =
     let l = c .before .before .before .before .before .before .before .before .before .before .before .loop in
     let z = c .before .before .before .before .before .before .before .before .ended-last in
-    kept-as (sym (l .inv .2 ∙ codes-last (l .inv .1) _ (z .result) _ (no-byte _ (l .index) (begunOf (l .begun)) (c .before .before .before .before .before .before .before .before .before .before .loop-test .left) _ (z .ensures))))
+    kept-as (sym (l .inv .2 ∙ codes-last (l .inv .1) _ (z .result) _
+    (no-byte _ (l .index) (begunOf (l .begun)) (c .before .before .before .before .before .before .before .before .before .before .loop-test .left) _
+    (z .ensures))))
     (c .before .before .put4 .ensures _ _ (c .before .before .before .before .before .before .put3 .ensures _ _ (l .inv .3)))
 
 pub lex-spec : {M : Type 1} → statement M

@@ -30,7 +30,8 @@ returns-2 : tie.Need-returns-2
 unfolding begunOf
 returns-2 c =
     let a = c .before .before .before .before .before .args in
-    simp (c .before .before .before .begun .given .1, c .grown .ensures) (longer (a .byte) (a .class) (search needs) (c .before .before .before .before .before .pre) (c .before .if2 .taken) _ _ (a .place))
+    simp (c .before .before .before .begun .given .1, c .grown .ensures)
+    (longer (a .byte) (a .class) (search needs) (c .before .before .before .before .before .pre) (c .before .if2 .taken) _ _ (a .place))
 
 begins-requires-2 : tie.Need-begins-requires-2
 begins-requires-2 c κs = search needs
@@ -59,13 +60,15 @@ returns-6 : tie.Need-returns-6
 unfolding begunOf
 returns-6 c =
     let a = c .before .before .before .before .before .args in
-    simp (c .before .before .before .begun .given .1, c .begins2 .ensures) (from-name (a .byte) (a .class) (search needs) (c .before .before .before .before .before .pre) (c .before .if2 .left) _ _ (a .place))
+    simp (c .before .before .before .begun .given .1, c .begins2 .ensures)
+    (from-name (a .byte) (a .class) (search needs) (c .before .before .before .before .before .pre) (c .before .if2 .left) _ _ (a .place))
 
 returns-7 : tie.Need-returns-7
 unfolding begunOf
 returns-7 c =
     let a = c .before .before .before .before .args in
-    simp (c .before .before .enum-told3 .given .1, c .begins3 .ensures) (from-colon (a .byte) (a .class) (search needs) (c .before .before .before .before .pre) (c .before .if3 .left) _ (a .place))
+    simp (c .before .before .enum-told3 .given .1, c .begins3 .ensures)
+    (from-colon (a .byte) (a .class) (search needs) (c .before .before .before .before .pre) (c .before .if3 .left) _ (a .place))
 
 pub after-spec : {M : Type 1} → statement M
 after-spec =

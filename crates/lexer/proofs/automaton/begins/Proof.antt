@@ -18,7 +18,13 @@ wide-requires c κs = search needs
 
 returns-3 : tie.Need-returns-3
 unfolding begunOf beginsBy
-returns-3 c = simp (ne-eqb _ _ (c .before .before .before .if1 .left), ne-eqb _ _ (c .before .before .if2 .left), lt-ltb _ _ (c .before .if3 .taken), c .wide .ensures .0)
+returns-3 c =
+    simp (
+      ne-eqb _ _ (c .before .before .before .if1 .left),
+      ne-eqb _ _ (c .before .before .if2 .left),
+      lt-ltb _ _ (c .before .if3 .taken),
+      c .wide .ensures .0,
+    )
 
 returns-4 : tie.Need-returns-4
 unfolding begunOf beginsBy

@@ -20,7 +20,8 @@ returns : tie.Need-returns
 unfolding begunOf
 returns c =
     let a = c .before .before .before .before .before .args in
-    listed-none _ (c .token-at .ensures .0) ∙ simp (c .before .before .before .begun .given .1) (within (a .byte) (a .class) (search needs) (c .before .before .before .before .before .pre .1) (c .before .if1 .taken) _ _)
+    listed-none _ (c .token-at .ensures .0) ∙ simp (c .before .before .before .begun .given .1)
+    (within (a .byte) (a .class) (search needs) (c .before .before .before .before .before .pre .1) (c .before .if1 .taken) _ _)
 
 token-of-requires : tie.Need-token-of-requires
 token-of-requires c κs = search needs
@@ -58,11 +59,14 @@ unfolding begunOf
 returns-3 c =
     let a = c .before .before .before .before .before .before .args in
     listed-one _ _ _ (c .token-at2 .ensures .0 ∙ c .before .token-of .ensures) (c .token-at2 .ensures .1) (name-below _)
-    ∙ simp (c .before .before .before .before .begun .given .1) (name-ends (a .byte) (a .class) (search needs) (c .before .before .before .before .before .before .pre .1) (c .before .before .if1 .left) _ _)
+    ∙ simp (c .before .before .before .before .begun .given .1)
+    (name-ends (a .byte) (a .class) (search needs) (c .before .before .before .before .before .before .pre .1) (c .before .before .if1 .left) _ _)
 
 returns-4 : tie.Need-returns-4
 unfolding begunOf beforeOf
-returns-4 c = listed-one _ _ _ (c .token-at4 .ensures .0) (c .token-at4 .ensures .1) (omega arith) ∙ simp (c .before .before .before .begun2 .given .1, ne-eqb _ _ (c .before .if2 .left))
+returns-4 c =
+    listed-one _ _ _ (c .token-at4 .ensures .0) (c .token-at4 .ensures .1) (omega arith)
+    ∙ simp (c .before .before .before .begun2 .given .1, ne-eqb _ _ (c .before .if2 .left))
 
 returns-5 : tie.Need-returns-5
 unfolding begunOf beforeOf

@@ -38,7 +38,9 @@ token-at-requires-4 c κs = search needs
 
 returns : tie.Need-returns
 unfolding begunOf endedAtEnd
-returns c = listed-one _ _ _ (c .token-at .ensures .0 ∙ c .before .token-of .ensures) (c .token-at .ensures .1) (name-below (c .before .before .before .begun .given .0 .1 .0)) ∙ simp (c .before .before .before .begun .given .1)
+returns c =
+    listed-one _ _ _ (c .token-at .ensures .0 ∙ c .before .token-of .ensures) (c .token-at .ensures .1)
+    (name-below (c .before .before .before .begun .given .0 .1 .0)) ∙ simp (c .before .before .before .begun .given .1)
 
 returns-2 : tie.Need-returns-2
 unfolding begunOf endedAtEnd

@@ -24,7 +24,9 @@ token-at-requires-2 c κs = search needs
 
 returns : tie.Need-returns
 unfolding begunOf withOf
-returns c = listed-one _ _ _ (c .token-at2 .ensures .0) (c .token-at2 .ensures .1) (omega arith) ∙ simp (c .before .before .before .begun .given .1, eq-eqb _ _ (c .before .if1 .taken))
+returns c =
+    listed-one _ _ _ (c .token-at2 .ensures .0) (c .token-at2 .ensures .1) (omega arith)
+    ∙ simp (c .before .before .before .begun .given .1, eq-eqb _ _ (c .before .if1 .taken))
 
 alone-requires : tie.Need-alone-requires
 alone-requires c κs = let s = c .before .before .before .before in omega (arith, s .pre, class-below (s .args .byte) (search needs))

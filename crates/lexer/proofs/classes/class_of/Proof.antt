@@ -15,7 +15,9 @@ element-copy-out-result c = search needs
 
 returns : tie.Need-returns
 unfolding Classed
-returns c = ap (λ (k : ℕ). getD (c .before .before .args .classes .now) k 0) (c .before .wide .ensures .0) ∙ c .before .before .pre (c .before .before .args .byte) (search needs)
+returns c =
+    ap (λ (k : ℕ). getD (c .before .before .args .classes .now) k 0) (c .before .wide .ensures .0) ∙ c .before .before .pre
+    (c .before .before .args .byte) (search needs)
 
 pub class-of-spec : {M : Type 1} → statement M
 class-of-spec = tie.close (tie.spec wide-requires element-copy-out-result returns)

@@ -44,7 +44,8 @@ hits-requires c κs = search needs
 returns : tie.Need-returns Inv-loop μ-loop
 returns c = let l = c .before .before .before .before .before .before .before .before .loop in
     let x = c .before .before .ended-before in
-    sought-before _ (l .index) (begunOf (l .begun)) (l .left) (c .before .before .before .before .before .before .before .loop-test .taken) (x .result) (x .ensures) (sym (c .before .hits .ensures) ∙ c .if1 .taken)
+    sought-before _ (l .index) (begunOf (l .begun)) (l .left) (c .before .before .before .before .before .before .before .loop-test .taken) (x .result)
+    (x .ensures) (sym (c .before .hits .ensures) ∙ c .if1 .taken)
     ∙ sym (l .inv .1)
 
 behind-requires : tie.Need-behind-requires Inv-loop μ-loop
@@ -60,8 +61,10 @@ returns-2 : tie.Need-returns-2 Inv-loop μ-loop
 returns-2 c = let l = c .before .before .before .before .before .before .before .before .before .before .before .before .loop in
     let x = c .before .before .before .before .before .before .ended-before in
     let y = c .before .before .ended-with in
-    sought-with _ (l .index) (begunOf (l .begun)) (l .left) (c .before .before .before .before .before .before .before .before .before .before .before .loop-test .taken) (x .result) (x .ensures)
-    (sym (c .before .before .before .before .before .hits .ensures) ∙ c .before .before .before .before .if1 .left) _ (c .before .before .before .behind .ensures) (y .result) (y .ensures)
+    sought-with _ (l .index) (begunOf (l .begun)) (l .left)
+    (c .before .before .before .before .before .before .before .before .before .before .before .loop-test .taken) (x .result) (x .ensures)
+    (sym (c .before .before .before .before .before .hits .ensures) ∙ c .before .before .before .before .if1 .left) _
+    (c .before .before .before .behind .ensures) (y .result) (y .ensures)
     (sym (c .before .hits2 .ensures) ∙ c .if2 .taken)
     ∙ sym (l .inv .1)
 
@@ -83,9 +86,14 @@ loop-again c = let l = c .before .before .before .before .before .before .before
     let y = c .before .before .before .before .ended-with in (
       omega (arith, c .before .before .before .before .before .before .before .before .before .before .before .before .before .loop-test .taken),
       l .inv .1
-          ∙ sought-behind _ (l .index) (begunOf (l .begun)) (l .left) (c .before .before .before .before .before .before .before .before .before .before .before .before .before .loop-test .taken) (x .result) (x .ensures)
-          (sym (c .before .before .before .before .before .before .before .hits .ensures) ∙ c .before .before .before .before .before .before .if1 .left) _ (c .before .before .before .before .before .behind .ensures) (y .result) (y .ensures)
-          (sym (c .before .before .before .hits2 .ensures) ∙ c .before .before .if2 .left) _ (c .before .behind2 .ensures) (begunOf (c .after .result)) (c .after .ensures),
+          ∙ sought-behind _ (l .index) (begunOf (l .begun)) (l .left)
+          (c .before .before .before .before .before .before .before .before .before .before .before .before .before .loop-test .taken) (x .result)
+          (x .ensures)
+          (sym (c .before .before .before .before .before .before .before .hits .ensures)
+          ∙ c .before .before .before .before .before .before .if1 .left) _ (c .before .before .before .before .before .behind .ensures) (y .result)
+          (y .ensures)
+          (sym (c .before .before .before .hits2 .ensures) ∙ c .before .before .if2 .left) _ (c .before .behind2 .ensures) (begunOf (c .after .result))
+          (c .after .ensures),
     )
 
 ended-last-requires : tie.Need-ended-last-requires Inv-loop μ-loop
@@ -97,13 +105,15 @@ hits-requires-3 c κs = search needs
 returns-3 : tie.Need-returns-3 Inv-loop μ-loop
 returns-3 c = let l = c .before .before .before .before .before .loop in
     let x = c .before .before .ended-last in
-    sought-last _ (l .index) (begunOf (l .begun)) (l .left) (c .before .before .before .before .loop-test .left) (x .result) (x .ensures) (sym (c .before .hits3 .ensures) ∙ c .if3 .taken)
+    sought-last _ (l .index) (begunOf (l .begun)) (l .left) (c .before .before .before .before .loop-test .left) (x .result) (x .ensures)
+    (sym (c .before .hits3 .ensures) ∙ c .if3 .taken)
     ∙ sym (l .inv .1)
 
 returns-4 : tie.Need-returns-4 Inv-loop μ-loop
 returns-4 c = let l = c .before .before .before .before .before .loop in
     let x = c .before .before .ended-last in
-    sought-end _ (l .index) (begunOf (l .begun)) (l .left) (c .before .before .before .before .loop-test .left) (x .result) (x .ensures) (l .inv .0) (sym (c .before .hits3 .ensures) ∙ c .if3 .left)
+    sought-end _ (l .index) (begunOf (l .begun)) (l .left) (c .before .before .before .before .loop-test .left) (x .result) (x .ensures) (l .inv .0)
+    (sym (c .before .hits3 .ensures) ∙ c .if3 .left)
     ∙ sym (l .inv .1)
 
 pub first-byte-spec : {M : Type 1} → statement M

@@ -22,7 +22,8 @@ spot-after-requires c κs = search needs
 returns : tie.Need-returns
 unfolding placeOf
 returns c =
-    let e = ap (λ (k : ℕ). placeAfter (take k (c .before .before .before .before .before .args .text .now))) (c .before .before .before .first-byte .ensures) in
+    let e = ap (λ (k : ℕ). placeAfter (take k (c .before .before .before .before .before .args .text .now)))
+    (c .before .before .before .first-byte .ensures) in
     (c .spot-after .ensures .0 ∙ ap (λ (p : Place). p .line) e, c .spot-after .ensures .1 ∙ ap (λ (p : Place). p .column) e)
 
 spot-after-requires-2 : tie.Need-spot-after-requires-2

@@ -42,7 +42,13 @@ loop-again c =
     let t = c .before .before .loop-test .taken in
     ⊎-elim
     (λ w. (omega arith, omega (arith, w .1), omega (arith, w .2), simp (w .1, w .2) (l .inv .3 ∙ new-line _ (l .index) (l .line) (l .column) t (w .0 .taken))))
-    (λ w. (omega arith, omega (arith, w .1), omega (arith, w .2), simp (w .1, w .2) (l .inv .3 ∙ next-column _ (l .index) (l .line) (l .column) t (w .0 .left))))
+    (λ w. (
+      omega arith,
+      omega (arith, w .1),
+      omega (arith, w .2),
+      simp (w .1, w .2)
+          (l .inv .3 ∙ next-column _ (l .index) (l .line) (l .column) t (w .0 .left)),
+    ))
     (c .if1 .came)
 
 returns : tie.Need-returns Inv-loop μ-loop
