@@ -150,11 +150,14 @@ module _ (plan words : List ℕ) (r : Given plan words) where
       ap₂ (λ (v : ℕ) (ts : List ℕ). versionWord ∷ v ∷ volatileTokens (fieldsFrom (volatiles plan) 1 31) ++ ts) (sym version-is) (sym main-is)
       ∙ ap (λ (m : ℕ). versionWord ∷ versionNumber (programOf plan .version) ∷ volatileTokens (fieldsFrom m 1 31) ++ mainFirst (programOf plan .procedures)) (sym (mask-is plan (r .passes)))
 
+  pub plan-few : length (shownPlan (programOf plan)) ≤ 11490
+  plan-few = plan-fit (programOf plan) (right-program plan (r .passes)) .few
+
   whole-length : length (headerTokens plan) + (length main + length (proceduresBehind plan)) ≤ 11490
   whole-length =
       let a = ap length (sym whole-is) ∙ length-append (headerTokens plan) (main ++ proceduresBehind plan) in
       let b = length-append main (proceduresBehind plan) in
-      omega (arith, plan-fit (programOf plan) (right-program plan (r .passes)) .few, a, b)
+      omega (arith, plan-few, a, b)
 
   -- there is room for each part
   pub room-for-header : (n : ℕ) → 16384 ≤ n → length (headerTokens plan) ≤ n
