@@ -1,19 +1,19 @@
 -- Tokens that are read as an operand: in parentheses, up to where it ends, and behind the words that begin a form. Assumes nothing.
-use Prim.Native.Nat.{ℕ, zero, suc, _+_, _-_, _*_, _≤_, _<_}
+use Prim.Native.Nat.{ℕ, _+_, _*_, _≤_, _<_}
 use native.Mathlib.Decide.{decLt}
 use native.Mathlib.Omega.{arith}
-use mathlib.Core.Path.{_≡_, refl, sym, ap, _∙_}
-use mathlib.Core.Bool.{Bool, true, false, cond, not, _&&_, _||_, and-false, true≢false}
+use mathlib.Core.Path.{_≡_, refl}
+use mathlib.Core.Bool.{Bool, true, false, cond, _&&_, and-false}
 use mathlib.Core.List.{List, [], _∷_, _++_, append-assoc}
 use lib.Dec.{eqb, ltb, leb}
-use lib.ListN.{length, getD}
-use borrow.Author.Tests.{le-leb, lt-ltb, le-ltb, ltb-true, ltb-false, eq-eqb, ne-eqb}
-use Rattle.packed.specs.Syntax.{Expression, Condition, Arguments}
-use Rattle.notation.specs.Tokens.{trueWord, notWord, andWord, newWord, notifyWord, closing, dot, equals, becomes}
-use Rattle.notation.specs.Shown.{loose, testing, prefix, tight, grouped}
-use Rattle.parsing.specs.Goals.{Sort, either, expression, condition, Goal, expect, operand, more, make, Value, number, ofExpression, ofCondition, ofArguments, Form, forms, notifyAllForm}
-use Rattle.parsing.specs.Parser.{ahead, Step, go, stop, isExpression, isCondition, takesCondition, fits, inside, begun, wordForm, operandStep, moreStep, step}
-use Rattle.parsing.proofs.Runs.{State, state, Leads, _thence_, stays, by-step}
+use lib.ListN.{length}
+use borrow.Author.Tests.{ltb-false, eq-eqb, ne-eqb}
+use Rattle.packed.specs.Syntax.{Expression, Condition}
+use Rattle.notation.specs.Tokens.{andWord, closing, dot, equals, becomes}
+use Rattle.notation.specs.Shown.{loose, testing, grouped}
+use Rattle.parsing.specs.Goals.{Sort, either, expression, condition, Goal, expect, operand, more, Value, ofExpression, ofCondition}
+use Rattle.parsing.specs.Parser.{ahead, go, isExpression, isCondition, takesCondition, fits, inside, operandStep, moreStep, step}
+use Rattle.parsing.proofs.Runs.{state, Leads, _thence_, by-step}
 
 -- what may stand behind an operand that is shown at a place that asks for d: nothing that it could take for its own
 pub record Follows (d : ℕ) (rest : List ℕ) : Type 0 where

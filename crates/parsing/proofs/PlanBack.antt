@@ -3,29 +3,29 @@ use Prim.Native.Nat.{ℕ, zero, suc, _+_, _-_, _*_, _^_, _≤_, _<_}
 use native.Mathlib.Nat.{add-assoc}
 use native.Mathlib.Omega.{arith}
 use mathlib.Core.Path.{_≡_, refl, sym, ap, ap₂, _∙_}
-use mathlib.Core.Bool.{Bool, true, false, cond, not, _&&_, and-false}
+use mathlib.Core.Bool.{false, cond, and-false}
 use mathlib.Core.List.{List, [], _∷_, _++_, append-assoc}
 use mathlib.Core.Option.{none}
 use lib.Dec.{eqb, ltb}
-use lib.ListN.{length, getD, drop}
-use borrow.Author.Tests.{lt-ltb, le-ltb, eq-eqb, ne-eqb}
-use Rattle.format.specs.Version.{Version, v0, v1, versionOf}
-use Rattle.packed.specs.Syntax.{Expression, Procedure, Program}
+use lib.ListN.{length, getD}
+use borrow.Author.Tests.{lt-ltb, le-ltb, ne-eqb}
+use Rattle.packed.specs.Syntax.{Procedure, Program}
 use Rattle.packed.specs.Format.{fieldsFrom}
-use Rattle.packed.specs.Slots.{closed}
 use Rattle.packed.specs.Trees.{programOf}
 use Rattle.packed.specs.Check.{refusal}
 use Rattle.written.specs.Terms.{termsOf, size, maskOf}
 use Rattle.written.specs.Written.{sizeOfAll, versionNumber}
-use Rattle.notation.specs.Tokens.{volatileWord, procedureWord, textEnd}
+use Rattle.notation.specs.Tokens.{volatileWord, textEnd}
 use Rattle.notation.specs.Shown.{loose, shown, volatileTokens, procedureTokens, mainFirst, shownPlan}
-use Rattle.written.proofs.Right.{Ascending, Right, countsIn, RightDefinition, RightDefinitions, RightProgram}
+use Rattle.written.proofs.Right.{Ascending, countsIn, RightDefinition, RightDefinitions, RightProgram}
+use Rattle.written.proofs.ReadBack.{version-small}
+use Rattle.written.proofs.RightWritten.{version-again}
 use Rattle.written.proofs.RightPlans.{fields-ascend, right-program}
 use Rattle.notation.proofs.ShownTokens.{Starts, starts, starts-append, NoProcedure, none-fields, none-shown}
-use Rattle.parsing.specs.Goals.{expression, Goal, expect, operand, count, Value, number, ofExpression, numberIn, expressionIn, valueAt}
-use Rattle.parsing.specs.Parser.{ahead, go, step, Parsed, parsed, parseBy, parse}
-use Rattle.parsing.specs.Plan.{Reading, plan, countsFrom, countsOf, procedureGoals, Before, programBy, withProcedure, afterProcedure, proceduresBy, maskFrom, behindFields, withVolatiles, readPlan}
-use Rattle.parsing.proofs.Runs.{State, state, Leads, Comes, _thence_, by-step}
+use Rattle.parsing.specs.Goals.{expression, Goal, expect, operand, count, Value, number, ofExpression}
+use Rattle.parsing.specs.Parser.{ahead, step, parsed, parseBy, parse}
+use Rattle.parsing.specs.Plan.{Reading, plan, countsFrom, countsOf, procedureGoals, Before, programBy, afterProcedure, proceduresBy, maskFrom, behindFields, withVolatiles, readPlan}
+use Rattle.parsing.proofs.Runs.{state, Leads, _thence_, by-step}
 use Rattle.parsing.proofs.Operands.{Follows, follows-token, expects, whole}
 use Rattle.parsing.proofs.ReadBack.{reads}
 
@@ -171,19 +171,9 @@ behind-read (g ∷ fs) rest f up h = rw (lt-ltb f g (up .0), lt-ltb g 32 (up .1)
 
 -- ---- the plan
 
-version-back : (v : Version) → versionOf (versionNumber v) ≡ v
-unfolding versionOf versionNumber
-version-back v0 = refl
-version-back v1 = refl
-
-version-small : (v : Version) → versionNumber v < 2
-unfolding versionNumber
-version-small v0 = omega arith
-version-small v1 = omega arith
-
 program-is : (g : Program) (m : ℕ) → m ≡ g .volatiles → programBy (before (versionNumber (g .version)) m (g .procedures)) ≡ g
 unfolding programBy
-program-is g m e = λ i. record { version = version-back (g .version) i; volatiles = e i; procedures = g .procedures }
+program-is g m e = λ i. record { version = version-again (g .version) i; volatiles = e i; procedures = g .procedures }
 
 -- how tokens begin that begin as an expression
 first-token : (ts : List ℕ) → Starts ts → NoField ts × (eqb (ahead ts 0) volatileWord ≡ false)
@@ -270,7 +260,7 @@ program-back g r =
         → readPlan (40 ∷ v ∷ (volatileTokens fs ++ mainFirst ds) ++ (69 ∷ [])) ≡ plan (programBy (before v (2 ^ 31 + maskOf fs) ds))
     by-main [] h few sized bare right = absurd (omega arith)
     by-main (d ∷ ds) h few sized bare right =
-        parts-read d ds right few sized bare fs (fields-ascend (g .volatiles) 1 31 0 (omega arith) (omega arith)) v (version-small (g .version))
+        parts-read d ds right few sized bare fs (fields-ascend (g .volatiles) 1 31 0 (omega arith) (omega arith)) v (let h = version-small (g .version) in omega arith)
 
     back : programBy (before v (2 ^ 31 + maskOf fs) (g .procedures)) ≡ g
     back = program-is g (2 ^ 31 + maskOf fs) (sym (r .monitor-volatile))

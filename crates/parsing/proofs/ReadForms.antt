@@ -2,35 +2,28 @@
 use Prim.Native.Nat.{ℕ, zero, suc, _+_, _-_, _*_, _^_, _≤_, _<_}
 use native.Mathlib.Nat.{zero-add, add-assoc}
 use native.Mathlib.Omega.{arith}
-use mathlib.Core.Path.{_≡_, refl, sym, ap, _∙_}
-use mathlib.Core.Bool.{Bool, true, false, cond, not, _&&_, _||_, and-false}
+use mathlib.Core.Path.{_≡_, refl, ap, _∙_}
+use mathlib.Core.Bool.{true, false, not, _||_, and-false}
 use mathlib.Core.List.{List, [], _∷_, _++_, append-assoc}
 use mathlib.Core.Option.{Option, some, none}
-use lib.Dec.{eqb, ltb, leb}
-use lib.ListN.{length, length-append, getD, drop}
+use lib.Dec.{eqb}
+use lib.ListN.{length, length-append, getD}
 use borrow.Author.Tests.{le-leb, lt-ltb, eq-eqb, ne-eqb}
-use Rattle.packed.specs.Syntax.{Signal, Expression, Condition, Arguments}
+use Rattle.packed.specs.Syntax.{Expression, Condition, Arguments}
 use Rattle.packed.specs.Format.{fieldsFrom}
-use Rattle.packed.specs.Trees.{binderOf}
 use Rattle.packed.proofs.WellFormed.{count}
 use Rattle.written.specs.Terms.{maskOf, slotOf}
-use Rattle.notation.specs.Tokens.{dot, equals, becomes, allWord}
 use Rattle.notation.specs.Shown.{binderToken}
+use Rattle.written.proofs.RightTerms.{slot-again}
 use Rattle.written.proofs.Right.{Ascending, RightFields, RightSlot, RightField, RightCall}
-use Rattle.parsing.specs.Goals.{Sort, either, expression, condition, Goal, expect, operand, more, make, binder, fields, procedure, further, Value, number, ofExpression, ofCondition, ofArguments, numberIn, made, Form, form, forms, notifyAllForm, argumentGoals}
-use Rattle.parsing.specs.Parser.{ahead, Step, go, stop, takesCondition, begun, wordForm, operandStep, dotStep, moreStep, fieldsStep, furtherStep, step}
-use Rattle.parsing.proofs.Runs.{State, state, Leads, _thence_, stays, Room, by-step, makes}
+use Rattle.parsing.specs.Goals.{Sort, expression, condition, Goal, expect, operand, more, make, binder, fields, procedure, further, Value, number, ofExpression, ofCondition, ofArguments, numberIn, made, Form, form, forms, notifyAllForm, argumentGoals}
+use Rattle.parsing.specs.Parser.{go, takesCondition, begun, operandStep, moreStep, fieldsStep, furtherStep, step}
+use Rattle.parsing.proofs.Runs.{state, Leads, _thence_, stays, Room, by-step, makes}
 use Rattle.parsing.proofs.Operands.{Follows, looser, follows-token, follows-dot, follows-and, Reads, within, bare, suits-expression, suits-another, takes-condition, expects, whole, wholeᶜ}
 
 -- the form of a word, from `true` on
 abbrev formAt : ℕ → Form
 formAt i = getD forms i notifyAllForm
-
--- the slot of a let, from its number again
-slot-again : (x : Option ℕ) → RightSlot x → binderOf (slotOf x) ≡ x
-unfolding binderOf slotOf
-slot-again none r = refl
-slot-again (some x) r = rw (ne-eqb x 15 (λ z. omega arith))
 
 binder-step : (counts : List ℕ) (x : Option ℕ) (vs : List Value) (n : ℕ) (ts : List ℕ) → RightSlot x
     → step counts binder vs n (binderToken x ∷ ts) ≡ go [] (number (slotOf x) ∷ vs) n ts

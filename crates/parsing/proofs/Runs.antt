@@ -1,14 +1,12 @@
 -- From what is to be read to what is left of it, goal after goal, by any number of steps that is enough. Assumes nothing.
 use Prim.Native.Nat.{ℕ, zero, suc, _+_, _-_, _*_, _≤_, _<_}
 use native.Mathlib.Omega.{arith}
-use mathlib.Core.Path.{_≡_, refl, sym, ap, _∙_}
-use mathlib.Core.Bool.{Bool, true, false, cond, _||_}
+use mathlib.Core.Path.{_≡_, refl, _∙_}
 use mathlib.Core.List.{List, [], _∷_, _++_}
-use lib.Dec.{eqb, ltb}
 use lib.ListN.{length, length-append}
 use borrow.Author.Tests.{le-ltb, ne-eqb}
 use Rattle.parsing.specs.Goals.{Goal, make, Value, made}
-use Rattle.parsing.specs.Parser.{Step, go, stop, step, Parsed, afterStep, parseBy}
+use Rattle.parsing.specs.Parser.{go, step, Parsed, parseBy}
 
 -- where reading stands: the goals, the values, how many terms are left to be made, the tokens
 pub data State : Type 0 where

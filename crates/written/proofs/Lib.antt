@@ -14,6 +14,7 @@ pub mod Named
 pub mod Segments
 pub mod Right
 pub mod RightTerms
+pub mod RightWritten
 pub mod RightPlans
 pub mod Passes
 pub mod OneWay
