@@ -19,7 +19,6 @@ use Rattle.packed.proofs.Accepted.{Accepted, accepted}
 use Rattle.packed.proofs.Decoded.{procedures-are}
 use Rattle.written.specs.Alike.{Alike}
 use Rattle.written.specs.Written.{versionNumber, written}
-use Rattle.written.proofs.Heads.{same-trees}
 use Rattle.written.proofs.ReadBack.{Fitted, version-is, procedures-is, terms-is, volatiles-is, length-is}
 use Rattle.written.proofs.RightWritten.{program-of, fitted, procedure-is, right-passes}
 use Rattle.written.proofs.RightPlans.{right-program}
