@@ -13,6 +13,7 @@ pub mod Fine
 pub mod Named
 pub mod Segments
 pub mod Right
+pub mod OrderedFields
 pub mod RightTerms
 pub mod RightWritten
 pub mod RightPlans
