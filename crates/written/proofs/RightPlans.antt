@@ -55,7 +55,7 @@ right-fields m small h few =
       of-mask = ap (λ (n : ℕ). fieldsFrom n 0 32) (mask-back m small);
     }
 
-right-slot : (x : ℕ) → ((x ≡ 15 → ⊥) → x ≤ 7) → RightSlot (binderOf x)
+pub right-slot : (x : ℕ) → ((x ≡ 15 → ⊥) → x ≤ 7) → RightSlot (binderOf x)
 unfolding binderOf
 right-slot x h = go (eqb x 15) refl
   where
