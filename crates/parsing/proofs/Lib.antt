@@ -6,3 +6,5 @@ pub mod ReadBack
 pub mod PlanBack
 pub mod Wanted
 pub mod StepsKeep
+pub mod ReadRight
+pub mod PlanRight

@@ -89,11 +89,11 @@ module _ (counts : List ℕ) (d : Procedure) (ds : List Procedure) (right : Righ
       thence body-leads (suc (suc p)) (number (d .parameters) ∷ number 0 ∷ []) (omega arith)))
 
 -- procedures of a version and a mask
-abbrev before : ℕ → ℕ → List Procedure → Before
+abbrev pub before : ℕ → ℕ → List Procedure → Before
 before v m ds = record { version = v; mask = m; procedures = ds }
 
 -- these procedures behind those before
-abbrev behind : Before → List Procedure → Before
+abbrev pub behind : Before → List Procedure → Before
 behind b ds = before (b .version) (b .mask) (b .procedures ++ ds)
 
 module _ (counts : List ℕ) where

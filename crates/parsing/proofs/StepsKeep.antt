@@ -24,11 +24,11 @@ use Rattle.parsing.specs.Parser.{ahead, Step, go, stop, isExpression, is
 use Rattle.parsing.proofs.Wanted.{weight, weights, RightOperand, Ready, Wanted, Wants, Passed, passed-none, passed-one, passed-two, passed-three}
 
 -- whichever way a test goes
-either-way : {A : Type 0} (P : A → Type 0) (x : Bool) (a b : A) → (x ≡ true → P a) → (x ≡ false → P b) → P (cond x a b)
+pub either-way : {A : Type 0} (P : A → Type 0) (x : Bool) (a b : A) → (x ≡ true → P a) → (x ≡ false → P b) → P (cond x a b)
 either-way P true a b f g = f refl
 either-way P false a b f g = g refl
 
-both : (x y : Bool) → (x && y) ≡ true → (x ≡ true) × (y ≡ true)
+pub both : (x y : Bool) → (x && y) ≡ true → (x ≡ true) × (y ≡ true)
 both x y h = and-eq-true-iff x y .0 h
 
 module _ (counts : List ℕ) (K : List Value → Type 0) where

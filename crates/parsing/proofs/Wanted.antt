@@ -98,7 +98,7 @@ passed-none ts = record { same-counts = refl; still-ended = λ h. h }
 pub passed-both : (ts ts′ ts″ : List ℕ) → Passed ts ts′ → Passed ts′ ts″ → Passed ts ts″
 passed-both ts ts′ ts″ p q = record { same-counts = q .same-counts ∙ p .same-counts; still-ended = λ h. q .still-ended (p .still-ended h) }
 
-passed-token : (t : ℕ) (ts : List ℕ) → (t ≡ procedureWord → ⊥) → Passed (t ∷ ts) ts
+pub passed-token : (t : ℕ) (ts : List ℕ) → (t ≡ procedureWord → ⊥) → Passed (t ∷ ts) ts
 unfolding countsFrom
 passed-token t ts h = record { same-counts = rw (ne-eqb t 42 h); still-ended = λ e. e .1 }
 
