@@ -260,7 +260,8 @@ program-back g r =
         → readPlan (40 ∷ v ∷ (volatileTokens fs ++ mainFirst ds) ++ (69 ∷ [])) ≡ plan (programBy (before v (2 ^ 31 + maskOf fs) ds))
     by-main [] h few sized bare right = absurd (omega arith)
     by-main (d ∷ ds) h few sized bare right =
-        parts-read d ds right few sized bare fs (fields-ascend (g .volatiles) 1 31 0 (omega arith) (omega arith)) v (let h = version-small (g .version) in omega arith)
+        parts-read d ds right few sized bare fs (fields-ascend (g .volatiles) 1 31 0 (omega arith) (omega arith)) v
+        (let h = version-small (g .version) in omega arith)
 
     back : programBy (before v (2 ^ 31 + maskOf fs) (g .procedures)) ≡ g
     back = program-is g (2 ^ 31 + maskOf fs) (sym (r .monitor-volatile))

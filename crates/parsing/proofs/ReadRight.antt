@@ -1,21 +1,22 @@
 -- What is read of a procedure is an expression that a plan can have, of as many terms as were made. Assumes nothing.
-use Prim.Native.Nat.{ℕ, zero, suc, _+_, _-_, _*_, _≤_, _<_}
+use Prim.Native.Nat.{ℕ, zero, suc, _+_, _*_, _≤_, _<_}
 use native.Mathlib.Omega.{arith}
 use mathlib.Core.Path.{_≡_, refl, sym, ap, subst, _∙_}
 use mathlib.Core.Bool.{Bool, true, false, cond, _||_, true≢false}
 use mathlib.Core.List.{List, [], _∷_, _++_}
 use lib.Dec.{eqb, ltb}
 use lib.ListN.{length, drop}
-use borrow.Author.Tests.{ltb-true, eqb-true, ne-eqb}
+use borrow.Author.Tests.{ltb-true, eqb-true}
 use Rattle.packed.specs.Syntax.{Expression}
 use Rattle.written.specs.Terms.{termsOf, size}
 use Rattle.written.proofs.Right.{Right}
-use Rattle.notation.specs.Tokens.{procedureWord, textEnd}
-use Rattle.parsing.specs.Goals.{expression, Goal, expect, operand, Value, number, ofExpression, numberIn, expressionIn, valueAt}
+use Rattle.notation.specs.Tokens.{textEnd}
+use Rattle.notation.proofs.TextEnd.{Ended}
+use Rattle.parsing.specs.Goals.{expression, Goal, expect, operand, Value, number, ofExpression}
 use Rattle.parsing.specs.Goals as goals
 use Rattle.parsing.specs.Parser.{ahead, Step, go, stop, wanted, nesting, step, Parsed, parsed, stopped, afterStep, parseBy, parse}
 use Rattle.parsing.specs.Plan.{countsFrom, procedureGoals}
-use Rattle.parsing.proofs.Wanted.{weights, Wants, wants-append, Ended, Passed, passed-none, passed-both}
+use Rattle.parsing.proofs.Wanted.{weights, Wants, wants-append, Passed, passed-none, passed-both}
 use Rattle.parsing.proofs.StepsKeep.{either-way, Kept, step-keeps}
 
 module _ (counts : List ℕ) (Q : List Value → Type 0) where
@@ -24,11 +25,13 @@ module _ (counts : List ℕ) (Q : List Value → Type 0) where
   ParsedKept vs n ts (parsed vs′ n′ ts′) = Q vs′ × (weights vs′ + n′ ≡ weights vs + n) × Passed ts ts′
   ParsedKept vs n ts (stopped r ts′) = Unit {0}
 
-  later : (vs vs′ : List Value) (n n′ : ℕ) (ts ts′ : List ℕ) (p : Parsed) → weights vs′ + n′ ≡ weights vs + n → Passed ts ts′ → ParsedKept vs′ n′ ts′ p → ParsedKept vs n ts p
+  later : (vs vs′ : List Value) (n n′ : ℕ) (ts ts′ : List ℕ) (p : Parsed) → weights vs′ + n′ ≡ weights vs + n → Passed ts ts′ → ParsedKept vs′ n′ ts′ p
+      → ParsedKept vs n ts p
   later vs vs′ n n′ ts ts′ (parsed us m us′) e q k = (k .0, k .1 ∙ e, passed-both ts ts′ us′ q (k .2))
   later vs vs′ n n′ ts ts′ (stopped r us) e q k = tt
 
-  parse-keeps : (steps : ℕ) (gs : List Goal) (vs : List Value) (n : ℕ) (ts : List ℕ) → Wants counts gs Q vs → ParsedKept vs n ts (parseBy counts steps gs vs n ts)
+  parse-keeps : (steps : ℕ) (gs : List Goal) (vs : List Value) (n : ℕ) (ts : List ℕ) → Wants counts gs Q vs
+      → ParsedKept vs n ts (parseBy counts steps gs vs n ts)
   unfolding parseBy
   parse-keeps zero gs vs n ts w = tt
   parse-keeps (suc k) [] vs n ts w = (w, refl, passed-none ts)
@@ -39,7 +42,8 @@ module _ (counts : List ℕ) (Q : List Value → Type 0) where
       next : List Goal → List Value → ℕ → List ℕ → Parsed
       next gs′ vs′ n′ ts′ = parseBy counts k (gs′ ++ gs) vs′ n′ ts′
 
-      after : ((gs′ : List Goal) (vs′ : List Value) (n′ : ℕ) (ts′ : List ℕ) → Wants counts (gs′ ++ gs) Q vs′ → ParsedKept vs′ n′ ts′ (next gs′ vs′ n′ ts′)) → (x : Step)
+      after : ((gs′ : List Goal) (vs′ : List Value) (n′ : ℕ) (ts′ : List ℕ) → Wants counts (gs′ ++ gs) Q vs′ → ParsedKept vs′ n′ ts′ (next gs′ vs′ n′ ts′))
+          → (x : Step)
           → Kept counts (Wants counts gs Q) vs n ts x → ParsedKept vs n ts (afterStep next x)
       after ih (go gs′ vs′ n′ ts′) kept =
           later vs vs′ n n′ ts ts′ (next gs′ vs′ n′ ts′) (kept .1) (kept .2)
@@ -65,10 +69,13 @@ module _ (counts : List ℕ) (gs : List Goal) (vs′ : List Value) (n n′ : ℕ
   expected : (k t : ℕ) (vs : List Value) (ts : List ℕ) → (t ≡ textEnd → ⊥) → parseBy counts k (expect t ∷ gs) vs n ts ≡ parsed vs′ n′ ts′ → Expected t vs ts
   unfolding parseBy
   expected zero t vs ts h e = none-nested ts ts′ vs′ n′ e
-  expected (suc k) t vs ts h e = either-way (λ (p : Parsed). p ≡ parsed vs′ n′ ts′ → Expected t vs ts) (ltb 8400 (suc (length gs)) || ltb 3100 (length vs)) _ _ (λ z. none-nested ts ts′ vs′ n′) (λ z. by-token ts (eqb (ahead ts 0) t) refl) e
+  expected (suc k) t vs ts h e =
+      either-way (λ (p : Parsed). p ≡ parsed vs′ n′ ts′ → Expected t vs ts) (ltb 8400 (suc (length gs)) || ltb 3100 (length vs)) _ _
+      (λ z. none-nested ts ts′ vs′ n′) (λ z. by-token ts (eqb (ahead ts 0) t) refl) e
     where
       by-token : (us : List ℕ) (x : Bool) → eqb (ahead us 0) t ≡ x
-          → afterStep (λ gs′ vs′ n′ ts′. parseBy counts k (gs′ ++ gs) vs′ n′ ts′) (cond x (go [] vs n (drop 1 us)) (stop (wanted (expect t)) us)) ≡ parsed vs′ n′ ts′ → Expected t vs us
+          → afterStep (λ gs′ vs′ n′ ts′. parseBy counts k (gs′ ++ gs) vs′ n′ ts′) (cond x (go [] vs n (drop 1 us)) (stop (wanted (expect t)) us)) ≡ parsed
+          vs′ n′ ts′ → Expected t vs us
       by-token us false q e = none-stopped (expect t) us ts′ vs′ n′ e
       by-token [] true q e = absurd (h (sym (eqb-true 69 t q)))
       by-token (u ∷ us) true q e = record { rest = us; steps = k; begins = ap (λ (t : ℕ). t ∷ us) (eqb-true u t q); goes-on = e }
@@ -86,10 +93,12 @@ module _ (counts : List ℕ) (gs : List Goal) (vs′ : List Value) (n n′ : ℕ
   unfolding parseBy
   counted zero vs ts e = none-nested ts ts′ vs′ n′ e
   counted (suc k) vs ts e =
-      either-way (λ (p : Parsed). p ≡ parsed vs′ n′ ts′ → Counted vs ts) (ltb 8400 (suc (length gs)) || ltb 3100 (length vs)) _ _ (λ z. none-nested ts ts′ vs′ n′) (λ z. by-token ts (ltb (ahead ts 0) 9) refl) e
+      either-way (λ (p : Parsed). p ≡ parsed vs′ n′ ts′ → Counted vs ts) (ltb 8400 (suc (length gs)) || ltb 3100 (length vs)) _ _
+      (λ z. none-nested ts ts′ vs′ n′) (λ z. by-token ts (ltb (ahead ts 0) 9) refl) e
     where
       by-token : (us : List ℕ) (x : Bool) → ltb (ahead us 0) 9 ≡ x
-          → afterStep (λ gs′ vs′ n′ ts′. parseBy counts k (gs′ ++ gs) vs′ n′ ts′) (cond x (go [] (number (ahead us 0) ∷ vs) n (drop 1 us)) (stop (wanted goals.count) us)) ≡ parsed vs′ n′ ts′ → Counted vs us
+          → afterStep (λ gs′ vs′ n′ ts′. parseBy counts k (gs′ ++ gs) vs′ n′ ts′)
+          (cond x (go [] (number (ahead us 0) ∷ vs) n (drop 1 us)) (stop (wanted goals.count) us)) ≡ parsed vs′ n′ ts′ → Counted vs us
       by-token us false q e = none-stopped goals.count us ts′ vs′ n′ e
       by-token [] true q e = absurd (true≢false (sym q))
       by-token (u ∷ us) true q e = let small = ltb-true u 9 q in record { parameters = u; few = omega arith; rest = us; steps = k; begins = refl; goes-on = e }
@@ -115,7 +124,8 @@ module _ (counts : List ℕ) (n m : ℕ) (vs : List Value) (rest : List ℕ) whe
   body-read : (steps k : ℕ) (gs : List Goal) (us : List Value) (ts : List ℕ) → weights us ≡ 0 → Wants counts gs (Above (number k ∷ us)) (number k ∷ us)
       → parseBy counts steps gs (number k ∷ us) n ts ≡ parsed vs m rest → ReadProcedure counts n m k vs ts rest
   body-read steps k gs us ts light w e =
-      let kept = subst (ParsedKept counts (Above (number k ∷ us)) (number k ∷ us) n ts) e (parse-keeps counts (Above (number k ∷ us)) steps gs (number k ∷ us) n ts w) in
+      let kept = subst (ParsedKept counts (Above (number k ∷ us)) (number k ∷ us) n ts) e
+      (parse-keeps counts (Above (number k ∷ us)) steps gs (number k ∷ us) n ts w) in
       let a = kept .0 in
       let z = a .2 in
       record {
@@ -158,20 +168,24 @@ module _ (counts : List ℕ) (n m : ℕ) (vs : List Value) (rest : List ℕ) whe
       }
 
   opening-read : (us : List ℕ) → Expected counts (goals.count ∷ body-goals) vs n m rest 62 (number 0 ∷ []) us → ReadBehind (62 ∷ []) us
-  opening-read us x = token-more 62 [] (x .rest) us (x .begins) (count-read (x .rest) (counted counts body-goals vs n m rest (x .steps) (number 0 ∷ []) (x .rest) (x .goes-on)))
+  opening-read us x =
+      token-more 62 [] (x .rest) us (x .begins) (count-read (x .rest) (counted counts body-goals vs n m rest (x .steps) (number 0 ∷ []) (x .rest) (x .goes-on)))
 
   number-read : (p : ℕ) (us : List ℕ) → Expected counts (expect 62 ∷ goals.count ∷ body-goals) vs n m rest p (number 0 ∷ []) us → ReadBehind (p ∷ 62 ∷ []) us
   number-read p us x =
       token-more p (62 ∷ []) (x .rest) us (x .begins)
       (opening-read (x .rest) (expected counts (goals.count ∷ body-goals) vs n m rest (x .steps) 62 (number 0 ∷ []) (x .rest) (λ z. omega arith) (x .goes-on)))
 
-  word-read : (p : ℕ) (us : List ℕ) → p < 32 → Expected counts (expect p ∷ expect 62 ∷ goals.count ∷ body-goals) vs n m rest 42 (number 0 ∷ []) us → ReadBehind (42 ∷ p ∷ 62 ∷ []) us
+  word-read : (p : ℕ) (us : List ℕ) → p < 32 → Expected counts (expect p ∷ expect 62 ∷ goals.count ∷ body-goals) vs n m rest 42 (number 0 ∷ []) us
+      → ReadBehind (42 ∷ p ∷ 62 ∷ []) us
   word-read p us small x =
       token-more 42 (p ∷ 62 ∷ []) (x .rest) us (x .begins)
-      (number-read p (x .rest) (expected counts (expect 62 ∷ goals.count ∷ body-goals) vs n m rest (x .steps) p (number 0 ∷ []) (x .rest) (λ z. omega arith) (x .goes-on)))
+      (number-read p (x .rest) (expected counts (expect 62 ∷ goals.count ∷ body-goals) vs n m rest (x .steps) p (number 0 ∷ []) (x .rest) (λ z. omega arith)
+      (x .goes-on)))
 
   -- `procedure p (k) = e`
-  pub procedure-read : (p : ℕ) (ts : List ℕ) → suc p < 32 → parse counts (procedureGoals (suc p)) (number 0 ∷ []) n ts ≡ parsed vs m rest → ReadBehind (42 ∷ suc p ∷ 62 ∷ []) ts
+  pub procedure-read : (p : ℕ) (ts : List ℕ) → suc p < 32 → parse counts (procedureGoals (suc p)) (number 0 ∷ []) n ts ≡ parsed vs m rest
+      → ReadBehind (42 ∷ suc p ∷ 62 ∷ []) ts
   unfolding parse procedureGoals
   procedure-read p ts small e =
       word-read (suc p) ts small

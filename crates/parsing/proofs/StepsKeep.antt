@@ -1,5 +1,5 @@
 -- A step keeps what the goals want, how many terms there are with those left to be made, and the parameter counts. Assumes nothing.
-use Prim.Native.Nat.{ℕ, zero, suc, _+_, _-_, _*_, _^_, _≤_, _<_}
+use Prim.Native.Nat.{ℕ, zero, suc, _+_, _-_, _^_, _≤_, _<_}
 use native.Mathlib.Nat.{add-assoc, zero-add}
 use native.Mathlib.Omega.{arith}
 use mathlib.Core.Path.{_≡_, refl, sym, ap, subst, _∙_}
@@ -7,21 +7,20 @@ use mathlib.Core.Bool.{Bool, true, false, cond, not, _&&_, _||_, true≢false, a
 use mathlib.Core.List.{List, [], _∷_, _++_}
 use lib.Dec.{eqb, ltb, leb}
 use lib.ListN.{length, getD, drop}
-use borrow.Author.Tests.{ltb-true, leb-true, eqb-true, eqb-false, ne-eqb, not-false}
-use Rattle.packed.specs.Syntax.{Signal, Expression, Condition, Arguments}
+use borrow.Author.Tests.{ltb-true, leb-true, eqb-true, eqb-false, not-false}
+use Rattle.packed.specs.Syntax.{Expression, Arguments}
 use Rattle.packed.specs.Format.{fieldsFrom}
-use Rattle.packed.specs.Trees.{binderOf}
 use Rattle.packed.proofs.WellFormed.{count}
 use Rattle.packed.proofs.Decoded.{Cases, done, _gives_then_, pick}
-use Rattle.written.specs.Terms.{termsOf, termsOfᶜ, termsOfᵃ, size, maskOf}
-use Rattle.written.proofs.Right.{Ascending, RightFields, RightCall, Right, Rightᶜ, Rightᵃ}
+use Rattle.written.specs.Terms.{termsOf, size, maskOf}
+use Rattle.written.proofs.Right.{Ascending, Right, Rightᵃ}
 use Rattle.written.proofs.OrderedFields.{right-in-order}
 use Rattle.written.proofs.RightPlans.{right-slot}
-use Rattle.notation.specs.Tokens.{procedureWord, opening, closing}
-use Rattle.parsing.specs.Goals.{Sort, either, expression, condition, Goal, expect, operand, more, make, binder, fields, procedure, further, Value, number, ofExpression, ofCondition, ofArguments, numberIn, valueAt, made, Form, forms, notifyAllForm, argumentGoals}
+use Rattle.notation.specs.Tokens.{closing}
+use Rattle.parsing.specs.Goals.{Sort, either, expression, condition, Goal, expect, operand, more, make, binder, fields, procedure, further, Value, number, ofExpression, ofCondition, ofArguments, numberIn, made, Form, forms, notifyAllForm, argumentGoals}
 use Rattle.parsing.specs.Goals as goals
-use Rattle.parsing.specs.Parser.{ahead, Step, go, stop, isExpression, isCondition, takesCondition, fits, inside, begun, wordForm, operandStep, isField, dotStep, moreStep, fieldsStep, furtherStep, step}
-use Rattle.parsing.proofs.Wanted.{weight, weights, RightOperand, Ready, Wanted, Wants, Passed, passed-none, passed-one, passed-two, passed-three}
+use Rattle.parsing.specs.Parser.{ahead, Step, go, stop, isCondition, takesCondition, fits, inside, begun, wordForm, operandStep, isField, dotStep, moreStep, fieldsStep, furtherStep, step}
+use Rattle.parsing.proofs.Wanted.{weights, RightOperand, Ready, Wanted, Wants, Passed, passed-none, passed-one, passed-two, passed-three}
 
 -- whichever way a test goes
 pub either-way : {A : Type 0} (P : A → Type 0) (x : Bool) (a b : A) → (x ≡ true → P a) → (x ≡ false → P b) → P (cond x a b)
@@ -95,17 +94,21 @@ module _ (counts : List ℕ) (K : List Value → Type 0) where
     notify-all = λ e r. (omega arith, (r, k))
 
     -- a form, if it binds tightly enough
-    begun-keeps : (f : Form) (vs′ : List Value) (n : ℕ) (ts rest : List ℕ) → Wants counts (f .goals ++ (more d s ∷ [])) K vs′ → weights vs′ ≡ weights vs → Passed ts rest
+    begun-keeps : (f : Form) (vs′ : List Value) (n : ℕ) (ts rest : List ℕ) → Wants counts (f .goals ++ (more d s ∷ [])) K vs′ → weights vs′ ≡ weights vs
+        → Passed ts rest
         → Kept vs n ts (begun f d s vs′ n ts rest)
     unfolding begun
-    begun-keeps f vs′ n ts rest w e p = either-way (Kept vs n ts) (leb d (f .binding) && (not (f .isCondition) || takesCondition s)) _ _ (λ z. (w, omega arith, p)) (λ z. tt)
+    begun-keeps f vs′ n ts rest w e p =
+        either-way (Kept vs n ts) (leb d (f .binding) && (not (f .isCondition) || takesCondition s)) _ _ (λ z. (w, omega arith, p)) (λ z. tt)
 
     word-keeps : (t n : ℕ) (ts : List ℕ) → t ≡ ahead ts 0 → 49 ≤ t → t ≤ 61 → Kept vs n ts (wordForm t d s vs n ts)
     unfolding wordForm
     word-keeps t n ts e low high =
         either-way (Kept vs n ts) (eqb t 61 && eqb (ahead ts 1) 47) _ _
-        (λ z. begun-keeps notifyAllForm vs n ts (drop 2 ts) notify-all refl (passed-two ts (λ y. omega arith) (λ y. omega (arith, eqb-true (ahead ts 1) 47 (both (eqb t 61) (eqb (ahead ts 1) 47) z .1)))))
-        (λ z. begun-keeps (getD forms (t - 49) notifyAllForm) (cond (eqb t 52) (number 0 ∷ vs) vs) n ts (drop 1 ts) (pick words t low (omega arith)) number-weighs-none (passed-one ts (λ y. omega arith)))
+        (λ z. begun-keeps notifyAllForm vs n ts (drop 2 ts) notify-all refl
+        (passed-two ts (λ y. omega arith) (λ y. omega (arith, eqb-true (ahead ts 1) 47 (both (eqb t 61) (eqb (ahead ts 1) 47) z .1)))))
+        (λ z. begun-keeps (getD forms (t - 49) notifyAllForm) (cond (eqb t 52) (number 0 ∷ vs) vs) n ts (drop 1 ts) (pick words t low (omega arith))
+        number-weighs-none (passed-one ts (λ y. omega arith)))
       where
         number-weighs-none : weights (cond (eqb t 52) (number 0 ∷ vs) vs) ≡ weights vs
         number-weighs-none = either-way (λ (us : List Value). weights us ≡ weights vs) (eqb t 52) (number 0 ∷ vs) vs (λ z. omega arith) (λ z. refl)
@@ -119,7 +122,8 @@ module _ (counts : List ℕ) (K : List Value → Type 0) where
         (λ y. let b = both (leb 49 t) (leb t 61) y in word-keeps t n ts refl (leb-true 49 t (b .0)) (leb-true t 61 (b .1)))
         (λ y. either-way (Kept vs n ts) (eqb t 62) _ _ (λ x. (in-parentheses d s vs k, refl, passed-one ts (λ q. omega (arith, eqb-true t 62 x)))) (λ x. tt)))
       where
-        slot-read : (leb 32 (ahead ts 0) ≡ true) × (ltb (ahead ts 0) 40 ≡ true) → Kept vs n ts (go (make 1 ∷ more d s ∷ []) (number (ahead ts 0 - 32) ∷ vs) n (drop 1 ts))
+        slot-read : (leb 32 (ahead ts 0) ≡ true) × (ltb (ahead ts 0) 40 ≡ true)
+            → Kept vs n ts (go (make 1 ∷ more d s ∷ []) (number (ahead ts 0 - 32) ∷ vs) n (drop 1 ts))
         slot-read b =
             let low = leb-true 32 (ahead ts 0) (b .0) in
             let high = ltb-true (ahead ts 0) 40 (b .1) in
@@ -135,7 +139,12 @@ module _ (counts : List ℕ) (K : List Value → Type 0) where
         either-way (Kept (ofExpression e ∷ vs) n ts) (not (isField f)) _ _ (λ z. tt)
         (λ z. let b = field-of f (not-false (isField f) z) in
         either-way (Kept (ofExpression e ∷ vs) n ts) (eqb d 0 && eqb (ahead ts 2) 67) _ _
-        (λ y. ((λ e′ r′. (omega arith, ((r, b, r′), k))), omega arith, passed-three ts (λ x. omega arith) (λ x. let l = b .1 in omega arith) (λ x. omega (arith, eqb-true (ahead ts 2) 67 (both (eqb d 0) (eqb (ahead ts 2) 67) y .1)))))
+        (λ y. (
+          (λ e′ r′. (omega arith, ((r, b, r′), k))),
+          omega arith,
+          passed-three ts (λ x. omega arith) (λ x. let l = b .1 in omega arith)
+              (λ x. omega (arith, eqb-true (ahead ts 2) 67 (both (eqb d 0) (eqb (ahead ts 2) 67) y .1))),
+        ))
         (λ y. ((omega arith, ((r, b), k)), omega arith, passed-two ts (λ x. omega arith) (λ x. let l = b .1 in omega arith))))
       where
         field-of : (f : ℕ) → isField f ≡ true → (0 < f) × (f < 32)
@@ -150,7 +159,12 @@ module _ (counts : List ℕ) (K : List Value → Type 0) where
         let v = ofExpression e in
         either-way (Kept (v ∷ vs) n ts) (eqb t 65) _ _ (λ z. dot-keeps e r (eqb-true t 65 z))
         (λ z. either-way (Kept (v ∷ vs) n ts) (true && eqb t 66 && leb d 1 && takesCondition s) _ _
-        (λ y. ((λ e′ r′. (omega arith, ((r, r′), k))), refl, passed-one ts (λ x. omega (arith, eqb-true t 66 (both (eqb t 66) (leb d 1) (both (eqb t 66 && leb d 1) (takesCondition s) y .0) .0)))))
+        (λ y. (
+          (λ e′ r′. (omega arith, ((r, r′), k))),
+          refl,
+          passed-one ts
+              (λ x. omega (arith, eqb-true t 66 (both (eqb t 66) (leb d 1) (both (eqb t 66 && leb d 1) (takesCondition s) y .0) .0))),
+        ))
         (λ y. either-way (Kept (v ∷ vs) n ts) (fits s v) _ _ (λ x. (ready-fits s v vs x r k, refl, passed-none ts)) (λ x. tt)))
     more-keeps (ofCondition c) r =
         let t = ahead ts 0 in
@@ -173,20 +187,32 @@ module _ (counts : List ℕ) (K : List Value → Type 0) where
       (λ y. let b = both (ltb 0 k && ltb f t) (ltb t 32) y in
       let c = both (ltb 0 k) (ltb f t) (b .0) in
       let some = ltb-true 0 k (c .0) in
-      let small = ltb-true t 32 (b .1) in
-      ((λ fs up few. subst (λ (m : ℕ). K (number m ∷ vs)) (sym (add-assoc a (2 ^ (31 - t)) (maskOf fs))) (w (t ∷ fs) (ltb-true f t (c .1), small, up) (omega arith))), refl, passed-one ts (λ q. omega arith)))
+      let small = ltb-true t 32 (b .1) in (
+        (λ fs up few. subst (λ (m : ℕ). K (number m ∷ vs)) (sym (add-assoc a (2 ^ (31 - t)) (maskOf fs)))
+            (w (t ∷ fs) (ltb-true f t (c .1), small, up) (omega arith))),
+        refl,
+        passed-one ts (λ q. omega arith),
+      ))
       (λ y. tt))
 
-  further-keeps : (k : ℕ) (vs : List Value) (n : ℕ) (ts : List ℕ) → ((es : Arguments) → count es ≡ k → Rightᵃ counts es → K (ofArguments es ∷ vs)) → Kept vs n ts (furtherStep k vs n ts)
+  further-keeps : (k : ℕ) (vs : List Value) (n : ℕ) (ts : List ℕ) → ((es : Arguments) → count es ≡ k → Rightᵃ counts es → K (ofArguments es ∷ vs))
+      → Kept vs n ts (furtherStep k vs n ts)
   unfolding furtherStep made size termsOf
   further-keeps zero vs n ts w =
-      either-way (Kept vs n ts) (eqb (ahead ts 0) 63) _ _ (λ z. ((omega arith, w Arguments.end refl tt), refl, passed-one ts (λ q. omega (arith, eqb-true (ahead ts 0) 63 z)))) (λ z. tt)
+      either-way (Kept vs n ts) (eqb (ahead ts 0) 63) _ _
+      (λ z. ((omega arith, w Arguments.end refl tt), refl, passed-one ts (λ q. omega (arith, eqb-true (ahead ts 0) 63 z)))) (λ z. tt)
   further-keeps (suc k) vs n ts w =
       either-way (Kept vs n ts) (eqb (ahead ts 0) 64) _ _
-      (λ z. ((λ e r es c ra. (omega arith, w (Arguments.argument e es) (ap suc c) (r, ra))), refl, passed-one ts (λ q. omega (arith, eqb-true (ahead ts 0) 64 z)))) (λ z. tt)
+      (λ z. (
+        (λ e r es c ra. (omega arith, w (Arguments.argument e es) (ap suc c) (r, ra))),
+        refl,
+        passed-one ts
+            (λ q. omega (arith, eqb-true (ahead ts 0) 64 z)),
+      )) (λ z. tt)
 
   -- a list of so many arguments
-  arguments-wanted : (k : ℕ) (vs : List Value) → ((es : Arguments) → count es ≡ k → Rightᵃ counts es → K (ofArguments es ∷ vs)) → Wants counts (argumentGoals k) K vs
+  arguments-wanted : (k : ℕ) (vs : List Value) → ((es : Arguments) → count es ≡ k → Rightᵃ counts es → K (ofArguments es ∷ vs))
+      → Wants counts (argumentGoals k) K vs
   unfolding argumentGoals made size termsOf
   arguments-wanted zero vs w = (omega arith, (omega arith, (omega arith, w Arguments.end refl tt)))
   arguments-wanted (suc k) vs w = (omega arith, λ e r es c ra. (omega arith, w (Arguments.argument e es) (ap suc c) (r, ra)))
@@ -197,8 +223,15 @@ module _ (counts : List ℕ) (K : List Value → Type 0) where
       let t = ahead ts 0 in
       either-way (Kept vs n ts) (ltb t 32 && ltb t (length counts)) _ _
       (λ z. let b = both (ltb t 32) (ltb t (length counts)) z in
-      let small = ltb-true t 32 (b .0) in
-      (arguments-wanted (getD counts t 0) (number t ∷ vs) (λ es c r. w t es (record { small = small; present = ltb-true t (length counts) (b .1); each-parameter = c }) r), omega arith, passed-one ts (λ q. omega arith)))
+      let small = ltb-true t 32 (b .0) in (
+        arguments-wanted (getD counts t 0) (number t ∷ vs) (λ es c r. w t es (record {
+          small = small;
+          present = ltb-true t (length counts) (b .1);
+          each-parameter = c;
+        }) r),
+        omega arith,
+        passed-one ts (λ q. omega arith),
+      ))
       (λ z. tt)
 
   -- ---- every goal
@@ -216,7 +249,8 @@ module _ (counts : List ℕ) (K : List Value → Type 0) where
       let t = ahead ts 0 in
       either-way (Kept vs n ts) (ltb t 8) _ _
       (λ z. let small = ltb-true t 8 z in (w t (λ q. omega arith), omega arith, passed-one ts (λ q. omega arith)))
-      (λ z. either-way (Kept vs n ts) (eqb t 68) _ _ (λ y. (w 15 (λ q. absurd (q refl)), omega arith, passed-one ts (λ q. omega (arith, eqb-true t 68 y)))) (λ y. tt))
+      (λ z. either-way (Kept vs n ts) (eqb t 68) _ _ (λ y. (w 15 (λ q. absurd (q refl)), omega arith, passed-one ts (λ q. omega (arith, eqb-true t 68 y))))
+      (λ y. tt))
   step-keeps (fields k f) [] n ts w = absurd w
   step-keeps (fields k f) (number a ∷ vs) n ts w = fields-keeps k f a vs n ts w
   step-keeps (fields k f) (ofExpression e ∷ vs) n ts w = absurd w

@@ -1,25 +1,18 @@
 -- What goals want of the values, so that all that is made is an expression that a plan can have. Assumes nothing.
-use Prim.Native.Nat.{ℕ, zero, suc, _+_, _-_, _*_, _^_, _≤_, _<_}
-use native.Mathlib.Nat.{add-assoc}
-use native.Mathlib.Omega.{arith}
-use mathlib.Core.Path.{_≡_, refl, sym, ap, subst, _∙_}
-use mathlib.Core.Bool.{Bool, true, false, cond, not, _&&_, _||_, true≢false, and-eq-true-iff}
+use Prim.Native.Nat.{ℕ, suc, _+_, _≤_}
+use mathlib.Core.Path.{_≡_, refl, ap, _∙_}
 use mathlib.Core.List.{List, [], _∷_, _++_}
-use lib.Dec.{eqb, ltb, leb}
-use lib.ListN.{length, getD, drop}
-use borrow.Author.Tests.{ltb-true, leb-true, eqb-true, ne-eqb, not-false}
-use Rattle.packed.specs.Syntax.{Signal, Expression, Condition, Arguments}
-use Rattle.packed.specs.Trees.{binderOf}
+use lib.ListN.{length, drop}
+use borrow.Author.Tests.{ne-eqb}
+use Rattle.packed.specs.Syntax.{Expression, Condition, Arguments}
 use Rattle.packed.proofs.WellFormed.{count}
-use Rattle.packed.proofs.Decoded.{Cases, done, _gives_then_, pick}
 use Rattle.written.specs.Terms.{termsOf, termsOfᶜ, termsOfᵃ, size, maskOf}
 use Rattle.written.proofs.Right.{Ascending, RightCall, Right, Rightᶜ, Rightᵃ}
-use Rattle.written.proofs.OrderedFields.{right-in-order, fields-back}
-use Rattle.written.proofs.RightPlans.{right-slot}
-use Rattle.notation.specs.Tokens.{procedureWord, textEnd, trueWord, opening, closing}
-use Rattle.parsing.specs.Goals.{Sort, either, expression, condition, Goal, expect, operand, more, make, binder, fields, procedure, further, Value, number, ofExpression, ofCondition, ofArguments, numberIn, valueAt, made, Form, forms, notifyAllForm, argumentGoals}
+use Rattle.notation.specs.Tokens.{procedureWord}
+use Rattle.notation.proofs.TextEnd.{Ended}
+use Rattle.parsing.specs.Goals.{Sort, either, expression, condition, Goal, expect, operand, more, make, binder, fields, procedure, further, Value, number, ofExpression, ofCondition, ofArguments, made}
 use Rattle.parsing.specs.Goals as goals
-use Rattle.parsing.specs.Parser.{ahead, Step, go, stop, isExpression, isCondition, takesCondition, fits, inside, begun, wordForm, operandStep, isField, dotStep, moreStep, fieldsStep, furtherStep, step}
+use Rattle.parsing.specs.Parser.{ahead}
 use Rattle.parsing.specs.Plan.{countsFrom}
 
 -- ---- how many terms values have
@@ -82,11 +75,6 @@ module _ (counts : List ℕ) where
 
 -- ---- the tokens that are left
 
--- behind the end there is nothing
-abbrev pub Ended : List ℕ → Type 0
-Ended [] = Unit {0}
-Ended (t ∷ ts) = (t ≡ textEnd → ts ≡ []) × Ended ts
-
 -- tokens that are left of others, where no `procedure` was taken
 pub record Passed (ts ts′ : List ℕ) : Type 0 where
   pub same-counts : countsFrom ts′ ≡ countsFrom ts
@@ -110,6 +98,7 @@ pub passed-two : (ts : List ℕ) → (ahead ts 0 ≡ procedureWord → ⊥) → 
 passed-two [] h k = passed-none []
 passed-two (t ∷ ts) h k = passed-both (t ∷ ts) ts (drop 1 ts) (passed-token t ts h) (passed-one ts k)
 
-pub passed-three : (ts : List ℕ) → (ahead ts 0 ≡ procedureWord → ⊥) → (ahead ts 1 ≡ procedureWord → ⊥) → (ahead ts 2 ≡ procedureWord → ⊥) → Passed ts (drop 3 ts)
+pub passed-three : (ts : List ℕ) → (ahead ts 0 ≡ procedureWord → ⊥) → (ahead ts 1 ≡ procedureWord → ⊥) → (ahead ts 2 ≡ procedureWord → ⊥)
+    → Passed ts (drop 3 ts)
 passed-three [] h k l = passed-none []
 passed-three (t ∷ ts) h k l = passed-both (t ∷ ts) ts (drop 2 ts) (passed-token t ts h) (passed-two ts k l)

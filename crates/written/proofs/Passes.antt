@@ -36,7 +36,8 @@ module _ (b b′ : List ℕ) where
   unfolding proceduresFrom
   from-alike a p zero l = refl
   from-alike a p (suc n) l =
-      ap₂ (λ (d : Procedure) (ds : List Procedure). d ∷ ds) (procedures-alike p (a .same-parameters p (omega arith)) (a .same-trees p (omega arith))) (from-alike a (suc p) n (omega arith))
+      ap₂ (λ (d : Procedure) (ds : List Procedure). d ∷ ds) (procedures-alike p (a .same-parameters p (omega arith)) (a .same-trees p (omega arith)))
+      (from-alike a (suc p) n (omega arith))
 
   pub alike-program : Alike b b′ → programOf b ≡ programOf b′
   unfolding programOf
