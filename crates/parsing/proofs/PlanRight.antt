@@ -18,7 +18,7 @@ use Rattle.written.specs.Written.{sizeOfAll, written}
 use Rattle.written.proofs.Right.{Ascending, countsIn, RightDefinition, RightDefinitions, RightProgram}
 use Rattle.written.proofs.RightWritten.{right-passes, program-is}
 use Rattle.written.proofs.OrderedFields.{fields-behind}
-use Rattle.notation.specs.Tokens.{textEnd}
+use Rattle.notation.specs.Tokens.{versionWord, volatileWord, procedureWord, opening, textEnd}
 use Rattle.notation.specs.Lexing.{codesOf}
 use Rattle.notation.proofs.TextEnd.{Ended, codes-ended}
 use Rattle.parsing.specs.Goals.{Value, number}
@@ -55,7 +55,7 @@ module _ (counts : List ℕ) (n m : ℕ) (vs : List Value) (ts rest : List ℕ) 
   one-main r =
       record { parameters = 0; few = omega arith; read = (ts, r); counts-are = ap (λ (l : List ℕ). 0 ∷ l) (sym (r .same-counts)); still-ended = r .still-ended }
 
-  one-further : (p : ℕ) → suc p < 32 → ReadBehind counts n m vs rest (42 ∷ suc p ∷ 62 ∷ []) ts → One counts (suc p) n m vs ts rest
+  one-further : (p : ℕ) → suc p < 32 → ReadBehind counts n m vs rest (procedureWord ∷ suc p ∷ opening ∷ []) ts → One counts (suc p) n m vs ts rest
   unfolding countsFrom
   one-further p small r =
       record {
@@ -63,7 +63,7 @@ module _ (counts : List ℕ) (n m : ℕ) (vs : List Value) (ts rest : List ℕ) 
         few = r .few;
         read = (r .tokens, r .read);
         counts-are = ap countsFrom (r .begins)
-            ∙ rw (ne-eqb (suc p) 42 (λ z. omega arith), ne-eqb (r .parameters) 42 (λ z. let h = r .few in omega arith))
+            ∙ rw (ne-eqb (suc p) procedureWord (λ z. omega arith), ne-eqb (r .parameters) procedureWord (λ z. let h = r .few in omega arith))
             (ap (λ (l : List ℕ). r .parameters ∷ l) (sym (r .read .same-counts)));
         still-ended = λ h. r .read .still-ended ((subst Ended (r .begins) h) .1 .1 .1 .1);
       }
@@ -76,7 +76,7 @@ module _ (counts : List ℕ) (n m : ℕ) (vs : List Value) (ts rest : List ℕ) 
 none-left : (rest : List ℕ) → Ended rest → ahead rest 0 ≡ textEnd → countsFrom rest ≡ []
 unfolding countsFrom
 none-left [] h e = refl
-none-left (t ∷ rest) h e = rw (ne-eqb t 42 (λ z. omega arith), h .0 e)
+none-left (t ∷ rest) h e = rw (ne-eqb t procedureWord (λ z. omega arith), h .0 e)
 
 -- ---- all procedures
 
@@ -136,9 +136,9 @@ module _ (counts : List ℕ) where
       let r = one .read .1 in
       either-way (λ (x : Reading). x ≡ plan g → Several counts p b n (suc most) ts g) (not (closed (λ x. ltb x (one .parameters)) (r .body))) _ _
       (λ z. none-faulty Fault.slots ts g)
-      (λ z. either-way (λ (x : Reading). x ≡ plan g → Several counts p b n (suc most) ts g) (eqb (ahead rest 0) 69) _ _
+      (λ z. either-way (λ (x : Reading). x ≡ plan g → Several counts p b n (suc most) ts g) (eqb (ahead rest 0) textEnd) _ _
       (λ y. last-one counts p b n most m ts rest g definition (definition-right z) (r .sized) (one .counts-are)
-      (none-left rest (one .still-ended ended) (eqb-true (ahead rest 0) 69 y)))
+      (none-left rest (one .still-ended ended) (eqb-true (ahead rest 0) textEnd y)))
       (λ y q. one-more counts p b n most m ts rest g definition (definition-right z) (r .sized) (one .counts-are)
       (ih (behind b (definition ∷ [])) (one .still-ended ended) q)))
       (subst (λ (us : List Value). afterProcedure (λ b′ n′ ts′. proceduresBy counts most (suc p) b′ n′ ts′) b ts (parsed us m rest) ≡ plan g) (r .values) e)
@@ -216,10 +216,10 @@ module _ (counts : List ℕ) (g : Program) where
   volatiles-read : (v : ℕ) (ts : List ℕ) → Ended ts → withVolatiles counts v ts ≡ plan g → Whole counts ts g
   unfolding withVolatiles maskOf
   volatiles-read v ts ended =
-      either-way (λ (x : Reading). x ≡ plan g → Whole counts ts g) (eqb (ahead ts 0) 41) _ _
+      either-way (λ (x : Reading). x ≡ plan g → Whole counts ts g) (eqb (ahead ts 0) volatileWord) _ _
       (λ z q. let r = taken (drop 1 ts) 0 in
       bodies-read v (r .fields) (maskFrom (2 ^ 31) 0 (drop 1 ts)) ts (behindFields 0 (drop 1 ts)) (r .ascending) (r .mask-is (2 ^ 31)) ended
-      (passed-both ts (drop 1 ts) (behindFields 0 (drop 1 ts)) (passed-one ts (λ y. omega (arith, eqb-true (ahead ts 0) 41 z))) (r .passed)) q)
+      (passed-both ts (drop 1 ts) (behindFields 0 (drop 1 ts)) (passed-one ts (λ y. omega (arith, eqb-true (ahead ts 0) volatileWord z))) (r .passed)) q)
       (λ z q. bodies-read v [] (2 ^ 31) ts ts tt refl ended (passed-none ts) q)
 
 -- behind a version or none
@@ -237,9 +237,9 @@ whole-passed counts ts us g p w =
 whole-read : (ts : List ℕ) (g : Program) → Ended ts → readPlan ts ≡ plan g → Whole (countsOf ts) ts g
 unfolding readPlan
 whole-read ts g ended =
-    either-way (λ (x : Reading). x ≡ plan g → Whole (countsOf ts) ts g) (eqb (ahead ts 0) 40) _ _
+    either-way (λ (x : Reading). x ≡ plan g → Whole (countsOf ts) ts g) (eqb (ahead ts 0) versionWord) _ _
     (λ z. either-way (λ (x : Reading). x ≡ plan g → Whole (countsOf ts) ts g) (ltb (ahead ts 1) 2) _ _
-    (λ y q. let p = passed-two ts (λ x. omega (arith, eqb-true (ahead ts 0) 40 z)) (λ x. omega (arith, ltb-true (ahead ts 1) 2 y)) in
+    (λ y q. let p = passed-two ts (λ x. omega (arith, eqb-true (ahead ts 0) versionWord z)) (λ x. omega (arith, ltb-true (ahead ts 1) 2 y)) in
     whole-passed (countsOf ts) ts (drop 2 ts) g p (volatiles-read (countsOf ts) g (ahead ts 1) (drop 2 ts) (p .still-ended ended) q))
     (λ y. none-faulty Fault.version (drop 1 ts) g))
     (λ z. volatiles-read (countsOf ts) g 1 ts ended)

@@ -10,11 +10,12 @@ use borrow.Author.Tests.{ltb-true, eqb-true}
 use Rattle.packed.specs.Syntax.{Expression}
 use Rattle.written.specs.Terms.{termsOf, size}
 use Rattle.written.proofs.Right.{Right}
-use Rattle.notation.specs.Tokens.{textEnd}
+use Rattle.notation.specs.Shown.{loose}
+use Rattle.notation.specs.Tokens.{procedureWord, opening, closing, equals, textEnd}
 use Rattle.notation.proofs.TextEnd.{Ended}
 use Rattle.parsing.specs.Goals.{expression, Goal, expect, operand, Value, number, ofExpression}
 use Rattle.parsing.specs.Goals as goals
-use Rattle.parsing.specs.Parser.{ahead, Step, go, stop, wanted, nesting, step, Parsed, parsed, stopped, afterStep, parseBy, parse}
+use Rattle.parsing.specs.Parser.{ahead, Step, go, stop, wanted, nesting, step, Parsed, parsed, stopped, afterStep, parseBy, parse, mostGoals, mostValues}
 use Rattle.parsing.specs.Plan.{countsFrom, procedureGoals}
 use Rattle.parsing.proofs.Wanted.{weights, Wants, wants-append, Passed, passed-none, passed-both}
 use Rattle.parsing.proofs.StepsKeep.{either-way, Kept, step-keeps}
@@ -36,7 +37,7 @@ module _ (counts : List ℕ) (Q : List Value → Type 0) where
   parse-keeps zero gs vs n ts w = tt
   parse-keeps (suc k) [] vs n ts w = (w, refl, passed-none ts)
   parse-keeps (suc k) (g ∷ gs) vs n ts w =
-      either-way (ParsedKept vs n ts) (ltb 8400 (length (g ∷ gs)) || ltb 3100 (length vs)) _ _ (λ z. tt)
+      either-way (ParsedKept vs n ts) (ltb mostGoals (length (g ∷ gs)) || ltb mostValues (length vs)) _ _ (λ z. tt)
       (λ z. after (λ gs′ vs′ n′ ts′ w′. parse-keeps k (gs′ ++ gs) vs′ n′ ts′ w′) (step counts g vs n ts) (step-keeps counts (Wants counts gs Q) g vs n ts w))
     where
       next : List Goal → List Value → ℕ → List ℕ → Parsed
@@ -70,14 +71,14 @@ module _ (counts : List ℕ) (gs : List Goal) (vs′ : List Value) (n n′ : ℕ
   unfolding parseBy
   expected zero t vs ts h e = none-nested ts ts′ vs′ n′ e
   expected (suc k) t vs ts h e =
-      either-way (λ (p : Parsed). p ≡ parsed vs′ n′ ts′ → Expected t vs ts) (ltb 8400 (suc (length gs)) || ltb 3100 (length vs)) _ _
+      either-way (λ (p : Parsed). p ≡ parsed vs′ n′ ts′ → Expected t vs ts) (ltb mostGoals (suc (length gs)) || ltb mostValues (length vs)) _ _
       (λ z. none-nested ts ts′ vs′ n′) (λ z. by-token ts (eqb (ahead ts 0) t) refl) e
     where
       by-token : (us : List ℕ) (x : Bool) → eqb (ahead us 0) t ≡ x
           → afterStep (λ gs′ vs′ n′ ts′. parseBy counts k (gs′ ++ gs) vs′ n′ ts′) (cond x (go [] vs n (drop 1 us)) (stop (wanted (expect t)) us)) ≡ parsed
           vs′ n′ ts′ → Expected t vs us
       by-token us false q e = none-stopped (expect t) us ts′ vs′ n′ e
-      by-token [] true q e = absurd (h (sym (eqb-true 69 t q)))
+      by-token [] true q e = absurd (h (sym (eqb-true textEnd t q)))
       by-token (u ∷ us) true q e = record { rest = us; steps = k; begins = ap (λ (t : ℕ). t ∷ us) (eqb-true u t q); goes-on = e }
 
   -- a count of parameters
@@ -93,7 +94,7 @@ module _ (counts : List ℕ) (gs : List Goal) (vs′ : List Value) (n n′ : ℕ
   unfolding parseBy
   counted zero vs ts e = none-nested ts ts′ vs′ n′ e
   counted (suc k) vs ts e =
-      either-way (λ (p : Parsed). p ≡ parsed vs′ n′ ts′ → Counted vs ts) (ltb 8400 (suc (length gs)) || ltb 3100 (length vs)) _ _
+      either-way (λ (p : Parsed). p ≡ parsed vs′ n′ ts′ → Counted vs ts) (ltb mostGoals (suc (length gs)) || ltb mostValues (length vs)) _ _
       (λ z. none-nested ts ts′ vs′ n′) (λ z. by-token ts (ltb (ahead ts 0) 9) refl) e
     where
       by-token : (us : List ℕ) (x : Bool) → ltb (ahead us 0) 9 ≡ x
@@ -140,7 +141,7 @@ module _ (counts : List ℕ) (n m : ℕ) (vs : List Value) (rest : List ℕ) whe
 
   pub main-read : (ts : List ℕ) → parse counts (procedureGoals 0) (number 0 ∷ []) n ts ≡ parsed vs m rest → ReadProcedure counts n m 0 vs ts rest
   unfolding parse procedureGoals
-  main-read ts e = body-read (8 * length ts + 2) 0 (operand 0 expression ∷ []) [] ts refl (λ x r. (x, r, refl)) e
+  main-read ts e = body-read (8 * length ts + 2) 0 (operand loose expression ∷ []) [] ts refl (λ x r. (x, r, refl)) e
 
   -- behind these tokens, a count and the body
   pub record ReadBehind (front ts : List ℕ) : Type 0 where
@@ -155,7 +156,7 @@ module _ (counts : List ℕ) (n m : ℕ) (vs : List Value) (rest : List ℕ) whe
       record { parameters = r .parameters; few = r .few; tokens = r .tokens; begins = e ∙ ap (λ (l : List ℕ). t ∷ l) (r .begins); read = r .read }
 
   abbrev body-goals : List Goal
-  body-goals = expect 63 ∷ expect 66 ∷ operand 0 expression ∷ []
+  body-goals = expect closing ∷ expect equals ∷ operand loose expression ∷ []
 
   count-read : (us : List ℕ) → Counted counts body-goals vs n m rest (number 0 ∷ []) us → ReadBehind [] us
   count-read us c =
@@ -167,26 +168,32 @@ module _ (counts : List ℕ) (n m : ℕ) (vs : List Value) (rest : List ℕ) whe
         read = body-read (c .steps) (c .parameters) body-goals (number 0 ∷ []) (c .rest) refl (omega arith, (omega arith, λ x r. (x, r, refl))) (c .goes-on);
       }
 
-  opening-read : (us : List ℕ) → Expected counts (goals.count ∷ body-goals) vs n m rest 62 (number 0 ∷ []) us → ReadBehind (62 ∷ []) us
+  opening-read : (us : List ℕ) → Expected counts (goals.count ∷ body-goals) vs n m rest opening (number 0 ∷ []) us → ReadBehind (opening ∷ []) us
   opening-read us x =
-      token-more 62 [] (x .rest) us (x .begins) (count-read (x .rest) (counted counts body-goals vs n m rest (x .steps) (number 0 ∷ []) (x .rest) (x .goes-on)))
+      token-more opening [] (x .rest) us (x .begins)
+      (count-read (x .rest) (counted counts body-goals vs n m rest (x .steps) (number 0 ∷ []) (x .rest) (x .goes-on)))
 
-  number-read : (p : ℕ) (us : List ℕ) → Expected counts (expect 62 ∷ goals.count ∷ body-goals) vs n m rest p (number 0 ∷ []) us → ReadBehind (p ∷ 62 ∷ []) us
+  number-read : (p : ℕ) (us : List ℕ) → Expected counts (expect opening ∷ goals.count ∷ body-goals) vs n m rest p (number 0 ∷ []) us
+      → ReadBehind (p ∷ opening ∷ []) us
   number-read p us x =
-      token-more p (62 ∷ []) (x .rest) us (x .begins)
-      (opening-read (x .rest) (expected counts (goals.count ∷ body-goals) vs n m rest (x .steps) 62 (number 0 ∷ []) (x .rest) (λ z. omega arith) (x .goes-on)))
+      token-more p (opening ∷ []) (x .rest) us (x .begins)
+      (opening-read (x .rest) (expected counts (goals.count ∷ body-goals) vs n m rest (x .steps) opening (number 0 ∷ []) (x .rest) (λ z. omega arith)
+      (x .goes-on)))
 
-  word-read : (p : ℕ) (us : List ℕ) → p < 32 → Expected counts (expect p ∷ expect 62 ∷ goals.count ∷ body-goals) vs n m rest 42 (number 0 ∷ []) us
-      → ReadBehind (42 ∷ p ∷ 62 ∷ []) us
+  word-read : (p : ℕ) (us : List ℕ) → p < 32
+      → Expected counts (expect p ∷ expect opening ∷ goals.count ∷ body-goals) vs n m rest procedureWord (number 0 ∷ []) us
+      → ReadBehind (procedureWord ∷ p ∷ opening ∷ []) us
   word-read p us small x =
-      token-more 42 (p ∷ 62 ∷ []) (x .rest) us (x .begins)
-      (number-read p (x .rest) (expected counts (expect 62 ∷ goals.count ∷ body-goals) vs n m rest (x .steps) p (number 0 ∷ []) (x .rest) (λ z. omega arith)
+      token-more procedureWord (p ∷ opening ∷ []) (x .rest) us (x .begins)
+      (number-read p (x .rest) (expected counts (expect opening ∷ goals.count ∷ body-goals) vs n m rest (x .steps) p (number 0 ∷ []) (x .rest)
+      (λ z. omega arith)
       (x .goes-on)))
 
   -- `procedure p (k) = e`
   pub procedure-read : (p : ℕ) (ts : List ℕ) → suc p < 32 → parse counts (procedureGoals (suc p)) (number 0 ∷ []) n ts ≡ parsed vs m rest
-      → ReadBehind (42 ∷ suc p ∷ 62 ∷ []) ts
+      → ReadBehind (procedureWord ∷ suc p ∷ opening ∷ []) ts
   unfolding parse procedureGoals
   procedure-read p ts small e =
       word-read (suc p) ts small
-      (expected counts (expect (suc p) ∷ expect 62 ∷ goals.count ∷ body-goals) vs n m rest (8 * length ts + 8) 42 (number 0 ∷ []) ts (λ z. omega arith) e)
+      (expected counts (expect (suc p) ∷ expect opening ∷ goals.count ∷ body-goals) vs n m rest (8 * length ts + 8) procedureWord (number 0 ∷ []) ts
+      (λ z. omega arith) e)
