@@ -3,3 +3,4 @@ pub mod ShownTokens
 pub mod Found
 pub mod Widths
 pub mod ShownCodes
+pub mod TextEnd

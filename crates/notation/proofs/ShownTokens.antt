@@ -1,13 +1,13 @@
 -- The tokens of what is shown: how an expression begins, and that `procedure` is none of them. Assumes nothing.
-use Prim.Native.Nat.{ℕ, suc, _+_, _≤_, _<_}
+use Prim.Native.Nat.{ℕ, _≤_}
 use native.Mathlib.Omega.{arith}
-use mathlib.Core.Path.{_≡_, refl}
+use mathlib.Core.Path.{_≡_}
 use mathlib.Core.Bool.{Bool, true, false, cond}
 use mathlib.Core.List.{List, [], _∷_, _++_}
 use mathlib.Core.Option.{Option, some, none}
 use lib.Dec.{ltb}
 use Rattle.packed.specs.Syntax.{Signal, Expression, Condition, Arguments}
-use Rattle.notation.specs.Tokens.{volatileWord, procedureWord, allWord}
+use Rattle.notation.specs.Tokens.{volatileWord, procedureWord, inWord, thenWord, elseWord, doWord, allWord, andWord, trueWord, notWord, letWord, ifWord, whileWord, forkWord, joinWord, synchWord, opening, closing, dot, equals, becomes}
 use Rattle.notation.specs.Shown.{tight, prefix, loose, testing, grouped, binderToken, signalTokens, shown, shownᶜ, shownᵃ, shownFurther}
 use Rattle.written.proofs.Right.{Ascending, RightSlot, Right, Rightᶜ, Rightᵃ}
 
@@ -26,11 +26,11 @@ starts-grouped : (d l : ℕ) (ts : List ℕ) → Starts ts → Starts (grouped d
 unfolding grouped
 starts-grouped d l ts h = go (ltb l d)
   where
-    go : (x : Bool) → Starts (cond x (62 ∷ ts ++ (63 ∷ [])) ts)
+    go : (x : Bool) → Starts (cond x (opening ∷ ts ++ (closing ∷ [])) ts)
     go true = omega arith
     go false = h
 
-starts-word : (d l w : ℕ) (ts : List ℕ) → 49 ≤ w → Starts (grouped d l (w ∷ ts))
+starts-word : (d l w : ℕ) (ts : List ℕ) → trueWord ≤ w → Starts (grouped d l (w ∷ ts))
 starts-word d l w ts h = starts-grouped d l (w ∷ ts) (omega arith)
 
 starts-signal : (k : Signal) (ts : List ℕ) → Starts (signalTokens k ++ ts)
@@ -46,14 +46,15 @@ starts counts (Expression.variable x) d r = omega arith
 starts counts (Expression.new fs) d r = omega arith
 starts counts (Expression.read e f) d r = starts-append (shown tight e) _ (starts counts e tight (r .0))
 starts counts (Expression.write e f e′) d r =
-    starts-grouped d loose (shown tight e ++ (65 ∷ f ∷ 67 ∷ shown loose e′)) (starts-append (shown tight e) _ (starts counts e tight (r .0)))
-starts counts (Expression.letIn x e e′) d r = starts-word d loose 53 (binderToken x ∷ 66 ∷ shown loose e ++ (43 ∷ shown loose e′)) (omega arith)
-starts counts (Expression.if c e e′) d r = starts-word d loose 54 (shownᶜ loose c ++ (44 ∷ shown loose e ++ (45 ∷ shown loose e′))) (omega arith)
-starts counts (Expression.while c e) d r = starts-word d loose 55 (shownᶜ loose c ++ (46 ∷ shown loose e)) (omega arith)
+    starts-grouped d loose (shown tight e ++ (dot ∷ f ∷ becomes ∷ shown loose e′)) (starts-append (shown tight e) _ (starts counts e tight (r .0)))
+starts counts (Expression.letIn x e e′) d r = starts-word d loose letWord (binderToken x ∷ equals ∷ shown loose e ++ (inWord ∷ shown loose e′)) (omega arith)
+starts counts (Expression.if c e e′) d r =
+    starts-word d loose ifWord (shownᶜ loose c ++ (thenWord ∷ shown loose e ++ (elseWord ∷ shown loose e′))) (omega arith)
+starts counts (Expression.while c e) d r = starts-word d loose whileWord (shownᶜ loose c ++ (doWord ∷ shown loose e)) (omega arith)
 starts counts (Expression.call m es) d r = omega arith
-starts counts (Expression.fork e) d r = starts-word d prefix 57 (shown prefix e) (omega arith)
-starts counts (Expression.join e) d r = starts-word d prefix 58 (shown prefix e) (omega arith)
-starts counts (Expression.synch e e′) d r = starts-word d loose 59 (shown loose e ++ (46 ∷ shown loose e′)) (omega arith)
+starts counts (Expression.fork e) d r = starts-word d prefix forkWord (shown prefix e) (omega arith)
+starts counts (Expression.join e) d r = starts-word d prefix joinWord (shown prefix e) (omega arith)
+starts counts (Expression.synch e e′) d r = starts-word d loose synchWord (shown loose e ++ (doWord ∷ shown loose e′)) (omega arith)
 starts counts (Expression.hold o e) d r = absurd r
 starts counts (Expression.signal k e) d r = starts-grouped d prefix (signalTokens k ++ shown prefix e) (starts-signal k (shown prefix e))
 starts counts (Expression.waiting o) d r = absurd r
@@ -76,8 +77,8 @@ none-grouped : (d l : ℕ) (ts : List ℕ) → NoProcedure ts → NoProcedure (g
 unfolding grouped
 none-grouped d l ts h = go (ltb l d)
   where
-    go : (x : Bool) → NoProcedure (cond x (62 ∷ ts ++ (63 ∷ [])) ts)
-    go true = (omega arith, none-append ts (63 ∷ []) h (omega arith, tt))
+    go : (x : Bool) → NoProcedure (cond x (opening ∷ ts ++ (closing ∷ [])) ts)
+    go true = (omega arith, none-append ts (closing ∷ []) h (omega arith, tt))
     go false = h
 
 none-binder : (x : Option ℕ) → RightSlot x → binderToken x ≡ procedureWord → ⊥
@@ -104,36 +105,36 @@ module _ (counts : List ℕ) where
     none-shown (Expression.variable x) d r = (omega arith, tt)
     none-shown (Expression.new fs) d r = (omega arith, (omega arith, none-append fs _ (none-fields fs 0 (r .ascending)) (omega arith, tt)))
     none-shown (Expression.read e f) d r =
-        none-append (shown tight e) (65 ∷ f ∷ []) (none-shown e tight (r .0)) (omega arith, ((let s = r .1 .1 in omega arith), tt))
+        none-append (shown tight e) (dot ∷ f ∷ []) (none-shown e tight (r .0)) (omega arith, ((let s = r .1 .1 in omega arith), tt))
     none-shown (Expression.write e f e′) d r =
-        none-grouped d 0 (shown tight e ++ (65 ∷ f ∷ 67 ∷ shown loose e′))
+        none-grouped d 0 (shown tight e ++ (dot ∷ f ∷ becomes ∷ shown loose e′))
         (none-append (shown tight e) _ (none-shown e tight (r .0)) (omega arith, ((let s = r .1 .1 in omega arith), (omega arith, none-shown e′ loose (r .2)))))
     none-shown (Expression.letIn x e e′) d r =
-        none-grouped d 0 (53 ∷ binderToken x ∷ 66 ∷ shown loose e ++ (43 ∷ shown loose e′)) (
+        none-grouped d 0 (letWord ∷ binderToken x ∷ equals ∷ shown loose e ++ (inWord ∷ shown loose e′)) (
           omega arith,
           (
             none-binder x (r .0),
             (
               omega arith,
-              none-two (shown loose e) 43 (shown loose e′) (none-shown e loose (r .1)) (omega arith)
+              none-two (shown loose e) inWord (shown loose e′) (none-shown e loose (r .1)) (omega arith)
                   (none-shown e′ loose (r .2)),
             ),
           ),
         )
     none-shown (Expression.if c e e′) d r =
-        none-grouped d 0 (54 ∷ shownᶜ loose c ++ (44 ∷ shown loose e ++ (45 ∷ shown loose e′))) (
+        none-grouped d 0 (ifWord ∷ shownᶜ loose c ++ (thenWord ∷ shown loose e ++ (elseWord ∷ shown loose e′))) (
           omega arith,
-          none-two (shownᶜ loose c) 44 (shown loose e ++ (45 ∷ shown loose e′)) (none-shownᶜ c loose (r .0)) (omega arith)
-              (none-two (shown loose e) 45 (shown loose e′) (none-shown e loose (r .1)) (omega arith) (none-shown e′ loose (r .2))),
+          none-two (shownᶜ loose c) thenWord (shown loose e ++ (elseWord ∷ shown loose e′)) (none-shownᶜ c loose (r .0)) (omega arith)
+              (none-two (shown loose e) elseWord (shown loose e′) (none-shown e loose (r .1)) (omega arith) (none-shown e′ loose (r .2))),
         )
     none-shown (Expression.while c e) d r =
-        none-grouped d 0 (55 ∷ shownᶜ loose c ++ (46 ∷ shown loose e))
+        none-grouped d 0 (whileWord ∷ shownᶜ loose c ++ (doWord ∷ shown loose e))
         (omega arith, none-append (shownᶜ loose c) _ (none-shownᶜ c loose (r .0)) (omega arith, none-shown e loose (r .1)))
     none-shown (Expression.call m es) d r = (omega arith, ((let s = r .0 .small in omega arith), (omega arith, none-arguments es (r .1))))
-    none-shown (Expression.fork e) d r = none-grouped d 2 (57 ∷ shown prefix e) (omega arith, none-shown e prefix r)
-    none-shown (Expression.join e) d r = none-grouped d 2 (58 ∷ shown prefix e) (omega arith, none-shown e prefix r)
+    none-shown (Expression.fork e) d r = none-grouped d 2 (forkWord ∷ shown prefix e) (omega arith, none-shown e prefix r)
+    none-shown (Expression.join e) d r = none-grouped d 2 (joinWord ∷ shown prefix e) (omega arith, none-shown e prefix r)
     none-shown (Expression.synch e e′) d r =
-        none-grouped d 0 (59 ∷ shown loose e ++ (46 ∷ shown loose e′))
+        none-grouped d 0 (synchWord ∷ shown loose e ++ (doWord ∷ shown loose e′))
         (omega arith, none-append (shown loose e) _ (none-shown e loose (r .0)) (omega arith, none-shown e′ loose (r .1)))
     none-shown (Expression.hold o e) d r = absurd r
     none-shown (Expression.signal k e) d r =
@@ -142,12 +143,12 @@ module _ (counts : List ℕ) where
 
     none-shownᶜ : (c : Condition) (d : ℕ) → Rightᶜ counts c → NoProcedure (shownᶜ d c)
     none-shownᶜ Condition.truth d r = (omega arith, tt)
-    none-shownᶜ (Condition.not c) d r = none-grouped d 1 (50 ∷ shownᶜ testing c) (omega arith, none-shownᶜ c testing r)
+    none-shownᶜ (Condition.not c) d r = none-grouped d 1 (notWord ∷ shownᶜ testing c) (omega arith, none-shownᶜ c testing r)
     none-shownᶜ (Condition.and c c′) d r =
-        none-grouped d 0 (shownᶜ testing c ++ (48 ∷ shownᶜ loose c′))
+        none-grouped d 0 (shownᶜ testing c ++ (andWord ∷ shownᶜ loose c′))
         (none-append (shownᶜ testing c) _ (none-shownᶜ c testing (r .0)) (omega arith, none-shownᶜ c′ loose (r .1)))
     none-shownᶜ (Condition.equal e e′) d r =
-        none-grouped d 1 (shown prefix e ++ (66 ∷ shown prefix e′))
+        none-grouped d 1 (shown prefix e ++ (equals ∷ shown prefix e′))
         (none-append (shown prefix e) _ (none-shown e prefix (r .0)) (omega arith, none-shown e′ prefix (r .1)))
 
     none-arguments : (es : Arguments) → Rightᵃ counts es → NoProcedure (shownᵃ es)

@@ -1,6 +1,10 @@
-pub mod Operands
-pub mod PlanBack
-pub mod ReadBack
-pub mod ReadForms
-pub mod Runs
 pub mod Samples
+pub mod Runs
+pub mod Operands
+pub mod ReadForms
+pub mod ReadBack
+pub mod PlanBack
+pub mod Wanted
+pub mod StepsKeep
+pub mod ReadRight
+pub mod PlanRight

@@ -1,19 +1,19 @@
 -- Tokens that are read as an operand: in parentheses, up to where it ends, and behind the words that begin a form. Assumes nothing.
-use Prim.Native.Nat.{ℕ, zero, suc, _+_, _-_, _*_, _≤_, _<_}
+use Prim.Native.Nat.{ℕ, _+_, _*_, _≤_, _<_}
 use native.Mathlib.Decide.{decLt}
 use native.Mathlib.Omega.{arith}
-use mathlib.Core.Path.{_≡_, refl, sym, ap, _∙_}
-use mathlib.Core.Bool.{Bool, true, false, cond, not, _&&_, _||_, and-false, true≢false}
+use mathlib.Core.Path.{_≡_, refl}
+use mathlib.Core.Bool.{Bool, true, false, cond, _&&_, and-false}
 use mathlib.Core.List.{List, [], _∷_, _++_, append-assoc}
 use lib.Dec.{eqb, ltb, leb}
-use lib.ListN.{length, getD}
-use borrow.Author.Tests.{le-leb, lt-ltb, le-ltb, ltb-true, ltb-false, eq-eqb, ne-eqb}
-use Rattle.packed.specs.Syntax.{Expression, Condition, Arguments}
-use Rattle.notation.specs.Tokens.{trueWord, notWord, andWord, newWord, notifyWord, closing, dot, equals, becomes}
-use Rattle.notation.specs.Shown.{loose, testing, prefix, tight, grouped}
-use Rattle.parsing.specs.Goals.{Sort, either, expression, condition, Goal, expect, operand, more, make, Value, number, ofExpression, ofCondition, ofArguments, Form, forms, notifyAllForm}
-use Rattle.parsing.specs.Parser.{ahead, Step, go, stop, isExpression, isCondition, takesCondition, fits, inside, begun, wordForm, operandStep, moreStep, step}
-use Rattle.parsing.proofs.Runs.{State, state, Leads, _thence_, stays, by-step}
+use lib.ListN.{length}
+use borrow.Author.Tests.{ltb-false, eq-eqb, ne-eqb}
+use Rattle.packed.specs.Syntax.{Expression, Condition}
+use Rattle.notation.specs.Tokens.{andWord, opening, closing, dot, equals, becomes}
+use Rattle.notation.specs.Shown.{loose, testing, grouped, tight}
+use Rattle.parsing.specs.Goals.{Sort, either, expression, condition, Goal, expect, operand, more, Value, ofExpression, ofCondition}
+use Rattle.parsing.specs.Parser.{ahead, go, isExpression, isCondition, takesCondition, fits, inside, operandStep, moreStep, step, mostGoals, mostValues}
+use Rattle.parsing.proofs.Runs.{state, Leads, _thence_, by-step}
 
 -- what may stand behind an operand that is shown at a place that asks for d: nothing that it could take for its own
 pub record Follows (d : ℕ) (rest : List ℕ) : Type 0 where
@@ -95,15 +95,15 @@ pub follows-token : (t d : ℕ) (rest : List ℕ) → eqb t becomes ≡ false �
 follows-token t d rest p q r = record { no-becomes = p; no-dot = λ h. q; no-and = λ h. r }
 
 -- `.` follows what binds most tightly, `and` a test
-pub follows-dot : (rest : List ℕ) → Follows 3 (dot ∷ rest)
+pub follows-dot : (rest : List ℕ) → Follows tight (dot ∷ rest)
 follows-dot rest = record { no-becomes = refl; no-dot = λ h. absurd (omega arith); no-and = λ h. refl }
 
-pub follows-and : (rest : List ℕ) → Follows 1 (andWord ∷ rest)
+pub follows-and : (rest : List ℕ) → Follows testing (andWord ∷ rest)
 follows-and rest = record { no-becomes = refl; no-dot = λ h. refl; no-and = λ h. absurd (omega arith) }
 
 module _ {counts : List ℕ} where
   -- this token is there
-  pub expects : (t : ℕ) (gs : List Goal) (vs : List Value) (n : ℕ) (ts : List ℕ) → length gs < 8400 → length vs ≤ 3100
+  pub expects : (t : ℕ) (gs : List Goal) (vs : List Value) (n : ℕ) (ts : List ℕ) → length gs < mostGoals → length vs ≤ mostValues
       → Leads counts (state (expect t ∷ gs) vs n (t ∷ ts)) (state gs vs n ts)
   unfolding step
   expects t gs vs n ts h h′ = by-step (expect t) gs [] vs vs n n (t ∷ ts) ts (rw (eq-eqb t t refl)) (h, h′, omega arith)
@@ -140,13 +140,14 @@ module _ {counts : List ℕ} where
   in-parentheses l d₁ ts v k read d s gs vs n m rest h su f q room room′ = choose (ltb l d₁) refl
     where
       choose : (x : Bool) → ltb l d₁ ≡ x
-          → Leads counts (state (operand d s ∷ gs) vs n (cond x (62 ∷ ts ++ (63 ∷ [])) ts ++ rest)) (state (more d s ∷ gs) (v ∷ vs) m rest)
+          → Leads counts (state (operand d s ∷ gs) vs n (cond x (opening ∷ ts ++ (closing ∷ [])) ts ++ rest)) (state (more d s ∷ gs) (v ∷ vs) m rest)
       choose true z =
           rw append-assoc
-          (by-step (operand d s) gs (operand 0 (inside s) ∷ expect 63 ∷ more d s ∷ []) vs vs n n (62 ∷ ts ++ (63 ∷ rest)) (ts ++ (63 ∷ rest)) refl (omega arith)
-          thence read 0 (inside s) (expect 63 ∷ more d s ∷ gs) vs n m (63 ∷ rest) (omega arith) (suits-inside s v su)
-          (follows-token 63 l rest refl refl refl) q (omega arith) room′
-          thence by-step (more 0 (inside s)) (expect 63 ∷ more d s ∷ gs) [] (v ∷ vs) (v ∷ vs) m m (63 ∷ rest) (63 ∷ rest)
+          (by-step (operand d s) gs (operand loose (inside s) ∷ expect closing ∷ more d s ∷ []) vs vs n n (opening ∷ ts ++ (closing ∷ rest))
+          (ts ++ (closing ∷ rest)) refl (omega arith)
+          thence read 0 (inside s) (expect closing ∷ more d s ∷ gs) vs n m (closing ∷ rest) (omega arith) (suits-inside s v su)
+          (follows-token closing l rest refl refl refl) q (omega arith) room′
+          thence by-step (more loose (inside s)) (expect closing ∷ more d s ∷ gs) [] (v ∷ vs) (v ∷ vs) m m (closing ∷ rest) (closing ∷ rest)
           (ends-closing 0 (inside s) v vs m rest su) (omega arith)
-          thence expects 63 (more d s ∷ gs) (v ∷ vs) m rest (omega arith) (omega arith))
+          thence expects closing (more d s ∷ gs) (v ∷ vs) m rest (omega arith) (omega arith))
       choose false z = let y = ltb-false l d₁ z in read d s gs vs n m rest (omega arith) su (looser d₁ l rest y f) q (omega arith) room′

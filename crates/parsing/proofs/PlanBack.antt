@@ -3,29 +3,29 @@ use Prim.Native.Nat.{ℕ, zero, suc, _+_, _-_, _*_, _^_, _≤_, _<_}
 use native.Mathlib.Nat.{add-assoc}
 use native.Mathlib.Omega.{arith}
 use mathlib.Core.Path.{_≡_, refl, sym, ap, ap₂, _∙_}
-use mathlib.Core.Bool.{Bool, true, false, cond, not, _&&_, and-false}
+use mathlib.Core.Bool.{false, cond, and-false}
 use mathlib.Core.List.{List, [], _∷_, _++_, append-assoc}
 use mathlib.Core.Option.{none}
 use lib.Dec.{eqb, ltb}
-use lib.ListN.{length, getD, drop}
-use borrow.Author.Tests.{lt-ltb, le-ltb, eq-eqb, ne-eqb}
-use Rattle.format.specs.Version.{Version, v0, v1, versionOf}
-use Rattle.packed.specs.Syntax.{Expression, Procedure, Program}
+use lib.ListN.{length, getD}
+use borrow.Author.Tests.{lt-ltb, le-ltb, ne-eqb}
+use Rattle.packed.specs.Syntax.{Procedure, Program}
 use Rattle.packed.specs.Format.{fieldsFrom}
-use Rattle.packed.specs.Slots.{closed}
 use Rattle.packed.specs.Trees.{programOf}
 use Rattle.packed.specs.Check.{refusal}
 use Rattle.written.specs.Terms.{termsOf, size, maskOf}
 use Rattle.written.specs.Written.{sizeOfAll, versionNumber}
-use Rattle.notation.specs.Tokens.{volatileWord, procedureWord, textEnd}
+use Rattle.notation.specs.Tokens.{versionWord, volatileWord, procedureWord, opening, closing, equals, textEnd}
 use Rattle.notation.specs.Shown.{loose, shown, volatileTokens, procedureTokens, mainFirst, shownPlan}
-use Rattle.written.proofs.Right.{Ascending, Right, countsIn, RightDefinition, RightDefinitions, RightProgram}
+use Rattle.written.proofs.Right.{Ascending, countsIn, RightDefinition, RightDefinitions, RightProgram}
+use Rattle.written.proofs.ReadBack.{version-small}
+use Rattle.written.proofs.RightWritten.{version-again}
 use Rattle.written.proofs.RightPlans.{fields-ascend, right-program}
 use Rattle.notation.proofs.ShownTokens.{Starts, starts, starts-append, NoProcedure, none-fields, none-shown}
-use Rattle.parsing.specs.Goals.{expression, Goal, expect, operand, count, Value, number, ofExpression, numberIn, expressionIn, valueAt}
-use Rattle.parsing.specs.Parser.{ahead, go, step, Parsed, parsed, parseBy, parse}
-use Rattle.parsing.specs.Plan.{Reading, plan, countsFrom, countsOf, procedureGoals, Before, programBy, withProcedure, afterProcedure, proceduresBy, maskFrom, behindFields, withVolatiles, readPlan}
-use Rattle.parsing.proofs.Runs.{State, state, Leads, Comes, _thence_, by-step}
+use Rattle.parsing.specs.Goals.{expression, Goal, expect, operand, count, Value, number, ofExpression}
+use Rattle.parsing.specs.Parser.{ahead, step, parsed, parseBy, parse}
+use Rattle.parsing.specs.Plan.{Reading, plan, countsFrom, countsOf, procedureGoals, Before, programBy, afterProcedure, proceduresBy, maskFrom, behindFields, withVolatiles, readPlan}
+use Rattle.parsing.proofs.Runs.{state, Leads, _thence_, by-step}
 use Rattle.parsing.proofs.Operands.{Follows, follows-token, expects, whole}
 use Rattle.parsing.proofs.ReadBack.{reads}
 
@@ -49,51 +49,55 @@ tokensFrom zero ds = mainFirst ds
 tokensFrom (suc p) ds = procedureTokens (suc p) ds
 
 -- behind a procedure there is another, or the end
-behind-body : (p : ℕ) (ds : List Procedure) → Follows 0 (procedureTokens p ds ++ (69 ∷ []))
+behind-body : (p : ℕ) (ds : List Procedure) → Follows loose (procedureTokens p ds ++ (textEnd ∷ []))
 unfolding procedureTokens
-behind-body p [] = follows-token 69 0 [] refl refl refl
+behind-body p [] = follows-token textEnd loose [] refl refl refl
 behind-body p (d ∷ ds) =
-    follows-token 42 0 ((p ∷ 62 ∷ d .parameters ∷ 63 ∷ 66 ∷ shown loose (d .body) ++ procedureTokens (suc p) ds) ++ (69 ∷ [])) refl refl refl
+    follows-token procedureWord loose ((p ∷ opening ∷ d .parameters ∷ closing ∷ equals ∷ shown loose (d .body) ++ procedureTokens (suc p) ds) ++
+    (textEnd ∷ [])) refl refl refl
 
 module _ (counts : List ℕ) (d : Procedure) (ds : List Procedure) (right : RightDefinition counts d) (n m : ℕ) (enough : n ≡ size (termsOf (d .body)) + m)
     (small : n ≤ 1024) where
   -- its body, up to the next procedure
   body-leads : (p : ℕ) (vs : List Value) → length vs ≤ 2
-      → Leads counts (state (operand 0 expression ∷ []) vs n (shown 0 (d .body) ++ (procedureTokens p ds ++ (69 ∷ []))))
-      (state [] (ofExpression (d .body) ∷ vs) m (procedureTokens p ds ++ (69 ∷ [])))
+      → Leads counts (state (operand loose expression ∷ []) vs n (shown 0 (d .body) ++ (procedureTokens p ds ++ (textEnd ∷ []))))
+      (state [] (ofExpression (d .body) ∷ vs) m (procedureTokens p ds ++ (textEnd ∷ [])))
   body-leads p vs h =
-      whole 0 (shown 0 (d .body)) (d .body) (size (termsOf (d .body))) (reads counts (d .body) 0 (omega arith) (right .right-body)) [] vs n m
-      (procedureTokens p ds ++ (69 ∷ []))
+      whole loose (shown 0 (d .body)) (d .body) (size (termsOf (d .body))) (reads counts (d .body) 0 (omega arith) (right .right-body)) [] vs n m
+      (procedureTokens p ds ++ (textEnd ∷ []))
       (omega arith) (behind-body p ds) enough (omega arith) (omega arith)
 
   main-parsed : d .parameters ≡ 0
-      → parse counts (procedureGoals 0) (number 0 ∷ []) n (mainFirst (d ∷ ds) ++ (69 ∷ [])) ≡ parsed (ofExpression (d .body) ∷ number (d .parameters) ∷ []) m
-      (procedureTokens 1 ds ++ (69 ∷ []))
+      → parse counts (procedureGoals 0) (number 0 ∷ []) n (mainFirst (d ∷ ds) ++ (textEnd ∷ [])) ≡ parsed
+      (ofExpression (d .body) ∷ number (d .parameters) ∷ []) m
+      (procedureTokens 1 ds ++ (textEnd ∷ []))
   unfolding procedureGoals mainFirst
   main-parsed bare = rw (append-assoc, bare) (parse-ends counts _ _ _ _ _ _ _ (body-leads 1 (number 0 ∷ []) (omega arith)))
 
-  procedure-parsed : (p : ℕ) → parse counts (procedureGoals (suc p)) (number 0 ∷ []) n (procedureTokens (suc p) (d ∷ ds) ++ (69 ∷ []))
-      ≡ parsed (ofExpression (d .body) ∷ number (d .parameters) ∷ number 0 ∷ []) m (procedureTokens (suc (suc p)) ds ++ (69 ∷ []))
+  procedure-parsed : (p : ℕ) → parse counts (procedureGoals (suc p)) (number 0 ∷ []) n (procedureTokens (suc p) (d ∷ ds) ++ (textEnd ∷ []))
+      ≡ parsed (ofExpression (d .body) ∷ number (d .parameters) ∷ number 0 ∷ []) m (procedureTokens (suc (suc p)) ds ++ (textEnd ∷ []))
   unfolding procedureGoals procedureTokens step
   procedure-parsed p =
       rw append-assoc
       (parse-ends counts _ _ _ _ _ _ _
-      (expects 42 (expect (suc p) ∷ expect 62 ∷ count ∷ expect 63 ∷ expect 66 ∷ operand 0 expression ∷ []) (number 0 ∷ []) n _ (omega arith) (omega arith)
-      thence expects (suc p) (expect 62 ∷ count ∷ expect 63 ∷ expect 66 ∷ operand 0 expression ∷ []) (number 0 ∷ []) n _ (omega arith) (omega arith)
-      thence expects 62 (count ∷ expect 63 ∷ expect 66 ∷ operand 0 expression ∷ []) (number 0 ∷ []) n _ (omega arith) (omega arith)
-      thence by-step count (expect 63 ∷ expect 66 ∷ operand 0 expression ∷ []) [] (number 0 ∷ []) (number (d .parameters) ∷ number 0 ∷ []) n n
-      (d .parameters ∷ 63 ∷ 66 ∷ shown 0 (d .body) ++ (procedureTokens (suc (suc p)) ds ++ (69 ∷ []))) _
+      (expects procedureWord (expect (suc p) ∷ expect opening ∷ count ∷ expect closing ∷ expect equals ∷ operand loose expression ∷ []) (number 0 ∷ []) n _
+      (omega arith) (omega arith)
+      thence expects (suc p) (expect opening ∷ count ∷ expect closing ∷ expect equals ∷ operand loose expression ∷ []) (number 0 ∷ []) n _ (omega arith)
+      (omega arith)
+      thence expects opening (count ∷ expect closing ∷ expect equals ∷ operand loose expression ∷ []) (number 0 ∷ []) n _ (omega arith) (omega arith)
+      thence by-step count (expect closing ∷ expect equals ∷ operand loose expression ∷ []) [] (number 0 ∷ []) (number (d .parameters) ∷ number 0 ∷ []) n n
+      (d .parameters ∷ closing ∷ equals ∷ shown 0 (d .body) ++ (procedureTokens (suc (suc p)) ds ++ (textEnd ∷ []))) _
       (rw (lt-ltb (d .parameters) 9 (let s = right .few-parameters in omega arith))) (omega arith)
-      thence expects 63 (expect 66 ∷ operand 0 expression ∷ []) (number (d .parameters) ∷ number 0 ∷ []) n _ (omega arith) (omega arith)
-      thence expects 66 (operand 0 expression ∷ []) (number (d .parameters) ∷ number 0 ∷ []) n _ (omega arith) (omega arith)
+      thence expects closing (expect equals ∷ operand loose expression ∷ []) (number (d .parameters) ∷ number 0 ∷ []) n _ (omega arith) (omega arith)
+      thence expects equals (operand loose expression ∷ []) (number (d .parameters) ∷ number 0 ∷ []) n _ (omega arith) (omega arith)
       thence body-leads (suc (suc p)) (number (d .parameters) ∷ number 0 ∷ []) (omega arith)))
 
 -- procedures of a version and a mask
-abbrev before : ℕ → ℕ → List Procedure → Before
+abbrev pub before : ℕ → ℕ → List Procedure → Before
 before v m ds = record { version = v; mask = m; procedures = ds }
 
 -- these procedures behind those before
-abbrev behind : Before → List Procedure → Before
+abbrev pub behind : Before → List Procedure → Before
 behind b ds = before (b .version) (b .mask) (b .procedures ++ ds)
 
 module _ (counts : List ℕ) where
@@ -108,21 +112,21 @@ module _ (counts : List ℕ) where
   -- procedure p, and what follows it
   procedure-read : (d : Procedure) (ds : List Procedure) (most p : ℕ) (b : Before) (n m : ℕ) → RightDefinition counts d → n ≡ size (termsOf (d .body)) + m
       → n ≤ 1024 → (p ≡ 0 → d .parameters ≡ 0)
-      → proceduresBy counts (suc most) p b n (tokensFrom p (d ∷ ds) ++ (69 ∷ []))
-      ≡ cond (eqb (ahead (procedureTokens (suc p) ds ++ (69 ∷ [])) 0) textEnd) (plan (programBy (behind b (d ∷ []))))
-      (proceduresBy counts most (suc p) (behind b (d ∷ [])) m (procedureTokens (suc p) ds ++ (69 ∷ [])))
+      → proceduresBy counts (suc most) p b n (tokensFrom p (d ∷ ds) ++ (textEnd ∷ []))
+      ≡ cond (eqb (ahead (procedureTokens (suc p) ds ++ (textEnd ∷ [])) 0) textEnd) (plan (programBy (behind b (d ∷ []))))
+      (proceduresBy counts most (suc p) (behind b (d ∷ [])) m (procedureTokens (suc p) ds ++ (textEnd ∷ [])))
   unfolding proceduresBy
   procedure-read d ds most zero b n m right e h bare =
       rw (main-parsed counts d ds right n m e h (bare refl))
-      (after-procedure d (λ b′ n′ ts′. proceduresBy counts most 1 b′ n′ ts′) b _ [] m (procedureTokens 1 ds ++ (69 ∷ [])) right)
+      (after-procedure d (λ b′ n′ ts′. proceduresBy counts most 1 b′ n′ ts′) b _ [] m (procedureTokens 1 ds ++ (textEnd ∷ [])) right)
   procedure-read d ds most (suc p) b n m right e h bare =
       rw (procedure-parsed counts d ds right n m e h p)
       (after-procedure d (λ b′ n′ ts′. proceduresBy counts most (suc (suc p)) b′ n′ ts′) b _ (number 0 ∷ []) m
-      (procedureTokens (suc (suc p)) ds ++ (69 ∷ [])) right)
+      (procedureTokens (suc (suc p)) ds ++ (textEnd ∷ [])) right)
 
   procedures-read : (ds : List Procedure) (d : Procedure) (most p : ℕ) (b : Before) (n : ℕ) → RightDefinitions counts (d ∷ ds) → length (d ∷ ds) ≤ most
       → sizeOfAll (d ∷ ds) ≤ n → n ≤ 1024
-      → (p ≡ 0 → d .parameters ≡ 0) → proceduresBy counts most p b n (tokensFrom p (d ∷ ds) ++ (69 ∷ [])) ≡ plan (programBy (behind b (d ∷ ds)))
+      → (p ≡ 0 → d .parameters ≡ 0) → proceduresBy counts most p b n (tokensFrom p (d ∷ ds) ++ (textEnd ∷ [])) ≡ plan (programBy (behind b (d ∷ ds)))
   unfolding sizeOfAll procedureTokens
   procedures-read ds d zero p b n right few sized h bare = absurd (omega arith)
   procedures-read [] d (suc most) p b n right few sized h bare = procedure-read d [] most p b n (n - size (termsOf (d .body))) (right .0) (omega arith) h bare
@@ -137,17 +141,17 @@ module _ (counts : List ℕ) where
 skip : (ts rest : List ℕ) → NoProcedure ts → countsFrom (ts ++ rest) ≡ countsFrom rest
 unfolding countsFrom
 skip [] rest h = refl
-skip (t ∷ ts) rest h = rw (ne-eqb t 42 (h .0)) (skip ts rest (h .1))
+skip (t ∷ ts) rest h = rw (ne-eqb t procedureWord (h .0)) (skip ts rest (h .1))
 
 counts-back : (counts : List ℕ) (ds : List Procedure) (p : ℕ) → RightDefinitions counts ds → p + length ds ≤ 32
-    → countsFrom (procedureTokens p ds ++ (69 ∷ [])) ≡ countsIn ds
+    → countsFrom (procedureTokens p ds ++ (textEnd ∷ [])) ≡ countsIn ds
 unfolding countsFrom procedureTokens
 counts-back counts [] p right few = refl
 counts-back counts (d ∷ ds) p right few =
-    let e : d .parameters ≡ 42 → ⊥ = let s = right .0 .few-parameters in omega arith in
-    rw (ne-eqb p 42 (λ z. omega arith), ne-eqb (d .parameters) 42 e)
+    let e : d .parameters ≡ procedureWord → ⊥ = let s = right .0 .few-parameters in omega arith in
+    rw (ne-eqb p procedureWord (λ z. omega arith), ne-eqb (d .parameters) procedureWord e)
     (ap (λ (l : List ℕ). d .parameters ∷ l)
-    (ap countsFrom (append-assoc (shown loose (d .body)) (procedureTokens (suc p) ds) (69 ∷ []))
+    (ap countsFrom (append-assoc (shown loose (d .body)) (procedureTokens (suc p) ds) (textEnd ∷ []))
     ∙ skip (shown loose (d .body)) _ (none-shown counts (d .body) loose (right .0 .right-body))
     ∙ counts-back counts ds (suc p) (right .1) (omega arith)))
 
@@ -171,24 +175,14 @@ behind-read (g ∷ fs) rest f up h = rw (lt-ltb f g (up .0), lt-ltb g 32 (up .1)
 
 -- ---- the plan
 
-version-back : (v : Version) → versionOf (versionNumber v) ≡ v
-unfolding versionOf versionNumber
-version-back v0 = refl
-version-back v1 = refl
-
-version-small : (v : Version) → versionNumber v < 2
-unfolding versionNumber
-version-small v0 = omega arith
-version-small v1 = omega arith
-
 program-is : (g : Program) (m : ℕ) → m ≡ g .volatiles → programBy (before (versionNumber (g .version)) m (g .procedures)) ≡ g
 unfolding programBy
-program-is g m e = λ i. record { version = version-back (g .version) i; volatiles = e i; procedures = g .procedures }
+program-is g m e = λ i. record { version = version-again (g .version) i; volatiles = e i; procedures = g .procedures }
 
 -- how tokens begin that begin as an expression
 first-token : (ts : List ℕ) → Starts ts → NoField ts × (eqb (ahead ts 0) volatileWord ≡ false)
 first-token [] h = absurd h
-first-token (t ∷ ts) h = (h .0, ne-eqb t 41 (h .1))
+first-token (t ∷ ts) h = (h .0, ne-eqb t volatileWord (h .1))
 
 no-volatiles : (fs : List ℕ) → Ascending 0 fs → NoProcedure (volatileTokens fs)
 unfolding volatileTokens
@@ -201,25 +195,25 @@ module _ (d : Procedure) (ds : List Procedure) (right : RightDefinitions (counts
     (fs : List ℕ) (up : Ascending 0 fs) where
   -- its tokens behind the volatile fields
   abbrev bodies : List ℕ
-  bodies = mainFirst (d ∷ ds) ++ (69 ∷ [])
+  bodies = mainFirst (d ∷ ds) ++ (textEnd ∷ [])
 
   bodies-start : Starts bodies
   unfolding mainFirst
   bodies-start =
-      starts-append (shown loose (d .body) ++ procedureTokens 1 ds) (69 ∷ [])
+      starts-append (shown loose (d .body) ++ procedureTokens 1 ds) (textEnd ∷ [])
       (starts-append (shown loose (d .body)) (procedureTokens 1 ds) (starts (countsIn (d ∷ ds)) (d .body) loose (right .0 .right-body)))
 
   bodies-counts : countsFrom bodies ≡ countsIn ds
   unfolding mainFirst
   bodies-counts =
-      ap countsFrom (append-assoc (shown loose (d .body)) (procedureTokens 1 ds) (69 ∷ []))
+      ap countsFrom (append-assoc (shown loose (d .body)) (procedureTokens 1 ds) (textEnd ∷ []))
       ∙ skip (shown loose (d .body)) _ (none-shown (countsIn (d ∷ ds)) (d .body) loose (right .0 .right-body))
       ∙ counts-back (countsIn (d ∷ ds)) ds 1 (right .1) (omega arith)
 
-  counts-are : (v : ℕ) → v < 2 → countsOf (40 ∷ v ∷ volatileTokens fs ++ bodies) ≡ countsIn (d ∷ ds)
+  counts-are : (v : ℕ) → v < 2 → countsOf (versionWord ∷ v ∷ volatileTokens fs ++ bodies) ≡ countsIn (d ∷ ds)
   unfolding countsOf
   counts-are v h =
-      rw (ne-eqb v 42 (λ z. omega arith)) (ap₂ (λ (n : ℕ) (l : List ℕ). n ∷ l) (sym bare)
+      rw (ne-eqb v procedureWord (λ z. omega arith)) (ap₂ (λ (n : ℕ) (l : List ℕ). n ∷ l) (sym bare)
       (skip (volatileTokens fs) bodies (no-volatiles fs up) ∙ bodies-counts))
 
   bodies-read : (v m : ℕ)
@@ -244,14 +238,14 @@ module _ (d : Procedure) (ds : List Procedure) (right : RightDefinitions (counts
           ∙ bodies-read v (2 ^ 31 + maskOf (g ∷ gs))
 
   parts-read : (v : ℕ) → v < 2
-      → readPlan (40 ∷ v ∷ (volatileTokens fs ++ mainFirst (d ∷ ds)) ++ (69 ∷ [])) ≡ plan (programBy (before v (2 ^ 31 + maskOf fs) (d ∷ ds)))
+      → readPlan (versionWord ∷ v ∷ (volatileTokens fs ++ mainFirst (d ∷ ds)) ++ (textEnd ∷ [])) ≡ plan (programBy (before v (2 ^ 31 + maskOf fs) (d ∷ ds)))
   unfolding readPlan
   parts-read v h =
-      ap (λ (l : List ℕ). readPlan (40 ∷ v ∷ l)) (append-assoc (volatileTokens fs) (mainFirst (d ∷ ds)) (69 ∷ []))
+      ap (λ (l : List ℕ). readPlan (versionWord ∷ v ∷ l)) (append-assoc (volatileTokens fs) (mainFirst (d ∷ ds)) (textEnd ∷ []))
       ∙ rw (lt-ltb v 2 h) (ap (λ (c : List ℕ). withVolatiles c v (volatileTokens fs ++ bodies)) (counts-are v h) ∙ volatiles-read v)
 
 -- the tokens of a program, in their parts
-shown-is : (g : Program) → shownPlan g ≡ 40 ∷ versionNumber (g .version) ∷ volatileTokens (fieldsFrom (g .volatiles) 1 31) ++ mainFirst (g .procedures)
+shown-is : (g : Program) → shownPlan g ≡ versionWord ∷ versionNumber (g .version) ∷ volatileTokens (fieldsFrom (g .volatiles) 1 31) ++ mainFirst (g .procedures)
 unfolding shownPlan
 shown-is g = refl
 
@@ -267,10 +261,11 @@ program-back g r =
     fs = fieldsFrom (g .volatiles) 1 31
 
     by-main : (ds : List Procedure) → 1 ≤ length ds → length ds ≤ 32 → sizeOfAll ds ≤ 1024 → getD (countsIn ds) 0 0 ≡ 0 → RightDefinitions (countsIn ds) ds
-        → readPlan (40 ∷ v ∷ (volatileTokens fs ++ mainFirst ds) ++ (69 ∷ [])) ≡ plan (programBy (before v (2 ^ 31 + maskOf fs) ds))
+        → readPlan (versionWord ∷ v ∷ (volatileTokens fs ++ mainFirst ds) ++ (textEnd ∷ [])) ≡ plan (programBy (before v (2 ^ 31 + maskOf fs) ds))
     by-main [] h few sized bare right = absurd (omega arith)
     by-main (d ∷ ds) h few sized bare right =
-        parts-read d ds right few sized bare fs (fields-ascend (g .volatiles) 1 31 0 (omega arith) (omega arith)) v (version-small (g .version))
+        parts-read d ds right few sized bare fs (fields-ascend (g .volatiles) 1 31 0 (omega arith) (omega arith)) v
+        (let h = version-small (g .version) in omega arith)
 
     back : programBy (before v (2 ^ 31 + maskOf fs) (g .procedures)) ≡ g
     back = program-is g (2 ^ 31 + maskOf fs) (sym (r .monitor-volatile))

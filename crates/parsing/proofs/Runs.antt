@@ -1,14 +1,12 @@
 -- From what is to be read to what is left of it, goal after goal, by any number of steps that is enough. Assumes nothing.
 use Prim.Native.Nat.{ℕ, zero, suc, _+_, _-_, _*_, _≤_, _<_}
 use native.Mathlib.Omega.{arith}
-use mathlib.Core.Path.{_≡_, refl, sym, ap, _∙_}
-use mathlib.Core.Bool.{Bool, true, false, cond, _||_}
+use mathlib.Core.Path.{_≡_, refl, _∙_}
 use mathlib.Core.List.{List, [], _∷_, _++_}
-use lib.Dec.{eqb, ltb}
 use lib.ListN.{length, length-append}
 use borrow.Author.Tests.{le-ltb, ne-eqb}
 use Rattle.parsing.specs.Goals.{Goal, make, Value, made}
-use Rattle.parsing.specs.Parser.{Step, go, stop, step, Parsed, afterStep, parseBy}
+use Rattle.parsing.specs.Parser.{go, step, Parsed, parseBy, mostGoals, mostValues}
 
 -- where reading stands: the goals, the values, how many terms are left to be made, the tokens
 pub data State : Type 0 where
@@ -33,7 +31,7 @@ pub record Leads (counts : List ℕ) (s s′ : State) : Type 0 where
 
 -- the places that a step needs, and that it takes a token for the goals that it adds, seven at most
 abbrev pub Room : List Goal → List Goal → List Value → List ℕ → List ℕ → Type 0
-Room gs gs′ vs ts ts′ = (length gs < 8400) × (length vs ≤ 3100) × (8 * length ts′ + length gs′ ≤ 8 * length ts)
+Room gs gs′ vs ts ts′ = (length gs < mostGoals) × (length vs ≤ mostValues) × (8 * length ts′ + length gs′ ≤ 8 * length ts)
 
 module _ {counts : List ℕ} where
   infixr 20 _thence_
@@ -62,11 +60,11 @@ module _ {counts : List ℕ} where
           record {
             steps = k;
             enough = omega (arith, length-append gs′ gs, r);
-            same = rw (le-ltb 8400 (suc (length gs)) (r .0), le-ltb 3100 (length vs) (r .1), e);
+            same = rw (le-ltb mostGoals (suc (length gs)) (r .0), le-ltb mostValues (length vs) (r .1), e);
           }
 
   -- a term is made
-  pub makes : (k : ℕ) (gs : List Goal) (vs : List Value) (n m : ℕ) (ts : List ℕ) → n ≡ suc m → length gs < 8400 → length vs ≤ 3100
+  pub makes : (k : ℕ) (gs : List Goal) (vs : List Value) (n m : ℕ) (ts : List ℕ) → n ≡ suc m → length gs < mostGoals → length vs ≤ mostValues
       → Leads counts (state (make k ∷ gs) vs n ts) (state gs (made k vs) m ts)
   unfolding step
   makes k gs vs n m ts q h h′ = by-step (make k) gs [] vs (made k vs) n m ts ts made-is (h, h′, omega arith)

@@ -72,6 +72,11 @@ procedure-back front l (d ∷ ds) k n (suc p) d′ f e h g =
 
 -- ---- the whole plan
 
+pub version-small : (v : Version) → versionNumber v ≤ 1
+unfolding versionNumber
+version-small v0 = omega arith
+version-small v1 = omega arith
+
 -- a program that fits the fields of a plan
 pub record Fitted (g : Program) : Type 0 where
   pub few-procedures : length (g .procedures) ≤ 32
@@ -116,11 +121,6 @@ module _ (g : Program) (f : Fitted g) where
   whole-length : length w ≡ 8 + 2 * length ds + 5 * sizeOfAll ds
   whole-length =
       ap length from-terms ∙ length-append (heads ++ procedureBytes 0 ds) bodies ∙ omega (arith, front-length, words-length (termWords 0 ds), terms-length ds 0)
-
-  version-small : (v : Version) → versionNumber v ≤ 1
-  unfolding versionNumber
-  version-small v0 = omega arith
-  version-small v1 = omega arith
 
   -- the header's numbers
   header-is : H ≡ ((versionNumber (g .version) * 64 + length ds) * 4096 + sizeOfAll ds) * 1024

@@ -3,7 +3,7 @@ use Prim.Native.Nat.{ℕ, zero, suc, _+_, _-_, _^_, _≤_, _<_}
 use native.Mathlib.Omega.{arith}
 use mathlib.Core.Path.{_≡_, refl, sym, ap, _∙_}
 use mathlib.Core.Bool.{Bool, true, false, cond}
-use mathlib.Core.List.{List, [], _∷_}
+use mathlib.Core.List.{List, _∷_}
 use mathlib.Core.Logic.{inl, inr}
 use mathlib.Core.Option.{some, none}
 use lib.Dec.{eqb}
@@ -16,14 +16,16 @@ use Rattle.packed.specs.Trees.{nodes, nodeAt, binderOf, expressionOf, condition
 use Rattle.packed.specs.Refusals.{listLength}
 use Rattle.packed.specs.Check.{refusal}
 use Rattle.packed.proofs.WellFormed.{count}
+use Rattle.packed.proofs.Passing.{all-right as passes-all}
 use Rattle.packed.proofs.Accepted.{OfSort, Child, Readable, accepted, its-trees}
 use Rattle.packed.proofs.Decoded.{Cases, done, _gives_then_, pick, Row, at-tag}
 use Rattle.packed.proofs.ListLaws.{list-step, list-stop}
 use Rattle.written.specs.Terms.{maskOf}
+use Rattle.written.specs.Written.{sizeOfAll}
 use Rattle.written.proofs.Masks.{mask-back}
 use Rattle.written.proofs.Original.{mask-small}
-use Rattle.written.proofs.Sizes.{program-procedures}
-use Rattle.written.proofs.Passes.{count-is, total-is, mask-is}
+use Rattle.written.proofs.Sizes.{program-procedures, all-terms}
+use Rattle.written.proofs.RightWritten.{counts-length}
 use Rattle.written.proofs.Right.{Ascending, RightFields, RightSlot, RightCall, Right, Rightᶜ, Rightᵃ, countsIn, RightDefinitions, RightProgram}
 
 -- ---- masks and slots
@@ -53,7 +55,7 @@ right-fields m small h few =
       of-mask = ap (λ (n : ℕ). fieldsFrom n 0 32) (mask-back m small);
     }
 
-right-slot : (x : ℕ) → ((x ≡ 15 → ⊥) → x ≤ 7) → RightSlot (binderOf x)
+pub right-slot : (x : ℕ) → ((x ≡ 15 → ⊥) → x ≤ 7) → RightSlot (binderOf x)
 unfolding binderOf
 right-slot x h = go (eqb x 15) refl
   where
@@ -72,10 +74,6 @@ mask-more f fs = refl
 
 pub with-monitor : (m : ℕ) → m < 2 ^ 32 → maskBit m 0 ≡ 1 → m ≡ 2 ^ 31 + maskOf (fieldsFrom m 1 31)
 with-monitor m small h = sym (mask-back m small) ∙ ap maskOf (first-field m 0 31 h) ∙ mask-more 0 (fieldsFrom m 1 31)
-
-pub counts-length : (ds : List Procedure) → length (countsIn ds) ≡ length ds
-counts-length [] = refl
-counts-length (d ∷ ds) = ap suc (counts-length ds)
 
 -- ---- terms
 
@@ -206,6 +204,21 @@ module _ (b : List ℕ) (h : refusal b ≡ none) where
       let f = accepted b h .each-procedure p (omega arith) in
       (record { few-parameters = f .few-parameters; right-body = r p (omega arith); all-bound = f .all-bound }, from-right counts (suc p) n (omega arith) r)
 
+  from-length : (p n : ℕ) → length (proceduresFrom b p n) ≡ n
+  unfolding proceduresFrom
+  from-length p zero = refl
+  from-length p (suc n) = ap suc (from-length (suc p) n)
+
+  pub count-is : length (programOf b .procedures) ≡ procedures b
+  count-is = ap length (program-procedures b) ∙ from-length 0 (procedures b)
+
+  pub total-is : sizeOfAll (programOf b .procedures) ≡ terms b
+  total-is = all-terms b (passes-all b h .six) (its-trees b (accepted b h))
+
+  pub mask-is : programOf b .volatiles ≡ volatiles b
+  unfolding programOf
+  mask-is = refl
+
   abbrev ds : List Procedure
   ds = proceduresFrom b 0 (procedures b)
 
@@ -220,14 +233,14 @@ module _ (b : List ℕ) (h : refusal b ≡ none) where
   pub right-program : RightProgram (programOf b)
   right-program =
       let a = accepted b h in
-      let n = count-is b h in
+      let n = count-is in
       let e = program-procedures b in
       record {
         some-procedure = let q = a .some-procedure in omega arith;
         few-procedures = let q = a .few-procedures in omega arith;
-        few-terms = let q = a .few-terms in omega (arith, total-is b h);
+        few-terms = let q = a .few-terms in omega (arith, total-is);
         main-bare = rw e (counts-are 0 (a .some-procedure) ∙ a .main-bare);
-        monitor-volatile = rw (mask-is b h) (with-monitor (volatiles b) volatiles-small (a .monitor-volatile));
+        monitor-volatile = rw mask-is (with-monitor (volatiles b) volatiles-small (a .monitor-volatile));
         each-procedure = rw e
             (from-right (countsIn ds) 0 (procedures b) (omega arith)
             (root-right b (its-trees b a) (countsIn ds) (a .few-procedures) (counts-length ds ∙ sym (ap length e) ∙ n) counts-are));
