@@ -8,7 +8,8 @@ use lib.ListN.{length, length-append, set, length-set}
 use borrow.Author.Tests.{eq-eqb, ne-eqb}
 use Rattle.format.proofs.AreaLaws.{overwrite-none, overwrite-next}
 use Rattle.lexer.specs.Ended.{coded}
-use Rattle.lexer.specs.Kept.{Kept, Adds}
+use Rattle.lexer.specs.Kept.{Kept}
+use Rattle.lexer.specs.Adds.{Adds}
 
 pub kept-none : (area : List ℕ) → Kept area [] area 0
 kept-none area = record { fits = λ h. (refl, sym (overwrite-none area)); full = λ h. absurd (omega arith); same = refl }

@@ -1,7 +1,7 @@
 -- Tokens in an area that is lent for them. Assumes nothing.
 use Prim.Native.Nat.{ℕ, suc, _≤_, _<_}
 use mathlib.Core.Path.{_≡_}
-use mathlib.Core.List.{List, _++_}
+use mathlib.Core.List.{List}
 use lib.ListN.{length}
 use Rattle.format.specs.Area.{overwrite}
 
@@ -10,7 +10,3 @@ pub record Kept (area codes after : List ℕ) (r : ℕ) : Type 0 where
   pub fits : length codes ≤ length area → (r ≡ length codes) × (after ≡ overwrite codes area)
   pub full : length area < length codes → r ≡ suc (length area)
   pub same : length after ≡ length area
-
--- codes behind those that were kept, for inner contracts
-abbrev pub Adds : List ℕ → ℕ → List ℕ → List ℕ → ℕ → Type 0
-Adds before n more after r = (area codes : List ℕ) → Kept area codes before n → Kept area (codes ++ more) after r

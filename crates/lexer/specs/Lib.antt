@@ -3,4 +3,5 @@ pub mod Names
 pub mod Begun
 pub mod Ended
 pub mod Kept
+pub mod Adds
 pub mod Place

@@ -1,7 +1,6 @@
 -- Where a token is in a text. Assumes nothing.
 use Prim.Native.Nat.{ℕ}
-use mathlib.Core.Path.{_≡_}
-use mathlib.Core.List.{List, _++_}
+use mathlib.Core.List.{List}
 use lib.ListN.{length, getD, take}
 use Rattle.notation.specs.Tokens.{textEnd}
 use Rattle.notation.specs.Lexing.{Token, token, tokensOf, Place, placeAfter}

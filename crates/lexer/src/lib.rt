@@ -6,10 +6,10 @@ pub mod places;
 
 use automaton::Begun;
 use automaton::NONE;
-ghost use mathlib.Core.List.{List, _++_, map};
 ghost use Rattle.notation.specs.Lexing.{codesOf};
 ghost use Rattle.lexer.specs.Ended.{coded};
-ghost use Rattle.lexer.specs.Kept.{Kept, Adds};
+ghost use Rattle.lexer.specs.Kept.{Kept};
+ghost use Rattle.lexer.specs.Adds.{Adds};
 
 const TEXT_END: u8 = 69;
 

@@ -1,4 +1,4 @@
--- `length` meets its contract. The invariant: the total and the length of the rest are the length of the text; a token takes at most 50 bytes. Assumes nothing.
+-- `length` meets its contract. The invariant: the total and the length of the rest are the length of the text; a token has at most 50 bytes. Assumes nothing.
 use Prim.Native.Nat.{_+_, _-_, _*_, _≤_, _<_}
 use native.Mathlib.Nat.{zero-add}
 use native.Mathlib.Omega.{arith}

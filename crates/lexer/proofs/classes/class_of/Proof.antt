@@ -1,6 +1,7 @@
 -- `class_of` meets its contract: the classes are in the order of the bytes. Assumes nothing.
-use Prim.Native.Nat.{ℕ}
+use Prim.Native.Nat.{ℕ, _/_, _%_}
 use mathlib.Core.Path.{ap, _∙_}
+use mathlib.Core.List.{[]}
 use lib.ListN.{getD}
 use borrow.Author.Needs.{needs}
 use Rattle.lexer.specs.Classes.{Classed}
@@ -10,14 +11,21 @@ use Rattle.lexer.proofs.classes.class_of.Tie as tie
 wide-requires : tie.Need-wide-requires
 wide-requires c κs = search needs
 
-element-copy-out-result : tie.Need-element-copy-out-result
-element-copy-out-result c = search needs
+mul-result : tie.Need-mul-result
+mul-result c = search needs
+
+index-1-result : tie.Need-index-1-result
+index-1-result c = search needs
+
+index-2-result : tie.Need-index-2-result
+index-2-result c = search needs
 
 returns : tie.Need-returns
 unfolding Classed
 returns c =
-    ap (λ (k : ℕ). getD (c .before .before .args .classes .now) k 0) (c .before .wide .ensures .0) ∙ c .before .before .pre
-    (c .before .before .args .byte) (search needs)
+    let s = c .before .before in
+    ap (λ (k : ℕ). getD (getD (s .args .classes .now) (k / 8) []) (k % 8) 0) (c .before .wide .ensures .0)
+    ∙ s .pre (s .args .byte) (search needs)
 
 pub class-of-spec : {M : Type 1} → statement M
-class-of-spec = tie.close (tie.spec wide-requires element-copy-out-result returns)
+class-of-spec = tie.close (tie.spec wide-requires mul-result index-1-result index-2-result returns)
