@@ -1,0 +1,125 @@
+// A plan's tokens, read into arrays: its terms, and the root and the parameter count of each procedure.
+use byte_numbers::wide;
+use notation::tokens;
+ghost use Prim.Native.Nat.{_+_, _≤_, _<_};
+ghost use mathlib.Core.Path.{_≡_};
+ghost use lib.ListN.{length};
+ghost use Rattle.notation.specs.Tokens.{textEnd};
+ghost use Rattle.text.specs.Wrote.{Wrote};
+ghost use Rattle.parsing.specs.Parser.{ahead};
+ghost use Rattle.parsing.specs.Plan.{countsFrom, countsOf};
+ghost use Rattle.plan_reader.specs.Reading.{countAt, isNext, Fielded, Marked, Headed};
+
+// The version, the mask of volatile fields, and the token behind both.
+struct Heading {
+    version: usize,
+    mask: usize,
+    at: usize,
+}
+
+// The token of an index; behind the last there is the text's end.
+fn ahead(tokens: &[u8], index: usize) -> usize
+    ensures { λ r. ⌜ (r ≡ ahead (now (tokens .entry)) index) × (r < 256) ⌝ }
+{
+    if index < tokens.len() {
+        return wide(tokens[index]);
+    }
+    tokens::END
+}
+
+// The parameter count at a token, if it is the word `procedure`.
+fn put_count(tokens: &[u8], index: usize, area: &mut [u8], at: usize) -> usize
+    requires { ⌜ (index < 65536) × (at < length (now area)) ⌝ }
+    ensures { λ r. ⌜ Wrote (now (area .entry)) at (countAt (now (tokens .entry)) index) (now (area .exit)) r ⌝ }
+{
+    if ahead(tokens, index) != tokens::PROCEDURE {
+        return at;
+    }
+    text::put_byte(area, at, ahead(tokens, index + 3) as u8)
+}
+
+// Those at all tokens, behind the counts that are there.
+fn put_further(tokens: &[u8], area: &mut [u8], from: usize) -> usize
+    requires { ⌜ (length (now tokens) ≤ 16384) × (from + length (now tokens) ≤ length (now area)) ⌝ }
+    ensures { λ r. ⌜ Wrote (now (area .entry)) from (countsFrom (now (tokens .entry))) (now (area .exit)) r ⌝ }
+{
+    let mut next = from;
+    let mut index = 0;
+    while index < tokens.len() {
+        next = put_count(tokens, index, area, next);
+        index += 1;
+    }
+    next
+}
+
+// The parameter counts of all procedures, and how many there are; main, which is first, has none.
+fn put_counts(tokens: &[u8], area: &mut [u8]) -> usize
+    requires { ⌜ (length (now tokens) ≤ 16384) × (length (now tokens) < length (now area)) ⌝ }
+    ensures { λ r. ⌜ Wrote (now (area .entry)) 0 (countsOf (now (tokens .entry))) (now (area .exit)) r ⌝ }
+{
+    let next = text::put_byte(area, 0, 0);
+    put_further(tokens, area, next)
+}
+
+// A field that is higher than the last.
+fn is_next(last: usize, token: usize) -> bool
+    ensures { λ r. ⌜ r ≡ isNext last token ⌝ }
+{
+    if token < 32 { last < token } else { false }
+}
+
+// Fields, each higher than the one before; field 0 is volatile in every plan.
+fn fields(tokens: &[u8], version: usize, from: usize) -> Heading
+    requires { ⌜ (from ≤ length (now tokens)) × (length (now tokens) ≤ 16384) ⌝ }
+    ensures { λ r. ⌜ Fielded (now (tokens .entry)) from r × (r .version ≡ version) ⌝ }
+{
+    let mut mask = 2147483648;
+    let mut last = 0;
+    let mut at = from;
+    let mut token = ahead(tokens, at);
+    while is_next(last, token) {
+        mask += 1usize << (31 - token);
+        last = token;
+        at += 1;
+        token = ahead(tokens, at);
+    }
+    Heading {
+        version: version,
+        mask: mask,
+        at: at,
+    }
+}
+
+// The volatile fields behind field 0, if the text names any.
+fn volatiles(tokens: &[u8], version: usize, at: usize) -> Heading
+    requires { ⌜ (at ≤ length (now tokens)) × (length (now tokens) ≤ 16384) ⌝ }
+    ensures { λ r. ⌜ Marked (now (tokens .entry)) version at r ⌝ }
+{
+    if ahead(tokens, at) != tokens::VOLATILE {
+        return Heading {
+            version: version,
+            mask: 2147483648,
+            at: at,
+        };
+    }
+    fields(tokens, version, at + 1)
+}
+
+// The version, 1 where the text names none, and the volatile fields; a version over 1 is none.
+fn header(tokens: &[u8]) -> Heading
+    requires { ⌜ (0 < length (now tokens)) × (length (now tokens) ≤ 16384) ⌝ }
+    ensures { λ r. ⌜ Headed (now (tokens .entry)) r ⌝ }
+{
+    if ahead(tokens, 0) != tokens::VERSION {
+        return volatiles(tokens, 1, 0);
+    }
+    let version = ahead(tokens, 1);
+    if version > 1 {
+        return Heading {
+            version: 2,
+            mask: 0,
+            at: 1,
+        };
+    }
+    volatiles(tokens, version, 2)
+}
