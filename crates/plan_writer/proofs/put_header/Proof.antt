@@ -24,13 +24,13 @@ put-four-requires : tie.Need-put-four-requires
 put-four-requires c κs = search needs
 
 put-four-requires-2 : tie.Need-put-four-requires-2
-put-four-requires-2 c κs = ?
+put-four-requires-2 c κs = omega (arith, c .before .before .before .before .before .before .pre .0, four-keeps _ _ _ (c .before .before .before .put-four .ensures))
 
 same-length : tie.Need-same-length
 same-length c = search needs
 
 returns : tie.Need-returns
-returns c = ?
+returns c = four-and-four _ _ _ (c .before .before .before .before .before .before .put-four .ensures) (c .before .before .put-four2 .ensures)
 
 pub put-header-spec : {M : Type 1} → statement M
 put-header-spec =
