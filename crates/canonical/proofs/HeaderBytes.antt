@@ -68,7 +68,7 @@ module _ (b : List ℕ) (small : (j : ℕ) → getD b j 0 < 256) (h : refusal b 
 
   header-bits : bitsAt b 0 32 ≡ headerOf (programOf b)
   header-bits =
-      let v : versionNumber (programOf b .version) ≡ version b = ap versionNumber (version-of b h) ∙ version-back b h (version b) (facts .version-known) in
+      let v : versionNumber (programOf b .version) ≡ version b = ap versionNumber (version-of b h) ∙ version-back (version b) (facts .version-known) in
       let n = count-is b h in
       let m = total-is b h in
       let s = facts .spare-zero in

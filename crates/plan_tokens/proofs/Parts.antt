@@ -142,7 +142,7 @@ module _ (plan words : List ℕ) (r : Given plan words) where
       ∙ ap (λ (ts : List ℕ). ts ++ procedureTokens 1 (restFrom plan 1)) (ap (shown loose) (body-is plan (r .passes) 0))
 
   version-is : versionNumber (programOf plan .version) ≡ version plan
-  version-is = ap versionNumber (version-of plan (r .passes)) ∙ version-back plan (r .passes) (version plan) version-small
+  version-is = ap versionNumber (version-of plan (r .passes)) ∙ version-back (version plan) version-small
 
   pub whole-is : headerTokens plan ++ (main ++ proceduresBehind plan) ≡ shownPlan (programOf plan)
   unfolding headerTokens shownPlan proceduresBehind

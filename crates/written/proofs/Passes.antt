@@ -25,6 +25,15 @@ use Rattle.written.proofs.RightPlans.{right-program}
 pub use Rattle.written.proofs.RightWritten.{plan-length}
 pub use Rattle.written.proofs.RightPlans.{count-is, total-is, mask-is}
 
+-- a version's number, read back
+pub version-back : (v : ℕ) → v ≤ 1 → versionNumber (versionOf v) ≡ v
+unfolding versionNumber versionOf
+version-back v q = go (ℕ-discrete v 1)
+  where
+    go : Dec (v ≡ 1) → versionNumber (cond (eqb v 1) v1 v0) ≡ v
+    go (yes e) = rw e
+    go (no d) = rw (ne-eqb v 1 d) (omega (arith, d))
+
 -- ---- plans that are the same but for their term numbers give the same program
 
 module _ (b b′ : List ℕ) where
@@ -87,14 +96,6 @@ module _ (b : List ℕ) (h : refusal b ≡ none) where
   unfolding procedureAt
   parameters-are p = refl
 
-  pub version-back : (v : ℕ) → v ≤ 1 → versionNumber (versionOf v) ≡ v
-  unfolding versionNumber versionOf
-  version-back v q = go (ℕ-discrete v 1)
-    where
-      go : Dec (v ≡ 1) → versionNumber (cond (eqb v 1) v1 v0) ≡ v
-      go (yes e) = rw e
-      go (no d) = rw (ne-eqb v 1 d) (omega (arith, d))
-
   pub version-of : g .version ≡ versionOf (version b)
   unfolding programOf
   version-of = refl
@@ -128,7 +129,7 @@ written-alike b h =
     let w = written g in
     let h′ = written-passes b h in
     record {
-      same-version = version-is g (fits b h) ∙ ap versionNumber (version-of b h) ∙ version-back b h (version b) (facts b h .version-known);
+      same-version = version-is g (fits b h) ∙ ap versionNumber (version-of b h) ∙ version-back (version b) (facts b h .version-known);
       same-mask = volatiles-is g (fits b h) ∙ mask-is b h;
       same-procedures = procedures-same b h;
       same-parameters = λ p l. sym (parameters-are w h′ p) ∙ ap (λ (d : Procedure). d .parameters) (procedure-same b h p l) ∙ parameters-are b h p;
