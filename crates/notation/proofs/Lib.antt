@@ -1,3 +1,4 @@
 pub mod Samples
+pub mod Tested
 pub mod Found
 pub mod Widths
