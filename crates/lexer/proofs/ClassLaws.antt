@@ -8,10 +8,10 @@ use lib.Dec.{eqb, ltb}
 use borrow.Author.Tests.{ltb-true}
 use Rattle.format.specs.Refusal.{lowest}
 use Rattle.notation.specs.Lexing.{token, nothing, name, isBlank, digitOf, markOf, begins, alone}
+use Rattle.notation.proofs.Tested.{passed, equated}
 use Rattle.lexer.specs.Classes.{classOf}
 use Rattle.lexer.specs.Begun.{beginsBy}
 use Rattle.lexer.specs.Ended.{aloneBy}
-use Rattle.lexer.proofs.NameLaws.{tested}
 
 -- a test as a number
 bit : Bool → ℕ
@@ -32,35 +32,35 @@ noMark c = isBlank c || eqb c 35 || eqb c 58 || ltb 0 (digitOf c)
 module _ (c : ℕ) (h : c < 256) where
   pub is-digit : ltb 0 (digitOf c) ≡ ltb (classOf c) 37
   unfolding bit classOf lowest
-  is-digit = same (ltb 0 (digitOf c)) (ltb (classOf c) 37) (tested (λ (k : ℕ). bit (ltb 0 (digitOf k))) (λ (k : ℕ). bit (ltb (classOf k) 37)) 256 refl c h)
+  is-digit = same (ltb 0 (digitOf c)) (ltb (classOf c) 37) (equated (λ (k : ℕ). bit (ltb 0 (digitOf k))) (λ (k : ℕ). bit (ltb (classOf k) 37)) 256 refl c h)
 
   is-hash : eqb c 35 ≡ eqb (classOf c) 37
   unfolding bit classOf lowest
-  is-hash = same (eqb c 35) (eqb (classOf c) 37) (tested (λ (k : ℕ). bit (eqb k 35)) (λ (k : ℕ). bit (eqb (classOf k) 37)) 256 refl c h)
+  is-hash = same (eqb c 35) (eqb (classOf c) 37) (equated (λ (k : ℕ). bit (eqb k 35)) (λ (k : ℕ). bit (eqb (classOf k) 37)) 256 refl c h)
 
   is-colon : eqb c 58 ≡ eqb (classOf c) 38
   unfolding bit classOf lowest
-  is-colon = same (eqb c 58) (eqb (classOf c) 38) (tested (λ (k : ℕ). bit (eqb k 58)) (λ (k : ℕ). bit (eqb (classOf k) 38)) 256 refl c h)
+  is-colon = same (eqb c 58) (eqb (classOf c) 38) (equated (λ (k : ℕ). bit (eqb k 58)) (λ (k : ℕ). bit (eqb (classOf k) 38)) 256 refl c h)
 
   no-mark : noMark c ≡ ltb (classOf c) 62
   unfolding bit noMark classOf lowest
-  no-mark = same (noMark c) (ltb (classOf c) 62) (tested (λ (k : ℕ). bit (noMark k)) (λ (k : ℕ). bit (ltb (classOf k) 62)) 256 refl c h)
+  no-mark = same (noMark c) (ltb (classOf c) 62) (equated (λ (k : ℕ). bit (noMark k)) (λ (k : ℕ). bit (ltb (classOf k) 62)) 256 refl c h)
 
   pub the-digit : ltb (classOf c) 37 ≡ true → digitOf c ≡ classOf c
   unfolding classOf lowest
   the-digit e =
       sym (ap (λ (b : Bool). cond b (digitOf c) (classOf c)) e)
-      ∙ tested (λ (k : ℕ). cond (ltb (classOf k) 37) (digitOf k) (classOf k)) classOf 256 refl c h
+      ∙ equated (λ (k : ℕ). cond (ltb (classOf k) 37) (digitOf k) (classOf k)) classOf 256 refl c h
 
   the-mark : ltb (classOf c) 62 ≡ false → markOf c ≡ classOf c
   unfolding classOf lowest
   the-mark e =
       sym (ap (λ (b : Bool). cond b (classOf c) (markOf c)) e)
-      ∙ tested (λ (k : ℕ). cond (ltb (classOf k) 62) (classOf k) (markOf k)) classOf 256 refl c h
+      ∙ equated (λ (k : ℕ). cond (ltb (classOf k) 62) (classOf k) (markOf k)) classOf 256 refl c h
 
   pub class-below : classOf c < 71
-  unfolding bit classOf lowest
-  class-below = ltb-true (classOf c) 71 (same (ltb (classOf c) 71) true (tested (λ (k : ℕ). bit (ltb (classOf k) 71)) (λ (k : ℕ). 1) 256 refl c h))
+  unfolding classOf lowest
+  class-below = ltb-true (classOf c) 71 (passed (λ (k : ℕ). ltb (classOf k) 71) 256 refl c h)
 
   -- what the byte begins
   named : (i : ℕ) (b : Bool) → ltb (classOf c) 37 ≡ b → cond b (name i (classOf c)) nothing ≡ cond b (name i (digitOf c)) nothing

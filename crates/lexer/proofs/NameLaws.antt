@@ -2,21 +2,14 @@
 use Prim.Native.Nat.{ℕ, zero, suc, _+_, _/_, _%_, _<_}
 use native.Mathlib.Omega.{arith}
 use mathlib.Core.Path.{_≡_, refl, ap, sym, _∙_}
-use mathlib.Core.Bool.{Bool, true, false, cond, not}
+use mathlib.Core.Bool.{Bool, true, false, cond}
 use mathlib.Core.List.{List}
-use mathlib.Core.Option.{none}
 use lib.Dec.{eqb}
 use lib.ListN.{getD}
-use borrow.Author.Tests.{eqb-true, not-false}
-use Rattle.format.specs.Refusal.{lowest}
-use Rattle.format.proofs.RefusalLaws.{lowest-none}
+use borrow.Author.Tests.{eqb-true}
 use Rattle.notation.specs.Tokens.{unknown}
 use Rattle.notation.specs.Lexing.{valueOf, nameFrom, nameOf}
 use Rattle.lexer.specs.Names.{Named}
-
--- both numbers are the same, at each place below n: one test
-pub tested : (f g : ℕ → ℕ) (n : ℕ) → lowest (λ (k : ℕ). not (eqb (f k) (g k))) n ≡ none → (k : ℕ) → k < n → f k ≡ g k
-tested f g n e k h = eqb-true (f k) (g k) (not-false (eqb (f k) (g k)) (lowest-none (λ (k : ℕ). not (eqb (f k) (g k))) n e k h))
 
 -- a number that is no name's
 missed : (n t v : ℕ) → ((k : ℕ) → k < t + n → valueOf k ≡ v → ⊥) → nameFrom n t v ≡ unknown

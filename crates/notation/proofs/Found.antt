@@ -4,19 +4,19 @@ use native.Mathlib.Nat.{zero-add}
 use native.Mathlib.Omega.{arith}
 use native.Mathlib.Decide.{decLt}
 use mathlib.Core.Path.{_≡_, refl, ap, sym, _∙_}
-use mathlib.Core.Bool.{Bool, true, false, cond, not, _&&_, and-eq-true-iff, and-false, or-true, false≢true}
+use mathlib.Core.Bool.{Bool, true, false, cond, _&&_, and-eq-true-iff, and-false, or-true, false≢true}
 use mathlib.Core.List.{List, [], _∷_, _++_, map}
 use lib.Dec.{eqb, ltb}
 use lib.ListN.{getD, replicate}
-use borrow.Author.Tests.{ltb-true, eqb-true, ne-eqb, not-false}
+use borrow.Author.Tests.{ltb-true, ne-eqb}
 use Rattle.format.specs.Refusal.{lowest}
-use Rattle.format.proofs.RefusalLaws.{lowest-none}
 use Rattle.format.proofs.Ranges.{by-range}
 use Rattle.text.specs.Text.{ascii}
 use Rattle.notation.specs.Tokens.{closing, comma, dot, equals, becomes, dash, opening, textEnd, textOf, texts}
 use Rattle.notation.specs.Known.{Known}
 use Rattle.notation.specs.Lexing.{Token, Begun, nothing, name, digitOf, grown, valueFrom, valueOf, nameOf, begins, alone, begunAfter, endedBy, endedAtEnd, tokensFrom, codesOf}
 use Rattle.notation.specs.Layout.{Pen, start, apart, onNewLine, indentation, gap, penAfter, laidFrom, laidOut}
+use Rattle.notation.proofs.Tested.{passed, equated}
 
 -- the codes of the tokens from a place on
 abbrev codes : Begun → ℕ → List ℕ → List ℕ
@@ -40,14 +40,12 @@ isName (c ∷ cs) = isDigit c && digits cs
 
 names : (t : ℕ) → t < opening → isName (textOf t) ≡ true
 unfolding isName digits isDigit digitOf textOf texts ascii lowest
-names t h = not-false (isName (textOf t)) (lowest-none (λ (k : ℕ). not (isName (textOf k))) opening refl t h)
+names = passed (λ (k : ℕ). isName (textOf k)) opening refl
 
 -- the name of a token is that token
 named : (t : ℕ) → t < opening → nameOf (valueOf t) ≡ t
 unfolding nameOf valueOf texts ascii lowest
-named t h =
-    eqb-true (nameOf (valueOf t)) t
-    (not-false (eqb (nameOf (valueOf t)) t) (lowest-none (λ (k : ℕ). not (eqb (nameOf (valueOf k)) k)) opening refl t h))
+named = equated (λ (k : ℕ). nameOf (valueOf k)) (λ (k : ℕ). k) opening refl
 
 -- a digit is none of the bytes that are none
 other : (c k : ℕ) → digitOf k ≡ 0 → 0 < digitOf c → eqb c k ≡ false

@@ -7,13 +7,14 @@ use mathlib.Core.Bool.{Bool, true, false, cond, not, _&&_, and-eq-true-iff}
 use mathlib.Core.List.{List, [], _∷_, _++_}
 use lib.Dec.{eqb, ltb}
 use lib.ListN.{length, replicate, length-replicate}
-use borrow.Author.Tests.{ltb-true, ltb-false, not-true, not-false}
+use borrow.Author.Tests.{ltb-true, ltb-false, not-true}
 use Rattle.format.specs.Refusal.{lowest}
-use Rattle.format.proofs.RefusalLaws.{lowest-none, neither}
+use Rattle.format.proofs.RefusalLaws.{neither}
 use Rattle.text.specs.Text.{ascii}
 use Rattle.notation.specs.Tokens.{textEnd, textOf, texts}
 use Rattle.notation.specs.Known.{Known}
 use Rattle.notation.specs.Layout.{Pen, start, apart, breaks, onNewLine, indentation, gap, columnAfter, penAfter, laidFrom, laidOut}
+use Rattle.notation.proofs.Tested.{passed}
 
 -- every line of a text has fewer than 100 columns, where the first has k more before the text
 unfoldable pub Narrow : ℕ → List ℕ → Type 0
@@ -38,7 +39,7 @@ short : (t : ℕ) → t < textEnd → Short (textOf t)
 unfolding Short oneLine textOf texts ascii lowest
 short t h =
     let e = and-eq-true-iff (oneLine (textOf t)) (ltb (length (textOf t)) 10) .0
-    (not-false _ (lowest-none (λ (k : ℕ). not (oneLine (textOf k) && ltb (length (textOf k)) 10)) textEnd refl t h)) in
+    (passed (λ (k : ℕ). oneLine (textOf k) && ltb (length (textOf k)) 10) textEnd refl t h) in
     (e .0, ltb-true (length (textOf t)) 10 (e .1))
 
 pub few-bytes : (t : ℕ) → t < textEnd → length (textOf t) < 10

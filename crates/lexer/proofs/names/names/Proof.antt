@@ -4,13 +4,13 @@ use Rattle.notation.specs.Tokens.{opening, texts}
 use Rattle.notation.specs.Lexing.{valueOf, nameOf}
 use Rattle.text.specs.Text.{ascii}
 use Rattle.format.specs.Refusal.{lowest}
-use Rattle.lexer.proofs.NameLaws.{tested}
+use Rattle.notation.proofs.Tested.{equated}
 use Rattle.lexer.proofs.names.names.Statement.{statement}
 use Rattle.lexer.proofs.names.names.Tie as tie
 
 returns : tie.Need-returns
 unfolding nameOf valueOf texts ascii lowest
-returns c = record { token = tested _ _ 246 refl; place = tested _ _ opening refl }
+returns c = record { token = equated _ _ 246 refl; place = equated _ _ opening refl }
 
 pub names-spec : {M : Type 1} → statement M
 names-spec = tie.close (tie.spec returns)
