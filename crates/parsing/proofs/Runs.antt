@@ -4,8 +4,8 @@ use native.Mathlib.Omega.{arith}
 use mathlib.Core.Path.{_≡_, refl, _∙_}
 use mathlib.Core.List.{List, [], _∷_, _++_}
 use lib.ListN.{length, length-append}
-use borrow.Author.Tests.{le-ltb, ne-eqb}
-use Rattle.parsing.specs.Goals.{Goal, make, Value, made}
+use borrow.Author.Tests.{le-ltb, eq-eqb, ne-eqb}
+use Rattle.parsing.specs.Goals.{Goal, expect, make, Value, made}
 use Rattle.parsing.specs.Parser.{go, step, Parsed, parseBy, mostGoals, mostValues}
 
 -- where reading stands: the goals, the values, how many terms are left to be made, the tokens
@@ -48,11 +48,11 @@ module _ {counts : List ℕ} where
   pub stays : {s s′ : State} → s ≡ s′ → Leads counts s s′
   stays {s} e = rw (← e) (record { leads = λ k h. record { steps = k; enough = h; same = refl } })
 
-  pub by-step : (g : Goal) (gs gs′ : List Goal) (vs vs′ : List Value) (n n′ : ℕ) (ts ts′ : List ℕ) → step counts g vs n ts ≡ go gs′ vs′ n′ ts′
-      → Room gs gs′ vs ts ts′
-      → Leads counts (state (g ∷ gs) vs n ts) (state (gs′ ++ gs) vs′ n′ ts′)
+  -- by a step that gives these goals, values and tokens
+  takes : (gs′ : List Goal) (vs′ : List Value) (n′ : ℕ) (ts′ : List ℕ) {g : Goal} {gs : List Goal} {vs : List Value} {n : ℕ} {ts : List ℕ}
+      → step counts g vs n ts ≡ go gs′ vs′ n′ ts′ → Room gs gs′ vs ts ts′ → Leads counts (state (g ∷ gs) vs n ts) (state (gs′ ++ gs) vs′ n′ ts′)
   unfolding parseBy
-  by-step g gs gs′ vs vs′ n n′ ts ts′ e r = record { leads = first }
+  takes gs′ vs′ n′ ts′ {g} {gs} {vs} {n} {ts} e r = record { leads = first }
     where
       first : (k : ℕ) → 8 * length ts + suc (length gs) < k → Comes counts (parseBy counts k (g ∷ gs) vs n ts) (state (gs′ ++ gs) vs′ n′ ts′)
       first zero h = absurd (omega arith)
@@ -63,11 +63,22 @@ module _ {counts : List ℕ} where
             same = rw (le-ltb mostGoals (suc (length gs)) (r .0), le-ltb mostValues (length vs) (r .1), e);
           }
 
+  -- that makes no term
+  pub by-step : (gs′ : List Goal) (vs′ : List Value) (ts′ : List ℕ) {g : Goal} {gs : List Goal} {vs : List Value} {n : ℕ} {ts : List ℕ}
+      → step counts g vs n ts ≡ go gs′ vs′ n ts′ → Room gs gs′ vs ts ts′ → Leads counts (state (g ∷ gs) vs n ts) (state (gs′ ++ gs) vs′ n ts′)
+  by-step gs′ vs′ ts′ {n = n} e r = takes gs′ vs′ n ts′ e r
+
   -- a term is made
-  pub makes : (k : ℕ) (gs : List Goal) (vs : List Value) (n m : ℕ) (ts : List ℕ) → n ≡ suc m → length gs < mostGoals → length vs ≤ mostValues
+  pub makes : {k : ℕ} {gs : List Goal} {vs : List Value} {n m : ℕ} {ts : List ℕ} → (n ≡ suc m) × (length gs < mostGoals) × (length vs ≤ mostValues)
       → Leads counts (state (make k ∷ gs) vs n ts) (state gs (made k vs) m ts)
   unfolding step
-  makes k gs vs n m ts q h h′ = by-step (make k) gs [] vs (made k vs) n m ts ts made-is (h, h′, omega arith)
+  makes {k} {gs} {vs} {n} {m} {ts} room = takes [] (made k vs) m ts made-is (omega arith)
     where
       made-is : step counts (make k) vs n ts ≡ go [] (made k vs) m ts
       made-is = let e : n - 1 ≡ m = omega arith in rw (ne-eqb n 0 (λ z. omega arith), e)
+
+  -- this token is there
+  pub expects : {t : ℕ} {gs : List Goal} {vs : List Value} {n : ℕ} {ts : List ℕ} → (length gs < mostGoals) × (length vs ≤ mostValues)
+      → Leads counts (state (expect t ∷ gs) vs n (t ∷ ts)) (state gs vs n ts)
+  unfolding step
+  expects {t} {gs} {vs} {n} {ts} room = by-step [] vs ts (rw (eq-eqb t t refl)) (omega arith)
