@@ -7,12 +7,12 @@ use mathlib.Core.Bool.{Bool, true, false, cond, _&&_, and-false}
 use mathlib.Core.List.{List, [], _∷_, _++_, append-assoc}
 use lib.Dec.{eqb, ltb, leb}
 use lib.ListN.{length}
-use borrow.Author.Tests.{ltb-false, eq-eqb, ne-eqb}
+use borrow.Author.Tests.{ltb-false, ne-eqb}
 use Rattle.packed.specs.Syntax.{Expression, Condition}
 use Rattle.notation.specs.Tokens.{andWord, opening, closing, dot, equals, becomes}
 use Rattle.notation.specs.Shown.{loose, testing, grouped, tight}
 use Rattle.parsing.specs.Goals.{Sort, either, expression, condition, Goal, expect, operand, more, Value, ofExpression, ofCondition}
-use Rattle.parsing.specs.Parser.{ahead, go, isExpression, isCondition, takesCondition, fits, inside, operandStep, moreStep, step, mostGoals, mostValues}
+use Rattle.parsing.specs.Parser.{ahead, go, isExpression, isCondition, takesCondition, fits, inside, operandStep, moreStep, step}
 use Rattle.parsing.proofs.Runs.{state, Leads, _thence_, by-step, expects}
 
 -- what may stand behind an operand that is shown at a place that asks for d: nothing that it could take for its own

@@ -15,14 +15,14 @@ use Rattle.packed.specs.Trees.{programOf}
 use Rattle.packed.specs.Check.{refusal}
 use Rattle.written.specs.Terms.{termsOf, size, maskOf}
 use Rattle.written.specs.Written.{sizeOfAll, versionNumber}
-use Rattle.notation.specs.Tokens.{versionWord, volatileWord, procedureWord, opening, closing, equals, textEnd}
+use Rattle.notation.specs.Tokens.{versionWord, volatileWord, procedureWord, closing, equals, textEnd}
 use Rattle.notation.specs.Shown.{loose, shown, volatileTokens, procedureTokens, mainFirst, shownPlan}
 use Rattle.written.proofs.Right.{Ascending, countsIn, RightDefinition, RightDefinitions, RightProgram}
 use Rattle.written.proofs.ReadBack.{version-small}
 use Rattle.written.proofs.RightWritten.{version-again}
 use Rattle.written.proofs.RightPlans.{fields-ascend, right-program}
-use Rattle.notation.proofs.ShownTokens.{Starts, starts, starts-append, NoProcedure, none-fields, none-shown}
-use Rattle.parsing.specs.Goals.{expression, Goal, expect, operand, count, Value, number, ofExpression}
+use Rattle.notation.proofs.ShownTokens.{Starts, begins, starts, starts-append, NoProcedure, ends, token, none-fields, none-shown}
+use Rattle.parsing.specs.Goals.{expression, Goal, operand, Value, number, ofExpression}
 use Rattle.parsing.specs.Parser.{ahead, step, parsed, parseBy, parse}
 use Rattle.parsing.specs.Plan.{Reading, plan, countsFrom, countsOf, procedureGoals, Before, programBy, afterProcedure, proceduresBy, maskFrom, behindFields, withVolatiles, readPlan}
 use Rattle.parsing.proofs.Runs.{state, Leads, _thence_, by-step, expects}
@@ -134,10 +134,10 @@ module _ (counts : List ℕ) where
 
 -- ---- the parameter counts
 
-skip : (ts rest : List ℕ) → NoProcedure ts → countsFrom (ts ++ rest) ≡ countsFrom rest
+skip : {ts : List ℕ} (rest : List ℕ) → NoProcedure ts → countsFrom (ts ++ rest) ≡ countsFrom rest
 unfolding countsFrom
-skip [] rest h = refl
-skip (t ∷ ts) rest h = rw (ne-eqb t procedureWord (h .0)) (skip ts rest (h .1))
+skip rest ends = refl
+skip rest (token t h k) = rw (ne-eqb t procedureWord h) (skip rest k)
 
 counts-back : (counts : List ℕ) (ds : List Procedure) (p : ℕ) → RightDefinitions counts ds → p + length ds ≤ 32
     → countsFrom (procedureTokens p ds ++ (textEnd ∷ [])) ≡ countsIn ds
@@ -148,7 +148,7 @@ counts-back counts (d ∷ ds) p right few =
     rw (ne-eqb p procedureWord (λ z. omega arith), ne-eqb (d .parameters) procedureWord e)
     (ap (λ (l : List ℕ). d .parameters ∷ l)
     (ap countsFrom (append-assoc (shown loose (d .body)) (procedureTokens (suc p) ds) (textEnd ∷ []))
-    ∙ skip (shown loose (d .body)) _ (none-shown counts (d .body) loose (right .0 .right-body))
+    ∙ skip _ (none-shown counts (d .body) loose (right .0 .right-body))
     ∙ counts-back counts ds (suc p) (right .1) (omega arith)))
 
 -- ---- the volatile fields
@@ -176,14 +176,13 @@ unfolding programBy
 program-is g m e = λ i. record { version = version-again (g .version) i; volatiles = e i; procedures = g .procedures }
 
 -- how tokens begin that begin as an expression
-first-token : (ts : List ℕ) → Starts ts → NoField ts × (eqb (ahead ts 0) volatileWord ≡ false)
-first-token [] h = absurd h
-first-token (t ∷ ts) h = (h .0, ne-eqb t volatileWord (h .1))
+first-token : {ts : List ℕ} → Starts ts → NoField ts × (eqb (ahead ts 0) volatileWord ≡ false)
+first-token (begins t h) = (h .0, ne-eqb t volatileWord (h .1))
 
 no-volatiles : (fs : List ℕ) → Ascending 0 fs → NoProcedure (volatileTokens fs)
 unfolding volatileTokens
-no-volatiles [] up = tt
-no-volatiles (f ∷ fs) up = (omega arith, none-fields (f ∷ fs) 0 up)
+no-volatiles [] up = ends
+no-volatiles (f ∷ fs) up = token volatileWord (omega arith) (none-fields (f ∷ fs) 0 up)
 
 -- a program with main d, in its parts
 module _ (d : Procedure) (ds : List Procedure) (right : RightDefinitions (countsIn (d ∷ ds)) (d ∷ ds)) (few : length (d ∷ ds) ≤ 32)
@@ -196,21 +195,20 @@ module _ (d : Procedure) (ds : List Procedure) (right : RightDefinitions (counts
   bodies-start : Starts bodies
   unfolding mainFirst
   bodies-start =
-      starts-append (shown loose (d .body) ++ procedureTokens 1 ds) (textEnd ∷ [])
-      (starts-append (shown loose (d .body)) (procedureTokens 1 ds) (starts (countsIn (d ∷ ds)) (d .body) loose (right .0 .right-body)))
+      starts-append (textEnd ∷ []) (starts-append (procedureTokens 1 ds) (starts (countsIn (d ∷ ds)) (d .body) loose (right .0 .right-body)))
 
   bodies-counts : countsFrom bodies ≡ countsIn ds
   unfolding mainFirst
   bodies-counts =
       ap countsFrom (append-assoc (shown loose (d .body)) (procedureTokens 1 ds) (textEnd ∷ []))
-      ∙ skip (shown loose (d .body)) _ (none-shown (countsIn (d ∷ ds)) (d .body) loose (right .0 .right-body))
+      ∙ skip _ (none-shown (countsIn (d ∷ ds)) (d .body) loose (right .0 .right-body))
       ∙ counts-back (countsIn (d ∷ ds)) ds 1 (right .1) (omega arith)
 
   counts-are : (v : ℕ) → v < 2 → countsOf (versionWord ∷ v ∷ volatileTokens fs ++ bodies) ≡ countsIn (d ∷ ds)
   unfolding countsOf
   counts-are v h =
       rw (ne-eqb v procedureWord (λ z. omega arith)) (ap₂ (λ (n : ℕ) (l : List ℕ). n ∷ l) (sym bare)
-      (skip (volatileTokens fs) bodies (no-volatiles fs up) ∙ bodies-counts))
+      (skip bodies (no-volatiles fs up) ∙ bodies-counts))
 
   bodies-read : (v m : ℕ)
       → proceduresBy (countsIn (d ∷ ds)) 32 0 (before v m []) 1024 bodies ≡ plan (programBy (before v m (d ∷ ds)))
@@ -223,7 +221,7 @@ module _ (d : Procedure) (ds : List Procedure) (right : RightDefinitions (counts
   volatiles-read v = by-fields fs up
     where
       first : NoField bodies × (eqb (ahead bodies 0) volatileWord ≡ false)
-      first = first-token bodies bodies-start
+      first = first-token bodies-start
 
       by-fields : (gs : List ℕ) → Ascending 0 gs
           → withVolatiles (countsIn (d ∷ ds)) v (volatileTokens gs ++ bodies) ≡ plan (programBy (before v (2 ^ 31 + maskOf gs) (d ∷ ds)))

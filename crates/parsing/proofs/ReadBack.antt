@@ -8,10 +8,10 @@ use lib.Dec.{eqb}
 use borrow.Author.Tests.{ne-eqb}
 use Rattle.packed.specs.Syntax.{Signal, Expression, Condition, Arguments}
 use Rattle.written.specs.Terms.{termsOf, termsOfᶜ, termsOfᵃ, size}
-use Rattle.notation.specs.Tokens.{inWord, thenWord, elseWord, doWord, allWord, andWord, trueWord, notWord, nullWord, newWord, letWord, ifWord, whileWord, callWord, forkWord, joinWord, synchWord, waitWord, notifyWord, opening, closing, comma, dot, equals, becomes}
-use Rattle.notation.specs.Shown.{loose, testing, prefix, tight, binderToken, signalTokens, shown, shownᶜ, shownᵃ, shownFurther}
+use Rattle.notation.specs.Tokens.{allWord, forkWord, joinWord, waitWord, notifyWord, closing, comma}
+use Rattle.notation.specs.Shown.{loose, testing, prefix, tight, signalTokens, shown, shownᶜ, shownᵃ, shownFurther}
 use Rattle.written.proofs.Right.{Right, Rightᶜ, Rightᵃ}
-use Rattle.notation.proofs.ShownTokens.{Starts, starts}
+use Rattle.notation.proofs.ShownTokens.{Starts, begins, starts}
 use Rattle.parsing.specs.Goals.{Value, ofExpression, ofCondition, forms, made}
 use Rattle.parsing.specs.Parser.{ahead, operandStep, step}
 use Rattle.parsing.proofs.Operands.{Follows, follows-token, looser, Reads, within, bare, in-parentheses}
@@ -29,9 +29,8 @@ behind-argument Arguments.end rest = follows-token closing loose rest refl refl 
 behind-argument (Arguments.argument e es) rest = follows-token comma loose ((shown loose e ++ shownFurther es) ++ rest) refl refl refl
 
 -- no expression begins with `all`
-not-all : (ts rest : List ℕ) → Starts ts → eqb (ahead (ts ++ rest) 0) allWord ≡ false
-not-all [] rest h = absurd h
-not-all (t ∷ ts) rest h = ne-eqb t allWord (h .2)
+not-all : {ts : List ℕ} (rest : List ℕ) → Starts ts → eqb (ahead (ts ++ rest) 0) allWord ≡ false
+not-all rest (begins t h) = ne-eqb t allWord (h .2)
 
 module _ {counts : List ℕ} where
   signal-reads : (k : Signal) (ts : List ℕ) (e : Expression) {n : ℕ} → Starts ts → Reads counts within prefix ts (ofExpression e) n
@@ -39,7 +38,7 @@ module _ {counts : List ℕ} where
   unfolding step operandStep forms made signalTokens
   signal-reads Signal.wait ts e h read = prefix-reads (waitWord ∷ []) 18 (Expression.signal Signal.wait) (omega arith) (λ d s vs m rest. refl) (λ vs. refl) read
   signal-reads Signal.notify ts e h read =
-      prefix-reads (notifyWord ∷ []) 19 (Expression.signal Signal.notify) (omega arith) (λ d s vs m rest. rw (not-all ts rest h)) (λ vs. refl) read
+      prefix-reads (notifyWord ∷ []) 19 (Expression.signal Signal.notify) (omega arith) (λ d s vs m rest. rw (not-all rest h)) (λ vs. refl) read
   signal-reads Signal.notifyAll ts e h read =
       prefix-reads (notifyWord ∷ allWord ∷ []) 20 (Expression.signal Signal.notifyAll) (omega arith) (λ d s vs m rest. refl) (λ vs. refl) read
 
@@ -62,12 +61,15 @@ module _ (counts : List ℕ) where
     reads (Expression.while c e) d h r = in-parentheses loose d (while-reads (readsᶜ c loose (omega arith) (r .0)) (reads e loose (omega arith) (r .1)))
     reads (Expression.call m es) d h r = tightly h (call-reads m es (r .0) (reads-arguments es (r .1)))
     reads (Expression.fork e) d h r =
-        in-parentheses prefix d (prefix-reads (forkWord ∷ []) 9 Expression.fork (omega arith) (λ d s vs n rest. refl) (λ vs. refl) (reads e prefix (omega arith) r))
+        in-parentheses prefix d (prefix-reads (forkWord ∷ []) 9 Expression.fork (omega arith) (λ d s vs n rest. refl) (λ vs. refl)
+        (reads e prefix (omega arith) r))
     reads (Expression.join e) d h r =
-        in-parentheses prefix d (prefix-reads (joinWord ∷ []) 10 Expression.join (omega arith) (λ d s vs n rest. refl) (λ vs. refl) (reads e prefix (omega arith) r))
+        in-parentheses prefix d (prefix-reads (joinWord ∷ []) 10 Expression.join (omega arith) (λ d s vs n rest. refl) (λ vs. refl)
+        (reads e prefix (omega arith) r))
     reads (Expression.synch e e′) d h r = in-parentheses loose d (synch-reads (reads e loose (omega arith) (r .0)) (reads e′ loose (omega arith) (r .1)))
     reads (Expression.hold o e) d h r = absurd r
-    reads (Expression.signal k e) d h r = in-parentheses prefix d (signal-reads k (shown prefix e) e (starts counts e prefix r) (reads e prefix (omega arith) r))
+    reads (Expression.signal k e) d h r =
+        in-parentheses prefix d (signal-reads k (shown prefix e) e (starts counts e prefix r) (reads e prefix (omega arith) r))
     reads (Expression.waiting o) d h r = absurd r
 
     readsᶜ : (c : Condition) (d : ℕ) → d ≤ tight → Rightᶜ counts c → Reads counts within d (shownᶜ d c) (ofCondition c) (size (termsOfᶜ c))

@@ -1,5 +1,5 @@
 -- Each form of an expression and of a condition is read back, where its parts are. Assumes nothing.
-use Prim.Native.Nat.{ℕ, zero, suc, _+_, _-_, _*_, _^_, _≤_, _<_}
+use Prim.Native.Nat.{ℕ, zero, suc, _+_, _-_, _^_, _≤_, _<_}
 use native.Mathlib.Nat.{zero-add, add-assoc}
 use native.Mathlib.Omega.{arith}
 use mathlib.Core.Path.{_≡_, refl, ap, _∙_}
@@ -17,7 +17,7 @@ use Rattle.notation.specs.Shown.{binderToken, loose, testing, prefix, tight}
 use Rattle.written.proofs.RightTerms.{slot-again}
 use Rattle.written.proofs.Right.{Ascending, RightFields, RightSlot, RightField, RightCall}
 use Rattle.notation.specs.Tokens.{inWord, thenWord, elseWord, doWord, andWord, trueWord, notWord, nullWord, newWord, letWord, ifWord, whileWord, callWord, synchWord, opening, closing, comma, dot, equals, becomes}
-use Rattle.parsing.specs.Goals.{Sort, expression, condition, Goal, expect, operand, more, make, binder, fields, procedure, further, Value, number, ofExpression, ofCondition, ofArguments, numberIn, made, Form, form, forms, notifyAllForm, argumentGoals}
+use Rattle.parsing.specs.Goals.{Sort, expression, condition, Goal, operand, more, make, binder, fields, further, Value, number, ofExpression, ofCondition, ofArguments, numberIn, made, Form, form, forms, notifyAllForm, argumentGoals}
 use Rattle.parsing.specs.Parser.{go, takesCondition, begun, operandStep, moreStep, fieldsStep, furtherStep, step, mostGoals, mostValues}
 use Rattle.parsing.proofs.Runs.{state, Leads, _thence_, stays, Room, by-step, makes, expects}
 use Rattle.parsing.proofs.Operands.{Follows, looser, follows-token, follows-dot, follows-and, Reads, within, bare, suits-expression, suits-another, takes-condition, Fits, whole, wholeᶜ}
@@ -92,34 +92,40 @@ module _ {counts : List ℕ} where
       record {
         leads = λ d s gs vs n m rest h su fo room.
             rw append-assoc
-            (read .leads d s gs vs n (suc k′ + m) (dot ∷ f ∷ becomes ∷ ts′ ++ rest) (omega arith) (suits-expression s e) (follows-dot (f ∷ becomes ∷ ts′ ++ rest)) (omega arith)
+            (read .leads d s gs vs n (suc k′ + m) (dot ∷ f ∷ becomes ∷ ts′ ++ rest) (omega arith) (suits-expression s e)
+            (follows-dot (f ∷ becomes ∷ ts′ ++ rest)) (omega arith)
             thence by-step (operand loose expression ∷ make 4 ∷ more d s ∷ []) (number f ∷ ofExpression e ∷ vs) (ts′ ++ rest)
             (rw (lt-ltb 0 f (right .0), lt-ltb f 32 (right .1), eq-eqb d loose (omega arith))) (omega arith)
             thence whole read′ (suc m) (omega arith) fo (omega arith)
             thence makes (omega arith));
       }
 
-  pub and-reads : {ts ts′ : List ℕ} {c c′ : Condition} {k k′ : ℕ} → Reads counts within testing ts (ofCondition c) k → Reads counts within loose ts′ (ofCondition c′) k′
+  pub and-reads : {ts ts′ : List ℕ} {c c′ : Condition} {k k′ : ℕ} → Reads counts within testing ts (ofCondition c) k
+      → Reads counts within loose ts′ (ofCondition c′) k′
       → Reads counts bare loose (ts ++ (andWord ∷ ts′)) (ofCondition (Condition.and c c′)) (suc (k + k′ + 0))
   unfolding step moreStep made
   and-reads {ts} {ts′} {c} {c′} {k} {k′} read read′ =
       record {
         leads = λ d s gs vs n m rest h su fo room.
             rw append-assoc
-            (read .leads d s gs vs n (suc k′ + m) (andWord ∷ ts′ ++ rest) (omega arith) (suits-another s (Condition.and c c′) c su) (follows-and (ts′ ++ rest)) (omega arith)
-            thence by-step (operand loose condition ∷ make 14 ∷ more d s ∷ []) (ofCondition c ∷ vs) (ts′ ++ rest) (rw (eq-eqb d loose (omega arith))) (omega arith)
+            (read .leads d s gs vs n (suc k′ + m) (andWord ∷ ts′ ++ rest) (omega arith) (suits-another s (Condition.and c c′) c su)
+            (follows-and (ts′ ++ rest)) (omega arith)
+            thence by-step (operand loose condition ∷ make 14 ∷ more d s ∷ []) (ofCondition c ∷ vs) (ts′ ++ rest) (rw (eq-eqb d loose (omega arith)))
+            (omega arith)
             thence wholeᶜ read′ (suc m) (omega arith) fo (omega arith)
             thence makes (omega arith));
       }
 
-  pub equal-reads : {ts ts′ : List ℕ} {e e′ : Expression} {k k′ : ℕ} → Reads counts within prefix ts (ofExpression e) k → Reads counts within prefix ts′ (ofExpression e′) k′
+  pub equal-reads : {ts ts′ : List ℕ} {e e′ : Expression} {k k′ : ℕ} → Reads counts within prefix ts (ofExpression e) k
+      → Reads counts within prefix ts′ (ofExpression e′) k′
       → Reads counts bare testing (ts ++ (equals ∷ ts′)) (ofCondition (Condition.equal e e′)) (suc (k + k′ + 0))
   unfolding step moreStep made
   equal-reads {ts} {ts′} {e} {e′} {k} {k′} read read′ =
       record {
         leads = λ d s gs vs n m rest h su fo room.
             rw append-assoc
-            (read .leads d s gs vs n (suc k′ + m) (equals ∷ ts′ ++ rest) (omega arith) (suits-expression s e) (follows-token equals prefix (ts′ ++ rest) refl refl refl) (omega arith)
+            (read .leads d s gs vs n (suc k′ + m) (equals ∷ ts′ ++ rest) (omega arith) (suits-expression s e)
+            (follows-token equals prefix (ts′ ++ rest) refl refl refl) (omega arith)
             thence by-step (operand prefix expression ∷ make 15 ∷ more d s ∷ []) (ofExpression e ∷ vs) (ts′ ++ rest)
             (rw (le-leb d testing h, takes-condition s (Condition.equal e e′) su)) (omega arith)
             thence whole read′ (suc m) (omega arith) (looser testing prefix rest (omega arith) fo) (omega arith)
@@ -131,7 +137,7 @@ module _ {counts : List ℕ} where
   -- an operand behind words: `fork`, `join`, `wait`, `notify`, `notify all`
   pub prefix-reads : (front : List ℕ) (tag : ℕ) (result : Expression → Expression) {ts : List ℕ} {e : Expression} {k : ℕ} → 1 ≤ length front
       → ((d : ℕ) (s : Sort) (vs : List Value) (n : ℕ) (rest : List ℕ)
-        → step counts (operand d s) vs n (front ++ (ts ++ rest)) ≡ begun (prefixForm tag) d s vs n (front ++ (ts ++ rest)) (ts ++ rest))
+      → step counts (operand d s) vs n (front ++ (ts ++ rest)) ≡ begun (prefixForm tag) d s vs n (front ++ (ts ++ rest)) (ts ++ rest))
       → ((vs : List Value) → made tag (ofExpression e ∷ vs) ≡ ofExpression (result e) ∷ vs) → Reads counts within prefix ts (ofExpression e) k
       → Reads counts bare prefix (front ++ ts) (ofExpression (result e)) (suc (k + 0 + 0))
   prefix-reads front tag result {ts} {e} there words result-made read =
@@ -154,7 +160,8 @@ module _ {counts : List ℕ} where
             thence makes (omega arith);
       }
 
-  pub synch-reads : {ts ts′ : List ℕ} {e e′ : Expression} {k k′ : ℕ} → Reads counts within loose ts (ofExpression e) k → Reads counts within loose ts′ (ofExpression e′) k′
+  pub synch-reads : {ts ts′ : List ℕ} {e e′ : Expression} {k k′ : ℕ} → Reads counts within loose ts (ofExpression e) k
+      → Reads counts within loose ts′ (ofExpression e′) k′
       → Reads counts bare loose (synchWord ∷ ts ++ (doWord ∷ ts′)) (ofExpression (Expression.synch e e′)) (suc (k + k′ + 0))
   unfolding step operandStep forms made
   synch-reads {ts} {ts′} {k′ = k′} read read′ =
@@ -168,7 +175,8 @@ module _ {counts : List ℕ} where
             thence makes (omega arith));
       }
 
-  pub while-reads : {ts ts′ : List ℕ} {c : Condition} {e : Expression} {k k′ : ℕ} → Reads counts within loose ts (ofCondition c) k → Reads counts within loose ts′ (ofExpression e) k′
+  pub while-reads : {ts ts′ : List ℕ} {c : Condition} {e : Expression} {k k′ : ℕ} → Reads counts within loose ts (ofCondition c) k
+      → Reads counts within loose ts′ (ofExpression e) k′
       → Reads counts bare loose (whileWord ∷ ts ++ (doWord ∷ ts′)) (ofExpression (Expression.while c e)) (suc (k + k′ + 0))
   unfolding step operandStep forms made
   while-reads {ts} {ts′} {k′ = k′} read read′ =
@@ -272,11 +280,13 @@ module _ {counts : List ℕ} where
   unfolding step furtherStep made
   no-further = record { leads = λ gs vs n m rest room. by-step (make 17 ∷ []) vs rest refl (omega arith) thence makes (omega arith) }
 
-  module _ {ts ts′ : List ℕ} {e : Expression} {es : Arguments} {k k′ : ℕ} (read : Reads counts within loose ts (ofExpression e) k) (read′ : ReadsFurther counts ts′ es k′)
+  module _ {ts ts′ : List ℕ} {e : Expression} {es : Arguments} {k k′ : ℕ} (read : Reads counts within loose ts (ofExpression e) k)
+      (read′ : ReadsFurther counts ts′ es k′)
       (behind : (rest : List ℕ) → Follows loose (ts′ ++ rest)) where
     -- an argument and those behind it
     argument-lead : (gs : List Goal) (vs : List Value) (n m : ℕ) (rest : List ℕ) → Fits within (suc (k + k′ + 0)) gs vs n m
-        → Leads counts (state (operand loose expression ∷ further (count es) ∷ make 16 ∷ gs) vs n (ts ++ (ts′ ++ rest))) (state gs (ofArguments (Arguments.argument e es) ∷ vs) m rest)
+        → Leads counts (state (operand loose expression ∷ further (count es) ∷ make 16 ∷ gs) vs n (ts ++ (ts′ ++ rest)))
+        (state gs (ofArguments (Arguments.argument e es) ∷ vs) m rest)
     unfolding made
     argument-lead gs vs n m rest room =
         whole read (suc k′ + m) (omega arith) (behind rest) (omega arith)
