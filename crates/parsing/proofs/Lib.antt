@@ -8,3 +8,4 @@ pub mod Wanted
 pub mod StepsKeep
 pub mod ReadRight
 pub mod PlanRight
+pub mod StepsEnough

@@ -266,7 +266,7 @@ pub record ReadsFurther (counts ts : List ℕ) (es : Arguments) (k : ℕ) : Type
   pub leads : (gs : List Goal) (vs : List Value) (n m : ℕ) (rest : List ℕ) → Fits within k gs vs n m
       → Leads counts (state (further (count es) ∷ gs) vs n (ts ++ rest)) (state gs (ofArguments es ∷ vs) m rest)
 
-few-goals : (n : ℕ) → length (argumentGoals n) ≤ 4
+pub few-goals : (n : ℕ) → length (argumentGoals n) ≤ 4
 unfolding argumentGoals
 few-goals zero = omega arith
 few-goals (suc n) = omega arith
