@@ -1,4 +1,6 @@
 pub mod Samples
+pub mod Branches
+pub mod StepsEnough
 pub mod Runs
 pub mod Operands
 pub mod ReadForms
@@ -8,4 +10,3 @@ pub mod Wanted
 pub mod StepsKeep
 pub mod ReadRight
 pub mod PlanRight
-pub mod StepsEnough

@@ -1,5 +1,5 @@
 -- Each form of an expression and of a condition is read back, where its parts are. Assumes nothing.
-use Prim.Native.Nat.{ℕ, zero, suc, _+_, _-_, _^_, _≤_, _<_}
+use Prim.Native.Nat.{ℕ, suc, _+_, _-_, _^_, _≤_, _<_}
 use native.Mathlib.Nat.{zero-add, add-assoc}
 use native.Mathlib.Omega.{arith}
 use mathlib.Core.Path.{_≡_, refl, ap, _∙_}
@@ -7,7 +7,7 @@ use mathlib.Core.Bool.{true, false, not, _||_, and-false}
 use mathlib.Core.List.{List, [], _∷_, _++_, append-assoc}
 use mathlib.Core.Option.{Option, some, none}
 use lib.Dec.{eqb}
-use lib.ListN.{length, length-append, getD}
+use lib.ListN.{length, getD}
 use borrow.Author.Tests.{le-leb, lt-ltb, eq-eqb, ne-eqb}
 use Rattle.packed.specs.Syntax.{Expression, Condition, Arguments}
 use Rattle.packed.specs.Format.{fieldsFrom}
@@ -40,7 +40,7 @@ module _ {counts : List ℕ} where
   -- behind a word, what its form asks for
   begins : (f : Form) (vs′ : List Value) (rest : List ℕ) {d : ℕ} {s : Sort} {gs : List Goal} {vs : List Value} {n : ℕ} {ts : List ℕ}
       → step counts (operand d s) vs n ts ≡ begun f d s vs′ n ts rest → d ≤ f .binding
-      → (not (f .isCondition) || takesCondition s) ≡ true → Room gs (f .goals ++ (more d s ∷ [])) vs ts rest
+      → (not (f .isCondition) || takesCondition s) ≡ true → Room gs vs
       → Leads counts (state (operand d s ∷ gs) vs n ts) (state ((f .goals ++ (more d s ∷ [])) ++ gs) vs′ n rest)
   unfolding begun
   begins f vs′ rest {d} {s} e h q room = by-step (f .goals ++ (more d s ∷ [])) vs′ rest (e ∙ rw (le-leb d (f .binding) h, q)) room
@@ -144,7 +144,7 @@ module _ {counts : List ℕ} where
       record {
         leads = λ d s gs vs n m rest h su fo room.
             rw (append-assoc, ← result-made vs)
-            (begins (prefixForm tag) vs (ts ++ rest) (words d s vs n rest) h refl (omega (arith, length-append front (ts ++ rest)))
+            (begins (prefixForm tag) vs (ts ++ rest) (words d s vs n rest) h refl (omega arith)
             thence whole read (suc m) (omega arith) fo (omega arith)
             thence makes (omega arith));
       }
@@ -266,11 +266,6 @@ pub record ReadsFurther (counts ts : List ℕ) (es : Arguments) (k : ℕ) : Type
   pub leads : (gs : List Goal) (vs : List Value) (n m : ℕ) (rest : List ℕ) → Fits within k gs vs n m
       → Leads counts (state (further (count es) ∷ gs) vs n (ts ++ rest)) (state gs (ofArguments es ∷ vs) m rest)
 
-pub few-goals : (n : ℕ) → length (argumentGoals n) ≤ 4
-unfolding argumentGoals
-few-goals zero = omega arith
-few-goals (suc n) = omega arith
-
 module _ {counts : List ℕ} where
   pub no-arguments : ReadsArguments counts (closing ∷ []) Arguments.end 1
   unfolding argumentGoals made
@@ -315,7 +310,7 @@ module _ {counts : List ℕ} where
         leads = λ d s gs vs n m rest h su fo room.
             begins (formAt 7) vs (p ∷ opening ∷ ts ++ rest) refl h refl (omega arith)
             thence by-step (argumentGoals (count es)) (number p ∷ vs) (opening ∷ ts ++ rest)
-            (rw (lt-ltb p 32 (right .small), lt-ltb p (length counts) (right .present), ← right .each-parameter)) (omega (arith, few-goals (count es)))
+            (rw (lt-ltb p 32 (right .small), lt-ltb p (length counts) (right .present), ← right .each-parameter)) (omega arith)
             thence read .leads (make 8 ∷ more d s ∷ gs) (number p ∷ vs) n (suc m) rest (omega arith)
             thence makes (omega arith);
       }

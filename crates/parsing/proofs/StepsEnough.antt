@@ -1,19 +1,18 @@
 -- "there is always a step for each goal and eight for each token": how many more there are changes nothing. Assumes nothing.
 use Prim.Native.Nat.{ℕ, zero, suc, _+_, _-_, _*_, _≤_, _<_}
 use native.Mathlib.Omega.{arith}
-use mathlib.Core.Path.{_≡_, refl, sym, ap, _∙_}
-use mathlib.Core.Bool.{Bool, true, false, cond, not, _&&_, _||_}
+use mathlib.Core.Path.{_≡_, refl, ap}
+use mathlib.Core.Bool.{cond, not, _&&_, _||_}
 use mathlib.Core.List.{List, [], _∷_, _++_}
 use lib.Dec.{eqb, ltb, leb}
 use lib.ListN.{length, length-append, length-drop, getD, drop}
-use borrow.Author.Tests.{ltb-true, leb-true, eqb-true, not-false}
+use borrow.Author.Tests.{ltb-true, leb-true, eqb-true}
 use Rattle.packed.proofs.Decoded.{Cases, done, _gives_then_, pick}
 use Rattle.notation.specs.Tokens.{textEnd}
-use Rattle.parsing.specs.Goals.{Sort, Goal, expect, operand, more, make, binder, fields, procedure, further, Value, number, ofExpression, ofCondition, ofArguments, valueAt, Form, forms, notifyAllForm, argumentGoals}
+use Rattle.parsing.specs.Goals.{Sort, Goal, expect, operand, more, make, binder, fields, procedure, further, Value, number, valueAt, Form, forms, notifyAllForm, argumentGoals}
 use Rattle.parsing.specs.Goals as goals
 use Rattle.parsing.specs.Parser.{ahead, nesting, Step, go, stop, isExpression, isCondition, takesCondition, fits, begun, wordForm, operandStep, isField, dotStep, moreStep, fieldsStep, furtherStep, step, mostGoals, mostValues, Parsed, stopped, afterStep, parseBy}
-use Rattle.parsing.proofs.StepsKeep.{either-way, both}
-use Rattle.parsing.proofs.ReadForms.{few-goals}
+use Rattle.parsing.proofs.Branches.{either-way, both}
 
 -- ---- a step for a goal
 
@@ -27,7 +26,12 @@ eight-less : (k : ℕ) (ts : List ℕ) → 1 ≤ k → (ahead ts 0 ≡ textEnd �
 eight-less k [] some h = absurd (h refl)
 eight-less k (t ∷ ts) some h = omega (arith, length-drop k (t ∷ ts))
 
--- the forms have six goals at most
+-- a list has four goals at most, a form six
+few-goals : (n : ℕ) → length (argumentGoals n) ≤ 4
+unfolding argumentGoals
+few-goals zero = omega arith
+few-goals (suc n) = omega arith
+
 few-in-form : Cases (λ (t : ℕ). length (getD forms (t - 49) notifyAllForm .goals) ≤ 6) 49 13
 unfolding forms
 few-in-form =
@@ -47,7 +51,8 @@ few-in-form =
     then done
 
 module _ (d : ℕ) (s : Sort) (vs : List Value) (n : ℕ) (ts : List ℕ) where
-  begun-shrinks : (f : Form) (vs′ : List Value) (k : ℕ) → 1 ≤ k → (ahead ts 0 ≡ textEnd → ⊥) → length (f .goals) ≤ 6 → Shrinks ts (begun f d s vs′ n ts (drop k ts))
+  begun-shrinks : (f : Form) (vs′ : List Value) (k : ℕ) → 1 ≤ k → (ahead ts 0 ≡ textEnd → ⊥) → length (f .goals) ≤ 6
+      → Shrinks ts (begun f d s vs′ n ts (drop k ts))
   unfolding begun
   begun-shrinks f vs′ k some h few =
       either-way (Shrinks ts) (leb d (f .binding) && (not (f .isCondition) || takesCondition s)) _ _
@@ -66,7 +71,8 @@ module _ (d : ℕ) (s : Sort) (vs : List Value) (n : ℕ) (ts : List ℕ) where
       word-shrinks : (t : ℕ) → t ≡ ahead ts 0 → 49 ≤ t → t ≤ 61 → Shrinks ts (wordForm t d s vs n ts)
       word-shrinks t e low high =
           either-way (Shrinks ts) (eqb t 61 && eqb (ahead ts 1) 47) _ _ (λ z. begun-shrinks notifyAllForm vs 2 (omega arith) (λ q. omega arith) (omega arith))
-          (λ z. begun-shrinks (getD forms (t - 49) notifyAllForm) (cond (eqb t 52) (number 0 ∷ vs) vs) 1 (omega arith) (λ q. omega arith) (pick few-in-form t low (omega arith)))
+          (λ z. begun-shrinks (getD forms (t - 49) notifyAllForm) (cond (eqb t 52) (number 0 ∷ vs) vs) 1 (omega arith) (λ q. omega arith)
+          (pick few-in-form t low (omega arith)))
 
   dot-shrinks : ahead ts 0 ≡ 65 → Shrinks ts (dotStep d s vs n ts)
   unfolding dotStep
@@ -82,10 +88,12 @@ module _ (d : ℕ) (s : Sort) (vs : List Value) (n : ℕ) (ts : List ℕ) where
       let v = valueAt vs 0 in
       either-way (Shrinks ts) (isExpression v && eqb t 65) _ _ (λ z. dot-shrinks (eqb-true t 65 (both (isExpression v) (eqb t 65) z .1)))
       (λ z. either-way (Shrinks ts) (isExpression v && eqb t 66 && leb d 1 && takesCondition s) _ _
-      (λ y. let e = eqb-true t 66 (both (isExpression v) (eqb t 66) (both (isExpression v && eqb t 66) (leb d 1) (both (isExpression v && eqb t 66 && leb d 1) (takesCondition s) y .0) .0) .1) in
+      (λ y. let e = eqb-true t 66 (both (isExpression v) (eqb t 66)
+      (both (isExpression v && eqb t 66) (leb d 1) (both (isExpression v && eqb t 66 && leb d 1) (takesCondition s) y .0) .0) .1) in
       omega (arith, eight-less 1 ts (omega arith) (λ q. omega arith)))
       (λ y. either-way (Shrinks ts) (isCondition v && eqb t 48 && eqb d 0) _ _
-      (λ x. let e = eqb-true t 48 (both (isCondition v) (eqb t 48) (both (isCondition v && eqb t 48) (eqb d 0) x .0) .1) in omega (arith, eight-less 1 ts (omega arith) (λ q. omega arith)))
+      (λ x. let e = eqb-true t 48 (both (isCondition v) (eqb t 48) (both (isCondition v && eqb t 48) (eqb d 0) x .0) .1) in omega
+      (arith, eight-less 1 ts (omega arith) (λ q. omega arith)))
       (λ x. either-way (Shrinks ts) (fits s v) _ _ (λ w. omega arith) (λ w. tt))))
 
 module _ (vs : List Value) (n : ℕ) (ts : List ℕ) where
@@ -115,12 +123,14 @@ module _ (vs : List Value) (n : ℕ) (ts : List ℕ) where
   step-shrinks counts (make k) = either-way (Shrinks ts) (eqb n 0) _ _ (λ z. tt) (λ z. omega arith)
   step-shrinks counts binder =
       let t = ahead ts 0 in
-      either-way (Shrinks ts) (ltb t 8) _ _ (λ z. omega (arith, length-drop 1 ts)) (λ z. either-way (Shrinks ts) (eqb t 68) _ _ (λ y. omega (arith, length-drop 1 ts)) (λ y. tt))
+      either-way (Shrinks ts) (ltb t 8) _ _ (λ z. omega (arith, length-drop 1 ts))
+      (λ z. either-way (Shrinks ts) (eqb t 68) _ _ (λ y. omega (arith, length-drop 1 ts)) (λ y. tt))
   step-shrinks counts (fields k f) = fields-shrinks k f
   step-shrinks counts procedure =
       let t = ahead ts 0 in
       either-way (Shrinks ts) (ltb t 32 && ltb t (length counts)) _ _
-      (λ z. let small = ltb-true t 32 (both (ltb t 32) (ltb t (length counts)) z .0) in omega (arith, few-goals (getD counts t 0), eight-less 1 ts (omega arith) (λ q. omega arith))) (λ z. tt)
+      (λ z. let small = ltb-true t 32 (both (ltb t 32) (ltb t (length counts)) z .0) in omega
+      (arith, few-goals (getD counts t 0), eight-less 1 ts (omega arith) (λ q. omega arith))) (λ z. tt)
   step-shrinks counts (further k) = further-shrinks k
   step-shrinks counts goals.count = either-way (Shrinks ts) (ltb (ahead ts 0) 9) _ _ (λ z. omega (arith, length-drop 1 ts)) (λ z. tt)
 
@@ -135,12 +145,14 @@ module _ (counts : List ℕ) where
   enough-steps (suc k) (suc k′) [] vs n ts h h′ = refl
   enough-steps (suc k) (suc k′) (g ∷ gs) vs n ts h h′ =
       ap (cond (ltb mostGoals (length (g ∷ gs)) || ltb mostValues (length vs)) (stopped nesting ts))
-      (after (λ gs′ vs′ n′ ts′ q. enough-steps k k′ (gs′ ++ gs) vs′ n′ ts′ (omega (arith, length-append gs′ gs)) (omega (arith, length-append gs′ gs))) (step counts g vs n ts) (step-shrinks vs n ts counts g))
+      (after (λ gs′ vs′ n′ ts′ q. enough-steps k k′ (gs′ ++ gs) vs′ n′ ts′ (omega (arith, length-append gs′ gs)) (omega (arith, length-append gs′ gs)))
+      (step counts g vs n ts) (step-shrinks vs n ts counts g))
     where
       next : ℕ → List Goal → List Value → ℕ → List ℕ → Parsed
       next m gs′ vs′ n′ ts′ = parseBy counts m (gs′ ++ gs) vs′ n′ ts′
 
-      after : ((gs′ : List Goal) (vs′ : List Value) (n′ : ℕ) (ts′ : List ℕ) → 8 * length ts′ + length gs′ ≤ 8 * length ts → next k gs′ vs′ n′ ts′ ≡ next k′ gs′ vs′ n′ ts′) → (x : Step) → Shrinks ts x
+      after : ((gs′ : List Goal) (vs′ : List Value) (n′ : ℕ) (ts′ : List ℕ) → 8 * length ts′ + length gs′ ≤ 8 * length ts → next k gs′ vs′ n′ ts′ ≡ next k′
+      gs′ vs′ n′ ts′) → (x : Step) → Shrinks ts x
           → afterStep (next k) x ≡ afterStep (next k′) x
       after ih (go gs′ vs′ n′ ts′) q = ih gs′ vs′ n′ ts′ q
       after ih (stop r ts′) q = refl

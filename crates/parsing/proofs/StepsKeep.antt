@@ -3,7 +3,7 @@ use Prim.Native.Nat.{ℕ, zero, suc, _+_, _-_, _^_, _≤_, _<_}
 use native.Mathlib.Nat.{add-assoc, zero-add}
 use native.Mathlib.Omega.{arith}
 use mathlib.Core.Path.{_≡_, refl, sym, ap, subst, _∙_}
-use mathlib.Core.Bool.{Bool, true, false, cond, not, _&&_, _||_, true≢false, and-eq-true-iff}
+use mathlib.Core.Bool.{true, cond, not, _&&_, _||_, true≢false}
 use mathlib.Core.List.{List, [], _∷_, _++_}
 use lib.Dec.{eqb, ltb, leb}
 use lib.ListN.{length, getD, drop}
@@ -20,15 +20,8 @@ use Rattle.notation.specs.Tokens.{closing}
 use Rattle.parsing.specs.Goals.{Sort, either, expression, condition, Goal, expect, operand, more, make, binder, fields, procedure, further, Value, number, ofExpression, ofCondition, ofArguments, numberIn, made, Form, forms, notifyAllForm, argumentGoals}
 use Rattle.parsing.specs.Goals as goals
 use Rattle.parsing.specs.Parser.{ahead, Step, go, stop, isCondition, takesCondition, fits, inside, begun, wordForm, operandStep, isField, dotStep, moreStep, fieldsStep, furtherStep, step}
+use Rattle.parsing.proofs.Branches.{either-way, both}
 use Rattle.parsing.proofs.Wanted.{weights, RightOperand, Ready, Wanted, Wants, Passed, passed-none, passed-one, passed-two, passed-three}
-
--- whichever way a test goes
-pub either-way : {A : Type 0} (P : A → Type 0) (x : Bool) (a b : A) → (x ≡ true → P a) → (x ≡ false → P b) → P (cond x a b)
-either-way P true a b f g = f refl
-either-way P false a b f g = g refl
-
-pub both : (x y : Bool) → (x && y) ≡ true → (x ≡ true) × (y ≡ true)
-both x y h = and-eq-true-iff x y .0 h
 
 module _ (counts : List ℕ) (K : List Value → Type 0) where
   -- what comes of a goal, from these values, terms left and tokens
