@@ -88,12 +88,12 @@ module _ (d : ℕ) (s : Sort) (vs : List Value) (n : ℕ) (ts : List ℕ) where
       let v = valueAt vs 0 in
       either-way (Shrinks ts) (isExpression v && eqb t 65) _ _ (λ z. dot-shrinks (eqb-true t 65 (both (isExpression v) (eqb t 65) z .1)))
       (λ z. either-way (Shrinks ts) (isExpression v && eqb t 66 && leb d 1 && takesCondition s) _ _
-      (λ y. let e = eqb-true t 66 (both (isExpression v) (eqb t 66)
-      (both (isExpression v && eqb t 66) (leb d 1) (both (isExpression v && eqb t 66 && leb d 1) (takesCondition s) y .0) .0) .1) in
+      (λ y. let a = both (isExpression v && eqb t 66 && leb d 1) (takesCondition s) y .0 in
+      let e = eqb-true t 66 (both (isExpression v) (eqb t 66) (both (isExpression v && eqb t 66) (leb d 1) a .0) .1) in
       omega (arith, eight-less 1 ts (omega arith) (λ q. omega arith)))
       (λ y. either-way (Shrinks ts) (isCondition v && eqb t 48 && eqb d 0) _ _
-      (λ x. let e = eqb-true t 48 (both (isCondition v) (eqb t 48) (both (isCondition v && eqb t 48) (eqb d 0) x .0) .1) in omega
-      (arith, eight-less 1 ts (omega arith) (λ q. omega arith)))
+      (λ x. let e = eqb-true t 48 (both (isCondition v) (eqb t 48) (both (isCondition v && eqb t 48) (eqb d 0) x .0) .1) in
+      omega (arith, eight-less 1 ts (omega arith) (λ q. omega arith)))
       (λ x. either-way (Shrinks ts) (fits s v) _ _ (λ w. omega arith) (λ w. tt))))
 
 module _ (vs : List Value) (n : ℕ) (ts : List ℕ) where
@@ -129,8 +129,8 @@ module _ (vs : List Value) (n : ℕ) (ts : List ℕ) where
   step-shrinks counts procedure =
       let t = ahead ts 0 in
       either-way (Shrinks ts) (ltb t 32 && ltb t (length counts)) _ _
-      (λ z. let small = ltb-true t 32 (both (ltb t 32) (ltb t (length counts)) z .0) in omega
-      (arith, few-goals (getD counts t 0), eight-less 1 ts (omega arith) (λ q. omega arith))) (λ z. tt)
+      (λ z. let small = ltb-true t 32 (both (ltb t 32) (ltb t (length counts)) z .0) in
+      omega (arith, few-goals (getD counts t 0), eight-less 1 ts (omega arith) (λ q. omega arith))) (λ z. tt)
   step-shrinks counts (further k) = further-shrinks k
   step-shrinks counts goals.count = either-way (Shrinks ts) (ltb (ahead ts 0) 9) _ _ (λ z. omega (arith, length-drop 1 ts)) (λ z. tt)
 
@@ -151,8 +151,7 @@ module _ (counts : List ℕ) where
       next : ℕ → List Goal → List Value → ℕ → List ℕ → Parsed
       next m gs′ vs′ n′ ts′ = parseBy counts m (gs′ ++ gs) vs′ n′ ts′
 
-      after : ((gs′ : List Goal) (vs′ : List Value) (n′ : ℕ) (ts′ : List ℕ) → 8 * length ts′ + length gs′ ≤ 8 * length ts → next k gs′ vs′ n′ ts′ ≡ next k′
-      gs′ vs′ n′ ts′) → (x : Step) → Shrinks ts x
-          → afterStep (next k) x ≡ afterStep (next k′) x
+      after : ((gs′ : List Goal) (vs′ : List Value) (n′ : ℕ) (ts′ : List ℕ) → Shrinks ts (go gs′ vs′ n′ ts′) → next k gs′ vs′ n′ ts′ ≡ next k′ gs′ vs′ n′ ts′)
+          → (x : Step) → Shrinks ts x → afterStep (next k) x ≡ afterStep (next k′) x
       after ih (go gs′ vs′ n′ ts′) q = ih gs′ vs′ n′ ts′ q
       after ih (stop r ts′) q = refl
