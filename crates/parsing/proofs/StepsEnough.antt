@@ -8,7 +8,7 @@ use lib.Dec.{eqb, ltb, leb}
 use lib.ListN.{length, length-append, length-drop, getD, drop}
 use borrow.Author.Tests.{ltb-true, leb-true, eqb-true}
 use Rattle.packed.proofs.Decoded.{Cases, done, _gives_then_, pick}
-use Rattle.notation.specs.Tokens.{textEnd}
+use Rattle.notation.specs.Tokens.{allWord, andWord, trueWord, notWord, nullWord, newWord, letWord, ifWord, whileWord, callWord, forkWord, joinWord, synchWord, waitWord, notifyWord, opening, closing, comma, dot, equals, becomes, dash, textEnd}
 use Rattle.parsing.specs.Goals.{Sort, Goal, expect, operand, more, make, binder, fields, procedure, further, Value, number, valueAt, Form, forms, notifyAllForm, argumentGoals}
 use Rattle.parsing.specs.Goals as goals
 use Rattle.parsing.specs.Parser.{ahead, nesting, Step, go, stop, isExpression, isCondition, takesCondition, fits, begun, wordForm, operandStep, isField, dotStep, moreStep, fieldsStep, furtherStep, step, mostGoals, mostValues, Parsed, stopped, afterStep, parseBy}
@@ -32,22 +32,22 @@ unfolding argumentGoals
 few-goals zero = omega arith
 few-goals (suc n) = omega arith
 
-few-in-form : Cases (λ (t : ℕ). length (getD forms (t - 49) notifyAllForm .goals) ≤ 6) 49 13
+few-in-form : Cases (λ (t : ℕ). length (getD forms (t - trueWord) notifyAllForm .goals) ≤ 6) trueWord 13
 unfolding forms
 few-in-form =
-    49 gives omega arith
-    then 50 gives omega arith
-    then 51 gives omega arith
-    then 52 gives omega arith
-    then 53 gives omega arith
-    then 54 gives omega arith
-    then 55 gives omega arith
-    then 56 gives omega arith
-    then 57 gives omega arith
-    then 58 gives omega arith
-    then 59 gives omega arith
-    then 60 gives omega arith
-    then 61 gives omega arith
+    trueWord gives omega arith
+    then notWord gives omega arith
+    then nullWord gives omega arith
+    then newWord gives omega arith
+    then letWord gives omega arith
+    then ifWord gives omega arith
+    then whileWord gives omega arith
+    then callWord gives omega arith
+    then forkWord gives omega arith
+    then joinWord gives omega arith
+    then synchWord gives omega arith
+    then waitWord gives omega arith
+    then notifyWord gives omega arith
     then done
 
 module _ (d : ℕ) (s : Sort) (vs : List Value) (n : ℕ) (ts : List ℕ) where
@@ -64,21 +64,23 @@ module _ (d : ℕ) (s : Sort) (vs : List Value) (n : ℕ) (ts : List ℕ) where
       let t = ahead ts 0 in
       either-way (Shrinks ts) (leb 32 t && ltb t 40) _ _
       (λ z. let small = ltb-true t 40 (both (leb 32 t) (ltb t 40) z .1) in omega (arith, eight-less 1 ts (omega arith) (λ q. omega arith)))
-      (λ z. either-way (Shrinks ts) (leb 49 t && leb t 61) _ _
-      (λ y. let b = both (leb 49 t) (leb t 61) y in word-shrinks t refl (leb-true 49 t (b .0)) (leb-true t 61 (b .1)))
-      (λ y. either-way (Shrinks ts) (eqb t 62) _ _ (λ x. let e = eqb-true t 62 x in omega (arith, eight-less 1 ts (omega arith) (λ q. omega arith))) (λ x. tt)))
+      (λ z. either-way (Shrinks ts) (leb trueWord t && leb t notifyWord) _ _
+      (λ y. let b = both (leb trueWord t) (leb t notifyWord) y in word-shrinks t refl (leb-true trueWord t (b .0)) (leb-true t notifyWord (b .1)))
+      (λ y. either-way (Shrinks ts) (eqb t opening) _ _
+      (λ x. let e = eqb-true t opening x in omega (arith, eight-less 1 ts (omega arith) (λ q. omega arith))) (λ x. tt)))
     where
-      word-shrinks : (t : ℕ) → t ≡ ahead ts 0 → 49 ≤ t → t ≤ 61 → Shrinks ts (wordForm t d s vs n ts)
+      word-shrinks : (t : ℕ) → t ≡ ahead ts 0 → trueWord ≤ t → t ≤ notifyWord → Shrinks ts (wordForm t d s vs n ts)
       word-shrinks t e low high =
-          either-way (Shrinks ts) (eqb t 61 && eqb (ahead ts 1) 47) _ _ (λ z. begun-shrinks notifyAllForm vs 2 (omega arith) (λ q. omega arith) (omega arith))
-          (λ z. begun-shrinks (getD forms (t - 49) notifyAllForm) (cond (eqb t 52) (number 0 ∷ vs) vs) 1 (omega arith) (λ q. omega arith)
+          either-way (Shrinks ts) (eqb t notifyWord && eqb (ahead ts 1) allWord) _ _
+          (λ z. begun-shrinks notifyAllForm vs 2 (omega arith) (λ q. omega arith) (omega arith))
+          (λ z. begun-shrinks (getD forms (t - trueWord) notifyAllForm) (cond (eqb t newWord) (number 0 ∷ vs) vs) 1 (omega arith) (λ q. omega arith)
           (pick few-in-form t low (omega arith)))
 
-  dot-shrinks : ahead ts 0 ≡ 65 → Shrinks ts (dotStep d s vs n ts)
+  dot-shrinks : ahead ts 0 ≡ dot → Shrinks ts (dotStep d s vs n ts)
   unfolding dotStep
   dot-shrinks e =
       either-way (Shrinks ts) (not (isField (ahead ts 1))) _ _ (λ z. tt)
-      (λ z. either-way (Shrinks ts) (eqb d 0 && eqb (ahead ts 2) 67) _ _ (λ y. omega (arith, eight-less 3 ts (omega arith) (λ q. omega arith)))
+      (λ z. either-way (Shrinks ts) (eqb d 0 && eqb (ahead ts 2) becomes) _ _ (λ y. omega (arith, eight-less 3 ts (omega arith) (λ q. omega arith)))
       (λ y. omega (arith, eight-less 2 ts (omega arith) (λ q. omega arith))))
 
   more-shrinks : Shrinks ts (moreStep d s vs n ts)
@@ -86,13 +88,13 @@ module _ (d : ℕ) (s : Sort) (vs : List Value) (n : ℕ) (ts : List ℕ) where
   more-shrinks =
       let t = ahead ts 0 in
       let v = valueAt vs 0 in
-      either-way (Shrinks ts) (isExpression v && eqb t 65) _ _ (λ z. dot-shrinks (eqb-true t 65 (both (isExpression v) (eqb t 65) z .1)))
-      (λ z. either-way (Shrinks ts) (isExpression v && eqb t 66 && leb d 1 && takesCondition s) _ _
-      (λ y. let a = both (isExpression v && eqb t 66 && leb d 1) (takesCondition s) y .0 in
-      let e = eqb-true t 66 (both (isExpression v) (eqb t 66) (both (isExpression v && eqb t 66) (leb d 1) a .0) .1) in
+      either-way (Shrinks ts) (isExpression v && eqb t dot) _ _ (λ z. dot-shrinks (eqb-true t dot (both (isExpression v) (eqb t dot) z .1)))
+      (λ z. either-way (Shrinks ts) (isExpression v && eqb t equals && leb d 1 && takesCondition s) _ _
+      (λ y. let a = both (isExpression v && eqb t equals && leb d 1) (takesCondition s) y .0 in
+      let e = eqb-true t equals (both (isExpression v) (eqb t equals) (both (isExpression v && eqb t equals) (leb d 1) a .0) .1) in
       omega (arith, eight-less 1 ts (omega arith) (λ q. omega arith)))
-      (λ y. either-way (Shrinks ts) (isCondition v && eqb t 48 && eqb d 0) _ _
-      (λ x. let e = eqb-true t 48 (both (isCondition v) (eqb t 48) (both (isCondition v && eqb t 48) (eqb d 0) x .0) .1) in
+      (λ y. either-way (Shrinks ts) (isCondition v && eqb t andWord && eqb d 0) _ _
+      (λ x. let e = eqb-true t andWord (both (isCondition v) (eqb t andWord) (both (isCondition v && eqb t andWord) (eqb d 0) x .0) .1) in
       omega (arith, eight-less 1 ts (omega arith) (λ q. omega arith)))
       (λ x. either-way (Shrinks ts) (fits s v) _ _ (λ w. omega arith) (λ w. tt))))
 
@@ -101,7 +103,7 @@ module _ (vs : List Value) (n : ℕ) (ts : List ℕ) where
   unfolding fieldsStep
   fields-shrinks k f =
       let t = ahead ts 0 in
-      either-way (Shrinks ts) (eqb t 63) _ _ (λ z. omega (arith, length-drop 1 ts))
+      either-way (Shrinks ts) (eqb t closing) _ _ (λ z. omega (arith, length-drop 1 ts))
       (λ z. either-way (Shrinks ts) (ltb 0 k && ltb f t && ltb t 32) _ _
       (λ y. let small = ltb-true t 32 (both (ltb 0 k && ltb f t) (ltb t 32) y .1) in omega (arith, eight-less 1 ts (omega arith) (λ q. omega arith))) (λ y. tt))
 
@@ -109,10 +111,11 @@ module _ (vs : List Value) (n : ℕ) (ts : List ℕ) where
   unfolding furtherStep
   further-shrinks zero =
       let t = ahead ts 0 in
-      either-way (Shrinks ts) (eqb t 63) _ _ (λ z. let e = eqb-true t 63 z in omega (arith, eight-less 1 ts (omega arith) (λ q. omega arith))) (λ z. tt)
+      either-way (Shrinks ts) (eqb t closing) _ _ (λ z. let e = eqb-true t closing z in omega (arith, eight-less 1 ts (omega arith) (λ q. omega arith)))
+      (λ z. tt)
   further-shrinks (suc k) =
       let t = ahead ts 0 in
-      either-way (Shrinks ts) (eqb t 64) _ _ (λ z. let e = eqb-true t 64 z in omega (arith, eight-less 1 ts (omega arith) (λ q. omega arith))) (λ z. tt)
+      either-way (Shrinks ts) (eqb t comma) _ _ (λ z. let e = eqb-true t comma z in omega (arith, eight-less 1 ts (omega arith) (λ q. omega arith))) (λ z. tt)
 
   -- every goal
   pub step-shrinks : (counts : List ℕ) (g : Goal) → Shrinks ts (step counts g vs n ts)
@@ -124,7 +127,7 @@ module _ (vs : List Value) (n : ℕ) (ts : List ℕ) where
   step-shrinks counts binder =
       let t = ahead ts 0 in
       either-way (Shrinks ts) (ltb t 8) _ _ (λ z. omega (arith, length-drop 1 ts))
-      (λ z. either-way (Shrinks ts) (eqb t 68) _ _ (λ y. omega (arith, length-drop 1 ts)) (λ y. tt))
+      (λ z. either-way (Shrinks ts) (eqb t dash) _ _ (λ y. omega (arith, length-drop 1 ts)) (λ y. tt))
   step-shrinks counts (fields k f) = fields-shrinks k f
   step-shrinks counts procedure =
       let t = ahead ts 0 in
