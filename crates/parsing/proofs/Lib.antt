@@ -1,4 +1,6 @@
 pub mod Samples
+pub mod Branches
+pub mod StepsEnough
 pub mod Runs
 pub mod Operands
 pub mod ReadForms

@@ -7,13 +7,13 @@ use mathlib.Core.Bool.{Bool, true, false, cond, _&&_, and-false}
 use mathlib.Core.List.{List, [], _∷_, _++_, append-assoc}
 use lib.Dec.{eqb, ltb, leb}
 use lib.ListN.{length}
-use borrow.Author.Tests.{ltb-false, eq-eqb, ne-eqb}
+use borrow.Author.Tests.{ltb-false, ne-eqb}
 use Rattle.packed.specs.Syntax.{Expression, Condition}
 use Rattle.notation.specs.Tokens.{andWord, opening, closing, dot, equals, becomes}
 use Rattle.notation.specs.Shown.{loose, testing, grouped, tight}
 use Rattle.parsing.specs.Goals.{Sort, either, expression, condition, Goal, expect, operand, more, Value, ofExpression, ofCondition}
-use Rattle.parsing.specs.Parser.{ahead, go, isExpression, isCondition, takesCondition, fits, inside, operandStep, moreStep, step, mostGoals, mostValues}
-use Rattle.parsing.proofs.Runs.{state, Leads, _thence_, by-step}
+use Rattle.parsing.specs.Parser.{ahead, go, isExpression, isCondition, takesCondition, fits, inside, operandStep, moreStep, step}
+use Rattle.parsing.proofs.Runs.{state, Leads, _thence_, by-step, expects}
 
 -- what may stand behind an operand that is shown at a place that asks for d: nothing that it could take for its own
 pub record Follows (d : ℕ) (rest : List ℕ) : Type 0 where
@@ -25,25 +25,25 @@ pub record Follows (d : ℕ) (rest : List ℕ) : Type 0 where
 pub looser : (d d′ : ℕ) (rest : List ℕ) → d ≤ d′ → Follows d rest → Follows d′ rest
 looser d d′ rest h f = record { no-becomes = f .no-becomes; no-dot = λ q. f .no-dot (omega arith); no-and = λ q. f .no-and (omega arith) }
 
-module _ (counts : List ℕ) where
-  -- a value that can be in parentheses where a sort is asked for
-  abbrev pub Suits : Sort → Value → Type 0
-  Suits s v = fits (inside s) v ≡ true
-
-  -- Tokens that are read as value v of k terms, at a place that asks for l or less, before whatever may follow, where goals and values
-  -- leave room, r goals at most.
-  abbrev pub Reads : ℕ → ℕ → List ℕ → Value → ℕ → Type 0
-  Reads r l ts v k =
-      (d : ℕ) (s : Sort) (gs : List Goal) (vs : List Value) (n m : ℕ) (rest : List ℕ) → d ≤ l → Suits s v → Follows l rest → n ≡ k + m
-      → length gs + 8 * k ≤ r → length vs + 3 * k ≤ 3090
-      → Leads counts (state (operand d s ∷ gs) vs n (ts ++ rest)) (state (more d s ∷ gs) (v ∷ vs) m rest)
-
 -- the goals that an operand leaves room for, with its parentheses and without
 abbrev pub within : ℕ
 within = 8390
 
 abbrev pub bare : ℕ
 bare = 8392
+
+-- k terms of n are made and m are left, where these goals and values leave room, r goals at most
+abbrev pub Fits : ℕ → ℕ → List Goal → List Value → ℕ → ℕ → Type 0
+Fits r k gs vs n m = (n ≡ k + m) × (length gs + 8 * k ≤ r) × (length vs + 3 * k ≤ 3090)
+
+-- a value that can be in parentheses where a sort is asked for
+abbrev pub Suits : Sort → Value → Type 0
+Suits s v = fits (inside s) v ≡ true
+
+-- tokens that are read as value v of k terms, at a place that asks for l or less, before whatever may follow
+pub record Reads (counts : List ℕ) (r l : ℕ) (ts : List ℕ) (v : Value) (k : ℕ) : Type 0 where
+  pub leads : (d : ℕ) (s : Sort) (gs : List Goal) (vs : List Value) (n m : ℕ) (rest : List ℕ) → d ≤ l → Suits s v → Follows l rest → Fits r k gs vs n m
+      → Leads counts (state (operand d s ∷ gs) vs n (ts ++ rest)) (state (more d s ∷ gs) (v ∷ vs) m rest)
 
 -- ---- sorts
 
@@ -102,52 +102,44 @@ pub follows-and : (rest : List ℕ) → Follows testing (andWord ∷ rest)
 follows-and rest = record { no-becomes = refl; no-dot = λ h. refl; no-and = λ h. absurd (omega arith) }
 
 module _ {counts : List ℕ} where
-  -- this token is there
-  pub expects : (t : ℕ) (gs : List Goal) (vs : List Value) (n : ℕ) (ts : List ℕ) → length gs < mostGoals → length vs ≤ mostValues
-      → Leads counts (state (expect t ∷ gs) vs n (t ∷ ts)) (state gs vs n ts)
-  unfolding step
-  expects t gs vs n ts h h′ = by-step (expect t) gs [] vs vs n n (t ∷ ts) ts (rw (eq-eqb t t refl)) (h, h′, omega arith)
-
   -- an expression up to its end
-  pub whole : (l : ℕ) (ts : List ℕ) (e : Expression) (k : ℕ) → Reads counts within l ts (ofExpression e) k
-      → (gs : List Goal) (vs : List Value) (n m : ℕ) (rest : List ℕ) → l < 3 → Follows l rest
-      → n ≡ k + m → length gs + 8 * k ≤ within → length vs + 3 * k ≤ 3090
+  pub whole : {l : ℕ} {ts : List ℕ} {e : Expression} {k : ℕ} → Reads counts within l ts (ofExpression e) k
+      → (m : ℕ) {gs : List Goal} {vs : List Value} {n : ℕ} {rest : List ℕ} → l < 3 → Follows l rest → Fits within k gs vs n m
       → Leads counts (state (operand l expression ∷ gs) vs n (ts ++ rest)) (state gs (ofExpression e ∷ vs) m rest)
   unfolding step
-  whole l ts e k read gs vs n m rest h f q room room′ =
-      read l expression gs vs n m rest (omega arith) (suits-expression expression e) f q room room′
-      thence by-step (more l expression) gs [] (ofExpression e ∷ vs) (ofExpression e ∷ vs) m m rest rest (ends-expression l e vs m rest (f .no-dot h))
-      (omega arith)
+  whole {l} {ts} {e} {k} read m {gs} {vs} {n} {rest} h f room =
+      read .leads l expression gs vs n m rest (omega arith) (suits-expression expression e) f room
+      thence by-step [] (ofExpression e ∷ vs) rest (ends-expression l e vs m rest (f .no-dot h)) (omega arith)
 
   -- a condition up to its end
-  pub wholeᶜ : (l : ℕ) (ts : List ℕ) (c : Condition) (k : ℕ) → Reads counts within l ts (ofCondition c) k
-      → (gs : List Goal) (vs : List Value) (n m : ℕ) (rest : List ℕ) → l < 3 → Follows l rest
-      → n ≡ k + m → length gs + 8 * k ≤ within → length vs + 3 * k ≤ 3090
+  pub wholeᶜ : {l : ℕ} {ts : List ℕ} {c : Condition} {k : ℕ} → Reads counts within l ts (ofCondition c) k
+      → (m : ℕ) {gs : List Goal} {vs : List Value} {n : ℕ} {rest : List ℕ} → l < 3 → Follows l rest → Fits within k gs vs n m
       → Leads counts (state (operand l condition ∷ gs) vs n (ts ++ rest)) (state gs (ofCondition c ∷ vs) m rest)
   unfolding step inside fits
-  wholeᶜ l ts c k read gs vs n m rest h f q room room′ =
-      read l condition gs vs n m rest (omega arith) refl f q room room′
-      thence by-step (more l condition) gs [] (ofCondition c ∷ vs) (ofCondition c ∷ vs) m m rest rest (ends-condition l c vs m rest (no-more (decLt 0 l)))
-      (omega arith)
+  wholeᶜ {l} {ts} {c} {k} read m {gs} {vs} {n} {rest} h f room =
+      read .leads l condition gs vs n m rest (omega arith) refl f room
+      thence by-step [] (ofCondition c ∷ vs) rest (ends-condition l c vs m rest (no-more (decLt 0 l))) (omega arith)
     where
       no-more : Dec (0 < l) → (eqb (ahead rest 0) andWord && eqb l loose) ≡ false
       no-more (yes p) = rw (ne-eqb l 0 (λ z. omega arith), and-false (eqb (ahead rest 0) andWord))
       no-more (no p) = rw (f .no-and (omega (arith, p)))
 
   -- "parentheses where needed"
-  pub in-parentheses : (l d₁ : ℕ) (ts : List ℕ) (v : Value) (k : ℕ) → Reads counts bare l ts v k → Reads counts within d₁ (grouped d₁ l ts) v k
+  pub in-parentheses : (l d₁ : ℕ) {ts : List ℕ} {v : Value} {k : ℕ} → Reads counts bare l ts v k → Reads counts within d₁ (grouped d₁ l ts) v k
   unfolding grouped step operandStep
-  in-parentheses l d₁ ts v k read d s gs vs n m rest h su f q room room′ = choose (ltb l d₁) refl
+  in-parentheses l d₁ {ts} {v} {k} read = choose (ltb l d₁) refl
     where
-      choose : (x : Bool) → ltb l d₁ ≡ x
-          → Leads counts (state (operand d s ∷ gs) vs n (cond x (opening ∷ ts ++ (closing ∷ [])) ts ++ rest)) (state (more d s ∷ gs) (v ∷ vs) m rest)
+      choose : (x : Bool) → ltb l d₁ ≡ x → Reads counts within d₁ (cond x (opening ∷ ts ++ (closing ∷ [])) ts) v k
       choose true z =
-          rw append-assoc
-          (by-step (operand d s) gs (operand loose (inside s) ∷ expect closing ∷ more d s ∷ []) vs vs n n (opening ∷ ts ++ (closing ∷ rest))
-          (ts ++ (closing ∷ rest)) refl (omega arith)
-          thence read 0 (inside s) (expect closing ∷ more d s ∷ gs) vs n m (closing ∷ rest) (omega arith) (suits-inside s v su)
-          (follows-token closing l rest refl refl refl) q (omega arith) room′
-          thence by-step (more loose (inside s)) (expect closing ∷ more d s ∷ gs) [] (v ∷ vs) (v ∷ vs) m m (closing ∷ rest) (closing ∷ rest)
-          (ends-closing 0 (inside s) v vs m rest su) (omega arith)
-          thence expects closing (more d s ∷ gs) (v ∷ vs) m rest (omega arith) (omega arith))
-      choose false z = let y = ltb-false l d₁ z in read d s gs vs n m rest (omega arith) su (looser d₁ l rest y f) q (omega arith) room′
+          record {
+            leads = λ d s gs vs n m rest h su f room.
+                rw append-assoc
+                (by-step (operand loose (inside s) ∷ expect closing ∷ more d s ∷ []) vs (ts ++ (closing ∷ rest)) refl (omega arith)
+                thence read .leads loose (inside s) (expect closing ∷ more d s ∷ gs) vs n m (closing ∷ rest) (omega arith) (suits-inside s v su)
+                (follows-token closing l rest refl refl refl) (omega arith)
+                thence by-step [] (v ∷ vs) (closing ∷ rest) (ends-closing loose (inside s) v vs m rest su) (omega arith)
+                thence expects (omega arith));
+          }
+      choose false z =
+          let y = ltb-false l d₁ z in
+          record { leads = λ d s gs vs n m rest h su f room. read .leads d s gs vs n m rest (omega arith) su (looser d₁ l rest y f) (omega arith) }

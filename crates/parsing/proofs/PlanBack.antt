@@ -15,25 +15,25 @@ use Rattle.packed.specs.Trees.{programOf}
 use Rattle.packed.specs.Check.{refusal}
 use Rattle.written.specs.Terms.{termsOf, size, maskOf}
 use Rattle.written.specs.Written.{sizeOfAll, versionNumber}
-use Rattle.notation.specs.Tokens.{versionWord, volatileWord, procedureWord, opening, closing, equals, textEnd}
+use Rattle.notation.specs.Tokens.{versionWord, volatileWord, procedureWord, closing, equals, textEnd}
 use Rattle.notation.specs.Shown.{loose, shown, volatileTokens, procedureTokens, mainFirst, shownPlan}
 use Rattle.written.proofs.Right.{Ascending, countsIn, RightDefinition, RightDefinitions, RightProgram}
 use Rattle.written.proofs.ReadBack.{version-small}
 use Rattle.written.proofs.RightWritten.{version-again}
 use Rattle.written.proofs.RightPlans.{fields-ascend, right-program}
-use Rattle.notation.proofs.ShownTokens.{Starts, starts, starts-append, NoProcedure, none-fields, none-shown}
-use Rattle.parsing.specs.Goals.{expression, Goal, expect, operand, count, Value, number, ofExpression}
+use Rattle.notation.proofs.ShownTokens.{Starts, begins, starts, starts-append, NoProcedure, ends, token, none-fields, none-shown}
+use Rattle.parsing.specs.Goals.{expression, Goal, operand, Value, number, ofExpression}
 use Rattle.parsing.specs.Parser.{ahead, step, parsed, parseBy, parse}
 use Rattle.parsing.specs.Plan.{Reading, plan, countsFrom, countsOf, procedureGoals, Before, programBy, afterProcedure, proceduresBy, maskFrom, behindFields, withVolatiles, readPlan}
-use Rattle.parsing.proofs.Runs.{state, Leads, _thence_, by-step}
-use Rattle.parsing.proofs.Operands.{Follows, follows-token, expects, whole}
+use Rattle.parsing.proofs.Runs.{state, Leads, _thence_, by-step, expects}
+use Rattle.parsing.proofs.Operands.{Follows, follows-token, whole}
 use Rattle.parsing.proofs.ReadBack.{reads}
 
 -- reading that leads to no goal ends there
-parse-ends : (counts : List ℕ) (gs : List Goal) (vs vs′ : List Value) (n n′ : ℕ) (ts ts′ : List ℕ) → Leads counts (state gs vs n ts) (state [] vs′ n′ ts′)
+parse-ends : {counts : List ℕ} {gs : List Goal} {vs vs′ : List Value} {n n′ : ℕ} {ts ts′ : List ℕ} → Leads counts (state gs vs n ts) (state [] vs′ n′ ts′)
     → parse counts gs vs n ts ≡ parsed vs′ n′ ts′
 unfolding parse
-parse-ends counts gs vs vs′ n n′ ts ts′ l =
+parse-ends {counts} {gs} {vs} {vs′} {n} {n′} {ts} {ts′} l =
     let c = l .leads (8 * length ts + suc (length gs)) (omega arith) in
     c .same ∙ last (c .steps) (c .enough)
   where
@@ -48,48 +48,44 @@ abbrev tokensFrom : ℕ → List Procedure → List ℕ
 tokensFrom zero ds = mainFirst ds
 tokensFrom (suc p) ds = procedureTokens (suc p) ds
 
+-- procedures and the end of the text
+abbrev toEnd : ℕ → List Procedure → List ℕ
+toEnd p ds = procedureTokens p ds ++ (textEnd ∷ [])
+
 -- behind a procedure there is another, or the end
-behind-body : (p : ℕ) (ds : List Procedure) → Follows loose (procedureTokens p ds ++ (textEnd ∷ []))
+behind-body : (p : ℕ) (ds : List Procedure) → Follows loose (toEnd p ds)
 unfolding procedureTokens
 behind-body p [] = follows-token textEnd loose [] refl refl refl
-behind-body p (d ∷ ds) =
-    follows-token procedureWord loose ((p ∷ opening ∷ d .parameters ∷ closing ∷ equals ∷ shown loose (d .body) ++ procedureTokens (suc p) ds) ++
-    (textEnd ∷ [])) refl refl refl
+behind-body p (d ∷ ds) = follows-token procedureWord loose _ refl refl refl
 
 module _ (counts : List ℕ) (d : Procedure) (ds : List Procedure) (right : RightDefinition counts d) (n m : ℕ) (enough : n ≡ size (termsOf (d .body)) + m)
     (small : n ≤ 1024) where
   -- its body, up to the next procedure
   body-leads : (p : ℕ) (vs : List Value) → length vs ≤ 2
-      → Leads counts (state (operand loose expression ∷ []) vs n (shown 0 (d .body) ++ (procedureTokens p ds ++ (textEnd ∷ []))))
-      (state [] (ofExpression (d .body) ∷ vs) m (procedureTokens p ds ++ (textEnd ∷ [])))
-  body-leads p vs h =
-      whole loose (shown 0 (d .body)) (d .body) (size (termsOf (d .body))) (reads counts (d .body) 0 (omega arith) (right .right-body)) [] vs n m
-      (procedureTokens p ds ++ (textEnd ∷ []))
-      (omega arith) (behind-body p ds) enough (omega arith) (omega arith)
+      → Leads counts (state (operand loose expression ∷ []) vs n (shown loose (d .body) ++ toEnd p ds)) (state [] (ofExpression (d .body) ∷ vs) m (toEnd p ds))
+  body-leads p vs h = whole (reads counts (d .body) loose (omega arith) (right .right-body)) m (omega arith) (behind-body p ds) (omega arith)
 
   main-parsed : d .parameters ≡ 0
-      → parse counts (procedureGoals 0) (number 0 ∷ []) n (mainFirst (d ∷ ds) ++ (textEnd ∷ [])) ≡ parsed
-      (ofExpression (d .body) ∷ number (d .parameters) ∷ []) m
-      (procedureTokens 1 ds ++ (textEnd ∷ []))
+      → parse counts (procedureGoals 0) (number 0 ∷ []) n (mainFirst (d ∷ ds) ++ (textEnd ∷ []))
+      ≡ parsed (ofExpression (d .body) ∷ number (d .parameters) ∷ []) m (toEnd 1 ds)
   unfolding procedureGoals mainFirst
-  main-parsed bare = rw (append-assoc, bare) (parse-ends counts _ _ _ _ _ _ _ (body-leads 1 (number 0 ∷ []) (omega arith)))
+  main-parsed bare = rw (append-assoc, bare) (parse-ends (body-leads 1 (number 0 ∷ []) (omega arith)))
 
-  procedure-parsed : (p : ℕ) → parse counts (procedureGoals (suc p)) (number 0 ∷ []) n (procedureTokens (suc p) (d ∷ ds) ++ (textEnd ∷ []))
-      ≡ parsed (ofExpression (d .body) ∷ number (d .parameters) ∷ number 0 ∷ []) m (procedureTokens (suc (suc p)) ds ++ (textEnd ∷ []))
+  procedure-parsed : (p : ℕ)
+      → parse counts (procedureGoals (suc p)) (number 0 ∷ []) n (toEnd (suc p) (d ∷ ds))
+      ≡ parsed (ofExpression (d .body) ∷ number (d .parameters) ∷ number 0 ∷ []) m (toEnd (suc (suc p)) ds)
   unfolding procedureGoals procedureTokens step
   procedure-parsed p =
+      let few = right .few-parameters in
       rw append-assoc
-      (parse-ends counts _ _ _ _ _ _ _
-      (expects procedureWord (expect (suc p) ∷ expect opening ∷ count ∷ expect closing ∷ expect equals ∷ operand loose expression ∷ []) (number 0 ∷ []) n _
-      (omega arith) (omega arith)
-      thence expects (suc p) (expect opening ∷ count ∷ expect closing ∷ expect equals ∷ operand loose expression ∷ []) (number 0 ∷ []) n _ (omega arith)
-      (omega arith)
-      thence expects opening (count ∷ expect closing ∷ expect equals ∷ operand loose expression ∷ []) (number 0 ∷ []) n _ (omega arith) (omega arith)
-      thence by-step count (expect closing ∷ expect equals ∷ operand loose expression ∷ []) [] (number 0 ∷ []) (number (d .parameters) ∷ number 0 ∷ []) n n
-      (d .parameters ∷ closing ∷ equals ∷ shown 0 (d .body) ++ (procedureTokens (suc (suc p)) ds ++ (textEnd ∷ []))) _
-      (rw (lt-ltb (d .parameters) 9 (let s = right .few-parameters in omega arith))) (omega arith)
-      thence expects closing (expect equals ∷ operand loose expression ∷ []) (number (d .parameters) ∷ number 0 ∷ []) n _ (omega arith) (omega arith)
-      thence expects equals (operand loose expression ∷ []) (number (d .parameters) ∷ number 0 ∷ []) n _ (omega arith) (omega arith)
+      (parse-ends
+      (expects (omega arith)
+      thence expects (omega arith)
+      thence expects (omega arith)
+      thence by-step [] (number (d .parameters) ∷ number 0 ∷ []) (closing ∷ equals ∷ shown loose (d .body) ++ toEnd (suc (suc p)) ds)
+      (rw (lt-ltb (d .parameters) 9 (omega arith))) (omega arith)
+      thence expects (omega arith)
+      thence expects (omega arith)
       thence body-leads (suc (suc p)) (number (d .parameters) ∷ number 0 ∷ []) (omega arith)))
 
 -- procedures of a version and a mask
@@ -113,16 +109,16 @@ module _ (counts : List ℕ) where
   procedure-read : (d : Procedure) (ds : List Procedure) (most p : ℕ) (b : Before) (n m : ℕ) → RightDefinition counts d → n ≡ size (termsOf (d .body)) + m
       → n ≤ 1024 → (p ≡ 0 → d .parameters ≡ 0)
       → proceduresBy counts (suc most) p b n (tokensFrom p (d ∷ ds) ++ (textEnd ∷ []))
-      ≡ cond (eqb (ahead (procedureTokens (suc p) ds ++ (textEnd ∷ [])) 0) textEnd) (plan (programBy (behind b (d ∷ []))))
-      (proceduresBy counts most (suc p) (behind b (d ∷ [])) m (procedureTokens (suc p) ds ++ (textEnd ∷ [])))
+      ≡ cond (eqb (ahead (toEnd (suc p) ds) 0) textEnd) (plan (programBy (behind b (d ∷ []))))
+      (proceduresBy counts most (suc p) (behind b (d ∷ [])) m (toEnd (suc p) ds))
   unfolding proceduresBy
   procedure-read d ds most zero b n m right e h bare =
       rw (main-parsed counts d ds right n m e h (bare refl))
-      (after-procedure d (λ b′ n′ ts′. proceduresBy counts most 1 b′ n′ ts′) b _ [] m (procedureTokens 1 ds ++ (textEnd ∷ [])) right)
+      (after-procedure d (λ b′ n′ ts′. proceduresBy counts most 1 b′ n′ ts′) b _ [] m (toEnd 1 ds) right)
   procedure-read d ds most (suc p) b n m right e h bare =
       rw (procedure-parsed counts d ds right n m e h p)
       (after-procedure d (λ b′ n′ ts′. proceduresBy counts most (suc (suc p)) b′ n′ ts′) b _ (number 0 ∷ []) m
-      (procedureTokens (suc (suc p)) ds ++ (textEnd ∷ [])) right)
+      (toEnd (suc (suc p)) ds) right)
 
   procedures-read : (ds : List Procedure) (d : Procedure) (most p : ℕ) (b : Before) (n : ℕ) → RightDefinitions counts (d ∷ ds) → length (d ∷ ds) ≤ most
       → sizeOfAll (d ∷ ds) ≤ n → n ≤ 1024
@@ -138,10 +134,10 @@ module _ (counts : List ℕ) where
 
 -- ---- the parameter counts
 
-skip : (ts rest : List ℕ) → NoProcedure ts → countsFrom (ts ++ rest) ≡ countsFrom rest
+skip : {ts : List ℕ} (rest : List ℕ) → NoProcedure ts → countsFrom (ts ++ rest) ≡ countsFrom rest
 unfolding countsFrom
-skip [] rest h = refl
-skip (t ∷ ts) rest h = rw (ne-eqb t procedureWord (h .0)) (skip ts rest (h .1))
+skip rest ends = refl
+skip rest (token t h k) = rw (ne-eqb t procedureWord h) (skip rest k)
 
 counts-back : (counts : List ℕ) (ds : List Procedure) (p : ℕ) → RightDefinitions counts ds → p + length ds ≤ 32
     → countsFrom (procedureTokens p ds ++ (textEnd ∷ [])) ≡ countsIn ds
@@ -152,7 +148,7 @@ counts-back counts (d ∷ ds) p right few =
     rw (ne-eqb p procedureWord (λ z. omega arith), ne-eqb (d .parameters) procedureWord e)
     (ap (λ (l : List ℕ). d .parameters ∷ l)
     (ap countsFrom (append-assoc (shown loose (d .body)) (procedureTokens (suc p) ds) (textEnd ∷ []))
-    ∙ skip (shown loose (d .body)) _ (none-shown counts (d .body) loose (right .0 .right-body))
+    ∙ skip _ (none-shown counts (d .body) loose (right .0 .right-body))
     ∙ counts-back counts ds (suc p) (right .1) (omega arith)))
 
 -- ---- the volatile fields
@@ -180,14 +176,13 @@ unfolding programBy
 program-is g m e = λ i. record { version = version-again (g .version) i; volatiles = e i; procedures = g .procedures }
 
 -- how tokens begin that begin as an expression
-first-token : (ts : List ℕ) → Starts ts → NoField ts × (eqb (ahead ts 0) volatileWord ≡ false)
-first-token [] h = absurd h
-first-token (t ∷ ts) h = (h .0, ne-eqb t volatileWord (h .1))
+first-token : {ts : List ℕ} → Starts ts → NoField ts × (eqb (ahead ts 0) volatileWord ≡ false)
+first-token (begins t h) = (h .0, ne-eqb t volatileWord (h .1))
 
 no-volatiles : (fs : List ℕ) → Ascending 0 fs → NoProcedure (volatileTokens fs)
 unfolding volatileTokens
-no-volatiles [] up = tt
-no-volatiles (f ∷ fs) up = (omega arith, none-fields (f ∷ fs) 0 up)
+no-volatiles [] up = ends
+no-volatiles (f ∷ fs) up = token volatileWord (omega arith) (none-fields (f ∷ fs) 0 up)
 
 -- a program with main d, in its parts
 module _ (d : Procedure) (ds : List Procedure) (right : RightDefinitions (countsIn (d ∷ ds)) (d ∷ ds)) (few : length (d ∷ ds) ≤ 32)
@@ -200,21 +195,20 @@ module _ (d : Procedure) (ds : List Procedure) (right : RightDefinitions (counts
   bodies-start : Starts bodies
   unfolding mainFirst
   bodies-start =
-      starts-append (shown loose (d .body) ++ procedureTokens 1 ds) (textEnd ∷ [])
-      (starts-append (shown loose (d .body)) (procedureTokens 1 ds) (starts (countsIn (d ∷ ds)) (d .body) loose (right .0 .right-body)))
+      starts-append (textEnd ∷ []) (starts-append (procedureTokens 1 ds) (starts (countsIn (d ∷ ds)) (d .body) loose (right .0 .right-body)))
 
   bodies-counts : countsFrom bodies ≡ countsIn ds
   unfolding mainFirst
   bodies-counts =
       ap countsFrom (append-assoc (shown loose (d .body)) (procedureTokens 1 ds) (textEnd ∷ []))
-      ∙ skip (shown loose (d .body)) _ (none-shown (countsIn (d ∷ ds)) (d .body) loose (right .0 .right-body))
+      ∙ skip _ (none-shown (countsIn (d ∷ ds)) (d .body) loose (right .0 .right-body))
       ∙ counts-back (countsIn (d ∷ ds)) ds 1 (right .1) (omega arith)
 
   counts-are : (v : ℕ) → v < 2 → countsOf (versionWord ∷ v ∷ volatileTokens fs ++ bodies) ≡ countsIn (d ∷ ds)
   unfolding countsOf
   counts-are v h =
       rw (ne-eqb v procedureWord (λ z. omega arith)) (ap₂ (λ (n : ℕ) (l : List ℕ). n ∷ l) (sym bare)
-      (skip (volatileTokens fs) bodies (no-volatiles fs up) ∙ bodies-counts))
+      (skip bodies (no-volatiles fs up) ∙ bodies-counts))
 
   bodies-read : (v m : ℕ)
       → proceduresBy (countsIn (d ∷ ds)) 32 0 (before v m []) 1024 bodies ≡ plan (programBy (before v m (d ∷ ds)))
@@ -227,7 +221,7 @@ module _ (d : Procedure) (ds : List Procedure) (right : RightDefinitions (counts
   volatiles-read v = by-fields fs up
     where
       first : NoField bodies × (eqb (ahead bodies 0) volatileWord ≡ false)
-      first = first-token bodies bodies-start
+      first = first-token bodies-start
 
       by-fields : (gs : List ℕ) → Ascending 0 gs
           → withVolatiles (countsIn (d ∷ ds)) v (volatileTokens gs ++ bodies) ≡ plan (programBy (before v (2 ^ 31 + maskOf gs) (d ∷ ds)))

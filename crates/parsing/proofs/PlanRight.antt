@@ -26,7 +26,7 @@ use Rattle.parsing.specs.Parser.{ahead, Parsed, parsed, stopped, parse}
 use Rattle.parsing.specs.Plan.{Fault, Reading, plan, fault, countsFrom, countsOf, procedureGoals, Before, programBy, afterProcedure, proceduresBy, maskFrom, behindFields, withVolatiles, readPlan}
 use Rattle.parsing.proofs.PlanBack.{before, behind}
 use Rattle.parsing.proofs.Wanted.{Passed, passed-none, passed-both, passed-token, passed-one, passed-two}
-use Rattle.parsing.proofs.StepsKeep.{either-way, both}
+use Rattle.parsing.proofs.Branches.{either-way, both}
 use Rattle.parsing.proofs.ReadRight.{ReadProcedure, main-read, ReadBehind, procedure-read}
 
 none-faulty : {A : Type 0} (f : Fault) (ts : List ℕ) (g : Program) → fault f ts ≡ plan g → A

@@ -18,7 +18,8 @@ use Rattle.parsing.specs.Goals as goals
 use Rattle.parsing.specs.Parser.{ahead, Step, go, stop, wanted, nesting, step, Parsed, parsed, stopped, afterStep, parseBy, parse, mostGoals, mostValues}
 use Rattle.parsing.specs.Plan.{countsFrom, procedureGoals}
 use Rattle.parsing.proofs.Wanted.{weights, Wants, wants-append, Passed, passed-none, passed-both}
-use Rattle.parsing.proofs.StepsKeep.{either-way, Kept, step-keeps}
+use Rattle.parsing.proofs.Branches.{either-way}
+use Rattle.parsing.proofs.StepsKeep.{Kept, step-keeps}
 
 module _ (counts : List ℕ) (Q : List Value → Type 0) where
   -- what comes of goals, from these values, terms left and tokens

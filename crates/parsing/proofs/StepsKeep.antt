@@ -3,7 +3,7 @@ use Prim.Native.Nat.{ℕ, zero, suc, _+_, _-_, _^_, _≤_, _<_}
 use native.Mathlib.Nat.{add-assoc, zero-add}
 use native.Mathlib.Omega.{arith}
 use mathlib.Core.Path.{_≡_, refl, sym, ap, subst, _∙_}
-use mathlib.Core.Bool.{Bool, true, false, cond, not, _&&_, _||_, true≢false, and-eq-true-iff}
+use mathlib.Core.Bool.{true, cond, not, _&&_, _||_, true≢false}
 use mathlib.Core.List.{List, [], _∷_, _++_}
 use lib.Dec.{eqb, ltb, leb}
 use lib.ListN.{length, getD, drop}
@@ -16,19 +16,13 @@ use Rattle.written.specs.Terms.{termsOf, size, maskOf}
 use Rattle.written.proofs.Right.{Ascending, Right, Rightᵃ}
 use Rattle.written.proofs.OrderedFields.{right-in-order}
 use Rattle.written.proofs.RightPlans.{right-slot}
-use Rattle.notation.specs.Tokens.{closing}
+use Rattle.notation.specs.Shown.{loose}
+use Rattle.notation.specs.Tokens.{allWord, andWord, trueWord, notWord, nullWord, newWord, letWord, ifWord, whileWord, callWord, forkWord, joinWord, synchWord, waitWord, notifyWord, opening, closing, comma, dot, equals, becomes, dash}
 use Rattle.parsing.specs.Goals.{Sort, either, expression, condition, Goal, expect, operand, more, make, binder, fields, procedure, further, Value, number, ofExpression, ofCondition, ofArguments, numberIn, made, Form, forms, notifyAllForm, argumentGoals}
 use Rattle.parsing.specs.Goals as goals
 use Rattle.parsing.specs.Parser.{ahead, Step, go, stop, isCondition, takesCondition, fits, inside, begun, wordForm, operandStep, isField, dotStep, moreStep, fieldsStep, furtherStep, step}
+use Rattle.parsing.proofs.Branches.{either-way, both}
 use Rattle.parsing.proofs.Wanted.{weights, RightOperand, Ready, Wanted, Wants, Passed, passed-none, passed-one, passed-two, passed-three}
-
--- whichever way a test goes
-pub either-way : {A : Type 0} (P : A → Type 0) (x : Bool) (a b : A) → (x ≡ true → P a) → (x ≡ false → P b) → P (cond x a b)
-either-way P true a b f g = f refl
-either-way P false a b f g = g refl
-
-pub both : (x y : Bool) → (x && y) ≡ true → (x ≡ true) × (y ≡ true)
-both x y h = and-eq-true-iff x y .0 h
 
 module _ (counts : List ℕ) (K : List Value → Type 0) where
   -- what comes of a goal, from these values, terms left and tokens
@@ -55,7 +49,7 @@ module _ (counts : List ℕ) (K : List Value → Type 0) where
   ready-fits condition (ofArguments es) vs h r k = absurd r
 
   -- in parentheses there is an operand of either sort, or of the same
-  in-parentheses : (d : ℕ) (s : Sort) (vs : List Value) → Ready counts s K vs → Wants counts (operand 0 (inside s) ∷ expect closing ∷ more d s ∷ []) K vs
+  in-parentheses : (d : ℕ) (s : Sort) (vs : List Value) → Ready counts s K vs → Wants counts (operand loose (inside s) ∷ expect closing ∷ more d s ∷ []) K vs
   unfolding inside
   in-parentheses d either vs k = ((λ e r. (omega arith, (r, k))), λ c r. (omega arith, (r, k)))
   in-parentheses d expression vs k = λ e r. (omega arith, (r, k))
@@ -64,29 +58,29 @@ module _ (counts : List ℕ) (K : List Value → Type 0) where
   module _ (d : ℕ) (s : Sort) (vs : List Value) (k : Ready counts s K vs) where
     -- what the form of a word wants
     abbrev WordWants : ℕ → Type 0
-    WordWants t = Wants counts (getD forms (t - 49) notifyAllForm .goals ++ (more d s ∷ [])) K (cond (eqb t 52) (number 0 ∷ vs) vs)
+    WordWants t = Wants counts (getD forms (t - trueWord) notifyAllForm .goals ++ (more d s ∷ [])) K (cond (eqb t newWord) (number 0 ∷ vs) vs)
 
     new-wanted : (fs : List ℕ) → Ascending 0 fs → length fs ≤ 8 → Right counts (Expression.new (fieldsFrom (0 + maskOf fs) 0 32))
     new-wanted fs up few =
         let r = right-in-order fs up few in
         rw (zero-add (maskOf fs), r .of-mask) r
 
-    words : Cases WordWants 49 13
+    words : Cases WordWants trueWord 13
     unfolding forms made size termsOf
     words =
-        49 gives (omega arith, (tt, k))
-        then 50 gives (λ c r. (omega arith, (r, k)))
-        then 51 gives (omega arith, (refl, k))
-        then 52 gives (omega arith, λ fs up few. (omega arith, (new-wanted fs up few, k)))
-        then 53 gives (λ x rx. (omega arith, λ e r. (omega arith, λ e′ r′. (omega arith, ((right-slot x rx, r, r′), k)))))
-        then 54 gives (λ c rc. (omega arith, λ e r. (omega arith, λ e′ r′. (omega arith, ((rc, r, r′), k)))))
-        then 55 gives (λ c rc. (omega arith, λ e r. (omega arith, ((rc, r), k))))
-        then 56 gives (λ p es rp r. (omega arith, ((rp, r), k)))
-        then 57 gives (λ e r. (omega arith, (r, k)))
-        then 58 gives (λ e r. (omega arith, (r, k)))
-        then 59 gives (λ e r. (omega arith, λ e′ r′. (omega arith, ((r, r′), k))))
-        then 60 gives (λ e r. (omega arith, (r, k)))
-        then 61 gives (λ e r. (omega arith, (r, k)))
+        trueWord gives (omega arith, (tt, k))
+        then notWord gives (λ c r. (omega arith, (r, k)))
+        then nullWord gives (omega arith, (refl, k))
+        then newWord gives (omega arith, λ fs up few. (omega arith, (new-wanted fs up few, k)))
+        then letWord gives (λ x rx. (omega arith, λ e r. (omega arith, λ e′ r′. (omega arith, ((right-slot x rx, r, r′), k)))))
+        then ifWord gives (λ c rc. (omega arith, λ e r. (omega arith, λ e′ r′. (omega arith, ((rc, r, r′), k)))))
+        then whileWord gives (λ c rc. (omega arith, λ e r. (omega arith, ((rc, r), k))))
+        then callWord gives (λ p es rp r. (omega arith, ((rp, r), k)))
+        then forkWord gives (λ e r. (omega arith, (r, k)))
+        then joinWord gives (λ e r. (omega arith, (r, k)))
+        then synchWord gives (λ e r. (omega arith, λ e′ r′. (omega arith, ((r, r′), k))))
+        then waitWord gives (λ e r. (omega arith, (r, k)))
+        then notifyWord gives (λ e r. (omega arith, (r, k)))
         then done
 
     notify-all : Wants counts (notifyAllForm .goals ++ (more d s ∷ [])) K vs
@@ -101,26 +95,27 @@ module _ (counts : List ℕ) (K : List Value → Type 0) where
     begun-keeps f vs′ n ts rest w e p =
         either-way (Kept vs n ts) (leb d (f .binding) && (not (f .isCondition) || takesCondition s)) _ _ (λ z. (w, omega arith, p)) (λ z. tt)
 
-    word-keeps : (t n : ℕ) (ts : List ℕ) → t ≡ ahead ts 0 → 49 ≤ t → t ≤ 61 → Kept vs n ts (wordForm t d s vs n ts)
+    word-keeps : (t n : ℕ) (ts : List ℕ) → t ≡ ahead ts 0 → trueWord ≤ t → t ≤ notifyWord → Kept vs n ts (wordForm t d s vs n ts)
     unfolding wordForm
     word-keeps t n ts e low high =
-        either-way (Kept vs n ts) (eqb t 61 && eqb (ahead ts 1) 47) _ _
+        either-way (Kept vs n ts) (eqb t notifyWord && eqb (ahead ts 1) allWord) _ _
         (λ z. begun-keeps notifyAllForm vs n ts (drop 2 ts) notify-all refl
-        (passed-two ts (λ y. omega arith) (λ y. omega (arith, eqb-true (ahead ts 1) 47 (both (eqb t 61) (eqb (ahead ts 1) 47) z .1)))))
-        (λ z. begun-keeps (getD forms (t - 49) notifyAllForm) (cond (eqb t 52) (number 0 ∷ vs) vs) n ts (drop 1 ts) (pick words t low (omega arith))
+        (passed-two ts (λ y. omega arith) (λ y. omega (arith, eqb-true (ahead ts 1) allWord (both (eqb t notifyWord) (eqb (ahead ts 1) allWord) z .1)))))
+        (λ z. begun-keeps (getD forms (t - trueWord) notifyAllForm) (cond (eqb t newWord) (number 0 ∷ vs) vs) n ts (drop 1 ts) (pick words t low (omega arith))
         number-weighs-none (passed-one ts (λ y. omega arith)))
       where
-        number-weighs-none : weights (cond (eqb t 52) (number 0 ∷ vs) vs) ≡ weights vs
-        number-weighs-none = either-way (λ (us : List Value). weights us ≡ weights vs) (eqb t 52) (number 0 ∷ vs) vs (λ z. omega arith) (λ z. refl)
+        number-weighs-none : weights (cond (eqb t newWord) (number 0 ∷ vs) vs) ≡ weights vs
+        number-weighs-none = either-way (λ (us : List Value). weights us ≡ weights vs) (eqb t newWord) (number 0 ∷ vs) vs (λ z. omega arith) (λ z. refl)
 
     operand-keeps : (n : ℕ) (ts : List ℕ) → Kept vs n ts (operandStep d s vs n ts)
     unfolding operandStep made size termsOf
     operand-keeps n ts =
         let t = ahead ts 0 in
         either-way (Kept vs n ts) (leb 32 t && ltb t 40) _ _ (λ z. slot-read (both (leb 32 t) (ltb t 40) z))
-        (λ z. either-way (Kept vs n ts) (leb 49 t && leb t 61) _ _
-        (λ y. let b = both (leb 49 t) (leb t 61) y in word-keeps t n ts refl (leb-true 49 t (b .0)) (leb-true t 61 (b .1)))
-        (λ y. either-way (Kept vs n ts) (eqb t 62) _ _ (λ x. (in-parentheses d s vs k, refl, passed-one ts (λ q. omega (arith, eqb-true t 62 x)))) (λ x. tt)))
+        (λ z. either-way (Kept vs n ts) (leb trueWord t && leb t notifyWord) _ _
+        (λ y. let b = both (leb trueWord t) (leb t notifyWord) y in word-keeps t n ts refl (leb-true trueWord t (b .0)) (leb-true t notifyWord (b .1)))
+        (λ y. either-way (Kept vs n ts) (eqb t opening) _ _ (λ x. (in-parentheses d s vs k, refl, passed-one ts (λ q. omega (arith, eqb-true t opening x))))
+        (λ x. tt)))
       where
         slot-read : (leb 32 (ahead ts 0) ≡ true) × (ltb (ahead ts 0) 40 ≡ true)
             → Kept vs n ts (go (make 1 ∷ more d s ∷ []) (number (ahead ts 0 - 32) ∷ vs) n (drop 1 ts))
@@ -132,18 +127,18 @@ module _ (counts : List ℕ) (K : List Value → Type 0) where
   -- ---- behind an operand
 
   module _ (d : ℕ) (s : Sort) (vs : List Value) (k : Ready counts s K vs) (n : ℕ) (ts : List ℕ) where
-    dot-keeps : (e : Expression) → Right counts e → ahead ts 0 ≡ 65 → Kept (ofExpression e ∷ vs) n ts (dotStep d s (ofExpression e ∷ vs) n ts)
+    dot-keeps : (e : Expression) → Right counts e → ahead ts 0 ≡ dot → Kept (ofExpression e ∷ vs) n ts (dotStep d s (ofExpression e ∷ vs) n ts)
     unfolding dotStep made size termsOf
     dot-keeps e r q =
         let f = ahead ts 1 in
         either-way (Kept (ofExpression e ∷ vs) n ts) (not (isField f)) _ _ (λ z. tt)
         (λ z. let b = field-of f (not-false (isField f) z) in
-        either-way (Kept (ofExpression e ∷ vs) n ts) (eqb d 0 && eqb (ahead ts 2) 67) _ _
+        either-way (Kept (ofExpression e ∷ vs) n ts) (eqb d 0 && eqb (ahead ts 2) becomes) _ _
         (λ y. (
           (λ e′ r′. (omega arith, ((r, b, r′), k))),
           omega arith,
           passed-three ts (λ x. omega arith) (λ x. let l = b .1 in omega arith)
-              (λ x. omega (arith, eqb-true (ahead ts 2) 67 (both (eqb d 0) (eqb (ahead ts 2) 67) y .1))),
+              (λ x. omega (arith, eqb-true (ahead ts 2) becomes (both (eqb d 0) (eqb (ahead ts 2) becomes) y .1))),
         ))
         (λ y. ((omega arith, ((r, b), k)), omega arith, passed-two ts (λ x. omega arith) (λ x. let l = b .1 in omega arith))))
       where
@@ -157,20 +152,20 @@ module _ (counts : List ℕ) (K : List Value → Type 0) where
     more-keeps (ofExpression e) r =
         let t = ahead ts 0 in
         let v = ofExpression e in
-        either-way (Kept (v ∷ vs) n ts) (eqb t 65) _ _ (λ z. dot-keeps e r (eqb-true t 65 z))
-        (λ z. either-way (Kept (v ∷ vs) n ts) (true && eqb t 66 && leb d 1 && takesCondition s) _ _
+        either-way (Kept (v ∷ vs) n ts) (eqb t dot) _ _ (λ z. dot-keeps e r (eqb-true t dot z))
+        (λ z. either-way (Kept (v ∷ vs) n ts) (true && eqb t equals && leb d 1 && takesCondition s) _ _
         (λ y. (
           (λ e′ r′. (omega arith, ((r, r′), k))),
           refl,
           passed-one ts
-              (λ x. omega (arith, eqb-true t 66 (both (eqb t 66) (leb d 1) (both (eqb t 66 && leb d 1) (takesCondition s) y .0) .0))),
+              (λ x. omega (arith, eqb-true t equals (both (eqb t equals) (leb d 1) (both (eqb t equals && leb d 1) (takesCondition s) y .0) .0))),
         ))
         (λ y. either-way (Kept (v ∷ vs) n ts) (fits s v) _ _ (λ x. (ready-fits s v vs x r k, refl, passed-none ts)) (λ x. tt)))
     more-keeps (ofCondition c) r =
         let t = ahead ts 0 in
         let v = ofCondition c in
-        either-way (Kept (v ∷ vs) n ts) (true && eqb t 48 && eqb d 0) _ _
-        (λ y. ((λ c′ r′. (omega arith, ((r, r′), k))), refl, passed-one ts (λ x. omega (arith, eqb-true t 48 (both (eqb t 48) (eqb d 0) y .0)))))
+        either-way (Kept (v ∷ vs) n ts) (true && eqb t andWord && eqb d 0) _ _
+        (λ y. ((λ c′ r′. (omega arith, ((r, r′), k))), refl, passed-one ts (λ x. omega (arith, eqb-true t andWord (both (eqb t andWord) (eqb d 0) y .0)))))
         (λ y. either-way (Kept (v ∷ vs) n ts) (fits s v) _ _ (λ x. (ready-fits s v vs x r k, refl, passed-none ts)) (λ x. tt))
 
   -- ---- fields and arguments
@@ -181,8 +176,8 @@ module _ (counts : List ℕ) (K : List Value → Type 0) where
   fields-keeps k f a vs n ts w =
       let t = ahead ts 0 in
       let all : a + 0 ≡ a = omega arith in
-      either-way (Kept (number a ∷ vs) n ts) (eqb t 63) _ _
-      (λ z. (subst (λ (m : ℕ). K (number m ∷ vs)) all (w [] tt (omega arith)), refl, passed-one ts (λ q. omega (arith, eqb-true t 63 z))))
+      either-way (Kept (number a ∷ vs) n ts) (eqb t closing) _ _
+      (λ z. (subst (λ (m : ℕ). K (number m ∷ vs)) all (w [] tt (omega arith)), refl, passed-one ts (λ q. omega (arith, eqb-true t closing z))))
       (λ z. either-way (Kept (number a ∷ vs) n ts) (ltb 0 k && ltb f t && ltb t 32) _ _
       (λ y. let b = both (ltb 0 k && ltb f t) (ltb t 32) y in
       let c = both (ltb 0 k) (ltb f t) (b .0) in
@@ -199,15 +194,15 @@ module _ (counts : List ℕ) (K : List Value → Type 0) where
       → Kept vs n ts (furtherStep k vs n ts)
   unfolding furtherStep made size termsOf
   further-keeps zero vs n ts w =
-      either-way (Kept vs n ts) (eqb (ahead ts 0) 63) _ _
-      (λ z. ((omega arith, w Arguments.end refl tt), refl, passed-one ts (λ q. omega (arith, eqb-true (ahead ts 0) 63 z)))) (λ z. tt)
+      either-way (Kept vs n ts) (eqb (ahead ts 0) closing) _ _
+      (λ z. ((omega arith, w Arguments.end refl tt), refl, passed-one ts (λ q. omega (arith, eqb-true (ahead ts 0) closing z)))) (λ z. tt)
   further-keeps (suc k) vs n ts w =
-      either-way (Kept vs n ts) (eqb (ahead ts 0) 64) _ _
+      either-way (Kept vs n ts) (eqb (ahead ts 0) comma) _ _
       (λ z. (
         (λ e r es c ra. (omega arith, w (Arguments.argument e es) (ap suc c) (r, ra))),
         refl,
         passed-one ts
-            (λ q. omega (arith, eqb-true (ahead ts 0) 64 z)),
+            (λ q. omega (arith, eqb-true (ahead ts 0) comma z)),
       )) (λ z. tt)
 
   -- a list of so many arguments
@@ -249,7 +244,7 @@ module _ (counts : List ℕ) (K : List Value → Type 0) where
       let t = ahead ts 0 in
       either-way (Kept vs n ts) (ltb t 8) _ _
       (λ z. let small = ltb-true t 8 z in (w t (λ q. omega arith), omega arith, passed-one ts (λ q. omega arith)))
-      (λ z. either-way (Kept vs n ts) (eqb t 68) _ _ (λ y. (w 15 (λ q. absurd (q refl)), omega arith, passed-one ts (λ q. omega (arith, eqb-true t 68 y))))
+      (λ z. either-way (Kept vs n ts) (eqb t dash) _ _ (λ y. (w 15 (λ q. absurd (q refl)), omega arith, passed-one ts (λ q. omega (arith, eqb-true t dash y))))
       (λ y. tt))
   step-keeps (fields k f) [] n ts w = absurd w
   step-keeps (fields k f) (number a ∷ vs) n ts w = fields-keeps k f a vs n ts w

@@ -68,8 +68,8 @@ module _ (f n : ℕ) (place : f + suc n ≡ 32) where
       record {
         below = rw e (let s = b .below in omega (arith, two-pow-succ n));
         again = λ h. rw e
-            (with-field (h * 2 ^ suc n + (2 ^ n + maskOf fs)) f n h (maskOf fs) place (b .below) (omega (arith, twice h n, one-more h n)) ∙ ap
-            (λ (gs : List ℕ). f ∷ gs) (b .again (h * 2 + 1)));
+            (with-field (h * 2 ^ suc n + (2 ^ n + maskOf fs)) f n h (maskOf fs) place (b .below) (omega (arith, twice h n, one-more h n))
+            ∙ ap (λ (gs : List ℕ). f ∷ gs) (b .again (h * 2 + 1)));
       }
 
 back : (n f : ℕ) (fs : List ℕ) → f + n ≡ 32 → AtLeast f fs → Back f n fs

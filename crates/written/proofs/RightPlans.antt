@@ -135,8 +135,11 @@ module _ (b : List ℕ) (a : Readable b) (counts : List ℕ) (few : procedures b
     conditions : Cases (Row b t (λ m. Rightᶜ counts (conditionOf E C m))) 12 4
     unfolding nodes layout table conditionOf
     conditions =
-        12 gives (λ e p q r. tt) then 13 gives (λ e p q r. belowᶜ _ p) then 14 gives (λ e p q r. (belowᶜ _ p, belowᶜ _ q)) then 15 gives
-        (λ e p q r. (below _ p, below _ q)) then done
+        12 gives (λ e p q r. tt)
+        then 13 gives (λ e p q r. belowᶜ _ p)
+        then 14 gives (λ e p q r. (belowᶜ _ p, belowᶜ _ q))
+        then 15 gives (λ e p q r. (below _ p, below _ q))
+        then done
 
     longer : (y : ℕ) → y ≡ termAt b t .value₂ → Child b t list y → tagAt b t ≡ 16 → (m : ℕ) → terms b ≤ t + m → suc (count (L y)) ≡ listLength b m t
     longer y z q e zero h = absurd (omega arith)
