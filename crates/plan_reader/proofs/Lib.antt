@@ -1,3 +1,4 @@
 pub mod Counts
 pub mod VolatileFields
 pub mod Headings
+pub mod HeldLaws
