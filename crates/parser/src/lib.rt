@@ -1,0 +1,3 @@
+// An expression's tokens into terms, by a stack of goals.
+mod forms; // forms.rt: the forms that begin with a word
+pub mod moves; // moves.rt: what a step does with the stacks
