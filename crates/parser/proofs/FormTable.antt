@@ -1,7 +1,8 @@
 -- The table of the forms, a form at a time. Assumes nothing.
-use Prim.Native.Nat.{ℕ, _+_, _*_, _<_}
+use Prim.Native.Nat.{ℕ, zero, suc, _+_, _*_, _≤_, _<_}
 use native.Mathlib.Omega.{arith}
 use mathlib.Core.Path.{_≡_, refl}
+use mathlib.Core.Bool.{true, false}
 use mathlib.Core.List.{List, [], _∷_}
 use lib.ListN.{getD}
 use Rattle.format.proofs.Ranges.{by-range}
@@ -61,3 +62,19 @@ unfolding forms
 binding-at =
     by-range Bound 0 14 ((i : ℕ) → i < 14 → Bound i) (λ all i h. all i (omega arith) (omega arith))
     refl refl refl refl refl refl refl refl refl refl refl refl refl refl
+
+-- only `true` and `not` are conditions
+pub form-condition : (i : ℕ) → i ≤ 1 → formAt i .isCondition ≡ true
+unfolding forms
+form-condition zero h = refl
+form-condition (suc zero) h = refl
+form-condition (suc (suc i)) h = absurd (omega arith)
+
+abbrev NoCondition : ℕ → Type 0
+NoCondition i = formAt i .isCondition ≡ false
+
+pub form-expression : (i : ℕ) → 1 < i → i < 14 → formAt i .isCondition ≡ false
+unfolding forms
+form-expression =
+    by-range NoCondition 2 12 ((i : ℕ) → 1 < i → i < 14 → NoCondition i) (λ all i h k. all i (omega arith) (omega arith))
+    refl refl refl refl refl refl refl refl refl refl refl refl

@@ -5,8 +5,8 @@ use mathlib.Core.Path.{_≡_, refl}
 use mathlib.Core.Bool.{true, false}
 use mathlib.Core.List.{List, [], _∷_}
 use borrow.Author.Tests.{lt-ltb, le-ltb, ne-eqb}
-use Rattle.parsing.specs.Goals.{Sort, Goal, expect, operand, more, make, fields, further, Value, number, ofExpression, ofCondition, ofArguments}
-use Rattle.parsing.specs.Parser.{Reason, wanted, isExpression, isCondition, takesCondition, fits}
+use Rattle.parsing.specs.Goals.{Sort, either, expression, Goal, expect, operand, more, make, fields, further, Value, number, ofExpression, ofCondition, ofArguments}
+use Rattle.parsing.specs.Parser.{Reason, wanted, isExpression, isCondition, takesCondition, fits, inside}
 use Rattle.parser.specs.Encoded.{sortOf, goalOf, reasonOf, stacked, valueSort}
 use Rattle.parser.specs.Moves.{pushed}
 
@@ -82,3 +82,62 @@ neither-is (number n) d e = (refl, refl)
 neither-is (ofExpression x) d e = absurd (d refl)
 neither-is (ofCondition x) d e = absurd (e refl)
 neither-is (ofArguments x) d e = (refl, refl)
+
+pub takes : (x : ℕ) → (x ≡ 1 → ⊥) → takesCondition (sortOf x) ≡ true
+unfolding takesCondition sortOf
+takes zero d = refl
+takes (suc zero) d = absurd (d refl)
+takes (suc (suc x)) d = refl
+
+pub takes-not : (x : ℕ) → x ≡ 1 → takesCondition (sortOf x) ≡ false
+unfolding takesCondition sortOf
+takes-not x e = rw e
+
+pub inside-expression : (x : ℕ) → x ≡ 1 → inside (sortOf x) ≡ expression
+unfolding inside sortOf
+inside-expression x e = rw e
+
+pub inside-either : (x : ℕ) → (x ≡ 1 → ⊥) → inside (sortOf x) ≡ either
+unfolding inside sortOf
+inside-either zero d = refl
+inside-either (suc zero) d = absurd (d refl)
+inside-either (suc (suc x)) d = refl
+
+-- a term is of the sort that is asked for, or not
+pub fits-either : (x : ℕ) (v : Value) → x ≡ 0 → 1 ≤ valueSort v → valueSort v ≤ 2 → fits (sortOf x) v ≡ true
+unfolding fits sortOf valueSort isExpression isCondition
+fits-either x (number n) e h k = absurd (omega arith)
+fits-either x (ofExpression y) e h k = rw e
+fits-either x (ofCondition y) e h k = rw e
+fits-either x (ofArguments y) e h k = absurd (omega arith)
+
+pub fits-same : (x : ℕ) (v : Value) → x ≡ valueSort v → 1 ≤ valueSort v → valueSort v ≤ 2 → fits (sortOf x) v ≡ true
+unfolding fits sortOf valueSort isExpression isCondition
+fits-same x (number n) e h k = absurd (omega arith)
+fits-same x (ofExpression y) e h k = rw e
+fits-same x (ofCondition y) e h k = rw e
+fits-same x (ofArguments y) e h k = absurd (omega arith)
+
+pub fits-not : (x : ℕ) (v : Value) → x < 3 → (x ≡ 0 → ⊥) → (x ≡ valueSort v → ⊥) → fits (sortOf x) v ≡ false
+unfolding fits sortOf valueSort isExpression isCondition
+fits-not zero v l d e = absurd (d refl)
+fits-not (suc zero) (number n) l d e = refl
+fits-not (suc zero) (ofExpression y) l d e = absurd (e refl)
+fits-not (suc zero) (ofCondition y) l d e = refl
+fits-not (suc zero) (ofArguments y) l d e = refl
+fits-not (suc (suc zero)) (number n) l d e = refl
+fits-not (suc (suc zero)) (ofExpression y) l d e = refl
+fits-not (suc (suc zero)) (ofCondition y) l d e = absurd (e refl)
+fits-not (suc (suc zero)) (ofArguments y) l d e = refl
+fits-not (suc (suc (suc x))) v l d e = absurd (omega arith)
+
+pub fits-neither : (x : ℕ) (v : Value) → (valueSort v ≡ 1 → ⊥) → (valueSort v ≡ 2 → ⊥) → fits (sortOf x) v ≡ false
+unfolding fits sortOf valueSort isExpression isCondition
+fits-neither x (ofExpression y) d e = absurd (d refl)
+fits-neither x (ofCondition y) d e = absurd (e refl)
+fits-neither zero (number n) d e = refl
+fits-neither (suc zero) (number n) d e = refl
+fits-neither (suc (suc x)) (number n) d e = refl
+fits-neither zero (ofArguments y) d e = refl
+fits-neither (suc zero) (ofArguments y) d e = refl
+fits-neither (suc (suc x)) (ofArguments y) d e = refl

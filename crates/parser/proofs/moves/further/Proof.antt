@@ -1,42 +1,32 @@
+-- `further` meets its contract. Assumes nothing.
+use Rattle.parser.proofs.MoveLaws.{further-end, further-open, further-comma, further-stops}
 use borrow.Author.Needs.{needs}
 use Rattle.parser.proofs.moves.further.Statement.{statement}
 use Rattle.parser.proofs.moves.further.Tie as tie
-use Rattle.parser.proofs.moves.further.Reads as reads
-use Rattle.parser.proofs.moves.further.Lts as lts
-use Rattle.parser.proofs.moves.go.Reads as go-reads
-use Rattle.parser.proofs.moves.stop.Reads as stop-reads
 
--- src/moves.rt:130:13
 go-requires : tie.Need-go-requires
 go-requires c κs = search needs
 
--- src/moves.rt:130:13
 returns : tie.Need-returns
-returns c = search needs
+returns c = λ counts. rw (c .go .ensures) (record { does = further-end counts _ _ (c .before .before .if1 .taken) (c .before .if2 .taken); slight = search needs })
 
--- src/moves.rt:132:9
 stop-requires : tie.Need-stop-requires
 stop-requires c κs = search needs
 
--- src/moves.rt:132:9
 returns-2 : tie.Need-returns-2
-returns-2 c = search needs
+returns-2 c = λ counts. rw (c .stop .ensures) (record { does = further-open counts _ _ (c .before .before .if1 .taken) (c .before .if2 .left); slight = search needs })
 
--- src/moves.rt:138:19
 sub-t6 : tie.Need-sub-t6
 sub-t6 c = search needs
 
--- src/moves.rt:135:9
 returns-3 : tie.Need-returns-3
-returns-3 c = search needs
+returns-3 c = λ counts. record { does = further-comma counts _ _ (search needs) (c .before .if1 .left) (c .if3 .taken); slight = search needs }
 
--- src/moves.rt:144:5
 stop-requires-2 : tie.Need-stop-requires-2
 stop-requires-2 c κs = search needs
 
--- src/moves.rt:123:1
 returns-4 : tie.Need-returns-4
-returns-4 c = search needs
+returns-4 c = λ counts. rw (c .stop2 .ensures) (record { does = further-stops counts _ _ (search needs) (search needs) (c .before .before .if1 .left) (c .before .if3 .left); slight = search needs })
 
 pub further-spec : {M : Type 1} → statement M
 further-spec =
