@@ -3,17 +3,17 @@ use Prim.Native.Nat.{ℕ, zero, suc, _+_, _-_, _*_, _/_, _%_, _^_, _≤_, _<_}
 use native.Mathlib.Omega.{arith}
 use native.Mathlib.Nat.{pow-le-pow-right}
 use lib.Pow.{pow-lt}
-use mathlib.Core.Path.{_≡_, refl, sym, _∙_}
-use mathlib.Core.Bool.{true, false, cond, not, _&&_, _||_}
+use mathlib.Core.Path.{_≡_, refl, sym, subst, _∙_}
+use mathlib.Core.Bool.{Bool, true, false, cond, not, _&&_, _||_}
 use mathlib.Core.List.{List, [], _∷_, append-assoc}
-use lib.Dec.{leb}
+use lib.Dec.{eqb, leb}
 use lib.ListN.{length, getD, drop}
 use borrow.Author.Tests.{eq-eqb, ne-eqb, lt-ltb, le-ltb, le-leb, lt-leb}
 use Rattle.format.proofs.BitLaws.{shl-one}
-use Rattle.parsing.specs.Goals.{Goal, expect, operand, more, make, binder, fields, procedure, further, count, Value, number, ofExpression, ofCondition, ofArguments, numberIn, valueAt, argumentGoals, forms}
-use Rattle.parsing.specs.Parser.{Step, go, stop, wanted, takesCondition, fits, step, furtherStep, fieldsStep, moreStep, dotStep, isField, operandStep, wordForm, begun}
+use Rattle.parsing.specs.Goals.{Goal, expect, operand, more, make, binder, fields, procedure, further, count, Value, number, ofExpression, ofCondition, ofArguments, numberIn, valueAt, made, argumentGoals, forms}
+use Rattle.parsing.specs.Parser.{Reason, Step, go, stop, wanted, takesCondition, fits, step, furtherStep, fieldsStep, moreStep, dotStep, isField, operandStep, wordForm, begun}
 use Rattle.parser.specs.Encoded.{goalOf, reasonOf, sortOf, stacked, unpacked, valueSort}
-use Rattle.parser.specs.Moves.{IsBelow, MaskTo, Seen, Does, onto, pushed, done, formAt, PackedForm, Formed, Ends}
+use Rattle.parser.specs.Moves.{IsBelow, MaskTo, Seen, Does, Calls, onto, pushed, done, formAt, PackedForm, Formed, Ends}
 use Rattle.parser.specs.declared.moves.Sight.{Sight}
 use Rattle.parser.specs.declared.moves.Move.{Move}
 use Rattle.parser.specs.declared.moves.Move.the-variants.{Go, Make, Stop}
@@ -378,3 +378,17 @@ module _ (c : ℕ) (s : Sight) (l : 176 ≤ c) (b : c < 192) (gs : List Goal) (v
   pub end-other : ((c - 176) % 3 ≡ 0 → ⊥) → ((c - 176) % 3 ≡ s .sort → ⊥) → done (Stop 0 c) gs vs n ts ≡ ended
   unfolding done onto
   end-other d e = rw (reason-goal c (omega arith), more-goal c l b, fits-not ((c - 176) % 3) (valueAt vs 0) (omega arith) d (λ q. e (q ∙ k .sort-is)))
+
+-- ---- a term
+
+pub make-is : (counts : List ℕ) (s : Sight) (k : ℕ) → Does (step counts (make k)) (make k) s (Make k)
+unfolding done onto step
+make-is counts s k gs vs n ts f e = choice (eqb n 0)
+  where
+    choice : (b : Bool) → cond b (stop Reason.terms ts) (go gs (made k vs) (n - 1) ts) ≡ onto gs (cond b (stop Reason.terms ts) (go [] (made k vs) (n - 1) ts))
+    choice true = refl
+    choice false = refl
+
+-- the same move by an equal goal
+pub moved : (counts : List ℕ) (g g′ : Goal) (s : Sight) (m : Move) → g′ ≡ g → Calls counts g s m → Calls counts g′ s m
+moved counts g g′ s m e r = subst (λ (x : Goal). Calls counts x s m) (sym e) r

@@ -5,7 +5,7 @@ use mathlib.Core.Path.{_≡_, refl}
 use mathlib.Core.Bool.{true, false}
 use mathlib.Core.List.{List, [], _∷_}
 use borrow.Author.Tests.{lt-ltb, le-ltb, ne-eqb}
-use Rattle.parsing.specs.Goals.{Sort, either, expression, Goal, expect, operand, more, make, fields, further, Value, number, ofExpression, ofCondition, ofArguments}
+use Rattle.parsing.specs.Goals.{Sort, either, expression, Goal, expect, operand, more, make, binder, fields, procedure, further, count, Value, number, ofExpression, ofCondition, ofArguments}
 use Rattle.parsing.specs.Parser.{Reason, wanted, isExpression, isCondition, takesCondition, fits, inside}
 use Rattle.parser.specs.Encoded.{sortOf, goalOf, reasonOf, stacked, valueSort}
 use Rattle.parser.specs.Moves.{pushed}
@@ -29,15 +29,28 @@ module _ (c : ℕ) where
   unfolding goalOf
   more-goal h k = rw (le-ltb c 128 (omega arith), le-ltb c 160 (omega arith), le-ltb c 176 h, lt-ltb c 192 k)
 
+  pub binder-goal : c ≡ 192 → goalOf c ≡ binder
+  unfolding goalOf
+  binder-goal e = rw e
+
+  pub procedure-goal : c ≡ 193 → goalOf c ≡ procedure
+  unfolding goalOf
+  procedure-goal e = rw e
+
+  pub count-goal : 194 ≤ c → c < 256 → goalOf c ≡ count
+  unfolding goalOf
+  count-goal h k =
+      rw (le-ltb c 128 (omega arith), le-ltb c 160 (omega arith), le-ltb c 176 (omega arith), le-ltb c 192 (omega arith), ne-eqb c 192 (λ e. omega arith), ne-eqb c 193 (λ e. omega arith), lt-ltb c 256 k)
+
   pub fields-goal : 256 ≤ c → c < 640 → goalOf c ≡ fields ((c - 256) / 32) ((c - 256) % 32)
   unfolding goalOf
   fields-goal h k =
-      rw (le-ltb c 128 (omega arith), le-ltb c 160 (omega arith), le-ltb c 176 (omega arith), le-ltb c 192 (omega arith), ne-eqb c 192 (λ e. omega arith), ne-eqb c 193 (λ e. omega arith), ne-eqb c 194 (λ e. omega arith), lt-ltb c 640 k)
+      rw (le-ltb c 128 (omega arith), le-ltb c 160 (omega arith), le-ltb c 176 (omega arith), le-ltb c 192 (omega arith), ne-eqb c 192 (λ e. omega arith), ne-eqb c 193 (λ e. omega arith), le-ltb c 256 (omega arith), lt-ltb c 640 k)
 
   pub further-goal : 640 ≤ c → goalOf c ≡ further (c - 640)
   unfolding goalOf
   further-goal h =
-      rw (le-ltb c 128 (omega arith), le-ltb c 160 (omega arith), le-ltb c 176 (omega arith), le-ltb c 192 (omega arith), ne-eqb c 192 (λ e. omega arith), ne-eqb c 193 (λ e. omega arith), ne-eqb c 194 (λ e. omega arith), le-ltb c 640 h)
+      rw (le-ltb c 128 (omega arith), le-ltb c 160 (omega arith), le-ltb c 176 (omega arith), le-ltb c 192 (omega arith), ne-eqb c 192 (λ e. omega arith), ne-eqb c 193 (λ e. omega arith), le-ltb c 256 (omega arith), le-ltb c 640 h)
 
   -- what may follow an operand
   pub more-above : 160 ≤ c → c < 176 → goalOf (c + 16) ≡ more ((c - 160) / 3) (sortOf ((c - 160) % 3))

@@ -27,7 +27,7 @@ goalOf c =
     (cond (ltb c 192) (more ((c - 176) / 3) (sortOf ((c - 176) % 3)))
     (cond (eqb c 192) binder
     (cond (eqb c 193) procedure
-    (cond (eqb c 194) count
+    (cond (ltb c 256) count
     (cond (ltb c 640) (fields ((c - 256) / 32) ((c - 256) % 32)) (further (c - 640)))))))))
 
 -- why reading stops: what was to be read is not there, by its goal's number; or one of two numbers past those of the goals

@@ -129,19 +129,23 @@ pub record Small (s : Sight) (taken kept next goals popped value : ℕ) : Type 0
   pub value-large : 1024 - value ≤ 1024 * (1 - value)
   pub value-small : value < 1024 + 4294967296
 
-abbrev pub Slight : ℕ → Sight → Move → Type 0
-Slight c s (Go taken kept next goals popped value) = Small s taken kept next goals popped value
-Slight c s (Make k) = goalOf c ≡ make k
-Slight c s (Stop before reason) = before ≤ 1
+abbrev pub Slight : Goal → Sight → Move → Type 0
+Slight g s (Go taken kept next goals popped value) = Small s taken kept next goals popped value
+Slight g s (Make k) = g ≡ make k
+Slight g s (Stop before reason) = before ≤ 1
 
--- the move of a goal with number c, where procedures have so many parameters
-pub record Calls (counts : List ℕ) (g : Goal) (c : ℕ) (s : Sight) (m : Move) : Type 0 where
+-- the move of a goal, where procedures have so many parameters
+pub record Calls (counts : List ℕ) (g : Goal) (s : Sight) (m : Move) : Type 0 where
   pub does : Does (step counts g) g s m
-  pub slight : Slight c s m
+  pub slight : Slight g s m
 
 -- the same, of a goal that needs no counts
-abbrev pub Moves : Goal → ℕ → Sight → Move → Type 0
-Moves g c s m = (counts : List ℕ) → Calls counts g c s m
+abbrev pub Moves : Goal → Sight → Move → Type 0
+Moves g s m = (counts : List ℕ) → Calls counts g s m
+
+-- the number of a goal that is not the end of the text, and is no more than the greatest
+abbrev pub Sound : ℕ → Type 0
+Sound c = (c < 128 → c < textEnd) × (c < 896)
 
 -- ---- the forms that begin with a word, and the last, `notify all`
 
@@ -155,10 +159,10 @@ PackedForm i p = (gs : List Goal) → unpacked p gs ≡ formAt i .goals ++ gs
 -- the move of a form, with so many tokens and a value
 pub record Formed (c : ℕ) (s : Sight) (i taken value : ℕ) (m : Move) : Type 0 where
   pub does : (gs : List Goal) (vs : List Value) (n : ℕ) (ts : List ℕ) → done m gs vs n ts ≡ onto gs (begun (formAt i) ((c - 160) / 3) (sortOf ((c - 160) % 3)) (pushed value vs) n ts (drop taken ts))
-  pub slight : Slight c s m
+  pub slight : Slight (operand ((c - 160) / 3) (sortOf ((c - 160) % 3))) s m
 
 -- nothing follows a value
 pub record Ends (c : ℕ) (s : Sight) (m : Move) : Type 0 where
   pub does : (gs : List Goal) (vs : List Value) (n : ℕ) (ts : List ℕ) → Seen s vs ts
       → done m gs vs n ts ≡ onto gs (cond (fits (sortOf ((c - 176) % 3)) (valueAt vs 0)) (go [] vs n ts) (stop (wanted (more ((c - 176) / 3) (sortOf ((c - 176) % 3)))) ts))
-  pub slight : Slight c s m
+  pub slight : Slight (more ((c - 176) / 3) (sortOf ((c - 176) % 3))) s m

@@ -8,7 +8,7 @@ ghost use lib.Dec.{eqb, ltb, leb};
 ghost use lib.ListN.{length};
 ghost use Rattle.parsing.specs.Goals.{expect, operand, more, binder, fields, procedure, further, count};
 ghost use Rattle.parser.specs.Encoded.{goalOf, sortOf};
-ghost use Rattle.parser.specs.Moves.{Moves, Calls, Ends, Formed};
+ghost use Rattle.parser.specs.Moves.{Moves, Calls, Ends, Formed, Sound};
 
 // The next three tokens, the sort of the value that was read last, and its number.
 pub struct Sight {
@@ -61,7 +61,7 @@ fn stop(code: usize) -> Move
 // This token.
 fn expect(code: usize, sight: Sight) -> Move
     requires { ⌜ code < 69 ⌝ }
-    ensures { λ r. ⌜ Moves (expect code) code sight r ⌝ }
+    ensures { λ r. ⌜ Moves (expect code) sight r ⌝ }
 {
     if sight.first == code {
         return go(1, 0, 0, 0);
@@ -71,7 +71,7 @@ fn expect(code: usize, sight: Sight) -> Move
 
 // A slot, or `-`.
 fn binder(sight: Sight) -> Move
-    ensures { λ r. ⌜ Moves binder 192 sight r ⌝ }
+    ensures { λ r. ⌜ Moves binder sight r ⌝ }
 {
     let token = sight.first;
     if token < 8 {
@@ -85,7 +85,7 @@ fn binder(sight: Sight) -> Move
 
 // How many parameters a procedure has.
 fn count(sight: Sight) -> Move
-    ensures { λ r. ⌜ Moves count 194 sight r ⌝ }
+    ensures { λ r. ⌜ Moves count sight r ⌝ }
 {
     let token = sight.first;
     if token < 9 {
@@ -96,7 +96,7 @@ fn count(sight: Sight) -> Move
 
 // The number of a procedure, which leaves goals for its arguments.
 fn procedure(sight: Sight, counts: &[u8]) -> Move
-    ensures { λ r. ⌜ Calls (now (counts .entry)) procedure 193 sight r ⌝ }
+    ensures { λ r. ⌜ Calls (now (counts .entry)) procedure sight r ⌝ }
 {
     let token = sight.first;
     if 31 < token {
@@ -122,7 +122,7 @@ fn procedure(sight: Sight, counts: &[u8]) -> Move
 // Behind an argument.
 fn further(code: usize, sight: Sight) -> Move
     requires { ⌜ (640 ≤ code) × (code < 896) ⌝ }
-    ensures { λ r. ⌜ Moves (further (code - 640)) code sight r ⌝ }
+    ensures { λ r. ⌜ Moves (further (code - 640)) sight r ⌝ }
 {
     let token = sight.first;
     if code == 640 {
@@ -147,7 +147,7 @@ fn further(code: usize, sight: Sight) -> Move
 // A field into the mask that was read last, or the end of the fields.
 fn fields(code: usize, sight: Sight) -> Move
     requires { ⌜ (256 ≤ code) × (code < 640) × (sight .number < 4294967296) ⌝ }
-    ensures { λ r. ⌜ Moves (fields ((code - 256) / 32) ((code - 256) % 32)) code sight r ⌝ }
+    ensures { λ r. ⌜ Moves (fields ((code - 256) / 32) ((code - 256) % 32)) sight r ⌝ }
 {
     let token = sight.first;
     let least = (code - 256) % 32;
@@ -176,7 +176,7 @@ fn fields(code: usize, sight: Sight) -> Move
 // Behind an expression `.`: a field, and `:=` where no tighter binding is asked for.
 fn dot(code: usize, sight: Sight) -> Move
     requires { ⌜ (176 ≤ code) × (code < 192) × (sight .sort ≡ 1) × (sight .first ≡ 65) ⌝ }
-    ensures { λ r. ⌜ Moves (more ((code - 176) / 3) (sortOf ((code - 176) % 3))) code sight r ⌝ }
+    ensures { λ r. ⌜ Moves (more ((code - 176) / 3) (sortOf ((code - 176) % 3))) sight r ⌝ }
 {
     let field = sight.second;
     if field == 0 {
@@ -218,7 +218,7 @@ fn end(code: usize, sight: Sight) -> Move
 // What may follow an expression.
 fn behind_expression(code: usize, sight: Sight) -> Move
     requires { ⌜ (176 ≤ code) × (code < 192) × (sight .sort ≡ 1) ⌝ }
-    ensures { λ r. ⌜ Moves (more ((code - 176) / 3) (sortOf ((code - 176) % 3))) code sight r ⌝ }
+    ensures { λ r. ⌜ Moves (more ((code - 176) / 3) (sortOf ((code - 176) % 3))) sight r ⌝ }
 {
     let token = sight.first;
     if token == 65 {
@@ -239,7 +239,7 @@ fn behind_expression(code: usize, sight: Sight) -> Move
 // What may follow a condition.
 fn behind_condition(code: usize, sight: Sight) -> Move
     requires { ⌜ (176 ≤ code) × (code < 192) × (sight .sort ≡ 2) ⌝ }
-    ensures { λ r. ⌜ Moves (more ((code - 176) / 3) (sortOf ((code - 176) % 3))) code sight r ⌝ }
+    ensures { λ r. ⌜ Moves (more ((code - 176) / 3) (sortOf ((code - 176) % 3))) sight r ⌝ }
 {
     if sight.first != 48 {
         return end(code, sight);
@@ -253,7 +253,7 @@ fn behind_condition(code: usize, sight: Sight) -> Move
 // What may follow an operand.
 fn more(code: usize, sight: Sight) -> Move
     requires { ⌜ (176 ≤ code) × (code < 192) ⌝ }
-    ensures { λ r. ⌜ Moves (more ((code - 176) / 3) (sortOf ((code - 176) % 3))) code sight r ⌝ }
+    ensures { λ r. ⌜ Moves (more ((code - 176) / 3) (sortOf ((code - 176) % 3))) sight r ⌝ }
 {
     if sight.sort == 1 {
         return behind_expression(code, sight);
@@ -285,7 +285,7 @@ fn form(code: usize, sight: Sight, form: usize, taken: usize, value: usize) -> M
 // A word, `true` to `notify`.
 fn word(code: usize, sight: Sight) -> Move
     requires { ⌜ (160 ≤ code) × (code < 176) × (49 ≤ sight .first) × (sight .first < 62) ⌝ }
-    ensures { λ r. ⌜ Moves (operand ((code - 160) / 3) (sortOf ((code - 160) % 3))) code sight r ⌝ }
+    ensures { λ r. ⌜ Moves (operand ((code - 160) / 3) (sortOf ((code - 160) % 3))) sight r ⌝ }
 {
     let token = sight.first;
     if token == 52 {
@@ -303,7 +303,7 @@ fn word(code: usize, sight: Sight) -> Move
 // An operand.
 fn operand(code: usize, sight: Sight) -> Move
     requires { ⌜ (160 ≤ code) × (code < 176) ⌝ }
-    ensures { λ r. ⌜ Moves (operand ((code - 160) / 3) (sortOf ((code - 160) % 3))) code sight r ⌝ }
+    ensures { λ r. ⌜ Moves (operand ((code - 160) / 3) (sortOf ((code - 160) % 3))) sight r ⌝ }
 {
     let token = sight.first;
     if token < 32 {
@@ -325,4 +325,44 @@ fn operand(code: usize, sight: Sight) -> Move
         return go(1, code + 16, 164927, 0);
     }
     go(1, code + 16, 163903, 0)
+}
+
+// The goals of one number each: a slot, a procedure, a count.
+fn single(code: usize, sight: Sight, counts: &[u8]) -> Move
+    requires { ⌜ (192 ≤ code) × (code < 256) ⌝ }
+    ensures { λ r. ⌜ Calls (now (counts .entry)) (goalOf code) sight r ⌝ }
+{
+    if code == 192 {
+        return binder(sight);
+    }
+    if code == 193 {
+        return procedure(sight, counts);
+    }
+    count(sight)
+}
+
+// Any goal.
+pub fn step(code: usize, sight: Sight, counts: &[u8]) -> Move
+    requires { ⌜ Sound code × (sight .number < 4294967296) ⌝ }
+    ensures { λ r. ⌜ Calls (now (counts .entry)) (goalOf code) sight r ⌝ }
+{
+    if code < 128 {
+        return expect(code, sight);
+    }
+    if code < 160 {
+        return Move::Make(code - 128);
+    }
+    if code < 176 {
+        return operand(code, sight);
+    }
+    if code < 192 {
+        return more(code, sight);
+    }
+    if code < 256 {
+        return single(code, sight, counts);
+    }
+    if code < 640 {
+        return fields(code, sight);
+    }
+    further(code, sight)
 }
