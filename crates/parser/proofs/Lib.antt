@@ -1,3 +1,4 @@
 pub mod Numbers
 pub mod FormTable
 pub mod MoveLaws
+pub mod StackLaws

@@ -46,15 +46,12 @@ unfoldable pub stacked : ℕ → List Goal → List Goal
 unfolding goalOf
 stacked c gs = cond (eqb c 0) gs (goalOf c ∷ gs)
 
--- the goals of the digits to the base 1024, the last at the bottom, at most so many
-unfoldable pub unpackedBy : ℕ → ℕ → List Goal → List Goal
-unfolding goalOf
-unpackedBy zero p gs = gs
-unpackedBy (suc n) p gs = cond (eqb p 0) gs (unpackedBy n (p / 1024) (goalOf (p % 1024) ∷ gs))
-
+-- the goals of six digits to the base 1024, the last digit at the bottom
 unfoldable pub unpacked : ℕ → List Goal → List Goal
-unfolding unpackedBy
-unpacked p gs = unpackedBy 6 p gs
+unfolding stacked
+unpacked p gs =
+    stacked (p / 1125899906842624 % 1024)
+    (stacked (p / 1099511627776 % 1024) (stacked (p / 1073741824 % 1024) (stacked (p / 1048576 % 1024) (stacked (p / 1024 % 1024) (stacked (p % 1024) gs)))))
 
 -- ---- values
 

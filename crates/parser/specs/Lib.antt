@@ -1,2 +1,3 @@
 pub mod Encoded
 pub mod Moves
+pub mod Stacks
