@@ -5,16 +5,19 @@ use native.Mathlib.Numerals.{add-one}
 use native.Mathlib.Decide.{decLt}
 use native.Mathlib.Omega.{arith}
 use mathlib.Core.Path.{_≡_, refl, sym, ap, _∙_}
+use mathlib.Core.Bool.{Bool, true, false, cond}
 use mathlib.Core.List.{List, [], _∷_}
+use lib.Dec.{ltb}
 use lib.ListN.{length, getD, set, drop, length-set}
-use lib.Seq.{getD-set-same, getD-set-other}
+use lib.Seq.{getD-set-same, getD-set-other, getD-drop}
 use borrow.Author.Tests.{eq-eqb, ne-eqb, lt-ltb, le-ltb}
 use Rattle.packed.specs.Operands.{tagOf}
-use Rattle.packed.specs.Steps.{tagIn}
-use Rattle.parsing.specs.Goals.{Goal, Value}
+use Rattle.packed.specs.Steps.{tagIn, treeIn, listIn}
+use Rattle.packed.specs.Steps as array
+use Rattle.parsing.specs.Goals.{Goal, Value, number, ofExpression, ofCondition, ofArguments, numberIn, valueAt}
 use Rattle.parser.specs.Encoded.{goalOf, goalsOf, stacked, valueOf, termValue, valuesOf, valueSort}
 use Rattle.parser.specs.Moves.{pushed}
-use Rattle.parser.specs.Stacks.{Stacked, Entries, Put, operandAt}
+use Rattle.parser.specs.Stacks.{Stacked, Entries, Put, Looks, lastOf, operandAt}
 use Rattle.parser.proofs.Numbers.{stacked-some, pushed-some}
 
 -- ---- goals
@@ -150,3 +153,69 @@ six-few p t a b c d e f ha hb hc hd he hf =
   where
     sum : (u v w x y z : ℕ) → u ≤ p → v ≤ p → w ≤ p → x ≤ p → y ≤ p → z ≤ p → a ≤ t + u → b ≤ a + v → c ≤ b + w → d ≤ c + x → e ≤ d + y → f ≤ e + z → f ≤ t + 6 * p
     sum u v w x y z hu hv hw hx hy hz ha hb hc hd he hf = omega arith
+
+-- ---- what a step sees
+
+pub last-none : (values : List ℕ) (n : ℕ) → n ≡ 0 → 1024 ≡ lastOf values n
+unfolding lastOf
+last-none values n e = rw (eq-eqb n 0 e)
+
+pub last-some : (values : List ℕ) (n : ℕ) → (n ≡ 0 → ⊥) → getD values (n - 1) 0 ≡ lastOf values n
+unfolding lastOf
+last-some values n d = rw (ne-eqb n 0 d)
+
+last-value : (words values : List ℕ) (n : ℕ) → valueAt (valuesOf words values n) 0 ≡ valueOf words (lastOf values n)
+unfolding valuesOf lastOf valueOf
+last-value words values zero = refl
+last-value words values (suc n) = let e : suc n - 1 ≡ n = omega arith in rw (ne-eqb (suc n) 0 (λ d. omega arith), e)
+
+last-small : (values : List ℕ) (n : ℕ) → Entries 0 values n → lastOf values n < 1024 + 4294967296
+unfolding lastOf
+last-small values zero h = omega arith
+last-small values (suc n) h = let e : suc n - 1 ≡ n = omega arith in rw (ne-eqb (suc n) 0 (λ d. omega arith), e) (h n (omega arith) .1)
+
+term-number : (words : List ℕ) (v : ℕ) → numberIn (termValue words v) ≡ 0
+unfolding termValue numberIn
+term-number words v = choice (ltb (tagIn words v) 12) (ltb (tagIn words v) 16) (ltb (tagIn words v) 18)
+  where
+    choice : (a b c : Bool) → numberIn (cond a (ofExpression (treeIn words v)) (cond b (ofCondition (array.conditionIn words v)) (cond c (ofArguments (listIn words v)) (ofExpression (treeIn words v))))) ≡ 0
+    choice true b c = refl
+    choice false true c = refl
+    choice false false true = refl
+    choice false false false = refl
+
+-- the number of a value
+number-of : (words : List ℕ) (v : ℕ) → numberIn (valueOf words v) ≡ cond (ltb v 1024) 0 (v - 1024)
+unfolding valueOf numberIn
+number-of words v = choice (ltb v 1024)
+  where
+    choice : (b : Bool) → numberIn (cond b (termValue words v) (number (v - 1024))) ≡ cond b 0 (v - 1024)
+    choice true = term-number words v
+    choice false = refl
+
+module _ (tokens words values : List ℕ) (at n v first second third sort : ℕ) (e : v ≡ lastOf values n) (small : Entries 0 values n)
+    (p : (first ≡ getD tokens at 69) × (69 ≤ first + 69 * (length tokens - at))) (q : (second ≡ getD tokens (at + 1) 69) × (69 ≤ second + 69 * (length tokens - (at + 1))))
+    (r : (third ≡ getD tokens (at + 2) 69) × (69 ≤ third + 69 * (length tokens - (at + 2)))) (s : sort ≡ valueSort (valueOf words v)) where
+  last-number : cond (ltb v 1024) 0 (v - 1024) < 4294967296
+  last-number = go (decLt v 1024)
+    where
+      go : Dec (v < 1024) → cond (ltb v 1024) 0 (v - 1024) < 4294967296
+      go (yes h) = rw (lt-ltb v 1024 h) (omega arith)
+      go (no h) = rw (le-ltb v 1024 (omega (arith, h))) (let z = last-small values n small in omega arith)
+
+  pub looks : (m : ℕ) → m ≡ cond (ltb v 1024) 0 (v - 1024) → Looks tokens at words values n (record { first = first; second = second; third = third; sort = sort; number = m })
+  looks m d =
+      record {
+        seen =
+            record {
+              first-is = let z : at + 0 ≡ at = omega arith in getD-drop at tokens 0 69 ∙ rw z (sym (p .0));
+              second-is = getD-drop at tokens 1 69 ∙ sym (q .0);
+              third-is = getD-drop at tokens 2 69 ∙ sym (r .0);
+              sort-is = rw (last-value words values n, ← e) (sym s);
+              number-is = rw (last-value words values n, ← e) (number-of words v ∙ sym d);
+            };
+        small = rw d last-number;
+        first-inside = p .1;
+        second-inside = q .1;
+        third-inside = r .1;
+      }

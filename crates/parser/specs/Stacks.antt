@@ -27,6 +27,10 @@ pub record Put (popped value : ℕ) (values : List ℕ) (n : ℕ) (values′ : L
   pub entries : (left : ℕ) → left ≤ 1024 → Entries left values n → Entries left values′ n′
   pub few : n′ ≤ n + 1
 
+-- the value that was read last; without one, the number 0
+unfoldable pub lastOf : List ℕ → ℕ → ℕ
+lastOf values n = cond (eqb n 0) 1024 (getD values (n - 1) 0)
+
 -- what a step sees of tokens from a place on, and of values
 pub record Looks (tokens : List ℕ) (at : ℕ) (words values : List ℕ) (n : ℕ) (s : Sight) : Type 0 where
   pub seen : Seen s (valuesOf words values n) (drop at tokens)

@@ -2,11 +2,13 @@
 use byte_numbers::wide;
 use crate::moves::Sight;
 ghost use mathlib.Core.Path.{_≡_};
+ghost use mathlib.Core.Bool.{cond};
 ghost use Prim.Native.Nat.{_<_, _≤_, _+_, _-_, _*_, _/_, _%_};
+ghost use lib.Dec.{ltb};
 ghost use lib.ListN.{length, getD};
 ghost use Rattle.parsing.specs.Goals.{operandCounts};
 ghost use Rattle.parser.specs.Encoded.{valueOf, valueSort, stacked, unpacked};
-ghost use Rattle.parser.specs.Stacks.{Stacked, Entries, Put, Looks, operandAt};
+ghost use Rattle.parser.specs.Stacks.{Stacked, Entries, Put, Looks, lastOf, operandAt};
 
 // A goal on the others; 0 is none.
 fn stack(goals: &mut [u16; 8408], top: usize, code: usize) -> usize
@@ -98,11 +100,43 @@ fn sort(words: &[usize; 1024], value: usize) -> usize
 // The value that was read last.
 fn last(values: &[usize; 3108], top: usize) -> usize
     requires { ⌜ top ≤ 3108 ⌝ }
+    ensures { λ r. ⌜ r ≡ lastOf (now (values .entry)) top ⌝ }
 {
     if top == 0 {
         return 1024;
     }
     values[top - 1]
+}
+
+// The number that a value is; a term is taken for 0.
+fn number(value: usize) -> usize
+    ensures { λ r. ⌜ r ≡ cond (ltb value 1024) 0 (value - 1024) ⌝ }
+{
+    if value < 1024 {
+        return 0;
+    }
+    value - 1024
+}
+
+// What a step sees.
+pub fn look(
+    tokens: &[u8],
+    at: usize,
+    words: &[usize; 1024],
+    values: &[usize; 3108],
+    top: usize,
+) -> Sight
+    requires { ⌜ (top ≤ 3108) × (at ≤ 16384) × Entries 0 (now values) top ⌝ }
+    ensures { λ r. ⌜ Looks (now (tokens .entry)) at (now (words .entry)) (now (values .entry)) top r ⌝ }
+{
+    let value = last(values, top);
+    Sight {
+        first: token(tokens, at),
+        second: token(tokens, at + 1),
+        third: token(tokens, at + 2),
+        sort: sort(words, value),
+        number: number(value),
+    }
 }
 
 // The number of an operand that is so far down, from 1; 0 is none.
