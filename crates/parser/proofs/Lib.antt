@@ -2,3 +2,4 @@ pub mod Numbers
 pub mod FormTable
 pub mod MoveLaws
 pub mod StackLaws
+pub mod FitLaws
