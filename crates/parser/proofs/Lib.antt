@@ -3,3 +3,4 @@ pub mod FormTable
 pub mod MoveLaws
 pub mod StackLaws
 pub mod FitLaws
+pub mod TermLaws
