@@ -48,6 +48,11 @@ module _ (words : List ℕ) where
   values-frame values i v zero h = refl
   values-frame values i v (suc n) h = rw (getD-set-other values i n v 0 (λ e. omega arith), values-frame values i v n (omega arith))
 
+  -- a value on the first n
+  pub values-set : (values : List ℕ) (n v : ℕ) → n < length values → valuesOf words (set values n v) (n + 1) ≡ valueOf words v ∷ valuesOf words values n
+  unfolding valuesOf
+  values-set values n v h = rw (add-one, getD-set-same values n v 0 h, values-frame values n v n (omega arith))
+
   values-rest : (values : List ℕ) (n k : ℕ) → k ≤ 1 → drop k (valuesOf words values n) ≡ valuesOf words values (n - k)
   unfolding valuesOf
   values-rest values n zero h = let e : n ≡ n - 0 = omega arith in ap (valuesOf words values) e
@@ -67,11 +72,11 @@ puts-none values n popped value m l h e q =
 
 pub puts-one : (values : List ℕ) (n popped value m : ℕ) → length values ≡ 3108 → n < 3108 → popped ≤ 1 → 1024 ≤ value → value < 1024 + 4294967296 → m ≡ n - popped
     → Put popped value values n (set values m value) (m + 1)
-unfolding valuesOf valueOf
+unfolding valueOf
 puts-one values n popped value m l b h g s q =
     record {
       values-are =
-          λ words. rw (add-one, getD-set-same values m value 0 (omega arith), values-frame words values m value m (omega arith), le-ltb value 1024 g,
+          λ words. rw (values-set words values m value (omega arith), le-ltb value 1024 g,
             pushed-some value (value - 1024) (drop popped (valuesOf words values n)) (omega arith), values-rest words values n popped h, q);
       long = length-set values m value ∙ l;
       entries = λ left c d i k. each left c d i k (decLt i m);

@@ -11,7 +11,7 @@ use lib.Seq.{getD-set-same, getD-set-other}
 use borrow.Author.Tests.{eq-eqb, ne-eqb, lt-ltb, le-ltb}
 use Rattle.format.proofs.Ranges.{by-range}
 use Rattle.packed.specs.Syntax.{Expression, Condition, Arguments}
-use Rattle.packed.specs.Format.{width, table, layout, fieldsFrom}
+use Rattle.packed.specs.Format.{width, table, layout, fieldsFrom, Term}
 use Rattle.packed.specs.Operands.{tagOf}
 use Rattle.packed.specs.Trees.{Node, nodes, nodeOf, expressionOf, conditionOf, argumentsOf, expressionAt, conditionAt, argumentsAt}
 use Rattle.packed.specs.Steps.{Ordered, Descending, Below, inWord, termIn, nodeIn, tagIn, treeIn, listIn}
@@ -27,6 +27,7 @@ use Rattle.parsing.specs.Goals.{Value, number, ofExpression, ofCondition, ofArg
 use Rattle.parser.specs.Encoded.{termValue, valueOf, valuesOf}
 use Rattle.parser.specs.Moves.{IsTerm, IsBelow, IsOf, operandKinds, Operands}
 use Rattle.parser.specs.Stacks.{Entries, operandAt}
+use Rattle.parser.proofs.StackLaws.{values-set}
 
 -- ---- trees above m are the same in tables that are the same there
 
@@ -245,3 +246,156 @@ module _ (words : List ℕ) (o : Ordered words) where
         let q : suc n - suc (suc i) ≡ n - suc i = omega arith in
         rw (ne-eqb (suc (suc i)) 0 (λ d. omega arith), q)
         (rw (ne-eqb (suc i) 0 (λ d. omega arith)) at (operands-are ks values n (p .1) (λ j c. e j (omega arith)) i (omega arith)))
+
+    -- in the places of a row
+    row-is : (ks values : List ℕ) (n : ℕ) → length ks ≤ 3 → Operands ks (valuesOf words values n) → Entries left values n
+        → RowIs E C L m ks (valueAt (valuesOf words values n) (length ks - 1)) (valueAt (valuesOf words values n) (length ks - 2)) (valueAt (valuesOf words values n) (length ks - 3))
+        (operandAt values n (length ks)) (operandAt values n (length ks - 1)) (operandAt values n (length ks - 2))
+    unfolding operandAt
+    row-is [] values n h p e = (refl, refl, refl)
+    row-is (x ∷ []) values n h p e = (operands-are (x ∷ []) values n p e 0 (omega arith), refl, refl)
+    row-is (y ∷ x ∷ []) values n h p e =
+        let at = operands-are (y ∷ x ∷ []) values n p e in
+        (at 1 (omega arith), at 0 (omega arith), refl)
+    row-is (z ∷ y ∷ x ∷ []) values n h p e =
+        let at = operands-are (z ∷ y ∷ x ∷ []) values n p e in
+        (at 2 (omega arith), at 1 (omega arith), at 0 (omega arith))
+    row-is (z ∷ y ∷ x ∷ w ∷ ks) values n h p e = absurd (omega arith)
+
+-- as many operands as kinds, and three at most
+counts-are : (k : ℕ) → k < 21 → (getD operandCounts k 0 ≡ length (getD operandKinds k [])) × (length (getD operandKinds k []) ≤ 3)
+unfolding operandKinds operandCounts
+counts-are =
+    by-range Counted 0 21 ((k : ℕ) → k < 21 → Counted k) (λ all k h. all k (omega arith) (omega arith))
+    (refl, omega arith) (refl, omega arith) (refl, omega arith) (refl, omega arith) (refl, omega arith) (refl, omega arith) (refl, omega arith)
+    (refl, omega arith) (refl, omega arith) (refl, omega arith) (refl, omega arith) (refl, omega arith) (refl, omega arith) (refl, omega arith)
+    (refl, omega arith) (refl, omega arith) (refl, omega arith) (refl, omega arith) (refl, omega arith) (refl, omega arith) (refl, omega arith)
+  where
+    Counted : ℕ → Type 0
+    Counted k = (getD operandCounts k 0 ≡ length (getD operandKinds k [])) × (length (getD operandKinds k []) ≤ 3)
+
+-- there are as many values as operands
+enough : (words ks values : List ℕ) (n : ℕ) → Operands ks (valuesOf words values n) → length ks ≤ n
+unfolding valuesOf
+enough words [] values n p = omega arith
+enough words (k ∷ ks) values zero p = absurd p
+enough words (k ∷ ks) values (suc n) p = let h = enough words ks values n (p .1) in omega arith
+
+pub operands-there : (words values : List ℕ) (k n : ℕ) → k < 21 → Operands (getD operandKinds k []) (valuesOf words values n) → getD operandCounts k 0 ≤ n
+operands-there words values k n h p = let e = counts-are k h .0 in let l = enough words (getD operandKinds k []) values n p in omega arith
+
+-- the values below some
+values-drop : (words values : List ℕ) (n k : ℕ) → k ≤ n → drop k (valuesOf words values n) ≡ valuesOf words values (n - k)
+unfolding valuesOf
+values-drop words values n zero h = let e : n ≡ n - 0 = omega arith in ap (valuesOf words values) e
+values-drop words values zero (suc k) h = absurd (omega arith)
+values-drop words values (suc n) (suc k) h = let e : n - k ≡ suc n - suc k = omega arith in values-drop words values n k (omega arith) ∙ ap (valuesOf words values) e
+
+made-is : (k : ℕ) (vs : List Value) → made k vs ≡ getD terms k (λ x y z. number 0) (valueAt vs (getD operandCounts k 0 - 1)) (valueAt vs (getD operandCounts k 0 - 2)) (valueAt vs (getD operandCounts k 0 - 3)) ∷ drop (getD operandCounts k 0) vs
+unfolding made
+made-is k vs = refl
+
+-- ---- the term that is made
+
+module _ (words : List ℕ) (o : Ordered words) (long : length words ≡ 1024) (m left : ℕ) (next : left ≡ suc m) (room : left ≤ 1024) (values : List ℕ) (n k : ℕ) (h : k < 21)
+    (p : Operands (getD operandKinds k []) (valuesOf words values n)) (e : Entries left values n) where
+  abbrev count : ℕ
+  count = getD operandCounts k 0
+
+  abbrev x : ℕ
+  x = operandAt values n count
+
+  abbrev y : ℕ
+  y = operandAt values n (count - 1)
+
+  abbrev z : ℕ
+  z = operandAt values n (count - 2)
+
+  abbrev v : ℕ → Value
+  v i = valueAt (valuesOf words values n) i
+
+  fine : Fine (treeIn words) (array.conditionIn words) (listIn words) m (v (count - 1)) (v (count - 2)) (v (count - 3)) x y z k
+  fine =
+      let c = counts-are k h in
+      row-fine (treeIn words) (array.conditionIn words) (listIn words) m (v (count - 1)) (v (count - 2)) (v (count - 3)) x y z k h
+      (rw (c .0) (row-is words o m left (omega arith) (getD operandKinds k []) values n (c .1) p e))
+
+  pub made-fits : Fitting (layout k) x y z
+  made-fits = fine .fitting
+
+  abbrev words′ : List ℕ
+  words′ = set words m (wordOf k x y z)
+
+  term-made : termIn (getD words′ m 0) ≡ termOf k x y z 0
+  term-made = rw (getD-set-same words m (wordOf k x y z) 0 (omega arith)) (term-in-word k x y z made-fits)
+
+  node-made : nodeIn words′ m ≡ nodeOfTag k x y z
+  unfolding nodeIn nodeOf
+  node-made = ap nodeOf term-made
+
+  tag-made : tagIn words′ m ≡ k
+  unfolding tagIn termIn inWord
+  tag-made = ap (λ (t : Term). t .tag) term-made
+
+  pub ordered-made : Ordered words′
+  ordered-made = ordered-more words m (wordOf k x y z) o (omega arith) (rw node-made (fine .below))
+
+  abbrev node : Node
+  node = nodeOfTag k x y z
+
+  tree-made : treeIn words′ m ≡ expressionOf (treeIn words) (array.conditionIn words) (listIn words) node
+  unfolding treeIn array.conditionIn listIn tree treeᶜ treeᵃ
+  tree-made =
+      let w = wordOf k x y z in
+      tree-law (nodeIn words′) 1024 ordered-made m
+      ∙ ap (expressionOf (treeIn words′) (array.conditionIn words′) (listIn words′)) node-made
+      ∙ expression-cong m (treeIn words′) (treeIn words) (array.conditionIn words′) (array.conditionIn words) (listIn words′) (listIn words) (tree-other words m w o) (condition-other words m w o)
+      (list-other words m w o) node (fine .below)
+
+  condition-made : array.conditionIn words′ m ≡ conditionOf (treeIn words) (array.conditionIn words) node
+  unfolding treeIn array.conditionIn listIn tree treeᶜ treeᵃ
+  condition-made =
+      let w = wordOf k x y z in
+      tree-lawᶜ (nodeIn words′) 1024 ordered-made m
+      ∙ ap (conditionOf (treeIn words′) (array.conditionIn words′)) node-made
+      ∙ condition-cong m (treeIn words′) (treeIn words) (array.conditionIn words′) (array.conditionIn words) (listIn words′) (listIn words) (tree-other words m w o) (condition-other words m w o)
+      (list-other words m w o) node (fine .below)
+
+  list-made : listIn words′ m ≡ argumentsOf (treeIn words) (listIn words) node
+  unfolding treeIn array.conditionIn listIn tree treeᶜ treeᵃ
+  list-made =
+      let w = wordOf k x y z in
+      tree-lawᵃ (nodeIn words′) 1024 ordered-made m
+      ∙ ap (argumentsOf (treeIn words′) (listIn words′)) node-made
+      ∙ arguments-cong m (treeIn words′) (treeIn words) (array.conditionIn words′) (array.conditionIn words) (listIn words′) (listIn words) (tree-other words m w o) (condition-other words m w o)
+      (list-other words m w o) node (fine .below)
+
+  value-made : valueOf words′ m ≡ getD terms k (λ x y z. number 0) (v (count - 1)) (v (count - 2)) (v (count - 3))
+  unfolding valueOf termValue valueFor
+  value-made = rw (lt-ltb m 1024 (omega arith), tag-made, tree-made, condition-made, list-made) (fine .value)
+
+  abbrev there : ℕ
+  there = n - count
+
+  -- the values with the term in place of its operands
+  pub values-made : there < length values → valuesOf words′ (set values there m) (there + 1) ≡ made k (valuesOf words values n)
+  values-made b =
+      let c = operands-there words values k n h p in
+      let below : valuesOf words′ values there ≡ drop count (valuesOf words values n) =
+          values-other words m (wordOf k x y z) o values there left (omega arith) (λ i d. e i (omega arith)) ∙ sym (values-drop words values n count c)
+      in
+      values-set words′ values there m b
+      ∙ ap (λ (u : Value). u ∷ valuesOf words′ values there) value-made
+      ∙ ap (λ (us : List Value). getD terms k (λ x y z. number 0) (v (count - 1)) (v (count - 2)) (v (count - 3)) ∷ us) below
+      ∙ sym (made-is k (valuesOf words values n))
+
+  pub entries-made : there < length values → Entries m (set values there m) (there + 1)
+  entries-made b i d = each (decLt i there)
+    where
+      each : Dec (i < there) → (m ≤ getD (set values there m) i 0) × (getD (set values there m) i 0 < 1024 + 4294967296)
+      each (yes c) = let q = e i (omega arith) in rw (getD-set-other values there i m 0 (λ r. omega arith)) (omega arith, q .1)
+      each (no c) = let q : i ≡ there = omega (arith, c) in rw (q, getD-set-same values there m 0 b) (omega arith, omega arith)
+
+  -- the terms above stay
+  pub terms-stay : (i : ℕ) → left ≤ i → getD words′ i 0 ≡ getD words i 0
+  terms-stay i d = getD-set-other words m i (wordOf k x y z) 0 (λ r. omega arith)
