@@ -4,3 +4,4 @@ pub mod MoveLaws
 pub mod StackLaws
 pub mod FitLaws
 pub mod TermLaws
+pub mod MakeLaws

@@ -1,3 +1,4 @@
 pub mod Encoded
 pub mod Moves
 pub mod Stacks
+pub mod Making

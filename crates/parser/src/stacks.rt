@@ -140,7 +140,7 @@ pub fn look(
 }
 
 // The number of an operand that is so far down, from 1; 0 is none.
-fn operand(values: &[usize; 3108], top: usize, back: usize) -> usize
+pub fn operand(values: &[usize; 3108], top: usize, back: usize) -> usize
     requires { ⌜ (back ≤ top) × (top ≤ 3108) ⌝ }
     ensures { λ r. ⌜ r ≡ operandAt (now (values .entry)) top back ⌝ }
 {
