@@ -5,3 +5,5 @@ pub mod StackLaws
 pub mod FitLaws
 pub mod TermLaws
 pub mod MakeLaws
+pub mod TurnLaws
+pub mod RunLaws

@@ -205,13 +205,13 @@ module _ (words : List ℕ) (o : Ordered words) where
       (refl, refl, refl)
       (λ j. rw (le-ltb (past 21 j) 12 (omega arith), le-ltb (past 21 j) 16 (omega arith), le-ltb (past 21 j) 18 (omega arith)) (refl, refl, refl))
 
-  sorts-agree : (v : ℕ) → (E v ≡ expressionIn (termValue words v)) × (C v ≡ conditionIn (termValue words v)) × (L v ≡ argumentsIn (termValue words v))
+  pub sorts-agree : (v : ℕ) → (E v ≡ expressionIn (termValue words v)) × (C v ≡ conditionIn (termValue words v)) × (L v ≡ argumentsIn (termValue words v))
   unfolding termValue valueFor tagIn
   sorts-agree v =
       let k = tagOf (getD words v 0) in
       rw (expr-is words o v k refl, cond-is words o v k refl, list-is words o v k refl) (sorted (getD words v 0) k)
 
-  no-number : (b v : ℕ) → IsBelow b (termValue words v) → ⊥
+  pub no-number : (b v : ℕ) → IsBelow b (termValue words v) → ⊥
   unfolding termValue
   no-number b v h = choice (ltb (tagIn words v) 12) (ltb (tagIn words v) 16) (ltb (tagIn words v) 18) h
     where

@@ -116,6 +116,7 @@ Does step g s m = (gs : List Goal) (vs : List Value) (n : ℕ) (ts : List ℕ) �
 
 -- a move that takes tokens takes no end of the text; without a token no goal is left; its numbers are small
 pub record Small (s : Sight) (taken kept next goals popped value : ℕ) : Type 0 where
+  pub taken-few : taken ≤ 3
   pub to-first : taken ≤ 3 * (69 - s .first)
   pub to-second : taken ≤ 1 + 2 * (69 - s .second)
   pub to-third : taken ≤ 2 + (69 - s .third)

@@ -6,7 +6,7 @@ use lib.ListN.{length, getD, drop}
 use Rattle.packed.specs.Steps.{Ordered, treeIn}
 use Rattle.parsing.specs.Goals.{Value, numberIn, expressionIn, valueAt}
 use Rattle.parsing.specs.Parser as definition
-use Rattle.parsing.specs.Parser.{Step, go, stop, step}
+use Rattle.parsing.specs.Parser.{Step, go, stop, step, parseBy, parse}
 use Rattle.parser.specs.Encoded.{goalOf, reasonOf, goalsOf, stacked, unpacked, valuesOf}
 use Rattle.parser.specs.Moves.{Fits, onto, Calls}
 use Rattle.parser.specs.Stacks.{Stacked, Entries, Put, Looks}
@@ -108,6 +108,14 @@ pub record Turned (tokens counts goals values words goals′ values′ words′ 
   pub next : Next tokens goals′ values′ words′ s r
   pub kept : Kept (s .left) words words′
 
+-- ---- turn after turn
+
+-- what is read from the start is what is read from here on, with so many steps
+pub record Resumes (counts tokens goals values words : List ℕ) (s : Standing) (R : definition.Parsed) : Type 0 where
+  pub steps : ℕ
+  pub enough : 8 * (length tokens - s .at) + s .goals < steps
+  pub same : R ≡ parseBy counts steps (goalsOf goals (s .goals)) (valuesOf words values (s .values)) (s .left) (drop (s .at) tokens)
+
 -- ---- the end
 
 -- an expression has been read: its tree and its root, the parameters that were read, the terms left, the tokens left
@@ -128,3 +136,12 @@ Reads tokens words left (definition.parsed vs n rest) (Read root parameters left
 Reads tokens words left (definition.parsed vs n rest) (Stopped reason at) = ⊥
 Reads tokens words left (definition.stopped r rest) (Read root parameters left′ at) = ⊥
 Reads tokens words left (definition.stopped r rest) (Stopped reason at) = (r ≡ reasonOf reason) × (drop at tokens ≡ rest)
+
+-- and the terms from left on stay
+pub record Ran (tokens words words′ : List ℕ) (left : ℕ) (R : definition.Parsed) (r : Parsed) : Type 0 where
+  pub reads : Reads tokens words′ left R r
+  pub kept : Kept left words words′
+
+-- what is read from where reading stands
+abbrev pub readFrom : List ℕ → List ℕ → List ℕ → List ℕ → List ℕ → Standing → definition.Parsed
+readFrom counts tokens goals values words s = parse counts (goalsOf goals (s .goals)) (valuesOf words values (s .values)) (s .left) (drop (s .at) tokens)

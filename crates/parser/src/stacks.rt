@@ -6,7 +6,8 @@ ghost use mathlib.Core.Bool.{cond};
 ghost use Prim.Native.Nat.{_<_, _≤_, _+_, _-_, _*_, _/_, _%_};
 ghost use lib.Dec.{ltb};
 ghost use lib.ListN.{length, getD};
-ghost use Rattle.parsing.specs.Goals.{operandCounts};
+ghost use mathlib.Core.List.{_++_};
+ghost use Rattle.parsing.specs.Plan.{procedureGoals};
 ghost use Rattle.parser.specs.Encoded.{valueOf, valueSort, stacked, unpacked};
 ghost use Rattle.parser.specs.Stacks.{Stacked, Entries, Put, Looks, lastOf, operandAt};
 
@@ -44,6 +45,23 @@ pub fn stack_all(goals: &mut [u16; 8408], top: usize, kept: usize, next: usize, 
     let first = stack(&mut *goals, top, kept);
     let second = stack(&mut *goals, first, next);
     stack_digits(&mut *goals, second, digits)
+}
+
+// The goals of the procedure of this number.
+pub fn begin(goals: &mut [u16; 8408], number: usize) -> usize
+    requires { ⌜ (number < 32) × (length (now goals) ≡ 8408) ⌝ }
+    ensures { λ r. ⌜ Stacked (λ gs. procedureGoals number ++ gs) (now (goals .entry)) 0 (now (goals .exit)) r × (r ≤ 7) ⌝ }
+{
+    let body = stack(&mut *goals, 0, 161);
+    if number == 0 {
+        return body;
+    }
+    let equals = stack(&mut *goals, body, 66);
+    let closing = stack(&mut *goals, equals, 63);
+    let count = stack(&mut *goals, closing, 194);
+    let opening = stack(&mut *goals, count, 62);
+    let own = stack(&mut *goals, opening, number);
+    stack(&mut *goals, own, 42)
 }
 
 // A value in place of so many; 0 is none.

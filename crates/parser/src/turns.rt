@@ -6,7 +6,7 @@ use crate::terms;
 ghost use mathlib.Core.Path.{_≡_};
 ghost use Prim.Native.Nat.{_<_};
 ghost use Rattle.parser.specs.Making.{Makeable};
-ghost use Rattle.parser.specs.Reading.{State, Going, Room, Went, WentWith, Found};
+ghost use Rattle.parser.specs.Reading.{State, Going, Room, Went, WentWith, Found, Turned};
 
 // Where reading stands: the next token's place, how many goals and values there are, how many terms are left to be made.
 pub struct Standing {
@@ -94,4 +94,59 @@ fn found(
     let code = half(goals[top]);
     let sight = stacks::look(tokens, standing.at, words, values, standing.values);
     moves::step(code, sight, counts)
+}
+
+// The stop where a plan has no more terms.
+const NO_TERMS: usize = 1000;
+
+// The goal on top is taken, and done.
+pub fn take(
+    tokens: &[u8],
+    counts: &[u8],
+    goals: &mut [u16; 8408],
+    values: &mut [usize; 3108],
+    words: &mut [usize; 1024],
+    standing: Standing,
+) -> Turn
+    requires { ⌜ State (now tokens) (now goals) (now values) (now words) standing × Going standing ⌝ }
+    ensures { λ r. ⌜ Turned (now (tokens .entry)) (now (counts .entry)) (now (goals .entry)) (now (values .entry)) (now (words .entry)) (now (goals .exit)) (now (values .exit)) (now (words .exit)) standing r ⌝ }
+{
+    let at = standing.at;
+    match found(tokens, counts, &*goals, &*values, &*words, standing) {
+        Move::Go {
+            taken,
+            kept,
+            next,
+            goals: digits,
+            popped,
+            value,
+        } => {
+            let after = go_on(
+                &mut *goals,
+                &mut *values,
+                standing,
+                taken,
+                kept,
+                next,
+                digits,
+                popped,
+                value,
+            );
+            Turn::On(after)
+        }
+        Move::Make(tag) => {
+            if standing.left == 0 {
+                return Turn::Stop {
+                    reason: NO_TERMS,
+                    at: at,
+                };
+            }
+            let after = make_on(&mut *values, &mut *words, standing, tag);
+            Turn::On(after)
+        }
+        Move::Stop { before, reason } => Turn::Stop {
+            reason: reason,
+            at: at + before,
+        },
+    }
 }

@@ -1,39 +1,47 @@
+-- `found` meets its contract. Assumes nothing.
+use Rattle.parser.proofs.TurnLaws.{fit, sound, small-entries}
+use native.Mathlib.Omega.{arith}
+use mathlib.Core.Path.{sym, subst}
+use Rattle.parser.specs.Moves.{Sound, Calls}
 use borrow.Author.Needs.{needs}
 use Rattle.parser.proofs.turns.found.Statement.{statement}
 use Rattle.parser.proofs.turns.found.Tie as tie
-use Rattle.parser.proofs.turns.found.Reads as reads
-use Rattle.parser.proofs.turns.found.Lts as lts
-use Rattle.parser.proofs.moves.step.Reads as step-reads
-use Rattle.parser.proofs.stacks.look.Reads as look-reads
-use Rattle.parser.proofs.turns.half.Reads as half-reads
 
--- src/turns.rt:93:15
 sub-top : tie.Need-sub-top
 sub-top c = search needs
 
--- src/turns.rt:94:21
 mul-half : tie.Need-mul-half
 mul-half c = search needs
 
--- src/turns.rt:94:21
 element-copy-out-half : tie.Need-element-copy-out-half
 element-copy-out-half c = search needs
 
--- src/turns.rt:94:9
 half-requires : tie.Need-half-requires
 half-requires c κs = search needs
 
--- src/turns.rt:95:9
 look-requires : tie.Need-look-requires
-look-requires c κs = search needs
+look-requires c κs = 
+    let s = c .before .before .before .before .before in
+    let p = s .pre .0 in
+    let v = p .values-few in
+    let i = p .inside in
+    let k = p .tokens-few in
+    (omega arith, omega arith, small-entries _ (s .args .counts .now) _ _ _ _ p (s .pre .1))
 
--- src/turns.rt:96:5
 step-requires : tie.Need-step-requires
-step-requires c κs = search needs
+step-requires c κs = 
+    let s = c .before .before .before .before .before .before in
+    (subst Sound (sym (c .before .half .ensures .0)) (sound _ (s .args .counts .now) _ _ _ _ (s .pre .0) (s .pre .1)), c .look .ensures .small)
 
--- src/turns.rt:82:1
 returns : tie.Need-returns
-returns c = search needs
+returns c = 
+    let g = c .before .before .before .before .before .shared-slice-known2 .given in
+    record {
+      sight = c .before .look .result;
+      looks = c .before .look .ensures;
+      calls = rw (c .before .before .half .ensures .0) at (c .step .ensures);
+      counts-small = λ i. omega (arith, g i);
+    }
 
 pub found-spec : {M : Type 1} → statement M
 found-spec =
