@@ -6,7 +6,7 @@ use native.Mathlib.Decide.{decLt}
 use native.Mathlib.Omega.{arith}
 use mathlib.Core.Path.{_≡_, refl, sym, ap, _∙_}
 use mathlib.Core.Bool.{Bool, true, false, cond}
-use mathlib.Core.List.{List, [], _∷_}
+use mathlib.Core.List.{List, [], _∷_, _++_}
 use lib.Dec.{ltb}
 use lib.ListN.{length, getD, set, drop, length-set}
 use lib.Seq.{getD-set-same, getD-set-other, getD-drop}
@@ -15,10 +15,11 @@ use Rattle.packed.specs.Operands.{tagOf}
 use Rattle.packed.specs.Steps.{tagIn, treeIn, listIn}
 use Rattle.packed.specs.Steps as array
 use Rattle.parsing.specs.Goals.{Goal, Value, number, ofExpression, ofCondition, ofArguments, numberIn, valueAt}
+use Rattle.parsing.specs.Plan.{procedureGoals}
 use Rattle.parser.specs.Encoded.{goalOf, goalsOf, stacked, valueOf, termValue, valuesOf, valueSort}
 use Rattle.parser.specs.Moves.{pushed}
 use Rattle.parser.specs.Stacks.{Stacked, Entries, Put, Looks, lastOf, operandAt}
-use Rattle.parser.proofs.Numbers.{stacked-some, pushed-some}
+use Rattle.parser.proofs.Numbers.{expect-goal, stacked-some, pushed-some}
 
 -- ---- goals
 
@@ -224,3 +225,18 @@ module _ (tokens words values : List ℕ) (at n v first second third sort : ℕ)
         second-inside = q .1;
         third-inside = r .1;
       }
+
+-- ---- the goals of a procedure
+
+pub stacks-as : (f g : List Goal → List Goal) (goals : List ℕ) (n : ℕ) (goals′ : List ℕ) (n′ : ℕ) → ((gs : List Goal) → f gs ≡ g gs) → Stacked f goals n goals′ n′ → Stacked g goals n goals′ n′
+stacks-as f g goals n goals′ n′ e p = record { goals-are = p .goals-are ∙ e (goalsOf goals n); long = p .long; above = p .above }
+
+pub main-goals : (number : ℕ) → number ≡ 0 → (gs : List Goal) → stacked 161 gs ≡ procedureGoals number ++ gs
+unfolding stacked goalOf procedureGoals
+main-goals number e gs = rw e
+
+pub heading-goals : (number : ℕ) → (number ≡ 0 → ⊥) → number < 32 → (gs : List Goal)
+    → stacked 42 (stacked number (stacked 62 (stacked 194 (stacked 63 (stacked 66 (stacked 161 gs)))))) ≡ procedureGoals number ++ gs
+unfolding stacked goalOf procedureGoals
+heading-goals zero d h gs = absurd (d refl)
+heading-goals (suc p) d h gs = rw (expect-goal (suc p) (omega arith))
