@@ -105,13 +105,13 @@ module _ (gs : List Goal) where
         (cond (eqb t 62) (go (operand loose (inside s) ∷ expect 63 ∷ more d s ∷ []) vs n (drop 1 ts)) (stop (wanted (operand d s)) ts)))
         (λ e. let h = ltb-true t 40 (and-second (leb 32 t) (ltb t 40) e) in (omega arith, (omega arith, tt), behind))
         (λ e.
-          choose (FitsAfter gs) (leb 49 t && leb t 61) (wordForm t d s vs n ts)
-          (cond (eqb t 62) (go (operand loose (inside s) ∷ expect 63 ∷ more d s ∷ []) vs n (drop 1 ts)) (stop (wanted (operand d s)) ts))
-          (λ e. let h = leb-true t 61 (and-second (leb 49 t) (leb t 61) e) in word-fits t n ts (leb-true 49 t (and-first (leb 49 t) (leb t 61) e)) (omega arith))
-          (λ e.
-            choose (FitsAfter gs) (eqb t 62) (go (operand loose (inside s) ∷ expect 63 ∷ more d s ∷ []) vs n (drop 1 ts)) (stop (wanted (operand d s)) ts)
-            (λ e. (λ v h. (omega arith, behind v h)))
-            (λ e. tt)))
+        choose (FitsAfter gs) (leb 49 t && leb t 61) (wordForm t d s vs n ts)
+        (cond (eqb t 62) (go (operand loose (inside s) ∷ expect 63 ∷ more d s ∷ []) vs n (drop 1 ts)) (stop (wanted (operand d s)) ts))
+        (λ e. let h = leb-true t 61 (and-second (leb 49 t) (leb t 61) e) in word-fits t n ts (leb-true 49 t (and-first (leb 49 t) (leb t 61) e)) (omega arith))
+        (λ e.
+        choose (FitsAfter gs) (eqb t 62) (go (operand loose (inside s) ∷ expect 63 ∷ more d s ∷ []) vs n (drop 1 ts)) (stop (wanted (operand d s)) ts)
+        (λ e. (λ v h. (omega arith, behind v h)))
+        (λ e. tt)))
 
   -- ---- what follows an operand
 
@@ -124,11 +124,11 @@ module _ (gs : List Goal) where
         (cond (eqb d loose && eqb (ahead ts 2) 67) (go (operand loose expression ∷ make 4 ∷ more d s ∷ []) (number x ∷ v ∷ vs) n (drop 3 ts)) (go (make 3 ∷ more d s ∷ []) (number x ∷ v ∷ vs) n (drop 2 ts)))
         (λ e. tt)
         (λ e.
-          let h = ltb-true x 32 (and-second (ltb 0 x) (ltb x 32) (not-false (isField x) e)) in
-          choose (FitsAfter gs) (eqb d loose && eqb (ahead ts 2) 67) (go (operand loose expression ∷ make 4 ∷ more d s ∷ []) (number x ∷ v ∷ vs) n (drop 3 ts))
-          (go (make 3 ∷ more d s ∷ []) (number x ∷ v ∷ vs) n (drop 2 ts))
-          (λ e. (λ w u. (omega arith, (u, (h, (t, tt))), behind d s vs f)))
-          (λ e. (omega arith, (h, (t, tt)), behind d s vs f)))
+        let h = ltb-true x 32 (and-second (ltb 0 x) (ltb x 32) (not-false (isField x) e)) in
+        choose (FitsAfter gs) (eqb d loose && eqb (ahead ts 2) 67) (go (operand loose expression ∷ make 4 ∷ more d s ∷ []) (number x ∷ v ∷ vs) n (drop 3 ts))
+        (go (make 3 ∷ more d s ∷ []) (number x ∷ v ∷ vs) n (drop 2 ts))
+        (λ e. (λ w u. (omega arith, (u, (h, (t, tt))), behind d s vs f)))
+        (λ e. (omega arith, (h, (t, tt)), behind d s vs f)))
 
     more-fits : (n : ℕ) (ts : List ℕ) → FitsAfter gs (moreStep d s (v ∷ vs) n ts)
     unfolding moreStep operandKinds operandCounts
@@ -140,12 +140,12 @@ module _ (gs : List Goal) where
         (cond (isExpression v && eqb x 66 && leb d testing && takesCondition s) (go (operand prefix expression ∷ make 15 ∷ more d s ∷ []) (v ∷ vs) n (drop 1 ts)) conditions)
         (λ e. dot-fits n ts)
         (λ e.
-          choose (FitsAfter gs) (isExpression v && eqb x 66 && leb d testing && takesCondition s) (go (operand prefix expression ∷ make 15 ∷ more d s ∷ []) (v ∷ vs) n (drop 1 ts)) conditions
-          (λ e. (λ w u. (omega arith, (u, (t, tt)), behind d s vs f)))
-          (λ e.
-            choose (FitsAfter gs) (isCondition v && eqb x 48 && eqb d loose) (go (operand loose condition ∷ make 14 ∷ more d s ∷ []) (v ∷ vs) n (drop 1 ts)) last
-            (λ e. (λ w u. (omega arith, (u, (t, tt)), behind d s vs f)))
-            (λ e. choose (FitsAfter gs) (fits s v) (go [] (v ∷ vs) n ts) (stop (wanted (more d s)) ts) (λ e. f v t) (λ e. tt))))
+        choose (FitsAfter gs) (isExpression v && eqb x 66 && leb d testing && takesCondition s) (go (operand prefix expression ∷ make 15 ∷ more d s ∷ []) (v ∷ vs) n (drop 1 ts)) conditions
+        (λ e. (λ w u. (omega arith, (u, (t, tt)), behind d s vs f)))
+        (λ e.
+        choose (FitsAfter gs) (isCondition v && eqb x 48 && eqb d loose) (go (operand loose condition ∷ make 14 ∷ more d s ∷ []) (v ∷ vs) n (drop 1 ts)) last
+        (λ e. (λ w u. (omega arith, (u, (t, tt)), behind d s vs f)))
+        (λ e. choose (FitsAfter gs) (fits s v) (go [] (v ∷ vs) n ts) (stop (wanted (more d s)) ts) (λ e. f v t) (λ e. tt))))
 
   -- ---- fields
 
@@ -169,12 +169,12 @@ module _ (gs : List Goal) where
       (cond (ltb 0 k && ltb x t && ltb t 32) (go (fields (k - 1) t ∷ []) (number (m + 2 ^ (31 - t)) ∷ vs) n (drop 1 ts)) stops)
       (λ e. f m (let p = pow-pos (31 - x) in let q = pow-le-pow-right {n = 2} (omega arith) {i = 31 - x} {j = 32} (omega arith) in omega arith))
       (λ e.
-        choose (FitsAfter gs) (ltb 0 k && ltb x t && ltb t 32) (go (fields (k - 1) t ∷ []) (number (m + 2 ^ (31 - t)) ∷ vs) n (drop 1 ts)) stops
-        (λ e.
-          let l = ltb-true x t (and-second (ltb 0 k) (ltb x t) (and-first (ltb 0 k && ltb x t) (ltb t 32) e)) in
-          let g = ltb-true t 32 (and-second (ltb 0 k && ltb x t) (ltb t 32) e) in
-          ((room m (2 ^ (31 - x)) (2 ^ (31 - t)) 0 h (twice x t l g) (pow-le-pow-right {n = 2} (omega arith) {i = 31 - x} {j = 32} (omega arith)), g), f))
-        (λ e. tt))
+      choose (FitsAfter gs) (ltb 0 k && ltb x t && ltb t 32) (go (fields (k - 1) t ∷ []) (number (m + 2 ^ (31 - t)) ∷ vs) n (drop 1 ts)) stops
+      (λ e.
+      let l = ltb-true x t (and-second (ltb 0 k) (ltb x t) (and-first (ltb 0 k && ltb x t) (ltb t 32) e)) in
+      let g = ltb-true t 32 (and-second (ltb 0 k && ltb x t) (ltb t 32) e) in
+      ((room m (2 ^ (31 - x)) (2 ^ (31 - t)) 0 h (twice x t l g) (pow-le-pow-right {n = 2} (omega arith) {i = 31 - x} {j = 32} (omega arith)), g), f))
+      (λ e. tt))
 
   -- ---- arguments
 

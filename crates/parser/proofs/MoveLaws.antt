@@ -91,8 +91,14 @@ module _ (counts : List ℕ) (s : Sight) where
   unfolding done onto step stacked unpacked goalOf argumentGoals
   procedure-arguments p h l e gs vs n ts f k =
       let q : 640 + p - 640 ≡ p = omega arith in
-      rw (stacked-some (640 + p) (further p) (make 16 ∷ gs) (omega arith) (further-goal (640 + p) (omega arith) ∙ rw q),
-        k .first-is, lt-ltb (s .first) 32 (omega arith), lt-ltb (s .first) (length counts) l, e, pushed-some (1024 + s .first) (s .first) vs refl)
+      rw (
+        stacked-some (640 + p) (further p) (make 16 ∷ gs) (omega arith) (further-goal (640 + p) (omega arith) ∙ rw q),
+        k .first-is,
+        lt-ltb (s .first) 32 (omega arith),
+        lt-ltb (s .first) (length counts) l,
+        e,
+        pushed-some (1024 + s .first) (s .first) vs refl,
+      )
 
   module _ (c : ℕ) where
     abbrev rest : Goal
@@ -144,8 +150,15 @@ module _ (counts : List ℕ) (s : Sight) where
     pub fields-high : 288 ≤ c → c < 640 → (s .first ≡ 63 → ⊥) → (c - 256) % 32 < s .first → 31 < s .first → Does (step counts mask) mask s (Stop 0 c)
     unfolding done onto step fieldsStep
     fields-high l b d h w gs vs n ts f k =
-        rw (reason-goal c (omega arith), fields-goal c (omega arith) b, k .first-is, ne-eqb (s .first) 63 d, lt-ltb 0 ((c - 256) / 32) (omega arith), lt-ltb ((c - 256) % 32) (s .first) h,
-          le-ltb (s .first) 32 (omega arith))
+        rw (
+          reason-goal c (omega arith),
+          fields-goal c (omega arith) b,
+          k .first-is,
+          ne-eqb (s .first) 63 d,
+          lt-ltb 0 ((c - 256) / 32) (omega arith),
+          lt-ltb ((c - 256) % 32) (s .first) h,
+          le-ltb (s .first) 32 (omega arith),
+        )
 
     pub fields-field : (v : ℕ) → v ≡ 1024 + (s .number + 2 ^ (31 - s .first)) % 4294967296 → 288 ≤ c → c < 640 → (s .first ≡ 63 → ⊥) → (c - 256) % 32 < s .first → s .first < 32
         → Does (step counts mask) mask s (Go 1 (c - 32 - (c - 256) % 32 + s .first) 0 0 1 v)
@@ -155,9 +168,16 @@ module _ (counts : List ℕ) (s : Sight) where
         let p : (j - 256) / 32 ≡ (c - 256) / 32 - 1 = omega arith in
         let r : (j - 256) % 32 ≡ s .first = omega arith in
         let m = mask-room ((c - 256) % 32) (s .number) (s .first) vs (f .0) (k .number-is) h w in
-        rw (stacked-some j (fields ((c - 256) / 32 - 1) (s .first)) gs (omega arith) (fields-goal j (omega arith) (omega arith) ∙ rw (p, r)),
+        rw (
+          stacked-some j (fields ((c - 256) / 32 - 1) (s .first)) gs (omega arith) (fields-goal j (omega arith) (omega arith) ∙ rw (p, r)),
           pushed-some v (s .number + 2 ^ (31 - s .first)) (drop 1 vs) (room v (s .number + 2 ^ (31 - s .first)) q m),
-          k .first-is, k .number-is, ne-eqb (s .first) 63 d, lt-ltb 0 ((c - 256) / 32) (omega arith), lt-ltb ((c - 256) % 32) (s .first) h, lt-ltb (s .first) 32 w)
+          k .first-is,
+          k .number-is,
+          ne-eqb (s .first) 63 d,
+          lt-ltb 0 ((c - 256) / 32) (omega arith),
+          lt-ltb ((c - 256) % 32) (s .first) h,
+          lt-ltb (s .first) 32 w,
+        )
       where
         room : (v x : ℕ) → v ≡ 1024 + x % 4294967296 → x < 4294967296 → v ≡ 1024 + x
         room v x e h = omega arith
@@ -187,20 +207,51 @@ module _ (counts : List ℕ) (s : Sight) where
           pub dot-tight : 178 < c → Does (step counts follow) follow s (Go 2 c 0 131 0 (1024 + s .second))
           unfolding done onto step stacked unpacked goalOf moreStep dotStep isField
           dot-tight g gs vs n ts f k =
-              rw (stays gs, pushed-some (1024 + s .second) (s .second) vs refl, k .first-is, eq-eqb (s .first) 65 a, expression-is (valueAt vs 0) (k .sort-is ∙ i) .0, k .second-is,
-                lt-ltb 0 (s .second) (omega (arith, d)), lt-ltb (s .second) 32 (omega arith), ne-eqb ((c - 176) / 3) 0 (λ e. omega arith))
+              rw (
+                stays gs,
+                pushed-some (1024 + s .second) (s .second) vs refl,
+                k .first-is,
+                eq-eqb (s .first) 65 a,
+                expression-is (valueAt vs 0) (k .sort-is ∙ i) .0,
+                k .second-is,
+                lt-ltb 0 (s .second) (omega (arith, d)),
+                lt-ltb (s .second) 32 (omega arith),
+                ne-eqb ((c - 176) / 3) 0 (λ e. omega arith),
+              )
 
           pub dot-writes : c ≤ 178 → s .third ≡ 67 → Does (step counts follow) follow s (Go 3 c 0 164996 0 (1024 + s .second))
           unfolding done onto step stacked unpacked goalOf moreStep dotStep isField
           dot-writes g e gs vs n ts f k =
-              rw (stays gs, pushed-some (1024 + s .second) (s .second) vs refl, k .first-is, eq-eqb (s .first) 65 a, expression-is (valueAt vs 0) (k .sort-is ∙ i) .0, k .second-is,
-                lt-ltb 0 (s .second) (omega (arith, d)), lt-ltb (s .second) 32 (omega arith), eq-eqb ((c - 176) / 3) 0 (omega arith), k .third-is, eq-eqb (s .third) 67 e)
+              rw (
+                stays gs,
+                pushed-some (1024 + s .second) (s .second) vs refl,
+                k .first-is,
+                eq-eqb (s .first) 65 a,
+                expression-is (valueAt vs 0) (k .sort-is ∙ i) .0,
+                k .second-is,
+                lt-ltb 0 (s .second) (omega (arith, d)),
+                lt-ltb (s .second) 32 (omega arith),
+                eq-eqb ((c - 176) / 3) 0 (omega arith),
+                k .third-is,
+                eq-eqb (s .third) 67 e,
+              )
 
           pub dot-reads : c ≤ 178 → (s .third ≡ 67 → ⊥) → Does (step counts follow) follow s (Go 2 c 0 131 0 (1024 + s .second))
           unfolding done onto step stacked unpacked goalOf moreStep dotStep isField
           dot-reads g e gs vs n ts f k =
-              rw (stays gs, pushed-some (1024 + s .second) (s .second) vs refl, k .first-is, eq-eqb (s .first) 65 a, expression-is (valueAt vs 0) (k .sort-is ∙ i) .0, k .second-is,
-                lt-ltb 0 (s .second) (omega (arith, d)), lt-ltb (s .second) 32 (omega arith), eq-eqb ((c - 176) / 3) 0 (omega arith), k .third-is, ne-eqb (s .third) 67 e)
+              rw (
+                stays gs,
+                pushed-some (1024 + s .second) (s .second) vs refl,
+                k .first-is,
+                eq-eqb (s .first) 65 a,
+                expression-is (valueAt vs 0) (k .sort-is ∙ i) .0,
+                k .second-is,
+                lt-ltb 0 (s .second) (omega (arith, d)),
+                lt-ltb (s .second) 32 (omega arith),
+                eq-eqb ((c - 176) / 3) 0 (omega arith),
+                k .third-is,
+                ne-eqb (s .third) 67 e,
+              )
 
       -- `=`
       module _ (i : s .sort ≡ 1) (a : s .first ≡ 65 → ⊥) where
@@ -291,14 +342,30 @@ module _ (counts : List ℕ) (s : Sight) where
       pub operand-group : s .first ≡ 62 → (c - 160) % 3 ≡ 1 → Does (step counts here) here s (Go 1 (c + 16) 0 164927 0 0)
       unfolding done onto step stacked unpacked pushed goalOf operandStep
       operand-group e q gs vs n ts f k =
-          rw (follows gs, k .first-is, le-leb 32 (s .first) (omega arith), le-ltb (s .first) 40 (omega arith), le-leb 49 (s .first) (omega arith), lt-leb (s .first) 61 (omega arith), eq-eqb (s .first) 62 e,
-            inside-expression ((c - 160) % 3) q)
+          rw (
+            follows gs,
+            k .first-is,
+            le-leb 32 (s .first) (omega arith),
+            le-ltb (s .first) 40 (omega arith),
+            le-leb 49 (s .first) (omega arith),
+            lt-leb (s .first) 61 (omega arith),
+            eq-eqb (s .first) 62 e,
+            inside-expression ((c - 160) % 3) q,
+          )
 
       pub operand-either : s .first ≡ 62 → ((c - 160) % 3 ≡ 1 → ⊥) → Does (step counts here) here s (Go 1 (c + 16) 0 163903 0 0)
       unfolding done onto step stacked unpacked pushed goalOf operandStep
       operand-either e q gs vs n ts f k =
-          rw (follows gs, k .first-is, le-leb 32 (s .first) (omega arith), le-ltb (s .first) 40 (omega arith), le-leb 49 (s .first) (omega arith), lt-leb (s .first) 61 (omega arith), eq-eqb (s .first) 62 e,
-            inside-either ((c - 160) % 3) q)
+          rw (
+            follows gs,
+            k .first-is,
+            le-leb 32 (s .first) (omega arith),
+            le-ltb (s .first) 40 (omega arith),
+            le-leb 49 (s .first) (omega arith),
+            lt-leb (s .first) 61 (omega arith),
+            eq-eqb (s .first) 62 e,
+            inside-either ((c - 160) % 3) q,
+          )
 
       -- ---- a word
 
@@ -307,30 +374,63 @@ module _ (counts : List ℕ) (s : Sight) where
         unfolding onto step operandStep wordForm pushed
         word-new e p gs vs n ts f k =
             let z : s .first - 49 ≡ 3 = omega arith in
-            rw (k .first-is, le-leb 32 (s .first) (omega arith), le-ltb (s .first) 40 (omega arith), le-leb 49 (s .first) h, le-leb (s .first) 61 (omega arith), ne-eqb (s .first) 61 (λ q. omega arith),
-              eq-eqb (s .first) 52 e, z)
+            rw (
+              k .first-is,
+              le-leb 32 (s .first) (omega arith),
+              le-ltb (s .first) 40 (omega arith),
+              le-leb 49 (s .first) h,
+              le-leb (s .first) 61 (omega arith),
+              ne-eqb (s .first) 61 (λ q. omega arith),
+              eq-eqb (s .first) 52 e,
+              z,
+            )
             (p .does gs vs n ts)
 
         pub word-other : (s .first ≡ 52 → ⊥) → (s .first ≡ 61 → ⊥) → Formed c s (s .first - 49) 1 0 m → Does (step counts here) here s m
         unfolding onto step operandStep wordForm pushed
         word-other d e p gs vs n ts f k =
-            rw (k .first-is, le-leb 32 (s .first) (omega arith), le-ltb (s .first) 40 (omega arith), le-leb 49 (s .first) h, le-leb (s .first) 61 (omega arith), ne-eqb (s .first) 61 e,
-              ne-eqb (s .first) 52 d)
+            rw (
+              k .first-is,
+              le-leb 32 (s .first) (omega arith),
+              le-ltb (s .first) 40 (omega arith),
+              le-leb 49 (s .first) h,
+              le-leb (s .first) 61 (omega arith),
+              ne-eqb (s .first) 61 e,
+              ne-eqb (s .first) 52 d,
+            )
             (p .does gs vs n ts)
 
         pub word-all : s .first ≡ 61 → s .second ≡ 47 → Formed c s 13 2 0 m → Does (step counts here) here s m
         unfolding onto step operandStep wordForm pushed forms
         word-all d e p gs vs n ts f k =
-            rw (k .first-is, le-leb 32 (s .first) (omega arith), le-ltb (s .first) 40 (omega arith), le-leb 49 (s .first) h, le-leb (s .first) 61 (omega arith), eq-eqb (s .first) 61 d,
-              k .second-is, eq-eqb (s .second) 47 e)
+            rw (
+              k .first-is,
+              le-leb 32 (s .first) (omega arith),
+              le-ltb (s .first) 40 (omega arith),
+              le-leb 49 (s .first) h,
+              le-leb (s .first) 61 (omega arith),
+              eq-eqb (s .first) 61 d,
+              k .second-is,
+              eq-eqb (s .second) 47 e,
+            )
             (p .does gs vs n ts)
 
         pub word-notify : s .first ≡ 61 → (s .second ≡ 47 → ⊥) → Formed c s 12 1 0 m → Does (step counts here) here s m
         unfolding onto step operandStep wordForm pushed
         word-notify d e p gs vs n ts f k =
             let z : s .first - 49 ≡ 12 = omega arith in
-            rw (k .first-is, le-leb 32 (s .first) (omega arith), le-ltb (s .first) 40 (omega arith), le-leb 49 (s .first) h, le-leb (s .first) 61 (omega arith), eq-eqb (s .first) 61 d,
-              k .second-is, ne-eqb (s .second) 47 e, ne-eqb (s .first) 52 (λ q. omega arith), z)
+            rw (
+              k .first-is,
+              le-leb 32 (s .first) (omega arith),
+              le-ltb (s .first) 40 (omega arith),
+              le-leb 49 (s .first) h,
+              le-leb (s .first) 61 (omega arith),
+              eq-eqb (s .first) 61 d,
+              k .second-is,
+              ne-eqb (s .second) 47 e,
+              ne-eqb (s .first) 52 (λ q. omega arith),
+              z,
+            )
             (p .does gs vs n ts)
 
 -- ---- a form

@@ -170,7 +170,7 @@ module _ (counts tokens goals₀ values₀ words₀ : List ℕ) (s₀ : Standing
       let f = rw e at (b .state .fits) in
       let z = ends words values (b .state .ordered) (s .values) (s .left) (b .state .entries) f in
       let p : R ≡ definition.parsed (valuesOf words values (s .values)) (s .left) (drop (s .at) tokens) =
-          b .resumes .same ∙ parse-end counts goals (valuesOf words values (s .values)) (s .left) (drop (s .at) tokens) (s .goals) (b .resumes .steps) e some-steps
+      b .resumes .same ∙ parse-end counts goals (valuesOf words values (s .values)) (s .left) (drop (s .at) tokens) (s .goals) (b .resumes .steps) e some-steps
       in
       record {
         reads =

@@ -77,8 +77,13 @@ unfolding valueOf
 puts-one values n popped value m l b h g s q =
     record {
       values-are =
-          λ words. rw (values-set words values m value (omega arith), le-ltb value 1024 g,
-            pushed-some value (value - 1024) (drop popped (valuesOf words values n)) (omega arith), values-rest words values n popped h, q);
+          λ words. rw (
+            values-set words values m value (omega arith),
+            le-ltb value 1024 g,
+            pushed-some value (value - 1024) (drop popped (valuesOf words values n)) (omega arith),
+            values-rest words values n popped h,
+            q,
+          );
       long = length-set values m value ∙ l;
       entries = λ left c d i k. each left c d i k (decLt i m);
       few = omega arith;

@@ -125,7 +125,7 @@ module _ (E : ℕ → Expression) (C : ℕ → Condition) (L : ℕ → Arguments
       pub fitting : Fitting (layout k) x y z
       pub below : Below m (nodeOfTag k x y z)
       pub value :
-        valueFor k (expressionOf E C L (nodeOfTag k x y z)) (conditionOf E C (nodeOfTag k x y z)) (argumentsOf E L (nodeOfTag k x y z)) ≡ getD terms k (λ x y z. number 0) u v w
+          valueFor k (expressionOf E C L (nodeOfTag k x y z)) (conditionOf E C (nodeOfTag k x y z)) (argumentsOf E L (nodeOfTag k x y z)) ≡ getD terms k (λ x y z. number 0) u v w
 
     abbrev Row : ℕ → Type 0
     Row k = RowIs (getD operandKinds k []) u v w x y z → Fine k
@@ -382,7 +382,7 @@ module _ (words : List ℕ) (o : Ordered words) (long : length words ≡ 1024) (
   values-made b =
       let c = operands-there words values k n h p in
       let below : valuesOf words′ values there ≡ drop count (valuesOf words values n) =
-          values-other words m (wordOf k x y z) o values there left (omega arith) (λ i d. e i (omega arith)) ∙ sym (values-drop words values n count c)
+      values-other words m (wordOf k x y z) o values there left (omega arith) (λ i d. e i (omega arith)) ∙ sym (values-drop words values n count c)
       in
       values-set words′ values there m b
       ∙ ap (λ (u : Value). u ∷ valuesOf words′ values there) value-made

@@ -129,7 +129,7 @@ module _ (tokens counts goals values words : List ℕ) (s : Standing) (st : Stat
           let m = f .calls .slight in
           let k = f .looks in
           let there = taken-there (length tokens) (s .at) taken (f .sight .first) (f .sight .second) (f .sight .third) (st .inside) (m .taken-few)
-              (m .to-first) (m .to-second) (m .to-third) (k .first-inside) (k .second-inside) (k .third-inside)
+          (m .to-first) (m .to-second) (m .to-third) (k .first-inside) (k .second-inside) (k .third-inside)
           in
           bounds (length tokens) (s .at) (s .goals) taken kept next digits (s′ .at) (s′ .goals) there (gg .some-goal) (gg .few-goals)
           (m .kept-taken) (m .next-taken) (m .goals-taken) (w .at-is) (w .few) (w .fewer)

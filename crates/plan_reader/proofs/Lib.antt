@@ -2,3 +2,4 @@ pub mod Counts
 pub mod VolatileFields
 pub mod Headings
 pub mod HeldLaws
+pub mod Procedures

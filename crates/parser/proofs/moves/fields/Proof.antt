@@ -52,7 +52,7 @@ add-t13 : tie.Need-add-t13
 add-t13 c = search needs
 
 returns-5 : tie.Need-returns-5
-returns-5 c = 
+returns-5 c =
     λ counts. rw (shift-is (c .before .before .before .before .before .args .sight .first))
     (record { does = fields-field counts _ _ _ refl (search needs) (search needs) (c .before .before .before .before .if1 .left) (c .before .before .if3 .left) (search needs); slight = search needs })
 

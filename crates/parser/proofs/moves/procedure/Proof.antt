@@ -41,7 +41,7 @@ add-t10 : tie.Need-add-t10
 add-t10 c = search needs
 
 returns-4 : tie.Need-returns-4
-returns-4 c = 
+returns-4 c =
     let r = c .before .wide .result in
     let q : 639 + r ≡ 640 + (r - 1) = omega (arith, c .if3 .left) in
     let e : r ≡ suc (r - 1) = omega (arith, c .if3 .left) in

@@ -27,7 +27,7 @@ enum-known-before : tie.Need-enum-known-before
 enum-known-before c = search needs
 
 add-t29 : tie.Need-add-t29
-add-t29 c = 
+add-t29 c =
     let f = rw (c .before .before2 .given .1) at (c .before .before .before .found .ensures) in
     let m = f .calls .slight in
     let i = c .before .before .before .before .before .before .before .before .before .pre .0 .inside in
