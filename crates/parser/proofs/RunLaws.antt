@@ -4,16 +4,17 @@ use native.Mathlib.Decide.{decLt}
 use native.Mathlib.Omega.{arith}
 use mathlib.Core.Path.{_≡_, refl, sym, ap, subst, _∙_}
 use mathlib.Core.Bool.{cond, _||_}
-use mathlib.Core.List.{List, [], _∷_, _++_}
+use mathlib.Core.List.{List, [], _∷_, _++_, append-nil}
 use lib.ListN.{length, getD, drop, length-drop}
 use borrow.Author.Tests.{lt-ltb, le-ltb}
 use Rattle.packed.specs.Steps.{Ordered, treeIn}
 use Rattle.parsing.specs.Goals.{Goal, Value, number, numberIn, expressionIn, valueAt}
 use Rattle.parsing.specs.Parser as definition
 use Rattle.parsing.specs.Parser.{Reason, Step, go, stop, step, afterStep, parseBy, parse}
+use Rattle.parsing.specs.Plan.{procedureGoals}
 use Rattle.parser.specs.Encoded.{goalOf, reasonOf, goalsOf, valueOf, valuesOf}
-use Rattle.parser.specs.Moves.{IsTerm, IsBelow, Operands, onto}
-use Rattle.parser.specs.Stacks.{Entries}
+use Rattle.parser.specs.Moves.{IsTerm, IsBelow, Operands, Fits, onto}
+use Rattle.parser.specs.Stacks.{Stacked, Entries}
 use Rattle.parser.specs.Reading.{State, Going, shown, Kept, Turned, Resumes, Finished, Reads, Ran, readFrom}
 use Rattle.parser.specs.declared.turns.Standing.{Standing}
 use Rattle.parser.specs.declared.turns.Turn.{Turn}
@@ -237,3 +238,44 @@ module _ (counts tokens goals₀ values₀ words₀ : List ℕ) (s₀ : Standing
       run-stops goals′ values′ words′ reason at t =
           let p : R ≡ definition.stopped (reasonOf reason) (drop at tokens) = turn-same goals′ values′ words′ (Stop reason at) t in
           record { reads = rw p (refl, refl); kept = still words′ (t .kept) }
+
+-- ---- the start
+
+-- a procedure's goals find what they take
+procedure-fits : (p : ℕ) → p < 32 → Fits (procedureGoals p) (number 0 ∷ [])
+unfolding procedureGoals
+procedure-fits zero h = λ v t. (t, (omega arith, tt))
+procedure-fits (suc p) h = (omega arith, (omega arith, (omega arith, λ n k. (omega arith, (omega arith, λ v t. (t, (k, tt)))))))
+
+module _ (tokens goals goals′ values words : List ℕ) (at p top left : ℕ) (few : length tokens ≤ 16384) (inside : at ≤ length tokens) (below : p < 32) (room : left ≤ 1024)
+    (long : length words ≡ 1024) (o : Ordered words) (size : length values ≡ 3108) (first : getD values 0 0 ≡ 1024) (g : Stacked (λ gs. procedureGoals p ++ gs) goals 0 goals′ top) (t : top ≤ 7) where
+  abbrev start : Standing
+  start = record { at = at; goals = top; values = 1; left = left }
+
+  first-goals : goalsOf goals′ top ≡ procedureGoals p
+  unfolding goalsOf
+  first-goals = g .goals-are ∙ append-nil (procedureGoals p)
+
+  first-values : valuesOf words values 1 ≡ number 0 ∷ []
+  unfolding valuesOf valueOf
+  first-values = rw first
+
+  pub starts : State tokens goals′ values words start
+  starts =
+      record {
+        goals-long = g .long;
+        values-long = size;
+        words-long = long;
+        tokens-few = few;
+        ordered = o;
+        inside = inside;
+        goals-few = omega arith;
+        values-few = omega arith;
+        left-few = room;
+        entries = λ i h. let e : i ≡ 0 = omega arith in rw (e, first) (room, omega arith);
+        fits = rw (first-goals, first-values) (procedure-fits p below);
+      }
+
+  pub started : (counts words′ : List ℕ) (r : Parsed) → Ran tokens words words′ left (readFrom counts tokens goals′ values words start) r
+      → Ran tokens words words′ left (parse counts (procedureGoals p) (number 0 ∷ []) left (drop at tokens)) r
+  started counts words′ r q = rw (first-goals, first-values) at q

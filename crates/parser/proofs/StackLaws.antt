@@ -14,7 +14,7 @@ use borrow.Author.Tests.{eq-eqb, ne-eqb, lt-ltb, le-ltb}
 use Rattle.packed.specs.Operands.{tagOf}
 use Rattle.packed.specs.Steps.{tagIn, treeIn, listIn}
 use Rattle.packed.specs.Steps as array
-use Rattle.parsing.specs.Goals.{Goal, Value, number, ofExpression, ofCondition, ofArguments, numberIn, valueAt}
+use Rattle.parsing.specs.Goals.{Goal, expect, Value, number, ofExpression, ofCondition, ofArguments, numberIn, valueAt}
 use Rattle.parsing.specs.Plan.{procedureGoals}
 use Rattle.parser.specs.Encoded.{goalOf, goalsOf, stacked, valueOf, termValue, valuesOf, valueSort}
 use Rattle.parser.specs.Moves.{pushed}
@@ -231,12 +231,12 @@ module _ (tokens words values : List ℕ) (at n v first second third sort : ℕ)
 pub stacks-as : (f g : List Goal → List Goal) (goals : List ℕ) (n : ℕ) (goals′ : List ℕ) (n′ : ℕ) → ((gs : List Goal) → f gs ≡ g gs) → Stacked f goals n goals′ n′ → Stacked g goals n goals′ n′
 stacks-as f g goals n goals′ n′ e p = record { goals-are = p .goals-are ∙ e (goalsOf goals n); long = p .long; above = p .above }
 
-pub main-goals : (number : ℕ) → number ≡ 0 → (gs : List Goal) → stacked 161 gs ≡ procedureGoals number ++ gs
+pub main-goals : (n : ℕ) → n ≡ 0 → (gs : List Goal) → stacked 161 gs ≡ procedureGoals n ++ gs
 unfolding stacked goalOf procedureGoals
-main-goals number e gs = rw e
+main-goals n e gs = rw e
 
-pub heading-goals : (number : ℕ) → (number ≡ 0 → ⊥) → number < 32 → (gs : List Goal)
-    → stacked 42 (stacked number (stacked 62 (stacked 194 (stacked 63 (stacked 66 (stacked 161 gs)))))) ≡ procedureGoals number ++ gs
+pub heading-goals : (n : ℕ) → (n ≡ 0 → ⊥) → n < 32 → (gs : List Goal)
+    → stacked 42 (stacked n (stacked 62 (stacked 194 (stacked 63 (stacked 66 (stacked 161 gs)))))) ≡ procedureGoals n ++ gs
 unfolding stacked goalOf procedureGoals
 heading-goals zero d h gs = absurd (d refl)
-heading-goals (suc p) d h gs = rw (expect-goal (suc p) (omega arith))
+heading-goals (suc p) d h gs = ap (λ (gs : List Goal). stacked 42 gs) (stacked-some (suc p) (expect (suc p)) _ (omega arith) (expect-goal (suc p) (omega arith)))
