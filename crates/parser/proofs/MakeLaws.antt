@@ -12,8 +12,10 @@ use Rattle.parser.specs.Stacks.{operandAt}
 use Rattle.parser.specs.Making.{Makeable, Makes}
 use Rattle.parser.proofs.TermLaws.{operands-there, made-fits, ordered-made, values-made, entries-made, terms-stay}
 
-module _ (words values : List ℕ) (n left k : ℕ) (q : Makeable words values n left k) (count one two first second third : ℕ) (c : count ≡ getD operandCounts k 0)
-    (a : one ≡ count - 1) (b : two ≡ count - 2) (f : first ≡ operandAt values n count) (g : second ≡ operandAt values n one) (h : third ≡ operandAt values n two) where
+module _ (words values : List ℕ) (n left k : ℕ) (q : Makeable words values n left k) (count one two first second third : ℕ)
+    (c : count ≡ getD operandCounts k 0)
+    (a : one ≡ count - 1) (b : two ≡ count - 2) (f : first ≡ operandAt values n count) (g : second ≡ operandAt values n one)
+    (h : third ≡ operandAt values n two) where
   abbrev m : ℕ
   m = left - 1
 
@@ -35,7 +37,7 @@ module _ (words values : List ℕ) (n left k : ℕ) (q : Makeable words values n
   pub word-fits : (k < 21) × (first < 2 ^ width (layout k .first)) × (second < 2 ^ width (layout k .second)) × (third < 2 ^ width (layout k .third))
   word-fits =
       let t : Fitting (layout k) (operandAt values n count′) (operandAt values n (count′ - 1)) (operandAt values n (count′ - 2)) =
-          made-fits words (q .ordered) (q .words-long) m left next (q .few-left) values n k (q .tag-known) (q .operands) (q .entries)
+      made-fits words (q .ordered) (q .words-long) m left next (q .few-left) values n k (q .tag-known) (q .operands) (q .entries)
       in
       (q .tag-known, rw first-is (t .first-fits), rw second-is (t .second-fits), rw third-is (t .third-fits))
 

@@ -33,7 +33,8 @@ unfolding numberIn
 mask-room f m t (ofExpression x ∷ vs) h e a b = absurd (h .0)
 mask-room f m t (ofCondition x ∷ vs) h e a b = absurd (h .0)
 mask-room f m t (ofArguments x ∷ vs) h e a b = absurd (h .0)
-mask-room f m t (number k ∷ vs) h e a b = room k m (2 ^ (31 - t)) (2 ^ (31 - f)) (h .0) e (pow-lt (omega arith)) (pow-le-pow-right (omega arith) {j = 32} (omega arith))
+mask-room f m t (number k ∷ vs) h e a b = room k m (2 ^ (31 - t)) (2 ^ (31 - f)) (h .0) e (pow-lt (omega arith))
+    (pow-le-pow-right (omega arith) {j = 32} (omega arith))
   where
     room : (k m x y : ℕ) → k < suc (4294967296 - y) → k ≡ m → x < y → y ≤ 2 ^ 32 → m + x < 4294967296
     room k m x y p q r z = omega arith
@@ -81,7 +82,8 @@ module _ (counts : List ℕ) (s : Sight) where
   unfolding done onto step reasonOf goalOf
   procedure-none h l gs vs n ts f k = rw (k .first-is, lt-ltb (s .first) 32 (omega arith), le-ltb (s .first) (length counts) l)
 
-  pub procedure-alone : s .first ≤ 31 → s .first < length counts → getD counts (s .first) 0 ≡ 0 → Does (step counts procedure) procedure s (Go 1 145 0 63551 0 (1024 + s .first))
+  pub procedure-alone : s .first ≤ 31 → s .first < length counts → getD counts (s .first) 0 ≡ 0 → Does (step counts procedure) procedure s
+      (Go 1 145 0 63551 0 (1024 + s .first))
   unfolding done onto step stacked unpacked goalOf argumentGoals
   procedure-alone h l e gs vs n ts f k =
       rw (k .first-is, lt-ltb (s .first) 32 (omega arith), lt-ltb (s .first) (length counts) l, e, pushed-some (1024 + s .first) (s .first) vs refl)
@@ -91,8 +93,14 @@ module _ (counts : List ℕ) (s : Sight) where
   unfolding done onto step stacked unpacked goalOf argumentGoals
   procedure-arguments p h l e gs vs n ts f k =
       let q : 640 + p - 640 ≡ p = omega arith in
-      rw (stacked-some (640 + p) (further p) (make 16 ∷ gs) (omega arith) (further-goal (640 + p) (omega arith) ∙ rw q),
-        k .first-is, lt-ltb (s .first) 32 (omega arith), lt-ltb (s .first) (length counts) l, e, pushed-some (1024 + s .first) (s .first) vs refl)
+      rw (
+        stacked-some (640 + p) (further p) (make 16 ∷ gs) (omega arith) (further-goal (640 + p) (omega arith) ∙ rw q),
+        k .first-is,
+        lt-ltb (s .first) 32 (omega arith),
+        lt-ltb (s .first) (length counts) l,
+        e,
+        pushed-some (1024 + s .first) (s .first) vs refl,
+      )
 
   module _ (c : ℕ) where
     abbrev rest : Goal
@@ -113,7 +121,13 @@ module _ (counts : List ℕ) (s : Sight) where
     further-comma l d e gs vs n ts f k =
         let z : c - 640 ≡ suc (c - 641) = omega (arith, d) in
         let q : c - 1 - 640 ≡ c - 641 = omega arith in
-        rw (stacked-some (c - 1) (further (c - 641)) (make 16 ∷ gs) (omega arith) (further-goal (c - 1) (omega (arith, d)) ∙ rw q), z, k .first-is, eq-eqb (s .first) 64 e)
+        rw (
+          stacked-some (c - 1) (further (c - 641)) (make 16 ∷ gs) (omega arith) (further-goal (c - 1) (omega (arith, d)) ∙ rw q),
+          z,
+          k .first-is,
+          eq-eqb
+              (s .first) 64 e,
+        )
 
     pub further-stops : 640 ≤ c → c < 896 → (c ≡ 640 → ⊥) → (s .first ≡ 64 → ⊥) → Does (step counts rest) rest s (Stop 0 c)
     unfolding done onto step furtherStep
@@ -139,15 +153,31 @@ module _ (counts : List ℕ) (s : Sight) where
     pub fields-low : 288 ≤ c → c < 640 → (s .first ≡ 63 → ⊥) → s .first ≤ (c - 256) % 32 → Does (step counts mask) mask s (Stop 0 c)
     unfolding done onto step fieldsStep
     fields-low l b d h gs vs n ts f k =
-        rw (reason-goal c (omega arith), fields-goal c (omega arith) b, k .first-is, ne-eqb (s .first) 63 d, lt-ltb 0 ((c - 256) / 32) (omega arith), le-ltb ((c - 256) % 32) (s .first) h)
+        rw (
+          reason-goal c (omega arith),
+          fields-goal c (omega arith) b,
+          k .first-is,
+          ne-eqb (s .first) 63 d,
+          lt-ltb 0 ((c - 256) / 32) (omega arith),
+          le-ltb
+              ((c - 256) % 32) (s .first) h,
+        )
 
     pub fields-high : 288 ≤ c → c < 640 → (s .first ≡ 63 → ⊥) → (c - 256) % 32 < s .first → 31 < s .first → Does (step counts mask) mask s (Stop 0 c)
     unfolding done onto step fieldsStep
     fields-high l b d h w gs vs n ts f k =
-        rw (reason-goal c (omega arith), fields-goal c (omega arith) b, k .first-is, ne-eqb (s .first) 63 d, lt-ltb 0 ((c - 256) / 32) (omega arith), lt-ltb ((c - 256) % 32) (s .first) h,
-          le-ltb (s .first) 32 (omega arith))
+        rw (
+          reason-goal c (omega arith),
+          fields-goal c (omega arith) b,
+          k .first-is,
+          ne-eqb (s .first) 63 d,
+          lt-ltb 0 ((c - 256) / 32) (omega arith),
+          lt-ltb ((c - 256) % 32) (s .first) h,
+          le-ltb (s .first) 32 (omega arith),
+        )
 
-    pub fields-field : (v : ℕ) → v ≡ 1024 + (s .number + 2 ^ (31 - s .first)) % 4294967296 → 288 ≤ c → c < 640 → (s .first ≡ 63 → ⊥) → (c - 256) % 32 < s .first → s .first < 32
+    pub fields-field : (v : ℕ) → v ≡ 1024 + (s .number + 2 ^ (31 - s .first)) % 4294967296 → 288 ≤ c → c < 640 → (s .first ≡ 63 → ⊥) → (c - 256) % 32 < s
+        .first → s .first < 32
         → Does (step counts mask) mask s (Go 1 (c - 32 - (c - 256) % 32 + s .first) 0 0 1 v)
     unfolding done onto step stacked unpacked fieldsStep
     fields-field v q l b d h w gs vs n ts f k =
@@ -155,9 +185,16 @@ module _ (counts : List ℕ) (s : Sight) where
         let p : (j - 256) / 32 ≡ (c - 256) / 32 - 1 = omega arith in
         let r : (j - 256) % 32 ≡ s .first = omega arith in
         let m = mask-room ((c - 256) % 32) (s .number) (s .first) vs (f .0) (k .number-is) h w in
-        rw (stacked-some j (fields ((c - 256) / 32 - 1) (s .first)) gs (omega arith) (fields-goal j (omega arith) (omega arith) ∙ rw (p, r)),
+        rw (
+          stacked-some j (fields ((c - 256) / 32 - 1) (s .first)) gs (omega arith) (fields-goal j (omega arith) (omega arith) ∙ rw (p, r)),
           pushed-some v (s .number + 2 ^ (31 - s .first)) (drop 1 vs) (room v (s .number + 2 ^ (31 - s .first)) q m),
-          k .first-is, k .number-is, ne-eqb (s .first) 63 d, lt-ltb 0 ((c - 256) / 32) (omega arith), lt-ltb ((c - 256) % 32) (s .first) h, lt-ltb (s .first) 32 w)
+          k .first-is,
+          k .number-is,
+          ne-eqb (s .first) 63 d,
+          lt-ltb 0 ((c - 256) / 32) (omega arith),
+          lt-ltb ((c - 256) % 32) (s .first) h,
+          lt-ltb (s .first) 32 w,
+        )
       where
         room : (v x : ℕ) → v ≡ 1024 + x % 4294967296 → x < 4294967296 → v ≡ 1024 + x
         room v x e h = omega arith
@@ -181,26 +218,65 @@ module _ (counts : List ℕ) (s : Sight) where
         pub dot-high : (s .second ≡ 0 → ⊥) → 31 < s .second → Does (step counts follow) follow s (Stop 1 65)
         unfolding done onto step reasonOf goalOf moreStep dotStep isField
         dot-high d h gs vs n ts f k =
-            rw (k .first-is, eq-eqb (s .first) 65 a, expression-is (valueAt vs 0) (k .sort-is ∙ i) .0, k .second-is, lt-ltb 0 (s .second) (omega (arith, d)), le-ltb (s .second) 32 (omega arith))
+            rw (
+              k .first-is,
+              eq-eqb (s .first) 65 a,
+              expression-is (valueAt vs 0) (k .sort-is ∙ i) .0,
+              k .second-is,
+              lt-ltb 0 (s .second)
+                  (omega (arith, d)),
+              le-ltb (s .second) 32 (omega arith),
+            )
 
         module _ (d : s .second ≡ 0 → ⊥) (h : s .second ≤ 31) where
           pub dot-tight : 178 < c → Does (step counts follow) follow s (Go 2 c 0 131 0 (1024 + s .second))
           unfolding done onto step stacked unpacked goalOf moreStep dotStep isField
           dot-tight g gs vs n ts f k =
-              rw (stays gs, pushed-some (1024 + s .second) (s .second) vs refl, k .first-is, eq-eqb (s .first) 65 a, expression-is (valueAt vs 0) (k .sort-is ∙ i) .0, k .second-is,
-                lt-ltb 0 (s .second) (omega (arith, d)), lt-ltb (s .second) 32 (omega arith), ne-eqb ((c - 176) / 3) 0 (λ e. omega arith))
+              rw (
+                stays gs,
+                pushed-some (1024 + s .second) (s .second) vs refl,
+                k .first-is,
+                eq-eqb (s .first) 65 a,
+                expression-is (valueAt vs 0) (k .sort-is ∙ i) .0,
+                k .second-is,
+                lt-ltb 0 (s .second) (omega (arith, d)),
+                lt-ltb (s .second) 32 (omega arith),
+                ne-eqb ((c - 176) / 3) 0 (λ e. omega arith),
+              )
 
           pub dot-writes : c ≤ 178 → s .third ≡ 67 → Does (step counts follow) follow s (Go 3 c 0 164996 0 (1024 + s .second))
           unfolding done onto step stacked unpacked goalOf moreStep dotStep isField
           dot-writes g e gs vs n ts f k =
-              rw (stays gs, pushed-some (1024 + s .second) (s .second) vs refl, k .first-is, eq-eqb (s .first) 65 a, expression-is (valueAt vs 0) (k .sort-is ∙ i) .0, k .second-is,
-                lt-ltb 0 (s .second) (omega (arith, d)), lt-ltb (s .second) 32 (omega arith), eq-eqb ((c - 176) / 3) 0 (omega arith), k .third-is, eq-eqb (s .third) 67 e)
+              rw (
+                stays gs,
+                pushed-some (1024 + s .second) (s .second) vs refl,
+                k .first-is,
+                eq-eqb (s .first) 65 a,
+                expression-is (valueAt vs 0) (k .sort-is ∙ i) .0,
+                k .second-is,
+                lt-ltb 0 (s .second) (omega (arith, d)),
+                lt-ltb (s .second) 32 (omega arith),
+                eq-eqb ((c - 176) / 3) 0 (omega arith),
+                k .third-is,
+                eq-eqb (s .third) 67 e,
+              )
 
           pub dot-reads : c ≤ 178 → (s .third ≡ 67 → ⊥) → Does (step counts follow) follow s (Go 2 c 0 131 0 (1024 + s .second))
           unfolding done onto step stacked unpacked goalOf moreStep dotStep isField
           dot-reads g e gs vs n ts f k =
-              rw (stays gs, pushed-some (1024 + s .second) (s .second) vs refl, k .first-is, eq-eqb (s .first) 65 a, expression-is (valueAt vs 0) (k .sort-is ∙ i) .0, k .second-is,
-                lt-ltb 0 (s .second) (omega (arith, d)), lt-ltb (s .second) 32 (omega arith), eq-eqb ((c - 176) / 3) 0 (omega arith), k .third-is, ne-eqb (s .third) 67 e)
+              rw (
+                stays gs,
+                pushed-some (1024 + s .second) (s .second) vs refl,
+                k .first-is,
+                eq-eqb (s .first) 65 a,
+                expression-is (valueAt vs 0) (k .sort-is ∙ i) .0,
+                k .second-is,
+                lt-ltb 0 (s .second) (omega (arith, d)),
+                lt-ltb (s .second) 32 (omega arith),
+                eq-eqb ((c - 176) / 3) 0 (omega arith),
+                k .third-is,
+                ne-eqb (s .third) 67 e,
+              )
 
       -- `=`
       module _ (i : s .sort ≡ 1) (a : s .first ≡ 65 → ⊥) where
@@ -220,7 +296,16 @@ module _ (counts : List ℕ) (s : Sight) where
         unfolding onto step moreStep
         equal-sort m d h q e gs vs n ts f k =
             let x = expression-is (valueAt vs 0) (k .sort-is ∙ i) in
-            rw (k .first-is, ne-eqb (s .first) 65 a, eq-eqb (s .first) 66 d, le-leb ((c - 176) / 3) 1 (omega arith), takes-not ((c - 176) % 3) q, x .0, x .1) (e .does gs vs n ts k)
+            rw (
+              k .first-is,
+              ne-eqb (s .first) 65 a,
+              eq-eqb (s .first) 66 d,
+              le-leb ((c - 176) / 3) 1 (omega arith),
+              takes-not ((c - 176) % 3) q,
+              x .0,
+              x
+                  .1,
+            ) (e .does gs vs n ts k)
 
         pub equal-goes : s .first ≡ 66 → c ≤ 181 → ((c - 176) % 3 ≡ 1 → ⊥) → Does (step counts follow) follow s (Go 1 c 0 171151 0 0)
         unfolding done onto step stacked unpacked pushed goalOf moreStep
@@ -281,24 +366,57 @@ module _ (counts : List ℕ) (s : Sight) where
       pub operand-other : 40 ≤ s .first → s .first < 49 → Does (step counts here) here s (Stop 0 c)
       unfolding done onto step operandStep
       operand-other h g gs vs n ts f k =
-          rw (refused, k .first-is, le-leb 32 (s .first) (omega arith), le-ltb (s .first) 40 h, lt-leb 49 (s .first) g, ne-eqb (s .first) 62 (λ e. omega arith))
+          rw (
+            refused,
+            k .first-is,
+            le-leb 32 (s .first) (omega arith),
+            le-ltb (s .first) 40 h,
+            lt-leb 49 (s .first) g,
+            ne-eqb (s .first) 62
+                (λ e. omega arith),
+          )
 
       pub operand-high : 62 ≤ s .first → (s .first ≡ 62 → ⊥) → Does (step counts here) here s (Stop 0 c)
       unfolding done onto step operandStep
       operand-high h d gs vs n ts f k =
-          rw (refused, k .first-is, le-leb 32 (s .first) (omega arith), le-ltb (s .first) 40 (omega arith), le-leb 49 (s .first) (omega arith), lt-leb (s .first) 61 (omega arith), ne-eqb (s .first) 62 d)
+          rw (
+            refused,
+            k .first-is,
+            le-leb 32 (s .first) (omega arith),
+            le-ltb (s .first) 40 (omega arith),
+            le-leb 49 (s .first) (omega arith),
+            lt-leb
+                (s .first) 61 (omega arith),
+            ne-eqb (s .first) 62 d,
+          )
 
       pub operand-group : s .first ≡ 62 → (c - 160) % 3 ≡ 1 → Does (step counts here) here s (Go 1 (c + 16) 0 164927 0 0)
       unfolding done onto step stacked unpacked pushed goalOf operandStep
       operand-group e q gs vs n ts f k =
-          rw (follows gs, k .first-is, le-leb 32 (s .first) (omega arith), le-ltb (s .first) 40 (omega arith), le-leb 49 (s .first) (omega arith), lt-leb (s .first) 61 (omega arith), eq-eqb (s .first) 62 e,
-            inside-expression ((c - 160) % 3) q)
+          rw (
+            follows gs,
+            k .first-is,
+            le-leb 32 (s .first) (omega arith),
+            le-ltb (s .first) 40 (omega arith),
+            le-leb 49 (s .first) (omega arith),
+            lt-leb (s .first) 61 (omega arith),
+            eq-eqb (s .first) 62 e,
+            inside-expression ((c - 160) % 3) q,
+          )
 
       pub operand-either : s .first ≡ 62 → ((c - 160) % 3 ≡ 1 → ⊥) → Does (step counts here) here s (Go 1 (c + 16) 0 163903 0 0)
       unfolding done onto step stacked unpacked pushed goalOf operandStep
       operand-either e q gs vs n ts f k =
-          rw (follows gs, k .first-is, le-leb 32 (s .first) (omega arith), le-ltb (s .first) 40 (omega arith), le-leb 49 (s .first) (omega arith), lt-leb (s .first) 61 (omega arith), eq-eqb (s .first) 62 e,
-            inside-either ((c - 160) % 3) q)
+          rw (
+            follows gs,
+            k .first-is,
+            le-leb 32 (s .first) (omega arith),
+            le-ltb (s .first) 40 (omega arith),
+            le-leb 49 (s .first) (omega arith),
+            lt-leb (s .first) 61 (omega arith),
+            eq-eqb (s .first) 62 e,
+            inside-either ((c - 160) % 3) q,
+          )
 
       -- ---- a word
 
@@ -307,30 +425,63 @@ module _ (counts : List ℕ) (s : Sight) where
         unfolding onto step operandStep wordForm pushed
         word-new e p gs vs n ts f k =
             let z : s .first - 49 ≡ 3 = omega arith in
-            rw (k .first-is, le-leb 32 (s .first) (omega arith), le-ltb (s .first) 40 (omega arith), le-leb 49 (s .first) h, le-leb (s .first) 61 (omega arith), ne-eqb (s .first) 61 (λ q. omega arith),
-              eq-eqb (s .first) 52 e, z)
+            rw (
+              k .first-is,
+              le-leb 32 (s .first) (omega arith),
+              le-ltb (s .first) 40 (omega arith),
+              le-leb 49 (s .first) h,
+              le-leb (s .first) 61 (omega arith),
+              ne-eqb (s .first) 61 (λ q. omega arith),
+              eq-eqb (s .first) 52 e,
+              z,
+            )
             (p .does gs vs n ts)
 
         pub word-other : (s .first ≡ 52 → ⊥) → (s .first ≡ 61 → ⊥) → Formed c s (s .first - 49) 1 0 m → Does (step counts here) here s m
         unfolding onto step operandStep wordForm pushed
         word-other d e p gs vs n ts f k =
-            rw (k .first-is, le-leb 32 (s .first) (omega arith), le-ltb (s .first) 40 (omega arith), le-leb 49 (s .first) h, le-leb (s .first) 61 (omega arith), ne-eqb (s .first) 61 e,
-              ne-eqb (s .first) 52 d)
+            rw (
+              k .first-is,
+              le-leb 32 (s .first) (omega arith),
+              le-ltb (s .first) 40 (omega arith),
+              le-leb 49 (s .first) h,
+              le-leb (s .first) 61 (omega arith),
+              ne-eqb (s .first) 61 e,
+              ne-eqb (s .first) 52 d,
+            )
             (p .does gs vs n ts)
 
         pub word-all : s .first ≡ 61 → s .second ≡ 47 → Formed c s 13 2 0 m → Does (step counts here) here s m
         unfolding onto step operandStep wordForm pushed forms
         word-all d e p gs vs n ts f k =
-            rw (k .first-is, le-leb 32 (s .first) (omega arith), le-ltb (s .first) 40 (omega arith), le-leb 49 (s .first) h, le-leb (s .first) 61 (omega arith), eq-eqb (s .first) 61 d,
-              k .second-is, eq-eqb (s .second) 47 e)
+            rw (
+              k .first-is,
+              le-leb 32 (s .first) (omega arith),
+              le-ltb (s .first) 40 (omega arith),
+              le-leb 49 (s .first) h,
+              le-leb (s .first) 61 (omega arith),
+              eq-eqb (s .first) 61 d,
+              k .second-is,
+              eq-eqb (s .second) 47 e,
+            )
             (p .does gs vs n ts)
 
         pub word-notify : s .first ≡ 61 → (s .second ≡ 47 → ⊥) → Formed c s 12 1 0 m → Does (step counts here) here s m
         unfolding onto step operandStep wordForm pushed
         word-notify d e p gs vs n ts f k =
             let z : s .first - 49 ≡ 12 = omega arith in
-            rw (k .first-is, le-leb 32 (s .first) (omega arith), le-ltb (s .first) 40 (omega arith), le-leb 49 (s .first) h, le-leb (s .first) 61 (omega arith), eq-eqb (s .first) 61 d,
-              k .second-is, ne-eqb (s .second) 47 e, ne-eqb (s .first) 52 (λ q. omega arith), z)
+            rw (
+              k .first-is,
+              le-leb 32 (s .first) (omega arith),
+              le-ltb (s .first) 40 (omega arith),
+              le-leb 49 (s .first) h,
+              le-leb (s .first) 61 (omega arith),
+              eq-eqb (s .first) 61 d,
+              k .second-is,
+              ne-eqb (s .second) 47 e,
+              ne-eqb (s .first) 52 (λ q. omega arith),
+              z,
+            )
             (p .does gs vs n ts)
 
 -- ---- a form
@@ -339,11 +490,13 @@ module _ (c i taken value : ℕ) (l : 160 ≤ c) (b : c < 176) (gs : List Goal) 
   abbrev formed : Step
   formed = onto gs (begun (formAt i) ((c - 160) / 3) (sortOf ((c - 160) % 3)) (pushed value vs) n ts (drop taken ts))
 
-  form-stops : (leb ((c - 160) / 3) (formAt i .binding) && (not (formAt i .isCondition) || takesCondition (sortOf ((c - 160) % 3)))) ≡ false → done (Stop 0 c) gs vs n ts ≡ formed
+  form-stops : (leb ((c - 160) / 3) (formAt i .binding) && (not (formAt i .isCondition) || takesCondition (sortOf ((c - 160) % 3)))) ≡ false → done
+      (Stop 0 c) gs vs n ts ≡ formed
   unfolding done onto begun
   form-stops e = rw (reason-goal c (omega arith), operand-goal c l b, e)
 
-  form-goes : (p : ℕ) → PackedForm i p → (leb ((c - 160) / 3) (formAt i .binding) && (not (formAt i .isCondition) || takesCondition (sortOf ((c - 160) % 3)))) ≡ true
+  form-goes : (p : ℕ) → PackedForm i p → (leb ((c - 160) / 3) (formAt i .binding) &&
+      (not (formAt i .isCondition) || takesCondition (sortOf ((c - 160) % 3)))) ≡ true
       → done (Go taken (c + 16) 0 p 0 value) gs vs n ts ≡ formed
   unfolding done onto begun stacked
   form-goes p h e = rw (stacked-some (c + 16) _ gs (omega arith) (more-above c l b), h, e, append-assoc)
@@ -385,7 +538,8 @@ pub make-is : (counts : List ℕ) (s : Sight) (k : ℕ) → Does (step counts (m
 unfolding done onto step
 make-is counts s k gs vs n ts f e = choice (eqb n 0)
   where
-    choice : (b : Bool) → cond b (stop Reason.terms ts) (go gs (made k vs) (n - 1) ts) ≡ onto gs (cond b (stop Reason.terms ts) (go [] (made k vs) (n - 1) ts))
+    choice : (b : Bool) → cond b (stop Reason.terms ts) (go gs (made k vs) (n - 1) ts) ≡ onto gs
+        (cond b (stop Reason.terms ts) (go [] (made k vs) (n - 1) ts))
     choice true = refl
     choice false = refl
 

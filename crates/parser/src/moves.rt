@@ -1,6 +1,6 @@
 // What a step does with the stacks, by its goal's number and by what it sees.
-use byte_numbers::wide;
 use crate::forms;
+use byte_numbers::wide;
 ghost use mathlib.Core.Path.{_≡_};
 ghost use mathlib.Core.Bool.{_&&_};
 ghost use Prim.Native.Nat.{_<_, _≤_, _-_, _/_, _%_, _+_, _*_};
@@ -31,7 +31,10 @@ pub enum Move {
         value: usize,
     },
     Make(usize),
-    Stop { before: usize, reason: usize },
+    Stop {
+        before: usize,
+        reason: usize,
+    },
 }
 
 // Some tokens are taken, with goals in place of the goal and a value more.

@@ -1,6 +1,6 @@
 // The arrays of goals and of values.
-use byte_numbers::wide;
 use crate::moves::Sight;
+use byte_numbers::wide;
 ghost use mathlib.Core.Path.{_≡_};
 ghost use mathlib.Core.Bool.{cond};
 ghost use Prim.Native.Nat.{_<_, _≤_, _+_, _-_, _*_, _/_, _%_};
@@ -37,7 +37,13 @@ fn stack_digits(goals: &mut [u16; 8408], top: usize, digits: usize) -> usize
 }
 
 // The goals of a move on the others.
-pub fn stack_all(goals: &mut [u16; 8408], top: usize, kept: usize, next: usize, digits: usize) -> usize
+pub fn stack_all(
+    goals: &mut [u16; 8408],
+    top: usize,
+    kept: usize,
+    next: usize,
+    digits: usize,
+) -> usize
     requires { ⌜ (top + 8 < 8408) × (kept < 1024) × (next < 1024) × (length (now goals) ≡ 8408) ⌝ }
     ensures { λ r. ⌜ Stacked (λ gs. unpacked digits (stacked next (stacked kept gs))) (now (goals .entry)) top (now (goals .exit)) r ⌝ }
     ensures { λ r. ⌜ (r ≤ top + 8) × (r ≤ top + kept + next + 6 * digits) ⌝ }

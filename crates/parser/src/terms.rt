@@ -7,7 +7,29 @@ ghost use Rattle.parsing.specs.Goals.{operandCounts};
 ghost use Rattle.parser.specs.Making.{Makeable, Makes};
 
 // How many operands a term has, by its tag.
-const OPERANDS: [usize; 21] = [0, 1, 1, 2, 3, 3, 3, 2, 2, 1, 1, 2, 0, 1, 2, 2, 2, 0, 1, 1, 1];
+const OPERANDS: [usize; 21] = [
+    0,
+    1,
+    1,
+    2,
+    3,
+    3,
+    3,
+    2,
+    2,
+    1,
+    1,
+    2,
+    0,
+    1,
+    2,
+    2,
+    2,
+    0,
+    1,
+    1,
+    1,
+];
 
 fn operand_count(tag: usize) -> usize
     requires { ⌜ tag < 21 ⌝ }

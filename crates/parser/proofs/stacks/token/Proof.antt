@@ -17,7 +17,7 @@ wide-requires : tie.Need-wide-requires
 wide-requires c κs = search needs
 
 returns-2 : tie.Need-returns-2
-returns-2 c = 
+returns-2 c =
     let h = c .before .before .if1 .left in
     (c .wide .ensures .0 ∙ any-default (c .before .before .before .before .args .tokens .now) _ 0 69 h, omega arith)
 

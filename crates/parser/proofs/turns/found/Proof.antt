@@ -20,7 +20,7 @@ half-requires : tie.Need-half-requires
 half-requires c κs = search needs
 
 look-requires : tie.Need-look-requires
-look-requires c κs = 
+look-requires c κs =
     let s = c .before .before .before .before .before in
     let p = s .pre .0 in
     let v = p .values-few in
@@ -29,12 +29,12 @@ look-requires c κs =
     (omega arith, omega arith, small-entries _ (s .args .counts .now) _ _ _ _ p (s .pre .1))
 
 step-requires : tie.Need-step-requires
-step-requires c κs = 
+step-requires c κs =
     let s = c .before .before .before .before .before .before in
     (subst Sound (sym (c .before .half .ensures .0)) (sound _ (s .args .counts .now) _ _ _ _ (s .pre .0) (s .pre .1)), c .look .ensures .small)
 
 returns : tie.Need-returns
-returns c = 
+returns c =
     let g = c .before .before .before .before .before .shared-slice-known2 .given in
     record {
       sight = c .before .look .result;
