@@ -43,7 +43,8 @@ and-second false b e = absurd (absurd-false e)
 made-term : (x y z : Value) (k : ℕ) → k < 21 → IsTerm (getD terms k (λ x y z. number 0) x y z)
 unfolding terms
 made-term x y z =
-    by-range (λ k. IsTerm (getD terms k (λ x y z. number 0) x y z)) 0 21 ((k : ℕ) → k < 21 → IsTerm (getD terms k (λ x y z. number 0) x y z)) (λ all k h. all k (omega arith) (omega arith))
+    by-range (λ k. IsTerm (getD terms k (λ x y z. number 0) x y z)) 0 21 ((k : ℕ) → k < 21 → IsTerm (getD terms k (λ x y z. number 0) x y z))
+    (λ all k h. all k (omega arith) (omega arith))
     tt tt tt tt tt tt tt tt tt tt tt tt tt tt tt tt tt tt tt tt tt
 
 module _ (gs : List Goal) where
@@ -77,15 +78,18 @@ module _ (gs : List Goal) where
         (λ v t. (omega arith, (t, tt), behind))
         (λ v t. (omega arith, (t, tt), behind))
 
-    begun-fits : (i n : ℕ) (vs′ : List Value) (ts rest : List ℕ) → FitsAfter gs (go (formAt i .goals ++ (more d s ∷ [])) vs′ n rest) → FitsAfter gs (begun (formAt i) d s vs′ n ts rest)
+    begun-fits : (i n : ℕ) (vs′ : List Value) (ts rest : List ℕ) → FitsAfter gs (go (formAt i .goals ++ (more d s ∷ [])) vs′ n rest) → FitsAfter gs
+        (begun (formAt i) d s vs′ n ts rest)
     unfolding begun
     begun-fits i n vs′ ts rest h =
-        choose (FitsAfter gs) (leb d (formAt i .binding) && (not (formAt i .isCondition) || takesCondition s)) (go (formAt i .goals ++ (more d s ∷ [])) vs′ n rest) (stop (wanted (operand d s)) ts) (λ e. h) (λ e. tt)
+        choose (FitsAfter gs) (leb d (formAt i .binding) && (not (formAt i .isCondition) || takesCondition s))
+        (go (formAt i .goals ++ (more d s ∷ [])) vs′ n rest) (stop (wanted (operand d s)) ts) (λ e. h) (λ e. tt)
 
     word-fits : (t n : ℕ) (ts : List ℕ) → 49 ≤ t → t < 62 → FitsAfter gs (wordForm t d s vs n ts)
     unfolding wordForm forms
     word-fits t n ts l b =
-        choose (FitsAfter gs) (eqb t 61 && eqb (ahead ts 1) 47) (begun (formAt 13) d s vs n ts (drop 2 ts)) (begun (formAt (t - 49)) d s (cond (eqb t 52) (number 0 ∷ vs) vs) n ts (drop 1 ts))
+        choose (FitsAfter gs) (eqb t 61 && eqb (ahead ts 1) 47) (begun (formAt 13) d s vs n ts (drop 2 ts))
+        (begun (formAt (t - 49)) d s (cond (eqb t 52) (number 0 ∷ vs) vs) n ts (drop 1 ts))
         (λ e. begun-fits 13 n vs ts (drop 2 ts) (form-fits 13 (omega arith)))
         (λ e. begun-fits (t - 49) n (cond (eqb t 52) (number 0 ∷ vs) vs) ts (drop 1 ts) (rw same (form-fits (t - 49) (omega arith))))
       where
@@ -107,7 +111,8 @@ module _ (gs : List Goal) where
         (λ e.
         choose (FitsAfter gs) (leb 49 t && leb t 61) (wordForm t d s vs n ts)
         (cond (eqb t 62) (go (operand loose (inside s) ∷ expect 63 ∷ more d s ∷ []) vs n (drop 1 ts)) (stop (wanted (operand d s)) ts))
-        (λ e. let h = leb-true t 61 (and-second (leb 49 t) (leb t 61) e) in word-fits t n ts (leb-true 49 t (and-first (leb 49 t) (leb t 61) e)) (omega arith))
+        (λ e. let h = leb-true t 61 (and-second (leb 49 t) (leb t 61) e) in word-fits t n ts (leb-true 49 t (and-first (leb 49 t) (leb t 61) e))
+        (omega arith))
         (λ e.
         choose (FitsAfter gs) (eqb t 62) (go (operand loose (inside s) ∷ expect 63 ∷ more d s ∷ []) vs n (drop 1 ts)) (stop (wanted (operand d s)) ts)
         (λ e. (λ v h. (omega arith, behind v h)))
@@ -121,7 +126,8 @@ module _ (gs : List Goal) where
     dot-fits n ts =
         let x = ahead ts 1 in
         choose (FitsAfter gs) (not (isField x)) (stop (wanted (expect 65)) (drop 1 ts))
-        (cond (eqb d loose && eqb (ahead ts 2) 67) (go (operand loose expression ∷ make 4 ∷ more d s ∷ []) (number x ∷ v ∷ vs) n (drop 3 ts)) (go (make 3 ∷ more d s ∷ []) (number x ∷ v ∷ vs) n (drop 2 ts)))
+        (cond (eqb d loose && eqb (ahead ts 2) 67) (go (operand loose expression ∷ make 4 ∷ more d s ∷ []) (number x ∷ v ∷ vs) n (drop 3 ts))
+        (go (make 3 ∷ more d s ∷ []) (number x ∷ v ∷ vs) n (drop 2 ts)))
         (λ e. tt)
         (λ e.
         let h = ltb-true x 32 (and-second (ltb 0 x) (ltb x 32) (not-false (isField x) e)) in
@@ -135,12 +141,15 @@ module _ (gs : List Goal) where
     more-fits n ts =
         let x = ahead ts 0 in
         let last = cond (fits s v) (go [] (v ∷ vs) n ts) (stop (wanted (more d s)) ts) in
-        let conditions = cond (isCondition v && eqb x 48 && eqb d loose) (go (operand loose condition ∷ make 14 ∷ more d s ∷ []) (v ∷ vs) n (drop 1 ts)) last in
+        let conditions = cond (isCondition v && eqb x 48 && eqb d loose) (go (operand loose condition ∷ make 14 ∷ more d s ∷ []) (v ∷ vs) n (drop 1 ts))
+        last in
         choose (FitsAfter gs) (isExpression v && eqb x 65) (dotStep d s (v ∷ vs) n ts)
-        (cond (isExpression v && eqb x 66 && leb d testing && takesCondition s) (go (operand prefix expression ∷ make 15 ∷ more d s ∷ []) (v ∷ vs) n (drop 1 ts)) conditions)
+        (cond (isExpression v && eqb x 66 && leb d testing && takesCondition s)
+        (go (operand prefix expression ∷ make 15 ∷ more d s ∷ []) (v ∷ vs) n (drop 1 ts)) conditions)
         (λ e. dot-fits n ts)
         (λ e.
-        choose (FitsAfter gs) (isExpression v && eqb x 66 && leb d testing && takesCondition s) (go (operand prefix expression ∷ make 15 ∷ more d s ∷ []) (v ∷ vs) n (drop 1 ts)) conditions
+        choose (FitsAfter gs) (isExpression v && eqb x 66 && leb d testing && takesCondition s)
+        (go (operand prefix expression ∷ make 15 ∷ more d s ∷ []) (v ∷ vs) n (drop 1 ts)) conditions
         (λ e. (λ w u. (omega arith, (u, (t, tt)), behind d s vs f)))
         (λ e.
         choose (FitsAfter gs) (isCondition v && eqb x 48 && eqb d loose) (go (operand loose condition ∷ make 14 ∷ more d s ∷ []) (v ∷ vs) n (drop 1 ts)) last
@@ -159,7 +168,8 @@ module _ (gs : List Goal) where
       let q : 2 ^ suc (31 - t) ≡ 2 ^ (31 - t) + 2 ^ (31 - t) = omega arith in
       omega arith
 
-  fields-fit : (k x m n : ℕ) (vs : List Value) (ts : List ℕ) → m < suc (4294967296 - 2 ^ (31 - x)) → x < 32 → ((m : ℕ) → m < 4294967296 → Fits gs (number m ∷ vs))
+  fields-fit : (k x m n : ℕ) (vs : List Value) (ts : List ℕ) → m < suc (4294967296 - 2 ^ (31 - x)) → x < 32 →
+      ((m : ℕ) → m < 4294967296 → Fits gs (number m ∷ vs))
       → FitsAfter gs (fieldsStep k x (number m ∷ vs) n ts)
   unfolding fieldsStep numberIn
   fields-fit k x m n vs ts h b f =
@@ -178,16 +188,19 @@ module _ (gs : List Goal) where
 
   -- ---- arguments
 
-  arguments-fit : (t p : ℕ) (vs : List Value) → p < 256 → ((v : Value) → IsTerm v → Fits gs (v ∷ number t ∷ vs)) → Fits (argumentGoals p ++ gs) (number t ∷ vs)
+  arguments-fit : (t p : ℕ) (vs : List Value) → p < 256 → ((v : Value) → IsTerm v → Fits gs (v ∷ number t ∷ vs)) → Fits (argumentGoals p ++ gs)
+      (number t ∷ vs)
   unfolding argumentGoals operandKinds operandCounts
   arguments-fit t zero vs h f = (omega arith, (omega arith, (omega arith, tt, f)))
   arguments-fit t (suc p) vs h f = (omega arith, λ v u. (omega arith, λ w x. (omega arith, (x, (u, tt)), f)))
 
   further-fit : (k n : ℕ) (vs : List Value) (ts : List ℕ) → k < 256 → ((v : Value) → IsTerm v → Fits gs (v ∷ vs)) → FitsAfter gs (furtherStep k vs n ts)
   unfolding furtherStep operandKinds operandCounts
-  further-fit zero n vs ts h f = choose (FitsAfter gs) (eqb (ahead ts 0) 63) (go (make 17 ∷ []) vs n (drop 1 ts)) (stop (wanted (further 0)) ts) (λ e. (omega arith, tt, f)) (λ e. tt)
+  further-fit zero n vs ts h f = choose (FitsAfter gs) (eqb (ahead ts 0) 63) (go (make 17 ∷ []) vs n (drop 1 ts)) (stop (wanted (further 0)) ts)
+      (λ e. (omega arith, tt, f)) (λ e. tt)
   further-fit (suc k) n vs ts h f =
-      choose (FitsAfter gs) (eqb (ahead ts 0) 64) (go (operand loose expression ∷ further k ∷ make 16 ∷ []) vs n (drop 1 ts)) (stop (wanted (further (suc k))) ts)
+      choose (FitsAfter gs) (eqb (ahead ts 0) 64) (go (operand loose expression ∷ further k ∷ make 16 ∷ []) vs n (drop 1 ts))
+      (stop (wanted (further (suc k))) ts)
       (λ e. (λ v u. (omega arith, λ w x. (omega arith, (x, (u, tt)), f))))
       (λ e. tt)
 
@@ -202,10 +215,12 @@ module _ (gs : List Goal) where
     step-fits (more d s) (v ∷ vs) f = more-fits d s v vs (f .0 .0) (f .1) n ts
     step-fits (make k) vs f =
         choose (FitsAfter gs) (eqb n 0) (stop Reason.terms ts) (go [] (made k vs) (n - 1) ts) (λ e. tt)
-        (λ e. f .2 _ (made-term (valueAt vs (getD operandCounts k 0 - 1)) (valueAt vs (getD operandCounts k 0 - 2)) (valueAt vs (getD operandCounts k 0 - 3)) k (f .0)))
+        (λ e. f .2 _ (made-term (valueAt vs (getD operandCounts k 0 - 1)) (valueAt vs (getD operandCounts k 0 - 2))
+        (valueAt vs (getD operandCounts k 0 - 3)) k (f .0)))
     step-fits binder vs f =
         let t = ahead ts 0 in
-        choose (FitsAfter gs) (ltb t 8) (go [] (number t ∷ vs) n (drop 1 ts)) (cond (eqb t 68) (go [] (number 15 ∷ vs) n (drop 1 ts)) (stop (wanted binder) ts))
+        choose (FitsAfter gs) (ltb t 8) (go [] (number t ∷ vs) n (drop 1 ts))
+        (cond (eqb t 68) (go [] (number 15 ∷ vs) n (drop 1 ts)) (stop (wanted binder) ts))
         (λ e. let h = ltb-true t 8 e in f t (omega arith))
         (λ e. choose (FitsAfter gs) (eqb t 68) (go [] (number 15 ∷ vs) n (drop 1 ts)) (stop (wanted binder) ts) (λ e. f 15 (omega arith)) (λ e. tt))
     step-fits (fields k x) [] f = absurd (f .0)
@@ -215,7 +230,8 @@ module _ (gs : List Goal) where
     step-fits (fields k x) (ofArguments v ∷ vs) f = absurd (f .0 .0)
     step-fits procedure vs f =
         let t = ahead ts 0 in
-        choose (FitsAfter gs) (ltb t 32 && ltb t (length counts)) (go (argumentGoals (getD counts t 0)) (number t ∷ vs) n (drop 1 ts)) (stop (wanted procedure) ts)
+        choose (FitsAfter gs) (ltb t 32 && ltb t (length counts)) (go (argumentGoals (getD counts t 0)) (number t ∷ vs) n (drop 1 ts))
+        (stop (wanted procedure) ts)
         (λ e. arguments-fit t (getD counts t 0) vs (small t) (f t (ltb-true t 32 (and-first (ltb t 32) (ltb t (length counts)) e))))
         (λ e. tt)
     step-fits (further k) vs f = further-fit k n vs ts (f .0) (f .1)

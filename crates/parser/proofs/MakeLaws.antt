@@ -12,8 +12,10 @@ use Rattle.parser.specs.Stacks.{operandAt}
 use Rattle.parser.specs.Making.{Makeable, Makes}
 use Rattle.parser.proofs.TermLaws.{operands-there, made-fits, ordered-made, values-made, entries-made, terms-stay}
 
-module _ (words values : List ℕ) (n left k : ℕ) (q : Makeable words values n left k) (count one two first second third : ℕ) (c : count ≡ getD operandCounts k 0)
-    (a : one ≡ count - 1) (b : two ≡ count - 2) (f : first ≡ operandAt values n count) (g : second ≡ operandAt values n one) (h : third ≡ operandAt values n two) where
+module _ (words values : List ℕ) (n left k : ℕ) (q : Makeable words values n left k) (count one two first second third : ℕ)
+    (c : count ≡ getD operandCounts k 0)
+    (a : one ≡ count - 1) (b : two ≡ count - 2) (f : first ≡ operandAt values n count) (g : second ≡ operandAt values n one)
+    (h : third ≡ operandAt values n two) where
   abbrev m : ℕ
   m = left - 1
 

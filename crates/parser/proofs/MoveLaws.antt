@@ -33,7 +33,8 @@ unfolding numberIn
 mask-room f m t (ofExpression x ∷ vs) h e a b = absurd (h .0)
 mask-room f m t (ofCondition x ∷ vs) h e a b = absurd (h .0)
 mask-room f m t (ofArguments x ∷ vs) h e a b = absurd (h .0)
-mask-room f m t (number k ∷ vs) h e a b = room k m (2 ^ (31 - t)) (2 ^ (31 - f)) (h .0) e (pow-lt (omega arith)) (pow-le-pow-right (omega arith) {j = 32} (omega arith))
+mask-room f m t (number k ∷ vs) h e a b = room k m (2 ^ (31 - t)) (2 ^ (31 - f)) (h .0) e (pow-lt (omega arith))
+    (pow-le-pow-right (omega arith) {j = 32} (omega arith))
   where
     room : (k m x y : ℕ) → k < suc (4294967296 - y) → k ≡ m → x < y → y ≤ 2 ^ 32 → m + x < 4294967296
     room k m x y p q r z = omega arith
@@ -81,7 +82,8 @@ module _ (counts : List ℕ) (s : Sight) where
   unfolding done onto step reasonOf goalOf
   procedure-none h l gs vs n ts f k = rw (k .first-is, lt-ltb (s .first) 32 (omega arith), le-ltb (s .first) (length counts) l)
 
-  pub procedure-alone : s .first ≤ 31 → s .first < length counts → getD counts (s .first) 0 ≡ 0 → Does (step counts procedure) procedure s (Go 1 145 0 63551 0 (1024 + s .first))
+  pub procedure-alone : s .first ≤ 31 → s .first < length counts → getD counts (s .first) 0 ≡ 0 → Does (step counts procedure) procedure s
+      (Go 1 145 0 63551 0 (1024 + s .first))
   unfolding done onto step stacked unpacked goalOf argumentGoals
   procedure-alone h l e gs vs n ts f k =
       rw (k .first-is, lt-ltb (s .first) 32 (omega arith), lt-ltb (s .first) (length counts) l, e, pushed-some (1024 + s .first) (s .first) vs refl)
@@ -119,7 +121,13 @@ module _ (counts : List ℕ) (s : Sight) where
     further-comma l d e gs vs n ts f k =
         let z : c - 640 ≡ suc (c - 641) = omega (arith, d) in
         let q : c - 1 - 640 ≡ c - 641 = omega arith in
-        rw (stacked-some (c - 1) (further (c - 641)) (make 16 ∷ gs) (omega arith) (further-goal (c - 1) (omega (arith, d)) ∙ rw q), z, k .first-is, eq-eqb (s .first) 64 e)
+        rw (
+          stacked-some (c - 1) (further (c - 641)) (make 16 ∷ gs) (omega arith) (further-goal (c - 1) (omega (arith, d)) ∙ rw q),
+          z,
+          k .first-is,
+          eq-eqb
+              (s .first) 64 e,
+        )
 
     pub further-stops : 640 ≤ c → c < 896 → (c ≡ 640 → ⊥) → (s .first ≡ 64 → ⊥) → Does (step counts rest) rest s (Stop 0 c)
     unfolding done onto step furtherStep
@@ -145,7 +153,15 @@ module _ (counts : List ℕ) (s : Sight) where
     pub fields-low : 288 ≤ c → c < 640 → (s .first ≡ 63 → ⊥) → s .first ≤ (c - 256) % 32 → Does (step counts mask) mask s (Stop 0 c)
     unfolding done onto step fieldsStep
     fields-low l b d h gs vs n ts f k =
-        rw (reason-goal c (omega arith), fields-goal c (omega arith) b, k .first-is, ne-eqb (s .first) 63 d, lt-ltb 0 ((c - 256) / 32) (omega arith), le-ltb ((c - 256) % 32) (s .first) h)
+        rw (
+          reason-goal c (omega arith),
+          fields-goal c (omega arith) b,
+          k .first-is,
+          ne-eqb (s .first) 63 d,
+          lt-ltb 0 ((c - 256) / 32) (omega arith),
+          le-ltb
+              ((c - 256) % 32) (s .first) h,
+        )
 
     pub fields-high : 288 ≤ c → c < 640 → (s .first ≡ 63 → ⊥) → (c - 256) % 32 < s .first → 31 < s .first → Does (step counts mask) mask s (Stop 0 c)
     unfolding done onto step fieldsStep
@@ -160,7 +176,8 @@ module _ (counts : List ℕ) (s : Sight) where
           le-ltb (s .first) 32 (omega arith),
         )
 
-    pub fields-field : (v : ℕ) → v ≡ 1024 + (s .number + 2 ^ (31 - s .first)) % 4294967296 → 288 ≤ c → c < 640 → (s .first ≡ 63 → ⊥) → (c - 256) % 32 < s .first → s .first < 32
+    pub fields-field : (v : ℕ) → v ≡ 1024 + (s .number + 2 ^ (31 - s .first)) % 4294967296 → 288 ≤ c → c < 640 → (s .first ≡ 63 → ⊥) → (c - 256) % 32 < s
+        .first → s .first < 32
         → Does (step counts mask) mask s (Go 1 (c - 32 - (c - 256) % 32 + s .first) 0 0 1 v)
     unfolding done onto step stacked unpacked fieldsStep
     fields-field v q l b d h w gs vs n ts f k =
@@ -201,7 +218,15 @@ module _ (counts : List ℕ) (s : Sight) where
         pub dot-high : (s .second ≡ 0 → ⊥) → 31 < s .second → Does (step counts follow) follow s (Stop 1 65)
         unfolding done onto step reasonOf goalOf moreStep dotStep isField
         dot-high d h gs vs n ts f k =
-            rw (k .first-is, eq-eqb (s .first) 65 a, expression-is (valueAt vs 0) (k .sort-is ∙ i) .0, k .second-is, lt-ltb 0 (s .second) (omega (arith, d)), le-ltb (s .second) 32 (omega arith))
+            rw (
+              k .first-is,
+              eq-eqb (s .first) 65 a,
+              expression-is (valueAt vs 0) (k .sort-is ∙ i) .0,
+              k .second-is,
+              lt-ltb 0 (s .second)
+                  (omega (arith, d)),
+              le-ltb (s .second) 32 (omega arith),
+            )
 
         module _ (d : s .second ≡ 0 → ⊥) (h : s .second ≤ 31) where
           pub dot-tight : 178 < c → Does (step counts follow) follow s (Go 2 c 0 131 0 (1024 + s .second))
@@ -271,7 +296,16 @@ module _ (counts : List ℕ) (s : Sight) where
         unfolding onto step moreStep
         equal-sort m d h q e gs vs n ts f k =
             let x = expression-is (valueAt vs 0) (k .sort-is ∙ i) in
-            rw (k .first-is, ne-eqb (s .first) 65 a, eq-eqb (s .first) 66 d, le-leb ((c - 176) / 3) 1 (omega arith), takes-not ((c - 176) % 3) q, x .0, x .1) (e .does gs vs n ts k)
+            rw (
+              k .first-is,
+              ne-eqb (s .first) 65 a,
+              eq-eqb (s .first) 66 d,
+              le-leb ((c - 176) / 3) 1 (omega arith),
+              takes-not ((c - 176) % 3) q,
+              x .0,
+              x
+                  .1,
+            ) (e .does gs vs n ts k)
 
         pub equal-goes : s .first ≡ 66 → c ≤ 181 → ((c - 176) % 3 ≡ 1 → ⊥) → Does (step counts follow) follow s (Go 1 c 0 171151 0 0)
         unfolding done onto step stacked unpacked pushed goalOf moreStep
@@ -332,12 +366,29 @@ module _ (counts : List ℕ) (s : Sight) where
       pub operand-other : 40 ≤ s .first → s .first < 49 → Does (step counts here) here s (Stop 0 c)
       unfolding done onto step operandStep
       operand-other h g gs vs n ts f k =
-          rw (refused, k .first-is, le-leb 32 (s .first) (omega arith), le-ltb (s .first) 40 h, lt-leb 49 (s .first) g, ne-eqb (s .first) 62 (λ e. omega arith))
+          rw (
+            refused,
+            k .first-is,
+            le-leb 32 (s .first) (omega arith),
+            le-ltb (s .first) 40 h,
+            lt-leb 49 (s .first) g,
+            ne-eqb (s .first) 62
+                (λ e. omega arith),
+          )
 
       pub operand-high : 62 ≤ s .first → (s .first ≡ 62 → ⊥) → Does (step counts here) here s (Stop 0 c)
       unfolding done onto step operandStep
       operand-high h d gs vs n ts f k =
-          rw (refused, k .first-is, le-leb 32 (s .first) (omega arith), le-ltb (s .first) 40 (omega arith), le-leb 49 (s .first) (omega arith), lt-leb (s .first) 61 (omega arith), ne-eqb (s .first) 62 d)
+          rw (
+            refused,
+            k .first-is,
+            le-leb 32 (s .first) (omega arith),
+            le-ltb (s .first) 40 (omega arith),
+            le-leb 49 (s .first) (omega arith),
+            lt-leb
+                (s .first) 61 (omega arith),
+            ne-eqb (s .first) 62 d,
+          )
 
       pub operand-group : s .first ≡ 62 → (c - 160) % 3 ≡ 1 → Does (step counts here) here s (Go 1 (c + 16) 0 164927 0 0)
       unfolding done onto step stacked unpacked pushed goalOf operandStep
@@ -439,11 +490,13 @@ module _ (c i taken value : ℕ) (l : 160 ≤ c) (b : c < 176) (gs : List Goal) 
   abbrev formed : Step
   formed = onto gs (begun (formAt i) ((c - 160) / 3) (sortOf ((c - 160) % 3)) (pushed value vs) n ts (drop taken ts))
 
-  form-stops : (leb ((c - 160) / 3) (formAt i .binding) && (not (formAt i .isCondition) || takesCondition (sortOf ((c - 160) % 3)))) ≡ false → done (Stop 0 c) gs vs n ts ≡ formed
+  form-stops : (leb ((c - 160) / 3) (formAt i .binding) && (not (formAt i .isCondition) || takesCondition (sortOf ((c - 160) % 3)))) ≡ false → done
+      (Stop 0 c) gs vs n ts ≡ formed
   unfolding done onto begun
   form-stops e = rw (reason-goal c (omega arith), operand-goal c l b, e)
 
-  form-goes : (p : ℕ) → PackedForm i p → (leb ((c - 160) / 3) (formAt i .binding) && (not (formAt i .isCondition) || takesCondition (sortOf ((c - 160) % 3)))) ≡ true
+  form-goes : (p : ℕ) → PackedForm i p → (leb ((c - 160) / 3) (formAt i .binding) &&
+      (not (formAt i .isCondition) || takesCondition (sortOf ((c - 160) % 3)))) ≡ true
       → done (Go taken (c + 16) 0 p 0 value) gs vs n ts ≡ formed
   unfolding done onto begun stacked
   form-goes p h e = rw (stacked-some (c + 16) _ gs (omega arith) (more-above c l b), h, e, append-assoc)
@@ -485,7 +538,8 @@ pub make-is : (counts : List ℕ) (s : Sight) (k : ℕ) → Does (step counts (m
 unfolding done onto step
 make-is counts s k gs vs n ts f e = choice (eqb n 0)
   where
-    choice : (b : Bool) → cond b (stop Reason.terms ts) (go gs (made k vs) (n - 1) ts) ≡ onto gs (cond b (stop Reason.terms ts) (go [] (made k vs) (n - 1) ts))
+    choice : (b : Bool) → cond b (stop Reason.terms ts) (go gs (made k vs) (n - 1) ts) ≡ onto gs
+        (cond b (stop Reason.terms ts) (go [] (made k vs) (n - 1) ts))
     choice true = refl
     choice false = refl
 

@@ -4,16 +4,17 @@ use native.Mathlib.Decide.{decLt}
 use native.Mathlib.Omega.{arith}
 use mathlib.Core.Path.{_≡_, refl, sym, ap, subst, _∙_}
 use mathlib.Core.Bool.{cond, _||_}
-use mathlib.Core.List.{List, [], _∷_, _++_}
+use mathlib.Core.List.{List, [], _∷_, _++_, append-nil}
 use lib.ListN.{length, getD, drop, length-drop}
 use borrow.Author.Tests.{lt-ltb, le-ltb}
 use Rattle.packed.specs.Steps.{Ordered, treeIn}
 use Rattle.parsing.specs.Goals.{Goal, Value, number, numberIn, expressionIn, valueAt}
 use Rattle.parsing.specs.Parser as definition
 use Rattle.parsing.specs.Parser.{Reason, Step, go, stop, step, afterStep, parseBy, parse}
+use Rattle.parsing.specs.Plan.{procedureGoals}
 use Rattle.parser.specs.Encoded.{goalOf, reasonOf, goalsOf, valueOf, valuesOf}
-use Rattle.parser.specs.Moves.{IsTerm, IsBelow, Operands, onto}
-use Rattle.parser.specs.Stacks.{Entries}
+use Rattle.parser.specs.Moves.{IsTerm, IsBelow, Operands, Fits, onto}
+use Rattle.parser.specs.Stacks.{Stacked, Entries}
 use Rattle.parser.specs.Reading.{State, Going, shown, Kept, Turned, Resumes, Finished, Reads, Ran, readFrom}
 use Rattle.parser.specs.declared.turns.Standing.{Standing}
 use Rattle.parser.specs.declared.turns.Turn.{Turn}
@@ -50,7 +51,8 @@ after-is counts f gs (stop r ts) = refl
 
 module _ (counts goals : List ℕ) (vs : List Value) (n : ℕ) (ts : List ℕ) where
   parse-turn : (m steps : ℕ) → 0 < m → m ≤ 8400 → length vs ≤ 3100 → 0 < steps
-      → parseBy counts steps (goalsOf goals m) vs n ts ≡ resumed counts (steps - 1) (onto (goalsOf goals (m - 1)) (step counts (goalOf (getD goals (m - 1) 0)) vs n ts))
+      → parseBy counts steps (goalsOf goals m) vs n ts ≡ resumed counts (steps - 1)
+      (onto (goalsOf goals (m - 1)) (step counts (goalOf (getD goals (m - 1) 0)) vs n ts))
   unfolding parseBy goalsOf
   parse-turn zero steps a b c d = absurd (omega arith)
   parse-turn (suc m) zero a b c d = absurd (omega arith)
@@ -58,7 +60,8 @@ module _ (counts goals : List ℕ) (vs : List Value) (n : ℕ) (ts : List ℕ) w
       let p : suc m - 1 ≡ m = omega arith in
       let q : suc f - 1 ≡ f = omega arith in
       let l = length-goals goals m in
-      rw (p, q, le-ltb 8400 (suc (length (goalsOf goals m))) (omega arith), le-ltb 3100 (length vs) c) (after-is counts f (goalsOf goals m) (step counts (goalOf (getD goals m 0)) vs n ts))
+      rw (p, q, le-ltb 8400 (suc (length (goalsOf goals m))) (omega arith), le-ltb 3100 (length vs) c)
+      (after-is counts f (goalsOf goals m) (step counts (goalOf (getD goals m 0)) vs n ts))
 
   parse-many : (m steps : ℕ) → 8400 < m → 0 < steps → parseBy counts steps (goalsOf goals m) vs n ts ≡ definition.stopped Reason.nesting ts
   unfolding parseBy goalsOf
@@ -66,7 +69,8 @@ module _ (counts goals : List ℕ) (vs : List Value) (n : ℕ) (ts : List ℕ) w
   parse-many (suc m) zero b d = absurd (omega arith)
   parse-many (suc m) (suc f) b d = let l = length-goals goals m in rw (lt-ltb 8400 (suc (length (goalsOf goals m))) (omega arith))
 
-  parse-full : (m steps : ℕ) → 0 < m → m ≤ 8400 → 3100 < length vs → 0 < steps → parseBy counts steps (goalsOf goals m) vs n ts ≡ definition.stopped Reason.nesting ts
+  parse-full : (m steps : ℕ) → 0 < m → m ≤ 8400 → 3100 < length vs → 0 < steps → parseBy counts steps (goalsOf goals m) vs n ts ≡ definition.stopped
+      Reason.nesting ts
   unfolding parseBy goalsOf
   parse-full zero steps a b c d = absurd (omega arith)
   parse-full (suc m) zero a b c d = absurd (omega arith)
@@ -109,7 +113,8 @@ record Ends (words values : List ℕ) (n left : ℕ) : Type 0 where
   pub number-is : getD values (n - 2) 0 - 1024 ≡ numberIn (valueAt (valuesOf words values n) 1)
   pub number-small : getD values (n - 2) 0 - 1024 < 9
 
-ends : (words values : List ℕ) (o : Ordered words) (n left : ℕ) → Entries left values n → Operands (0 ∷ 9 ∷ []) (valuesOf words values n) → Ends words values n left
+ends : (words values : List ℕ) (o : Ordered words) (n left : ℕ) → Entries left values n → Operands (0 ∷ 9 ∷ []) (valuesOf words values n) → Ends words
+    values n left
 unfolding valuesOf
 ends words values o zero left e p = absurd p
 ends words values o (suc zero) left e p = absurd (p .1)
@@ -137,7 +142,8 @@ pub record Before (counts tokens goals₀ values₀ words₀ : List ℕ) (s₀ :
   pub fewer : s .left ≤ s₀ .left
   pub resumes : Resumes counts tokens goals values words s (readFrom counts tokens goals₀ values₀ words₀ s₀)
 
-pub begins : (counts tokens goals values words : List ℕ) (s : Standing) → State tokens goals values words s → Before counts tokens goals values words s goals values words s
+pub begins : (counts tokens goals values words : List ℕ) (s : Standing) → State tokens goals values words s → Before counts tokens goals values words s
+    goals values words s
 unfolding parse
 begins counts tokens goals values words s st =
     let l = length-goals goals (s .goals) in
@@ -149,7 +155,8 @@ begins counts tokens goals values words s st =
       resumes = record { steps = 8 * length (drop (s .at) tokens) + suc (length (goalsOf goals (s .goals))); enough = omega arith; same = refl };
     }
 
-module _ (counts tokens goals₀ values₀ words₀ : List ℕ) (s₀ : Standing) (goals values words : List ℕ) (s : Standing) (b : Before counts tokens goals₀ values₀ words₀ s₀ goals values words s) where
+module _ (counts tokens goals₀ values₀ words₀ : List ℕ) (s₀ : Standing) (goals values words : List ℕ) (s : Standing)
+    (b : Before counts tokens goals₀ values₀ words₀ s₀ goals values words s) where
   abbrev R : definition.Parsed
   R = readFrom counts tokens goals₀ values₀ words₀ s₀
 
@@ -164,13 +171,15 @@ module _ (counts tokens goals₀ values₀ words₀ : List ℕ) (s₀ : Standing
       let v = b .state .values-few in
       (z .two, omega arith, z .number-there)
 
-  pub run-ends : s .goals ≡ 0 → (r : Parsed) → r ≡ Read (getD values (s .values - 1) 0) (getD values (s .values - 2) 0 - 1024) (s .left) (s .at) → Ran tokens words₀ words (s₀ .left) R r
+  pub run-ends : s .goals ≡ 0 → (r : Parsed) → r ≡ Read (getD values (s .values - 1) 0) (getD values (s .values - 2) 0 - 1024) (s .left) (s .at) → Ran
+      tokens words₀ words (s₀ .left) R r
   unfolding goalsOf
   run-ends e r q =
       let f = rw e at (b .state .fits) in
       let z = ends words values (b .state .ordered) (s .values) (s .left) (b .state .entries) f in
       let p : R ≡ definition.parsed (valuesOf words values (s .values)) (s .left) (drop (s .at) tokens) =
-      b .resumes .same ∙ parse-end counts goals (valuesOf words values (s .values)) (s .left) (drop (s .at) tokens) (s .goals) (b .resumes .steps) e some-steps
+      b .resumes .same ∙ parse-end counts goals (valuesOf words values (s .values)) (s .left) (drop (s .at) tokens) (s .goals) (b .resumes .steps) e
+      some-steps
       in
       record {
         reads =
@@ -194,27 +203,36 @@ module _ (counts tokens goals₀ values₀ words₀ : List ℕ) (s₀ : Standing
   nesting p = record { reads = rw p (refl, refl); kept = b .kept }
 
   pub run-many : 8400 < s .goals → Ran tokens words₀ words (s₀ .left) R (Stopped 1001 (s .at))
-  run-many h = nesting (b .resumes .same ∙ parse-many counts goals (valuesOf words values (s .values)) (s .left) (drop (s .at) tokens) (s .goals) (b .resumes .steps) h some-steps)
+  run-many h = nesting (b .resumes .same ∙ parse-many counts goals (valuesOf words values (s .values)) (s .left) (drop (s .at) tokens) (s .goals)
+      (b .resumes .steps) h some-steps)
 
   module _ (d : s .goals ≡ 0 → ⊥) (l : s .goals ≤ 8400) where
     pub run-full : 3100 < s .values → Ran tokens words₀ words (s₀ .left) R (Stopped 1001 (s .at))
     run-full h =
         let v = length-values words values (s .values) in
-        nesting (b .resumes .same ∙ parse-full counts goals (valuesOf words values (s .values)) (s .left) (drop (s .at) tokens) (s .goals) (b .resumes .steps) (omega (arith, d)) l (omega arith) some-steps)
+        nesting (b .resumes .same ∙ parse-full counts goals (valuesOf words values (s .values)) (s .left) (drop (s .at) tokens) (s .goals)
+        (b .resumes .steps) (omega (arith, d)) l (omega arith) some-steps)
 
     module _ (k : s .values ≤ 3100) where
       pub going : Going s
       going = record { some-goal = omega (arith, d); few-goals = l; few-values = k }
 
-      turn-same : (goals′ values′ words′ : List ℕ) (r : Turn) → Turned tokens counts goals values words goals′ values′ words′ s r → R ≡ resumed counts (b .resumes .steps - 1) (shown tokens goals′ values′ words′ r)
+      turn-same : (goals′ values′ words′ : List ℕ) (r : Turn) → Turned tokens counts goals values words goals′ values′ words′ s r → R ≡ resumed counts
+          (b .resumes .steps - 1) (shown tokens goals′ values′ words′ r)
       turn-same goals′ values′ words′ r t =
           let v = length-values words values (s .values) in
           b .resumes .same
-          ∙ parse-turn counts goals (valuesOf words values (s .values)) (s .left) (drop (s .at) tokens) (s .goals) (b .resumes .steps) (omega (arith, d)) l (omega arith) some-steps
+          ∙ parse-turn counts goals (valuesOf words values (s .values)) (s .left) (drop (s .at) tokens) (s .goals) (b .resumes .steps) (omega (arith, d)) l
+          (omega arith) some-steps
           ∙ ap (resumed counts (b .resumes .steps - 1)) (sym (t .says))
 
       still : (words′ : List ℕ) → Kept (s .left) words words′ → Kept (s₀ .left) words₀ words′
-      still words′ q = record { ordered = q .ordered; long = q .long; terms-stay = λ i h. let f = b .fewer in q .terms-stay i (omega arith) ∙ b .kept .terms-stay i h }
+      still words′ q = record {
+        ordered = q .ordered;
+        long = q .long;
+        terms-stay = λ i h. let f = b .fewer in q .terms-stay i (omega arith) ∙ b .kept
+            .terms-stay i h;
+      }
 
       pub run-on : (goals′ values′ words′ : List ℕ) (s′ : Standing) → Turned tokens counts goals values words goals′ values′ words′ s (On s′)
           → Before counts tokens goals₀ values₀ words₀ s₀ goals′ values′ words′ s′
@@ -237,3 +255,46 @@ module _ (counts tokens goals₀ values₀ words₀ : List ℕ) (s₀ : Standing
       run-stops goals′ values′ words′ reason at t =
           let p : R ≡ definition.stopped (reasonOf reason) (drop at tokens) = turn-same goals′ values′ words′ (Stop reason at) t in
           record { reads = rw p (refl, refl); kept = still words′ (t .kept) }
+
+-- ---- the start
+
+-- a procedure's goals find what they take
+procedure-fits : (p : ℕ) → p < 32 → Fits (procedureGoals p) (number 0 ∷ [])
+unfolding procedureGoals
+procedure-fits zero h = λ v t. (t, (omega arith, tt))
+procedure-fits (suc p) h = (omega arith, (omega arith, (omega arith, λ n k. (omega arith, (omega arith, λ v t. (t, (k, tt)))))))
+
+module _ (tokens goals goals′ values words : List ℕ) (at p top left : ℕ) (few : length tokens ≤ 16384) (inside : at ≤ length tokens) (below : p < 32)
+    (room : left ≤ 1024)
+    (long : length words ≡ 1024) (o : Ordered words) (size : length values ≡ 3108) (first : getD values 0 0 ≡ 1024)
+    (g : Stacked (λ gs. procedureGoals p ++ gs) goals 0 goals′ top) (t : top ≤ 7) where
+  abbrev start : Standing
+  start = record { at = at; goals = top; values = 1; left = left }
+
+  first-goals : goalsOf goals′ top ≡ procedureGoals p
+  unfolding goalsOf
+  first-goals = g .goals-are ∙ append-nil (procedureGoals p)
+
+  first-values : valuesOf words values 1 ≡ number 0 ∷ []
+  unfolding valuesOf valueOf
+  first-values = rw first
+
+  pub starts : State tokens goals′ values words start
+  starts =
+      record {
+        goals-long = g .long;
+        values-long = size;
+        words-long = long;
+        tokens-few = few;
+        ordered = o;
+        inside = inside;
+        goals-few = omega arith;
+        values-few = omega arith;
+        left-few = room;
+        entries = λ i h. let e : i ≡ 0 = omega arith in rw (e, first) (room, omega arith);
+        fits = rw (first-goals, first-values) (procedure-fits p below);
+      }
+
+  pub started : (counts words′ : List ℕ) (r : Parsed) → Ran tokens words words′ left (readFrom counts tokens goals′ values words start) r
+      → Ran tokens words words′ left (parse counts (procedureGoals p) (number 0 ∷ []) left (drop at tokens)) r
+  started counts words′ r q = rw (first-goals, first-values) at q

@@ -14,7 +14,7 @@ use borrow.Author.Tests.{eq-eqb, ne-eqb, lt-ltb, le-ltb}
 use Rattle.packed.specs.Operands.{tagOf}
 use Rattle.packed.specs.Steps.{tagIn, treeIn, listIn}
 use Rattle.packed.specs.Steps as array
-use Rattle.parsing.specs.Goals.{Goal, Value, number, ofExpression, ofCondition, ofArguments, numberIn, valueAt}
+use Rattle.parsing.specs.Goals.{Goal, expect, Value, number, ofExpression, ofCondition, ofArguments, numberIn, valueAt}
 use Rattle.parsing.specs.Plan.{procedureGoals}
 use Rattle.parser.specs.Encoded.{goalOf, goalsOf, stacked, valueOf, termValue, valuesOf, valueSort}
 use Rattle.parser.specs.Moves.{pushed}
@@ -32,11 +32,19 @@ pub stacks-none : (goals : List ℕ) (top code : ℕ) → length goals ≡ 8408 
 unfolding stacked
 stacks-none goals top code l e = record { goals-are = rw e; long = l; above = omega arith }
 
-pub stacks-one : (goals : List ℕ) (top code v : ℕ) → length goals ≡ 8408 → top < 8408 → (code ≡ 0 → ⊥) → v ≡ code → Stacked (stacked code) goals top (set goals top v) (top + 1)
+pub stacks-one : (goals : List ℕ) (top code v : ℕ) → length goals ≡ 8408 → top < 8408 → (code ≡ 0 → ⊥) → v ≡ code → Stacked (stacked code) goals top
+    (set goals top v) (top + 1)
 unfolding goalsOf
 stacks-one goals top code v l h d e =
     record {
-      goals-are = rw (add-one, getD-set-same goals top v 0 (omega arith), goals-frame goals top v top (omega arith), e, stacked-some code (goalOf code) (goalsOf goals top) (omega (arith, d)) refl);
+      goals-are = rw (
+        add-one,
+        getD-set-same goals top v 0 (omega arith),
+        goals-frame goals top v top (omega arith),
+        e,
+        stacked-some code (goalOf code)
+            (goalsOf goals top) (omega (arith, d)) refl,
+      );
       long = length-set goals top v ∙ l;
       above = omega arith;
     }
@@ -71,7 +79,8 @@ puts-none values n popped value m l h e q =
       few = omega arith;
     }
 
-pub puts-one : (values : List ℕ) (n popped value m : ℕ) → length values ≡ 3108 → n < 3108 → popped ≤ 1 → 1024 ≤ value → value < 1024 + 4294967296 → m ≡ n - popped
+pub puts-one : (values : List ℕ) (n popped value m : ℕ) → length values ≡ 3108 → n < 3108 → popped ≤ 1 → 1024 ≤ value → value < 1024 + 4294967296 → m ≡ n -
+    popped
     → Put popped value values n (set values m value) (m + 1)
 unfolding valueOf
 puts-one values n popped value m l b h g s q =
@@ -89,7 +98,8 @@ puts-one values n popped value m l b h g s q =
       few = omega arith;
     }
   where
-    each : (left : ℕ) → left ≤ 1024 → Entries left values n → (i : ℕ) → i < m + 1 → Dec (i < m) → (left ≤ getD (set values m value) i 0) × (getD (set values m value) i 0 < 1024 + 4294967296)
+    each : (left : ℕ) → left ≤ 1024 → Entries left values n → (i : ℕ) → i < m + 1 → Dec (i < m) → (left ≤ getD (set values m value) i 0) ×
+        (getD (set values m value) i 0 < 1024 + 4294967296)
     each left c d i k (yes p) = rw (getD-set-other values m i value 0 (λ e. omega arith)) (d i (omega arith))
     each left c d i k (no p) =
         let e : i ≡ m = omega (arith, p) in
@@ -162,7 +172,8 @@ six-few p t a b c d e f ha hb hc hd he hf =
     sum (p % 1024) (p / 1024 % 1024) (p / 1048576 % 1024) (p / 1073741824 % 1024) (p / 1099511627776 % 1024) (p / 1125899906842624 % 1024)
     (omega arith) (digit p 1024) (digit p 1048576) (digit p 1073741824) (digit p 1099511627776) (digit p 1125899906842624) ha hb hc hd he hf
   where
-    sum : (u v w x y z : ℕ) → u ≤ p → v ≤ p → w ≤ p → x ≤ p → y ≤ p → z ≤ p → a ≤ t + u → b ≤ a + v → c ≤ b + w → d ≤ c + x → e ≤ d + y → f ≤ e + z → f ≤ t + 6 * p
+    sum : (u v w x y z : ℕ) → u ≤ p → v ≤ p → w ≤ p → x ≤ p → y ≤ p → z ≤ p → a ≤ t + u → b ≤ a + v → c ≤ b + w → d ≤ c + x → e ≤ d + y → f ≤ e + z → f ≤ t
+        + 6 * p
     sum u v w x y z hu hv hw hx hy hz ha hb hc hd he hf = omega arith
 
 -- ---- what a step sees
@@ -189,7 +200,8 @@ term-number : (words : List ℕ) (v : ℕ) → numberIn (termValue words v) ≡ 
 unfolding termValue numberIn
 term-number words v = choice (ltb (tagIn words v) 12) (ltb (tagIn words v) 16) (ltb (tagIn words v) 18)
   where
-    choice : (a b c : Bool) → numberIn (cond a (ofExpression (treeIn words v)) (cond b (ofCondition (array.conditionIn words v)) (cond c (ofArguments (listIn words v)) (ofExpression (treeIn words v))))) ≡ 0
+    choice : (a b c : Bool) → numberIn (cond a (ofExpression (treeIn words v))
+        (cond b (ofCondition (array.conditionIn words v)) (cond c (ofArguments (listIn words v)) (ofExpression (treeIn words v))))) ≡ 0
     choice true b c = refl
     choice false true c = refl
     choice false false true = refl
@@ -205,7 +217,8 @@ number-of words v = choice (ltb v 1024)
     choice false = refl
 
 module _ (tokens words values : List ℕ) (at n v first second third sort : ℕ) (e : v ≡ lastOf values n) (small : Entries 0 values n)
-    (p : (first ≡ getD tokens at 69) × (69 ≤ first + 69 * (length tokens - at))) (q : (second ≡ getD tokens (at + 1) 69) × (69 ≤ second + 69 * (length tokens - (at + 1))))
+    (p : (first ≡ getD tokens at 69) × (69 ≤ first + 69 * (length tokens - at)))
+    (q : (second ≡ getD tokens (at + 1) 69) × (69 ≤ second + 69 * (length tokens - (at + 1))))
     (r : (third ≡ getD tokens (at + 2) 69) × (69 ≤ third + 69 * (length tokens - (at + 2)))) (s : sort ≡ valueSort (valueOf words v)) where
   last-number : cond (ltb v 1024) 0 (v - 1024) < 4294967296
   last-number = go (decLt v 1024)
@@ -214,7 +227,8 @@ module _ (tokens words values : List ℕ) (at n v first second third sort : ℕ)
       go (yes h) = rw (lt-ltb v 1024 h) (omega arith)
       go (no h) = rw (le-ltb v 1024 (omega (arith, h))) (let z = last-small values n small in omega arith)
 
-  pub looks : (m : ℕ) → m ≡ cond (ltb v 1024) 0 (v - 1024) → Looks tokens at words values n (record { first = first; second = second; third = third; sort = sort; number = m })
+  pub looks : (m : ℕ) → m ≡ cond (ltb v 1024) 0 (v - 1024) → Looks tokens at words values n
+      (record { first = first; second = second; third = third; sort = sort; number = m })
   looks m d =
       record {
         seen =
@@ -233,15 +247,17 @@ module _ (tokens words values : List ℕ) (at n v first second third sort : ℕ)
 
 -- ---- the goals of a procedure
 
-pub stacks-as : (f g : List Goal → List Goal) (goals : List ℕ) (n : ℕ) (goals′ : List ℕ) (n′ : ℕ) → ((gs : List Goal) → f gs ≡ g gs) → Stacked f goals n goals′ n′ → Stacked g goals n goals′ n′
+pub stacks-as : (f g : List Goal → List Goal) (goals : List ℕ) (n : ℕ) (goals′ : List ℕ) (n′ : ℕ) → ((gs : List Goal) → f gs ≡ g gs) → Stacked f goals n
+    goals′ n′ → Stacked g goals n goals′ n′
 stacks-as f g goals n goals′ n′ e p = record { goals-are = p .goals-are ∙ e (goalsOf goals n); long = p .long; above = p .above }
 
-pub main-goals : (number : ℕ) → number ≡ 0 → (gs : List Goal) → stacked 161 gs ≡ procedureGoals number ++ gs
+pub main-goals : (n : ℕ) → n ≡ 0 → (gs : List Goal) → stacked 161 gs ≡ procedureGoals n ++ gs
 unfolding stacked goalOf procedureGoals
-main-goals number e gs = rw e
+main-goals n e gs = rw e
 
-pub heading-goals : (number : ℕ) → (number ≡ 0 → ⊥) → number < 32 → (gs : List Goal)
-    → stacked 42 (stacked number (stacked 62 (stacked 194 (stacked 63 (stacked 66 (stacked 161 gs)))))) ≡ procedureGoals number ++ gs
+pub heading-goals : (n : ℕ) → (n ≡ 0 → ⊥) → n < 32 → (gs : List Goal)
+    → stacked 42 (stacked n (stacked 62 (stacked 194 (stacked 63 (stacked 66 (stacked 161 gs)))))) ≡ procedureGoals n ++ gs
 unfolding stacked goalOf procedureGoals
 heading-goals zero d h gs = absurd (d refl)
-heading-goals (suc p) d h gs = rw (expect-goal (suc p) (omega arith))
+heading-goals (suc p) d h gs = ap (λ (gs : List Goal). stacked 42 gs) (stacked-some (suc p) (expect (suc p)) _ (omega arith)
+    (expect-goal (suc p) (omega arith)))

@@ -39,21 +39,24 @@ module _ (h h′ : ℕ → Node) (below : (t : ℕ) → Below t (h t)) (m : ℕ)
     expression-same zero t b = refl
     expression-same (suc n) t b =
         rw (same t b)
-        (expression-cong t (λ i. expressionAt h′ n i) (λ i. expressionAt h n i) (λ i. conditionAt h′ n i) (λ i. conditionAt h n i) (λ i. argumentsAt h′ n i) (λ i. argumentsAt h n i)
+        (expression-cong t (λ i. expressionAt h′ n i) (λ i. expressionAt h n i) (λ i. conditionAt h′ n i) (λ i. conditionAt h n i) (λ i. argumentsAt h′ n i)
+        (λ i. argumentsAt h n i)
         (λ i c. expression-same n i (omega arith)) (λ i c. condition-same n i (omega arith)) (λ i c. arguments-same n i (omega arith)) (h t) (below t))
 
     condition-same : (n t : ℕ) → m < t → conditionAt h′ n t ≡ conditionAt h n t
     condition-same zero t b = refl
     condition-same (suc n) t b =
         rw (same t b)
-        (condition-cong t (λ i. expressionAt h′ n i) (λ i. expressionAt h n i) (λ i. conditionAt h′ n i) (λ i. conditionAt h n i) (λ i. argumentsAt h′ n i) (λ i. argumentsAt h n i)
+        (condition-cong t (λ i. expressionAt h′ n i) (λ i. expressionAt h n i) (λ i. conditionAt h′ n i) (λ i. conditionAt h n i) (λ i. argumentsAt h′ n i)
+        (λ i. argumentsAt h n i)
         (λ i c. expression-same n i (omega arith)) (λ i c. condition-same n i (omega arith)) (λ i c. arguments-same n i (omega arith)) (h t) (below t))
 
     arguments-same : (n t : ℕ) → m < t → argumentsAt h′ n t ≡ argumentsAt h n t
     arguments-same zero t b = refl
     arguments-same (suc n) t b =
         rw (same t b)
-        (arguments-cong t (λ i. expressionAt h′ n i) (λ i. expressionAt h n i) (λ i. conditionAt h′ n i) (λ i. conditionAt h n i) (λ i. argumentsAt h′ n i) (λ i. argumentsAt h n i)
+        (arguments-cong t (λ i. expressionAt h′ n i) (λ i. expressionAt h n i) (λ i. conditionAt h′ n i) (λ i. conditionAt h n i) (λ i. argumentsAt h′ n i)
+        (λ i. argumentsAt h n i)
         (λ i c. expression-same n i (omega arith)) (λ i c. condition-same n i (omega arith)) (λ i c. arguments-same n i (omega arith)) (h t) (below t))
 
 -- ---- a term more
@@ -125,7 +128,8 @@ module _ (E : ℕ → Expression) (C : ℕ → Condition) (L : ℕ → Arguments
       pub fitting : Fitting (layout k) x y z
       pub below : Below m (nodeOfTag k x y z)
       pub value :
-          valueFor k (expressionOf E C L (nodeOfTag k x y z)) (conditionOf E C (nodeOfTag k x y z)) (argumentsOf E L (nodeOfTag k x y z)) ≡ getD terms k (λ x y z. number 0) u v w
+          valueFor k (expressionOf E C L (nodeOfTag k x y z)) (conditionOf E C (nodeOfTag k x y z)) (argumentsOf E L (nodeOfTag k x y z)) ≡ getD terms k
+          (λ x y z. number 0) u v w
 
     abbrev Row : ℕ → Type 0
     Row k = RowIs (getD operandKinds k []) u v w x y z → Fine k
@@ -139,11 +143,21 @@ module _ (E : ℕ → Expression) (C : ℕ → Condition) (L : ℕ → Arguments
         by-range Row 0 21 ((k : ℕ) → k < 21 → Row k) (λ all k h. all k (omega arith) (omega arith))
         (λ r. record { fitting = fits 0 (omega arith) (omega arith) (omega arith); below = tt; value = refl })
         (λ r. record { fitting = fits 1 (omega arith) (omega arith) (omega arith); below = tt; value = rw (r .0 .1) })
-        (λ r. record { fitting = fits 2 (omega arith) (omega arith) (omega arith); below = tt; value = ap (λ (n : ℕ). ofExpression (Expression.new (fieldsFrom n 0 32))) (r .0 .1) })
+        (λ r. record {
+          fitting = fits 2 (omega arith) (omega arith) (omega arith);
+          below = tt;
+          value = ap
+              (λ (n : ℕ). ofExpression (Expression.new (fieldsFrom n 0 32))) (r .0 .1);
+        })
         (λ r. record { fitting = fits 3 (omega arith) (omega arith) (omega arith); below = r .0 .0; value = rw (r .0 .2, r .1 .1) })
         (λ r. record { fitting = fits 4 (omega arith) (omega arith) (omega arith); below = (r .0 .0, r .2 .0); value = rw (r .0 .2, r .1 .1, r .2 .2) })
         (λ r. record { fitting = fits 5 (omega arith) (omega arith) (omega arith); below = (r .1 .0, r .2 .0); value = rw (r .0 .1, r .1 .2, r .2 .2) })
-        (λ r. record { fitting = fits 6 (omega arith) (omega arith) (omega arith); below = (r .0 .0, r .1 .0, r .2 .0); value = rw (r .0 .3, r .1 .2, r .2 .2) })
+        (λ r. record {
+          fitting = fits 6 (omega arith) (omega arith) (omega arith);
+          below = (r .0 .0, r .1 .0, r .2 .0);
+          value = rw
+              (r .0 .3, r .1 .2, r .2 .2);
+        })
         (λ r. record { fitting = fits 7 (omega arith) (omega arith) (omega arith); below = (r .0 .0, r .1 .0); value = rw (r .0 .3, r .1 .2) })
         (λ r. record { fitting = fits 8 (omega arith) (omega arith) (omega arith); below = r .1 .0; value = rw (r .0 .1, r .1 .4) })
         (λ r. record { fitting = fits 9 (omega arith) (omega arith) (omega arith); below = r .0 .0; value = rw (r .0 .2) })
@@ -174,7 +188,8 @@ module _ (words : List ℕ) (o : Ordered words) where
   -- a term of another sort is read as null, as true or as the end of a list
   abbrev Sorted : ℕ → ℕ → Type 0
   Sorted w k =
-      (expressionOf E C L (rowOf k w) ≡ expressionIn (valueFor k (expressionOf E C L (rowOf k w)) (conditionOf E C (rowOf k w)) (argumentsOf E L (rowOf k w))))
+      (expressionOf E C L (rowOf k w) ≡ expressionIn (valueFor k (expressionOf E C L (rowOf k w)) (conditionOf E C (rowOf k w))
+      (argumentsOf E L (rowOf k w))))
       × (conditionOf E C (rowOf k w) ≡ conditionIn (valueFor k (expressionOf E C L (rowOf k w)) (conditionOf E C (rowOf k w)) (argumentsOf E L (rowOf k w))))
       × (argumentsOf E L (rowOf k w) ≡ argumentsIn (valueFor k (expressionOf E C L (rowOf k w)) (conditionOf E C (rowOf k w)) (argumentsOf E L (rowOf k w))))
 
@@ -249,7 +264,8 @@ module _ (words : List ℕ) (o : Ordered words) where
 
     -- in the places of a row
     row-is : (ks values : List ℕ) (n : ℕ) → length ks ≤ 3 → Operands ks (valuesOf words values n) → Entries left values n
-        → RowIs E C L m ks (valueAt (valuesOf words values n) (length ks - 1)) (valueAt (valuesOf words values n) (length ks - 2)) (valueAt (valuesOf words values n) (length ks - 3))
+        → RowIs E C L m ks (valueAt (valuesOf words values n) (length ks - 1)) (valueAt (valuesOf words values n) (length ks - 2))
+        (valueAt (valuesOf words values n) (length ks - 3))
         (operandAt values n (length ks)) (operandAt values n (length ks - 1)) (operandAt values n (length ks - 2))
     unfolding operandAt
     row-is [] values n h p e = (refl, refl, refl)
@@ -289,15 +305,18 @@ values-drop : (words values : List ℕ) (n k : ℕ) → k ≤ n → drop k (valu
 unfolding valuesOf
 values-drop words values n zero h = let e : n ≡ n - 0 = omega arith in ap (valuesOf words values) e
 values-drop words values zero (suc k) h = absurd (omega arith)
-values-drop words values (suc n) (suc k) h = let e : n - k ≡ suc n - suc k = omega arith in values-drop words values n k (omega arith) ∙ ap (valuesOf words values) e
+values-drop words values (suc n) (suc k) h = let e : n - k ≡ suc n - suc k = omega arith in values-drop words values n k (omega arith) ∙ ap
+    (valuesOf words values) e
 
-made-is : (k : ℕ) (vs : List Value) → made k vs ≡ getD terms k (λ x y z. number 0) (valueAt vs (getD operandCounts k 0 - 1)) (valueAt vs (getD operandCounts k 0 - 2)) (valueAt vs (getD operandCounts k 0 - 3)) ∷ drop (getD operandCounts k 0) vs
+made-is : (k : ℕ) (vs : List Value) → made k vs ≡ getD terms k (λ x y z. number 0) (valueAt vs (getD operandCounts k 0 - 1))
+    (valueAt vs (getD operandCounts k 0 - 2)) (valueAt vs (getD operandCounts k 0 - 3)) ∷ drop (getD operandCounts k 0) vs
 unfolding made
 made-is k vs = refl
 
 -- ---- the term that is made
 
-module _ (words : List ℕ) (o : Ordered words) (long : length words ≡ 1024) (m left : ℕ) (next : left ≡ suc m) (room : left ≤ 1024) (values : List ℕ) (n k : ℕ) (h : k < 21)
+module _ (words : List ℕ) (o : Ordered words) (long : length words ≡ 1024) (m left : ℕ) (next : left ≡ suc m) (room : left ≤ 1024) (values : List ℕ)
+    (n k : ℕ) (h : k < 21)
     (p : Operands (getD operandKinds k []) (valuesOf words values n)) (e : Entries left values n) where
   abbrev count : ℕ
   count = getD operandCounts k 0
@@ -349,7 +368,8 @@ module _ (words : List ℕ) (o : Ordered words) (long : length words ≡ 1024) (
       let w = wordOf k x y z in
       tree-law (nodeIn words′) 1024 ordered-made m
       ∙ ap (expressionOf (treeIn words′) (array.conditionIn words′) (listIn words′)) node-made
-      ∙ expression-cong m (treeIn words′) (treeIn words) (array.conditionIn words′) (array.conditionIn words) (listIn words′) (listIn words) (tree-other words m w o) (condition-other words m w o)
+      ∙ expression-cong m (treeIn words′) (treeIn words) (array.conditionIn words′) (array.conditionIn words) (listIn words′) (listIn words)
+      (tree-other words m w o) (condition-other words m w o)
       (list-other words m w o) node (fine .below)
 
   condition-made : array.conditionIn words′ m ≡ conditionOf (treeIn words) (array.conditionIn words) node
@@ -358,7 +378,8 @@ module _ (words : List ℕ) (o : Ordered words) (long : length words ≡ 1024) (
       let w = wordOf k x y z in
       tree-lawᶜ (nodeIn words′) 1024 ordered-made m
       ∙ ap (conditionOf (treeIn words′) (array.conditionIn words′)) node-made
-      ∙ condition-cong m (treeIn words′) (treeIn words) (array.conditionIn words′) (array.conditionIn words) (listIn words′) (listIn words) (tree-other words m w o) (condition-other words m w o)
+      ∙ condition-cong m (treeIn words′) (treeIn words) (array.conditionIn words′) (array.conditionIn words) (listIn words′) (listIn words)
+      (tree-other words m w o) (condition-other words m w o)
       (list-other words m w o) node (fine .below)
 
   list-made : listIn words′ m ≡ argumentsOf (treeIn words) (listIn words) node
@@ -367,7 +388,8 @@ module _ (words : List ℕ) (o : Ordered words) (long : length words ≡ 1024) (
       let w = wordOf k x y z in
       tree-lawᵃ (nodeIn words′) 1024 ordered-made m
       ∙ ap (argumentsOf (treeIn words′) (listIn words′)) node-made
-      ∙ arguments-cong m (treeIn words′) (treeIn words) (array.conditionIn words′) (array.conditionIn words) (listIn words′) (listIn words) (tree-other words m w o) (condition-other words m w o)
+      ∙ arguments-cong m (treeIn words′) (treeIn words) (array.conditionIn words′) (array.conditionIn words) (listIn words′) (listIn words)
+      (tree-other words m w o) (condition-other words m w o)
       (list-other words m w o) node (fine .below)
 
   value-made : valueOf words′ m ≡ getD terms k (λ x y z. number 0) (v (count - 1)) (v (count - 2)) (v (count - 3))

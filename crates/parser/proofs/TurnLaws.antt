@@ -48,7 +48,8 @@ taken-there l a (suc (suc (suc zero))) x y z i f b₀ b₁ b₂ c₀ c₁ c₂ =
 taken-there l a (suc (suc (suc (suc t)))) x y z i f b₀ b₁ b₂ c₀ c₁ c₂ = absurd (omega arith)
 
 -- what is left to do becomes less
-bounds : (l a g t k n d a′ g′ : ℕ) → a + t ≤ l → 0 < g → g ≤ 8400 → k ≤ 1024 * t → n ≤ 1024 * t → d ≤ 1152921504606846976 * t → a′ ≡ a + t → g′ ≤ g - 1 + 8 → g′ ≤ g - 1 + k + n + 6 * d
+bounds : (l a g t k n d a′ g′ : ℕ) → a + t ≤ l → 0 < g → g ≤ 8400 → k ≤ 1024 * t → n ≤ 1024 * t → d ≤ 1152921504606846976 * t → a′ ≡ a + t → g′ ≤ g - 1 + 8
+    → g′ ≤ g - 1 + k + n + 6 * d
     → (a′ ≤ l) × (g′ ≤ 8407) × (8 * (l - a′) + g′ < 8 * (l - a) + g)
 bounds l a g zero k n d a′ g′ i p q e₀ e₁ e₂ r u v = (omega arith, omega arith, omega arith)
 bounds l a g (suc t) k n d a′ g′ i p q e₀ e₁ e₂ r u v = (omega arith, omega arith, omega arith)
@@ -60,7 +61,8 @@ unfolding goalsOf
 goal-fits goals zero vs h f = absurd (omega arith)
 goal-fits goals (suc n) vs h f = let e : suc n - 1 ≡ n = omega arith in rw e f
 
-fits-onto : (gs : List Goal) (x : Step) (gs″ : List Goal) (vs″ : List Value) (n : ℕ) (ts″ : List ℕ) → go gs″ vs″ n ts″ ≡ onto gs x → FitsAfter gs x → Fits gs″ vs″
+fits-onto : (gs : List Goal) (x : Step) (gs″ : List Goal) (vs″ : List Value) (n : ℕ) (ts″ : List ℕ) → go gs″ vs″ n ts″ ≡ onto gs x → FitsAfter gs x → Fits
+    gs″ vs″
 unfolding onto
 fits-onto gs (go gs′ vs m ts) gs″ vs″ n ts″ e f = let p : gs″ ≡ gs′ ++ gs = cc in let q : vs″ ≡ vs = cc in rw (p, q) f
 fits-onto gs (stop r ts) gs″ vs″ n ts″ e f = let z : _≡_ {A = ℕ} 0 1 = cc in absurd (omega arith)
@@ -121,7 +123,8 @@ module _ (tokens counts goals values words : List ℕ) (s : Standing) (st : Stat
       went-fits : Fits (goalsOf goals′ (s′ .goals)) (valuesOf words values′ (s′ .values))
       unfolding shown
       went-fits =
-          fits-onto below (step counts (goalOf code) held (s .left) ahead) (goalsOf goals′ (s′ .goals)) (valuesOf words values′ (s′ .values)) (s′ .left) (drop (s′ .at) tokens) went-says
+          fits-onto below (step counts (goalOf code) held (s .left) ahead) (goalsOf goals′ (s′ .goals)) (valuesOf words values′ (s′ .values)) (s′ .left)
+          (drop (s′ .at) tokens) went-says
           (step-fits below counts (f .counts-small) (s .left) ahead (goalOf code) held fit)
 
       went-bounds : (s′ .at ≤ length tokens) × (s′ .goals ≤ 8407) × (8 * (length tokens - s′ .at) + s′ .goals < 8 * (length tokens - s .at) + s .goals)
@@ -200,7 +203,8 @@ module _ (tokens counts goals values words : List ℕ) (s : Standing) (st : Stat
       made-fits : Fits (goalsOf goals (s′ .goals)) (valuesOf words′ values′ (s′ .values))
       unfolding shown
       made-fits =
-          fits-onto below (step counts (goalOf code) held (s .left) ahead) (goalsOf goals (s′ .goals)) (valuesOf words′ values′ (s′ .values)) (s′ .left) (drop (s′ .at) tokens) made-says
+          fits-onto below (step counts (goalOf code) held (s .left) ahead) (goalsOf goals (s′ .goals)) (valuesOf words′ values′ (s′ .values)) (s′ .left)
+          (drop (s′ .at) tokens) made-says
           (step-fits below counts (f .counts-small) (s .left) ahead (goalOf code) held fit)
 
       pub turned-made : Turned tokens counts goals values words goals values′ words′ s (On s′)
@@ -237,7 +241,8 @@ module _ (tokens counts goals values words : List ℕ) (s : Standing) (st : Stat
 
   -- ---- a stop
 
-  pub turned-stop : (before reason : ℕ) → Found tokens counts goals values words s (Stop before reason) → Turned tokens counts goals values words goals values words s (turn.Stop reason (s .at + before))
+  pub turned-stop : (before reason : ℕ) → Found tokens counts goals values words s (Stop before reason) → Turned tokens counts goals values words goals
+      values words s (turn.Stop reason (s .at + before))
   unfolding shown done
   turned-stop before reason f =
       record {

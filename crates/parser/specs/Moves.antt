@@ -98,7 +98,8 @@ pushed v vs = cond (eqb v 0) vs (number (v - 1024) ∷ vs)
 -- what comes of a move
 unfoldable pub done : Move → List Goal → List Value → ℕ → List ℕ → Step
 unfolding unpacked stacked pushed reasonOf made
-done (Go taken kept next goals popped value) gs vs n ts = go (unpacked goals (stacked next (stacked kept gs))) (pushed value (drop popped vs)) n (drop taken ts)
+done (Go taken kept next goals popped value) gs vs n ts = go (unpacked goals (stacked next (stacked kept gs))) (pushed value (drop popped vs)) n
+    (drop taken ts)
 done (Make k) gs vs n ts = cond (eqb n 0) (stop Reason.terms ts) (go gs (made k vs) (n - 1) ts)
 done (Stop before reason) gs vs n ts = stop (reasonOf reason) (drop before ts)
 
@@ -159,11 +160,13 @@ PackedForm i p = (gs : List Goal) → unpacked p gs ≡ formAt i .goals ++ gs
 
 -- the move of a form, with so many tokens and a value
 pub record Formed (c : ℕ) (s : Sight) (i taken value : ℕ) (m : Move) : Type 0 where
-  pub does : (gs : List Goal) (vs : List Value) (n : ℕ) (ts : List ℕ) → done m gs vs n ts ≡ onto gs (begun (formAt i) ((c - 160) / 3) (sortOf ((c - 160) % 3)) (pushed value vs) n ts (drop taken ts))
+  pub does : (gs : List Goal) (vs : List Value) (n : ℕ) (ts : List ℕ) → done m gs vs n ts ≡ onto gs
+      (begun (formAt i) ((c - 160) / 3) (sortOf ((c - 160) % 3)) (pushed value vs) n ts (drop taken ts))
   pub slight : Slight (operand ((c - 160) / 3) (sortOf ((c - 160) % 3))) s m
 
 -- nothing follows a value
 pub record Ends (c : ℕ) (s : Sight) (m : Move) : Type 0 where
   pub does : (gs : List Goal) (vs : List Value) (n : ℕ) (ts : List ℕ) → Seen s vs ts
-      → done m gs vs n ts ≡ onto gs (cond (fits (sortOf ((c - 176) % 3)) (valueAt vs 0)) (go [] vs n ts) (stop (wanted (more ((c - 176) / 3) (sortOf ((c - 176) % 3)))) ts))
+      → done m gs vs n ts ≡ onto gs (cond (fits (sortOf ((c - 176) % 3)) (valueAt vs 0)) (go [] vs n ts)
+      (stop (wanted (more ((c - 176) / 3) (sortOf ((c - 176) % 3)))) ts))
   pub slight : Slight (more ((c - 176) / 3) (sortOf ((c - 176) % 3))) s m

@@ -104,7 +104,8 @@ pub record Kept (left : ℕ) (words words′ : List ℕ) : Type 0 where
 pub record Turned (tokens counts goals values words goals′ values′ words′ : List ℕ) (s : Standing) (r : Turn) : Type 0 where
   pub says :
       shown tokens goals′ values′ words′ r
-      ≡ onto (goalsOf goals (s .goals - 1)) (step counts (goalOf (getD goals (s .goals - 1) 0)) (valuesOf words values (s .values)) (s .left) (drop (s .at) tokens))
+      ≡ onto (goalsOf goals (s .goals - 1)) (step counts (goalOf (getD goals (s .goals - 1) 0)) (valuesOf words values (s .values)) (s .left)
+      (drop (s .at) tokens))
   pub next : Next tokens goals′ values′ words′ s r
   pub kept : Kept (s .left) words words′
 

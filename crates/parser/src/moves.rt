@@ -194,7 +194,7 @@ fn dot(code: usize, sight: Sight) -> Move
             reason: 65,
         };
     }
-    if 178 < code {
+    if code > 178 {
         return go(2, code, 131, 1024 + field);
     }
     if sight.third == 67 {

@@ -21,23 +21,12 @@ use Rattle.parsing.specs.Parser.{ahead, Reason, parse, Parsed, parsed, stopped}
 use Rattle.parsing.specs.Plan.{Reading, plan, fault, Fault, countsOf, procedureGoals, Before, programBy, withProcedure, afterProcedure, proceduresBy, readPlan}
 use Rattle.parsing.proofs.ReadRight.{ReadProcedure, main-read, procedure-read}
 use Rattle.plan_writer.specs.Held.{heldProcedure, heldFrom, heldProgram}
+use Rattle.plan_reader.specs.Reading.{Going}
 use Rattle.plan_reader.proofs.HeldLaws.{tree-stays, held-more, held-stay, sizes-append}
 
 -- the procedures that have been read
 abbrev before : ℕ → ℕ → List ℕ → List ℕ → List ℕ → ℕ → Before
 before v m words roots counts p = record { version = v; mask = m; procedures = heldFrom words roots counts 0 p }
-
--- where reading stands: procedure p is next
-pub record Going (ts : List ℕ) (v m : ℕ) (words roots counts : List ℕ) (p at left : ℕ) : Type 0 where
-  pub same : readPlan ts ≡ proceduresBy (countsOf ts) (32 - p) p (before v m words roots counts p) left (drop at ts)
-  pub ordered : Ordered words
-  pub words-long : length words ≡ 1024
-  pub roots-long : length roots ≡ 32
-  pub counts-long : length counts ≡ 32
-  pub there : (q : ℕ) → q < p → (left ≤ getD roots q 0) × (getD roots q 0 < 1024) × (getD counts q 0 ≤ 8)
-  pub sized : sizeOfAll (heldFrom words roots counts 0 p) + left ≡ 1024
-  pub inside : at ≤ length ts
-  pub few : p ≤ 32
 
 -- a procedure has been read into the arrays
 pub record OneMore (words words′ : List ℕ) (left : ℕ) (vs : List Value) (n root k : ℕ) : Type 0 where

@@ -1,14 +1,23 @@
 -- What is left to read of a plan's tokens. No reader of the entry's promise needs it. Assumes nothing.
 use Prim.Native.Nat.{ℕ, zero, suc, _+_, _-_, _*_, _^_, _≤_, _<_}
 use mathlib.Core.Path.{_≡_}
-use mathlib.Core.Bool.{Bool, cond, _&&_}
+use mathlib.Core.Bool.{Bool, true, false, cond, _&&_}
 use mathlib.Core.List.{List, [], _∷_}
 use lib.Dec.{eqb, ltb}
-use lib.ListN.{length, getD, drop}
-use Rattle.notation.specs.Tokens.{procedureWord}
+use lib.ListN.{length, getD, drop, set}
+use Rattle.notation.specs.Tokens.{procedureWord, textEnd}
 use Rattle.parsing.specs.Parser.{ahead}
-use Rattle.parsing.specs.Plan.{Reading, fault, Fault, countsFrom, countsOf, Before, proceduresBy, maskFrom, behindFields, withVolatiles, readPlan}
+use Rattle.parsing.specs.Plan.{Reading, plan, fault, Fault, countsFrom, countsOf, Before, proceduresBy, maskFrom, behindFields, withVolatiles, readPlan}
+use Rattle.packed.specs.Slots.{closed}
+use Rattle.packed.specs.Steps.{Ordered, treeIn}
+use Rattle.written.specs.Written.{sizeOfAll}
+use Rattle.plan_writer.specs.Held.{heldFrom, heldProgram}
+use Rattle.parser.specs.Encoded.{reasonOf}
 use Rattle.plan_reader.specs.declared.Heading.{Heading}
+use Rattle.plan_reader.specs.declared.Outcome.{Outcome}
+use Rattle.plan_reader.specs.declared.Outcome.the-variants.{Plan, Refused}
+use Rattle.plan_reader.specs.declared.Next.{Next}
+use Rattle.plan_reader.specs.declared.Next.the-variants.{On, Last, Stop}
 
 -- the parameter count at a token, if it is the word `procedure`
 unfoldable pub countAt : List ℕ → ℕ → List ℕ
@@ -43,3 +52,60 @@ pub record Headed (ts : List ℕ) (h : Heading) : Type 0 where
   pub known : h .version ≤ 1 → Behind ts (readPlan ts) (h .version) (h .mask) (h .at)
   pub unknown : 1 < h .version → readPlan ts ≡ fault Fault.version (drop (h .at) ts)
   pub inside : h .at ≤ length ts
+
+-- ---- procedures
+
+-- why a text is no plan, by the kind of the fault and the parser's reason
+unfoldable pub faultOf : ℕ → ℕ → Fault
+unfolding reasonOf
+faultOf kind r = cond (eqb kind 0) (Fault.reading (reasonOf r)) (cond (eqb kind 1) Fault.version (cond (eqb kind 2) Fault.slots Fault.end))
+
+-- reading stops before a token
+pub record Faulty (ts : List ℕ) (kind reason at : ℕ) : Type 0 where
+  pub says : readPlan ts ≡ fault (faultOf kind reason) (drop at ts)
+  pub inside : at ≤ length ts
+
+-- a plan of n procedures has been read into arrays, and so many terms are left
+pub record PlanHeld (ts : List ℕ) (v m n left : ℕ) (words roots counts : List ℕ) : Type 0 where
+  pub says : readPlan ts ≡ plan (heldProgram v m n words roots counts)
+  pub ordered : Ordered words
+  pub there : (q : ℕ) → q < n → (left ≤ getD roots q 0) × (getD roots q 0 < 1024) × (getD counts q 0 ≤ 8)
+  pub sized : sizeOfAll (heldFrom words roots counts 0 n) + left ≡ 1024
+  pub few : n ≤ 32
+
+-- what comes of a plan's tokens
+abbrev pub ReadAs : List ℕ → List ℕ → List ℕ → List ℕ → Outcome → Type 0
+ReadAs ts words roots counts (Plan v m n left) = PlanHeld ts v m n left words roots counts × (v ≤ 1)
+ReadAs ts words roots counts (Refused kind reason at) = Faulty ts kind reason at
+
+-- where reading stands: procedure p is next
+pub record Going (ts : List ℕ) (v m : ℕ) (words roots counts : List ℕ) (p at left : ℕ) : Type 0 where
+  pub same : readPlan ts ≡ proceduresBy (countsOf ts) (32 - p) p (record { version = v; mask = m; procedures = heldFrom words roots counts 0 p }) left (drop at ts)
+  pub ordered : Ordered words
+  pub words-long : length words ≡ 1024
+  pub roots-long : length roots ≡ 32
+  pub counts-long : length counts ≡ 32
+  pub there : (q : ℕ) → q < p → (left ≤ getD roots q 0) × (getD roots q 0 < 1024) × (getD counts q 0 ≤ 8)
+  pub sized : sizeOfAll (heldFrom words roots counts 0 p) + left ≡ 1024
+  pub inside : at ≤ length ts
+  pub few : p ≤ 32
+
+-- after procedure p
+abbrev pub Goes : List ℕ → ℕ → ℕ → List ℕ → List ℕ → List ℕ → ℕ → Next → Type 0
+Goes ts v m words roots counts p (On at left) = Going ts v m words roots counts (suc p) at left
+Goes ts v m words roots counts p (Last left) = PlanHeld ts v m (suc p) left words roots counts
+Goes ts v m words roots counts p (Stop kind reason at) = Faulty ts kind reason at
+
+-- a procedure that has been read is kept, if its slots are bound
+pub record Kept (words roots counts roots′ counts′ : List ℕ) (p root k : ℕ) : Type 0 where
+  pub bound : closed (λ x. ltb x k) (treeIn words root) ≡ true
+  pub roots-are : roots′ ≡ set roots p root
+  pub counts-are : counts′ ≡ set counts p k
+
+abbrev pub Keeps : List ℕ → ℕ → ℕ → List ℕ → List ℕ → List ℕ → List ℕ → List ℕ → ℕ → ℕ → ℕ → ℕ → Next → Type 0
+Keeps ts p at words roots counts roots′ counts′ root k left next (Stop kind reason stop) =
+    (closed (λ x. ltb x k) (treeIn words root) ≡ false) × (kind ≡ 2) × (stop ≡ at)
+Keeps ts p at words roots counts roots′ counts′ root k left next (Last left′) =
+    Kept words roots counts roots′ counts′ p root k × (ahead ts next ≡ textEnd) × (left′ ≡ left)
+Keeps ts p at words roots counts roots′ counts′ root k left next (On at′ left′) =
+    Kept words roots counts roots′ counts′ p root k × (ahead ts next ≡ textEnd → ⊥) × (at′ ≡ next) × (left′ ≡ left)

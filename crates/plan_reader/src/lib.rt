@@ -1,14 +1,15 @@
 // A plan's tokens, read into arrays: its terms, and the root and the parameter count of each procedure.
 use byte_numbers::wide;
 use notation::tokens;
+use parser::Parsed;
 ghost use Prim.Native.Nat.{_+_, _≤_, _<_};
 ghost use mathlib.Core.Path.{_≡_};
 ghost use lib.ListN.{length};
-ghost use Rattle.notation.specs.Tokens.{textEnd};
+ghost use Rattle.packed.specs.Steps.{Ordered};
 ghost use Rattle.text.specs.Wrote.{Wrote};
 ghost use Rattle.parsing.specs.Parser.{ahead};
 ghost use Rattle.parsing.specs.Plan.{countsFrom, countsOf};
-ghost use Rattle.plan_reader.specs.Reading.{countAt, isNext, Fielded, Marked, Headed};
+ghost use Rattle.plan_reader.specs.Reading.{countAt, isNext, Fielded, Marked, Headed, Going, Keeps, Goes, ReadAs};
 
 // The version, the mask of volatile fields, and the token behind both.
 struct Heading {
@@ -122,4 +123,120 @@ fn header(tokens: &[u8]) -> Heading
         };
     }
     volatiles(tokens, version, 2)
+}
+
+// What comes of a plan's tokens: a plan, held in the arrays; or why it is none, and before which token.
+pub enum Outcome {
+    Plan {
+        version: usize,
+        mask: usize,
+        procedures: usize,
+        left: usize,
+    },
+    Refused {
+        kind: usize,
+        reason: usize,
+        at: usize,
+    },
+}
+
+// The kinds of faults: reading stops, for the parser's reason; no such version; a slot that nothing binds; more than 32 procedures.
+pub const READING: usize = 0;
+
+pub const VERSION: usize = 1;
+
+pub const SLOTS: usize = 2;
+
+pub const END: usize = 3;
+
+// After a procedure: the next one, from a token and with so many terms left; or it was the last; or a fault.
+enum Next {
+    On {
+        at: usize,
+        left: usize,
+    },
+    Last(usize),
+    Stop {
+        kind: usize,
+        reason: usize,
+        at: usize,
+    },
+}
+
+// A procedure has been read: its slots, its place in the arrays, and what is behind it.
+fn keep(
+    tokens: &[u8],
+    procedure: usize,
+    at: usize,
+    words: &[usize; 1024],
+    roots: &mut [usize; 32],
+    parameters: &mut [usize; 32],
+    root: usize,
+    count: usize,
+    left: usize,
+    next: usize,
+) -> Next
+    requires { ⌜ (procedure < 32) × Ordered (now words) × (root < 1024) × (count < 9) ⌝ }
+    ensures { λ r. ⌜ Keeps (now (tokens .entry)) procedure at (now (words .entry)) (now (roots .entry)) (now (parameters .entry)) (now (roots .exit)) (now (parameters .exit)) root count left next r ⌝ }
+{
+    if !bound_slots::closed_with(words, root, count) {
+        return Next::Stop {
+            kind: SLOTS,
+            reason: 0,
+            at: at,
+        };
+    }
+    roots[procedure] = root;
+    parameters[procedure] = count;
+    if ahead(tokens, next) == tokens::END {
+        return Next::Last(left);
+    }
+    Next::On {
+        at: next,
+        left: left,
+    }
+}
+
+// Procedure by procedure.
+fn step(
+    tokens: &[u8],
+    counts: &[u8],
+    procedure: usize,
+    at: usize,
+    left: usize,
+    words: &mut [usize; 1024],
+    roots: &mut [usize; 32],
+    parameters: &mut [usize; 32],
+    version: usize,
+    mask: usize,
+) -> Next
+    requires { ⌜ (length (now tokens) ≤ 16384) × (now counts ≡ countsOf (now tokens)) × (procedure < 32) ⌝ }
+    requires { ⌜ Going (now tokens) version mask (now words) (now roots) (now parameters) procedure at left ⌝ }
+    ensures { λ r. ⌜ Goes (now (tokens .entry)) version mask (now (words .exit)) (now (roots .exit)) (now (parameters .exit)) procedure r ⌝ }
+{
+    let parsed = parser::procedure(tokens, at, procedure, counts, words, left);
+    match parsed {
+        Parsed::Stopped { reason, at: stop } => Next::Stop {
+            kind: READING,
+            reason: reason,
+            at: stop,
+        },
+        Parsed::Read {
+            root,
+            parameters: count,
+            left: fewer,
+            at: next,
+        } => keep(
+            tokens,
+            procedure,
+            at,
+            words,
+            roots,
+            parameters,
+            root,
+            count,
+            fewer,
+            next,
+        ),
+    }
 }

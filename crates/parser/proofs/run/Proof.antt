@@ -7,7 +7,8 @@ use Rattle.parser.proofs.run.Statement.{statement}
 use Rattle.parser.proofs.run.Tie as tie
 
 abbrev Inv-loop : tie.InvT-loop
-Inv-loop tokens counts goals₀ values₀ words₀ standing₀ goals values words standing = Before counts tokens goals₀ values₀ words₀ standing₀ goals values words standing
+Inv-loop tokens counts goals₀ values₀ words₀ standing₀ goals values words standing = Before counts tokens goals₀ values₀ words₀ standing₀ goals values words
+    standing
 
 abbrev μ-loop : tie.MeasureT-loop
 μ-loop tokens counts goals₀ values₀ words₀ standing₀ goals values words standing = 8 * (length tokens - standing .at) + standing .goals
@@ -25,10 +26,17 @@ returns-2 : tie.Need-returns-2 Inv-loop μ-loop
 returns-2 c = run-many _ _ _ _ _ _ _ _ _ _ (c .before .before .before .before .loop .inv) (c .if2 .taken)
 
 returns-3 : tie.Need-returns-3 Inv-loop μ-loop
-returns-3 c = run-full _ _ _ _ _ _ _ _ _ _ (c .before .before .before .before .before .before .loop .inv) (c .before .before .before .before .if1 .left) (c .before .before .if2 .left) (c .if3 .taken)
+returns-3 c = run-full _ _ _ _ _ _ _ _ _ _ (c .before .before .before .before .before .before .loop .inv) (c .before .before .before .before .if1 .left)
+    (c .before .before .if2 .left) (c .if3 .taken)
 
 take-requires : tie.Need-take-requires Inv-loop μ-loop
-take-requires c κs = (c .before .before .before .before .before .before .before .before .before .loop .inv .state, going _ _ _ _ _ _ _ _ _ _ (c .before .before .before .before .before .before .before .before .before .loop .inv) (c .before .before .before .before .before .before .before .if1 .left) (c .before .before .before .before .before .if2 .left) (c .before .before .before .if3 .left))
+take-requires c κs = (
+  c .before .before .before .before .before .before .before .before .before .loop .inv .state,
+  going _ _ _ _ _ _ _ _ _ _
+      (c .before .before .before .before .before .before .before .before .before .loop .inv)
+      (c .before .before .before .before .before .before .before .if1 .left) (c .before .before .before .before .before .if2 .left)
+      (c .before .before .before .if3 .left),
+)
 
 enum-known-next : tie.Need-enum-known-next Inv-loop μ-loop
 enum-known-next c = search needs
@@ -37,13 +45,21 @@ loop-less : tie.Need-loop-less Inv-loop μ-loop
 loop-less c = let t = rw (c .before .next .given .1) at (c .before .before .before .take .ensures) in t .next .less
 
 loop-again : tie.Need-loop-again Inv-loop μ-loop
-loop-again c = run-on _ _ _ _ _ _ _ _ _ _ (c .before .before .before .before .before .before .before .before .before .before .before .before .before .loop .inv) (c .before .before .before .before .before .before .before .before .before .before .before .if1 .left) (c .before .before .before .before .before .before .before .before .before .if2 .left) (c .before .before .before .before .before .before .before .if3 .left) _ _ _ _ (rw (c .before .next .given .1) at (c .before .before .before .take .ensures))
+loop-again c = run-on _ _ _ _ _ _ _ _ _ _ (c .before .before .before .before .before .before .before .before .before .before .before .before .before .loop
+    .inv) (c .before .before .before .before .before .before .before .before .before .before .before .if1 .left)
+    (c .before .before .before .before .before .before .before .before .before .if2 .left)
+    (c .before .before .before .before .before .before .before .if3 .left) _ _ _ _
+    (rw (c .before .next .given .1) at (c .before .before .before .take .ensures))
 
 enum-known-reason : tie.Need-enum-known-reason Inv-loop μ-loop
 enum-known-reason c = search needs
 
 returns-4 : tie.Need-returns-4 Inv-loop μ-loop
-returns-4 c = run-stops _ _ _ _ _ _ _ _ _ _ (c .before .before .before .before .before .before .before .before .before .before .before .before .before .loop .inv) (c .before .before .before .before .before .before .before .before .before .before .before .if1 .left) (c .before .before .before .before .before .before .before .before .before .if2 .left) (c .before .before .before .before .before .before .before .if3 .left) _ _ _ _ _ (rw (c .before .reason .given .1) at (c .before .before .before .take .ensures))
+returns-4 c = run-stops _ _ _ _ _ _ _ _ _ _ (c .before .before .before .before .before .before .before .before .before .before .before .before .before .loop
+    .inv) (c .before .before .before .before .before .before .before .before .before .before .before .if1 .left)
+    (c .before .before .before .before .before .before .before .before .before .if2 .left)
+    (c .before .before .before .before .before .before .before .if3 .left) _ _ _ _ _
+    (rw (c .before .reason .given .1) at (c .before .before .before .take .ensures))
 
 pub run-spec : {M : Type 1} → statement M
 run-spec =

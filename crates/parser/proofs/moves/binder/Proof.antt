@@ -23,7 +23,11 @@ stop-requires : tie.Need-stop-requires
 stop-requires c κs = search needs
 
 returns-3 : tie.Need-returns-3
-returns-3 c = λ counts. rw (c .stop .ensures) (record { does = binder-stops counts _ (c .before .before .if1 .left) (c .before .if2 .left); slight = search needs })
+returns-3 c = λ counts. rw (c .stop .ensures) (record {
+  does = binder-stops counts _ (c .before .before .if1 .left) (c .before .if2 .left);
+  slight = search
+      needs;
+})
 
 pub binder-spec : {M : Type 1} → statement M
 binder-spec =

@@ -14,7 +14,11 @@ stop-requires : tie.Need-stop-requires
 stop-requires c κs = search needs
 
 returns-2 : tie.Need-returns-2
-returns-2 c = λ counts. rw (c .stop .ensures) (record { does = expect-stops counts _ _ (c .before .before .before .pre) (c .before .if1 .left); slight = search needs })
+returns-2 c = λ counts. rw (c .stop .ensures) (record {
+  does = expect-stops counts _ _ (c .before .before .before .pre) (c .before .if1 .left);
+  slight =
+      search needs;
+})
 
 pub expect-spec : {M : Type 1} → statement M
 expect-spec = tie.close (tie.spec go-requires returns stop-requires returns-2)

@@ -8,13 +8,21 @@ go-requires : tie.Need-go-requires
 go-requires c κs = search needs
 
 returns : tie.Need-returns
-returns c = λ counts. rw (c .go .ensures) (record { does = further-end counts _ _ (c .before .before .if1 .taken) (c .before .if2 .taken); slight = search needs })
+returns c = λ counts. rw (c .go .ensures) (record {
+  does = further-end counts _ _ (c .before .before .if1 .taken) (c .before .if2 .taken);
+  slight = search
+      needs;
+})
 
 stop-requires : tie.Need-stop-requires
 stop-requires c κs = search needs
 
 returns-2 : tie.Need-returns-2
-returns-2 c = λ counts. rw (c .stop .ensures) (record { does = further-open counts _ _ (c .before .before .if1 .taken) (c .before .if2 .left); slight = search needs })
+returns-2 c = λ counts. rw (c .stop .ensures) (record {
+  does = further-open counts _ _ (c .before .before .if1 .taken) (c .before .if2 .left);
+  slight =
+      search needs;
+})
 
 sub-t6 : tie.Need-sub-t6
 sub-t6 c = search needs
@@ -26,7 +34,11 @@ stop-requires-2 : tie.Need-stop-requires-2
 stop-requires-2 c κs = search needs
 
 returns-4 : tie.Need-returns-4
-returns-4 c = λ counts. rw (c .stop2 .ensures) (record { does = further-stops counts _ _ (search needs) (search needs) (c .before .before .if1 .left) (c .before .if3 .left); slight = search needs })
+returns-4 c = λ counts. rw (c .stop2 .ensures) (record {
+  does = further-stops counts _ _ (search needs) (search needs) (c .before .before .if1 .left)
+      (c .before .if3 .left);
+  slight = search needs;
+})
 
 pub further-spec : {M : Type 1} → statement M
 further-spec =

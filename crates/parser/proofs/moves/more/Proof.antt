@@ -20,7 +20,11 @@ stop-requires : tie.Need-stop-requires
 stop-requires c κs = search needs
 
 returns-3 : tie.Need-returns-3
-returns-3 c = λ counts. rw (c .stop .ensures) (record { does = more-stops counts _ _ (search needs) (search needs) (c .before .before .before .if1 .left) (c .before .if2 .left); slight = search needs })
+returns-3 c = λ counts. rw (c .stop .ensures) (record {
+  does = more-stops counts _ _ (search needs) (search needs) (c .before .before .before .if1 .left)
+      (c .before .if2 .left);
+  slight = search needs;
+})
 
 pub more-spec : {M : Type 1} → statement M
 more-spec =

@@ -20,13 +20,21 @@ go-requires : tie.Need-go-requires
 go-requires c κs = search needs
 
 returns-2 : tie.Need-returns-2
-returns-2 c = λ counts. rw (c .go .ensures) (record { does = operand-variable counts _ _ (search needs) (search needs) (search needs) (search needs); slight = search needs })
+returns-2 c = λ counts. rw (c .go .ensures) (record {
+  does = operand-variable counts _ _ (search needs) (search needs) (search needs) (search needs);
+  slight
+      = search needs;
+})
 
 stop-requires-2 : tie.Need-stop-requires-2
 stop-requires-2 c κs = search needs
 
 returns-3 : tie.Need-returns-3
-returns-3 c = λ counts. rw (c .stop2 .ensures) (record { does = operand-other counts _ _ (search needs) (search needs) (search needs) (search needs); slight = search needs })
+returns-3 c = λ counts. rw (c .stop2 .ensures) (record {
+  does = operand-other counts _ _ (search needs) (search needs) (search needs) (search needs);
+  slight
+      = search needs;
+})
 
 word-requires : tie.Need-word-requires
 word-requires c κs = search needs
@@ -38,7 +46,11 @@ stop-requires-3 : tie.Need-stop-requires-3
 stop-requires-3 c κs = search needs
 
 returns-5 : tie.Need-returns-5
-returns-5 c = λ counts. rw (c .stop3 .ensures) (record { does = operand-high counts _ _ (search needs) (search needs) (search needs) (c .before .if5 .taken); slight = search needs })
+returns-5 c = λ counts. rw (c .stop3 .ensures) (record {
+  does = operand-high counts _ _ (search needs) (search needs) (search needs)
+      (c .before .if5 .taken);
+  slight = search needs;
+})
 
 sub-if6 : tie.Need-sub-if6
 sub-if6 c = search needs
@@ -50,7 +62,11 @@ go-requires-2 : tie.Need-go-requires-2
 go-requires-2 c κs = search needs
 
 returns-6 : tie.Need-returns-6
-returns-6 c = λ counts. rw (c .go2 .ensures) (record { does = operand-group counts _ _ (search needs) (search needs) (c .before .before .if5 .left) (c .before .if6 .taken); slight = search needs })
+returns-6 c = λ counts. rw (c .go2 .ensures) (record {
+  does = operand-group counts _ _ (search needs) (search needs) (c .before .before .if5 .left)
+      (c .before .if6 .taken);
+  slight = search needs;
+})
 
 add-go-4 : tie.Need-add-go-4
 add-go-4 c = search needs
@@ -59,7 +75,11 @@ go-requires-3 : tie.Need-go-requires-3
 go-requires-3 c κs = search needs
 
 returns-7 : tie.Need-returns-7
-returns-7 c = λ counts. rw (c .go3 .ensures) (record { does = operand-either counts _ _ (search needs) (search needs) (c .before .before .if5 .left) (c .before .if6 .left); slight = search needs })
+returns-7 c = λ counts. rw (c .go3 .ensures) (record {
+  does = operand-either counts _ _ (search needs) (search needs) (c .before .before .if5 .left)
+      (c .before .if6 .left);
+  slight = search needs;
+})
 
 pub operand-spec : {M : Type 1} → statement M
 operand-spec =

@@ -32,7 +32,11 @@ go-requires : tie.Need-go-requires
 go-requires c κs = search needs
 
 returns-3 : tie.Need-returns-3
-returns-3 c = rw (c .go .ensures) (record { does = procedure-alone _ _ (c .before .before .before .before .before .if1 .left) (c .before .before .before .before .if2 .left) (sym (c .before .before .wide .ensures .0) ∙ (c .before .if3 .taken)); slight = search needs })
+returns-3 c = rw (c .go .ensures) (record {
+  does = procedure-alone _ _ (c .before .before .before .before .before .if1 .left)
+      (c .before .before .before .before .if2 .left) (sym (c .before .before .wide .ensures .0) ∙ (c .before .if3 .taken));
+  slight = search needs;
+})
 
 add-t6 : tie.Need-add-t6
 add-t6 c = search needs
@@ -45,7 +49,11 @@ returns-4 c =
     let r = c .before .wide .result in
     let q : 639 + r ≡ 640 + (r - 1) = omega (arith, c .if3 .left) in
     let e : r ≡ suc (r - 1) = omega (arith, c .if3 .left) in
-    rw q (record { does = procedure-arguments _ _ (r - 1) (c .before .before .before .before .if1 .left) (c .before .before .before .if2 .left) (sym (c .before .wide .ensures .0) ∙ e); slight = search needs })
+    rw q (record {
+      does = procedure-arguments _ _ (r - 1) (c .before .before .before .before .if1 .left) (c .before .before .before .if2 .left)
+          (sym (c .before .wide .ensures .0) ∙ e);
+      slight = search needs;
+    })
 
 pub procedure-spec : {M : Type 1} → statement M
 procedure-spec =

@@ -31,8 +31,28 @@ stack-requires-7 c κs = search needs
 
 returns-2 : tie.Need-returns-2
 returns-2 c = (
-  stacks-as _ _ _ _ _ _ (heading-goals _ (c .before .before .before .before .before .before .before .before .before .before .before .before .if1 .left) (c .before .before .before .before .before .before .before .before .before .before .before .before .before .before .before .pre .0)) (stacks-twice _ _ _ _ _ _ _ _ (stacks-twice _ _ _ _ _ _ _ _ (stacks-twice _ _ _ _ _ _ _ _ (stacks-twice _ _ _ _ _ _ _ _ (stacks-twice _ _ _ _ _ _ _ _ (stacks-twice _ _ _ _ _ _ _ _ (c .before .before .before .before .before .before .before .before .before .before .before .before .before .stack .ensures .0) (c .before .before .before .before .before .before .before .before .before .before .stack2 .ensures .0)) (c .before .before .before .before .before .before .before .before .stack3 .ensures .0)) (c .before .before .before .before .before .before .stack4 .ensures .0)) (c .before .before .before .before .stack5 .ensures .0)) (c .before .before .stack6 .ensures .0)) (c .stack7 .ensures .0)),
-  omega (arith, c .before .before .before .before .before .before .before .before .before .before .before .before .before .stack .ensures .1, c .before .before .before .before .before .before .before .before .before .before .stack2 .ensures .1, c .before .before .before .before .before .before .before .before .stack3 .ensures .1, c .before .before .before .before .before .before .stack4 .ensures .1, c .before .before .before .before .stack5 .ensures .1, c .before .before .stack6 .ensures .1, c .stack7 .ensures .1),
+  stacks-as _ _ _ _ _ _ (heading-goals _ (c .before .before .before .before .before .before .before .before .before .before .before .before .if1 .left)
+      (c .before .before .before .before .before .before .before .before .before .before .before .before .before .before .before .pre .0))
+      (stacks-twice _ _ _ _ _ _ _ _ (stacks-twice _ _ _ _ _ _ _ _ (stacks-twice _ _ _ _ _ _ _ _
+      (stacks-twice _ _ _ _ _ _ _ _ (stacks-twice _ _ _ _ _ _ _ _ (stacks-twice _ _ _ _ _ _ _ _
+      (c .before .before .before .before .before .before .before .before .before .before .before .before .before .stack .ensures .0)
+      (c .before .before .before .before .before .before .before .before .before .before .stack2 .ensures .0))
+      (c .before .before .before .before .before .before .before .before .stack3 .ensures .0))
+      (c .before .before .before .before .before .before .stack4 .ensures .0)) (c .before .before .before .before .stack5 .ensures .0))
+      (c .before .before .stack6 .ensures .0)) (c .stack7 .ensures .0)),
+  omega (
+    arith,
+    c .before .before .before .before .before .before .before .before .before .before .before .before .before .stack .ensures .1,
+    c .before
+        .before .before .before .before .before .before .before .before .before .stack2 .ensures .1,
+    c .before .before .before .before .before .before .before
+        .before .stack3 .ensures .1,
+    c .before .before .before .before .before .before .stack4 .ensures .1,
+    c .before .before .before .before .stack5 .ensures
+        .1,
+    c .before .before .stack6 .ensures .1,
+    c .stack7 .ensures .1,
+  ),
 )
 
 pub begin-spec : {M : Type 1} → statement M

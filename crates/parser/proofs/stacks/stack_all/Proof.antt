@@ -15,7 +15,11 @@ stack-digits-requires : tie.Need-stack-digits-requires
 stack-digits-requires c κs = search needs
 
 returns : tie.Need-returns
-returns c = (stacks-twice _ _ _ _ _ _ _ _ (stacks-twice _ _ _ _ _ _ _ _ (c .before .before .before .before .stack .ensures .0) (c .before .before .stack2 .ensures .0)) (c .stack-digits .ensures .0), (search needs, search needs))
+returns c = (
+  stacks-twice _ _ _ _ _ _ _ _ (stacks-twice _ _ _ _ _ _ _ _ (c .before .before .before .before .stack .ensures .0)
+      (c .before .before .stack2 .ensures .0)) (c .stack-digits .ensures .0),
+  (search needs, search needs),
+)
 
 pub stack-all-spec : {M : Type 1} → statement M
 stack-all-spec = tie.close (tie.spec stack-requires stack-requires-2 stack-digits-requires returns)

@@ -12,16 +12,27 @@ enum-known-taken : tie.Need-enum-known-taken
 enum-known-taken c = search needs
 
 go-on-requires : tie.Need-go-on-requires
-go-on-requires c κs = room _ _ _ _ _ _ (c .before .before .before .before .before .before .before .before .before .before .before .pre .0) (c .before .before .before .before .before .before .before .before .before .before .before .pre .1) _ _ _ _ _ _ (rw (c .before .before .before .taken .given .1) at (c .before .before .before .before .before .found .ensures))
+go-on-requires c κs = room _ _ _ _ _ _ (c .before .before .before .before .before .before .before .before .before .before .before .pre .0)
+    (c .before .before .before .before .before .before .before .before .before .before .before .pre .1) _ _ _ _ _ _
+    (rw (c .before .before .before .taken .given .1) at (c .before .before .before .before .before .found .ensures))
 
 enum-known-tag : tie.Need-enum-known-tag
 enum-known-tag c = search needs
 
 returns : tie.Need-returns
-returns c = turned-none _ _ _ _ _ _ (c .before .before .before .before .before .before .before .before .before .before .before .pre .0) (c .before .before .before .before .before .before .before .before .before .before .before .pre .1) _ (rw (c .before .before .before .tag .given .1) at (c .before .before .before .before .before .found .ensures)) (c .if1 .taken)
+returns c = turned-none _ _ _ _ _ _ (c .before .before .before .before .before .before .before .before .before .before .before .pre .0)
+    (c .before .before .before .before .before .before .before .before .before .before .before .pre .1) _
+    (rw (c .before .before .before .tag .given .1) at (c .before .before .before .before .before .found .ensures)) (c .if1 .taken)
 
 make-on-requires : tie.Need-make-on-requires
-make-on-requires c κs = (makeable _ _ _ _ _ _ (c .before .before .before .before .before .before .before .before .before .before .before .before .before .pre .0) (c .before .before .before .before .before .before .before .before .before .before .before .before .before .pre .1) _ (rw (c .before .before .before .before .before .tag .given .1) at (c .before .before .before .before .before .before .before .found .ensures)) (c .before .before .if1 .left), c .before .before .before .before .before .before .before .before .before .before .before .before .before .pre .1 .some-goal)
+make-on-requires c κs = (
+  makeable _ _ _ _ _ _ (c .before .before .before .before .before .before .before .before .before .before .before .before .before
+      .pre .0) (c .before .before .before .before .before .before .before .before .before .before .before .before .before .pre .1) _
+      (rw (c .before .before .before .before .before .tag .given .1) at (c .before .before .before .before .before .before .before .found .ensures))
+      (c .before .before .if1 .left),
+  c .before .before .before .before .before .before .before .before .before .before .before .before .before .pre .1
+      .some-goal,
+)
 
 enum-known-before : tie.Need-enum-known-before
 enum-known-before c = search needs
@@ -35,13 +46,20 @@ add-t29 c =
     omega arith
 
 returns-2 : tie.Need-returns-2
-returns-2 c = turned-on _ _ _ _ _ _ (c .before .before .before .before .before .before .before .before .before .before .before .before .pre .0) (c .before .before .before .before .before .before .before .before .before .before .before .before .pre .1) _ _ _ _ _ _ (rw (c .before .before .before .before .taken .given .1) at (c .before .before .before .before .before .before .found .ensures)) _ _ _ (c .go-on .ensures)
+returns-2 c = turned-on _ _ _ _ _ _ (c .before .before .before .before .before .before .before .before .before .before .before .before .pre .0)
+    (c .before .before .before .before .before .before .before .before .before .before .before .before .pre .1) _ _ _ _ _ _
+    (rw (c .before .before .before .before .taken .given .1) at (c .before .before .before .before .before .before .found .ensures)) _ _ _ (c .go-on .ensures)
 
 returns-3 : tie.Need-returns-3
-returns-3 c = turned-made _ _ _ _ _ _ (c .before .before .before .before .before .before .before .before .before .before .before .before .before .before .pre .0) (c .before .before .before .before .before .before .before .before .before .before .before .before .before .before .pre .1) _ (rw (c .before .before .before .before .before .before .tag .given .1) at (c .before .before .before .before .before .before .before .before .found .ensures)) (c .before .before .before .if1 .left) _ _ _ (c .make-on .ensures)
+returns-3 c = turned-made _ _ _ _ _ _ (c .before .before .before .before .before .before .before .before .before .before .before .before .before .before
+    .pre .0) (c .before .before .before .before .before .before .before .before .before .before .before .before .before .before .pre .1) _
+    (rw (c .before .before .before .before .before .before .tag .given .1) at
+    (c .before .before .before .before .before .before .before .before .found .ensures)) (c .before .before .before .if1 .left) _ _ _ (c .make-on .ensures)
 
 returns-4 : tie.Need-returns-4
-returns-4 c = turned-stop _ _ _ _ _ _ (c .before .before .before .before .before .before .before .before .before .pre .0) (c .before .before .before .before .before .before .before .before .before .pre .1) _ _ (rw (c .before .before2 .given .1) at (c .before .before .before .found .ensures))
+returns-4 c = turned-stop _ _ _ _ _ _ (c .before .before .before .before .before .before .before .before .before .pre .0)
+    (c .before .before .before .before .before .before .before .before .before .pre .1) _ _
+    (rw (c .before .before2 .given .1) at (c .before .before .before .found .ensures))
 
 pub take-spec : {M : Type 1} → statement M
 take-spec =
