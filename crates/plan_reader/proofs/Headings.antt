@@ -28,7 +28,7 @@ named counts v ts e = rw e
 
 module _ (ts : List ℕ) where
   -- the next token of those from one on
-  here : (i : ℕ) → ahead (drop i ts) 0 ≡ ahead ts i
+  pub here : (i : ℕ) → ahead (drop i ts) 0 ≡ ahead ts i
   here i = getD-drop i ts 0 textEnd ∙ ap (ahead ts) (whole i)
     where
       whole : (i : ℕ) → i + 0 ≡ i

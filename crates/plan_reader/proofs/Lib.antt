@@ -3,3 +3,4 @@ pub mod VolatileFields
 pub mod Headings
 pub mod HeldLaws
 pub mod Procedures
+pub mod Steps

@@ -61,9 +61,8 @@ unfolding reasonOf
 faultOf kind r = cond (eqb kind 0) (Fault.reading (reasonOf r)) (cond (eqb kind 1) Fault.version (cond (eqb kind 2) Fault.slots Fault.end))
 
 -- reading stops before a token
-pub record Faulty (ts : List ℕ) (kind reason at : ℕ) : Type 0 where
-  pub says : readPlan ts ≡ fault (faultOf kind reason) (drop at ts)
-  pub inside : at ≤ length ts
+abbrev pub Faulty : List ℕ → ℕ → ℕ → ℕ → Type 0
+Faulty ts kind reason at = readPlan ts ≡ fault (faultOf kind reason) (drop at ts)
 
 -- a plan of n procedures has been read into arrays, and so many terms are left
 pub record PlanHeld (ts : List ℕ) (v m n left : ℕ) (words roots counts : List ℕ) : Type 0 where
@@ -102,10 +101,13 @@ pub record Kept (words roots counts roots′ counts′ : List ℕ) (p root k : �
   pub roots-are : roots′ ≡ set roots p root
   pub counts-are : counts′ ≡ set counts p k
 
-abbrev pub Keeps : List ℕ → ℕ → ℕ → List ℕ → List ℕ → List ℕ → List ℕ → List ℕ → ℕ → ℕ → ℕ → ℕ → Next → Type 0
-Keeps ts p at words roots counts roots′ counts′ root k left next (Stop kind reason stop) =
+abbrev pub KeptAs : List ℕ → ℕ → ℕ → List ℕ → List ℕ → List ℕ → List ℕ → List ℕ → ℕ → ℕ → ℕ → ℕ → Next → Type 0
+KeptAs ts p at words roots counts roots′ counts′ root k left next (Stop kind reason stop) =
     (closed (λ x. ltb x k) (treeIn words root) ≡ false) × (kind ≡ 2) × (stop ≡ at)
-Keeps ts p at words roots counts roots′ counts′ root k left next (Last left′) =
+KeptAs ts p at words roots counts roots′ counts′ root k left next (Last left′) =
     Kept words roots counts roots′ counts′ p root k × (ahead ts next ≡ textEnd) × (left′ ≡ left)
-Keeps ts p at words roots counts roots′ counts′ root k left next (On at′ left′) =
+KeptAs ts p at words roots counts roots′ counts′ root k left next (On at′ left′) =
     Kept words roots counts roots′ counts′ p root k × (ahead ts next ≡ textEnd → ⊥) × (at′ ≡ next) × (left′ ≡ left)
+
+pub record Keeps (ts : List ℕ) (p at : ℕ) (words roots counts roots′ counts′ : List ℕ) (root k left next : ℕ) (r : Next) : Type 0 where
+  pub so : KeptAs ts p at words roots counts roots′ counts′ root k left next r
