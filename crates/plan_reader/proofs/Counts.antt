@@ -1,18 +1,18 @@
 -- The parameter counts, token by token. Assumes nothing.
-use Prim.Native.Nat.{ℕ, zero, suc, _+_, _≤_, _<_}
+use Prim.Native.Nat.{ℕ, zero, suc, _+_, _-_, _≤_, _<_}
 use native.Mathlib.Omega.{arith}
 use mathlib.Core.Path.{_≡_, refl, sym, ap, _∙_}
 use mathlib.Core.Bool.{Bool, true, false, cond}
 use mathlib.Core.List.{List, [], _∷_, _++_, append-nil, append-assoc}
 use lib.Dec.{eqb}
-use lib.ListN.{length, length-append, getD, drop, drop-of-length-le}
+use lib.ListN.{length, length-append, getD, take, drop, drop-of-length-le}
 use lib.Seq.{drop-cons, getD-drop}
 use borrow.Author.Tests.{eq-eqb, ne-eqb}
 use Rattle.notation.specs.Tokens.{procedureWord, textEnd}
 use Rattle.text.specs.Wrote.{Wrote}
 use Rattle.text.proofs.Added.{added-none, added-more, added-as}
 use Rattle.parsing.specs.Parser.{ahead}
-use Rattle.parsing.specs.Plan.{countsFrom}
+use Rattle.parsing.specs.Plan.{countsFrom, countsOf}
 use Rattle.plan_reader.specs.Reading.{countAt}
 
 pub count-there : (ts : List ℕ) (i : ℕ) → ahead ts i ≡ procedureWord → countAt ts i ≡ ahead ts (i + 3) ∷ []
@@ -76,3 +76,24 @@ pub at-last : {ts area₀ area : List ℕ} {from next i : ℕ} → At ts area₀
 unfolding countsFrom
 at-last {ts} {i = i} a h =
     added-as (sym (append-nil (a .before)) ∙ ap (λ (l : List ℕ). a .before ++ countsFrom l) (sym (drop-of-length-le ts h)) ∙ a .whole) (a .wrote)
+
+-- there are at most as many as tokens, and one
+from-few : (ts : List ℕ) → length (countsFrom ts) ≤ length ts
+unfolding countsFrom
+from-few [] = omega arith
+from-few (t ∷ ts) = go (eqb t procedureWord) (from-few ts)
+  where
+    go : (b : Bool) → length (countsFrom ts) ≤ length ts → length (cond b (ahead ts 2 ∷ countsFrom ts) (countsFrom ts)) ≤ suc (length ts)
+    go true h = omega arith
+    go false h = omega arith
+
+pub counts-few : (ts : List ℕ) → length (countsOf ts) ≤ length ts + 1
+unfolding countsOf
+counts-few ts = omega (arith, from-few ts)
+
+-- the first n bytes of the array, as the code takes them
+pub first-counts : (ts : List ℕ) {a b : List ℕ} {n : ℕ} → Wrote a 0 (countsOf ts) b n → take (n - 0) b ≡ countsOf ts
+first-counts ts {b = b} {n} w = ap (λ (m : ℕ). take m b) (same n) ∙ w .text
+  where
+    same : (n : ℕ) → n - 0 ≡ n
+    same n = omega arith

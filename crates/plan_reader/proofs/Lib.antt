@@ -2,5 +2,5 @@ pub mod Counts
 pub mod VolatileFields
 pub mod Headings
 pub mod HeldLaws
-pub mod Procedures
+pub mod OneMore
 pub mod Steps

@@ -21,9 +21,9 @@ use Rattle.parser.specs.declared.Parsed.{Parsed}
 use Rattle.parser.specs.declared.Parsed.the-variants.{Read, Stopped}
 use Rattle.plan_reader.specs.declared.Next.{Next}
 use Rattle.plan_reader.specs.declared.Next.the-variants.{On, Last, Stop}
-use Rattle.plan_reader.specs.Reading.{faultOf, Faulty, PlanHeld, Going, Goes, Kept, KeptAs, Keeps}
+use Rattle.plan_reader.specs.Reading.{faultOf, Faulty, PlanHeld, Going, GoesAs, Goes, Kept, KeptAs, Keeps}
 use Rattle.plan_reader.proofs.Headings.{here}
-use Rattle.plan_reader.proofs.Procedures.{OneMore, stops, opens, sized-more, there-more, lasts, goes-on}
+use Rattle.plan_reader.proofs.OneMore.{OneMore, stops, opens, sized-more, there-more, lasts, goes-on}
 
 abbrev resultOf : List ℕ → List ℕ → ℕ → ℕ → ℕ → definition.Parsed
 resultOf counts ts p at left = parse counts (procedureGoals p) (number 0 ∷ []) left (drop at ts)
@@ -100,11 +100,23 @@ module _ {ts counts : List ℕ} {v m : ℕ} {words roots params words′ : List 
       rw (q .roots-are, q .counts-are, t .finished .left-is)
       (goes-on g h (t .values) (t .terms) (t .rest) result-is one-more at′ (sym closed-is ∙ q .bound) (t .finished .rest-is) (t .finished .inside) (λ z. f (sym next-is ∙ z)))
 
-  kept-as : (roots′ params′ : List ℕ) (r : Next) → KeptAs ts p at words′ roots params roots′ params′ root k left′ at′ r → Goes ts v m words′ roots′ params′ p r
+  kept-as : (roots′ params′ : List ℕ) (r : Next) → KeptAs ts p at words′ roots params roots′ params′ root k left′ at′ r → GoesAs ts v m words′ roots′ params′ p r
   unfolding faultOf
   kept-as roots′ params′ (Stop kind reason stop) q = opens g h (t .values) (t .terms) (t .rest) result-is (sym closed-is ∙ q .0) ∙ sym (rw (q .1, q .2) refl)
   kept-as roots′ params′ (Last n) q = rw (q .2) (last-held (q .0) (q .1))
   kept-as roots′ params′ (On i n) q = rw (q .2, q .3) (more-going (q .0) (q .1))
 
   pub kept-goes : {roots′ params′ : List ℕ} {r : Next} → Keeps ts p at words′ roots params roots′ params′ root k left′ at′ r → Goes ts v m words′ roots′ params′ p r
-  kept-goes {roots′} {params′} {r} q = kept-as roots′ params′ r (q .so)
+  kept-goes {roots′} {params′} {r} q = record { so = kept-as roots′ params′ r (q .so) }
+
+-- ---- what a step says, by what follows it
+
+module _ {ts : List ℕ} {v m : ℕ} {words roots params : List ℕ} {p : ℕ} {r : Next} (g : Goes ts v m words roots params p r) where
+  pub on-going : {at left : ℕ} → r ≡ On at left → Going ts v m words roots params (suc p) at left
+  on-going e = subst (GoesAs ts v m words roots params p) e (g .so)
+
+  pub last-plan : {left : ℕ} → r ≡ Last left → PlanHeld ts v m (suc p) left words roots params
+  last-plan e = subst (GoesAs ts v m words roots params p) e (g .so)
+
+  pub stop-fault : {kind reason at : ℕ} → r ≡ Stop kind reason at → Faulty ts kind reason at
+  stop-fault e = subst (GoesAs ts v m words roots params p) e (g .so)

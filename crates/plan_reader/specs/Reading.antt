@@ -90,10 +90,13 @@ pub record Going (ts : List ℕ) (v m : ℕ) (words roots counts : List ℕ) (p 
   pub few : p ≤ 32
 
 -- after procedure p
-abbrev pub Goes : List ℕ → ℕ → ℕ → List ℕ → List ℕ → List ℕ → ℕ → Next → Type 0
-Goes ts v m words roots counts p (On at left) = Going ts v m words roots counts (suc p) at left
-Goes ts v m words roots counts p (Last left) = PlanHeld ts v m (suc p) left words roots counts
-Goes ts v m words roots counts p (Stop kind reason at) = Faulty ts kind reason at
+abbrev pub GoesAs : List ℕ → ℕ → ℕ → List ℕ → List ℕ → List ℕ → ℕ → Next → Type 0
+GoesAs ts v m words roots counts p (On at left) = Going ts v m words roots counts (suc p) at left
+GoesAs ts v m words roots counts p (Last left) = PlanHeld ts v m (suc p) left words roots counts
+GoesAs ts v m words roots counts p (Stop kind reason at) = Faulty ts kind reason at
+
+pub record Goes (ts : List ℕ) (v m : ℕ) (words roots counts : List ℕ) (p : ℕ) (r : Next) : Type 0 where
+  pub so : GoesAs ts v m words roots counts p r
 
 -- a procedure that has been read is kept, if its slots are bound
 pub record Kept (words roots counts roots′ counts′ : List ℕ) (p root k : ℕ) : Type 0 where

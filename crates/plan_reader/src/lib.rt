@@ -240,3 +240,95 @@ fn step(
         ),
     }
 }
+
+// All procedures.
+fn procedures(
+    tokens: &[u8],
+    counts: &[u8],
+    heading: Heading,
+    words: &mut [usize; 1024],
+    roots: &mut [usize; 32],
+    parameters: &mut [usize; 32],
+) -> Outcome
+    requires { ⌜ (length (now tokens) ≤ 16384) × (now counts ≡ countsOf (now tokens)) × (heading .version ≤ 1) ⌝ }
+    requires { ⌜ Going (now tokens) (heading .version) (heading .mask) (now words) (now roots) (now parameters) 0 (heading .at) 1024 ⌝ }
+    ensures { λ r. ⌜ ReadAs (now (tokens .entry)) (now (words .exit)) (now (roots .exit)) (now (parameters .exit)) r ⌝ }
+{
+    let version = heading.version;
+    let mask = heading.mask;
+    let mut at = heading.at;
+    let mut left = 1024;
+    let mut procedure = 0;
+    while procedure < 32 {
+        let next = step(
+            tokens,
+            counts,
+            procedure,
+            at,
+            left,
+            words,
+            roots,
+            parameters,
+            version,
+            mask,
+        );
+        match next {
+            Next::On {
+                at: behind,
+                left: fewer,
+            } => {
+                at = behind;
+                left = fewer;
+            }
+            Next::Last(fewer) => {
+                return Outcome::Plan {
+                    version: version,
+                    mask: mask,
+                    procedures: procedure + 1,
+                    left: fewer,
+                };
+            }
+            Next::Stop {
+                kind,
+                reason,
+                at: stop,
+            } => {
+                return Outcome::Refused {
+                    kind: kind,
+                    reason: reason,
+                    at: stop,
+                };
+            }
+        }
+        procedure += 1;
+    }
+    Outcome::Refused {
+        kind: END,
+        reason: 0,
+        at: at,
+    }
+}
+
+// A plan's tokens, into arrays; every list of tokens gets the definition's answer.
+pub fn read_plan(
+    tokens: &[u8],
+    words: &mut [usize; 1024],
+    roots: &mut [usize; 32],
+    parameters: &mut [usize; 32],
+) -> Outcome
+    requires { ⌜ (0 < length (now tokens)) × (length (now tokens) ≤ 16384) × Ordered (now words) ⌝ }
+    requires { ⌜ (length (now words) ≡ 1024) × (length (now roots) ≡ 32) × (length (now parameters) ≡ 32) ⌝ }
+    ensures { λ r. ⌜ ReadAs (now (tokens .entry)) (now (words .exit)) (now (roots .exit)) (now (parameters .exit)) r ⌝ }
+{
+    let heading = header(tokens);
+    if heading.version > 1 {
+        return Outcome::Refused {
+            kind: VERSION,
+            reason: 0,
+            at: heading.at,
+        };
+    }
+    let mut area = [0u8; 16385];
+    let count = put_counts(tokens, &mut area);
+    procedures(tokens, &area[0..count], heading, words, roots, parameters)
+}

@@ -27,7 +27,7 @@ keep-requires c κs =
 returns : tie.Need-returns
 returns c =
     let s = c .before .before .before .before .before .before .before in
-    stop-faulty (s .pre .1) (s .pre .0 .2) (s .pre .0 .1) (c .before .before .before .procedure .ensures) (c .before .parsed .given .1)
+    record { so = stop-faulty (s .pre .1) (s .pre .0 .2) (s .pre .0 .1) (c .before .before .before .procedure .ensures) (c .before .parsed .given .1) }
 
 returns-2 : tie.Need-returns-2
 returns-2 c =
