@@ -8,7 +8,6 @@ use lib.Seq.{sets}
 use Rattle.format.specs.Area.{overwrite}
 use Rattle.format.specs.Version.{versionOf}
 use Rattle.packed.specs.Syntax.{Procedure, Program}
-use Rattle.packed.specs.Steps.{treeIn}
 use Rattle.written.specs.Terms.{TermTree, termsOf, size}
 use Rattle.written.specs.Written.{bytesOf, sizeOfAll, versionNumber, headerOf, written}
 use Rattle.written.proofs.Named.{size-pos}
@@ -54,13 +53,11 @@ module _ (words roots counts : List ℕ) where
   unfolding heldProcedure
   tree-is p = refl
 
-  -- ---- where the loop stands: procedure p is next, and its first term has number k
-
-  -- the area once the rest is written
+  -- the area once these are written, of which the first term has number k
   abbrev finished : ℕ → ℕ → ℕ → List ℕ → List ℕ
   finished n p k area = both (8 + 2 * p) (8 + 2 * n + 5 * k) k (rest n p) area
 
--- procedure p is next, and its first term has number k
+-- where the loop stands: procedure p is next, and its first term has number k
 pub record At (words roots counts : List ℕ) (n terms : ℕ) (area₀ : List ℕ) (p k : ℕ) (area : List ℕ) : Type 0 where
   pub within : p ≤ n
   pub counted : k + sizeOfAll (rest words roots counts n p) ≡ terms
