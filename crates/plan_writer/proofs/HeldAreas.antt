@@ -1,22 +1,21 @@
 -- The procedures of a program that is held in arrays, written one after the other, and the whole plan. Assumes nothing.
 use Prim.Native.Nat.{ℕ, zero, suc, _+_, _-_, _*_, _≤_, _<_}
 use native.Mathlib.Omega.{arith}
-use mathlib.Core.Path.{_≡_, refl, sym, ap, _∙_}
+use mathlib.Core.Path.{_≡_, refl, sym, ap, ap₂, _∙_}
 use mathlib.Core.List.{List, [], _∷_, _++_}
 use lib.ListN.{length, getD}
 use lib.Seq.{sets}
 use Rattle.format.specs.Area.{overwrite}
 use Rattle.format.specs.Version.{versionOf}
 use Rattle.packed.specs.Syntax.{Procedure, Program}
-use Rattle.packed.specs.Steps.{treeIn}
 use Rattle.written.specs.Terms.{TermTree, termsOf, size}
 use Rattle.written.specs.Written.{bytesOf, sizeOfAll, versionNumber, headerOf, written}
 use Rattle.written.proofs.Named.{size-pos}
 use Rattle.written.proofs.Passes.{version-back}
-use Rattle.written.proofs.ReadBack.{header-is}
+use Rattle.written.proofs.ReadBack.{heads, header-is}
 use Rattle.tree_writer.specs.Left.{Room, Wrote, expressionsIn}
 use Rattle.plan_writer.specs.Held.{heldProcedure, heldFrom, heldProgram, Writable}
-use Rattle.plan_writer.proofs.Plans.{sizes-more, both, both-length, none-more, step-more, headBytes, plan-whole}
+use Rattle.plan_writer.proofs.Plans.{sizes-more, both, both-length, none-more, step-more, plan-whole}
 
 module _ (words roots counts : List ℕ) where
   -- ---- the procedures from procedure p on
@@ -54,13 +53,11 @@ module _ (words roots counts : List ℕ) where
   unfolding heldProcedure
   tree-is p = refl
 
-  -- ---- where the loop stands: procedure p is next, and its first term has number k
-
-  -- the area once the rest is written
+  -- the area once these are written, of which the first term has number k
   abbrev finished : ℕ → ℕ → ℕ → List ℕ → List ℕ
   finished n p k area = both (8 + 2 * p) (8 + 2 * n + 5 * k) k (rest n p) area
 
--- procedure p is next, and its first term has number k
+-- where the loop stands: procedure p is next, and its first term has number k
 pub record At (words roots counts : List ℕ) (n terms : ℕ) (area₀ : List ℕ) (p k : ℕ) (area : List ℕ) : Type 0 where
   pub within : p ≤ n
   pub counted : k + sizeOfAll (rest words roots counts n p) ≡ terms
@@ -92,7 +89,8 @@ module _ {v m n terms : ℕ} {words roots counts area′ : List ℕ} (w : Writab
       sizes : k + (size (expressionsIn words (getD roots p 0)) + sizeOfAll (rest words roots counts n (suc p))) ≡ terms
       sizes =
           ap (λ (e : TermTree). k + (size e + sizeOfAll (rest words roots counts n (suc p)))) (sym (tree-is words roots counts p))
-          ∙ ap (λ (i : ℕ). k + i) (sym (sizes-more (heldProcedure words roots counts p) (rest words roots counts n (suc p))) ∙ ap sizeOfAll (sym (rest-more words roots counts n p h)))
+          ∙ ap (λ (i : ℕ). k + i) (sym (sizes-more (heldProcedure words roots counts p) (rest words roots counts n (suc p))))
+          ∙ ap (λ (ds : List Procedure). k + sizeOfAll ds) (sym (rest-more words roots counts n p h))
           ∙ a .counted
 
       pub number-inside : k < 1024
@@ -158,9 +156,9 @@ module _ {v m n terms : ℕ} {words roots counts area′ : List ℕ} (w : Writab
   pub whole : {area₁ area₂ : List ℕ} → area₁ ≡ sets area′ 0 (bytesOf 4 (((v * 64 + n) * 4096 + terms) * 1024) ++ bytesOf 4 m)
       → area₂ ≡ finished words roots counts n 0 0 area₁ → area₂ ≡ overwrite (written program) area′
   whole {area₁} e f =
-      let top : bytesOf 4 (((v * 64 + n) * 4096 + terms) * 1024) ++ bytesOf 4 m ≡ headBytes program =
-      sym (ap (λ (x : ℕ). bytesOf 4 x ++ bytesOf 4 (program .volatiles)) header-number ∙ ap (λ (x : ℕ). bytesOf 4 (((v * 64 + n) * 4096 + terms) * 1024) ++ bytesOf 4 x) mask-is) in
+      let top : heads program ≡ bytesOf 4 (((v * 64 + n) * 4096 + terms) * 1024) ++ bytesOf 4 m =
+      ap₂ (λ (x y : ℕ). bytesOf 4 x ++ bytesOf 4 y) header-number mask-is in
       f
       ∙ ap (λ (l : List Procedure). both 8 (8 + 2 * n + 5 * 0) 0 l area₁) (rest-all words roots counts n ∙ sym procedures-are)
-      ∙ ap (both 8 (8 + 2 * n + 5 * 0) 0 (program .procedures)) (e ∙ ap (sets area′ 0) top)
+      ∙ ap (both 8 (8 + 2 * n + 5 * 0) 0 (program .procedures)) (e ∙ ap (sets area′ 0) (sym top))
       ∙ plan-whole program n area′ count-is (omega (arith, total-is, w .long))

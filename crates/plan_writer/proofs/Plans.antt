@@ -3,24 +3,26 @@ use Prim.Native.Nat.{ℕ, _+_, _*_, _≤_}
 use native.Mathlib.Omega.{arith}
 use mathlib.Core.Path.{_≡_, refl, sym, ap, _∙_}
 use mathlib.Core.List.{List, [], _∷_, _++_}
-use lib.ListN.{length, length-append, drop}
+use lib.ListN.{length, drop}
 use lib.Seq.{sets, sets-eq, length-sets}
 use Rattle.format.specs.Area.{overwrite}
 use Rattle.packed.specs.Syntax.{Procedure, Program}
 use Rattle.written.specs.Terms.{termsOf, size, wordsFrom}
-use Rattle.written.specs.Written.{bytesOf, sizeOfAll, procedureBytes, termWords, wordBytes, headerOf, written}
+use Rattle.written.specs.Written.{bytesOf, sizeOfAll, procedureBytes, termWords, wordBytes, written}
 use Rattle.written.proofs.Bytes.{bytes-length, words-length, words-append}
-use Rattle.written.proofs.ReadBack.{tree-length, procedures-length, whole-length}
+use Rattle.written.proofs.ReadBack.{tree-length, procedures-length, heads, from-terms, heads-length, front-length, whole-length}
 use Rattle.tree_writer.specs.Left.{Wrote}
 use Rattle.tree_writer.proofs.Areas.{sets-append, sets-apart}
 
 -- ---- one procedure more
 
-procedures-more : (n : ℕ) (d : Procedure) (ds : List Procedure) → procedureBytes n (d ∷ ds) ≡ bytesOf 2 (d .parameters * 4096 + n) ++ procedureBytes (n + size (termsOf (d .body))) ds
+procedures-more : (n : ℕ) (d : Procedure) (ds : List Procedure)
+    → procedureBytes n (d ∷ ds) ≡ bytesOf 2 (d .parameters * 4096 + n) ++ procedureBytes (n + size (termsOf (d .body))) ds
 unfolding procedureBytes
 procedures-more n d ds = refl
 
-terms-more : (n : ℕ) (d : Procedure) (ds : List Procedure) → termWords n (d ∷ ds) ≡ wordsFrom n (termsOf (d .body)) ++ termWords (n + size (termsOf (d .body))) ds
+terms-more : (n : ℕ) (d : Procedure) (ds : List Procedure)
+    → termWords n (d ∷ ds) ≡ wordsFrom n (termsOf (d .body)) ++ termWords (n + size (termsOf (d .body))) ds
 unfolding termWords
 terms-more n d ds = refl
 
@@ -46,7 +48,8 @@ one-more i j n d ds area h =
     let later = wordBytes (termWords m ds) in
     let long : length block ≡ 5 * size e = words-length (wordsFrom n e) ∙ ap (λ (k : ℕ). 5 * k) (tree-length e n) in
     ap (λ (l : List ℕ). sets (sets area i l) j (wordBytes (termWords n (d ∷ ds)))) (procedures-more n d ds)
-    ∙ ap (λ (l : List ℕ). sets l j (wordBytes (termWords n (d ∷ ds)))) (sets-append two rest area i (i + 2) (omega (arith, bytes-length 2 (d .parameters * 4096 + n))))
+    ∙ ap (λ (l : List ℕ). sets l j (wordBytes (termWords n (d ∷ ds))))
+    (sets-append two rest area i (i + 2) (omega (arith, bytes-length 2 (d .parameters * 4096 + n))))
     ∙ ap (λ (l : List ℕ). sets (sets start (i + 2) rest) j l) (ap wordBytes (terms-more n d ds) ∙ words-append (wordsFrom n e) (termWords m ds))
     ∙ sets-append block later (sets start (i + 2) rest) j (j + 5 * size e) (omega (arith, long))
     ∙ ap (λ (l : List ℕ). sets l (j + 5 * size e) later) (sym (sets-apart rest block start (i + 2) j (omega (arith, procedures-length ds m))))
@@ -73,10 +76,6 @@ step-more i base n d ds area {area₁} {area₂} {m} h e f =
 
 -- ---- the whole plan
 
-written-as : (g : Program) → written g ≡ ((bytesOf 4 (headerOf g) ++ bytesOf 4 (g .volatiles)) ++ procedureBytes 0 (g .procedures)) ++ wordBytes (termWords 0 (g .procedures))
-unfolding written
-written-as g = refl
-
 -- bytes at an area's start
 sets-over : (bytes area : List ℕ) → length bytes ≤ length area → sets area 0 bytes ≡ overwrite bytes area
 unfolding overwrite
@@ -84,23 +83,17 @@ sets-over bytes area h =
     let e : 0 + length bytes ≡ length bytes = omega arith in
     sets-eq bytes area 0 (omega arith) ∙ ap (λ (n : ℕ). bytes ++ drop n area) e
 
--- the header and the mask of a program
-abbrev pub headBytes : Program → List ℕ
-headBytes g = bytesOf 4 (headerOf g) ++ bytesOf 4 (g .volatiles)
-
 -- n procedures and their terms, after the header and the mask
 pub plan-whole : (g : Program) (n : ℕ) (area : List ℕ) → length (g .procedures) ≡ n → 8 + 2 * n + 5 * sizeOfAll (g .procedures) ≤ length area
-    → both 8 (8 + 2 * n + 5 * 0) 0 (g .procedures) (sets area 0 (headBytes g)) ≡ overwrite (written g) area
+    → both 8 (8 + 2 * n + 5 * 0) 0 (g .procedures) (sets area 0 (heads g)) ≡ overwrite (written g) area
 plan-whole g n area e long =
-    let top = headBytes g in
     let ds = g .procedures in
+    let first = procedureBytes 0 ds in
     let last = wordBytes (termWords 0 ds) in
-    let top-length : length top ≡ 8 = omega (arith, length-append (bytesOf 4 (headerOf g)) (bytesOf 4 (g .volatiles)), bytes-length 4 (headerOf g), bytes-length 4 (g .volatiles)) in
     let place : 8 + 2 * n + 5 * 0 ≡ 8 + 2 * n = omega arith in
-    let front = top ++ procedureBytes 0 ds in
-    let wide : 0 + length front ≡ 8 + 2 * n = omega (arith, length-append top (procedureBytes 0 ds), top-length, procedures-length ds 0, e) in
-    ap (λ (i : ℕ). sets (sets (sets area 0 top) 8 (procedureBytes 0 ds)) i last) place
-    ∙ ap (λ (l : List ℕ). sets l (8 + 2 * n) last) (sym (sets-append top (procedureBytes 0 ds) area 0 8 (omega (arith, top-length))))
-    ∙ sym (sets-append front last area 0 (8 + 2 * n) wide)
-    ∙ ap (sets area 0) (sym (written-as g))
+    let wide : 0 + length (heads g ++ first) ≡ 8 + 2 * n = omega (arith, front-length g) in
+    ap (λ (i : ℕ). sets (sets (sets area 0 (heads g)) 8 first) i last) place
+    ∙ ap (λ (l : List ℕ). sets l (8 + 2 * n) last) (sym (sets-append (heads g) first area 0 8 (omega (arith, heads-length g))))
+    ∙ sym (sets-append (heads g ++ first) last area 0 (8 + 2 * n) wide)
+    ∙ ap (sets area 0) (sym (from-terms g))
     ∙ sets-over (written g) area (omega (arith, whole-length g))

@@ -30,7 +30,7 @@ fn put_header(area: &mut [u8], version: usize, mask: usize, procedures: usize, t
 }
 
 // The two bytes of a procedure.
-fn put_procedure(area: &mut [u8], at: usize, parameters: usize, root: usize)
+pub fn put_procedure(area: &mut [u8], at: usize, parameters: usize, root: usize)
     requires { ⌜ at + 2 ≤ length (now area) ⌝ }
     requires { ⌜ (parameters < 16) × (root < 4096) ⌝ }
     ensures { λ r. ⌜ now (area .exit) ≡ sets (now (area .entry)) at (bytesOf 2 (parameters * 4096 + root)) ⌝ }
@@ -53,15 +53,19 @@ pub fn write(
     area: &mut [u8],
 )
     requires { ⌜ Writable version mask procedures terms (now words) (now roots) (now counts) (now area) ⌝ }
-    ensures { λ r. ⌜ now (area .exit) ≡ overwrite (written (heldProgram version mask procedures (now (words .entry)) (now (roots .entry)) (now (counts .entry)))) (now (area .entry)) ⌝ }
+    ensures { λ r.
+        ⌜ now (area .exit)
+        ≡ overwrite (written (heldProgram version mask procedures (now (words .entry)) (now (roots .entry)) (now (counts .entry)))) (now (area .entry)) ⌝ }
 {
     put_header(area, version, mask, procedures, terms);
     let base = 8 + 2 * procedures;
     let mut procedure = 0;
     let mut number = 0;
     while procedure < procedures {
-        put_procedure(area, 8 + 2 * procedure, counts[procedure], number);
-        number = tree_writer::write_expression(words, roots[procedure], area, base, number);
+        let parameters = counts[procedure];
+        let root = roots[procedure];
+        put_procedure(area, 8 + 2 * procedure, parameters, number);
+        number = tree_writer::write_expression(words, root, area, base, number);
         procedure += 1;
     }
 }

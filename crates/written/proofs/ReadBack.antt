@@ -97,7 +97,7 @@ module _ (g : Program) where
   bodies = wordBytes (termWords 0 ds)
 
   -- its parts, one behind the other
-  abbrev heads : List ℕ
+  abbrev pub heads : List ℕ
   heads = bytesOf 4 H ++ bytesOf 4 (g .volatiles)
 
   from-mask : w ≡ bytesOf 4 H ++ (bytesOf 4 (g .volatiles) ++ (procedureBytes 0 ds ++ bodies))
@@ -108,19 +108,21 @@ module _ (g : Program) where
   unfolding written
   from-procedures = append-assoc heads (procedureBytes 0 ds) bodies
 
-  from-terms : w ≡ (heads ++ procedureBytes 0 ds) ++ bodies
+  pub from-terms : w ≡ (heads ++ procedureBytes 0 ds) ++ bodies
   unfolding written
   from-terms = refl
 
-  heads-length : length heads ≡ 8
+  pub heads-length : length heads ≡ 8
   heads-length = omega (arith, length-append (bytesOf 4 H) (bytesOf 4 (g .volatiles)), bytes-length 4 H, bytes-length 4 (g .volatiles))
 
-  front-length : length (heads ++ procedureBytes 0 ds) ≡ 8 + 2 * length ds
+  pub front-length : length (heads ++ procedureBytes 0 ds) ≡ 8 + 2 * length ds
   front-length = omega (arith, length-append heads (procedureBytes 0 ds), heads-length, procedures-length ds 0)
 
   pub whole-length : length w ≡ 8 + 2 * length ds + 5 * sizeOfAll ds
   whole-length =
-      ap length from-terms ∙ length-append (heads ++ procedureBytes 0 ds) bodies ∙ omega (arith, front-length, words-length (termWords 0 ds), terms-length ds 0)
+      ap length from-terms
+      ∙ length-append (heads ++ procedureBytes 0 ds) bodies
+      ∙ omega (arith, front-length, words-length (termWords 0 ds), terms-length ds 0)
 
   -- the header's numbers
   pub header-is : H ≡ ((versionNumber (g .version) * 64 + length ds) * 4096 + sizeOfAll ds) * 1024

@@ -24,7 +24,9 @@ put-four-requires : tie.Need-put-four-requires
 put-four-requires c κs = search needs
 
 put-four-requires-2 : tie.Need-put-four-requires-2
-put-four-requires-2 c κs = omega (arith, c .before .before .before .before .before .before .pre .0, four-keeps _ _ _ (c .before .before .before .put-four .ensures))
+put-four-requires-2 c κs =
+    let h = c .before .before .before .before .before .before .pre .0 in
+    omega (arith, four-keeps _ _ _ (c .before .before .before .put-four .ensures))
 
 same-length : tie.Need-same-length
 same-length c = search needs

@@ -8,7 +8,8 @@ use Rattle.plan_writer.proofs.write.Statement.{statement}
 use Rattle.plan_writer.proofs.write.Tie as tie
 
 abbrev Inv-loop : tie.InvT-loop
-Inv-loop version mask procedures terms words roots counts area₀ base procedure₀ number₀ area procedure number = At words roots counts procedures terms area₀ procedure number area
+Inv-loop version mask procedures terms words roots counts area₀ base procedure₀ number₀ area procedure number =
+    At words roots counts procedures terms area₀ procedure number area
 
 abbrev μ-loop : tie.MeasureT-loop
 μ-loop version mask procedures terms words roots counts area₀ base procedure₀ number₀ area procedure number = procedures - procedure
@@ -25,31 +26,31 @@ add-base c = let q = c .before .before .before .before .before .pre .few-procedu
 loop-holds : tie.Need-loop-holds Inv-loop μ-loop
 loop-holds c = at-start (c .before .before .before .before .before .pre) _
 
+mul-parameters : tie.Need-mul-parameters Inv-loop μ-loop
+mul-parameters c = let q = c .before .before .before .before .before .before .before .pre .few-procedures in omega arith
+
+element-copy-out-parameters : tie.Need-element-copy-out-parameters Inv-loop μ-loop
+element-copy-out-parameters c = let q = c .before .before .before .before .before .before .before .pre .few-procedures in omega arith
+
+mul-root : tie.Need-mul-root Inv-loop μ-loop
+mul-root c = let q = c .before .before .before .before .before .before .before .before .pre .few-procedures in omega arith
+
+element-copy-out-root : tie.Need-element-copy-out-root Inv-loop μ-loop
+element-copy-out-root c = let q = c .before .before .before .before .before .before .before .before .pre .few-procedures in omega arith
+
 mul-put-procedure : tie.Need-mul-put-procedure Inv-loop μ-loop
-mul-put-procedure c = let q = c .before .before .before .before .before .before .before .before .pre .few-procedures in omega arith
+mul-put-procedure c = let q = c .before .before .before .before .before .before .before .before .before .before .pre .few-procedures in omega arith
 
 add-put-procedure : tie.Need-add-put-procedure Inv-loop μ-loop
-add-put-procedure c = let q = c .before .before .before .before .before .before .before .before .pre .few-procedures in omega arith
-
-mul-put-procedure-2 : tie.Need-mul-put-procedure-2 Inv-loop μ-loop
-mul-put-procedure-2 c = let q = c .before .before .before .before .before .before .before .before .pre .few-procedures in omega arith
-
-element-copy-out-put-procedure : tie.Need-element-copy-out-put-procedure Inv-loop μ-loop
-element-copy-out-put-procedure c = let q = c .before .before .before .before .before .before .before .before .pre .few-procedures in omega arith
+add-put-procedure c = let q = c .before .before .before .before .before .before .before .before .before .before .pre .few-procedures in omega arith
 
 put-procedure-requires : tie.Need-put-procedure-requires Inv-loop μ-loop
 put-procedure-requires c κs =
-    let w = c .before .before .before .before .before .before .before .before .before .pre in
-    let l = c .before .before .before .loop in
-    let t = c .before .before .loop-test .taken in
-    let k = eight-keeps _ _ _ (c .before .before .before .before .before .before .put-header .ensures) in
+    let w = c .before .before .before .before .before .before .before .before .before .before .pre in
+    let l = c .before .before .before .before .loop in
+    let t = c .before .before .before .loop-test .taken in
+    let k = eight-keeps _ _ _ (c .before .before .before .before .before .before .before .put-header .ensures) in
     (omega (arith, w .long, kept w (l .inv), k), (omega (arith, w .few-parameters _ t), omega (arith, number-inside w (l .inv) t)))
-
-mul-write-expression : tie.Need-mul-write-expression Inv-loop μ-loop
-mul-write-expression c = let q = c .before .before .before .before .before .before .before .before .before .before .before .before .pre .few-procedures in omega arith
-
-element-copy-out-write-expression : tie.Need-element-copy-out-write-expression Inv-loop μ-loop
-element-copy-out-write-expression c = let q = c .before .before .before .before .before .before .before .before .before .before .before .before .pre .few-procedures in omega arith
 
 write-expression-requires : tie.Need-write-expression-requires Inv-loop μ-loop
 write-expression-requires c κs =
@@ -57,10 +58,13 @@ write-expression-requires c κs =
     let l = c .before .before .before .before .before .before .before .before .loop in
     let t = c .before .before .before .before .before .before .before .loop-test .taken in
     let k = eight-keeps _ _ _ (c .before .before .before .before .before .before .before .before .before .before .before .put-header .ensures) in
-    ((w .ordered, w .root-inside _ t), room w (l .inv) t k (two-keeps _ _ _ (c .before .before .before .before .put-procedure .ensures)))
+    ((w .ordered, w .root-inside _ t), room w (l .inv) t k (two-keeps _ _ _ (c .before .before .before .put-procedure .ensures)))
 
 add-procedure : tie.Need-add-procedure Inv-loop μ-loop
-add-procedure c = let q = c .before .before .before .before .before .before .before .before .before .before .before .before .before .before .before .before .before .pre .few-procedures in omega arith
+add-procedure c =
+    let s = c .before .before .before .before .before .before .before .before .before .before .before .before .before .before .before .before .before in
+    let q = s .pre .few-procedures in
+    omega arith
 
 loop-less : tie.Need-loop-less Inv-loop μ-loop
 loop-less c = omega arith
@@ -70,13 +74,17 @@ loop-again c =
     let w = c .before .before .before .before .before .before .before .before .before .before .before .before .before .before .before .before .before .pre in
     let l = c .before .before .before .before .before .before .before .before .before .before .before .loop in
     let t = c .before .before .before .before .before .before .before .before .before .before .loop-test .taken in
-    next w (l .inv) t (c .before .before .before .before .before .before .before .put-procedure .ensures) (c .before .before .write-expression .ensures)
+    next w (l .inv) t (c .before .before .before .before .before .before .put-procedure .ensures) (c .before .before .write-expression .ensures)
 
 same-length : tie.Need-same-length Inv-loop μ-loop
-same-length c = kept (c .before .before .before .before .before .before .before .pre) (c .before .loop .inv) ∙ eight-keeps _ _ _ (c .before .before .before .before .put-header .ensures)
+same-length c =
+    let k = eight-keeps _ _ _ (c .before .before .before .before .put-header .ensures) in
+    kept (c .before .before .before .before .before .before .before .pre) (c .before .loop .inv) ∙ k
 
 returns : tie.Need-returns Inv-loop μ-loop
-returns c = let w = c .before .before .before .before .before .before .before .pre in whole w (c .before .before .before .before .put-header .ensures) (at-end w (c .before .loop .inv) (c .loop-test .left))
+returns c =
+    let w = c .before .before .before .before .before .before .before .pre in
+    whole w (c .before .before .before .before .put-header .ensures) (at-end w (c .before .loop .inv) (c .loop-test .left))
 
 pub write-spec : {M : Type 1} → statement M
 write-spec =
@@ -88,13 +96,13 @@ write-spec =
     mul-base
     add-base
     loop-holds
+    mul-parameters
+    element-copy-out-parameters
+    mul-root
+    element-copy-out-root
     mul-put-procedure
     add-put-procedure
-    mul-put-procedure-2
-    element-copy-out-put-procedure
     put-procedure-requires
-    mul-write-expression
-    element-copy-out-write-expression
     write-expression-requires
     add-procedure
     loop-less
