@@ -73,9 +73,12 @@ pub record PlanHeld (ts : List ℕ) (v m n left : ℕ) (words roots counts : Lis
   pub few : n ≤ 32
 
 -- what comes of a plan's tokens
-abbrev pub ReadAs : List ℕ → List ℕ → List ℕ → List ℕ → Outcome → Type 0
-ReadAs ts words roots counts (Plan v m n left) = PlanHeld ts v m n left words roots counts × (v ≤ 1)
-ReadAs ts words roots counts (Refused kind reason at) = Faulty ts kind reason at
+abbrev pub ReadBy : List ℕ → List ℕ → List ℕ → List ℕ → Outcome → Type 0
+ReadBy ts words roots counts (Plan v m n left) = PlanHeld ts v m n left words roots counts × (v ≤ 1)
+ReadBy ts words roots counts (Refused kind reason at) = Faulty ts kind reason at
+
+pub record ReadAs (ts words roots counts : List ℕ) (r : Outcome) : Type 0 where
+  pub so : ReadBy ts words roots counts r
 
 -- where reading stands: procedure p is next
 pub record Going (ts : List ℕ) (v m : ℕ) (words roots counts : List ℕ) (p at left : ℕ) : Type 0 where

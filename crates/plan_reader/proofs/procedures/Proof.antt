@@ -33,13 +33,13 @@ add-t23 : tie.Need-add-t23 Inv-loop μ-loop
 add-t23 c = search needs
 
 returns : tie.Need-returns Inv-loop μ-loop
-returns c = (rw add-one (last-plan (c .before .before .before .step .ensures) (c .before .next2 .given .1)), c .before .before .before .before .before .before .before .before .before .before .before .pre .0 .2)
+returns c = record { so = (rw add-one (last-plan (c .before .before .before .step .ensures) (c .before .next2 .given .1)), c .before .before .before .before .before .before .before .before .before .before .before .pre .0 .2) }
 
 enum-known-next-3 : tie.Need-enum-known-next-3 Inv-loop μ-loop
 enum-known-next-3 c = search needs
 
 returns-2 : tie.Need-returns-2 Inv-loop μ-loop
-returns-2 c = stop-fault (c .before .before .before .step .ensures) (c .before .next3 .given .1)
+returns-2 c = record { so = stop-fault (c .before .before .before .step .ensures) (c .before .next3 .given .1) }
 
 add-procedure : tie.Need-add-procedure Inv-loop μ-loop
 add-procedure c = search needs
@@ -52,7 +52,7 @@ loop-again c = rw add-one (on-going (c .before .before .before .step .ensures) (
 
 returns-3 : tie.Need-returns-3 Inv-loop μ-loop
 unfolding faultOf
-returns-3 c = too-many (c .before .loop .inv) (c .loop-test .left)
+returns-3 c = record { so = too-many (c .before .loop .inv) (c .loop-test .left) }
 
 pub procedures-spec : {M : Type 1} → statement M
 procedures-spec =

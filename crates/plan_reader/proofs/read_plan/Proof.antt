@@ -12,7 +12,7 @@ header-requires c κs = let s = c .before in (s .pre .0 .0, s .pre .0 .1)
 
 returns : tie.Need-returns
 unfolding faultOf
-returns c = c .before .before .header .ensures .unknown (c .if1 .taken)
+returns c = record { so = c .before .before .header .ensures .unknown (c .if1 .taken) }
 
 slice-aggregate-put-counts : tie.Need-slice-aggregate-put-counts
 slice-aggregate-put-counts c = search needs
