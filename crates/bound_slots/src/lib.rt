@@ -6,6 +6,7 @@ use operands::tags;
 ghost use mathlib.Core.Path.{_≡_};
 ghost use mathlib.Core.Bool.{_&&_};
 ghost use Prim.Native.Nat.{ℕ, _<_};
+ghost use lib.Dec.{ltb};
 ghost use Rattle.format.specs.Lowest.{Lowest};
 ghost use Rattle.packed.specs.Operands.{tagOf};
 ghost use Rattle.packed.specs.Slots.{closed, closedᶜ, closedᵃ};
@@ -205,6 +206,14 @@ fn closed_list(words: &[usize; 1024], from: usize, bound: usize) -> bool
         }
         term = operands::second(word);
     }
+}
+
+// An expression uses no slot but the first ones, so many parameters, and those that its lets bind.
+pub fn closed_with(words: &[usize; 1024], root: usize, parameters: usize) -> bool
+    requires { ⌜ Ordered (now words) × (root < 1024) × (parameters < 64) ⌝ }
+    ensures { λ r. ⌜ r ≡ closed (λ x. ltb x parameters) (treeIn (now (words .entry)) root) ⌝ }
+{
+    closed_expression(words, root, (1usize << parameters) - 1)
 }
 
 // The lowest procedure whose root uses an unbound slot, or `procedures`.

@@ -8,14 +8,14 @@ use lib.ListN.{length, take, drop, getD}
 use lib.Seq.{drop-cons, take-add}
 use Rattle.format.specs.Bits.{bitsAt}
 use Rattle.format.proofs.BitLaws.{bits-add, byte-at, field-of}
-use Rattle.packed.specs.Syntax.{Program}
 use Rattle.packed.specs.Format
 use Rattle.packed.specs.Format.{version, terms, headerSpare, volatiles}
 use Rattle.packed.specs.Trees.{programOf}
 use Rattle.packed.specs.Check.{refusal}
 use Rattle.packed.proofs.Accepted.{Accepted, accepted}
-use Rattle.written.specs.Written.{bytesOf, sizeOfAll, versionNumber, headerOf}
+use Rattle.written.specs.Written.{bytesOf, versionNumber, headerOf}
 use Rattle.written.proofs.Passes.{count-is, total-is, version-of, version-back, mask-is, plan-length}
+use Rattle.written.proofs.ReadBack.{heads, header-is}
 
 -- the last n bytes of the number in M bytes
 bytes-of-bits : (l : List ℕ) (i M n : ℕ) → ((j : ℕ) → getD l j 0 < 256) → n ≤ M → i + M ≤ length l → bytesOf n (bitsAt l (i * 8) (8 * M)) ≡ take n (drop (i + (M - n)) l)
@@ -57,10 +57,6 @@ module _ (b : List ℕ) where
   unfolding volatiles
   volatiles-bits = refl
 
-header-as : (g : Program) → headerOf g ≡ ((versionNumber (g .version) * 64 + length (g .procedures)) * 4096 + sizeOfAll (g .procedures)) * 1024
-unfolding headerOf
-header-as g = refl
-
 -- the first eight bytes
 module _ (b : List ℕ) (small : (j : ℕ) → getD b j 0 < 256) (h : refusal b ≡ none) where
   facts : Accepted b
@@ -68,13 +64,13 @@ module _ (b : List ℕ) (small : (j : ℕ) → getD b j 0 < 256) (h : refusal b 
 
   header-bits : bitsAt b 0 32 ≡ headerOf (programOf b)
   header-bits =
-      let v : versionNumber (programOf b .version) ≡ version b = ap versionNumber (version-of b h) ∙ version-back b h (version b) (facts .version-known) in
+      let v : versionNumber (programOf b .version) ≡ version b = ap versionNumber (version-of b h) ∙ version-back (version b) (facts .version-known) in
       let n = count-is b h in
       let m = total-is b h in
       let s = facts .spare-zero in
-      omega (arith, bits-add b 0 22 10, bits-add b 0 10 12, bits-add b 0 4 6, version-bits b, procedures-bits b, terms-bits b, spare-bits b, header-as (programOf b))
+      omega (arith, bits-add b 0 22 10, bits-add b 0 10 12, bits-add b 0 4 6, version-bits b, procedures-bits b, terms-bits b, spare-bits b, header-is (programOf b))
 
-  pub first-eight : take 8 b ≡ bytesOf 4 (headerOf (programOf b)) ++ bytesOf 4 (programOf b .volatiles)
+  pub first-eight : take 8 b ≡ heads (programOf b)
   first-eight =
       let long : 8 ≤ length b = omega (arith, facts .length-right, plan-length b) in
       take-add 4 4 b

@@ -1,11 +1,11 @@
 -- The procedures of an accepted plan, written one after the other. Assumes nothing.
 use Prim.Native.Nat.{ℕ, zero, suc, _+_, _-_, _*_, _≤_, _<_}
 use native.Mathlib.Omega.{arith}
-use mathlib.Core.Path.{_≡_, refl, sym, ap, subst, _∙_}
-use mathlib.Core.List.{List, [], _∷_, _++_}
+use mathlib.Core.Path.{_≡_, refl, sym, ap, _∙_}
+use mathlib.Core.List.{List, [], _∷_}
 use mathlib.Core.Option.{none}
-use lib.ListN.{length, length-append}
-use lib.Seq.{sets, length-sets}
+use lib.ListN.{length}
+use lib.Seq.{sets}
 use Rattle.packed.specs.Syntax.{Procedure}
 use Rattle.packed.specs.Format
 use Rattle.packed.specs.Format.{terms, parameters, root}
@@ -15,60 +15,14 @@ use Rattle.packed.specs.Check.{refusal}
 use Rattle.packed.proofs.Accepted.{Accepted, accepted}
 use Rattle.packed.proofs.Passing.{all-right}
 use Rattle.packed.proofs.NodeOrder.{ordered, tree-is}
-use Rattle.written.specs.Terms.{TermTree, termsOf, size, wordsFrom}
-use Rattle.written.specs.Written.{bytesOf, sizeOfAll, procedureBytes, termWords, wordBytes}
-use Rattle.written.proofs.Bytes.{bytes-length, words-length, words-append}
+use Rattle.written.specs.Terms.{TermTree, termsOf, size}
+use Rattle.written.specs.Written.{bytesOf, sizeOfAll}
 use Rattle.written.proofs.Named.{size-pos}
 use Rattle.written.proofs.Passes.{total-is, plan-length, body-is, parameters-are}
-use Rattle.written.proofs.ReadBack.{tree-length, procedures-length}
 use Rattle.written.proofs.Sizes.{program-procedures}
 use Rattle.tree_writer.specs.Left.{Room, Wrote, expressionsIn}
-use Rattle.tree_writer.proofs.Areas.{sets-append, sets-apart}
+use Rattle.plan_writer.proofs.Plans.{sizes-more, both, both-length, none-more, step-more}
 use Rattle.canonical.specs.Begun.{Ready, restFrom, treesWritten}
-
--- ---- one procedure more
-
-procedures-more : (n : ℕ) (d : Procedure) (ds : List Procedure) → procedureBytes n (d ∷ ds) ≡ bytesOf 2 (d .parameters * 4096 + n) ++ procedureBytes (n + size (termsOf (d .body))) ds
-unfolding procedureBytes
-procedures-more n d ds = refl
-
-terms-more : (n : ℕ) (d : Procedure) (ds : List Procedure) → termWords n (d ∷ ds) ≡ wordsFrom n (termsOf (d .body)) ++ termWords (n + size (termsOf (d .body))) ds
-unfolding termWords
-terms-more n d ds = refl
-
-sizes-more : (d : Procedure) (ds : List Procedure) → sizeOfAll (d ∷ ds) ≡ size (termsOf (d .body)) + sizeOfAll ds
-unfolding sizeOfAll
-sizes-more d ds = refl
-
--- an area after these procedures, of which the next has its two bytes at i, and its first term its five at j
-abbrev both : ℕ → ℕ → ℕ → List Procedure → List ℕ → List ℕ
-both i j n ds area = sets (sets area i (procedureBytes n ds)) j (wordBytes (termWords n ds))
-
-one-more : (i j n : ℕ) (d : Procedure) (ds : List Procedure) (area : List ℕ) → i + 2 + 2 * length ds ≤ j
-    → both i j n (d ∷ ds) area
-    ≡ both (i + 2) (j + 5 * size (termsOf (d .body))) (n + size (termsOf (d .body))) ds
-    (sets (sets area i (bytesOf 2 (d .parameters * 4096 + n))) j (wordBytes (wordsFrom n (termsOf (d .body)))))
-one-more i j n d ds area h =
-    let two = bytesOf 2 (d .parameters * 4096 + n) in
-    let e = termsOf (d .body) in
-    let m = n + size e in
-    let block = wordBytes (wordsFrom n e) in
-    let start = sets area i two in
-    let rest = procedureBytes m ds in
-    let later = wordBytes (termWords m ds) in
-    let long : length block ≡ 5 * size e = words-length (wordsFrom n e) ∙ ap (λ (k : ℕ). 5 * k) (tree-length e n) in
-    ap (λ (l : List ℕ). sets (sets area i l) j (wordBytes (termWords n (d ∷ ds)))) (procedures-more n d ds)
-    ∙ ap (λ (l : List ℕ). sets l j (wordBytes (termWords n (d ∷ ds)))) (sets-append two rest area i (i + 2) (omega (arith, bytes-length 2 (d .parameters * 4096 + n))))
-    ∙ ap (λ (l : List ℕ). sets (sets start (i + 2) rest) j l) (ap wordBytes (terms-more n d ds) ∙ words-append (wordsFrom n e) (termWords m ds))
-    ∙ sets-append block later (sets start (i + 2) rest) j (j + 5 * size e) (omega (arith, long))
-    ∙ ap (λ (l : List ℕ). sets l (j + 5 * size e) later) (sym (sets-apart rest block start (i + 2) j (omega (arith, procedures-length ds m))))
-
-both-length : (i j n : ℕ) (ds : List Procedure) (area : List ℕ) → length (both i j n ds area) ≡ length area
-both-length i j n ds area = length-sets (sets area i (procedureBytes n ds)) j (wordBytes (termWords n ds)) ∙ length-sets area i (procedureBytes n ds)
-
-none-more : (i j n : ℕ) (area : List ℕ) → both i j n [] area ≡ area
-unfolding procedureBytes termWords wordBytes
-none-more i j n area = refl
 
 -- an accepted plan has its header and its mask
 pub long-plan : {plan words area : List ℕ} → Ready plan words area → 8 ≤ length plan
@@ -183,26 +137,19 @@ module _ (plan words : List ℕ) {area₀ : List ℕ} (r : Ready plan words area
       next {area₁} {area₂} {m} e f =
           let d = procedureAt plan p in
           let ds = restFrom plan (suc p) in
-          let t = termsOf (d .body) in
           let base = 8 + 2 * Format.procedures plan in
           let succ : p + 1 ≡ suc p = omega arith in
-          let number : m ≡ n + size t = f .next ∙ ap (λ (x : TermTree). n + size x) tree-same in
           let place : 8 + 2 * (p + 1) ≡ 8 + 2 * p + 2 = omega arith in
-          let after : base + 5 * (n + size t) ≡ base + 5 * n + 5 * size t = omega arith in
-          let held : area₂ ≡ sets (sets area (8 + 2 * p) (bytesOf 2 (d .parameters * 4096 + n))) (base + 5 * n) (wordBytes (wordsFrom n t)) =
-          f .bytes
-          ∙ ap (λ (x : TermTree). sets area₁ (base + 5 * n) (wordBytes (wordsFrom n x))) tree-same
-          ∙ ap (λ (l : List ℕ). sets l (base + 5 * n) (wordBytes (wordsFrom n t))) (e ∙ ap (λ (k : ℕ). sets area (8 + 2 * p) (bytesOf 2 (k * 4096 + n))) (sym (parameters-are plan (r .passes) p))) in
+          let put : area₁ ≡ sets area (8 + 2 * p) (bytesOf 2 (d .parameters * 4096 + n)) =
+          e ∙ ap (λ (k : ℕ). sets area (8 + 2 * p) (bytesOf 2 (k * 4096 + n))) (sym (parameters-are plan (r .passes) p)) in
+          let wrote : Wrote (termsOf (d .body)) base n area₁ area₂ m = rw tree-same at f in
           record {
             within = omega arith;
             counted = rw succ (omega (arith, f .next, sizes));
             same =
                 ap (λ (k : ℕ). both k (base + 5 * m) m (restFrom plan (p + 1)) area₂) place
                 ∙ ap (λ (k : ℕ). both (8 + 2 * p + 2) (base + 5 * m) m (restFrom plan k) area₂) succ
-                ∙ ap (λ (k : ℕ). both (8 + 2 * p + 2) (base + 5 * k) k ds area₂) number
-                ∙ ap (λ (k : ℕ). both (8 + 2 * p + 2) k (n + size t) ds area₂) after
-                ∙ ap (λ (l : List ℕ). both (8 + 2 * p + 2) (base + 5 * n + 5 * size t) (n + size t) ds l) held
-                ∙ sym (one-more (8 + 2 * p) (base + 5 * n) n d ds area (omega (arith, from-length plan (suc p) (Format.procedures plan - suc p))))
+                ∙ step-more (8 + 2 * p) base n d ds area (omega (arith, from-length plan (suc p) (Format.procedures plan - suc p))) put wrote
                 ∙ ap (λ (l : List Procedure). both (8 + 2 * p) (base + 5 * n) n l area) (sym (rest-more plan p h))
                 ∙ a .same;
           }

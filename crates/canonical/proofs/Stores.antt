@@ -1,27 +1,11 @@
--- The stores of the header and of a procedure. Assumes nothing.
-use Prim.Native.Nat.{ℕ, suc, _+_, _/_, _%_, _≤_, _<_}
-use native.Mathlib.Nat.{add-zero}
+-- The first eight bytes, copied one after the other. Assumes nothing.
+use Prim.Native.Nat.{ℕ, suc, _+_, _≤_, _<_}
 use native.Mathlib.Omega.{arith}
-use mathlib.Core.Path.{_≡_, refl, sym, ap, _∙_}
+use mathlib.Core.Path.{_≡_, sym, ap, _∙_}
 use mathlib.Core.List.{List, [], _∷_, _++_}
 use lib.ListN.{length, take, getD, set}
 use lib.Seq.{sets, length-sets, length-take-le, take-suc}
-use Rattle.written.specs.Written.{bytesOf}
 use Rattle.tree_writer.proofs.Areas.{sets-append}
-
--- ---- two bytes
-
-pub two-bytes : (area : List ℕ) (at w : ℕ) → set (set area at (w / 256 % 256)) (at + 1) (w % 256) ≡ sets area at (bytesOf 2 w)
-unfolding bytesOf
-two-bytes area at w =
-    let one : at + 1 ≡ suc at = omega arith in
-    let last : w % 256 ≡ w / 1 % 256 = omega arith in
-    rw (one, last)
-
-pub two-keeps : (area : List ℕ) (i w : ℕ) {area₁ : List ℕ} → area₁ ≡ sets area i (bytesOf 2 w) → length area₁ ≡ length area
-two-keeps area i w e = ap length e ∙ length-sets area i (bytesOf 2 w)
-
--- ---- the first eight bytes, one after the other
 
 pub record Copied (plan area₀ : List ℕ) (i : ℕ) (area : List ℕ) : Type 0 where
   pub within : i ≤ 8

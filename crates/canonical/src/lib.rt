@@ -1,9 +1,10 @@
 // The entry `canonical`: a plan, written in the one way that document 02, E5, names, into an output area.
 use answers::Answered;
 use header::layout;
+use plan_writer::put_procedure;
 use refusals::Checked;
 use refusals::refused;
-ghost use Prim.Native.Nat.{_+_, _*_, _≤_, _<_};
+ghost use Prim.Native.Nat.{_≤_};
 ghost use mathlib.Core.Path.{_≡_};
 ghost use lib.ListN.{length, take, replicate};
 ghost use lib.Seq.{sets};
@@ -11,7 +12,7 @@ ghost use Rattle.format.specs.Area.{overwrite};
 ghost use Rattle.packed.specs.Format.{terms, procedures};
 ghost use Rattle.packed.specs.Steps.{Loaded};
 ghost use Rattle.refusals.specs.Answer as refusals;
-ghost use Rattle.written.specs.Written.{bytesOf, writtenPlan};
+ghost use Rattle.written.specs.Written.{writtenPlan};
 ghost use Rattle.canonical.specs.Canonical.{canonicalAnswer, canonicalArea};
 ghost use Rattle.answers.specs.Answer.{answered};
 ghost use Rattle.canonical.specs.Begun.{RefusedAs, Ready, treesWritten};
@@ -43,17 +44,6 @@ fn copy_header(plan: &[u8], area: &mut [u8])
         area[i] = plan[i];
         i += 1;
     }
-}
-
-// The two bytes of a procedure.
-fn put_procedure(area: &mut [u8], at: usize, parameters: usize, root: usize)
-    requires { ⌜ at + 2 ≤ length (now area) ⌝ }
-    requires { ⌜ (parameters < 16) × (root < 4096) ⌝ }
-    ensures { λ r. ⌜ now (area .exit) ≡ sets (now (area .entry)) at (bytesOf 2 (parameters * 4096 + root)) ⌝ }
-{
-    let word = parameters * 4096 + root;
-    area[at] = (word / 256 % 256) as u8;
-    area[at + 1] = (word % 256) as u8;
 }
 
 // The procedures in their order, each with the number of its root and all its terms.

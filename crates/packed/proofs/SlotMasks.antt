@@ -64,7 +64,7 @@ ones-odd : (j : ℕ) → (2 ^ suc j - 1) % 2 ≡ 1
 ones-odd j = rw pow-suc (omega (arith, pow-pos j))
 
 -- the parameters' slots
-parameters-are : (k : ℕ) → slots (2 ^ k - 1) ≡ (λ x. ltb x k)
+pub parameters-are : (k : ℕ) → slots (2 ^ k - 1) ≡ (λ x. ltb x k)
 unfolding slots
 parameters-are k = fun-ext (λ x. go x (decLt x k))
   where

@@ -26,7 +26,7 @@ module _ (h : ℕ → Node) (N : ℕ) where
 
 module _ (t : ℕ) (e e′ : ℕ → Expression) (c c′ : ℕ → Condition) (l l′ : ℕ → Arguments)
     (he : (i : ℕ) → t < i → e i ≡ e′ i) (hc : (i : ℕ) → t < i → c i ≡ c′ i) (hl : (i : ℕ) → t < i → l i ≡ l′ i) where
-  expression-cong : (x : Node) → Below t x → expressionOf e c l x ≡ expressionOf e′ c′ l′ x
+  pub expression-cong : (x : Node) → Below t x → expressionOf e c l x ≡ expressionOf e′ c′ l′ x
   unfolding expressionOf
   expression-cong Node.null b = refl
   expression-cong (Node.variable x) b = refl
@@ -49,7 +49,7 @@ module _ (t : ℕ) (e e′ : ℕ → Expression) (c c′ : ℕ → Condition) (l
   expression-cong Node.listEnd b = refl
   expression-cong Node.unknown b = refl
 
-  condition-cong : (x : Node) → Below t x → conditionOf e c x ≡ conditionOf e′ c′ x
+  pub condition-cong : (x : Node) → Below t x → conditionOf e c x ≡ conditionOf e′ c′ x
   unfolding conditionOf
   condition-cong Node.null b = refl
   condition-cong (Node.variable x) b = refl
@@ -72,7 +72,7 @@ module _ (t : ℕ) (e e′ : ℕ → Expression) (c c′ : ℕ → Condition) (l
   condition-cong Node.listEnd b = refl
   condition-cong Node.unknown b = refl
 
-  arguments-cong : (x : Node) → Below t x → argumentsOf e l x ≡ argumentsOf e′ l′ x
+  pub arguments-cong : (x : Node) → Below t x → argumentsOf e l x ≡ argumentsOf e′ l′ x
   unfolding argumentsOf
   arguments-cong Node.null b = refl
   arguments-cong (Node.variable x) b = refl

@@ -12,5 +12,10 @@ pub mod Placed
 pub mod Fine
 pub mod Named
 pub mod Segments
+pub mod Right
+pub mod OrderedFields
+pub mod RightTerms
+pub mod RightWritten
+pub mod RightPlans
 pub mod Passes
 pub mod OneWay

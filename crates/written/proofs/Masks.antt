@@ -2,9 +2,9 @@
 use Prim.Native.Nat.{ℕ, zero, suc, _+_, _-_, _*_, _/_, _%_, _^_, _<_}
 use native.Mathlib.Nat.{mod-eq-of-lt}
 use native.Mathlib.Omega.{arith}
-use mathlib.Core.Path.{_≡_, refl, sym, ap, _∙_}
+use mathlib.Core.Path.{_≡_, refl, sym, _∙_}
 use mathlib.Core.Bool.{Bool, true, false, cond}
-use mathlib.Core.List.{List, [], _∷_}
+use mathlib.Core.List.{_∷_}
 use mathlib.Core.Option.{some, none}
 use lib.Dec.{eqb}
 use lib.Pow.{mod-pow-add}
@@ -14,7 +14,7 @@ use Rattle.packed.specs.Trees.{binderOf}
 use Rattle.written.specs.Terms.{maskOf, slotOf}
 
 -- the fields from field f on give the mask's last n bits
-mask-from : (m f n : ℕ) → f + n ≡ 32 → maskOf (fieldsFrom m f n) ≡ m % 2 ^ n
+pub mask-from : (m f n : ℕ) → f + n ≡ 32 → maskOf (fieldsFrom m f n) ≡ m % 2 ^ n
 unfolding maskOf fieldsFrom maskBit
 mask-from m f zero e = let z : 0 ≡ m % 1 = omega arith in z
 mask-from m f (suc n) e = go (eqb (maskBit m f) 1) refl (mask-from m (suc f) n (omega arith))

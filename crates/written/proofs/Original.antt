@@ -17,7 +17,7 @@ use Rattle.written.proofs.Masks.{mask-back, slot-back}
 use Rattle.written.proofs.Heads.{Heads}
 
 -- the mask of a new has 32 bits
-mask-small : (b : List ℕ) (t : ℕ) → tagAt b t ≡ 2 → termAt b t .value₁ < 2 ^ 32
+pub mask-small : (b : List ℕ) (t : ℕ) → tagAt b t ≡ 2 → termAt b t .value₁ < 2 ^ 32
 unfolding termAt laidOut layout table
 mask-small b t e = rw e (bits-below b _ 32)
 

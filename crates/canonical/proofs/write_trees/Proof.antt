@@ -3,7 +3,7 @@ use Prim.Native.Nat.{ℕ, _-_, _≤_, _<_}
 use native.Mathlib.Omega.{arith}
 use mathlib.Core.Path.{_≡_}
 use Rattle.canonical.proofs.Procedures.{At, in-order, few, sized, at-start, kept, at-end, root-inside, number-inside, parameters-small, room, next}
-use Rattle.canonical.proofs.Stores.{two-keeps}
+use Rattle.plan_writer.proofs.Stores.{two-keeps}
 use Rattle.canonical.proofs.write_trees.Statement.{statement}
 use Rattle.canonical.proofs.write_trees.Tie as tie
 

@@ -1,10 +1,10 @@
 -- `put_procedure` meets its contract. Assumes nothing.
 use native.Mathlib.Omega.{arith}
 use lib.ListN.{length-set}
-use Rattle.canonical.proofs.Stores.{two-bytes}
+use Rattle.plan_writer.proofs.Stores.{two-bytes}
 use borrow.Author.Needs.{needs}
-use Rattle.canonical.proofs.put_procedure.Statement.{statement}
-use Rattle.canonical.proofs.put_procedure.Tie as tie
+use Rattle.plan_writer.proofs.put_procedure.Statement.{statement}
+use Rattle.plan_writer.proofs.put_procedure.Tie as tie
 
 mul-word : tie.Need-mul-word
 mul-word c = search needs

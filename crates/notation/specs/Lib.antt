@@ -1,0 +1,6 @@
+pub mod Tokens
+pub mod Lexing
+pub mod Shown
+pub mod Layout
+pub mod Text
+pub mod Known

@@ -1,0 +1,12 @@
+pub mod Samples
+pub mod Branches
+pub mod StepsEnough
+pub mod Runs
+pub mod Operands
+pub mod ReadForms
+pub mod ReadBack
+pub mod PlanBack
+pub mod Wanted
+pub mod StepsKeep
+pub mod ReadRight
+pub mod PlanRight

@@ -1,0 +1,1 @@
+// A plan's text, read: definitions and their laws alone.

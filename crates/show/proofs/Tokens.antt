@@ -1,0 +1,38 @@
+-- The tokens of an accepted plan, as the code has them. Assumes nothing.
+use Prim.Native.Nat.{ℕ, _-_, _≤_}
+use native.Mathlib.Omega.{arith}
+use mathlib.Core.Path.{_≡_, sym, ap, subst, _∙_}
+use mathlib.Core.List.{List}
+use mathlib.Core.Option.{none}
+use lib.ListN.{length, take}
+use Rattle.packed.specs.Format.{terms}
+use Rattle.packed.specs.Steps.{Loaded}
+use Rattle.packed.specs.Trees.{programOf}
+use Rattle.packed.specs.Check.{refusal}
+use Rattle.refusals.specs.Answer.{answered}
+use Rattle.refusals.specs.declared.Checked.{Checked}
+use Rattle.refusals.specs.declared.Checked.the-variants.{Passed}
+use Rattle.refusals.proofs.Stages.{passed-none}
+use Rattle.written.proofs.RightPlans.{right-program}
+use Rattle.text.specs.Wrote.{Wrote}
+use Rattle.notation.specs.Known.{Known}
+use Rattle.notation.specs.Shown.{shownPlan}
+use Rattle.notation.proofs.ShownCodes.{plan-fit, known}
+use Rattle.plan_tokens.specs.Begun.{Given}
+
+pub given : {plan words : List ℕ} {r : Checked} → answered r ≡ refusal plan → (r ≡ Passed → Loaded plan (terms plan) words) → r ≡ Passed → Given plan words
+given {plan} {words} {r} e l q = record { passes = passed-none (refusal plan) r e q; loaded = l q }
+
+-- the first n bytes of the array, as the code takes them
+pub first-tokens : (plan : List ℕ) {a b : List ℕ} {n : ℕ} → Wrote a 0 (shownPlan (programOf plan)) b n → take (n - 0) b ≡ shownPlan (programOf plan)
+first-tokens plan {b = b} {n} w = ap (λ (m : ℕ). take m b) (same n) ∙ w .text
+  where
+    same : (n : ℕ) → n - 0 ≡ n
+    same n = omega arith
+
+pub known-tokens : {plan words a b : List ℕ} {n : ℕ} → Given plan words → Wrote a 0 (shownPlan (programOf plan)) b n
+    → Known (take (n - 0) b) × (length (take (n - 0) b) ≤ 16384)
+known-tokens {plan} g w =
+    let f = plan-fit (programOf plan) (right-program plan (g .passes)) in
+    let e = first-tokens plan w in
+    (subst Known (sym e) (known f), omega (arith, ap length e, f .few))

@@ -1,0 +1,9 @@
+pub mod ItemTokens
+pub mod RowTokens
+pub mod Operands
+pub mod Stack
+pub mod Fields
+pub mod Later
+pub mod Steps
+pub mod Stepping
+pub mod Writing
