@@ -180,11 +180,15 @@ def lexed(text):
 
 # ---- tokens as trees
 
+EXPRESSION, CONDITION, EITHER = "expression", "condition", "either"
+FORMS = {"let": LOOSE, "if": LOOSE, "while": LOOSE, "synch": LOOSE, "not": TESTING, **{words[0]: PREFIX for words in PREFIXES.values()}}
+
+
 class Reader:
     def __init__(self, tokens):
         self.tokens, self.at, self.terms = tokens, 0, MOST_TERMS
-        words = [token for token, _ in tokens]
-        self.counts = [0] + [words[i + 3] if i + 3 < len(words) else "" for i, word in enumerate(words) if word == "procedure"]
+        words = [token for token, _ in tokens] + [""] * 3
+        self.counts = ["0"] + [words[i + 3] for i, word in enumerate(words) if word == "procedure"]
 
     def ahead(self, by=0):
         return self.tokens[min(self.at + by, len(self.tokens) - 1)][0]
@@ -199,9 +203,12 @@ class Reader:
     def expect(self, token):
         return self.take() if self.ahead() == token else self.stop()
 
-    def number(self, first, end):
+    def is_number(self, first, end):
         token = self.ahead()
-        return int(self.take()) if token and token.isdigit() and first <= int(token) < end else self.stop()
+        return bool(token) and token.isdigit() and first <= int(token) < end
+
+    def number(self, first, end):
+        return int(self.take()) if self.is_number(first, end) else self.stop()
 
     def made(self, *tree):
         if not self.terms:
@@ -209,139 +216,91 @@ class Reader:
         self.terms -= 1
         return tree
 
-    def mask(self, least, most, mask):
-        while self.ahead() and self.ahead().isdigit() and least < int(self.ahead()) and most:
+    def mask(self, most, mask):
+        """Fields that go up, so many at most."""
+        least = 0
+        while most and self.is_number(least + 1, 32):
             least = self.number(least + 1, 32)
             mask, most = mask | 1 << 31 - least, most - 1
         return mask
 
+    def expression(self):
+        return self.part(LOOSE, EXPRESSION)
+
+    def behind(self, word, sort=EXPRESSION):
+        """What stands behind a word, and goes on as far as it can."""
+        self.expect(word)
+        return self.part(LOOSE, sort)
+
     def call(self):
         p = self.number(0, len(self.counts))
-        count = self.counts[p]
         self.expect("(")
-        parts = []
-        for i in range(int(count or 0)):
-            if i:
-                self.expect(",")
-            parts.append(self.expression())
+        count = int(self.counts[p]) if (self.counts[p] or "").isdigit() else 0
+        parts = [self.behind(",") if i else self.expression() for i in range(count)]
         self.expect(")")
         tree = self.made(17)
         for part in reversed(parts):
             tree = self.made(16, part, tree)
         return self.made(8, p, tree)
 
-    def simple(self):
+    def word_form(self, word):
+        """The form that begins with a word, which has been taken."""
+        if word == "let":
+            binder = 15 if self.ahead() == "-" and self.take() else self.number(0, 8)
+            return self.made(5, binder, self.behind("="), self.behind("in"))
+        if word == "if":
+            return self.made(6, self.part(LOOSE, CONDITION), self.behind("then"), self.behind("else"))
+        if word == "while":
+            return self.made(7, self.part(LOOSE, CONDITION), self.behind("do"))
+        if word == "synch":
+            return self.made(11, self.expression(), self.behind("do"))
+        if word == "not":
+            return self.made(13, self.part(TESTING, CONDITION))
+        if word == "new":
+            self.expect("(")
+            mask = self.mask(8, 0)
+            self.expect(")")
+            return self.made(2, mask)
+        if word == "call":
+            return self.call()
+        if word in ("null", "true"):
+            return self.made(0 if word == "null" else 12)
+        words = [word] + ([self.take()] if word == "notify" and self.ahead() == "all" else [])
+        return self.made(next(tag for tag, known in PREFIXES.items() if known == words), self.part(PREFIX, EXPRESSION))
+
+    def begun(self, asked, sort):
+        """What a part begins with."""
         token = self.ahead()
         if token and re.fullmatch("v[0-7]", token):
-            tree = self.made(1, int(self.take()[1]))
-        elif token == "null":
+            return self.made(1, int(self.take()[1]))
+        if token == "(":
             self.take()
-            tree = self.made(0)
-        elif token == "new":
-            self.take()
-            self.expect("(")
-            mask = self.mask(0, 8, 0)
+            tree = self.part(LOOSE, EXPRESSION if sort == EXPRESSION else EITHER)
             self.expect(")")
-            tree = self.made(2, mask)
-        elif token == "call":
-            self.take()
-            tree = self.call()
-        elif token == "(":
-            self.take()
-            tree = self.expression()
-            self.expect(")")
-        else:
+            return tree
+        fits = token in ("true", "null", "new", "call") or FORMS.get(token, -1) >= asked
+        if not fits or token in ("true", "not") and sort == EXPRESSION:
             self.stop()
-        return self.reads(tree)
+        return self.word_form(self.take())
 
-    def reads(self, tree):
-        """The fields behind a simple expression, but for one that is written."""
-        while self.ahead() == "." and self.ahead(2) != ":=":
-            self.take()
-            tree = self.made(3, tree, self.number(1, 32))
-        return tree
-
-    def operand(self):
-        """Without a write, so that `:=` behind it is left to be seen."""
-        for tag, words in sorted(PREFIXES.items(), reverse=True):
-            if [self.ahead(i) for i in range(len(words))] == words:
-                self.at += len(words)
-                operand = self.operand()
-                return self.made(tag, self.read_last(operand))
-        return self.simple()
-
-    def read_last(self, tree):
-        """Behind a prefix `.f` is read, even before `:=`, which then has no place."""
-        while self.ahead() == ".":
-            self.take()
-            tree = self.made(3, tree, self.number(1, 32))
-        return tree
-
-    def expression(self):
-        token = self.ahead()
-        if token == "let":
-            self.take()
-            binder = 15 if self.ahead() == "-" and self.take() else self.number(0, 8)
-            self.expect("=")
-            first = self.expression()
-            self.expect("in")
-            return self.made(5, binder, first, self.expression())
-        if token == "if":
-            self.take()
-            test = self.condition()
-            self.expect("then")
-            first = self.expression()
-            self.expect("else")
-            return self.made(6, test, first, self.expression())
-        if token in ("while", "synch"):
-            self.take()
-            first = self.condition() if token == "while" else self.expression()
-            self.expect("do")
-            return self.made(7 if token == "while" else 11, first, self.expression())
-        tree = self.operand()
-        if self.ahead() == "." and self.ahead(2) == ":=":
-            self.take()
-            f = self.number(1, 32)
-            self.take()
-            return self.made(4, tree, f, self.expression())
-        return tree
-
-    def tried(self, part):
-        """What a part reads, or None and nothing read."""
-        at, terms = self.at, self.terms
-        try:
-            return part()
-        except NoPlan:
-            self.at, self.terms = at, terms
-            return None
-
-    def equal(self, left):
-        def both():
-            first = self.read_last(left()) if left == self.operand else left()
-            self.expect("=")
-            return self.made(15, first, self.read_last(self.operand()))
-        return both
-
-    def test(self):
-        if self.ahead() == "not":
-            self.take()
-            return self.made(13, self.test())
-        if self.ahead() == "true":
-            self.take()
-            return self.made(12)
-        tree = self.tried(self.equal(self.operand))
-        if tree is None:
-            self.expect("(")
-            tree = self.condition()
-            self.expect(")")
-        return tree
-
-    def condition(self):
-        tree = self.tried(self.equal(self.expression)) or self.test()
-        if self.ahead() == "and":
-            self.take()
-            return self.made(14, tree, self.condition())
-        return tree
+    def part(self, asked, sort):
+        """An expression or a condition, at a place that asks for this binding and this sort: what it begins with, and what may follow that."""
+        tree = self.begun(asked, sort)
+        while True:
+            token, is_condition = self.ahead(), 12 <= tree[0] <= 15
+            if token == "." and not is_condition:
+                self.take()
+                f = self.number(1, 32)
+                tree = self.made(4, tree, f, self.behind(":=")) if asked == LOOSE and self.ahead() == ":=" else self.made(3, tree, f)
+            elif token == "=" and not is_condition and asked <= TESTING and sort != EXPRESSION:
+                self.take()
+                tree = self.made(15, tree, self.part(PREFIX, EXPRESSION))
+            elif token == "and" and is_condition and asked == LOOSE:
+                tree = self.made(14, tree, self.behind("and", CONDITION))
+            elif sort in (EITHER, CONDITION if is_condition else EXPRESSION):
+                return tree
+            else:
+                self.stop()
 
 
 def closed(tree, bound):
@@ -366,7 +325,7 @@ def read(text):
         version = reader.number(0, 2)
     if reader.ahead() == "volatile":
         reader.take()
-        mask = reader.mask(0, 31, mask)
+        mask = reader.mask(31, mask)
     while not procedures or reader.ahead() != "":
         count, begun = 0, reader.at
         if len(procedures) == 32:
