@@ -156,6 +156,17 @@ impl Writer<'_> {
     }
 }
 
+/// Whether a tree at a loose place begins with a parenthesis: it is a read or a write whose object does, or needs some.
+fn begins_grouped(terms: &[Term; 1024], mut at: u16) -> bool {
+    loop {
+        let Term { tag: 3 | 4, kids: [object, ..], .. } = terms[usize::from(at)] else { return false };
+        if binding(terms[usize::from(object)].tag) < TIGHT {
+            return true;
+        }
+        at = object;
+    }
+}
+
 /// The length of the text.
 pub fn show(plan: &[u8], area: &mut [u8]) -> Result<usize, Refusal> {
     let checked = check(plan)?;
@@ -167,7 +178,7 @@ pub fn show(plan: &[u8], area: &mut [u8]) -> Result<usize, Refusal> {
         writer.fields(checked.mask);
     }
     let procedures = usize::from(plan[0] & 15) << 2 | usize::from(plan[1] >> 6);
-    writer.breaks = true;
+    writer.breaks = !begins_grouped(&checked.terms, checked.roots[0]);
     writer.tree(checked.roots[0], LOOSE);
     for p in 1..procedures {
         writer.on_new_line("procedure");
