@@ -12,6 +12,7 @@ pub mod raw;
 mod interleavings;
 mod log;
 mod outcome;
+mod plan_text;
 mod preview;
 mod refusal;
 #[cfg(test)]
@@ -20,6 +21,7 @@ mod tests;
 pub use interleavings::{first_interleaving, interleavings, next_interleaving, Interleavings};
 pub use log::{Kind, Record, records};
 pub use outcome::{Outcome, Stop, ThreadState};
+pub use plan_text::{show, show_in};
 pub use preview::Preview;
 pub use refusal::{Reason, Refusal};
 
@@ -110,21 +112,6 @@ pub fn preview(plan: &[u8], schedule: &[u8], pick: u64) -> Result<Preview, Refus
 /// begins with it and keeps its other bytes; the answer is its length, which is the plan's. A refusal leaves `area` as it was.
 pub fn canonical(plan: &[u8], area: &mut [u8]) -> Result<usize, Refusal> {
     answer(raw::canonical(plan, area)).map(|said| match said {
-        Answer::Value(length) | Answer::Other(length) => length as usize,
-    })
-}
-
-/// A plan as text, in document 01's notation.
-pub fn show(plan: &[u8]) -> Result<String, Refusal> {
-    let mut area = vec![0; MOST_SHOWN_BYTES];
-    let length = show_in(plan, &mut area)?;
-    area.truncate(length);
-    Ok(String::from_utf8_lossy(&area).into_owned())
-}
-
-/// The same into an area, which begins with the text and keeps its other bytes; the answer is its length. A refusal leaves `area` as it was.
-pub fn show_in(plan: &[u8], area: &mut [u8]) -> Result<usize, Refusal> {
-    answer(raw::show(plan, area)).map(|said| match said {
         Answer::Value(length) | Answer::Other(length) => length as usize,
     })
 }
