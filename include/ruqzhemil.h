@@ -1,7 +1,7 @@
 /* Ruqzhemil: a verified checker of plans for relay test sets, as a static library for C and C++.
  *
  * A plan is a small concurrent program in a byte table, and a schedule a byte for each pick, the number of the thread that moves next. This header is enough
- * to call the functions and to read what they give; docs/FORMAT.md says how to write a plan.
+ * to call the functions and to read what they give; docs/FORMAT.md says how to write a plan, as bytes and as text.
  *
  *   check                says whether a table is a plan
  *   play                 runs a plan under a schedule: a log of 3-byte records, and an outcome
@@ -9,6 +9,7 @@
  *   preview              says what a pick would do, before it is taken
  *   witness              from a race, brings both threads to their accesses
  *   canonical            writes a plan in the one way that all equal plans share
+ *   show                 writes a plan as text
  *   first_interleaving,  list every way in which the threads of a short plan can take turns
  *   next_interleaving
  *   bound                says how many moves a plan can need
@@ -33,8 +34,8 @@
  * WHAT IS ASKED of the caller: each pointer leads to as many bytes as its length says (out of play to RUQZHEMIL_OUT_BYTES, of preview to
  * RUQZHEMIL_PREVIEW_BYTES); a length of 0 may go with any pointer, null too; what a function writes (log, area, out) overlaps none of its other bytes, and
  * while a call runs no other thread writes to its bytes; and there is stack (bench/run.sh measures it): check needs up to 48 KB, play up to 128 KB, judge up
- * to 64 KB, preview and charge up to 144 KB, witness up to 144 KB (each of the three has a log of 12,288 bytes in it), canonical, bound, first_interleaving
- * and next_interleaving up to 96 KB, comtrade up to 4 KB.
+ * to 64 KB, preview and charge up to 144 KB, witness up to 144 KB (each of the three has a log of 12,288 bytes in it), canonical, show, bound,
+ * first_interleaving and next_interleaving up to 96 KB, comtrade up to 4 KB.
  *
  * WHAT IT NEEDS: x86-64, the System V calling convention (Linux), and from outside the archive memcpy and memset alone.
  *
@@ -53,25 +54,26 @@ extern "C" {
 
 /* ---- versions: major * 65536 + minor * 256 + patch */
 
-#define RUQZHEMIL_VERSION 0x010100 /* 1.1.0, of this header */
+#define RUQZHEMIL_VERSION 0x010200 /* 1.2.0, of this header */
 
 /* The version of the archive that is linked, which RUQZHEMIL_VERSION should be. */
 uint64_t ruqzhemil_version(void);
 
 /* ---- limits */
 
-#define RUQZHEMIL_MOST_PLAN_BYTES 5192   /* of any plan that passes: 32 procedures, 1,024 terms */
-#define RUQZHEMIL_MOST_PICKS 4096        /* of any schedule that passes */
-#define RUQZHEMIL_MOST_LOG_BYTES 12288   /* of any log: a record to each of 4,096 picks. An area of this size is enough for every play */
-#define RUQZHEMIL_MOST_TEXT_BYTES 131072 /* an area of this size is enough for the text that the printing program writes of any run */
-#define RUQZHEMIL_MOST_FILE_BYTES 317269 /* of the data file of any log: that of 4,096 records. An area of this size is enough for every log */
-#define RUQZHEMIL_MOST_TOTAL 65535       /* of the moves that bound answers */
-#define RUQZHEMIL_MOST_BOUND 64          /* of a bound n for interleavings: an area of this size is enough for every listed schedule */
-#define RUQZHEMIL_RECORD_BYTES 3         /* of a record */
-#define RUQZHEMIL_OUT_BYTES 40           /* of an outcome */
-#define RUQZHEMIL_PREVIEW_BYTES 8        /* of a preview */
-#define RUQZHEMIL_THREADS 8              /* of a run; they are numbered 0 to 7, as the picks are */
-#define RUQZHEMIL_OBJECTS 32             /* of a run, null (0) included; values are objects */
+#define RUQZHEMIL_MOST_PLAN_BYTES 5192    /* of any plan that passes: 32 procedures, 1,024 terms */
+#define RUQZHEMIL_MOST_PICKS 4096         /* of any schedule that passes */
+#define RUQZHEMIL_MOST_LOG_BYTES 12288    /* of any log: a record to each of 4,096 picks. An area of this size is enough for every play */
+#define RUQZHEMIL_MOST_TEXT_BYTES 131072  /* an area of this size is enough for the text that the printing program writes of any run */
+#define RUQZHEMIL_MOST_SHOWN_BYTES 574501 /* an area of this size is enough for the text that show writes of any plan */
+#define RUQZHEMIL_MOST_FILE_BYTES 317269  /* of the data file of any log: that of 4,096 records. An area of this size is enough for every log */
+#define RUQZHEMIL_MOST_TOTAL 65535        /* of the moves that bound answers */
+#define RUQZHEMIL_MOST_BOUND 64           /* of a bound n for interleavings: an area of this size is enough for every listed schedule */
+#define RUQZHEMIL_RECORD_BYTES 3          /* of a record */
+#define RUQZHEMIL_OUT_BYTES 40            /* of an outcome */
+#define RUQZHEMIL_PREVIEW_BYTES 8         /* of a preview */
+#define RUQZHEMIL_THREADS 8               /* of a run; they are numbered 0 to 7, as the picks are */
+#define RUQZHEMIL_OBJECTS 32              /* of a run, null (0) included; values are objects */
 
 /* ---- answers */
 
@@ -111,7 +113,8 @@ enum ruqzhemil_refusal {
     RUQZHEMIL_REFUSAL_CYCLE = 21,          /* place 0 */
     RUQZHEMIL_REFUSAL_WHILE = 22,          /* place 0 */
     RUQZHEMIL_REFUSAL_TOTAL = 23,          /* place 0 */
-    RUQZHEMIL_REFUSAL_FILE_AREA = 24       /* place 0 */
+    RUQZHEMIL_REFUSAL_FILE_AREA = 24,      /* place 0 */
+    RUQZHEMIL_REFUSAL_TEXT_AREA = 25       /* place 0 */
 };
 
 static inline const char *ruqzhemil_refusal_text(unsigned number) {
@@ -140,6 +143,7 @@ static inline const char *ruqzhemil_refusal_text(unsigned number) {
     case RUQZHEMIL_REFUSAL_WHILE: return "a while in a plan whose moves are asked for";
     case RUQZHEMIL_REFUSAL_TOTAL: return "a total of over 65,535 moves";
     case RUQZHEMIL_REFUSAL_FILE_AREA: return "an area too short for the whole data file";
+    case RUQZHEMIL_REFUSAL_TEXT_AREA: return "an area shorter than the plan's text";
     default: return "a refusal that this header does not know";
     }
 }
@@ -354,6 +358,10 @@ uint64_t ruqzhemil_preview(const uint8_t *plan, size_t plan_len, const uint8_t *
  * area is shorter than the plan, 13 leave it as it was. An area of RUQZHEMIL_MOST_PLAN_BYTES is enough for every plan. */
 uint64_t ruqzhemil_canonical(const uint8_t *plan, size_t plan_len, uint8_t *area, size_t area_len);
 
+/* Writes a plan as text, in document 01's notation; docs/FORMAT.md, "A plan as text", has its grammar. An answer: the text's length in bytes; area begins with
+ * the text, which no zero byte ends, and keeps its other bytes. Refusals 1 to 7 and, where area is shorter than the text, 25 leave it as it was. */
+uint64_t ruqzhemil_show(const uint8_t *plan, size_t plan_len, uint8_t *area, size_t area_len);
+
 /* From a run that stops for a missing key, a schedule after which both threads stand at their accesses: played, every pick of it moves and it comes to its
  * end, and the next moves of two threads are then the last write of the field and the access that lacked its key, on the same field of the same object up to
  * numbering. It has the run's moves, but those that lead to neither access, and without the write; threads are renumbered, since forks may drop out. An
@@ -411,6 +419,7 @@ static inline uint8_t *ruqzhemil_area(uint8_t *area) {
 #define ruqzhemil_preview(plan, plan_len, schedule, schedule_len, pick, out) \
     ruqzhemil_preview(ruqzhemil_bytes(plan), plan_len, ruqzhemil_bytes(schedule), schedule_len, pick, out)
 #define ruqzhemil_canonical(plan, plan_len, area, area_len) ruqzhemil_canonical(ruqzhemil_bytes(plan), plan_len, ruqzhemil_area(area), area_len)
+#define ruqzhemil_show(plan, plan_len, area, area_len) ruqzhemil_show(ruqzhemil_bytes(plan), plan_len, ruqzhemil_area(area), area_len)
 #define ruqzhemil_bound(plan, plan_len) ruqzhemil_bound(ruqzhemil_bytes(plan), plan_len)
 #define ruqzhemil_witness(plan, plan_len, schedule, schedule_len, area, area_len) \
     ruqzhemil_witness(ruqzhemil_bytes(plan), plan_len, ruqzhemil_bytes(schedule), schedule_len, ruqzhemil_area(area), area_len)

@@ -16,6 +16,7 @@ unsafe extern "C" {
     fn ruqzhemil_judge(version: u64, log: *const u8, log_len: usize) -> u64;
     fn ruqzhemil_preview(plan: *const u8, plan_len: usize, schedule: *const u8, schedule_len: usize, pick: u64, out: *mut u8) -> u64;
     fn ruqzhemil_canonical(plan: *const u8, plan_len: usize, area: *mut u8, area_len: usize) -> u64;
+    fn ruqzhemil_show(plan: *const u8, plan_len: usize, area: *mut u8, area_len: usize) -> u64;
     fn ruqzhemil_bound(plan: *const u8, plan_len: usize) -> u64;
     fn ruqzhemil_witness(plan: *const u8, plan_len: usize, schedule: *const u8, schedule_len: usize, area: *mut u8, area_len: usize) -> u64;
     fn ruqzhemil_first_interleaving(plan: *const u8, plan_len: usize, n: u64, area: *mut u8, area_len: usize) -> u64;
@@ -60,6 +61,10 @@ pub fn preview(plan: &[u8], schedule: &[u8], pick: u64, out: &mut [u8; PREVIEW_B
 
 pub fn canonical(plan: &[u8], area: &mut [u8]) -> u64 {
     unsafe { ruqzhemil_canonical(plan.as_ptr(), plan.len(), area.as_mut_ptr(), area.len()) }
+}
+
+pub fn show(plan: &[u8], area: &mut [u8]) -> u64 {
+    unsafe { ruqzhemil_show(plan.as_ptr(), plan.len(), area.as_mut_ptr(), area.len()) }
 }
 
 pub fn bound(plan: &[u8]) -> u64 {

@@ -9,7 +9,7 @@ The library is target/staticlib/libruqzhemil.a
 (`rt staticlib ruqzhemil` makes it), linked into a shared object by the C compiler. Compared are: what check returns; what play returns, the 40
 bytes of the outcome and the whole log area, beyond the records too; what judge returns for the log of each run and for each log of the cases; what
 comtrade returns and the whole area; what charge returns; what preview returns and its 8 bytes; what canonical returns and the
-whole area; what bound returns; what witness, first_interleaving and next_interleaving return and the
+whole area; what show returns for the same plans and the whole area, by tools/plan_text.py; what bound returns; what witness, first_interleaving and next_interleaving return and the
 whole area.
 """
 
@@ -20,7 +20,9 @@ import subprocess
 import sys
 
 import interpreter
-from interpreter import (FILL, OUT, PREVIEW, bounded, charged, checked, judged, outcome_bytes, played, preview_bytes, previewed, record_bytes, written)
+import plan_text
+from interpreter import (FILL, OUT, PREVIEW, bounded, charged, checked, judged, outcome_bytes, played, preview_bytes, previewed, record_bytes, value,
+                         written)
 
 
 def library(root):
@@ -30,7 +32,7 @@ def library(root):
     archive = root + "/target/staticlib/libruqzhemil.a"
     subprocess.run(["cc", "-shared", "-o", made, "-Wl,--whole-archive", archive, "-Wl,--no-whole-archive"], check=True)
     loaded = ctypes.CDLL(made)
-    for name in ("check", "play", "judge", "comtrade", "charge", "preview", "canonical", "bound", "witness", "first_interleaving", "next_interleaving"):
+    for name in ("check", "play", "judge", "comtrade", "charge", "preview", "canonical", "show", "bound", "witness", "first_interleaving", "next_interleaving"):
         getattr(loaded, "ruqzhemil_" + name).restype = ctypes.c_uint64
     return loaded
 
@@ -73,10 +75,19 @@ def filed_right(lib, case):
     return written_right(lambda *area: lib.ruqzhemil_comtrade(*lent(bytes.fromhex(given["log"])), *area), given, case["want"])
 
 
+def shown_right(lib, plan, want):
+    """Whether show refuses the plan as check does, or gives its text."""
+    text = plan_text.shown(plan).encode() if checked(want) == value(0) else b""
+    area, length = lent(bytes([FILL]) * (len(text) + 3))
+    got = lib.ruqzhemil_show(*lent(plan), area, length)
+    return got == (value(len(text)) if text else checked(want)) and bytes(area) == text + bytes([FILL]) * 3
+
+
 def canonical_right(lib, case):
-    """Whether canonical answers as the case asks."""
-    given = case["canonical"]
-    return written_right(lambda *area: lib.ruqzhemil_canonical(*lent(bytes.fromhex(given["plan"])), *area), given, case["want"])
+    """Whether canonical answers as the case asks, and show."""
+    given, want = case["canonical"], case["want"]
+    plan = bytes.fromhex(given["plan"])
+    return written_right(lambda *area: lib.ruqzhemil_canonical(*lent(plan), *area), given, want) and shown_right(lib, plan, want)
 
 
 def charged_right(lib, case):

@@ -288,6 +288,30 @@ WRITTEN = [
     (LARGEST, len(LARGEST) - 1, [13, 0]),
 ]
 
+# a plan, and its text
+TEXTS = [
+    (PLAN_P, """version 1
+let 0 = new(1) in
+let - = fork (v0.1 := null) in
+v0.1
+"""),
+    (plan(node(7, node(14, node(14, TRUE, node(15, fork(NULL), then(NULL, NULL))), no(node(15, NULL, read(new(2, 31), 2)))), call(1, wait(NULL), call(0))),
+          write(read(variable(0), 1), 2, notify_all(notify(variable(1)))), parameters=[0, 2], mask=0xa0000001, version=0), """version 0
+volatile 2 31
+while (true and fork null = (let - = null in
+    null)) and not null = new(2 31).2 do
+call 1 (wait null, call 0 ())
+procedure 1 (2) = v0.1.2 := notify all notify v1
+"""),
+    (plan(let(0, choice(no(node(14, TRUE, TRUE)), new(), join(fork(let(1, NULL, variable(1))))), synch(wait(join(NULL)), read(notify(variable(0)), 31)))),
+     """version 1
+let 0 = if not (true and true) then new() else join fork (let 1 = null in
+    v1) in
+synch wait join null do
+(notify v0).31
+"""),
+]
+
 # a plan, and what is right: the refusal, or how many moves it can need
 LOOP = node(7, TRUE, NULL)
 

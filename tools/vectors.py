@@ -17,11 +17,12 @@ an input of 9,291 bytes of the printing program and its text. The same words giv
   charges                        plays for charge: the figures of document 02, and random ones
   previews                       plays and picks for preview: by hand, and random ones
   plans                          plans for canonical: by hand, and random ones
+  texts                          the same plans for show, with the texts that tools/plan_text.py writes
   bounds                         plans for bound: by hand, and random ones
   witnesses                      plays for witness: by hand, and random ones
   interleavings                  plans and schedules for first_interleaving and next_interleaving: by hand, and random ones
   changed_version, changed_checks, changed_plays, changed_runs, changed_both, changed_logs, changed_files,
-  changed_charges, changed_previews, changed_plans, changed_bounds,
+  changed_charges, changed_previews, changed_plans, changed_texts, changed_bounds,
   changed_witnesses, changed_interleavings
                                  cases of the kinds above with one part of the answer, or one length, changed: each must differ
 
@@ -30,7 +31,7 @@ bytes of the outcome; plan, schedule, records. A log: the version that judge is 
 the area's length in four bytes and the log's in two, what comtrade returns in eight; the log, and the file where it is not refused. A charge:
 lengths of plan and schedule, the option and what charge returns, in eight bytes each; plan, schedule. A preview: lengths of plan and schedule, the pick
 and what preview returns, in eight bytes each; the bytes of the preview; plan, schedule. A plan: the lengths of plan and area, what canonical returns in
-eight bytes; plan, written plan where it is not refused. A bound: what bound returns in eight bytes; plan. A witness:
+eight bytes; plan, written plan where it is not refused. A text: the same of show and the text. A bound: what bound returns in eight bytes; plan. A witness:
 lengths of plan, schedule and area; what witness returns in eight bytes; plan, schedule, and the written schedule where it is not refused. An interleaving:
 lengths of plan, schedule and area; 0 to begin, 1 to go on; n and what is returned, in eight bytes each; plan, schedule, and the written schedule where there
 is one.
@@ -41,6 +42,7 @@ import sys
 
 import header
 import interpreter
+import plan_text
 import rows
 from interpreter import (FILL, KINDS, NUMBERS, OUTCOMES, REFUSALS, STATES, bounded, charged, checked, judged, other, outcome_bytes, played,
                          preview_bytes, previewed, record_bytes, refused, state_words, value, written)
@@ -344,6 +346,32 @@ def edge_files(oracle):
         yield file_of(log, area, want)
 
 
+# ---- plans as text
+
+SHORT_FOR_TEXT = (NUMBERS["IS_REFUSAL"] << 32) + (NUMBERS["REFUSAL_TEXT_AREA"] << 16)
+
+
+def text_of(plan, more):
+    """A plan that passes, with its text, in an area that is longer than the text by so much."""
+    text = plan_text.shown(plan).encode()
+    return Plan(plan, len(text) + more, *((value(len(text)), text) if more >= 0 else (SHORT_FOR_TEXT, b"")), len(plan))
+
+
+def edge_texts():
+    for plan, text in rows.TEXTS:
+        assert plan_text.shown(plan) == text, (plan.hex(), text)
+        yield from (text_of(plan, more) for more in (0, -1, 5))
+
+
+def texts(plans):
+    """Of plans for canonical: those that pass, in areas of their texts' length, of more and of one byte less; and those that are refused."""
+    for index, case in enumerate(plans):
+        passes = case.bytes or case.written == refused(13, 0)
+        made = text_of(case.plan, (0, -1, 5)[index % 3]) if passes else case
+        if storable(made):
+            yield made
+
+
 # ---- cases that must differ
 
 def flips(data):
@@ -363,10 +391,10 @@ def wrong(right):
 
 
 def changed(race, ended, refused_plan, refused_pick, unordered, ordered, refused_log, file, refused_file, charge, preview, refused_preview, plan,
-            refused_area, bound, refused_bound, witness, refused_witness, first, following, over, refused_listing):
-    """Cases by file, of twenty-two right ones: plays that stop for a race, come to their end, have a refused plan and a refused pick; logs with an unordered
+            refused_area, text, refused_text, bound, refused_bound, witness, refused_witness, first, following, over, refused_listing):
+    """Cases by file, of twenty-four right ones: plays that stop for a race, come to their end, have a refused plan and a refused pick; logs with an unordered
     access, with none, and refused; a log with its data file, and one that is refused; a charge; a preview, and one that is refused; a
-    plan that is written, and one that is refused; a bound, and one that is refused; a witness, and one that
+    plan that is written, and one that is refused; a plan that is shown, and one that is refused; a bound, and one that is refused; a witness, and one that
     is refused; a first interleaving, a following one, an end of the list, and one that is refused."""
     end = len(stored(race))
     lengths = [(end, 0), (len(race.plan), end)]
@@ -390,6 +418,9 @@ def changed(race, ended, refused_plan, refused_pick, unordered, ordered, refused
         "changed_plans": by(plan, written=wrong(plan.written)) + by(plan, bytes=flips(plan.bytes)) + by(plan, bytes=[plan.bytes[:-1], plan.bytes + bytes(1)])
         + by(plan, area=[len(plan.plan) - 1, 65535]) + by(plan, length=[len(stored(plan))])
         + by(refused_area, written=wrong(refused_area.written)) + by(refused_area, bytes=[bytes(1)]),
+        "changed_texts": by(text, written=wrong(text.written)) + by(text, bytes=flips(text.bytes)) + by(text, bytes=[text.bytes[:-1], text.bytes + bytes(1)])
+        + by(text, area=[len(text.bytes) - 1]) + by(text, length=[len(stored(text))])
+        + by(refused_text, written=wrong(refused_text.written)) + by(refused_text, bytes=[bytes(1)]),
         "changed_bounds": by(bound, bounded=wrong(bound.bounded)) + by(bound, plan=[bound.plan[:-1]]) + by(refused_bound, bounded=wrong(refused_bound.bounded)),
         "changed_witnesses": by(witness, written=wrong(witness.written)) + by(witness, bytes=flips(witness.bytes))
         + by(witness, bytes=[witness.bytes[:-1], witness.bytes + bytes(1)]) + by(witness, area=[len(witness.bytes) - 1, 65535])
@@ -413,6 +444,7 @@ def changed_of(files):
                    first("files", lambda c: c.filed == refused(24, 0)), first("charges", lambda c: c.option and value(0) < c.charged < other(0)),
                    first("previews", lambda c: c.out[0] == NUMBERS["PREVIEW_RACE"]), first("previews", lambda c: c.previewed > refused(9, 0)),
                    first("plans", lambda c: c.bytes and c.bytes != c.plan), first("plans", lambda c: c.written == refused(13, 0)),
+                   first("texts", lambda c: len(c.bytes) > 60), first("texts", lambda c: c.written == SHORT_FOR_TEXT),
                    first("bounds", lambda c: c.bounded < other(0)), first("bounds", lambda c: c.bounded == refused(21, 0)),
                    first("witnesses", lambda c: len(c.bytes) > 9), first("witnesses", lambda c: c.written == refused(16, 0)),
                    first("interleavings", lambda c: not c.going and c.n > 4 and c.bytes), first("interleavings", lambda c: c.going and c.n > 4 and c.bytes),
@@ -427,14 +459,15 @@ GROUPS = [
     ("runs, checked", "runs"), ("runs, played", "runs"), ("runs, judged", "runs"), ("runs, played and judged", "runs"),
     ("refused plays, checked", "refused"), ("refused plays, played", "refused"), ("refused plays, played and judged", "refused"),
     ("other logs, judged", "logs"), ("data files at the edges", "edge_files"), ("data files", "files"), ("charges", "charges"),
-    ("previews", "previews"), ("plans, written", "plans"), ("bounds", "bounds"), ("witnesses", "witnesses"), ("interleavings", "interleavings"),
+    ("previews", "previews"), ("plans, written", "plans"), ("plans, shown", "texts"), ("bounds", "bounds"), ("witnesses", "witnesses"),
+    ("interleavings", "interleavings"),
 ]
 CHANGED = [
     ("changed version", "changed_version"), ("changed, checked", "changed_checks"), ("changed, played", "changed_plays"),
     ("changed runs, judged", "changed_runs"), ("changed, played and judged", "changed_both"), ("changed logs, judged", "changed_logs"),
     ("changed data files", "changed_files"), ("changed charges", "changed_charges"), ("changed previews", "changed_previews"),
-    ("changed plans, written", "changed_plans"), ("changed bounds", "changed_bounds"), ("changed witnesses", "changed_witnesses"),
-    ("changed interleavings", "changed_interleavings"),
+    ("changed plans, written", "changed_plans"), ("changed plans, shown", "changed_texts"), ("changed bounds", "changed_bounds"),
+    ("changed witnesses", "changed_witnesses"), ("changed interleavings", "changed_interleavings"),
 ]
 
 
@@ -468,6 +501,7 @@ def main(argv):
     files["charges"] = list(figures(answers)) + files["charges"]
     files["previews"] = list(edge_previews(answers)) + files["previews"]
     files["plans"] = list(edge_plans(answers)) + files["plans"]
+    files["texts"] = list(edge_texts()) + list(texts(files["plans"]))
     files["bounds"] = list(edge_bounds(answers)) + files["bounds"]
     files["witnesses"] = list(edge_witnesses(answers)) + files["witnesses"]
     files["interleavings"] = list(edge_interleavings(answers)) + files["interleavings"]

@@ -43,6 +43,10 @@ pub fn canonical(plan: &[u8], area: &mut [u8]) -> u64 {
     independent::canonical(plan, area).map_or_else(number, |length| length as u64)
 }
 
+pub fn show(plan: &[u8], area: &mut [u8]) -> u64 {
+    independent::show(plan, area).map_or_else(number, |length| length as u64)
+}
+
 pub fn bound(plan: &[u8]) -> u64 {
     independent::bound(plan).map_or_else(number, |total| total as u64)
 }

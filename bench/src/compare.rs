@@ -7,7 +7,7 @@ use crate::{answers, generate, library};
 /// How many cases had each answer.
 #[derive(Default)]
 struct Seen {
-    refusals: [usize; 25],
+    refusals: [usize; 26],
     passed: usize,
     stops: [usize; 6],
     states: [usize; 10],
@@ -17,6 +17,7 @@ struct Seen {
     charges: [usize; 2],
     previews: [usize; 6],
     plans: [usize; 2],
+    texts: usize,
     bounds: usize,
     listed: [usize; 3],
     witnesses: usize,
@@ -41,16 +42,16 @@ impl Seen {
     }
 
     fn print(&self) {
-        let (first, later) = (&self.refusals[1..13], &self.refusals[13..25]);
-        println!("  plans passed {}; refusals 1 to 12 {first:?}, 13 to 24 {later:?}", self.passed);
+        let (first, later) = (&self.refusals[1..13], &self.refusals[13..26]);
+        println!("  plans passed {}; refusals 1 to 12 {first:?}, 13 to 25 {later:?}", self.passed);
         println!("  runs end, race, no-thread, no-object, no-key, no-depth {:?}", self.stops);
         println!("  threads absent, finished, ready, monitor, join, no field, no thread, lacking, notify, monitor not held {:?}", self.states);
         println!("  threads that learnt no key from another, some {:?}", self.learnt);
         println!("  logs ordered, unordered {:?}; data files {}; runs free, charged {:?}", self.judged, self.files, self.charges);
         println!("  picks passed over, moved, moved with a record, race, no room, stopped before {:?}", self.previews);
-        println!("  plans written as they were, otherwise {:?}; plans with a total {}", self.plans, self.bounds);
+        println!("  plans written as they were, otherwise {:?}; plans shown {}; plans with a total {}", self.plans, self.texts, self.bounds);
         println!("  interleavings begun, followed, over {:?}; witnesses {}", self.listed, self.witnesses);
-        let alone = [self.passed, self.files, self.bounds, self.witnesses];
+        let alone = [self.passed, self.files, self.bounds, self.witnesses, self.texts];
         let counts: [&[usize]; 11] =
             [first, later, &self.stops, &self.states, &self.learnt, &self.judged, &self.charges, &self.previews, &self.plans, &self.listed, &alone];
         assert!(counts.into_iter().flatten().min() > Some(&0), "an answer that no case had: more cases are needed");
@@ -219,6 +220,25 @@ fn canonical(random: &mut Random, plan: &[u8], seen: &mut Seen) {
     same("the area of a plan written twice", &input, again, written);
 }
 
+/// The answer and the whole area, also in an area of just the text's length and in one a byte short.
+fn show(plan: &[u8], area: &[u8], seen: &mut Seen) {
+    let once = |area: &[u8]| {
+        let (mut ours, mut theirs) = (area.to_vec(), area.to_vec());
+        let input = [plan, area];
+        let answer = same("show", &input, library::show(plan, &mut ours), answers::show(plan, &mut theirs));
+        same("the text's area", &input, ours, theirs);
+        answer
+    };
+    let answer = once(area);
+    if answer >> 32 == 2 {
+        seen.refused(answer);
+        return;
+    }
+    once(&area[..answer as usize]);
+    seen.refused(once(&area[..answer as usize - 1]));
+    seen.texts += 1;
+}
+
 /// The answer and the whole area.
 fn comtrade_once(log: &[u8], area: &[u8]) -> u64 {
     let (mut ours, mut theirs) = (area.to_vec(), area.to_vec());
@@ -268,6 +288,7 @@ pub fn run(cases: usize, seed: u64) {
         let plan = if random.percent(1) { generate::doubling(random) } else { plan(random) };
         check(&plan, &mut seen);
         canonical(random, &plan, &mut seen);
+        show(&plan, &random.bytes(20 * plan.len()), &mut seen);
         bound(&plan, &mut seen);
         let schedule = generate::schedule(random);
         interleavings(random, &plan, &schedule, &mut seen);

@@ -10,6 +10,7 @@ mod judge;
 mod plan;
 mod preview;
 mod run;
+mod show;
 mod witness;
 
 pub use bound::bound;
@@ -21,6 +22,7 @@ pub use judge::judge;
 pub use plan::check;
 pub use preview::{preview, Preview};
 pub use run::{play, Outcome, State};
+pub use show::show;
 pub use witness::witness;
 
 /// Number and place.

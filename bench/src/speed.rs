@@ -12,6 +12,9 @@ const ROUNDS: usize = 200;
 const FEW_PICKS: usize = 512;
 const FEW_RECORDS: usize = 256;
 
+/// An area for the text of any plan.
+const MOST_SHOWN: usize = 574501;
+
 /// Counts of records of short logs, the highest last.
 const SHORT: [usize; 4] = [1, 8, 32, 64];
 
@@ -73,8 +76,8 @@ fn judging<'a>(judge: fn(u64, &[u8]) -> u64, version: u64, log: &'a [u8]) -> Ent
     })
 }
 
-fn writing<'a>(canonical: fn(&[u8], &mut [u8]) -> u64, plan: &'a [u8]) -> Entry<'a> {
-    let mut area = vec![0; plan.len()];
+fn writing<'a>(canonical: fn(&[u8], &mut [u8]) -> u64, plan: &'a [u8], length: usize) -> Entry<'a> {
+    let mut area = vec![0; length];
     Box::new(move || {
         black_box(canonical(black_box(plan), &mut area));
     })
@@ -113,7 +116,7 @@ fn played(input: &Input) -> (Vec<u8>, [usize; 3]) {
 }
 
 /// What is timed of each input.
-const COLUMNS: [&str; 9] = [
+const COLUMNS: [&str; 10] = [
     "a pick",
     "a play without picks",
     "a checked byte",
@@ -122,6 +125,7 @@ const COLUMNS: [&str; 9] = [
     "a charge",
     "a preview",
     "a written byte",
+    "a byte of text",
     "a bound, a byte",
 ];
 
@@ -130,7 +134,8 @@ fn row(input: &Input) -> [Option<Pair>; COLUMNS.len()] {
     let Input { name, plan, schedule } = input;
     let (log, [picks, moves, records]) = played(input);
     let version = u64::from(plan[0] >> 4);
-    let [play, play2, start, start2, check, check2, judge, judge2, file, file2, charge, charge2, preview, preview2, write, write2, bound, bound2] = best([
+    let text = library::show(plan, &mut vec![0; MOST_SHOWN]) as usize;
+    let [play, play2, start, start2, check, check2, judge, judge2, file, file2, charge, charge2, preview, preview2, write, write2, show, show2, bound, bound2] = best([
         playing(library::play, plan, schedule),
         playing(answers::play, plan, schedule),
         playing(library::play, plan, &[]),
@@ -145,8 +150,10 @@ fn row(input: &Input) -> [Option<Pair>; COLUMNS.len()] {
         charging(answers::charge, plan, schedule),
         previewing(library::preview, plan, schedule),
         previewing(answers::preview, plan, schedule),
-        writing(library::canonical, plan),
-        writing(answers::canonical, plan),
+        writing(library::canonical, plan, plan.len()),
+        writing(answers::canonical, plan, plan.len()),
+        writing(library::show, plan, text),
+        writing(answers::show, plan, text),
         on(library::bound, plan),
         on(answers::bound, plan),
     ]);
@@ -160,10 +167,11 @@ fn row(input: &Input) -> [Option<Pair>; COLUMNS.len()] {
         per(1, charge, charge2),
         per(1, preview, preview2),
         per(plan.len(), write, write2),
+        per(text, show, show2),
         per(plan.len(), bound, bound2),
     ];
     print!("{name:16} {:5} {picks:5} {moves:5} {records:5}", plan.len());
-    for (pair, digits) in pairs.iter().zip([1, 0, 2, 1, 1, 0, 0, 2, 2]) {
+    for (pair, digits) in pairs.iter().zip([1, 0, 2, 1, 1, 0, 0, 2, 2, 2]) {
         print!(" |{:>23}", pair.as_ref().map_or("-".into(), |pair| pair.text(digits)));
     }
     println!();

@@ -79,6 +79,10 @@ pub fn print() {
     most("canonical", 96, &all, |i| {
         library::canonical(&i.plan, &mut written);
     });
+    let mut text = vec![0; 574501];
+    most("show", 96, &all, |i| {
+        library::show(&i.plan, &mut text);
+    });
     most("bound", 96, &all, |i| {
         library::bound(&i.plan);
     });

@@ -1,5 +1,6 @@
 /* Plan P of document 01's shot list: a field written by one thread and read by another, with nothing between them. It is checked and played, and the judge
- * gets the run's records. The log of two monitors is written as a data file for a viewer. All that is printed is read by the header's own functions. */
+ * gets the run's records; it is written as text. The log of two monitors is written as a data file for a viewer. All that is printed is read by the header's
+ * own functions. */
 #include <stdio.h>
 
 #include "ruqzhemil.h"
@@ -153,6 +154,17 @@ static void canonical(size_t size) {
     printf("\n");
 }
 
+static void show(size_t size) {
+    static uint8_t area[RUQZHEMIL_MOST_SHOWN_BYTES];
+    uint64_t answer = ruqzhemil_show(plan, sizeof plan, area, size);
+    printf("P as text in %u bytes: ", (unsigned)size);
+    if (RUQZHEMIL_REFUSED(answer)) {
+        refused(answer);
+        return;
+    }
+    printf("%u bytes\n%.*s", (unsigned)RUQZHEMIL_VALUE(answer), (int)RUQZHEMIL_VALUE(answer), (const char *)area);
+}
+
 /* acquire and release of object 1, by thread 0 */
 static const uint8_t monitors[] = {0x60, 0x10, 0x00, 0x70, 0x10, 0x00};
 
@@ -203,6 +215,8 @@ int main(void) {
     witness(none, sizeof none);
     canonical(sizeof turned);
     canonical(sizeof turned - 1);
+    show(64);
+    show(63);
     bound("P", plan, sizeof plan);
     bound("a loop", endless, sizeof endless);
     interleavings(10);

@@ -1,10 +1,10 @@
 //! Ruqzhemil: a verified checker of plans for relay test sets.
 //!
 //! [`check`] a plan, [`play`] a schedule on it and [`judge`] the log; [`preview`] a pick before it is taken; bring both threads of a race to their accesses
-//! ([`witness`]); write a plan in the one way that all equal plans share ([`canonical`]); list the [`interleavings`] of a short plan; say how many moves a
-//! plan can need ([`bound`]); [`charge`] for a run; write a log as a [`comtrade`] data file. Each takes any bytes; `include/ruqzhemil.h` says what the answers
-//! mean, and the proofs of the static library below show that they are right. Later versions may have more refusals, kinds, stops, states and previews than
-//! are named here: `Other` has their number.
+//! ([`witness`]); write a plan in the one way that all equal plans share ([`canonical`]), or as text ([`show`]); list the [`interleavings`] of a short plan;
+//! say how many moves a plan can need ([`bound`]); [`charge`] for a run; write a log as a [`comtrade`] data file. Each takes any bytes;
+//! `include/ruqzhemil.h` says what the answers mean, and the proofs of the static library below show that they are right. Later versions may have more
+//! refusals, kinds, stops, states and previews than are named here: `Other` has their number.
 
 #[path = "../../include/ruqzhemil.rs"]
 pub mod raw;
@@ -12,6 +12,7 @@ pub mod raw;
 mod interleavings;
 mod log;
 mod outcome;
+mod plan_text;
 mod preview;
 mod refusal;
 #[cfg(test)]
@@ -20,11 +21,12 @@ mod tests;
 pub use interleavings::{first_interleaving, interleavings, next_interleaving, Interleavings};
 pub use log::{Kind, Record, records};
 pub use outcome::{Outcome, Stop, ThreadState};
+pub use plan_text::{show, show_in};
 pub use preview::Preview;
 pub use refusal::{Reason, Refusal};
 
 /// The version of this package's numbers, and of the archive: major * 65536 + minor * 256 + patch.
-pub const VERSION: u32 = 0x010100;
+pub const VERSION: u32 = 0x010200;
 /// Bytes of any plan that passes, at most.
 pub const MOST_PLAN_BYTES: usize = 5192;
 /// Picks of any schedule that passes, at most.
@@ -33,6 +35,8 @@ pub const MOST_PICKS: usize = 4096;
 pub const MOST_LOG_BYTES: usize = 12288;
 /// Bytes of the printing program's text of any run, at most.
 pub const MOST_TEXT_BYTES: usize = 131072;
+/// Bytes of the text of any plan, at most: an area of this size is enough for every plan.
+pub const MOST_SHOWN_BYTES: usize = 574501;
 /// Bytes of the COMTRADE data file of any log, at most: an area of this size is enough for every log.
 pub const MOST_FILE_BYTES: usize = 317269;
 /// Moves that [`bound`] answers, at most.

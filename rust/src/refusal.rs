@@ -36,6 +36,7 @@ pub enum Reason {
     While,
     Total,
     FileArea,
+    TextArea,
     Other(u16),
 }
 
@@ -66,6 +67,7 @@ impl Refusal {
             22 => Reason::While,
             23 => Reason::Total,
             24 => Reason::FileArea,
+            25 => Reason::TextArea,
             number => Reason::Other(number),
         }
     }
@@ -98,6 +100,7 @@ impl fmt::Display for Reason {
             Reason::While => "a while in a plan whose moves are asked for",
             Reason::Total => "a total of over 65,535 moves",
             Reason::FileArea => "an area too short for the whole data file",
+            Reason::TextArea => "an area shorter than the plan's text",
             Reason::Other(_) => "a refusal that this package does not know",
         })
     }

@@ -43,7 +43,7 @@ fn same<T: std::fmt::Debug>(prefix: &str, count: usize, of: impl Fn(u64) -> T) {
 
 #[test]
 fn numbers_are_the_headers() {
-    same("RUQZHEMIL_REFUSAL_", 24, |n| Refusal { number: n as u16, place: 0 }.reason());
+    same("RUQZHEMIL_REFUSAL_", 25, |n| Refusal { number: n as u16, place: 0 }.reason());
     same("RUQZHEMIL_KIND_", 11, |n| Kind::of(n as u8));
     let states = |n: u64| (Stop::of(n as u8), ThreadState::of(n as u8, 0, 0));
     for (name, n) in
@@ -70,6 +70,7 @@ fn limits_are_the_headers() {
     assert_eq!(number("RUQZHEMIL_MOST_PICKS"), MOST_PICKS);
     assert_eq!(number("RUQZHEMIL_MOST_LOG_BYTES"), MOST_LOG_BYTES);
     assert_eq!(number("RUQZHEMIL_MOST_TEXT_BYTES"), MOST_TEXT_BYTES);
+    assert_eq!(number("RUQZHEMIL_MOST_SHOWN_BYTES"), MOST_SHOWN_BYTES);
     assert_eq!(number("RUQZHEMIL_MOST_FILE_BYTES"), MOST_FILE_BYTES);
     assert_eq!(number("RUQZHEMIL_MOST_TOTAL"), MOST_TOTAL);
     assert_eq!(number("RUQZHEMIL_MOST_BOUND"), MOST_BOUND);
@@ -82,7 +83,7 @@ fn limits_are_the_headers() {
 
 #[test]
 fn texts_are_the_headers() {
-    for n in 1..=25 {
+    for n in 1..=26 {
         let text = Refusal { number: n, place: 0 }.reason().to_string().replace("package", "header");
         assert!(HEADER.contains(&format!("return \"{text}\";")), "{text}");
     }
@@ -144,6 +145,21 @@ fn plans_are_written_in_one_way() {
     assert_eq!(canonical(&plan, &mut area[..24]), Err(Refusal { number: 13, place: 0 }));
     assert_eq!(canonical(&plan[..24], &mut area), Err(Refusal { number: 1, place: 0 }));
     assert_eq!((&area[..25], area[25]), (&written[..], 7));
+}
+
+#[test]
+fn plans_are_shown() {
+    // while true do null, in version 0 with the volatile fields 2 and 31
+    let plan = [0x00, 0x40, 0x0c, 0x00, 0xa0, 0, 0, 1, 0, 0, 0x38, 0x02, 0x01, 0, 0, 0x60, 0, 0, 0, 0, 0, 0, 0, 0, 0];
+    let text = "version 0\nvolatile 2 31\nwhile true do\nnull\n";
+    assert_eq!(show(&plan).as_deref(), Ok(text));
+    let mut area = [7; 44];
+    assert_eq!(show_in(&plan, &mut area), Ok(text.len()));
+    assert_eq!((&area[..text.len()], area[text.len()]), (text.as_bytes(), 7));
+    let before = area;
+    assert_eq!(show_in(&plan, &mut area[..text.len() - 1]), Err(Refusal { number: 25, place: 0 }));
+    assert_eq!(show(&plan[..24]), Err(Refusal { number: 1, place: 0 }));
+    assert_eq!(area, before);
 }
 
 #[test]

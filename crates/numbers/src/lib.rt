@@ -2,12 +2,12 @@
 ghost use mathlib.Core.Path.{_≡_};
 ghost use Prim.Native.Nat.{_+_, _*_, _^_, _≤_};
 ghost use Rattle.refusals.specs.Answer as refusals;
-ghost use Rattle.refusals.specs.Small.{Small, SmallCheck};
+ghost use Rattle.refusals.specs.Small.{SmallCheck};
 ghost use Rattle.judge.specs.Answer as judge;
 ghost use Rattle.answers.specs.Answer as tool;
 ghost use Rattle.interleavings.specs.Answer as listing;
 ghost use Rattle.numbers.specs.Numbers.{checkNumber, judgeNumber, answerNumber, nextNumber};
-ghost use Rattle.numbers.specs.Small.{SmallJudged, SmallAnswer, SmallNext};
+ghost use Rattle.numbers.specs.Small.{SmallNumber, SmallJudged, SmallAnswer, SmallNext};
 use answers::Answered;
 use interleavings::Next;
 use judge::Judgement;
@@ -15,7 +15,7 @@ use refusals::Checked;
 
 // Of a refusal: 2 in the upper half.
 pub fn refusal(number: usize, place: usize) -> u64
-    requires { ⌜ Small number place ⌝ }
+    requires { ⌜ SmallNumber number place ⌝ }
     ensures { λ r. ⌜ r ≡ 2 * 2 ^ 32 + (number * 65536 + place) ⌝ }
 {
     8589934592 + (number as u64) * 65536 + place as u64

@@ -19,6 +19,7 @@ use Rattle.listing.specs.Listed.{Listed}
 use Rattle.interleavings.specs.Interleavings.{overBound, shortOutput, firstRefused, FirstAnswer, Next, nextRefused, NextAnswer}
 use Rattle.interleavings.proofs.Answers.{first-stages, next-stages}
 use Rattle.numbers.specs.Small.{SmallAnswer, SmallNext}
+use Rattle.numbers.proofs.Wider.{wider}
 use Rattle.ruqzhemil.proofs.Refusals.{whole, small-plan, small-schedule}
 
 -- 18 comes first
@@ -34,7 +35,7 @@ module _ (plan : List ℕ) (n : ℕ) (area : List ℕ) where
   laterChecks = checkWhole 18 (overBound n) ∷ checkWhole 20 (shortOutput n area) ∷ []
 
   pub small-first : {a : Answer} {after : List ℕ} → FirstAnswer plan n area a after → SmallAnswer a
-  small-first (FirstAnswer.REFUSED e) = subst SmallCheck e small
+  small-first (FirstAnswer.REFUSED e) = wider (subst SmallCheck e small)
     where
       small : SmallCheck (firstRefused plan n area)
       small = rw (first-stages plan n area) (small-stages (refusal plan) (firstRefusal laterChecks) (small-plan plan) (small-checks laterChecks (whole 18 (omega arith), (whole 20 (omega arith), tt))))

@@ -7,3 +7,4 @@ pub mod Previewed
 pub mod Interleavings
 pub mod Witnessed
 pub mod Tools
+pub mod Shown

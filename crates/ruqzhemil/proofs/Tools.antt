@@ -14,6 +14,7 @@ use Rattle.refusals.specs.Small.{SmallCheck}
 use Rattle.refusals.proofs.Bounds.{small-checks, small-stages}
 use Rattle.answers.specs.Answer.{answerBy}
 use Rattle.numbers.specs.Small.{SmallAnswer}
+use Rattle.numbers.proofs.Wider.{wider}
 use Rattle.waveform.specs.Comtrade.{fileOf, shortOutput, comtradeRefusal, comtradeAnswer}
 use Rattle.waveform.proofs.Answers.{last, stages}
 use Rattle.waveform.proofs.FileLength.{file-most}
@@ -42,7 +43,7 @@ use Rattle.ruqzhemil.proofs.Refusals.{whole, few-procedures, few-terms,
 small-answer : (o : Option Refusal) (n : ℕ) → SmallCheck o → (o ≡ none → n < 2 ^ 32) → SmallAnswer (answerBy o n)
 unfolding answerBy
 small-answer none n s h = h refl
-small-answer (some r) n s h = s
+small-answer (some r) n s h = wider s
 
 -- cents are few, as the moves are
 pub small-charge : (plan schedule : List ℕ) (option : Bool) → SmallAnswer (charged plan schedule option)

@@ -13,6 +13,7 @@ use Rattle.answers.specs.Answer.{Answer}
 use Rattle.witness.specs.Witness.{raceRefusal, Witnesses}
 use Rattle.witness.proofs.Refusals.{laterChecks, stages, no-earlier}
 use Rattle.numbers.specs.Small.{SmallAnswer}
+use Rattle.numbers.proofs.Wider.{wider}
 use Rattle.ruqzhemil.proofs.Refusals.{whole, small-schedule}
 
 few-picks : (n k : ℕ) → n ≤ 4096 → k < n → k < 2 ^ 32
@@ -26,7 +27,7 @@ module _ (plan schedule : List ℕ) where
       (small-checks (laterChecks plan schedule) (whole 15 (omega arith), (whole 16 (omega arith), tt))))
 
   pub small-witness : {area : List ℕ} {a : Answer} {after : List ℕ} → Witnesses plan schedule area a after → SmallAnswer a
-  small-witness (Witnesses.refused e) = subst SmallCheck e small-race
+  small-witness (Witnesses.refused e) = wider (subst SmallCheck e small-race)
   small-witness (Witnesses.too-short e w l) = (omega arith, omega arith)
   small-witness (Witnesses.wrote {qs} e w s l) =
       few-picks (length schedule) (length qs) (scheduled plan schedule (no-earlier plan schedule e) .few) (s .no-longer)

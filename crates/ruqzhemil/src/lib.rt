@@ -10,6 +10,7 @@ ghost use Rattle.preview.specs.Preview.{previewed};
 ghost use Rattle.preview_bytes.specs.Bytes.{previewNumber};
 ghost use Rattle.preview_bytes.specs.Bytes as preview;
 ghost use Rattle.canonical.specs.Canonical.{canonicalAnswer, canonicalArea};
+ghost use Rattle.show.specs.Show.{showAnswer, showArea};
 ghost use Rattle.costs.specs.Bound.{bounded};
 ghost use Rattle.charge.specs.Charge.{charged};
 ghost use Rattle.waveform.specs.Comtrade.{comtradeAnswer, comtradeArea};
@@ -84,6 +85,16 @@ pub extern "C" fn ruqzhemil_canonical(plan: &[u8], area: &mut [u8]) -> u64
     numbers::of_answer(answered)
 }
 
+// The length in bytes of the plan's text, which begins the area; the area's other bytes, and all of them after a refusal, are as they were.
+#[no_mangle]
+pub extern "C" fn ruqzhemil_show(plan: &[u8], area: &mut [u8]) -> u64
+    ensures answer { λ r. ⌜ r ≡ answerNumber (showAnswer (now (plan .entry)) (now (area .entry))) ⌝ }
+    ensures area { λ r. ⌜ now (area .exit) ≡ showArea (now (plan .entry)) (now (area .entry)) ⌝ }
+{
+    let answered = show::show(plan, area);
+    numbers::of_answer(answered)
+}
+
 // The length in bytes of the log's COMTRADE data file, which begins the area; the area's other bytes, and all of them after a refusal, are as they were.
 #[no_mangle]
 pub extern "C" fn ruqzhemil_comtrade(log: &[u8], area: &mut [u8]) -> u64
@@ -152,5 +163,5 @@ pub extern "C" fn ruqzhemil_charge(plan: &[u8], schedule: &[u8], option: u64) ->
 pub extern "C" fn ruqzhemil_version() -> u64
     ensures { λ r. ⌜ r ≡ version ⌝ }
 {
-    65792
+    66048
 }

@@ -25,10 +25,10 @@ use Rattle.show.specs.Show.{shortForText, showChecks, showRefusal, showA
 use Rattle.show.specs.Begun.{TooShort, LaidOut, TextWritten}
 
 module _ (plan area : List ℕ) where
-  abbrev textChecks : List Check
+  abbrev pub textChecks : List Check
   textChecks = checkWhole 25 (shortForText plan area) ∷ []
 
-  stages : showRefusal plan area ≡ orElse (refusal plan) (firstRefusal textChecks)
+  pub stages : showRefusal plan area ≡ orElse (refusal plan) (firstRefusal textChecks)
   unfolding showRefusal showChecks refusal
   stages = refusal-append (checks plan) textChecks
 

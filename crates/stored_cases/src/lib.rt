@@ -7,7 +7,7 @@
 // and of the log, two; what comtrade returns, eight; then the log and the file, empty where it is refused. A case of a charge: the lengths of plan and
 // schedule, two bytes each; the option and what charge returns, eight each; then plan and schedule. A case of a preview: the same with the pick and what
 // preview returns, and the eight bytes of the preview before the plan. A case of a plan: the lengths of plan and area, two bytes each; what canonical
-// returns, eight; then the plan and the written plan, empty where it is refused. A case of a bound: what bound returns, eight bytes; then the plan. A case
+// returns, eight; then the plan and the written plan, empty where it is refused. A case of a text: the same of show and the text. A case of a bound: what bound returns, eight bytes; then the plan. A case
 // of a witness: the lengths of plan, schedule and area, two bytes each; what witness returns, eight; then plan, schedule and the written schedule, empty where
 // it is refused. A case of an interleaving: the lengths of plan, schedule and area, two bytes each; a byte, 0 for first_interleaving; n and what is returned, eight bytes each;
 // then plan, schedule and the written schedule, empty where there is none. A case that ends before the parts that its lengths name is wrong.
@@ -275,6 +275,30 @@ pub fn plan_case(case: &[u8]) -> bool {
     }
     let mut area = [FILL; 16384];
     let got = canonical_in(&case[12..end], &mut area, size);
+    (got == number_at(case, 4)) & begins(&area, &case[end..])
+}
+
+// A plan as text in an area of that size, or in the whole area.
+fn show_in(plan: &[u8], area: &mut [u8], size: usize) -> u64 {
+    if size < area.len() {
+        ruqzhemil::ruqzhemil_show(plan, &mut area[..size])
+    } else {
+        ruqzhemil::ruqzhemil_show(plan, area)
+    }
+}
+
+// What show returns for a plan, and the whole area.
+pub fn text_case(case: &[u8]) -> bool {
+    if case.len() < 12 {
+        return false;
+    }
+    let end = 12 + byte_numbers::half(case, 0);
+    let size = byte_numbers::half(case, 2);
+    if case.len() < end {
+        return false;
+    }
+    let mut area = [FILL; 65536];
+    let got = show_in(&case[12..end], &mut area, size);
     (got == number_at(case, 4)) & begins(&area, &case[end..])
 }
 

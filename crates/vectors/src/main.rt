@@ -79,6 +79,7 @@ fn tools(all: Tally) -> Tally {
     let all = group(b"charges: ", b"charges", Group::Charge, all);
     let all = group(b"previews: ", b"previews", Group::Preview, all);
     let all = group(b"plans, written: ", b"plans", Group::Plan, all);
+    let all = group(b"plans, shown: ", b"texts", Group::Text, all);
     let all = group(b"bounds: ", b"bounds", Group::Bound, all);
     let all = group(b"witnesses: ", b"witnesses", Group::Witness, all);
     group(
@@ -115,6 +116,12 @@ fn changed() -> Tally {
         b"changed plans, written: ",
         b"changed_plans",
         Group::Plan,
+        all,
+    );
+    let all = group(
+        b"changed plans, shown: ",
+        b"changed_texts",
+        Group::Text,
         all,
     );
     let all = group(b"changed bounds: ", b"changed_bounds", Group::Bound, all);

@@ -1,5 +1,5 @@
 //! Plan P of document 01's shot list: a field written by one thread and read by another, with nothing between them. It is checked and played, and the
-//! judge gets the run's records. The log of two monitors is written as a data file for a viewer.
+//! judge gets the run's records; it is written as text. The log of two monitors is written as a data file for a viewer.
 
 use ruqzhemil::ThreadState;
 
@@ -98,6 +98,14 @@ fn canonical(size: usize) {
     }
 }
 
+fn show(size: usize) {
+    let mut area = vec![0; size];
+    match ruqzhemil::show_in(&PLAN, &mut area) {
+        Ok(length) => print!("P as text in {size} bytes: {length} bytes\n{}", String::from_utf8_lossy(&area[..length])),
+        Err(refusal) => println!("P as text in {size} bytes: {refusal}"),
+    }
+}
+
 /// acquire and release of object 1, by thread 0
 const MONITORS: [u8; 6] = [0x60, 0x10, 0x00, 0x70, 0x10, 0x00];
 
@@ -138,6 +146,8 @@ fn main() {
     witness(&[0, 0, 0, 0, 0, 0, 1]);
     canonical(TURNED.len());
     canonical(TURNED.len() - 1);
+    show(64);
+    show(63);
     bound("P", &PLAN);
     bound("a loop", &ENDLESS);
     for n in [10, 65] {

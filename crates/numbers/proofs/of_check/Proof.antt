@@ -1,6 +1,7 @@
 -- `numbers::of_check` meets its contract: the number of each answer. Assumes nothing.
 use Rattle.refusals.specs.Answer.{answered}
 use Rattle.numbers.specs.Numbers.{checkNumber}
+use Rattle.numbers.proofs.Wider.{wider}
 use borrow.Author.Needs.{needs}
 use Rattle.numbers.proofs.of_check.Statement.{statement}
 use Rattle.numbers.proofs.of_check.Tie as tie
@@ -13,7 +14,7 @@ enum-known-checked c = search needs
 
 refusal-requires : tie.Need-refusal-requires
 unfolding answered
-refusal-requires c κs = rw (c .before .checked .given .1) at (c .before .before .before .pre)
+refusal-requires c κs = wider (rw (c .before .checked .given .1) at (c .before .before .before .pre))
 
 returns : tie.Need-returns
 unfolding answered checkNumber

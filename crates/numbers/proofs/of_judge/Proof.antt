@@ -1,5 +1,6 @@
 -- `numbers::of_judge` meets its contract: the number of each answer. Assumes nothing.
 use Rattle.numbers.specs.Numbers.{judgeNumber}
+use Rattle.numbers.proofs.Wider.{wider}
 use borrow.Author.Needs.{needs}
 use Rattle.numbers.proofs.of_judge.Statement.{statement}
 use Rattle.numbers.proofs.of_judge.Tie as tie
@@ -17,7 +18,7 @@ enum-known-judgement-2 : tie.Need-enum-known-judgement-2
 enum-known-judgement-2 c = search needs
 
 refusal-requires : tie.Need-refusal-requires
-refusal-requires c κs = rw (c .before .judgement2 .given .1) at (c .before .before .before .pre)
+refusal-requires c κs = wider (rw (c .before .judgement2 .given .1) at (c .before .before .before .pre))
 
 returns : tie.Need-returns
 unfolding judgeNumber

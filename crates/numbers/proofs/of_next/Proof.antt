@@ -1,5 +1,6 @@
 -- `numbers::of_next` meets its contract: the number of each answer. Assumes nothing.
 use Rattle.numbers.specs.Numbers.{nextNumber}
+use Rattle.numbers.proofs.Wider.{wider}
 use borrow.Author.Needs.{needs}
 use Rattle.numbers.proofs.of_next.Statement.{statement}
 use Rattle.numbers.proofs.of_next.Tie as tie
@@ -8,7 +9,7 @@ enum-known-next : tie.Need-enum-known-next
 enum-known-next c = search needs
 
 refusal-requires : tie.Need-refusal-requires
-refusal-requires c κs = rw (c .before .next .given .1) at (c .before .before .before .pre)
+refusal-requires c κs = wider (rw (c .before .next .given .1) at (c .before .before .before .pre))
 
 enum-known-next-2 : tie.Need-enum-known-next-2
 enum-known-next-2 c = search needs

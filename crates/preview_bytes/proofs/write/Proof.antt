@@ -1,6 +1,7 @@
 -- `preview_bytes::write` meets its contract: the number and the bytes of each preview. Assumes nothing.
 use mathlib.Core.Path.{refl}
 use Rattle.preview.specs.Answer.{answered}
+use Rattle.numbers.proofs.Wider.{wider}
 use Rattle.preview_bytes.specs.Bytes.{previewNumber, outAfter}
 use borrow.Author.Needs.{needs}
 use Rattle.preview_bytes.proofs.Written.{stopped, passed, moved, recorded, raced, no-room}
@@ -12,7 +13,7 @@ enum-known-previewed c = search needs
 
 refusal-requires : tie.Need-refusal-requires
 unfolding answered
-refusal-requires c κs = rw (c .before .previewed .given .1) at (c .before .before .before .pre .0)
+refusal-requires c κs = wider (rw (c .before .previewed .given .1) at (c .before .before .before .pre .0))
 
 returns : tie.Need-returns
 unfolding answered previewNumber outAfter

@@ -1,5 +1,6 @@
 -- `ruqzhemil::ruqzhemil_play` meets its contract: the number, the log area and the bytes of what `player::play` answers. Assumes nothing.
 use Rattle.ruqzhemil.proofs.Played.{refused-small, refused-number, refused-bytes, ran-small, ran-number, ran-bytes}
+use Rattle.numbers.proofs.Wider.{wider}
 use mathlib.Core.Path.{_∙_}
 use borrow.Author.Needs.{needs}
 use Rattle.ruqzhemil.proofs.ruqzhemil_play.Statement.{statement}
@@ -15,7 +16,7 @@ refusal-requires : tie.Need-refusal-requires
 refusal-requires c κs =
     let a = c .before .before .before .before .before .before .before .before .before .before .args in
     let p = c .before .before .before .before .before .play in
-    refused-small (a .plan .now) (a .schedule .now) (a .log .now) (p .result) (p .ensures .0) _ _ (c .before .checked .given .1)
+    wider (refused-small (a .plan .now) (a .schedule .now) (a .log .now) (p .result) (p .ensures .0) _ _ (c .before .checked .given .1))
 
 enum-told : tie.Need-enum-told
 enum-told c = search needs
