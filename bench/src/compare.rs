@@ -1,8 +1,8 @@
 //! The library's answers beside the independent implementation's: the number, all bytes of the outcome and the whole of a lent area.
 
-use crate::library::{OUT_BYTES, PREVIEW_BYTES};
 use crate::random::Random;
-use crate::{answers, generate, library, tuned};
+use crate::library::{OUT_BYTES, PREVIEW_BYTES};
+use crate::{answers, generate, library};
 
 /// How many cases had each answer.
 #[derive(Default)]
@@ -45,32 +45,15 @@ impl Seen {
         let (first, later) = (&self.refusals[1..13], &self.refusals[13..26]);
         println!("  plans passed {}; refusals 1 to 12 {first:?}, 13 to 25 {later:?}", self.passed);
         println!("  runs end, race, no-thread, no-object, no-key, no-depth {:?}", self.stops);
-        println!(
-            "  threads absent, finished, ready, monitor, join, no field, no thread, lacking, notify, monitor not held {:?}",
-            self.states
-        );
+        println!("  threads absent, finished, ready, monitor, join, no field, no thread, lacking, notify, monitor not held {:?}", self.states);
         println!("  threads that learnt no key from another, some {:?}", self.learnt);
         println!("  logs ordered, unordered {:?}; data files {}; runs free, charged {:?}", self.judged, self.files, self.charges);
         println!("  picks passed over, moved, moved with a record, race, no room, stopped before {:?}", self.previews);
-        println!(
-            "  plans written as they were, otherwise {:?}; plans shown {}; plans with a total {}",
-            self.plans, self.texts, self.bounds
-        );
+        println!("  plans written as they were, otherwise {:?}; plans shown {}; plans with a total {}", self.plans, self.texts, self.bounds);
         println!("  interleavings begun, followed, over {:?}; witnesses {}", self.listed, self.witnesses);
         let alone = [self.passed, self.files, self.bounds, self.witnesses, self.texts];
-        let counts: [&[usize]; 11] = [
-            first,
-            later,
-            &self.stops,
-            &self.states,
-            &self.learnt,
-            &self.judged,
-            &self.charges,
-            &self.previews,
-            &self.plans,
-            &self.listed,
-            &alone,
-        ];
+        let counts: [&[usize]; 11] =
+            [first, later, &self.stops, &self.states, &self.learnt, &self.judged, &self.charges, &self.previews, &self.plans, &self.listed, &alone];
         assert!(counts.into_iter().flatten().min() > Some(&0), "an answer that no case had: more cases are needed");
     }
 }
@@ -116,8 +99,7 @@ fn play(plan: &[u8], schedule: &[u8], area: &[u8], before: [u8; OUT_BYTES], seen
 }
 
 fn judge(version: u64, log: &[u8], seen: &mut Seen) {
-    let answer = same("judge", &[&version.to_be_bytes(), log], library::judge(version, log), answers::judge(version, log));
-    seen.judgement(same("the tuned judge", &[&version.to_be_bytes(), log], answer, tuned::judge(version, log)));
+    seen.judgement(same("judge", &[&version.to_be_bytes(), log], library::judge(version, log), answers::judge(version, log)));
 }
 
 /// Some pick after some of the schedule's picks: mostly those around the place where the run stopped.
@@ -136,8 +118,7 @@ fn preview(random: &mut Random, plan: &[u8], schedule: &[u8], picks: usize, seen
     let (mut ours, mut theirs) = (before, before);
     let (schedule, told) = (&schedule[..length], pick.to_be_bytes());
     let input = [plan, schedule, &told[..], &before];
-    let answer =
-        same("preview", &input, library::preview(plan, schedule, pick, &mut ours), answers::preview(plan, schedule, pick, &mut theirs));
+    let answer = same("preview", &input, library::preview(plan, schedule, pick, &mut ours), answers::preview(plan, schedule, pick, &mut theirs));
     let out = same("the preview's bytes", &input, ours, theirs);
     if answer == 0 {
         seen.previews[usize::from(out[0])] += 1;

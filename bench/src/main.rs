@@ -11,7 +11,6 @@ mod plans;
 mod random;
 mod speed;
 mod stack;
-mod tuned;
 
 fn main() {
     let mut numbers = std::env::args().skip(1).map(|word| word.parse().expect("a number"));

@@ -2,7 +2,7 @@
 //! both alike.
 
 use crate::inputs::{self, Input};
-use crate::{answers, library, tuned};
+use crate::{answers, library};
 use std::hint::black_box;
 use std::time::Instant;
 
@@ -84,11 +84,7 @@ fn writing<'a>(canonical: fn(&[u8], &mut [u8]) -> u64, plan: &'a [u8], length: u
 }
 
 /// The schedule's last pick, after the others.
-fn previewing<'a>(
-    preview: fn(&[u8], &[u8], u64, &mut [u8; library::PREVIEW_BYTES]) -> u64,
-    plan: &'a [u8],
-    schedule: &'a [u8],
-) -> Entry<'a> {
+fn previewing<'a>(preview: fn(&[u8], &[u8], u64, &mut [u8; library::PREVIEW_BYTES]) -> u64, plan: &'a [u8], schedule: &'a [u8]) -> Entry<'a> {
     let (last, before) = schedule.split_last().expect("a pick");
     let mut out = [0; library::PREVIEW_BYTES];
     Box::new(move || {
@@ -139,29 +135,28 @@ fn row(input: &Input) -> [Option<Pair>; COLUMNS.len()] {
     let (log, [picks, moves, records]) = played(input);
     let version = u64::from(plan[0] >> 4);
     let text = library::show(plan, &mut vec![0; MOST_SHOWN]) as usize;
-    let [play, play2, start, start2, check, check2, judge, judge2, file, file2, charge, charge2, preview, preview2, write, write2, show, show2, bound, bound2] =
-        best([
-            playing(library::play, plan, schedule),
-            playing(answers::play, plan, schedule),
-            playing(library::play, plan, &[]),
-            playing(answers::play, plan, &[]),
-            on(library::check, plan),
-            on(answers::check, plan),
-            judging(library::judge, version, &log),
-            judging(answers::judge, version, &log),
-            filing(library::comtrade, &log),
-            filing(answers::comtrade, &log),
-            charging(library::charge, plan, schedule),
-            charging(answers::charge, plan, schedule),
-            previewing(library::preview, plan, schedule),
-            previewing(answers::preview, plan, schedule),
-            writing(library::canonical, plan, plan.len()),
-            writing(answers::canonical, plan, plan.len()),
-            writing(library::show, plan, text),
-            writing(answers::show, plan, text),
-            on(library::bound, plan),
-            on(answers::bound, plan),
-        ]);
+    let [play, play2, start, start2, check, check2, judge, judge2, file, file2, charge, charge2, preview, preview2, write, write2, show, show2, bound, bound2] = best([
+        playing(library::play, plan, schedule),
+        playing(answers::play, plan, schedule),
+        playing(library::play, plan, &[]),
+        playing(answers::play, plan, &[]),
+        on(library::check, plan),
+        on(answers::check, plan),
+        judging(library::judge, version, &log),
+        judging(answers::judge, version, &log),
+        filing(library::comtrade, &log),
+        filing(answers::comtrade, &log),
+        charging(library::charge, plan, schedule),
+        charging(answers::charge, plan, schedule),
+        previewing(library::preview, plan, schedule),
+        previewing(answers::preview, plan, schedule),
+        writing(library::canonical, plan, plan.len()),
+        writing(answers::canonical, plan, plan.len()),
+        writing(library::show, plan, text),
+        writing(answers::show, plan, text),
+        on(library::bound, plan),
+        on(answers::bound, plan),
+    ]);
     let per = |count: usize, ours: f64, theirs: f64| Some(Pair(ours / count as f64, theirs / count as f64));
     let pairs = [
         if picks < FEW_PICKS { None } else { per(picks, play - start, play2 - start2) },
@@ -265,18 +260,6 @@ fn last_from(plan: &[u8], mut schedule: Vec<u8>) -> Vec<u8> {
     schedule
 }
 
-/// A judged record beside the judge that is written for speed alone.
-fn tuned_rows() {
-    println!("\n{:16} |{:^23}", "tuned judge", "a judged record");
-    for input in inputs::timed() {
-        let (log, [_, _, records]) = played(&input);
-        if records >= FEW_RECORDS {
-            let [ours, theirs] = best([judging(library::judge, 1, &log), judging(tuned::judge, 1, &log)]);
-            println!("{:16} |{:>23}", input.name, Pair(ours / records as f64, theirs / records as f64).text(2));
-        }
-    }
-}
-
 pub fn run() {
     println!("\nspeed, nanoseconds: the library, the independent implementation, the ratio; best of {ROUNDS} rounds");
     print!("{:16} {:>5} {:>5} {:>5} {:>5}", "", "bytes", "picks", "moves", "recs");
@@ -294,7 +277,6 @@ pub fn run() {
     println!();
     inputs::timed().iter().for_each(|input| short_row(input.name, &played(input).0));
     short_row("scattered", &scattered(SHORT[SHORT.len() - 1]));
-    tuned_rows();
     listing_rows();
     witness_row();
 }
