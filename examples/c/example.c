@@ -12,18 +12,17 @@ static const uint8_t plan[55] = {
     0x00, 0x00, 0x00, 0x00, 0x00, 0x00, 0x00, 0x18, 0x10, 0x10, 0x00, 0x00, 0x08, 0x00, 0x00, 0x00, 0x00,
 };
 
-static void refused(uint64_t answer) {
+/* Whether the answer is a refusal; if so, prints it. */
+static int refused(uint64_t answer) {
+    if (!RUQZHEMIL_REFUSED(answer)) return 0;
     printf("refused %u %u: %s\n", RUQZHEMIL_NUMBER(answer), RUQZHEMIL_PLACE(answer), ruqzhemil_refusal_text(RUQZHEMIL_NUMBER(answer)));
+    return 1;
 }
 
 static void check(const char *name, const uint8_t *bytes, size_t length) {
     uint64_t answer = ruqzhemil_check(bytes, length);
     printf("%s: ", name);
-    if (RUQZHEMIL_REFUSED(answer)) {
-        refused(answer);
-    } else {
-        printf("passes\n");
-    }
+    if (!refused(answer)) printf("passes\n");
 }
 
 static void record(const uint8_t *log, size_t index) {
@@ -58,10 +57,7 @@ static void play(const uint8_t *schedule, size_t picks) {
     uint8_t log[RUQZHEMIL_MOST_LOG_BYTES], out[RUQZHEMIL_OUT_BYTES];
     uint64_t answer = ruqzhemil_play(plan, sizeof plan, schedule, picks, log, sizeof log, out);
     picks_of(schedule, picks);
-    if (RUQZHEMIL_REFUSED(answer)) {
-        refused(answer);
-        return;
-    }
+    if (refused(answer)) return;
     unsigned records = ruqzhemil_records_of(out);
     printf("%s %u %u %u\n", ruqzhemil_stop_word(ruqzhemil_stop_of(out)), ruqzhemil_picks_of(out), ruqzhemil_moves_of(out), records);
     for (unsigned i = 0; i < records; i++) record(log, i);
@@ -74,10 +70,7 @@ static void preview(const uint8_t *schedule, size_t picks, unsigned pick) {
     uint64_t answer = ruqzhemil_preview(plan, sizeof plan, schedule, picks, pick, out);
     printf("after ");
     picks_of(schedule, picks);
-    if (RUQZHEMIL_REFUSED(answer)) {
-        refused(answer);
-        return;
-    }
+    if (refused(answer)) return;
     unsigned kind = ruqzhemil_preview_of(out);
     printf("%u would be %s", pick, ruqzhemil_preview_text(kind));
     if (kind == RUQZHEMIL_PREVIEW_PASSED) {
@@ -97,10 +90,7 @@ static void witness(const uint8_t *schedule, size_t picks) {
     uint64_t answer = ruqzhemil_witness(plan, sizeof plan, schedule, picks, area, sizeof area);
     printf("witness of ");
     picks_of(schedule, picks);
-    if (RUQZHEMIL_REFUSED(answer)) {
-        refused(answer);
-        return;
-    }
+    if (refused(answer)) return;
     picks_of(area, RUQZHEMIL_VALUE(answer));
     printf("both stand at their accesses\n");
     for (unsigned t = 0; t < 2; t++) preview(area, RUQZHEMIL_VALUE(answer), t);
@@ -114,18 +104,14 @@ static const uint8_t endless[25] = {
 static void bound(const char *name, const uint8_t *bytes, size_t length) {
     uint64_t answer = ruqzhemil_bound(bytes, length);
     printf("%s needs ", name);
-    if (RUQZHEMIL_REFUSED(answer)) {
-        refused(answer);
-    } else {
-        printf("at most %u moves\n", (unsigned)RUQZHEMIL_VALUE(answer));
-    }
+    if (!refused(answer)) printf("at most %u moves\n", (unsigned)RUQZHEMIL_VALUE(answer));
 }
 
 /* Every interleaving of at most n picks, and how it ends. */
 static void interleavings(uint64_t n) {
     uint8_t schedule[RUQZHEMIL_MOST_BOUND], next[RUQZHEMIL_MOST_BOUND], log[3 * RUQZHEMIL_MOST_BOUND], out[RUQZHEMIL_OUT_BYTES];
     uint64_t answer = ruqzhemil_first_interleaving(plan, sizeof plan, n, schedule, sizeof schedule);
-    if (RUQZHEMIL_REFUSED(answer)) refused(answer);
+    refused(answer);
     while (RUQZHEMIL_ANSWER(answer) == RUQZHEMIL_IS_VALUE) {
         size_t length = RUQZHEMIL_VALUE(answer);
         ruqzhemil_play(plan, sizeof plan, schedule, length, log, sizeof log, out);
@@ -145,10 +131,7 @@ static void canonical(size_t size) {
     uint8_t area[sizeof turned];
     uint64_t answer = ruqzhemil_canonical(turned, sizeof turned, area, size);
     printf("written in %u bytes: ", (unsigned)size);
-    if (RUQZHEMIL_REFUSED(answer)) {
-        refused(answer);
-        return;
-    }
+    if (refused(answer)) return;
     printf("%u bytes, terms", (unsigned)RUQZHEMIL_VALUE(answer));
     for (size_t i = 10; i < RUQZHEMIL_VALUE(answer); i++) printf(i % 5 ? "%02x" : " %02x", area[i]);
     printf("\n");
@@ -158,10 +141,7 @@ static void show(size_t size) {
     static uint8_t area[RUQZHEMIL_MOST_SHOWN_BYTES];
     uint64_t answer = ruqzhemil_show(plan, sizeof plan, area, size);
     printf("P as text in %u bytes: ", (unsigned)size);
-    if (RUQZHEMIL_REFUSED(answer)) {
-        refused(answer);
-        return;
-    }
+    if (refused(answer)) return;
     printf("%u bytes\n%.*s", (unsigned)RUQZHEMIL_VALUE(answer), (int)RUQZHEMIL_VALUE(answer), (const char *)area);
 }
 
@@ -172,10 +152,7 @@ static void comtrade(size_t size) {
     static uint8_t area[RUQZHEMIL_MOST_FILE_BYTES];
     uint64_t answer = ruqzhemil_comtrade(monitors, sizeof monitors, area, size);
     printf("data file in %u bytes: ", (unsigned)size);
-    if (RUQZHEMIL_REFUSED(answer)) {
-        refused(answer);
-        return;
-    }
+    if (refused(answer)) return;
     printf("%u bytes, end mark %02x\n", (unsigned)RUQZHEMIL_VALUE(answer), area[RUQZHEMIL_VALUE(answer) - 1]);
     for (size_t i = 0; i + 1 < RUQZHEMIL_VALUE(answer); i++) {
         if (area[i] != '\r') putchar(area[i]);
@@ -185,10 +162,7 @@ static void comtrade(size_t size) {
 static void charge(const uint8_t *schedule, size_t picks, uint64_t option) {
     uint64_t answer = ruqzhemil_charge(plan, sizeof plan, schedule, picks, option);
     printf("%s the option: ", option ? "with" : "without");
-    if (RUQZHEMIL_REFUSED(answer)) {
-        refused(answer);
-        return;
-    }
+    if (refused(answer)) return;
     printf("%u cents\n", (unsigned)RUQZHEMIL_VALUE(answer));
 }
 
