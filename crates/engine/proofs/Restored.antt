@@ -1,15 +1,25 @@
--- The cells that a run keeps, restored: as they were first, one that is put, and one that is left as it is. Assumes nothing.
+-- The machine that keeps its cells so, and its cells restored: as they were first, one that is put, and one that is left as it is. Assumes nothing.
 use Prim.Native.Nat.{ℕ, zero, suc, _+_, _-_, _*_, _/_, _%_, _<_}
 use native.Mathlib.Omega.{arith}
 use mathlib.Core.Path.{_≡_, refl, sym, ap, _∙_}
+use mathlib.Core.Bool.{Bool}
 use mathlib.Core.List.{List, [], _∷_, map}
 use lib.Bits.{bitXor, differ, xor-step, xor-zero-r}
 use lib.ListN.{getD, set, replicate, List·getD-map}
 use lib.Seq.{set-getD}
+use Rattle.landing.specs.Landing.{Stack}
+use Rattle.state.specs.declared.Head.{Head}
 use Rattle.state.specs.declared.Cell.{Cell}
+use Rattle.state.specs.declared.Object.{Object}
+use Rattle.tally.specs.declared.Tally.{Tally}
 use Rattle.engine.specs.declared.kept.Kept.{Kept}
 use Rattle.engine.specs.Kept.{keepOf, restoreOf, keptFirst}
-use Rattle.engine.specs.Machine.{noCell}
+use Rattle.engine.specs.Machine.{noCell, Machine}
+
+-- the machine that keeps these cells
+abbrev pub machineOf : List Head → List Kept → List Object → List ℕ → Stack → Bool → Tally → List ℕ → Machine
+machineOf heads cells objects places stack every tally log =
+    record { heads = heads; cells = map restoreOf cells; objects = objects; places = places; stack = stack; every = every; tally = tally; log = log }
 
 -- the bit of key 0 turned over
 turned-over : (w : ℕ) → bitXor w 1 ≡ w / 2 * 2 + differ (w % 2) 1

@@ -22,7 +22,7 @@ use state::Setting;
 pub mod kept;
 
 // About to call main.
-fn first_head(root: usize) -> Head
+pub fn first_head(root: usize) -> Head
     ensures { λ r. ⌜ r ≡ headOf root ⌝ }
 {
     let call = go::ready_of(part::RUN, root, 0, 0, 0);
@@ -37,14 +37,14 @@ fn first_head(root: usize) -> Head
 }
 
 // No fields; the first object stands for thread 0.
-fn first_object() -> Object
+pub fn first_object() -> Object
     ensures { λ r. ⌜ r ≡ noThing ⌝ }
 {
     Object { mask: 0, thread: 0 }
 }
 
 // The cell that the thread's part is about, 32 to an object.
-fn cell_of(head: Head) -> usize
+pub fn cell_of(head: Head) -> usize
     ensures { λ r. ⌜ Placed (head .ready) r ⌝ }
 {
     let ready = head.ready;
@@ -64,7 +64,7 @@ fn no_thread() -> Thread
 }
 
 // What a thread's next pick would meet, and its total.
-fn thread_of(setting: Setting, met: Met) -> Thread
+pub fn thread_of(setting: Setting, met: Met) -> Thread
     ensures { λ r. ⌜ r ≡ threadBy setting met ⌝ }
 {
     let counts = met.counts;

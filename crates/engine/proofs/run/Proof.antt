@@ -13,10 +13,7 @@ use Rattle.format.proofs.Turns.{turns, one-turn, no-turn}
 use Rattle.run_outcome.specs.declared.Stop.the-variants as stop
 use Rattle.run_outcome.specs.declared.Thread.{Thread}
 use Rattle.state.specs.declared.Setting.{Setting}
-use Rattle.state.specs.declared.Head.{Head}
 use Rattle.state.specs.declared.Cell.{Cell}
-use Rattle.state.specs.declared.Object.{Object}
-use Rattle.landing.specs.Landing.{Stack}
 use Rattle.act.specs.Act.{changesBy}
 use Rattle.tally.specs.declared.Tally.{Tally}
 use Rattle.pick.specs.declared.Met.{Met}
@@ -29,16 +26,11 @@ use Rattle.engine.specs.Machine.{noCell, Machine, Played, headAt, cellNu
 use Rattle.engine.proofs.Looks.{metWith, met, putThread, all-threads}
 use Rattle.engine.proofs.Plays.{neither, begins, absent-passed, passed, moved, stops, young-made, young-none, ends-as}
 use Rattle.engine.proofs.PassedOver.{Marked, none-marked, marked-too, passed-again}
-use Rattle.engine.proofs.Restored.{all-restored, restored-at, cell-put, cell-left}
+use Rattle.engine.proofs.Restored.{machineOf, all-restored, restored-at, cell-put, cell-left}
 use Rattle.engine.proofs.MovedCell.{cell-unchanged}
 use borrow.Author.Needs.{needs}
 use Rattle.engine.proofs.run.Statement.{statement}
 use Rattle.engine.proofs.run.Tie as tie
-
--- the machine that keeps these cells
-abbrev machineOf : List Head → List Kept → List Object → List ℕ → Stack → Bool → Tally → List ℕ → Machine
-machineOf heads cells objects places stack every tally log =
-    record { heads = heads; cells = map restoreOf cells; objects = objects; places = places; stack = stack; every = every; tally = tally; log = log }
 
 abbrev Inv-loop : tie.InvT-loop
 Inv-loop words roots setting every picks log₀ heads₀ cells₀ objects₀ places₀ stack₀ passed₀ tally₀ stop₀ dealt₀ moves-before₀ records-before₀ i₀ i-end

@@ -1,0 +1,4 @@
+pub mod Lowest
+pub mod Opens
+pub mod Reached
+pub mod SoFar
