@@ -10,6 +10,7 @@
  *   witness              from a race, brings both threads to their accesses
  *   canonical            writes a plan in the one way that all equal plans share
  *   show                 writes a plan as text
+ *   read                 writes the plan of a text
  *   first_interleaving,  list every way in which the threads of a short plan can take turns
  *   next_interleaving
  *   bound                says how many moves a plan can need
@@ -35,7 +36,7 @@
  * RUQZHEMIL_PREVIEW_BYTES); a length of 0 may go with any pointer, null too; what a function writes (log, area, out) overlaps none of its other bytes, and
  * while a call runs no other thread writes to its bytes; and there is stack (bench/run.sh measures it): check needs up to 48 KB, play up to 128 KB, judge up
  * to 64 KB, preview and charge up to 144 KB, witness up to 144 KB (each of the three has a log of 12,288 bytes in it), canonical, show, bound,
- * first_interleaving and next_interleaving up to 96 KB, comtrade up to 4 KB.
+ * first_interleaving and next_interleaving up to 96 KB, read up to 192 KB, comtrade up to 4 KB.
  *
  * WHAT IT NEEDS: x86-64, the System V calling convention (Linux), and from outside the archive memcpy and memset alone.
  *
@@ -54,7 +55,7 @@ extern "C" {
 
 /* ---- versions: major * 65536 + minor * 256 + patch */
 
-#define RUQZHEMIL_VERSION 0x010200 /* 1.2.0, of this header */
+#define RUQZHEMIL_VERSION 0x010300 /* 1.3.0, of this header */
 
 /* The version of the archive that is linked, which RUQZHEMIL_VERSION should be. */
 uint64_t ruqzhemil_version(void);
@@ -88,6 +89,8 @@ enum ruqzhemil_answer {
 #define RUQZHEMIL_VALUE(answer) ((uint32_t)((answer) & 0xffffffffu))      /* of an answer, or of the other answer */
 #define RUQZHEMIL_NUMBER(answer) ((unsigned)((answer) >> 16 & 0xffffu)) /* of a refusal, enum ruqzhemil_refusal */
 #define RUQZHEMIL_PLACE(answer) ((unsigned)((answer) & 0xffffu))         /* of a refusal: which procedure, term, pick or record, from 0; else 0 */
+#define RUQZHEMIL_LINE(answer) ((unsigned)((answer) >> 16 & 0xffffu))   /* of read's other answer: the line, from 1; 65,535 where it is more */
+#define RUQZHEMIL_COLUMN(answer) ((unsigned)((answer) & 0xffffu))        /* of read's other answer: the column in bytes, from 1; 65,535 where it is more */
 
 enum ruqzhemil_refusal {
     RUQZHEMIL_REFUSAL_PLAN_LENGTH = 1,     /* place 0 */
@@ -114,7 +117,8 @@ enum ruqzhemil_refusal {
     RUQZHEMIL_REFUSAL_WHILE = 22,          /* place 0 */
     RUQZHEMIL_REFUSAL_TOTAL = 23,          /* place 0 */
     RUQZHEMIL_REFUSAL_FILE_AREA = 24,      /* place 0 */
-    RUQZHEMIL_REFUSAL_TEXT_AREA = 25       /* place 0 */
+    RUQZHEMIL_REFUSAL_TEXT_AREA = 25,      /* place 0 */
+    RUQZHEMIL_REFUSAL_READ_AREA = 26       /* place 0 */
 };
 
 static inline const char *ruqzhemil_refusal_text(unsigned number) {
@@ -144,6 +148,7 @@ static inline const char *ruqzhemil_refusal_text(unsigned number) {
     case RUQZHEMIL_REFUSAL_TOTAL: return "a total of over 65,535 moves";
     case RUQZHEMIL_REFUSAL_FILE_AREA: return "an area too short for the whole data file";
     case RUQZHEMIL_REFUSAL_TEXT_AREA: return "an area shorter than the plan's text";
+    case RUQZHEMIL_REFUSAL_READ_AREA: return "an area shorter than the plan that was read";
     default: return "a refusal that this header does not know";
     }
 }
@@ -362,6 +367,12 @@ uint64_t ruqzhemil_canonical(const uint8_t *plan, size_t plan_len, uint8_t *area
  * the text, which no zero byte ends, and keeps its other bytes. Refusals 1 to 7 and, where area is shorter than the text, 25 leave it as it was. */
 uint64_t ruqzhemil_show(const uint8_t *plan, size_t plan_len, uint8_t *area, size_t area_len);
 
+/* Reads a plan's text, as docs/FORMAT.md, "A plan as text", says, and writes the plan in the way of canonical; what is read passes the check. An answer: the
+ * plan's length; area begins with it and keeps its other bytes. The other answer: the text is no plan, and reading stops at the token of this line and column
+ * (RUQZHEMIL_LINE, RUQZHEMIL_COLUMN), or at the first token of a procedure that uses a slot that nothing binds. It and, where area is shorter than the plan,
+ * refusal 26 leave area as it was. An area of RUQZHEMIL_MOST_PLAN_BYTES is enough for every text. */
+uint64_t ruqzhemil_read(const uint8_t *text, size_t text_len, uint8_t *area, size_t area_len);
+
 /* From a run that stops for a missing key, a schedule after which both threads stand at their accesses: played, every pick of it moves and it comes to its
  * end, and the next moves of two threads are then the last write of the field and the access that lacked its key, on the same field of the same object up to
  * numbering. It has the run's moves, but those that lead to neither access, and without the write; threads are renumbered, since forks may drop out. An
@@ -420,6 +431,7 @@ static inline uint8_t *ruqzhemil_area(uint8_t *area) {
     ruqzhemil_preview(ruqzhemil_bytes(plan), plan_len, ruqzhemil_bytes(schedule), schedule_len, pick, out)
 #define ruqzhemil_canonical(plan, plan_len, area, area_len) ruqzhemil_canonical(ruqzhemil_bytes(plan), plan_len, ruqzhemil_area(area), area_len)
 #define ruqzhemil_show(plan, plan_len, area, area_len) ruqzhemil_show(ruqzhemil_bytes(plan), plan_len, ruqzhemil_area(area), area_len)
+#define ruqzhemil_read(text, text_len, area, area_len) ruqzhemil_read(ruqzhemil_bytes(text), text_len, ruqzhemil_area(area), area_len)
 #define ruqzhemil_bound(plan, plan_len) ruqzhemil_bound(ruqzhemil_bytes(plan), plan_len)
 #define ruqzhemil_witness(plan, plan_len, schedule, schedule_len, area, area_len) \
     ruqzhemil_witness(ruqzhemil_bytes(plan), plan_len, ruqzhemil_bytes(schedule), schedule_len, ruqzhemil_area(area), area_len)

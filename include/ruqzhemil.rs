@@ -17,6 +17,7 @@ unsafe extern "C" {
     fn ruqzhemil_preview(plan: *const u8, plan_len: usize, schedule: *const u8, schedule_len: usize, pick: u64, out: *mut u8) -> u64;
     fn ruqzhemil_canonical(plan: *const u8, plan_len: usize, area: *mut u8, area_len: usize) -> u64;
     fn ruqzhemil_show(plan: *const u8, plan_len: usize, area: *mut u8, area_len: usize) -> u64;
+    fn ruqzhemil_read(text: *const u8, text_len: usize, area: *mut u8, area_len: usize) -> u64;
     fn ruqzhemil_bound(plan: *const u8, plan_len: usize) -> u64;
     fn ruqzhemil_witness(plan: *const u8, plan_len: usize, schedule: *const u8, schedule_len: usize, area: *mut u8, area_len: usize) -> u64;
     fn ruqzhemil_first_interleaving(plan: *const u8, plan_len: usize, n: u64, area: *mut u8, area_len: usize) -> u64;
@@ -65,6 +66,10 @@ pub fn canonical(plan: &[u8], area: &mut [u8]) -> u64 {
 
 pub fn show(plan: &[u8], area: &mut [u8]) -> u64 {
     unsafe { ruqzhemil_show(plan.as_ptr(), plan.len(), area.as_mut_ptr(), area.len()) }
+}
+
+pub fn read(text: &[u8], area: &mut [u8]) -> u64 {
+    unsafe { ruqzhemil_read(text.as_ptr(), text.len(), area.as_mut_ptr(), area.len()) }
 }
 
 pub fn bound(plan: &[u8]) -> u64 {

@@ -9,20 +9,22 @@ The library is target/staticlib/libruqzhemil.a
 (`rt staticlib ruqzhemil` makes it), linked into a shared object by the C compiler. Compared are: what check returns; what play returns, the 40
 bytes of the outcome and the whole log area, beyond the records too; what judge returns for the log of each run and for each log of the cases; what
 comtrade returns and the whole area; what charge returns; what preview returns and its 8 bytes; what canonical returns and the
-whole area; what show returns for the same plans and the whole area, by tools/plan_text.py; what bound returns; what witness, first_interleaving and next_interleaving return and the
+whole area; what show returns for the same plans and the whole area, by tools/plan_text.py; what read returns for what is shown and for that text a little
+changed, and the whole area, by canonical and tools/plan_text.py; what bound returns; what witness, first_interleaving and next_interleaving return and the
 whole area.
 """
 
 import ctypes
 import json
 import os
+import random
 import subprocess
 import sys
 
 import interpreter
 import plan_text
-from interpreter import (FILL, OUT, PREVIEW, bounded, charged, checked, judged, outcome_bytes, played, preview_bytes, previewed, record_bytes, value,
-                         written)
+from interpreter import (FILL, OUT, PREVIEW, bounded, charged, checked, judged, other, outcome_bytes, played, preview_bytes, previewed, record_bytes,
+                         value, written)
 
 
 def library(root):
@@ -32,7 +34,8 @@ def library(root):
     archive = root + "/target/staticlib/libruqzhemil.a"
     subprocess.run(["cc", "-shared", "-o", made, "-Wl,--whole-archive", archive, "-Wl,--no-whole-archive"], check=True)
     loaded = ctypes.CDLL(made)
-    for name in ("check", "play", "judge", "comtrade", "charge", "preview", "canonical", "show", "bound", "witness", "first_interleaving", "next_interleaving"):
+    names = "check play judge comtrade charge preview canonical show read bound witness first_interleaving next_interleaving"
+    for name in names.split():
         getattr(loaded, "ruqzhemil_" + name).restype = ctypes.c_uint64
     return loaded
 
@@ -83,11 +86,30 @@ def shown_right(lib, plan, want):
     return got == (value(len(text)) if text else checked(want)) and bytes(area) == text + bytes([FILL]) * 3
 
 
+def read_right(lib, text, right):
+    """Whether read gives the plan, or the line and the column where the text is none."""
+    area, length = lent(bytes([FILL]) * plan_text.MOST_PLAN)
+    got = lib.ruqzhemil_read(*lent(text), area, length)
+    plan = b"" if isinstance(right, tuple) else right
+    return got == (value(len(plan)) if plan else other(right[0] << 16 | right[1])) and bytes(area) == plan + bytes([FILL]) * (length.value - len(plan))
+
+
+def texts_right(lib, plan, want):
+    """Whether read takes what is shown of a plan for the written plan, and answers right to that text with some tokens changed."""
+    if "refused" in want:
+        return True
+    text, chance = plan_text.shown(plan), random.Random(plan)
+    changed = [plan_text.changed(chance, text).encode() for _ in range(4)]
+    shown_is = read_right(lib, text.encode(), bytes.fromhex(want["area"])[:want["length"]])
+    return shown_is and all(read_right(lib, other_text, plan_text.answered(other_text)) for other_text in changed)
+
+
 def canonical_right(lib, case):
-    """Whether canonical answers as the case asks, and show."""
+    """Whether canonical answers as the case asks, and show and read."""
     given, want = case["canonical"], case["want"]
     plan = bytes.fromhex(given["plan"])
-    return written_right(lambda *area: lib.ruqzhemil_canonical(*lent(plan), *area), given, want) and shown_right(lib, plan, want)
+    right = written_right(lambda *area: lib.ruqzhemil_canonical(*lent(plan), *area), given, want) and shown_right(lib, plan, want)
+    return right and texts_right(lib, plan, want)
 
 
 def charged_right(lib, case):
@@ -147,6 +169,7 @@ def main(argv):
     words, landed = interpreter.split(argv[1:])
     if len(words) not in (1, 3):
         sys.exit(__doc__)
+    sys.setrecursionlimit(20000)
     lib = library(os.path.dirname(os.path.dirname(os.path.abspath(__file__))))
     compared = differ = 0
     for case in interpreter.cases(words, landed):

@@ -4,20 +4,23 @@
   plan_text.py show < PLAN     prints the text of a plan that passes the check
   plan_text.py read < TEXT     writes the plan of a text, in its canonical order; fails with the line and the column where the text is none
 
-`shown` takes a plan's bytes and gives its text; `read` takes a text and gives the plan's bytes, or raises `NoPlan` with the token where it stops.
+`shown` takes a plan's bytes and gives its text; `read` takes a text and gives the plan's bytes, or raises `NoPlan` with the token where it stops; `answered`
+gives either. How deep things are within each other has no bound here.
 """
 
 import re
 import sys
 
 WORDS = ("version volatile procedure in then else do all and true not null new let if while call fork join synch wait notify").split()
-NAMES = set(WORDS) | {str(n) for n in range(32)} | {"v%d" % n for n in range(8)}
+CODES = [str(n) for n in range(32)] + ["v%d" % n for n in range(8)] + WORDS + ["(", ")", ",", ".", "=", ":=", "-", "", None]
+NAMES = set(CODES[:62])
 LOOSE, TESTING, PREFIX, TIGHT = range(4)
 PREFIXES = {9: ["fork"], 10: ["join"], 18: ["wait"], 19: ["notify"], 20: ["notify", "all"]}
 WIDTH = 99  # columns of a line, at most
 MOST_INDENT = 40
 MOST_TOKENS = 16384
 MOST_TERMS = 1024
+MOST_PLAN = 5192  # bytes of a plan, at most
 
 
 # ---- a plan's bytes as trees: (tag, operands), operands being trees and numbers
@@ -178,6 +181,20 @@ def lexed(text):
     return tokens + [("", len(text))]
 
 
+def code(token):
+    """Its number among all tokens, by which a call's arguments are counted even where the procedure has something else than a count."""
+    return CODES.index(token)
+
+
+def changed(chance, text):
+    """The text with a token put in, taken out or put in another's place."""
+    places = [at for _, at in lexed(text)[1:-1]]
+    words = [text[begun:end] for begun, end in zip((0, *places), (*places, len(text)))]
+    at, word = chance.randrange(len(words)), " %s " % chance.choice(CODES[:69] + ["#\n", "x"])
+    words[at:at + chance.choice((0, 1, 1))] = chance.choice(([word], [word], []))
+    return "".join(words)
+
+
 # ---- tokens as trees
 
 EXPRESSION, CONDITION, EITHER = "expression", "condition", "either"
@@ -188,7 +205,7 @@ class Reader:
     def __init__(self, tokens):
         self.tokens, self.at, self.terms = tokens, 0, MOST_TERMS
         words = [token for token, _ in tokens] + [""] * 3
-        self.counts = ["0"] + [words[i + 3] for i, word in enumerate(words) if word == "procedure"]
+        self.counts = [0] + [code(words[i + 3]) for i, word in enumerate(words) if word == "procedure"]
 
     def ahead(self, by=0):
         return self.tokens[min(self.at + by, len(self.tokens) - 1)][0]
@@ -233,10 +250,9 @@ class Reader:
         return self.part(LOOSE, sort)
 
     def call(self):
-        p = self.number(0, len(self.counts))
+        p = self.number(0, min(len(self.counts), 32))
         self.expect("(")
-        count = int(self.counts[p]) if (self.counts[p] or "").isdigit() else 0
-        parts = [self.behind(",") if i else self.expression() for i in range(count)]
+        parts = [self.behind(",") if i else self.expression() for i in range(self.counts[p])]
         self.expect(")")
         tree = self.made(17)
         for part in reversed(parts):
@@ -343,16 +359,24 @@ def read(text):
     return encoded(version, mask, procedures)
 
 
+def answered(text):
+    """The plan of a text, which is given as bytes, or the line and the column where it is none."""
+    text = text.decode("latin-1")
+    try:
+        return read(text)
+    except NoPlan as none:
+        return place(text, none.at)
+
+
 def main(argv):
     sys.setrecursionlimit(20000)
     if argv[1:] == ["show"]:
         sys.stdout.write(shown(sys.stdin.buffer.read()))
     elif argv[1:] == ["read"]:
-        text = sys.stdin.buffer.read().decode("latin-1")
-        try:
-            sys.stdout.buffer.write(read(text))
-        except NoPlan as none:
-            sys.exit("no plan: line %d, column %d" % place(text, none.at))
+        found = answered(sys.stdin.buffer.read())
+        if isinstance(found, tuple):
+            sys.exit("no plan: line %d, column %d" % found)
+        sys.stdout.buffer.write(found)
     else:
         sys.exit(__doc__)
 

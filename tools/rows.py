@@ -312,6 +312,43 @@ synch wait join null do
 """),
 ]
 
+# a text, and its plan, or the line and the column where it is none
+READS = [
+    ("let 0 = new(1) in let - = fork (v0.1 := null) in v0.1", PLAN_P),
+    ("\tlet 0=new(1)in\r\nlet-=fork((v0).1:=null)in#\n(v0.1)#", PLAN_P),
+    ("if (null) = null and true then null else null", plan(choice(node(14, node(15, NULL, NULL), TRUE), NULL, NULL))),
+    ("null" + ".1" * 1023, header(1, 1024) + bytes(2) + b"".join(term(3, (10, i + 1), (5, 1)) for i in range(1023)) + term(0)),
+    ("null" + ".1" * 1025, (1, 2053)),  # a plan has 1,024 terms
+    # the end of the text, and what is no token
+    ("", (1, 1)), ("# null\n", (2, 1)), ("(null", (1, 6)), ("let 0 = null in", (1, 16)), ("let X = null in null", (1, 5)), ("null.32", (1, 6)),
+    ("null : = null", (1, 6)), ("nullnull", (1, 1)), ("null.01", (1, 6)), ("null.1 :null", (1, 8)), ("\xff", (1, 1)),
+    # a version, volatile fields
+    ("version 2 null", (1, 9)), ("volatile 3 2 null", (1, 12)), ("volatile 0 null", (1, 10)), ("null version 1", (1, 6)),
+    # something else is wanted
+    ("let 8 = null in null", (1, 5)), ("let 0 null", (1, 7)), ("let 0 = null\n\n null", (3, 2)), ("if true\nelse null", (2, 1)), ("if true then null", (1, 18)),
+    ("while true null", (1, 12)), ("synch null null", (1, 12)), ("new 1", (1, 5)), ("new(1 1)", (1, 7)), ("new(0)", (1, 5)),
+    ("new(1 2 3 4 5 6 7 8 9)", (1, 21)),
+    ("null.0", (1, 6)), ("null.null", (1, 6)), ("null null", (1, 6)), ("null)", (1, 5)), ("all null", (1, 1)), ("fork let 0 = null in v0", (1, 6)),
+    # an expression and a condition in each other's place
+    ("true", (1, 1)), ("not true", (1, 1)), ("null = null", (1, 6)), ("if null then null else null", (1, 9)), ("if (true) = true then null else null", (1, 11)),
+    ("if (null and true) then null else null", (1, 10)), ("fork (true)", (1, 7)), ("while not null do null", (1, 16)),
+    ("if true.1 then null else null", (1, 8)),
+    # calls and procedures
+    ("call 1 ()", (1, 6)), ("call 0 (null)", (1, 9)), ("call 1 (null)\nprocedure 1 (2) = null", (1, 13)),
+    ("call 1 (null, null)\nprocedure 1 (1) = null", (1, 13)),
+    ("call 1 (null)\nprocedure 1 (null) = null", (1, 13)), ("null procedure 2 (0) = null", (1, 16)), ("null procedure 1 (9) = null", (1, 19)),
+    ("null procedure 1 (1) null", (1, 22)), ("null" + "".join("\nprocedure %d (0) = null" % p for p in range(1, 33)), (33, 1)),
+    # a slot that nothing binds
+    ("v0", (1, 1)), ("let 0 = v0 in v0", (1, 1)), ("let 0 = null in v1", (1, 1)), ("null\n procedure 1 (1) = v1\n procedure 2 (0) = v0", (2, 2)),
+]
+
+# the same where too much is within something else, and where there are over 16,384 tokens, the end counted as one
+DEEP_READS = [
+    ("(" * 4199 + "null" + ")" * 4199, plan(NULL)),
+    ("(" * 4300, (1, 4201)),
+    ("(" * 16384, (1, 16385)),
+]
+
 # a plan, and what is right: the refusal, or how many moves it can need
 LOOP = node(7, TRUE, NULL)
 

@@ -18,11 +18,12 @@ an input of 9,291 bytes of the printing program and its text. The same words giv
   previews                       plays and picks for preview: by hand, and random ones
   plans                          plans for canonical: by hand, and random ones
   texts                          the same plans for show, with the texts that tools/plan_text.py writes
+  reads                          texts for read: by hand, those of examples/plans, shown plans, and random ones, with the answers of tools/plan_text.py
   bounds                         plans for bound: by hand, and random ones
   witnesses                      plays for witness: by hand, and random ones
   interleavings                  plans and schedules for first_interleaving and next_interleaving: by hand, and random ones
   changed_version, changed_checks, changed_plays, changed_runs, changed_both, changed_logs, changed_files,
-  changed_charges, changed_previews, changed_plans, changed_texts, changed_bounds,
+  changed_charges, changed_previews, changed_plans, changed_texts, changed_reads, changed_bounds,
   changed_witnesses, changed_interleavings
                                  cases of the kinds above with one part of the answer, or one length, changed: each must differ
 
@@ -31,13 +32,15 @@ bytes of the outcome; plan, schedule, records. A log: the version that judge is 
 the area's length in four bytes and the log's in two, what comtrade returns in eight; the log, and the file where it is not refused. A charge:
 lengths of plan and schedule, the option and what charge returns, in eight bytes each; plan, schedule. A preview: lengths of plan and schedule, the pick
 and what preview returns, in eight bytes each; the bytes of the preview; plan, schedule. A plan: the lengths of plan and area, what canonical returns in
-eight bytes; plan, written plan where it is not refused. A text: the same of show and the text. A bound: what bound returns in eight bytes; plan. A witness:
-lengths of plan, schedule and area; what witness returns in eight bytes; plan, schedule, and the written schedule where it is not refused. An interleaving:
-lengths of plan, schedule and area; 0 to begin, 1 to go on; n and what is returned, in eight bytes each; plan, schedule, and the written schedule where there
-is one.
+eight bytes; plan, written plan where it is not refused. A text: the same of show and the text. A read: the same of read, with the text before the plan.
+A bound: what bound returns in eight bytes; plan. A witness: lengths of plan, schedule and area; what witness returns in eight bytes; plan, schedule, and the
+written schedule where it is not refused. An interleaving: lengths of plan, schedule and area; 0 to begin, 1 to go on; n and what is returned, in eight bytes
+each; plan, schedule, and the written schedule where there is one.
 """
 
 import collections
+import glob
+import random
 import sys
 
 import header
@@ -372,6 +375,47 @@ def texts(plans):
             yield made
 
 
+SHORT_FOR_PLAN = (NUMBERS["IS_REFUSAL"] << 32) + (NUMBERS["REFUSAL_READ_AREA"] << 16)
+FEW_READS = 300  # bytes of a random text, at most
+
+
+def read_of(text, right, more):
+    """A text that is read as this plan, in an area that is longer by so much, or is none at this line and this column."""
+    if isinstance(right, tuple):
+        return Plan(text, 9, other(right[0] << 16 | right[1]), b"", len(text))
+    return Plan(text, len(right) + more, *((value(len(right)), right) if more >= 0 else (SHORT_FOR_PLAN, b"")), len(text))
+
+
+def edge_reads():
+    for text, right in rows.READS + rows.DEEP_READS:
+        text = text.encode("latin-1")
+        assert (text.decode("latin-1"), right) in rows.DEEP_READS or plan_text.answered(text) == right, (text, right, plan_text.answered(text))
+        yield read_of(text, right, 0)
+    yield from (read_of(rows.READS[0][0].encode(), rows.PLAN_P, more) for more in (-1, -len(rows.PLAN_P), 5))
+
+
+def example_reads():
+    """The texts of examples/plans, and what is shown of them: P, the shot list's other plans, and every form."""
+    shot_plans = [plan for plan, *_ in rows.SHOTS]
+    for path in sorted(glob.glob(header.ROOT + "/examples/plans/*.plan")):
+        with open(path, "rb") as file:
+            text = file.read()
+        plan = plan_text.answered(text)
+        assert plan in shot_plans or path.endswith("/every_form.plan"), path
+        yield from (read_of(text, plan, 0), read_of(plan_text.shown(plan).encode(), plan, 5))
+
+
+def reads(plans):
+    """Of plans for canonical, some: what is shown of them, which is read as the interpreter writes them, and texts that are a little changed."""
+    chance = random.Random("reads")
+    shown = [(plan_text.shown(case.plan), case.bytes) for case in plans if case.bytes]
+    short = [(text, plan) for text, plan in shown if 60 < len(text) < FEW_READS][:10]
+    yield from (read_of(text.encode(), plan, (0, -1, 5)[index % 3]) for index, (text, plan) in enumerate(short))
+    for text, _ in 3 * short:
+        text = plan_text.changed(chance, text)
+        yield read_of(text.encode(), plan_text.answered(text.encode()), 0)
+
+
 # ---- cases that must differ
 
 def flips(data):
@@ -391,11 +435,12 @@ def wrong(right):
 
 
 def changed(race, ended, refused_plan, refused_pick, unordered, ordered, refused_log, file, refused_file, charge, preview, refused_preview, plan,
-            refused_area, text, refused_text, bound, refused_bound, witness, refused_witness, first, following, over, refused_listing):
-    """Cases by file, of twenty-four right ones: plays that stop for a race, come to their end, have a refused plan and a refused pick; logs with an unordered
+            refused_area, text, refused_text, read, unread, refused_read, bound, refused_bound, witness, refused_witness, first, following, over,
+            refused_listing):
+    """Cases by file, of twenty-seven right ones: plays that stop for a race, come to their end, have a refused plan and a refused pick; logs with an unordered
     access, with none, and refused; a log with its data file, and one that is refused; a charge; a preview, and one that is refused; a
-    plan that is written, and one that is refused; a plan that is shown, and one that is refused; a bound, and one that is refused; a witness, and one that
-    is refused; a first interleaving, a following one, an end of the list, and one that is refused."""
+    plan that is written, and one that is refused; a plan that is shown, and one that is refused; a text that is read, one that is no plan, and one that is
+    refused; a bound, and one that is refused; a witness, and one that is refused; a first interleaving, a following one, an end of the list, and one that is refused."""
     end = len(stored(race))
     lengths = [(end, 0), (len(race.plan), end)]
     return {
@@ -421,6 +466,9 @@ def changed(race, ended, refused_plan, refused_pick, unordered, ordered, refused
         "changed_texts": by(text, written=wrong(text.written)) + by(text, bytes=flips(text.bytes)) + by(text, bytes=[text.bytes[:-1], text.bytes + bytes(1)])
         + by(text, area=[len(text.bytes) - 1]) + by(text, length=[len(stored(text))])
         + by(refused_text, written=wrong(refused_text.written)) + by(refused_text, bytes=[bytes(1)]),
+        "changed_reads": by(read, written=wrong(read.written)) + by(read, bytes=flips(read.bytes)) + by(read, bytes=[read.bytes[:-1], read.bytes + bytes(1)])
+        + by(read, area=[len(read.bytes) - 1, 65535]) + by(read, length=[len(stored(read))])
+        + [changed for case in (unread, refused_read) for changed in by(case, written=wrong(case.written)) + by(case, bytes=[bytes(1)])],
         "changed_bounds": by(bound, bounded=wrong(bound.bounded)) + by(bound, plan=[bound.plan[:-1]]) + by(refused_bound, bounded=wrong(refused_bound.bounded)),
         "changed_witnesses": by(witness, written=wrong(witness.written)) + by(witness, bytes=flips(witness.bytes))
         + by(witness, bytes=[witness.bytes[:-1], witness.bytes + bytes(1)]) + by(witness, area=[len(witness.bytes) - 1, 65535])
@@ -445,6 +493,8 @@ def changed_of(files):
                    first("previews", lambda c: c.out[0] == NUMBERS["PREVIEW_RACE"]), first("previews", lambda c: c.previewed > refused(9, 0)),
                    first("plans", lambda c: c.bytes and c.bytes != c.plan), first("plans", lambda c: c.written == refused(13, 0)),
                    first("texts", lambda c: len(c.bytes) > 60), first("texts", lambda c: c.written == SHORT_FOR_TEXT),
+                   first("reads", lambda c: 20 < len(c.bytes) < 50), first("reads", lambda c: c.written > other(2 << 16)),
+                   first("reads", lambda c: c.written == SHORT_FOR_PLAN),
                    first("bounds", lambda c: c.bounded < other(0)), first("bounds", lambda c: c.bounded == refused(21, 0)),
                    first("witnesses", lambda c: len(c.bytes) > 9), first("witnesses", lambda c: c.written == refused(16, 0)),
                    first("interleavings", lambda c: not c.going and c.n > 4 and c.bytes), first("interleavings", lambda c: c.going and c.n > 4 and c.bytes),
@@ -459,15 +509,15 @@ GROUPS = [
     ("runs, checked", "runs"), ("runs, played", "runs"), ("runs, judged", "runs"), ("runs, played and judged", "runs"),
     ("refused plays, checked", "refused"), ("refused plays, played", "refused"), ("refused plays, played and judged", "refused"),
     ("other logs, judged", "logs"), ("data files at the edges", "edge_files"), ("data files", "files"), ("charges", "charges"),
-    ("previews", "previews"), ("plans, written", "plans"), ("plans, shown", "texts"), ("bounds", "bounds"), ("witnesses", "witnesses"),
-    ("interleavings", "interleavings"),
+    ("previews", "previews"), ("plans, written", "plans"), ("plans, shown", "texts"), ("texts, read", "reads"), ("bounds", "bounds"),
+    ("witnesses", "witnesses"), ("interleavings", "interleavings"),
 ]
 CHANGED = [
     ("changed version", "changed_version"), ("changed, checked", "changed_checks"), ("changed, played", "changed_plays"),
     ("changed runs, judged", "changed_runs"), ("changed, played and judged", "changed_both"), ("changed logs, judged", "changed_logs"),
     ("changed data files", "changed_files"), ("changed charges", "changed_charges"), ("changed previews", "changed_previews"),
-    ("changed plans, written", "changed_plans"), ("changed plans, shown", "changed_texts"), ("changed bounds", "changed_bounds"),
-    ("changed witnesses", "changed_witnesses"), ("changed interleavings", "changed_interleavings"),
+    ("changed plans, written", "changed_plans"), ("changed plans, shown", "changed_texts"), ("changed texts, read", "changed_reads"),
+    ("changed bounds", "changed_bounds"), ("changed witnesses", "changed_witnesses"), ("changed interleavings", "changed_interleavings"),
 ]
 
 
@@ -489,6 +539,7 @@ def main(argv):
     if len(words) != (3 if made_before else 4):
         sys.exit(__doc__)
     crates = words[-1]
+    sys.setrecursionlimit(20000)
     sys.path.insert(0, words[0])
     import answers
     import landed
@@ -502,6 +553,7 @@ def main(argv):
     files["previews"] = list(edge_previews(answers)) + files["previews"]
     files["plans"] = list(edge_plans(answers)) + files["plans"]
     files["texts"] = list(edge_texts()) + list(texts(files["plans"]))
+    files["reads"] = list(edge_reads()) + list(example_reads()) + list(reads(files["plans"]))
     files["bounds"] = list(edge_bounds(answers)) + files["bounds"]
     files["witnesses"] = list(edge_witnesses(answers)) + files["witnesses"]
     files["interleavings"] = list(edge_interleavings(answers)) + files["interleavings"]

@@ -47,6 +47,14 @@ pub fn show(plan: &[u8], area: &mut [u8]) -> u64 {
     independent::show(plan, area).map_or_else(number, |length| length as u64)
 }
 
+pub fn read(text: &[u8], area: &mut [u8]) -> u64 {
+    match independent::read(text, area) {
+        Ok(Ok(length)) => length as u64,
+        Ok(Err((line, column))) => (1 << 32) + (line.min(65535) << 16) as u64 + column.min(65535) as u64,
+        Err(refusal) => number(refusal),
+    }
+}
+
 pub fn bound(plan: &[u8]) -> u64 {
     independent::bound(plan).map_or_else(number, |total| total as u64)
 }

@@ -7,7 +7,7 @@ use crate::{answers, generate, library};
 /// How many cases had each answer.
 #[derive(Default)]
 struct Seen {
-    refusals: [usize; 26],
+    refusals: [usize; 27],
     passed: usize,
     stops: [usize; 6],
     states: [usize; 10],
@@ -18,6 +18,7 @@ struct Seen {
     previews: [usize; 6],
     plans: [usize; 2],
     texts: usize,
+    read: [usize; 2],
     bounds: usize,
     listed: [usize; 3],
     witnesses: usize,
@@ -42,18 +43,20 @@ impl Seen {
     }
 
     fn print(&self) {
-        let (first, later) = (&self.refusals[1..13], &self.refusals[13..26]);
-        println!("  plans passed {}; refusals 1 to 12 {first:?}, 13 to 25 {later:?}", self.passed);
+        let (first, later) = (&self.refusals[1..13], &self.refusals[13..27]);
+        println!("  plans passed {}; refusals 1 to 12 {first:?}, 13 to 26 {later:?}", self.passed);
         println!("  runs end, race, no-thread, no-object, no-key, no-depth {:?}", self.stops);
         println!("  threads absent, finished, ready, monitor, join, no field, no thread, lacking, notify, monitor not held {:?}", self.states);
         println!("  threads that learnt no key from another, some {:?}", self.learnt);
         println!("  logs ordered, unordered {:?}; data files {}; runs free, charged {:?}", self.judged, self.files, self.charges);
         println!("  picks passed over, moved, moved with a record, race, no room, stopped before {:?}", self.previews);
         println!("  plans written as they were, otherwise {:?}; plans shown {}; plans with a total {}", self.plans, self.texts, self.bounds);
+        println!("  texts read, no plans {:?}", self.read);
         println!("  interleavings begun, followed, over {:?}; witnesses {}", self.listed, self.witnesses);
         let alone = [self.passed, self.files, self.bounds, self.witnesses, self.texts];
-        let counts: [&[usize]; 11] =
-            [first, later, &self.stops, &self.states, &self.learnt, &self.judged, &self.charges, &self.previews, &self.plans, &self.listed, &alone];
+        let counts: [&[usize]; 12] = [
+            first, later, &self.stops, &self.states, &self.learnt, &self.judged, &self.charges, &self.previews, &self.plans, &self.read, &self.listed, &alone,
+        ];
         assert!(counts.into_iter().flatten().min() > Some(&0), "an answer that no case had: more cases are needed");
     }
 }
@@ -239,6 +242,42 @@ fn show(plan: &[u8], area: &[u8], seen: &mut Seen) {
     seen.texts += 1;
 }
 
+/// The answer and the whole area, also in an area of just the plan's length and in one a byte short.
+fn read(text: &[u8], area: &[u8], seen: &mut Seen) -> Option<Vec<u8>> {
+    let once = |area: &[u8]| {
+        let (mut ours, mut theirs) = (area.to_vec(), area.to_vec());
+        let input = [text, area];
+        let answer = same("read", &input, library::read(text, &mut ours), answers::read(text, &mut theirs));
+        (answer, same("the read plan's area", &input, ours, theirs))
+    };
+    let (answer, written) = once(area);
+    seen.read[usize::from(answer >> 32 > 0)] += 1;
+    if answer >> 32 > 0 {
+        return None;
+    }
+    let length = answer as usize;
+    once(&area[..length]);
+    seen.refused(once(&area[..length - 1]).0);
+    Some(written[..length].to_vec())
+}
+
+/// What is shown of a plan is read as what canonical writes of it; then it is read with some of its parts changed.
+fn shown_and_read(random: &mut Random, plan: &[u8], seen: &mut Seen) {
+    let area = random.bytes(5192);
+    let (mut text, mut written) = (vec![0; 574501], vec![0; plan.len()]);
+    let answer = library::show(plan, &mut text);
+    if answer >> 32 == 0 {
+        text.truncate(answer as usize);
+        library::canonical(plan, &mut written);
+        same("what is shown, read", &[plan], read(&text, &area, seen), Some(written));
+    } else {
+        text = b"let 0 = call 1 (null, fork v0) in v0.3\nprocedure 1 (2) = synch v0 do\n(v0.1 := v1).2\n".to_vec();
+    }
+    for _ in 0..4 {
+        read(&generate::changed_text(random, &text), &area, seen);
+    }
+}
+
 /// The answer and the whole area.
 fn comtrade_once(log: &[u8], area: &[u8]) -> u64 {
     let (mut ours, mut theirs) = (area.to_vec(), area.to_vec());
@@ -281,7 +320,7 @@ fn plan(random: &mut Random) -> Vec<u8> {
 
 /// Compares so many plans, schedules, areas and logs; leaves the process at the first difference.
 pub fn run(cases: usize, seed: u64) {
-    let random = &mut Random::new(seed);
+    let (random, texts) = (&mut Random::new(seed), &mut Random::new(!seed));
     let mut seen = Seen::default();
     let began = std::time::Instant::now();
     for _ in 0..cases {
@@ -289,6 +328,7 @@ pub fn run(cases: usize, seed: u64) {
         check(&plan, &mut seen);
         canonical(random, &plan, &mut seen);
         show(&plan, &random.bytes(20 * plan.len()), &mut seen);
+        shown_and_read(texts, &plan, &mut seen);
         bound(&plan, &mut seen);
         let schedule = generate::schedule(random);
         interleavings(random, &plan, &schedule, &mut seen);

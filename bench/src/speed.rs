@@ -116,7 +116,7 @@ fn played(input: &Input) -> (Vec<u8>, [usize; 3]) {
 }
 
 /// What is timed of each input.
-const COLUMNS: [&str; 10] = [
+const COLUMNS: [&str; 11] = [
     "a pick",
     "a play without picks",
     "a checked byte",
@@ -126,6 +126,7 @@ const COLUMNS: [&str; 10] = [
     "a preview",
     "a written byte",
     "a byte of text",
+    "a byte that is read",
     "a bound, a byte",
 ];
 
@@ -134,8 +135,13 @@ fn row(input: &Input) -> [Option<Pair>; COLUMNS.len()] {
     let Input { name, plan, schedule } = input;
     let (log, [picks, moves, records]) = played(input);
     let version = u64::from(plan[0] >> 4);
-    let text = library::show(plan, &mut vec![0; MOST_SHOWN]) as usize;
-    let [play, play2, start, start2, check, check2, judge, judge2, file, file2, charge, charge2, preview, preview2, write, write2, show, show2, bound, bound2] = best([
+    let mut shown = vec![0; MOST_SHOWN];
+    let text = library::show(plan, &mut shown) as usize;
+    shown.truncate(text);
+    let [
+        play, play2, start, start2, check, check2, judge, judge2, file, file2, charge, charge2, preview, preview2, write, write2, show, show2, read, read2,
+        bound, bound2,
+    ] = best([
         playing(library::play, plan, schedule),
         playing(answers::play, plan, schedule),
         playing(library::play, plan, &[]),
@@ -154,6 +160,8 @@ fn row(input: &Input) -> [Option<Pair>; COLUMNS.len()] {
         writing(answers::canonical, plan, plan.len()),
         writing(library::show, plan, text),
         writing(answers::show, plan, text),
+        writing(library::read, &shown, plan.len()),
+        writing(answers::read, &shown, plan.len()),
         on(library::bound, plan),
         on(answers::bound, plan),
     ]);
@@ -168,10 +176,11 @@ fn row(input: &Input) -> [Option<Pair>; COLUMNS.len()] {
         per(1, preview, preview2),
         per(plan.len(), write, write2),
         per(text, show, show2),
+        per(text, read, read2),
         per(plan.len(), bound, bound2),
     ];
     print!("{name:16} {:5} {picks:5} {moves:5} {records:5}", plan.len());
-    for (pair, digits) in pairs.iter().zip([1, 0, 2, 1, 1, 0, 0, 2, 2, 2]) {
+    for (pair, digits) in pairs.iter().zip([1, 0, 2, 1, 1, 0, 0, 2, 2, 2, 2]) {
         print!(" |{:>23}", pair.as_ref().map_or("-".into(), |pair| pair.text(digits)));
     }
     println!();

@@ -57,6 +57,12 @@ fn logs(inputs: &[Input]) -> Vec<Input> {
     inputs.iter().map(records).collect()
 }
 
+/// The input with its plan's text in place of the plan.
+fn as_text(input: &Input, text: &mut [u8]) -> Input {
+    let length = library::show(&input.plan, text) as usize;
+    Input { name: input.name, plan: text[..length].to_vec(), schedule: vec![] }
+}
+
 pub fn print() {
     println!("\nstack");
     let all = inputs::deepest();
@@ -82,6 +88,11 @@ pub fn print() {
     let mut text = vec![0; 574501];
     most("show", 96, &all, |i| {
         library::show(&i.plan, &mut text);
+    });
+    let parentheses = Input { name: "parentheses", plan: vec![b'('; 16383], schedule: vec![] };
+    let texts: Vec<Input> = all.iter().map(|i| as_text(i, &mut text)).chain([parentheses]).collect();
+    most("read", 192, &texts, |i| {
+        library::read(&i.plan, &mut written);
     });
     most("bound", 96, &all, |i| {
         library::bound(&i.plan);

@@ -1,7 +1,8 @@
 /* Plan P of document 01's shot list: a field written by one thread and read by another, with nothing between them. It is checked and played, and the judge
- * gets the run's records; it is written as text. The log of two monitors is written as a data file for a viewer. All that is printed is read by the header's
- * own functions. */
+ * gets the run's records; it is written as text and read again. The log of two monitors is written as a data file for a viewer. All that is printed is read
+ * by the header's own functions. */
 #include <stdio.h>
+#include <string.h>
 
 #include "ruqzhemil.h"
 
@@ -145,6 +146,38 @@ static void show(size_t size) {
     printf("%u bytes\n%.*s", (unsigned)RUQZHEMIL_VALUE(answer), (int)RUQZHEMIL_VALUE(answer), (const char *)area);
 }
 
+/* Reads a text into an area of so many bytes; a plan is shown again. */
+static void read_text(const char *name, const char *text, size_t length, size_t size) {
+    static uint8_t area[RUQZHEMIL_MOST_PLAN_BYTES], shown[RUQZHEMIL_MOST_SHOWN_BYTES];
+    uint64_t answer = ruqzhemil_read((const uint8_t *)text, length, area, size);
+    printf("%s, read: ", name);
+    if (refused(answer)) return;
+    if (RUQZHEMIL_ANSWER(answer) == RUQZHEMIL_IS_OTHER) {
+        printf("no plan: line %u, column %u\n", RUQZHEMIL_LINE(answer), RUQZHEMIL_COLUMN(answer));
+        return;
+    }
+    size_t bytes = RUQZHEMIL_VALUE(answer);
+    printf("%u bytes%s\n", (unsigned)bytes, bytes == sizeof plan && memcmp(area, plan, bytes) == 0 ? ", those of P" : "");
+    answer = ruqzhemil_show(area, bytes, shown, sizeof shown);
+    printf("%.*s", (int)RUQZHEMIL_VALUE(answer), (const char *)shown);
+}
+
+static void read_texts(void) {
+    static const char written[] = "let 0 = new(1) in let - = fork (v0.1 := null) in v0.1  # P";
+    static const char others[] = "call 1 (join (fork null))\nprocedure 1(1) = v0";
+    static const char cut[] = "let 0 = new(1) in\nv0.", loose[] = "call 1 ()\nprocedure 1 (0) = v0";
+    static char many[16384];
+    read_text("P in 55 bytes", written, sizeof written - 1, 55);
+    read_text("P in 54 bytes", written, sizeof written - 1, 54);
+    read_text("a call in 5,192 bytes", others, sizeof others - 1, RUQZHEMIL_MOST_PLAN_BYTES);
+    read_text("a text cut short", cut, sizeof cut - 1, 55);
+    read_text("a slot that nothing binds", loose, sizeof loose - 1, 55);
+    read_text("nothing at all", NULL, 0, 55);
+    memset(many, '(', sizeof many);
+    read_text("16,385 tokens", many, sizeof many, 55);
+    read_text("parentheses too deep", many, sizeof many - 1, 55);
+}
+
 /* acquire and release of object 1, by thread 0 */
 static const uint8_t monitors[] = {0x60, 0x10, 0x00, 0x70, 0x10, 0x00};
 
@@ -191,6 +224,7 @@ int main(void) {
     canonical(sizeof turned - 1);
     show(64);
     show(63);
+    read_texts();
     bound("P", plan, sizeof plan);
     bound("a loop", endless, sizeof endless);
     interleavings(10);

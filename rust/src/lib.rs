@@ -1,7 +1,7 @@
 //! Ruqzhemil: a verified checker of plans for relay test sets.
 //!
 //! [`check`] a plan, [`play`] a schedule on it and [`judge`] the log; [`preview`] a pick before it is taken; bring both threads of a race to their accesses
-//! ([`witness`]); write a plan in the one way that all equal plans share ([`canonical`]), or as text ([`show`]); list the [`interleavings`] of a short plan;
+//! ([`witness`]); write a plan in the one way that all equal plans share ([`canonical`]), or as text ([`show`]), and [`read`] a text as a plan; list the [`interleavings`] of a short plan;
 //! say how many moves a plan can need ([`bound`]); [`charge`] for a run; write a log as a [`comtrade`] data file. Each takes any bytes;
 //! `include/ruqzhemil.h` says what the answers mean, and the proofs of the static library below show that they are right. Later versions may have more
 //! refusals, kinds, stops, states and previews than are named here: `Other` has their number.
@@ -21,12 +21,12 @@ mod tests;
 pub use interleavings::{first_interleaving, interleavings, next_interleaving, Interleavings};
 pub use log::{Kind, Record, records};
 pub use outcome::{Outcome, Stop, ThreadState};
-pub use plan_text::{show, show_in};
+pub use plan_text::{read, read_in, show, show_in, NoPlan};
 pub use preview::Preview;
 pub use refusal::{Reason, Refusal};
 
 /// The version of this package's numbers, and of the archive: major * 65536 + minor * 256 + patch.
-pub const VERSION: u32 = 0x010200;
+pub const VERSION: u32 = 0x010300;
 /// Bytes of any plan that passes, at most.
 pub const MOST_PLAN_BYTES: usize = 5192;
 /// Picks of any schedule that passes, at most.

@@ -37,6 +37,7 @@ pub enum Reason {
     Total,
     FileArea,
     TextArea,
+    ReadArea,
     Other(u16),
 }
 
@@ -68,6 +69,7 @@ impl Refusal {
             23 => Reason::Total,
             24 => Reason::FileArea,
             25 => Reason::TextArea,
+            26 => Reason::ReadArea,
             number => Reason::Other(number),
         }
     }
@@ -101,6 +103,7 @@ impl fmt::Display for Reason {
             Reason::Total => "a total of over 65,535 moves",
             Reason::FileArea => "an area too short for the whole data file",
             Reason::TextArea => "an area shorter than the plan's text",
+            Reason::ReadArea => "an area shorter than the plan that was read",
             Reason::Other(_) => "a refusal that this package does not know",
         })
     }

@@ -43,7 +43,7 @@ fn same<T: std::fmt::Debug>(prefix: &str, count: usize, of: impl Fn(u64) -> T) {
 
 #[test]
 fn numbers_are_the_headers() {
-    same("RUQZHEMIL_REFUSAL_", 25, |n| Refusal { number: n as u16, place: 0 }.reason());
+    same("RUQZHEMIL_REFUSAL_", 26, |n| Refusal { number: n as u16, place: 0 }.reason());
     same("RUQZHEMIL_KIND_", 11, |n| Kind::of(n as u8));
     let states = |n: u64| (Stop::of(n as u8), ThreadState::of(n as u8, 0, 0));
     for (name, n) in
@@ -83,7 +83,7 @@ fn limits_are_the_headers() {
 
 #[test]
 fn texts_are_the_headers() {
-    for n in 1..=26 {
+    for n in 1..=27 {
         let text = Refusal { number: n, place: 0 }.reason().to_string().replace("package", "header");
         assert!(HEADER.contains(&format!("return \"{text}\";")), "{text}");
     }
@@ -160,6 +160,25 @@ fn plans_are_shown() {
     assert_eq!(show_in(&plan, &mut area[..text.len() - 1]), Err(Refusal { number: 25, place: 0 }));
     assert_eq!(show(&plan[..24]), Err(Refusal { number: 1, place: 0 }));
     assert_eq!(area, before);
+}
+
+#[test]
+fn texts_are_read() {
+    // while true do null
+    let plan = [0x10, 0x40, 0x0c, 0x00, 0x80, 0, 0, 0, 0, 0, 0x38, 0x02, 0x01, 0, 0, 0x60, 0, 0, 0, 0, 0, 0, 0, 0, 0];
+    assert_eq!(read(b"while true do null"), Ok(plan.to_vec()));
+    assert_eq!(read(show(&plan).unwrap().as_bytes()), Ok(plan.to_vec()));
+    let mut area = [7; 26];
+    assert_eq!(read_in(b"while(true)do(null)#", &mut area), Ok(Ok(25)));
+    assert_eq!((&area[..25], area[25]), (&plan[..], 7));
+    let before = area;
+    assert_eq!(read_in(b"while true do null", &mut area[..24]), Err(Refusal { number: 26, place: 0 }));
+    assert_eq!(read_in(b"while true\n do\n  v0", &mut area), Ok(Err(NoPlan { line: 1, column: 1 })));
+    assert_eq!(read_in(b"while true\n do\n  do", &mut area), Ok(Err(NoPlan { line: 3, column: 3 })));
+    assert_eq!(area, before);
+    let far = [b"\n".repeat(70000), b" ".repeat(70000)].concat();
+    assert_eq!(read(&far), Err(NoPlan { line: 65535, column: 65535 }));
+    assert_eq!(read(&far[1000..70003]), Err(NoPlan { line: 65535, column: 4 }));
 }
 
 #[test]

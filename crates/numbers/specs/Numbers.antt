@@ -1,5 +1,5 @@
 -- The number that each entry returns, by the answer that the papers define. Assumes nothing.
-use Prim.Native.Nat.{ℕ, _+_, _*_, _^_}
+use Prim.Native.Nat.{ℕ, _+_, _*_, _^_, min}
 use mathlib.Core.Path.{_≡_}
 use mathlib.Core.List.{List}
 use mathlib.Core.Option.{Option, some, none}
@@ -9,6 +9,7 @@ use Rattle.rules.specs.Play as play
 use Rattle.answers.specs.Answer as tool
 use Rattle.interleavings.specs.Interleavings.{Next, FirstAnswer, NextAnswer}
 use Rattle.witness.specs.Witness.{Witnesses}
+use Rattle.read.specs.Read.{Read}
 
 -- ---- the convention of every entry: a number of 64 bits, whose upper half says which kind of answer it is
 
@@ -52,6 +53,16 @@ unfoldable pub nextNumber : Next → ℕ
 nextNumber (Next.written n) = valueNumber n
 nextNumber Next.over = otherNumber 0
 nextNumber (Next.refused r) = refusalNumber r
+
+-- "line * 65536 + column", each 65,535 where it is more
+abbrev pub placeNumber : ℕ → ℕ → ℕ
+placeNumber line column = min line 65535 * 65536 + min column 65535
+
+-- read: the length of the written plan; its other answer is the line and the column where reading stops; 26 for an area that is too short
+unfoldable pub readNumber : Read → ℕ
+readNumber (Read.written n) = valueNumber n
+readNumber (Read.failed line column f) = otherNumber (placeNumber line column)
+readNumber Read.short = refusalNumber (record { number = 26; place = 0 })
 
 -- the judge returns the number of its answer to the version and the log
 pub record JudgeReturns (version : ℕ) (log : List ℕ) (n : ℕ) : Type 0 where

@@ -1,16 +1,18 @@
 // An answer as one number.
 ghost use mathlib.Core.Path.{_≡_};
-ghost use Prim.Native.Nat.{_+_, _*_, _^_, _≤_};
+ghost use Prim.Native.Nat.{_+_, _*_, _^_, _≤_, min};
 ghost use Rattle.refusals.specs.Answer as refusals;
 ghost use Rattle.refusals.specs.Small.{SmallCheck};
 ghost use Rattle.judge.specs.Answer as judge;
 ghost use Rattle.answers.specs.Answer as tool;
 ghost use Rattle.interleavings.specs.Answer as listing;
-ghost use Rattle.numbers.specs.Numbers.{checkNumber, judgeNumber, answerNumber, nextNumber};
-ghost use Rattle.numbers.specs.Small.{SmallNumber, SmallJudged, SmallAnswer, SmallNext};
+ghost use Rattle.read.specs.Answer as texts;
+ghost use Rattle.numbers.specs.Numbers.{checkNumber, judgeNumber, answerNumber, nextNumber, readNumber, placeNumber};
+ghost use Rattle.numbers.specs.Small.{SmallNumber, SmallJudged, SmallAnswer, SmallNext, SmallRead};
 use answers::Answered;
 use interleavings::Next;
 use judge::Judgement;
+use read::Answer;
 use refusals::Checked;
 
 // Of a refusal: 2 in the upper half.
@@ -72,5 +74,36 @@ pub fn of_next(next: Next) -> u64
         Next::Refused { number, place } => refusal(number, place),
         Next::Written(length) => length as u64,
         Next::Over => 4294967296,
+    }
+}
+
+// A line or a column, 65,535 where it is more.
+fn clamped(number: usize) -> u64
+    ensures { λ r. ⌜ r ≡ min number 65535 ⌝ }
+{
+    if number < 65535 { number as u64 } else { 65535 }
+}
+
+// Of the place where reading stops: 1 in the upper half.
+fn place(line: usize, column: usize) -> u64
+    ensures { λ r. ⌜ r ≡ 2 ^ 32 + placeNumber line column ⌝ }
+{
+    4294967296 + clamped(line) * 65536 + clamped(column)
+}
+
+// Of the answer of read.
+pub fn of_read(answer: Answer) -> u64
+    requires { ⌜ SmallRead (texts.answered answer) ⌝ }
+    ensures { λ r. ⌜ r ≡ readNumber (texts.answered answer) ⌝ }
+{
+    match answer {
+        Answer::Written(length) => length as u64,
+        Answer::Short => refusal(26, 0),
+        Answer::Failed {
+            line,
+            column,
+            kind: _,
+            reason: _,
+        } => place(line, column),
     }
 }

@@ -12,8 +12,10 @@ use lib.ListN.{length, getD, drop}
 use borrow.Author.Tests.{ltb-true, leb-true, eqb-true, not-false, eq-eqb, ne-eqb}
 use Rattle.format.proofs.Ranges.{by-range}
 use Rattle.notation.specs.Shown.{loose, testing, prefix}
-use Rattle.parsing.specs.Goals.{Sort, either, expression, condition, Goal, expect, operand, more, make, binder, fields, procedure, further, count, Value, number, ofExpression, ofCondition, ofArguments, numberIn, operandCounts, terms, valueAt, made, Form, forms, argumentGoals}
-use Rattle.parsing.specs.Parser.{ahead, Step, go, stop, Reason, wanted, takesCondition, inside, begun, wordForm, operandStep, isField, dotStep, moreStep, fieldsStep, furtherStep, step, isExpression, isCondition, fits}
+use Rattle.parsing.specs.Goals.{Sort, either, expression, condition, Goal, expect, operand, more, make, binder, fields, procedure, further, count, Value}
+use Rattle.parsing.specs.Goals.{number, ofExpression, ofCondition, ofArguments, numberIn, operandCounts, terms, valueAt, made, Form, forms, argumentGoals}
+use Rattle.parsing.specs.Parser.{ahead, Step, go, stop, Reason, wanted, takesCondition, inside, begun, wordForm, operandStep, isField, dotStep, moreStep}
+use Rattle.parsing.specs.Parser.{fieldsStep, furtherStep, step, isExpression, isCondition, fits}
 use Rattle.parser.specs.Encoded.{goalOf}
 use Rattle.parser.specs.Moves.{IsTerm, IsBelow, IsOf, operandKinds, Operands, MaskTo, Fits, Sound, onto, formAt}
 use Rattle.parser.proofs.Numbers.{expect-goal, further-goal}
@@ -125,7 +127,7 @@ module _ (gs : List Goal) where
     unfolding dotStep isField operandKinds operandCounts
     dot-fits n ts =
         let x = ahead ts 1 in
-        choose (FitsAfter gs) (not (isField x)) (stop (wanted (expect 65)) (drop 1 ts))
+        choose (FitsAfter gs) (not (isField x)) (stop Reason.field (drop 1 ts))
         (cond (eqb d loose && eqb (ahead ts 2) 67) (go (operand loose expression ∷ make 4 ∷ more d s ∷ []) (number x ∷ v ∷ vs) n (drop 3 ts))
         (go (make 3 ∷ more d s ∷ []) (number x ∷ v ∷ vs) n (drop 2 ts)))
         (λ e. tt)

@@ -10,15 +10,19 @@ use lib.Dec.{eqb, leb}
 use lib.ListN.{length, getD, drop}
 use borrow.Author.Tests.{eq-eqb, ne-eqb, lt-ltb, le-ltb, le-leb, lt-leb}
 use Rattle.format.proofs.BitLaws.{shl-one}
-use Rattle.parsing.specs.Goals.{Goal, expect, operand, more, make, binder, fields, procedure, further, count, Value, number, ofExpression, ofCondition, ofArguments, numberIn, valueAt, made, argumentGoals, forms}
-use Rattle.parsing.specs.Parser.{Reason, Step, go, stop, wanted, takesCondition, fits, step, furtherStep, fieldsStep, moreStep, dotStep, isField, operandStep, wordForm, begun}
+use Rattle.parsing.specs.Goals.{Goal, expect, operand, more, make, binder, fields, procedure, further, count, Value, number, ofExpression, ofCondition}
+use Rattle.parsing.specs.Goals.{ofArguments, numberIn, valueAt, made, argumentGoals, forms}
+use Rattle.parsing.specs.Parser.{Reason, Step, go, stop, wanted, takesCondition, fits, step, furtherStep, fieldsStep, moreStep, dotStep, isField}
+use Rattle.parsing.specs.Parser.{operandStep, wordForm, begun}
 use Rattle.parser.specs.Encoded.{goalOf, reasonOf, sortOf, stacked, unpacked, valueSort}
 use Rattle.parser.specs.Moves.{IsBelow, MaskTo, Seen, Does, Calls, onto, pushed, done, formAt, PackedForm, Formed, Ends}
 use Rattle.parser.specs.declared.moves.Sight.{Sight}
 use Rattle.parser.specs.declared.moves.Move.{Move}
 use Rattle.parser.specs.declared.moves.Move.the-variants.{Go, Make, Stop}
 use Rattle.parser.proofs.FormTable.{form-condition, form-expression}
-use Rattle.parser.proofs.Numbers.{expect-goal, operand-goal, more-goal, fields-goal, further-goal, more-above, reason-goal, stacked-some, pushed-some, expression-is, condition-is, neither-is, takes, takes-not, inside-expression, inside-either, fits-either, fits-same, fits-not, fits-neither}
+use Rattle.parser.proofs.Numbers.{expect-goal, operand-goal, more-goal, fields-goal, further-goal, more-above, reason-goal, stacked-some}
+use Rattle.parser.proofs.Numbers.{pushed-some, expression-is, condition-is, neither-is, takes, takes-not, inside-expression, inside-either}
+use Rattle.parser.proofs.Numbers.{fits-either, fits-same, fits-not, fits-neither}
 
 -- the code's bit of a field
 pub shift-is : (t : ℕ) → (1 * 2 ^ (31 - t)) % 18446744073709551616 ≡ 2 ^ (31 - t)
@@ -210,12 +214,12 @@ module _ (counts : List ℕ) (s : Sight) where
 
       -- `.`
       module _ (i : s .sort ≡ 1) (a : s .first ≡ 65) where
-        pub dot-zero : s .second ≡ 0 → Does (step counts follow) follow s (Stop 1 65)
+        pub dot-zero : s .second ≡ 0 → Does (step counts follow) follow s (Stop 1 1002)
         unfolding done onto step reasonOf goalOf moreStep dotStep isField
         dot-zero e gs vs n ts f k =
             rw (k .first-is, eq-eqb (s .first) 65 a, expression-is (valueAt vs 0) (k .sort-is ∙ i) .0, k .second-is, e)
 
-        pub dot-high : (s .second ≡ 0 → ⊥) → 31 < s .second → Does (step counts follow) follow s (Stop 1 65)
+        pub dot-high : (s .second ≡ 0 → ⊥) → 31 < s .second → Does (step counts follow) follow s (Stop 1 1002)
         unfolding done onto step reasonOf goalOf moreStep dotStep isField
         dot-high d h gs vs n ts f k =
             rw (

@@ -5,7 +5,8 @@ use mathlib.Core.Path.{_≡_, refl}
 use mathlib.Core.Bool.{true, false}
 use mathlib.Core.List.{List, [], _∷_}
 use borrow.Author.Tests.{lt-ltb, le-ltb, ne-eqb}
-use Rattle.parsing.specs.Goals.{Sort, either, expression, Goal, expect, operand, more, make, binder, fields, procedure, further, count, Value, number, ofExpression, ofCondition, ofArguments}
+use Rattle.parsing.specs.Goals.{Sort, either, expression, Goal, expect, operand, more, make, binder, fields, procedure, further, count, Value, number}
+use Rattle.parsing.specs.Goals.{ofExpression, ofCondition, ofArguments}
 use Rattle.parsing.specs.Parser.{Reason, wanted, isExpression, isCondition, takesCondition, fits, inside}
 use Rattle.parser.specs.Encoded.{sortOf, goalOf, reasonOf, stacked, valueSort}
 use Rattle.parser.specs.Moves.{pushed}
@@ -87,7 +88,7 @@ module _ (c : ℕ) where
 
   pub reason-goal : c < 1000 → reasonOf c ≡ wanted (goalOf c)
   unfolding reasonOf
-  reason-goal h = rw (ne-eqb c 1000 (λ e. omega arith), ne-eqb c 1001 (λ e. omega arith))
+  reason-goal h = rw (ne-eqb c 1000 (λ e. omega arith), ne-eqb c 1001 (λ e. omega arith), ne-eqb c 1002 (λ e. omega arith))
 
 -- ---- on the stacks
 

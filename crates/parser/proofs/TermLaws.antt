@@ -23,7 +23,8 @@ use Rattle.packed.proofs.Children.{nodeOfTag, termOf}
 use Rattle.packed.proofs.TreeLaws.{expression-cong, condition-cong, arguments-cong, tree, treeᶜ, treeᵃ, tree-law, tree-lawᶜ, tree-lawᵃ}
 use Rattle.written.specs.Terms.{wordOf}
 use Rattle.written.proofs.Words.{Fitting, term-in-word}
-use Rattle.parsing.specs.Goals.{Value, number, ofExpression, ofCondition, ofArguments, numberIn, expressionIn, conditionIn, argumentsIn, operandCounts, terms, valueAt, made}
+use Rattle.parsing.specs.Goals.{Value, number, ofExpression, ofCondition, ofArguments, numberIn, expressionIn, conditionIn, argumentsIn, operandCounts}
+use Rattle.parsing.specs.Goals.{terms, valueAt, made}
 use Rattle.parser.specs.Encoded.{termValue, valueOf, valuesOf}
 use Rattle.parser.specs.Moves.{IsTerm, IsBelow, IsOf, operandKinds, Operands}
 use Rattle.parser.specs.Stacks.{Entries, operandAt}

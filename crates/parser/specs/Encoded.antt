@@ -6,7 +6,8 @@ use lib.Dec.{eqb, ltb}
 use lib.ListN.{getD}
 use Rattle.packed.specs.Steps.{tagIn, treeIn, listIn}
 use Rattle.packed.specs.Steps as array
-use Rattle.parsing.specs.Goals.{Sort, either, expression, condition, Goal, expect, operand, more, make, binder, fields, procedure, further, count, Value, number, ofExpression, ofCondition, ofArguments}
+use Rattle.parsing.specs.Goals.{Sort, either, expression, condition, Goal, expect, operand, more, make, binder, fields, procedure, further, count, Value}
+use Rattle.parsing.specs.Goals.{number, ofExpression, ofCondition, ofArguments}
 use Rattle.parsing.specs.Parser.{Reason, wanted}
 
 -- ---- goals
@@ -30,10 +31,10 @@ goalOf c =
     (cond (ltb c 256) count
     (cond (ltb c 640) (fields ((c - 256) / 32) ((c - 256) % 32)) (further (c - 640)))))))))
 
--- why reading stops: what was to be read is not there, by its goal's number; or one of two numbers past those of the goals
+-- why reading stops: what was to be read is not there, by its goal's number; or one of three numbers past those of the goals
 unfoldable pub reasonOf : ℕ → Reason
 unfolding goalOf
-reasonOf n = cond (eqb n 1000) Reason.terms (cond (eqb n 1001) Reason.nesting (wanted (goalOf n)))
+reasonOf n = cond (eqb n 1000) Reason.terms (cond (eqb n 1001) Reason.nesting (cond (eqb n 1002) Reason.field (wanted (goalOf n))))
 
 -- the goals of an array of which so many are there, the top first
 unfoldable pub goalsOf : List ℕ → ℕ → List Goal

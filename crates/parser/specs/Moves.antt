@@ -6,7 +6,8 @@ use mathlib.Core.List.{List, [], _∷_, _++_}
 use lib.Dec.{eqb}
 use lib.ListN.{getD, drop}
 use Rattle.notation.specs.Tokens.{textEnd}
-use Rattle.parsing.specs.Goals.{Goal, expect, operand, more, make, binder, fields, procedure, further, count, Value, number, ofExpression, ofCondition, ofArguments, numberIn, valueAt, operandCounts, made, Form, forms, notifyAllForm}
+use Rattle.parsing.specs.Goals.{Goal, expect, operand, more, make, binder, fields, procedure, further, count, Value, number, ofExpression, ofCondition}
+use Rattle.parsing.specs.Goals.{ofArguments, numberIn, valueAt, operandCounts, made, Form, forms, notifyAllForm}
 use Rattle.parsing.specs.Parser.{ahead, Reason, wanted, Step, go, stop, fits, begun, step}
 use Rattle.parser.specs.Encoded.{sortOf, goalOf, reasonOf, stacked, unpacked, valueSort}
 use Rattle.parser.specs.declared.moves.Sight.{Sight}

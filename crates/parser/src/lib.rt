@@ -38,7 +38,8 @@ const TOO_DEEP: usize = 1001;
 // Every goal is done: the expression is the last value, and the one before it the number of parameters.
 fn ended(values: &[usize; 3108], standing: Standing) -> Parsed
     requires { ⌜ (2 ≤ standing .values) × (standing .values ≤ 3108) × (1024 ≤ getD (now values) (standing .values - 2) 0) ⌝ }
-    ensures { λ r. ⌜ r ≡ Parsed.Read (getD (now (values .entry)) (standing .values - 1) 0) (getD (now (values .entry)) (standing .values - 2) 0 - 1024) (standing .left) (standing .at) ⌝ }
+    ensures { λ r. ⌜ r ≡ Parsed.Read (getD (now (values .entry)) (standing .values - 1) 0)
+        (getD (now (values .entry)) (standing .values - 2) 0 - 1024) (standing .left) (standing .at) ⌝ }
 {
     let count = standing.values;
     let root = values[count - 1];
@@ -61,7 +62,8 @@ fn run(
     start: Standing,
 ) -> Parsed
     requires { ⌜ State (now tokens) (now goals) (now values) (now words) start ⌝ }
-    ensures { λ r. ⌜ Ran (now (tokens .entry)) (now (words .entry)) (now (words .exit)) (start .left) (readFrom (now (counts .entry)) (now (tokens .entry)) (now (goals .entry)) (now (values .entry)) (now (words .entry)) start) r ⌝ }
+    ensures { λ r. ⌜ Ran (now (tokens .entry)) (now (words .entry)) (now (words .exit)) (start .left)
+        (readFrom (now (counts .entry)) (now (tokens .entry)) (now (goals .entry)) (now (values .entry)) (now (words .entry)) start) r ⌝ }
 {
     let mut standing = start;
     loop {
@@ -110,8 +112,10 @@ pub fn procedure(
     words: &mut [usize; 1024],
     left: usize,
 ) -> Parsed
-    requires { ⌜ (length (now tokens) ≤ 16384) × (at ≤ length (now tokens)) × (number < 32) × (left ≤ 1024) × (length (now words) ≡ 1024) × Ordered (now words) ⌝ }
-    ensures { λ r. ⌜ Ran (now (tokens .entry)) (now (words .entry)) (now (words .exit)) left (parse (now (counts .entry)) (procedureGoals number) (value.number 0 ∷ []) left (drop at (now (tokens .entry)))) r ⌝ }
+    requires { ⌜ (length (now tokens) ≤ 16384) × (at ≤ length (now tokens)) × (number < 32) × (left ≤ 1024) × (length (now words) ≡ 1024)
+        × Ordered (now words) ⌝ }
+    ensures { λ r. ⌜ Ran (now (tokens .entry)) (now (words .entry)) (now (words .exit)) left
+        (parse (now (counts .entry)) (procedureGoals number) (value.number 0 ∷ []) left (drop at (now (tokens .entry)))) r ⌝ }
 {
     let mut goals = [0u16; 8408];
     let mut values = [0usize; 3108];

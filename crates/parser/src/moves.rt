@@ -176,6 +176,9 @@ fn fields(code: usize, sight: Sight) -> Move
     }
 }
 
+// The stop where there is no field behind `.`.
+const NO_FIELD: usize = 1002;
+
 // Behind an expression `.`: a field, and `:=` where no tighter binding is asked for.
 fn dot(code: usize, sight: Sight) -> Move
     requires { ⌜ (176 ≤ code) × (code < 192) × (sight .sort ≡ 1) × (sight .first ≡ 65) ⌝ }
@@ -185,13 +188,13 @@ fn dot(code: usize, sight: Sight) -> Move
     if field == 0 {
         return Move::Stop {
             before: 1,
-            reason: 65,
+            reason: NO_FIELD,
         };
     }
     if 31 < field {
         return Move::Stop {
             before: 1,
-            reason: 65,
+            reason: NO_FIELD,
         };
     }
     if code > 178 {

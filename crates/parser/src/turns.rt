@@ -109,7 +109,8 @@ pub fn take(
     standing: Standing,
 ) -> Turn
     requires { ⌜ State (now tokens) (now goals) (now values) (now words) standing × Going standing ⌝ }
-    ensures { λ r. ⌜ Turned (now (tokens .entry)) (now (counts .entry)) (now (goals .entry)) (now (values .entry)) (now (words .entry)) (now (goals .exit)) (now (values .exit)) (now (words .exit)) standing r ⌝ }
+    ensures { λ r. ⌜ Turned (now (tokens .entry)) (now (counts .entry)) (now (goals .entry)) (now (values .entry)) (now (words .entry))
+        (now (goals .exit)) (now (values .exit)) (now (words .exit)) standing r ⌝ }
 {
     let at = standing.at;
     match found(tokens, counts, &*goals, &*values, &*words, standing) {

@@ -24,7 +24,8 @@ use Rattle.written.proofs.RightPlans.{fields-ascend, right-program}
 use Rattle.notation.proofs.ShownTokens.{Starts, begins, starts, starts-append, NoProcedure, ends, token, none-fields, none-shown}
 use Rattle.parsing.specs.Goals.{expression, Goal, operand, Value, number, ofExpression}
 use Rattle.parsing.specs.Parser.{ahead, step, parsed, parseBy, parse}
-use Rattle.parsing.specs.Plan.{Reading, plan, countsFrom, countsOf, procedureGoals, Before, programBy, afterProcedure, proceduresBy, maskFrom, behindFields, withVolatiles, readPlan}
+use Rattle.parsing.specs.Plan.{Reading, plan, countsFrom, countsOf, procedureGoals, Before, programBy, afterProcedure, proceduresBy, maskFrom}
+use Rattle.parsing.specs.Plan.{behindFields, withVolatiles, readPlan}
 use Rattle.parsing.proofs.Runs.{state, Leads, _thence_, by-step, expects}
 use Rattle.parsing.proofs.Operands.{Follows, follows-token, whole}
 use Rattle.parsing.proofs.ReadBack.{reads}

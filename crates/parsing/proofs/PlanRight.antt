@@ -23,7 +23,8 @@ use Rattle.notation.specs.Lexing.{codesOf}
 use Rattle.notation.proofs.TextEnd.{Ended, codes-ended}
 use Rattle.parsing.specs.Goals.{Value, number}
 use Rattle.parsing.specs.Parser.{ahead, Parsed, parsed, stopped, parse}
-use Rattle.parsing.specs.Plan.{Fault, Reading, plan, fault, countsFrom, countsOf, procedureGoals, Before, programBy, afterProcedure, proceduresBy, maskFrom, behindFields, withVolatiles, readPlan}
+use Rattle.parsing.specs.Plan.{Fault, Reading, plan, fault, countsFrom, countsOf, procedureGoals, Before, programBy, afterProcedure, proceduresBy}
+use Rattle.parsing.specs.Plan.{maskFrom, behindFields, withVolatiles, readPlan}
 use Rattle.parsing.proofs.PlanBack.{before, behind}
 use Rattle.parsing.proofs.Wanted.{Passed, passed-none, passed-both, passed-token, passed-one, passed-two}
 use Rattle.parsing.proofs.Branches.{either-way, both}

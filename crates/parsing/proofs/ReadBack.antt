@@ -15,7 +15,9 @@ use Rattle.notation.proofs.ShownTokens.{Starts, begins, starts}
 use Rattle.parsing.specs.Goals.{Value, ofExpression, ofCondition, forms, made}
 use Rattle.parsing.specs.Parser.{ahead, operandStep, step}
 use Rattle.parsing.proofs.Operands.{Follows, follows-token, looser, Reads, within, bare, in-parentheses}
-use Rattle.parsing.proofs.ReadForms.{ReadsArguments, ReadsFurther, null-reads, truth-reads, variable-reads, read-reads, write-reads, and-reads, equal-reads, prefix-reads, not-reads, synch-reads, while-reads, if-reads, let-reads, new-reads, no-arguments, no-further, arguments-read, further-read, call-reads}
+use Rattle.parsing.proofs.ReadForms.{ReadsArguments, ReadsFurther, null-reads, truth-reads, variable-reads, read-reads, write-reads, and-reads}
+use Rattle.parsing.proofs.ReadForms.{equal-reads, prefix-reads, not-reads, synch-reads, while-reads, if-reads, let-reads, new-reads, no-arguments}
+use Rattle.parsing.proofs.ReadForms.{no-further, arguments-read, further-read, call-reads}
 
 -- what binds most tightly needs no parentheses
 tightly : {counts : List ℕ} {d : ℕ} {ts : List ℕ} {v : Value} {k : ℕ} → d ≤ tight → Reads counts bare tight ts v k → Reads counts within d ts v k

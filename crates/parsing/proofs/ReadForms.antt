@@ -16,11 +16,14 @@ use Rattle.written.specs.Terms.{maskOf, slotOf}
 use Rattle.notation.specs.Shown.{binderToken, loose, testing, prefix, tight}
 use Rattle.written.proofs.RightTerms.{slot-again}
 use Rattle.written.proofs.Right.{Ascending, RightFields, RightSlot, RightField, RightCall}
-use Rattle.notation.specs.Tokens.{inWord, thenWord, elseWord, doWord, andWord, trueWord, notWord, nullWord, newWord, letWord, ifWord, whileWord, callWord, synchWord, opening, closing, comma, dot, equals, becomes}
-use Rattle.parsing.specs.Goals.{Sort, expression, condition, Goal, operand, more, make, binder, fields, further, Value, number, ofExpression, ofCondition, ofArguments, numberIn, made, Form, form, forms, notifyAllForm, argumentGoals}
+use Rattle.notation.specs.Tokens.{inWord, thenWord, elseWord, doWord, andWord, trueWord, notWord, nullWord, newWord, letWord, ifWord, whileWord, callWord}
+use Rattle.notation.specs.Tokens.{synchWord, opening, closing, comma, dot, equals, becomes}
+use Rattle.parsing.specs.Goals.{Sort, expression, condition, Goal, operand, more, make, binder, fields, further, Value, number, ofExpression}
+use Rattle.parsing.specs.Goals.{ofCondition, ofArguments, numberIn, made, Form, form, forms, notifyAllForm, argumentGoals}
 use Rattle.parsing.specs.Parser.{go, takesCondition, begun, operandStep, moreStep, fieldsStep, furtherStep, step, mostGoals, mostValues}
 use Rattle.parsing.proofs.Runs.{state, Leads, _thence_, stays, Room, by-step, makes, expects}
-use Rattle.parsing.proofs.Operands.{Follows, looser, follows-token, follows-dot, follows-and, Reads, within, bare, suits-expression, suits-another, takes-condition, Fits, whole, wholeᶜ}
+use Rattle.parsing.proofs.Operands.{Follows, looser, follows-token, follows-dot, follows-and, Reads, within, bare, suits-expression, suits-another}
+use Rattle.parsing.proofs.Operands.{takes-condition, Fits, whole, wholeᶜ}
 
 -- the form of a word, from `true` on
 abbrev formAt : ℕ → Form

@@ -27,7 +27,9 @@ readText text = readPlan (codesOf text)
 
 -- plan P
 planP : Program
-planP = mainAlone (Expression.letIn (some 0) (Expression.new (1 ∷ [])) (sequence (Expression.fork (Expression.write (variable 0) 1 null)) (Expression.read (variable 0) 1)))
+planP =
+    mainAlone (Expression.letIn (some 0) (Expression.new (1 ∷ []))
+    (sequence (Expression.fork (Expression.write (variable 0) 1 null)) (Expression.read (variable 0) 1)))
 
 reads-P : readText (ascii "let 0 = new(1) in let - = fork (v0.1 := null) in v0.1") ≡ plan planP
 unfolding readText planP mainAlone null variable sequence ascii
@@ -63,13 +65,19 @@ everyForm =
             parameters = 0;
             body = Expression.while (Condition.and (Condition.and Condition.truth (Condition.equal (Expression.fork null) (sequence null null)))
                 (Condition.not (Condition.equal null (Expression.read (Expression.new (2 ∷ 31 ∷ [])) 2))))
-                (Expression.call 1 (Arguments.argument (Expression.signal Signal.wait null) (Arguments.argument (Expression.call 0 Arguments.end) Arguments.end)));
+                (Expression.call 1
+                (Arguments.argument (Expression.signal Signal.wait null) (Arguments.argument (Expression.call 0 Arguments.end) Arguments.end)));
           }
-          ∷ record { parameters = 2; body = Expression.write (Expression.read (variable 0) 1) 2 (Expression.signal Signal.notifyAll (Expression.signal Signal.notify (variable 1))) }
+          ∷ record {
+            parameters = 2;
+            body = Expression.write (Expression.read (variable 0) 1) 2 (Expression.signal Signal.notifyAll (Expression.signal Signal.notify (variable 1)));
+          }
           ∷ [];
     }
 
-shows-every : textOfProgram everyForm ≡ ascii "version 0\nvolatile 2 31\nwhile (true and fork null = (let - = null in\n    null)) and not null = new(2 31).2 do\ncall 1 (wait null, call 0 ())\nprocedure 1 (2) = v0.1.2 := notify all notify v1\n"
+shows-every : textOfProgram everyForm
+    ≡ ascii "version 0\nvolatile 2 31\nwhile (true and fork null = (let - = null in\n    null)) and not null = new(2 31).2 do\n"
+    ++ ascii "call 1 (wait null, call 0 ())\nprocedure 1 (2) = v0.1.2 := notify all notify v1\n"
 unfolding textOfProgram everyForm null variable sequence ascii
 shows-every = refl
 

@@ -8,10 +8,14 @@ use lib.Dec.{eqb, ltb, leb}
 use lib.ListN.{length, length-append, length-drop, getD, drop}
 use borrow.Author.Tests.{ltb-true, leb-true, eqb-true}
 use Rattle.packed.proofs.Decoded.{Cases, done, _gives_then_, pick}
-use Rattle.notation.specs.Tokens.{allWord, andWord, trueWord, notWord, nullWord, newWord, letWord, ifWord, whileWord, callWord, forkWord, joinWord, synchWord, waitWord, notifyWord, opening, closing, comma, dot, equals, becomes, dash, textEnd}
-use Rattle.parsing.specs.Goals.{Sort, Goal, expect, operand, more, make, binder, fields, procedure, further, Value, number, valueAt, Form, forms, notifyAllForm, argumentGoals}
+use Rattle.notation.specs.Tokens.{allWord, andWord, trueWord, notWord, nullWord, newWord, letWord, ifWord, whileWord, callWord, forkWord, joinWord}
+use Rattle.notation.specs.Tokens.{synchWord, waitWord, notifyWord, opening, closing, comma, dot, equals, becomes, dash, textEnd}
+use Rattle.parsing.specs.Goals.{Sort, Goal, expect, operand, more, make, binder, fields, procedure, further, Value, number, valueAt, Form, forms}
+use Rattle.parsing.specs.Goals.{notifyAllForm, argumentGoals}
 use Rattle.parsing.specs.Goals as goals
-use Rattle.parsing.specs.Parser.{ahead, nesting, Step, go, stop, isExpression, isCondition, takesCondition, fits, begun, wordForm, operandStep, isField, dotStep, moreStep, fieldsStep, furtherStep, step, mostGoals, mostValues, Parsed, stopped, afterStep, parseBy}
+use Rattle.parsing.specs.Parser.{ahead, nesting, Step, go, stop, isExpression, isCondition, takesCondition, fits, begun, wordForm, operandStep}
+use Rattle.parsing.specs.Parser.{isField, dotStep, moreStep, fieldsStep, furtherStep, step, mostGoals, mostValues, Parsed, stopped, afterStep}
+use Rattle.parsing.specs.Parser.{parseBy}
 use Rattle.parsing.proofs.Branches.{either-way, both}
 
 -- ---- a step for a goal

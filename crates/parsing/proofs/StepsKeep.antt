@@ -17,10 +17,13 @@ use Rattle.written.proofs.Right.{Ascending, Right, Rightᵃ}
 use Rattle.written.proofs.OrderedFields.{right-in-order}
 use Rattle.written.proofs.RightPlans.{right-slot}
 use Rattle.notation.specs.Shown.{loose}
-use Rattle.notation.specs.Tokens.{allWord, andWord, trueWord, notWord, nullWord, newWord, letWord, ifWord, whileWord, callWord, forkWord, joinWord, synchWord, waitWord, notifyWord, opening, closing, comma, dot, equals, becomes, dash}
-use Rattle.parsing.specs.Goals.{Sort, either, expression, condition, Goal, expect, operand, more, make, binder, fields, procedure, further, Value, number, ofExpression, ofCondition, ofArguments, numberIn, made, Form, forms, notifyAllForm, argumentGoals}
+use Rattle.notation.specs.Tokens.{allWord, andWord, trueWord, notWord, nullWord, newWord, letWord, ifWord, whileWord, callWord, forkWord, joinWord}
+use Rattle.notation.specs.Tokens.{synchWord, waitWord, notifyWord, opening, closing, comma, dot, equals, becomes, dash}
+use Rattle.parsing.specs.Goals.{Sort, either, expression, condition, Goal, expect, operand, more, make, binder, fields, procedure, further, Value}
+use Rattle.parsing.specs.Goals.{number, ofExpression, ofCondition, ofArguments, numberIn, made, Form, forms, notifyAllForm, argumentGoals}
 use Rattle.parsing.specs.Goals as goals
-use Rattle.parsing.specs.Parser.{ahead, Step, go, stop, isCondition, takesCondition, fits, inside, begun, wordForm, operandStep, isField, dotStep, moreStep, fieldsStep, furtherStep, step}
+use Rattle.parsing.specs.Parser.{ahead, Step, go, stop, isCondition, takesCondition, fits, inside, begun, wordForm, operandStep, isField, dotStep}
+use Rattle.parsing.specs.Parser.{moreStep, fieldsStep, furtherStep, step}
 use Rattle.parsing.proofs.Branches.{either-way, both}
 use Rattle.parsing.proofs.Wanted.{weights, RightOperand, Ready, Wanted, Wants, Passed, passed-none, passed-one, passed-two, passed-three}
 

@@ -10,7 +10,8 @@ use Rattle.written.specs.Terms.{termsOf, termsOfᶜ, termsOfᵃ, size, maskOf}
 use Rattle.written.proofs.Right.{Ascending, RightCall, Right, Rightᶜ, Rightᵃ}
 use Rattle.notation.specs.Tokens.{procedureWord}
 use Rattle.notation.proofs.TextEnd.{Ended}
-use Rattle.parsing.specs.Goals.{Sort, either, expression, condition, Goal, expect, operand, more, make, binder, fields, procedure, further, Value, number, ofExpression, ofCondition, ofArguments, made}
+use Rattle.parsing.specs.Goals.{Sort, either, expression, condition, Goal, expect, operand, more, make, binder, fields, procedure, further, Value}
+use Rattle.parsing.specs.Goals.{number, ofExpression, ofCondition, ofArguments, made}
 use Rattle.parsing.specs.Goals as goals
 use Rattle.parsing.specs.Parser.{ahead}
 use Rattle.parsing.specs.Plan.{countsFrom}

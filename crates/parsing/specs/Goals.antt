@@ -118,7 +118,8 @@ forms =
     ∷ form tight false (make 0 ∷ [])  -- null
     ∷ form tight false (expect opening ∷ fields 8 0 ∷ make 2 ∷ [])  -- new(f f)
     ∷ form loose false (binder ∷ expect equals ∷ operand loose expression ∷ expect inWord ∷ operand loose expression ∷ make 5 ∷ [])  -- let x = e in e
-    ∷ form loose false (operand loose condition ∷ expect thenWord ∷ operand loose expression ∷ expect elseWord ∷ operand loose expression ∷ make 6 ∷ [])  -- if c then e else e
+    ∷ form loose false
+    (operand loose condition ∷ expect thenWord ∷ operand loose expression ∷ expect elseWord ∷ operand loose expression ∷ make 6 ∷ [])  -- if c then e else e
     ∷ form loose false (operand loose condition ∷ expect doWord ∷ operand loose expression ∷ make 7 ∷ [])  -- while c do e
     ∷ form tight false (procedure ∷ make 8 ∷ [])  -- call m (e, e)
     ∷ form prefix false (operand prefix expression ∷ make 9 ∷ [])  -- fork e

@@ -6,16 +6,18 @@ use lib.Dec.{eqb, ltb, leb}
 use lib.ListN.{length, getD, drop}
 use Rattle.notation.specs.Tokens.{allWord, andWord, trueWord, newWord, notifyWord, opening, closing, comma, dot, equals, becomes, dash, textEnd}
 use Rattle.notation.specs.Shown.{loose, testing, prefix}
-use Rattle.parsing.specs.Goals.{Sort, either, expression, condition, Goal, expect, operand, more, make, binder, fields, procedure, further, count, Value, number, ofExpression, ofCondition, ofArguments, numberIn, valueAt, made, Form, forms, notifyAllForm, argumentGoals}
+use Rattle.parsing.specs.Goals.{Sort, either, expression, condition, Goal, expect, operand, more, make, binder, fields, procedure, further, count}
+use Rattle.parsing.specs.Goals.{Value, number, ofExpression, ofCondition, ofArguments, numberIn, valueAt, made, Form, forms, notifyAllForm}
+use Rattle.parsing.specs.Goals.{argumentGoals}
 
 -- the token that is so far ahead
 abbrev pub ahead : List ℕ → ℕ → ℕ
 ahead ts i = getD ts i textEnd
 
--- why reading stops: what was to be read is not there; a plan has no more terms; goals are within goals too deep
+-- why reading stops: what was to be read is not there; behind `.` there is no field; a plan has no more terms; goals are within goals too deep
 pub data Reason : Type 0 where
   wanted : Goal → Reason
-  terms nesting : Reason
+  field terms nesting : Reason
 
 -- what comes of a goal: goals in its place, the values, how many terms are left to be made, the tokens that are left; or that reading stops before these
 pub data Step : Type 0 where
@@ -87,11 +89,13 @@ unfoldable pub dotStep : ℕ → Sort → List Value → ℕ → List ℕ → St
 unfolding isField
 dotStep d s vs n ts =
     let f = ahead ts 1 in
-    cond (not (isField f)) (stop (wanted (expect dot)) (drop 1 ts))
+    cond (not (isField f)) (stop Reason.field (drop 1 ts))
     (cond (eqb d loose && eqb (ahead ts 2) becomes)
     (go (operand loose expression ∷ make 4 ∷ more d s ∷ []) (number f ∷ vs) n (drop 3 ts))
     (go (make 3 ∷ more d s ∷ []) (number f ∷ vs) n (drop 2 ts)))
 
+-- what may follow a value: behind an expression `.`, or `=` where a condition can stand and no tighter binding than a test's is asked for; behind a
+-- condition `and`, where no tighter binding is asked for; else nothing, where the value is of the sort that is asked for
 unfoldable pub moreStep : ℕ → Sort → List Value → ℕ → List ℕ → Step
 unfolding dotStep isExpression isCondition takesCondition fits
 moreStep d s vs n ts =

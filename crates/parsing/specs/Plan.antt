@@ -74,7 +74,8 @@ unfoldable pub proceduresBy : List ℕ → ℕ → ℕ → Before → ℕ → Li
 unfolding afterProcedure parse procedureGoals
 proceduresBy counts zero p b n ts = fault Fault.end ts
 proceduresBy counts (suc most) p b n ts =
-    afterProcedure (λ (b′ : Before) (n′ : ℕ) (ts′ : List ℕ). proceduresBy counts most (suc p) b′ n′ ts′) b ts (parse counts (procedureGoals p) (number 0 ∷ []) n ts)
+    let r = parse counts (procedureGoals p) (number 0 ∷ []) n ts in
+    afterProcedure (λ (b′ : Before) (n′ : ℕ) (ts′ : List ℕ). proceduresBy counts most (suc p) b′ n′ ts′) b ts r
 
 -- ---- the plan
 

@@ -37,7 +37,8 @@ unfolding countAt
 count-more ts i h =
     ap countsFrom (drop-cons ts i textEnd h)
     ∙ one-more (ahead ts i) (drop (suc i) ts)
-    ∙ ap (λ (x : ℕ). cond (eqb (ahead ts i) procedureWord) (x ∷ []) [] ++ countsFrom (drop (suc i) ts)) (getD-drop (suc i) ts 2 textEnd ∙ ap (ahead ts) (three i))
+    ∙ ap (λ (x : ℕ). cond (eqb (ahead ts i) procedureWord) (x ∷ []) [] ++ countsFrom (drop (suc i) ts))
+    (getD-drop (suc i) ts 2 textEnd ∙ ap (ahead ts) (three i))
   where
     three : (i : ℕ) → suc i + 2 ≡ i + 3
     three i = omega arith

@@ -17,7 +17,8 @@ use Rattle.plan_reader.specs.Reading.{none, Fielded, Marked, Headed}
 use Rattle.plan_reader.proofs.VolatileFields.{beyond}
 
 -- fields that are not named, and fields that are
-unnamed : (counts : List ℕ) (v : ℕ) (ts : List ℕ) → (ahead ts 0 ≡ volatileWord → ⊥) → withVolatiles counts v ts ≡ proceduresBy counts 32 0 (none v (2 ^ 31)) 1024 ts
+unnamed : (counts : List ℕ) (v : ℕ) (ts : List ℕ) → (ahead ts 0 ≡ volatileWord → ⊥)
+    → withVolatiles counts v ts ≡ proceduresBy counts 32 0 (none v (2 ^ 31)) 1024 ts
 unfolding withVolatiles
 unnamed counts v ts n = rw (ne-eqb (ahead ts 0) volatileWord n)
 
@@ -42,7 +43,8 @@ module _ (ts : List ℕ) where
       go (yes l) = l
       go (no n) = absurd (omega (arith, e, beyond ts i (omega (arith, n)), h))
 
-  pub marked-none : (v from : ℕ) → (ahead ts from ≡ volatileWord → ⊥) → from ≤ length ts → Marked ts v from (record { version = v; mask = 2147483648; at = from })
+  pub marked-none : (v from : ℕ) → (ahead ts from ≡ volatileWord → ⊥) → from ≤ length ts
+      → Marked ts v from (record { version = v; mask = 2147483648; at = from })
   marked-none v from n h = record { version-is = refl; behind = λ counts. go counts; inside = h }
     where
       go : (counts : List ℕ) → withVolatiles counts v (drop from ts) ≡ proceduresBy counts 32 0 (none v 2147483648) 1024 (drop from ts)
@@ -65,7 +67,9 @@ module _ (ts : List ℕ) where
   unfolding readPlan
   headed-without h n m =
       record {
-        known = λ l. rw (ne-eqb (ahead ts 0) versionWord n) (m .behind (countsOf ts) ∙ ap (λ (v : ℕ). proceduresBy (countsOf ts) 32 0 (none v (h .mask)) 1024 (drop (h .at) ts)) (sym (m .version-is)));
+        known =
+            λ l. rw (ne-eqb (ahead ts 0) versionWord n)
+            (m .behind (countsOf ts) ∙ ap (λ (v : ℕ). proceduresBy (countsOf ts) 32 0 (none v (h .mask)) 1024 (drop (h .at) ts)) (sym (m .version-is)));
         unknown = λ l. absurd (omega (arith, l, m .version-is));
         inside = m .inside;
       }

@@ -41,7 +41,8 @@ module _ (words words′ : List ℕ) (o : Ordered words) (left : ℕ) (stay : (i
 
 -- ---- procedures
 
-pub held-more : (words roots counts : List ℕ) (p n : ℕ) → heldFrom words roots counts p (suc n) ≡ heldFrom words roots counts p n ++ (heldProcedure words roots counts (p + n) ∷ [])
+pub held-more : (words roots counts : List ℕ) (p n : ℕ)
+    → heldFrom words roots counts p (suc n) ≡ heldFrom words roots counts p n ++ (heldProcedure words roots counts (p + n) ∷ [])
 unfolding heldFrom
 held-more words roots counts p zero = ap (λ (q : ℕ). heldProcedure words roots counts q ∷ []) (same p)
   where

@@ -44,11 +44,13 @@ pub record OneMore (words words′ : List ℕ) (left : ℕ) (vs : List Value) (n
 
 unrolled : (counts : List ℕ) (most p : ℕ) (b : Before) (n : ℕ) (ts : List ℕ) → 0 < most
     → proceduresBy counts most p b n ts
-    ≡ afterProcedure (λ (b′ : Before) (n′ : ℕ) (ts′ : List ℕ). proceduresBy counts (most - 1) (suc p) b′ n′ ts′) b ts (parse counts (procedureGoals p) (number 0 ∷ []) n ts)
+    ≡ afterProcedure (λ (b′ : Before) (n′ : ℕ) (ts′ : List ℕ). proceduresBy counts (most - 1) (suc p) b′ n′ ts′) b ts
+    (parse counts (procedureGoals p) (number 0 ∷ []) n ts)
 unfolding proceduresBy
 unrolled counts zero p b n ts h = absurd (omega arith)
 unrolled counts (suc most) p b n ts h =
-    ap (λ (k : ℕ). afterProcedure (λ (b′ : Before) (n′ : ℕ) (ts′ : List ℕ). proceduresBy counts k (suc p) b′ n′ ts′) b ts (parse counts (procedureGoals p) (number 0 ∷ []) n ts)) (one most)
+    ap (λ (k : ℕ). afterProcedure (λ (b′ : Before) (n′ : ℕ) (ts′ : List ℕ). proceduresBy counts k (suc p) b′ n′ ts′) b ts
+    (parse counts (procedureGoals p) (number 0 ∷ []) n ts)) (one most)
   where
     one : (k : ℕ) → k ≡ suc k - 1
     one k = omega arith
@@ -69,11 +71,13 @@ module _ (next : Before → ℕ → List ℕ → Reading) (b : Before) (ts : Lis
     unfolding afterProcedure
     after-open e = rw e
 
-    after-last : closed (λ x. ltb x k) body ≡ true → ahead rest 0 ≡ textEnd → afterProcedure next b ts (parsed vs n rest) ≡ plan (programBy (withProcedure b k vs))
+    after-last : closed (λ x. ltb x k) body ≡ true → ahead rest 0 ≡ textEnd
+        → afterProcedure next b ts (parsed vs n rest) ≡ plan (programBy (withProcedure b k vs))
     unfolding afterProcedure
     after-last e f = rw (e, f)
 
-    after-more : closed (λ x. ltb x k) body ≡ true → (ahead rest 0 ≡ textEnd → ⊥) → afterProcedure next b ts (parsed vs n rest) ≡ next (withProcedure b k vs) n rest
+    after-more : closed (λ x. ltb x k) body ≡ true → (ahead rest 0 ≡ textEnd → ⊥)
+        → afterProcedure next b ts (parsed vs n rest) ≡ next (withProcedure b k vs) n rest
     unfolding afterProcedure
     after-more e f = rw (e, ne-eqb (ahead rest 0) textEnd f)
 
@@ -83,7 +87,8 @@ body-size : (counts : List ℕ) (n m k : ℕ) (vs : List Value) (ts rest : List 
 unfolding expressionIn
 body-size counts n m k vs ts rest r = ap (λ (us : List Value). size (termsOf (expressionIn (valueAt us 0))) + m) (r .values) ∙ r .sized
 
-read-size : (counts : List ℕ) (p n m : ℕ) (vs : List Value) (ts rest : List ℕ) → p < 32 → parse counts (procedureGoals p) (number 0 ∷ []) n ts ≡ parsed vs m rest
+read-size : (counts : List ℕ) (p n m : ℕ) (vs : List Value) (ts rest : List ℕ) → p < 32
+    → parse counts (procedureGoals p) (number 0 ∷ []) n ts ≡ parsed vs m rest
     → size (termsOf (expressionIn (valueAt vs 0))) + m ≡ n
 read-size counts zero n m vs ts rest h e = let r = main-read counts n m vs rest ts e in body-size counts n m 0 vs ts rest r
 read-size counts (suc p) n m vs ts rest h e =
@@ -103,7 +108,9 @@ module _ {ts : List ℕ} {v m : ℕ} {words roots counts : List ℕ} {p at left 
 
   -- reading stops
   pub stops : (r : Reason) (rest : List ℕ) → result ≡ stopped r rest → readPlan ts ≡ fault (Fault.reading r) rest
-  stops r rest e = after ∙ ap (afterProcedure further (before v m words roots counts p) (drop at ts)) e ∙ after-stop further (before v m words roots counts p) (drop at ts) r rest
+  stops r rest e =
+      after ∙ ap (afterProcedure further (before v m words roots counts p) (drop at ts)) e
+      ∙ after-stop further (before v m words roots counts p) (drop at ts) r rest
 
   module _ (vs : List Value) (n : ℕ) (rest : List ℕ) (e : result ≡ parsed vs n rest) where
     read : readPlan ts ≡ afterProcedure further (before v m words roots counts p) (drop at ts) (parsed vs n rest)
@@ -127,7 +134,8 @@ module _ {ts : List ℕ} {v m : ℕ} {words roots counts : List ℕ} {p at left 
       earlier =
           held-stay words words′ roots roots′ counts counts′ 0 p
           (λ q a b. (
-            ap (treeIn words′) (getD-set-other roots p q root 0 (λ z. absurd (omega (arith, z)))) ∙ tree-stays words words′ (g .ordered) left (o .stay) (getD roots q 0) (g .there q (omega arith) .0),
+            ap (treeIn words′) (getD-set-other roots p q root 0 (λ z. absurd (omega (arith, z))))
+                ∙ tree-stays words words′ (g .ordered) left (o .stay) (getD roots q 0) (g .there q (omega arith) .0),
             getD-set-other counts p q k 0 (λ z. absurd (omega (arith, z))),
           ))
 
@@ -202,16 +210,29 @@ module _ {ts : List ℕ} {v m : ℕ} {words roots counts : List ℕ} {p at left 
           fewer p = omega arith
 
 -- at the start none has been read
-pub starts : (ts : List ℕ) (v m : ℕ) (words roots counts : List ℕ) (at : ℕ) → readPlan ts ≡ proceduresBy (countsOf ts) 32 0 (record { version = v; mask = m; procedures = [] }) 1024 (drop at ts)
+pub starts : (ts : List ℕ) (v m : ℕ) (words roots counts : List ℕ) (at : ℕ)
+    → readPlan ts ≡ proceduresBy (countsOf ts) 32 0 (record { version = v; mask = m; procedures = [] }) 1024 (drop at ts)
     → Ordered words → length words ≡ 1024 → length roots ≡ 32 → length counts ≡ 32 → at ≤ length ts → Going ts v m words roots counts 0 at 1024
 unfolding heldFrom sizeOfAll
 starts ts v m words roots counts at e o a b c i =
-    record { same = e; ordered = o; words-long = a; roots-long = b; counts-long = c; there = λ q h. absurd (omega arith); sized = refl; inside = i; few = omega arith }
+    record {
+      same = e;
+      ordered = o;
+      words-long = a;
+      roots-long = b;
+      counts-long = c;
+      there = λ q h. absurd (omega arith);
+      sized = refl;
+      inside = i;
+      few = omega arith;
+    }
 
 -- there are too many
-pub too-many : {ts : List ℕ} {v m : ℕ} {words roots counts : List ℕ} {p at left : ℕ} → Going ts v m words roots counts p at left → 32 ≤ p → readPlan ts ≡ fault Fault.end (drop at ts)
+pub too-many : {ts : List ℕ} {v m : ℕ} {words roots counts : List ℕ} {p at left : ℕ} → Going ts v m words roots counts p at left → 32 ≤ p
+    → readPlan ts ≡ fault Fault.end (drop at ts)
 unfolding proceduresBy
-too-many {ts} {v} {m} {words} {roots} {counts} {p} {at} {left} g h = g .same ∙ ap (λ (k : ℕ). proceduresBy (countsOf ts) k p (before v m words roots counts p) left (drop at ts)) (none p h)
+too-many {ts} {v} {m} {words} {roots} {counts} {p} {at} {left} g h =
+    g .same ∙ ap (λ (k : ℕ). proceduresBy (countsOf ts) k p (before v m words roots counts p) left (drop at ts)) (none p h)
   where
     none : (p : ℕ) → 32 ≤ p → 32 - p ≡ 0
     none p h = omega arith

@@ -30,15 +30,19 @@ resultOf counts ts p at left = parse counts (procedureGoals p) (number 0 ∷ [])
 
 -- reading has stopped
 pub stop-faulty : {ts counts : List ℕ} {v m : ℕ} {words roots params words′ : List ℕ} {p at left reason stop : ℕ} {r : Parsed}
-    → Going ts v m words roots params p at left → p < 32 → counts ≡ countsOf ts → parser.Ran ts words words′ left (resultOf counts ts p at left) r → r ≡ Stopped reason stop
+    → Going ts v m words roots params p at left → p < 32 → counts ≡ countsOf ts → parser.Ran ts words words′ left (resultOf counts ts p at left) r
+    → r ≡ Stopped reason stop
     → Faulty ts 0 reason stop
 unfolding faultOf
-stop-faulty {ts} {counts} {words′ = words′} {p} {at} {left} {reason} {stop} {r} g h e q f = go (resultOf counts ts p at left) refl (subst (parser.Reads ts words′ left (resultOf counts ts p at left)) f (q .reads))
+stop-faulty {ts} {counts} {words′ = words′} {p} {at} {left} {reason} {stop} {r} g h e q f =
+    go (resultOf counts ts p at left) refl (subst (parser.Reads ts words′ left (resultOf counts ts p at left)) f (q .reads))
   where
-    go : (R : definition.Parsed) → resultOf counts ts p at left ≡ R → parser.Reads ts words′ left R (Stopped reason stop) → readPlan ts ≡ fault (Fault.reading (reasonOf reason)) (drop stop ts)
+    go : (R : definition.Parsed) → resultOf counts ts p at left ≡ R → parser.Reads ts words′ left R (Stopped reason stop)
+        → readPlan ts ≡ fault (Fault.reading (reasonOf reason)) (drop stop ts)
     go (definition.parsed vs n rest) z x = absurd x
     go (definition.stopped s rest) z x =
-        stops g h s rest (ap (λ (cs : List ℕ). resultOf cs ts p at left) (sym e) ∙ z) ∙ ap (λ (y : definition.Reason). fault (Fault.reading y) rest) (x .0) ∙ ap (fault (Fault.reading (reasonOf reason))) (sym (x .1))
+        stops g h s rest (ap (λ (cs : List ℕ). resultOf cs ts p at left) (sym e) ∙ z) ∙ ap (λ (y : definition.Reason). fault (Fault.reading y) rest) (x .0)
+        ∙ ap (fault (Fault.reading (reasonOf reason))) (sym (x .1))
 
 -- a procedure has been read
 pub record Got (ts words′ : List ℕ) (left : ℕ) (R : definition.Parsed) (root k left′ at′ : ℕ) : Type 0 where
@@ -48,7 +52,8 @@ pub record Got (ts words′ : List ℕ) (left : ℕ) (R : definition.Parsed) (ro
   pub parsed-is : R ≡ definition.parsed values terms rest
   pub finished : Finished ts words′ left values terms rest root k left′ at′
 
-pub read-finished : {ts words words′ : List ℕ} {left root k left′ at′ : ℕ} {R : definition.Parsed} {r : Parsed} → parser.Ran ts words words′ left R r → r ≡ Read root k left′ at′
+pub read-finished : {ts words words′ : List ℕ} {left root k left′ at′ : ℕ} {R : definition.Parsed} {r : Parsed} → parser.Ran ts words words′ left R r
+    → r ≡ Read root k left′ at′
     → Got ts words′ left R root k left′ at′
 read-finished {ts} {words} {words′} {left} {root} {k} {left′} {at′} {R} {r} q f = go R refl (subst (parser.Reads ts words′ left R) f (q .reads))
   where
@@ -79,12 +84,15 @@ module _ {ts counts : List ℕ} {v m : ℕ} {words roots params words′ : List 
 
   -- the slots, as the code sees them
   closed-is : closed (λ x. ltb x k) (treeIn words′ root) ≡ closed (λ x. ltb x (numberIn (valueAt (t .values) 1))) (expressionIn (valueAt (t .values) 0))
-  closed-is = ap (λ (j : ℕ). closed (λ x. ltb x j) (treeIn words′ root)) (t .finished .parameters-are) ∙ ap (closed (λ x. ltb x (numberIn (valueAt (t .values) 1)))) (t .finished .tree-is)
+  closed-is =
+      ap (λ (j : ℕ). closed (λ x. ltb x j) (treeIn words′ root)) (t .finished .parameters-are)
+      ∙ ap (closed (λ x. ltb x (numberIn (valueAt (t .values) 1)))) (t .finished .tree-is)
 
   next-is : ahead (t .rest) 0 ≡ ahead ts at′
   next-is = ap (λ (us : List ℕ). ahead us 0) (sym (t .finished .rest-is)) ∙ here ts at′
 
-  last-held : {roots′ params′ : List ℕ} → Kept words′ roots params roots′ params′ p root k → ahead ts at′ ≡ textEnd → PlanHeld ts v m (suc p) left′ words′ roots′ params′
+  last-held : {roots′ params′ : List ℕ} → Kept words′ roots params roots′ params′ p root k → ahead ts at′ ≡ textEnd
+      → PlanHeld ts v m (suc p) left′ words′ roots′ params′
   last-held q f =
       rw (q .roots-are, q .counts-are, t .finished .left-is)
       (record {
@@ -95,18 +103,22 @@ module _ {ts counts : List ℕ} {v m : ℕ} {words roots params words′ : List 
         few = h;
       })
 
-  more-going : {roots′ params′ : List ℕ} → Kept words′ roots params roots′ params′ p root k → (ahead ts at′ ≡ textEnd → ⊥) → Going ts v m words′ roots′ params′ (suc p) at′ left′
+  more-going : {roots′ params′ : List ℕ} → Kept words′ roots params roots′ params′ p root k → (ahead ts at′ ≡ textEnd → ⊥)
+      → Going ts v m words′ roots′ params′ (suc p) at′ left′
   more-going q f =
       rw (q .roots-are, q .counts-are, t .finished .left-is)
-      (goes-on g h (t .values) (t .terms) (t .rest) result-is one-more at′ (sym closed-is ∙ q .bound) (t .finished .rest-is) (t .finished .inside) (λ z. f (sym next-is ∙ z)))
+      (goes-on g h (t .values) (t .terms) (t .rest) result-is one-more at′ (sym closed-is ∙ q .bound) (t .finished .rest-is) (t .finished .inside)
+      (λ z. f (sym next-is ∙ z)))
 
-  kept-as : (roots′ params′ : List ℕ) (r : Next) → KeptAs ts p at words′ roots params roots′ params′ root k left′ at′ r → GoesAs ts v m words′ roots′ params′ p r
+  kept-as : (roots′ params′ : List ℕ) (r : Next) → KeptAs ts p at words′ roots params roots′ params′ root k left′ at′ r
+      → GoesAs ts v m words′ roots′ params′ p r
   unfolding faultOf
   kept-as roots′ params′ (Stop kind reason stop) q = opens g h (t .values) (t .terms) (t .rest) result-is (sym closed-is ∙ q .0) ∙ sym (rw (q .1, q .2) refl)
   kept-as roots′ params′ (Last n) q = rw (q .2) (last-held (q .0) (q .1))
   kept-as roots′ params′ (On i n) q = rw (q .2, q .3) (more-going (q .0) (q .1))
 
-  pub kept-goes : {roots′ params′ : List ℕ} {r : Next} → Keeps ts p at words′ roots params roots′ params′ root k left′ at′ r → Goes ts v m words′ roots′ params′ p r
+  pub kept-goes : {roots′ params′ : List ℕ} {r : Next} → Keeps ts p at words′ roots params roots′ params′ root k left′ at′ r
+      → Goes ts v m words′ roots′ params′ p r
   kept-goes {roots′} {params′} {r} q = record { so = kept-as roots′ params′ r (q .so) }
 
 -- ---- what a step says, by what follows it

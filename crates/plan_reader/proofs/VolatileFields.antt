@@ -85,7 +85,9 @@ module _ {ts : List ℕ} {from mask last at token : ℕ} (g : Going ts from mask
       let d = drop-cons ts at textEnd l ∙ ap (λ (x : ℕ). x ∷ drop (suc at) ts) (sym (g .token-is)) in
       let s = ap (λ (i : ℕ). drop i ts) (next at) in
       record {
-        mask-same = ap (maskFrom (mask + 2 ^ (31 - token)) token) s ∙ sym (mask-more mask last token (drop (suc at) ts) e) ∙ ap (maskFrom mask last) (sym d) ∙ g .mask-same;
+        mask-same =
+            ap (maskFrom (mask + 2 ^ (31 - token)) token) s ∙ sym (mask-more mask last token (drop (suc at) ts) e) ∙ ap (maskFrom mask last) (sym d)
+            ∙ g .mask-same;
         rest-same = ap (behindFields token) s ∙ sym (behind-more last token (drop (suc at) ts) e) ∙ ap (behindFields last) (sym d) ∙ g .rest-same;
         token-is = f;
         inside = omega (arith, l);
@@ -104,7 +106,9 @@ module _ {ts : List ℕ} {from mask last at token : ℕ} (g : Going ts from mask
   mask-is e = sym (by (decLt at (length ts))) ∙ g .mask-same
     where
       by : Dec (at < length ts) → maskFrom mask last (drop at ts) ≡ mask
-      by (yes l) = ap (maskFrom mask last) (drop-cons ts at textEnd l) ∙ mask-none mask last (ahead ts at) (drop (suc at) ts) (ap (isNext last) (sym (g .token-is)) ∙ e)
+      by (yes l) =
+          ap (maskFrom mask last) (drop-cons ts at textEnd l)
+          ∙ mask-none mask last (ahead ts at) (drop (suc at) ts) (ap (isNext last) (sym (g .token-is)) ∙ e)
       by (no n) = ap (maskFrom mask last) (drop-of-length-le ts {i = at} (omega (arith, n))) ∙ mask-end mask last
 
   pub rest-is : isNext last token ≡ false → drop at ts ≡ behindFields 0 (drop from ts)

@@ -82,7 +82,8 @@ pub record ReadAs (ts words roots counts : List ℕ) (r : Outcome) : Type 0 wher
 
 -- where reading stands: procedure p is next
 pub record Going (ts : List ℕ) (v m : ℕ) (words roots counts : List ℕ) (p at left : ℕ) : Type 0 where
-  pub same : readPlan ts ≡ proceduresBy (countsOf ts) (32 - p) p (record { version = v; mask = m; procedures = heldFrom words roots counts 0 p }) left (drop at ts)
+  pub same : readPlan ts ≡ proceduresBy (countsOf ts) (32 - p) p (record { version = v; mask = m; procedures = heldFrom words roots counts 0 p }) left
+      (drop at ts)
   pub ordered : Ordered words
   pub words-long : length words ≡ 1024
   pub roots-long : length roots ≡ 32

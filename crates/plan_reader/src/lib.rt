@@ -177,7 +177,8 @@ fn keep(
     next: usize,
 ) -> Next
     requires { ⌜ (procedure < 32) × Ordered (now words) × (root < 1024) × (count < 9) ⌝ }
-    ensures { λ r. ⌜ Keeps (now (tokens .entry)) procedure at (now (words .entry)) (now (roots .entry)) (now (parameters .entry)) (now (roots .exit)) (now (parameters .exit)) root count left next r ⌝ }
+    ensures { λ r. ⌜ Keeps (now (tokens .entry)) procedure at (now (words .entry)) (now (roots .entry)) (now (parameters .entry))
+        (now (roots .exit)) (now (parameters .exit)) root count left next r ⌝ }
 {
     if !bound_slots::closed_with(words, root, count) {
         return Next::Stop {

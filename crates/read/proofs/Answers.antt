@@ -102,7 +102,8 @@ some-token text = omega (arith, codes-length text, from-some text nothing 0)
 
 -- ---- the place of a failure
 
-pub failed-is : (text : List ℕ) (i kind reason : ℕ) {l c : ℕ} → (l ≡ placeOf text i .line) × (c ≡ placeOf text i .column) → answered (Failed l c kind reason) ≡ failedAt text i (failureOf kind reason)
+pub failed-is : (text : List ℕ) (i kind reason : ℕ) {l c : ℕ} → (l ≡ placeOf text i .line) × (c ≡ placeOf text i .column)
+    → answered (Failed l c kind reason) ≡ failedAt text i (failureOf kind reason)
 unfolding failedAt
 failed-is text i kind reason e = ap₂ (λ (l c : ℕ). texts.Read.failed l c (failureOf kind reason)) (e .0) (e .1)
 
@@ -116,13 +117,15 @@ same-place : (text : List ℕ) (i j : ℕ) → i ≡ j ⊎ ((length (tokensOf te
 unfolding placeOf placeIn
 same-place text i j (inl e) = ap (placeOf text) e
 same-place text i j (inr h) =
-    ap (λ (t : Token). placeAfter (take (t .place) text)) (beyond (tokensOf text) i (token textEnd (length text)) (h .0) ∙ sym (beyond (tokensOf text) j (token textEnd (length text)) (h .1)))
+    ap (λ (t : Token). placeAfter (take (t .place) text))
+    (beyond (tokensOf text) i (token textEnd (length text)) (h .0) ∙ sym (beyond (tokensOf text) j (token textEnd (length text)) (h .1)))
 
 place-left : (text : List ℕ) (i : ℕ) → placeOf text i ≡ placeOf text (length (codesOf text) - length (drop i (codesOf text)))
 place-left text i = same-place text i _ (go (decLe i (length (codesOf text))))
   where
     go : Dec (i ≤ length (codesOf text))
-        → i ≡ length (codesOf text) - length (drop i (codesOf text)) ⊎ ((length (tokensOf text) ≤ i) × (length (tokensOf text) ≤ length (codesOf text) - length (drop i (codesOf text))))
+        → i ≡ length (codesOf text) - length (drop i (codesOf text))
+        ⊎ ((length (tokensOf text) ≤ i) × (length (tokensOf text) ≤ length (codesOf text) - length (drop i (codesOf text))))
     go (yes h) = inl (omega (arith, length-drop i (codesOf text)))
     go (no h) = inr (omega (arith, h, codes-length text), omega (arith, h, codes-length text, length-drop i (codesOf text)))
 
@@ -133,24 +136,36 @@ unfolding failureOf knownKind faultOf
 known-fault zero reason = refl
 known-fault (suc zero) reason = refl
 known-fault (suc (suc zero)) reason = refl
-known-fault (suc (suc (suc k))) reason = rw (le-ltb (suc (suc (suc k))) 3 (omega arith), ne-eqb (suc (suc (suc k))) 0 (λ e. absurd (omega (arith, e))), ne-eqb (suc (suc (suc k))) 1 (λ e. absurd (omega (arith, e))), ne-eqb (suc (suc (suc k))) 2 (λ e. absurd (omega (arith, e)))) refl
+known-fault (suc (suc (suc k))) reason =
+    rw (
+      le-ltb (suc (suc (suc k))) 3 (omega arith),
+      ne-eqb (suc (suc (suc k))) 0 (λ e. absurd (omega (arith, e))),
+      ne-eqb (suc (suc (suc k))) 1 (λ e. absurd (omega (arith, e))),
+      ne-eqb (suc (suc (suc k))) 2 (λ e. absurd (omega (arith, e))),
+    ) refl
 
 failed-same : (text : List ℕ) (i : ℕ) (f : Failure) → failedAt text i f ≡ failedAt text (length (codesOf text) - length (drop i (codesOf text))) f
 unfolding failedAt
 failed-same text i f = ap (λ (p : Place). texts.Read.failed (p .line) (p .column) f) (place-left text i)
 
 by-fault : (text area : List ℕ) (f : Fault) (rest : List ℕ) → readPlan (codesOf text) ≡ fault f rest
-    → (failedAt text (length (codesOf text) - length rest) (ofFault f) ≡ answerBy text area (readPlan (codesOf text))) × (area ≡ areaBy area (readPlan (codesOf text)))
+    → (failedAt text (length (codesOf text) - length rest) (ofFault f) ≡ answerBy text area (readPlan (codesOf text)))
+    × (area ≡ areaBy area (readPlan (codesOf text)))
 unfolding answerBy areaBy
 by-fault text area f rest e = (sym (ap (answerBy text area) e), sym (ap (areaBy area) e))
 
-pub fault-answer : (text area : List ℕ) {ts words roots counts : List ℕ} {kind reason at k : ℕ} {r : Outcome} (a : Answer) → ts ≡ codesOf text → ReadAs ts words roots counts r
+pub fault-answer : (text area : List ℕ) {ts words roots counts : List ℕ} {kind reason at k : ℕ} {r : Outcome} (a : Answer) → ts ≡ codesOf text
+    → ReadAs ts words roots counts r
     → r ≡ Refused kind reason at → k ≡ knownKind kind → answered a ≡ failedAt text at (failureOf k reason)
     → (answered a ≡ answerBy text area (readPlan (codesOf text))) × (area ≡ areaBy area (readPlan (codesOf text)))
 fault-answer text area {ts} {words} {roots} {counts} {kind} {reason} {at} {k} {r} a e x f q z =
-    let says : readPlan (codesOf text) ≡ fault (faultOf kind reason) (drop at (codesOf text)) = subst (λ (us : List ℕ). readPlan us ≡ fault (faultOf kind reason) (drop at us)) e (subst (ReadBy ts words roots counts) f (x .so)) in
-    let b = by-fault text area (faultOf kind reason) (drop at (codesOf text)) says in
-    (z ∙ ap (failedAt text at) (ap (λ (j : ℕ). failureOf j reason) q ∙ known-fault kind reason) ∙ failed-same text at (ofFault (faultOf kind reason)) ∙ b .0, b .1)
+    let says : readPlan (codesOf text) ≡ fault (faultOf kind reason) (drop at (codesOf text)) = subst
+    (λ (us : List ℕ). readPlan us ≡ fault (faultOf kind reason) (drop at us)) e (subst (ReadBy ts words roots counts) f (x .so)) in
+    let b = by-fault text area (faultOf kind reason) (drop at (codesOf text)) says in (
+      z ∙ ap (failedAt text at) (ap (λ (j : ℕ). failureOf j reason) q ∙ known-fault kind reason) ∙ failed-same text at (ofFault (faultOf kind reason))
+          ∙ b .0,
+      b .1,
+    )
 
 -- ---- a plan
 
@@ -158,11 +173,13 @@ small-mask : (v m n : ℕ) (words roots counts : List ℕ) → heldProgram v m n
 unfolding heldProgram
 small-mask v m n words roots counts h = h
 
-pub plan-in-arrays : (text : List ℕ) {ts words roots counts : List ℕ} {v m n left : ℕ} {r : Outcome} → ts ≡ codesOf text → ReadAs ts words roots counts r → r ≡ Plan v m n left
+pub plan-in-arrays : (text : List ℕ) {ts words roots counts : List ℕ} {v m n left : ℕ} {r : Outcome} → ts ≡ codesOf text → ReadAs ts words roots counts r
+    → r ≡ Plan v m n left
     → Held v m n left words roots counts
 plan-in-arrays text {ts} {words} {roots} {counts} {v} {m} {n} {left} e x f =
     let h = subst (ReadBy ts words roots counts) f (x .so) in
-    let says : readPlan (codesOf text) ≡ plan (heldProgram v m n words roots counts) = subst (λ (us : List ℕ). readPlan us ≡ plan (heldProgram v m n words roots counts)) e (h .0 .says) in
+    let says : readPlan (codesOf text) ≡ plan (heldProgram v m n words roots counts) = subst
+    (λ (us : List ℕ). readPlan us ≡ plan (heldProgram v m n words roots counts)) e (h .0 .says) in
     record {
       ordered = h .0 .ordered;
       version-known = h .1;
@@ -182,17 +199,20 @@ by-plan text area g e area′ a (inr w) =
     let s = le-ltb (length area) (length (bytes.written g)) (w .long) in
     (ap answered (w .answer) ∙ sym (ap (answerBy text area) e ∙ rw s refl), w .bytes ∙ sym (ap (areaBy area) e ∙ rw s refl))
 
-pub plan-answer : (text area : List ℕ) {ts words roots counts area′ : List ℕ} {v m n left : ℕ} {r : Outcome} {a : Answer} → ts ≡ codesOf text → ReadAs ts words roots counts r
+pub plan-answer : (text area : List ℕ) {ts words roots counts area′ : List ℕ} {v m n left : ℕ} {r : Outcome} {a : Answer} → ts ≡ codesOf text
+    → ReadAs ts words roots counts r
     → r ≡ Plan v m n left → PlanWritten (heldProgram v m n words roots counts) area area′ a
     → (answered a ≡ answerBy text area (readPlan (codesOf text))) × (area′ ≡ areaBy area (readPlan (codesOf text)))
 plan-answer text area {ts} {words} {roots} {counts} {area′} {v} {m} {n} {left} {r} {a} e x f w =
     let h = subst (ReadBy ts words roots counts) f (x .so) in
-    by-plan text area (heldProgram v m n words roots counts) (subst (λ (us : List ℕ). readPlan us ≡ plan (heldProgram v m n words roots counts)) e (h .0 .says)) area′ a w
+    by-plan text area (heldProgram v m n words roots counts)
+    (subst (λ (us : List ℕ). readPlan us ≡ plan (heldProgram v m n words roots counts)) e (h .0 .says)) area′ a w
 
 -- ---- too many tokens, or not
 
 module _ (text area : List ℕ) {tokens after : List ℕ} {r : ℕ} (k : Kept tokens (codesOf text) after r) (n : length tokens ≡ 16384) where
-  pub many-answer : (a : Answer) → 16384 < r → answered a ≡ failedAt text 16384 (failureOf 4 0) → (answered a ≡ readAnswer text area) × (area ≡ readArea text area)
+  pub many-answer : (a : Answer) → 16384 < r → answered a ≡ failedAt text 16384 (failureOf 4 0) → (answered a ≡ readAnswer text area)
+      × (area ≡ readArea text area)
   unfolding readAnswer readArea tooMany failureOf
   many-answer a h e = let s = lt-ltb 16384 (length (codesOf text)) many in (e ∙ sym (rw s refl), sym (rw s refl))
     where
@@ -214,13 +234,15 @@ module _ (text area : List ℕ) {tokens after : List ℕ} {r : ℕ} (k : Kept to
   unfolding overwrite
   first-codes h =
       let f = k .fits (omega (arith, few h, n)) in
-      let e : take (r - 0) after ≡ codesOf text = ap₂ (λ (i : ℕ) (l : List ℕ). take i l) (whole r ∙ f .0) (f .1) ∙ take-append-seam (codesOf text) (drop (length (codesOf text)) tokens) in
+      let e : take (r - 0) after ≡ codesOf text = ap₂ (λ (i : ℕ) (l : List ℕ). take i l) (whole r ∙ f .0) (f .1)
+      ∙ take-append-seam (codesOf text) (drop (length (codesOf text)) tokens) in
       (e, omega (arith, ap length e, few h))
     where
       whole : (n : ℕ) → n - 0 ≡ n
       whole n = omega arith
 
-  pub few-answer : (a : Answer) {area′ : List ℕ} → r ≤ 16384 → answered a ≡ answerBy text area (readPlan (codesOf text)) → area′ ≡ areaBy area (readPlan (codesOf text))
+  pub few-answer : (a : Answer) {area′ : List ℕ} → r ≤ 16384 → answered a ≡ answerBy text area (readPlan (codesOf text))
+      → area′ ≡ areaBy area (readPlan (codesOf text))
       → (answered a ≡ readAnswer text area) × (area′ ≡ readArea text area)
   unfolding readAnswer readArea tooMany
   few-answer a h e f = let s = le-ltb 16384 (length (codesOf text)) (few h) in (e ∙ sym (rw s refl), f ∙ sym (rw s refl))
@@ -236,6 +258,7 @@ unfolding areaBy shortForPlan
 area-length area (fault f rest) = refl
 area-length area (plan g) = go (decLe (length (bytes.written g)) (length area))
   where
-    go : Dec (length (bytes.written g) ≤ length area) → length (cond (ltb (length area) (length (bytes.written g))) area (overwrite (bytes.written g) area)) ≡ length area
+    go : Dec (length (bytes.written g) ≤ length area)
+        → length (cond (ltb (length area) (length (bytes.written g))) area (overwrite (bytes.written g) area)) ≡ length area
     go (yes h) = rw (le-ltb (length area) (length (bytes.written g)) h) (overwrite-length (bytes.written g) area h)
     go (no h) = rw (lt-ltb (length area) (length (bytes.written g)) (omega (arith, h)))

@@ -1,4 +1,5 @@
--- Reading what is shown gives the plan in the one way that it is written; what is read passes the check; and showing and reading it again changes nothing. Assumes nothing.
+-- Reading what is shown gives the plan in the one way that it is written; what is read passes the check; showing and reading it again changes nothing.
+-- Assumes nothing.
 use Prim.Native.Nat.{ℕ, _+_, _≤_}
 use native.Mathlib.Omega.{arith}
 use mathlib.Core.Path.{_≡_, refl, sym, ap, _∙_}

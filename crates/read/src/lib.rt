@@ -64,7 +64,8 @@ fn write(
     area: &mut [u8],
 ) -> Answer
     requires { ⌜ Held version mask procedures left (now words) (now roots) (now parameters) ⌝ }
-    ensures { λ r. ⌜ PlanWritten (heldProgram version mask procedures (now (words .entry)) (now (roots .entry)) (now (parameters .entry))) (now (area .entry)) (now (area .exit)) r ⌝ }
+    ensures { λ r. ⌜ PlanWritten (heldProgram version mask procedures (now (words .entry)) (now (roots .entry)) (now (parameters .entry)))
+        (now (area .entry)) (now (area .exit)) r ⌝ }
 {
     let terms = 1024 - left;
     let length = 8 + 2 * procedures + 5 * terms;

@@ -38,7 +38,10 @@ module _ (plan : List ℕ) (n : ℕ) (area : List ℕ) where
   small-first (FirstAnswer.REFUSED e) = wider (subst SmallCheck e small)
     where
       small : SmallCheck (firstRefused plan n area)
-      small = rw (first-stages plan n area) (small-stages (refusal plan) (firstRefusal laterChecks) (small-plan plan) (small-checks laterChecks (whole 18 (omega arith), (whole 20 (omega arith), tt))))
+      small =
+          rw (first-stages plan n area)
+          (small-stages (refusal plan) (firstRefusal laterChecks) (small-plan plan)
+          (small-checks laterChecks (whole 18 (omega arith), (whole 20 (omega arith), tt))))
   small-first (FirstAnswer.WRITTEN {qs} e f) =
       let passed = both-none (refusal plan) (firstRefusal laterChecks) (sym (first-stages plan n area) ∙ e) .1 in
       few-picks n (length qs) (bounded n (checkWhole 20 (shortOutput n area) ∷ []) passed) (f .has .at-most)
@@ -56,7 +59,10 @@ module _ (plan : List ℕ) (n : ℕ) (schedule area : List ℕ) where
   small-next (NextAnswer.REFUSED e) = subst SmallCheck e small
     where
       small : SmallCheck (nextRefused plan n schedule)
-      small = rw (next-stages plan n schedule area) (small-stages (scheduleRefusal plan schedule) (firstRefusal boundCheck) (small-schedule plan schedule) (small-checks boundCheck (whole 18 (omega arith), tt)))
+      small =
+          rw (next-stages plan n schedule area)
+          (small-stages (scheduleRefusal plan schedule) (firstRefusal boundCheck) (small-schedule plan schedule)
+          (small-checks boundCheck (whole 18 (omega arith), tt)))
   small-next (NextAnswer.NOT-LISTED e u) = (omega arith, omega arith)
   small-next (NextAnswer.SHORT e l s) = (omega arith, omega arith)
   small-next (NextAnswer.FOLLOWS {qs} e l s f) = few-followed qs e (f .has)

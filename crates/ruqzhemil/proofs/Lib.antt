@@ -8,3 +8,4 @@ pub mod Interleavings
 pub mod Witnessed
 pub mod Tools
 pub mod Shown
+pub mod ReadAnswers

@@ -45,4 +45,5 @@ small-previewed plan schedule pick = go (scheduleRefusal plan (withPick schedule
     go none e =
         let g = programOf plan in
         let P = well-formed plan (scheduled plan (withPick schedule pick) e .plan-passes) in
-        small-at g (run g start schedule .final) (reachable-run g P start schedule (reachable-start g P) .invariant) (tidy-play g P schedule .roomy) pick (run g start schedule .stop)
+        small-at g (run g start schedule .final) (reachable-run g P start schedule (reachable-start g P) .invariant) (tidy-play g P schedule .roomy) pick
+        (run g start schedule .stop)

@@ -12,7 +12,8 @@ use Rattle.packed.specs.Syntax.{Signal, Program, Procedure, Expression}
 use Rattle.rules.specs.Context.{Context, Redex, Focus, value, here, hereᶜ, focus, top, asLiteral}
 use Rattle.rules.specs.State.{Cell, Thread, State, Numbered, lookup, monitor, threadOf}
 use Rattle.rules.specs.Rules.{isVolatile}
-use Rattle.rules.specs.Step.{Act, waits, sticks, lacks, does, callAct, readAct, writeAct, joinValue, joinAct, synchAct, holdAct, signalMove, signalAct, wakeAct, act, around, attemptAt, attemptBy, attempt}
+use Rattle.rules.specs.Step.{Act, waits, sticks, lacks, does, callAct, readAct, writeAct, joinValue, joinAct, synchAct, holdAct, signalMove, signalAct}
+use Rattle.rules.specs.Step.{wakeAct, act, around, attemptAt, attemptBy, attempt}
 use Rattle.rules.specs.Run.{status, statusesFrom}
 use Rattle.rules.proofs.Placed.{Ready, Good}
 use Rattle.rules.proofs.Invariant.{Inv}

@@ -61,7 +61,10 @@ unfolding comtradeAnswer
 small-comtrade log area = small-answer (comtradeRefusal log area) (length (fileOf log)) small few
   where
     small : SmallCheck (comtradeRefusal log area)
-    small = rw (stages log area) (small-stages (logRefusal log) (last log area (shortOutput log area)) (small-log log) (small-checks (checkWhole 24 (shortOutput log area) ∷ []) ((omega arith, omega arith), tt)))
+    small =
+        rw (stages log area)
+        (small-stages (logRefusal log) (last log area (shortOutput log area)) (small-log log)
+        (small-checks (checkWhole 24 (shortOutput log area) ∷ []) ((omega arith, omega arith), tt)))
 
     few : comtradeRefusal log area ≡ none → length (fileOf log) < 2 ^ 32
     few e =
@@ -71,7 +74,7 @@ small-comtrade log area = small-answer (comtradeRefusal log area) (length (fileO
 few-by : (n p t : ℕ) → n ≡ 8 + 2 * p + 5 * t → p ≤ 4096 → t ≤ 4096 → n < 2 ^ 32
 few-by n p t e few many = omega arith
 
-few-bytes : (plan : List ℕ) → refusal plan ≡ none → length plan < 2 ^ 32
+pub few-bytes : (plan : List ℕ) → refusal plan ≡ none → length plan < 2 ^ 32
 unfolding planLength
 few-bytes plan e = few-by _ _ _ (length-of plan (all-right plan e .six .right₁)) (few-procedures plan) (few-terms plan)
 
@@ -82,7 +85,8 @@ small-canonical plan area = small-answer (canonicalRefusal plan area) (length (w
     small : SmallCheck (canonicalRefusal plan area)
     small =
         rw (chain.stages plan area)
-        (small-stages (refusal plan) (firstRefusal (outputChecks plan area)) (small-plan plan) (small-checks (outputChecks plan area) ((omega arith, omega arith), tt)))
+        (small-stages (refusal plan) (firstRefusal (outputChecks plan area)) (small-plan plan)
+        (small-checks (outputChecks plan area) ((omega arith, omega arith), tt)))
 
     few : canonicalRefusal plan area ≡ none → length (writtenPlan plan) < 2 ^ 32
     few e = let passed = passes-both plan area e .0 in omega (arith, same-length plan passed, few-bytes plan passed)
@@ -94,7 +98,8 @@ small-bound plan = small-answer (boundRefusal plan) (total (programOf plan)) sma
     small : SmallCheck (boundRefusal plan)
     small =
         rw (bound-stages plan)
-        (small-stages (refusal plan) (firstRefusal (laterChecks plan)) (small-plan plan) (small-checks (laterChecks plan) (whole 21 (omega arith), (whole 22 (omega arith), (whole 23 (omega arith), tt)))))
+        (small-stages (refusal plan) (firstRefusal (laterChecks plan)) (small-plan plan)
+        (small-checks (laterChecks plan) (whole 21 (omega arith), (whole 22 (omega arith), (whole 23 (omega arith), tt)))))
 
     few : boundRefusal plan ≡ none → total (programOf plan) < 2 ^ 32
     few e = omega (arith, totalled plan (total (programOf plan)) (ap (λ (o : Option Refusal). answerBy o (total (programOf plan))) e) .most)

@@ -3,7 +3,7 @@
 ghost use mathlib.Core.Path.{_≡_};
 ghost use Rattle.packed.specs.Check.{refusal};
 ghost use Rattle.rules.specs.Play.{played, areaAfter};
-ghost use Rattle.numbers.specs.Numbers.{checkNumber, playNumber, answerNumber, JudgeReturns, WitnessReturns, FirstReturns, NextReturns};
+ghost use Rattle.numbers.specs.Numbers.{checkNumber, playNumber, answerNumber, readNumber, JudgeReturns, WitnessReturns, FirstReturns, NextReturns};
 ghost use mathlib.Core.Bool.{not};
 ghost use lib.Dec.{eqb};
 ghost use Rattle.preview.specs.Preview.{previewed};
@@ -11,6 +11,7 @@ ghost use Rattle.preview_bytes.specs.Bytes.{previewNumber};
 ghost use Rattle.preview_bytes.specs.Bytes as preview;
 ghost use Rattle.canonical.specs.Canonical.{canonicalAnswer, canonicalArea};
 ghost use Rattle.show.specs.Show.{showAnswer, showArea};
+ghost use Rattle.read.specs.Read.{readAnswer, readArea};
 ghost use Rattle.costs.specs.Bound.{bounded};
 ghost use Rattle.charge.specs.Charge.{charged};
 ghost use Rattle.waveform.specs.Comtrade.{comtradeAnswer, comtradeArea};
@@ -95,6 +96,17 @@ pub extern "C" fn ruqzhemil_show(plan: &[u8], area: &mut [u8]) -> u64
     numbers::of_answer(answered)
 }
 
+// The length in bytes of the plan that the text is, written in the one way, which begins the area; the other answer is the line and the column where
+// reading stops. The area's other bytes, and all of them where it stops or after a refusal, are as they were.
+#[no_mangle]
+pub extern "C" fn ruqzhemil_read(text: &[u8], area: &mut [u8]) -> u64
+    ensures answer { λ r. ⌜ r ≡ readNumber (readAnswer (now (text .entry)) (now (area .entry))) ⌝ }
+    ensures area { λ r. ⌜ now (area .exit) ≡ readArea (now (text .entry)) (now (area .entry)) ⌝ }
+{
+    let answer = read::read(text, area);
+    numbers::of_read(answer)
+}
+
 // The length in bytes of the log's COMTRADE data file, which begins the area; the area's other bytes, and all of them after a refusal, are as they were.
 #[no_mangle]
 pub extern "C" fn ruqzhemil_comtrade(log: &[u8], area: &mut [u8]) -> u64
@@ -115,8 +127,8 @@ pub extern "C" fn ruqzhemil_witness(plan: &[u8], schedule: &[u8], area: &mut [u8
     numbers::of_answer(answered)
 }
 
-// The length of the first schedule of at most n picks that is listed, which begins the area; the area's other bytes, and all of them after a refusal, are as they
-// were.
+// The length of the first schedule of at most n picks that is listed, which begins the area; the area's other bytes, and all of them after a refusal, are as
+// they were.
 #[no_mangle]
 pub extern "C" fn ruqzhemil_first_interleaving(plan: &[u8], n: u64, area: &mut [u8]) -> u64
     ensures { λ r. ⌜ FirstReturns (now (plan .entry)) n (now (area .entry)) r (now (area .exit)) ⌝ }
@@ -163,5 +175,5 @@ pub extern "C" fn ruqzhemil_charge(plan: &[u8], schedule: &[u8], option: u64) ->
 pub extern "C" fn ruqzhemil_version() -> u64
     ensures { λ r. ⌜ r ≡ version ⌝ }
 {
-    66048
+    66304
 }

@@ -7,10 +7,11 @@
 // and of the log, two; what comtrade returns, eight; then the log and the file, empty where it is refused. A case of a charge: the lengths of plan and
 // schedule, two bytes each; the option and what charge returns, eight each; then plan and schedule. A case of a preview: the same with the pick and what
 // preview returns, and the eight bytes of the preview before the plan. A case of a plan: the lengths of plan and area, two bytes each; what canonical
-// returns, eight; then the plan and the written plan, empty where it is refused. A case of a text: the same of show and the text. A case of a bound: what bound returns, eight bytes; then the plan. A case
-// of a witness: the lengths of plan, schedule and area, two bytes each; what witness returns, eight; then plan, schedule and the written schedule, empty where
-// it is refused. A case of an interleaving: the lengths of plan, schedule and area, two bytes each; a byte, 0 for first_interleaving; n and what is returned, eight bytes each;
-// then plan, schedule and the written schedule, empty where there is none. A case that ends before the parts that its lengths name is wrong.
+// returns, eight; then the plan and the written plan, empty where it is refused. A case of a text: the same of show and the text. A case of a read: the
+// same of read, with the text in the plan's place. A case of a bound: what bound returns, eight bytes; then the plan. A case of a witness: the lengths of
+// plan, schedule and area, two bytes each; what witness returns, eight; then plan, schedule and the written schedule, empty where it is refused. A case of
+// an interleaving: the lengths of plan, schedule and area, two bytes each; a byte, 0 for first_interleaving; n and what is returned, eight bytes each; then
+// plan, schedule and the written schedule, empty where there is none. A case that ends before the parts that its lengths name is wrong.
 ghost use Prim.Native.Nat.{_+_, _≤_};
 ghost use lib.ListN.{length};
 use judge::Judgement;
@@ -299,6 +300,33 @@ pub fn text_case(case: &[u8]) -> bool {
     }
     let mut area = [FILL; 65536];
     let got = show_in(&case[12..end], &mut area, size);
+    (got == number_at(case, 4)) & begins(&area, &case[end..])
+}
+
+// A text read into an area of that size, or into the whole area.
+fn read_in(text: &[u8], area: &mut [u8], size: usize) -> u64 {
+    if size < area.len() {
+        ruqzhemil::ruqzhemil_read(text, &mut area[..size])
+    } else {
+        ruqzhemil::ruqzhemil_read(text, area)
+    }
+}
+
+// What read returns for a text, and the whole area.
+pub fn read_case(case: &[u8]) -> bool {
+    if case.len() < 12 {
+        return false;
+    }
+    let end = 12 + byte_numbers::half(case, 0);
+    let size = byte_numbers::half(case, 2);
+    if case.len() < end {
+        return false;
+    }
+    if 16384 < size {
+        return false;
+    }
+    let mut area = [FILL; 16384];
+    let got = read_in(&case[12..end], &mut area, size);
     (got == number_at(case, 4)) & begins(&area, &case[end..])
 }
 

@@ -80,6 +80,7 @@ fn tools(all: Tally) -> Tally {
     let all = group(b"previews: ", b"previews", Group::Preview, all);
     let all = group(b"plans, written: ", b"plans", Group::Plan, all);
     let all = group(b"plans, shown: ", b"texts", Group::Text, all);
+    let all = group(b"texts, read: ", b"reads", Group::Read, all);
     let all = group(b"bounds: ", b"bounds", Group::Bound, all);
     let all = group(b"witnesses: ", b"witnesses", Group::Witness, all);
     group(
@@ -124,6 +125,7 @@ fn changed() -> Tally {
         Group::Text,
         all,
     );
+    let all = group(b"changed texts, read: ", b"changed_reads", Group::Read, all);
     let all = group(b"changed bounds: ", b"changed_bounds", Group::Bound, all);
     let all = group(
         b"changed witnesses: ",

@@ -1,5 +1,5 @@
 //! Plan P of document 01's shot list: a field written by one thread and read by another, with nothing between them. It is checked and played, and the
-//! judge gets the run's records; it is written as text. The log of two monitors is written as a data file for a viewer.
+//! judge gets the run's records; it is written as text and read again. The log of two monitors is written as a data file for a viewer.
 
 use ruqzhemil::ThreadState;
 
@@ -106,6 +106,58 @@ fn show(size: usize) {
     }
 }
 
+/// Reads a text into an area of so many bytes; a plan is shown again.
+fn read(name: &str, text: &str, size: usize) -> Result<(), ruqzhemil::Refusal> {
+    let mut area = vec![0; size];
+    print!("{name}, read: ");
+    match ruqzhemil::read_in(text.as_bytes(), &mut area)? {
+        Ok(length) => {
+            println!("{length} bytes{}", if area[..length] == PLAN { ", those of P" } else { "" });
+            print!("{}", ruqzhemil::show(&area[..length])?);
+        }
+        Err(none) => println!("{none}"),
+    }
+    Ok(())
+}
+
+fn read_texts() {
+    let written = "let 0 = new(1) in let - = fork (v0.1 := null) in v0.1  # P";
+    let many = "(".repeat(16384);
+    let texts = [
+        ("P in 55 bytes", written, 55),
+        ("P in 54 bytes", written, 54),
+        ("a call in 5,192 bytes", "call 1 (join (fork null))\nprocedure 1(1) = v0", ruqzhemil::MOST_PLAN_BYTES),
+        ("a text cut short", "let 0 = new(1) in\nv0.", 55),
+        ("a slot that nothing binds", "call 1 ()\nprocedure 1 (0) = v0", 55),
+        ("nothing at all", "", 55),
+        ("16,385 tokens", &many, 55),
+        ("parentheses too deep", &many[1..], 55),
+    ];
+    for (name, text, size) in texts {
+        if let Err(refusal) = read(name, text, size) {
+            println!("{refusal}");
+        }
+    }
+}
+
+/// Every plan of the folder examples/plans, read; shown and read again it is the same.
+fn read_files() -> std::io::Result<()> {
+    let folder = std::fs::read_dir(concat!(env!("CARGO_MANIFEST_DIR"), "/../plans"))?;
+    let mut paths = folder.map(|entry| Ok(entry?.path())).collect::<std::io::Result<Vec<_>>>()?;
+    paths.sort();
+    for path in paths {
+        print!("{}: ", path.file_name().unwrap_or_default().to_string_lossy());
+        match ruqzhemil::read(&std::fs::read(&path)?) {
+            Ok(plan) => {
+                let again = ruqzhemil::show(&plan).map(|text| ruqzhemil::read(text.as_bytes()));
+                println!("{} bytes{}", plan.len(), if again == Ok(Ok(plan)) { "" } else { ", and others when read again" });
+            }
+            Err(none) => println!("{none}"),
+        }
+    }
+    Ok(())
+}
+
 /// acquire and release of object 1, by thread 0
 const MONITORS: [u8; 6] = [0x60, 0x10, 0x00, 0x70, 0x10, 0x00];
 
@@ -148,6 +200,8 @@ fn main() {
     canonical(TURNED.len() - 1);
     show(64);
     show(63);
+    read_texts();
+    read_files().expect("the plans in examples/plans");
     bound("P", &PLAN);
     bound("a loop", &ENDLESS);
     for n in [10, 65] {

@@ -23,7 +23,11 @@ wide-requires : tie.Need-wide-requires
 wide-requires c κs = search needs
 
 returns : tie.Need-returns
-returns c = (c .wide .ensures .0 ∙ same (c .before .before .before .before .args .tokens .now) (c .before .before .before .before .args .index) (c .before .before .if1 .taken), c .wide .ensures .1)
+returns c = (
+  c .wide .ensures .0 ∙ same (c .before .before .before .before .args .tokens .now) (c .before .before .before .before .args .index)
+      (c .before .before .if1 .taken),
+  c .wide .ensures .1,
+)
 
 returns-2 : tie.Need-returns-2
 returns-2 c = (sym (beyond (c .before .before .args .tokens .now) (c .before .before .args .index) (c .if1 .left)), omega arith)

@@ -19,7 +19,9 @@ ahead-requires-2 : tie.Need-ahead-requires-2
 ahead-requires-2 c κs = search needs
 
 returns-2 : tie.Need-returns-2
-returns-2 c = headed-wrong _ _ (sym (c .before .before .before .ahead .ensures .0) ∙ c .before .before .if1 .left) (c .before .ahead2 .ensures .0) (c .if2 .taken) (c .before .before .before .before .before .pre .0)
+returns-2 c =
+    headed-wrong _ _ (sym (c .before .before .before .ahead .ensures .0) ∙ c .before .before .if1 .left) (c .before .ahead2 .ensures .0) (c .if2 .taken)
+    (c .before .before .before .before .before .pre .0)
 
 volatiles-requires-2 : tie.Need-volatiles-requires-2
 volatiles-requires-2 c κs =
@@ -27,7 +29,9 @@ volatiles-requires-2 c κs =
     (present (s .args .tokens .now) 1 (c .before .ahead2 .result) (c .before .ahead2 .ensures .0) (omega (arith, c .if2 .left)), s .pre .1)
 
 returns-3 : tie.Need-returns-3
-returns-3 c = headed-with _ _ _ (sym (c .before .before .before .before .ahead .ensures .0) ∙ c .before .before .before .if1 .left) (c .before .before .ahead2 .ensures .0) (c .before .if2 .left) (c .volatiles2 .ensures)
+returns-3 c =
+    headed-with _ _ _ (sym (c .before .before .before .before .ahead .ensures .0) ∙ c .before .before .before .if1 .left)
+    (c .before .before .ahead2 .ensures .0) (c .before .if2 .left) (c .volatiles2 .ensures)
 
 pub header-spec : {M : Type 1} → statement M
 header-spec =

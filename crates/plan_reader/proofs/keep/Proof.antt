@@ -31,7 +31,11 @@ returns-2 : tie.Need-returns-2
 returns-2 c =
     record {
       so = (
-        record { bound = sym (c .before .before .before .closed-with .ensures) ∙ not-false _ (c .before .before .if1 .left); roots-are = refl; counts-are = refl },
+        record {
+          bound = sym (c .before .before .before .closed-with .ensures) ∙ not-false _ (c .before .before .if1 .left);
+          roots-are = refl;
+          counts-are = refl;
+        },
         sym (c .before .ahead .ensures .0) ∙ c .if2 .taken,
         refl,
       );
@@ -41,7 +45,11 @@ returns-3 : tie.Need-returns-3
 returns-3 c =
     record {
       so = (
-        record { bound = sym (c .before .before .before .closed-with .ensures) ∙ not-false _ (c .before .before .if1 .left); roots-are = refl; counts-are = refl },
+        record {
+          bound = sym (c .before .before .before .closed-with .ensures) ∙ not-false _ (c .before .before .if1 .left);
+          roots-are = refl;
+          counts-are = refl;
+        },
         (λ e. c .if2 .left (c .before .ahead .ensures .0 ∙ e)),
         refl,
         refl,

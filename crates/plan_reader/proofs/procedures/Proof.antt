@@ -33,7 +33,13 @@ add-t23 : tie.Need-add-t23 Inv-loop μ-loop
 add-t23 c = search needs
 
 returns : tie.Need-returns Inv-loop μ-loop
-returns c = record { so = (rw add-one (last-plan (c .before .before .before .step .ensures) (c .before .next2 .given .1)), c .before .before .before .before .before .before .before .before .before .before .before .pre .0 .2) }
+returns c =
+    record {
+      so = (
+        rw add-one (last-plan (c .before .before .before .step .ensures) (c .before .next2 .given .1)),
+        c .before .before .before .before .before .before .before .before .before .before .before .pre .0 .2,
+      );
+    }
 
 enum-known-next-3 : tie.Need-enum-known-next-3 Inv-loop μ-loop
 enum-known-next-3 c = search needs

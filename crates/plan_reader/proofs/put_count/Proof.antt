@@ -31,7 +31,9 @@ same-length c = c .before .before .put-byte .ensures .kept
 
 returns-2 : tie.Need-returns-2
 returns-2 c =
-    added-as (ap (λ (x : ℕ). x ∷ []) (c .before .before .before .ahead2 .ensures .0) ∙ sym (count-there _ _ (sym (c .before .before .before .before .before .before .ahead .ensures .0) ∙ c .before .before .before .before .before .if1 .left))) (c .before .before .put-byte .ensures)
+    added-as (ap (λ (x : ℕ). x ∷ []) (c .before .before .before .ahead2 .ensures .0) ∙ sym (count-there _ _
+    (sym (c .before .before .before .before .before .before .ahead .ensures .0) ∙ c .before .before .before .before .before .if1 .left)))
+    (c .before .before .put-byte .ensures)
 
 pub put-count-spec : {M : Type 1} → statement M
 put-count-spec =

@@ -36,8 +36,10 @@ procedures-requires : tie.Need-procedures-requires
 procedures-requires c κs =
     let s = c .before .before .before .before .before .before .before .before .before .before .before .before in
     let h = c .before .before .before .before .before .before .before .before .before .before .header .ensures in
-    let k = c .before .before .before .before .before .before .before .before .if1 .left in
-    ((s .pre .0 .1, first-counts _ (c .before .before .before .before .before .before .put-counts .ensures), k), starts _ _ _ _ _ _ _ (h .known k) (s .pre .0 .2) (s .pre .1 .0) (s .pre .1 .1) (s .pre .1 .2) (h .inside))
+    let k = c .before .before .before .before .before .before .before .before .if1 .left in (
+      (s .pre .0 .1, first-counts _ (c .before .before .before .before .before .before .put-counts .ensures), k),
+      starts _ _ _ _ _ _ _ (h .known k) (s .pre .0 .2) (s .pre .1 .0) (s .pre .1 .1) (s .pre .1 .2) (h .inside),
+    )
 
 returns-2 : tie.Need-returns-2
 returns-2 c = c .procedures .ensures

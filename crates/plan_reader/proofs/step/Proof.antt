@@ -33,7 +33,8 @@ returns-2 : tie.Need-returns-2
 returns-2 c =
     let s = c .before .before .before .before .before .before .before .before .before .before .before in
     let r = c .before .before .before .before .before .before .before .procedure .ensures in
-    kept-goes (s .pre .1) (s .pre .0 .2) (s .pre .0 .1) (r .kept) (read-finished r (c .before .before .before .before .before .parsed2 .given .1)) (c .keep .ensures)
+    kept-goes (s .pre .1) (s .pre .0 .2) (s .pre .0 .1) (r .kept) (read-finished r (c .before .before .before .before .before .parsed2 .given .1))
+    (c .keep .ensures)
 
 pub step-spec : {M : Type 1} → statement M
 step-spec =

@@ -17,8 +17,13 @@ add-fields c = search needs
 
 fields-requires : tie.Need-fields-requires
 fields-requires c κs =
-    let s = c .before .before .before in
-    (omega (arith, present (s .args .tokens .now) (s .args .at) (c .before .ahead .result) (c .before .ahead .ensures .0) (omega (arith, c .if1 .left))), s .pre .1)
+    let s = c .before .before .before in (
+      omega (
+        arith,
+        present (s .args .tokens .now) (s .args .at) (c .before .ahead .result) (c .before .ahead .ensures .0) (omega (arith, c .if1 .left)),
+      ),
+      s .pre .1,
+    )
 
 returns-2 : tie.Need-returns-2
 returns-2 c = marked-some _ _ _ _ (sym (c .before .before .ahead .ensures .0) ∙ c .before .if1 .left) (c .fields .ensures .0) (c .fields .ensures .1)

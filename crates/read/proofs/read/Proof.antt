@@ -35,7 +35,9 @@ same-length : tie.Need-same-length
 same-length c = ap length (c .before .before .read-tokens .ensures .1) ∙ area-length _ _
 
 returns-2 : tie.Need-returns-2
-returns-2 c = few-answer _ _ (c .before .before .before .before .before .before .before .before .lex .ensures) refl (c .before .before .read-tokens .result) (c .before .before .before .before .before .before .if1 .left) (c .before .before .read-tokens .ensures .0) (c .before .before .read-tokens .ensures .1)
+returns-2 c =
+    few-answer _ _ (c .before .before .before .before .before .before .before .before .lex .ensures) refl (c .before .before .read-tokens .result)
+    (c .before .before .before .before .before .before .if1 .left) (c .before .before .read-tokens .ensures .0) (c .before .before .read-tokens .ensures .1)
 
 pub read-spec : {M : Type 1} → statement M
 read-spec =

@@ -23,16 +23,25 @@ enum-known-outcome-2 : tie.Need-enum-known-outcome-2
 enum-known-outcome-2 c = search needs
 
 write-requires : tie.Need-write-requires
-write-requires c κs = plan-in-arrays _ (c .before .before .before .before .before .before .before .before .before .before .before .before .before .before .pre .0) (c .before .before .before .before .before .before .before .read-plan .ensures) (c .before .before .before .before .before .outcome2 .given .1)
+write-requires c κs =
+    plan-in-arrays _ (c .before .before .before .before .before .before .before .before .before .before .before .before .before .before .pre .0)
+    (c .before .before .before .before .before .before .before .read-plan .ensures) (c .before .before .before .before .before .outcome2 .given .1)
 
 returns : tie.Need-returns
-returns c = fault-answer _ _ (c .failed .result) (c .before .before .before .before .before .before .before .before .before .before .before .before .pre .0) (c .before .before .before .before .before .read-plan .ensures) (c .before .before .before .outcome .given .1) (c .before .known .ensures) (c .failed .ensures)
+returns c =
+    fault-answer _ _ (c .failed .result) (c .before .before .before .before .before .before .before .before .before .before .before .before .pre .0)
+    (c .before .before .before .before .before .read-plan .ensures) (c .before .before .before .outcome .given .1) (c .before .known .ensures)
+    (c .failed .ensures)
 
 same-length : tie.Need-same-length
 same-length c = written-length (c .before .before .write .ensures)
 
 returns-2 : tie.Need-returns-2
-returns-2 c = plan-answer _ _ (c .before .before .before .before .before .before .before .before .before .before .before .before .before .before .before .before .before .pre .0) (c .before .before .before .before .before .before .before .before .before .before .read-plan .ensures) (c .before .before .before .before .before .before .before .before .outcome2 .given .1) (c .before .before .write .ensures)
+returns-2 c =
+    plan-answer _ _
+    (c .before .before .before .before .before .before .before .before .before .before .before .before .before .before .before .before .before .pre .0)
+    (c .before .before .before .before .before .before .before .before .before .before .read-plan .ensures)
+    (c .before .before .before .before .before .before .before .before .outcome2 .given .1) (c .before .before .write .ensures)
 
 pub read-tokens-spec : {M : Type 1} → statement M
 read-tokens-spec =

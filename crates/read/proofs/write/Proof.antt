@@ -38,7 +38,11 @@ same-length c =
 returns-2 : tie.Need-returns-2
 returns-2 c =
     let p = c .before .before .before .before .before .before .pre in
-    inr (record { long = rw (plan-length p) (c .before .before .before .before .if1 .left); bytes = c .before .before .write .ensures; answer = ap Written (sym (plan-length p)) })
+    inr (record {
+      long = rw (plan-length p) (c .before .before .before .before .if1 .left);
+      bytes = c .before .before .write .ensures;
+      answer = ap Written (sym (plan-length p));
+    })
 
 pub write-spec : {M : Type 1} → statement M
 write-spec =

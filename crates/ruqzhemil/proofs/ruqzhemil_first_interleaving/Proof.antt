@@ -15,7 +15,9 @@ same-length : tie.Need-same-length
 same-length c = search needs
 
 returns : tie.Need-returns
-returns c = let r = c .before .before .before .first-interleaving in record { answer = answered (r .result); answers = r .ensures; numbered = c .of-answer .ensures }
+returns c =
+    let r = c .before .before .before .first-interleaving in
+    record { answer = answered (r .result); answers = r .ensures; numbered = c .of-answer .ensures }
 
 pub ruqzhemil-first-interleaving-spec : {M : Type 1} → statement M
 ruqzhemil-first-interleaving-spec =

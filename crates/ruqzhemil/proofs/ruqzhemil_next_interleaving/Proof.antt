@@ -15,7 +15,8 @@ same-length : tie.Need-same-length
 same-length c = search needs
 
 returns : tie.Need-returns
-returns c = let r = c .before .before .before .next-interleaving in record { answer = answered (r .result); answers = r .ensures; numbered = c .of-next .ensures }
+returns c =
+    let r = c .before .before .before .next-interleaving in record { answer = answered (r .result); answers = r .ensures; numbered = c .of-next .ensures }
 
 pub ruqzhemil-next-interleaving-spec : {M : Type 1} → statement M
 ruqzhemil-next-interleaving-spec =
