@@ -11,11 +11,12 @@ unfoldable pub lengthRead : List ℕ → ℕ
 unfolding bitsAt
 lengthRead input = bitsAt input 0 16
 
--- "the plan, then the schedule"
+-- "the plan"
 unfoldable pub planRead : List ℕ → List ℕ
 unfolding lengthRead
 planRead input = take (lengthRead input) (drop 2 input)
 
+-- "then the schedule": all that is left
 unfoldable pub scheduleRead : List ℕ → List ℕ
 unfolding lengthRead
 scheduleRead input = drop (2 + lengthRead input) input

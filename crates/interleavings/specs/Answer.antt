@@ -3,6 +3,7 @@ use Rattle.interleavings.specs.Interleavings as papers
 use Rattle.interleavings.specs.declared.Next.{Next}
 use Rattle.interleavings.specs.declared.Next.the-variants.{Refused, Written, Over}
 
+-- a refusal with its number and place; "the following one", by its length; or that "the list is over"
 abbrev pub answered : Next → papers.Next
 answered (Refused number place) = papers.Next.refused (record { number = number; place = place })
 answered (Written n) = papers.Next.written n

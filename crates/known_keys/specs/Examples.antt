@@ -136,7 +136,7 @@ examples =
       picks = 0 ∷ 0 ∷ 0 ∷ 0 ∷ 0 ∷ 1 ∷ 0 ∷ [];
       sets = setOf (0 ∷ []) ∷ setOf (0 ∷ 1 ∷ []) ∷ [];
     }
-    -- P, which does not: neither has it here
+    -- P, which comes to its end: there too that write has no chain to thread 0
     ∷ record {
       plan = planP;
       picks = 0 ∷ 0 ∷ 0 ∷ 0 ∷ 0 ∷ 0 ∷ 1 ∷ [];

@@ -9,6 +9,7 @@ pub record Example : Type 0 where
   pub bound : ℕ
   pub schedules : List (List ℕ)
 
+-- the rows
 unfoldable pub examples : List Example
 unfolding planP joinNull
 examples =

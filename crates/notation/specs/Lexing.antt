@@ -15,7 +15,7 @@ token t i = record { code = t; place = i }
 
 -- ---- bytes
 
--- "any white space": space, tabulator, line feed, carriage return
+-- white space: space, tabulator, line feed, carriage return
 unfoldable pub isBlank : ℕ → Bool
 isBlank c = eqb c 32 || eqb c 9 || eqb c 10 || eqb c 13
 
@@ -58,7 +58,7 @@ nameOf v = nameFrom 62 0 v
 
 -- ---- the tokens of a text
 
--- what has begun before a byte: nothing; a comment, "from `#` to the end of a line"; a name, at a place, with its number so far; or a colon
+-- what has begun before a byte: nothing; a comment, which goes from `#` to the end of its line; a name, at a place, with its number so far; or a colon
 pub data Begun : Type 0 where
   nothing : Begun
   comment : Begun

@@ -27,7 +27,7 @@ prefix = 2
 abbrev pub tight : ℕ
 tight = 3
 
--- the tokens of a form that binds as l, at a place that asks for d: "parentheses where needed"
+-- the tokens of a form that binds as l, at a place that asks for d: in parentheses where it binds less tightly
 unfoldable pub grouped : ℕ → ℕ → List ℕ → List ℕ
 grouped d l ts = cond (ltb l d) (opening ∷ ts ++ (closing ∷ [])) ts
 
@@ -81,7 +81,7 @@ unfoldable mutual
   shownFurther Arguments.end = closing ∷ []
   shownFurther (Arguments.argument e es) = comma ∷ shown loose e ++ shownFurther es
 
--- ---- the plan: "its version, its volatile fields and its procedures with parameter counts"
+-- ---- the plan: its version, its volatile fields, and its procedures with their parameter counts
 
 -- `volatile 2 3`, where a field other than 0 is volatile
 unfoldable pub volatileTokens : List ℕ → List ℕ

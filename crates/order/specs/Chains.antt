@@ -43,7 +43,7 @@ pub record LastWrite (L : List Record) (j o f i : ℕ) : Type 0 where
   pub latest : (m : ℕ) (w : Record) → At L m w → Writes w o f → m < j → m ≤ i
 
 -- "A plain access (2, 3, 10, 11) is unordered when an earlier kind 3 of its object and field exists and no chain leads to it from the latest
--- such write."
+-- such write.": by this a run stops (demand 3); the judge goes by `Conflicting` (document 02, E7)
 pub record Unordered (v : Version) (L : List Record) (j : ℕ) : Type 0 where
   pub access : Record
   pub at-j : At L j access

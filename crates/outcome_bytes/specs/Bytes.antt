@@ -20,8 +20,8 @@ abbrev pub three : ℕ → ℕ → ℕ → ThreadBytes
 three s n f = record { state = s; named = n; field = f }
 
 -- of a thread: 0 absent, 1 finished, 2 ready, 3 waiting for a monitor, 4 waiting for a join, 5 stuck for a missing field, 6 stuck for no thread,
--- 7 lacking, 8 waiting to be notified, 9 stuck for a monitor that it does not hold; then the value or the object; then the field; 0 where there is none. 10 is a
--- part without a rule, to which no accepted plan comes.
+-- 7 lacking, 8 waiting to be notified, 9 stuck for a monitor that it does not hold; then the value or the object; then the field; 0 where there is none.
+-- 10 is a part without a rule, to which no accepted plan comes.
 unfoldable pub threadBytes : Status → ThreadBytes
 threadBytes Status.absent = three 0 0 0
 threadBytes (Status.finished v) = three 1 v 0

@@ -11,14 +11,17 @@ unfoldable pub version : List ℕ → ℕ
 unfolding bitsAt
 version b = bitsAt b 0 4
 
+-- "procedures 6 (1 to 32)"
 unfoldable pub procedures : List ℕ → ℕ
 unfolding bitsAt
 procedures b = bitsAt b 4 6
 
+-- "terms 12 (1 to 1,024)"
 unfoldable pub terms : List ℕ → ℕ
 unfolding bitsAt
 terms b = bitsAt b 10 12
 
+-- "spare 10"
 unfoldable pub headerSpare : List ℕ → ℕ
 unfolding bitsAt
 headerSpare b = bitsAt b 22 10
@@ -43,6 +46,7 @@ unfoldable pub parameters : List ℕ → ℕ → ℕ
 unfolding bitsAt
 parameters b p = bitsAt b (64 + 16 * p) 4
 
+-- "root term 12"
 unfoldable pub root : List ℕ → ℕ → ℕ
 unfolding bitsAt
 root b p = bitsAt b (68 + 16 * p) 12

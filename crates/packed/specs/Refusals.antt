@@ -8,12 +8,14 @@ use Rattle.packed.specs.Format.{version, procedures, terms, headerSpare,
 use Rattle.packed.specs.Trees.{treeAt}
 use Rattle.packed.specs.Slots.{closed}
 
--- ---- for some, and summed over, the numbers below n
+-- ---- numbers below n
 
+-- the test passes at one of them
 unfoldable pub anyBelow : ℕ → (ℕ → Bool) → Bool
 anyBelow zero f = false
 anyBelow (suc n) f = anyBelow n f || f n
 
+-- the sum over all of them
 unfoldable pub sumBelow : ℕ → (ℕ → ℕ) → ℕ
 sumBelow zero f = 0
 sumBelow (suc n) f = sumBelow n f + f n
@@ -77,14 +79,15 @@ breaksTable procedureCount n t m =
     || someOperand (wrongOperand procedureCount n t) m
     || not (eqb (m .spare) 0)  -- "All spare bits are zero."
 
+-- term t of the plan, by itself
 unfoldable pub wrongTerm : List ℕ → ℕ → Bool
 unfolding breaksTable procedures terms termAt
 wrongTerm b t = breaksTable (procedures b) (terms b) t (termAt b t)
 
 -- ---- 5: "a root or child of the wrong sort, or a call whose list is not as long as the parameters"
 
--- a term of this tag where the table wants another sort: "e is an expression (tags 0 to 11), c a condition (12 to 15), list is 16 or 17"; "expression terms [..] tag 18 wait, 19
--- notify, 20 notify all" (document 02, E3)
+-- a term of this tag where the table wants another sort: "e is an expression (tags 0 to 11), c a condition (12 to 15), list is 16 or 17"; "expression
+-- terms [..] tag 18 wait, 19 notify, 20 notify all" (document 02, E3)
 abbrev pub misplaced : Operand → ℕ → Bool
 misplaced absent k = false
 misplaced slot k = false
@@ -102,7 +105,7 @@ unfolding tagAt termAt
 listLength b zero t = 0
 listLength b (suc n) t = let rest = listLength b n (termAt b t .value₂) in cond (eqb (tagAt b t) 16) (suc rest) 0
 
--- a list has no more terms than the plan
+-- "a call whose list is not as long as the parameters"; a list has no more terms than the plan
 unfoldable pub wrongCall : List ℕ → ℕ → Bool
 unfolding tagAt termAt listLength terms parameters
 wrongCall b t = eqb (tagAt b t) 8 && not (eqb (listLength b (terms b) (termAt b t .value₂)) (parameters b (termAt b t .value₁)))
@@ -138,6 +141,7 @@ unfoldable pub timesNamed : List ℕ → ℕ → ℕ
 unfolding sumBelow timesIn procedures terms root termAt
 timesNamed b t = sumBelow (procedures b) (λ p. oneIf (eqb (root b p) t)) + sumBelow (terms b) (λ u. timesIn (termAt b u) t)
 
+-- term t, "not named exactly once"
 unfoldable pub notNamedOnce : List ℕ → ℕ → Bool
 unfolding timesNamed
 notNamedOnce b t = not (eqb (timesNamed b t) 1)

@@ -57,6 +57,7 @@ unfolding rowNumbers
 rowsFrom k [] = []
 rowsFrom k (r ∷ rs) = rowNumbers k r ∷ rowsFrom (suc k) rs
 
+-- "one row per tag, 0 to 20" (document 02, E4): what the rows of the code are shown to be
 unfoldable pub layoutRows : List (List ℕ)
 unfolding rowsFrom table
 layoutRows = rowsFrom 0 table
@@ -92,6 +93,7 @@ childAt place w = bitsTo place w % 1024
 abbrev pub wrongFrom : ℕ → ℕ → ℕ → ℕ → ℕ → Bool → Bool
 wrongFrom n t w sort place rest = not (eqb sort 0) && (outside n t (childAt place w) || rest)
 
+-- one of the operands that are terms is wrong
 unfoldable pub wrongTerms : ℕ → ℕ → ℕ → ℕ → Bool
 unfolding numberAt
 wrongTerms n t w k =
@@ -114,6 +116,7 @@ Tagged words = (t : ℕ) → tagIn words t < tagCount
 abbrev pub childrenFrom : ℕ → ℕ → ℕ → List Child → List Child
 childrenFrom w sort place rest = cond (eqb sort 0) [] (childOf sort (childAt place w) ∷ rest)
 
+-- the children of the 40 bits w by the row of tag k
 unfoldable pub childrenByRow : ℕ → ℕ → List Child
 unfolding numberAt
 childrenByRow w k = childrenFrom w (numberAt k 4) (numberAt k 5) (childrenFrom w (numberAt k 6) (numberAt k 7) (childrenFrom w (numberAt k 8) (numberAt k 9) []))

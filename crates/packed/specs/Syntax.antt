@@ -11,7 +11,7 @@ use Rattle.format.specs.Version.{Version}
 pub data Signal : Type 0 where
   wait notify notifyAll : Signal
 
--- figure 5
+-- figure 5; "A condition may hold expressions and an expression may hold conditions, to any depth the table allows."; "Values are object references."
 mutual
   pub data Expression : Type 0 where
     literal : ℕ → Expression  -- o, a literal reference; 0 is null

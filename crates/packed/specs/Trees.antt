@@ -130,6 +130,7 @@ expressionOf e c l (list i j) = Expression.literal 0
 expressionOf e c l listEnd = Expression.literal 0
 expressionOf e c l unknown = Expression.literal 0
 
+-- the same of a condition
 unfoldable pub conditionOf : (ℕ → Expression) → (ℕ → Condition) → Node → Condition
 conditionOf e c null = Condition.truth
 conditionOf e c (variable x) = Condition.truth
@@ -152,6 +153,7 @@ conditionOf e c (list i j) = Condition.truth
 conditionOf e c listEnd = Condition.truth
 conditionOf e c unknown = Condition.truth
 
+-- and of a call's list
 unfoldable pub argumentsOf : (ℕ → Expression) → (ℕ → Arguments) → Node → Arguments
 argumentsOf e l null = Arguments.end
 argumentsOf e l (variable x) = Arguments.end

@@ -43,8 +43,8 @@ waitOf (wait.Monitor o) = step.Wait.forMonitor o
 waitOf (wait.Join o) = step.Wait.forJoin o
 waitOf (wait.Notify o) = step.Wait.forNotify o
 
--- "stuck (field missing from the object, or join of an object that is no thread)"; and "Each needs the monitor held by the mover, else the thread is stuck with a
--- reason of its own." (E3); the last case is the definitions' own, to which no accepted plan comes
+-- "stuck (field missing from the object, or join of an object that is no thread)"; and "Each needs the monitor held by the mover, else the thread is stuck
+-- with a reason of its own." (E3); the last case is the definitions' own, to which no accepted plan comes
 unfoldable pub stuckOf : Stuck → step.Stuck
 stuckOf (stuck.Field o f) = step.Stuck.missingField o f
 stuckOf (stuck.Thread o) = step.Stuck.notThread o
@@ -61,6 +61,7 @@ statusOf (state.Waiting w) = run.Status.waiting (waitOf w)
 statusOf (state.Stuck w) = run.Status.stuck (stuckOf w)
 statusOf (state.Lacking o f) = run.Status.lacking o f
 
+-- "The outcome holds: [..]", case by case as above
 unfoldable pub outcomeOf : Outcome → run.Outcome
 unfolding stopOf statusOf
 outcomeOf x = record {
@@ -77,6 +78,7 @@ abbrev pub answeredBy : Checked → Outcome → play.Played
 answeredBy checked.Passed x = play.Played.ran (outcomeOf x)
 answeredBy (checked.Refused k i) x = play.Played.refused (record { number = k; place = i })
 
+-- what `play` answers: a refusal, or an outcome
 unfoldable pub answered : Played → play.Played
 unfolding outcomeOf
 answered r = answeredBy (r .checked) (r .outcome)

@@ -11,10 +11,11 @@ use Rattle.preview.specs.declared.Previewed.{Previewed}
 use Rattle.preview.specs.declared.Previewed.the-variants as previewed
 use Rattle.preview.specs.Preview as preview
 
--- "A record has 24 bits": its bytes, and the record that they are
+-- "A record has 24 bits" (document 01): its three bytes, in their order
 abbrev pub bytesIn : RecordBytes → List ℕ
 bytesIn b = b .high ∷ b .middle ∷ b .low ∷ []
 
+-- and the record that they are
 unfoldable pub recordOf : RecordBytes → Record
 unfolding recordAt
 recordOf b = recordAt (bytesIn b) 0
@@ -34,6 +35,7 @@ answered (previewed.NoRoom k) = preview.Previewed.shows (preview.Preview.noRoom 
 abbrev pub BytesAsLogged : RecordBytes → Type 0
 BytesAsLogged b = bytesIn b ≡ bytesOf (recordOf b ∷ [])
 
+-- the same of the record that an answer has, if it has one
 abbrev pub AsLogged : Previewed → Type 0
 AsLogged (previewed.Refused k i) = Unit {0}
 AsLogged (previewed.Stopped e) = Unit {0}

@@ -17,6 +17,7 @@ pub record Example : Type 0 where
   pub pick : ℕ
   pub expected : Previewed
 
+-- a row of these
 abbrev example : List ℕ → List ℕ → ℕ → Previewed → Example
 example b ps p x = record { plan = b; schedule = ps; pick = p; expected = x }
 
@@ -46,6 +47,7 @@ forkOn =
 unfoldable pub beforeRace : List ℕ
 beforeRace = 0 ∷ 0 ∷ 0 ∷ 0 ∷ 0 ∷ 1 ∷ []
 
+-- the rows
 unfoldable pub examples : List Example
 unfolding planP planP54 joinNull readNull forkOn beforeRace
 examples =

@@ -39,6 +39,7 @@ shownAt g s p Stop.end = shown g s p
 shownAt g s p Stop.race = stopped Stop.race
 shownAt g s p (Stop.noRoom k) = stopped (Stop.noRoom k)
 
+-- the same, by the run of the schedule
 unfoldable pub shownAfter : Program → Run → ℕ → Preview
 unfolding shownAt
 shownAfter g r p = shownAt g (r .final) p (r .stop)
@@ -52,6 +53,7 @@ unfoldable pub previewRefusal : List ℕ → List ℕ → ℕ → Option Refusal
 unfolding scheduleRefusal
 previewRefusal plan schedule pick = scheduleRefusal plan (withPick schedule pick)
 
+-- what is answered: a refusal, or the preview
 pub data Previewed : Type 0 where
   refused : Refusal → Previewed
   shows : Preview → Previewed

@@ -7,6 +7,7 @@ use mathlib.Core.Bool.{Bool, true, false}
 pub data Kind : Type 0 where
   new read write readv writev acquire release fork join lacksRead lacksWrite : Kind
 
+-- the number of a kind
 abbrev pub kindNumber : Kind → ℕ
 kindNumber new = 1
 kindNumber read = 2

@@ -31,7 +31,7 @@ wrongColumns join f v = ltb 7 f
 wrongColumns lacksRead f v = eqb f 0 || not (eqb v 0)
 wrongColumns lacksWrite f v = eqb f 0
 
--- "a record with kind 0 or over 11, a 10 or 11 that is not last, [..] or anything but 0 in a spare bit"
+-- "a record with kind 0 or over 11, a 10 or 11 that is not last, [..] or anything but 0 in a spare bit [..]. Nothing else is tested."
 unfoldable pub wrongRecord : List ℕ → ℕ → Bool
 unfolding kindAt spareAt recordAt recordCount
 wrongRecord b i =

@@ -4,6 +4,7 @@ use Rattle.format.specs.Refusal.{Refusal}
 use Rattle.refusals.specs.declared.Checked.{Checked}
 use Rattle.refusals.specs.declared.Checked.the-variants.{Passed, Refused}
 
+-- "An answer is the number and a place"; none where the check passes
 unfoldable pub answered : Checked → Option Refusal
 answered Passed = none
 answered (Refused k i) = some (record { number = k; place = i })

@@ -104,7 +104,7 @@ pub data Redexᶜ : Type 0 where
   and : Bool → Condition → Redexᶜ
   equal : ℕ → ℕ → Redexᶜ
 
--- the expression and the condition that a redex is
+-- the expression that a redex is
 unfoldable pub redexExpression : Redex → Expression
 unfolding literals bool
 redexExpression (variable x) = Expression.variable x
@@ -122,6 +122,7 @@ redexExpression (hold o v) = Expression.hold o (literal v)
 redexExpression (signal k o) = Expression.signal k (literal o)
 redexExpression (waiting o) = Expression.waiting o
 
+-- the condition that a redex is
 unfoldable pub redexCondition : Redexᶜ → Condition
 unfolding bool
 redexCondition notFalse = Condition.not (bool false)
@@ -177,6 +178,7 @@ abbrev pub onLiteral : Option ℕ → (ℕ → Focus) → Focus → Focus
 onLiteral (some o) k r = k o
 onLiteral none k r = r
 
+-- the same of an operand that is a condition
 abbrev pub onBool : Option Bool → (Bool → Focus) → Focus → Focus
 onBool (some b) k r = k b
 onBool none k r = r

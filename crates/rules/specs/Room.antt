@@ -126,6 +126,7 @@ noRoomFor R s p s′ = orElse (noRoomBefore s R) (noRoomAfter s p s′)
 
 -- ---- the answer to a pick
 
+-- it is passed over, stops the run or moves its thread
 pub data Answer : Type 0 where
   passed : Answer  -- "A pick is passed over, changing nothing"
   race : Record → Answer  -- the run stops: key missing

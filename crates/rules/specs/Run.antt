@@ -51,7 +51,7 @@ resume s k (Answer.race r) = stopped race (r ∷ []) s
 resume s k (Answer.noRoom w) = stopped (noRoom w) [] s
 resume s k (Answer.moved m) = afterMove m (k (m .state))
 
--- the run of a list of picks from state s
+-- the run of a list of picks from state s: "A schedule is one byte per pick, 0 to 7."
 unfoldable pub run : Program → State → List ℕ → Run
 unfolding step resume stopped
 run g s [] = stopped end [] s
@@ -64,8 +64,8 @@ play g ps = run g start ps
 
 -- ---- the outcome
 
--- "absent, finished with its value, ready, waiting, stuck with its reason, or lacking the key of a named object's named field"; of a thread that waits in a queue
--- or was notified "the outcome calls it waiting, or ready once that acquire can be made" (document 02, E3)
+-- "absent, finished with its value, ready, waiting, stuck with its reason, or lacking the key of a named object's named field"; of a thread that waits in a
+-- queue or was notified "the outcome calls it waiting, or ready once that acquire can be made" (document 02, E3)
 pub data Status : Type 0 where
   absent : Status
   finished : ℕ → Status
@@ -110,6 +110,7 @@ pub record Outcome : Type 0 where
   pub threads : List Status
   pub totals : List ℕ
 
+-- the outcome of a run: "the moves made" are its rule instances, "the records written" those of its log
 unfoldable pub outcomeOf : Program → Run → Outcome
 unfolding statusesFrom totalsFrom
 outcomeOf g r = record {

@@ -25,7 +25,8 @@ pub data Stuck : Type 0 where
   missingField : ℕ → ℕ → Stuck
   notThread : ℕ → Stuck
   notHeld : ℕ → Stuck
-  noRule : Stuck  -- a slot that nothing binds, a call without its procedure or arguments, an object or a held monitor that is not there: no accepted plan comes here
+  -- a slot that nothing binds, a call without its procedure or arguments, an object or a held monitor that is not there: no accepted plan comes here
+  noRule : Stuck
 
 -- what a redex comes to. Of a rule: its record, the state after it but for the mover's expression, and what replaces the redex
 pub data Act : Type 0 where
@@ -62,12 +63,13 @@ writeAct g s p t o f v (some c) =
     (does e-write (some (entry Kind.write p o f v)) (learn (store (useKey s) o f (cell (singleton (s .nextKey)) v)) p (singleton (s .nextKey))) (literal v))
     (lacks (entry Kind.lacksWrite p o f v)))
 
--- E-JOIN, where the thread's value is known, and where its thread is
+-- E-JOIN of thread q, by the value that it has become: "Join waits for a thread that has become a value, and adds its set."
 unfoldable pub joinValue : State → ℕ → ℕ → Numbered → Option ℕ → Act
 unfolding gain
 joinValue s p o q none = waits (forJoin o)
 joinValue s p o q (some v) = does e-join (some (entry Kind.join p o (q .number) v)) (hear s p (q .thread .keys)) (literal v)
 
+-- E-JOIN, by the thread that the object stands for
 unfoldable pub joinAct : State → ℕ → ℕ → Option Numbered → Act
 unfolding asLiteral joinValue
 joinAct s p o none = sticks (notThread o)
@@ -100,6 +102,7 @@ signalMove s p t o Signal.wait = does e-wait (some (entry Kind.release p o 0 0))
 signalMove s p t o Signal.notify = does e-notify none (signalled pred s o) (literal 0)
 signalMove s p t o Signal.notifyAll = does e-notifyall none (signalled (λ n. 0) s o) (literal 0)
 
+-- "Each needs the monitor held by the mover, else the thread is stuck with a reason of its own." (document 02, E3)
 unfoldable pub signalAct : State → ℕ → Thread → Signal → ℕ → Option Cell → Act
 unfolding isEmpty signalMove
 signalAct s p t k o none = sticks noRule
@@ -138,7 +141,7 @@ act g s p t (Redex.hold o v) = holdAct s p t o v (monitor s o)
 act g s p t (Redex.signal k o) = signalAct s p t k o (monitor s o)
 act g s p t (Redex.waiting o) = wakeAct s p t o (t .place .number) (monitor s o)
 
--- the rules for conditions, and what replaces the redex
+-- what a condition's redex comes to: its rule, and what replaces it
 pub record Actᶜ : Type 0 where
   pub rule : Rule
   pub result : Condition
@@ -149,6 +152,7 @@ unfolding bool
 equalAct true = record { rule = e-equaltrue; result = bool true }
 equalAct false = record { rule = e-equalfalse; result = bool false }
 
+-- the rules for conditions
 unfoldable pub actᶜ : Redexᶜ → Actᶜ
 unfolding equalAct
 actᶜ Redexᶜ.notFalse = record { rule = e-notnottrue; result = bool true }

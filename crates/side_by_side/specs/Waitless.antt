@@ -1,4 +1,5 @@
--- Programs without a wait (document 02, E10: "Plans of version 0 or with a wait are left out."). Assumes nothing.
+-- Programs without a wait (document 02, E10: "Plans of version 0 or with a wait are left out."): what a plan without `hasWait` has in its trees. For the
+-- proofs; no reader of the entry's promise needs it. Assumes nothing.
 use Prim.Native.Nat.{ℕ}
 use mathlib.Core.Path.{_≡_}
 use mathlib.Core.Option.{some}

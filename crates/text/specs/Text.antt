@@ -12,11 +12,12 @@ unfoldable pub ascii : String → List ℕ
 ascii string.[] = []
 ascii (string._∷_ c s) = code c ∷ ascii s
 
--- the decimal digits of a number, no zero in front; 48 is the digit 0. Each digit uses up one of the steps.
+-- the decimal digits of a number, in so many steps, one to a digit; 48 is the digit 0
 unfoldable pub decimalBy : ℕ → ℕ → List ℕ
 decimalBy zero n = []  -- never asked: there is a step for every digit
 decimalBy (suc steps) n = cond (ltb n 10) ((48 + n) ∷ []) (decimalBy steps (n / 10) ++ ((48 + n % 10) ∷ []))
 
+-- the decimal digits of a number, no zero in front: it has no more of them than there are steps
 unfoldable pub decimal : ℕ → List ℕ
 unfolding decimalBy
 decimal n = decimalBy (suc n) n

@@ -90,6 +90,7 @@ wordBy r k x y z =
     (((k * 2 ^ width (r .first) + x) * 2 ^ width (r .second) + y) * 2 ^ width (r .third) + z)
     * 2 ^ (35 - (width (r .first) + width (r .second) + width (r .third)))
 
+-- the same by the table: "| tag | term | operands |"
 unfoldable pub wordOf : ℕ → ℕ → ℕ → ℕ → ℕ
 unfolding wordBy layout
 wordOf k x y z = wordBy (layout k) k x y z

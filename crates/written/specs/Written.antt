@@ -50,7 +50,7 @@ unfoldable pub headerOf : Program → ℕ
 unfolding versionNumber sizeOfAll
 headerOf g = ((versionNumber (g .version) * 2 ^ 6 + length (g .procedures)) * 2 ^ 12 + sizeOfAll (g .procedures)) * 2 ^ 10
 
--- the bytes of a program
+-- the bytes of a program: the header, "Volatile mask, 32 bits", the procedures, the terms
 unfoldable pub written : Program → List ℕ
 unfolding bytesOf headerOf procedureBytes termWords wordBytes
 written g = bytesOf 4 (headerOf g) ++ bytesOf 4 (g .volatiles) ++ procedureBytes 0 (g .procedures) ++ wordBytes (termWords 0 (g .procedures))
