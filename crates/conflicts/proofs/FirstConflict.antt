@@ -56,12 +56,19 @@ module _ (v : Version) (L : List Record) (j : ℕ) (r : Record) (here : At L j r
       let top : N.At (r ∷ H) i w ↔ N.At H i w = (N.at-older (omega (arith, size)), N.back) in
       Iff·trans turned (Iff·trans (subst (λ (K : List Record). N.At (reverse L) i w ↔ N.At K i w) (turned-at L j r here) (λ x. x, λ x. x)) (Iff·trans cut top))
 
+  -- the chains to a record are those in its past and itself
+  pub chain-cut : (i : ℕ) → Chain v L i j ↔ N.Chain v (r ∷ H) i j
+  chain-cut i =
+      let turned : Chain v L i j ↔ N.Chain v (reverse L) i j = (chain← v L, chain→ v L) in
+      let cut : N.Chain v (reverse (drop (suc j) L) ++ r ∷ H) i j ↔ N.Chain v (r ∷ H) i j
+      = chain-append (reverse (drop (suc j) L)) (r ∷ H) i j (omega (arith, size)) in
+      Iff·trans turned (Iff·trans (subst (λ (K : List Record). N.Chain v (reverse L) i j ↔ N.Chain v K i j) (turned-at L j r here) (λ x. x, λ x. x)) cut)
+
   pub chain-past : T (isPlain (r .kind)) → (i : ℕ) → Chain v L i j ↔ Reach v i H (ofThread (r .thread))
   chain-past a i =
-      let turned : Chain v L i j ↔ N.Chain v (reverse L) i j = (chain← v L, chain→ v L) in
-      let cut : N.Chain v (reverse (drop (suc j) L) ++ r ∷ H) i j ↔ N.Chain v (r ∷ H) i j = chain-append (reverse (drop (suc j) L)) (r ∷ H) i j (omega (arith, size)) in
-      let own : N.Chain v (r ∷ H) i j ↔ Reach v i H (ofThread (r .thread)) = subst (λ (n : ℕ). N.Chain v (r ∷ H) i n ↔ Reach v i H (ofThread (r .thread))) size (own-chain r H i (plain-draws-own v r a)) in
-      Iff·trans turned (Iff·trans (subst (λ (K : List Record). N.Chain v (reverse L) i j ↔ N.Chain v K i j) (turned-at L j r here) (λ x. x, λ x. x)) (Iff·trans cut own))
+      let own : N.Chain v (r ∷ H) i j ↔ Reach v i H (ofThread (r .thread))
+      = subst (λ (n : ℕ). N.Chain v (r ∷ H) i n ↔ Reach v i H (ofThread (r .thread))) size (own-chain r H i (plain-draws-own v r a)) in
+      Iff·trans (chain-cut i) own
 
   clash→conflicting : Clash v H r → Conflicting v L j
   clash→conflicting c =

@@ -1,0 +1,15 @@
+pub mod Marks
+pub mod Chains
+pub mod HeardChains
+pub mod NeededArrows
+pub mod ArrowLists
+pub mod ShownChains
+pub mod PairLaws
+pub mod Samples
+pub mod Ports
+pub mod Marked
+pub mod Table
+pub mod Going
+pub mod Tests
+pub mod Adding
+pub mod OfLog

@@ -1,0 +1,4 @@
+pub mod Arrows
+pub mod Newest
+pub mod Implied
+pub mod Links
