@@ -2,6 +2,8 @@
 use header::layout;
 use notation::tokens;
 use token_writer::put_fields;
+use token_writer::rows;
+use token_writer::rows::Rows;
 use token_writer::write_expression;
 ghost use Prim.Native.Nat.{_+_, _-_, _≤_, _<_};
 ghost use mathlib.Core.Path.{_≡_};
@@ -10,6 +12,7 @@ ghost use Rattle.packed.specs.Format.{version, fieldsFrom, procedures};
 ghost use Rattle.packed.specs.Trees.{programOf};
 ghost use Rattle.notation.specs.Shown.{volatileTokens, shownPlan};
 ghost use Rattle.text.specs.Wrote.{Wrote};
+ghost use Rattle.token_writer.specs.Items.{itemRows};
 ghost use Rattle.plan_tokens.specs.Begun.{Given, procedureHead, procedureAlone, headerTokens, proceduresBehind, FirstField};
 
 // The first field from field 1 on that the mask has, or 32.
@@ -60,18 +63,20 @@ fn put_head(area: &mut [u8], at: usize, procedure: usize, parameters: usize) -> 
 fn put_procedure(
     plan: &[u8],
     words: &[usize; 1024],
+    rows: &Rows,
+    stack: &mut [u16],
     area: &mut [u8],
     at: usize,
     procedure: usize,
 ) -> usize
-    requires { ⌜ Given (now plan) (now words) ⌝ }
+    requires { ⌜ Given (now plan) (now words) × (now rows ≡ itemRows) × (length (now stack) ≡ 8208) ⌝ }
     requires { ⌜ (procedure < procedures (now plan)) × (at + length (procedureAlone (now plan) procedure) ≤ length (now area)) ⌝ }
     ensures { λ r. ⌜ Wrote (now (area .entry)) at (procedureAlone (now (plan .entry)) procedure) (now (area .exit)) r ⌝ }
 {
     let parameters = layout::parameters(plan, procedure);
     let next = put_head(area, at, procedure, parameters);
     let root = layout::root(plan, procedure);
-    write_expression(words, root, area, next)
+    write_expression(words, rows, stack, root, area, next)
 }
 
 // The version and the volatile fields.
@@ -90,18 +95,21 @@ fn put_header(plan: &[u8], area: &mut [u8]) -> usize
 fn put_procedures(
     plan: &[u8],
     words: &[usize; 1024],
+    rows: &Rows,
+    stack: &mut [u16],
     area: &mut [u8],
     from: usize,
     count: usize,
 ) -> usize
-    requires { ⌜ Given (now plan) (now words) × (count ≡ procedures (now plan)) ⌝ }
+    requires { ⌜ Given (now plan) (now words) × (now rows ≡ itemRows) × (length (now stack) ≡ 8208) ⌝ }
+    requires { ⌜ count ≡ procedures (now plan) ⌝ }
     requires { ⌜ from + length (proceduresBehind (now plan)) ≤ length (now area) ⌝ }
     ensures { λ r. ⌜ Wrote (now (area .entry)) from (proceduresBehind (now (plan .entry))) (now (area .exit)) r ⌝ }
 {
     let mut at = from;
     let mut procedure = 1;
     while procedure < count {
-        at = put_procedure(plan, words, area, at, procedure);
+        at = put_procedure(plan, words, rows, stack, area, at, procedure);
         procedure += 1;
     }
     at
@@ -114,7 +122,9 @@ pub fn put_plan(plan: &[u8], words: &[usize; 1024], area: &mut [u8]) -> usize
 {
     let count = layout::procedures(plan);
     let root = layout::root(plan, 0);
+    let rows = rows::all();
+    let mut stack = [0u16; 8208];
     let main = put_header(plan, area);
-    let behind = write_expression(words, root, area, main);
-    put_procedures(plan, words, area, behind, count)
+    let behind = write_expression(words, &rows, &mut stack, root, area, main);
+    put_procedures(plan, words, &rows, &mut stack, area, behind, count)
 }

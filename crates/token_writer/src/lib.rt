@@ -47,7 +47,7 @@ fn operand(number: usize, word: usize) -> usize
 // The slot of a let, or none.
 fn binder(slot: usize) -> usize
     requires { ⌜ slot < 16 ⌝ }
-    ensures { λ r. ⌜ r ≡ binderOn slot ⌝ }
+    ensures { λ r. ⌜ (r ≡ binderOn slot) × (r < 65536) ⌝ }
 {
     if slot == 15 {
         return TOKEN + tokens::DASH;
@@ -58,7 +58,7 @@ fn binder(slot: usize) -> usize
 // An item of a row, of a term with these 40 bits.
 fn item(number: usize, word: usize) -> usize
     requires { ⌜ number < 256 ⌝ }
-    ensures { λ r. ⌜ r ≡ itemOf word number ⌝ }
+    ensures { λ r. ⌜ (r ≡ itemOf word number) × (r < 65536) ⌝ }
 {
     if number < SLOT {
         return TOKEN + number;
@@ -98,16 +98,16 @@ fn row_as(context: usize, tag: usize) -> usize
     if context == 8 { 25 } else { 26 }
 }
 
-fn push(stack: &mut [usize], top: usize, item: usize) -> usize
-    requires { ⌜ top < length (now stack) ⌝ }
+fn push(stack: &mut [u16], top: usize, item: usize) -> usize
+    requires { ⌜ (top < length (now stack)) × (item < 65536) ⌝ }
     ensures { λ r. ⌜ Pushed (now (stack .entry)) top (item ∷ []) (now (stack .exit)) r ⌝ }
 {
-    stack[top] = item;
+    stack[top] = item as u16;
     top + 1
 }
 
 // The items of a row, the first on top.
-fn push_items(stack: &mut [usize], top: usize, rows: &Rows, row: usize, word: usize) -> usize
+fn push_items(stack: &mut [u16], top: usize, rows: &Rows, row: usize, word: usize) -> usize
     requires { ⌜ (now rows ≡ itemRows) × (row < 28) × (top + 6 ≤ length (now stack)) ⌝ }
     ensures { λ r. ⌜ Pushed (now (stack .entry)) top (itemsFrom word row 2 (rowNumber row 1)) (now (stack .exit)) r ⌝ }
 {
@@ -123,7 +123,7 @@ fn push_items(stack: &mut [usize], top: usize, rows: &Rows, row: usize, word: us
 
 // The same, in parentheses where the place asks for more than the term's binding.
 fn push_row(
-    stack: &mut [usize],
+    stack: &mut [u16],
     top: usize,
     rows: &Rows,
     row: usize,
@@ -202,7 +202,7 @@ fn is_new(context: usize, tag: usize) -> bool
 fn step(
     words: &[usize; 1024],
     rows: &Rows,
-    stack: &mut [usize],
+    stack: &mut [u16],
     top: usize,
     area: &mut [u8],
     at: usize,
@@ -211,7 +211,7 @@ fn step(
     ensures { λ r. ⌜ Stepped (now (words .entry)) (now (area .entry)) at (now (stack .entry)) top (now (area .exit)) (now (stack .exit)) r ⌝ }
 {
     let below = top - 1;
-    let item = stack[below];
+    let item = stack[below] as usize;
     if item >= TOKEN {
         let next = text::put_byte(area, at, (item % 256) as u8);
         return Standing {
@@ -233,18 +233,24 @@ fn step(
     Standing { top: next, at: at }
 }
 
-// The tree of an expression, behind the tokens that are there.
-pub fn write_expression(words: &[usize; 1024], root: usize, area: &mut [u8], from: usize) -> usize
+// The tree of an expression, behind the tokens that are there, by the rows and a stack that are lent.
+pub fn write_expression(
+    words: &[usize; 1024],
+    rows: &Rows,
+    stack: &mut [u16],
+    root: usize,
+    area: &mut [u8],
+    from: usize,
+) -> usize
     requires { ⌜ Ordered (now words) × (root < 1024) ⌝ }
+    requires { ⌜ (now rows ≡ itemRows) × (length (now stack) ≡ 8208) ⌝ }
     requires { ⌜ from + length (shown loose (treeIn (now words) root)) ≤ length (now area) ⌝ }
     ensures { λ r. ⌜ Wrote (now (area .entry)) from (shown loose (treeIn (now (words .entry)) root)) (now (area .exit)) r ⌝ }
 {
-    let rows = rows::all();
-    let mut stack = [0usize; 8208];
-    let mut top = push(&mut stack, 0, root);
+    let mut top = push(stack, 0, root);
     let mut at = from;
     while top > 0 {
-        let next = step(words, &rows, &mut stack, top, area, at);
+        let next = step(words, rows, stack, top, area, at);
         top = next.top;
         at = next.at;
     }

@@ -16,7 +16,7 @@ add-result : tie.Need-add-result
 add-result c = search needs
 
 returns : tie.Need-returns
-returns c = sym (item-token _ _ (c .if1 .taken))
+returns c = (sym (item-token _ _ (c .if1 .taken)), omega arith)
 
 add-result-2 : tie.Need-add-result-2
 add-result-2 c = search needs
@@ -56,22 +56,22 @@ add-result-6 c = search needs
 
 returns-2 : tie.Need-returns-2
 unfolding itemOf
-returns-2 c = shifted _ _ (c .slot-of .ensures) ∙ sym (ap (itemOf _) (c .before .match .keys1))
+returns-2 c = (shifted _ _ (c .slot-of .ensures) ∙ sym (ap (itemOf _) (c .before .match .keys1)), search needs)
 
 returns-3 : tie.Need-returns-3
 unfolding itemOf
-returns-3 c = c .binder .ensures ∙ ap binderOn (c .before .slot-of2 .ensures) ∙ sym (ap (itemOf _) (c .before .before .match .keys2))
+returns-3 c = (c .binder .ensures .0 ∙ ap binderOn (c .before .slot-of2 .ensures) ∙ sym (ap (itemOf _) (c .before .before .match .keys2)), c .binder .ensures .1)
 
 returns-4 : tie.Need-returns-4
 unfolding itemOf
-returns-4 c = ap token (c .field-of .ensures) ∙ sym (ap (itemOf _) (c .before .match .keys3))
+returns-4 c = (ap token (c .field-of .ensures) ∙ sym (ap (itemOf _) (c .before .match .keys3)), search needs)
 
 returns-5 : tie.Need-returns-5
 unfolding itemOf
-returns-5 c = ap token (c .procedure-of .ensures) ∙ sym (ap (itemOf _) (c .before .match .keys4))
+returns-5 c = (ap token (c .procedure-of .ensures) ∙ sym (ap (itemOf _) (c .before .match .keys4)), search needs)
 
 returns-6 : tie.Need-returns-6
-returns-6 c = ap (child _) (c .operand .ensures .0) ∙ sym (item-child _ _ (c .before .before .if1 .left) (c .before .match .rest))
+returns-6 c = (ap (child _) (c .operand .ensures .0) ∙ sym (item-child _ _ (c .before .before .if1 .left) (c .before .match .rest)), omega (arith, c .operand .ensures .1))
 
 pub item-spec : {M : Type 1} → statement M
 item-spec =

@@ -4,6 +4,9 @@ use borrow.Author.Needs.{needs}
 use Rattle.token_writer.proofs.push.Statement.{statement}
 use Rattle.token_writer.proofs.push.Tie as tie
 
+cast-stack : tie.Need-cast-stack
+cast-stack c = search needs
+
 mul-stack : tie.Need-mul-stack
 mul-stack c = search needs
 
@@ -17,7 +20,7 @@ same-length : tie.Need-same-length
 same-length c = search needs
 
 returns : tie.Need-returns
-returns c = pushed-one _ _ _ (c .pre)
+returns c = pushed-one _ _ _ (c .pre .0)
 
 pub push-spec : {M : Type 1} → statement M
-push-spec = tie.close (tie.spec mul-stack slice-write-stack add-result same-length returns)
+push-spec = tie.close (tie.spec cast-stack mul-stack slice-write-stack add-result same-length returns)

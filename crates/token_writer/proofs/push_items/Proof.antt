@@ -44,7 +44,7 @@ push-requires c κs =
     let s = c .before .before .before .before .before .before .before in
     let l = c .before .before .before .before .loop in
     let n = items-length (s .args .word) (s .args .row) (2 + l .left) (rowNumber (s .args .row) 1 - l .left) in
-    omega (arith, few-items _ (s .pre .1), s .pre .2, l .inv .0, l .inv .1 .top, l .inv .1 .kept, n)
+    (omega (arith, few-items _ (s .pre .1), s .pre .2, l .inv .0, l .inv .1 .top, l .inv .1 .kept, n), c .item .ensures .1)
 
 loop-less : tie.Need-loop-less Inv-loop μ-loop
 loop-less c = search needs
@@ -52,7 +52,7 @@ loop-less c = search needs
 loop-again : tie.Need-loop-again Inv-loop μ-loop
 loop-again c =
     let l = c .before .before .before .before .before .before .before .loop .inv in
-    let x = c .before .before .before .item .ensures ∙ ap (itemOf _) (c .before .before .before .before .before .number2 .ensures .0) in
+    let x = c .before .before .before .item .ensures .0 ∙ ap (itemOf _) (c .before .before .before .before .before .number2 .ensures .0) in
     (omega (arith, l .0), pushed-as (items-back _ _ _ _ (c .before .before .before .before .before .before .loop-test .taken) (l .0)) (pushed-more (l .1) (pushed-as (ap (λ (y : ℕ). y ∷ []) x) (c .before .before .push .ensures))))
 
 same-length : tie.Need-same-length Inv-loop μ-loop

@@ -31,7 +31,7 @@ push-requires-2 c κs =
     let s = c .before .before .before .before .before .before .before .before .before .before .before .before in
     let p = c .before .before .before .before .before .before .before .push .ensures in
     let q = c .before .before .before .push-items .ensures in
-    omega (arith, s .pre .2, p .top, p .kept, q .top, q .kept, few-items _ (s .pre .1), items-length (s .args .word) (s .args .row) 2 (rowNumber (s .args .row) 1))
+    (omega (arith, s .pre .2, p .top, p .kept, q .top, q .kept, few-items _ (s .pre .1), items-length (s .args .word) (s .args .row) 2 (rowNumber (s .args .row) 1)), omega arith)
 
 same-length : tie.Need-same-length
 same-length c = c .before .before .push2 .ensures .kept ∙ c .before .before .before .before .before .before .push-items .ensures .kept ∙ c .before .before .before .before .before .before .before .before .before .before .push .ensures .kept

@@ -1,5 +1,5 @@
 -- `step` meets its contract, by the kind of the item on top. Assumes nothing.
-use Prim.Native.Nat.{ℕ, _+_, _*_, _%_, _≤_, _<_}
+use Prim.Native.Nat.{ℕ, _+_, _-_, _*_, _%_, _≤_, _<_}
 use native.Mathlib.Omega.{arith}
 use mathlib.Core.Path.{_≡_}
 use mathlib.Core.List.{[], _∷_}
@@ -20,6 +20,9 @@ mul-item c = let p = c .before .before .pre in search (needs, p .inside)
 
 slice-read-item : tie.Need-slice-read-item
 slice-read-item c = let p = c .before .before .before .pre in omega (arith, p .some, p .inside, p .size)
+
+cast-item : tie.Need-cast-item
+cast-item c = omega (arith, c .slice-known3 .given (c .before .before .before .args .top - 1))
 
 cast-put-byte : tie.Need-cast-put-byte
 cast-put-byte c = search needs
@@ -90,6 +93,7 @@ step-spec =
     sub-below
     mul-item
     slice-read-item
+    cast-item
     cast-put-byte
     put-byte-requires
     same-length
