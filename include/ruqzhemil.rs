@@ -19,7 +19,8 @@ unsafe extern "C" {
     fn ruqzhemil_show(plan: *const u8, plan_len: usize, area: *mut u8, area_len: usize) -> u64;
     fn ruqzhemil_read(text: *const u8, text_len: usize, area: *mut u8, area_len: usize) -> u64;
     fn ruqzhemil_bound(plan: *const u8, plan_len: usize) -> u64;
-    fn ruqzhemil_witness(plan: *const u8, plan_len: usize, schedule: *const u8, schedule_len: usize, area: *mut u8, area_len: usize) -> u64;
+    fn ruqzhemil_witness(plan: *const u8, plan_len: usize, schedule: *const u8, schedule_len: usize, area: *mut u8, area_len: usize)
+        -> u64;
     fn ruqzhemil_first_interleaving(plan: *const u8, plan_len: usize, n: u64, area: *mut u8, area_len: usize) -> u64;
     fn ruqzhemil_next_interleaving(
         plan: *const u8,
@@ -85,9 +86,7 @@ pub fn first_interleaving(plan: &[u8], n: u64, area: &mut [u8]) -> u64 {
 }
 
 pub fn next_interleaving(plan: &[u8], n: u64, schedule: &[u8], area: &mut [u8]) -> u64 {
-    unsafe {
-        ruqzhemil_next_interleaving(plan.as_ptr(), plan.len(), n, schedule.as_ptr(), schedule.len(), area.as_mut_ptr(), area.len())
-    }
+    unsafe { ruqzhemil_next_interleaving(plan.as_ptr(), plan.len(), n, schedule.as_ptr(), schedule.len(), area.as_mut_ptr(), area.len()) }
 }
 
 pub fn charge(plan: &[u8], schedule: &[u8], option: u64) -> u64 {

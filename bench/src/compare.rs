@@ -1,8 +1,9 @@
-//! The library's answers beside the independent implementation's: the number, all bytes of the outcome and the whole of a lent area.
+//! The library's answers beside those of the independent implementation and of the tuned one: the number, all bytes of the outcome and the whole of a
+//! lent area.
 
-use crate::random::Random;
 use crate::library::{OUT_BYTES, PREVIEW_BYTES};
-use crate::{answers, generate, library};
+use crate::random::Random;
+use crate::{answers, generate, library, tuned};
 
 /// How many cases had each answer.
 #[derive(Default)]
@@ -46,23 +47,40 @@ impl Seen {
         let (first, later) = (&self.refusals[1..13], &self.refusals[13..27]);
         println!("  plans passed {}; refusals 1 to 12 {first:?}, 13 to 26 {later:?}", self.passed);
         println!("  runs end, race, no-thread, no-object, no-key, no-depth {:?}", self.stops);
-        println!("  threads absent, finished, ready, monitor, join, no field, no thread, lacking, notify, monitor not held {:?}", self.states);
+        println!(
+            "  threads absent, finished, ready, monitor, join, no field, no thread, lacking, notify, monitor not held {:?}",
+            self.states
+        );
         println!("  threads that learnt no key from another, some {:?}", self.learnt);
         println!("  logs ordered, unordered {:?}; data files {}; runs free, charged {:?}", self.judged, self.files, self.charges);
         println!("  picks passed over, moved, moved with a record, race, no room, stopped before {:?}", self.previews);
-        println!("  plans written as they were, otherwise {:?}; plans shown {}; plans with a total {}", self.plans, self.texts, self.bounds);
+        println!(
+            "  plans written as they were, otherwise {:?}; plans shown {}; plans with a total {}",
+            self.plans, self.texts, self.bounds
+        );
         println!("  texts read, no plans {:?}", self.read);
         println!("  interleavings begun, followed, over {:?}; witnesses {}", self.listed, self.witnesses);
         let alone = [self.passed, self.files, self.bounds, self.witnesses, self.texts];
         let counts: [&[usize]; 12] = [
-            first, later, &self.stops, &self.states, &self.learnt, &self.judged, &self.charges, &self.previews, &self.plans, &self.read, &self.listed, &alone,
+            first,
+            later,
+            &self.stops,
+            &self.states,
+            &self.learnt,
+            &self.judged,
+            &self.charges,
+            &self.previews,
+            &self.plans,
+            &self.read,
+            &self.listed,
+            &alone,
         ];
         assert!(counts.into_iter().flatten().min() > Some(&0), "an answer that no case had: more cases are needed");
     }
 }
 
 fn differ(what: &str, input: &[&[u8]], ours: &dyn std::fmt::Debug, theirs: &dyn std::fmt::Debug) -> ! {
-    println!("DIFFERENCE in {what}\n  library      {ours:x?}\n  independent  {theirs:x?}");
+    println!("DIFFERENCE in {what}\n  library      {ours:x?}\n  another      {theirs:x?}");
     for part in input {
         let hex: String = part.iter().map(|b| format!("{b:02x}")).collect();
         println!("  input {} bytes: {hex}", part.len());
@@ -77,8 +95,19 @@ fn same<T: PartialEq + std::fmt::Debug>(what: &str, input: &[&[u8]], ours: T, th
     ours
 }
 
+/// The tuned implementation's answer and the whole area, beside those that the other two agree on.
+fn tuned_same<T>(what: &str, input: &[&[u8]], answer: u64, after: &T, before: &T, entry: impl FnOnce(&mut T) -> u64)
+where
+    T: Clone + PartialEq + std::fmt::Debug,
+{
+    let mut area = before.clone();
+    let theirs = entry(&mut area);
+    same(&format!("the tuned {what}"), input, (answer, after), (theirs, &area));
+}
+
 fn check(plan: &[u8], seen: &mut Seen) {
-    match same("check", &[plan], library::check(plan), answers::check(plan)) {
+    let answer = same("check", &[plan], library::check(plan), answers::check(plan));
+    match same("the tuned check", &[plan], answer, tuned::check(plan)) {
         0 => seen.passed += 1,
         answer => seen.refused(answer),
     }
@@ -90,8 +119,9 @@ fn play(plan: &[u8], schedule: &[u8], area: &[u8], before: [u8; OUT_BYTES], seen
     let input = [plan, schedule, area, &before];
     let answer = library::play(plan, schedule, &mut ours.0, &mut ours.1);
     same("play", &input, answer, answers::play(plan, schedule, &mut theirs.0, &mut theirs.1));
-    let out = same("the outcome", &input, ours.1, theirs.1);
-    let area = same("the log area", &input, ours.0, theirs.0);
+    same("the outcome and the log area", &input, &ours, &theirs);
+    tuned_same("play", &input, answer, &ours, &(area.to_vec(), before), |area| tuned::play(plan, schedule, &mut area.0, &mut area.1));
+    let (area, out) = ours;
     if answer != 0 {
         seen.refused(answer);
         return None;
@@ -102,7 +132,9 @@ fn play(plan: &[u8], schedule: &[u8], area: &[u8], before: [u8; OUT_BYTES], seen
 }
 
 fn judge(version: u64, log: &[u8], seen: &mut Seen) {
-    seen.judgement(same("judge", &[&version.to_be_bytes(), log], library::judge(version, log), answers::judge(version, log)));
+    let input = [&version.to_be_bytes(), log];
+    let answer = same("judge", &input, library::judge(version, log), answers::judge(version, log));
+    seen.judgement(same("the tuned judge", &input, answer, tuned::judge(version, log)));
 }
 
 /// Some pick after some of the schedule's picks: mostly those around the place where the run stopped.
@@ -121,8 +153,10 @@ fn preview(random: &mut Random, plan: &[u8], schedule: &[u8], picks: usize, seen
     let (mut ours, mut theirs) = (before, before);
     let (schedule, told) = (&schedule[..length], pick.to_be_bytes());
     let input = [plan, schedule, &told[..], &before];
-    let answer = same("preview", &input, library::preview(plan, schedule, pick, &mut ours), answers::preview(plan, schedule, pick, &mut theirs));
+    let answer =
+        same("preview", &input, library::preview(plan, schedule, pick, &mut ours), answers::preview(plan, schedule, pick, &mut theirs));
     let out = same("the preview's bytes", &input, ours, theirs);
+    tuned_same("preview", &input, answer, &out, &before, |out| tuned::preview(plan, schedule, pick, out));
     if answer == 0 {
         seen.previews[usize::from(out[0])] += 1;
     }
@@ -131,6 +165,7 @@ fn preview(random: &mut Random, plan: &[u8], schedule: &[u8], picks: usize, seen
 fn charge(plan: &[u8], schedule: &[u8], option: u64, seen: &mut Seen) {
     let input = [plan, schedule, &option.to_be_bytes()[..]];
     let answer = same("charge", &input, library::charge(plan, schedule, option), answers::charge(plan, schedule, option));
+    same("the tuned charge", &input, answer, tuned::charge(plan, schedule, option));
     if answer >> 32 != 2 {
         seen.charges[usize::from(answer > 0)] += 1;
     }
@@ -138,6 +173,7 @@ fn charge(plan: &[u8], schedule: &[u8], option: u64, seen: &mut Seen) {
 
 fn bound(plan: &[u8], seen: &mut Seen) {
     let answer = same("bound", &[plan], library::bound(plan), answers::bound(plan));
+    same("the tuned bound", &[plan], answer, tuned::bound(plan));
     match answer >> 32 {
         2 => seen.refused(answer),
         _ => seen.bounds += 1,
@@ -150,7 +186,9 @@ fn witness(plan: &[u8], schedule: &[u8], area: &[u8], seen: &mut Seen) {
         let (mut ours, mut theirs) = (area.to_vec(), area.to_vec());
         let input = [plan, schedule, area];
         let answer = same("witness", &input, library::witness(plan, schedule, &mut ours), answers::witness(plan, schedule, &mut theirs));
-        (answer, same("the witness's area", &input, ours, theirs))
+        let written = same("the witness's area", &input, ours, theirs);
+        tuned_same("witness", &input, answer, &written, &area.to_vec(), |area| tuned::witness(plan, schedule, area));
+        (answer, written)
     };
     let (answer, written) = once(area);
     if answer >> 32 == 2 {
@@ -179,6 +217,7 @@ fn interleavings(random: &mut Random, plan: &[u8], other: &[u8], seen: &mut Seen
     let answer = library::first_interleaving(plan, n, &mut ours);
     same("first_interleaving", &input, answer, answers::first_interleaving(plan, n, &mut theirs));
     let mut schedule = same("the first interleaving's area", &input, ours, theirs);
+    tuned_same("first_interleaving", &input, answer, &schedule, &area, |area| tuned::first_interleaving(plan, n, area));
     if answer >> 32 == 2 {
         seen.refused(answer);
         schedule = other.to_vec();
@@ -192,6 +231,7 @@ fn interleavings(random: &mut Random, plan: &[u8], other: &[u8], seen: &mut Seen
         let answer = library::next_interleaving(plan, n, &schedule, &mut ours);
         same("next_interleaving", &input, answer, answers::next_interleaving(plan, n, &schedule, &mut theirs));
         let written = same("the following interleaving's area", &input, ours, theirs);
+        tuned_same("next_interleaving", &input, answer, &written, &area, |area| tuned::next_interleaving(plan, n, &schedule, area));
         match answer >> 32 {
             0 => seen.listed[1] += 1,
             1 => seen.listed[2] += 1,
@@ -213,6 +253,7 @@ fn canonical(random: &mut Random, plan: &[u8], seen: &mut Seen) {
     let input = [plan, &area];
     let answer = same("canonical", &input, library::canonical(plan, &mut ours), answers::canonical(plan, &mut theirs));
     let written = same("the written plan's area", &input, ours, theirs);
+    tuned_same("canonical", &input, answer, &written, &area, |area| tuned::canonical(plan, area));
     if answer >> 32 == 2 {
         seen.refused(answer);
         return;
@@ -229,7 +270,8 @@ fn show(plan: &[u8], area: &[u8], seen: &mut Seen) {
         let (mut ours, mut theirs) = (area.to_vec(), area.to_vec());
         let input = [plan, area];
         let answer = same("show", &input, library::show(plan, &mut ours), answers::show(plan, &mut theirs));
-        same("the text's area", &input, ours, theirs);
+        let written = same("the text's area", &input, ours, theirs);
+        tuned_same("show", &input, answer, &written, &area.to_vec(), |area| tuned::show(plan, area));
         answer
     };
     let answer = once(area);
@@ -283,7 +325,8 @@ fn comtrade_once(log: &[u8], area: &[u8]) -> u64 {
     let (mut ours, mut theirs) = (area.to_vec(), area.to_vec());
     let input = [log, area];
     let answer = same("comtrade", &input, library::comtrade(log, &mut ours), answers::comtrade(log, &mut theirs));
-    same("the data file's area", &input, ours, theirs);
+    let written = same("the data file's area", &input, ours, theirs);
+    tuned_same("comtrade", &input, answer, &written, &area.to_vec(), |area| tuned::comtrade(log, area));
     answer
 }
 

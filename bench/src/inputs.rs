@@ -38,7 +38,7 @@ fn picks(threads: usize, count: usize) -> Vec<u8> {
 }
 
 /// Loops that never end, so that almost every pick moves.
-fn moving() -> Vec<Input> {
+pub fn moving() -> Vec<Input> {
     let item = || read(var(0), 2);
     let two = picks(2, 4096);
     let locked = repeat(yes(), synch(var(0), read(var(0), 1)));
@@ -72,7 +72,7 @@ fn moving() -> Vec<Input> {
 }
 
 /// Picks that are passed over: of threads most of which are absent; of one that is there and is finished, stuck, or waiting for itself or for a monitor.
-fn passed() -> Vec<Input> {
+pub fn passed() -> Vec<Input> {
     let waits = bind(0, object(), bind(1, fork(read(var(0), 1)), join(var(1))));
     let held = sequence(fork(synch(null(), null())), synch(null(), join(null())));
     let second = [vec![0; 16], vec![1; 4080]].concat();
@@ -101,6 +101,15 @@ pub fn racing() -> Input {
 fn random_plan(size: usize) -> Vec<u8> {
     let random = &mut Random::new(size as u64);
     (0..200).map(|_| generate::any(random, size)).filter(|p| crate::library::check(p) == 0).max_by_key(Vec::len).unwrap()
+}
+
+/// Counts of terms, and for each many random plans of about so many: too many for a processor to learn their turns.
+pub fn random_plans() -> Vec<(usize, Vec<Vec<u8>>)> {
+    let plans = |size: usize| {
+        let random = &mut Random::new(3 * size as u64);
+        std::iter::repeat_with(move || generate::any(random, size)).filter(|p| crate::library::check(p) == 0).take(32).collect()
+    };
+    [40, 80, 200, 400].map(|size| (size, plans(size))).into()
 }
 
 /// What is timed.

@@ -129,7 +129,12 @@ pub fn pack(mask: u32, procedures: &[Procedure], order: Order, random: &mut Rand
     let header = 1 << 28 | (procedures.len() as u32 & 63) << 22 | (words.len() as u32 & 4095) << 10;
     let mut plan = header.to_be_bytes().to_vec();
     plan.extend(mask.to_be_bytes());
-    plan.extend(procedures.iter().zip(roots).flat_map(|((parameters, _), root)| ((*parameters as u16 & 15) << 12 | root as u16 & 4095).to_be_bytes()));
+    plan.extend(
+        procedures
+            .iter()
+            .zip(roots)
+            .flat_map(|((parameters, _), root)| ((*parameters as u16 & 15) << 12 | root as u16 & 4095).to_be_bytes()),
+    );
     plan.extend(words.iter().flat_map(|word| word.to_be_bytes().into_iter().skip(3)));
     plan
 }

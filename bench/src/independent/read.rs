@@ -4,8 +4,28 @@ use super::Refusal;
 
 // tokens: 0 to 31 are numbers, 32 to 39 variables, 40 to 61 words, and then the marks, the end of the text and what is no token
 const WORDS: [&str; 22] = [
-    "version", "volatile", "procedure", "in", "then", "else", "do", "all", "and", "true", "not", "null", "new", "let", "if", "while", "call", "fork", "join",
-    "synch", "wait", "notify",
+    "version",
+    "volatile",
+    "procedure",
+    "in",
+    "then",
+    "else",
+    "do",
+    "all",
+    "and",
+    "true",
+    "not",
+    "null",
+    "new",
+    "let",
+    "if",
+    "while",
+    "call",
+    "fork",
+    "join",
+    "synch",
+    "wait",
+    "notify",
 ];
 const PROCEDURE: u8 = 42;
 const IN: u8 = 43;

@@ -6,8 +6,8 @@ use super::{
 };
 
 const NUMBERS: [&str; 32] = [
-    "0", "1", "2", "3", "4", "5", "6", "7", "8", "9", "10", "11", "12", "13", "14", "15", "16", "17", "18", "19", "20", "21", "22", "23", "24", "25", "26",
-    "27", "28", "29", "30", "31",
+    "0", "1", "2", "3", "4", "5", "6", "7", "8", "9", "10", "11", "12", "13", "14", "15", "16", "17", "18", "19", "20", "21", "22", "23",
+    "24", "25", "26", "27", "28", "29", "30", "31",
 ];
 const VARIABLES: [&str; 8] = ["v0", "v1", "v2", "v3", "v4", "v5", "v6", "v7"];
 
@@ -170,7 +170,8 @@ fn begins_grouped(terms: &[Term; 1024], mut at: u16) -> bool {
 /// The length of the text.
 pub fn show(plan: &[u8], area: &mut [u8]) -> Result<usize, Refusal> {
     let checked = check(plan)?;
-    let mut writer = Writer { terms: &checked.terms, text: Vec::with_capacity(8 * plan.len()), line: 0, open: 0, breaks: false, close: true };
+    let mut writer =
+        Writer { terms: &checked.terms, text: Vec::with_capacity(8 * plan.len()), line: 0, open: 0, breaks: false, close: true };
     writer.put("version");
     writer.number(checked.version as u8);
     if checked.mask << 1 != 0 {

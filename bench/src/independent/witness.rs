@@ -15,7 +15,12 @@ struct Move {
 
 fn unpacked(bytes: &[u8]) -> Move {
     let bits = u32::from_be_bytes([0, bytes[0], bytes[1], bytes[2]]);
-    Move { kind: (bits >> 20) as u8, thread: (bits >> 17 & 7) as usize, object: (bits >> 12 & 31) as usize, field: (bits >> 7 & 31) as usize }
+    Move {
+        kind: (bits >> 20) as u8,
+        thread: (bits >> 17 & 7) as usize,
+        object: (bits >> 12 & 31) as usize,
+        field: (bits >> 7 & 31) as usize,
+    }
 }
 
 /// What leads on to a move that is kept: the moves of these threads, the releases of these monitors, the writes of these volatile fields.
@@ -73,7 +78,11 @@ pub fn witness(bytes: &[u8], schedule: &[u8], area: &mut [u8]) -> Result<usize, 
         .map(|&(thread, records)| {
             let logged = records > before;
             before = records;
-            if logged { record(records - 1) } else { Move { thread, ..Move::default() } }
+            if logged {
+                record(records - 1)
+            } else {
+                Move { thread, ..Move::default() }
+            }
         })
         .collect();
     let failing = record(outcome.records - 1);
