@@ -92,7 +92,7 @@ impl fmt::Display for Reason {
             Reason::Record => "a record with a wrong kind, column or spare bit, or lacking its key and not last",
             Reason::PlanArea => "an area shorter than the plan",
             Reason::Version => "a version other than 0 or 1 given to the judge",
-            Reason::LeftOut => "a plan of version 0, or with a wait, which have no witness",
+            Reason::LeftOut => "a plan of version 0, or with a wait, which are left out",
             Reason::NoRace => "a run without a missing key",
             Reason::ScheduleArea => "an area shorter than the schedule to be written",
             Reason::Bound => "a bound over 64",

@@ -3,7 +3,7 @@ use Prim.Native.Nat.{ℕ}
 use mathlib.Core.Path.{_≡_, refl}
 use mathlib.Core.List.{List, [], _∷_, map}
 use mathlib.Core.Option.{none}
-use Rattle.packed.specs.Syntax.{Expression, Condition, literal, end, argument}
+use Rattle.packed.specs.Syntax.{Expression, Condition, Signal, literal, end, argument}
 use Rattle.rules.specs.Context.{top, focus, depthOf}
 
 -- an expression, and the number of constructs around the part of it that moves next
@@ -33,6 +33,7 @@ samples =
     ∷ sample (Expression.write (literal 1) 1 part) 1
     ∷ sample (Expression.letIn none part part) 1
     ∷ sample (Expression.join part) 1
+    ∷ sample (Expression.signal Signal.wait part) 1
     ∷ sample (Expression.synch part part) 1
     ∷ sample (Expression.hold 0 part) 1
     ∷ sample (Expression.hold 0 (Expression.hold 1 (Expression.read part 1))) 3
