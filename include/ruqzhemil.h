@@ -400,9 +400,10 @@ uint64_t ruqzhemil_bound(const uint8_t *plan, size_t plan_len);
  * not 0, 15 percent more, a part of a cent counting as a whole one; 0 for a run that stops for room. An answer: the cents, at most 3,031. Refusals 1 to 9. */
 uint64_t ruqzhemil_charge(const uint8_t *plan, size_t plan_len, const uint8_t *schedule, size_t schedule_len, uint64_t option);
 
-/* Writes a log as an ASCII data file of IEEE C37.111-1999 (COMTRADE): a line for each record, with 32 digital values, of which value o is 1 where the last
- * acquire or release of object o so far is an acquire: on the log of a run, while its monitor is held. An answer: the file's length in bytes; area begins with the file and keeps its other bytes. Refusals 11, 12 and, where area
- * is too short for the whole file, 24 leave it as it was. The length depends on the count of records alone, and is at most RUQZHEMIL_MOST_FILE_BYTES. */
+/* Writes a log as an ASCII data file of IEEE C37.111-1999 (COMTRADE): a line for each record, with 32 digital values, of which value o is 1 where the
+ * last acquire or release of object o so far is an acquire: on the log of a run, while its monitor is held. An answer: the file's length in bytes; area
+ * begins with the file and keeps its other bytes. Refusals 11, 12 and, where area is too short for the whole file, 24 leave it as it was. The length
+ * depends on the count of records alone, and is at most RUQZHEMIL_MOST_FILE_BYTES. */
 uint64_t ruqzhemil_comtrade(const uint8_t *log, size_t log_len, uint8_t *area, size_t area_len);
 
 /* The version of a plan that passes the check, for the judge. */

@@ -34,4 +34,5 @@ actWrite g n h c o f v =
     (actedOf (goValue v) n (h .keys) (cellOf v 0 (joinOf (c .keys) (passedOf g (h .keys)))) (entryOf (kindNumber Kind.writev) o f v))
     (cond (leb 256 (n .keys))
     (act.NoRoom room.Key)
-    (actedOf (goValue v) (countsOf (n .threads) (n .objects) (n .keys + 1)) (learnOf (h .keys) (n .keys)) (cellOf v (n .keys) (c .keys)) (entryOf (kindNumber Kind.write) o f v)))
+    (actedOf (goValue v) (countsOf (n .threads) (n .objects) (n .keys + 1)) (learnOf (h .keys) (n .keys)) (cellOf v (n .keys) (c .keys))
+    (entryOf (kindNumber Kind.write) o f v)))

@@ -54,7 +54,8 @@ module _ (v : Version) (r : Run) (n : LastLacks (r .stop) (r .log))
           f (length (r .log) - 1) (unordered→conflicting (exact (length (r .log) - 1) (x .0) (x .1) (lacking-plain (x .0 .kind) k) .0 k))
 
   -- of the log in bytes, which are read back and not refused
-  judged-bytes : logOf (bytesOf (r .log)) ≡ r .log → logRefusal (bytesOf (r .log)) ≡ none → (a : Judged) → Answers v (bytesOf (r .log)) a → (x : Option ℕ) × (a ≡ named x) × NamedBy (r .stop) (length (r .log)) x
+  judged-bytes : logOf (bytesOf (r .log)) ≡ r .log → logRefusal (bytesOf (r .log)) ≡ none → (a : Judged) → Answers v (bytesOf (r .log)) a
+      → (x : Option ℕ) × (a ≡ named x) × NamedBy (r .stop) (length (r .log)) x
   judged-bytes w c (Judged.refused x) (refuses e) = absurd (true≢false cc)
   judged-bytes w c (Judged.named a) (judges e m) = (a, refl, named-by a (along (λ (L : List Record). Names v L a) w m) (r .stop) n)
 
@@ -112,7 +113,8 @@ unfolding programOf
 told-plan plan b a h = let known = accepted plan h .version-known in (told-known known, right-version known)
 
 -- a run's log has at most one access that nothing orders after the last write
-pub one-unordered : {g : Program} {ps : List ℕ} {r : Run} → Agreement g ps r → (i j : ℕ) → Unordered (g .version) (r .log) i → Unordered (g .version) (r .log) j → i ≡ j
+pub one-unordered : {g : Program} {ps : List ℕ} {r : Run} → Agreement g ps r → (i j : ℕ) → Unordered (g .version) (r .log) i
+    → Unordered (g .version) (r .log) j → i ≡ j
 one-unordered A i j u w =
     let a = A .stops i (u .access) (u .at-j) (u .plain) .1 u .is-last in
     let b = A .stops j (w .access) (w .at-j) (w .plain) .1 w .is-last in

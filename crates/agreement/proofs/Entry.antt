@@ -30,12 +30,14 @@ module _ (plan schedule area : List ℕ) (p : Played) (h : answered p ≡ played
   agrees-all = let a = passes plan schedule area p h e in agreement plan schedule (a .plan-passes) (a .few)
 
   -- what the judge says of the first bytes of the log area that the play leaves
-  module _ (after : List ℕ) (left : after ≡ areaAfter plan schedule area) (j : Judgement) (n : ℕ) (q : n ≡ 3 * p .outcome .records) (v : ℕ) (w : v ≡ version plan) (m : AnswersTold v (take n after) (judge.answered j)) where
+  module _ (after : List ℕ) (left : after ≡ areaAfter plan schedule area) (j : Judgement) (n : ℕ) (q : n ≡ 3 * p .outcome .records) (v : ℕ)
+      (w : v ≡ version plan) (m : AnswersTold v (take n after) (judge.answered j)) where
     answers : Answers (programOf plan .version) (bytesOf (runOf plan schedule .log)) (judge.answered j)
     answers =
         told-plan plan (bytesOf (runOf plan schedule .log)) (judge.answered j) (passes plan schedule area p h e .plan-passes) .0
         (along (λ (k : ℕ). AnswersTold k (bytesOf (runOf plan schedule .log)) (judge.answered j)) w
-        (along (λ (b : List ℕ). AnswersTold v b (judge.answered j)) (ap (λ (k : ℕ). take k after) (sym (sub-zero n)) ∙ begins plan schedule area p h e after left n q) m))
+        (along (λ (b : List ℕ). AnswersTold v b (judge.answered j)) (ap (λ (k : ℕ). take k after) (sym (sub-zero n))
+        ∙ begins plan schedule area p h e after left n q) m))
 
     stop-named : (x : Option ℕ) × (judge.answered j ≡ named x) × NamedBy (stopOf (p .outcome .stop)) (p .outcome .records) x
     stop-named = rw (stop-is plan schedule area p h e, records-are plan schedule area p h e) (agrees-all .judged (judge.answered j) answers)
@@ -51,7 +53,8 @@ module _ (plan schedule area : List ℕ) (p : Played) (h : answered p ≡ played
 
 -- ---- a play that is refused
 
-pub refused-agreed : (plan schedule : List ℕ) (p : Played) (k i : ℕ) → p .checked ≡ checked.Refused k i → AgreedOn plan schedule (record { played = p; judgement = judgement.Refused k i })
+pub refused-agreed : (plan schedule : List ℕ) (p : Played) (k i : ℕ) → p .checked ≡ checked.Refused k i
+    → AgreedOn plan schedule (record { played = p; judgement = judgement.Refused k i })
 refused-agreed plan schedule p k i e =
     record {
       chains = λ q. passed-refused q e;

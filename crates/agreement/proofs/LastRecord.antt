@@ -12,7 +12,8 @@ use Rattle.order.specs.Chains.{At}
 use Rattle.packed.specs.Syntax.{Expression, Program}
 use Rattle.records.specs.Record.{Record, lacksKey}
 use Rattle.rules.specs.State.{Thread, State}
-use Rattle.rules.specs.Rules.{Rule, Converts, E-CALL, E-LET, E-IF, E-WHILE, E-NEW, E-READ, E-WRITE, E-READV, E-WRITEV, E-FORK, E-JOIN, E-RE-ENTER, E-ACQUIRE, E-RELEASE, E-WAIT, E-WAKE, E-NOTIFY, E-NOTIFYALL, Moves, EVAL, EVALᶜ, LACKS-READ, LACKS-WRITE, Lacks, LACKS}
+use Rattle.rules.specs.Rules.{Rule, Converts, E-CALL, E-LET, E-IF, E-WHILE, E-NEW, E-READ, E-WRITE, E-READV, E-WRITEV, E-FORK, E-JOIN, E-RE-ENTER, E-ACQUIRE}
+use Rattle.rules.specs.Rules.{E-RELEASE, E-WAIT, E-WAKE, E-NOTIFY, E-NOTIFYALL, Moves, EVAL, EVALᶜ, LACKS-READ, LACKS-WRITE, Lacks, LACKS}
 use Rattle.rules.specs.Run.{Stop, end, race, noRoom, Run, logged, stopped, afterPass, afterMove}
 use Rattle.rules.specs.Execution.{Execution, ends, passes, lacks-key, no-room, moves}
 use Rattle.agreement.specs.Agreement.{StoppedAt}
@@ -23,7 +24,8 @@ abbrev Complete : Option Record → Type 0
 Complete none = Unit {0}
 Complete (some r) = T (not (lacksKey (r .kind)))
 
-complete : {g : Program} {s : State} {p : ℕ} {t : Thread} {e : Expression} {R : Rule} {r : Option Record} {s′ : State} {e′ : Expression} → Converts g s p t e R r s′ e′ → Complete r
+complete : {g : Program} {s : State} {p : ℕ} {t : Thread} {e : Expression} {R : Rule} {r : Option Record} {s′ : State} {e′ : Expression}
+    → Converts g s p t e R r s′ e′ → Complete r
 complete (E-CALL os hd hp) = tt
 complete E-LET = tt
 complete (E-IF b) = tt
@@ -71,11 +73,13 @@ only-one r k (suc j) x h = absurd (true≢false cc)
 not-first : (r x : Record) (L : List Record) → T (not (lacksKey (r .kind))) → At (r ∷ L) 0 x → T (lacksKey (x .kind)) → ⊥
 not-first r x L c h k = let e : r ≡ x = cc in T-not (lacksKey (r .kind)) c (along (λ (y : Record). T (lacksKey (y .kind))) (sym e) k)
 
-none-with : (r : Record) (L : List Record) → T (not (lacksKey (r .kind))) → ((j : ℕ) (x : Record) → At L j x → T (lacksKey (x .kind)) → ⊥) → (j : ℕ) (x : Record) → At (r ∷ L) j x → T (lacksKey (x .kind)) → ⊥
+none-with : (r : Record) (L : List Record) → T (not (lacksKey (r .kind))) → ((j : ℕ) (x : Record) → At L j x → T (lacksKey (x .kind)) → ⊥)
+    → (j : ℕ) (x : Record) → At (r ∷ L) j x → T (lacksKey (x .kind)) → ⊥
 none-with r L c n zero x h k = not-first r x L c h k
 none-with r L c n (suc j) x h k = n j x h k
 
-race-with : (r : Record) (L : List Record) → T (not (lacksKey (r .kind))) → LastLacks race L → (j : ℕ) (x : Record) → At (r ∷ L) j x → T (lacksKey (x .kind)) ↔ (suc j ≡ suc (length L))
+race-with : (r : Record) (L : List Record) → T (not (lacksKey (r .kind))) → LastLacks race L → (j : ℕ) (x : Record) → At (r ∷ L) j x
+    → T (lacksKey (x .kind)) ↔ (suc j ≡ suc (length L))
 race-with r L c n zero x h = (λ k. absurd (not-first r x L c h k), λ q. absurd (let b = n .0 in omega arith))
 race-with r L c n (suc j) x h = let w = n .1 j x h in (λ k. ap suc (w .0 k), λ q. w .1 (omega arith))
 
@@ -100,7 +104,8 @@ last-one : (r x : Record) (j : ℕ) → At (r ∷ []) j x → r ≡ x
 last-one r x zero h = cc
 last-one r x (suc j) h = absurd (true≢false cc)
 
-in-logged : (e : Option Record) (L : List Record) (j : ℕ) (x : Record) → 0 < length L → At (logged e L) j x → suc j ≡ length (logged e L) → (i : ℕ) × At L i x × (suc i ≡ length L)
+in-logged : (e : Option Record) (L : List Record) (j : ℕ) (x : Record) → 0 < length L → At (logged e L) j x → suc j ≡ length (logged e L)
+    → (i : ℕ) × At L i x × (suc i ≡ length L)
 unfolding logged
 in-logged none L j x b h q = (j, h, q)
 in-logged (some r) L zero x b h q = absurd (omega arith)
@@ -110,7 +115,8 @@ some-logged : {g : Program} {s : State} {ps : List ℕ} {r : Run} → Execution 
 some-logged x q = (rw q at (last-lacks x)) .0
 
 -- the last record of a run that stopped for want of a key is the access that the thread picked last lacks the key for
-pub last-access : {g : Program} {s : State} {ps : List ℕ} {r : Run} → Execution g s ps r → r .stop ≡ race → (j : ℕ) (x : Record) → At (r .log) j x → suc j ≡ length (r .log)
+pub last-access : {g : Program} {s : State} {ps : List ℕ} {r : Run} → Execution g s ps r → r .stop ≡ race → (j : ℕ) (x : Record) → At (r .log) j x
+    → suc j ≡ length (r .log)
     → (p : ℕ) × (getElem? ps (r .picks) ≡ some p) × Lacks g (r .final) p x
 unfolding stopped afterPass afterMove
 last-access ends q j x h l = absurd (true≢false cc)

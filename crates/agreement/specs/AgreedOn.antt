@@ -23,6 +23,7 @@ pub record AgreedOn (plan schedule : List ℕ) (r : PlayedAndJudged) : Type 0 wh
   pub judged : r .played .checked ≡ checked.Passed → Answers (programOf plan .version) (bytesOf (runOf plan schedule .log)) (answered (r .judgement))
   -- and by what the code answers of that run: "When a run stops for a missing key, the judge names that record or an earlier one; a judge that finds none
   -- means no missing key."
-  pub agrees : r .played .checked ≡ checked.Passed → (x : Option ℕ) × (answered (r .judgement) ≡ named x) × NamedBy (stopOf (r .played .outcome .stop)) (r .played .outcome .records) x
+  pub agrees : r .played .checked ≡ checked.Passed
+      → (x : Option ℕ) × (answered (r .judgement) ≡ named x) × NamedBy (stopOf (r .played .outcome .stop)) (r .played .outcome .records) x
   -- "A refused play has no run": no judge is asked, and the judgement is the play's own refusal
   pub refused : (k i : ℕ) → r .played .checked ≡ checked.Refused k i → r .judgement ≡ judgement.Refused k i

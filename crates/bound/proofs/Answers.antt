@@ -48,7 +48,8 @@ pub by-check : (b : List ℕ) (r : Checked) (k i : ℕ) → checked.answered r �
 unfolding bounded answerBy orElse checked.answered
 by-check b r k i e q =
     let s : refusal b ≡ some (record { number = k; place = i }) = sym e ∙ ap checked.answered q in
-    ap (λ (o : Option Refusal). answerBy o (total (programOf b))) (sym (bound-stages b ∙ ap (λ (x : Option Refusal). orElse x (firstRefusal (laterChecks b))) s))
+    ap (λ (o : Option Refusal). answerBy o (total (programOf b)))
+    (sym (bound-stages b ∙ ap (λ (x : Option Refusal). orElse x (firstRefusal (laterChecks b))) s))
 
 -- what is not false
 unless : (x : Bool) → (x ≡ false → ⊥) → x ≡ true
@@ -63,7 +64,8 @@ module _ {b words : List ℕ} {n : ℕ} (l : Loads b n words) where
     left-calls : (p : ℕ) → p < n → holds done p ≡ false → (q : ℕ) × (q < n) × (called (programOf b) p q ≡ true) × (holds done q ≡ false)
     left-calls p h f = go (anyBelow 32 (λ q. holds (getD sets p 0) q && not (holds done q))) refl
       where
-        go : (x : Bool) → anyBelow 32 (λ q. holds (getD sets p 0) q && not (holds done q)) ≡ x → (q : ℕ) × (q < n) × (called (programOf b) p q ≡ true) × (holds done q ≡ false)
+        go : (x : Bool) → anyBelow 32 (λ q. holds (getD sets p 0) q && not (holds done q)) ≡ x
+            → (q : ℕ) × (q < n) × (called (programOf b) p q ≡ true) × (holds done q ≡ false)
         go true e =
             let a = any-found 32 (λ q. holds (getD sets p 0) q && not (holds done q)) e in
             let c = both (holds (getD sets p 0) (a .0)) (not (holds done (a .0))) (a .2) in
@@ -79,11 +81,13 @@ module _ {b words : List ℕ} {n : ℕ} (l : Loads b n words) where
     left-leads zero p h f = refl
     left-leads (suc k) p h f =
         let a = left-calls p h f in
-        one-more (programOf b) k p (a .0) (counted-in b (l .passes) (a .0) (let i = a .1 in let m = l .procedures-are in omega arith)) (a .2) (left-leads k (a .0) (a .1) (a .3))
+        one-more (programOf b) k p (a .0) (counted-in b (l .passes) (a .0) (let i = a .1 in let m = l .procedures-are in omega arith)) (a .2)
+        (left-leads k (a .0) (a .1) (a .3))
 
     -- one is left
     pub left-cyclic : (p : ℕ) → p < n → holds done p ≡ false → cyclic (programOf b) ≡ true
-    left-cyclic p h f = long-cyclic (programOf b) p (counted-in b (l .passes) p (let m = l .procedures-are in omega arith)) (left-leads (procedureCount (programOf b)) p h f)
+    left-cyclic p h f = long-cyclic (programOf b) p (counted-in b (l .passes) p (let m = l .procedures-are in omega arith))
+        (left-leads (procedureCount (programOf b)) p h f)
 
   -- none is
   module _ {done : ℕ} {costs : List ℕ} (S : Settled b done costs) (all : (p : ℕ) → p < n → holds done p ≡ true) where
@@ -100,7 +104,8 @@ module _ {b words : List ℕ} {n : ℕ} (l : Loads b n words) where
     pub main-cost : getD costs 0 0 ≡ capped (bodyCost (programOf b) (procedureCount (programOf b)) 0)
     main-cost =
         S .by-depth .costs-are 0 main-there (all 0 (let m = l .procedures-are in let h = main-there in omega arith))
-        ∙ ap capped (sym (once (programOf b) (bodyCost (programOf b) (procedureCount (programOf b))) (fixed (programOf b) all-acyclic) (S .depth) 0 (all-end 0 (counted-in b (l .passes) 0 main-there))))
+        ∙ ap capped (sym (once (programOf b) (bodyCost (programOf b) (procedureCount (programOf b))) (fixed (programOf b) all-acyclic) (S .depth) 0
+        (all-end 0 (counted-in b (l .passes) 0 main-there))))
 
     -- and its total, which 65,536 moves stand for where it is more
     pub total-in : (v : ℕ) → v ≡ getD costs 0 0 + 1 → v ≡ min (total (programOf b)) 65537
@@ -125,7 +130,8 @@ module _ {b words : List ℕ} {n : ℕ} (l : Loads b n words) where
 
   pub answer-21 : cyclic (programOf b) ≡ true → refused (record { number = 21; place = 0 }) ≡ bounded b
   unfolding answerBy firstRefusal refuse
-  answer-21 e = let m : lowest (λ place. cyclic (programOf b)) 1 ≡ some 0 = whole (cyclic (programOf b)) e in said (some (record { number = 21; place = 0 })) (rw m)
+  answer-21 e = let m : lowest (λ place. cyclic (programOf b)) 1 ≡ some 0 =
+      whole (cyclic (programOf b)) e in said (some (record { number = 21; place = 0 })) (rw m)
 
   module _ (a : cyclic (programOf b) ≡ false) where
     m21 : lowest (λ place. cyclic (programOf b)) 1 ≡ none
@@ -142,12 +148,14 @@ module _ {b words : List ℕ} {n : ℕ} (l : Loads b n words) where
       pub answer-23 : 65535 < v → refused (record { number = 23; place = 0 }) ≡ bounded b
       unfolding answerBy firstRefusal refuse overMost
       answer-23 h =
-          let m : lowest (λ place. overMost (total (programOf b))) 1 ≡ some 0 = whole (overMost (total (programOf b))) (lt-ltb 65535 (total (programOf b)) (omega arith)) in
+          let m : lowest (λ place. overMost (total (programOf b))) 1 ≡ some 0 =
+          whole (overMost (total (programOf b))) (lt-ltb 65535 (total (programOf b)) (omega arith)) in
           said (some (record { number = 23; place = 0 })) (rw (m21, m22, m))
 
       pub answer-moves : v ≤ 65535 → value v ≡ bounded b
       unfolding answerBy firstRefusal refuse overMost
       answer-moves h =
-          let m : lowest (λ place. overMost (total (programOf b))) 1 ≡ none = whole-none (overMost (total (programOf b))) (le-ltb 65535 (total (programOf b)) (omega arith)) in
+          let m : lowest (λ place. overMost (total (programOf b))) 1 ≡ none =
+          whole-none (overMost (total (programOf b))) (le-ltb 65535 (total (programOf b)) (omega arith)) in
           let e : v ≡ total (programOf b) = omega arith in
           ap value e ∙ said none (rw (m21, m22, m))

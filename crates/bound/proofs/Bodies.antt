@@ -45,7 +45,8 @@ module _ (g : Program) (n q : ℕ) where
     callee-there (Expression.new fs) ρ w h = absurd (true≢false (sym h))
     callee-there (Expression.read e f) ρ w h = callee-there e ρ (w .2) h
     callee-there (Expression.write e f e′) ρ w h = one-of (calls q e) (calls q e′) (λ k. callee-there e ρ (w .2) k) (λ k. callee-there e′ ρ (w .3) k) h
-    callee-there (Expression.letIn x e e′) ρ w h = one-of (calls q e) (calls q e′) (λ k. callee-there e ρ (w .0) k) (λ k. callee-there e′ (bound x ρ) (w .1) k) h
+    callee-there (Expression.letIn x e e′) ρ w h =
+        one-of (calls q e) (calls q e′) (λ k. callee-there e ρ (w .0) k) (λ k. callee-there e′ (bound x ρ) (w .1) k) h
     callee-there (Expression.if c e e′) ρ w h =
         one-of (callsᶜ q c) (calls q e || calls q e′) (λ k. callee-thereᶜ c ρ (w .0) k)
         (λ k. one-of (calls q e) (calls q e′) (λ j. callee-there e ρ (w .1) j) (λ j. callee-there e′ ρ (w .2) j) k) h
@@ -125,8 +126,10 @@ module _ {b words : List ℕ} {n : ℕ} (l : Loads b n words) where
 
     pub root-call : {t : ℕ} → t ≡ root b p → Ordered words × (t < 1024)
     root-call e =
-        let a = accepted b (l .passes) in
-        (ordered b (procedures b) (terms b) (right-of b (l .passes)) words (l .loaded), omega (arith, e, a .each-procedure p inside-plan .root-below, a .few-terms))
+        let a = accepted b (l .passes) in (
+          ordered b (procedures b) (terms b) (right-of b (l .passes)) words (l .loaded),
+          omega (arith, e, a .each-procedure p inside-plan .root-below, a .few-terms),
+        )
 
     tree-there : {t : ℕ} → t ≡ root b p → treeIn words t ≡ treeAt b (root b p)
     tree-there e = tree-is b (procedures b) (terms b) (right-of b (l .passes)) words (l .loaded) _ ∙ ap (treeAt b) e

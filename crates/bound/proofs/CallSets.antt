@@ -55,7 +55,8 @@ module _ (T : ℕ → ℕ) (q : ℕ) (alone : (m : ℕ) → holds (T m) q ≡ eq
         (either (walked false T m e) (walked false T m e′) q ∙ ap₂ _||_ (found e m) (found e′ m) ∙ shared (holds m q) (calls q e) (calls q e′))
     found (Expression.while c e) n = after (holds n q) (callsᶜ q c) (calls q e) (foundᶜ c n) (found e (walkedᶜ false T n c))
     found (Expression.call m es) n =
-        after (holds n q) (callsᵃ q es) (eqb m q) (foundᵃ es n) (either (walkedᵃ false T n es) (T m) q ∙ ap (λ (x : Bool). holds (walkedᵃ false T n es) q || x) (alone m))
+        after (holds n q) (callsᵃ q es) (eqb m q) (foundᵃ es n)
+        (either (walkedᵃ false T n es) (T m) q ∙ ap (λ (x : Bool). holds (walkedᵃ false T n es) q || x) (alone m))
     found (Expression.fork e) n = found e n
     found (Expression.join e) n = found e n
     found (Expression.synch e e′) n = after (holds n q) (calls q e) (calls q e′) (found e n) (found e′ (walked false T n e))

@@ -58,7 +58,8 @@ module _ {bits : List ℕ} (B : Bits 32 bits) where
       go (no h) = rw (past m (omega (arith, h))) (omega arith)
 
   -- the set that the walk of a body comes to
-  module _ {b words : List ℕ} {n : ℕ} (l : Loads b n words) (p : ℕ) (h : p < n) {t : ℕ} (e : t ≡ root b p) {c : ℕ} (w : c ≡ walked false (entryOf bits) 0 (treeIn words t)) where
+  module _ {b words : List ℕ} {n : ℕ} (l : Loads b n words) (p : ℕ) (h : p < n) {t : ℕ} (e : t ≡ root b p) {c : ℕ}
+      (w : c ≡ walked false (entryOf bits) 0 (treeIn words t)) where
     pub set-each : (q : ℕ) → q < 32 → holds c q ≡ called (programOf b) p q
     set-each q k = ap (λ (x : ℕ). holds x q) w ∙ found (entryOf bits) q (alone q k) (treeIn words t) 0 ∙ rw (holds-empty q) (called-in l p h e q)
 
@@ -88,7 +89,8 @@ module _ {b words : List ℕ} {n : ℕ} (l : Loads b n words) {sets : List ℕ} 
       its-cost : v ≡ capped (bodyCost (programOf b) (suc (S .depth)) p)
       its-cost =
           w ∙ counted (entryOf costs) (bodyCost (programOf b) (S .depth)) (treeIn words t)
-          (λ q c. let y : called (programOf b) p q ≡ true = sym (called-in l p h r q) ∙ c in S .by-depth .costs-are q (callee-inside b (l .passes) p q y) (known q y)) 0 (omega arith)
+          (λ q c. let y : called (programOf b) p q ≡ true =
+          sym (called-in l p h r q) ∙ c in S .by-depth .costs-are q (callee-inside b (l .passes) p q y) (known q y)) 0 (omega arith)
           ∙ ap capped (let z = cost-in l p h r (S .depth) in omega arith)
 
       ends-all : (q : ℕ) → q < procedures b → holds (bitOr done (singleton p)) q ≡ true → leadsOn (programOf b) (suc (S .depth)) q ≡ false
@@ -98,7 +100,8 @@ module _ {b words : List ℕ} {n : ℕ} (l : Loads b n words) {sets : List ℕ} 
           go (inl y) = ends-still q (S .by-depth .ends q i y)
           go (inr y) = subst (λ (x : ℕ). leadsOn (programOf b) (suc (S .depth)) x ≡ false) (sym y) ends-here
 
-      costs-all : holds done p ≡ false → (q : ℕ) → q < procedures b → holds (bitOr done (singleton p)) q ≡ true → getD (set costs p v) q 0 ≡ capped (bodyCost (programOf b) (suc (S .depth)) q)
+      costs-all : holds done p ≡ false → (q : ℕ) → q < procedures b → holds (bitOr done (singleton p)) q ≡ true
+          → getD (set costs p v) q 0 ≡ capped (bodyCost (programOf b) (suc (S .depth)) q)
       costs-all f q i d = go (which done p q d)
         where
           go : (holds done q ≡ true) ⊎ (q ≡ p) → getD (set costs p v) q 0 ≡ capped (bodyCost (programOf b) (suc (S .depth)) q)
@@ -144,7 +147,8 @@ pub record Going (b sets : List ℕ) (n before x done : ℕ) (costs : List ℕ) 
   pub stuck : done ≡ before → (p : ℕ) → x ≤ p → p < n → holds before p ≡ false → subset (getD sets p 0) before ≡ false
 
 -- the next, which is y
-module _ {b words sets : List ℕ} {n before x done y : ℕ} {costs : List ℕ} (l : Loads b n words) (C : Called b n sets) (G : Going b sets n before x done costs) (e : y + 1 ≡ x) where
+module _ {b words sets : List ℕ} {n before x done y : ℕ} {costs : List ℕ} (l : Loads b n words) (C : Called b n sets) (G : Going b sets n before x done costs)
+    (e : y + 1 ≡ x) where
   below : y < n
   below = let i = G .inside in omega arith
 
@@ -182,5 +186,6 @@ module _ {b words sets : List ℕ} {n before x done y : ℕ} {costs : List ℕ} 
       same d = let i = G .grown in let u = grows done (singleton y) in omega arith
 
 -- all are passed
-pub round-stuck : {b words sets : List ℕ} {n before x done : ℕ} {costs : List ℕ} → Loads b n words → Going b sets n before x done costs → x ≤ 0 → done ≡ before → Stuck b sets before
+pub round-stuck : {b words sets : List ℕ} {n before x done : ℕ} {costs : List ℕ} → Loads b n words → Going b sets n before x done costs → x ≤ 0
+    → done ≡ before → Stuck b sets before
 round-stuck l G z d p h f = G .stuck d p (omega arith) (let e = l .procedures-are in omega arith) f

@@ -21,7 +21,8 @@ use Rattle.bound_slots.proofs.TermParts.{Tagged, firstOf, secondOf, Cal
 
 -- what is left of two operands
 abbrev pub Two : List ℕ → ℕ → ℕ → ℕ → ℕ → Rest → Type 0
-Two words x outer y inner r = (seen words r ≡ (closed (slots outer) (treeIn words x) && closed (slots inner) (treeIn words y))) × ((s : ℕ) → s < x → s < y → After s r)
+Two words x outer y inner r = (seen words r ≡ (closed (slots outer) (treeIn words x) && closed (slots inner) (treeIn words y))) × ((s : ℕ) → s < x → s < y
+    → After s r)
 
 -- what a call on two operands must show
 abbrev pub CallTwo : List ℕ → ℕ → ℕ → ℕ → Type 0
@@ -112,7 +113,8 @@ module _ (words : List ℕ) (o : Ordered words) (t m : ℕ) where
   all : {r : Rest} {x : Bool} → r ≡ told x → x ≡ closed (slots m) (treeIn words t) → Answer r
   all e h = rw e (seen-told words _ ∙ h, after-told t _)
 
-  rest-of : (r : Rest) (x outer y inner : ℕ) → Two words x outer y inner r → t < x → t < y → (closed (slots outer) (treeIn words x) && closed (slots inner) (treeIn words y)) ≡ closed (slots m) (treeIn words t) → Answer r
+  rest-of : (r : Rest) (x outer y inner : ℕ) → Two words x outer y inner r → t < x → t < y
+      → (closed (slots outer) (treeIn words x) && closed (slots inner) (treeIn words y)) ≡ closed (slots m) (treeIn words t) → Answer r
   rest-of r x outer y inner b h k e = (b .0 ∙ e, b .1 t h k)
 
   pub variable-left : {r : Rest} {x : Bool} → Tagged words t 1 → r ≡ told x → x ≡ bitOf m (slotOf words t) → Answer r
@@ -127,14 +129,16 @@ module _ (words : List ℕ) (o : Ordered words) (t m : ℕ) where
   unfolding nodeOf inWord layout table nodes expressionOf closed
   write-left r e b = let k = row-below words o t 4 e in rest-of r _ _ _ _ b (k .0) (k .1) (sym (ap (closed (slots m)) (expr-is words o t 4 e)))
 
-  pub let-left : (r : Rest) {inner : ℕ} → Tagged words t 5 → inner ≡ withSlot m (slotOf words t) → Two words (valueOf words t) m (bodyOf words t) inner r → Answer r
+  pub let-left : (r : Rest) {inner : ℕ} → Tagged words t 5 → inner ≡ withSlot m (slotOf words t) → Two words (valueOf words t) m (bodyOf words t) inner r
+      → Answer r
   unfolding nodeOf inWord layout table nodes expressionOf closed
   let-left r e i b =
       let k = row-below words o t 5 e in
       let q : slots _ ≡ bound (binderOf (slotOf words t)) (slots m) = ap slots i ∙ bound-is m (slotOf words t) in
       rest-of r _ _ _ _ b (k .0) (k .1) (rw q (sym (ap (closed (slots m)) (expr-is words o t 5 e))))
 
-  pub if-left : (r : Rest) → Tagged words t 6 → closedᶜ (slots m) (conditionIn words (firstOf words t)) ≡ true → Two words (secondOf words t) m (thirdOf words t) m r → Answer r
+  pub if-left : (r : Rest) → Tagged words t 6 → closedᶜ (slots m) (conditionIn words (firstOf words t)) ≡ true
+      → Two words (secondOf words t) m (thirdOf words t) m r → Answer r
   unfolding nodeOf inWord layout table nodes expressionOf closed
   if-left r e h b =
       let k = row-below words o t 6 e in

@@ -25,5 +25,6 @@ abbrev pub Call : List ℕ → ℕ → ℕ → Type 0
 Call words span x = (3 * (1024 - x) + 1 < span) × (Ordered words × (x < 1024))
 
 -- a term without children
-pub leaf-seen : (words : List ℕ) → Ordered words → (ρ : ℕ → Bool) (t : ℕ) {r : Bool} → word.tagOf (getD words t 0) < 3 → r ≡ closed ρ (leafIn (getD words t 0)) → closed ρ (treeIn words t) ≡ r
+pub leaf-seen : (words : List ℕ) → Ordered words → (ρ : ℕ → Bool) (t : ℕ) {r : Bool} → word.tagOf (getD words t 0) < 3
+    → r ≡ closed ρ (leafIn (getD words t 0)) → closed ρ (treeIn words t) ≡ r
 leaf-seen words o ρ t h e = ap (closed ρ) (leaf-is words o t h) ∙ sym e

@@ -30,7 +30,8 @@ module _ (plan area : List ℕ) where
   by-plan r k i e q = refused-first _ _ r k i e q ∙ sym stages
 
   -- the plan passes, and the area is too short
-  pub by-area : (h r : Checked) → answered h ≡ refusal plan → h ≡ Passed → length area < length plan → r ≡ Refused 13 0 → answered r ≡ canonicalRefusal plan area
+  pub by-area : (h r : Checked) → answered h ≡ refusal plan → h ≡ Passed → length area < length plan → r ≡ Refused 13 0
+      → answered r ≡ canonicalRefusal plan area
   unfolding answered refuse firstRefusal shortOutput
   by-area h r e q l p =
       let m : lowest (λ place. shortOutput plan area) 1 ≡ some 0 = whole (shortOutput plan area) (lt-ltb (length area) (length plan) l) in

@@ -18,7 +18,8 @@ use Rattle.written.proofs.Passes.{count-is, total-is, version-of, version-back,
 use Rattle.written.proofs.ReadBack.{heads, header-is}
 
 -- the last n bytes of the number in M bytes
-bytes-of-bits : (l : List ℕ) (i M n : ℕ) → ((j : ℕ) → getD l j 0 < 256) → n ≤ M → i + M ≤ length l → bytesOf n (bitsAt l (i * 8) (8 * M)) ≡ take n (drop (i + (M - n)) l)
+bytes-of-bits : (l : List ℕ) (i M n : ℕ) → ((j : ℕ) → getD l j 0 < 256) → n ≤ M → i + M ≤ length l
+    → bytesOf n (bitsAt l (i * 8) (8 * M)) ≡ take n (drop (i + (M - n)) l)
 unfolding bytesOf
 bytes-of-bits l i M zero b h k = refl
 bytes-of-bits l i M (suc n) b h k =
@@ -27,8 +28,10 @@ bytes-of-bits l i M (suc n) b h k =
     let wide : 8 * (M - suc n) + 8 + 8 * n ≡ 8 * M = omega arith in
     let at : i * 8 + 8 * (M - suc n) ≡ j * 8 = omega arith in
     let here : bitsAt l (i * 8) (8 * M) / 2 ^ (8 * n) % 256 ≡ getD l j 0 =
-    sym (field-of l (i * 8) (8 * (M - suc n)) 8 (8 * n) ∙ ap (λ (v : ℕ). bitsAt l (i * 8) v / 2 ^ (8 * n) % 256) wide) ∙ ap (λ (v : ℕ). bitsAt l v 8) at ∙ byte-at l j (b j) in
-    let rest : bytesOf n (bitsAt l (i * 8) (8 * M)) ≡ take n (drop (suc j) l) = bytes-of-bits l i M n b (omega arith) k ∙ ap (λ (v : ℕ). take n (drop v l)) (sym next) in
+    sym (field-of l (i * 8) (8 * (M - suc n)) 8 (8 * n) ∙ ap (λ (v : ℕ). bitsAt l (i * 8) v / 2 ^ (8 * n) % 256) wide) ∙ ap (λ (v : ℕ). bitsAt l v 8) at
+    ∙ byte-at l j (b j) in
+    let rest : bytesOf n (bitsAt l (i * 8) (8 * M)) ≡ take n (drop (suc j) l) = bytes-of-bits l i M n b (omega arith) k
+    ∙ ap (λ (v : ℕ). take n (drop v l)) (sym next) in
     ap₂ (λ (x : ℕ) (xs : List ℕ). x ∷ xs) here rest ∙ sym (ap (take (suc n)) (drop-cons l j 0 (omega arith)))
 
 -- the bytes of four bytes' bits
@@ -68,7 +71,17 @@ module _ (b : List ℕ) (small : (j : ℕ) → getD b j 0 < 256) (h : refusal b 
       let n = count-is b h in
       let m = total-is b h in
       let s = facts .spare-zero in
-      omega (arith, bits-add b 0 22 10, bits-add b 0 10 12, bits-add b 0 4 6, version-bits b, procedures-bits b, terms-bits b, spare-bits b, header-is (programOf b))
+      omega (
+        arith,
+        bits-add b 0 22 10,
+        bits-add b 0 10 12,
+        bits-add b 0 4 6,
+        version-bits b,
+        procedures-bits b,
+        terms-bits b,
+        spare-bits b,
+        header-is (programOf b),
+      )
 
   pub first-eight : take 8 b ≡ heads (programOf b)
   first-eight =

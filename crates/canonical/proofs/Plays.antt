@@ -23,7 +23,8 @@ abbrev logChecks : List ℕ → List ℕ → List Check
 logChecks schedule log = checkWhole 10 (shortArea schedule log) ∷ []
 
 module _ (schedule log : List ℕ) where
-  refusal-by : (plan : List ℕ) → playRefusal plan schedule log ≡ orElse (orElse (refusal plan) (firstRefusal (pickChecks schedule))) (firstRefusal (logChecks schedule log))
+  refusal-by : (plan : List ℕ)
+      → playRefusal plan schedule log ≡ orElse (orElse (refusal plan) (firstRefusal (pickChecks schedule))) (firstRefusal (logChecks schedule log))
   unfolding playRefusal playChecks scheduleChecks refusal
   refusal-by plan =
       refusal-append (scheduleChecks plan schedule) (logChecks schedule log)

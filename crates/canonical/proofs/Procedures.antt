@@ -43,7 +43,8 @@ from-length b p zero = ap length (from-none b p)
 from-length b p (suc n) = ap length (from-more b p n) ∙ ap suc (from-length b (suc p) n)
 
 rest-more : (b : List ℕ) (p : ℕ) → p < Format.procedures b → restFrom b p ≡ procedureAt b p ∷ restFrom b (suc p)
-rest-more b p h = let e : Format.procedures b - p ≡ suc (Format.procedures b - suc p) = omega arith in ap (proceduresFrom b p) e ∙ from-more b p (Format.procedures b - suc p)
+rest-more b p h = let e : Format.procedures b - p ≡ suc (Format.procedures b - suc p) = omega arith in ap (proceduresFrom b p) e
+    ∙ from-more b p (Format.procedures b - suc p)
 
 rest-none : (b : List ℕ) (p : ℕ) → Format.procedures b ≤ p → restFrom b p ≡ []
 rest-none b p h = let e : Format.procedures b - p ≡ 0 = omega arith in ap (proceduresFrom b p) e ∙ from-none b p
@@ -108,7 +109,8 @@ module _ (plan words : List ℕ) {area₀ : List ℕ} (r : Ready plan words area
 
     module _ (h : p < Format.procedures plan) where
       tree-same : expressionsIn words (root plan p) ≡ termsOf (procedureAt plan p .body)
-      tree-same = ap termsOf (tree-is plan (Format.procedures plan) (terms plan) right words (r .loaded) (root plan p)) ∙ ap termsOf (sym (body-is plan (r .passes) p))
+      tree-same = ap termsOf (tree-is plan (Format.procedures plan) (terms plan) right words (r .loaded) (root plan p))
+          ∙ ap termsOf (sym (body-is plan (r .passes) p))
 
       sizes : n + (size (expressionsIn words (root plan p)) + sizeOfAll (restFrom plan (suc p))) ≡ terms plan
       sizes =

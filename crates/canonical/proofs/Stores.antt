@@ -23,7 +23,8 @@ module _ {plan area₀ area : List ℕ} {i : ℕ} (c : Copied plan area₀ i are
         within = omega arith;
         same =
             ap (λ (l : List ℕ). set l i (getD plan i 0)) (c .same)
-            ∙ sym (ap (λ (k : ℕ). sets area₀ 0 (take k plan)) one ∙ ap (sets area₀ 0) (take-suc plan i 0 k) ∙ sets-append (take i plan) (getD plan i 0 ∷ []) area₀ 0 i long);
+            ∙ sym (ap (λ (k : ℕ). sets area₀ 0 (take k plan)) one ∙ ap (sets area₀ 0) (take-suc plan i 0 k)
+            ∙ sets-append (take i plan) (getD plan i 0 ∷ []) area₀ 0 i long);
       }
 
   pub copied-all : 8 ≤ i → area ≡ sets area₀ 0 (take 8 plan)

@@ -42,7 +42,8 @@ area-whole plan area small h long =
 -- ---- the answer
 
 module _ (plan area : List ℕ) where
-  pub refused-answer : (r : Checked) (k i : ℕ) → refusals.answered r ≡ canonicalRefusal plan area → r ≡ checked.Refused k i → (answered (Refused k i) ≡ canonicalAnswer plan area) × (area ≡ canonicalArea plan area)
+  pub refused-answer : (r : Checked) (k i : ℕ) → refusals.answered r ≡ canonicalRefusal plan area → r ≡ checked.Refused k i
+      → (answered (Refused k i) ≡ canonicalAnswer plan area) × (area ≡ canonicalArea plan area)
   unfolding refusals.answered canonicalAnswer answerBy canonicalArea areaBy
   refused-answer r k i e q =
       let s : canonicalRefusal plan area ≡ some (record { number = k; place = i }) = sym e ∙ ap refusals.answered q in
@@ -52,6 +53,11 @@ module _ (plan area : List ℕ) where
   unfolding refusals.answered
   passed-none r e q = sym e ∙ ap refusals.answered q
 
-  pub written-answer : {area₁ : List ℕ} → canonicalRefusal plan area ≡ none → area₁ ≡ overwrite (writtenPlan plan) area → (answered (Value (length plan)) ≡ canonicalAnswer plan area) × (area₁ ≡ canonicalArea plan area)
+  pub written-answer : {area₁ : List ℕ} → canonicalRefusal plan area ≡ none → area₁ ≡ overwrite (writtenPlan plan) area
+      → (answered (Value (length plan)) ≡ canonicalAnswer plan area) × (area₁ ≡ canonicalArea plan area)
   unfolding canonicalAnswer answerBy canonicalArea areaBy
-  written-answer s e = (ap value (sym (same-length plan (passes-both plan area s .0))) ∙ sym (ap (λ (o : Option Refusal). answerBy o (length (writtenPlan plan))) s), e ∙ sym (ap (areaBy plan area) s))
+  written-answer s e = (
+    ap value (sym (same-length plan (passes-both plan area s .0)))
+        ∙ sym (ap (λ (o : Option Refusal). answerBy o (length (writtenPlan plan))) s),
+    e ∙ sym (ap (areaBy plan area) s),
+  )

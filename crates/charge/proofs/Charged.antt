@@ -33,7 +33,8 @@ long-area plan schedule area long = play-stages plan schedule area ∙ go (sched
     go (some r) q = rw q
     go none q =
         let few = scheduled plan schedule q .few in
-        let right : lowest (λ place. shortArea schedule area) 1 ≡ none = whole-none (shortArea schedule area) (unfold shortArea in le-ltb _ (3 * length schedule) (omega arith)) in
+        let right : lowest (λ place. shortArea schedule area) 1 ≡ none =
+        whole-none (shortArea schedule area) (unfold shortArea in le-ltb _ (3 * length schedule) (omega arith)) in
         rw (q, right)
 
 module _ (plan schedule area : List ℕ) (p : Played) (h : answered p ≡ played plan schedule area) (long : 12288 ≤ length area) (option : Bool) where
@@ -55,8 +56,10 @@ module _ (plan schedule area : List ℕ) (p : Played) (h : answered p ≡ played
           absurd (true≢false cc)
 
   -- a run
-  pub ran-charge : p .checked ≡ checked.Passed → (n : ℕ) → n ≡ priceBy option (stopOf (p .outcome .stop)) (p .outcome .moves) → value n ≡ charged plan schedule option
+  pub ran-charge : p .checked ≡ checked.Passed → (n : ℕ) → n ≡ priceBy option (stopOf (p .outcome .stop)) (p .outcome .moves)
+      → value n ≡ charged plan schedule option
   unfolding charged answerBy chargeOf outcomeOf
   ran-charge e n q =
-      let none-refused : scheduleRefusal plan schedule ≡ none = sym (long-area plan schedule area long) ∙ not-refused plan schedule area (outcomeOf (p .outcome)) (ran-is plan schedule area p h e) in
+      let none-refused : scheduleRefusal plan schedule ≡ none = sym (long-area plan schedule area long)
+      ∙ not-refused plan schedule area (outcomeOf (p .outcome)) (ran-is plan schedule area p h e) in
       rw (q, none-refused) (ap (λ (x : run.Outcome). value (chargeOf option x)) (outcome-is plan schedule area p h e))

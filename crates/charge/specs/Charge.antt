@@ -1,4 +1,5 @@
--- What a checked plan is charged (document 02, E13): "Quotes are made from the move count. Given are plan, schedule and option, under checks 1 to 9." Assumes nothing.
+-- What a checked plan is charged (document 02, E13): "Quotes are made from the move count. Given are plan, schedule and option, under checks 1 to 9." Assumes
+-- nothing.
 use Prim.Native.Nat.{ℕ, _+_, _*_, _/_}
 use mathlib.Core.Bool.{Bool, cond}
 use mathlib.Core.List.{List}

@@ -19,7 +19,8 @@ three-parts x y z w = simp append-assoc
 
 pub channel-parts : (o : ℕ) → ((decimal (o + 1) ++ ascii ",object ") ++ decimal o) ++ ended (ascii ",,,0") ≡ channelLine o
 unfolding channelLine commaLine ascii
-channel-parts o = ap (λ (n : ℕ). ((decimal n ++ ascii ",object ") ++ decimal o) ++ ended (ascii ",,,0")) (add-one o) ∙ three-parts (decimal (suc o)) (ascii ",object ") (decimal o) (ended (ascii ",,,0"))
+channel-parts o = ap (λ (n : ℕ). ((decimal n ++ ascii ",object ") ++ decimal o) ++ ended (ascii ",,,0")) (add-one o)
+    ∙ three-parts (decimal (suc o)) (ascii ",object ") (decimal o) (ended (ascii ",,,0"))
 
 pub channel-length : (o : ℕ) → length (channelLine o) ≡ length (decimal (o + 1)) + length (decimal o) + 14
 unfolding ascii

@@ -99,11 +99,14 @@ feeds→ v r (ofWrites o f) h = at-place→ (isWrite (r .kind)) r o f h
 
 pub feeds← : (v : Version) (r : Record) (p : Port) → Feeds v r p → T (feeds v r p)
 feeds← v r (ofThread q) (inl e) = or← (eqb (r .thread) q) (sameKind (r .kind) fork && eqb (r .field) q) (inl (yes-eqb e))
-feeds← v r (ofThread q) (inr (e, g)) = or← (eqb (r .thread) q) (sameKind (r .kind) fork && eqb (r .field) q) (inr (yes-and (sameKind (r .kind) fork) (eqb (r .field) q) (sameKind← (r .kind) fork e) (yes-eqb g)))
+feeds← v r (ofThread q) (inr (e, g)) =
+    or← (eqb (r .thread) q) (sameKind (r .kind) fork && eqb (r .field) q)
+    (inr (yes-and (sameKind (r .kind) fork) (eqb (r .field) q) (sameKind← (r .kind) fork e) (yes-eqb g)))
 feeds← v r (ofMonitor o) (e, g) = yes-and (sameKind (r .kind) release) (eqb (r .object) o) (sameKind← (r .kind) release e) (yes-eqb g)
 feeds← v r (ofVolatile o f) (c, e, g, h) =
     yes-and (volatileOrders v && sameKind (r .kind) writev && eqb (r .object) o) (eqb (r .field) f)
-    (yes-and (volatileOrders v && sameKind (r .kind) writev) (eqb (r .object) o) (yes-and (volatileOrders v) (sameKind (r .kind) writev) (orders← v c) (sameKind← (r .kind) writev e)) (yes-eqb g))
+    (yes-and (volatileOrders v && sameKind (r .kind) writev) (eqb (r .object) o)
+    (yes-and (volatileOrders v) (sameKind (r .kind) writev) (orders← v c) (sameKind← (r .kind) writev e)) (yes-eqb g))
     (yes-eqb h)
 feeds← v r (ofAccesses o f) h = at-place← (isPlain (r .kind)) r o f h
 feeds← v r (ofWrites o f) h = at-place← (isWrite (r .kind)) r o f h
@@ -157,7 +160,8 @@ clock-bound v (r ∷ H) p u =
     bound-step (feeds v r p) (eqb (r .thread) u) (clock v H p u) (clock v H (ofThread (r .thread)) u) (reading (clock v H) (second v r) u) (count H u)
     (clock-bound v H p u) (clock-bound v H (ofThread (r .thread)) u) (reading-bound (clock v H) u (count H u) (λ q. clock-bound v H q u) (second v r))
 
-pub clock-fed : (v : Version) (r : Record) (H : List Record) (p : Port) (u : ℕ) → Feeds v r p → clock v (r ∷ H) p u ≡ max (clock v H p u) (gather v (clock v H) (count H) r u)
+pub clock-fed : (v : Version) (r : Record) (H : List Record) (p : Port) (u : ℕ) → Feeds v r p
+    → clock v (r ∷ H) p u ≡ max (clock v H p u) (gather v (clock v H) (count H) r u)
 clock-fed v r H p u o = cond-true (feeds v r p) (max (clock v H p u) (gather v (clock v H) (count H) r u)) (clock v H p u) (feeds← v r p o)
 
 pub clock-unfed : (v : Version) (r : Record) (H : List Record) (p : Port) (u : ℕ) → (Feeds v r p → ⊥) → clock v (r ∷ H) p u ≡ clock v H p u
@@ -169,4 +173,6 @@ own-max false A B n h = omega arith
 
 -- the clock of the record's own thread
 pub clock-own : (v : Version) (r : Record) (H : List Record) (u : ℕ) → clock v (r ∷ H) (ofThread (r .thread)) u ≡ gather v (clock v H) (count H) r u
-clock-own v r H u = clock-fed v r H (ofThread (r .thread)) u (inl refl) ∙ own-max (eqb (r .thread) u) (clock v H (ofThread (r .thread)) u) (reading (clock v H) (second v r) u) (count H u) (clock-bound v H (ofThread (r .thread)) u)
+clock-own v r H u = clock-fed v r H (ofThread (r .thread)) u (inl refl)
+    ∙ own-max (eqb (r .thread) u) (clock v H (ofThread (r .thread)) u) (reading (clock v H) (second v r) u) (count H u)
+    (clock-bound v H (ofThread (r .thread)) u)

@@ -74,7 +74,8 @@ came true false m C A B n h = go (decLe m C) (decLe m A)
 
 -- ---- clocks decide what reaches a port
 
-heard : (v : Version) (r : Record) (H : List Record) (q : Port) (u c : ℕ) → Draws v r q → c ≤ clock v H q u → (c ≤ clock v H (ofThread (r .thread)) u) ⊎ (c ≤ reading (clock v H) (second v r) u)
+heard : (v : Version) (r : Record) (H : List Record) (q : Port) (u c : ℕ) → Draws v r q → c ≤ clock v H q u
+    → (c ≤ clock v H (ofThread (r .thread)) u) ⊎ (c ≤ reading (clock v H) (second v r) u)
 heard v r H q u c n h = go (draws→ v r q n)
   where
     go : (ofThread (r .thread) ≡ q) ⊎ (second v r ≡ some q) → (c ≤ clock v H (ofThread (r .thread)) u) ⊎ (c ≤ reading (clock v H) (second v r) u)
@@ -84,17 +85,21 @@ heard v r H q u c n h = go (draws→ v r q n)
 pub reach→clock : (v : Version) {H : List Record} {i u c : ℕ} {p : Port} → Nth H i u c → Reach v i H p → c ≤ clock v H p u
 reach→clock v (newest a e g) (kept x) = let b = reach-below x in absurd (omega arith)
 reach→clock v {u = u} {p = p} (newest {r = r} {H = H} a e g) (made _ o) =
-    rw g (up-own (feeds v r p) (eqb (r .thread) u) (clock v H p u) (max (clock v H (ofThread (r .thread)) u) (reading (clock v H) (second v r) u)) (count H u) (feeds← v r p o) (yes-eqb a))
+    rw g (up-own (feeds v r p) (eqb (r .thread) u) (clock v H p u) (max (clock v H (ofThread (r .thread)) u) (reading (clock v H) (second v r) u)) (count H u)
+    (feeds← v r p o) (yes-eqb a))
 reach→clock v (newest a e g) (passed n x o) = let b = reach-below x in absurd (omega arith)
-reach→clock v {u = u} {c = c} {p = p} (older {r = r} {H = H} y) (kept x) = up-kept (feeds v r p) c (clock v H p u) (gather v (clock v H) (count H) r u) (reach→clock v y x)
+reach→clock v {u = u} {c = c} {p = p} (older {r = r} {H = H} y) (kept x) =
+    up-kept (feeds v r p) c (clock v H p u) (gather v (clock v H) (count H) r u) (reach→clock v y x)
 reach→clock v (older y) (made e o) = let b = nth-below y in absurd (omega arith)
 reach→clock v {u = u} {c = c} {p = p} (older {r = r} {H = H} y) (passed {q = q} n x o) =
     let h : c ≤ clock v H q u = reach→clock v y x in
     let k : c ≤ count H u = omega (arith, clock-bound v H q u) in
-    up-passed (feeds v r p) (eqb (r .thread) u) c (clock v H p u) (clock v H (ofThread (r .thread)) u) (reading (clock v H) (second v r) u) (count H u) (feeds← v r p o) (heard v r H q u c n h) k
+    up-passed (feeds v r p) (eqb (r .thread) u) c (clock v H p u) (clock v H (ofThread (r .thread)) u) (reading (clock v H) (second v r) u) (count H u)
+    (feeds← v r p o) (heard v r H q u c n h) k
 
 pub clock→reach : (v : Version) {H : List Record} {i u c : ℕ} (p : Port) → Nth H i u c → c ≤ clock v H p u → Reach v i H p
-clock→reach v {u = u} p (newest {r = r} {H = H} a e g) h = made e (feeds→ v r p (down-own (feeds v r p) (clock v H p u) (gather v (clock v H) (count H) r u) (count H u) (clock-bound v H p u) (rw g at h)))
+clock→reach v {u = u} p (newest {r = r} {H = H} a e g) h =
+    made e (feeds→ v r p (down-own (feeds v r p) (clock v H p u) (gather v (clock v H) (count H) r u) (count H u) (clock-bound v H p u) (rw g at h)))
 clock→reach v {i = i} {u = u} {c = c} p (older {r = r} {H = H} y) h =
     go (came (feeds v r p) (eqb (r .thread) u) c (clock v H p u) A B (count H u) h) (λ q. clock→reach v q y)
   where
@@ -104,7 +109,8 @@ clock→reach v {i = i} {u = u} {c = c} p (older {r = r} {H = H} y) h =
     B : ℕ
     B = reading (clock v H) (second v r) u
 
-    from : (m : Option Port) → second v r ≡ m → Feeds v r p → ((q : Port) → c ≤ clock v H q u → Reach v i H q) → c ≤ reading (clock v H) m u → Reach v i (r ∷ H) p
+    from : (m : Option Port) → second v r ≡ m → Feeds v r p → ((q : Port) → c ≤ clock v H q u → Reach v i H q) → c ≤ reading (clock v H) m u
+        → Reach v i (r ∷ H) p
     from none e o ih k = let z = nth-positive y in absurd (omega arith)
     from (some q) e o ih k = passed {q = q} (second-draws v r q e) (ih q k) o
 

@@ -124,9 +124,12 @@ module _ (v : Version) (H : List Record) (r : Record) where
       by : (w p : Bool) → isWrite (r .kind) ≡ w → isPlain (r .kind) ≡ p → Own u < clock v H (heldBy w p (r .thread) (r .object) (r .field)) u → Clash v H r
       by true p e g k =
           let t : T (isWrite (r .kind)) = rw e tt in
-          clash (ofAccesses (r .object) (r .field)) (λ w (a, x, y). record { earlier-plain = a; later-plain = write-plain (r .kind) t; same-object = x; same-field = y; one-writes = inr t }) k
+          clash (ofAccesses (r .object) (r .field))
+          (λ w (a, x, y). record { earlier-plain = a; later-plain = write-plain (r .kind) t; same-object = x; same-field = y; one-writes = inr t }) k
       by false true e g k =
-          clash (ofWrites (r .object) (r .field)) (λ w (a, x, y). record { earlier-plain = write-plain (w .kind) a; later-plain = rw g tt; same-object = x; same-field = y; one-writes = inl a }) k
+          clash (ofWrites (r .object) (r .field))
+          (λ w (a, x, y). record { earlier-plain = write-plain (w .kind) a; later-plain = rw g tt; same-object = x; same-field = y; one-writes = inl a })
+          k
       by false false e g k = absurd (omega arith)
 
   pub clashes← : Eight H → Clash v H r → T (clashes v H r)
@@ -141,7 +144,8 @@ module _ (v : Version) (H : List Record) (r : Record) where
       writes e (inl x) = x
       writes e (inr x) = absurd (subst T e x)
 
-      by : (w p : Bool) → isWrite (r .kind) ≡ w → isPlain (r .kind) ≡ p → Own (c .other .thread) < clock v H (heldBy w p (r .thread) (r .object) (r .field)) (c .other .thread)
+      by : (w p : Bool) → isWrite (r .kind) ≡ w → isPlain (r .kind) ≡ p
+          → Own (c .other .thread) < clock v H (heldBy w p (r .thread) (r .object) (r .field)) (c .other .thread)
       by true p e g = less (ofAccesses (r .object) (r .field)) (c .conflict .earlier-plain, c .conflict .same-object, c .conflict .same-field)
       by false true e g = less (ofWrites (r .object) (r .field)) (writes e (c .conflict .one-writes), c .conflict .same-object, c .conflict .same-field)
       by false false e g = absurd (subst T g (c .conflict .later-plain))

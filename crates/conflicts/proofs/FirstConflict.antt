@@ -136,7 +136,8 @@ unfoldable pub firstConflict : Version → List Record → Option ℕ
 unfolding lowest conflictsAt
 firstConflict v L = lowest (conflictsAt v L) (length L)
 
-pub names-lowest : (v : Version) (L : List Record) → Threads L → (j : ℕ) → T (conflictsAt v L j) → ((i : ℕ) → i < j → conflictsAt v L i ≡ false) → Names v L (some j)
+pub names-lowest : (v : Version) (L : List Record) → Threads L → (j : ℕ) → T (conflictsAt v L j) → ((i : ℕ) → i < j → conflictsAt v L i ≡ false)
+    → Names v L (some j)
 names-lowest v L few j h low = names-first (conflicting-decided v L few j .0 h) (λ i c. not-below i (conflicting-decided v L few i .1 c))
   where
     not-below : (i : ℕ) → T (conflictsAt v L i) → j ≤ i
@@ -185,7 +186,14 @@ unordered→conflicting u =
       index = u .last;
       at-index = u .is-last .at-i;
       before = u .is-last .before;
-      conflict = record { earlier-plain = write-plain (u .is-last .write-record .kind) writes; later-plain = u .plain; same-object = w .same-object; same-field = w .same-field; one-writes = inl writes };
+      conflict = record {
+        earlier-plain = write-plain (u .is-last .write-record .kind) writes;
+        later-plain = u .plain;
+        same-object =
+            w .same-object;
+        same-field = w .same-field;
+        one-writes = inl writes;
+      };
       no-chain = u .no-chain;
     }
 

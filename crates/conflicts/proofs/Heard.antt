@@ -40,7 +40,8 @@ pub nth-at : (H : List Record) (u c : ℕ) → 0 < c → c ≤ count H u → (i 
 nth-at [] u c h k = absurd (omega arith)
 nth-at (r ∷ H) u c h k = go (eqb (r .thread) u) (λ x. eqb→eq (r .thread) u x) k (decLe c (count H u)) (nth-at H u c h)
   where
-    go : (b : Bool) → (T b → r .thread ≡ u) → c ≤ cond b (suc (count H u)) (count H u) → Dec (c ≤ count H u) → (c ≤ count H u → (i : ℕ) × Nth H i u c) → (i : ℕ) × Nth (r ∷ H) i u c
+    go : (b : Bool) → (T b → r .thread ≡ u) → c ≤ cond b (suc (count H u)) (count H u) → Dec (c ≤ count H u) → (c ≤ count H u → (i : ℕ) × Nth H i u c)
+        → (i : ℕ) × Nth (r ∷ H) i u c
     go b e l (yes m) ih = let d = ih m in (d .0, older (d .1))
     go true e l (no m) ih = let k : c ≡ suc (count H u) = omega arith in (length H, newest (e tt) refl k)
     go false e l (no m) ih = absurd (m l)
@@ -61,7 +62,8 @@ pub record Missed (v : Version) (H : List Record) (t : ℕ) (p : Port) : Type 0 
   pub no-reach : Reach v index H (ofThread t) → ⊥
 
 pub behind→missed : (v : Version) (H : List Record) (t : ℕ) (p : Port) (u : ℕ) → clock v H (ofThread t) u < clock v H p u → Missed v H t p
-behind→missed v H t p u h = record { index = d .index; feeder = d .feeder; at-index = d .at-index; feeds = d .feeds; no-reach = λ x. not-heard (reach-on (d .up-to) x) }
+behind→missed v H t p u h =
+    record { index = d .index; feeder = d .feeder; at-index = d .at-index; feeds = d .feeds; no-reach = λ x. not-heard (reach-on (d .up-to) x) }
   where
     n : (i : ℕ) × Nth H i u (clock v H p u)
     n = nth-at H u (clock v H p u) (omega arith) (clock-bound v H p u)
@@ -72,7 +74,8 @@ behind→missed v H t p u h = record { index = d .index; feeder = d .feeder; at-
     not-heard : Reach v (n .0) H (ofThread t) → ⊥
     not-heard x = let k : clock v H p u ≤ clock v H (ofThread t) u = reach→clock v (n .1) x in omega arith
 
-pub missed→behind : (v : Version) (H : List Record) (t : ℕ) (p : Port) (m : Missed v H t p) → clock v H (ofThread t) (m .feeder .thread) < clock v H p (m .feeder .thread)
+pub missed→behind : (v : Version) (H : List Record) (t : ℕ) (p : Port) (m : Missed v H t p)
+    → clock v H (ofThread t) (m .feeder .thread) < clock v H p (m .feeder .thread)
 missed→behind v H t p m = go (decLe (n .0) (clock v H (ofThread t) (m .feeder .thread)))
   where
     n : (c : ℕ) × Nth H (m .index) (m .feeder .thread) c

@@ -190,7 +190,8 @@ module _ (words : List ℕ) (o : Ordered words) (t : ℕ) (b : Bool) (T : ℕ �
   unfolding nodeOf inWord layout table nodes expressionOf walked
   let-walked e p s q = q ∙ ap (λ (x : ℕ). then x (bodyOf words t)) (s ∙ ap (λ (x : ℕ). then x (valueOf words t)) p) ∙ is 5 e
 
-  pub if-walked : {m l y z r : ℕ} → Tagged words t 6 → m ≡ more b n 1 → l ≡ thenᶜ m (firstOf words t) → y ≡ then l (secondOf words t) → z ≡ then l (thirdOf words t) → r ≡ branches b y z → r ≡ here
+  pub if-walked : {m l y z r : ℕ} → Tagged words t 6 → m ≡ more b n 1 → l ≡ thenᶜ m (firstOf words t) → y ≡ then l (secondOf words t)
+      → z ≡ then l (thirdOf words t) → r ≡ branches b y z → r ≡ here
   unfolding nodeOf inWord layout table nodes expressionOf walked
   if-walked e p s u v q =
       let f = s ∙ ap (λ (x : ℕ). thenᶜ x (firstOf words t)) p in
@@ -204,7 +205,8 @@ module _ (words : List ℕ) (o : Ordered words) (t : ℕ) (b : Bool) (T : ℕ �
   unfolding nodeOf inWord layout table nodes expressionOf walked
   call-walked e p s q = q ∙ ap (λ (x : ℕ). called b x (T (procedureOf words t))) (s ∙ ap (λ (x : ℕ). thenᵃ x (argumentsOf words t)) p) ∙ is 8 e
 
-  pub synch-walked : {m k l r : ℕ} → Tagged words t 11 → m ≡ more b n 1 → k ≡ more b m 1 → l ≡ then k (firstOf words t) → r ≡ then l (secondOf words t) → r ≡ here
+  pub synch-walked : {m k l r : ℕ} → Tagged words t 11 → m ≡ more b n 1 → k ≡ more b m 1 → l ≡ then k (firstOf words t) → r ≡ then l (secondOf words t)
+      → r ≡ here
   unfolding nodeOf inWord layout table nodes expressionOf walked
   synch-walked e p d s q =
       q ∙ ap (λ (x : ℕ). then x (secondOf words t)) (s ∙ ap (λ (x : ℕ). then x (firstOf words t)) (d ∙ ap (λ (x : ℕ). more b x 1) p)) ∙ is 11 e
@@ -213,6 +215,7 @@ module _ (words : List ℕ) (o : Ordered words) (t : ℕ) (b : Bool) (T : ℕ �
   pub rest-walked : NoneOf (word.tagOf (wordOf words t)) (20 ∷ 19 ∷ 18 ∷ 11 ∷ 10 ∷ 9 ∷ 8 ∷ 7 ∷ 6 ∷ 5 ∷ 4 ∷ 3 ∷ 2 ∷ []) → n ≡ here
   unfolding nodeOf inWord layout table nodes expressionOf walked
   rest-walked h =
-      except (λ k. n ≡ walked b T n (expressionOf (treeIn words) (conditionIn words) (listIn words) (rowOf k (wordOf words t)))) (20 ∷ 19 ∷ 18 ∷ 11 ∷ 10 ∷ 9 ∷ 8 ∷ 7 ∷ 6 ∷ 5 ∷ 4 ∷ 3 ∷ 2 ∷ [])
+      except (λ k. n ≡ walked b T n (expressionOf (treeIn words) (conditionIn words) (listIn words) (rowOf k (wordOf words t))))
+      (20 ∷ 19 ∷ 18 ∷ 11 ∷ 10 ∷ 9 ∷ 8 ∷ 7 ∷ 6 ∷ 5 ∷ 4 ∷ 3 ∷ 2 ∷ [])
       refl refl tt tt tt tt tt tt tt tt tt tt refl refl refl refl refl refl tt tt tt (λ j. refl) (word.tagOf (wordOf words t)) h
       ∙ is (word.tagOf (wordOf words t)) refl

@@ -124,7 +124,8 @@ module _ (g : Program) where
   avoiding p S (q ∷ qs) a b = (minus-other p S q (b .0) ∙ a .0, avoiding p S qs (a .1) (b .1))
 
   -- procedures of S, each called by the one before it: one comes again, or S has more than were called
-  crowded : (n p : ℕ) (qs : List ℕ) (S : ℕ → Bool) → length qs ≤ n → p < procedureCount → Way p qs → S p ≡ true → Each (λ q. S q ≡ true) qs → Round n ⊎ (length qs < count S procedureCount)
+  crowded : (n p : ℕ) (qs : List ℕ) (S : ℕ → Bool) → length qs ≤ n → p < procedureCount → Way p qs → S p ≡ true → Each (λ q. S q ≡ true) qs
+      → Round n ⊎ (length qs < count S procedureCount)
   crowded n p [] S b h w i e = inr (let z = count-minus p S procedureCount h i in omega arith)
   crowded n p (q ∷ qs) S b h w i e = go (λ a. crowded n q qs (minus p S) (omega arith) (w .0) (w .2) (a .0) (a .1)) (seek p (q ∷ qs))
     where
@@ -132,7 +133,8 @@ module _ (g : Program) where
       counted (inl r) = inl r
       counted (inr l) = inr (let z = count-minus p S procedureCount h i in omega arith)
 
-      go : (Each (λ q. minus p S q ≡ true) (q ∷ qs) → Round n ⊎ (length qs < count (minus p S) procedureCount)) → Among p (q ∷ qs) ⊎ Each (λ q. q ≡ p → ⊥) (q ∷ qs)
+      go : (Each (λ q. minus p S q ≡ true) (q ∷ qs) → Round n ⊎ (length qs < count (minus p S) procedureCount))
+          → Among p (q ∷ qs) ⊎ Each (λ q. q ≡ p → ⊥) (q ∷ qs)
           → Round n ⊎ (suc (length qs) < count S procedureCount)
       go next (inl a) = let c = chain-to p p (q ∷ qs) w a in inl (p, c .0, h, (let k = c .1 in omega arith), c .2)
       go next (inr a) = counted (next (avoiding p S (q ∷ qs) e a))
@@ -143,7 +145,8 @@ module _ (g : Program) where
 
   -- as many calls as there are procedures lead on from one: there is a cycle
   found : (p : ℕ) → p < procedureCount → leadsOn g procedureCount p ≡ true → Round procedureCount
-  found p h e = let w = way procedureCount p e in go (w .1) (crowded procedureCount p (w .0) (λ x. true) (let l = w .1 in omega arith) h (w .2) refl (all-true (w .0)))
+  found p h e = let w =
+      way procedureCount p e in go (w .1) (crowded procedureCount p (w .0) (λ x. true) (let l = w .1 in omega arith) h (w .2) refl (all-true (w .0)))
     where
       go : {n : ℕ} → n ≡ procedureCount → Round procedureCount ⊎ (n < count (λ x. true) procedureCount) → Round procedureCount
       go l (inl r) = r
@@ -179,4 +182,5 @@ module _ (g : Program) where
 
   -- where calls do not lead on for ever from any procedure, they form no cycle
   pub ends-acyclic : (n : ℕ) → ((p : ℕ) → p < procedureCount → leadsOn g n p ≡ false) → cyclic g ≡ false
-  ends-acyclic n h = by-true (cyclic g) (λ e. let c = some-cycle e in true≢false (sym (round-leads (c .0) (c .1) (c .2) n) ∙ h (c .1) (chain-there (c .0) (c .1) (c .1) (c .2))))
+  ends-acyclic n h = by-true (cyclic g) (λ e. let c =
+      some-cycle e in true≢false (sym (round-leads (c .0) (c .1) (c .2) n) ∙ h (c .1) (chain-there (c .0) (c .1) (c .1) (c .2))))

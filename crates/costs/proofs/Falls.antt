@@ -12,7 +12,9 @@ use Rattle.records.specs.Record.{Record}
 use Rattle.rules.specs.Context.{plug, plugᶜ, literals, isTruth}
 use Rattle.rules.specs.Queue.{awake}
 use Rattle.rules.specs.State.{Thread, State, freshObject, changeAt, store, storeMonitor, addObject, gain, become, addThread, useKey, enqueue, signalled}
-use Rattle.rules.specs.Rules.{Rule, Converts, E-CALL, E-LET, E-IF, E-WHILE, E-NEW, E-READ, E-WRITE, E-READV, E-WRITEV, E-FORK, E-JOIN, E-RE-ENTER, E-ACQUIRE, E-RELEASE, E-WAIT, E-WAKE, E-NOTIFY, E-NOTIFYALL, Convertsᶜ, E-NOTNOTTRUE, E-ANDTRUE, E-ANDFALSE, E-EQUALTRUE, E-EQUALFALSE, Moves, EVAL, EVALᶜ}
+use Rattle.rules.specs.Rules.{Rule, Converts, E-CALL, E-LET, E-IF, E-WHILE, E-NEW, E-READ, E-WRITE, E-READV, E-WRITEV, E-FORK, E-JOIN, E-RE-ENTER, E-ACQUIRE}
+use Rattle.rules.specs.Rules.{E-RELEASE, E-WAIT, E-WAKE, E-NOTIFY, E-NOTIFYALL, Convertsᶜ, E-NOTNOTTRUE, E-ANDTRUE, E-ANDFALSE, E-EQUALTRUE, E-EQUALFALSE}
+use Rattle.rules.specs.Rules.{Moves, EVAL, EVALᶜ}
 use Rattle.rules.specs.Run.{Run, stopped, afterPass, afterMove}
 use Rattle.rules.specs.Execution.{Execution, ends, passes, lacks-key, no-room, moves}
 use Rattle.rules.proofs.StateLaws.{inside, added, added-old, who}
@@ -26,13 +28,16 @@ abbrev expressions : List Thread → List Expression
 expressions ts = map (λ (t : Thread). t .expression) ts
 
 -- a thread of the one has its like in the other
-alike : (ts us : List Thread) → expressions ts ≡ expressions us → (i : ℕ) (t : Thread) → getElem? ts i ≡ some t → (u : Thread) × (getElem? us i ≡ some u) × (t .expression ≡ u .expression)
+alike : (ts us : List Thread) → expressions ts ≡ expressions us → (i : ℕ) (t : Thread) → getElem? ts i ≡ some t
+    → (u : Thread) × (getElem? us i ≡ some u) × (t .expression ≡ u .expression)
 alike [] us e i t h = absurd (true≢false cc)
 alike (x ∷ ts) [] e i t h = absurd (true≢false cc)
-alike (x ∷ ts) (y ∷ us) e zero t h = let q : x ≡ t = cc in let k : x .expression ≡ y .expression = cc in (y, refl, along (λ (z : Thread). z .expression ≡ y .expression) q k)
+alike (x ∷ ts) (y ∷ us) e zero t h = let q : x ≡ t = cc in let k : x .expression ≡ y .expression =
+    cc in (y, refl, along (λ (z : Thread). z .expression ≡ y .expression) q k)
 alike (x ∷ ts) (y ∷ us) e (suc i) t h = alike ts us (cc) i t h
 
-same-changed : (ts : List Thread) (p : ℕ) (h : Thread → Thread) → ((x : Thread) → h x .expression ≡ x .expression) → expressions (changeAt ts p h) ≡ expressions ts
+same-changed : (ts : List Thread) (p : ℕ) (h : Thread → Thread) → ((x : Thread) → h x .expression ≡ x .expression)
+    → expressions (changeAt ts p h) ≡ expressions ts
 unfolding changeAt
 same-changed [] p h k = refl
 same-changed (x ∷ ts) zero h k = ap (λ (e : Expression). e ∷ expressions ts) (k x)
@@ -57,10 +62,13 @@ module _ (B : ℕ → ℕ) where
   abbrev pub sum : List Thread → ℕ
   sum ts = measures (expressions ts)
 
-  sum-change : (ts : List Thread) (p : ℕ) (h : Thread → Thread) (t : Thread) → getElem? ts p ≡ some t → sum (changeAt ts p h) + measure B (t .expression) ≡ sum ts + measure B (h t .expression)
+  sum-change : (ts : List Thread) (p : ℕ) (h : Thread → Thread) (t : Thread) → getElem? ts p ≡ some t
+      → sum (changeAt ts p h) + measure B (t .expression) ≡ sum ts + measure B (h t .expression)
   unfolding changeAt
   sum-change [] p h t e = absurd (true≢false cc)
-  sum-change (x ∷ ts) zero h t e = let q : x ≡ t = cc in along (λ (z : Thread). (measure B (h x .expression) + sum ts) + measure B (z .expression) ≡ (measure B (x .expression) + sum ts) + measure B (h z .expression)) q (omega arith)
+  sum-change (x ∷ ts) zero h t e = let q : x ≡ t =
+      cc in along (λ (z : Thread). (measure B (h x .expression) + sum ts) + measure B (z .expression) ≡ (measure B (x .expression) + sum ts) + measure B
+      (h z .expression)) q (omega arith)
   sum-change (x ∷ ts) (suc p) h t e = let q = sum-change ts p h t e in omega arith
 
   sum-added : (ts : List Thread) (u : Thread) → sum (ts ++ (u ∷ [])) ≡ sum ts + measure B (u .expression)
@@ -81,7 +89,8 @@ module _ (B : ℕ → ℕ) where
   module _ (g : Program) (C : Costs g B) (L : (m : ℕ) (d : Procedure) → getElem? (g .procedures) m ≡ some d → Loopless (d .body))
       (s : State) (N : Simple s) (p : ℕ) (t : Thread) (ht : getElem? (s .threads) p ≡ some t) where
     -- the threads' expressions stay
-    still : (e : Expression) (s′ : State) (e′ : Expression) → expressions (s′ .threads) ≡ expressions (s .threads) → measure B e′ < measure B e → Loopless e′ → Falling s p t e s′ e′
+    still : (e : Expression) (s′ : State) (e′ : Expression) → expressions (s′ .threads) ≡ expressions (s .threads) → measure B e′ < measure B e → Loopless e′
+        → Falling s p t e s′ e′
     still e s′ e′ q h l =
         let a = alike (s .threads) (s′ .threads) (sym q) p t ht in
         record {
@@ -96,7 +105,8 @@ module _ (B : ℕ → ℕ) where
         }
 
     -- the mover changes, but for its expression
-    changes : (e : Expression) (s′ : State) (e′ : Expression) (h : Thread → Thread) → ((x : Thread) → h x .expression ≡ x .expression) → s′ .threads ≡ changeAt (s .threads) p h → measure B e′ < measure B e → Loopless e′ → Falling s p t e s′ e′
+    changes : (e : Expression) (s′ : State) (e′ : Expression) (h : Thread → Thread) → ((x : Thread) → h x .expression ≡ x .expression)
+        → s′ .threads ≡ changeAt (s .threads) p h → measure B e′ < measure B e → Loopless e′ → Falling s p t e s′ e′
     changes e s′ e′ h k q = still e s′ e′ (ap expressions q ∙ same-changed (s .threads) p h k)
 
     branch : (b : Bool) (e e′ : Expression) → measure B (cond b e e′) ≤ max (measure B e) (measure B e′)
@@ -111,7 +121,8 @@ module _ (B : ℕ → ℕ) where
     newcomer e = record { self = length (s .objects); expression = e; keys = t .keys; learnt = 0; place = awake }
 
     -- a fork pays for the new thread
-    forked : (e : Expression) → Loopless e → Falling s p t (Expression.fork e) (addThread (addObject s (freshObject [])) (newcomer e)) (literal (length (s .objects)))
+    forked : (e : Expression) → Loopless e
+        → Falling s p t (Expression.fork e) (addThread (addObject s (freshObject [])) (newcomer e)) (literal (length (s .objects)))
     unfolding measure addObject addThread
     forked e l = record {
       grown = measure B e;
@@ -124,14 +135,16 @@ module _ (B : ℕ → ℕ) where
       others = λ i w hw. by i w (added (s .threads) (newcomer e) i w hw);
     }
       where
-        by : (i : ℕ) (w : Thread) → ((i < length (s .threads)) × (getElem? (s .threads) i ≡ some w)) ⊎ ((i ≡ length (s .threads)) × (newcomer e ≡ w)) → Loopless (w .expression)
+        by : (i : ℕ) (w : Thread) → ((i < length (s .threads)) × (getElem? (s .threads) i ≡ some w)) ⊎ ((i ≡ length (s .threads)) × (newcomer e ≡ w))
+            → Loopless (w .expression)
         by i w (inl (_, h)) = N i w h
         by i w (inr (_, h)) = along (λ (z : Thread). Loopless (z .expression)) h l
 
     falling : {e : Expression} {R : Rule} {r : Option Record} {s′ : State} {e′ : Expression} → Converts g s p t e R r s′ e′ → Loopless e → Falling s p t e s′ e′
     unfolding measure cost literals gain store useKey addObject storeMonitor enqueue signalled
     falling (E-CALL {m} os {d} hd hp) l =
-        still _ s _ refl (let a = at-most B (d .body) in let b : cost B (d .body) ≡ B m = sym (ap (costOfBody B) hd) ∙ C .bodies m in let c = filled B (bindParameters os) (d .body) in omega (arith, listed B os Arguments.end)) (filled-loopless (bindParameters os) (d .body) (L m d hd))
+        still _ s _ refl (let a = at-most B (d .body) in let b : cost B (d .body) ≡ B m = sym (ap (costOfBody B) hd) ∙ C .bodies m in let c =
+        filled B (bindParameters os) (d .body) in omega (arith, listed B os Arguments.end)) (filled-loopless (bindParameters os) (d .body) (L m d hd))
     falling (E-LET {x} {o} {e}) l = still _ s _ refl (let c = filled B (bind x o) e in omega arith) (filled-loopless (bind x o) e (l .1))
     falling (E-IF b {e} {e′}) l = still _ s _ refl (let a = branch b e e′ in omega arith) (chosen b e e′ (l .1) (l .2))
     falling E-WHILE l = absurd l
@@ -151,7 +164,8 @@ module _ (B : ℕ → ℕ) where
     falling (E-NOTIFYALL {o} h) l = still _ (signalled (λ n. 0) s o) _ (same-mapped (s .threads) _ (λ x. refl)) (omega arith) tt
 
     -- conditions
-    fallingᶜ : {c : Condition} {R : Rule} {c′ : Condition} → Convertsᶜ c R c′ → Looplessᶜ c → (isTruth c ≡ false) × (measureᶜ B c′ < measureᶜ B c) × Looplessᶜ c′
+    fallingᶜ : {c : Condition} {R : Rule} {c′ : Condition} → Convertsᶜ c R c′ → Looplessᶜ c
+        → (isTruth c ≡ false) × (measureᶜ B c′ < measureᶜ B c) × Looplessᶜ c′
     unfolding measure bool isTruth
     fallingᶜ E-NOTNOTTRUE l = (refl, omega arith, tt)
     fallingᶜ E-ANDTRUE l = (refl, omega arith, l .1)
@@ -174,7 +188,8 @@ module _ (B : ℕ → ℕ) where
 
   module _ (g : Program) (C : Costs g B) (L : (m : ℕ) (d : Procedure) → getElem? (g .procedures) m ≡ some d → Loopless (d .body)) where
     -- every move makes the sum less
-    pub falls : (s : State) → Simple s → (p : ℕ) {R : Rule} {r : Option Record} {s′ : State} → Moves g s p R r s′ → (sum (s′ .threads) < sum (s .threads)) × Simple s′
+    pub falls : (s : State) → Simple s → (p : ℕ) {R : Rule} {r : Option Record} {s′ : State} → Moves g s p R r s′
+        → (sum (s′ .threads) < sum (s .threads)) × Simple s′
     unfolding become
     falls s N p (EVAL K {t} {e} {e′} {s′ = s₁} ht he c) =
         let d = splits K e (along Loopless he (N p t ht)) in
@@ -193,7 +208,8 @@ module _ (B : ℕ → ℕ) where
         let y = plug-lessᶜ B 0 K c c′ (f .0) (omega arith) in
         (omega arith, simple-become s p t (plugᶜ K c′) ht (d .1 c′ (f .2)) N)
 
-    pub execution-bound : {s : State} {ps : List ℕ} {r : Run} → Simple s → Execution g s ps r → length (r .instances) + sum (r .final .threads) ≤ sum (s .threads)
+    pub execution-bound : {s : State} {ps : List ℕ} {r : Run} → Simple s → Execution g s ps r
+        → length (r .instances) + sum (r .final .threads) ≤ sum (s .threads)
     unfolding stopped afterPass afterMove
     execution-bound N ends = omega arith
     execution-bound N (passes h x) = execution-bound N x

@@ -89,9 +89,11 @@ module _ (g : Program) where
   pub stable : (k m : ℕ) → leadsOn g k m ≡ false → bodyCost g k m ≡ bodyCost g (suc k) m
   unfolding bodyCost leadsOn called
   stable zero m h = absurd (true≢false h)
-  stable (suc k) m h = same-body (bodyCost g k) (bodyCost g (suc k)) (getElem? (g .procedures) m) (λ q c. at q c (decLt q (procedureCount g)) (λ f. stable k q f))
+  stable (suc k) m h = same-body (bodyCost g k) (bodyCost g (suc k)) (getElem? (g .procedures) m)
+      (λ q c. at q c (decLt q (procedureCount g)) (λ f. stable k q f))
     where
-      at : (q : ℕ) → called g m q ≡ true → Dec (q < procedureCount g) → (leadsOn g k q ≡ false → bodyCost g k q ≡ bodyCost g (suc k) q) → bodyCost g k q ≡ bodyCost g (suc k) q
+      at : (q : ℕ) → called g m q ≡ true → Dec (q < procedureCount g) → (leadsOn g k q ≡ false → bodyCost g k q ≡ bodyCost g (suc k) q)
+          → bodyCost g k q ≡ bodyCost g (suc k) q
       at q c (yes b) i = i (shorter k m q h c b)
       at q c (no b) i = absent-cost k q (omega (arith, b)) ∙ sym (absent-cost (suc k) q (omega (arith, b)))
 
@@ -113,7 +115,8 @@ module _ (g : Program) where
     pub once : (k m : ℕ) → leadsOn g k m ≡ false → B m ≡ bodyCost g k m
     unfolding bodyCost leadsOn called
     once zero m h = absurd (true≢false h)
-    once (suc k) m h = sym (C .bodies m) ∙ same-body B (bodyCost g k) (getElem? (g .procedures) m) (λ q c. at q c (decLt q (procedureCount g)) (λ f. once k q f))
+    once (suc k) m h = sym (C .bodies m)
+        ∙ same-body B (bodyCost g k) (getElem? (g .procedures) m) (λ q c. at q c (decLt q (procedureCount g)) (λ f. once k q f))
       where
         at : (q : ℕ) → called g m q ≡ true → Dec (q < procedureCount g) → (leadsOn g k q ≡ false → B q ≡ bodyCost g k q) → B q ≡ bodyCost g k q
         at q c (yes b) i = i (shorter k m q h c b)

@@ -7,7 +7,8 @@ use mathlib.Core.Bool.{Bool, true, false, cond}
 use mathlib.Core.List.{List, [], _∷_}
 use mathlib.Core.Option.{Option, some, none}
 use lib.Dec.{eqb}
-use Rattle.packed.specs.Syntax.{Signal, Expression, Condition, Arguments, literal, end, argument, Environment, without, valueOr, substitute, substituteᶜ, substituteᵃ, bool}
+use Rattle.packed.specs.Syntax.{Signal, Expression, Condition, Arguments, literal, end, argument, Environment, without, valueOr, substitute, substituteᶜ}
+use Rattle.packed.specs.Syntax.{substituteᵃ, bool}
 use Rattle.rules.specs.Context.{Context, Contextᶜ, plug, plugᶜ, literals, isTruth}
 use Rattle.costs.specs.Cost.{oneMore, cost, costᶜ, costᵃ}
 
@@ -134,7 +135,8 @@ module _ (B : ℕ → ℕ) where
 
   not-less : (d : ℕ) (c c′ : Condition) → isTruth c ≡ false → measureᶜ c′ + d < measureᶜ c → measureᶜ (Condition.not c′) + d < measureᶜ (Condition.not c)
   unfolding measure
-  not-less d c c′ t h = let a = negated-most (isTruth c′) (measureᶜ c′) (measureᶜ c′) (omega arith) in let b : measureᶜ (Condition.not c) ≡ suc (measureᶜ c) = ap (λ (x : Bool). negated x (measureᶜ c)) t in omega arith
+  not-less d c c′ t h = let a = negated-most (isTruth c′) (measureᶜ c′) (measureᶜ c′) (omega arith) in let b : measureᶜ (Condition.not c) ≡ suc (measureᶜ c) =
+      ap (λ (x : Bool). negated x (measureᶜ c)) t in omega arith
 
   module _ (d : ℕ) where
     mutual

@@ -82,7 +82,8 @@ unfolding start measure runOf total
 no-more-moves b n h ps =
     let k = totalled b n h in
     let B = bodyCost (programOf b) (procedureCount (programOf b)) in
-    let x = execution-bound B (programOf b) (fixed (programOf b) (k .acyclic)) (bodies-loopless b (k .accepted) (k .whileless)) main-simple (plan-executes b (k .accepted) ps) in
+    let x = execution-bound B (programOf b) (fixed (programOf b) (k .acyclic)) (bodies-loopless b (k .accepted) (k .whileless)) main-simple
+    (plan-executes b (k .accepted) ps) in
     let t = k .total-of in
     omega arith
 

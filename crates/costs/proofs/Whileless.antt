@@ -13,7 +13,8 @@ use Rattle.format.proofs.BitLaws.{bits-past}
 use Rattle.format.proofs.Ranges.{NoneOf}
 use Rattle.packed.specs.Syntax.{Expression, Condition, Arguments, Procedure}
 use Rattle.packed.specs.Format.{procedures, terms, root, planLength, termBit, tagAt}
-use Rattle.packed.specs.Trees.{Node, nodes, nodeAt, expressionOf, conditionOf, argumentsOf, expressionAt, conditionAt, argumentsAt, treeAt, procedureAt, programOf}
+use Rattle.packed.specs.Trees.{Node, nodes, nodeAt, expressionOf, conditionOf, argumentsOf, expressionAt, conditionAt, argumentsAt, treeAt, procedureAt}
+use Rattle.packed.specs.Trees.{programOf}
 use Rattle.packed.specs.Check.{refusal}
 use Rattle.packed.proofs.Accepted.{accepted}
 use Rattle.packed.proofs.Decoded.{node-is, procedures-inside}
@@ -122,15 +123,21 @@ module _ (h : ℕ → Node) (w : (t : ℕ) → NoWhile (h t)) where
 
     tree-loopless : (n t : ℕ) → Loopless (expressionAt h n t)
     tree-loopless zero t = tt
-    tree-loopless (suc n) t = node-loopless (λ i. expressionAt h n i) (λ i. conditionAt h n i) (λ i. argumentsAt h n i) (λ i. tree-loopless n i) (λ i. tree-looplessᶜ n i) (λ i. tree-looplessᵃ n i) (h t) (w t)
+    tree-loopless (suc n) t =
+        node-loopless (λ i. expressionAt h n i) (λ i. conditionAt h n i) (λ i. argumentsAt h n i) (λ i. tree-loopless n i) (λ i. tree-looplessᶜ n i)
+        (λ i. tree-looplessᵃ n i) (h t) (w t)
 
     tree-looplessᶜ : (n t : ℕ) → Looplessᶜ (conditionAt h n t)
     tree-looplessᶜ zero t = tt
-    tree-looplessᶜ (suc n) t = node-looplessᶜ (λ i. expressionAt h n i) (λ i. conditionAt h n i) (λ i. argumentsAt h n i) (λ i. tree-loopless n i) (λ i. tree-looplessᶜ n i) (λ i. tree-looplessᵃ n i) (h t)
+    tree-looplessᶜ (suc n) t =
+        node-looplessᶜ (λ i. expressionAt h n i) (λ i. conditionAt h n i) (λ i. argumentsAt h n i) (λ i. tree-loopless n i) (λ i. tree-looplessᶜ n i)
+        (λ i. tree-looplessᵃ n i) (h t)
 
     tree-looplessᵃ : (n t : ℕ) → Looplessᵃ (argumentsAt h n t)
     tree-looplessᵃ zero t = tt
-    tree-looplessᵃ (suc n) t = node-looplessᵃ (λ i. expressionAt h n i) (λ i. conditionAt h n i) (λ i. argumentsAt h n i) (λ i. tree-loopless n i) (λ i. tree-looplessᶜ n i) (λ i. tree-looplessᵃ n i) (h t)
+    tree-looplessᵃ (suc n) t =
+        node-looplessᵃ (λ i. expressionAt h n i) (λ i. conditionAt h n i) (λ i. argumentsAt h n i) (λ i. tree-loopless n i) (λ i. tree-looplessᶜ n i)
+        (λ i. tree-looplessᵃ n i) (h t)
 
 -- only tag 7 is a while
 tag-while : (x y z k : ℕ) → NoneOf k (7 ∷ []) → NoWhile (getD nodes k (λ x y z. Node.unknown) x y z)
@@ -158,4 +165,5 @@ module _ (b : List ℕ) (a : refusal b ≡ none) (h : hasWhile b ≡ false) wher
   unfolding procedureAt treeAt
   bodies-loopless m d e =
       along (λ (x : Procedure). Loopless (x .body)) (sym (procedures-inside b m d e .1))
-      (tree-loopless (nodeAt b) (λ t. along NoWhile (sym (node-is b t (tagAt b t) refl)) (tag-while _ _ _ (tagAt b t) (tt, no-seven t))) (terms b - root b m) (root b m))
+      (tree-loopless (nodeAt b) (λ t. along NoWhile (sym (node-is b t (tagAt b t) refl)) (tag-while _ _ _ (tagAt b t) (tt, no-seven t))) (terms b - root b m)
+      (root b m))

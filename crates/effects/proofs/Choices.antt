@@ -15,12 +15,14 @@ passes-is monitor volatile n k = rw (by-version (eqb n 1))
     by-version true = refl
     by-version false = refl
 
-pub source-is : (v : Version) (r : Columns) (at a b c x : ℕ) (d : Bool) → a ≡ cond (eqb (r .kind % 8) 3) (at + 1) (r .thread) → b ≡ cond (eqb (r .kind % 8) 2) (at + 2) a
+pub source-is : (v : Version) (r : Columns) (at a b c x : ℕ) (d : Bool) → a ≡ cond (eqb (r .kind % 8) 3) (at + 1) (r .thread)
+    → b ≡ cond (eqb (r .kind % 8) 2) (at + 2) a
     → c ≡ cond (eqb (r .kind) 9) (r .field) b → d ≡ passes v 6 4 (r .kind) → x ≡ cond d at c → x ≡ sourceRow v r at
 unfolding sourceRow
 source-is v r at a b c x d e g h q y = rw (y, q, h, g, e)
 
-pub target-is : (v : Version) (r : Columns) (at b c x : ℕ) (a d : Bool) → a ≡ isAccess (r .kind) → b ≡ cond a (at + 1) (r .thread) → c ≡ cond (eqb (r .kind) 8) (r .field) b
+pub target-is : (v : Version) (r : Columns) (at b c x : ℕ) (a d : Bool) → a ≡ isAccess (r .kind) → b ≡ cond a (at + 1) (r .thread)
+    → c ≡ cond (eqb (r .kind) 8) (r .field) b
     → d ≡ passes v 7 5 (r .kind) → x ≡ cond d at c → x ≡ targetRow v r at
 unfolding targetRow
 target-is v r at b c x a d e g h q y = rw (y, q, h, g, e)

@@ -33,7 +33,8 @@ passes v monitor volatile k = eqb k monitor || (eqb k volatile && volatilesOrder
 -- the row that the record with these columns hears: an acquire (6) the monitor's, a volatile read (4) the field's, a join (9) the thread's, a plain read
 -- (2, 10) that of the field's writes, a plain write (3, 11) that of its accesses
 unfoldable pub sourceRow : Version → Columns → ℕ → ℕ
-sourceRow v r at = cond (passes v 6 4 (r .kind)) at (cond (eqb (r .kind) 9) (r .field) (cond (eqb (r .kind % 8) 2) (at + 2) (cond (eqb (r .kind % 8) 3) (at + 1) (r .thread))))
+sourceRow v r at = cond (passes v 6 4 (r .kind)) at
+    (cond (eqb (r .kind) 9) (r .field) (cond (eqb (r .kind % 8) 2) (at + 2) (cond (eqb (r .kind % 8) 3) (at + 1) (r .thread))))
 
 -- the row that it tells: a release (7) the monitor's, a volatile write (5) the field's, a fork (8) the thread's, a plain access that of the field's accesses
 unfoldable pub targetRow : Version → Columns → ℕ → ℕ

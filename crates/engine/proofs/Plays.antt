@@ -22,7 +22,8 @@ use Rattle.pick.specs.declared.Answer.{Answer}
 use Rattle.pick.specs.declared.Answer.the-variants as answer
 use Rattle.pick.specs.Pick.{noHead, Picked}
 use Rattle.queue.specs.Queue.{afterOf}
-use Rattle.engine.specs.Machine.{Machine, Played, headAt, cellNumber, headOf, cellFirst, noThing, endOf, stopped, withYoung, stayed, after, pickedBy, turnBy, onAnswer, startOf, playOf}
+use Rattle.engine.specs.Machine.{Machine, Played, headAt, cellNumber, headOf, cellFirst, noThing, endOf, stopped, withYoung, stayed, after, pickedBy}
+use Rattle.engine.specs.Machine.{turnBy, onAnswer, startOf, playOf}
 
 -- an answer that neither moves nor stops
 pub neither : (z : Answer) → OneOf (0 ∷ 2 ∷ []) (tagOf answer-type.the-type z) → OneOf (0 ∷ 1 ∷ []) (tagOf answer-type.the-type z) → z ≡ answer.Passed
@@ -94,7 +95,8 @@ module _ (ws rs : List ℕ) (setting : Setting) where
           }) ps (i + 1) ≡ playOf ws rs setting m (p ∷ ps) i
       moved {v} e cs hs qs s s′ l ec eh eq es es′ el = rw (ec, eh, eq, es′, es, el) (goes (answer.Moved v) e)
 
-      pub stops : {e : Stop} {y : Entry} → x .answer ≡ answer.Stopped e y → (e′ : Stop) (j : ℕ) (s : Tally) (l : List ℕ) → e′ ≡ e → j ≡ i → s ≡ tallyPut (m .tally) y
+      pub stops : {e : Stop} {y : Entry} → x .answer ≡ answer.Stopped e y → (e′ : Stop) (j : ℕ) (s : Tally) (l : List ℕ) → e′ ≡ e → j ≡ i
+          → s ≡ tallyPut (m .tally) y
           → l ≡ logPut (m .log) (m .tally .records) (p % 8) y
           → record { outcome = endOf e′ j setting s (m .heads) (m .cells) (m .objects) (m .places); area = l } ≡ playOf ws rs setting m (p ∷ ps) i
       stops {e} {y} h e′ j s l qe qj qs ql = rw (qe, qj, qs, ql) (goes (answer.Stopped e y) h)
@@ -107,6 +109,7 @@ pub young-none : (forks : Bool) (hs hs′ : List Head) (q : ℕ) (y : Head) → 
 young-none forks hs hs′ q y k h = h ∙ ap (λ (x : Bool). withYoung x hs q y) (sym k)
 
 -- an end by the same numbers is the same end
-pub ends-as : (setting : Setting) (hs : List Head) (cs : List Cell) (ts : List Object) (qs : List ℕ) (e e′ : Stop) (i i′ : ℕ) (s s′ : Tally) (l l′ : List ℕ) → e ≡ e′ → i ≡ i′ → s ≡ s′ → l ≡ l′
+pub ends-as : (setting : Setting) (hs : List Head) (cs : List Cell) (ts : List Object) (qs : List ℕ) (e e′ : Stop) (i i′ : ℕ) (s s′ : Tally) (l l′ : List ℕ)
+    → e ≡ e′ → i ≡ i′ → s ≡ s′ → l ≡ l′
     → _≡_ {A = Played} (record { outcome = endOf e i setting s hs cs ts qs; area = l }) (record { outcome = endOf e′ i′ setting s′ hs cs ts qs; area = l′ })
 ends-as setting hs cs ts qs e e′ i i′ s s′ l l′ ee ei es el = rw (ee, ei, es, el)

@@ -33,9 +33,11 @@ module _ (bytes area : List ℕ) where
   overwrite-length h = omega (arith, h, length-append bytes (drop (length bytes) area), length-drop (length bytes) area)
 
   -- it is the only list that begins so and goes on so
-  pub overwrite-only : (after : List ℕ) → take (length bytes) after ≡ bytes → drop (length bytes) after ≡ drop (length bytes) area → after ≡ overwrite bytes area
+  pub overwrite-only : (after : List ℕ) → take (length bytes) after ≡ bytes → drop (length bytes) after ≡ drop (length bytes) area
+      → after ≡ overwrite bytes area
   unfolding overwrite
-  overwrite-only after front rest = sym (take-append-drop (length bytes) after) ∙ ap (λ (l : List ℕ). l ++ drop (length bytes) after) front ∙ ap (λ (l : List ℕ). bytes ++ l) rest
+  overwrite-only after front rest = sym (take-append-drop (length bytes) after) ∙ ap (λ (l : List ℕ). l ++ drop (length bytes) after) front
+      ∙ ap (λ (l : List ℕ). bytes ++ l) rest
 
   -- one byte more
   pub overwrite-next : (x : ℕ) → length bytes < length area → set (overwrite bytes area) (length bytes) x ≡ overwrite (bytes ++ (x ∷ [])) area

@@ -1,4 +1,5 @@
--- Laws of bit fields: their bounds, fields in a row, a byte, bytes left out before them, a field of a number by a quotient and a remainder, and bits past the end. Assumes nothing.
+-- Laws of bit fields: their bounds, fields in a row, a byte, bytes left out before them, a field of a number by a quotient and a remainder, and bits past the
+-- end. Assumes nothing.
 use mathlib.Core.Path.{_≡_, refl, ap, sym, _∙_}
 use mathlib.Core.List.{List}
 use Prim.Native.Nat.{ℕ, zero, suc, _+_, _-_, _*_, _/_, _%_, _^_, _≤_, _<_}
@@ -86,7 +87,8 @@ byte-at l i h = byte-top l i 8 h (omega arith) ∙ div-one (getD l i 0)
 pub byte-more : (l : List ℕ) (i n x : ℕ) → getD l (i + n) 0 < 256 → bitsAt l (i * 8) (n * 8) ≡ x → bitsAt l (i * 8) (n * 8 + 8) ≡ x * 256 + getD l (i + n) 0
 byte-more l i n x h e =
     let at : i * 8 + n * 8 ≡ (i + n) * 8 = omega arith in
-    bits-add l (i * 8) (n * 8) 8 ∙ ap (λ (y : ℕ). y * 256 + bitsAt l (i * 8 + n * 8) 8) e ∙ ap (λ (p : ℕ). x * 256 + bitsAt l p 8) at ∙ ap (λ (y : ℕ). x * 256 + y) (byte-at l (i + n) h)
+    bits-add l (i * 8) (n * 8) 8 ∙ ap (λ (y : ℕ). y * 256 + bitsAt l (i * 8 + n * 8) 8) e ∙ ap (λ (p : ℕ). x * 256 + bitsAt l p 8) at
+    ∙ ap (λ (y : ℕ). x * 256 + y) (byte-at l (i + n) h)
 
 -- past the end all bits are 0
 pub bits-past : (l : List ℕ) (p w : ℕ) → length l * 8 ≤ p → bitsAt l p w ≡ 0

@@ -43,7 +43,8 @@ unfolding lowest orElse
 lowest-none f zero h j q = absurd (omega arith)
 lowest-none f (suc n) h j q = go (λ e p. lowest-none f n e j p) (lowest f n) refl (f n) refl h
   where
-    go : (lowest f n ≡ none → j < n → f j ≡ false) → (o : Option ℕ) → lowest f n ≡ o → (x : Bool) → f n ≡ x → orElse o (cond x (some n) none) ≡ none → f j ≡ false
+    go : (lowest f n ≡ none → j < n → f j ≡ false) → (o : Option ℕ) → lowest f n ≡ o → (x : Bool) → f n ≡ x → orElse o (cond x (some n) none) ≡ none
+        → f j ≡ false
     go i (some k) e x g w = absurd (Option·none-ne-some _ (sym w))
     go i none e true g w = absurd (Option·none-ne-some _ (sym w))
     go i none e false g w = pick (ℕ-discrete j n)
@@ -98,7 +99,8 @@ unfolding firstRefusal refuse
 to-first [] r h = absurd (Option·none-ne-some _ h)
 to-first (c ∷ cs) r h = go (to-first cs r) (lowest (c .wrong) (c .places)) refl h
   where
-    go : (firstRefusal cs ≡ some r → First cs r) → (o : Option ℕ) → lowest (c .wrong) (c .places) ≡ o → refuse (c .number) o (firstRefusal cs) ≡ some r → First (c ∷ cs) r
+    go : (firstRefusal cs ≡ some r → First cs r) → (o : Option ℕ) → lowest (c .wrong) (c .places) ≡ o → refuse (c .number) o (firstRefusal cs) ≡ some r
+        → First (c ∷ cs) r
     go i none e w = later (record { right = lowest-none (c .wrong) (c .places) e }) (i w)
     go i (some k) e w =
         let z = lowest-some (c .wrong) (c .places) k e in
@@ -115,7 +117,8 @@ unfolding firstRefusal refuse
 to-pass [] h = none-left
 to-pass (c ∷ cs) h = go (to-pass cs) (lowest (c .wrong) (c .places)) refl h
   where
-    go : (firstRefusal cs ≡ none → AllPass cs) → (o : Option ℕ) → lowest (c .wrong) (c .places) ≡ o → refuse (c .number) o (firstRefusal cs) ≡ none → AllPass (c ∷ cs)
+    go : (firstRefusal cs ≡ none → AllPass cs) → (o : Option ℕ) → lowest (c .wrong) (c .places) ≡ o → refuse (c .number) o (firstRefusal cs) ≡ none
+        → AllPass (c ∷ cs)
     go i none e w = and-then (record { right = lowest-none (c .wrong) (c .places) e }) (i w)
     go i (some k) e w = absurd (Option·none-ne-some _ (sym w))
 

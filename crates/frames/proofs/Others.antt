@@ -10,7 +10,8 @@ use Rattle.frames.specs.declared.frame.Kind.the-variants as kind
 use Rattle.frames.specs.declared.frame.Frame.{Frame}
 use Rattle.frames.specs.Going.{noRule, goAt, feedIfBy, feedIfOf, feedConditionBy}
 
-pub if-other : (x : Kind) (f : Frame) (b : ℕ) → OneOf (0 ∷ 1 ∷ 2 ∷ 3 ∷ 4 ∷ 5 ∷ 6 ∷ 7 ∷ 8 ∷ 9 ∷ 11 ∷ 12 ∷ 14 ∷ 15 ∷ []) (tagOf kind-type.the-type x) → feedIfBy x f b ≡ goAt noRule
+pub if-other : (x : Kind) (f : Frame) (b : ℕ) → OneOf (0 ∷ 1 ∷ 2 ∷ 3 ∷ 4 ∷ 5 ∷ 6 ∷ 7 ∷ 8 ∷ 9 ∷ 11 ∷ 12 ∷ 14 ∷ 15 ∷ []) (tagOf kind-type.the-type x)
+    → feedIfBy x f b ≡ goAt noRule
 if-other kind.Read f b h = refl
 if-other kind.Write1 f b h = refl
 if-other kind.Write2 f b h = refl
@@ -28,7 +29,8 @@ if-other kind.Test f b h = absurd (miss (0 ∷ 1 ∷ 2 ∷ 3 ∷ 4 ∷ 5 ∷ 6 �
 if-other kind.Body f b h = refl
 if-other kind.Signal f b h = refl
 
-pub feed-condition-other : (x : Kind) (f : Frame) (b : ℕ) → OneOf (0 ∷ 1 ∷ 2 ∷ 3 ∷ 4 ∷ 5 ∷ 6 ∷ 7 ∷ 8 ∷ 9 ∷ 10 ∷ 13 ∷ 14 ∷ 15 ∷ []) (tagOf kind-type.the-type x) → feedConditionBy x f b ≡ feedIfOf f b
+pub feed-condition-other : (x : Kind) (f : Frame) (b : ℕ)
+    → OneOf (0 ∷ 1 ∷ 2 ∷ 3 ∷ 4 ∷ 5 ∷ 6 ∷ 7 ∷ 8 ∷ 9 ∷ 10 ∷ 13 ∷ 14 ∷ 15 ∷ []) (tagOf kind-type.the-type x) → feedConditionBy x f b ≡ feedIfOf f b
 feed-condition-other kind.Read f b h = refl
 feed-condition-other kind.Write1 f b h = refl
 feed-condition-other kind.Write2 f b h = refl

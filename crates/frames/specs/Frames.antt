@@ -64,7 +64,16 @@ abbrev pub secondFrame : Kind → Frame → ℕ → Frame
 secondFrame k f v = record { kind = k; first = 0; second = 0; member = f .member; count = 0; environment = f .environment; arguments = v }
 
 abbrev pub collected : Frame → ℕ → Frame
-collected f v = record { kind = kind.Call; first = f .first; second = 0; member = f .member; count = f .count % 16 + 1; environment = f .environment; arguments = bindOf (f .arguments) (f .count) v }
+collected f v = record {
+  kind = kind.Call;
+  first = f .first;
+  second = 0;
+  member = f .member;
+  count = f .count % 16 + 1;
+  environment =
+      f .environment;
+  arguments = bindOf (f .arguments) (f .count) v;
+}
 
 abbrev pub restOf : Frame → ℕ → Frame
 restOf f j = record { kind = kind.Call; first = j; second = 0; member = f .member; count = f .count; environment = f .environment; arguments = f .arguments }

@@ -28,7 +28,8 @@ abbrev pub goOf : Stage → Frame → ℕ → Go
 goOf s f i = record { stage = s; frame = f; operand = i }
 
 abbrev pub goAt : Ready → Go
-goAt r = goOf stage.At (record { kind = kind.Read; first = r .first; second = r .second; member = r .part; count = 0; environment = r .environment; arguments = r .third }) 0
+goAt r = goOf stage.At
+    (record { kind = kind.Read; first = r .first; second = r .second; member = r .part; count = 0; environment = r .environment; arguments = r .third }) 0
 
 -- the part where landing has ended
 abbrev pub readyIn : Go → Ready

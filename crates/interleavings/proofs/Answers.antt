@@ -111,12 +111,14 @@ module _ (plan : List ℕ) (n : ℕ) (area : List ℕ) where
       unfolding shortOutput firstRefusal
       first-none b s = within b ∙ passes 20 (shortOutput n area) [] (le-ltb (length area) n s)
 
-      pub first-written : n ≤ 64 → n ≤ length area → (after : List ℕ) (at : ℕ) → Reached (programOf plan) n 0 area after at → FirstAnswer plan n area (answer.value at) after
+      pub first-written : n ≤ 64 → n ≤ length area → (after : List ℕ) (at : ℕ) → Reached (programOf plan) n 0 area after at
+          → FirstAnswer plan n area (answer.value at) after
       first-written b s after at x =
           let qs = take at after in
           let m : length qs ≡ at = taken (programOf plan) n 0 area after at (x .went) s in
           let a : after ≡ overwrite qs area =
-          overwrite-only qs area after (ap (λ (k : ℕ). take k after) m) (ap (λ (k : ℕ). drop k after) m ∙ x .went .rest ∙ ap (λ (k : ℕ). drop k area) (sym m)) in
+          overwrite-only qs area after (ap (λ (k : ℕ). take k after) m) (ap (λ (k : ℕ). drop k after) m ∙ x .went .rest
+          ∙ ap (λ (k : ℕ). drop k area) (sym m)) in
           let f : First (programOf plan) n qs = record { has = x .listed; least = λ rs l. x .went .least rs l (empty-lowest rs) } in
           along (λ (k : ℕ). FirstAnswer plan n area (answer.value k) after) m
           (along (FirstAnswer plan n area (answer.value (length qs))) (sym a) (FirstAnswer.WRITTEN (first-none b s) f))
@@ -153,7 +155,8 @@ module _ (g : Program) (n : ℕ) (ps : List ℕ) (x : Listed g n ps) (area : Lis
           bound = b;
           long = still-long;
           within = omega (arith, from-is, x .at-most);
-          way = along (λ (k : Program). Way (canFollow k) (take from middle)) (sym q) (along (Way (canFollow g)) (sym front) (turned-way g n ps x place pick t));
+          way = along (λ (k : Program). Way (canFollow k) (take from middle)) (sym q)
+              (along (Way (canFollow g)) (sym front) (turned-way g n ps x place pick t));
         }
 
     pub followed : (after : List ℕ) (at : ℕ) → Reached g n from middle after at → Followed g n ps area after (next.Written at)
@@ -214,7 +217,8 @@ module _ (plan : List ℕ) (n : ℕ) (schedule area : List ℕ) where
           pub next-short : length area < n → NextAnswer plan n schedule area (papers.Next.refused (numbered 20)) area
           next-short s = NextAnswer.SHORT next-none l s
 
-          pub next-followed : n ≤ length area → (after : List ℕ) (a : Next) → Followed (programOf plan) n schedule area after a → NextAnswer plan n schedule area (answered a) after
+          pub next-followed : n ≤ length area → (after : List ℕ) (a : Next) → Followed (programOf plan) n schedule area after a
+              → NextAnswer plan n schedule area (answered a) after
           next-followed s after (next.Refused k i) f = absurd f
           next-followed s after (next.Written m) (qs, f, d, q) =
               along (λ (k : ℕ). NextAnswer plan n schedule area (papers.Next.written k) after) (sym d)

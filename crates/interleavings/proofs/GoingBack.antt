@@ -57,7 +57,8 @@ first-few plan words ps i x h =
     }
 
 -- one place more where there is none
-pub none-from : (g : Program) (ps : List ℕ) (i : ℕ) → NoneHigher g ps i → ((j : ℕ) → i < j → j < length ps → NoneHigher g ps j) → (j : ℕ) → i ≤ j → j < length ps → NoneHigher g ps j
+pub none-from : (g : Program) (ps : List ℕ) (i : ℕ) → NoneHigher g ps i → ((j : ℕ) → i < j → j < length ps → NoneHigher g ps j) → (j : ℕ) → i ≤ j
+    → j < length ps → NoneHigher g ps j
 none-from g ps i here later j h b = by (ℕ-discrete i j)
   where
     by : Dec (i ≡ j) → NoneHigher g ps j
@@ -68,7 +69,8 @@ none-from g ps i here later j h b = by (ℕ-discrete i j)
 
 module _ (g : Program) (n : ℕ) (ps : List ℕ) (x : Listed g n ps) where
   -- back to place i
-  back-to : (rs : List ℕ) → Listed g n rs → Before ps rs → (k i : ℕ) → i + k ≡ length ps → ((j : ℕ) → i ≤ j → j < length ps → NoneHigher g ps j) → Higher (take i ps) rs
+  back-to : (rs : List ℕ) → Listed g n rs → Before ps rs → (k i : ℕ) → i + k ≡ length ps → ((j : ℕ) → i ≤ j → j < length ps → NoneHigher g ps j)
+      → Higher (take i ps) rs
   back-to rs l b zero i e none =
       along (λ (qs : List ℕ). Higher qs rs) (sym (take-all i ps (omega arith))) (back-start (canFollow g) ps (complete-of g n ps x) rs (complete-of g n rs l) b)
   back-to rs l b (suc k) i e none =

@@ -66,6 +66,7 @@ module _ (g : Program) (n from : ℕ) (before : List ℕ) where
     pub ends : (at ≡ n) ⊎ ((p : ℕ) → p < 8 → canFollow g (take at after) p ≡ false) → Reached g n from before after at
     ends e = record { went = x; listed = listed-by g n (take at after) (record { way = x .way; at-most = omega (arith, taken, x .within); ends = by e }) }
       where
-        by : (at ≡ n) ⊎ ((p : ℕ) → p < 8 → canFollow g (take at after) p ≡ false) → (length (take at after) ≡ n) ⊎ ((p : ℕ) → p < 8 → canFollow g (take at after) p ≡ false)
+        by : (at ≡ n) ⊎ ((p : ℕ) → p < 8 → canFollow g (take at after) p ≡ false)
+            → (length (take at after) ≡ n) ⊎ ((p : ℕ) → p < 8 → canFollow g (take at after) p ≡ false)
         by (inl q) = inl (taken ∙ q)
         by (inr q) = inr q

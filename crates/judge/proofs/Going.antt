@@ -64,7 +64,8 @@ pub threads : (b : List ℕ) → logRefusal b ≡ none → Threads (logOf b)
 threads b ok i w h = tidy-at (logOf b) (accepted-tidy b ok) i w h .thread-below
 
 -- the whole log is passed
-pub none-named : (v : Version) (b : List ℕ) (i : ℕ) (N : List ℕ) (given : ℕ) (rows : List Row) → logRefusal b ≡ none → Going v b i N given rows → length b / 3 ≤ i → Answers v b (named none)
+pub none-named : (v : Version) (b : List ℕ) (i : ℕ) (N : List ℕ) (given : ℕ) (rows : List Row) → logRefusal b ≡ none → Going v b i N given rows
+    → length b / 3 ≤ i → Answers v b (named none)
 unfolding recordCount
 none-named v b i N given rows ok G h = judges ok (names-no v (logOf b) (threads b ok) (λ j k. G .none-late j (omega (arith, count-log b))))
 

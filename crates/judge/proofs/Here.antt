@@ -31,7 +31,8 @@ use Rattle.decoding.specs.declared.Columns.{Columns}
 use Rattle.decoding.proofs.Decoded.{kind-is-kind}
 use Rattle.judge.proofs.PlaceNumbers.{Places, Placed, placed, given-most}
 use Rattle.judge.proofs.PortRows.{rowOf}
-use Rattle.judge.proofs.RecordPorts.{Fits, portOr, sourcePort, targetPort, alsoPort, Near, source-near, target-near, also-near, near-spot, heard-row, told-row, also-row, access-plain}
+use Rattle.judge.proofs.RecordPorts.{Fits, portOr, sourcePort, targetPort, alsoPort, Near, source-near, target-near, also-near, near-spot, heard-row}
+use Rattle.judge.proofs.RecordPorts.{told-row, also-row, access-plain}
 use Rattle.judge.proofs.Table.{Shows, Blank, shows-placed, blank-more, count-length, from-inside, to-inside, also-inside, own-shows, heard-shows}
 use Rattle.judge.proofs.Going.{before, Going, threads}
 
@@ -82,7 +83,8 @@ pub record Here (v : Version) (b : List ℕ) (i : ℕ) (N : List ℕ) (given : �
   pub numbered : Numbered N (c .object * 32 + c .field) given N′ n
   pub given-is : given′ ≡ max given n
 
-module _ {v : Version} {b : List ℕ} {i : ℕ} {N : List ℕ} {given : ℕ} {rows : List Row} {c : Columns} {N′ : List ℕ} {given′ n : ℕ} (W : Here v b i N given rows c N′ given′ n) where
+module _ {v : Version} {b : List ℕ} {i : ℕ} {N : List ℕ} {given : ℕ} {rows : List Row} {c : Columns} {N′ : List ℕ} {given′ n : ℕ}
+    (W : Here v b i N given rows c N′ given′ n) where
   abbrev R : ReadAt b i c
   R = W .read
 
@@ -168,18 +170,21 @@ module _ {v : Version} {b : List ℕ} {i : ℕ} {N : List ℕ} {given : ℕ} {ro
   unfolding sourceRow
   source-is at from e g =
       g ∙ rw (at-is at e, R .thread-is, R .field-is, kind-here)
-      (heard-row N′ (r .thread) (r .object) (r .field) v (c .kind) (columns-known .kind-least) (columns-known .kind-most) (λ q. fits .acquire-fits (kind-here ∙ q)))
+      (heard-row N′ (r .thread) (r .object) (r .field) v (c .kind) (columns-known .kind-least) (columns-known .kind-most)
+      (λ q. fits .acquire-fits (kind-here ∙ q)))
 
   pub target-is : (at to : ℕ) → at ≡ placeRow n → to ≡ targetRow v c at → to ≡ rowOf N′ (targetPort v r)
   unfolding targetRow
   target-is at to e g =
       g ∙ rw (at-is at e, R .thread-is, R .field-is, kind-here)
-      (told-row N′ (r .thread) (r .object) (r .field) v (c .kind) (columns-known .kind-least) (columns-known .kind-most) (λ q. fits .release-fits (kind-here ∙ q)))
+      (told-row N′ (r .thread) (r .object) (r .field) v (c .kind) (columns-known .kind-least) (columns-known .kind-most)
+      (λ q. fits .release-fits (kind-here ∙ q)))
 
   pub also-is : (at also : ℕ) → at ≡ placeRow n → also ≡ writesRow c at → also ≡ rowOf N′ (alsoPort r)
   unfolding writesRow
   also-is at also e g =
-      g ∙ rw (at-is at e, R .thread-is, kind-here) (also-row N′ (r .thread) (r .object) (r .field) (c .kind) (columns-known .kind-least) (columns-known .kind-most))
+      g ∙ rw (at-is at e, R .thread-is, kind-here)
+      (also-row N′ (r .thread) (r .object) (r .field) (c .kind) (columns-known .kind-least) (columns-known .kind-most))
 
   pub own-below : c .thread < length rows
   own-below = omega (arith, room-here, R .narrow .thread-below)
@@ -219,7 +224,8 @@ module _ {v : Version} {b : List ℕ} {i : ℕ} {N : List ℕ} {given : ℕ} {ro
   within = rw (count-log b) inside
 
   pub next-past : before b (suc i) ≡ recordAt b i ∷ before b i
-  next-past = past-suc (logOf b) i (recordAt b i) within ∙ ap (λ (r : Record). r ∷ before b i) (at→getD (logOf b) i (recordAt b i) (recordAt b i) (log-element b i inside))
+  next-past = past-suc (logOf b) i (recordAt b i) within
+      ∙ ap (λ (r : Record). r ∷ before b i) (at→getD (logOf b) i (recordAt b i) (recordAt b i) (log-element b i inside))
 
   few : (u : ℕ) → count (before b i) u ≤ 4095
   few u = omega (arith, count-length (before b i) u, past-length (logOf b) i (omega (arith, within)), short)
@@ -231,8 +237,10 @@ module _ {v : Version} {b : List ℕ} {i : ℕ} {N : List ℕ} {given : ℕ} {ro
   own-clock : (u : ℕ) → u < 8 → clockOf (rowAt rows (c .thread)) u ≡ clock v (before b i) (ofThread (r .thread)) u
   own-clock u h = ap (λ (t : ℕ). clockOf (rowAt rows t) u) (R .thread-is) ∙ own-shows v r (before b i) N′ given′ n rows fits placed-at room-here shows-here u h
 
-  heard-clock : (at from : ℕ) → at ≡ placeRow n → from ≡ sourceRow v c at → (u : ℕ) → u < 8 → clockOf (rowAt rows from) u ≡ clock v (before b i) (sourcePort v r) u
-  heard-clock at from e g u h = ap (λ (q : ℕ). clockOf (rowAt rows q) u) (source-is at from e g) ∙ heard-shows v r (before b i) N′ given′ n rows fits placed-at room-here shows-here u h
+  heard-clock : (at from : ℕ) → at ≡ placeRow n → from ≡ sourceRow v c at → (u : ℕ) → u < 8
+      → clockOf (rowAt rows from) u ≡ clock v (before b i) (sourcePort v r) u
+  heard-clock at from e g u h = ap (λ (q : ℕ). clockOf (rowAt rows q) u) (source-is at from e g)
+      ∙ heard-shows v r (before b i) N′ given′ n rows fits placed-at room-here shows-here u h
 
   pub own-few : Few (rowAt rows (c .thread))
   own-few = record { most = λ u k. omega (arith, own-clock u k, clock-bound v (before b i) (ofThread (r .thread)) u, few u) }
@@ -242,26 +250,37 @@ module _ {v : Version} {b : List ℕ} {i : ℕ} {N : List ℕ} {given : ℕ} {ro
 
   -- ---- whether it is an unordered access
 
-  pub late-is : (at from : ℕ) (access late : Bool) → at ≡ placeRow n → from ≡ sourceRow v c at → access ≡ isAccess (c .kind) → late ≡ lowerOf 8 (rowAt rows (c .thread)) (rowAt rows from)
+  pub late-is : (at from : ℕ) (access late : Bool) → at ≡ placeRow n → from ≡ sourceRow v c at → access ≡ isAccess (c .kind)
+      → late ≡ lowerOf 8 (rowAt rows (c .thread)) (rowAt rows from)
       → (access && late) ≡ clashes v (before b i) r
-  late-is at from access late e g h k = rw (h, access-plain (c .kind) (columns-known .kind-least) (columns-known .kind-most), ← kind-here) (go (isPlain (r .kind)) refl)
+  late-is at from access late e g h k =
+      rw (h, access-plain (c .kind) (columns-known .kind-least) (columns-known .kind-most), ← kind-here) (go (isPlain (r .kind)) refl)
     where
       Own : ℕ → ℕ
       Own u = clock v (before b i) (ofThread (r .thread)) u
 
-      heard : (d : Bool) → isPlain (r .kind) ≡ d → late ≡ any 8 (λ u. ltb (Own u) (clock v (before b i) (cond d (heldBy (isWrite (r .kind)) true (r .thread) (r .object) (r .field)) (portOr (r .thread) (second v r))) u))
+      heard : (d : Bool) → isPlain (r .kind) ≡ d
+          → late ≡ any 8 (λ u. ltb (Own u)
+          (clock v (before b i) (cond d (heldBy (isWrite (r .kind)) true (r .thread) (r .object) (r .field)) (portOr (r .thread) (second v r))) u))
       heard d q =
-          k ∙ lower-any (rowAt rows (c .thread)) (rowAt rows from) Own (clock v (before b i) (sourcePort v r)) 8 (omega arith) own-clock (heard-clock at from e g)
-          ∙ ap (λ (x : Bool). any 8 (λ u. ltb (Own u) (clock v (before b i) (cond x (heldBy (isWrite (r .kind)) true (r .thread) (r .object) (r .field)) (portOr (r .thread) (second v r))) u))) q
+          k ∙ lower-any (rowAt rows (c .thread)) (rowAt rows from) Own (clock v (before b i) (sourcePort v r)) 8 (omega arith) own-clock
+          (heard-clock at from e g)
+          ∙ ap (λ (x : Bool). any 8
+          (λ u. ltb (Own u) (clock v (before b i)
+          (cond x (heldBy (isWrite (r .kind)) true (r .thread) (r .object) (r .field)) (portOr (r .thread) (second v r))) u))) q
 
       go : (d : Bool) → isPlain (r .kind) ≡ d → (d && late) ≡ clashes v (before b i) r
       go true q =
-          heard true q ∙ ap (λ (x : Bool). any 8 (λ u. ltb (Own u) (clock v (before b i) (heldBy (isWrite (r .kind)) x (r .thread) (r .object) (r .field)) u))) (sym q)
+          heard true q ∙ ap (λ (x : Bool). any 8
+          (λ u. ltb (Own u) (clock v (before b i) (heldBy (isWrite (r .kind)) x (r .thread) (r .object) (r .field)) u))) (sym q)
       go false q =
-          sym (ap (λ (p : Port). any 8 (λ u. ltb (Own u) (clock v (before b i) p u))) (not-plain-held (r .kind) (r .thread) (r .object) (r .field) q) ∙ none-lower 8 Own)
+          sym (ap (λ (p : Port). any 8 (λ u. ltb (Own u) (clock v (before b i) p u))) (not-plain-held (r .kind) (r .thread) (r .object) (r .field) q)
+          ∙ none-lower 8 Own)
 
   -- what the pass answers
-  pub names-late : (at from : ℕ) (access late : Bool) → at ≡ placeRow n → from ≡ sourceRow v c at → access ≡ isAccess (c .kind) → late ≡ lowerOf 8 (rowAt rows (c .thread)) (rowAt rows from)
+  pub names-late : (at from : ℕ) (access late : Bool) → at ≡ placeRow n → from ≡ sourceRow v c at → access ≡ isAccess (c .kind)
+      → late ≡ lowerOf 8 (rowAt rows (c .thread)) (rowAt rows from)
       → true ≡ (access && late) → Answers v b (named (some i))
   names-late at from access late e g h k t =
-      judges (W .accepted-log) (names-lowest v (logOf b) (threads b (W .accepted-log)) i (rw (conflicts-is, ← late-is at from access late e g h k, ← t) tt) (G .none-late))
+      judges (W .accepted-log) (names-lowest v (logOf b) (threads b (W .accepted-log)) i (rw (conflicts-is, ← late-is at from access late e g h k, ← t) tt)
+      (G .none-late))

@@ -20,9 +20,11 @@ use Rattle.judge.proofs.PortRows.{rowOf}
 use Rattle.judge.proofs.RecordPorts.{sourcePort, targetPort, alsoPort}
 use Rattle.judge.proofs.Table.{Shows, Blank, stored-long, shows-step, blank-step, own-inside, to-inside, also-inside}
 use Rattle.judge.proofs.Going.{before, Going}
-use Rattle.judge.proofs.Here.{Here, fits, placed-at, number-most, room-here, shows-here, blank-here, source-is, target-is, also-is, next-past, conflicts-is, late-is}
+use Rattle.judge.proofs.Here.{Here, fits, placed-at, number-most, room-here, shows-here, blank-here, source-is, target-is, also-is, next-past}
+use Rattle.judge.proofs.Here.{conflicts-is, late-is}
 
-module _ {v : Version} {b : List ℕ} {i : ℕ} {N : List ℕ} {given : ℕ} {rows : List Row} {c : Columns} {N′ : List ℕ} {given′ n : ℕ} (W : Here v b i N given rows c N′ given′ n) where
+module _ {v : Version} {b : List ℕ} {i : ℕ} {N : List ℕ} {given : ℕ} {rows : List Row} {c : Columns} {N′ : List ℕ} {given′ n : ℕ}
+    (W : Here v b i N given rows c N′ given′ n) where
   abbrev r : Record
   r = recordAt b i
 
@@ -30,7 +32,8 @@ module _ {v : Version} {b : List ℕ} {i : ℕ} {N : List ℕ} {given : ℕ} {ro
   H = before b i
 
   module _ (on-time : clashes v H r ≡ false) (one moved told : Row) (O : One (r .thread) one)
-      (A : Advanced (rowAt rows (r .thread)) (rowAt rows (rowOf N′ (sourcePort v r))) one moved) (B : Raised (rowAt rows (rowOf N′ (targetPort v r))) moved told) where
+      (A : Advanced (rowAt rows (r .thread)) (rowAt rows (rowOf N′ (sourcePort v r))) one moved)
+      (B : Raised (rowAt rows (rowOf N′ (targetPort v r))) moved told) where
     abbrev stored-rows : List Row
     stored-rows = set (set (set rows (r .thread) moved) (rowOf N′ (targetPort v r)) told) (rowOf N′ (alsoPort r)) moved
 
@@ -60,7 +63,8 @@ module _ {v : Version} {b : List ℕ} {i : ℕ} {N : List ℕ} {given : ℕ} {ro
           none-late = none-late-next;
         })
 
-  pub next-by : (at from to also : ℕ) (access late : Bool) (one moved told : Row) → at ≡ placeRow n → from ≡ sourceRow v c at → to ≡ targetRow v c at → also ≡ writesRow c at
+  pub next-by : (at from to also : ℕ) (access late : Bool) (one moved told : Row) → at ≡ placeRow n → from ≡ sourceRow v c at → to ≡ targetRow v c at
+      → also ≡ writesRow c at
       → access ≡ isAccess (c .kind) → late ≡ lowerOf 8 (rowAt rows (c .thread)) (rowAt rows from) → false ≡ (access && late) → One (c .thread) one
       → Advanced (rowAt rows (c .thread)) (rowAt rows from) one moved → Raised (rowAt rows to) moved told
       → Going v b (i + 1) N′ given′ (set (set (set rows (c .thread) moved) to told) also moved)

@@ -26,7 +26,8 @@ one-fewer [] p k h e l = absurd (omega arith)
 one-fewer (n ∷ N) zero k h e l = rw (e, ne-eqb k 0 (λ q. omega arith))
 one-fewer (n ∷ N) (suc p) k h e l = go (eqb n 0) (one-fewer N p k (omega arith) e l)
   where
-    go : (d : Bool) → suc (unnumbered (set N p k)) ≡ unnumbered N → suc (cond d (suc (unnumbered (set N p k))) (unnumbered (set N p k))) ≡ cond d (suc (unnumbered N)) (unnumbered N)
+    go : (d : Bool) → suc (unnumbered (set N p k)) ≡ unnumbered N
+        → suc (cond d (suc (unnumbered (set N p k))) (unnumbered (set N p k))) ≡ cond d (suc (unnumbered N)) (unnumbered N)
     go true q = ap suc q
     go false q = q
 
@@ -75,8 +76,10 @@ module _ (N : List ℕ) (given p : ℕ) (P : Places N given) (below : p < 1024) 
     where
       go : Dec (a ≡ p) → Dec (b ≡ p) → a ≡ b
       go (yes q) (yes s) = q ∙ sym s
-      go (yes q) (no s) = let own : getD after a 0 ≡ given + 1 = ap (λ (z : ℕ). getD after z 0) q ∙ numbered-own in absurd (omega (arith, numbered-other b s, P .most b))
-      go (no q) (yes s) = let own : getD after b 0 ≡ given + 1 = ap (λ (z : ℕ). getD after z 0) s ∙ numbered-own in absurd (omega (arith, numbered-other a q, P .most a))
+      go (yes q) (no s) = let own : getD after a 0 ≡ given + 1 = ap (λ (z : ℕ). getD after z 0) q ∙ numbered-own in
+          absurd (omega (arith, numbered-other b s, P .most b))
+      go (no q) (yes s) = let own : getD after b 0 ≡ given + 1 = ap (λ (z : ℕ). getD after z 0) s ∙ numbered-own in
+          absurd (omega (arith, numbered-other a q, P .most a))
       go (no q) (no s) = P .once a b x y (sym (numbered-other a q) ∙ e ∙ numbered-other b s) (subst (λ (n : ℕ). 0 < n) (numbered-other b s) h)
 
   places-next : Places after (given + 1)
@@ -96,4 +99,9 @@ pub placed : (N N′ : List ℕ) (given given′ p n : ℕ) → Places N given �
 placed N N′ given given′ p n P h (known k) e =
     record { places = subst (Places N) (let m = P .most p in omega arith) P; number = refl; some = k }
 placed N N′ given given′ p n P h (next k) e =
-    record { places = subst (Places (set N p (given + 1))) (omega arith) (places-next N given p P h k); number = numbered-own N given p P h k; some = omega arith }
+    record {
+      places = subst (Places (set N p (given + 1))) (omega arith) (places-next N given p P h k);
+      number = numbered-own N given p P h k;
+      some =
+          omega arith;
+    }

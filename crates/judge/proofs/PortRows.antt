@@ -35,7 +35,8 @@ HasRow N (ofWrites o f) = 0 < getD N (o * 32 + f) 0
 -- it has its row alone
 module _ (N : List ℕ) (given : ℕ) (P : Places N given) where
   place-once : (a b c d : ℕ) → a < 32 → b < 32 → c < 32 → d < 32 → getD N (a * 32 + c) 0 ≡ getD N (b * 32 + d) 0 → 0 < getD N (b * 32 + d) 0 → (a ≡ b) × (c ≡ d)
-  place-once a b c d ha hb hc hd e h = let s : a * 32 + c ≡ b * 32 + d = P .once (a * 32 + c) (b * 32 + d) (omega arith) (omega arith) e h in (omega arith, omega arith)
+  place-once a b c d ha hb hc hd e h = let s : a * 32 + c ≡ b * 32 + d = P .once (a * 32 + c) (b * 32 + d) (omega arith) (omega arith) e h in
+      (omega arith, omega arith)
 
   pub row-once : (p q : Port) → Valid p → Valid q → HasRow N q → rowOf N p ≡ rowOf N q → p ≡ q
   row-once (ofThread a) (ofThread b) x y h e = ap ofThread e
@@ -45,11 +46,13 @@ module _ (N : List ℕ) (given : ℕ) (P : Places N given) where
   row-once (ofThread a) (ofWrites b d) x y h e = absurd (omega arith)
   row-once (ofMonitor a) (ofThread b) x y h e = absurd (omega arith)
   row-once (ofMonitor a) (ofMonitor b) x y h e = ap ofMonitor (place-once a b 0 0 x y (omega arith) (omega arith) (omega arith) h .0)
-  row-once (ofMonitor a) (ofVolatile b d) x y h e = let s = place-once a b 0 d x (y .0) (omega arith) (y .1) (omega arith) h .1 in let k = y .2 in absurd (omega arith)
+  row-once (ofMonitor a) (ofVolatile b d) x y h e = let s = place-once a b 0 d x (y .0) (omega arith) (y .1) (omega arith) h .1 in let k =
+      y .2 in absurd (omega arith)
   row-once (ofMonitor a) (ofAccesses b d) x y h e = absurd (omega arith)
   row-once (ofMonitor a) (ofWrites b d) x y h e = absurd (omega arith)
   row-once (ofVolatile a c) (ofThread b) x y h e = absurd (omega arith)
-  row-once (ofVolatile a c) (ofMonitor b) x y h e = let s = place-once a b c 0 (x .0) y (x .1) (omega arith) (omega arith) h .1 in let k = x .2 in absurd (omega arith)
+  row-once (ofVolatile a c) (ofMonitor b) x y h e = let s = place-once a b c 0 (x .0) y (x .1) (omega arith) (omega arith) h .1 in let k =
+      x .2 in absurd (omega arith)
   row-once (ofVolatile a c) (ofVolatile b d) x y h e = let s = place-once a b c d (x .0) (y .0) (x .1) (y .1) (omega arith) h in rw (s .0, s .1)
   row-once (ofVolatile a c) (ofAccesses b d) x y h e = absurd (omega arith)
   row-once (ofVolatile a c) (ofWrites b d) x y h e = absurd (omega arith)

@@ -83,8 +83,10 @@ module _ (N : List ℕ) (t o f : ℕ) where
 
   pub heard-row : (v : Version) (k : ℕ) → 0 < k → k ≤ 11 → Heard v k
   unfolding kindOf
-  heard-row v0 = by-kind (Heard v0) (λ z. refl) (λ z. refl) (λ z. refl) (λ z. refl) (λ z. refl) (λ z. rw (z refl)) (λ z. refl) (λ z. refl) (λ z. refl) (λ z. refl) (λ z. refl)
-  heard-row v1 = by-kind (Heard v1) (λ z. refl) (λ z. refl) (λ z. refl) (λ z. refl) (λ z. refl) (λ z. rw (z refl)) (λ z. refl) (λ z. refl) (λ z. refl) (λ z. refl) (λ z. refl)
+  heard-row v0 = by-kind (Heard v0) (λ z. refl) (λ z. refl) (λ z. refl) (λ z. refl) (λ z. refl) (λ z. rw (z refl)) (λ z. refl) (λ z. refl) (λ z. refl)
+      (λ z. refl) (λ z. refl)
+  heard-row v1 = by-kind (Heard v1) (λ z. refl) (λ z. refl) (λ z. refl) (λ z. refl) (λ z. refl) (λ z. rw (z refl)) (λ z. refl) (λ z. refl) (λ z. refl)
+      (λ z. refl) (λ z. refl)
 
   abbrev Told : Version → ℕ → Type 0
   Told v k =
@@ -93,8 +95,10 @@ module _ (N : List ℕ) (t o f : ℕ) where
 
   pub told-row : (v : Version) (k : ℕ) → 0 < k → k ≤ 11 → Told v k
   unfolding kindOf
-  told-row v0 = by-kind (Told v0) (λ z. refl) (λ z. refl) (λ z. refl) (λ z. refl) (λ z. refl) (λ z. refl) (λ z. rw (z refl)) (λ z. refl) (λ z. refl) (λ z. refl) (λ z. refl)
-  told-row v1 = by-kind (Told v1) (λ z. refl) (λ z. refl) (λ z. refl) (λ z. refl) (λ z. refl) (λ z. refl) (λ z. rw (z refl)) (λ z. refl) (λ z. refl) (λ z. refl) (λ z. refl)
+  told-row v0 = by-kind (Told v0) (λ z. refl) (λ z. refl) (λ z. refl) (λ z. refl) (λ z. refl) (λ z. refl) (λ z. rw (z refl)) (λ z. refl) (λ z. refl)
+      (λ z. refl) (λ z. refl)
+  told-row v1 = by-kind (Told v1) (λ z. refl) (λ z. refl) (λ z. refl) (λ z. refl) (λ z. refl) (λ z. refl) (λ z. rw (z refl)) (λ z. refl) (λ z. refl)
+      (λ z. refl) (λ z. refl)
 
   abbrev Also : ℕ → Type 0
   Also k = cond (eqb (k % 8) 3) (at + 2) t ≡ rowOf N (cond (isWrite (kindOf k)) (ofWrites o f) (ofThread t))
@@ -181,7 +185,8 @@ module _ {N : List ℕ} {given n : ℕ} (o f : ℕ) (P : Placed N given (o * 32 
   -- the row is a thread's, or one of the three of the place
   pub near-spot : (p : Port) → Near o f p → (rowOf N p < 8) ⊎ ((placeRow n ≤ rowOf N p) × (rowOf N p ≤ placeRow n + 2))
   near-spot (ofThread q) (thread h) = inl h
-  near-spot (ofMonitor o′) (monitor h) = let e : getD N (o * 32 + 0) 0 ≡ n = subst (λ (m : ℕ). getD N (o * 32 + m) 0 ≡ n) h (P .number) in inr (omega arith, omega arith)
+  near-spot (ofMonitor o′) (monitor h) = let e : getD N (o * 32 + 0) 0 ≡ n = subst (λ (m : ℕ). getD N (o * 32 + m) 0 ≡ n) h (P .number) in
+      inr (omega arith, omega arith)
   near-spot (ofVolatile o′ f′) (volatile h) = let e = P .number in inr (omega arith, omega arith)
   near-spot (ofAccesses o′ f′) accesses = let e = P .number in inr (omega arith, omega arith)
   near-spot (ofWrites o′ f′) writes = let e = P .number in inr (omega arith, omega arith)

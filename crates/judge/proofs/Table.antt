@@ -24,7 +24,8 @@ use Rattle.effects.specs.Places.{Numbered, known, next}
 use Rattle.effects.specs.Rows.{placeRow}
 use Rattle.judge.proofs.PlaceNumbers.{Places, Placed, numbered-own, numbered-other}
 use Rattle.judge.proofs.PortRows.{rowOf, Valid, row-once}
-use Rattle.judge.proofs.RecordPorts.{Fits, portOr, sourcePort, targetPort, alsoPort, Near, thread, source-near, target-near, also-near, near-valid, near-row, near-spot, target-feeds, fed-one-of, plain-second}
+use Rattle.judge.proofs.RecordPorts.{Fits, portOr, sourcePort, targetPort, alsoPort, Near, thread, source-near, target-near, also-near, near-valid}
+use Rattle.judge.proofs.RecordPorts.{near-row, near-spot, target-feeds, fed-one-of, plain-second}
 
 -- ---- clocks
 
@@ -38,7 +39,8 @@ own-count v [] t = refl
 own-count v (r ∷ H) t = go (ℕ-discrete (r .thread) t) (own-count v H t)
   where
     itself : (u : ℕ) → r .thread ≡ u → clock v (r ∷ H) (ofThread (r .thread)) (r .thread) ≡ count (r ∷ H) (r .thread)
-    itself u e = clock-own v r H (r .thread) ∙ cond-true (eqb (r .thread) (r .thread)) _ _ (eqb-refl (r .thread)) ∙ sym (cond-true (eqb (r .thread) (r .thread)) _ _ (eqb-refl (r .thread)))
+    itself u e = clock-own v r H (r .thread) ∙ cond-true (eqb (r .thread) (r .thread)) _ _ (eqb-refl (r .thread))
+        ∙ sym (cond-true (eqb (r .thread) (r .thread)) _ _ (eqb-refl (r .thread)))
 
     go : Dec (r .thread ≡ t) → clock v H (ofThread t) t ≡ count H t → clock v (r ∷ H) (ofThread t) t ≡ count (r ∷ H) t
     go (yes e) ih = subst (λ (u : ℕ). clock v (r ∷ H) (ofThread u) u ≡ count (r ∷ H) u) e (itself t e)
@@ -82,7 +84,8 @@ module _ (v : Version) (H : List Record) (N : List ℕ) (given p : ℕ) (P : Pla
       go (yes q) =
           let now : getD after place 0 ≡ given + 1 = ap (λ (k : ℕ). getD after k 0) q ∙ numbered-own N given p P below new in
           let was : getD N place 0 ≡ 0 = ap (λ (k : ℕ). getD N k 0) q ∙ new in
-          ap (λ (k : ℕ). clockOf (rowAt rows (row k)) u) now ∙ B (given + 1) (row (given + 1)) (spot (given + 1) .0) (spot (given + 1) .1) (inr (omega arith)) u h
+          ap (λ (k : ℕ). clockOf (rowAt rows (row k)) u) now
+          ∙ B (given + 1) (row (given + 1)) (spot (given + 1) .0) (spot (given + 1) .1) (inr (omega arith)) u h
           ∙ sym (B 0 (row 0) (spot 0 .0) (spot 0 .1) (inl refl) u h) ∙ ap (λ (k : ℕ). clockOf (rowAt rows (row k)) u) (sym was) ∙ e
 
   shows-numbered : Shows v H after rows
@@ -94,7 +97,8 @@ module _ (v : Version) (H : List Record) (N : List ℕ) (given p : ℕ) (P : Pla
   shows-numbered (ofWrites o f) w u h = moved-place (o * 32 + f) (λ k. placeRow k + 2) (λ k. (omega arith, omega arith)) u _ h (S (ofWrites o f) w u h)
 
 -- the same, whether it had one or not
-pub shows-placed : (v : Version) (H : List Record) (N N′ : List ℕ) (given p n : ℕ) → Places N given → p < 1024 → (rows : List Row) → Blank given rows → Shows v H N rows
+pub shows-placed : (v : Version) (H : List Record) (N N′ : List ℕ) (given p n : ℕ) → Places N given → p < 1024 → (rows : List Row) → Blank given rows
+    → Shows v H N rows
     → Numbered N p given N′ n → Shows v H N′ rows
 shows-placed v H N N′ given p n P h rows B S (known k) = S
 shows-placed v H N N′ given p n P h rows B S (next k) = shows-numbered v H N given p P h k rows B S
@@ -151,7 +155,8 @@ source-reads : (c : Port → ℕ → ℕ) (t u : ℕ) (m : Option Port) → max 
 source-reads c t u none = omega arith
 source-reads c t u (some p) = refl
 
-module _ (v : Version) (r : Record) (H : List Record) (N : List ℕ) (given n : ℕ) (rows : List Row) (fits : Fits r) (P : Placed N given (r .object * 32 + r .field) n)
+module _ (v : Version) (r : Record) (H : List Record) (N : List ℕ) (given n : ℕ) (rows : List Row) (fits : Fits r)
+    (P : Placed N given (r .object * 32 + r .field) n)
     (room : placeRow n + 2 < length rows) (S : Shows v H N rows) where
   abbrev from : ℕ
   from = rowOf N (sourcePort v r)
@@ -195,7 +200,8 @@ module _ (v : Version) (r : Record) (H : List Record) (N : List ℕ) (given n : 
   unfolding Shows
   heard-shows u h = S (sourcePort v r) (valid (sourcePort v r) (source-near v r fits)) u h
 
-  module _ (on-time : clashes v H r ≡ false) (one moved told : Row) (O : One (r .thread) one) (A : Advanced (rowAt rows (r .thread)) (rowAt rows from) one moved)
+  module _ (on-time : clashes v H r ≡ false) (one moved told : Row) (O : One (r .thread) one)
+      (A : Advanced (rowAt rows (r .thread)) (rowAt rows from) one moved)
       (B : Raised (rowAt rows to) moved told) where
     -- an access has heard all that it must have heard
     heard-held : (u : ℕ) → u < 8 → clock v H (held r) u ≤ Own u
@@ -209,7 +215,8 @@ module _ (v : Version) (r : Record) (H : List Record) (N : List ℕ) (given n : 
     heard-reads u h = go (isPlain (r .kind)) refl
       where
         go : (d : Bool) → isPlain (r .kind) ≡ d
-            → max (Own u) (clock v H (cond d (heldBy (isWrite (r .kind)) true (r .thread) (r .object) (r .field)) (portOr (r .thread) (second v r))) u) ≡ max (Own u) (reading (clock v H) (second v r) u)
+            → max (Own u) (clock v H (cond d (heldBy (isWrite (r .kind)) true (r .thread) (r .object) (r .field)) (portOr (r .thread) (second v r))) u) ≡ max
+            (Own u) (reading (clock v H) (second v r) u)
         go true e =
             let k : clock v H (heldBy (isWrite (r .kind)) true (r .thread) (r .object) (r .field)) u ≤ Own u
             = subst (λ (d : Bool). clock v H (heldBy (isWrite (r .kind)) d (r .thread) (r .object) (r .field)) u ≤ Own u) e (heard-held u h) in
@@ -217,7 +224,8 @@ module _ (v : Version) (r : Record) (H : List Record) (N : List ℕ) (given n : 
         go false e = source-reads (clock v H) (r .thread) u (second v r)
 
     -- the thread's row is what the record gathers
-    counts : (u : ℕ) (d : Bool) → (T d → r .thread ≡ u) → clock v H (sourcePort v r) u ≤ count H u → max (Own u) (clock v H (sourcePort v r) u) ≡ max (Own u) (reading (clock v H) (second v r) u)
+    counts : (u : ℕ) (d : Bool) → (T d → r .thread ≡ u) → clock v H (sourcePort v r) u ≤ count H u
+        → max (Own u) (clock v H (sourcePort v r) u) ≡ max (Own u) (reading (clock v H) (second v r) u)
         → max (Own u) (clock v H (sourcePort v r) u) + cond d 1 0 ≡ cond d (suc (count H u)) (max (Own u) (reading (clock v H) (second v r) u))
     counts u true y k e =
         let own : Own u ≡ count H u = rw (y tt) (own-count v H u) in
@@ -240,8 +248,10 @@ module _ (v : Version) (r : Record) (H : List Record) (N : List ℕ) (given n : 
         go true e =
             let k : clock v H (ofAccesses (r .object) (r .field)) u ≤ Own u
             = subst (λ (d : Bool). clock v H (heldBy d (isPlain (r .kind)) (r .thread) (r .object) (r .field)) u ≤ Own u) e (heard-held u h) in
-            let m : clockOf moved u ≡ max (clock v H (ofWrites (r .object) (r .field)) u) (clockOf moved u) = omega (arith, grown u h, writes-among v H (r .object) (r .field) u) in
-            m ∙ ap (max (clock v H (ofWrites (r .object) (r .field)) u)) (moved-gathers u h) ∙ sym (clock-fed v r H (ofWrites (r .object) (r .field)) u (rw e tt, refl, refl))
+            let m : clockOf moved u ≡ max (clock v H (ofWrites (r .object) (r .field)) u) (clockOf moved u) =
+            omega (arith, grown u h, writes-among v H (r .object) (r .field) u) in
+            m ∙ ap (max (clock v H (ofWrites (r .object) (r .field)) u)) (moved-gathers u h)
+            ∙ sym (clock-fed v r H (ofWrites (r .object) (r .field)) u (rw e tt, refl, refl))
         go false e = moved-gathers u h ∙ sym (clock-own v r H u)
 
     abbrev pub next-rows : List Row
@@ -272,12 +282,14 @@ module _ (v : Version) (r : Record) (H : List Record) (N : List ℕ) (given n : 
             (ap (λ (x : Row). clockOf x u) (also-row rows (r .thread) to also moved told own-inside to-inside also-inside) ∙ also-clock u h)
         go (no e) (yes g) y =
             only (targetPort v r) (target-near v r fits) g
-            (ap (λ (x : Row). clockOf x u) (to-row rows (r .thread) to also moved told own-inside to-inside also-inside to (λ q. e (g ∙ q)) refl) ∙ B .clocks-are u h
+            (ap (λ (x : Row). clockOf x u) (to-row rows (r .thread) to also moved told own-inside to-inside also-inside to (λ q. e (g ∙ q)) refl)
+            ∙ B .clocks-are u h
             ∙ ap₂ max (S (targetPort v r) (valid (targetPort v r) (target-near v r fits)) u h) (moved-gathers u h)
             ∙ sym (clock-fed v r H (targetPort v r) u (target-feeds v (r .kind) (r .thread) (r .object) (r .field) (r .value))))
         go (no e) (no g) (yes k) =
             only (ofThread (r .thread)) (thread (fits .thread-fits)) k
-            (ap (λ (x : Row). clockOf x u) (own-row rows (r .thread) to also moved told own-inside to-inside also-inside (r .thread) (λ q. e (k ∙ q)) (λ q. g (k ∙ q)) refl)
+            (ap (λ (x : Row). clockOf x u)
+            (own-row rows (r .thread) to also moved told own-inside to-inside also-inside (r .thread) (λ q. e (k ∙ q)) (λ q. g (k ∙ q)) refl)
             ∙ moved-gathers u h ∙ sym (clock-own v r H u))
         go (no e) (no g) (no k) =
             ap (λ (x : Row). clockOf x u) (other-row rows (r .thread) to also moved told own-inside to-inside also-inside (rowOf N p) e g k)

@@ -90,7 +90,8 @@ known false y = refl
 pub new-again : (W K : Keys) → countNew W (union W K) ≡ 0
 unfolding countNew
 new-again W K =
-    count-same (λ k. holds W k && not (holds (union W K) k)) (λ k. false) 256 (λ k l. ap (λ (b : Bool). holds W k && not b) (holds-union W K k) ∙ known (holds W k) (holds K k))
+    count-same (λ k. holds W k && not (holds (union W K) k)) (λ k. false) 256 (λ k l. ap (λ (b : Bool). holds W k && not b) (holds-union W K k)
+    ∙ known (holds W k) (holds K k))
     ∙ count-none 256
 
 -- ---- the ones of a word
@@ -125,7 +126,8 @@ ones-new (suc n) w v p q =
     let half : bitAnd w m / 2 ≡ bitAnd (w / 2) (m / 2) = omega (arith, and-step w m, small) in
     let low : bitAnd w m % 2 ≡ min (w % 2) (m % 2) = omega (arith, and-step w m, small) in
     ones-step (bitAnd w m)
-    ∙ ap₂ (λ (x y : ℕ). x + ones y) (low ∙ ap (min (w % 2)) (without-lowest n v q) ∙ lowest (w % 2) (v % 2) (mod-lt w (zero-lt-suc 1)) (mod-lt v (zero-lt-suc 1)))
+    ∙ ap₂ (λ (x y : ℕ). x + ones y) (low ∙ ap (min (w % 2)) (without-lowest n v q)
+    ∙ lowest (w % 2) (v % 2) (mod-lt w (zero-lt-suc 1)) (mod-lt v (zero-lt-suc 1)))
     (half ∙ ap (bitAnd (w / 2)) (without-half n v q))
     ∙ ap₂ (λ (x y : ℕ). x + y)
     (ap₂ (λ (x y : Bool). one (x && not y)) (sym (holds-zero w)) (sym (holds-zero v)))

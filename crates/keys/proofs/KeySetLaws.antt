@@ -15,7 +15,8 @@ use borrow.Author.Tests.{ne-eqb}
 use Rattle.keys.specs.declared.KeySet.{KeySet}
 use Rattle.keys.specs.declared.Joined.{Joined}
 use Rattle.keys.specs.Keys.{Keys, empty, singleton, holds, union, isEmpty, countBelow, countNew}
-use Rattle.keys.specs.KeySet.{keysOf, wordOf, words, ofWords, emptySet, zeroSet, holdsOf, learnOf, joinOf, newIn, newOf, joinedOf, isEmptyOf, Made, Joins, Told}
+use Rattle.keys.specs.KeySet.{keysOf, wordOf, words, ofWords, emptySet, zeroSet, holdsOf, learnOf, joinOf, newIn, newOf, joinedOf, isEmptyOf, Made}
+use Rattle.keys.specs.KeySet.{Joins, Told}
 use Rattle.keys.proofs.CountLaws.{count-same, count-split, count-le, ones-new}
 
 -- every word fits 64 bits, as the code's do
@@ -54,7 +55,8 @@ holds-word s k w e = ap (λ (x : ℕ). eqb (x / 2 ^ (k % 64) % 2) 1) e
 
 or-empty : (a b : ℕ) → eqb (bitOr a b) 0 ≡ (eqb a 0 && eqb b 0)
 or-empty zero b = ap (λ (m : ℕ). eqb m 0) (or-zero-l b)
-or-empty (suc a) b = ne-eqb (bitOr (suc a) b) 0 (λ e. omega (arith, or-add-and (suc a) b, and-le-r (suc a) b)) ∙ sym (ap (λ (x : Bool). x && eqb b 0) (eqb·suc-zero a))
+or-empty (suc a) b = ne-eqb (bitOr (suc a) b) 0 (λ e. omega (arith, or-add-and (suc a) b, and-le-r (suc a) b))
+    ∙ sym (ap (λ (x : Bool). x && eqb b 0) (eqb·suc-zero a))
 
 -- all words tested at once
 pub empty-words : (s : KeySet) → eqb (bitOr (s .w0) (bitOr (s .w1) (bitOr (s .w2) (s .w3)))) 0 ≡ isEmptyOf s
@@ -134,7 +136,8 @@ keys-join {s} {t} p q =
 
 -- the new keys of a word, and those of the words over it
 new-split : (n high low high′ low′ : ℕ) → low < 2 ^ 64 → low′ < 2 ^ 64
-    → countBelow (λ k. holds (over high low) k && not (holds (over high′ low′) k)) (64 + n) ≡ newIn low low′ + countBelow (λ k. holds high k && not (holds high′ k)) n
+    → countBelow (λ k. holds (over high low) k && not (holds (over high′ low′) k)) (64 + n) ≡ newIn low low′ + countBelow
+    (λ k. holds high k && not (holds high′ k)) n
 unfolding newIn
 new-split n high low high′ low′ p q =
     count-split (λ k. holds (over high low) k && not (holds (over high′ low′) k)) 64 n
@@ -211,7 +214,8 @@ module _ {s : KeySet} (k : ℕ) (h : k < 256) (f : Fits s) where
           sym
           (at (64 + (64 + bit)) (omega arith)
           ∙ learn-high 64 (64 + bit) (from1 s) (s .w0) (f .w0)
-          ∙ ap (λ (m : ℕ). over m (s .w0)) (learn-high 64 bit (from2 s) (s .w1) (f .w1) ∙ ap (λ (m : ℕ). over m (s .w1)) (learn-low 64 bit (s .w3) (s .w2) bit-small (f .w2))))
+          ∙ ap (λ (m : ℕ). over m (s .w0)) (learn-high 64 bit (from2 s) (s .w1) (f .w1)
+          ∙ ap (λ (m : ℕ). over m (s .w1)) (learn-low 64 bit (s .w3) (s .w2) bit-small (f .w2))))
       go (suc (suc (suc zero))) e =
           sym
           (at (64 + (64 + (64 + bit))) (omega arith)
@@ -225,7 +229,8 @@ module _ {s : KeySet} (k : ℕ) (h : k < 256) (f : Fits s) where
 over-empty : (high low : ℕ) → eqb (over high low) 0 ≡ (eqb low 0 && eqb high 0)
 over-empty zero zero = refl
 over-empty zero (suc low) = ne-eqb (over 0 (suc low)) 0 (λ e. omega arith) ∙ ap (λ (b : Bool). b && true) (sym (eqb·suc-zero low))
-over-empty (suc high) low = ne-eqb (over (suc high) low) 0 (λ e. omega arith) ∙ sym (ap (λ (b : Bool). eqb low 0 && b) (eqb·suc-zero high) ∙ and-false (eqb low 0))
+over-empty (suc high) low = ne-eqb (over (suc high) low) 0 (λ e. omega arith)
+    ∙ sym (ap (λ (b : Bool). eqb low 0 && b) (eqb·suc-zero high) ∙ and-false (eqb low 0))
 
 pub keys-is-empty : (s : KeySet) → isEmptyOf s ≡ isEmpty (keysOf s)
 unfolding keysOf isEmptyOf isEmpty

@@ -53,7 +53,8 @@ module _ (plan area ws rs : List ℕ) (ok : refusal plan ≡ none) (loaded : Loa
 
   related : Related plan (machineOf here) final
   unfolding playing.runOf
-  related = stands-for plan ws rs ok loaded ps 0 small (startOf false rs area) playing.start (start-related plan ws rs ok loaded false area) (start-reached plan ok)
+  related = stands-for plan ws rs ok loaded ps 0 small (startOf false rs area) playing.start (start-related plan ws rs ok loaded false area)
+      (start-reached plan ok)
 
   run-threads : play (programOf plan) ps .final .threads ≡ map (threadMeant (tableOf plan)) (final .threads)
   run-threads = ap (λ (r : Run). r .final .threads) (plays plan ok ps)

@@ -9,7 +9,8 @@ use Rattle.frames.specs.Going.{goFull}
 use Rattle.landing.specs.Landing.{liveOf, Stack, ended, stored, turnAt, landOf}
 
 pub goes : (n : ℕ) (ws rs : List ℕ) (base : ℕ) (k : Stack) (g : Go) (d : ℕ) → 0 < n → liveOf g ≡ true
-    → landOf n ws rs base k g d ≡ landOf (n - 1) ws rs base (stored k base (turnAt ws rs base k g d)) (turnAt ws rs base k g d .go) (turnAt ws rs base k g d .depth)
+    → landOf n ws rs base k g d ≡ landOf (n - 1) ws rs base (stored k base (turnAt ws rs base k g d)) (turnAt ws rs base k g d .go)
+    (turnAt ws rs base k g d .depth)
 unfolding landOf
 goes zero ws rs base k g d h e = absurd (omega arith)
 goes (suc n) ws rs base k g d h e = let q : suc n - 1 ≡ n = omega arith in rw (q, e)

@@ -13,7 +13,8 @@ use Rattle.frames.specs.declared.go.Go.{Go}
 use Rattle.landing_step.specs.declared.Turn.{Turn}
 use Rattle.term_words.specs.Words.{valueOf, truthOf}
 use Rattle.frames.specs.Going.{goRun, goRunCondition}
-use Rattle.landing_step.specs.Down.{pushOf, wantBy, wantOf, wantConditionBy, wantConditionOf, openedOf, listedOf, wantedBy, downOf, backOf, backConditionOf, stepBy, stepOf}
+use Rattle.landing_step.specs.Down.{pushOf, wantBy, wantOf, wantConditionBy, wantConditionOf, openedOf, listedOf, wantedBy, downOf, backOf}
+use Rattle.landing_step.specs.Down.{backConditionOf, stepBy, stepOf}
 
 abbrev pub Within : Turn → Type 0
 Within m = (m .depth ≤ 32) × (m .at ≤ 32)

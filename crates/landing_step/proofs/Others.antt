@@ -33,7 +33,8 @@ listed-other stage.List ws rs g h = absurd (miss (0 ∷ 1 ∷ 2 ∷ 3 ∷ 4 ∷ 
 listed-other stage.Value ws rs g h = refl
 listed-other stage.Truth ws rs g h = refl
 
-pub wanted-other : (x : Stage) (ws : List ℕ) (g : Go) (d : ℕ) → OneOf (0 ∷ 1 ∷ 2 ∷ 3 ∷ 6 ∷ 7 ∷ 8 ∷ []) (tagOf stage-type.the-type x) → wantedBy x ws g d ≡ stayOf g d
+pub wanted-other : (x : Stage) (ws : List ℕ) (g : Go) (d : ℕ) → OneOf (0 ∷ 1 ∷ 2 ∷ 3 ∷ 6 ∷ 7 ∷ 8 ∷ []) (tagOf stage-type.the-type x)
+    → wantedBy x ws g d ≡ stayOf g d
 wanted-other stage.Full ws g d h = refl
 wanted-other stage.At ws g d h = refl
 wanted-other stage.Run ws g d h = refl
@@ -44,7 +45,8 @@ wanted-other stage.List ws g d h = refl
 wanted-other stage.Value ws g d h = refl
 wanted-other stage.Truth ws g d h = refl
 
-pub step-other : (x : Stage) (ws rs : List ℕ) (g : Go) (d : ℕ) (f : Frame) → OneOf (0 ∷ 1 ∷ 2 ∷ 3 ∷ 4 ∷ 5 ∷ 6 ∷ []) (tagOf stage-type.the-type x) → stepBy x ws rs g d f ≡ downOf ws rs g d
+pub step-other : (x : Stage) (ws rs : List ℕ) (g : Go) (d : ℕ) (f : Frame) → OneOf (0 ∷ 1 ∷ 2 ∷ 3 ∷ 4 ∷ 5 ∷ 6 ∷ []) (tagOf stage-type.the-type x)
+    → stepBy x ws rs g d f ≡ downOf ws rs g d
 step-other stage.Full ws rs g d f h = refl
 step-other stage.At ws rs g d f h = refl
 step-other stage.Run ws rs g d f h = refl

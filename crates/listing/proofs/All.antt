@@ -4,7 +4,8 @@ use native.Mathlib.Omega.{arith}
 use native.Mathlib.Decide.{ℕ-discrete}
 use mathlib.Core.Path.{_≡_, refl, sym, ap, _∙_, subst as along}
 use mathlib.Core.Bool.{Bool, true, false, cond, true≢false}
-use mathlib.Core.List.{List, [], _∷_, _++_, append-nil, List·Memᴰ, List·Memᴰ·head, List·Memᴰ·tail, List·Memᴰ·not-nil, List·Memᴰ·append-cases, List·Memᴰ·eq-of-singleton, Memᴰ·append-left, Memᴰ·append-right}
+use mathlib.Core.List.{List, [], _∷_, _++_, append-nil, List·Memᴰ, List·Memᴰ·head, List·Memᴰ·tail, List·Memᴰ·not-nil, List·Memᴰ·append-cases}
+use mathlib.Core.List.{List·Memᴰ·eq-of-singleton, Memᴰ·append-left, Memᴰ·append-right}
 use mathlib.Core.Logic.{_⊎_, inl, inr}
 use lib.ListN.{length, length-append}
 use lib.Seq.{append-snoc}
@@ -65,7 +66,8 @@ module _ (can : List ℕ → ℕ → Bool) where
       → ((rs : List ℕ) (r : ℕ) (t : List ℕ) → Complete can n rs → rs ≡ ps ++ (r ∷ t) → ⊥) → AllOf n ps (ps ∷ [])
   self n ps w ends most none =
       record {
-        sound = λ rs m. let e = List·Memᴰ·eq-of-singleton m in (along (Complete can n) (sym e) (record { way = w; at-most = most; ends = ends }), [], e ∙ sym (append-nil ps));
+        sound = λ rs m. let e =
+            List·Memᴰ·eq-of-singleton m in (along (Complete can n) (sym e) (record { way = w; at-most = most; ends = ends }), [], e ∙ sym (append-nil ps));
         each = λ rs t c q. by rs t c q;
         sorted = (λ qs m. absurd (List·Memᴰ·not-nil m), tt);
         some = (ps, List·Memᴰ·head refl);
@@ -79,7 +81,14 @@ module _ (can : List ℕ → ℕ → Bool) where
       (below : (p : ℕ) → p < 8 → can ps p ≡ true → AllOf n (ps ++ (p ∷ [])) (f (ps ++ (p ∷ [])))) where
     with-child : (p : ℕ) → p < 8 → can ps p ≡ true → (L : List (List ℕ))
         → Children n ps (suc p) L → Children n ps p (f (ps ++ (p ∷ [])) ++ L)
-    with-child p b e L x = record { sound = sound; each = each; sorted = sorted-append _ L (y .sorted) (x .sorted) apart; some = λ r h k t. (y .some .0, Memᴰ·append-left L (y .some .1)) }
+    with-child p b e L x =
+        record {
+          sound = sound;
+          each = each;
+          sorted = sorted-append _ L (y .sorted) (x .sorted) apart;
+          some =
+              λ r h k t. (y .some .0, Memᴰ·append-left L (y .some .1));
+        }
       where
         y : AllOf n (ps ++ (p ∷ [])) (f (ps ++ (p ∷ [])))
         y = below p b e
@@ -155,7 +164,8 @@ module _ (can : List ℕ → ℕ → Bool) where
         }
       where
         by : (rs t : List ℕ) → Complete can n rs → rs ≡ ps ++ t → Mem rs (y ∷ L)
-        by rs [] c q = let (d, r, u, h, z) = x .sound y (List·Memᴰ·head refl) in absurd (no-longer can ps y (along (Complete can n) (q ∙ append-nil ps) c) d (r, u, z))
+        by rs [] c q = let (d, r, u, h, z) =
+            x .sound y (List·Memᴰ·head refl) in absurd (no-longer can ps y (along (Complete can n) (q ∙ append-nil ps) c) d (r, u, z))
         by rs (r ∷ t) c q = x .each rs r t c (omega arith) q
 
   pub all-are : (n k : ℕ) (ps : List ℕ) → Way can ps → length ps + k ≡ n → AllOf n ps (all k ps)
@@ -163,5 +173,7 @@ module _ (can : List ℕ → ℕ → Bool) where
   all-are n zero ps w e =
       self n ps w (inl (omega arith)) (omega arith) (λ rs r t c q. let h = c .at-most in omega (arith, h, ap length q, length-append ps (r ∷ t)))
   all-are n (suc k) ps w e =
-      or-self n ps (λ qs. all k qs) w (λ p b t. all-are n k (ps ++ (p ∷ [])) (one-more can ps p w b t) (omega (arith, e, length-append ps (p ∷ [])))) (omega arith) _
-      (children-are n ps (λ qs. all k qs) w (λ p b t. all-are n k (ps ++ (p ∷ [])) (one-more can ps p w b t) (omega (arith, e, length-append ps (p ∷ [])))) 0 8 refl)
+      or-self n ps (λ qs. all k qs) w (λ p b t. all-are n k (ps ++ (p ∷ [])) (one-more can ps p w b t) (omega (arith, e, length-append ps (p ∷ []))))
+      (omega arith) _
+      (children-are n ps (λ qs. all k qs) w (λ p b t. all-are n k (ps ++ (p ∷ [])) (one-more can ps p w b t) (omega (arith, e, length-append ps (p ∷ [])))) 0
+      8 refl)

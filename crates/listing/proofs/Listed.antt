@@ -116,7 +116,8 @@ no-prefix g n ps r t x y = no-longer (canFollow g) ps (ps ++ (r ∷ t)) (complet
 -- ---- "n = 0 lists the empty schedule only."
 
 pub none-lists-empty : (g : Program) (ps : List ℕ) → Listed g 0 ps ↔ (ps ≡ [])
-none-lists-empty g ps = (λ x. only ps (x .at-most), λ e. rw e (listed-by g 0 [] (record { way = no-picks (canFollow g); at-most = omega arith; ends = inl refl })))
+none-lists-empty g ps =
+    (λ x. only ps (x .at-most), λ e. rw e (listed-by g 0 [] (record { way = no-picks (canFollow g); at-most = omega arith; ends = inl refl })))
   where
     only : (l : List ℕ) → length l ≤ 0 → l ≡ []
     only [] h = refl

@@ -29,7 +29,8 @@ module _ (can : List ℕ → ℕ → Bool) where
 
       follow : (i : ℕ) → i < length (ps ++ (p ∷ [])) → Dec (i < length ps) → can (take i (ps ++ (p ∷ []))) (getD (ps ++ (p ∷ [])) i 0) ≡ true
       follow i h (yes k) =
-          ap (λ (l : List ℕ). can l (getD (ps ++ (p ∷ [])) i 0)) (take-append-le i ps (p ∷ []) (omega arith)) ∙ ap (can (take i ps)) (List·getD-append ps (p ∷ []) 0 i k) ∙ w .follows i k
+          ap (λ (l : List ℕ). can l (getD (ps ++ (p ∷ [])) i 0)) (take-append-le i ps (p ∷ []) (omega arith))
+          ∙ ap (can (take i ps)) (List·getD-append ps (p ∷ []) 0 i k) ∙ w .follows i k
       follow i h (no k) =
           ap (λ (j : ℕ). can (take j (ps ++ (p ∷ []))) (getD (ps ++ (p ∷ [])) j 0)) (last i h k)
           ∙ ap (λ (l : List ℕ). can l (getD (ps ++ (p ∷ [])) (length ps) 0)) (take-append-seam ps (p ∷ []))
@@ -45,7 +46,8 @@ module _ (can : List ℕ → ℕ → Bool) where
 
     pub pick-follows : can ps p ≡ true
     pick-follows =
-        sym (ap (λ (l : List ℕ). can l (getD (ps ++ (p ∷ t)) (length ps) 0)) (take-append-seam ps (p ∷ t)) ∙ ap (can ps) (getD-append-seam ps p t 0)) ∙ w .follows (length ps) inside
+        sym (ap (λ (l : List ℕ). can l (getD (ps ++ (p ∷ t)) (length ps) 0)) (take-append-seam ps (p ∷ t)) ∙ ap (can ps) (getD-append-seam ps p t 0))
+        ∙ w .follows (length ps) inside
 
   -- the first picks of a way
   pub first-picks : (ps t : List ℕ) → Way can (ps ++ t) → Way can ps
@@ -53,7 +55,8 @@ module _ (can : List ℕ → ℕ → Bool) where
       record {
         of-eight = λ i h. along (λ (x : ℕ). x < 8) (List·getD-append ps t 0 i h) (w .of-eight i (longer i h));
         follows = λ i h.
-            sym (ap (λ (l : List ℕ). can l (getD (ps ++ t) i 0)) (take-append-le i ps t (omega arith)) ∙ ap (can (take i ps)) (List·getD-append ps t 0 i h)) ∙ w .follows i (longer i h);
+            sym (ap (λ (l : List ℕ). can l (getD (ps ++ t) i 0)) (take-append-le i ps t (omega arith)) ∙ ap (can (take i ps)) (List·getD-append ps t 0 i h))
+            ∙ w .follows i (longer i h);
       }
     where
       longer : (i : ℕ) → i < length ps → i < length (ps ++ t)

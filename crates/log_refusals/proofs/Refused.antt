@@ -15,7 +15,8 @@ pub refused-length : (b : List ℕ) → true ≡ wrongLogLength b → logRefusal
 unfolding logRefusal logChecks
 refused-length b e = some-is-first (logChecks b) _ .1 (here (record { inside = omega arith; is-wrong = sym e; is-lowest = λ j h. absurd (omega arith) }))
 
-pub refused-record : (b : List ℕ) (r : ℕ) → false ≡ wrongLogLength b → Lowest (wrongRecord b) (recordCount b) r → r < length b / 3 → logRefusal b ≡ some (record { number = 12; place = r })
+pub refused-record : (b : List ℕ) (r : ℕ) → false ≡ wrongLogLength b → Lowest (wrongRecord b) (recordCount b) r → r < length b / 3
+    → logRefusal b ≡ some (record { number = 12; place = r })
 unfolding logRefusal logChecks recordCount
 refused-record b r e w h =
     some-is-first (logChecks b) _ .1

@@ -93,5 +93,6 @@ module _ (b : List ℕ) (i : ℕ) (r : Columns) (R : ReadAt b i r) where
       let spare : Bool = not (eqb (r .spare) 0) in
       let columns : Bool = wrongColumns (kindOf (r .kind)) (r .field) (r .value) in
       let none : Bool = eqb (r .kind) 0 || ltb 11 (r .kind) in
-      let defined : wrongRecord b i ≡ (none || early || columns || spare) = wrong-record b i ∙ rw (kind-is-kind b i, ← R .kind-is, ← R .field-is, ← R .value-is, ← R .spare-is, ← add-one i) in
+      let defined : wrongRecord b i ≡ (none || early || columns || spare) =
+      wrong-record b i ∙ rw (kind-is-kind b i, ← R .kind-is, ← R .field-is, ← R .value-is, ← R .spare-is, ← add-one i) in
       rw h (turned none columns early spare ∙ sym defined)

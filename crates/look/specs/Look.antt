@@ -1,4 +1,5 @@
--- Look: what a thread's next pick meets, and the state that it is in. The machine that the code runs; no reader of the entries' promises needs it. Assumes nothing.
+-- Look: what a thread's next pick meets, and the state that it is in. The machine that the code runs; no reader of the entries' promises needs it. Assumes
+-- nothing.
 use Prim.Native.Nat.{ℕ, _-_, _/_, _%_, _^_}
 use mathlib.Core.Bool.{Bool, true, cond}
 use lib.Dec.{eqb, leb}
@@ -42,7 +43,8 @@ hasOf mask f = eqb (mask / 2 ^ (31 - f % 32) % 2) 1
 
 unfoldable pub lookField : Setting → Head → Cell → Object → ℕ → Sight
 lookField g h c t f =
-    cond (hasOf (t .mask) f) (cond (hasOf (g .mask) f) sight.Ready (cond (holdsOf (h .keys) (c .key % 256)) sight.Ready sight.Lacking)) (sight.Blocked block.Field)
+    cond (hasOf (t .mask) f) (cond (hasOf (g .mask) f) sight.Ready (cond (holdsOf (h .keys) (c .key % 256)) sight.Ready sight.Lacking))
+    (sight.Blocked block.Field)
 
 unfoldable pub lookJoin : Object → ℕ → Sight
 lookJoin t q = cond (leb 8 (t .thread)) (sight.Blocked block.Thread) (cond (isPart part.Done q) sight.Ready (sight.Blocked block.Join))

@@ -32,7 +32,8 @@ module _ (table : Table) (g : Program) (law : Tabulates table g) where
   around-of s p S (machine.Act.lacks r) = refl
   around-of s p S (machine.Act.does R r s′ x) =
       ap (λ (z : State). Attempt.moves (record { rule = R; entry = r; state = z }))
-      (become-of table s′ p (go (table .node) (table .count) S x) (plug (context (table .node) (table .count) S) (resultOf (table .node) (table .count) x)) (whole-go (table .node) (table .count) (law .ordered) S x))
+      (become-of table s′ p (go (table .node) (table .count) S x) (plug (context (table .node) (table .count) S) (resultOf (table .node) (table .count) x))
+      (whole-go (table .node) (table .count) (law .ordered) S x))
 
   around-ruled : (s : State) (p : ℕ) (K : Context) (a : Act) → Ruled (around s p K a) → RuledAct a
   unfolding around
@@ -41,7 +42,8 @@ module _ (table : Table) (g : Program) (law : Tabulates table g) where
   around-ruled s p K (lacks r) k = tt
   around-ruled s p K (does R r s′ e) k = tt
 
-  equal-of : (S : List Frame) (b : Bool) → meant table (upᶜ (table .node) (table .count) S b) ≡ plugᶜ (contextᶜ (table .node) (table .count) S) (equalAct b .result)
+  equal-of : (S : List Frame) (b : Bool)
+      → meant table (upᶜ (table .node) (table .count) S b) ≡ plugᶜ (contextᶜ (table .node) (table .count) S) (equalAct b .result)
   unfolding equalAct
   equal-of S true = whole-up (table .node) (table .count) (law .ordered) S true
   equal-of S false = whole-up (table .node) (table .count) (law .ordered) S false
@@ -61,13 +63,17 @@ module _ (table : Table) (g : Program) (law : Tabulates table g) where
   rule-of S (Readyᶜ.and false x) = refl
   rule-of S (Readyᶜ.equal o o′) = refl
 
-  at-of : (s : machine.State) (p : ℕ) (t : machine.Thread) (F : Found) → Ruled (attemptAt g (stateOf table s) p (threadMeant table t) (mean (table .node) (table .count) F))
+  at-of : (s : machine.State) (p : ℕ) (t : machine.Thread) (F : Found)
+      → Ruled (attemptAt g (stateOf table s) p (threadMeant table t) (mean (table .node) (table .count) F))
       → attemptOf table (machine.attemptAt table s p t F) ≡ attemptAt g (stateOf table s) p (threadMeant table t) (mean (table .node) (table .count) F)
   unfolding machine.attemptAt attemptAt
   at-of s p t (Found.value o) k = refl
   at-of s p t (Found.here S r) k =
       around-of (stateOf table s) p S (machine.act table s p t r)
-      ∙ ap (around (stateOf table s) p (context (table .node) (table .count) S)) (act-of table g law s p t r (around-ruled (stateOf table s) p (context (table .node) (table .count) S) (act g (stateOf table s) p (threadMeant table t) (redex (table .node) (table .count) r)) k))
+      ∙ ap (around (stateOf table s) p (context (table .node) (table .count) S))
+      (act-of table g law s p t r
+      (around-ruled (stateOf table s) p (context (table .node) (table .count) S)
+      (act g (stateOf table s) p (threadMeant table t) (redex (table .node) (table .count) r)) k))
   at-of s p t (Found.hereᶜ S r) k =
       ap₂ (λ (R : Rule) (z : State). Attempt.moves (record { rule = R; entry = none; state = z })) (rule-of S r)
       (become-of table s p (machine.actᶜ table S r .code) _ (code-of S r))
@@ -81,7 +87,8 @@ module _ (table : Table) (g : Program) (law : Tabulates table g) where
       at-of s p t (t .code) (rw e at k) ∙ ap (attemptAt g (stateOf table s) p (threadMeant table t)) (sym e)
 
   -- what a thread of the machine can do is what the definitions say, unless they say that no rule applies
-  pub attempt-of : (s : machine.State) (p : ℕ) → Ruled (attempt g (stateOf table s) p) → attemptOf table (machine.attempt table s p) ≡ attempt g (stateOf table s) p
+  pub attempt-of : (s : machine.State) (p : ℕ) → Ruled (attempt g (stateOf table s) p)
+      → attemptOf table (machine.attempt table s p) ≡ attempt g (stateOf table s) p
   unfolding machine.attempt attempt
   attempt-of s p k =
       let e = get-map (threadMeant table) (s .threads) p in

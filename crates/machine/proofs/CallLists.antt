@@ -33,8 +33,10 @@ list-counted b (suc k) t = at (eqb (tagAt b t) 16) refl (list-counted b k (termA
     at : (x : Bool) → eqb (tagAt b t) 16 ≡ x → count (argumentsAt (nodeAt b) k (termAt b t .value₂)) ≡ listLength b k (termAt b t .value₂)
         → count (argumentsOf (λ i. expressionAt (nodeAt b) k i) (λ i. argumentsAt (nodeAt b) k i) (nodeAt b t))
         ≡ cond x (suc (listLength b k (termAt b t .value₂))) 0
-    at true e r = ap (λ (m : Node). count (argumentsOf (λ i. expressionAt (nodeAt b) k i) (λ i. argumentsAt (nodeAt b) k i) m)) (node-is b t 16 (eqb-true (tagAt b t) 16 e)) ∙ ap suc r
-    at false e r = ap (λ (m : Node). count (argumentsOf (λ i. expressionAt (nodeAt b) k i) (λ i. argumentsAt (nodeAt b) k i) m)) (node-is b t (tagAt b t) refl) ∙ ap count (list-ends _ _ _ _ _ (tagAt b t) (eqb-false (tagAt b t) 16 e))
+    at true e r = ap (λ (m : Node). count (argumentsOf (λ i. expressionAt (nodeAt b) k i) (λ i. argumentsAt (nodeAt b) k i) m))
+        (node-is b t 16 (eqb-true (tagAt b t) 16 e)) ∙ ap suc r
+    at false e r = ap (λ (m : Node). count (argumentsOf (λ i. expressionAt (nodeAt b) k i) (λ i. argumentsAt (nodeAt b) k i) m))
+        (node-is b t (tagAt b t) refl) ∙ ap count (list-ends _ _ _ _ _ (tagAt b t) (eqb-false (tagAt b t) 16 e))
 
 -- ---- an accepted plan
 

@@ -114,15 +114,18 @@ module _ (h : ℕ → Node) (N : ℕ) (o : Descending h N) where
   module _ (ρ : Slots) (t : ℕ) (d c : List Frame → Closure → Found) (l : List Frame → ℕ → ℕ → Slots → Closure → Found)
       (hd : (S : List Frame) (x : Closure) → t < x .at → mean h N (d S x) ≡ focus (context h N S) (expressionIn h N x))
       (hc : (S : List Frame) (x : Closure) → t < x .at → mean h N (c S x) ≡ focusᶜ (contextᶜ h N S) (conditionIn h N x))
-      (hl : (S : List Frame) (m n : ℕ) (σ : Slots) (x : Closure) → t < x .at → mean h N (l S m n σ x) ≡ focusᵃ (context h N S) m (firstSlots n σ) (argumentsIn h N x)) where
-    level : (S : List Frame) (x : Node) → Below t x → mean h N (downBy h (λ F. F) d c l ρ S x) ≡ focus (context h N S) (substitute (every ρ) (expressionOf (tree h N) (treeᶜ h N) (treeᵃ h N) x))
+      (hl : (S : List Frame) (m n : ℕ) (σ : Slots) (x : Closure) → t < x .at
+      → mean h N (l S m n σ x) ≡ focusᵃ (context h N S) m (firstSlots n σ) (argumentsIn h N x)) where
+    level : (S : List Frame) (x : Node) → Below t x
+        → mean h N (downBy h (λ F. F) d c l ρ S x) ≡ focus (context h N S) (substitute (every ρ) (expressionOf (tree h N) (treeᶜ h N) (treeᵃ h N) x))
     unfolding downBy substitute expressionOf focus firstSlots
     level S Node.null b = refl
     level S (Node.variable x) b = refl
     level S (Node.new fs) b = refl
     level S (Node.read i f) b = by-literal _ _ _ _ _ _ (value-in (closure i ρ)) (λ o. refl) (hd _ (closure i ρ) b)
     level S (Node.write i f j) b =
-        by-literal _ _ _ _ _ _ (value-in (closure i ρ)) (λ o. by-literal _ _ _ _ _ _ (value-in (closure j ρ)) (λ v. refl) (hd _ (closure j ρ) (b .1))) (hd _ (closure i ρ) (b .0))
+        by-literal _ _ _ _ _ _ (value-in (closure i ρ)) (λ o. by-literal _ _ _ _ _ _ (value-in (closure j ρ)) (λ v. refl) (hd _ (closure j ρ) (b .1)))
+        (hd _ (closure i ρ) (b .0))
     level S (Node.letIn x i j) b = by-literal _ _ _ _ _ _ (value-in (closure i ρ)) (λ o. refl) (hd _ (closure i ρ) (b .0))
     level S (Node.if i j k) b = by-bool _ _ _ _ _ _ (bool-in (closure i ρ)) (λ o. refl) (hc _ (closure i ρ) (b .0))
     level S (Node.while i j) b = refl
@@ -139,7 +142,8 @@ module _ (h : ℕ → Node) (N : ℕ) (o : Descending h N) where
     level S Node.listEnd b = refl
     level S Node.unknown b = refl
 
-    levelᶜ : (S : List Frame) (x : Node) → Below t x → mean h N (downByᶜ h (λ F. F) d c l ρ S x) ≡ focusᶜ (contextᶜ h N S) (substituteᶜ (every ρ) (conditionOf (tree h N) (treeᶜ h N) x))
+    levelᶜ : (S : List Frame) (x : Node) → Below t x
+        → mean h N (downByᶜ h (λ F. F) d c l ρ S x) ≡ focusᶜ (contextᶜ h N S) (substituteᶜ (every ρ) (conditionOf (tree h N) (treeᶜ h N) x))
     unfolding downByᶜ substitute conditionOf focus
     levelᶜ S Node.null b = refl
     levelᶜ S (Node.variable x) b = refl
@@ -158,13 +162,15 @@ module _ (h : ℕ → Node) (N : ℕ) (o : Descending h N) where
     levelᶜ S (Node.not i) b = by-bool _ _ _ _ _ _ (bool-in (closure i ρ)) (λ o. by-not S o) (hc _ (closure i ρ) b)
     levelᶜ S (Node.and i j) b = by-bool _ _ _ _ _ _ (bool-in (closure i ρ)) (λ o. refl) (hc _ (closure i ρ) (b .0))
     levelᶜ S (Node.equal i j) b =
-        by-literal _ _ _ _ _ _ (value-in (closure i ρ)) (λ o. by-literal _ _ _ _ _ _ (value-in (closure j ρ)) (λ v. refl) (hd _ (closure j ρ) (b .1))) (hd _ (closure i ρ) (b .0))
+        by-literal _ _ _ _ _ _ (value-in (closure i ρ)) (λ o. by-literal _ _ _ _ _ _ (value-in (closure j ρ)) (λ v. refl) (hd _ (closure j ρ) (b .1)))
+        (hd _ (closure i ρ) (b .0))
     levelᶜ S (Node.list i j) b = refl
     levelᶜ S Node.listEnd b = refl
     levelᶜ S Node.unknown b = refl
 
     levelᵃ : (S : List Frame) (m n : ℕ) (σ : Slots) (x : Node) → Below t x
-        → mean h N (downByᵃ h (λ F. F) d c l ρ S m n σ x) ≡ focusᵃ (context h N S) m (firstSlots n σ) (substituteᵃ (every ρ) (argumentsOf (tree h N) (treeᵃ h N) x))
+        → mean h N (downByᵃ h (λ F. F) d c l ρ S m n σ x) ≡ focusᵃ (context h N S) m (firstSlots n σ)
+        (substituteᵃ (every ρ) (argumentsOf (tree h N) (treeᵃ h N) x))
     unfolding downByᵃ substitute argumentsOf focus
     levelᵃ S m n σ Node.null b = refl
     levelᵃ S m n σ (Node.variable x) b = refl
@@ -183,7 +189,9 @@ module _ (h : ℕ → Node) (N : ℕ) (o : Descending h N) where
     levelᵃ S m n σ (Node.not i) b = refl
     levelᵃ S m n σ (Node.and i j) b = refl
     levelᵃ S m n σ (Node.equal i j) b = refl
-    levelᵃ S m n σ (Node.list i j) b = by-literal _ _ _ _ _ _ (value-in (closure i ρ)) (λ v. hl S m (suc n) (put σ n v) (closure j ρ) (b .1) ∙ ap (λ (os : List ℕ). focusᵃ (context h N S) m os (substituteᵃ (every ρ) (treeᵃ h N j))) (first-put n v σ)) (hd _ (closure i ρ) (b .0))
+    levelᵃ S m n σ (Node.list i j) b =
+        by-literal _ _ _ _ _ _ (value-in (closure i ρ)) (λ v. hl S m (suc n) (put σ n v) (closure j ρ) (b .1)
+        ∙ ap (λ (os : List ℕ). focusᵃ (context h N S) m os (substituteᵃ (every ρ) (treeᵃ h N j))) (first-put n v σ)) (hd _ (closure i ρ) (b .0))
     levelᵃ S m n σ Node.listEnd b = refl
     levelᵃ S m n σ Node.unknown b = refl
 

@@ -43,7 +43,8 @@ true-node h (Node.list i j) e = refl
 true-node h Node.listEnd e = refl
 true-node h Node.unknown e = refl
 
-given-height : {A : Type 0} (n : ℕ) (v : Option A) (k : A → Found) (r : Found) → ((a : A) → v ≡ some a → n ≤ height (k a)) → (v ≡ none → n ≤ height r) → n ≤ height (given v k r)
+given-height : {A : Type 0} (n : ℕ) (v : Option A) (k : A → Found) (r : Found) → ((a : A) → v ≡ some a → n ≤ height (k a)) → (v ≡ none → n ≤ height r)
+    → n ≤ height (given v k r)
 given-height n (some a) k r hk hr = hk a refl
 given-height n none k r hk hr = hr refl
 
@@ -242,4 +243,5 @@ module _ (h : ℕ → Node) where
         (λ F y b e. under-down (F ∷ S) y e) (λ F y b e. under-downᶜ (F ∷ S) y e) (λ m n σ y b. under-list S m n σ y) (x .slots) (h (x .at)) (o .below (x .at))
     turn-under S (Going.list m n σ x) =
         levelᵃ h (λ (r s : Turn). Under r) ends ends (λ F. tt) goDown goDownᶜ goList goDown goDownᶜ goList S (x .at)
-        (λ F y b e. under-down (F ∷ S) y e) (λ F y b e. under-downᶜ (F ∷ S) y e) (λ m n σ y b. under-list S m n σ y) (x .slots) m n σ (h (x .at)) (o .below (x .at))
+        (λ F y b e. under-down (F ∷ S) y e) (λ F y b e. under-downᶜ (F ∷ S) y e) (λ m n σ y b. under-list S m n σ y) (x .slots) m n σ (h (x .at))
+        (o .below (x .at))

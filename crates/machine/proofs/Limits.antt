@@ -21,7 +21,10 @@ use Rattle.format.proofs.RefusalLaws.{both-none}
 use Rattle.rules.proofs.RoomLaws.{room-for}
 use Rattle.machine.specs.Frames.{noSlots, Closure, Frame, Ready, Found, height}
 use Rattle.machine.specs.Landing.{go}
-use Rattle.machine.specs.Machine.{Thread, State, Numbered, Table, Act, waits, sticks, lacks, does, Move, Attempt, absent, finished, waiting, stuck, lacking, moves, store, storeMonitor, addObject, addThread, useKey, gain, become, inPlace, enqueue, signalled, lookup, monitor, threadOf, finishedWith, joinValue, joinAct, synchAct, signalMove, signalAct, wakeAct, readAct, writeAct, act, actᶜ, around, attemptAt, attemptBy, attempt}
+use Rattle.machine.specs.Machine.{Thread, State, Numbered, Table, Act, waits, sticks, lacks, does, Move, Attempt, absent, finished, waiting, stuck}
+use Rattle.machine.specs.Machine.{lacking, moves, store, storeMonitor, addObject, addThread, useKey, gain, become, inPlace, enqueue, signalled, lookup}
+use Rattle.machine.specs.Machine.{monitor, threadOf, finishedWith, joinValue, joinAct, synchAct, signalMove, signalAct, wakeAct, readAct, writeAct, act}
+use Rattle.machine.specs.Machine.{actᶜ, around, attemptAt, attemptBy, attempt}
 use Rattle.machine.specs.Playing.{noRoomBefore, deep, deepAt, anyDeep, noRoomAfter, noRoomFor, moved, withinRoom, answer, step, start}
 
 pub record Counts (s : State) : Type 0 where
@@ -87,7 +90,11 @@ module _ (R : Rule) (s : State) (p : ℕ) where
   grows-signal : (h : ℕ → ℕ) (o : ℕ) → Grows R s p (signalled h s o)
   unfolding signalled
   grows-signal h o = record {
-    counts = λ e c. record { few-objects = c .few-objects; few-threads = along (λ (n : ℕ). n ≤ 8) (sym (length-map (s .threads) moved)) (c .few-threads); few-keys = c .few-keys };
+    counts = λ e c. record {
+      few-objects = c .few-objects;
+      few-threads = along (λ (n : ℕ). n ≤ 8) (sym (length-map (s .threads) moved)) (c .few-threads);
+      few-keys = c .few-keys;
+    };
     others = λ q n l. at (s .threads) q;
   }
     where
@@ -143,7 +150,8 @@ module _ (table : Table) (s : State) (p : ℕ) (t : Thread) where
   unfolding readAct
   read-grows o f none = tt
   read-grows o f (some c) =
-      cond-grows s p (table .isVolatile f) _ _ (after-gain _ s p s (passedOn (table .version) (c .keys)) _ (stays _ s p)) (cond-grows s p (subset (c .keys) (t .keys)) _ _ (stays _ s p) tt)
+      cond-grows s p (table .isVolatile f) _ _ (after-gain _ s p s (passedOn (table .version) (c .keys)) _ (stays _ s p))
+      (cond-grows s p (subset (c .keys) (t .keys)) _ _ (stays _ s p) tt)
 
   write-grows : (o f v : ℕ) (c : Option Cell) → GrowsAct s p (writeAct table s p t o f v c)
   unfolding writeAct
@@ -267,7 +275,8 @@ grown-limits R s p s′ g e l =
     let d = neither (deepAt (getElem? (s′ .threads) p)) (anyDeep (drop (length (s .threads)) (s′ .threads))) (not-deep _ _ (k .1)) in
     record { counts = g .counts (k .0) (l .counts); shallow = λ q t h. at q t h (d .0) (d .1) (ℕ-discrete p q) (decLt q (length (s .threads))) }
   where
-    at : (q : ℕ) (t : Thread) → getElem? (s′ .threads) q ≡ some t → deepAt (getElem? (s′ .threads) p) ≡ false → anyDeep (drop (length (s .threads)) (s′ .threads)) ≡ false
+    at : (q : ℕ) (t : Thread) → getElem? (s′ .threads) q ≡ some t → deepAt (getElem? (s′ .threads) p) ≡ false
+        → anyDeep (drop (length (s .threads)) (s′ .threads)) ≡ false
         → Dec (p ≡ q) → Dec (q < length (s .threads)) → height (t .code) ≤ 32
     at q t h d a (yes e) i = deep-not (getElem? (s′ .threads) p) d t (ap (getElem? (s′ .threads)) e ∙ h)
     at q t h d a (no n) (yes i) =
@@ -277,7 +286,8 @@ grown-limits R s p s′ g e l =
         omega arith
     at q t h d a (no n) (no i) = deep-past (length (s .threads)) (s′ .threads) a q t (omega arith) h
 
-admit-limits : (s : State) (p : ℕ) (m m′ : Move) (k : Option Room) → noRoomFor (m .rule) s p (m .state) ≡ k → Grows (m .rule) s p (m .state) → Limits s → withinRoom m k ≡ moved m′ → Limits (m′ .state)
+admit-limits : (s : State) (p : ℕ) (m m′ : Move) (k : Option Room) → noRoomFor (m .rule) s p (m .state) ≡ k → Grows (m .rule) s p (m .state) → Limits s
+    → withinRoom m k ≡ moved m′ → Limits (m′ .state)
 unfolding withinRoom
 admit-limits s p m m′ none e g l h = let q : m ≡ m′ = cc in along (λ (m : Move). Limits (m .state)) q (grown-limits (m .rule) s p (m .state) g e l)
 admit-limits s p m m′ (some w) e g l h = absurd (true≢false cc)

@@ -15,7 +15,8 @@ use Rattle.rules.specs.Context.{plug}
 use Rattle.rules.specs.Queue.{awake}
 use Rattle.rules.specs.State.{Cell, Thread, State, monitorOf, fieldOf, threadOf}
 use Rattle.rules.specs.Rules.{isVolatile, e-call, e-let, e-if}
-use Rattle.rules.specs.Step.{Stuck, Act, waits, sticks, lacks, does, callAct, readAct, writeAct, joinAct, synchAct, holdAct, signalMove, signalAct, wakeAct, act, Attempt}
+use Rattle.rules.specs.Step.{Stuck, Act, waits, sticks, lacks, does, callAct, readAct, writeAct, joinAct, synchAct, holdAct, signalMove, signalAct, wakeAct}
+use Rattle.rules.specs.Step.{act, Attempt}
 use Rattle.rules.proofs.Progress.{Ruled}
 use Rattle.machine.specs.Frames.{Slots, Closure, closure, Ready, Result}
 use Rattle.machine.specs.Landing.{enter, go}
@@ -24,7 +25,8 @@ use Rattle.machine.specs.Machine.{Table}
 use Rattle.machine.proofs.Substitution.{every, firstSlots, first-length, let-put, call-slots}
 use Rattle.machine.proofs.Meaning.{expressionIn, redex}
 use Rattle.machine.proofs.Onward.{whole-go}
-use Rattle.machine.proofs.StateMeaning.{map-added, Tabulates, threadMeant, stateOf, actOf, gain-of, enqueue-of, signalled-of, thread-of, cond-of, join-of, choose-of, branch-of, again-of}
+use Rattle.machine.proofs.StateMeaning.{map-added, Tabulates, threadMeant, stateOf, actOf, gain-of, enqueue-of, signalled-of, thread-of, cond-of}
+use Rattle.machine.proofs.StateMeaning.{join-of, choose-of, branch-of, again-of}
 
 -- a rule applies
 abbrev pub RuledAct : Act → Type 0
@@ -36,7 +38,8 @@ RuledAct (does R r s e) = Unit {0}
 module _ (table : Table) where
   synch-of : (s : machine.State) (p : ℕ) (t : machine.Thread) (o : ℕ) (x : Closure) (c : Option Cell)
       → RuledAct (synchAct (stateOf table s) p (threadMeant table t) o (expressionIn (table .node) (table .count) x) c)
-      → actOf table (machine.synchAct s p t o x (machine.cellOr c)) ≡ synchAct (stateOf table s) p (threadMeant table t) o (expressionIn (table .node) (table .count) x) c
+      → actOf table (machine.synchAct s p t o x (machine.cellOr c)) ≡ synchAct (stateOf table s) p (threadMeant table t) o
+      (expressionIn (table .node) (table .count) x) c
   unfolding machine.synchAct machine.cellOr synchAct
   synch-of s p t o x none k = absurd k
   synch-of s p t o x (some c) k =
@@ -85,14 +88,16 @@ module _ (table : Table) where
     unfolding machine.readAct readAct
     read-of s p t o f none = refl
     read-of s p t o f (some c) =
-        cond-of table (table .isVolatile f) _ _ _ _ _ (law .volatiles f) (rw (gain-of table, law .version-of)) (cond-of table (subset (c .keys) (t .keys)) _ _ _ _ _ refl refl refl)
+        cond-of table (table .isVolatile f) _ _ _ _ _ (law .volatiles f) (rw (gain-of table, law .version-of))
+        (cond-of table (subset (c .keys) (t .keys)) _ _ _ _ _ refl refl refl)
 
     write-of : (s : machine.State) (p : ℕ) (t : machine.Thread) (o f v : ℕ) (c : Option Cell)
         → actOf table (machine.writeAct table s p t o f v c) ≡ writeAct g (stateOf table s) p (threadMeant table t) o f v c
     unfolding machine.writeAct writeAct
     write-of s p t o f v none = refl
     write-of s p t o f v (some c) =
-        cond-of table (table .isVolatile f) _ _ _ _ _ (law .volatiles f) (rw (law .version-of)) (cond-of table (subset (c .keys) (t .keys)) _ _ _ _ _ refl (rw (gain-of table)) refl)
+        cond-of table (table .isVolatile f) _ _ _ _ _ (law .volatiles f) (rw (law .version-of))
+        (cond-of table (subset (c .keys) (t .keys)) _ _ _ _ _ refl (rw (gain-of table)) refl)
 
     body-of : (m n : ℕ) (σ : Slots) (d : Procedure) → getElem? (g .procedures) m ≡ some d → d .parameters ≡ n
         → expressionIn (table .node) (table .count) (closure (table .root m) σ) ≡ substitute (bindParameters (firstSlots n σ)) (d .body)
@@ -101,7 +106,8 @@ module _ (table : Table) where
         ∙ call-slots n σ (d .body) (along (λ (k : ℕ). T (closed (λ x. ltb x k) (d .body))) e (law .all-bound m d h))
 
     call-of : (s : machine.State) (p : ℕ) (t : machine.Thread) (m n : ℕ) (σ : Slots) (d : Option Procedure) → getElem? (g .procedures) m ≡ d
-        → RuledAct (callAct (stateOf table s) d (firstSlots n σ)) → actOf table (machine.act table s p t (Ready.call m n σ)) ≡ callAct (stateOf table s) d (firstSlots n σ)
+        → RuledAct (callAct (stateOf table s) d (firstSlots n σ))
+        → actOf table (machine.act table s p t (Ready.call m n σ)) ≡ callAct (stateOf table s) d (firstSlots n σ)
     unfolding machine.act callAct
     call-of s p t m n σ none h k = absurd k
     call-of s p t m n σ (some d) h k = at (eqb (d .parameters) (length (firstSlots n σ))) refl k
@@ -115,15 +121,18 @@ module _ (table : Table) where
         at false e k = absurd k
 
     fork-of : (s : machine.State) (x : Closure) (o : ℕ) (W : Keys)
-        → map (threadMeant table) (s .threads ++ (record { self = o; code = enter (table .node) (table .count) [] x; keys = W; learnt = 0; place = awake } ∷ []))
-        ≡ map (threadMeant table) (s .threads) ++ (record { self = o; expression = expressionIn (table .node) (table .count) x; keys = W; learnt = 0; place = awake } ∷ [])
+        → map (threadMeant table)
+        (s .threads ++ (record { self = o; code = enter (table .node) (table .count) [] x; keys = W; learnt = 0; place = awake } ∷ []))
+        ≡ map (threadMeant table) (s .threads)
+        ++ (record { self = o; expression = expressionIn (table .node) (table .count) x; keys = W; learnt = 0; place = awake } ∷ [])
     unfolding go plug
     fork-of s x o W =
         map-added (threadMeant table) (s .threads) _
         ∙ ap (λ (e : Expression). map (threadMeant table) (s .threads) ++ (record { self = o; expression = e; keys = W; learnt = 0; place = awake } ∷ []))
         (whole-go (table .node) (table .count) (law .ordered) [] (Result.run x))
 
-    pub act-of : (s : machine.State) (p : ℕ) (t : machine.Thread) (r : Ready) → RuledAct (act g (stateOf table s) p (threadMeant table t) (redex (table .node) (table .count) r))
+    pub act-of : (s : machine.State) (p : ℕ) (t : machine.Thread) (r : Ready)
+        → RuledAct (act g (stateOf table s) p (threadMeant table t) (redex (table .node) (table .count) r))
         → actOf table (machine.act table s p t r) ≡ act g (stateOf table s) p (threadMeant table t) (redex (table .node) (table .count) r)
     unfolding machine.act act
     act-of s p t (Ready.new fs) k = refl
@@ -134,7 +143,8 @@ module _ (table : Table) where
     act-of s p t (Ready.while x) k = refl
     act-of s p t (Ready.call m n σ) k = call-of s p t m n σ (getElem? (g .procedures) m) refl k
     act-of s p t (Ready.fork x) k = rw (length-map (s .threads) (threadMeant table), fork-of s x (length (s .objects)) (t .keys))
-    act-of s p t (Ready.join o) k = join-of table s p o (machine.threadOf 0 (s .threads) o) ∙ ap (joinAct (stateOf table s) p o) (sym (thread-of table 0 (s .threads) o))
+    act-of s p t (Ready.join o) k = join-of table s p o (machine.threadOf 0 (s .threads) o)
+        ∙ ap (joinAct (stateOf table s) p o) (sym (thread-of table 0 (s .threads) o))
     act-of s p t (Ready.synch o x) k = synch-of s p t o x (monitorOf (getElem? (s .objects) o)) k
     act-of s p t (Ready.hold o v) k = hold-of s p t o v (monitorOf (getElem? (s .objects) o)) k
     act-of s p t (Ready.signal j o) k = signal-of s p t j o (monitorOf (getElem? (s .objects) o)) k

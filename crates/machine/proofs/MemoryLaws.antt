@@ -27,7 +27,8 @@ fields-past k f c m g zero h = refl
 fields-past k f c m g (suc n) h = at (eqb (maskBit m g) 1) (fields-past k f c m (suc g) n (omega arith))
   where
     at : (b : Bool) → fieldsAt (update k f c) (fieldsFrom m (suc g) n) ≡ fieldsAt k (fieldsFrom m (suc g) n)
-        → fieldsAt (update k f c) (cond b (g ∷ fieldsFrom m (suc g) n) (fieldsFrom m (suc g) n)) ≡ fieldsAt k (cond b (g ∷ fieldsFrom m (suc g) n) (fieldsFrom m (suc g) n))
+        → fieldsAt (update k f c) (cond b (g ∷ fieldsFrom m (suc g) n) (fieldsFrom m (suc g) n)) ≡ fieldsAt k
+        (cond b (g ∷ fieldsFrom m (suc g) n) (fieldsFrom m (suc g) n))
     at true q = rw (ne-eqb f g (λ e. omega arith), q)
     at false q = q
 
@@ -37,10 +38,12 @@ store-fields k f c m g zero = refl
 store-fields k f c m g (suc n) = at (eqb (maskBit m g) 1) (store-fields k f c m (suc g) n)
   where
     at : (b : Bool) → storeField (fieldsAt k (fieldsFrom m (suc g) n)) f c ≡ fieldsAt (update k f c) (fieldsFrom m (suc g) n)
-        → storeField (fieldsAt k (cond b (g ∷ fieldsFrom m (suc g) n) (fieldsFrom m (suc g) n))) f c ≡ fieldsAt (update k f c) (cond b (g ∷ fieldsFrom m (suc g) n) (fieldsFrom m (suc g) n))
+        → storeField (fieldsAt k (cond b (g ∷ fieldsFrom m (suc g) n) (fieldsFrom m (suc g) n))) f c ≡ fieldsAt (update k f c)
+        (cond b (g ∷ fieldsFrom m (suc g) n) (fieldsFrom m (suc g) n))
     at true q = by (ℕ-discrete g f)
       where
-        by : Dec (g ≡ f) → cond (eqb g f) (record { name = f; cell = c } ∷ fieldsAt k (fieldsFrom m (suc g) n)) (record { name = g; cell = k g } ∷ storeField (fieldsAt k (fieldsFrom m (suc g) n)) f c)
+        by : Dec (g ≡ f) → cond (eqb g f) (record { name = f; cell = c } ∷ fieldsAt k (fieldsFrom m (suc g) n))
+            (record { name = g; cell = k g } ∷ storeField (fieldsAt k (fieldsFrom m (suc g) n)) f c)
             ≡ record { name = g; cell = cond (eqb f g) c (k g) } ∷ fieldsAt (update k f c) (fieldsFrom m (suc g) n)
         by (yes e) = rw (eq-eqb g f e, eq-eqb f g (sym e), fields-past k f c m (suc g) n (omega arith), e)
         by (no e) = rw (ne-eqb g f e, ne-eqb f g (λ q. e (sym q)), q)
@@ -66,12 +69,14 @@ find-field k f m g (suc n) p q = by (ℕ-discrete g f) (find-field k f m (suc g)
     here true = rw (eq-eqb f f refl)
     here false = find-past k f m (suc f) n (omega arith)
 
-    past : (g f : ℕ) (b : Bool) → (g ≡ f → ⊥) → findField (fieldsAt k (cond b (g ∷ fieldsFrom m (suc g) n) (fieldsFrom m (suc g) n))) f ≡ findField (fieldsAt k (fieldsFrom m (suc g) n)) f
+    past : (g f : ℕ) (b : Bool) → (g ≡ f → ⊥)
+        → findField (fieldsAt k (cond b (g ∷ fieldsFrom m (suc g) n) (fieldsFrom m (suc g) n))) f ≡ findField (fieldsAt k (fieldsFrom m (suc g) n)) f
     past g f true e = rw (ne-eqb g f e)
     past g f false e = refl
 
     by : Dec (g ≡ f) → (suc g ≤ f → f < suc g + n → findField (fieldsAt k (fieldsFrom m (suc g) n)) f ≡ cond (eqb (maskBit m f) 1) (some (k f)) none)
-        → findField (fieldsAt k (cond (eqb (maskBit m g) 1) (g ∷ fieldsFrom m (suc g) n) (fieldsFrom m (suc g) n))) f ≡ cond (eqb (maskBit m f) 1) (some (k f)) none
+        → findField (fieldsAt k (cond (eqb (maskBit m g) 1) (g ∷ fieldsFrom m (suc g) n) (fieldsFrom m (suc g) n))) f ≡ cond (eqb (maskBit m f) 1)
+        (some (k f)) none
     by (yes e) r = rw e (here (eqb (maskBit m f) 1))
     by (no e) r = past g f (eqb (maskBit m g) 1) e ∙ r (omega (arith, e)) (omega arith)
 
@@ -103,7 +108,8 @@ object-store : (M : Memory) (o f : ℕ) (c : Cell) → 0 < f
 unfolding objectAt object-with storeCell
 object-store M o f c h =
     ap (object-with (M .mask o)) (cells-same M o f c)
-    ∙ ap₂ (λ (x : Cell) (l : List Field). record { monitor = x; fields = l }) (rw (ne-eqb f 0 (λ e. omega arith))) (sym (store-fields (M .cells o) f c (M .mask o) 1 31))
+    ∙ ap₂ (λ (x : Cell) (l : List Field). record { monitor = x; fields = l }) (rw (ne-eqb f 0 (λ e. omega arith)))
+    (sym (store-fields (M .cells o) f c (M .mask o) 1 31))
 
 object-monitor : (M : Memory) (o : ℕ) (c : Cell) → objectAt (storeCell M o 0 c) o ≡ record { monitor = c; fields = objectAt M o .fields }
 unfolding objectAt object-with storeCell
@@ -136,7 +142,8 @@ unfolding objectsOf storeCell
 store-of M o f c h = objects-change M o f c _ (object-store M o f c h) 0 o (M .count) (omega arith)
 
 -- μ[(o, Lock) ↦ c]
-pub store-monitor-of : (M : Memory) (o : ℕ) (c : Cell) → objectsOf (storeCell M o 0 c) ≡ changeAt (objectsOf M) o (λ x. record { monitor = c; fields = x .fields })
+pub store-monitor-of : (M : Memory) (o : ℕ) (c : Cell)
+    → objectsOf (storeCell M o 0 c) ≡ changeAt (objectsOf M) o (λ x. record { monitor = c; fields = x .fields })
 unfolding objectsOf storeCell
 store-monitor-of M o c = objects-change M o 0 c _ (object-monitor M o c) 0 o (M .count) (omega arith)
 
@@ -153,7 +160,8 @@ unfolding objectsOf
 object-of M o h = let e : 0 + o ≡ o = omega arith in objects-get M 0 (M .count) o h ∙ ap (λ (a : ℕ). some (objectAt M a)) e
 
 -- μ(o, f)
-pub lookup-of : (M : Memory) (o f : ℕ) → o < M .count → 0 < f → f < 32 → fieldOf (getElem? (objectsOf M) o) f ≡ cond (eqb (maskBit (M .mask o) f) 1) (some (M .cells o f)) none
+pub lookup-of : (M : Memory) (o f : ℕ) → o < M .count → 0 < f → f < 32
+    → fieldOf (getElem? (objectsOf M) o) f ≡ cond (eqb (maskBit (M .mask o) f) 1) (some (M .cells o f)) none
 unfolding fieldOf objectAt
 lookup-of M o f h p q = rw (object-of M o h) (find-field (M .cells o) f (M .mask o) 1 31 p (omega arith))
 

@@ -6,7 +6,8 @@ use mathlib.Core.Bool.{false≢true}
 use mathlib.Core.List.{List}
 use lib.Dec.{T, ltb}
 use Rattle.packed.specs.Syntax.{Procedure}
-use Rattle.packed.specs.Format.{procedures, terms, parameters, root, Operand, absent, slot, binder, mask, fieldName, procedure, expression, condition, list, layout, tagAt}
+use Rattle.packed.specs.Format.{procedures, terms, parameters, root, Operand, absent, slot, binder, mask, fieldName, procedure, expression, condition, list}
+use Rattle.packed.specs.Format.{layout, tagAt}
 use Rattle.packed.specs.Trees.{nodeAt, treeAt, procedureAt, programOf}
 use Rattle.packed.specs.Slots.{closed}
 use Rattle.packed.specs.Steps.{Descending}

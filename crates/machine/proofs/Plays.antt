@@ -30,13 +30,19 @@ module _ (b : List ℕ) (h : refusal b ≡ none) where
   -- the start, and whatever a run comes to
   pub start-reached : Reached (tableOf b) (programOf b) playing.start
   unfolding playing.start
-  start-reached = record { sorted = (tt, tt); limits = start-limits; reachable = along (Reachable (programOf b)) (start-of (tableOf b)) (reachable-start (programOf b) (well-formed b h)) }
+  start-reached = record {
+    sorted = (tt, tt);
+    limits = start-limits;
+    reachable =
+        along (Reachable (programOf b)) (start-of (tableOf b)) (reachable-start (programOf b) (well-formed b h));
+  }
 
   pub plays-reached : (ps : List ℕ) → Reached (tableOf b) (programOf b) (playing.runOf b ps .final)
   unfolding playing.runOf
   plays-reached ps = run-reached (tableOf b) (programOf b) (well-formed b h) (tabulates b (accepted b h)) ps playing.start start-reached
 
-  pub move-reached : (s : machine.State) (p : ℕ) (m : machine.Move) → Reached (tableOf b) (programOf b) s → playing.step (tableOf b) s p ≡ playing.Answer.moved m
+  pub move-reached : (s : machine.State) (p : ℕ) (m : machine.Move) → Reached (tableOf b) (programOf b) s
+      → playing.step (tableOf b) s p ≡ playing.Answer.moved m
       → Reached (tableOf b) (programOf b) (m .state)
   move-reached = step-reached (tableOf b) (programOf b) (well-formed b h) (tabulates b (accepted b h))
 
@@ -47,7 +53,8 @@ module _ (b : List ℕ) (h : refusal b ≡ none) where
       ap (λ (s : State). run (programOf b) s ps) (start-of (tableOf b))
       ∙ run-of (tableOf b) (programOf b) (well-formed b h) (tabulates b (accepted b h)) ps playing.start start-reached
 
-  pub plays-statuses : (ps : List ℕ) (p n : ℕ) → statusesFrom (programOf b) (play (programOf b) ps .final) p n ≡ playing.statusesFrom (tableOf b) (playing.runOf b ps .final) p n
+  pub plays-statuses : (ps : List ℕ) (p n : ℕ)
+      → statusesFrom (programOf b) (play (programOf b) ps .final) p n ≡ playing.statusesFrom (tableOf b) (playing.runOf b ps .final) p n
   plays-statuses ps p n =
       ap (λ (r : Run). statusesFrom (programOf b) (r .final) p n) (plays ps)
       ∙ statuses-of (tableOf b) (programOf b) (well-formed b h) (tabulates b (accepted b h)) (playing.runOf b ps .final) (plays-reached ps) p n
@@ -61,6 +68,14 @@ module _ (b : List ℕ) (h : refusal b ≡ none) where
   plays-outcome ps =
       ap (λ (r : Run). outcomeOf (programOf b) r) (plays ps)
       ∙ ap₂ (λ (l : List Status) (n : List ℕ).
-      record { stop = playing.runOf b ps .stop; picks = playing.runOf b ps .picks; moves = length (playing.runOf b ps .instances); records = length (playing.runOf b ps .log); threads = l; totals = n })
+      record {
+        stop = playing.runOf b ps .stop;
+        picks = playing.runOf b ps .picks;
+        moves = length (playing.runOf b ps .instances);
+        records =
+            length (playing.runOf b ps .log);
+        threads = l;
+        totals = n;
+      })
       (statuses-of (tableOf b) (programOf b) (well-formed b h) (tabulates b (accepted b h)) (playing.runOf b ps .final) (plays-reached ps) 0 8)
       (totals-of (tableOf b) (playing.runOf b ps .final) 0 8)

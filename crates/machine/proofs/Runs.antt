@@ -58,14 +58,16 @@ module _ (table : Table) where
   any-deep [] w = refl
   any-deep (t ∷ ts) w = ap₂ (λ (x y : Bool). x || y) (deep-of t (w .0)) (any-deep ts (w .1))
 
-  lack-after : (s : machine.State) (p : ℕ) (s′ : machine.State) → WellAll (s′ .threads) → noRoomAfter (stateOf table s) p (stateOf table s′) ≡ playing.noRoomAfter s p s′
+  lack-after : (s : machine.State) (p : ℕ) (s′ : machine.State) → WellAll (s′ .threads)
+      → noRoomAfter (stateOf table s) p (stateOf table s′) ≡ playing.noRoomAfter s p s′
   unfolding noRoomAfter playing.noRoomAfter
   lack-after s p s′ w =
       let th = threadMeant table in
       let a : deepAt (getElem? (map th (s′ .threads)) p) ≡ playing.deepAt (getElem? (s′ .threads) p) =
       ap deepAt (get-map th (s′ .threads) p) ∙ deep-at (getElem? (s′ .threads) p) (well-at (s′ .threads) p w) in
       let d : anyDeep (drop (length (s .threads)) (map th (s′ .threads))) ≡ playing.anyDeep (drop (length (s .threads)) (s′ .threads)) =
-      ap anyDeep (drop-map th (length (s .threads)) (s′ .threads)) ∙ any-deep (drop (length (s .threads)) (s′ .threads)) (well-drop (length (s .threads)) (s′ .threads) w) in
+      ap anyDeep (drop-map th (length (s .threads)) (s′ .threads))
+      ∙ any-deep (drop (length (s .threads)) (s′ .threads)) (well-drop (length (s .threads)) (s′ .threads) w) in
       rw (length-map (s .threads) th, a, d)
 
   lack-of : (R : Rule) (s : machine.State) (p : ℕ) (s′ : machine.State) → WellAll (s′ .threads)
@@ -83,7 +85,8 @@ module _ (table : Table) where
   pub totals-of : (s : machine.State) (p n : ℕ) → totalsFrom (stateOf table s) p n ≡ playing.totalsFrom s p n
   unfolding totalsFrom playing.totalsFrom
   totals-of s p zero = refl
-  totals-of s p (suc n) = ap₂ (λ (x : ℕ) (xs : List ℕ). x ∷ xs) (ap totalOf (get-map (threadMeant table) (s .threads) p) ∙ total-of (getElem? (s .threads) p)) (totals-of s (suc p) n)
+  totals-of s p (suc n) = ap₂ (λ (x : ℕ) (xs : List ℕ). x ∷ xs) (ap totalOf (get-map (threadMeant table) (s .threads) p) ∙ total-of (getElem? (s .threads) p))
+      (totals-of s (suc p) n)
 
   -- ---- the answer to a pick
 
@@ -107,14 +110,16 @@ module _ (table : Table) where
   admit-of m none = refl
   admit-of m (some k) = refl
 
-  answer-of : (s : machine.State) (p : ℕ) (a : machine.Attempt) → WellAttempt table a → answer (stateOf table s) p (attemptOf table a) ≡ answerOf (playing.answer s p a)
+  answer-of : (s : machine.State) (p : ℕ) (a : machine.Attempt) → WellAttempt table a
+      → answer (stateOf table s) p (attemptOf table a) ≡ answerOf (playing.answer s p a)
   unfolding answer playing.answer
   answer-of s p machine.Attempt.absent w = refl
   answer-of s p (machine.Attempt.finished v) w = refl
   answer-of s p (machine.Attempt.waiting x) w = refl
   answer-of s p (machine.Attempt.stuck r) w = refl
   answer-of s p (machine.Attempt.lacking r) w = refl
-  answer-of s p (machine.Attempt.moves m) w = ap (withinRoom (moveOf m)) (lack-of (m .rule) s p (m .state) w) ∙ admit-of m (playing.noRoomFor (m .rule) s p (m .state))
+  answer-of s p (machine.Attempt.moves m) w = ap (withinRoom (moveOf m)) (lack-of (m .rule) s p (m .state) w)
+      ∙ admit-of m (playing.noRoomFor (m .rule) s p (m .state))
 
   admit-well : (m : machine.Move) (k : Option Room) → WellAll (m .state .threads) → WellAnswer (playing.withinRoom m k)
   unfolding playing.withinRoom
@@ -143,7 +148,8 @@ module _ (table : Table) where
   -- a total is below 256
   pub reached-total : {g : Program} {s : machine.State} → Reached g s → (p : ℕ) (t : machine.Thread) → getElem? (s .threads) p ≡ some t → t .learnt < 256
   reached-total {s = s} r p t h =
-      let l = r .reachable .modest p (threadMeant table t) (get-map (threadMeant table) (s .threads) p ∙ ap (λ (x : Option machine.Thread). Option·map (threadMeant table) x) h) in
+      let l = r .reachable .modest p (threadMeant table t) (get-map (threadMeant table) (s .threads) p
+      ∙ ap (λ (x : Option machine.Thread). Option·map (threadMeant table) x) h) in
       omega (arith, l, size-le (t .keys))
 
   module _ (g : Program) (good : WellFormedProgram g) (law : Tabulates table g) where
@@ -156,7 +162,8 @@ module _ (table : Table) where
     step-of s p r =
         ap (answer (stateOf table s) p) (sym (attempt-reached s p r)) ∙ answer-of s p (machine.attempt table s p) (attempt-well table s p (r .sorted))
 
-    moved-reached : (s : machine.State) (p : ℕ) (m : machine.Move) → Reached g s → playing.step table s p ≡ playing.Answer.moved m → WellAll (m .state .threads) → Reached g (m .state)
+    moved-reached : (s : machine.State) (p : ℕ) (m : machine.Move) → Reached g s → playing.step table s p ≡ playing.Answer.moved m
+        → WellAll (m .state .threads) → Reached g (m .state)
     moved-reached s p m r e w =
         let k = step-sound g (stateOf table s) (r .reachable .one-key) p (moveOf m) (step-of s p r ∙ ap answerOf e) in
         record { sorted = w; limits = step-limits table s p m (r .limits) e; reachable = reachable-move g good (stateOf table s) p (r .reachable) (k .0) }
@@ -172,7 +179,8 @@ module _ (table : Table) where
     -- ---- runs
 
     resume-of : (s : machine.State) (p : ℕ) (k : State → Run) (k′ : machine.State → playing.Run) (a : playing.Answer) → Reached g s → playing.step table s p ≡ a
-        → ((z : machine.State) → Reached g z → k (stateOf table z) ≡ runMeant (k′ z)) → resume (stateOf table s) k (answerOf a) ≡ runMeant (playing.resume s k′ a)
+        → ((z : machine.State) → Reached g z → k (stateOf table z) ≡ runMeant (k′ z))
+        → resume (stateOf table s) k (answerOf a) ≡ runMeant (playing.resume s k′ a)
     unfolding resume playing.resume
     resume-of s p k k′ playing.Answer.passed r e q = ap afterPass (q s r)
     resume-of s p k k′ (playing.Answer.race x) r e q = refl
@@ -216,4 +224,5 @@ module _ (table : Table) where
     unfolding statusesFrom playing.statusesFrom
     statuses-of s r p zero = refl
     statuses-of s r p (suc n) =
-        ap₂ (λ (x : Status) (xs : List Status). x ∷ xs) (ap status (sym (attempt-reached s p r)) ∙ status-of (machine.attempt table s p)) (statuses-of s r (suc p) n)
+        ap₂ (λ (x : Status) (xs : List Status). x ∷ xs) (ap status (sym (attempt-reached s p r)) ∙ status-of (machine.attempt table s p))
+        (statuses-of s r (suc p) n)

@@ -126,7 +126,8 @@ module _ (h : ℕ → Node) where
     level-well ρ S (Node.variable x) w = tt
     level-well ρ S (Node.new fs) w = w
     level-well ρ S (Node.read i f) w = given-well (valueIn h (closure i ρ)) _ _ (λ o. w) (hd _ (closure i ρ) w)
-    level-well ρ S (Node.write i f j) w = given-well (valueIn h (closure i ρ)) _ _ (λ o. given-well (valueIn h (closure j ρ)) _ _ (λ v. w) (hd _ (closure j ρ) w)) (hd _ (closure i ρ) w)
+    level-well ρ S (Node.write i f j) w =
+        given-well (valueIn h (closure i ρ)) _ _ (λ o. given-well (valueIn h (closure j ρ)) _ _ (λ v. w) (hd _ (closure j ρ) w)) (hd _ (closure i ρ) w)
     level-well ρ S (Node.letIn x i j) w = given-well (valueIn h (closure i ρ)) _ _ (λ o. w) (hd _ (closure i ρ) w)
     level-well ρ S (Node.if i j k) w = given-well (boolIn h (closure i ρ)) _ _ (λ o. w) (hc _ (closure i ρ) w)
     level-well ρ S (Node.while i j) w = w
@@ -161,7 +162,8 @@ module _ (h : ℕ → Node) where
     level-wellᶜ ρ S Node.truth w = tt
     level-wellᶜ ρ S (Node.not i) w = given-well (boolIn h (closure i ρ)) _ _ (λ b. not-well h S b w) (hc _ (closure i ρ) w)
     level-wellᶜ ρ S (Node.and i j) w = given-well (boolIn h (closure i ρ)) _ _ (λ b. w) (hc _ (closure i ρ) w)
-    level-wellᶜ ρ S (Node.equal i j) w = given-well (valueIn h (closure i ρ)) _ _ (λ o. given-well (valueIn h (closure j ρ)) _ _ (λ v. w) (hd _ (closure j ρ) w)) (hd _ (closure i ρ) w)
+    level-wellᶜ ρ S (Node.equal i j) w =
+        given-well (valueIn h (closure i ρ)) _ _ (λ o. given-well (valueIn h (closure j ρ)) _ _ (λ v. w) (hd _ (closure j ρ) w)) (hd _ (closure i ρ) w)
     level-wellᶜ ρ S (Node.list i j) w = tt
     level-wellᶜ ρ S Node.listEnd w = tt
     level-wellᶜ ρ S Node.unknown w = tt

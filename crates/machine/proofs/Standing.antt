@@ -23,7 +23,8 @@ pub record Standing (table : Table) (g : Program) (s : machine.State) (t : machi
   pub held : (o : ℕ) → In o (holds (mean (table .node) (table .count) (t .code)))
       → (GivenUp (mean (table .node) (table .count) (t .code)) o → ⊥) → monitorOf (getElem? (s .objects) o) ≡ some (heldBy (threadMeant table t))
 
-pub standing : (table : Table) (g : Program) (s : machine.State) (p : ℕ) (t : machine.Thread) → Reached table g s → getElem? (s .threads) p ≡ some t → Standing table g s t
+pub standing : (table : Table) (g : Program) (s : machine.State) (p : ℕ) (t : machine.Thread) → Reached table g s → getElem? (s .threads) p ≡ some t
+    → Standing table g s t
 unfolding monitor
 standing table g s p t r h =
     let e = focus-whole (mean (table .node) (table .count) (t .code)) in
@@ -31,6 +32,7 @@ standing table g s p t r h =
     record { good = rw e at (d .good); self-there = d .self-there; held = rw e at (d .held) }
 
 -- every value in a cell is an object that is there
-pub cell-there : (table : Table) (g : Program) (s : machine.State) → Reached table g s → (o f : ℕ) (c : Cell) → machine.lookup s o f ≡ some c → c .value < length (s .objects)
+pub cell-there : (table : Table) (g : Program) (s : machine.State) → Reached table g s → (o f : ℕ) (c : Cell) → machine.lookup s o f ≡ some c
+    → c .value < length (s .objects)
 unfolding machine.lookup lookup
 cell-there table g s r o f c h = r .reachable .invariant .cells o f c h

@@ -86,7 +86,8 @@ module _ (table : Table) where
   unfolding machine.become become
   become-of s p F e q =
       ap (λ (l : List Thread). record { objects = s .objects; threads = l; nextKey = s .nextKey })
-      (change-of (s .threads) p _ _ (λ x. ap (λ (e : Expression). record { self = x .self; expression = e; keys = x .keys; learnt = x .learnt; place = x .place }) q))
+      (change-of (s .threads) p _ _
+      (λ x. ap (λ (e : Expression). record { self = x .self; expression = e; keys = x .keys; learnt = x .learnt; place = x .place }) q))
 
   places-of : (xs : List machine.Thread) → map (λ (y : Thread). y .place) (map threadMeant xs) ≡ map (λ (y : machine.Thread). y .place) xs
   places-of [] = refl
@@ -129,12 +130,14 @@ module _ (table : Table) where
   finished-of (Found.here S r) = no-literal (mean (table .node) (table .count) (Found.here S r)) tt
   finished-of (Found.hereᶜ S r) = no-literal (mean (table .node) (table .count) (Found.hereᶜ S r)) tt
 
-  join-value : (s : machine.State) (p o : ℕ) (q : machine.Numbered) (v : Option ℕ) → actOf (machine.joinValue s p o q v) ≡ joinValue (stateOf s) p o (numberedMeant q) v
+  join-value : (s : machine.State) (p o : ℕ) (q : machine.Numbered) (v : Option ℕ)
+      → actOf (machine.joinValue s p o q v) ≡ joinValue (stateOf s) p o (numberedMeant q) v
   unfolding machine.joinValue joinValue
   join-value s p o q none = refl
   join-value s p o q (some v) = rw gain-of
 
-  pub join-of : (s : machine.State) (p o : ℕ) (q : Option machine.Numbered) → actOf (machine.joinAct s p o q) ≡ joinAct (stateOf s) p o (Option·map numberedMeant q)
+  pub join-of : (s : machine.State) (p o : ℕ) (q : Option machine.Numbered)
+      → actOf (machine.joinAct s p o q) ≡ joinAct (stateOf s) p o (Option·map numberedMeant q)
   unfolding machine.joinAct joinAct
   join-of s p o none = refl
   join-of s p o (some q) =

@@ -82,7 +82,8 @@ let-then ρ (some x) o = fun-ext (λ y. at y (eqb x y))
     at y true = refl
     at y false = refl
 
-pub let-put : (ρ : Slots) (x : Option ℕ) (o : ℕ) (e : Expression) → substitute (bind x o) (substitute (without x (every ρ)) e) ≡ substitute (every (putBound ρ x o)) e
+pub let-put : (ρ : Slots) (x : Option ℕ) (o : ℕ) (e : Expression)
+    → substitute (bind x o) (substitute (without x (every ρ)) e) ≡ substitute (every (putBound ρ x o)) e
 let-put ρ x o e = compose (without x (every ρ)) (bind x o) e ∙ ap (λ (σ : Environment). substitute σ e) (let-then ρ x o)
 
 -- what binds nothing changes nothing

@@ -25,7 +25,8 @@ module _ (h : ℕ → Node) (N : ℕ) (o : Descending h N) where
     down-fuel (suc k) zero S x p q = rw (o .past (x .at) (omega arith))
     down-fuel (suc k) (suc k′) S x p q =
         level h (λ (F G : Found). F ≡ G) (λ F. F) (λ F. F) (λ F. refl)
-        (λ S y. down h k S y) (λ S y. downᶜ h k S y) (λ S m n σ y. downᵃ h k S m n σ y) (λ S y. down h k′ S y) (λ S y. downᶜ h k′ S y) (λ S m n σ y. downᵃ h k′ S m n σ y)
+        (λ S y. down h k S y) (λ S y. downᶜ h k S y) (λ S m n σ y. downᵃ h k S m n σ y) (λ S y. down h k′ S y) (λ S y. downᶜ h k′ S y)
+        (λ S m n σ y. downᵃ h k′ S m n σ y)
         S (x .at) (λ F y b v. down-fuel k k′ (F ∷ S) y (omega arith) (omega arith)) (λ F y b v. down-fuelᶜ k k′ (F ∷ S) y (omega arith) (omega arith))
         (λ m n σ y b. down-fuelᵃ k k′ S m n σ y (omega arith) (omega arith)) (x .slots) (h (x .at)) (o .below (x .at))
 
@@ -35,7 +36,8 @@ module _ (h : ℕ → Node) (N : ℕ) (o : Descending h N) where
     down-fuelᶜ (suc k) zero S x p q = rw (o .past (x .at) (omega arith))
     down-fuelᶜ (suc k) (suc k′) S x p q =
         levelᶜ h (λ (F G : Found). F ≡ G) (λ F. F) (λ F. F) (λ F. refl)
-        (λ S y. down h k S y) (λ S y. downᶜ h k S y) (λ S m n σ y. downᵃ h k S m n σ y) (λ S y. down h k′ S y) (λ S y. downᶜ h k′ S y) (λ S m n σ y. downᵃ h k′ S m n σ y)
+        (λ S y. down h k S y) (λ S y. downᶜ h k S y) (λ S m n σ y. downᵃ h k S m n σ y) (λ S y. down h k′ S y) (λ S y. downᶜ h k′ S y)
+        (λ S m n σ y. downᵃ h k′ S m n σ y)
         S (x .at) (λ F y b v. down-fuel k k′ (F ∷ S) y (omega arith) (omega arith)) (λ F y b v. down-fuelᶜ k k′ (F ∷ S) y (omega arith) (omega arith))
         (λ m n σ y b. down-fuelᵃ k k′ S m n σ y (omega arith) (omega arith)) (x .slots) (h (x .at)) (o .below (x .at))
 
@@ -45,7 +47,8 @@ module _ (h : ℕ → Node) (N : ℕ) (o : Descending h N) where
     down-fuelᵃ (suc k) zero S m n σ x p q = rw (o .past (x .at) (omega arith))
     down-fuelᵃ (suc k) (suc k′) S m n σ x p q =
         levelᵃ h (λ (F G : Found). F ≡ G) (λ F. F) (λ F. F) (λ F. refl)
-        (λ S y. down h k S y) (λ S y. downᶜ h k S y) (λ S m n σ y. downᵃ h k S m n σ y) (λ S y. down h k′ S y) (λ S y. downᶜ h k′ S y) (λ S m n σ y. downᵃ h k′ S m n σ y)
+        (λ S y. down h k S y) (λ S y. downᶜ h k S y) (λ S m n σ y. downᵃ h k S m n σ y) (λ S y. down h k′ S y) (λ S y. downᶜ h k′ S y)
+        (λ S m n σ y. downᵃ h k′ S m n σ y)
         S (x .at) (λ F y b v. down-fuel k k′ (F ∷ S) y (omega arith) (omega arith)) (λ F y b v. down-fuelᶜ k k′ (F ∷ S) y (omega arith) (omega arith))
         (λ m n σ y b. down-fuelᵃ k k′ S m n σ y (omega arith) (omega arith)) (x .slots) m n σ (h (x .at)) (o .below (x .at))
 

@@ -12,7 +12,10 @@ use Rattle.rules.specs.Rules.{passedOn}
 use Rattle.rules.specs.State.{Cell, cell, changeAt, fieldOf}
 use Rattle.machine.specs.Frames.{Closure, Frame, Ready, Readyᶜ, Found}
 use Rattle.machine.specs.Landing.{go}
-use Rattle.machine.specs.Machine.{Thread, State, Numbered, Table, Act, waits, sticks, lacks, does, Attempt, absent, finished, waiting, stuck, lacking, moves, store, storeMonitor, useKey, gain, become, inPlace, enqueue, signalled, monitor, threadOf, finishedWith, joinValue, joinAct, synchAct, signalMove, signalAct, wakeAct, readAct, writeAct, act, actᶜ, around, attemptAt, attemptBy, attempt}
+use Rattle.machine.specs.Machine.{Thread, State, Numbered, Table, Act, waits, sticks, lacks, does, Attempt, absent, finished, waiting, stuck, lacking}
+use Rattle.machine.specs.Machine.{moves, store, storeMonitor, useKey, gain, become, inPlace, enqueue, signalled, monitor, threadOf, finishedWith}
+use Rattle.machine.specs.Machine.{joinValue, joinAct, synchAct, signalMove, signalAct, wakeAct, readAct, writeAct, act, actᶜ, around, attemptAt}
+use Rattle.machine.specs.Machine.{attemptBy, attempt}
 use Rattle.machine.proofs.Sorted.{Well, Wellᶜ, WellFound, go-well, enter-well, enter-wellᶜ, up-wellᶜ}
 
 abbrev pub WellAll : List Thread → Type 0
@@ -33,7 +36,8 @@ well-drop zero xs w = w
 well-drop (suc n) [] w = tt
 well-drop (suc n) (x ∷ xs) w = well-drop n xs (w .1)
 
-well-change : (xs : List Thread) (p : ℕ) (k : Thread → Thread) → ((x : Thread) → WellFound (x .code) → WellFound (k x .code)) → WellAll xs → WellAll (changeAt xs p k)
+well-change : (xs : List Thread) (p : ℕ) (k : Thread → Thread) → ((x : Thread) → WellFound (x .code) → WellFound (k x .code)) → WellAll xs
+    → WellAll (changeAt xs p k)
 unfolding changeAt
 well-change [] p k q w = tt
 well-change (x ∷ xs) zero k q w = (q x (w .0), w .1)
@@ -110,7 +114,8 @@ module _ (table : Table) where
   read-well : (s : State) (p : ℕ) (t : Thread) (o f : ℕ) (c : Option Cell) → WellAll (s .threads) → WellAct (readAct table s p t o f c)
   unfolding readAct
   read-well s p t o f none w = tt
-  read-well s p t o f (some c) w = cond-well (table .isVolatile f) _ _ (gain-well s p (passedOn (table .version) (c .keys)) _ w) (cond-well (subset (c .keys) (t .keys)) _ _ w tt)
+  read-well s p t o f (some c) w =
+      cond-well (table .isVolatile f) _ _ (gain-well s p (passedOn (table .version) (c .keys)) _ w) (cond-well (subset (c .keys) (t .keys)) _ _ w tt)
 
   write-well : (s : State) (p : ℕ) (t : Thread) (o f v : ℕ) (c : Option Cell) → WellAll (s .threads) → WellAct (writeAct table s p t o f v c)
   unfolding writeAct

@@ -4,7 +4,8 @@ use Prim.Native.Nat.{ℕ, zero, suc}
 use mathlib.Core.Bool.{Bool, true, false}
 use mathlib.Core.List.{List, [], _∷_}
 use mathlib.Core.Option.{Option, some, none}
-use Rattle.packed.specs.Trees.{Node, null, variable, new, read, write, letIn, if, while, call, fork, join, signal, synch, truth, not, and, equal, list, listEnd, unknown}
+use Rattle.packed.specs.Trees.{Node, null, variable, new, read, write, letIn, if, while, call, fork, join, signal, synch, truth, not, and, equal, list}
+use Rattle.packed.specs.Trees.{listEnd, unknown}
 use Rattle.rules.specs.Context.{falseWhen}
 use Rattle.machine.specs.Frames.{Slots, noSlots, put, Closure, closure, branches, firstOf, secondOf, Frame, Ready, Readyᶜ, Found, Result}
 

@@ -13,7 +13,8 @@ use Rattle.packed.specs.Trees.{Node}
 use Rattle.records.specs.Record.{Kind, Record, entry}
 use Rattle.rules.specs.Queue.{Place, awake, lastPlace, movedUp}
 use Rattle.rules.specs.State.{Cell, cell, Object, fresh, freshObject, changeAt, storeField, fieldOf, monitorOf}
-use Rattle.rules.specs.Rules.{Rule, passedOn, e-call, e-let, e-if, e-while, e-notnottrue, e-andtrue, e-andfalse, e-new, e-read, e-write, e-readv, e-writev, e-fork, e-join, e-re-enter, e-acquire, e-release, e-wait, e-wake, e-notify, e-notifyall}
+use Rattle.rules.specs.Rules.{Rule, passedOn, e-call, e-let, e-if, e-while, e-notnottrue, e-andtrue, e-andfalse, e-new, e-read, e-write, e-readv, e-writev}
+use Rattle.rules.specs.Rules.{e-fork, e-join, e-re-enter, e-acquire, e-release, e-wait, e-wake, e-notify, e-notifyall}
 use Rattle.rules.specs.Step.{Wait, forMonitor, forJoin, forNotify, Stuck, missingField, notThread, notHeld, equalAct}
 use Rattle.machine.specs.Frames.{putBound, Closure, closure, Frame, Ready, Readyᶜ, Found, Result}
 use Rattle.machine.specs.Landing.{upᶜ, enter, enterᶜ, go}
@@ -58,7 +59,8 @@ addThread s x = onThreads s (s .threads ++ (x ∷ []))
 unfoldable pub gain : State → ℕ → Keys → (Keys → ℕ) → State
 unfolding onThreads changeAt union
 gain s p W count =
-    onThreads s (changeAt (s .threads) p (λ x. record { self = x .self; code = x .code; keys = union W (x .keys); learnt = x .learnt + count (x .keys); place = x .place }))
+    onThreads s (changeAt (s .threads) p
+    (λ x. record { self = x .self; code = x .code; keys = union W (x .keys); learnt = x .learnt + count (x .keys); place = x .place }))
 
 abbrev pub learn : State → ℕ → Keys → State
 learn s p W = gain s p W (λ K. 0)
@@ -209,7 +211,8 @@ module _ (table : Table) where
       cond (table .isVolatile f)
       (does e-writev (some (entry Kind.writev p o f v)) (store s o f (cell (union (c .keys) (passedOn (table .version) (t .keys))) v)) (Result.value v))
       (cond (subset (c .keys) (t .keys))
-      (does e-write (some (entry Kind.write p o f v)) (learn (store (useKey s) o f (cell (singleton (s .nextKey)) v)) p (singleton (s .nextKey))) (Result.value v))
+      (does e-write (some (entry Kind.write p o f v)) (learn (store (useKey s) o f (cell (singleton (s .nextKey)) v)) p (singleton (s .nextKey)))
+      (Result.value v))
       (lacks (entry Kind.lacksWrite p o f v)))
 
   -- thread p, which is t. A call has its procedure and its count of arguments, and a hold its monitor: no run comes to another, and none is tested
@@ -224,7 +227,14 @@ module _ (table : Table) where
   act s p t (Ready.call m n σ) = does e-call none s (Result.run (closure (table .root m) σ))
   act s p t (Ready.fork x) =
       does e-fork (some (entry Kind.fork p (length (s .objects)) (length (s .threads)) 0))
-      (addThread (addObject s []) (record { self = length (s .objects); code = enter (table .node) (table .count) [] x; keys = t .keys; learnt = 0; place = awake }))
+      (addThread (addObject s []) (record {
+        self = length (s .objects);
+        code = enter (table .node) (table .count) [] x;
+        keys = t .keys;
+        learnt = 0;
+        place =
+            awake;
+      }))
       (Result.value (length (s .objects)))
   act s p t (Ready.join o) = joinAct s p o (threadOf 0 (s .threads) o)
   act s p t (Ready.synch o x) = synchAct s p t o x (monitor s o)

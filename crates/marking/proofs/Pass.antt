@@ -113,9 +113,11 @@ module _ {b : List ℕ} {n : ℕ} {c : Columns} (R : ReadAt b n c) where
   fed-below = omega (arith, fed-is, row-below (fedPort r) fed-valid-here)
 
 -- one record
-module _ {b : List ℕ} {j i n : ℕ} {wanted kept before : List Bool} {c : Columns} (R : ReadAt b n c) (room : length b / 3 ≤ length before) (G : Going b j i (suc n) wanted kept before)
+module _ {b : List ℕ} {j i n : ℕ} {wanted kept before : List Bool} {c : Columns} (R : ReadAt b n c) (room : length b / 3 ≤ length before)
+    (G : Going b j i (suc n) wanted kept before)
     (from to : ℕ) (own keep goes heard : Bool) (from-is : from ≡ drawnRow c) (to-is : to ≡ fedRow c) (own-is : own ≡ getD wanted (c .thread) false)
-    (keep-is : keep ≡ (own || getD wanted to false)) (goes-is : goes ≡ ((keep || eqb n j) || eqb n i)) (heard-is : heard ≡ getD (set wanted (c .thread) (own || goes)) from false) where
+    (keep-is : keep ≡ (own || getD wanted to false)) (goes-is : goes ≡ ((keep || eqb n j) || eqb n i))
+    (heard-is : heard ≡ getD (set wanted (c .thread) (own || goes)) from false) where
   abbrev w : Wanted
   w = G .w
 
@@ -132,7 +134,8 @@ module _ {b : List ℕ} {j i n : ℕ} {wanted kept before : List Bool} {c : Colu
   own-flag = own-is ∙ ap (λ (q : ℕ). getD wanted q false) thread-is ∙ G .shows own-port (own-valid-here R)
 
   keep-flag : keep ≡ fed w (r R)
-  keep-flag = keep-is ∙ ap₂ _||_ own-flag (ap (λ (q : ℕ). getD wanted q false) (to-is ∙ fed-is R) ∙ G .shows (fedPort (r R)) (fed-valid-here R)) ∙ sym (fed-ports w (r R))
+  keep-flag = keep-is ∙ ap₂ _||_ own-flag (ap (λ (q : ℕ). getD wanted q false) (to-is ∙ fed-is R) ∙ G .shows (fedPort (r R)) (fed-valid-here R))
+      ∙ sym (fed-ports w (r R))
 
   abbrev C : Bool
   C = fed w (r R) || targets j i n
@@ -202,7 +205,8 @@ module _ {b : List ℕ} {j i n : ℕ} {wanted kept before : List Bool} {c : Colu
           let same : own-port ≡ drawnPort (r R) = row-once own-port (drawnPort (r R)) (own-valid-here R) (drawn-valid-here R) (sym thread-is ∙ e ∙ from-row) in
           ap₂ _||_ (heard-is ∙ ap (λ (q : ℕ). getD first q false) (sym e) ∙ first-own) goes-flag ∙ absorb (w own-port) C ∙ ap (λ (p : Port). w p || C) same
       go (no e) =
-          ap₂ _||_ (heard-is ∙ getD-set-other wanted (c .thread) from (own || goes) false (λ z. e (sym z)) ∙ ap (λ (q : ℕ). getD wanted q false) from-row ∙ G .shows (drawnPort (r R)) (drawn-valid-here R)) goes-flag
+          ap₂ _||_ (heard-is ∙ getD-set-other wanted (c .thread) from (own || goes) false (λ z. e (sym z)) ∙ ap (λ (q : ℕ). getD wanted q false) from-row
+          ∙ G .shows (drawnPort (r R)) (drawn-valid-here R)) goes-flag
 
   shows-now : (p : Port) → Valid p → getD second (rowOf p) false ≡ w₁ p
   shows-now p v = go (ℕ-discrete (rowOf p) from) (ℕ-discrete (rowOf p) (c .thread))
@@ -210,10 +214,12 @@ module _ {b : List ℕ} {j i n : ℕ} {wanted kept before : List Bool} {c : Colu
       go : Dec (rowOf p ≡ from) → Dec (rowOf p ≡ c .thread) → getD second (rowOf p) false ≡ w₁ p
       go (yes e) d =
           let same : p ≡ drawnPort (r R) = row-once p (drawnPort (r R)) v (drawn-valid-here R) (e ∙ from-row) in
-          ap (λ (q : ℕ). getD second q false) e ∙ getD-set-same first from (heard || goes) false from-in ∙ drawn-flag ∙ sym (after-drawn (drawnPort (r R)) (draws-drawn (r R))) ∙ ap w₁ (sym same)
+          ap (λ (q : ℕ). getD second q false) e ∙ getD-set-same first from (heard || goes) false from-in ∙ drawn-flag
+          ∙ sym (after-drawn (drawnPort (r R)) (draws-drawn (r R))) ∙ ap w₁ (sym same)
       go (no e) (yes f) =
           let same : p ≡ own-port = row-once p own-port v (own-valid-here R) (f ∙ thread-is) in
-          getD-set-other first from (rowOf p) (heard || goes) false e ∙ ap (λ (q : ℕ). getD first q false) f ∙ first-own ∙ sym (after-drawn own-port (draws-own (r R))) ∙ ap w₁ (sym same)
+          getD-set-other first from (rowOf p) (heard || goes) false e ∙ ap (λ (q : ℕ). getD first q false) f ∙ first-own
+          ∙ sym (after-drawn own-port (draws-own (r R))) ∙ ap w₁ (sym same)
       go (no e) (no f) =
           getD-set-other first from (rowOf p) (heard || goes) false e ∙ getD-set-other wanted (c .thread) (rowOf p) (own || goes) false f ∙ G .shows p v
           ∙ sym (after-other p (draws-no (r R) p (λ z. f (ap rowOf z ∙ sym thread-is)) (λ z. e (ap rowOf z ∙ sym from-row))))
@@ -224,7 +230,8 @@ module _ {b : List ℕ} {j i n : ℕ} {wanted kept before : List Bool} {c : Colu
 
   next-past : past (logOf b) (suc n) ≡ r R ∷ past (logOf b) n
   next-past =
-      past-suc (logOf b) n (r R) (omega (arith, inside, count-log b)) ∙ ap (λ (z : Record). z ∷ past (logOf b) n) (at→getD (logOf b) n (r R) (r R) (log-element b n inside))
+      past-suc (logOf b) n (r R) (omega (arith, inside, count-log b))
+      ∙ ap (λ (z : Record). z ∷ past (logOf b) n) (at→getD (logOf b) n (r R) (r R) (log-element b n inside))
 
   past-long : length (past (logOf b) n) ≡ n
   past-long = past-length (logOf b) n (omega (arith, inside, count-log b))
@@ -243,7 +250,8 @@ module _ {b : List ℕ} {j i n : ℕ} {wanted kept before : List Bool} {c : Colu
     kept-long = length-set kept n keep ∙ G .kept-long;
     w = w₁;
     shows = shows-now;
-    rest = λ k h. ap (λ (x : Bool). cond x (fed w (r R)) (marksFrom (targets j i) w₁ (past (logOf b) n) k)) (sym (ne-eqb k n (λ e. omega arith))) ∙ sym (passes k) ∙ G .rest k (omega arith);
+    rest = λ k h. ap (λ (x : Bool). cond x (fed w (r R)) (marksFrom (targets j i) w₁ (past (logOf b) n) k)) (sym (ne-eqb k n (λ e. omega arith)))
+        ∙ sym (passes k) ∙ G .rest k (omega arith);
     done = λ k h q. at k h q (ℕ-discrete k n);
     beyond = λ k h. getD-set-other kept n k keep false (λ e. omega (arith, G .within)) ∙ G .beyond k h;
   }
@@ -251,6 +259,7 @@ module _ {b : List ℕ} {j i n : ℕ} {wanted kept before : List Bool} {c : Colu
       at : (k : ℕ) → n ≤ k → k < length b / 3 → Dec (k ≡ n) → getD (set kept n keep) k false ≡ marksOf (reverse (logOf b)) j i k
       at k h q (yes e) =
           ap (λ (x : ℕ). getD (set kept n keep) x false) e ∙ getD-set-same kept n keep false (omega (arith, G .kept-long, G .within)) ∙ keep-flag
-          ∙ ap (λ (x : Bool). cond x (fed w (r R)) (marksFrom (targets j i) w₁ (past (logOf b) n) n)) (sym (eq-eqb n n refl)) ∙ sym (passes n) ∙ G .rest n (omega arith)
+          ∙ ap (λ (x : Bool). cond x (fed w (r R)) (marksFrom (targets j i) w₁ (past (logOf b) n) n)) (sym (eq-eqb n n refl)) ∙ sym (passes n)
+          ∙ G .rest n (omega arith)
           ∙ ap (λ (x : ℕ). marksOf (reverse (logOf b)) j i x) (sym e)
       at k h q (no e) = getD-set-other kept n k keep false e ∙ G .done k (omega (arith, e)) q

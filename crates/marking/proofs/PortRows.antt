@@ -121,11 +121,13 @@ module _ (t o f : ℕ) where
 
   pub drawn-row : (k : ℕ) → k < 16 → Drawn k
   unfolding kindOf
-  drawn-row = by-range Drawn 0 16 ((k : ℕ) → k < 16 → Drawn k) (λ all k h. all k (omega arith) h) refl refl refl refl refl refl refl refl refl refl refl refl refl refl refl refl
+  drawn-row = by-range Drawn 0 16 ((k : ℕ) → k < 16 → Drawn k) (λ all k h. all k (omega arith) h) refl refl refl refl refl refl refl refl refl refl refl refl
+      refl refl refl refl
 
   abbrev Fed : ℕ → Type 0
   Fed k = cond (eqb k 7) (monitorRow o) (cond (eqb k 5) (fieldRow o f) (cond (eqb k 8) f t)) ≡ rowOf (fedBy (kindOf k) t o f)
 
   pub fed-row : (k : ℕ) → k < 16 → Fed k
   unfolding kindOf
-  fed-row = by-range Fed 0 16 ((k : ℕ) → k < 16 → Fed k) (λ all k h. all k (omega arith) h) refl refl refl refl refl refl refl refl refl refl refl refl refl refl refl refl
+  fed-row = by-range Fed 0 16 ((k : ℕ) → k < 16 → Fed k) (λ all k h. all k (omega arith) h) refl refl refl refl refl refl refl refl refl refl refl refl refl
+      refl refl refl

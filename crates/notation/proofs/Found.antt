@@ -14,7 +14,8 @@ use Rattle.format.proofs.Ranges.{by-range}
 use Rattle.text.specs.Text.{ascii}
 use Rattle.notation.specs.Tokens.{closing, comma, dot, equals, becomes, dash, opening, textEnd, textOf, texts}
 use Rattle.notation.specs.Known.{Known}
-use Rattle.notation.specs.Lexing.{Token, Begun, nothing, name, digitOf, grown, valueFrom, valueOf, nameOf, begins, alone, begunAfter, endedBy, endedAtEnd, tokensFrom, codesOf}
+use Rattle.notation.specs.Lexing.{Token, Begun, nothing, name, digitOf, grown, valueFrom, valueOf, nameOf, begins, alone, begunAfter, endedBy}
+use Rattle.notation.specs.Lexing.{endedAtEnd, tokensFrom, codesOf}
 use Rattle.notation.specs.Layout.{Pen, start, apart, onNewLine, indentation, gap, penAfter, laidFrom, laidOut}
 use Rattle.notation.proofs.Tested.{passed, equated}
 

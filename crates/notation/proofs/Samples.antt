@@ -24,7 +24,8 @@ variable x = Expression.variable x
 
 -- plan P
 planP : Program
-planP = mainAlone (Expression.letIn (some 0) (Expression.new (1 ∷ [])) (sequence (Expression.fork (Expression.write (variable 0) 1 null)) (Expression.read (variable 0) 1)))
+planP = mainAlone (Expression.letIn (some 0) (Expression.new (1 ∷ []))
+    (sequence (Expression.fork (Expression.write (variable 0) 1 null)) (Expression.read (variable 0) 1)))
 
 shows-P : textOfProgram planP ≡ ascii "version 1\nlet 0 = new(1) in\nlet - = fork (v0.1 := null) in\nv0.1\n"
 unfolding textOfProgram ascii planP mainAlone null variable sequence

@@ -16,7 +16,8 @@ use Rattle.written.proofs.RightPlans.{fields-ascend}
 use Rattle.format.specs.Version.{Version, v0, v1}
 use Rattle.notation.specs.Tokens.{opening, closing}
 use Rattle.notation.specs.Known.{Known}
-use Rattle.notation.specs.Shown.{grouped, binderToken, signalTokens, shown, shownᶜ, shownᵃ, shownFurther, volatileTokens, procedureTokens, mainFirst, shownPlan}
+use Rattle.notation.specs.Shown.{grouped, binderToken, signalTokens, shown, shownᶜ, shownᵃ, shownFurther, volatileTokens, procedureTokens, mainFirst}
+use Rattle.notation.specs.Shown.{shownPlan}
 
 -- at most n codes, all of tokens
 abbrev Codes : List ℕ → Type 0
@@ -77,10 +78,12 @@ module _ (counts : List ℕ) where
         (group-fit d 0 _ (both (shown-fit e 3 (h .0)) (more (omega arith) (more (omega (arith, h .1 .1)) (more (omega arith) (shown-fit e′ 0 (h .2)))))))
     shown-fit (Expression.letIn x e e′) d h =
         within _ (omega arith)
-        (group-fit d 0 _ (more (omega arith) (more (binder-below x (h .0)) (more (omega arith) (both (shown-fit e 0 (h .1)) (more (omega arith) (shown-fit e′ 0 (h .2))))))))
+        (group-fit d 0 _ (more (omega arith)
+        (more (binder-below x (h .0)) (more (omega arith) (both (shown-fit e 0 (h .1)) (more (omega arith) (shown-fit e′ 0 (h .2))))))))
     shown-fit (Expression.if c e e′) d h =
         within _ (omega arith)
-        (group-fit d 0 _ (more (omega arith) (both (shown-fitᶜ c 0 (h .0)) (more (omega arith) (both (shown-fit e 0 (h .1)) (more (omega arith) (shown-fit e′ 0 (h .2))))))))
+        (group-fit d 0 _ (more (omega arith)
+        (both (shown-fitᶜ c 0 (h .0)) (more (omega arith) (both (shown-fit e 0 (h .1)) (more (omega arith) (shown-fit e′ 0 (h .2))))))))
     shown-fit (Expression.while c e) d h =
         within _ (omega arith) (group-fit d 0 _ (more (omega arith) (both (shown-fitᶜ c 0 (h .0)) (more (omega arith) (shown-fit e 0 (h .1))))))
     shown-fit (Expression.call m es) d h =
@@ -153,7 +156,8 @@ unfolding shownPlan
 plan-fit g r =
     within 11490 (in-all _ _ _ (fields-few (g .volatiles) 1 31) (r .few-terms) (r .few-procedures))
     (more (omega arith) (more (version-below (g .version))
-    (both (volatiles-fit (fieldsFrom (g .volatiles) 1 31) (fields-ascend (g .volatiles) 1 31 0 refl (omega arith))) (main-fit (countsIn (g .procedures)) (g .procedures) (r .few-procedures) (r .each-procedure)))))
+    (both (volatiles-fit (fieldsFrom (g .volatiles) 1 31) (fields-ascend (g .volatiles) 1 31 0 refl (omega arith)))
+    (main-fit (countsIn (g .procedures)) (g .procedures) (r .few-procedures) (r .each-procedure)))))
 
 -- they are codes of tokens
 known-from : (ts : List ℕ) → Codes ts → Known ts

@@ -7,7 +7,9 @@ use mathlib.Core.List.{List, [], _∷_, _++_}
 use mathlib.Core.Option.{Option, some, none}
 use lib.Dec.{ltb}
 use Rattle.packed.specs.Syntax.{Signal, Expression, Condition, Arguments}
-use Rattle.notation.specs.Tokens.{variable, volatileWord, procedureWord, inWord, thenWord, elseWord, doWord, allWord, andWord, trueWord, notWord, nullWord, newWord, letWord, ifWord, whileWord, callWord, forkWord, joinWord, synchWord, waitWord, notifyWord, opening, closing, comma, dot, equals, becomes}
+use Rattle.notation.specs.Tokens.{variable, volatileWord, procedureWord, inWord, thenWord, elseWord, doWord, allWord, andWord, trueWord, notWord}
+use Rattle.notation.specs.Tokens.{nullWord, newWord, letWord, ifWord, whileWord, callWord, forkWord, joinWord, synchWord, waitWord, notifyWord, opening}
+use Rattle.notation.specs.Tokens.{closing, comma, dot, equals, becomes}
 use Rattle.notation.specs.Shown.{tight, prefix, loose, testing, grouped, binderToken, signalTokens, shown, shownᶜ, shownᵃ, shownFurther}
 use Rattle.written.proofs.Right.{Ascending, RightSlot, RightField, Right, Rightᶜ, Rightᵃ}
 

@@ -4,7 +4,8 @@ use mathlib.Core.Bool.{Bool, cond, not, _&&_, _||_}
 use mathlib.Core.List.{List, [], _∷_, _++_}
 use lib.Dec.{eqb, ltb, leb}
 use lib.ListN.{length, replicate}
-use Rattle.notation.specs.Tokens.{volatileWord, procedureWord, inWord, elseWord, doWord, nullWord, newWord, letWord, ifWord, opening, closing, comma, dot, textEnd, textOf}
+use Rattle.notation.specs.Tokens.{volatileWord, procedureWord, inWord, elseWord, doWord, nullWord, newWord, letWord, ifWord, opening, closing, comma}
+use Rattle.notation.specs.Tokens.{dot, textEnd, textOf}
 
 -- where writing stands: the column, from 0; how many parentheses, lets up to their `in` and ifs up to their `else` have begun and not ended; the token before
 pub record Pen : Type 0 where

@@ -7,7 +7,9 @@ use lib.Dec.{ltb}
 use Rattle.packed.specs.Syntax.{Signal, Expression, Condition, Arguments, Procedure, Program}
 use Rattle.packed.specs.Format.{fieldsFrom}
 use Rattle.written.specs.Written.{versionNumber}
-use Rattle.notation.specs.Tokens.{number, variable, versionWord, volatileWord, procedureWord, inWord, thenWord, elseWord, doWord, allWord, andWord, trueWord, notWord, nullWord, newWord, letWord, ifWord, whileWord, callWord, forkWord, joinWord, synchWord, waitWord, notifyWord, opening, closing, comma, dot, equals, becomes, dash}
+use Rattle.notation.specs.Tokens.{number, variable, versionWord, volatileWord, procedureWord, inWord, thenWord, elseWord, doWord, allWord, andWord}
+use Rattle.notation.specs.Tokens.{trueWord, notWord, nullWord, newWord, letWord, ifWord, whileWord, callWord, forkWord, joinWord, synchWord, waitWord}
+use Rattle.notation.specs.Tokens.{notifyWord, opening, closing, comma, dot, equals, becomes, dash}
 
 -- ---- how tightly a form binds, and how tightly its place asks it to
 
@@ -92,7 +94,8 @@ volatileTokens (f ∷ fs) = volatileWord ∷ f ∷ fs
 unfoldable pub procedureTokens : ℕ → List Procedure → List ℕ
 unfolding shown
 procedureTokens p [] = []
-procedureTokens p (d ∷ ds) = procedureWord ∷ number p ∷ opening ∷ number (d .parameters) ∷ closing ∷ equals ∷ shown loose (d .body) ++ procedureTokens (suc p) ds
+procedureTokens p (d ∷ ds) = procedureWord ∷ number p ∷ opening ∷ number (d .parameters) ∷ closing ∷ equals ∷ shown loose (d .body)
+    ++ procedureTokens (suc p) ds
 
 -- main first, which has no parameters
 unfoldable pub mainFirst : List Procedure → List ℕ

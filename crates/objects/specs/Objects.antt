@@ -26,7 +26,8 @@ actFork n h c =
     (act.NoRoom room.Thread)
     (cond (leb 32 (n .objects))
     (act.NoRoom room.Object)
-    (actedWith (goValue (n .objects)) (countsOf (n .threads + 1) (n .objects + 1) (n .keys)) (h .keys) c (entryOf (kindNumber Kind.fork) (n .objects) (n .threads) 0) 0 (n .threads)))
+    (actedWith (goValue (n .objects)) (countsOf (n .threads + 1) (n .objects + 1) (n .keys)) (h .keys) c
+    (entryOf (kindNumber Kind.fork) (n .objects) (n .threads) 0) 0 (n .threads)))
 
 abbrev pub actJoin : Counts → Head → Cell → Object → Head → ℕ → Act
 actJoin n h c t q o = heardOf (goValue (q .ready .first)) n (joinedOf (h .keys) (q .keys)) c (entryOf (kindNumber Kind.join) o (t .thread) (q .ready .first))

@@ -44,4 +44,5 @@ module _ (v : Version) (r : Record) (H : List Record) where
       plain = subst (λ (w : Record). T (isPlain (w .kind))) same (u .plain)
 
       its : Last H (r .object) (r .field) (u .last)
-      its = last-older r H (length H) (r .object) (r .field) (u .last) (omega arith) (subst (λ (w : Record). LastWrite (r ∷ H) (length H) (w .object) (w .field) (u .last)) same (u .is-last))
+      its = last-older r H (length H) (r .object) (r .field) (u .last) (omega arith)
+          (subst (λ (w : Record). LastWrite (r ∷ H) (length H) (w .object) (w .field) (u .last)) same (u .is-last))

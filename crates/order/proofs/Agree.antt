@@ -11,7 +11,8 @@ use Rattle.order.proofs.AgreeNewest.{agree-newest}
 use Rattle.order.proofs.Turned.{at←, unordered↔}
 
 -- a plain access lacked its key exactly when it is unordered
-pub agree : (v : Version) (L : List Record) → Legal v (reverse L) → (j : ℕ) (r : Record) → At L j r → T (isPlain (r .kind)) → T (lacksKey (r .kind)) ↔ Unordered v L j
+pub agree : (v : Version) (L : List Record) → Legal v (reverse L) → (j : ℕ) (r : Record) → At L j r → T (isPlain (r .kind))
+    → T (lacksKey (r .kind)) ↔ Unordered v L j
 agree v L l j r h a = Iff·trans (agree-newest v (reverse L) l j r (at← L j r h) a) (unordered↔ v L j)
 
 -- a record that lacked its key is a plain access

@@ -75,7 +75,8 @@ module _ (v : Version) (r : Record) (H : List Record) (l : Legal v (r ∷ H)) (a
       go (inr (_, k)) (last i d y) = absurd (u .no-reach (rw (last-once H (length H) (r .object) (r .field) (u .last) i (u .is-last) d) (known→reach i y k)))
 
 -- a plain access lacked its key exactly when it is unordered
-pub agree-newest : (v : Version) (H : List Record) → Legal v H → (j : ℕ) (r : Record) → At H j r → T (isPlain (r .kind)) → T (lacksKey (r .kind)) ↔ Unordered v H j
+pub agree-newest : (v : Version) (H : List Record) → Legal v H → (j : ℕ) (r : Record) → At H j r → T (isPlain (r .kind))
+    → T (lacksKey (r .kind)) ↔ Unordered v H j
 agree-newest v (s ∷ H) l j r (here e) a = rw e (lacking→unordered v r H l a, unordered→lacking v r H l a)
 agree-newest v (s ∷ H) l j r (back h) a =
     let b = at-below h in

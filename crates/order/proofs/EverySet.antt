@@ -53,10 +53,17 @@ unfolding past
 key← L i k y =
     let b : i < length L = at-within L i (y .write-record) (y .at-i) in
     subst (λ (H : List Record). W.KeyAt H i k) (sym (turned-at L i (y .write-record) (y .at-i)))
-    (key-append (reverse (drop (suc i) L)) (makes (y .is-write) (sym (past-length L i (omega arith))) (y .number ∙ ap suc (sym (count-turned (take i L) [] ∙ omega arith)))))
+    (key-append (reverse (drop (suc i) L))
+    (makes (y .is-write) (sym (past-length L i (omega arith))) (y .number ∙ ap suc (sym (count-turned (take i L) [] ∙ omega arith)))))
 
 pub key→ : (L : List Record) (i k : ℕ) → W.KeyAt (reverse L) i k → KeyAt L i k
-key→ L i k y = record { write-record = d .0; at-i = at; is-write = d .2; number = key-number y (key← L i (suc (writeCount (take i L))) (record { write-record = d .0; at-i = at; is-write = d .2; number = refl })) }
+key→ L i k y = record {
+  write-record = d .0;
+  at-i = at;
+  is-write = d .2;
+  number =
+      key-number y (key← L i (suc (writeCount (take i L))) (record { write-record = d .0; at-i = at; is-write = d .2; number = refl }));
+}
   where
     d : (r : Record) × N.At (reverse L) i r × (r .kind ≡ write)
     d = key-record y
@@ -75,16 +82,19 @@ module _ (v : Version) (L : List Record) (t : ℕ) where
   would→ k d = record {
     index = d .index;
     made-at = key→ L (d .index) k (d .made-at);
-    chain = subst (λ (n : ℕ). Chain v (L ++ (next ∷ [])) (d .index) n) (length-reverse L) (chain→ v (L ++ (next ∷ [])) (subst (λ (H : List Record). N.Chain v H (d .index) (length (reverse L))) (sym turned) (d .chain)));
+    chain = subst (λ (n : ℕ). Chain v (L ++ (next ∷ [])) (d .index) n) (length-reverse L)
+        (chain→ v (L ++ (next ∷ [])) (subst (λ (H : List Record). N.Chain v H (d .index) (length (reverse L))) (sym turned) (d .chain)));
   }
 
   would← : (k : ℕ) → WouldReach v L t k → R.WouldReach v (reverse L) t k
   would← k d = record {
     index = d .index;
     made-at = key← L (d .index) k (d .made-at);
-    chain = subst (λ (n : ℕ). N.Chain v (next ∷ reverse L) (d .index) n) (sym (length-reverse L)) (subst (λ (H : List Record). N.Chain v H (d .index) (length L)) turned (chain← v (L ++ (next ∷ [])) (d .chain)));
+    chain = subst (λ (n : ℕ). N.Chain v (next ∷ reverse L) (d .index) n) (sym (length-reverse L))
+        (subst (λ (H : List Record). N.Chain v H (d .index) (length L)) turned (chain← v (L ++ (next ∷ [])) (d .chain)));
   }
 
 -- a present thread's set after a legal log
-pub every-set : (v : Version) (L : List Record) → Legal v (reverse L) → (t k : ℕ) → T (after v (reverse L) .present t) → T (after v (reverse L) .knows t k) ↔ ((k ≡ 0) ⊎ WouldReach v L t k)
+pub every-set : (v : Version) (L : List Record) → Legal v (reverse L) → (t k : ℕ) → T (after v (reverse L) .present t)
+    → T (after v (reverse L) .knows t k) ↔ ((k ≡ 0) ⊎ WouldReach v L t k)
 every-set v L l t k p = Iff·trans (every-set-newest v (reverse L) l t k p) (or-iff (would→ v L t k, would← v L t k))

@@ -47,7 +47,15 @@ fed→chain : {v : Version} (r : Record) (H : List Record) (i : ℕ) (q : Port) 
 fed→chain {v} r H i q n d = close (d .up-to)
   where
     last : Linked v (r ∷ H) (d .index) (length H)
-    last = record { earlier = d .feeder; later = r; at-i = back (d .at-index); at-j = here refl; before = at-below (d .at-index); paired = port→pair q (d .feeds) n }
+    last = record {
+      earlier = d .feeder;
+      later = r;
+      at-i = back (d .at-index);
+      at-j = here refl;
+      before = at-below (d .at-index);
+      paired =
+          port→pair q (d .feeds) n;
+    }
 
     close : UpTo v H i (d .index) → Chain v (r ∷ H) i (length H)
     close (itself e) = one (subst (λ (m : ℕ). Linked v (r ∷ H) m (length H)) (sym e) last)
@@ -58,7 +66,8 @@ reach→fed (kept x) =
     let d = reach→fed x in
     record { index = d .index; feeder = d .feeder; at-index = back (d .at-index); feeds = d .feeds; up-to = upTo-newer (d .up-to) }
 reach→fed (made {r = r} {H = H} e o) = record { index = length H; feeder = r; at-index = here refl; feeds = o; up-to = itself e }
-reach→fed {i = i} (passed {r = r} {H = H} {q = q} n x o) = record { index = length H; feeder = r; at-index = here refl; feeds = o; up-to = along (fed→chain r H i q n (reach→fed x)) }
+reach→fed {i = i} (passed {r = r} {H = H} {q = q} n x o) =
+    record { index = length H; feeder = r; at-index = here refl; feeds = o; up-to = along (fed→chain r H i q n (reach→fed x)) }
 
 -- ---- from a chain to a port
 
@@ -75,7 +84,8 @@ source {i = i} {j = j} e l = let b : i < j = l .before in at-older (omega arith)
 pub at→reach : {v : Version} {i j : ℕ} {s : Record} (H : List Record) (p : Port) → At H j s → Feeds v s p → UpTo v H i j → Reach v i H p
 at→reach (r ∷ H) p (here e) o (itself d) = made (d ∙ e) o
 at→reach (r ∷ H) p (here e) o (along (one l)) = passed (drawn e l) (at→reach H (portOf l) (source e l) (pair→port (l .paired) .1) (itself refl)) o
-at→reach (r ∷ H) p (here e) o (along (more c l)) = passed (drawn e l) (at→reach H (portOf l) (source e l) (pair→port (l .paired) .1) (along (chain-older (at-below (source e l)) c))) o
+at→reach (r ∷ H) p (here e) o (along (more c l)) =
+    passed (drawn e l) (at→reach H (portOf l) (source e l) (pair→port (l .paired) .1) (along (chain-older (at-below (source e l)) c))) o
 at→reach (r ∷ H) p (back h) o u = kept (at→reach H p h o (upTo-older (at-below h) u))
 
 -- record i reaches some port that r draws from
@@ -90,11 +100,20 @@ chain→drawn {v} r H i c = go refl c
   where
     go : {j : ℕ} → j ≡ length H → Chain v (r ∷ H) i j → Drawn v r H i
     go e (one l) = record { port = portOf l; draws = drawn e l; reached = at→reach H (portOf l) (source e l) (pair→port (l .paired) .1) (itself refl) }
-    go e (more c l) = record { port = portOf l; draws = drawn e l; reached = at→reach H (portOf l) (source e l) (pair→port (l .paired) .1) (along (chain-older (at-below (source e l)) c)) }
+    go e (more c l) = record {
+      port = portOf l;
+      draws = drawn e l;
+      reached =
+          at→reach H (portOf l) (source e l) (pair→port (l .paired) .1) (along (chain-older (at-below (source e l)) c));
+    }
 
 pub drawn→chain : {v : Version} (r : Record) (H : List Record) (i : ℕ) → Drawn v r H i → Chain v (r ∷ H) i (length H)
 drawn→chain r H i d = fed→chain r H i (d .port) (d .draws) (reach→fed (d .reached))
 
 -- for a record that draws from its own thread only: what reaches that thread
-pub own-chain : {v : Version} (r : Record) (H : List Record) (i : ℕ) → ((q : Port) → Draws v r q → q ≡ ofThread (r .thread)) → Chain v (r ∷ H) i (length H) ↔ Reach v i H (ofThread (r .thread))
-own-chain {v} r H i only = (λ c. let d = chain→drawn r H i c in subst (λ (q : Port). Reach v i H q) (only (d .port) (d .draws)) (d .reached), λ x. drawn→chain r H i (record { port = ofThread (r .thread); draws = inl refl; reached = x }))
+pub own-chain : {v : Version} (r : Record) (H : List Record) (i : ℕ) → ((q : Port) → Draws v r q → q ≡ ofThread (r .thread))
+    → Chain v (r ∷ H) i (length H) ↔ Reach v i H (ofThread (r .thread))
+own-chain {v} r H i only = (
+  λ c. let d = chain→drawn r H i c in subst (λ (q : Port). Reach v i H q) (only (d .port) (d .draws)) (d .reached),
+  λ x. drawn→chain r H i (record { port = ofThread (r .thread); draws = inl refl; reached = x }),
+)

@@ -13,7 +13,8 @@ use Rattle.order.proofs.KnownThreads.{thread-step, absent-step}
 use Rattle.order.proofs.KnownPlaces.{next-step, volatile-step, free-step, held-step}
 
 -- a record that has what it needs keeps the invariant
-pub invariant-step : (v : Version) (r : Record) (H : List Record) (s : KeyState) → Invariant v H s → T (s .present (r .thread)) → Needs (r .kind) (r .thread) (r .object) (r .field) s → Invariant v (r ∷ H) (step v s r)
+pub invariant-step : (v : Version) (r : Record) (H : List Record) (s : KeyState) → Invariant v H s → T (s .present (r .thread))
+    → Needs (r .kind) (r .thread) (r .object) (r .field) s → Invariant v (r ∷ H) (step v s r)
 invariant-step v r H s I pt nd =
     record {
       threads-know = λ u k pu. thread-step v (r .kind) (r .thread) (r .object) (r .field) (r .value) s I pt nd u k pu;

@@ -35,27 +35,82 @@ start = record {
 
 -- thread t has the set a
 abbrev pub threadKnows : ℕ → KeySet → KeyState → KeyState
-threadKnows t a s = record { present = s .present; knows = put (s .knows) t a; plain = s .plain; volatiles = s .volatiles; monitors = s .monitors; owner = s .owner; next = s .next }
+threadKnows t a s = record {
+  present = s .present;
+  knows = put (s .knows) t a;
+  plain = s .plain;
+  volatiles = s .volatiles;
+  monitors = s .monitors;
+  owner =
+      s .owner;
+  next = s .next;
+}
 
 -- plain field f of o has the next unused key
 abbrev pub plainKeyed : ℕ → ℕ → KeyState → KeyState
-plainKeyed o f s = record { present = s .present; knows = s .knows; plain = put₂ (s .plain) o f (s .next); volatiles = s .volatiles; monitors = s .monitors; owner = s .owner; next = suc (s .next) }
+plainKeyed o f s = record {
+  present = s .present;
+  knows = s .knows;
+  plain = put₂ (s .plain) o f (s .next);
+  volatiles = s .volatiles;
+  monitors =
+      s .monitors;
+  owner = s .owner;
+  next = suc (s .next);
+}
 
 -- volatile field f of o has the set a
 abbrev pub volatileKnows : ℕ → ℕ → KeySet → KeyState → KeyState
-volatileKnows o f a s = record { present = s .present; knows = s .knows; plain = s .plain; volatiles = put₂ (s .volatiles) o f a; monitors = s .monitors; owner = s .owner; next = s .next }
+volatileKnows o f a s =
+    record {
+      present = s .present;
+      knows = s .knows;
+      plain = s .plain;
+      volatiles = put₂ (s .volatiles) o f a;
+      monitors = s .monitors;
+      owner = s .owner;
+      next =
+          s .next;
+    }
 
 -- thread t has the monitor of o
 abbrev pub monitorTaken : ℕ → ℕ → KeyState → KeyState
-monitorTaken o t s = record { present = s .present; knows = s .knows; plain = s .plain; volatiles = s .volatiles; monitors = put (s .monitors) o noKeys; owner = put (s .owner) o t; next = s .next }
+monitorTaken o t s = record {
+  present = s .present;
+  knows = s .knows;
+  plain = s .plain;
+  volatiles = s .volatiles;
+  monitors =
+      put (s .monitors) o noKeys;
+  owner = put (s .owner) o t;
+  next = s .next;
+}
 
 -- the monitor of o has the set a
 abbrev pub monitorFreed : ℕ → KeySet → KeyState → KeyState
-monitorFreed o a s = record { present = s .present; knows = s .knows; plain = s .plain; volatiles = s .volatiles; monitors = put (s .monitors) o a; owner = s .owner; next = s .next }
+monitorFreed o a s = record {
+  present = s .present;
+  knows = s .knows;
+  plain = s .plain;
+  volatiles = s .volatiles;
+  monitors = put (s .monitors) o a;
+  owner =
+      s .owner;
+  next = s .next;
+}
 
 -- thread q is present and has the set a
 abbrev pub threadForked : ℕ → KeySet → KeyState → KeyState
-threadForked q a s = record { present = put (s .present) q true; knows = put (s .knows) q a; plain = s .plain; volatiles = s .volatiles; monitors = s .monitors; owner = s .owner; next = s .next }
+threadForked q a s = record {
+  present = put (s .present) q true;
+  knows = put (s .knows) q a;
+  plain = s .plain;
+  volatiles = s .volatiles;
+  monitors =
+      s .monitors;
+  owner = s .owner;
+  next = s .next;
+}
 
 -- ---- records
 

@@ -71,7 +71,8 @@ module _ {A : Type 0} where
 
   pub put₂-other : (g : ℕ → ℕ → A) (o f : ℕ) (a : A) (o′ f′ : ℕ) → (o ≡ o′ → f ≡ f′ → ⊥) → put₂ g o f a o′ f′ ≡ g o′ f′
   unfolding put₂
-  put₂-other g o f a o′ f′ n = cond-false (eqb o o′ && eqb f f′) a (g o′ f′) (λ h. let d = and-yes (eqb o o′) (eqb f f′) h in n (eqb→eq o o′ (d .0)) (eqb→eq f f′ (d .1)))
+  put₂-other g o f a o′ f′ n =
+      cond-false (eqb o o′ && eqb f f′) a (g o′ f′) (λ h. let d = and-yes (eqb o o′) (eqb f f′) h in n (eqb→eq o o′ (d .0)) (eqb→eq f f′ (d .1)))
 
 pub put-same↔ : (g : ℕ → KeySet) (t : ℕ) (a : KeySet) (k : ℕ) → T (put g t a t k) ↔ T (a k)
 put-same↔ g t a k = (subst (λ (b : KeySet). T (b k)) (put-same g t a), subst (λ (b : KeySet). T (b k)) (sym (put-same g t a)))

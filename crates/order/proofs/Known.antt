@@ -61,15 +61,18 @@ extra-in κ t o f x (ofAccesses o′ f′) e y = absurd e
 extra-in κ t o f x (ofWrites o′ f′) e y = absurd e
 
 -- a key that reaches a port did so before the record, or the record hands it on
-pub known-split : {v : Version} (κ : Kind) (t o f x : ℕ) {k : ℕ} {H : List Record} {p : Port} → Known v k (entry κ t o f x ∷ H) p → Known v k H p ⊎ (Feeds v (entry κ t o f x) p × Gain v κ t o f H k)
+pub known-split : {v : Version} (κ : Kind) (t o f x : ℕ) {k : ℕ} {H : List Record} {p : Port} → Known v k (entry κ t o f x ∷ H) p
+    → Known v k H p ⊎ (Feeds v (entry κ t o f x) p × Gain v κ t o f H k)
 known-split κ t o f x (kept y) = inl y
 known-split {v} κ t o f x {k} {H} (made w e u) = inr (u, inr (rw w e))
 known-split κ t o f x (passed {q = q} n y u) = inr (u, extra-in κ t o f x q n y)
 
-pub gain-own : {v : Version} (κ : Kind) (t o f x : ℕ) {k : ℕ} {H : List Record} (p : Port) → Feeds v (entry κ t o f x) p → Known v k H (ofThread t) → Known v k (entry κ t o f x ∷ H) p
+pub gain-own : {v : Version} (κ : Kind) (t o f x : ℕ) {k : ℕ} {H : List Record} (p : Port) → Feeds v (entry κ t o f x) p → Known v k H (ofThread t)
+    → Known v k (entry κ t o f x ∷ H) p
 gain-own κ t o f x p u y = passed {q = ofThread t} (inl refl) y u
 
-pub gain-extra : (v : Version) (κ : Kind) (t o f x : ℕ) {k : ℕ} {H : List Record} (p : Port) → Feeds v (entry κ t o f x) p → Extra v κ o f H k → Known v k (entry κ t o f x ∷ H) p
+pub gain-extra : (v : Version) (κ : Kind) (t o f x : ℕ) {k : ℕ} {H : List Record} (p : Port) → Feeds v (entry κ t o f x) p → Extra v κ o f H k
+    → Known v k (entry κ t o f x ∷ H) p
 gain-extra v new t o f x p u y = absurd y
 gain-extra v read t o f x p u y = absurd y
 gain-extra v write t o f x p u y = made refl y u
@@ -84,7 +87,8 @@ gain-extra v lacksRead t o f x p u y = absurd y
 gain-extra v lacksWrite t o f x p u y = absurd y
 
 -- a port that the record does not feed
-pub unfed : {v : Version} (κ : Kind) (t o f x : ℕ) {k : ℕ} {H : List Record} (p : Port) → (Feeds v (entry κ t o f x) p → ⊥) → Known v k H p ↔ Known v k (entry κ t o f x ∷ H) p
+pub unfed : {v : Version} (κ : Kind) (t o f x : ℕ) {k : ℕ} {H : List Record} (p : Port) → (Feeds v (entry κ t o f x) p → ⊥)
+    → Known v k H p ↔ Known v k (entry κ t o f x ∷ H) p
 unfed {v} κ t o f x {k} {H} p n = (λ y. kept y, λ y. go (known-split κ t o f x y))
   where
     go : Known v k H p ⊎ (Feeds v (entry κ t o f x) p × Gain v κ t o f H k) → Known v k H p

@@ -67,7 +67,15 @@ at-cases (back h) = inr h
 linked-older : {v : Version} {s : Record} {H : List Record} {i j : ℕ} → j < length H → Linked v (s ∷ H) i j → Linked v H i j
 linked-older {i = i} {j = j} b l =
     let lt : i < j = l .before in
-    record { earlier = l .earlier; later = l .later; at-i = at-older (omega arith) (l .at-i); at-j = at-older b (l .at-j); before = l .before; paired = l .paired }
+    record {
+      earlier = l .earlier;
+      later = l .later;
+      at-i = at-older (omega arith) (l .at-i);
+      at-j = at-older b (l .at-j);
+      before = l .before;
+      paired =
+          l .paired;
+    }
 
 linked-newer : {v : Version} {s : Record} {H : List Record} {i j : ℕ} → Linked v H i j → Linked v (s ∷ H) i j
 linked-newer l = record { earlier = l .earlier; later = l .later; at-i = back (l .at-i); at-j = back (l .at-j); before = l .before; paired = l .paired }
@@ -85,12 +93,27 @@ chain-newer (more c l) = more (chain-newer c) (linked-newer l)
 -- ---- last writes
 
 pub last-newer : (s : Record) (H : List Record) (j o f i : ℕ) → j ≤ length H → LastWrite H j o f i → LastWrite (s ∷ H) j o f i
-last-newer s H j o f i b d = record { write-record = d .write-record; at-i = back (d .at-i); writes = d .writes; before = d .before; latest = λ m w h x c. d .latest m w (at-older (omega arith) h) x c }
+last-newer s H j o f i b d =
+    record {
+      write-record = d .write-record;
+      at-i = back (d .at-i);
+      writes = d .writes;
+      before = d .before;
+      latest =
+          λ m w h x c. d .latest m w (at-older (omega arith) h) x c;
+    }
 
 pub last-older : (s : Record) (H : List Record) (j o f i : ℕ) → j ≤ length H → LastWrite (s ∷ H) j o f i → LastWrite H j o f i
 last-older s H j o f i b d =
     let c : i < j = d .before in
-    record { write-record = d .write-record; at-i = at-older (omega arith) (d .at-i); writes = d .writes; before = d .before; latest = λ m w h x c. d .latest m w (back h) x c }
+    record {
+      write-record = d .write-record;
+      at-i = at-older (omega arith) (d .at-i);
+      writes = d .writes;
+      before = d .before;
+      latest =
+          λ m w h x c. d .latest m w (back h) x c;
+    }
 
 pub last-once : (H : List Record) (j o f i i′ : ℕ) → LastWrite H j o f i → LastWrite H j o f i′ → i ≡ i′
 last-once H j o f i i′ d d′ =
@@ -128,10 +151,28 @@ last-more r H o f i n d = record { write-record = d .write-record; at-i = back (
 -- ---- unordered accesses
 
 pub unordered-newer : {v : Version} (s : Record) (H : List Record) (j : ℕ) → j < length H → Unordered v H j → Unordered v (s ∷ H) j
-unordered-newer s H j b u = record { access = u .access; at-j = back (u .at-j); plain = u .plain; last = u .last; is-last = last-newer s H j (u .access .object) (u .access .field) (u .last) (omega arith) (u .is-last); no-chain = λ c. u .no-chain (chain-older b c) }
+unordered-newer s H j b u =
+    record {
+      access = u .access;
+      at-j = back (u .at-j);
+      plain = u .plain;
+      last = u .last;
+      is-last =
+          last-newer s H j (u .access .object) (u .access .field) (u .last) (omega arith) (u .is-last);
+      no-chain = λ c. u .no-chain (chain-older b c);
+    }
 
 pub unordered-older : {v : Version} (s : Record) (H : List Record) (j : ℕ) → j < length H → Unordered v (s ∷ H) j → Unordered v H j
-unordered-older s H j b u = record { access = u .access; at-j = at-older b (u .at-j); plain = u .plain; last = u .last; is-last = last-older s H j (u .access .object) (u .access .field) (u .last) (omega arith) (u .is-last); no-chain = λ c. u .no-chain (chain-newer c) }
+unordered-older s H j b u =
+    record {
+      access = u .access;
+      at-j = at-older b (u .at-j);
+      plain = u .plain;
+      last = u .last;
+      is-last =
+          last-older s H j (u .access .object) (u .access .field) (u .last) (omega arith) (u .is-last);
+      no-chain = λ c. u .no-chain (chain-newer c);
+    }
 
 -- later records make no difference to an access
 pub unordered-append : {v : Version} (K H : List Record) (j : ℕ) → j < length H → Unordered v (K ++ H) j ↔ Unordered v H j

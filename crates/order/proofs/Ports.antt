@@ -52,7 +52,8 @@ port→pair (ofAccesses o f) a b = absurd b
 port→pair (ofWrites o f) a b = absurd b
 
 -- a record that is no join, acquire or volatile read draws from its own thread only
-pub draws-own : (v : Version) (r : Record) → (r .kind ≡ join → ⊥) → (r .kind ≡ acquire → ⊥) → (r .kind ≡ readv → ⊥) → (q : Port) → Draws v r q → q ≡ ofThread (r .thread)
+pub draws-own : (v : Version) (r : Record) → (r .kind ≡ join → ⊥) → (r .kind ≡ acquire → ⊥) → (r .kind ≡ readv → ⊥) → (q : Port) → Draws v r q
+    → q ≡ ofThread (r .thread)
 draws-own v r a b c (ofThread q) (inl e) = ap ofThread (sym e)
 draws-own v r a b c (ofThread q) (inr (e, _)) = absurd (a e)
 draws-own v r a b c (ofMonitor o) (e, _) = absurd (b e)

@@ -61,11 +61,15 @@ pub record WouldReach (v : Version) (H : List Record) (t k : ℕ) : Type 0 where
   pub chain : Chain v (entry new t 0 0 0 ∷ H) index (length H)
 
 -- a present thread's set after a legal log
-pub every-set-newest : (v : Version) (H : List Record) → Legal v H → (t k : ℕ) → T (after v H .present t) → T (after v H .knows t k) ↔ ((k ≡ 0) ⊎ WouldReach v H t k)
+pub every-set-newest : (v : Version) (H : List Record) → Legal v H → (t k : ℕ) → T (after v H .present t)
+    → T (after v H .knows t k) ↔ ((k ≡ 0) ⊎ WouldReach v H t k)
 every-set-newest v H l t k pt = Iff·trans (invariant v H l .threads-know t k pt) (Iff·trans (known↔traced k H (ofThread t)) (or-iff would))
   where
     chain↔ : (i : ℕ) → Chain v (entry new t 0 0 0 ∷ H) i (length H) ↔ Reach v i H (ofThread t)
     chain↔ i = own-chain (entry new t 0 0 0) H i (draws-own v (entry new t 0 0 0) (λ e. differ e tt) (λ e. differ e tt) (λ e. differ e tt))
 
     would : Traced v H k (ofThread t) ↔ WouldReach v H t k
-    would = (λ d. record { index = d .index; made-at = d .made-at; chain = chain↔ (d .index) .1 (d .reaches) }, λ d. record { index = d .index; made-at = d .made-at; reaches = chain↔ (d .index) .0 (d .chain) })
+    would = (
+      λ d. record { index = d .index; made-at = d .made-at; chain = chain↔ (d .index) .1 (d .reaches) },
+      λ d. record { index = d .index; made-at = d .made-at; reaches = chain↔ (d .index) .0 (d .chain) },
+    )

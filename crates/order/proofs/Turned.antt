@@ -20,7 +20,8 @@ turned-from (x ∷ L) H i r a = go (turned-from L (x ∷ H) i r a)
     top (inl (e, q)) = inr (0, omega arith, ap {B = Option Record} some q)
     top (inr b) = inl b
 
-    go : N.At (x ∷ H) i r ⊎ ((j : ℕ) × (i ≡ suc (length H) + j) × (getElem? L j ≡ some r)) → N.At H i r ⊎ ((j : ℕ) × (i ≡ length H + j) × (getElem? (x ∷ L) j ≡ some r))
+    go : N.At (x ∷ H) i r ⊎ ((j : ℕ) × (i ≡ suc (length H) + j) × (getElem? L j ≡ some r))
+        → N.At H i r ⊎ ((j : ℕ) × (i ≡ length H + j) × (getElem? (x ∷ L) j ≡ some r))
     go (inl b) = top (N.at-cases b)
     go (inr (j, e, q)) = inr (suc j, omega arith, q)
 
@@ -45,10 +46,26 @@ at← L i r q = turned-to L [] i r q i (omega arith)
 
 module _ (v : Version) (L : List Record) where
   linked→ : {i j : ℕ} → N.Linked v (reverse L) i j → Linked v L i j
-  linked→ {i} {j} l = record { earlier = l .earlier; later = l .later; at-i = at→ L i (l .earlier) (l .at-i); at-j = at→ L j (l .later) (l .at-j); before = l .before; paired = l .paired }
+  linked→ {i} {j} l = record {
+    earlier = l .earlier;
+    later = l .later;
+    at-i = at→ L i (l .earlier) (l .at-i);
+    at-j = at→ L j (l .later) (l .at-j);
+    before =
+        l .before;
+    paired = l .paired;
+  }
 
   linked← : {i j : ℕ} → Linked v L i j → N.Linked v (reverse L) i j
-  linked← {i} {j} l = record { earlier = l .earlier; later = l .later; at-i = at← L i (l .earlier) (l .at-i); at-j = at← L j (l .later) (l .at-j); before = l .before; paired = l .paired }
+  linked← {i} {j} l = record {
+    earlier = l .earlier;
+    later = l .later;
+    at-i = at← L i (l .earlier) (l .at-i);
+    at-j = at← L j (l .later) (l .at-j);
+    before =
+        l .before;
+    paired = l .paired;
+  }
 
   pub chain→ : {i j : ℕ} → N.Chain v (reverse L) i j → Chain v L i j
   chain→ (N.one l) = one (linked→ l)
@@ -59,16 +76,46 @@ module _ (v : Version) (L : List Record) where
   chain← (more c l) = N.more (chain← c) (linked← l)
 
   pub last→ : (j o f i : ℕ) → N.LastWrite (reverse L) j o f i → LastWrite L j o f i
-  last→ j o f i d = record { write-record = d .write-record; at-i = at→ L i (d .write-record) (d .at-i); writes = d .writes; before = d .before; latest = λ m w h x b. d .latest m w (at← L m w h) x b }
+  last→ j o f i d = record {
+    write-record = d .write-record;
+    at-i = at→ L i (d .write-record) (d .at-i);
+    writes = d .writes;
+    before = d .before;
+    latest =
+        λ m w h x b. d .latest m w (at← L m w h) x b;
+  }
 
   pub last← : (j o f i : ℕ) → LastWrite L j o f i → N.LastWrite (reverse L) j o f i
-  last← j o f i d = record { write-record = d .write-record; at-i = at← L i (d .write-record) (d .at-i); writes = d .writes; before = d .before; latest = λ m w h x b. d .latest m w (at→ L m w h) x b }
+  last← j o f i d = record {
+    write-record = d .write-record;
+    at-i = at← L i (d .write-record) (d .at-i);
+    writes = d .writes;
+    before = d .before;
+    latest =
+        λ m w h x b. d .latest m w (at→ L m w h) x b;
+  }
 
   pub unordered→ : (j : ℕ) → N.Unordered v (reverse L) j → Unordered v L j
-  unordered→ j u = record { access = u .access; at-j = at→ L j (u .access) (u .at-j); plain = u .plain; last = u .last; is-last = last→ j (u .access .object) (u .access .field) (u .last) (u .is-last); no-chain = λ c. u .no-chain (chain← c) }
+  unordered→ j u = record {
+    access = u .access;
+    at-j = at→ L j (u .access) (u .at-j);
+    plain = u .plain;
+    last = u .last;
+    is-last =
+        last→ j (u .access .object) (u .access .field) (u .last) (u .is-last);
+    no-chain = λ c. u .no-chain (chain← c);
+  }
 
   pub unordered← : (j : ℕ) → Unordered v L j → N.Unordered v (reverse L) j
-  unordered← j u = record { access = u .access; at-j = at← L j (u .access) (u .at-j); plain = u .plain; last = u .last; is-last = last← j (u .access .object) (u .access .field) (u .last) (u .is-last); no-chain = λ c. u .no-chain (chain→ c) }
+  unordered← j u = record {
+    access = u .access;
+    at-j = at← L j (u .access) (u .at-j);
+    plain = u .plain;
+    last = u .last;
+    is-last =
+        last← j (u .access .object) (u .access .field) (u .last) (u .is-last);
+    no-chain = λ c. u .no-chain (chain→ c);
+  }
 
   pub unordered↔ : (j : ℕ) → N.Unordered v (reverse L) j ↔ Unordered v L j
   unordered↔ j = (unordered→ j, unordered← j)

@@ -42,7 +42,16 @@ spelled (suc n) [] e = absurd (omega arith)
 spelled (suc n) (x ∷ l) e = ap (λ (t : List Thread). x ∷ t) (spelled n l (omega arith))
 
 abbrev bytesOf : run.Stop → ℕ → ℕ → ℕ → List Thread → List ℕ
-bytesOf s k m r all = outcomeBytes (record { stop = s; picks = k; moves = m; records = r; threads = map (λ (t : Thread). statusOf (t .state)) all; totals = map (λ (t : Thread). t .learnt) all })
+bytesOf s k m r all =
+    outcomeBytes (record {
+      stop = s;
+      picks = k;
+      moves = m;
+      records = r;
+      threads = map (λ (t : Thread). statusOf (t .state)) all;
+      totals =
+          map (λ (t : Thread). t .learnt) all;
+    })
 
 abbrev putAll : run.Stop → ℕ → ℕ → ℕ → List Thread → List ℕ
 putAll s k m r all = turns (putThread all) 8 0 (headBytes (replicate 40 0) s k m r)
@@ -53,7 +62,8 @@ put-spelled s k m r f = refl
 
 -- the first eight bytes, then the eight threads
 all-threads : (s : run.Stop) (k m r : ℕ) (all : List Thread) → length all ≡ 8 → putAll s k m r all ≡ bytesOf s k m r all
-all-threads s k m r all e = along (λ (l : List Thread). putAll s k m r l ≡ bytesOf s k m r l) (sym (spelled 8 all e)) (put-spelled s k m r (λ i. getD all i absent))
+all-threads s k m r all e =
+    along (λ (l : List Thread). putAll s k m r l ≡ bytesOf s k m r l) (sym (spelled 8 all e)) (put-spelled s k m r (λ i. getD all i absent))
 
 -- what holds of all holds of each
 each-small : (all : List Thread) → AllSmall (map (λ (t : Thread). statusOf (t .state)) all) → (p : ℕ) → p < length all → SmallStatus (threadAt all p)

@@ -8,4 +8,5 @@ use Rattle.outcome_bytes.specs.Bytes.{stopByte}
 -- the first seven bytes set
 unfoldable pub headBytes : List ℕ → Stop → ℕ → ℕ → ℕ → List ℕ
 headBytes l stop picks moves records =
-    set (set (set (set (set (set (set l 0 (stopByte stop)) 1 (picks / 256)) 2 (picks % 256)) 3 (moves / 256)) 4 (moves % 256)) 5 (records / 256)) 6 (records % 256)
+    set (set (set (set (set (set (set l 0 (stopByte stop)) 1 (picks / 256)) 2 (picks % 256)) 3 (moves / 256)) 4 (moves % 256)) 5 (records / 256)) 6
+    (records % 256)

@@ -13,12 +13,14 @@ use lib.ListN.{length}
 use borrow.Author.Tests.{le-leb, lt-ltb, ltb-false, leb-false, eqb-true, eqb-false, ne-eqb, not-false}
 use Rattle.format.proofs.BitLaws.{bits-below}
 use Rattle.format.proofs.RefusalLaws.{neither}
-use Rattle.packed.specs.Format.{version, procedures, terms, headerSpare, volatiles, maskBit, fieldsFrom, parameters, root, planLength, Operand, absent, slot, binder, mask, fieldName, procedure, expression, condition, list, width, layout, laidOut, tagAt, termAt}
+use Rattle.packed.specs.Format.{version, procedures, terms, headerSpare, volatiles, maskBit, fieldsFrom, parameters, root, planLength, Operand, absent}
+use Rattle.packed.specs.Format.{slot, binder, mask, fieldName, procedure, expression, condition, list, width, layout, laidOut, tagAt, termAt}
 use Rattle.packed.specs.Trees.{treeAt}
 use Rattle.packed.specs.Slots.{closed}
 use Rattle.packed.specs.Refusals.{wrongOperand, wrongTerm, misplaced, listLength, timesNamed, notNamedOnce, usesUnboundSlot}
 use Rattle.packed.specs.Check.{refusal}
-use Rattle.packed.proofs.Passing.{length-of, header-of, procedure-of, PassesTable, NoOperand, of-operands, table-of, at-itself, sorted-of, call-of, SixRight, AllRight, all-right}
+use Rattle.packed.proofs.Passing.{length-of, header-of, procedure-of, PassesTable, NoOperand, of-operands, table-of, at-itself, sorted-of, call-of}
+use Rattle.packed.proofs.Passing.{SixRight, AllRight, all-right}
 
 -- ---- the facts
 
@@ -109,7 +111,8 @@ child-of b t kind v h s =
     let q = leb-false (terms b) v (p .1) in
     record { above = leb-false v t (p .0); below = q; sorted = s q }
 
-fits-of : (b : List ℕ) (t : ℕ) (kind : Operand) (v : ℕ) → v < 2 ^ width kind → wrongOperand (procedures b) (terms b) t kind v ≡ false → (v < terms b → OfSort kind (tagAt b v)) → Fits b t kind v
+fits-of : (b : List ℕ) (t : ℕ) (kind : Operand) (v : ℕ) → v < 2 ^ width kind → wrongOperand (procedures b) (terms b) t kind v ≡ false
+    → (v < terms b → OfSort kind (tagAt b v)) → Fits b t kind v
 fits-of b t absent v w h s = omega arith
 fits-of b t slot v w h s = ltb-false 7 v h
 fits-of b t binder v w h s = λ q. ltb-false 7 v (sym (and-true (ltb 7 v)) ∙ (rw (ne-eqb v 15 q) at h))

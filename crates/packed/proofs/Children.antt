@@ -26,16 +26,28 @@ nodes-are b n ws l t h = ap (λ (w : ℕ). nodeOf (termIn w)) (l .each t h) ∙ 
 
 -- a term of tag k
 abbrev pub termOf : ℕ → ℕ → ℕ → ℕ → ℕ → Term
-termOf k x y z s = record { tag = k; first = layout k .first; value₁ = x; second = layout k .second; value₂ = y; third = layout k .third; value₃ = z; spare = s }
+termOf k x y z s = record {
+  tag = k;
+  first = layout k .first;
+  value₁ = x;
+  second = layout k .second;
+  value₂ = y;
+  third = layout k .third;
+  value₃ = z;
+  spare =
+      s;
+}
 
 abbrev pub nodeOfTag : ℕ → ℕ → ℕ → ℕ → Node
 nodeOfTag k x y z = getD nodes k (λ x y z. Node.unknown) x y z
 
 -- the children of a right term are below the count
-rows-within : (n x y z k : ℕ) → IfChild (λ v. v < n) (layout k .first) x → IfChild (λ v. v < n) (layout k .second) y → IfChild (λ v. v < n) (layout k .third) z → Within n (childrenOf (nodeOfTag k x y z))
+rows-within : (n x y z k : ℕ) → IfChild (λ v. v < n) (layout k .first) x → IfChild (λ v. v < n) (layout k .second) y
+    → IfChild (λ v. v < n) (layout k .third) z → Within n (childrenOf (nodeOfTag k x y z))
 unfolding layout table nodes childrenOf
 rows-within n x y z k =
-    by-tag (λ k. IfChild (λ v. v < n) (layout k .first) x → IfChild (λ v. v < n) (layout k .second) y → IfChild (λ v. v < n) (layout k .third) z → Within n (childrenOf (nodeOfTag k x y z)))
+    by-tag (λ k. IfChild (λ v. v < n) (layout k .first) x → IfChild (λ v. v < n) (layout k .second) y → IfChild (λ v. v < n) (layout k .third) z
+    → Within n (childrenOf (nodeOfTag k x y z)))
     (λ a b c. tt)
     (λ a b c. tt)
     (λ a b c. tt)
@@ -68,4 +80,6 @@ children-within b procedures n u z h =
 -- every tag but 16 ends a list
 pub list-ends : (e : ℕ → Expression) (l : ℕ → Arguments) (x y z k : ℕ) → (k ≡ 16 → ⊥) → argumentsOf e l (nodeOfTag k x y z) ≡ Arguments.end
 unfolding nodes argumentsOf
-list-ends e l x y z k h = except (λ k. argumentsOf e l (nodeOfTag k x y z) ≡ Arguments.end) (16 ∷ []) refl refl refl refl refl refl refl refl refl refl refl refl refl refl refl refl tt refl refl refl refl (λ j. refl) k (tt, h)
+list-ends e l x y z k h =
+    except (λ k. argumentsOf e l (nodeOfTag k x y z) ≡ Arguments.end) (16 ∷ []) refl refl refl refl refl refl refl refl refl refl refl refl refl refl refl
+    refl tt refl refl refl refl (λ j. refl) k (tt, h)

@@ -15,7 +15,8 @@ use borrow.Author.Tests.{not-true}
 use Rattle.format.specs.Refusal.{firstRefusal}
 use Rattle.packed.specs.Syntax.{Expression, Condition, Arguments, Procedure}
 use Rattle.packed.specs.Format.{procedures, terms, parameters, root, expression, condition, list, table, layout, laidOut, tagAt, termAt}
-use Rattle.packed.specs.Trees.{Node, binderOf, nodes, nodeOf, nodeAt, Stands, Standsᶜ, Standsᵃ, expressionOf, conditionOf, argumentsOf, expressionAt, conditionAt, argumentsAt, treeAt, procedureAt, proceduresFrom, programOf}
+use Rattle.packed.specs.Trees.{Node, binderOf, nodes, nodeOf, nodeAt, Stands, Standsᶜ, Standsᵃ, expressionOf, conditionOf, argumentsOf, expressionAt}
+use Rattle.packed.specs.Trees.{conditionAt, argumentsAt, treeAt, procedureAt, proceduresFrom, programOf}
 use Rattle.packed.specs.Slots.{bound, closed, closedᶜ, closedᵃ}
 use Rattle.packed.specs.Refusals.{listLength, usesUnboundSlot}
 use Rattle.packed.specs.Check.{checks, refusal}
@@ -74,7 +75,8 @@ unfolding procedureAt
 callable b m k h e = (procedureAt b m, procedures-are b m h, e)
 
 -- the node at term t, by its tag
-pub node-is : (b : List ℕ) (t k : ℕ) → tagAt b t ≡ k → nodeAt b t ≡ getD nodes k (λ x y z. Node.unknown) (termAt b t .value₁) (termAt b t .value₂) (termAt b t .value₃)
+pub node-is : (b : List ℕ) (t k : ℕ) → tagAt b t ≡ k
+    → nodeAt b t ≡ getD nodes k (λ x y z. Node.unknown) (termAt b t .value₁) (termAt b t .value₂) (termAt b t .value₃)
 unfolding nodeAt nodeOf termAt laidOut
 node-is b t k e = ap (λ (i : ℕ). getD nodes i (λ x y z. Node.unknown) (termAt b t .value₁) (termAt b t .value₂) (termAt b t .value₃)) e
 
@@ -157,7 +159,8 @@ module _ (b : List ℕ) where
           then 5 gives (λ e p q r. (
             (y, z, node-is b t 5 e, good y q .0, good z r .0),
             λ ρ c.
-                let d = and-yes (closed ρ (tree y)) (closed (bound (binderOf x) ρ) (tree z)) c in (good y q .1 ρ (d .0), good z r .1 (bound (binderOf x) ρ) (d .1)),
+                let d = and-yes (closed ρ (tree y)) (closed (bound (binderOf x) ρ) (tree z)) c in
+                (good y q .1 ρ (d .0), good z r .1 (bound (binderOf x) ρ) (d .1)),
           ))
           then 6 gives (λ e p q r. (
             (x, y, z, node-is b t 6 e, goodᶜ x p .0, good y q .0, good z r .0),
@@ -227,8 +230,10 @@ module _ (b : List ℕ) where
 
       good-here : OfSort expression (tagAt b t) → Good t (expressionAt (nodeAt b) (suc n) t)
       unfolding expressionAt
-      good-here (inl s) = at-tag (λ m. Good t (expressionOf tree treeᶜ treeᵃ m)) (a .each-term t inside) (pick expressions (tagAt b t) (omega arith) (omega arith))
-      good-here (inr s) = at-tag (λ m. Good t (expressionOf tree treeᶜ treeᵃ m)) (a .each-term t inside) (pick signals (tagAt b t) (s .0) (let h = s .1 in omega arith))
+      good-here (inl s) = at-tag (λ m. Good t (expressionOf tree treeᶜ treeᵃ m)) (a .each-term t inside)
+          (pick expressions (tagAt b t) (omega arith) (omega arith))
+      good-here (inr s) = at-tag (λ m. Good t (expressionOf tree treeᶜ treeᵃ m)) (a .each-term t inside)
+          (pick signals (tagAt b t) (s .0) (let h = s .1 in omega arith))
 
       goodᶜ-here : OfSort condition (tagAt b t) → Goodᶜ t (conditionAt (nodeAt b) (suc n) t)
       unfolding conditionAt
@@ -239,7 +244,12 @@ module _ (b : List ℕ) where
       goodᵃ-here s = at-tag (λ m. Goodᵃ t (argumentsOf tree treeᵃ m)) (a .each-term t inside) (pick lists (tagAt b t) (omega arith) (omega arith))
 
   all-good : Readable b → (n : ℕ) → AllGood n
-  all-good a zero = record { expression-good = λ t h q s. absurd (omega arith); condition-good = λ t h q s. absurd (omega arith); list-good = λ t h q s. absurd (omega arith) }
+  all-good a zero = record {
+    expression-good = λ t h q s. absurd (omega arith);
+    condition-good = λ t h q s. absurd (omega arith);
+    list-good =
+        λ t h q s. absurd (omega arith);
+  }
   all-good a (suc n) =
       let ih = all-good a n in
       record { expression-good = λ t. good-here t a n ih; condition-good = λ t. goodᶜ-here t a n ih; list-good = λ t. goodᵃ-here t a n ih }
@@ -269,7 +279,8 @@ refused-tree b p h = let s = seventh b p h in (s .1, stands b (s .0) p (s .1), n
 pub accepted-stands : (b : List ℕ) → refusal b ≡ none → (p : ℕ) → p < procedures b → Stands (nodeAt b) (root b p) (treeAt b (root b p))
 accepted-stands b h p q = root-good b (its-trees b (accepted b h)) p q .0
 
-body-well-formed : (b : List ℕ) → Accepted b → (m : ℕ) → m < procedures b → WellFormed (programOf b) 1 (λ x. ltb x (procedureAt b m .parameters)) (procedureAt b m .body)
+body-well-formed : (b : List ℕ) → Accepted b → (m : ℕ) → m < procedures b
+    → WellFormed (programOf b) 1 (λ x. ltb x (procedureAt b m .parameters)) (procedureAt b m .body)
 unfolding procedureAt
 body-well-formed b a m q = root-good b (its-trees b a) m q .1 (λ x. ltb x (parameters b m)) (subst T (sym (a .each-procedure m q .all-bound)) tt)
 

@@ -33,7 +33,8 @@ fields-ones m f (suc n) e = go (eqb (maskBit m f) 1) refl (fields-ones m (suc f)
     top : maskBit m f ≡ m / 2 ^ n % 2
     top = let q : 31 - f ≡ n = omega arith in rw q
 
-    go : (x : Bool) → eqb (maskBit m f) 1 ≡ x → length (fieldsFrom m (suc f) n) ≡ onesOf n m → length (cond x (f ∷ fieldsFrom m (suc f) n) (fieldsFrom m (suc f) n)) ≡ onesOf (suc n) m
+    go : (x : Bool) → eqb (maskBit m f) 1 ≡ x → length (fieldsFrom m (suc f) n) ≡ onesOf n m
+        → length (cond x (f ∷ fieldsFrom m (suc f) n) (fieldsFrom m (suc f) n)) ≡ onesOf (suc n) m
     go true q r = let s = eqb-true (maskBit m f) 1 q in omega (arith, ones-top n m, top)
     go false q r = omega (arith, ones-top n m, top, eqb-false (maskBit m f) 1 q)
 

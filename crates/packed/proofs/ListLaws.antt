@@ -38,8 +38,10 @@ counted : (b : List ℕ) (f g t : ℕ) → (listLength b f t ≡ listLength b (f
 counted b zero g t = inr (list-none b t, omega arith)
 counted b (suc f) g t = rw suc-add (go (counted b f g (termAt b t .value₂)) (ℕ-discrete (tagAt b t) 16))
   where
-    go : (listLength b f (termAt b t .value₂) ≡ listLength b (f + g) (termAt b t .value₂)) ⊎ ((listLength b f (termAt b t .value₂) ≡ f) × (f ≤ listLength b (f + g) (termAt b t .value₂)))
-        → Dec (tagAt b t ≡ 16) → (listLength b (suc f) t ≡ listLength b (suc (f + g)) t) ⊎ ((listLength b (suc f) t ≡ suc f) × (suc f ≤ listLength b (suc (f + g)) t))
+    go : (listLength b f (termAt b t .value₂) ≡ listLength b (f + g) (termAt b t .value₂)) ⊎
+        ((listLength b f (termAt b t .value₂) ≡ f) × (f ≤ listLength b (f + g) (termAt b t .value₂)))
+        → Dec (tagAt b t ≡ 16)
+        → (listLength b (suc f) t ≡ listLength b (suc (f + g)) t) ⊎ ((listLength b (suc f) t ≡ suc f) × (suc f ≤ listLength b (suc (f + g)) t))
     go i (yes e) =
         rw (list-step b f t e, list-step b (f + g) t e)
         (⊎-elim (λ q. inl (ap suc q)) (λ q. inr (ap suc (q .0), omega (arith, q .1))) i)
@@ -106,7 +108,8 @@ module _ (b : List ℕ) (procedures n t : ℕ) (r : Right b procedures n) (h : t
   callee-below =
       let f = passes b t (r .terms-right t h) .first-right in
       rw (callee-at, r .headed .sized .procedures-are)
-      (leb-false (Format.procedures b) (termAt b t .value₁) (sym (ap (λ (o : Operand). wrongOperand (Format.procedures b) (terms b) t o (termAt b t .value₁)) (first-is b t 8 k)) ∙ f))
+      (leb-false (Format.procedures b) (termAt b t .value₁)
+      (sym (ap (λ (o : Operand). wrongOperand (Format.procedures b) (terms b) t o (termAt b t .value₁)) (first-is b t 8 k)) ∙ f))
 
   -- counted to nine, against the parameters
   pub called : (l p : ℕ) → l ≡ listLength b 9 (listBits w) → p ≡ parameters b (procedureBits w) → not (eqb l p) ≡ wrongCall b t
@@ -115,7 +118,8 @@ module _ (b : List ℕ) (procedures n t : ℕ) (r : Right b procedures n) (h : t
       let m = procedureBits w in
       let q : parameters b m ≤ 8 = parameters-small b procedures n m (r .headed) callee-below in
       let x : eqb l p ≡ eqb (listLength b (terms b) v) (parameters b m) = rw (el, ep) (nine b procedures n r v (parameters b m) list-below q) in
-      let y : eqb (listLength b (terms b) v) (parameters b m) ≡ eqb (listLength b (terms b) (termAt b t .value₂)) (parameters b (termAt b t .value₁)) = rw (list-at, callee-at) in
+      let y : eqb (listLength b (terms b) v) (parameters b m) ≡ eqb (listLength b (terms b) (termAt b t .value₂)) (parameters b (termAt b t .value₁)) =
+      rw (list-at, callee-at) in
       ap not (x ∙ y) ∙ sym (call-is b t k)
 
 -- the next term of a list, of its 40 bits

@@ -18,7 +18,8 @@ use Rattle.packed.specs.Format.{terms, root, table, layout, laidOut, ter
 use Rattle.packed.specs.Operands.{tagOf}
 use Rattle.packed.specs.Trees.{nodes, nodeOf, nodeAt}
 use Rattle.packed.specs.Refusals.{sumBelow, oneIf, wrongTerm, timesIn, timesNamed, notNamedOnce}
-use Rattle.packed.specs.Steps.{Headed, Loaded, nodeIn, Child, childOf, childrenOf, moreOf, countAll, cap, rootTimes, allTimes, Counted, notOnce, inWord, lowerAll}
+use Rattle.packed.specs.Steps.{Headed, Loaded, nodeIn, Child, childOf, childrenOf, moreOf, countAll, cap, rootTimes, allTimes, Counted, notOnce, inWord}
+use Rattle.packed.specs.Steps.{lowerAll}
 use Rattle.packed.proofs.Tags.{by-tag}
 use Rattle.format.proofs.Filled.{zeros}
 use Rattle.packed.proofs.SingleTerm.{rowOf, node-in}
@@ -143,6 +144,7 @@ all-names b n r c e h k l = lowest-ext (notOnce c) (notNamedOnce b) n r (λ t q.
 
 -- ---- the children of a term of the array
 
-pub named : (ws : List ℕ) (t k best r : ℕ) (c c′ : List ℕ) → tagOf (getD ws t 0) ≡ k → r ≡ lowerAll ws (childrenOf (rowOf k (getD ws t 0))) best → c′ ≡ countAll (childrenOf (rowOf k (getD ws t 0))) c
+pub named : (ws : List ℕ) (t k best r : ℕ) (c c′ : List ℕ) → tagOf (getD ws t 0) ≡ k → r ≡ lowerAll ws (childrenOf (rowOf k (getD ws t 0))) best
+    → c′ ≡ countAll (childrenOf (rowOf k (getD ws t 0))) c
     → (r ≡ lowerAll ws (childrenOf (nodeIn ws t)) best) × (c′ ≡ countAll (childrenOf (nodeIn ws t)) c)
 named ws t k best r c c′ e p q = rw (node-in ws t k e) (p, q)

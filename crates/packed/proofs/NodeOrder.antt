@@ -19,10 +19,12 @@ use Rattle.packed.proofs.Children.{nodeOfTag, nodes-are}
 
 -- ---- children come after their parents
 
-rows-below : (t x y z k : ℕ) → IfChild (λ v. t < v) (layout k .first) x → IfChild (λ v. t < v) (layout k .second) y → IfChild (λ v. t < v) (layout k .third) z → Below t (nodeOfTag k x y z)
+rows-below : (t x y z k : ℕ) → IfChild (λ v. t < v) (layout k .first) x → IfChild (λ v. t < v) (layout k .second) y → IfChild (λ v. t < v) (layout k .third) z
+    → Below t (nodeOfTag k x y z)
 unfolding layout table nodes
 rows-below t x y z k =
-    by-tag (λ k. IfChild (λ v. t < v) (layout k .first) x → IfChild (λ v. t < v) (layout k .second) y → IfChild (λ v. t < v) (layout k .third) z → Below t (nodeOfTag k x y z))
+    by-tag (λ k. IfChild (λ v. t < v) (layout k .first) x → IfChild (λ v. t < v) (layout k .second) y → IfChild (λ v. t < v) (layout k .third) z
+    → Below t (nodeOfTag k x y z))
     (λ a b c. tt)
     (λ a b c. tt)
     (λ a b c. tt)

@@ -15,7 +15,8 @@ use Rattle.packed.specs.Format
 use Rattle.packed.specs.Format.{terms, root, tagAt}
 use Rattle.packed.specs.Trees.{Node, nodeAt}
 use Rattle.packed.specs.Refusals.{anyBelow, sumBelow, oneIf, wrongTerm, wrongCall, wronglySorted, timesNamed, notNamedOnce}
-use Rattle.packed.specs.Steps.{Headed, Child, childrenOf, tagSort, wrongSort, misplacedRoot, misfits, rootTimes, allTimes, noteOf, noteAll, Noted, RootsNoted, TermsNoted}
+use Rattle.packed.specs.Steps.{Headed, Child, childrenOf, tagSort, wrongSort, misplacedRoot, misfits, rootTimes, allTimes, noteOf, noteAll, Noted}
+use Rattle.packed.specs.Steps.{RootsNoted, TermsNoted}
 use Rattle.packed.proofs.Children.{Within, children-within}
 use Rattle.packed.proofs.NameLaws.{timesOf, term-times, within-more}
 use Rattle.packed.proofs.SortLaws.{TagSort, tag-sort, sort₁, strays, term-strays}
@@ -171,7 +172,8 @@ term-noted b procedures n u c c′ z h e k =
     (noted-ext b (λ t. allTimes b u t + timesOf ks t) (allTimes b (suc u)) (λ t. misfits b u t || strays b ks t) (misfits b (suc u)) _
     (λ t. omega (arith, term-times b u t))
     (λ t. rw (term-strays b u t) (simp or-assoc))
-    (note-all b ks (allTimes b u) (misfits b u) c (within-more n 1024 ks (z .few) (children-within b procedures n u (z .sized) h)) (children-wanted (nodeAt b u)) k))
+    (note-all b ks (allTimes b u) (misfits b u) c (within-more n 1024 ks (z .few) (children-within b procedures n u (z .sized) h))
+    (children-wanted (nodeAt b u)) k))
 
 -- a term whose note is its own sort is right, if it is no wrong call
 pub note-fits : (b : List ℕ) (n t : ℕ) (c : List ℕ) → n ≡ terms b → t < 1024 → TermsNoted b n c → getD c t 0 ≡ tagSort (tagAt b t) → wrongCall b t ≡ false

@@ -13,7 +13,8 @@ use Rattle.format.specs.Refusal.{Check, firstRefusal}
 use Rattle.format.proofs.RefusalLaws.{AllPass, none-left, and-then, head-pass, tail-pass, some-is-first, none-is-pass, other-number, last-refuses, neither}
 use Rattle.packed.specs.Format
 use Rattle.packed.specs.Format.{version, terms, headerSpare, volatiles, maskBit, parameters, root, planLength, Operand, expression, Term, tagAt, termAt}
-use Rattle.packed.specs.Refusals.{anyBelow, wrongLength, wrongHeader, wrongProcedure, wrongOperand, someOperand, breaksTable, wrongTerm, misplaced, listLength, wrongCall, wronglySorted, notNamedOnce, usesUnboundSlot}
+use Rattle.packed.specs.Refusals.{anyBelow, wrongLength, wrongHeader, wrongProcedure, wrongOperand, someOperand, breaksTable, wrongTerm, misplaced}
+use Rattle.packed.specs.Refusals.{listLength, wrongCall, wronglySorted, notNamedOnce, usesUnboundSlot}
 use Rattle.packed.specs.Check.{checks, refusal}
 
 -- ---- 1 to 3: sizes, header, procedures
@@ -49,11 +50,13 @@ header-tests v p n s m h =
     )
 
 pub header-of : (b : List ℕ) → wrongHeader b ≡ false
-    → (version b ≤ 1) × (1 ≤ Format.procedures b) × (Format.procedures b ≤ 32) × (1 ≤ terms b) × (terms b ≤ 1024) × (headerSpare b ≡ 0) × (maskBit (volatiles b) 0 ≡ 1)
+    → (version b ≤ 1) × (1 ≤ Format.procedures b) × (Format.procedures b ≤ 32) × (1 ≤ terms b) × (terms b ≤ 1024) × (headerSpare b ≡ 0) ×
+    (maskBit (volatiles b) 0 ≡ 1)
 unfolding wrongHeader
 header-of b h = header-tests (version b) (Format.procedures b) (terms b) (headerSpare b) (maskBit (volatiles b) 0) h
 
-pub procedure-of : (b : List ℕ) (p : ℕ) → wrongProcedure b p ≡ false → (parameters b p ≤ 8) × ((eqb p 0 && ltb 0 (parameters b p)) ≡ false) × (root b p < terms b)
+pub procedure-of : (b : List ℕ) (p : ℕ) → wrongProcedure b p ≡ false
+    → (parameters b p ≤ 8) × ((eqb p 0 && ltb 0 (parameters b p)) ≡ false) × (root b p < terms b)
 unfolding wrongProcedure
 procedure-of b p h =
     let k = parameters b p in
@@ -181,7 +184,8 @@ all-right b h =
     }
 
 -- a refusal of number 7: checks 1 to 6 find nothing, and this procedure is the lowest of those that use an unbound slot
-pub seventh : (b : List ℕ) (p : ℕ) → refusal b ≡ some (record { number = 7; place = p }) → (firstRefusal (take 6 (checks b)) ≡ none) × (p < Format.procedures b) × (usesUnboundSlot b p ≡ true)
+pub seventh : (b : List ℕ) (p : ℕ) → refusal b ≡ some (record { number = 7; place = p })
+    → (firstRefusal (take 6 (checks b)) ≡ none) × (p < Format.procedures b) × (usesUnboundSlot b p ≡ true)
 unfolding refusal checks
 seventh b p h =
     let a₁ = other-number (some-is-first (checks b) (record { number = 7; place = p }) .0 h) (λ e. omega arith) in
@@ -190,5 +194,9 @@ seventh b p h =
     let a₄ = other-number (a₃ .1) (λ e. omega arith) in
     let a₅ = other-number (a₄ .1) (λ e. omega arith) in
     let a₆ = other-number (a₅ .1) (λ e. omega arith) in
-    let r = last-refuses (a₆ .1) in
-    (none-is-pass (take 6 (checks b)) .1 (and-then (a₁ .0) (and-then (a₂ .0) (and-then (a₃ .0) (and-then (a₄ .0) (and-then (a₅ .0) (and-then (a₆ .0) none-left)))))), r .inside, r .is-wrong)
+    let r = last-refuses (a₆ .1) in (
+      none-is-pass (take 6 (checks b)) .1
+          (and-then (a₁ .0) (and-then (a₂ .0) (and-then (a₃ .0) (and-then (a₄ .0) (and-then (a₅ .0) (and-then (a₆ .0) none-left)))))),
+      r .inside,
+      r .is-wrong,
+    )

@@ -12,7 +12,8 @@ use lib.ListN.{length, getD}
 use Rattle.format.specs.Bits.{bitsAt}
 use Rattle.format.proofs.BitLaws.{bits-below, field-of, first-of}
 use Rattle.packed.specs.Format
-use Rattle.packed.specs.Format.{version, terms, parameters, root, headerSpare, volatiles, maskBit, fieldsFrom, absent, width, Row, operands, table, layout, Term, laidOut, termBit, tagAt, termAt}
+use Rattle.packed.specs.Format.{version, terms, parameters, root, headerSpare, volatiles, maskBit, fieldsFrom, absent, width, Row, operands, table}
+use Rattle.packed.specs.Format.{layout, Term, laidOut, termBit, tagAt, termAt}
 use Rattle.packed.specs.Operands.{tagOf, operandIn}
 use Rattle.packed.specs.Refusals.{wrongHeader, wrongProcedure}
 use Rattle.packed.specs.Steps.{wordAt, inWord, termIn}
@@ -45,7 +46,8 @@ procedure-are : (b : List ℕ) (p : ℕ) → wrongProcedure b p ≡ (ltb 8 (para
 unfolding wrongProcedure
 procedure-are b p = refl
 
-pub procedure-tests : (b : List ℕ) (p k n r : ℕ) → k ≡ parameters b p → n ≡ terms b → r ≡ root b p → wrongProcedure b p ≡ (ltb 8 k || (eqb p 0 && ltb 0 k) || leb n r)
+pub procedure-tests : (b : List ℕ) (p k n r : ℕ) → k ≡ parameters b p → n ≡ terms b → r ≡ root b p
+    → wrongProcedure b p ≡ (ltb 8 k || (eqb p 0 && ltb 0 k) || leb n r)
 procedure-tests b p k n r e f g = procedure-are b p ∙ rw (e, f, g)
 
 -- ---- a mask of fields
@@ -104,8 +106,10 @@ laid b i k r h =
     let a₃ = width (r .third) in
     let x : bitsAt b (i + 5) a₁ ≡ bitsAt b i 40 / 2 ^ (35 - (0 + a₁)) % 2 ^ a₁ = part40 b i 5 a₁ (35 - (0 + a₁)) (omega arith) in
     let y : bitsAt b (i + (5 + a₁)) a₂ ≡ bitsAt b i 40 / 2 ^ (35 - (a₁ + a₂)) % 2 ^ a₂ = part40 b i (5 + a₁) a₂ (35 - (a₁ + a₂)) (omega arith) in
-    let z : bitsAt b (i + (5 + a₁ + a₂)) a₃ ≡ bitsAt b i 40 / 2 ^ (35 - (a₁ + a₂ + a₃)) % 2 ^ a₃ = part40 b i (5 + a₁ + a₂) a₃ (35 - (a₁ + a₂ + a₃)) (omega arith) in
-    let s : bitsAt b (i + (5 + a₁ + a₂ + a₃)) (35 - (a₁ + a₂ + a₃)) ≡ bitsAt b i 40 % 2 ^ (35 - (a₁ + a₂ + a₃)) = back40 b i (5 + a₁ + a₂ + a₃) (35 - (a₁ + a₂ + a₃)) (omega arith) in
+    let z : bitsAt b (i + (5 + a₁ + a₂)) a₃ ≡ bitsAt b i 40 / 2 ^ (35 - (a₁ + a₂ + a₃)) % 2 ^ a₃ =
+    part40 b i (5 + a₁ + a₂) a₃ (35 - (a₁ + a₂ + a₃)) (omega arith) in
+    let s : bitsAt b (i + (5 + a₁ + a₂ + a₃)) (35 - (a₁ + a₂ + a₃)) ≡ bitsAt b i 40 % 2 ^ (35 - (a₁ + a₂ + a₃)) =
+    back40 b i (5 + a₁ + a₂ + a₃) (35 - (a₁ + a₂ + a₃)) (omega arith) in
     rw (x, y, z, s)
 
 pub word-is : (b : List ℕ) (procedures t w : ℕ) → procedures ≡ Format.procedures b → w ≡ bitsAt b ((8 + 2 * procedures + 5 * t) * 8) 40 → w ≡ wordAt b t

@@ -36,7 +36,8 @@ pub kind-small : (k : ℕ) → k < tagCount → numberAt k 2 < 6
 unfolding numberAt
 kind-small =
     by-range (λ k. numberAt k 2 < 6) 0 tagCount ((k : ℕ) → k < tagCount → numberAt k 2 < 6) (λ all k h. all k (omega arith) (omega arith))
-    (lit< tt) (lit< tt) (lit< tt) (lit< tt) (lit< tt) (lit< tt) (lit< tt) (lit< tt) (lit< tt) (lit< tt) (lit< tt) (lit< tt) (lit< tt) (lit< tt) (lit< tt) (lit< tt)
+    (lit< tt) (lit< tt) (lit< tt) (lit< tt) (lit< tt) (lit< tt) (lit< tt) (lit< tt) (lit< tt) (lit< tt) (lit< tt) (lit< tt) (lit< tt) (lit< tt) (lit< tt)
+    (lit< tt)
     (lit< tt) (lit< tt) (lit< tt) (lit< tt) (lit< tt)
 
 -- the children of a term
@@ -107,17 +108,20 @@ module _ (w k : ℕ) where
     one-child b = rw (ne-eqb (numberAt k 4) 0 a, eq-eqb (numberAt k 6) 0 b)
 
     module _ (b : numberAt k 6 ≡ 0 → ⊥) where
-      pub two-children : numberAt k 8 ≡ 0 → childrenByRow w k ≡ (childOf (numberAt k 4) (childAt (numberAt k 5) w) ∷ childOf (numberAt k 6) (childAt (numberAt k 7) w) ∷ [])
+      pub two-children : numberAt k 8 ≡ 0
+          → childrenByRow w k ≡ (childOf (numberAt k 4) (childAt (numberAt k 5) w) ∷ childOf (numberAt k 6) (childAt (numberAt k 7) w) ∷ [])
       unfolding childrenByRow
       two-children d = rw (ne-eqb (numberAt k 4) 0 a, ne-eqb (numberAt k 6) 0 b, eq-eqb (numberAt k 8) 0 d)
 
       pub three-children : (numberAt k 8 ≡ 0 → ⊥)
-          → childrenByRow w k ≡ (childOf (numberAt k 4) (childAt (numberAt k 5) w) ∷ childOf (numberAt k 6) (childAt (numberAt k 7) w) ∷ childOf (numberAt k 8) (childAt (numberAt k 9) w) ∷ [])
+          → childrenByRow w k ≡ (childOf (numberAt k 4) (childAt (numberAt k 5) w) ∷ childOf (numberAt k 6) (childAt (numberAt k 7) w)
+          ∷ childOf (numberAt k 8) (childAt (numberAt k 9) w) ∷ [])
       unfolding childrenByRow
       three-children d = rw (ne-eqb (numberAt k 4) 0 a, ne-eqb (numberAt k 6) 0 b, ne-eqb (numberAt k 8) 0 d)
 
 -- one child named, then the others
-pub lower-more : (ws : List ℕ) (k : Child) (ks : List Child) (best r s : ℕ) → r ≡ lowerAll ws (k ∷ []) best → s ≡ lowerAll ws ks r → s ≡ lowerAll ws (k ∷ ks) best
+pub lower-more : (ws : List ℕ) (k : Child) (ks : List Child) (best r s : ℕ) → r ≡ lowerAll ws (k ∷ []) best → s ≡ lowerAll ws ks r
+    → s ≡ lowerAll ws (k ∷ ks) best
 unfolding lowerAll
 lower-more ws k ks best r s p q = q ∙ ap (lowerAll ws ks) p
 
@@ -126,7 +130,8 @@ unfolding countAll
 count-more k ks c d e p q = q ∙ ap (countAll ks) p
 
 -- these children are the term's
-pub named-by-row : (ws : List ℕ) (t k best r : ℕ) (c c′ : List ℕ) (ks : List Child) → k ≡ tagOf (getD ws t 0) → k < tagCount → childrenByRow (getD ws t 0) k ≡ ks
+pub named-by-row : (ws : List ℕ) (t k best r : ℕ) (c c′ : List ℕ) (ks : List Child) → k ≡ tagOf (getD ws t 0) → k < tagCount
+    → childrenByRow (getD ws t 0) k ≡ ks
     → r ≡ lowerAll ws ks best → c′ ≡ countAll ks c
     → (r ≡ lowerAll ws (childrenOf (nodeIn ws t)) best) × (c′ ≡ countAll (childrenOf (nodeIn ws t)) c)
 named-by-row ws t k best r c c′ ks e h q p s =

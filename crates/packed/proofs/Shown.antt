@@ -29,7 +29,8 @@ unfolding planLength
 make-sized b procedures n h p q = record { procedures-are = p; terms-are = q; long = rw (p, q) (length-of b h) }
 
 -- checks 1 to 3 find nothing
-pub make-headed : (b : List ℕ) (procedures n : ℕ) → procedures ≡ Format.procedures b → n ≡ terms b → firstRefusal (take 3 (checks b)) ≡ none → Headed b procedures n
+pub make-headed : (b : List ℕ) (procedures n : ℕ) → procedures ≡ Format.procedures b → n ≡ terms b → firstRefusal (take 3 (checks b)) ≡ none
+    → Headed b procedures n
 unfolding checks
 make-headed b procedures n p q h =
     let one = none-is-pass (take 3 (checks b)) .0 h in

@@ -11,7 +11,8 @@ use borrow.Author.Tests.{lt-ltb, leb-false}
 use Rattle.format.proofs.Filled.{zeros, filled}
 use Rattle.format.proofs.RefusalLaws.{neither}
 use Rattle.packed.specs.Format
-use Rattle.packed.specs.Format.{terms, Operand, absent, slot, binder, mask, fieldName, procedure, expression, condition, list, layout, laidOut, tagAt, termAt, tagCount}
+use Rattle.packed.specs.Format.{terms, Operand, absent, slot, binder, mask, fieldName, procedure, expression, condition, list, layout, laidOut, tagAt}
+use Rattle.packed.specs.Format.{termAt, tagCount}
 use Rattle.packed.specs.Operands.{tagOf}
 use Rattle.packed.specs.Trees.{nodeOf, Node}
 use Rattle.packed.specs.Refusals.{wrongOperand, breaksTable, wrongTerm, isChild}
@@ -34,10 +35,12 @@ unfolding nodeIn
 node-in ws t k e = row-is (getD ws t 0) k e
 
 -- the term of the 40 bits, tested as the plan's term is
-pub judged : (b : List ℕ) (procedures n t w : ℕ) (r x : Bool) → Sized b procedures n → w ≡ wordAt b t → r ≡ breaksTable procedures n t (termIn w) → r ≡ x → wrongTerm b t ≡ x
+pub judged : (b : List ℕ) (procedures n t w : ℕ) (r x : Bool) → Sized b procedures n → w ≡ wordAt b t → r ≡ breaksTable procedures n t (termIn w) → r ≡ x
+    → wrongTerm b t ≡ x
 unfolding wrongTerm
 judged b procedures n t w r x z e q h =
-    let f : breaksTable procedures n t (termIn w) ≡ breaksTable (Format.procedures b) (terms b) t (termAt b t) = rw (z .procedures-are, z .terms-are, e) (ap (breaksTable (Format.procedures b) (terms b) t) (sym (term-is b t))) in
+    let f : breaksTable procedures n t (termIn w) ≡ breaksTable (Format.procedures b) (terms b) t (termAt b t) =
+    rw (z .procedures-are, z .terms-are, e) (ap (breaksTable (Format.procedures b) (terms b) t) (sym (term-is b t))) in
     sym f ∙ sym q ∙ h
 
 -- ---- the array of the terms' 40 bits
@@ -60,7 +63,8 @@ pub past-table : (procedures n t w : ℕ) → tagCount ≤ tagOf w → true ≡ 
 unfolding breaksTable termIn inWord
 past-table procedures n t w h = rw (lt-ltb 20 (tagOf w) h)
 
-pub tested : (procedures n t w k : ℕ) (r : Bool) → tagOf w ≡ k → r ≡ breaksTable procedures n t (inWord w k (layout k)) → r ≡ breaksTable procedures n t (termIn w)
+pub tested : (procedures n t w k : ℕ) (r : Bool) → tagOf w ≡ k → r ≡ breaksTable procedures n t (inWord w k (layout k))
+    → r ≡ breaksTable procedures n t (termIn w)
 unfolding termIn
 tested procedures n t w k r e q = q ∙ sym (ap (λ (j : ℕ). breaksTable procedures n t (inWord w j (layout j))) e)
 
@@ -101,8 +105,10 @@ children-between b t h =
       child-between (Format.procedures b) (terms b) t (layout (tagAt b t) .third) (termAt b t .value₃) (f .third-right),
     )
 
-pub second-between : (b : List ℕ) (procedures n t : ℕ) → Sized b procedures n → wrongTerm b t ≡ false → isChild (termAt b t .second) ≡ true → (t < termAt b t .value₂) × (termAt b t .value₂ < n)
-second-between b procedures n t z h k = rw (z .terms-are) (child-between (Format.procedures b) (terms b) t (termAt b t .second) (termAt b t .value₂) (passes b t h .second-right) k)
+pub second-between : (b : List ℕ) (procedures n t : ℕ) → Sized b procedures n → wrongTerm b t ≡ false → isChild (termAt b t .second) ≡ true
+    → (t < termAt b t .value₂) × (termAt b t .value₂ < n)
+second-between b procedures n t z h k =
+    rw (z .terms-are) (child-between (Format.procedures b) (terms b) t (termAt b t .second) (termAt b t .value₂) (passes b t h .second-right) k)
 
 -- ---- kinds by tag
 

@@ -15,7 +15,8 @@ use Rattle.packed.specs.Format.{terms, root, expression, table, layout, 
 use Rattle.packed.specs.Operands.{tagOf}
 use Rattle.packed.specs.Trees.{nodes, nodeOf, nodeAt}
 use Rattle.packed.specs.Refusals.{anyBelow, someOperand, wrongTerm, misplaced, wronglySorted, wrongCall}
-use Rattle.packed.specs.Steps.{Sized, Loaded, tagIn, nodeIn, Child, childOf, childrenOf, anExpression, aCondition, aList, tagSort, wrongSort, lowerIf, lowerAll, misplacedRoot, misfits, faults}
+use Rattle.packed.specs.Steps.{Sized, Loaded, tagIn, nodeIn, Child, childOf, childrenOf, anExpression, aCondition, aList, tagSort, wrongSort, lowerIf}
+use Rattle.packed.specs.Steps.{lowerAll, misplacedRoot, misfits, faults}
 use Rattle.packed.proofs.Reading.{tag-in}
 use Rattle.packed.proofs.Tags.{by-tag}
 use Rattle.packed.proofs.Children.{Within, nodes-are, termOf, nodeOfTag, children-within}
@@ -137,7 +138,8 @@ pub no-root : (b : List ℕ) (n : ℕ) → Lowest (misplacedRoot b 0) n n
 unfolding misplacedRoot anyBelow
 no-root b n = record { within = omega arith; here = λ h. absurd (omega arith); before = λ k h. refl }
 
-pub one-root : (b : List ℕ) (p n : ℕ) (ws : List ℕ) (best v r : ℕ) → Loaded b n ws → v ≡ root b p → root b p < n → r ≡ lowerAll ws (childOf 1 v ∷ []) best → Lowest (misplacedRoot b p) n best
+pub one-root : (b : List ℕ) (p n : ℕ) (ws : List ℕ) (best v r : ℕ) → Loaded b n ws → v ≡ root b p → root b p < n → r ≡ lowerAll ws (childOf 1 v ∷ []) best
+    → Lowest (misplacedRoot b p) n best
     → Lowest (misplacedRoot b (suc p)) n r
 unfolding misplacedRoot anyBelow strays
 one-root b p n ws best v r d e h q l =
@@ -147,7 +149,8 @@ one-root b p n ws best v r d e h q l =
     (lower-all b n ws d (childOf 1 v ∷ []) (misplacedRoot b p) best (rw e h, tt) l))
 
 -- the misplaced operands are the misplaced children
-strays-are : (b : List ℕ) (t x y z s k : ℕ) → someOperand (λ kind v. eqb v t && misplaced kind (tagAt b t)) (termOf k x y z s) ≡ strays b (childrenOf (nodeOfTag k x y z)) t
+strays-are : (b : List ℕ) (t x y z s k : ℕ)
+    → someOperand (λ kind v. eqb v t && misplaced kind (tagAt b t)) (termOf k x y z s) ≡ strays b (childrenOf (nodeOfTag k x y z)) t
 unfolding someOperand strays childrenOf nodes layout table
 strays-are b t x y z s k =
     by-tag (λ k. someOperand (λ kind v. eqb v t && misplaced kind (tagAt b t)) (termOf k x y z s) ≡ strays b (childrenOf (nodeOfTag k x y z)) t)
@@ -201,7 +204,10 @@ one-term b procedures u n ws best least r d z h q e e′ l =
     let first : Lowest f n least = rw (e, k) (lower-all b n ws d ks (faults b u) best (children-within b procedures n u z h) l) in
     rw e′
     (lower-step f (faults b (suc u)) (wrongCall b) n u least
-    (λ t. rw (term-strays b u t) (or-end (anyBelow (Format.procedures b) (λ p. eqb (root b p) t && misplaced expression (tagAt b t))) (anyBelow u (λ i. someOperand (λ kind v. eqb v t && misplaced kind (tagAt b t)) (termAt b i))) (anyBelow u (λ i. eqb i t && wrongCall b t)) (strays b ks t) (eqb u t && wrongCall b t)))
+    (λ t. rw (term-strays b u t)
+    (or-end (anyBelow (Format.procedures b) (λ p. eqb (root b p) t && misplaced expression (tagAt b t)))
+    (anyBelow u (λ i. someOperand (λ kind v. eqb v t && misplaced kind (tagAt b t)) (termAt b i))) (anyBelow u (λ i. eqb i t && wrongCall b t))
+    (strays b ks t) (eqb u t && wrongCall b t)))
     first (λ c. q))
 
 -- ---- calls
@@ -216,7 +222,8 @@ call-at b (suc n) t h = go (ℕ-discrete n t) (call-at b n t)
     before zero q = refl
     before (suc m) q = rw (before m (omega arith), ne-eqb m t (λ e. omega (arith, e)))
 
-    go : Dec (n ≡ t) → (t < n → anyBelow n (λ i. eqb i t && wrongCall b t) ≡ wrongCall b t) → (anyBelow n (λ i. eqb i t && wrongCall b t) || (eqb n t && wrongCall b t)) ≡ wrongCall b t
+    go : Dec (n ≡ t) → (t < n → anyBelow n (λ i. eqb i t && wrongCall b t) ≡ wrongCall b t)
+        → (anyBelow n (λ i. eqb i t && wrongCall b t) || (eqb n t && wrongCall b t)) ≡ wrongCall b t
     go (yes e) i = rw (before n (omega arith), eq-eqb n t e)
     go (no e) i = rw (i (omega (arith, e)), ne-eqb n t e) (or-false (wrongCall b t))
 

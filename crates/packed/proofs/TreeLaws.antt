@@ -106,8 +106,10 @@ module _ (h : ℕ → Node) (N : ℕ) (o : Descending h N) where
     expression-fuel zero (suc m) t p q = rw (o .past t (omega arith))
     expression-fuel (suc n) zero t p q = rw (o .past t (omega arith))
     expression-fuel (suc n) (suc m) t p q =
-        expression-cong t (λ i. expressionAt h n i) (λ i. expressionAt h m i) (λ i. conditionAt h n i) (λ i. conditionAt h m i) (λ i. argumentsAt h n i) (λ i. argumentsAt h m i)
-        (λ i b. expression-fuel n m i (omega arith) (omega arith)) (λ i b. condition-fuel n m i (omega arith) (omega arith)) (λ i b. arguments-fuel n m i (omega arith) (omega arith))
+        expression-cong t (λ i. expressionAt h n i) (λ i. expressionAt h m i) (λ i. conditionAt h n i) (λ i. conditionAt h m i) (λ i. argumentsAt h n i)
+        (λ i. argumentsAt h m i)
+        (λ i b. expression-fuel n m i (omega arith) (omega arith)) (λ i b. condition-fuel n m i (omega arith) (omega arith))
+        (λ i b. arguments-fuel n m i (omega arith) (omega arith))
         (h t) (o .below t)
 
     condition-fuel : (n m t : ℕ) → N ≤ t + n → N ≤ t + m → conditionAt h n t ≡ conditionAt h m t
@@ -115,8 +117,10 @@ module _ (h : ℕ → Node) (N : ℕ) (o : Descending h N) where
     condition-fuel zero (suc m) t p q = rw (o .past t (omega arith))
     condition-fuel (suc n) zero t p q = rw (o .past t (omega arith))
     condition-fuel (suc n) (suc m) t p q =
-        condition-cong t (λ i. expressionAt h n i) (λ i. expressionAt h m i) (λ i. conditionAt h n i) (λ i. conditionAt h m i) (λ i. argumentsAt h n i) (λ i. argumentsAt h m i)
-        (λ i b. expression-fuel n m i (omega arith) (omega arith)) (λ i b. condition-fuel n m i (omega arith) (omega arith)) (λ i b. arguments-fuel n m i (omega arith) (omega arith))
+        condition-cong t (λ i. expressionAt h n i) (λ i. expressionAt h m i) (λ i. conditionAt h n i) (λ i. conditionAt h m i) (λ i. argumentsAt h n i)
+        (λ i. argumentsAt h m i)
+        (λ i b. expression-fuel n m i (omega arith) (omega arith)) (λ i b. condition-fuel n m i (omega arith) (omega arith))
+        (λ i b. arguments-fuel n m i (omega arith) (omega arith))
         (h t) (o .below t)
 
     pub arguments-fuel : (n m t : ℕ) → N ≤ t + n → N ≤ t + m → argumentsAt h n t ≡ argumentsAt h m t
@@ -124,8 +128,10 @@ module _ (h : ℕ → Node) (N : ℕ) (o : Descending h N) where
     arguments-fuel zero (suc m) t p q = rw (o .past t (omega arith))
     arguments-fuel (suc n) zero t p q = rw (o .past t (omega arith))
     arguments-fuel (suc n) (suc m) t p q =
-        arguments-cong t (λ i. expressionAt h n i) (λ i. expressionAt h m i) (λ i. conditionAt h n i) (λ i. conditionAt h m i) (λ i. argumentsAt h n i) (λ i. argumentsAt h m i)
-        (λ i b. expression-fuel n m i (omega arith) (omega arith)) (λ i b. condition-fuel n m i (omega arith) (omega arith)) (λ i b. arguments-fuel n m i (omega arith) (omega arith))
+        arguments-cong t (λ i. expressionAt h n i) (λ i. expressionAt h m i) (λ i. conditionAt h n i) (λ i. conditionAt h m i) (λ i. argumentsAt h n i)
+        (λ i. argumentsAt h m i)
+        (λ i b. expression-fuel n m i (omega arith) (omega arith)) (λ i b. condition-fuel n m i (omega arith) (omega arith))
+        (λ i b. arguments-fuel n m i (omega arith) (omega arith))
         (h t) (o .below t)
 
   pub tree-law : (t : ℕ) → tree h N t ≡ expressionOf (tree h N) (treeᶜ h N) (treeᵃ h N) (h t)
@@ -133,7 +139,8 @@ module _ (h : ℕ → Node) (N : ℕ) (o : Descending h N) where
   tree-law t =
       expression-fuel (N - t) (suc (N - t)) t (omega arith) (omega arith)
       ∙ expression-cong t (λ i. expressionAt h (N - t) i) (tree h N) (λ i. conditionAt h (N - t) i) (treeᶜ h N) (λ i. argumentsAt h (N - t) i) (treeᵃ h N)
-      (λ i b. expression-fuel (N - t) (N - i) i (omega arith) (omega arith)) (λ i b. condition-fuel (N - t) (N - i) i (omega arith) (omega arith)) (λ i b. arguments-fuel (N - t) (N - i) i (omega arith) (omega arith))
+      (λ i b. expression-fuel (N - t) (N - i) i (omega arith) (omega arith)) (λ i b. condition-fuel (N - t) (N - i) i (omega arith) (omega arith))
+      (λ i b. arguments-fuel (N - t) (N - i) i (omega arith) (omega arith))
       (h t) (o .below t)
 
   pub tree-lawᶜ : (t : ℕ) → treeᶜ h N t ≡ conditionOf (tree h N) (treeᶜ h N) (h t)
@@ -141,7 +148,8 @@ module _ (h : ℕ → Node) (N : ℕ) (o : Descending h N) where
   tree-lawᶜ t =
       condition-fuel (N - t) (suc (N - t)) t (omega arith) (omega arith)
       ∙ condition-cong t (λ i. expressionAt h (N - t) i) (tree h N) (λ i. conditionAt h (N - t) i) (treeᶜ h N) (λ i. argumentsAt h (N - t) i) (treeᵃ h N)
-      (λ i b. expression-fuel (N - t) (N - i) i (omega arith) (omega arith)) (λ i b. condition-fuel (N - t) (N - i) i (omega arith) (omega arith)) (λ i b. arguments-fuel (N - t) (N - i) i (omega arith) (omega arith))
+      (λ i b. expression-fuel (N - t) (N - i) i (omega arith) (omega arith)) (λ i b. condition-fuel (N - t) (N - i) i (omega arith) (omega arith))
+      (λ i b. arguments-fuel (N - t) (N - i) i (omega arith) (omega arith))
       (h t) (o .below t)
 
   pub tree-lawᵃ : (t : ℕ) → treeᵃ h N t ≡ argumentsOf (tree h N) (treeᵃ h N) (h t)
@@ -149,5 +157,6 @@ module _ (h : ℕ → Node) (N : ℕ) (o : Descending h N) where
   tree-lawᵃ t =
       arguments-fuel (N - t) (suc (N - t)) t (omega arith) (omega arith)
       ∙ arguments-cong t (λ i. expressionAt h (N - t) i) (tree h N) (λ i. conditionAt h (N - t) i) (treeᶜ h N) (λ i. argumentsAt h (N - t) i) (treeᵃ h N)
-      (λ i b. expression-fuel (N - t) (N - i) i (omega arith) (omega arith)) (λ i b. condition-fuel (N - t) (N - i) i (omega arith) (omega arith)) (λ i b. arguments-fuel (N - t) (N - i) i (omega arith) (omega arith))
+      (λ i b. expression-fuel (N - t) (N - i) i (omega arith) (omega arith)) (λ i b. condition-fuel (N - t) (N - i) i (omega arith) (omega arith))
+      (λ i b. arguments-fuel (N - t) (N - i) i (omega arith) (omega arith))
       (h t) (o .below t)

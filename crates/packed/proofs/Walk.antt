@@ -51,7 +51,8 @@ unfolding leafIn
 leaf-is ws o t h =
     let w = getD ws t 0 in
     let k = tagOf w in
-    expr-is ws o t k refl ∙ leaf-same _ _ _ _ _ _ w k h ∙ sym (ap (expressionOf (λ i. Expression.literal 0) (λ i. Condition.truth) (λ i. Arguments.end)) (row-is w k refl))
+    expr-is ws o t k refl ∙ leaf-same _ _ _ _ _ _ w k h
+    ∙ sym (ap (expressionOf (λ i. Expression.literal 0) (λ i. Condition.truth) (λ i. Arguments.end)) (row-is w k refl))
 
 leaf-row : (w k : ℕ) → tagOf w ≡ k → leafIn w ≡ expressionOf (λ i. Expression.literal 0) (λ i. Condition.truth) (λ i. Arguments.end) (rowOf k w)
 unfolding leafIn
@@ -76,11 +77,14 @@ leaf-variable w ρ e = sym (ap (closed ρ) (leaf-row w 1 e))
 module _ (e : ℕ → Expression) (c : ℕ → Condition) (l : ℕ → Arguments) (ρ : ℕ → Bool) (w : ℕ) where
   pub expr-rest : (k : ℕ) → NoneOf k (20 ∷ 19 ∷ 18 ∷ 11 ∷ 10 ∷ 9 ∷ 8 ∷ 7 ∷ 6 ∷ 5 ∷ 4 ∷ 3 ∷ 1 ∷ []) → closed ρ (expressionOf e c l (rowOf k w)) ≡ true
   unfolding nodeOf inWord layout table nodes closed expressionOf
-  expr-rest k = except (λ k. closed ρ (expressionOf e c l (rowOf k w)) ≡ true) (20 ∷ 19 ∷ 18 ∷ 11 ∷ 10 ∷ 9 ∷ 8 ∷ 7 ∷ 6 ∷ 5 ∷ 4 ∷ 3 ∷ 1 ∷ []) refl tt refl tt tt tt tt tt tt tt tt tt refl refl refl refl refl refl tt tt tt (λ j. refl) k
+  expr-rest k = except (λ k. closed ρ (expressionOf e c l (rowOf k w)) ≡ true)
+      (20 ∷ 19 ∷ 18 ∷ 11 ∷ 10 ∷ 9 ∷ 8 ∷ 7 ∷ 6 ∷ 5 ∷ 4 ∷ 3 ∷ 1 ∷ []) refl tt refl tt tt tt tt tt tt tt tt tt refl refl refl refl refl refl tt tt tt
+      (λ j. refl) k
 
   pub cond-rest : (k : ℕ) → NoneOf k (15 ∷ 14 ∷ 13 ∷ []) → closedᶜ ρ (conditionOf e c (rowOf k w)) ≡ true
   unfolding nodeOf inWord layout table nodes closed conditionOf
-  cond-rest k = except (λ k. closedᶜ ρ (conditionOf e c (rowOf k w)) ≡ true) (15 ∷ 14 ∷ 13 ∷ []) refl refl refl refl refl refl refl refl refl refl refl refl refl tt tt tt refl refl refl refl refl (λ j. refl) k
+  cond-rest k = except (λ k. closedᶜ ρ (conditionOf e c (rowOf k w)) ≡ true) (15 ∷ 14 ∷ 13 ∷ []) refl refl refl refl refl refl refl refl refl refl refl refl
+      refl tt tt tt refl refl refl refl refl (λ j. refl) k
 
   pub list-rest : (k : ℕ) → (k ≡ 16 → ⊥) → closedᵃ ρ (argumentsOf e l (rowOf k w)) ≡ true
   unfolding nodeOf inWord closed

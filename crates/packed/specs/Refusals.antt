@@ -4,7 +4,8 @@ use mathlib.Core.Bool.{Bool, true, false, cond, _&&_, _||_, not}
 use mathlib.Core.List.{List}
 use lib.Dec.{eqb, ltb, leb}
 use lib.ListN.{length}
-use Rattle.packed.specs.Format.{version, procedures, terms, headerSpare, volatiles, maskBit, fieldsFrom, parameters, root, planLength, Operand, absent, slot, binder, mask, fieldName, procedure, expression, condition, list, tagCount, Term, tagAt, termAt}
+use Rattle.packed.specs.Format.{version, procedures, terms, headerSpare, volatiles, maskBit, fieldsFrom, parameters, root, planLength, Operand, absent}
+use Rattle.packed.specs.Format.{slot, binder, mask, fieldName, procedure, expression, condition, list, tagCount, Term, tagAt, termAt}
 use Rattle.packed.specs.Trees.{treeAt}
 use Rattle.packed.specs.Slots.{closed}
 
@@ -134,7 +135,8 @@ isChild list = true
 
 -- how often term m names term t
 unfoldable pub timesIn : Term → ℕ → ℕ
-timesIn m t = oneIf (isChild (m .first) && eqb (m .value₁) t) + oneIf (isChild (m .second) && eqb (m .value₂) t) + oneIf (isChild (m .third) && eqb (m .value₃) t)
+timesIn m t = oneIf (isChild (m .first) && eqb (m .value₁) t) + oneIf (isChild (m .second) && eqb (m .value₂) t) + oneIf
+    (isChild (m .third) && eqb (m .value₃) t)
 
 -- how often term t is named, "by a parent or a procedure"
 unfoldable pub timesNamed : List ℕ → ℕ → ℕ

@@ -1,4 +1,5 @@
--- The operand layouts as rows of numbers, one to a tag, from the table of terms (document 02, E4), and what checks 4 to 6 find by a row. For inner contracts: no
+-- The operand layouts as rows of numbers, one to a tag, from the table of terms (document 02, E4), and what checks 4 to 6 find by a row. For inner contracts:
+-- no
 -- reader of the entry's promise needs it. Assumes nothing.
 use Prim.Native.Nat.{ℕ, suc, _+_, _-_, _/_, _%_, _^_, _<_}
 use mathlib.Core.Bool.{Bool, false, cond, _&&_, _||_, not}
@@ -119,4 +120,5 @@ childrenFrom w sort place rest = cond (eqb sort 0) [] (childOf sort (childAt pla
 -- the children of the 40 bits w by the row of tag k
 unfoldable pub childrenByRow : ℕ → ℕ → List Child
 unfolding numberAt
-childrenByRow w k = childrenFrom w (numberAt k 4) (numberAt k 5) (childrenFrom w (numberAt k 6) (numberAt k 7) (childrenFrom w (numberAt k 8) (numberAt k 9) []))
+childrenByRow w k = childrenFrom w (numberAt k 4) (numberAt k 5)
+    (childrenFrom w (numberAt k 6) (numberAt k 7) (childrenFrom w (numberAt k 8) (numberAt k 9) []))

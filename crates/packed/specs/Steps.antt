@@ -12,7 +12,8 @@ use Rattle.packed.specs.Format
 use Rattle.packed.specs.Format.{terms, root, expression, width, Row, layout, Term, termBit, tagAt, termAt}
 use Rattle.packed.specs.Operands.{tagOf, operandIn, spareIn}
 use Rattle.packed.specs.Trees.{Node, nodeOf, expressionOf, expressionAt, conditionAt, argumentsAt}
-use Rattle.packed.specs.Refusals.{anyBelow, sumBelow, oneIf, wrongProcedure, wrongTerm, misplaced, someOperand, wrongCall, wronglySorted, timesIn, notNamedOnce}
+use Rattle.packed.specs.Refusals.{anyBelow, sumBelow, oneIf, wrongProcedure, wrongTerm, misplaced, someOperand, wrongCall, wronglySorted, timesIn}
+use Rattle.packed.specs.Refusals.{notNamedOnce}
 
 -- ---- what the checks so far have shown
 

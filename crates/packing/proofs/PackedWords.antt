@@ -93,7 +93,8 @@ module _ (w : ℕ) where
 -- ---- five bytes
 
 pub five-bytes : (area : List ℕ) (at w : ℕ)
-    → set (set (set (set (set area at (w / 4294967296 % 256)) (at + 1) (w / 16777216 % 256)) (at + 2) (w / 65536 % 256)) (at + 3) (w / 256 % 256)) (at + 4) (w % 256) ≡ sets area at (bytesOf 5 w)
+    → set (set (set (set (set area at (w / 4294967296 % 256)) (at + 1) (w / 16777216 % 256)) (at + 2) (w / 65536 % 256)) (at + 3) (w / 256 % 256)) (at + 4)
+    (w % 256) ≡ sets area at (bytesOf 5 w)
 unfolding bytesOf
 five-bytes area at w =
     let one : at + 1 ≡ suc at = omega arith in

@@ -19,7 +19,8 @@ module _ (x : Met) (a : Acted) (z : Answer) where
   unfolding startBy
   start-full l q f e = rw (← q, f, e)
 
-  pub start-moved : (l : Landed) (h : Head) {y y′ : Ended} → y ≡ y′ → fullOf (y .landed) ≡ false → z ≡ answer.Moved (moveOf x a l h true) → h ≡ bornOf x (y .landed) → picked (y .stack) z ≡ startBy x a l y′
+  pub start-moved : (l : Landed) (h : Head) {y y′ : Ended} → y ≡ y′ → fullOf (y .landed) ≡ false → z ≡ answer.Moved (moveOf x a l h true)
+      → h ≡ bornOf x (y .landed) → picked (y .stack) z ≡ startBy x a l y′
   unfolding startBy
   start-moved l h q f e k = rw (← q, f, e, k)
 
@@ -29,7 +30,8 @@ module _ (x : Met) (a : Acted) (z : Answer) where
     unfolding landBy
     land-full f e = rw (← q, f, e)
 
-    pub land-moved : (h : Head) → fullOf (l .landed) ≡ false → forksOf (x .head) ≡ false → z ≡ answer.Moved (moveOf x a (l .landed) h false) → h ≡ noHead → picked (l .stack) z ≡ landBy ws rs x a l′
+    pub land-moved : (h : Head) → fullOf (l .landed) ≡ false → forksOf (x .head) ≡ false → z ≡ answer.Moved (moveOf x a (l .landed) h false) → h ≡ noHead
+        → picked (l .stack) z ≡ landBy ws rs x a l′
     unfolding landBy
     land-moved h f k e n = rw (← q, f, k, e, n)
 

@@ -47,7 +47,8 @@ noRoom r = answer.Stopped (stop.NoRoom r) noEntry
 
 -- the record of an access that lacks its key, by its part p
 unfoldable pub lackBy : ℕ → Ready → Entry
-lackBy p r = cond (isPart part.Write p) (entryOf (kindNumber Kind.lacksWrite) (r .first) (r .second) (r .third)) (entryOf (kindNumber Kind.lacksRead) (r .first) (r .second) 0)
+lackBy p r = cond (isPart part.Write p) (entryOf (kindNumber Kind.lacksWrite) (r .first) (r .second) (r .third))
+    (entryOf (kindNumber Kind.lacksRead) (r .first) (r .second) 0)
 
 abbrev pub lackEntry : Ready → Entry
 lackEntry r = lackBy (r .part) r
@@ -103,7 +104,8 @@ landYoung ws rs x k = landOf 2100 ws rs (x .counts .threads % 9 * 33) k (youngGo
 
 -- to a fork whose mover has landed at l, where its young landed
 unfoldable pub startBy : Met → Acted → Landed → Ended → Picked
-startBy x a l y = cond (fullOf (y .landed)) (picked (y .stack) (noRoom room.Depth)) (picked (y .stack) (answer.Moved (moveOf x a l (bornOf x (y .landed)) true)))
+startBy x a l y = cond (fullOf (y .landed)) (picked (y .stack) (noRoom room.Depth))
+    (picked (y .stack) (answer.Moved (moveOf x a l (bornOf x (y .landed)) true)))
 
 -- to a move that has room for what it makes, where its mover landed
 unfoldable pub landBy : List ℕ → List ℕ → Met → Acted → Ended → Picked

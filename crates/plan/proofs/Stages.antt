@@ -45,7 +45,8 @@ module _ (b : List ℕ) where
   names-first = refusal-append (take 2 (drop 4 (checks b))) (drop 6 (checks b))
 
   -- one of checks 5 and 6 refuses
-  pub by-names : (r : Checked) (k i : ℕ) → answered r ≡ firstRefusal (take 2 (drop 4 (checks b))) → r ≡ Refused k i → answered r ≡ firstRefusal (drop 4 (checks b))
+  pub by-names : (r : Checked) (k i : ℕ) → answered r ≡ firstRefusal (take 2 (drop 4 (checks b))) → r ≡ Refused k i
+      → answered r ≡ firstRefusal (drop 4 (checks b))
   by-names r k i e q = refused-first _ _ r k i e q ∙ sym names-first
 
   -- neither does

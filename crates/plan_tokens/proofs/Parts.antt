@@ -37,7 +37,8 @@ unfolding proceduresFrom
 from-more b p n = refl
 
 rest-more : (b : List ℕ) (p : ℕ) → p < Format.procedures b → restFrom b p ≡ procedureAt b p ∷ restFrom b (suc p)
-rest-more b p h = let e : Format.procedures b - p ≡ suc (Format.procedures b - suc p) = omega arith in ap (proceduresFrom b p) e ∙ from-more b p (Format.procedures b - suc p)
+rest-more b p h = let e : Format.procedures b - p ≡ suc (Format.procedures b - suc p) = omega arith in ap (proceduresFrom b p) e
+    ∙ from-more b p (Format.procedures b - suc p)
 
 rest-none : (b : List ℕ) (p : ℕ) → Format.procedures b ≤ p → restFrom b p ≡ []
 rest-none b p h = let e : Format.procedures b - p ≡ 0 = omega arith in ap (proceduresFrom b p) e ∙ from-none b p
@@ -80,7 +81,8 @@ head-length p k = refl
 pub alone-length : (plan : List ℕ) (p : ℕ) → length (procedureAlone plan p) ≡ 6 + length (shown loose (treeAt plan (root plan p)))
 unfolding procedureAlone
 alone-length plan p =
-    length-append (procedureHead p (parameters plan p)) (shown loose (treeAt plan (root plan p))) ∙ ap (λ (n : ℕ). n + length (shown loose (treeAt plan (root plan p)))) (head-length p (parameters plan p))
+    length-append (procedureHead p (parameters plan p)) (shown loose (treeAt plan (root plan p)))
+    ∙ ap (λ (n : ℕ). n + length (shown loose (treeAt plan (root plan p)))) (head-length p (parameters plan p))
 
 module _ (plan words : List ℕ) (r : Given plan words) where
   facts : Accepted plan
@@ -124,12 +126,14 @@ module _ (plan words : List ℕ) (r : Given plan words) where
   version-small = facts .version-known
 
   -- one procedure more
-  pub alone-more : (p : ℕ) → p < Format.procedures plan → procedureTokens p (restFrom plan p) ≡ procedureAlone plan p ++ procedureTokens (suc p) (restFrom plan (suc p))
+  pub alone-more : (p : ℕ) → p < Format.procedures plan
+      → procedureTokens p (restFrom plan p) ≡ procedureAlone plan p ++ procedureTokens (suc p) (restFrom plan (suc p))
   unfolding procedureAlone
   alone-more p h =
       ap (procedureTokens p) (rest-more plan p h)
       ∙ tokens-more p (procedureAt plan p) (restFrom plan (suc p))
-      ∙ ap₂ (λ (k : ℕ) (ts : List ℕ). (procedureHead p k ++ ts) ++ procedureTokens (suc p) (restFrom plan (suc p))) (parameters-are plan (r .passes) p) (ap (shown loose) (body-is plan (r .passes) p))
+      ∙ ap₂ (λ (k : ℕ) (ts : List ℕ). (procedureHead p k ++ ts) ++ procedureTokens (suc p) (restFrom plan (suc p))) (parameters-are plan (r .passes) p)
+      (ap (shown loose) (body-is plan (r .passes) p))
 
   -- the whole
   abbrev main : List ℕ
@@ -148,7 +152,8 @@ module _ (plan words : List ℕ) (r : Given plan words) where
   unfolding headerTokens shownPlan proceduresBehind
   whole-is =
       ap₂ (λ (v : ℕ) (ts : List ℕ). versionWord ∷ v ∷ volatileTokens (fieldsFrom (volatiles plan) 1 31) ++ ts) (sym version-is) (sym main-is)
-      ∙ ap (λ (m : ℕ). versionWord ∷ versionNumber (programOf plan .version) ∷ volatileTokens (fieldsFrom m 1 31) ++ mainFirst (programOf plan .procedures)) (sym (mask-is plan (r .passes)))
+      ∙ ap (λ (m : ℕ). versionWord ∷ versionNumber (programOf plan .version) ∷ volatileTokens (fieldsFrom m 1 31) ++ mainFirst (programOf plan .procedures))
+      (sym (mask-is plan (r .passes)))
 
   pub plan-few : length (shownPlan (programOf plan)) ≤ 11490
   plan-few = plan-fit (programOf plan) (right-program plan (r .passes)) .few
@@ -170,7 +175,8 @@ module _ (plan words : List ℕ) (r : Given plan words) where
   room-for-others n k l h e f = omega (arith, whole-length)
 
   -- main, by the root that the code has
-  pub main-wrote : {x : ℕ} {area area′ : List ℕ} {at n : ℕ} → x ≡ root plan 0 → Wrote area at (shown loose (treeIn words x)) area′ n → Wrote area at main area′ n
+  pub main-wrote : {x : ℕ} {area area′ : List ℕ} {at n : ℕ} → x ≡ root plan 0 → Wrote area at (shown loose (treeIn words x)) area′ n
+      → Wrote area at main area′ n
   main-wrote e w = added-as (ap (λ (y : ℕ). shown loose (treeIn words y)) e ∙ ap (shown loose) (tree-same 0)) w
 
   -- ---- one procedure after the other
@@ -196,10 +202,12 @@ module _ (plan words : List ℕ) (r : Given plan words) where
     at-next w =
         record {
           before = a .before ++ procedureAlone plan p;
-          whole = append-assoc (a .before) (procedureAlone plan p) (procedureTokens (suc p) (restFrom plan (suc p))) ∙ ap (λ (ts : List ℕ). a .before ++ ts) (sym (alone-more p h)) ∙ a .whole;
+          whole = append-assoc (a .before) (procedureAlone plan p) (procedureTokens (suc p) (restFrom plan (suc p)))
+              ∙ ap (λ (ts : List ℕ). a .before ++ ts) (sym (alone-more p h)) ∙ a .whole;
           wrote = added-more (a .wrote) w;
         }
 
   pub at-last : {area₀ area : List ℕ} {from p at : ℕ} → At area₀ from p area at → Format.procedures plan ≤ p → Wrote area₀ from (proceduresBehind plan) area at
   at-last {p = p} a h =
-      added-as (sym (append-nil (a .before)) ∙ ap (λ (ts : List ℕ). a .before ++ ts) (sym (ap (procedureTokens p) (rest-none plan p h) ∙ tokens-none p)) ∙ a .whole) (a .wrote)
+      added-as (sym (append-nil (a .before)) ∙ ap (λ (ts : List ℕ). a .before ++ ts) (sym (ap (procedureTokens p) (rest-none plan p h) ∙ tokens-none p))
+      ∙ a .whole) (a .wrote)

@@ -30,7 +30,8 @@ module _ (plan schedule : List ℕ) where
   by-plan r k i e q = refused-first _ _ r k i e q ∙ sym schedule-stages
 
   -- the plan passes
-  pub by-picks : (h r : Checked) → answered h ≡ refusal plan → h ≡ Passed → answered r ≡ firstRefusal (pickChecks schedule) → answered r ≡ scheduleRefusal plan schedule
+  pub by-picks : (h r : Checked) → answered h ≡ refusal plan → h ≡ Passed → answered r ≡ firstRefusal (pickChecks schedule)
+      → answered r ≡ scheduleRefusal plan schedule
   by-picks h r e q l = passed-first _ _ h r e q l ∙ sym schedule-stages
 
 -- ---- of a play
@@ -49,5 +50,6 @@ module _ (plan schedule area : List ℕ) where
   by-schedule r k i e q = refused-first _ _ r k i e q ∙ sym play-stages
 
   -- it passes
-  pub by-area : (h r : Checked) → answered h ≡ scheduleRefusal plan schedule → h ≡ Passed → answered r ≡ firstRefusal (areaChecks schedule area) → answered r ≡ playRefusal plan schedule area
+  pub by-area : (h r : Checked) → answered h ≡ scheduleRefusal plan schedule → h ≡ Passed → answered r ≡ firstRefusal (areaChecks schedule area)
+      → answered r ≡ playRefusal plan schedule area
   by-area h r e q l = passed-first _ _ h r e q l ∙ sym play-stages

@@ -67,7 +67,15 @@ threads-same (t ∷ l) = λ i. state-same (t .state) i ∷ threads-same l i
 
 outcome-same : (o : Outcome) → outcomeOf o ≡ outcomeMeant o
 unfolding outcomeOf
-outcome-same o = λ i. record { stop = stop-same (o .stop) i; picks = o .picks; moves = o .moves; records = o .records; threads = threads-same (o .threads) i; totals = map (λ (t : Thread). t .learnt) (o .threads) }
+outcome-same o = λ i. record {
+  stop = stop-same (o .stop) i;
+  picks = o .picks;
+  moves = o .moves;
+  records = o .records;
+  threads =
+      threads-same (o .threads) i;
+  totals = map (λ (t : Thread). t .learnt) (o .threads);
+}
 
 -- ---- the run
 
@@ -148,5 +156,8 @@ module _ (plan ws rs picks area : List ℕ) (given : Given plan ws picks area) (
   by-records true e = moves-on e
   by-records false e = records-on e
 
-  pub run-on : (every : Bool) (mask v : ℕ) → mask ≡ volatiles plan → v ≡ version plan → RanAs every (record { mask = mask; version = v }) → RunBy every plan picks area after r
-  run-on every mask v em ev e = by-records every (along (λ (x : ℕ). RanAs every (record { mask = volatiles plan; version = x })) ev (along (λ (x : ℕ). RanAs every (record { mask = x; version = v })) em e))
+  pub run-on : (every : Bool) (mask v : ℕ) → mask ≡ volatiles plan → v ≡ version plan → RanAs every (record { mask = mask; version = v })
+      → RunBy every plan picks area after r
+  run-on every mask v em ev e =
+      by-records every (along (λ (x : ℕ). RanAs every (record { mask = volatiles plan; version = x })) ev
+      (along (λ (x : ℕ). RanAs every (record { mask = x; version = v })) em e))

@@ -41,7 +41,14 @@ module _ (plan schedule area : List ℕ) (x : Checked) (h : RefusedAs plan sched
     refusal-none = sym (h area refl) ∙ ap check.answered e
 
     pub given : (ws : List ℕ) → Loaded plan (terms plan) ws → Given plan ws schedule area
-    given ws words = let pass = by-code plan schedule area x h e in record { plan-passes = pass .plan-passes; loaded = words; few = pass .few; small = pass .small; wide = pass .wide }
+    given ws words = let pass = by-code plan schedule area x h e in record {
+      plan-passes = pass .plan-passes;
+      loaded = words;
+      few = pass .few;
+      small =
+          pass .small;
+      wide = pass .wide;
+    }
 
     module _ (r : Ran) (after : List ℕ) (ran : RunOn plan schedule area after r) where
       pub ran-answer : answered (record { checked = x; outcome = r .outcome }) ≡ played plan schedule area

@@ -29,9 +29,11 @@ module _ (table : machine.Table) (g : Program) (good : WellFormedProgram g) (law
   unfolding recordsFrom recordsBy movesFrom movesBy logged shown
   records-moves [] s r = refl
   records-moves (p ∷ ps) s r =
-      by (playing.step table s p) refl (λ z u. records-moves ps z u) ∙ sym (ap (movesBy (stateOf table s) (λ z. movesFrom g z ps) p) (step-of table g good law s p r))
+      by (playing.step table s p) refl (λ z u. records-moves ps z u)
+      ∙ sym (ap (movesBy (stateOf table s) (λ z. movesFrom g z ps) p) (step-of table g good law s p r))
     where
-      by : (a : playing.Answer) → playing.step table s p ≡ a → ((z : machine.State) → Reached table g z → recordsFrom true table z ps ≡ movesFrom g (stateOf table z) ps)
+      by : (a : playing.Answer) → playing.step table s p ≡ a
+          → ((z : machine.State) → Reached table g z → recordsFrom true table z ps ≡ movesFrom g (stateOf table z) ps)
           → recordsBy true s (λ z. recordsFrom true table z ps) p a ≡ movesBy (stateOf table s) (λ z. movesFrom g z ps) p (answerOf table a)
       by playing.Answer.passed e ih = ih s r
       by (playing.Answer.race x) e ih = refl

@@ -22,7 +22,8 @@ mapped [] p y e = absurd (true≢false cc)
 mapped (t ∷ l) zero y e = cc
 mapped (t ∷ l) (suc p) y e = mapped l p y e
 
-pub status-of : (g : Program) (r : Run) (o : Outcome) → outcomeOf o ≡ run.outcomeOf g r → (p : ℕ) → p < 8 → statusOf (getD (o .threads) p absent .state) ≡ status (attempt g (r .final) p)
+pub status-of : (g : Program) (r : Run) (o : Outcome) → outcomeOf o ≡ run.outcomeOf g r → (p : ℕ) → p < 8
+    → statusOf (getD (o .threads) p absent .state) ≡ status (attempt g (r .final) p)
 unfolding outcomeOf run.outcomeOf
 status-of g r o h p b =
     mapped (o .threads) p (status (attempt g (r .final) p))

@@ -86,7 +86,12 @@ module _ (L : List Record) (area after : List ℕ) (left : after ≡ overwrite (
     placed : Placed (bytesIn (recordIn after i)) 0 e
     placed =
         let p = bytes-placed L i e at in
-        record { high = byte (3 * i) (omega arith) ∙ p .high; middle = byte (3 * i + 1) (omega arith) ∙ p .middle; low = byte (3 * i + 2) (omega arith) ∙ p .low }
+        record {
+          high = byte (3 * i) (omega arith) ∙ p .high;
+          middle = byte (3 * i + 1) (omega arith) ∙ p .middle;
+          low =
+              byte (3 * i + 2) (omega arith) ∙ p .low;
+        }
 
     pub record-is : recordOf (recordIn after i) ≡ e
     unfolding recordOf
@@ -215,31 +220,40 @@ module _ (plan schedule : List ℕ) (pick : ℕ) (ws area : List ℕ) (given : G
   unfolding answered logged
   found x t same (STOPPED h) =
       let few : r .outcome .picks < n = omega (arith, short h, picks-are _ same) in
-      found-as _ _ (early r n pick after few) (ap (λ (e : run.Stop). preview.Previewed.shows (Preview.stopped e)) (stop-is _ same)) tt (λ q e. absurd (omega arith))
+      found-as _ _ (early r n pick after few) (ap (λ (e : run.Stop). preview.Previewed.shows (Preview.stopped e)) (stop-is _ same)) tt
+      (λ q e. absurd (omega arith))
   found x t same (PASSED {a} h p) =
       let e : r .outcome .stop ≡ stop.End = ended _ (stop-is _ same) in
       let m : r .outcome .moves ≡ r .before .moves = moves-are _ same ∙ ap length (append-nil (shorter .instances)) ∙ sym (moves-before _ same (one-more h)) in
       let y : statusOf (getD (r .outcome .threads) pick absent .state) ≡ status a =
-      status-of (programOf plan) longer (r .outcome) (ran .outcome) pick small ∙ ap (λ (z : State). status (attempt (programOf plan) z pick)) (ap (λ (u : Run). u .final) (sym same))
+      status-of (programOf plan) longer (r .outcome) (ran .outcome) pick small
+      ∙ ap (λ (z : State). status (attempt (programOf plan) z pick)) (ap (λ (u : Run). u .final) (sym same))
       ∙ ap status (complete-passed (programOf plan) (shorter .final) pick p) in
-      found-as _ _ (passed r n pick after (omega (arith, picks-are _ same, one-more h)) e m) (ap (λ (z : Status). preview.Previewed.shows (Preview.passed z)) y) tt (ended-once e)
+      found-as _ _ (passed r n pick after (omega (arith, picks-are _ same, one-more h)) e m)
+      (ap (λ (z : Status). preview.Previewed.shows (Preview.passed z)) y) tt (ended-once e)
   found x t same (MOVED {R} {e = none} h m k) =
       let e : r .outcome .stop ≡ stop.End = ended _ (stop-is _ same) in
       let grown : length (shorter .instances ++ (R ∷ [])) ≡ length (shorter .instances) + 1 = length-append (shorter .instances) (R ∷ []) in
-      let n : r .outcome .records ≡ r .before .records = records-are _ same ∙ ap length (append-nil (shorter .log)) ∙ sym (records-before _ same (one-more h)) in
-      found-as _ _ (moved r _ pick after (omega (arith, picks-are _ same, one-more h)) e (λ q. omega (arith, q, grown, moves-are _ same, moves-before _ same (one-more h))) n) refl tt (ended-once e)
+      let n : r .outcome .records ≡ r .before .records = records-are _ same ∙ ap length (append-nil (shorter .log))
+      ∙ sym (records-before _ same (one-more h)) in
+      found-as _ _ (moved r _ pick after (omega (arith, picks-are _ same, one-more h)) e
+      (λ q. omega (arith, q, grown, moves-are _ same, moves-before _ same (one-more h))) n) refl tt (ended-once e)
   found x t same (MOVED {R} {e = some e} h m k) =
       let q : r .outcome .stop ≡ stop.End = ended _ (stop-is _ same) in
       let grown : length (shorter .instances ++ (R ∷ [])) ≡ length (shorter .instances) + 1 = length-append (shorter .instances) (R ∷ []) in
-      found-as _ _ (recorded r n pick after (omega (arith, picks-are _ same, one-more h)) q (λ q. omega (arith, q, grown, moves-are _ same, moves-before _ same (one-more h)))
-      (λ q. omega (arith, q, last-index _ same e refl, records-before _ same (one-more h)))) (ap (λ (z : Record). preview.Previewed.shows (Preview.moved (some z))) (last-is _ same e refl))
+      found-as _ _ (recorded r n pick after (omega (arith, picks-are _ same, one-more h)) q
+      (λ q. omega (arith, q, grown, moves-are _ same, moves-before _ same (one-more h)))
+      (λ q. omega (arith, q, last-index _ same e refl, records-before _ same (one-more h))))
+      (ap (λ (z : Record). preview.Previewed.shows (Preview.moved (some z))) (last-is _ same e refl))
       (last-bytes _ same e refl) (ended-once q)
   found x t same (RACE {e} h l) =
-      found-as _ _ (raced r n pick after (omega (arith, picks-are _ same, all-dealt h)) (lacked _ (stop-is _ same))) (ap (λ (z : Record). preview.Previewed.shows (Preview.race z)) (last-is _ same e refl))
+      found-as _ _ (raced r n pick after (omega (arith, picks-are _ same, all-dealt h)) (lacked _ (stop-is _ same)))
+      (ap (λ (z : Record). preview.Previewed.shows (Preview.race z)) (last-is _ same e refl))
       (last-bytes _ same e refl) (λ q y. omega (arith, last-index _ same e refl))
   found x t same (NO-ROOM {k = k} h m q) =
       let w = no-room _ k (stop-is _ same) in
-      found-as _ _ (full r n pick after (omega (arith, picks-are _ same, all-dealt h)) (w .0) (w .1)) (ap (λ (z : Room). preview.Previewed.shows (Preview.noRoom z)) (w .2)) tt (full-once (w .0) (w .1))
+      found-as _ _ (full r n pick after (omega (arith, picks-are _ same, all-dealt h)) (w .0) (w .1))
+      (ap (λ (z : Room). preview.Previewed.shows (Preview.noRoom z)) (w .2)) tt (full-once (w .0) (w .1))
 
   -- what the code answers
   pub shown-found : Found r schedule pick after (shownAfter (programOf plan) shorter pick)
@@ -252,7 +266,8 @@ module _ (plan schedule : List ℕ) (pick : ℕ) (ws area : List ℕ) (given : G
   before-fewer =
       let k : ℕ = min (r .outcome .picks) (length (withPick schedule pick) - 1) in
       let h : length (play (programOf plan) (take k (withPick schedule pick)) .log) ≤ length (play (programOf plan) (withPick schedule pick) .log) =
-      along (λ (ps : List ℕ). length (play (programOf plan) (take k (withPick schedule pick)) .log) ≤ length (play (programOf plan) ps .log)) (take-append-drop k (withPick schedule pick))
+      along (λ (ps : List ℕ). length (play (programOf plan) (take k (withPick schedule pick)) .log) ≤ length (play (programOf plan) ps .log))
+      (take-append-drop k (withPick schedule pick))
       (records-grow (programOf plan) start (take k (withPick schedule pick)) (drop k (withPick schedule pick))) in
       omega (arith, h, ran .records-before, records-are longer refl)
 

@@ -54,7 +54,8 @@ module _ (g : Program) (p : ℕ) (r : Run) (ended : r .stop ≡ Stop.end) where
   within m h x (some k) e = along (PlaysAs g p r (Preview.noRoom k)) (stopped-next (Stop.noRoom k) []) (NO-ROOM ended h e)
 
   module _ (I : Reachable g (r .final)) where
-    met : (a : Attempt) → Described g (r .final) (I .one-key) p a → Ruled a → PlaysAs g p r (shownBy (status a) (answer (r .final) p a)) (onAnswer (answer (r .final) p a))
+    met : (a : Attempt) → Described g (r .final) (I .one-key) p a → Ruled a
+        → PlaysAs g p r (shownBy (status a) (answer (r .final) p a)) (onAnswer (answer (r .final) p a))
     unfolding answer shownBy status resume
     met Attempt.absent h k = passed-as h
     met (Attempt.finished v) h k = passed-as h

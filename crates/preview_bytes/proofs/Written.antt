@@ -42,6 +42,7 @@ module _ (out after : List ℕ) (why : ThreadBytes) (logged : RecordBytes) where
   unfolding answered previewNumber outAfter previewBytes stopOf stopByte
   raced f w r = (refl, f ∙ ap (λ (y : ThreadBytes). eight 3 y logged) w ∙ ap (λ (l : List ℕ). 3 ∷ 1 ∷ 0 ∷ 0 ∷ l ++ (0 ∷ [])) r)
 
-  pub no-room : (k : NoRoom) → after ≡ eight 4 why logged → why ≡ three (stopByte (stopOf (stop.NoRoom k))) 0 0 → logged ≡ noRecord → Written out after (previewed.NoRoom k)
+  pub no-room : (k : NoRoom) → after ≡ eight 4 why logged → why ≡ three (stopByte (stopOf (stop.NoRoom k))) 0 0 → logged ≡ noRecord
+      → Written out after (previewed.NoRoom k)
   unfolding answered previewNumber outAfter previewBytes stopOf
   no-room k f w r = (refl, f ∙ ap (λ (y : ThreadBytes). eight 4 y logged) w ∙ ap (eight 4 (three (stopByte (stopOf (stop.NoRoom k))) 0 0)) r)

@@ -20,13 +20,24 @@ pub record-parts : (i : ℕ) (r : Record)
     ≡ recordLine i r
 unfolding recordLine line
 record-parts i r =
-    regrouped (decimal i) (32 ∷ []) (kindWord (r .kind)) (32 ∷ decimal (r .thread)) (32 ∷ decimal (r .object)) (32 ∷ decimal (r .field)) (32 ∷ decimal (r .value)) (10 ∷ [])
+    regrouped (decimal i) (32 ∷ []) (kindWord (r .kind)) (32 ∷ decimal (r .thread)) (32 ∷ decimal (r .object)) (32 ∷ decimal (r .field))
+    (32 ∷ decimal (r .value)) (10 ∷ [])
 
 pub record-length : (i : ℕ) (r : Record)
     → length (recordLine i r)
-    ≡ length (decimal i) + length (kindWord (r .kind)) + length (decimal (r .thread)) + length (decimal (r .object)) + length (decimal (r .field)) + length (decimal (r .value)) + 6
+    ≡ length (decimal i) + length (kindWord (r .kind)) + length (decimal (r .thread)) + length (decimal (r .object)) + length (decimal (r .field)) + length
+    (decimal (r .value)) + 6
 record-length i r = omega (arith, simp length-append at (ap length (record-parts i r)))
 
 pub record-short : (i : ℕ) (r : Record) → i < 4096 → r .thread < 8 → r .object < 32 → r .field < 32 → r .value < 32 → length (recordLine i r) ≤ 28
 record-short i r h₁ h₂ h₃ h₄ h₅ =
-    omega (arith, record-length i r, few-digits 3 i (omega arith), kind-short (r .kind), few-digits 0 (r .thread) (omega arith), few-digits 1 (r .object) (omega arith), few-digits 1 (r .field) (omega arith), few-digits 1 (r .value) (omega arith))
+    omega (
+      arith,
+      record-length i r,
+      few-digits 3 i (omega arith),
+      kind-short (r .kind),
+      few-digits 0 (r .thread) (omega arith),
+      few-digits 1 (r .object) (omega arith),
+      few-digits 1 (r .field) (omega arith),
+      few-digits 1 (r .value) (omega arith),
+    )

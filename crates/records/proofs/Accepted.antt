@@ -18,7 +18,8 @@ use Rattle.records.specs.Refusals.{wrongLogLength, wrongColumns, wrongRe
 use Rattle.format.proofs.RefusalLaws.{none-left, and-then, head-pass, tail-pass, none-is-pass, neither}
 use Rattle.records.proofs.KindNumbers.{kind-number, kind-lacks, number-back}
 use Rattle.records.proofs.Tidy.{Tidy, AllTidy, LacksLast, tidy-at, all-tidy}
-use Rattle.records.proofs.RoundTrip.{length-bytes, byte-below, word24, Placed, placed-word, bytes-placed, record-fields, kind-bits, spare-bits, kind-read, spare-read, record-back, count-log, log-element, log-past, count-bytes}
+use Rattle.records.proofs.RoundTrip.{length-bytes, byte-below, word24, Placed, placed-word, bytes-placed, record-fields, kind-bits, spare-bits}
+use Rattle.records.proofs.RoundTrip.{kind-read, spare-read, record-back, count-log, log-element, log-past, count-bytes}
 
 -- ---- what refusal 12 finds no fault with
 

@@ -47,10 +47,12 @@ abbrev otherFor : engine.Machine → Ready → Head
 otherFor m r = getD (m .heads) (getD (m .objects) (objectOf r) noThing .thread % 16) noHead
 
 abbrev sees : Setting → engine.Machine → ℕ → Ready → Sight
-sees setting m p r = lookOf setting (headFor m p r) (getD (m .cells) (cellNumber r) noCell) (getD (m .objects) (objectOf r) noThing) (otherFor m r .ready .part) (getD (m .places) p 0)
+sees setting m p r = lookOf setting (headFor m p r) (getD (m .cells) (cellNumber r) noCell) (getD (m .objects) (objectOf r) noThing)
+    (otherFor m r .ready .part) (getD (m .places) p 0)
 
 abbrev does : Setting → engine.Machine → ℕ → Ready → Act
-does setting m p r = actOf setting (m .tally .counts) (headFor m p r) (getD (m .cells) (cellNumber r) noCell) (getD (m .objects) (objectOf r) noThing) (otherFor m r)
+does setting m p r = actOf setting (m .tally .counts) (headFor m p r) (getD (m .cells) (cellNumber r) noCell) (getD (m .objects) (objectOf r) noThing)
+    (otherFor m r)
 
 module _ {b : List ℕ} {m : engine.Machine} {s : machine.State} {p : ℕ} (mover : Mover b m s p) where
   open Mover mover using (thread as t, there)
@@ -63,31 +65,42 @@ module _ {b : List ℕ} {m : engine.Machine} {s : machine.State} {p : ℕ} (move
   unfolding objectBy fieldBy aboutField lookBy pureBy actBy machine.actᶜ land.go playing.noRoomBefore tableOf
   meets part.Done a b′ c environment h = attempt-value (tableOf b) s p t there a (h .1)
   meets part.NoRule a b′ c environment h = absurd h
-  meets part.Run a b′ c environment h = pure-meets mover 0 (readyOf part.Run a b′ c environment) refl refl _ (h .2 .0) (goRun a environment) (h .2 .1) (h .2 .2) (h .0, h .1, refl)
+  meets part.Run a b′ c environment h =
+      pure-meets mover 0 (readyOf part.Run a b′ c environment) refl refl _ (h .2 .0) (goRun a environment) (h .2 .1) (h .2 .2) (h .0, h .1, refl)
   meets part.RunCondition a b′ c environment h =
-      condition-meets mover 0 (readyOf part.RunCondition a b′ c environment) refl refl (frames.Readyᶜ.and true (closed a environment)) (goRunCondition a environment) (h .2) refl (h .0, h .1, refl)
+      condition-meets mover 0 (readyOf part.RunCondition a b′ c environment) refl refl (frames.Readyᶜ.and true (closed a environment))
+      (goRunCondition a environment) (h .2) refl (h .0, h .1, refl)
   meets part.Val a b′ c environment h =
       pure-meets mover 0 (readyOf part.Val a b′ c environment) refl refl _ (h .2 .0) (goValue a) (h .2 .1) (h .2 .2)
       (h .0, (let e = h .1 in omega arith), ap (up (nodeAt b) (terms b) S) (sym (h .1)))
   meets part.Truth a b′ c environment h =
-      condition-meets mover 0 (readyOf part.Truth a b′ c environment) refl refl (h .2 .0) (goTruth a) (h .2 .1) (h .2 .2 .needs-no-room s) (h .0, h .1, h .2 .2 .acts)
+      condition-meets mover 0 (readyOf part.Truth a b′ c environment) refl refl (h .2 .0) (goTruth a) (h .2 .1) (h .2 .2 .needs-no-room s)
+      (h .0, h .1, h .2 .2 .acts)
   meets part.While a b′ c environment h = while-meets mover a b′ c environment 0 (h .0) (h .1) (h .2) (h .3)
   meets part.Body a b′ c environment h = body-meets mover a b′ c environment 0 (h .0) (h .1) (h .2) (h .3)
   meets part.Again a b′ c environment h =
-      pure-meets mover 0 (readyOf part.Again a b′ c environment) refl refl _ (h .3 .0) (goAt (readyOf part.While a b′ 0 environment)) (h .3 .1) (h .3 .2) (part.While, refl, (h .0, h .1, h .2, refl))
+      pure-meets mover 0 (readyOf part.Again a b′ c environment) refl refl _ (h .3 .0) (goAt (readyOf part.While a b′ 0 environment)) (h .3 .1) (h .3 .2)
+      (part.While, refl, (h .0, h .1, h .2, refl))
   meets part.New a b′ c environment h = new-meets mover a b′ c environment 0 (h .0) (h .2) (h .3)
   meets part.Read a b′ c environment h =
-      read-meets mover a b′ c environment (a % 32 * 32 + b′ % 32) (a % 32) (ap₂ (λ (x y : ℕ). x * 32 + y) (mod-eq-of-lt (h .1)) (mod-eq-of-lt (h .3))) (mod-eq-of-lt (h .1)) (h .0) (h .1) (h .2) (h .3) (h .4)
+      read-meets mover a b′ c environment (a % 32 * 32 + b′ % 32) (a % 32) (ap₂ (λ (x y : ℕ). x * 32 + y) (mod-eq-of-lt (h .1)) (mod-eq-of-lt (h .3)))
+      (mod-eq-of-lt (h .1)) (h .0) (h .1) (h .2) (h .3) (h .4)
   meets part.Write a b′ c environment h =
-      write-meets mover a b′ c environment (a % 32 * 32 + b′ % 32) (a % 32) (ap₂ (λ (x y : ℕ). x * 32 + y) (mod-eq-of-lt (h .1)) (mod-eq-of-lt (h .3))) (mod-eq-of-lt (h .1)) (h .0) (h .1) (h .2) (h .3) (h .4) (h .5)
+      write-meets mover a b′ c environment (a % 32 * 32 + b′ % 32) (a % 32) (ap₂ (λ (x y : ℕ). x * 32 + y) (mod-eq-of-lt (h .1)) (mod-eq-of-lt (h .3)))
+      (mod-eq-of-lt (h .1)) (h .0) (h .1) (h .2) (h .3) (h .4) (h .5)
   meets part.Fork a b′ c environment h = fork-meets mover a b′ c environment 0 (h .0) (h .1) (h .2)
   meets part.Join a b′ c environment h = join-meets mover a b′ c environment (a % 32 * 32 + 0) (a % 32) (mod-eq-of-lt (h .1)) (h .0) (h .1) (h .2)
-  meets part.Synch a b′ c environment h = synch-meets mover a b′ c environment (a % 32 * 32 + 0) (ap (λ (x : ℕ). x * 32 + 0) (mod-eq-of-lt (h .1))) (h .0) (h .1) (h .2) (h .3)
-  meets part.Hold a b′ c environment h = hold-meets mover a b′ c environment (a % 32 * 32 + 0) (ap (λ (x : ℕ). x * 32 + 0) (mod-eq-of-lt (h .1))) (h .0) (h .1) (h .2) (h .3)
-  meets part.Signal a b′ c environment h = signal-meets mover a b′ c environment (a % 32 * 32 + 0) (ap (λ (x : ℕ). x * 32 + 0) (mod-eq-of-lt (h .1))) (h .0) (h .1) (h .2)
-  meets part.Waiting a b′ c environment h = wake-meets mover a b′ c environment (a % 32 * 32 + 0) (ap (λ (x : ℕ). x * 32 + 0) (mod-eq-of-lt (h .1))) (h .0) (h .1) (h .2)
+  meets part.Synch a b′ c environment h =
+      synch-meets mover a b′ c environment (a % 32 * 32 + 0) (ap (λ (x : ℕ). x * 32 + 0) (mod-eq-of-lt (h .1))) (h .0) (h .1) (h .2) (h .3)
+  meets part.Hold a b′ c environment h =
+      hold-meets mover a b′ c environment (a % 32 * 32 + 0) (ap (λ (x : ℕ). x * 32 + 0) (mod-eq-of-lt (h .1))) (h .0) (h .1) (h .2) (h .3)
+  meets part.Signal a b′ c environment h =
+      signal-meets mover a b′ c environment (a % 32 * 32 + 0) (ap (λ (x : ℕ). x * 32 + 0) (mod-eq-of-lt (h .1))) (h .0) (h .1) (h .2)
+  meets part.Waiting a b′ c environment h =
+      wake-meets mover a b′ c environment (a % 32 * 32 + 0) (ap (λ (x : ℕ). x * 32 + 0) (mod-eq-of-lt (h .1))) (h .0) (h .1) (h .2)
 
-meets-more : (w : Sight) (p : ℕ) (r : Ready) (A : machine.Attempt) (Z Z′ : machine.Move → Type 0) → ((v : machine.Move) → Z v → Z′ v) → MeetsBy w p r A Z → MeetsBy w p r A Z′
+meets-more : (w : Sight) (p : ℕ) (r : Ready) (A : machine.Attempt) (Z Z′ : machine.Move → Type 0) → ((v : machine.Move) → Z v → Z′ v) → MeetsBy w p r A Z
+    → MeetsBy w p r A Z′
 meets-more sight.Ready p r A Z Z′ f h = (h .0, h .1, f (h .0) (h .2))
 meets-more sight.Lacking p r A Z Z′ f h = h
 meets-more (sight.Blocked x) p r A Z Z′ f h = h
@@ -102,9 +115,12 @@ looks b ok m s rel reach p small here =
     let H = rel .each p t there in
     let P = H .stands .0 in
     let mover : Mover b m s p = record { ok = ok; related = rel; reached = reach; small = small; thread = t; there = there; headed = H } in
-    let same : readyOf P (r .first) (r .second) (r .third) (r .environment) ≡ r = ap (λ (q : ℕ). readyAt q (r .first) (r .second) (r .third) (r .environment)) (sym (H .stands .1)) in
+    let same : readyOf P (r .first) (r .second) (r .third) (r .environment) ≡ r =
+    ap (λ (q : ℕ). readyAt q (r .first) (r .second) (r .third) (r .environment)) (sym (H .stands .1)) in
     meets-more (sees (settingOf b) m p r) p r (machine.attempt (tableOf b) s p) _ (Ahead b m s p) (λ v z. record { mover = mover; acts = z })
-    (along (Meets mover) same (meets mover P (r .first) (r .second) (r .third) (r .environment) (along (λ (r′ : Ready). StandsBy b P r′ (H .stack) (t .code)) (sym same) (H .stands .2))))
+    (along (Meets mover) same
+    (meets mover P (r .first) (r .second) (r .third) (r .environment)
+    (along (λ (r′ : Ready). StandsBy b P r′ (H .stack) (t .code)) (sym same) (H .stands .2))))
   where
     r : Ready
     r = headAt (m .heads) p .ready

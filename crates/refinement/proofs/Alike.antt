@@ -48,7 +48,8 @@ alike-length (x ∷ xs) [] h = absurd h
 alike-length (x ∷ xs) (y ∷ ys) h = ap suc (alike-length xs ys (h .1))
 
 -- who stood at q
-pub alike-there : (xs ys : List machine.Thread) (q : ℕ) (u : machine.Thread) → Alike xs ys → getElem? ys q ≡ some u → (t : machine.Thread) × (getElem? xs q ≡ some t) × Same t u
+pub alike-there : (xs ys : List machine.Thread) (q : ℕ) (u : machine.Thread) → Alike xs ys → getElem? ys q ≡ some u
+    → (t : machine.Thread) × (getElem? xs q ≡ some t) × Same t u
 alike-there [] [] q u h e = absurd (Option·none-ne-some u e)
 alike-there [] (y ∷ ys) q u h e = absurd h
 alike-there (x ∷ xs) [] q u h e = absurd h

@@ -46,7 +46,8 @@ root-fits {b} a loaded m l =
     (subst (λ (t : ℕ). t < terms b) (sym e) (u .root-below), subst (λ (t : ℕ). OfSort expression (tagAt b t)) (sym e) (u .root-sorted))
 
 module _ {b ws rs : List ℕ} {k : Stack} {base : ℕ} {S : List frames.Frame} (c : Placed b ws rs k base S) {n : ℕ} {X : frames.Found} where
-  list-by : (f : Frame) → Well S → f .member < procedures b → IsRest b (f .count) (f .first) → X ≡ downᵃ (nodeAt b) (terms b) S (f .member) (f .count) (slots (f .arguments)) (closed (f .first) (f .environment))
+  list-by : (f : Frame) → Well S → f .member < procedures b → IsRest b (f .count) (f .first)
+      → X ≡ downᵃ (nodeAt b) (terms b) S (f .member) (f .count) (slots (f .arguments)) (closed (f .first) (f .environment))
       → left (f .first) ≤ suc n → Rest b (f .first) (wordAt ws (f .first)) → Next b ws k base n X (wantedOf ws (listOf ws rs f) (length S))
   unfolding listOf listBy
   list-by f w l s e m (Rest.more p q r z) =
@@ -80,6 +81,7 @@ module _ {b ws rs : List ℕ} {k : Stack} {base : ℕ} {S : List frames.Frame} (
       )
       (omega arith))
 
-  pub list-step : (f : Frame) → Well S → f .member < procedures b → IsRest b (f .count) (f .first) → X ≡ downᵃ (nodeAt b) (terms b) S (f .member) (f .count) (slots (f .arguments)) (closed (f .first) (f .environment))
+  pub list-step : (f : Frame) → Well S → f .member < procedures b → IsRest b (f .count) (f .first)
+      → X ≡ downᵃ (nodeAt b) (terms b) S (f .member) (f .count) (slots (f .arguments)) (closed (f .first) (f .environment))
       → left (f .first) ≤ suc n → Next b ws k base n X (wantedOf ws (listOf ws rs f) (length S))
   list-step f w l s e m = list-by f w l s e m (rest-at b ws rs (c .right) (c .loaded) (f .first) (s .0) (s .1))

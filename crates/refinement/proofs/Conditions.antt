@@ -52,18 +52,21 @@ module _ {b ws rs : List ℕ} {k : Stack} {base : ℕ} {S : List frames.Frame} (
   run-by : Condition b t word → Next b ws k base n X (wantedOf ws (listedOf ws rs (runConditionOf (wordAt ws t) e)) (length S))
   unfolding runConditionOf runConditionBy
   run-by (Condition.truth p q) =
-      rw p (stays c (goTruth 1) (w, omega arith, x ∙ enter-truth (ordered b (c .right)) S (closed t e) true (truth-in q)) (omega (arith, s .0, c .right .few-terms)))
+      rw p (stays c (goTruth 1) (w, omega arith, x ∙ enter-truth (ordered b (c .right)) S (closed t e) true (truth-in q))
+      (omega (arith, s .0, c .right .few-terms)))
   run-by (Condition.not p q i) =
       rw p
       (wantᶜ c (framed kind.Not 0 0 0 e) (firstOf word) (plain-fine kind.Not 0 0 0 e (omega arith) (omega arith) (omega arith) tt) w (childᶜ i)
       (not-in (firstOf word) q (condition-at b ws rs (c .right) (c .loaded) (firstOf word) (i .below) (i .sorted))) (less-one (c .right) l i))
   run-by (Condition.and p q i j) =
       rw p
-      (wantᶜ c (framed kind.And (secondOf word) 0 0 e) (firstOf word) (plain-fine kind.And (secondOf word) 0 0 e (omega arith) (omega arith) (omega arith) (childᶜ j)) w (childᶜ i)
+      (wantᶜ c (framed kind.And (secondOf word) 0 0 e) (firstOf word)
+      (plain-fine kind.And (secondOf word) 0 0 e (omega arith) (omega arith) (omega arith) (childᶜ j)) w (childᶜ i)
       (x ∙ enter-and (ordered b (c .right)) S t (slots e) q) (less-one (c .right) l i))
   run-by (Condition.equal p q i j) =
       rw p
-      (want c (framed kind.Equal1 (secondOf word) 0 0 e) (firstOf word) (plain-fine kind.Equal1 (secondOf word) 0 0 e (omega arith) (omega arith) (omega arith) (child j)) w (child i)
+      (want c (framed kind.Equal1 (secondOf word) 0 0 e) (firstOf word)
+      (plain-fine kind.Equal1 (secondOf word) 0 0 e (omega arith) (omega arith) (omega arith) (child j)) w (child i)
       (x ∙ enter-equal (ordered b (c .right)) S t (slots e) q) (less-one (c .right) l i) (less (c .right) l j))
 
   pub run-condition-step : Next b ws k base n X (wantedOf ws (listedOf ws rs (runConditionOf (wordAt ws t) e)) (length S))

@@ -10,7 +10,8 @@ use Rattle.packed.specs.Trees.{Node}
 use Rattle.packed.specs.Steps.{Descending}
 use Rattle.rules.specs.Context.{falseWhen}
 use Rattle.machine.specs.Frames.{Slots, noSlots, Closure, closure, branches, Frame, Ready, Found, height}
-use Rattle.machine.specs.Landing.{given, valueOf, isTrue, boolOf, valueIn, boolIn, foundNot, upBy, downBy, downByᶜ, downByᵃ, down, downᶜ, downᵃ, up, upᶜ, enter, enterᶜ}
+use Rattle.machine.specs.Landing.{given, valueOf, isTrue, boolOf, valueIn, boolIn, foundNot, upBy, downBy, downByᶜ, downByᵃ, down, downᶜ, downᵃ, up, upᶜ}
+use Rattle.machine.specs.Landing.{enter, enterᶜ}
 use Rattle.machine.specs.Turns.{Going, Turn, ends, goDown, goDownᶜ, goList, land, turn, landTurn}
 use Rattle.machine.proofs.Turns.{turn-lands}
 use Rattle.machine.proofs.Heights.{turn-under}
@@ -108,7 +109,8 @@ module _ {h : ℕ → Node} {N : ℕ} (o : Descending h N) where
 
     pub enter-write : {i f j : ℕ} → h t ≡ Node.write i f j → enter h N S (closure t ρ) ≡ enter h N (Frame.write₁ f (closure j ρ) ∷ S) (closure i ρ)
     unfolding downBy valueOf landTurn land enter turn upBy
-    enter-write {i} {f} {j} e = by (Node.write i f j) e refl ∙ given-same (valueIn h (closure i ρ)) _ _ _ _ (λ v. upped (Frame.write₁ f (closure j ρ) ∷ S) v) refl
+    enter-write {i} {f} {j} e =
+        by (Node.write i f j) e refl ∙ given-same (valueIn h (closure i ρ)) _ _ _ _ (λ v. upped (Frame.write₁ f (closure j ρ) ∷ S) v) refl
 
     pub enter-let : {x : Option ℕ} {i j : ℕ} → h t ≡ Node.letIn x i j → enter h N S (closure t ρ) ≡ enter h N (Frame.letIn x (closure j ρ) ∷ S) (closure i ρ)
     unfolding downBy valueOf landTurn land enter up
@@ -151,14 +153,16 @@ module _ {h : ℕ → Node} {N : ℕ} (o : Descending h N) where
     enter-not {i} e q never = byᶜ (Node.not i) e (rw q) ∙ at (boolOf h (h i)) never
       where
         at : (v : Option Bool) → (v ≡ some true → ⊥)
-            → landTurn h N (given v (λ b. foundNot h ends S b) (goDownᶜ (Frame.not ∷ S) (closure i ρ))) ≡ given v (λ b. upᶜ h N (Frame.not ∷ S) b) (downᶜ h N (Frame.not ∷ S) (closure i ρ))
+            → landTurn h N (given v (λ b. foundNot h ends S b) (goDownᶜ (Frame.not ∷ S) (closure i ρ))) ≡ given v (λ b. upᶜ h N (Frame.not ∷ S) b)
+            (downᶜ h N (Frame.not ∷ S) (closure i ρ))
         at (some true) n = absurd (n refl)
         at (some false) n = refl
         at none n = refl
 
     -- ---- a call's list
 
-    pub list-more : (m n : ℕ) (σ : Slots) {i j : ℕ} → h t ≡ Node.list i j → downᵃ h N S m n σ (closure t ρ) ≡ enter h N (Frame.call m n σ (closure j ρ) ∷ S) (closure i ρ)
+    pub list-more : (m n : ℕ) (σ : Slots) {i j : ℕ} → h t ≡ Node.list i j
+        → downᵃ h N S m n σ (closure t ρ) ≡ enter h N (Frame.call m n σ (closure j ρ) ∷ S) (closure i ρ)
     unfolding turn downByᵃ landTurn land enter up
     list-more m n σ {i} {j} e =
         openedᵃ S m n σ (closure t ρ) ∙ ap (λ (x : Node). landTurn h N (downByᵃ h ends goDown goDownᶜ goList ρ S m n σ x)) e

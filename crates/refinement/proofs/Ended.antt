@@ -20,13 +20,16 @@ joinBy q = cond (isPart part.Done q) sight.Ready (sight.Blocked block.Join)
 
 -- a thread is finished where its part says so
 abbrev pub Ends : ℕ → ℕ → frames.Found → Type 0
-Ends q a X = ((joinBy q ≡ sight.Ready) × (machine.finishedWith X ≡ some a) × (a < 32)) ⊎ ((joinBy q ≡ sight.Blocked block.Join) × (machine.finishedWith X ≡ none))
+Ends q a X = ((joinBy q ≡ sight.Ready) × (machine.finishedWith X ≡ some a) × (a < 32)) ⊎
+    ((joinBy q ≡ sight.Blocked block.Join) × (machine.finishedWith X ≡ none))
 
-ends-here : (P : Part) (a : ℕ) (X : frames.Found) (S : List frames.Frame) (R : frames.Ready) → joinBy (partNumber P) ≡ sight.Blocked block.Join → X ≡ frames.Found.here S R → Ends (partNumber P) a X
+ends-here : (P : Part) (a : ℕ) (X : frames.Found) (S : List frames.Frame) (R : frames.Ready) → joinBy (partNumber P) ≡ sight.Blocked block.Join
+    → X ≡ frames.Found.here S R → Ends (partNumber P) a X
 unfolding machine.finishedWith
 ends-here P a X S R j e = inr (j, ap machine.finishedWith e)
 
-ends-hereᶜ : (P : Part) (a : ℕ) (X : frames.Found) (S : List frames.Frame) (Q : frames.Readyᶜ) → joinBy (partNumber P) ≡ sight.Blocked block.Join → X ≡ frames.Found.hereᶜ S Q → Ends (partNumber P) a X
+ends-hereᶜ : (P : Part) (a : ℕ) (X : frames.Found) (S : List frames.Frame) (Q : frames.Readyᶜ) → joinBy (partNumber P) ≡ sight.Blocked block.Join
+    → X ≡ frames.Found.hereᶜ S Q → Ends (partNumber P) a X
 unfolding machine.finishedWith
 ends-hereᶜ P a X S Q j e = inr (j, ap machine.finishedWith e)
 

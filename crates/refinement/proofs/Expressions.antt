@@ -25,7 +25,8 @@ use Rattle.refinement.proofs.Meant.{signalMeant, slots, closed, IsExpre
 use Rattle.refinement.proofs.SlotLaws.{none-bound, slot-below}
 use Rattle.refinement.proofs.Words.{Expression, expression-at}
 use Rattle.refinement.proofs.Values.{Valued, valued}
-use Rattle.refinement.proofs.Descent.{enter-value, enter-new, enter-while, enter-fork, enter-call, enter-read, enter-write, enter-let, enter-if, enter-join, enter-synch, enter-signal}
+use Rattle.refinement.proofs.Descent.{enter-value, enter-new, enter-while, enter-fork, enter-call, enter-read, enter-write, enter-let, enter-if}
+use Rattle.refinement.proofs.Descent.{enter-join, enter-synch, enter-signal}
 use Rattle.refinement.proofs.Fuel.{left}
 use Rattle.refinement.proofs.Operands.{Placed, Next, stays, want, wantᶜ, child, childᶜ, less, less-one, plain-fine}
 use Rattle.refinement.proofs.Calls.{list-step}
@@ -61,7 +62,8 @@ module _ {b ws rs : List ℕ} {k : Stack} {base : ℕ} {S : List frames.Frame} (
       want c (framed kind.Signal 0 0 j e) (firstOf word) (plain-fine kind.Signal 0 0 j e (omega arith) (omega arith) h tt)
       w (child i) (x ∙ enter-signal (ordered b (c .right)) S t (slots e) q) (less-one (c .right) l i) one
 
-  run-by : (valueOf ws e t < 32 → 2055 ≤ suc n) → Valued b ws t e → Expression b t word → Next b ws k base n X (wantedOf ws (listedOf ws rs (runOf (wordAt ws t) e)) (length S))
+  run-by : (valueOf ws e t < 32 → 2055 ≤ suc n) → Valued b ws t e → Expression b t word
+      → Next b ws k base n X (wantedOf ws (listedOf ws rs (runOf (wordAt ws t) e)) (length S))
   unfolding runOf runBy simpleOf simpleBy signalOf signalBy
   run-by m v (Expression.null p q) =
       let z = null-value ws t e p in
@@ -70,7 +72,9 @@ module _ {b ws rs : List ℕ} {k : Stack} {base : ℕ} {S : List frames.Frame} (
   run-by m v (Expression.variable p q) =
       let r = slot-value ws t e p in
       rw (p, ← slot-is ws t e p) (stays c (goValue (valueOf ws e t)) (w, r, a-value v r) (omega (arith, m r)))
-  run-by m v (Expression.new p q r) = rw p (stays c (goAt (readyOf part.New (maskBits word) 0 0 0)) (part.New, refl, (w, omega arith, r, x ∙ enter-new (ordered b (c .right)) S t (slots e) q)) one)
+  run-by m v (Expression.new p q r) =
+      rw p (stays c (goAt (readyOf part.New (maskBits word) 0 0 0))
+      (part.New, refl, (w, omega arith, r, x ∙ enter-new (ordered b (c .right)) S t (slots e) q)) one)
   run-by m v (Expression.read p q i r) =
       rw p
       (want c (framed kind.Read 0 0 (fieldBits word) e) (firstOf word) (plain-fine kind.Read 0 0 (fieldBits word) e (omega arith) (omega arith) (omega arith) r)
@@ -91,20 +95,25 @@ module _ {b ws rs : List ℕ} {k : Stack} {base : ℕ} {S : List frames.Frame} (
       (plain-fine kind.If (secondOf word) (thirdOf word) 0 e (omega arith) (omega arith) (omega arith) (child j, child o))
       w (childᶜ i) (x ∙ enter-if (ordered b (c .right)) S t (slots e) q) (less-one (c .right) l i))
   run-by m v (Expression.while p q i j) =
-      rw p (stays c (goAt (readyOf part.While (firstOf word) (secondOf word) 0 e)) (part.While, refl, (w, childᶜ i, child j, x ∙ enter-while (ordered b (c .right)) S t (slots e) q)) one)
+      rw p (stays c (goAt (readyOf part.While (firstOf word) (secondOf word) 0 e))
+      (part.While, refl, (w, childᶜ i, child j, x ∙ enter-while (ordered b (c .right)) S t (slots e) q)) one)
   run-by m v (Expression.call p q r i o) =
       rw p
       (list-step c (framed kind.Call (listBits word) 0 (procedureBits word) e) w r (i .below, i .sorted, omega arith)
       (x ∙ enter-call (ordered b (c .right)) S t (slots e) q
-      ∙ ap (λ (σ : Slots). downᵃ (nodeAt b) (terms b) S (procedureBits word) 0 σ (closed (listBits word) e)) (sym none-bound)) (omega (arith, less (c .right) l i)))
-  run-by m v (Expression.fork p q i) = rw p (stays c (goAt (readyOf part.Fork (firstOf word) 0 0 e)) (part.Fork, refl, (w, child i, x ∙ enter-fork (ordered b (c .right)) S t (slots e) q)) one)
+      ∙ ap (λ (σ : Slots). downᵃ (nodeAt b) (terms b) S (procedureBits word) 0 σ (closed (listBits word) e)) (sym none-bound))
+      (omega (arith, less (c .right) l i)))
+  run-by m v (Expression.fork p q i) =
+      rw p (stays c (goAt (readyOf part.Fork (firstOf word) 0 0 e)) (part.Fork, refl, (w, child i, x ∙ enter-fork (ordered b (c .right)) S t (slots e) q))
+      one)
   run-by m v (Expression.join p q i) =
       rw p
       (want c (framed kind.Join 0 0 0 e) (firstOf word) (plain-fine kind.Join 0 0 0 e (omega arith) (omega arith) (omega arith) tt)
       w (child i) (x ∙ enter-join (ordered b (c .right)) S t (slots e) q) (less-one (c .right) l i) one)
   run-by m v (Expression.synch p q i j) =
       rw p
-      (want c (framed kind.Synch (secondOf word) 0 0 e) (firstOf word) (plain-fine kind.Synch (secondOf word) 0 0 e (omega arith) (omega arith) (omega arith) (child j))
+      (want c (framed kind.Synch (secondOf word) 0 0 e) (firstOf word)
+      (plain-fine kind.Synch (secondOf word) 0 0 e (omega arith) (omega arith) (omega arith) (child j))
       w (child i) (x ∙ enter-synch (ordered b (c .right)) S t (slots e) q) (less-one (c .right) l i) one)
   run-by m v (Expression.wait p q i) = rw p (signal-step 0 (omega arith) q i)
   run-by m v (Expression.notify p q i) = rw p (signal-step 1 (omega arith) q i)

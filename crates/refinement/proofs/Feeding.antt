@@ -43,7 +43,8 @@ module _ (b : List ℕ) where
   unfolding playing.noRoomBefore machine.act
   if-unlogged t x = record { rule = e-if; needs-no-room = λ s. refl; acts = λ s p t. refl }
 
-  pub call-unlogged : (m n : ℕ) (σ : Slots) (z : Closure) → closure (playing.tableOf b .root m) σ ≡ z → Unlogged b (frames.Ready.call m n σ) (frames.Result.run z)
+  pub call-unlogged : (m n : ℕ) (σ : Slots) (z : Closure) → closure (playing.tableOf b .root m) σ ≡ z
+      → Unlogged b (frames.Ready.call m n σ) (frames.Result.run z)
   unfolding playing.noRoomBefore machine.act
   call-unlogged m n σ z e = record {
     rule = e-call;
@@ -117,7 +118,8 @@ module _ (b : List ℕ) where
         (
           frames.Ready.letIn (binderOf (f .count)) v (closed (f .first) (f .environment)),
           e,
-          let-unlogged (binderOf (f .count)) v (closed (f .first) (f .environment)) (closed (f .first) (bindOf (f .environment) (f .count) v)) (ap (λ (ρ : Slots). closure (f .first) ρ) (sym (let-bound (f .environment) (f .count) v (s .0) l))),
+          let-unlogged (binderOf (f .count)) v (closed (f .first) (f .environment)) (closed (f .first) (bindOf (f .environment) (f .count) v))
+              (ap (λ (ρ : Slots). closure (f .first) ρ) (sym (let-bound (f .environment) (f .count) v (s .0) l))),
         ),
       ),
     )
@@ -125,13 +127,26 @@ module _ (b : List ℕ) where
     feed-by kind.Hold f v hm hn s l w e = (part.Hold, refl, (w, s, l, e))
     feed-by kind.Join f v hm hn s l w e = (part.Join, refl, (w, l, e))
     feed-by kind.Equal1 f v hm hn s l w e = (second-fine kind.Equal2 f v hm l, w, s, e)
-    feed-by kind.Equal2 f v hm hn s l w e = (part.Truth, refl, (w, same-small (f .arguments) v, (frames.Readyᶜ.equal (f .arguments) v, e, equal-unlogged S (f .arguments) v)))
+    feed-by kind.Equal2 f v hm hn s l w e =
+        (part.Truth, refl, (w, same-small (f .arguments) v, (frames.Readyᶜ.equal (f .arguments) v, e, equal-unlogged S (f .arguments) v)))
     feed-by kind.If f v hm hn s l w e = absurd w
     feed-by kind.And f v hm hn s l w e = absurd w
     feed-by kind.Not f v hm hn s l w e = absurd w
     feed-by kind.Test f v hm hn s l w e = absurd w
-    feed-by kind.Body f v hm hn s l w e =
-        (part.Again, refl, (w, s .0, s .1, (frames.Ready.whileBody v (branches (f .first) (f .second) (slots (f .environment))), e, again-unlogged v (branches (f .first) (f .second) (slots (f .environment))))))
+    feed-by kind.Body f v hm hn s l w e = (
+      part.Again,
+      refl,
+      (
+        w,
+        s .0,
+        s .1,
+        (
+          frames.Ready.whileBody v (branches (f .first) (f .second) (slots (f .environment))),
+          e,
+          again-unlogged v (branches (f .first) (f .second) (slots (f .environment))),
+        ),
+      ),
+    )
     feed-by kind.Signal f v hm hn s l w e = (part.Signal, refl, (w, l, e))
 
     -- an expression's value
@@ -182,10 +197,15 @@ module _ (b : List ℕ) where
         kind-if kind.Test f x q
         (choose-goes (eqb x 1) (goAt (readyOf part.Body (f .first) (f .second) 0 (f .environment))) (goAt (readyOf part.Val 0 0 0 0))
         (λ t. (part.Body, refl, (w, s .0, s .1, e ∙ ap (upᶜ (nodeAt b) (terms b) (frames.Frame.whileTest y ∷ S)) t)))
-        (λ t. (part.Val, refl, (w, refl, (frames.Ready.whileTest false y, e ∙ ap (upᶜ (nodeAt b) (terms b) (frames.Frame.whileTest y ∷ S)) t, test-unlogged y)))))
+        (λ t. (
+          part.Val,
+          refl,
+          (w, refl, (frames.Ready.whileTest false y, e ∙ ap (upᶜ (nodeAt b) (terms b) (frames.Frame.whileTest y ∷ S)) t, test-unlogged y)),
+        )))
     feed-condition-by kind.Body f x q s l w e = absurd w
     feed-condition-by kind.Signal f x q s l w e = absurd w
 
-    pub feed-condition-goes : (f : Frame) (x : ℕ) → Fine b f → x < 2 → Wellᶜ (frameOf f ∷ S) → X ≡ upᶜ (nodeAt b) (terms b) (frameOf f ∷ S) (eqb x 1) → Goes b (feedConditionOf f x) S X
+    pub feed-condition-goes : (f : Frame) (x : ℕ) → Fine b f → x < 2 → Wellᶜ (frameOf f ∷ S) → X ≡ upᶜ (nodeAt b) (terms b) (frameOf f ∷ S) (eqb x 1)
+        → Goes b (feedConditionOf f x) S X
     unfolding feedConditionOf
     feed-condition-goes f x n l w e = feed-condition-by (f .kind) f x refl (n .sorted) l w e

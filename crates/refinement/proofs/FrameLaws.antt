@@ -80,7 +80,8 @@ top-count : (n m b a c : ℕ) → c < 16 → n < 16 → top-of n m b a c / 53687
 unfolding top-of
 top-count n m b a c h l = omega arith
 
-unpacked : (f : Frame) → f .first < 1024 → f .second < 1024 → f .member < 32 → f .count < 16 → unpackOf (packOf f .top) (packOf f .environment) (packOf f .arguments) ≡ f
+unpacked : (f : Frame) → f .first < 1024 → f .second < 1024 → f .member < 32 → f .count < 16
+    → unpackOf (packOf f .top) (packOf f .environment) (packOf f .arguments) ≡ f
 unfolding unpackOf packOf top-of
 unpacked f ha hb hm hn =
     let c = codeOf (f .kind) in
@@ -120,7 +121,8 @@ module _ (b : List ℕ) where
       let q : i * 3 + 1 < length k₁ = omega (arith, s, length-set k (i * 3) (packOf f .top)) in
       let r : i * 3 + 2 < length k₂ = omega (arith, s, length-set k (i * 3) (packOf f .top), length-set k₁ (i * 3 + 1) (packOf f .environment)) in
       let top : getD (storeAt k i f) (i * 3) 0 ≡ packOf f .top =
-      getD-set-other k₂ (i * 3 + 2) (i * 3) (packOf f .arguments) 0 (λ e. omega (arith, e)) ∙ getD-set-other k₁ (i * 3 + 1) (i * 3) (packOf f .environment) 0 (λ e. omega (arith, e))
+      getD-set-other k₂ (i * 3 + 2) (i * 3) (packOf f .arguments) 0 (λ e. omega (arith, e))
+      ∙ getD-set-other k₁ (i * 3 + 1) (i * 3) (packOf f .environment) 0 (λ e. omega (arith, e))
       ∙ getD-set-same k (i * 3) (packOf f .top) 0 p in
       let slots : getD (storeAt k i f) (i * 3 + 1) 0 ≡ packOf f .environment =
       getD-set-other k₂ (i * 3 + 2) (i * 3 + 1) (packOf f .arguments) 0 (λ e. omega (arith, e)) ∙ getD-set-same k₁ (i * 3 + 1) (packOf f .environment) 0 q in
@@ -141,7 +143,8 @@ module _ (b : List ℕ) where
       (subst (λ (g : Frame). frameOf g ≡ F) (sym e) (p .0), subst (Fine b) (sym e) (p .1), still-holds k base i f S (omega arith) (p .2))
 
   -- frames that lie elsewhere stay
-  pub holds-same : (k k′ : Stack) (base : ℕ) (S : List frames.Frame) → length S ≤ 33 → ((j : ℕ) → j < 33 → frameAt k′ (base + j) ≡ frameAt k (base + j)) → Holds b k base S
+  pub holds-same : (k k′ : Stack) (base : ℕ) (S : List frames.Frame) → length S ≤ 33 → ((j : ℕ) → j < 33 → frameAt k′ (base + j) ≡ frameAt k (base + j))
+      → Holds b k base S
       → Holds b k′ base S
   holds-same k k′ base [] l e h = tt
   holds-same k k′ base (F ∷ S) l e (x, y, z) =
@@ -160,7 +163,8 @@ module _ (b : List ℕ) where
 pub stored-stay : (k : Stack) (base : ℕ) (g : Go) (d : ℕ) → stored k base (stayOf g d) ≡ k
 stored-stay k base g d = rw (le-ltb d d (omega arith))
 
-pub stored-push : (k : Stack) (base : ℕ) (g : Go) (d : ℕ) (f : Frame) → stored k base (record { go = g; depth = d + 1; at = d; frame = f }) ≡ storeAt k (base + d) f
+pub stored-push : (k : Stack) (base : ℕ) (g : Go) (d : ℕ) (f : Frame)
+    → stored k base (record { go = g; depth = d + 1; at = d; frame = f }) ≡ storeAt k (base + d) f
 stored-push k base g d f = rw (lt-ltb d (d + 1) (omega arith))
 
 pub stored-sized : (b : List ℕ) (k : Stack) (base : ℕ) (t : Turn) → Sized b k → Sized b (stored k base t)

@@ -112,7 +112,8 @@ module _ (ws : List ℕ) (n : ℕ) where
   feed-if-by kind.Join f x h = h
   feed-if-by kind.Equal1 f x h = h
   feed-if-by kind.Equal2 f x h = h
-  feed-if-by kind.If f x h = either (eqb x 1) (goAt (readyOf part.Run (f .first) 0 0 (f .environment))) (goAt (readyOf part.Run (f .second) 0 0 (f .environment))) h h
+  feed-if-by kind.If f x h =
+      either (eqb x 1) (goAt (readyOf part.Run (f .first) 0 0 (f .environment))) (goAt (readyOf part.Run (f .second) 0 0 (f .environment))) h h
   feed-if-by kind.And f x h = h
   feed-if-by kind.Not f x h = h
   feed-if-by kind.Test f x h = either (eqb x 1) (goAt (readyOf part.Body (f .first) (f .second) 0 (f .environment))) (goAt (readyOf part.Val 0 0 0 0)) h h
@@ -135,7 +136,8 @@ module _ (ws : List ℕ) (n : ℕ) where
   feed-condition-by kind.Equal1 f x h l = feed-if f x l
   feed-condition-by kind.Equal2 f x h l = feed-if f x l
   feed-condition-by kind.If f x h l = feed-if f x l
-  feed-condition-by kind.And f x h l = either (eqb x 1) (goAt (readyOf part.RunCondition (f .first) 0 0 (f .environment))) (goAt (readyOf part.Truth 0 0 0 0)) l l
+  feed-condition-by kind.And f x h l =
+      either (eqb x 1) (goAt (readyOf part.RunCondition (f .first) 0 0 (f .environment))) (goAt (readyOf part.Truth 0 0 0 0)) l l
   feed-condition-by kind.Not f x h l = at (eqb x 1) (λ e. omega (arith, eqb-true x 1 e))
     where
       at : (t : Bool) → (t ≡ true → 2 ≤ n) → Enough (cond t (goTruth 0) (goAt (readyOf part.Truth 1 0 0 0)))

@@ -26,7 +26,8 @@ use Rattle.refinement.proofs.States.{cellMeant, CellFits, memoryOf, num
 use Rattle.refinement.proofs.MemoryOf.{fresh-meant, memory-store, memory-past, memory-more}
 use Rattle.refinement.proofs.ThreadNumbers.{numbers-change, numbers-map}
 
-past-fresh : {setting : Setting} {cs : List Cell} {ts : List Object} {n : Counts} {s : machine.State} → Kept setting cs ts n s → FreshPast (memoryOf setting cs ts (n .objects))
+past-fresh : {setting : Setting} {cs : List Cell} {ts : List Object} {n : Counts} {s : machine.State} → Kept setting cs ts n s
+    → FreshPast (memoryOf setting cs ts (n .objects))
 unfolding memoryOf
 past-fresh {setting} {cs} {ts} {n} {s} k a f h = at (ltb a 32 && ltb f 32) refl
   where
@@ -123,7 +124,8 @@ module _ {setting : Setting} {cs : List Cell} {ts : List Object} {n : Counts} {s
   unfolding machine.store
   kept-store o f c i p z q fit =
       kept-cell o f c _ i p q fit
-      (ap (λ (l : List rules.Object). changeAt l o (λ x. record { monitor = x .monitor; fields = storeField (x .fields) f (cellMeant (hasOf (setting .mask) f) c) })) (k .objects)
+      (ap (λ (l : List rules.Object). changeAt l o
+      (λ x. record { monitor = x .monitor; fields = storeField (x .fields) f (cellMeant (hasOf (setting .mask) f) c) })) (k .objects)
       ∙ sym (store-of (memoryOf setting cs ts (n .objects)) o f (cellMeant (hasOf (setting .mask) f) c) z))
       (change-length (s .objects) o _)
 
@@ -132,7 +134,8 @@ module _ {setting : Setting} {cs : List Cell} {ts : List Object} {n : Counts} {s
   unfolding machine.storeMonitor
   kept-monitor o c v i p fit =
       kept-cell o 0 c _ i p (omega arith) fit
-      (ap₂ (λ (l : List rules.Object) (d : rules.Cell). changeAt l o (λ x. record { monitor = d; fields = x .fields })) (k .objects) (ap (λ (x : Bool). cellMeant x c) (sym v))
+      (ap₂ (λ (l : List rules.Object) (d : rules.Cell). changeAt l o (λ x. record { monitor = d; fields = x .fields })) (k .objects)
+      (ap (λ (x : Bool). cellMeant x c) (sym v))
       ∙ sym (store-monitor-of (memoryOf setting cs ts (n .objects)) o (cellMeant (hasOf (setting .mask) 0) c)))
       (change-length (s .objects) o _)
 

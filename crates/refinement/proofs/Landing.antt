@@ -49,7 +49,8 @@ enough-by b ws stage.Truth g S X p = omega (arith, p .1)
 
 -- ---- landing has ended
 
-ended-by : (b : List ℕ) (k : Stack) (base : ℕ) (X : frames.Found) (S : List frames.Frame) (g : Go) (s : Stage) → Holds b k base S → length S ≤ 32 → liveBy s ≡ false → GoesBy b s g S X
+ended-by : (b : List ℕ) (k : Stack) (base : ℕ) (X : frames.Found) (S : List frames.Frame) (g : Go) (s : Stage) → Holds b k base S → length S ≤ 32
+    → liveBy s ≡ false → GoesBy b s g S X
     → FoundBy b s (ended k g (length S)) base X
 ended-by b k base X S g stage.Full held few live p = p
 ended-by b k base X S g stage.At held few live p = (S, held, refl, few, p)
@@ -87,9 +88,11 @@ module _ (b ws rs : List ℕ) (a : Accepted b) (loaded : Loaded b ws rs) (base :
       ∙ sym (Turns.goes (suc n) ws rs base k g (length S) (omega arith) live))
       (record { found = r .found; sized = r .sized; others = λ j h. r .others j h ∙ stored-other k base T j (apart j (T .at) h i) })
 
-  lands-by : (n : ℕ) → LandsIn n → (k : Stack) → Sized b k → (S : List frames.Frame) → Holds b k base S → length S ≤ 32 → (g : Go) → Goes b g S X → Enough ws (suc n) g
+  lands-by : (n : ℕ) → LandsIn n → (k : Stack) → Sized b k → (S : List frames.Frame) → Holds b k base S → length S ≤ 32 → (g : Go) → Goes b g S X
+      → Enough ws (suc n) g
       → (t : Bool) → liveBy (g .stage) ≡ t → Lands b k base X (landOf (suc n) ws rs base k g (length S))
-  lands-by n rest k sized S held few g p q true live = lands-on n rest k sized S few g live (step g S (record { right = a; loaded = loaded; sized = sized; room = room; held = held; few = few }) live p q)
+  lands-by n rest k sized S held few g p q true live =
+      lands-on n rest k sized S few g live (step g S (record { right = a; loaded = loaded; sized = sized; room = room; held = held; few = few }) live p q)
   lands-by n rest k sized S held few g p q false live =
       subst (Lands b k base X) (sym (Turns.halts (suc n) ws rs base k g (length S) (omega arith) live))
       (record { found = ended-by b k base X S g (g .stage) held few live p; sized = sized; others = λ i h. refl })
@@ -100,7 +103,8 @@ module _ (b ws rs : List ℕ) (a : Accepted b) (loaded : Loaded b ws rs) (base :
 
 -- landing, from any stage of an accepted plan
 pub landed : (b ws rs : List ℕ) → refusal b ≡ none → Loaded b ws rs → (base : ℕ) (k : Stack) → Sized b k → base + 33 ≤ 297
-    → (S : List frames.Frame) → Holds b k base S → (g : Go) (d : ℕ) → d ≡ length S → d ≤ 32 → (X : frames.Found) → Goes b g S X → Lands b k base X (landOf 2100 ws rs base k g d)
+    → (S : List frames.Frame) → Holds b k base S → (g : Go) (d : ℕ) → d ≡ length S → d ≤ 32 → (X : frames.Found) → Goes b g S X
+    → Lands b k base X (landOf 2100 ws rs base k g d)
 landed b ws rs right loaded base k sized room S held g d e few X p =
     subst (λ (d : ℕ). Lands b k base X (landOf 2100 ws rs base k g d)) (sym e)
     (lands b ws rs (accepted b right) loaded base room X 2100 k sized S held (omega arith) g p (enough-by b ws (g .stage) g S X p))

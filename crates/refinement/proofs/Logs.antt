@@ -89,7 +89,8 @@ record-counts n p e r w = test-false (eqb (e .kind) 0) _ _ (ne-eqb (e .kind) 0 (
 
 -- an entry and the records after it
 pub put-logged : (l : List ℕ) (n p : ℕ) (e : Entry) (r : Option Record) (L : List Record) → Entered p e r → 3 * n + 3 ≤ length l
-    → (overlay (logPut l n p e) (3 * recordsAfter n e) (bytesOf L) ≡ overlay l (3 * n) (bytesOf (logged r L))) × (recordsAfter n e + length L ≡ n + length (logged r L))
+    → (overlay (logPut l n p e) (3 * recordsAfter n e) (bytesOf L) ≡ overlay l (3 * n) (bytesOf (logged r L))) ×
+    (recordsAfter n e + length L ≡ n + length (logged r L))
 unfolding logged bytesOf
 put-logged l n p e none L w h =
     let q = put-none l n p e w in

@@ -82,7 +82,8 @@ BlockedBy block.NoRule r A = ⊥
 -- thread p, at part r, sees w; where it is ready, Z holds of its move
 abbrev pub MeetsBy : Sight → ℕ → Ready → machine.Attempt → (machine.Move → Type 0) → Type 0
 MeetsBy sight.Ready p r A Z = (v : machine.Move) × (A ≡ machine.Attempt.moves v) × Z v
-MeetsBy sight.Lacking p r A Z = (x : Record) × (A ≡ machine.Attempt.lacking x) × (x .object ≡ objectOf r) × (x .field ≡ look.fieldOf r) × Written p (lackEntry r) x
+MeetsBy sight.Lacking p r A Z =
+    (x : Record) × (A ≡ machine.Attempt.lacking x) × (x .object ≡ objectOf r) × (x .field ≡ look.fieldOf r) × Written p (lackEntry r) x
 MeetsBy (sight.Blocked x) p r A Z = BlockedBy x r A
 
 -- ---- what is read
@@ -166,4 +167,5 @@ ready-there b s p t r there S R e =
 
 -- a plain field's one key
 pub one-key : (c : Cell) (ks : KeySet) (K : Keys) → CellFits c → Fits ks → keysOf ks ≡ K → subset (cellMeant false c .keys) K ≡ holdsOf ks (c .key % 256)
-one-key c ks K f g e = subset-singleton (c .key) K ∙ ap (λ (L : Keys). holds L (c .key)) (sym e) ∙ sym (keys-holds (c .key) (f .key) g) ∙ ap (holdsOf ks) (sym (mod-eq-of-lt (f .key)))
+one-key c ks K f g e = subset-singleton (c .key) K ∙ ap (λ (L : Keys). holds L (c .key)) (sym e) ∙ sym (keys-holds (c .key) (f .key) g)
+    ∙ ap (holdsOf ks) (sym (mod-eq-of-lt (f .key)))

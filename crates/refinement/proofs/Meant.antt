@@ -146,15 +146,26 @@ module _ (b : List ℕ) where
   StandsBy part.RunCondition r S X = Wellᶜ S × IsCondition (r .first) × (X ≡ frames.Found.hereᶜ S (frames.Readyᶜ.and true (closed (r .first) (r .environment))))
   StandsBy part.Val r S X = Well S × (r .first ≡ 0) × Pure S (frames.Result.value 0) X
   StandsBy part.Truth r S X = Wellᶜ S × (r .first < 2) × Pureᶜ S (upᶜ (nodeAt b) (terms b) S (eqb (r .first) 1)) X
-  StandsBy part.While r S X = Well S × IsCondition (r .first) × IsExpression (r .second) × (X ≡ frames.Found.here S (frames.Ready.while (branches (r .first) (r .second) (slots (r .environment)))))
-  StandsBy part.Body r S X = Well S × IsCondition (r .first) × IsExpression (r .second) × (X ≡ frames.Found.here S (frames.Ready.whileTest true (branches (r .first) (r .second) (slots (r .environment)))))
-  StandsBy part.Again r S X = Well S × IsCondition (r .first) × IsExpression (r .second) × Pure S (frames.Result.whileAgain (branches (r .first) (r .second) (slots (r .environment)))) X
-  StandsBy part.New r S X = Well S × (r .first < 2 ^ 32) × (eqb (maskBit (r .first) 0) 1 ≡ false) × (X ≡ frames.Found.here S (frames.Ready.new (fieldsFrom (r .first) 0 32)))
-  StandsBy part.Read r S X = Well S × (r .first < 32) × (0 < r .second) × (r .second < 32) × (X ≡ frames.Found.here S (frames.Ready.read (r .first) (r .second)))
-  StandsBy part.Write r S X = Well S × (r .first < 32) × (0 < r .second) × (r .second < 32) × (r .third < 32) × (X ≡ frames.Found.here S (frames.Ready.write (r .first) (r .second) (r .third)))
+  StandsBy part.While r S X =
+      Well S × IsCondition (r .first) × IsExpression (r .second) ×
+      (X ≡ frames.Found.here S (frames.Ready.while (branches (r .first) (r .second) (slots (r .environment)))))
+  StandsBy part.Body r S X =
+      Well S × IsCondition (r .first) × IsExpression (r .second) ×
+      (X ≡ frames.Found.here S (frames.Ready.whileTest true (branches (r .first) (r .second) (slots (r .environment)))))
+  StandsBy part.Again r S X =
+      Well S × IsCondition (r .first) × IsExpression (r .second) × Pure S
+      (frames.Result.whileAgain (branches (r .first) (r .second) (slots (r .environment)))) X
+  StandsBy part.New r S X =
+      Well S × (r .first < 2 ^ 32) × (eqb (maskBit (r .first) 0) 1 ≡ false) × (X ≡ frames.Found.here S (frames.Ready.new (fieldsFrom (r .first) 0 32)))
+  StandsBy part.Read r S X =
+      Well S × (r .first < 32) × (0 < r .second) × (r .second < 32) × (X ≡ frames.Found.here S (frames.Ready.read (r .first) (r .second)))
+  StandsBy part.Write r S X =
+      Well S × (r .first < 32) × (0 < r .second) × (r .second < 32) × (r .third < 32) ×
+      (X ≡ frames.Found.here S (frames.Ready.write (r .first) (r .second) (r .third)))
   StandsBy part.Fork r S X = Well S × IsExpression (r .first) × (X ≡ frames.Found.here S (frames.Ready.fork (closed (r .first) (r .environment))))
   StandsBy part.Join r S X = Well S × (r .first < 32) × (X ≡ frames.Found.here S (frames.Ready.join (r .first)))
-  StandsBy part.Synch r S X = Well S × (r .first < 32) × IsExpression (r .second) × (X ≡ frames.Found.here S (frames.Ready.synch (r .first) (closed (r .second) (r .environment))))
+  StandsBy part.Synch r S X =
+      Well S × (r .first < 32) × IsExpression (r .second) × (X ≡ frames.Found.here S (frames.Ready.synch (r .first) (closed (r .second) (r .environment))))
   StandsBy part.Hold r S X = Well S × (r .first < 32) × (r .second < 32) × (X ≡ frames.Found.here S (frames.Ready.hold (r .first) (r .second)))
   StandsBy part.Signal r S X = Well S × (r .first < 32) × (X ≡ frames.Found.here S (frames.Ready.signal (signalMeant (r .second)) (r .first)))
   StandsBy part.Waiting r S X = Well S × (r .first < 32) × (X ≡ frames.Found.here S (frames.Ready.waiting (r .first)))
@@ -170,9 +181,14 @@ module _ (b : List ℕ) where
   GoesBy stage.At g S X = Stands (readyIn g) S X
   GoesBy stage.Run g S X = Well S × IsExpression (g .operand) × (X ≡ enter (nodeAt b) (terms b) S (closed (g .operand) (g .frame .environment)))
   GoesBy stage.RunCondition g S X = Wellᶜ S × IsCondition (g .operand) × (X ≡ enterᶜ (nodeAt b) (terms b) S (closed (g .operand) (g .frame .environment)))
-  GoesBy stage.Want g S X = Fine (g .frame) × Well (frameOf (g .frame) ∷ S) × IsExpression (g .operand) × (X ≡ enter (nodeAt b) (terms b) (frameOf (g .frame) ∷ S) (closed (g .operand) (g .frame .environment)))
-  GoesBy stage.WantCondition g S X = Fine (g .frame) × Wellᶜ (frameOf (g .frame) ∷ S) × IsCondition (g .operand) × (X ≡ enterᶜ (nodeAt b) (terms b) (frameOf (g .frame) ∷ S) (closed (g .operand) (g .frame .environment)))
-  GoesBy stage.List g S X = Well S × (g .frame .kind ≡ kind.Call) × (g .frame .member < procedures b) × IsRest (g .frame .count) (g .frame .first) × (X ≡ downᵃ (nodeAt b) (terms b) S (g .frame .member) (g .frame .count) (slots (g .frame .arguments)) (closed (g .frame .first) (g .frame .environment)))
+  GoesBy stage.Want g S X =
+      Fine (g .frame) × Well (frameOf (g .frame) ∷ S) × IsExpression (g .operand) ×
+      (X ≡ enter (nodeAt b) (terms b) (frameOf (g .frame) ∷ S) (closed (g .operand) (g .frame .environment)))
+  GoesBy stage.WantCondition g S X =
+      Fine (g .frame) × Wellᶜ (frameOf (g .frame) ∷ S) × IsCondition (g .operand) ×
+      (X ≡ enterᶜ (nodeAt b) (terms b) (frameOf (g .frame) ∷ S) (closed (g .operand) (g .frame .environment)))
+  GoesBy stage.List g S X = Well S × (g .frame .kind ≡ kind.Call) × (g .frame .member < procedures b) × IsRest (g .frame .count) (g .frame .first) ×
+      (X ≡ downᵃ (nodeAt b) (terms b) S (g .frame .member) (g .frame .count) (slots (g .frame .arguments)) (closed (g .frame .first) (g .frame .environment)))
   GoesBy stage.Value g S X = Well S × (g .operand < 32) × (X ≡ up (nodeAt b) (terms b) S (g .operand))
   GoesBy stage.Truth g S X = Wellᶜ S × (g .operand < 2) × (X ≡ upᶜ (nodeAt b) (terms b) S (eqb (g .operand) 1))
 
@@ -185,7 +201,8 @@ module _ (b : List ℕ) where
 
   -- where landing ended: the part that moves next is found, in frames that the stack holds; or there is no room for the frames
   abbrev pub FoundBy : Stage → Ended → ℕ → frames.Found → Type 0
-  FoundBy stage.At E base X = (S : List frames.Frame) × Holds (E .stack) base S × (E .landed .depth ≡ length S) × (length S ≤ 32) × Stands (E .landed .ready) S X
+  FoundBy stage.At E base X =
+      (S : List frames.Frame) × Holds (E .stack) base S × (E .landed .depth ≡ length S) × (length S ≤ 32) × Stands (E .landed .ready) S X
   FoundBy stage.Full E base X = 32 < frames.height X
   FoundBy stage.Run E base X = ⊥
   FoundBy stage.RunCondition E base X = ⊥

@@ -69,14 +69,17 @@ memory-store setting cs ts n o f c z p q =
     low a g e = ltb-true g 32 (and-eq-true-iff (ltb a 32) (ltb g 32) .0 e .1)
 
     at : (a g : ℕ) → Dec (o ≡ a) → Dec (f ≡ g)
-        → cond (ltb a 32 && ltb g 32) (new a g) fresh ≡ cond (eqb o a && eqb f g) (cellMeant (hasOf (setting .mask) f) c) (cond (ltb a 32 && ltb g 32) (old a g) fresh)
+        → cond (ltb a 32 && ltb g 32) (new a g) fresh ≡ cond (eqb o a && eqb f g) (cellMeant (hasOf (setting .mask) f) c)
+        (cond (ltb a 32 && ltb g 32) (old a g) fresh)
     at a g (yes e) (yes h) =
         test-true (ltb a 32 && ltb g 32) (new a g) fresh (inside-32 a g (omega arith) (omega arith))
         ∙ same a g e h
-        ∙ sym (test-true (eqb o a && eqb f g) (cellMeant (hasOf (setting .mask) f) c) (cond (ltb a 32 && ltb g 32) (old a g) fresh) (rw (eq-eqb o a e, eq-eqb f g h)))
+        ∙ sym (test-true (eqb o a && eqb f g) (cellMeant (hasOf (setting .mask) f) c) (cond (ltb a 32 && ltb g 32) (old a g) fresh)
+        (rw (eq-eqb o a e, eq-eqb f g h)))
     at a g (yes e) (no h) =
         apart a g (ltb a 32 && ltb g 32) refl (λ x y. let l = low a g x in h (omega arith))
-        ∙ sym (test-false (eqb o a && eqb f g) (cellMeant (hasOf (setting .mask) f) c) (cond (ltb a 32 && ltb g 32) (old a g) fresh) (rw (eq-eqb o a e, ne-eqb f g h)))
+        ∙ sym (test-false (eqb o a && eqb f g) (cellMeant (hasOf (setting .mask) f) c) (cond (ltb a 32 && ltb g 32) (old a g) fresh)
+        (rw (eq-eqb o a e, ne-eqb f g h)))
     at a g (no e) h =
         apart a g (ltb a 32 && ltb g 32) refl (λ x y. let l = low a g x in e (omega arith))
         ∙ sym (test-false (eqb o a && eqb f g) (cellMeant (hasOf (setting .mask) f) c) (cond (ltb a 32 && ltb g 32) (old a g) fresh) (rw (ne-eqb o a e)))

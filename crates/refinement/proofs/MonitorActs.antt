@@ -70,10 +70,13 @@ module _ {b : List ℕ} {m : engine.Machine} {s : machine.State} {p : ℕ} (move
       along (λ (x : rules.Cell). Kept (settingOf b) (set cs i c) (set ts (n .objects) nothing) n (machine.storeMonitor s o x)) e z₁
 
   -- E-RE-ENTER, E-ACQUIRE
-  pub synch-meets : (o u w environment i : ℕ) → i ≡ o * 32 + 0 → Well S → o < 32 → IsExpression b u → t .code ≡ frames.Found.here S (frames.Ready.synch o (closed u environment))
-      → MeetsBy (lookSynch (headFor m p (readyOf part.Synch o u w environment)) (getD cs i noCell)) p (readyOf part.Synch o u w environment) (machine.attempt (tableOf b) s p)
+  pub synch-meets : (o u w environment i : ℕ) → i ≡ o * 32 + 0 → Well S → o < 32 → IsExpression b u
+      → t .code ≡ frames.Found.here S (frames.Ready.synch o (closed u environment))
+      → MeetsBy (lookSynch (headFor m p (readyOf part.Synch o u w environment)) (getD cs i noCell)) p (readyOf part.Synch o u w environment)
+      (machine.attempt (tableOf b) s p)
       (Acts mover (readyOf part.Synch o u w environment) i (actSynch n (headFor m p (readyOf part.Synch o u w environment)) (getD cs i noCell) o u environment))
-  unfolding objectBy fieldBy lookSynch actSynch machine.act machine.synchAct machine.around machine.gain machine.storeMonitor playing.noRoomBefore land.go tableOf
+  unfolding objectBy fieldBy lookSynch actSynch machine.act machine.synchAct machine.around machine.gain machine.storeMonitor playing.noRoomBefore land.go
+      tableOf
   synch-meets o u w environment i ei well ho hu code =
       by (isEmptyOf (c .keys)) (eqb (c .value) self) (sym (keys-is-empty (c .keys))) (ap (eqb (c .value)) (sym same))
     where
@@ -99,7 +102,8 @@ module _ {b : List ℕ} {m : engine.Machine} {s : machine.State} {p : ℕ} (move
       acted = ap (machine.synchAct s p t o (closed u environment)) found
 
       by : (x y : Bool) → isEmpty (keysOf (c .keys)) ≡ x → eqb (c .value) (t .self) ≡ y
-          → MeetsBy (cond x (cond y sight.Ready (sight.Blocked block.Monitor)) sight.Ready) p (readyOf part.Synch o u w environment) (machine.attempt (tableOf b) s p)
+          → MeetsBy (cond x (cond y sight.Ready (sight.Blocked block.Monitor)) sight.Ready) p (readyOf part.Synch o u w environment)
+          (machine.attempt (tableOf b) s p)
           (Acts mover (readyOf part.Synch o u w environment) i (cond x
           (actedOf (goRun u environment) n ks c noEntry)
           (heardOf (goWant (holdFrame environment o) u) n (joinedOf ks (c .keys)) c′ (entryOf (records.kindNumber records.Kind.acquire) o 0 0))))
@@ -116,23 +120,31 @@ module _ {b : List ℕ} {m : engine.Machine} {s : machine.State} {p : ℕ} (move
       by false y e q = (
         _,
         attempts mover (frames.Ready.synch o (closed u environment)) code (acted ∙ test-false (isEmpty (keysOf (c .keys))) _ _ e),
-        moved mover _ i e-acquire (some (entry records.Kind.acquire p o 0 0)) (machine.hear (machine.storeMonitor s o (rules.cell empty (t .self))) p (keysOf (c .keys)))
+        moved mover _ i e-acquire (some (entry records.Kind.acquire p o 0 0))
+            (machine.hear (machine.storeMonitor s o (rules.cell empty (t .self))) p (keysOf (c .keys)))
             (enter (nodeAt b) (terms b) (frames.Frame.hold o ∷ S) (closed u environment)) (goWant (holdFrame environment o) u) n
-            (joinOf ks (c .keys)) (newOf ks (c .keys)) c′ nothing (entryOf (records.kindNumber records.Kind.acquire) o 0 0) refl (written mover records.Kind.acquire o 0 0 ho (omega arith) (omega arith)) refl refl
+            (joinOf ks (c .keys)) (newOf ks (c .keys)) c′ nothing (entryOf (records.kindNumber records.Kind.acquire) o 0 0) refl
+            (written mover records.Kind.acquire o 0 0 ho (omega arith) (omega arith)) refl refl
             (record { first-fits = omega arith; second-fits = omega arith; member-fits = omega arith; count-fits = omega arith; sorted = ho }, well, hu, refl)
-            (fits-join fits (fit .keys)) (gained mover (keysOf (c .keys)) _ (countNew (keysOf (c .keys))) _ (joined mover (c .keys) (fit .keys)) (joined-new mover (c .keys) (fit .keys)))
-            (kept-changed (monitor-stored o i c′ _ ei (ap₂ rules.cell keys-empty (ap (λ (a : ℕ). a % 32) same ∙ mod-eq-of-lt self-fits)) (record { key = omega arith; keys = fits-empty }) o-there ho) p _ (λ x. refl)),
+            (fits-join fits (fit .keys))
+            (gained mover (keysOf (c .keys)) _ (countNew (keysOf (c .keys))) _ (joined mover (c .keys) (fit .keys))
+            (joined-new mover (c .keys) (fit .keys)))
+            (kept-changed (monitor-stored o i c′ _ ei (ap₂ rules.cell keys-empty (ap (λ (a : ℕ). a % 32) same ∙ mod-eq-of-lt self-fits))
+            (record { key = omega arith; keys = fits-empty }) o-there ho) p _ (λ x. refl)),
       )
 
   -- E-RELEASE
   pub hold-meets : (o v w environment i : ℕ) → i ≡ o * 32 + 0 → Well S → o < 32 → v < 32 → t .code ≡ frames.Found.here S (frames.Ready.hold o v)
-      → MeetsBy sight.Ready p (readyOf part.Hold o v w environment) (machine.attempt (tableOf b) s p) (Acts mover (readyOf part.Hold o v w environment) i (actHold n (headFor m p (readyOf part.Hold o v w environment)) o v))
+      → MeetsBy sight.Ready p (readyOf part.Hold o v w environment) (machine.attempt (tableOf b) s p)
+      (Acts mover (readyOf part.Hold o v w environment) i (actHold n (headFor m p (readyOf part.Hold o v w environment)) o v))
   unfolding machine.act machine.around machine.storeMonitor playing.noRoomBefore land.go tableOf
   hold-meets o v w environment i ei well ho hv code = (
     _,
     attempts mover (frames.Ready.hold o v) code refl,
-    moved mover _ i e-release (some (entry records.Kind.release p o 0 0)) (machine.storeMonitor s o (rules.cell (t .keys) 0)) (up (nodeAt b) (terms b) S v) (goValue v) n
-        ks 0 (cellOf 0 0 ks) nothing (entryOf (records.kindNumber records.Kind.release) o 0 0) refl (written mover records.Kind.release o 0 0 ho (omega arith) (omega arith)) refl refl
+    moved mover _ i e-release (some (entry records.Kind.release p o 0 0)) (machine.storeMonitor s o (rules.cell (t .keys) 0)) (up (nodeAt b) (terms b) S v)
+        (goValue v) n
+        ks 0 (cellOf 0 0 ks) nothing (entryOf (records.kindNumber records.Kind.release) o 0 0) refl
+        (written mover records.Kind.release o 0 0 ho (omega arith) (omega arith)) refl refl
         (well, hv, refl) fits (unlearnt mover)
         (monitor-stored o i (cellOf 0 0 ks) _ ei (ap (λ (K : Keys). rules.cell K 0) known) (record { key = omega arith; keys = fits })
         (object-there mover o (ready-there b s p t reach there S (frames.Ready.hold o v) code .0)) ho),

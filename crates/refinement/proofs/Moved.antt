@@ -137,7 +137,18 @@ module _ {b ws rs : List ℕ} (loaded : Loaded b ws rs) {m : engine.Machine} {s 
             let same : y ≡ y′ = cc in
             along (λ (y′ : machine.Thread). Headed b (Y .stack) (n .threads * 33) (bornOf X (Y .landed)) y′) same
             (let F = found-at b (Y .landed .stage) Y (n .threads * 33) (y .code) (lands′ .found) (ap (λ (x : Bool). x && fullOf (Y .landed)) (sym k) ∙ f) in
-            record { stack = F .0; held = F .1; depth = F .2; shallow = F .3; stands = F .4; object = o; keys = known; keys-fit = H .keys-fit; learnt = unlearnt });
+            record {
+              stack = F .0;
+              held = F .1;
+              depth = F .2;
+              shallow = F .3;
+              stands = F .4;
+              object = o;
+              keys = known;
+              keys-fit = H .keys-fit;
+              learnt =
+                  unlearnt;
+            });
       }
 
   -- ---- the room after the move
@@ -172,7 +183,8 @@ module _ {b ws rs : List ℕ} (loaded : Loaded b ws rs) {m : engine.Machine} {s 
   pub deep-after : playing.noRoomAfter s p (v .state) ≡ cond (fullOf (L .landed) || youngFull) (some rooms.Room.depth) none
   unfolding playing.noRoomAfter
   deep-after =
-      ap (λ (xs : List machine.Thread). cond (playing.deepAt (getElem? xs p) || playing.anyDeep (drop (length (s .threads)) xs)) (some rooms.Room.depth) none) (D .threads)
+      ap (λ (xs : List machine.Thread). cond (playing.deepAt (getElem? xs p) || playing.anyDeep (drop (length (s .threads)) xs)) (some rooms.Room.depth) none)
+      (D .threads)
       ∙ room-after olds (D .young) _ p (length (s .threads)) (change-length (D .placed) p _ ∙ size) mover-there
       ∙ ap₂ (λ (x y : Bool). cond (x || y) (some rooms.Room.depth) none) (sym mover-full) (sym (two .full))
 
@@ -189,7 +201,8 @@ module _ {b ws rs : List ℕ} (loaded : Loaded b ws rs) {m : engine.Machine} {s 
 
   -- the mover's head, a new thread's, and any other's
   head-mover : headAt heads′ p ≡ moverOf X a (L .landed)
-  head-mover = getD-set-same heads₁ p (moverOf X a (L .landed)) noHead (let x = rel .heads-size in let y = young-size (forks) (m .heads) (n .threads % 9) (bornOf X (Y .landed)) in omega arith)
+  head-mover = getD-set-same heads₁ p (moverOf X a (L .landed)) noHead (let x = rel .heads-size in let y =
+      young-size (forks) (m .heads) (n .threads % 9) (bornOf X (Y .landed)) in omega arith)
 
   head-young : forks ≡ true → headAt heads′ (n .threads) ≡ bornOf X (Y .landed)
   head-young k =
@@ -203,7 +216,8 @@ module _ {b ws rs : List ℕ} (loaded : Loaded b ws rs) {m : engine.Machine} {s 
 
   head-other : (q : ℕ) → (q ≡ p → ⊥) → q < n .threads → headAt heads′ q ≡ headAt (m .heads) q
   head-other q e l =
-      getD-set-other heads₁ p q (moverOf X a (L .landed)) noHead e ∙ young-other (forks) (m .heads) (n .threads % 9) (bornOf X (Y .landed)) q (λ x. omega (arith, mod-threads))
+      getD-set-other heads₁ p q (moverOf X a (L .landed)) noHead e
+      ∙ young-other (forks) (m .heads) (n .threads % 9) (bornOf X (Y .landed)) q (λ x. omega (arith, mod-threads))
 
   forked : (y : machine.Thread) → D .young ≡ some y → forks ≡ true
   forked y e = along (λ (young : Option machine.Thread). Born mover (h .ready) young) e (D .born) .0
@@ -233,7 +247,8 @@ module _ {b ws rs : List ℕ} (loaded : Loaded b ws rs) {m : engine.Machine} {s 
       let l : q < n .threads = (let x = rel .kept .threads-count in let y = inside (s .threads) q u g in omega arith) in
       record {
         stack = G .stack;
-        held = holds-same b (m .stack) (Y .stack) (q * 33) (G .stack) (omega arith) (λ j i. two .others (q * 33 + j) (omega arith) ∙ lands .others (q * 33 + j) (apart q j e i)) (G .held);
+        held = holds-same b (m .stack) (Y .stack) (q * 33) (G .stack) (omega arith) (λ j i. two .others (q * 33 + j) (omega arith)
+            ∙ lands .others (q * 33 + j) (apart q j e i)) (G .held);
         depth = G .depth;
         shallow = G .shallow;
         stands = G .stands;

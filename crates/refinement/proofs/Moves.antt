@@ -69,7 +69,8 @@ module _ {b : List ℕ} {m : engine.Machine} {s : machine.State} {p : ℕ} (move
   abbrev pub Born : Ready → Option machine.Thread → Type 0
   Born r none = isPart part.Fork (r .part) ≡ false
   Born r (some y) =
-      (isPart part.Fork (r .part) ≡ true) × (m .tally .counts .threads < 8) × (m .tally .counts .objects ≡ y .self) × (keysOf (headAt (m .heads) p .keys) ≡ y .keys) × (0 ≡ y .learnt) × (awake ≡ y .place) × Goes b (goRun (r .first) (r .environment)) [] (y .code)
+      (isPart part.Fork (r .part) ≡ true) × (m .tally .counts .threads < 8) × (m .tally .counts .objects ≡ y .self) ×
+      (keysOf (headAt (m .heads) p .keys) ≡ y .keys) × (0 ≡ y .learnt) × (awake ≡ y .place) × Goes b (goRun (r .first) (r .environment)) [] (y .code)
 
   -- the thread, at part r, makes the move v, for which there is room: a is what the code does, with cell i
   pub record Does (r : Ready) (i : ℕ) (a : Acted) (v : machine.Move) : Type 0 where
@@ -94,7 +95,8 @@ module _ {b : List ℕ} {m : engine.Machine} {s : machine.State} {p : ℕ} (move
 
 -- what a pick of thread p meets
 abbrev pub met : engine.Machine → ℕ → Met
-met m p = metAt (m .tally .counts) (m .heads) (m .cells) (m .objects) (m .places) p (cellNumber (headAt (m .heads) p .ready)) (objectOf (headAt (m .heads) p .ready))
+met m p = metAt (m .tally .counts) (m .heads) (m .cells) (m .objects) (m .places) p (cellNumber (headAt (m .heads) p .ready))
+    (objectOf (headAt (m .heads) p .ready))
 
 -- thread p is there, and what the code does is its move v
 pub record Ahead (b : List ℕ) (m : engine.Machine) (s : machine.State) (p : ℕ) (v : machine.Move) : Type 0 where

@@ -49,7 +49,14 @@ knowing K l x = record { self = x .self; code = x .code; keys = K; learnt = l; p
 
 -- thread p's head, were r its part
 abbrev pub headFor : engine.Machine → ℕ → Ready → Head
-headFor m p r = record { ready = r; depth = headAt (m .heads) p .depth; object = headAt (m .heads) p .object; keys = headAt (m .heads) p .keys; learnt = headAt (m .heads) p .learnt }
+headFor m p r = record {
+  ready = r;
+  depth = headAt (m .heads) p .depth;
+  object = headAt (m .heads) p .object;
+  keys = headAt (m .heads) p .keys;
+  learnt =
+      headAt (m .heads) p .learnt;
+}
 
 module _ {b : List ℕ} {m : engine.Machine} {s : machine.State} {p : ℕ} (mover : Mover b m s p) where
   open engine.Machine m using (cells as cs, objects as ts)
@@ -64,7 +71,8 @@ module _ {b : List ℕ} {m : engine.Machine} {s : machine.State} {p : ℕ} (move
   ks = headAt (m .heads) p .keys
 
   -- what is ready is tried
-  pub attempts : {A : machine.Act} (R : frames.Ready) → t .code ≡ frames.Found.here S R → machine.act (tableOf b) s p t R ≡ A → machine.attempt (tableOf b) s p ≡ machine.around (tableOf b) p S A
+  pub attempts : {A : machine.Act} (R : frames.Ready) → t .code ≡ frames.Found.here S R → machine.act (tableOf b) s p t R ≡ A
+      → machine.attempt (tableOf b) s p ≡ machine.around (tableOf b) p S A
   attempts R e h = attempt-act (tableOf b) s p t there S R _ e h
 
   -- the mover's total, with this many more
@@ -93,7 +101,14 @@ module _ {b : List ℕ} {m : engine.Machine} {s : machine.State} {p : ℕ} (move
   unlearnt = unlearnt-among (s .threads) (alike-same (s .threads))
 
   pub gained : (K L : Keys) (count : Keys → ℕ) (i : ℕ) → union K (t .keys) ≡ L → count (t .keys) ≡ i
-      → changeAt (s .threads) p (λ x. record { self = x .self; code = x .code; keys = union K (x .keys); learnt = x .learnt + count (x .keys); place = x .place }) ≡ changeAt (s .threads) p (knowing L (total i))
+      → changeAt (s .threads) p (λ x. record {
+        self = x .self;
+        code = x .code;
+        keys = union K (x .keys);
+        learnt = x .learnt + count (x .keys);
+        place =
+            x .place;
+      }) ≡ changeAt (s .threads) p (knowing L (total i))
   gained K L count i e z =
       change-agree (s .threads) p _ (knowing L (total i)) t there (ap₂ (λ (K : Keys) (l : ℕ). knowing K l t) e (ap₂ (λ (x y : ℕ). x + y) same-total z))
 
@@ -106,11 +121,13 @@ module _ {b : List ℕ} {m : engine.Machine} {s : machine.State} {p : ℕ} (move
   joined c f = ap (union (keysOf c)) (sym known) ∙ or-comm (keysOf c) (keysOf ks) ∙ sym (keys-join fits f)
 
   -- a move that forks no thread, and leaves these places
-  pub moved-among : (xs : List machine.Thread) (r₀ : Ready) (i : ℕ) (R : Rule) (r : Option Record) (s′ : machine.State) (F : frames.Found) (g : Go) (n′ : Counts) (ks′ : KeySet) (new : ℕ) (c : Cell) (x : Object) (e : Entry)
+  pub moved-among : (xs : List machine.Thread) (r₀ : Ready) (i : ℕ) (R : Rule) (r : Option Record) (s′ : machine.State) (F : frames.Found) (g : Go)
+      (n′ : Counts) (ks′ : KeySet) (new : ℕ) (c : Cell) (x : Object) (e : Entry)
       → Alike (s .threads) xs → Places (afterOf (m .places) r₀ p) (placesOf xs)
       → playing.noRoomBefore s R ≡ none → Entered p e r → isPart part.Fork (r₀ .part) ≡ false → Goes b g S F → Fits ks′
       → s′ .threads ≡ changeAt xs p (knowing (keysOf ks′) (total new)) → Kept (settingOf b) (set cs i c) (set ts (n .objects) x) n′ s′
-      → Does mover r₀ i (record { go = g; keys = ks′; cell = c; thing = x; counts = n′; entry = e; new = new }) (record { rule = R; entry = r; state = machine.become s′ p F })
+      → Does mover r₀ i (record { go = g; keys = ks′; cell = c; thing = x; counts = n′; entry = e; new = new })
+      (record { rule = R; entry = r; state = machine.become s′ p F })
   unfolding machine.become
   moved-among xs r₀ i R r s′ F g n′ ks′ new c x e alike places lack ent forks goes fit threads kept = record {
     lacks = lack;
@@ -123,25 +140,31 @@ module _ {b : List ℕ} {m : engine.Machine} {s : machine.State} {p : ℕ} (move
     alike = alike;
     places = places;
     threads =
-        ap (λ (xs : List machine.Thread). changeAt xs p (λ x. record { self = x .self; code = F; keys = x .keys; learnt = x .learnt; place = x .place })) threads
+        ap (λ (xs : List machine.Thread). changeAt xs p (λ x. record { self = x .self; code = F; keys = x .keys; learnt = x .learnt; place = x .place }))
+        threads
         ∙ change-twice xs p (knowing (keysOf ks′) (total new)) (λ x. record { self = x .self; code = F; keys = x .keys; learnt = x .learnt; place = x .place });
     keys-fit = fit;
     kept = kept-changed kept p _ (λ x. refl);
   }
 
   -- a move that forks no thread and makes no signal
-  pub moved : (r₀ : Ready) (i : ℕ) (R : Rule) (r : Option Record) (s′ : machine.State) (F : frames.Found) (g : Go) (n′ : Counts) (ks′ : KeySet) (new : ℕ) (c : Cell) (x : Object) (e : Entry)
+  pub moved : (r₀ : Ready) (i : ℕ) (R : Rule) (r : Option Record) (s′ : machine.State) (F : frames.Found) (g : Go) (n′ : Counts) (ks′ : KeySet) (new : ℕ)
+      (c : Cell) (x : Object) (e : Entry)
       → playing.noRoomBefore s R ≡ none → Entered p e r → isPart part.Fork (r₀ .part) ≡ false → isPart part.Signal (r₀ .part) ≡ false → Goes b g S F → Fits ks′
       → s′ .threads ≡ changeAt (s .threads) p (knowing (keysOf ks′) (total new)) → Kept (settingOf b) (set cs i c) (set ts (n .objects) x) n′ s′
-      → Does mover r₀ i (record { go = g; keys = ks′; cell = c; thing = x; counts = n′; entry = e; new = new }) (record { rule = R; entry = r; state = machine.become s′ p F })
+      → Does mover r₀ i (record { go = g; keys = ks′; cell = c; thing = x; counts = n′; entry = e; new = new })
+      (record { rule = R; entry = r; state = machine.become s′ p F })
   moved r₀ i R r s′ F g n′ ks′ new c x e lack ent forks signals goes fit threads kept =
       moved-among (s .threads) r₀ i R r s′ F g n′ ks′ new c x e (alike-same (s .threads))
-      (along (λ (ws : List ℕ). Places ws (placesOf (s .threads))) (sym (after-quiet (m .places) r₀ p signals)) (mover .related .places)) lack ent forks goes fit threads kept
+      (along (λ (ws : List ℕ). Places ws (placesOf (s .threads))) (sym (after-quiet (m .places) r₀ p signals)) (mover .related .places)) lack ent forks goes
+      fit threads kept
 
   -- a move that leaves the memory, the keys and the places as they are, and no record
-  pub plain : (r₀ : Ready) (i : ℕ) (R : Rule) (F : frames.Found) (g : Go) → isPart part.Fork (r₀ .part) ≡ false → isPart part.Signal (r₀ .part) ≡ false → playing.noRoomBefore s R ≡ none → Goes b g S F
+  pub plain : (r₀ : Ready) (i : ℕ) (R : Rule) (F : frames.Found) (g : Go) → isPart part.Fork (r₀ .part) ≡ false → isPart part.Signal (r₀ .part) ≡ false
+      → playing.noRoomBefore s R ≡ none → Goes b g S F
       → Acts mover r₀ i (actedOf g n ks (getD cs i noCell) noEntry) (record { rule = R; entry = none; state = machine.become s p F })
-  plain r₀ i R F g forks signals lack goes = moved r₀ i R none s F g n ks 0 (getD cs i noCell) nothing noEntry lack refl forks signals goes fits unlearnt (kept-past (kept-same k i) nothing)
+  plain r₀ i R F g forks signals lack goes =
+      moved r₀ i R none s F g n ks 0 (getD cs i noCell) nothing noEntry lack refl forks signals goes fits unlearnt (kept-past (kept-same k i) nothing)
 
   pub few-threads : n .threads ≤ 8
   few-threads = let a = k .threads-count in let c = reach .limits .counts .few-threads in omega arith
@@ -151,4 +174,15 @@ module _ {b : List ℕ} {m : engine.Machine} {s : machine.State} {p : ℕ} (move
 
   -- an entry is a record
   pub written : (K : records.Kind) (o f v : ℕ) → o < 32 → f < 32 → v < 32 → Written p (entryOf (records.kindNumber K) o f v) (entry K p o f v)
-  written K o f v x y z = record { kind = refl; thread = refl; object = refl; field = refl; value = refl; thread-fits = small; object-fits = x; field-fits = y; value-fits = z }
+  written K o f v x y z = record {
+    kind = refl;
+    thread = refl;
+    object = refl;
+    field = refl;
+    value = refl;
+    thread-fits = small;
+    object-fits = x;
+    field-fits =
+        y;
+    value-fits = z;
+  }

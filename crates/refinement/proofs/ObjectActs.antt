@@ -56,7 +56,8 @@ use Rattle.refinement.proofs.ThreadNumbers.{Strange, strange-number, ad
 use Rattle.refinement.proofs.KeptLaws.{kept-changed, kept-past, kept-object, kept-same, no-fields, no-bit}
 use Rattle.refinement.proofs.Looks.{Written, MeetsBy, ready-there}
 use Rattle.refinement.proofs.Moves.{Mover, Acts, moverIn}
-use Rattle.refinement.proofs.Moving.{headFor, total, unlearnt, gained, same-total, joined, joined-new, moved, few-threads, object-there, written, attempts}
+use Rattle.refinement.proofs.Moving.{headFor, total, unlearnt, gained, same-total, joined, joined-new, moved, few-threads, object-there, written}
+use Rattle.refinement.proofs.Moving.{attempts}
 use Rattle.refinement.proofs.Ended.{joinBy, Ends, ends}
 use Rattle.refinement.proofs.ChangeLaws.{change-agree, change-before}
 
@@ -81,14 +82,17 @@ module _ {b : List ℕ} {m : engine.Machine} {s : machine.State} {p : ℕ} (move
 
   -- E-NEW
   pub new-meets : (a b′ w environment i : ℕ) → Well S → eqb (maskBit a 0) 1 ≡ false → t .code ≡ frames.Found.here S (frames.Ready.new (fieldsFrom a 0 32))
-      → MeetsBy sight.Ready p (readyOf part.New a b′ w environment) (machine.attempt (tableOf b) s p) (Acts mover (readyOf part.New a b′ w environment) i (actNew n (headFor m p (readyOf part.New a b′ w environment)) (getD cs i noCell) a))
+      → MeetsBy sight.Ready p (readyOf part.New a b′ w environment) (machine.attempt (tableOf b) s p)
+      (Acts mover (readyOf part.New a b′ w environment) i (actNew n (headFor m p (readyOf part.New a b′ w environment)) (getD cs i noCell) a))
   unfolding actNew machine.act machine.around machine.addObject playing.noRoomBefore land.go tableOf
   new-meets a b′ w environment i well out code = by (leb 32 (n .objects)) refl
     where
       count : n .objects ≡ length (s .objects)
       count = k .objects-count
 
-      kept : n .objects < 32 → Kept (settingOf b) (set cs i (getD cs i noCell)) (set ts (n .objects) (record { mask = a; thread = 8 })) (countsOf (n .threads) (n .objects + 1) (n .keys)) (machine.addObject s (fieldsFrom a 0 32))
+      kept : n .objects < 32
+          → Kept (settingOf b) (set cs i (getD cs i noCell)) (set ts (n .objects) (record { mask = a; thread = 8 }))
+          (countsOf (n .threads) (n .objects + 1) (n .keys)) (machine.addObject s (fieldsFrom a 0 32))
       kept h =
           kept-object (kept-same k i) (record { mask = a; thread = 8 }) (s .threads) (n .threads) h out (k .threads-count) (λ o l. refl)
           (ap numberOf (sym (strange-number (s .threads) 0 (n .objects) strange)))
@@ -114,16 +118,20 @@ module _ {b : List ℕ} {m : engine.Machine} {s : machine.State} {p : ℕ} (move
           let h : n .objects < 32 = leb-false 32 (n .objects) e in (
             _,
             acted,
-            moved mover _ i e-new (some (entry records.Kind.new p (length (s .objects)) 0 0)) (machine.addObject s (fieldsFrom a 0 32)) (up (nodeAt b) (terms b) S (length (s .objects))) (goValue (n .objects))
-                (countsOf (n .threads) (n .objects + 1) (n .keys)) ks 0 (getD cs i noCell) (record { mask = a; thread = 8 }) (entryOf (records.kindNumber records.Kind.new) (n .objects) 0 0)
+            moved mover _ i e-new (some (entry records.Kind.new p (length (s .objects)) 0 0)) (machine.addObject s (fieldsFrom a 0 32))
+                (up (nodeAt b) (terms b) S (length (s .objects))) (goValue (n .objects))
+                (countsOf (n .threads) (n .objects + 1) (n .keys)) ks 0 (getD cs i noCell) (record { mask = a; thread = 8 })
+                (entryOf (records.kindNumber records.Kind.new) (n .objects) 0 0)
                 (test-false (leb 32 (length (s .objects))) _ _ (ap (leb 32) (sym count) ∙ e))
-                (along (λ (o : ℕ). Written p (entryOf (records.kindNumber records.Kind.new) (n .objects) 0 0) (entry records.Kind.new p o 0 0)) count (written mover records.Kind.new (n .objects) 0 0 h (omega arith) (omega arith)))
+                (along (λ (o : ℕ). Written p (entryOf (records.kindNumber records.Kind.new) (n .objects) 0 0) (entry records.Kind.new p o 0 0)) count
+                (written mover records.Kind.new (n .objects) 0 0 h (omega arith) (omega arith)))
                 refl refl (well, h, ap (up (nodeAt b) (terms b) S) (sym count)) fits (unlearnt mover) (kept h),
           )
 
   -- E-FORK
   pub fork-meets : (u b′ w environment i : ℕ) → Well S → IsExpression b u → t .code ≡ frames.Found.here S (frames.Ready.fork (closed u environment))
-      → MeetsBy sight.Ready p (readyOf part.Fork u b′ w environment) (machine.attempt (tableOf b) s p) (Acts mover (readyOf part.Fork u b′ w environment) i (actFork n (headFor m p (readyOf part.Fork u b′ w environment)) (getD cs i noCell)))
+      → MeetsBy sight.Ready p (readyOf part.Fork u b′ w environment) (machine.attempt (tableOf b) s p)
+      (Acts mover (readyOf part.Fork u b′ w environment) i (actFork n (headFor m p (readyOf part.Fork u b′ w environment)) (getD cs i noCell)))
   unfolding afterOf actFork machine.act machine.around machine.addObject machine.addThread machine.become playing.noRoomBefore land.go tableOf
   fork-meets u b′ w environment i well hu code = by (leb 8 (n .threads)) (leb 32 (n .objects)) refl refl
     where
@@ -156,7 +164,8 @@ module _ {b : List ℕ} {m : engine.Machine} {s : machine.State} {p : ℕ} (move
 
       kept : n .objects < 32 → Kept (settingOf b) (set cs i (getD cs i noCell)) (set ts (n .objects) x) n′ s′
       kept h =
-          along (λ (fs : List ℕ). Kept (settingOf b) (set cs i (getD cs i noCell)) (set ts (n .objects) x) n′ (machine.addThread (machine.addObject s fs) y)) no-fields
+          along (λ (fs : List ℕ). Kept (settingOf b) (set cs i (getD cs i noCell)) (set ts (n .objects) x) n′ (machine.addThread (machine.addObject s fs) y))
+          no-fields
           (kept-object (kept-same k i) x (s .threads ++ (y ∷ [])) (n .threads + 1) h no-bit (more (s .threads) y count-threads)
           (λ o l. other-number (s .threads) y 0 o (λ e. omega arith))
           (let z = added-number (s .threads) y 0 (n .objects) (sym count) strange in omega arith))
@@ -186,7 +195,8 @@ module _ {b : List ℕ} {m : engine.Machine} {s : machine.State} {p : ℕ} (move
       by false true e₁ e₂ = (
         _,
         acted,
-        test-false (leb 8 (length (s .threads))) _ _ (ap (leb 8) (sym count-threads) ∙ e₁) ∙ test-true (leb 32 (length (s .objects))) _ _ (ap (leb 32) (sym count) ∙ e₂),
+        test-false (leb 8 (length (s .threads))) _ _ (ap (leb 8) (sym count-threads) ∙ e₁)
+            ∙ test-true (leb 32 (length (s .objects))) _ _ (ap (leb 32) (sym count) ∙ e₂),
       )
       by false false e₁ e₂ =
           let h : n .objects < 32 = leb-false 32 (n .objects) e₂ in
@@ -194,7 +204,8 @@ module _ {b : List ℕ} {m : engine.Machine} {s : machine.State} {p : ℕ} (move
             _,
             acted,
             record {
-              lacks = test-false (leb 8 (length (s .threads))) _ _ (ap (leb 8) (sym count-threads) ∙ e₁) ∙ test-false (leb 32 (length (s .objects))) _ _ (ap (leb 32) (sym count) ∙ e₂);
+              lacks = test-false (leb 8 (length (s .threads))) _ _ (ap (leb 8) (sym count-threads) ∙ e₁)
+                  ∙ test-false (leb 32 (length (s .objects))) _ _ (ap (leb 32) (sym count) ∙ e₂);
               entered = record {
                 kind = refl;
                 thread = refl;
@@ -221,8 +232,11 @@ module _ {b : List ℕ} {m : engine.Machine} {s : machine.State} {p : ℕ} (move
 
   -- E-JOIN
   pub join-meets : (o b′ w environment i j : ℕ) → j ≡ o → Well S → o < 32 → t .code ≡ frames.Found.here S (frames.Ready.join o)
-      → MeetsBy (lookJoin (getD ts j noThing) (getD l (getD ts j noThing .thread % 16) noHead .ready .part)) p (readyOf part.Join o b′ w environment) (machine.attempt (tableOf b) s p)
-      (Acts mover (readyOf part.Join o b′ w environment) i (actJoin n (headFor m p (readyOf part.Join o b′ w environment)) (getD cs i noCell) (getD ts j noThing) (getD l (getD ts j noThing .thread % 16) noHead) o))
+      → MeetsBy (lookJoin (getD ts j noThing) (getD l (getD ts j noThing .thread % 16) noHead .ready .part)) p (readyOf part.Join o b′ w environment)
+      (machine.attempt (tableOf b) s p)
+      (Acts mover (readyOf part.Join o b′ w environment) i
+      (actJoin n (headFor m p (readyOf part.Join o b′ w environment)) (getD cs i noCell) (getD ts j noThing)
+      (getD l (getD ts j noThing .thread % 16) noHead) o))
   unfolding objectBy fieldBy lookJoin machine.act machine.joinAct machine.joinValue machine.around machine.gain playing.noRoomBefore land.go tableOf
   join-meets o b′ w environment i j ej well ho code =
       by (machine.threadOf 0 (s .threads) o) refl
@@ -232,7 +246,9 @@ module _ {b : List ℕ} {m : engine.Machine} {s : machine.State} {p : ℕ} (move
       Sees : Sight → ℕ → Head → Type 0
       Sees w₁ a q =
           MeetsBy w₁ p (readyOf part.Join o b′ w environment) (machine.attempt (tableOf b) s p)
-          (Acts mover (readyOf part.Join o b′ w environment) i (heardOf (goValue (q .ready .first)) n (joinedOf ks (q .keys)) (getD cs i noCell) (entryOf (records.kindNumber records.Kind.join) o a (q .ready .first))))
+          (Acts mover (readyOf part.Join o b′ w environment) i
+          (heardOf (goValue (q .ready .first)) n (joinedOf ks (q .keys)) (getD cs i noCell)
+          (entryOf (records.kindNumber records.Kind.join) o a (q .ready .first))))
 
       Goal : ℕ → Head → Type 0
       Goal a q = Sees (cond (leb 8 a) (sight.Blocked block.Thread) (joinBy (q .ready .part))) a q
@@ -242,14 +258,20 @@ module _ {b : List ℕ} {m : engine.Machine} {s : machine.State} {p : ℕ} (move
       acted x e = attempts mover (frames.Ready.join o) code (ap (machine.joinAct s p o) e)
 
       finish : (q : machine.Numbered) (h : Head) (w₁ : Sight) → machine.threadOf 0 (s .threads) o ≡ some q → q .number < 8
-          → keysOf (h .keys) ≡ q .thread .keys → Fits (h .keys) → Ends (h .ready .part) (h .ready .first) (q .thread .code) → joinBy (h .ready .part) ≡ w₁ → Sees w₁ (q .number) h
+          → keysOf (h .keys) ≡ q .thread .keys → Fits (h .keys) → Ends (h .ready .part) (h .ready .first) (q .thread .code) → joinBy (h .ready .part) ≡ w₁
+          → Sees w₁ (q .number) h
       finish q h w₁ e lt eq fit (inl (j, f, v)) e₁ =
           along (λ (w₁ : Sight). Sees w₁ (q .number) h) (sym j ∙ e₁) (
             _,
             acted (some q) e ∙ ap (λ (v : Option ℕ). machine.around (tableOf b) p S (machine.joinValue s p o q v)) f,
-            moved mover _ i e-join (some (entry records.Kind.join p o (q .number) (h .ready .first))) (machine.hear s p (q .thread .keys)) (up (nodeAt b) (terms b) S (h .ready .first)) (goValue (h .ready .first)) n
-                (joinOf ks (h .keys)) (newOf ks (h .keys)) (getD cs i noCell) nothing (entryOf (records.kindNumber records.Kind.join) o (q .number) (h .ready .first)) refl (written mover records.Kind.join o (q .number) (h .ready .first) ho (omega arith) v) refl refl
-                (well, v, refl) (fits-join fits fit) (gained mover (q .thread .keys) _ (countNew (q .thread .keys)) _ (ap (λ (K : Keys). union K (t .keys)) (sym eq) ∙ joined mover (h .keys) fit)
+            moved mover _ i e-join (some (entry records.Kind.join p o (q .number) (h .ready .first))) (machine.hear s p (q .thread .keys))
+                (up (nodeAt b) (terms b) S (h .ready .first)) (goValue (h .ready .first)) n
+                (joinOf ks (h .keys)) (newOf ks (h .keys)) (getD cs i noCell) nothing
+                (entryOf (records.kindNumber records.Kind.join) o (q .number) (h .ready .first)) refl
+                (written mover records.Kind.join o (q .number) (h .ready .first) ho (omega arith) v) refl refl
+                (well, v, refl) (fits-join fits fit)
+                (gained mover (q .thread .keys) _ (countNew (q .thread .keys)) _ (ap (λ (K : Keys). union K (t .keys)) (sym eq)
+                ∙ joined mover (h .keys) fit)
                 (ap (λ (K : Keys). countNew K (t .keys)) (sym eq) ∙ joined-new mover (h .keys) fit))
                 (kept-changed (kept-past (kept-same k i) nothing) p _ (λ x. refl)),
           )
@@ -275,4 +297,5 @@ module _ {b : List ℕ} {m : engine.Machine} {s : machine.State} {p : ℕ} (move
           (along (λ (z : ℕ). Goal (q .number) (getD l z noHead)) (sym (mod-eq-of-lt {m = 16} (omega arith)))
           (along (λ (x : Bool). Sees (cond x (sight.Blocked block.Thread) (joinBy (headAt l (q .number) .ready .part))) (q .number) (headAt l (q .number)))
           (sym (lt-leb 8 (q .number) lt))
-          (finish q (headAt l (q .number)) _ e lt (H .keys) (H .keys-fit) (ends b (headAt l (q .number) .ready) (H .stack) (q .thread .code) (H .stands)) refl)))
+          (finish q (headAt l (q .number)) _ e lt (H .keys) (H .keys-fit) (ends b (headAt l (q .number) .ready) (H .stack) (q .thread .code) (H .stands))
+          refl)))

@@ -95,7 +95,8 @@ module _ {b ws rs : List ℕ} {k : Stack} {base : ℕ} {S : List frames.Frame} (
   pushes : (g : Go) (f : Frame) → length S < 32 → Fine b f → Goes b g (frameOf f ∷ S) X → Enough ws n g → Next b ws k base n X (pushed g (length S) f)
   pushes g f l fine p q = record {
     around = frameOf f ∷ S;
-    holds = subst (λ (k : Stack). Holds b k base (frameOf f ∷ S)) (sym (stored-push k base g (length S) f)) (holds-more b k base f S (c .sized) (omega (arith, c .room)) fine (c .held));
+    holds = subst (λ (k : Stack). Holds b k base (frameOf f ∷ S)) (sym (stored-push k base g (length S) f))
+        (holds-more b k base f S (c .sized) (omega (arith, c .room)) fine (c .held));
     depth-is = omega arith;
     few = l;
     goes = p;
@@ -103,7 +104,8 @@ module _ {b ws rs : List ℕ} {k : Stack} {base : ℕ} {S : List frames.Frame} (
   }
 
   -- one frame more, or no room for it
-  push : (g : Go) (f : Frame) → Fine b f → Goes b g (frameOf f ∷ S) X → Enough ws n g → length (frameOf f ∷ S) ≤ frames.height X → 1 ≤ n → Next b ws k base n X (pushOf g (length S) f)
+  push : (g : Go) (f : Frame) → Fine b f → Goes b g (frameOf f ∷ S) X → Enough ws n g → length (frameOf f ∷ S) ≤ frames.height X → 1 ≤ n
+      → Next b ws k base n X (pushOf g (length S) f)
   push g f fine p q deep l = at (decLt (length S) 32)
     where
       at : Dec (length S < 32) → Next b ws k base n X (pushOf g (length S) f)
@@ -111,7 +113,8 @@ module _ {b ws rs : List ℕ} {k : Stack} {base : ℕ} {S : List frames.Frame} (
       at (no m) = subst (Next b ws k base n X) (push-full g (length S) f (omega arith)) (stays goFull (omega arith) l)
 
   -- an operand, which is an expression
-  pub want : (f : Frame) (i : ℕ) → Fine b f → Well (frameOf f ∷ S) → IsExpression b i → X ≡ enter (nodeAt b) (terms b) (frameOf f ∷ S) (closed i (f .environment))
+  pub want : (f : Frame) (i : ℕ) → Fine b f → Well (frameOf f ∷ S) → IsExpression b i
+      → X ≡ enter (nodeAt b) (terms b) (frameOf f ∷ S) (closed i (f .environment))
       → left i ≤ n → needs (f .kind) (f .first) ≤ n → Next b ws k base n X (wantOf ws f i (length S))
   want f i fine w s e l m = at (valued b ws rs (c .right) (c .loaded) i (f .environment) s)
     where
@@ -119,14 +122,17 @@ module _ {b ws rs : List ℕ} {k : Stack} {base : ℕ} {S : List frames.Frame} (
       at (Valued.value p q) =
           let v = valueOf ws (f .environment) i in
           subst (Next b ws k base n X) (want-value ws f i (length S) p)
-          (stays (feedOf f v) (feed-goes b S X f v fine p w (e ∙ enter-value (ordered b (c .right)) (frameOf f ∷ S) (closed i (f .environment)) v q)) (feed-enough ws n f v m))
+          (stays (feedOf f v) (feed-goes b S X f v fine p w (e ∙ enter-value (ordered b (c .right)) (frameOf f ∷ S) (closed i (f .environment)) v q))
+          (feed-enough ws n f v m))
       at (Valued.other p q) =
           let deep = under (ordered b (c .right)) (frameOf f ∷ S) (closed i (f .environment)) q in
           subst (Next b ws k base n X) (want-other ws f i (length S) p)
-          (push (goRun i (f .environment)) f fine (w, s, e) (l, λ r. absurd (omega arith)) (subst (λ (X : frames.Found). length (frameOf f ∷ S) ≤ frames.height X) (sym e) deep) (omega arith))
+          (push (goRun i (f .environment)) f fine (w, s, e) (l, λ r. absurd (omega arith))
+          (subst (λ (X : frames.Found). length (frameOf f ∷ S) ≤ frames.height X) (sym e) deep) (omega arith))
 
   -- an operand, which is a condition
-  pub wantᶜ : (f : Frame) (i : ℕ) → Fine b f → Wellᶜ (frameOf f ∷ S) → IsCondition b i → X ≡ enterᶜ (nodeAt b) (terms b) (frameOf f ∷ S) (closed i (f .environment))
+  pub wantᶜ : (f : Frame) (i : ℕ) → Fine b f → Wellᶜ (frameOf f ∷ S) → IsCondition b i
+      → X ≡ enterᶜ (nodeAt b) (terms b) (frameOf f ∷ S) (closed i (f .environment))
       → left i ≤ n → Next b ws k base n X (wantConditionOf ws f i (length S))
   wantᶜ f i fine w s e l = at (tested b ws rs (c .right) (c .loaded) i (f .environment) s)
     where
@@ -134,12 +140,14 @@ module _ {b ws rs : List ℕ} {k : Stack} {base : ℕ} {S : List frames.Frame} (
       at (Tested.value p q) =
           let v = truthOf ws i in
           subst (Next b ws k base n X) (want-truth ws f i (length S) p)
-          (stays (feedConditionOf f v) (feed-condition-goes b S X f v fine p w (e ∙ enter-truth (ordered b (c .right)) (frameOf f ∷ S) (closed i (f .environment)) (eqb v 1) q))
+          (stays (feedConditionOf f v)
+          (feed-condition-goes b S X f v fine p w (e ∙ enter-truth (ordered b (c .right)) (frameOf f ∷ S) (closed i (f .environment)) (eqb v 1) q))
           (feed-condition-enough ws n f v (omega arith)))
       at (Tested.other p q) =
           let deep = underᶜ (ordered b (c .right)) (frameOf f ∷ S) (closed i (f .environment)) q in
           subst (Next b ws k base n X) (want-otherᶜ ws f i (length S) p)
-          (push (goRunCondition i (f .environment)) f fine (w, s, e) l (subst (λ (X : frames.Found). length (frameOf f ∷ S) ≤ frames.height X) (sym e) deep) (omega arith))
+          (push (goRunCondition i (f .environment)) f fine (w, s, e) l (subst (λ (X : frames.Found). length (frameOf f ∷ S) ≤ frames.height X) (sym e) deep)
+          (omega arith))
 
 -- ---- children
 

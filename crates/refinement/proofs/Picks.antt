@@ -62,7 +62,8 @@ abbrev pub By : List ℕ → engine.Machine → machine.State → ℕ → Picked
 By b m s p z = AnsweredBy b m s p (z .answer) (z .stack)
 
 -- a pick that is passed over
-passed-by : (b : List ℕ) (s : machine.State) (p : ℕ) (x : Block) (r : Ready) → BlockedBy x r (machine.attempt (tableOf b) s p) → playing.step (tableOf b) s p ≡ playing.Answer.passed
+passed-by : (b : List ℕ) (s : machine.State) (p : ℕ) (x : Block) (r : Ready) → BlockedBy x r (machine.attempt (tableOf b) s p)
+    → playing.step (tableOf b) s p ≡ playing.Answer.passed
 unfolding playing.step playing.answer
 passed-by b s p block.Finished r h = ap (playing.answer s p) h
 passed-by b s p block.Monitor r h = ap (playing.answer s p) h
@@ -97,7 +98,8 @@ module _ {b ws rs : List ℕ} (loaded : Loaded b ws rs) {m : engine.Machine} {s 
     answered d e = step-moves b s p v none _ attempts (D .lacks) (deep-after loaded mover a D ∙ ap (λ (d : Bool). cond d (some rooms.Room.depth) none) e)
 
     -- a move that has landed
-    moved : (f : Bool) → forksOf (x .head) ≡ f → fullOf (L .landed) ≡ false → (f && fullOf (Y f .landed)) ≡ false → AnsweredBy b m s p (answer.Moved (left ws rs x a (m .stack) f)) (Y f .stack)
+    moved : (f : Bool) → forksOf (x .head) ≡ f → fullOf (L .landed) ≡ false → (f && fullOf (Y f .landed)) ≡ false
+        → AnsweredBy b m s p (answer.Moved (left ws rs x a (m .stack) f)) (Y f .stack)
     unfolding playing.withinRoom
     moved f e full young =
         let none-full : youngFull ≡ false = ap (λ (f : Bool). f && fullOf (Y f .landed)) e ∙ young in (
@@ -146,6 +148,9 @@ module _ (b ws rs : List ℕ) (ok : refusal b ≡ none) (loaded : Loaded b ws rs
     where
       by : (z : Bool) → leb (m .tally .counts .threads) p ≡ z
           → By b m s p (cond z (picked (m .stack) answer.Passed) (pickBy ws rs (settingOf b) (met m p) (lookMet (settingOf b) (met m p)) (m .stack)))
-      by true e =
-          (ap (playing.answer s p) (attempt-absent (tableOf b) s p (let h = leb-true (m .tally .counts .threads) p e in let y = rel .kept .threads-count in omega arith)), refl)
+      by true e = (
+        ap (playing.answer s p)
+            (attempt-absent (tableOf b) s p (let h = leb-true (m .tally .counts .threads) p e in let y = rel .kept .threads-count in omega arith)),
+        refl,
+      )
       by false e = met-by (lookMet (settingOf b) (met m p)) (looks b ok m s rel reach p small (leb-false (m .tally .counts .threads) p e))

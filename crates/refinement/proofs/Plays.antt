@@ -96,7 +96,8 @@ blocked-status block.Thread r A h = ap playing.status (sym h)
 blocked-status block.NotHeld r A h = ap playing.status (sym h)
 blocked-status block.NoRule r A h = absurd h
 
-meets-status : (w : Sight) (p : ℕ) (r : Ready) (A : machine.Attempt) (Z : machine.Move → Type 0) → MeetsBy w p r A Z → stateMeant (stateOf w r) ≡ playing.status A
+meets-status : (w : Sight) (p : ℕ) (r : Ready) (A : machine.Attempt) (Z : machine.Move → Type 0) → MeetsBy w p r A Z
+    → stateMeant (stateOf w r) ≡ playing.status A
 unfolding playing.status
 meets-status sight.Ready p r A Z h = ap playing.status (sym (h .1))
 meets-status sight.Lacking p r A Z h = ap₂ Status.lacking (sym (h .2)) (sym (h .3)) ∙ ap playing.status (sym (h .1))
@@ -113,12 +114,15 @@ statuses b ok m s rel reach =
     cons-same (at 0 (omega arith)) (cons-same (at 1 (omega arith)) (cons-same (at 2 (omega arith)) (cons-same (at 3 (omega arith))
     (cons-same (at 4 (omega arith)) (cons-same (at 5 (omega arith)) (cons-same (at 6 (omega arith)) (cons-same (at 7 (omega arith)) refl)))))))
   where
-    at : (p : ℕ) → p < 8 → statusOf (threadAt (settingOf b) (m .tally .counts) (m .heads) (m .cells) (m .objects) (m .places) p) ≡ playing.status (machine.attempt (tableOf b) s p)
+    at : (p : ℕ) → p < 8 → statusOf (threadAt (settingOf b) (m .tally .counts) (m .heads) (m .cells) (m .objects) (m .places) p) ≡ playing.status
+        (machine.attempt (tableOf b) s p)
     at p h = by (leb (m .tally .counts .threads) p) refl
       where
         by : (z : Bool) → leb (m .tally .counts .threads) p ≡ z
-            → statusOf (cond z absent (record { state = stateBy (settingOf b) (met m p); learnt = headAt (m .heads) p .learnt % 256 })) ≡ playing.status (machine.attempt (tableOf b) s p)
-        by true e = ap playing.status (sym (attempt-absent (tableOf b) s p (let x = leb-true (m .tally .counts .threads) p e in let y = rel .kept .threads-count in omega arith)))
+            → statusOf (cond z absent (record { state = stateBy (settingOf b) (met m p); learnt = headAt (m .heads) p .learnt % 256 })) ≡ playing.status
+            (machine.attempt (tableOf b) s p)
+        by true e = ap playing.status
+            (sym (attempt-absent (tableOf b) s p (let x = leb-true (m .tally .counts .threads) p e in let y = rel .kept .threads-count in omega arith)))
         by false e =
             meets-status (lookMet (settingOf b) (met m p)) p (headAt (m .heads) p .ready) (machine.attempt (tableOf b) s p) (Ahead b m s p)
             (looks b ok m s rel reach p h (leb-false (m .tally .counts .threads) p e))
@@ -133,11 +137,13 @@ totals b m s rel reach =
     count : m .tally .counts .threads ≡ length (s .threads)
     count = rel .kept .threads-count
 
-    at : (p : ℕ) → threadAt (settingOf b) (m .tally .counts) (m .heads) (m .cells) (m .objects) (m .places) p .learnt ≡ playing.totalOf (getElem? (s .threads) p)
+    at : (p : ℕ) → threadAt (settingOf b) (m .tally .counts) (m .heads) (m .cells) (m .objects) (m .places) p .learnt ≡ playing.totalOf
+        (getElem? (s .threads) p)
     at p = by (leb (m .tally .counts .threads) p) refl
       where
         by : (z : Bool) → leb (m .tally .counts .threads) p ≡ z
-            → cond z absent (record { state = stateBy (settingOf b) (met m p); learnt = headAt (m .heads) p .learnt % 256 }) .learnt ≡ playing.totalOf (getElem? (s .threads) p)
+            → cond z absent (record { state = stateBy (settingOf b) (met m p); learnt = headAt (m .heads) p .learnt % 256 }) .learnt ≡ playing.totalOf
+            (getElem? (s .threads) p)
         by true e = ap playing.totalOf (sym (outside (s .threads) p (omega (arith, leb-true (m .tally .counts .threads) p e, count))))
         by false e =
             let x = present (s .threads) p (omega (arith, leb-false (m .tally .counts .threads) p e, count)) in
@@ -164,7 +170,15 @@ record PlaysAs (b : List ℕ) (i n k : ℕ) (l : List ℕ) (P : engine.Played) (
 
 -- the outcome that the code's answer means
 abbrev pub outcomeMeant : code-outcome.Outcome → Outcome
-outcomeMeant r = record { stop = stopMeant (r .stop); picks = r .picks; moves = r .moves; records = r .records; threads = map statusOf (r .threads); totals = map (λ (t : Thread). t .learnt) (r .threads) }
+outcomeMeant r = record {
+  stop = stopMeant (r .stop);
+  picks = r .picks;
+  moves = r .moves;
+  records = r .records;
+  threads = map statusOf (r .threads);
+  totals =
+      map (λ (t : Thread). t .learnt) (r .threads);
+}
 
 -- every pick is 0 to 7
 abbrev Small : List ℕ → Type 0
@@ -180,9 +194,11 @@ module _ (b ws rs : List ℕ) (ok : refusal b ≡ none) (loaded : Loaded b ws rs
   abbrev Rest : List ℕ → ℕ → Type 0
   Rest ps i =
       (m : engine.Machine) (s : machine.State) → Related b m s → Reached (tableOf b) (programOf b) s → 3 * (m .tally .records + length ps) ≤ length (m .log)
-      → PlaysAs b i (m .tally .moves) (m .tally .records) (m .log) (playOf ws rs (settingOf b) m ps i) (playing.run (tableOf b) s ps) (recordsFrom (m .every) (tableOf b) s ps)
+      → PlaysAs b i (m .tally .moves) (m .tally .records) (m .log) (playOf ws rs (settingOf b) m ps i) (playing.run (tableOf b) s ps)
+      (recordsFrom (m .every) (tableOf b) s ps)
 
-  module _ (m : engine.Machine) (s : machine.State) (rel : Related b m s) (reach : Reached (tableOf b) (programOf b) s) (p : ℕ) (small : p < 8) (ps : List ℕ) (i : ℕ)
+  module _ (m : engine.Machine) (s : machine.State) (rel : Related b m s) (reach : Reached (tableOf b) (programOf b) s) (p : ℕ) (small : p < 8) (ps : List ℕ)
+      (i : ℕ)
       (wide : 3 * (m .tally .records + suc (length ps)) ≤ length (m .log)) (rest : Rest ps (i + 1)) where
     abbrev goOn : machine.State → playing.Run
     goOn s = playing.run (tableOf b) s ps
@@ -198,16 +214,36 @@ module _ (b ws rs : List ℕ) (ok : refusal b ≡ none) (loaded : Loaded b ws rs
     abbrev Plays : Answer → Stack → playing.Run → List Record → Type 0
     Plays z k R L =
         PlaysAs b i (m .tally .moves) (m .tally .records) (m .log)
-        (onAnswer z (playOf ws rs (settingOf b) (stayed m k) ps (i + 1)) (λ v. playOf ws rs (settingOf b) (after m p v k) ps (i + 1)) (λ e x. stopped (settingOf b) m p x e i)) R L
+        (onAnswer z (playOf ws rs (settingOf b) (stayed m k) ps (i + 1)) (λ v. playOf ws rs (settingOf b) (after m p v k) ps (i + 1))
+        (λ e x. stopped (settingOf b) m p x e i)) R L
 
     passed-plays : (k : Stack) → k ≡ m .stack → Plays answer.Passed k (playing.resume s goOn playing.Answer.passed) (recorded playing.Answer.passed)
     unfolding playing.resume playing.afterPass recordsBy
     passed-plays k e =
-        let same : Related b (stayed m (m .stack)) s = record { heads-size = rel .heads-size; sized = rel .sized; kept = rel .kept; each = rel .each; places-size = rel .places-size; places = rel .places } in
+        let same : Related b (stayed m (m .stack)) s =
+        record {
+          heads-size = rel .heads-size;
+          sized = rel .sized;
+          kept = rel .kept;
+          each = rel .each;
+          places-size = rel .places-size;
+          places =
+              rel .places;
+        } in
         let r = rest (stayed m k) s (along (λ (k : Stack). Related b (stayed m k) s) (sym e) same) reach (omega arith) in
-        record { stop = r .stop; picks = (let q = r .picks in omega arith); moves = r .moves; records = r .records; threads = r .threads; totals = r .totals; area = r .area }
+        record {
+          stop = r .stop;
+          picks = (let q = r .picks in omega arith);
+          moves = r .moves;
+          records = r .records;
+          threads = r .threads;
+          totals =
+              r .totals;
+          area = r .area;
+        }
 
-    moved-plays : (v : Move) (k : Stack) (u : machine.Move) → playing.step (tableOf b) s p ≡ playing.Answer.moved u → Entered p (v .entry) (u .entry) → Related b (after m p v k) (u .state)
+    moved-plays : (v : Move) (k : Stack) (u : machine.Move) → playing.step (tableOf b) s p ≡ playing.Answer.moved u → Entered p (v .entry) (u .entry)
+        → Related b (after m p v k) (u .state)
         → Plays (answer.Moved v) k (playing.resume s goOn (playing.Answer.moved u)) (recorded (playing.Answer.moved u))
     unfolding playing.resume playing.afterMove recordsBy
     moved-plays v k u e entered rel′ =
@@ -228,7 +264,8 @@ module _ (b ws rs : List ℕ) (ok : refusal b ≡ none) (loaded : Loaded b ws rs
           area = r .area ∙ q .0;
         }
 
-    race-plays : (x : Entry) (y : Record) (k : Stack) → Written p x y → Plays (answer.Stopped stop.Race x) k (playing.resume s goOn (playing.Answer.race y)) (recorded (playing.Answer.race y))
+    race-plays : (x : Entry) (y : Record) (k : Stack) → Written p x y
+        → Plays (answer.Stopped stop.Race x) k (playing.resume s goOn (playing.Answer.race y)) (recorded (playing.Answer.race y))
     unfolding playing.resume playing.stopped recordsBy
     race-plays x y k written = record {
       stop = refl;
@@ -240,7 +277,9 @@ module _ (b ws rs : List ℕ) (ok : refusal b ≡ none) (loaded : Loaded b ws rs
       area = put-last (m .log) (m .tally .records) p x y written (omega arith);
     }
 
-    full-plays : (x : Entry) (R : NoRoom) (k : Stack) → x .kind ≡ 0 → Plays (answer.Stopped (stop.NoRoom R) x) k (playing.resume s goOn (playing.Answer.noRoom (roomMeant R))) (recorded (playing.Answer.noRoom (roomMeant R)))
+    full-plays : (x : Entry) (R : NoRoom) (k : Stack) → x .kind ≡ 0
+        → Plays (answer.Stopped (stop.NoRoom R) x) k (playing.resume s goOn (playing.Answer.noRoom (roomMeant R)))
+        (recorded (playing.Answer.noRoom (roomMeant R)))
     unfolding playing.resume playing.stopped recordsBy
     full-plays x R k none-written =
         let q = put-none (m .log) (m .tally .records) p x none-written in
@@ -255,13 +294,18 @@ module _ (b ws rs : List ℕ) (ok : refusal b ≡ none) (loaded : Loaded b ws rs
         }
 
     -- one pick, and the rest
-    answered-plays : (z : Answer) (k : Stack) → AnsweredBy b m s p z k → Plays z k (playing.resume s goOn (playing.step (tableOf b) s p)) (recorded (playing.step (tableOf b) s p))
-    answered-plays answer.Passed k (e, same) = along (λ (a : playing.Answer). Plays answer.Passed k (playing.resume s goOn a) (recorded a)) (sym e) (passed-plays k same)
-    answered-plays (answer.Moved v) k (u, e, entered, rel′) = along (λ (a : playing.Answer). Plays (answer.Moved v) k (playing.resume s goOn a) (recorded a)) (sym e) (moved-plays v k u e entered rel′)
+    answered-plays : (z : Answer) (k : Stack) → AnsweredBy b m s p z k
+        → Plays z k (playing.resume s goOn (playing.step (tableOf b) s p)) (recorded (playing.step (tableOf b) s p))
+    answered-plays answer.Passed k (e, same) =
+        along (λ (a : playing.Answer). Plays answer.Passed k (playing.resume s goOn a) (recorded a)) (sym e) (passed-plays k same)
+    answered-plays (answer.Moved v) k (u, e, entered, rel′) =
+        along (λ (a : playing.Answer). Plays (answer.Moved v) k (playing.resume s goOn a) (recorded a)) (sym e) (moved-plays v k u e entered rel′)
     answered-plays (answer.Stopped stop.End x) k h = absurd h
-    answered-plays (answer.Stopped stop.Race x) k (y, e, written) = along (λ (a : playing.Answer). Plays (answer.Stopped stop.Race x) k (playing.resume s goOn a) (recorded a)) (sym e) (race-plays x y k written)
+    answered-plays (answer.Stopped stop.Race x) k (y, e, written) =
+        along (λ (a : playing.Answer). Plays (answer.Stopped stop.Race x) k (playing.resume s goOn a) (recorded a)) (sym e) (race-plays x y k written)
     answered-plays (answer.Stopped (stop.NoRoom R) x) k (e, none-written) =
-        along (λ (a : playing.Answer). Plays (answer.Stopped (stop.NoRoom R) x) k (playing.resume s goOn a) (recorded a)) (sym e) (full-plays x R k none-written)
+        along (λ (a : playing.Answer). Plays (answer.Stopped (stop.NoRoom R) x) k (playing.resume s goOn a) (recorded a)) (sym e)
+        (full-plays x R k none-written)
 
     abbrev turn : Picked
     turn = turnBy ws rs (settingOf b) m p
@@ -272,7 +316,8 @@ module _ (b ws rs : List ℕ) (ok : refusal b ≡ none) (loaded : Loaded b ws rs
   -- THE CODE'S PLAY FROM A STATE IS THE ABSTRACT MACHINE'S RUN FROM WHAT IT STANDS FOR
   plays : (ps : List ℕ) (i : ℕ) → Small ps → (m : engine.Machine) (s : machine.State) → Related b m s → Reached (tableOf b) (programOf b) s
       → 3 * (m .tally .records + length ps) ≤ length (m .log)
-      → PlaysAs b i (m .tally .moves) (m .tally .records) (m .log) (playOf ws rs (settingOf b) m ps i) (playing.run (tableOf b) s ps) (recordsFrom (m .every) (tableOf b) s ps)
+      → PlaysAs b i (m .tally .moves) (m .tally .records) (m .log) (playOf ws rs (settingOf b) m ps i) (playing.run (tableOf b) s ps)
+      (recordsFrom (m .every) (tableOf b) s ps)
   unfolding playOf playing.run playing.stopped recordsFrom
   plays [] i small m s rel reach wide = record {
     stop = refl;
@@ -298,9 +343,11 @@ module _ (b ws rs : List ℕ) (ok : refusal b ≡ none) (loaded : Loaded b ws rs
   -- ---- from the start
 
   module _ (ps area : List ℕ) (small : Small ps) (wide : 3 * length ps ≤ length area) where
-    from-start : (every : Bool) → PlaysAs b 0 0 0 area (playOf ws rs (settingOf b) (startOf every rs area) ps 0) (playing.runOf b ps) (recordsFrom every (tableOf b) playing.start ps)
+    from-start : (every : Bool)
+        → PlaysAs b 0 0 0 area (playOf ws rs (settingOf b) (startOf every rs area) ps 0) (playing.runOf b ps) (recordsFrom every (tableOf b) playing.start ps)
     unfolding startOf playing.runOf
-    from-start every = plays ps 0 small (startOf every rs area) playing.start (start-related b ws rs ok loaded every area) (start-reached b ok) (let e = zero-add (length ps) in omega arith)
+    from-start every = plays ps 0 small (startOf every rs area) playing.start (start-related b ws rs ok loaded every area) (start-reached b ok) (let e =
+        zero-add (length ps) in omega arith)
 
     overlay-start : (bs : List ℕ) → overlay area (3 * 0) bs ≡ overwrite bs area
     unfolding overlay overwrite
@@ -327,7 +374,8 @@ module _ (b ws rs : List ℕ) (ok : refusal b ≡ none) (loaded : Loaded b ws rs
         let r = from-start false in
         let x = plays-recorded false in
         let R = playing.runOf b ps in (
-          outcome-same (r .stop) (r .picks ∙ zero-add (R .picks)) (r .moves ∙ zero-add (length (R .instances))) (x .1 ∙ ap length its-log) (r .threads) (r .totals),
+          outcome-same (r .stop) (r .picks ∙ zero-add (R .picks)) (r .moves ∙ zero-add (length (R .instances))) (x .1 ∙ ap length its-log) (r .threads)
+              (r .totals),
           x .2 ∙ ap (λ (L : List Record). overwrite (bytesOf L) area) its-log,
         )
 

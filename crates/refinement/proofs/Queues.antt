@@ -1,4 +1,5 @@
--- The queues of the monitors: the engine's places, which are numbers, against the places of the abstract machine's threads, and what a wait, a notify and a notify
+-- The queues of the monitors: the engine's places, which are numbers, against the places of the abstract machine's threads, and what a wait, a notify and a
+-- notify
 -- all make of both. Assumes nothing.
 use Prim.Native.Nat.{ℕ, zero, suc, pred, _+_, _-_, _*_, _/_, _%_, _<_}
 use native.Mathlib.Omega.{arith}
@@ -64,26 +65,30 @@ count-same o (w ∷ ws) (q ∷ ps) h =
 -- ---- what a move does to the threads
 
 -- threads that change and keep their places
-pub places-kept : (xs : List machine.Thread) (p : ℕ) (k : machine.Thread → machine.Thread) → ((x : machine.Thread) → k x .place ≡ x .place) → placesOf (changeAt xs p k) ≡ placesOf xs
+pub places-kept : (xs : List machine.Thread) (p : ℕ) (k : machine.Thread → machine.Thread) → ((x : machine.Thread) → k x .place ≡ x .place)
+    → placesOf (changeAt xs p k) ≡ placesOf xs
 unfolding changeAt
 places-kept [] p k h = refl
 places-kept (x ∷ xs) zero k h = ap (λ (w : Place). w ∷ placesOf xs) (h x)
 places-kept (x ∷ xs) (suc p) k h = ap (λ (ws : List Place). x .place ∷ ws) (places-kept xs p k h)
 
 -- a thread that takes the place w
-places-set : (xs : List machine.Thread) (p : ℕ) (k : machine.Thread → machine.Thread) (w : Place) → ((x : machine.Thread) → k x .place ≡ w) → placesOf (changeAt xs p k) ≡ set (placesOf xs) p w
+places-set : (xs : List machine.Thread) (p : ℕ) (k : machine.Thread → machine.Thread) (w : Place) → ((x : machine.Thread) → k x .place ≡ w)
+    → placesOf (changeAt xs p k) ≡ set (placesOf xs) p w
 unfolding changeAt
 places-set [] p k w h = refl
 places-set (x ∷ xs) zero k w h = ap (λ (w : Place). w ∷ placesOf xs) (h x)
 places-set (x ∷ xs) (suc p) k w h = ap (λ (ws : List Place). x .place ∷ ws) (places-set xs p k w h)
 
 -- every place changes
-places-map : (xs : List machine.Thread) (k : machine.Thread → machine.Thread) (g : Place → Place) → ((x : machine.Thread) → k x .place ≡ g (x .place)) → placesOf (map k xs) ≡ map g (placesOf xs)
+places-map : (xs : List machine.Thread) (k : machine.Thread → machine.Thread) (g : Place → Place) → ((x : machine.Thread) → k x .place ≡ g (x .place))
+    → placesOf (map k xs) ≡ map g (placesOf xs)
 places-map [] k g h = refl
 places-map (x ∷ xs) k g h = ap₂ {C = List Place} (λ w ws. w ∷ ws) (h x) (places-map xs k g h)
 
 -- one more thread, which is awake
-pub places-more : (ws : List ℕ) (xs : List machine.Thread) (y : machine.Thread) → awake ≡ y .place → Places ws (placesOf xs) → Places ws (placesOf (xs ++ (y ∷ [])))
+pub places-more : (ws : List ℕ) (xs : List machine.Thread) (y : machine.Thread) → awake ≡ y .place → Places ws (placesOf xs)
+    → Places ws (placesOf (xs ++ (y ∷ [])))
 places-more ws xs y e h i = h i ∙ at xs i
   where
     at : (xs : List machine.Thread) (i : ℕ) → getD (placesOf xs) i awake ≡ getD (placesOf (xs ++ (y ∷ []))) i awake
@@ -121,10 +126,12 @@ waited o p ws xs k ho hp hq e h i = at (ℕ-discrete i p) ∙ ap (λ (ps : List 
 
 -- a change f of numbers is a change g of places, and leaves those who are awake
 mapped : (f : ℕ → ℕ) (g : Place → Place) (ws : List ℕ) (xs : List machine.Thread) (k : machine.Thread → machine.Thread) → f 0 ≡ 0 → g awake ≡ awake
-    → ((w : ℕ) → placeMeant (f w) ≡ g (placeMeant w)) → ((x : machine.Thread) → k x .place ≡ g (x .place)) → Places ws (placesOf xs) → Places (map f ws) (placesOf (map k xs))
+    → ((w : ℕ) → placeMeant (f w) ≡ g (placeMeant w)) → ((x : machine.Thread) → k x .place ≡ g (x .place)) → Places ws (placesOf xs)
+    → Places (map f ws) (placesOf (map k xs))
 mapped f g ws xs k zf zg same e h i =
     ap (λ (d : ℕ). placeMeant (getD (map f ws) i d)) (sym zf) ∙ ap placeMeant (List·getD-map f ws i 0) ∙ same (getD ws i 0) ∙ ap g (h i)
-    ∙ sym (ap (λ (ps : List Place). getD ps i awake) (places-map xs k g e) ∙ ap (λ (d : Place). getD (map g (placesOf xs)) i d) (sym zg) ∙ List·getD-map g (placesOf xs) i awake)
+    ∙ sym (ap (λ (ps : List Place). getD ps i awake) (places-map xs k g e) ∙ ap (λ (d : Place). getD (map g (placesOf xs)) i d) (sym zg)
+    ∙ List·getD-map g (placesOf xs) i awake)
 
 nearer-meant : (o w : ℕ) → placeMeant (nearer o w) ≡ movedUp pred o (placeMeant w)
 unfolding nearer queuedOn movedUp
@@ -179,12 +186,14 @@ nobody-up h o e = by (eqb o 0)
     by true = ap (λ (n : ℕ). record { object = 0; number = n }) e
     by false = refl
 
-pub notified : (o : ℕ) (ws : List ℕ) (xs : List machine.Thread) (k : machine.Thread → machine.Thread) → ((x : machine.Thread) → k x .place ≡ movedUp pred o (x .place))
+pub notified : (o : ℕ) (ws : List ℕ) (xs : List machine.Thread) (k : machine.Thread → machine.Thread)
+    → ((x : machine.Thread) → k x .place ≡ movedUp pred o (x .place))
     → Places ws (placesOf xs) → Places (notifiedOf o ws) (placesOf (map k xs))
 unfolding notifiedOf
 notified o ws xs k e h = mapped (nearer o) (movedUp pred o) ws xs k (nobody-nearer o) (nobody-up pred o refl) (nearer-meant o) e h
 
-pub all-notified : (o : ℕ) (ws : List ℕ) (xs : List machine.Thread) (k : machine.Thread → machine.Thread) → o < 32 → ((x : machine.Thread) → k x .place ≡ movedUp (λ n. 0) o (x .place))
+pub all-notified : (o : ℕ) (ws : List ℕ) (xs : List machine.Thread) (k : machine.Thread → machine.Thread) → o < 32
+    → ((x : machine.Thread) → k x .place ≡ movedUp (λ n. 0) o (x .place))
     → Places ws (placesOf xs) → Places (allNotifiedOf o ws) (placesOf (map k xs))
 unfolding allNotifiedOf
 all-notified o ws xs k ho e h = mapped (freed o) (movedUp (λ n. 0) o) ws xs k (nobody-freed o) (nobody-up (λ n. 0) o refl) (λ w. freed-meant o w ho) e h

@@ -18,7 +18,8 @@ use Rattle.machine.specs.Playing as playing
 use Rattle.refinement.proofs.Moves.{withYoung}
 
 -- the step of a move, by what it lacks
-pub step-moves : (b : List ℕ) (s : machine.State) (p : ℕ) (v : machine.Move) (x y : Option rooms.Room) → machine.attempt (tableOf b) s p ≡ machine.Attempt.moves v
+pub step-moves : (b : List ℕ) (s : machine.State) (p : ℕ) (v : machine.Move) (x y : Option rooms.Room)
+    → machine.attempt (tableOf b) s p ≡ machine.Attempt.moves v
     → playing.noRoomBefore s (v .rule) ≡ x → playing.noRoomAfter s p (v .state) ≡ y → playing.step (tableOf b) s p ≡ playing.withinRoom v (orElse x y)
 unfolding playing.step playing.answer playing.noRoomFor
 step-moves b s p v x y e h k = ap (playing.answer s p) e ∙ ap₂ (λ (x y : Option rooms.Room). playing.withinRoom v (orElse x y)) h k
@@ -34,7 +35,8 @@ pub room-after : (xs : List machine.Thread) (young : Option machine.Thread) (u :
     ≡ cond (ltb 32 (height (u .code)) || youngDeep young) (some rooms.Room.depth) none
 unfolding playing.deepAt playing.deep playing.anyDeep
 room-after xs none u p n l e =
-    ap₂ (λ (x : Option machine.Thread) (ys : List machine.Thread). cond (playing.deepAt x || playing.anyDeep ys) (some rooms.Room.depth) none) e (drop-of-length-le xs {i = n} (omega arith))
+    ap₂ (λ (x : Option machine.Thread) (ys : List machine.Thread). cond (playing.deepAt x || playing.anyDeep ys) (some rooms.Room.depth) none) e
+    (drop-of-length-le xs {i = n} (omega arith))
 room-after xs (some y) u p n l e =
     ap₂ (λ (x : Option machine.Thread) (ys : List machine.Thread). cond (playing.deepAt x || playing.anyDeep ys) (some rooms.Room.depth) none)
     (added-old xs y p (inside xs p u e) ∙ e) (ap (λ (n : ℕ). drop n (xs ++ (y ∷ []))) (sym l) ∙ drop-append-seam xs (y ∷ []))

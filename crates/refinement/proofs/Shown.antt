@@ -26,7 +26,18 @@ pub entered-shown : (every : Bool) (p : ℕ) (e : Entry) (r : Option Record) →
 entered-shown false p e r b w = w
 entered-shown true p e none b w =
     rw (eq-eqb (e .kind) 0 w)
-    (record { kind = refl; thread = refl; object = refl; field = refl; value = refl; thread-fits = b; object-fits = omega arith; field-fits = omega arith; value-fits = omega arith })
+    (record {
+      kind = refl;
+      thread = refl;
+      object = refl;
+      field = refl;
+      value = refl;
+      thread-fits = b;
+      object-fits = omega arith;
+      field-fits =
+          omega arith;
+      value-fits = omega arith;
+    })
 entered-shown true p e (some r) b w = rw (ne-eqb (e .kind) 0 (λ z. let k = kind-number (r .kind) in let q = w .kind in omega arith)) w
 
 -- the records from a pick's answer on, where k are those after it

@@ -94,7 +94,8 @@ module _ {b : List ℕ} {m : engine.Machine} {s : machine.State} {p : ℕ} (move
 
   -- ---- E-WAIT, E-NOTIFY, E-NOTIFYALL
 
-  module _ (o j w environment i : ℕ) (ei : i ≡ o * 32 + 0) (well : Well S) (ho : o < 32) (code : t .code ≡ frames.Found.here S (frames.Ready.signal (signalMeant j) o)) where
+  module _ (o j w environment i : ℕ) (ei : i ≡ o * 32 + 0) (well : Well S) (ho : o < 32)
+      (code : t .code ≡ frames.Found.here S (frames.Ready.signal (signalMeant j) o)) where
     abbrev ready : Ready
     ready = readyOf part.Signal o j w environment
 
@@ -110,7 +111,8 @@ module _ {b : List ℕ} {m : engine.Machine} {s : machine.State} {p : ℕ} (move
 
     found : machine.act (tableOf b) s p t (frames.Ready.signal (signalMeant j) o) ≡ machine.signalAct s p t (signalMeant j) o (cellMeant true c)
     unfolding machine.act
-    found = ap (machine.signalAct s p t (signalMeant j) o) (monitor-cell k o (monitor-bit b ok) o-there ho ∙ ap (λ (i : ℕ). cellMeant true (getD cs i noCell)) (sym ei))
+    found = ap (machine.signalAct s p t (signalMeant j) o) (monitor-cell k o (monitor-bit b ok) o-there ho
+        ∙ ap (λ (i : ℕ). cellMeant true (getD cs i noCell)) (sym ei))
 
     held : (K : Signal) → signalMeant j ≡ K → Held → machine.act (tableOf b) s p t (frames.Ready.signal (signalMeant j) o) ≡ machine.signalMove s p t o K
     unfolding machine.signalAct
@@ -126,12 +128,15 @@ module _ {b : List ℕ} {m : engine.Machine} {s : machine.State} {p : ℕ} (move
         let alike : Alike (s .threads) waiters = alike-change (s .threads) p _ (λ x. record { self = refl; code = refl; keys = refl; learnt = refl }) in (
           _,
           attempts mover (frames.Ready.signal (signalMeant j) o) code (held Signal.wait (test-true (eqb j 0) _ _ e) h),
-          moved-among mover waiters _ i e-wait (some (entry records.Kind.release p o 0 0)) (machine.enqueue (machine.storeMonitor s o (rules.cell (t .keys) 0)) p o) (frames.Found.here S (frames.Ready.waiting o))
+          moved-among mover waiters _ i e-wait (some (entry records.Kind.release p o 0 0))
+              (machine.enqueue (machine.storeMonitor s o (rules.cell (t .keys) 0)) p o) (frames.Found.here S (frames.Ready.waiting o))
               (goAt (readyOf part.Waiting o 0 0 0)) n ks 0 (cellOf 0 0 ks) nothing (entryOf (records.kindNumber records.Kind.release) o 0 0) alike
               (along (λ (ws : List ℕ). Places ws (placesOf waiters)) (after-wait (m .places) o j w environment p ho e)
               (waited o p (m .places) (s .threads) _ ho (let l = places-size in omega (arith, small)) (inside (s .threads) p t there) (λ x. refl) places))
-              refl (written mover records.Kind.release o 0 0 ho (omega arith) (omega arith)) refl (part.Waiting, refl, (well, ho, refl)) fits (unlearnt-among mover waiters alike)
-              (kept-changed (monitor-stored mover o i (cellOf 0 0 ks) _ ei (ap (λ (K : Keys). rules.cell K 0) known) (record { key = omega arith; keys = fits }) o-there ho) p _ (λ x. refl)),
+              refl (written mover records.Kind.release o 0 0 ho (omega arith) (omega arith)) refl (part.Waiting, refl, (well, ho, refl)) fits
+              (unlearnt-among mover waiters alike)
+              (kept-changed (monitor-stored mover o i (cellOf 0 0 ks) _ ei (ap (λ (K : Keys). rules.cell K 0) known)
+              (record { key = omega arith; keys = fits }) o-there ho) p _ (λ x. refl)),
         )
 
     -- the threads after a notify or a notify all
@@ -139,11 +144,13 @@ module _ {b : List ℕ} {m : engine.Machine} {s : machine.State} {p : ℕ} (move
     woken h = map (λ (x : machine.Thread). machine.inPlace (movedUp h o (x .place)) x) (s .threads)
 
     notify-does : (h : ℕ → ℕ) (R : Rule) → playing.noRoomBefore s R ≡ none → Places (afterOf (m .places) ready p) (placesOf (woken h))
-        → Acts mover ready i (actedOf (goValue 0) n ks c noEntry) (record { rule = R; entry = none; state = machine.become (machine.signalled h s o) p (up (nodeAt b) (terms b) S 0) })
+        → Acts mover ready i (actedOf (goValue 0) n ks c noEntry)
+        (record { rule = R; entry = none; state = machine.become (machine.signalled h s o) p (up (nodeAt b) (terms b) S 0) })
     unfolding woken machine.signalled
     notify-does h R lack after =
         let alike : Alike (s .threads) (woken h) = alike-map (s .threads) _ (λ x. record { self = refl; code = refl; keys = refl; learnt = refl }) in
-        moved-among mover (woken h) _ i R none (machine.signalled h s o) (up (nodeAt b) (terms b) S 0) (goValue 0) n ks 0 c nothing noEntry alike after lack refl refl
+        moved-among mover (woken h) _ i R none (machine.signalled h s o) (up (nodeAt b) (terms b) S 0)
+        (goValue 0) n ks 0 c nothing noEntry alike after lack refl refl
         (well, omega arith, refl) fits (unlearnt-among mover (woken h) alike) (kept-mapped (kept-past (kept-same k i) nothing) _ (λ x. refl))
 
     notify-acts : Held → eqb j 0 ≡ false → (y : Bool) → eqb j 1 ≡ y
@@ -153,20 +160,24 @@ module _ {b : List ℕ} {m : engine.Machine} {s : machine.State} {p : ℕ} (move
       _,
       attempts mover (frames.Ready.signal (signalMeant j) o) code (held Signal.notify (test-false (eqb j 0) _ _ e ∙ test-true (eqb j 1) _ _ q) h),
       notify-does pred e-notify refl
-          (along (λ (ws : List ℕ). Places ws (placesOf (woken pred))) (after-notify (m .places) o j w environment p ho e q) (notified o (m .places) (s .threads) _ (λ x. refl) places)),
+          (along (λ (ws : List ℕ). Places ws (placesOf (woken pred))) (after-notify (m .places) o j w environment p ho e q)
+          (notified o (m .places) (s .threads) _ (λ x. refl) places)),
     )
     notify-acts h e false q = (
       _,
       attempts mover (frames.Ready.signal (signalMeant j) o) code (held Signal.notifyAll (test-false (eqb j 0) _ _ e ∙ test-false (eqb j 1) _ _ q) h),
       notify-does (λ n. 0) e-notifyall refl
-          (along (λ (ws : List ℕ). Places ws (placesOf (woken (λ n. 0)))) (after-notify-all (m .places) o j w environment p ho e q) (all-notified o (m .places) (s .threads) _ ho (λ x. refl) places)),
+          (along (λ (ws : List ℕ). Places ws (placesOf (woken (λ n. 0)))) (after-notify-all (m .places) o j w environment p ho e q)
+          (all-notified o (m .places) (s .threads) _ ho (λ x. refl) places)),
     )
 
-    pub signal-meets : MeetsBy (lookSignal (headFor m p ready) c) p ready (machine.attempt (tableOf b) s p) (Acts mover ready i (actSignal n (headFor m p ready) c o j))
+    pub signal-meets : MeetsBy (lookSignal (headFor m p ready) c) p ready (machine.attempt (tableOf b) s p)
+        (Acts mover ready i (actSignal n (headFor m p ready) c o j))
     unfolding objectBy lookSignal actSignal machine.signalAct machine.around
     signal-meets = by (isEmptyOf (c .keys)) (eqb (c .value) self) (eqb j 0) (sym (keys-is-empty (c .keys))) (ap (eqb (c .value)) (sym same)) refl
       where
-        not-held : machine.signalAct s p t (signalMeant j) o (cellMeant true c) ≡ machine.Act.sticks (notHeld o) → machine.attempt (tableOf b) s p ≡ machine.Attempt.stuck (notHeld (o % 32))
+        not-held : machine.signalAct s p t (signalMeant j) o (cellMeant true c) ≡ machine.Act.sticks (notHeld o)
+            → machine.attempt (tableOf b) s p ≡ machine.Attempt.stuck (notHeld (o % 32))
         not-held e =
             attempts mover (frames.Ready.signal (signalMeant j) o) code (found ∙ e)
             ∙ ap (λ (o : ℕ). machine.Attempt.stuck (notHeld o)) (sym (mod-eq-of-lt ho))
@@ -185,7 +196,9 @@ module _ {b : List ℕ} {m : engine.Machine} {s : machine.State} {p : ℕ} (move
       → MeetsBy (lookWaiting (getD cs i noCell) (getD (m .places) p 0)) p (readyOf part.Waiting o u w environment) (machine.attempt (tableOf b) s p)
       (Acts mover (readyOf part.Waiting o u w environment) i (actWake n (headFor m p (readyOf part.Waiting o u w environment)) (getD cs i noCell) o))
   unfolding objectBy fieldBy lookWaiting machine.act machine.wakeAct machine.around machine.gain machine.storeMonitor playing.noRoomBefore land.go tableOf
-  wake-meets o u w environment i ei well ho code = by (getD (m .places) p 0 / 32) (isEmptyOf (c .keys)) (ap (λ (w : Place). w .number) (sym (places p ∙ place-there (s .threads) p t there))) (sym (keys-is-empty (c .keys)))
+  wake-meets o u w environment i ei well ho code =
+      by (getD (m .places) p 0 / 32) (isEmptyOf (c .keys)) (ap (λ (w : Place). w .number) (sym (places p ∙ place-there (s .threads) p t there)))
+      (sym (keys-is-empty (c .keys)))
     where
       r : Ready
       r = readyOf part.Waiting o u w environment
@@ -223,10 +236,15 @@ module _ {b : List ℕ} {m : engine.Machine} {s : machine.State} {p : ℕ} (move
       by zero false e q = (
         _,
         attempts mover (frames.Ready.waiting o) code (acted 0 e ∙ test-false (isEmpty (keysOf (c .keys))) _ _ q),
-        moved mover _ i e-wake (some (entry records.Kind.acquire p o 0 0)) (machine.hear (machine.storeMonitor s o (rules.cell empty (t .self))) p (keysOf (c .keys)))
+        moved mover _ i e-wake (some (entry records.Kind.acquire p o 0 0))
+            (machine.hear (machine.storeMonitor s o (rules.cell empty (t .self))) p (keysOf (c .keys)))
             (up (nodeAt b) (terms b) S 0) (goValue 0) n
-            (joinOf ks (c .keys)) (newOf ks (c .keys)) c′ nothing (entryOf (records.kindNumber records.Kind.acquire) o 0 0) refl (written mover records.Kind.acquire o 0 0 ho (omega arith) (omega arith)) refl refl
+            (joinOf ks (c .keys)) (newOf ks (c .keys)) c′ nothing (entryOf (records.kindNumber records.Kind.acquire) o 0 0) refl
+            (written mover records.Kind.acquire o 0 0 ho (omega arith) (omega arith)) refl refl
             (well, omega arith, refl)
-            (fits-join fits (fit .keys)) (gained mover (keysOf (c .keys)) _ (countNew (keysOf (c .keys))) _ (joined mover (c .keys) (fit .keys)) (joined-new mover (c .keys) (fit .keys)))
-            (kept-changed (monitor-stored mover o i c′ _ ei (ap₂ rules.cell keys-empty (ap (λ (a : ℕ). a % 32) same ∙ mod-eq-of-lt self-fits)) (record { key = omega arith; keys = fits-empty }) o-there ho) p _ (λ x. refl)),
+            (fits-join fits (fit .keys))
+            (gained mover (keysOf (c .keys)) _ (countNew (keysOf (c .keys))) _ (joined mover (c .keys) (fit .keys))
+            (joined-new mover (c .keys) (fit .keys)))
+            (kept-changed (monitor-stored mover o i c′ _ ei (ap₂ rules.cell keys-empty (ap (λ (a : ℕ). a % 32) same ∙ mod-eq-of-lt self-fits))
+            (record { key = omega arith; keys = fits-empty }) o-there ho) p _ (λ x. refl)),
       )

@@ -64,7 +64,8 @@ module _ (setting : Setting) (cs : List Cell) (ts : List Object) (cells-size : l
   unfolding playing.start machine.threadOf
   start-kept =
       along (λ (l : List Object). Kept setting cs l (countsOf 1 1 1) playing.start) (ap (set ts 0) (sym null) ∙ set-getD ts 0 noThing)
-      (along (λ (fs : List ℕ). Kept setting cs (set ts 0 noThing) (countsOf 1 1 1) (record { objects = freshObject fs ∷ []; threads = playing.start .threads; nextKey = 1 })) no-fields
+      (along (λ (fs : List ℕ). Kept setting cs (set ts 0 noThing) (countsOf 1 1 1)
+      (record { objects = freshObject fs ∷ []; threads = playing.start .threads; nextKey = 1 })) no-fields
       (kept-object empty-kept noThing (playing.start .threads) 1 (omega arith) no-bit refl (λ o h. absurd (omega arith)) refl))
 
 module _ (b ws rs : List ℕ) (ok : refusal b ≡ none) (loaded : Loaded b ws rs) where
@@ -82,7 +83,10 @@ module _ (b ws rs : List ℕ) (ok : refusal b ≡ none) (loaded : Loaded b ws rs
     refl,
     (
       tt,
-      along (λ (t : ℕ). IsExpression b t) main-root (accepted b ok .each-procedure 0 main-there .root-below, accepted b ok .each-procedure 0 main-there .root-sorted),
+      along (λ (t : ℕ). IsExpression b t) main-root (
+        accepted b ok .each-procedure 0 main-there .root-below,
+        accepted b ok .each-procedure 0 main-there .root-sorted,
+      ),
       (
         frames.Ready.call 0 0 noSlots,
         refl,
@@ -98,14 +102,26 @@ module _ (b ws rs : List ℕ) (ok : refusal b ≡ none) (loaded : Loaded b ws rs
   start-headed : (k : Stack)
       → Headed b k (0 * 33) (headOf (getD rs 0 0))
       (record { self = 0; code = frames.Found.here [] (frames.Ready.call 0 0 noSlots); keys = singleton 0; learnt = 0; place = awake })
-  start-headed k = record { stack = []; held = tt; depth = refl; shallow = omega arith; stands = start-stands; object = refl; keys = keys-zero; keys-fit = fits-zero; learnt = refl }
+  start-headed k = record {
+    stack = [];
+    held = tt;
+    depth = refl;
+    shallow = omega arith;
+    stands = start-stands;
+    object = refl;
+    keys = keys-zero;
+    keys-fit =
+        fits-zero;
+    learnt = refl;
+  }
 
   start-each : (every : Bool) (area : List ℕ) (p : ℕ) (t : machine.Thread) → getElem? (playing.start .threads) p ≡ some t
       → Headed b (startOf every rs area .stack) (p * 33) (headAt (startOf every rs area .heads) p) t
   unfolding startOf playing.start
   start-each every area zero t h =
       let e : record { self = 0; code = frames.Found.here [] (frames.Ready.call 0 0 noSlots); keys = singleton 0; learnt = 0; place = awake } ≡ t = cc in
-      along (λ (t : machine.Thread). Headed b (startOf every rs area .stack) (0 * 33) (headAt (startOf every rs area .heads) 0) t) e (start-headed (startOf every rs area .stack))
+      along (λ (t : machine.Thread). Headed b (startOf every rs area .stack) (0 * 33) (headAt (startOf every rs area .heads) 0) t) e
+      (start-headed (startOf every rs area .stack))
   start-each every area (suc p) t h = absurd (Option·none-ne-some t h)
 
   -- every thread is awake

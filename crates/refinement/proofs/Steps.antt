@@ -57,7 +57,8 @@ module _ {b ws rs : List ℕ} {k : Stack} {base n : ℕ} {X : frames.Found} wher
       subst (λ (i : ℕ). Next b ws k base n X (backOf (frameAt k i) v (suc (length S)))) (top-more base (length S))
       (subst (Next b ws k base n X) (back-more f v (length S))
       (stays (outer c) (feedOf f v)
-      (feed-goes b S X f v (c .held .1) l (subst (λ (F : frames.Frame). Well (F ∷ S)) (sym e) w) (x ∙ ap (λ (F : frames.Frame). up (nodeAt b) (terms b) (F ∷ S) v) (sym e)))
+      (feed-goes b S X f v (c .held .1) l (subst (λ (F : frames.Frame). Well (F ∷ S)) (sym e) w)
+      (x ∙ ap (λ (F : frames.Frame). up (nodeAt b) (terms b) (F ∷ S) v) (sym e)))
       (feed-enough ws n f v (omega (arith, needs-most (f .kind) (f .first))))))
 
   back-stepᶜ : (S : List frames.Frame) → Placed b ws rs k base S → (v : ℕ) → v < 2 → Wellᶜ S → X ≡ upᶜ (nodeAt b) (terms b) S (eqb v 1) → v + 2 ≤ suc n
@@ -69,7 +70,8 @@ module _ {b ws rs : List ℕ} {k : Stack} {base n : ℕ} {X : frames.Found} wher
       subst (λ (i : ℕ). Next b ws k base n X (backConditionOf (frameAt k i) v (suc (length S)))) (top-more base (length S))
       (subst (Next b ws k base n X) (back-moreᶜ f v (length S))
       (stays (outer c) (feedConditionOf f v)
-      (feed-condition-goes b S X f v (c .held .1) l (subst (λ (F : frames.Frame). Wellᶜ (F ∷ S)) (sym e) w) (x ∙ ap (λ (F : frames.Frame). upᶜ (nodeAt b) (terms b) (F ∷ S) (eqb v 1)) (sym e)))
+      (feed-condition-goes b S X f v (c .held .1) l (subst (λ (F : frames.Frame). Wellᶜ (F ∷ S)) (sym e) w)
+      (x ∙ ap (λ (F : frames.Frame). upᶜ (nodeAt b) (terms b) (F ∷ S) (eqb v 1)) (sym e)))
       (feed-condition-enough ws n f v (omega arith))))
 
   -- ---- by the stage

@@ -22,13 +22,15 @@ numbers-change (x ∷ xs) i zero k h o =
     ap (λ (a : ℕ). numberOf (cond (eqb a o) (some (record { number = i; thread = k x })) (machine.threadOf (suc i) xs o))) (h x) ∙ at (eqb (x .self) o)
   where
     at : (t : Bool)
-        → numberOf (cond t (some (record { number = i; thread = k x })) (machine.threadOf (suc i) xs o)) ≡ numberOf (cond t (some (record { number = i; thread = x })) (machine.threadOf (suc i) xs o))
+        → numberOf (cond t (some (record { number = i; thread = k x })) (machine.threadOf (suc i) xs o)) ≡ numberOf
+        (cond t (some (record { number = i; thread = x })) (machine.threadOf (suc i) xs o))
     at true = refl
     at false = refl
 numbers-change (x ∷ xs) i (suc p) k h o = at (eqb (x .self) o) (numbers-change xs (suc i) p k h o)
   where
     at : (t : Bool) → numberOf (machine.threadOf (suc i) (changeAt xs p k) o) ≡ numberOf (machine.threadOf (suc i) xs o)
-        → numberOf (cond t (some (record { number = i; thread = x })) (machine.threadOf (suc i) (changeAt xs p k) o)) ≡ numberOf (cond t (some (record { number = i; thread = x })) (machine.threadOf (suc i) xs o))
+        → numberOf (cond t (some (record { number = i; thread = x })) (machine.threadOf (suc i) (changeAt xs p k) o)) ≡ numberOf
+        (cond t (some (record { number = i; thread = x })) (machine.threadOf (suc i) xs o))
     at true q = refl
     at false q = q
 
@@ -42,7 +44,8 @@ numbers-map (x ∷ xs) i k h o =
     ∙ at (eqb (x .self) o) (numbers-map xs (suc i) k h o)
   where
     at : (t : Bool) → numberOf (machine.threadOf (suc i) (map k xs) o) ≡ numberOf (machine.threadOf (suc i) xs o)
-        → numberOf (cond t (some (record { number = i; thread = k x })) (machine.threadOf (suc i) (map k xs) o)) ≡ numberOf (cond t (some (record { number = i; thread = x })) (machine.threadOf (suc i) xs o))
+        → numberOf (cond t (some (record { number = i; thread = k x })) (machine.threadOf (suc i) (map k xs) o)) ≡ numberOf
+        (cond t (some (record { number = i; thread = x })) (machine.threadOf (suc i) xs o))
     at true q = refl
     at false q = q
 
@@ -53,7 +56,8 @@ Strange xs o = (q : ℕ) (t : machine.Thread) → getElem? xs q ≡ some t → t
 pub strange-number : (xs : List machine.Thread) (i o : ℕ) → Strange xs o → machine.threadOf i xs o ≡ none
 unfolding machine.threadOf
 strange-number [] i o h = refl
-strange-number (x ∷ xs) i o h = test-false (eqb (x .self) o) _ _ (ne-eqb (x .self) o (λ e. h 0 x refl e)) ∙ strange-number xs (suc i) o (λ q t g e. h (suc q) t g e)
+strange-number (x ∷ xs) i o h = test-false (eqb (x .self) o) _ _ (ne-eqb (x .self) o (λ e. h 0 x refl e))
+    ∙ strange-number xs (suc i) o (λ q t g e. h (suc q) t g e)
 
 pub added-number : (xs : List machine.Thread) (x : machine.Thread) (i o : ℕ) → x .self ≡ o → Strange xs o
     → numberOf (machine.threadOf i (xs ++ (x ∷ [])) o) ≡ i + length xs
@@ -71,7 +75,8 @@ other-number [] x i o n = rw (ne-eqb (x .self) o n)
 other-number (y ∷ xs) x i o n = at (eqb (y .self) o) (other-number xs x (suc i) o n)
   where
     at : (t : Bool) → numberOf (machine.threadOf (suc i) (xs ++ (x ∷ [])) o) ≡ numberOf (machine.threadOf (suc i) xs o)
-        → numberOf (cond t (some (record { number = i; thread = y })) (machine.threadOf (suc i) (xs ++ (x ∷ [])) o)) ≡ numberOf (cond t (some (record { number = i; thread = y })) (machine.threadOf (suc i) xs o))
+        → numberOf (cond t (some (record { number = i; thread = y })) (machine.threadOf (suc i) (xs ++ (x ∷ [])) o)) ≡ numberOf
+        (cond t (some (record { number = i; thread = y })) (machine.threadOf (suc i) xs o))
     at true q = refl
     at false q = q
 

@@ -18,7 +18,8 @@ use Rattle.packed.proofs.Reading.{tag-in, first-was, second-was, third-was}
 use Rattle.packed.proofs.Decoded.{node-is}
 use Rattle.packed.proofs.TreeLaws.{treeᵃ}
 use Rattle.machine.proofs.CallLists.{call-fits}
-use Rattle.packed.specs.Operands.{tagOf, operandIn, firstOf, secondOf, thirdOf, slotBits, fieldBits, writeSecond, letFirst, letSecond, procedureBits, listBits, maskBits}
+use Rattle.packed.specs.Operands.{tagOf, operandIn, firstOf, secondOf, thirdOf, slotBits, fieldBits, writeSecond, letFirst, letSecond, procedureBits}
+use Rattle.packed.specs.Operands.{listBits, maskBits}
 use Rattle.term_words.specs.Words.{wordAt}
 use Rattle.refinement.proofs.Meant.{Loaded}
 
@@ -36,12 +37,14 @@ pub data Expression (b : List ℕ) (t w : ℕ) : Type 0 where
       → Child b t expression (letFirst w) → Child b t expression (letSecond w) → Expression b t w
   if : tagOf w ≡ 6 → nodeAt b t ≡ Node.if (firstOf w) (secondOf w) (thirdOf w) → Child b t condition (firstOf w) → Child b t expression (secondOf w)
       → Child b t expression (thirdOf w) → Expression b t w
-  while : tagOf w ≡ 7 → nodeAt b t ≡ Node.while (firstOf w) (secondOf w) → Child b t condition (firstOf w) → Child b t expression (secondOf w) → Expression b t w
+  while : tagOf w ≡ 7 → nodeAt b t ≡ Node.while (firstOf w) (secondOf w) → Child b t condition (firstOf w) → Child b t expression (secondOf w)
+      → Expression b t w
   call : tagOf w ≡ 8 → nodeAt b t ≡ Node.call (procedureBits w) (listBits w) → procedureBits w < procedures b → Child b t list (listBits w)
       → count (treeᵃ (nodeAt b) (terms b) (listBits w)) ≤ 8 → Expression b t w
   fork : tagOf w ≡ 9 → nodeAt b t ≡ Node.fork (firstOf w) → Child b t expression (firstOf w) → Expression b t w
   join : tagOf w ≡ 10 → nodeAt b t ≡ Node.join (firstOf w) → Child b t expression (firstOf w) → Expression b t w
-  synch : tagOf w ≡ 11 → nodeAt b t ≡ Node.synch (firstOf w) (secondOf w) → Child b t expression (firstOf w) → Child b t expression (secondOf w) → Expression b t w
+  synch : tagOf w ≡ 11 → nodeAt b t ≡ Node.synch (firstOf w) (secondOf w) → Child b t expression (firstOf w) → Child b t expression (secondOf w)
+      → Expression b t w
   wait : tagOf w ≡ 18 → nodeAt b t ≡ Node.signal Signal.wait (firstOf w) → Child b t expression (firstOf w) → Expression b t w
   notify : tagOf w ≡ 19 → nodeAt b t ≡ Node.signal Signal.notify (firstOf w) → Child b t expression (firstOf w) → Expression b t w
   notifyAll : tagOf w ≡ 20 → nodeAt b t ≡ Node.signal Signal.notifyAll (firstOf w) → Child b t expression (firstOf w) → Expression b t w
@@ -51,7 +54,8 @@ pub data Condition (b : List ℕ) (t w : ℕ) : Type 0 where
   truth : tagOf w ≡ 12 → nodeAt b t ≡ Node.truth → Condition b t w
   not : tagOf w ≡ 13 → nodeAt b t ≡ Node.not (firstOf w) → Child b t condition (firstOf w) → Condition b t w
   and : tagOf w ≡ 14 → nodeAt b t ≡ Node.and (firstOf w) (secondOf w) → Child b t condition (firstOf w) → Child b t condition (secondOf w) → Condition b t w
-  equal : tagOf w ≡ 15 → nodeAt b t ≡ Node.equal (firstOf w) (secondOf w) → Child b t expression (firstOf w) → Child b t expression (secondOf w) → Condition b t w
+  equal : tagOf w ≡ 15 → nodeAt b t ≡ Node.equal (firstOf w) (secondOf w) → Child b t expression (firstOf w) → Child b t expression (secondOf w)
+      → Condition b t w
 
 -- the rest of a call's list
 pub data Rest (b : List ℕ) (t w : ℕ) : Type 0 where
@@ -77,7 +81,8 @@ record Known (b : List ℕ) (t k x y z : ℕ) : Type 0 where
   second : Fits b t (layout k .second) y
   third : Fits b t (layout k .third) z
 
-known-by : (b : List ℕ) (t k x y z : ℕ) → RightTerm b t → tagAt b t ≡ k → x ≡ termAt b t .value₁ → y ≡ termAt b t .value₂ → z ≡ termAt b t .value₃ → Known b t k x y z
+known-by : (b : List ℕ) (t k x y z : ℕ) → RightTerm b t → tagAt b t ≡ k → x ≡ termAt b t .value₁ → y ≡ termAt b t .value₂ → z ≡ termAt b t .value₃
+    → Known b t k x y z
 known-by b t k x y z right e p₁ p₂ p₃ = rw (p₁, p₂, p₃) (record {
   node = node-is b t k e;
   first = subst (λ (j : ℕ). Fits b t (layout j .first) (termAt b t .value₁)) e (right .first-fits);
@@ -107,7 +112,8 @@ module _ (b ws rs : List ℕ) (a : Accepted b) (loaded : Loaded b ws rs) (t : �
   known : (k : ℕ) → tagAt b t ≡ k → Known b t k (firstIn k w) (secondIn k w) (thirdIn k w)
   known k e =
       let q = tagged k e in
-      known-by b t k (firstIn k w) (secondIn k w) (thirdIn k w) (a .each-term t h) e (first-was b t w word-is k q) (second-was b t w word-is k q) (third-was b t w word-is k q)
+      known-by b t k (firstIn k w) (secondIn k w) (thirdIn k w) (a .each-term t h) e (first-was b t w word-is k q) (second-was b t w word-is k q)
+      (third-was b t w word-is k q)
 
   at-null : tagAt b t ≡ 0 → Expression b t w
   unfolding nodes

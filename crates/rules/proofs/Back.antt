@@ -6,7 +6,9 @@ use mathlib.Core.List.{List, [], _∷_, _++_}
 use mathlib.Core.Option.{some}
 use lib.Dec.{T}
 use Rattle.packed.specs.Syntax.{Expression, Condition, Arguments, literal, end, argument, bool}
-use Rattle.rules.specs.Context.{Context, Contextᶜ, read, write₁, write₂, call, letIn, synch, hold, join, signal, equal₁, equal₂, literals, plug, plugᶜ, Focus, value, here, hereᶜ, focus, focusᶜ, focusᵃ, asLiteral, asBool, isTruth, falseWhen, redexExpression, redexCondition, onLiteral, onBool, onNot}
+use Rattle.rules.specs.Context.{Context, Contextᶜ, read, write₁, write₂, call, letIn, synch, hold, join, signal, equal₁, equal₂, literals, plug, plugᶜ}
+use Rattle.rules.specs.Context.{Focus, value, here, hereᶜ, focus, focusᶜ, focusᵃ, asLiteral, asBool, isTruth, falseWhen, redexExpression}
+use Rattle.rules.specs.Context.{redexCondition, onLiteral, onBool, onNot}
 
 -- the context with the part in its hole is w
 abbrev pub Back : Expression → Focus → Type 0
@@ -45,7 +47,8 @@ unfolding falseWhen bool
 back-false w c k r true q h h′ = h false (ap {B = Condition} Condition.not (truth-is c (rw q tt)))
 back-false w c k r false q h h′ = h′
 
-back-bool : (w : Expression) (c : Condition) (k : Bool → Focus) (r : Focus) → ((b : Bool) → c ≡ bool b → Back w (k b)) → Back w r → Back w (onBool (asBool c) k r)
+back-bool : (w : Expression) (c : Condition) (k : Bool → Focus) (r : Focus) → ((b : Bool) → c ≡ bool b → Back w (k b)) → Back w r
+    → Back w (onBool (asBool c) k r)
 unfolding asBool bool
 back-bool w Condition.truth k r h h′ = h true refl
 back-bool w (Condition.not c) k r h h′ = back-false w c k r (isTruth c) refl h h′

@@ -12,7 +12,8 @@ use Rattle.keys.specs.Keys.{Keys, empty, singleton, union, holds, isEmpty}
 use Rattle.keys.proofs.KeyLaws.{holds-union, union-empty, holds-singleton, singleton-injective, some-key, no-key}
 use Rattle.packed.specs.Syntax.{Expression, Program}
 use Rattle.rules.specs.Context.{plug, plugᶜ}
-use Rattle.rules.specs.State.{Cell, cell, Thread, State, fresh, freshObject, lookup, monitor, store, storeMonitor, addObject, gain, become, addThread, forked, useKey, enqueue, signalled, threadOf, Numbered}
+use Rattle.rules.specs.State.{Cell, cell, Thread, State, fresh, freshObject, lookup, monitor, store, storeMonitor, addObject, gain, become, addThread}
+use Rattle.rules.specs.State.{forked, useKey, enqueue, signalled, threadOf, Numbered}
 use Rattle.records.specs.Record.{Kind, Record, entry}
 use Rattle.format.specs.Version.{Version, v0, v1}
 use Rattle.order.proofs.Ports.{ofThread}
@@ -20,13 +21,15 @@ use Rattle.order.proofs.KeySets.{KeySet, union as unionSet, learn as learnKey}
 use Rattle.order.proofs.KeyMachine.{KeyState, act, after, Legal, monitorTaken, plainKeyed}
 use Rattle.order.proofs.Known.{known-zero}
 use Rattle.order.proofs.Invariant.{invariant}
-use Rattle.rules.specs.Rules.{Rule, isVolatile, passedOn, Converts, E-CALL, E-LET, E-IF, E-WHILE, E-NEW, E-READ, E-WRITE, E-READV, E-WRITEV, E-FORK, E-JOIN, E-RE-ENTER, E-ACQUIRE, E-RELEASE, E-WAIT, E-WAKE, E-NOTIFY, E-NOTIFYALL, Moves, EVAL, EVALᶜ}
+use Rattle.rules.specs.Rules.{Rule, isVolatile, passedOn, Converts, E-CALL, E-LET, E-IF, E-WHILE, E-NEW, E-READ, E-WRITE, E-READV, E-WRITEV, E-FORK}
+use Rattle.rules.specs.Rules.{E-JOIN, E-RE-ENTER, E-ACQUIRE, E-RELEASE, E-WAIT, E-WAKE, E-NOTIFY, E-NOTIFYALL, Moves, EVAL, EVALᶜ}
 use Rattle.rules.specs.Run.{logged}
 use Rattle.rules.proofs.Relocated.{is-there, relocated-become, enqueue-relocated, signalled-relocated}
 use Rattle.rules.proofs.StateLaws.{inside, added-old, found-thread, new-monitors}
 use Rattle.rules.proofs.Invariant.{Inv, heldBy}
 use Rattle.rules.proofs.Preserved.{gained, gained-at}
-use Rattle.rules.proofs.KeyBridge.{Agrees, keysOf, agrees-become, agrees-gain, agrees-keyed, agrees-told, agrees-valued, agrees-unheard, agrees-seized, agrees-freed, agrees-new, agrees-started, agrees-relocated}
+use Rattle.rules.proofs.KeyBridge.{Agrees, keysOf, agrees-become, agrees-gain, agrees-keyed, agrees-told, agrees-valued, agrees-unheard, agrees-seized}
+use Rattle.rules.proofs.KeyBridge.{agrees-freed, agrees-new, agrees-started, agrees-relocated}
 
 -- the sets after the log, and a legal log
 pub record Kept (g : Program) (s : State) (H : List Record) : Type 0 where
@@ -62,11 +65,16 @@ module _ (g : Program) (s : State) (I : Inv g s) (p : ℕ) (t : Thread) (ht : ge
   known : (w o f v : ℕ) → lookup s o f ≡ some (cell (singleton w) v) → isVolatile g f ≡ false → holds (t .keys) w ≡ true → T (κ .knows p (κ .plain o f))
   known w o f v h vol k = rw (sym (tested w o f v h vol) ∙ k) tt
 
-  kept-write : (w o f u v : ℕ) (e : Expression) (count : Keys → ℕ) → lookup s o f ≡ some (cell (singleton w) u) → isVolatile g f ≡ false → holds (t .keys) w ≡ true
-      → Kept g (become (gain (store (useKey s) o f (record { keys = singleton (s .nextKey); value = v })) p (singleton (s .nextKey)) count) p e) (entry Kind.write p o f v ∷ H)
+  kept-write : (w o f u v : ℕ) (e : Expression) (count : Keys → ℕ) → lookup s o f ≡ some (cell (singleton w) u) → isVolatile g f ≡ false
+      → holds (t .keys) w ≡ true
+      → Kept g (become (gain (store (useKey s) o f (record { keys = singleton (s .nextKey); value = v })) p (singleton (s .nextKey)) count) p e)
+      (entry Kind.write p o f v ∷ H)
   unfolding store useKey
   kept-write w o f u v e count h vol k = record {
-    agrees = agrees-become g (gain s₁ p (singleton (s .nextKey)) count) _ p e (gained t (singleton (s .nextKey)) count) (gained-at s p t ht s₁ (singleton (s .nextKey)) count refl) (agrees-gain g s₁ (plainKeyed o f κ) p (singleton (s .nextKey)) count t (learnKey (κ .next) (κ .knows p)) ht new (agrees-keyed g s κ A o f d (cell (singleton w) u) h vol refl));
+    agrees = agrees-become g (gain s₁ p (singleton (s .nextKey)) count) _ p e (gained t (singleton (s .nextKey)) count)
+        (gained-at s p t ht s₁ (singleton (s .nextKey)) count refl)
+        (agrees-gain g s₁ (plainKeyed o f κ) p (singleton (s .nextKey)) count t (learnKey (κ .next) (κ .knows p)) ht new
+        (agrees-keyed g s κ A o f d (cell (singleton w) u) h vol refl));
     legal = (J .legal, here-now, known w o f u h vol k);
   }
     where
@@ -77,12 +85,16 @@ module _ (g : Program) (s : State) (I : Inv g s) (p : ℕ) (t : Thread) (ht : ge
       s₁ = store (useKey s) o f d
 
       new : (k : ℕ) → learnKey (κ .next) (κ .knows p) k ≡ holds (union (singleton (s .nextKey)) (t .keys)) k
-      new k = unfold learnKey in (ap₂ _||_ (ap (eqb k) (A .next) ∙ sym (holds-singleton (s .nextKey) k)) (A .knows p t ht k) ∙ sym (holds-union (singleton (s .nextKey)) (t .keys) k))
+      new k = unfold learnKey in
+          (ap₂ _||_ (ap (eqb k) (A .next) ∙ sym (holds-singleton (s .nextKey) k)) (A .knows p t ht k)
+          ∙ sym (holds-union (singleton (s .nextKey)) (t .keys) k))
 
-  kept-fork : (e e′ : Expression) → Kept g (become (addThread (addObject s (freshObject [])) (forked s t e)) p e′) (entry Kind.fork p (length (s .objects)) (length (s .threads)) 0 ∷ H)
+  kept-fork : (e e′ : Expression)
+      → Kept g (become (addThread (addObject s (freshObject [])) (forked s t e)) p e′) (entry Kind.fork p (length (s .objects)) (length (s .threads)) 0 ∷ H)
   unfolding addThread addObject
   kept-fork e e′ = record {
-    agrees = agrees-become g (addThread s₁ u) _ p e′ t (added-old (s .threads) u p (inside (s .threads) p t ht) ∙ ht) (agrees-started g s₁ κ u (κ .knows p) (agrees-new g s κ [] A) (λ k. A .knows p t ht k) free);
+    agrees = agrees-become g (addThread s₁ u) _ p e′ t (added-old (s .threads) u p (inside (s .threads) p t ht) ∙ ht)
+        (agrees-started g s₁ κ u (κ .knows p) (agrees-new g s κ [] A) (λ k. A .knows p t ht k) free);
     legal = (J .legal, here-now, A .absent (length (s .threads)) (omega arith));
   }
     where
@@ -108,7 +120,9 @@ module _ (g : Program) (s : State) (I : Inv g s) (p : ℕ) (t : Thread) (ht : ge
   kept-join : (o v : ℕ) (q : Numbered) (e : Expression) (count : Keys → ℕ) → threadOf 0 (s .threads) o ≡ some q
       → Kept g (become (gain s p (q .thread .keys) count) p e) (entry Kind.join p o (q .number) v ∷ H)
   kept-join o v q e count h = record {
-    agrees = agrees-become g (gain s p (q .thread .keys) count) _ p e (gained t (q .thread .keys) count) (gained-at s p t ht s (q .thread .keys) count refl) (agrees-gain g s κ p (q .thread .keys) count t (unionSet (κ .knows p) (κ .knows (q .number))) ht (plus (κ .knows (q .number)) (q .thread .keys) (λ k. A .knows (q .number) (q .thread) there k)) A);
+    agrees = agrees-become g (gain s p (q .thread .keys) count) _ p e (gained t (q .thread .keys) count) (gained-at s p t ht s (q .thread .keys) count refl)
+        (agrees-gain g s κ p (q .thread .keys) count t (unionSet (κ .knows p) (κ .knows (q .number))) ht
+        (plus (κ .knows (q .number)) (q .thread .keys) (λ k. A .knows (q .number) (q .thread) there k)) A);
     legal = (J .legal, here-now, A .present (q .number) (q .thread) there);
   }
     where
@@ -119,7 +133,9 @@ module _ (g : Program) (s : State) (I : Inv g s) (p : ℕ) (t : Thread) (ht : ge
       → Kept g (become (gain (storeMonitor s o (record { keys = empty; value = t .self })) p (c .keys) count) p e) (entry Kind.acquire p o 0 0 ∷ H)
   unfolding storeMonitor
   kept-acquire o c e count m f = record {
-    agrees = agrees-become g (gain s₁ p (c .keys) count) _ p e (gained t (c .keys) count) (gained-at s p t ht s₁ (c .keys) count refl) (agrees-gain g s₁ (monitorTaken o p κ) p (c .keys) count t (unionSet (κ .knows p) (κ .monitors o)) ht (plus (κ .monitors o) (c .keys) same) (agrees-seized g s κ A o (heldBy t) c m p refl (λ q u hu v. I .apart p q t u ht hu v)));
+    agrees = agrees-become g (gain s₁ p (c .keys) count) _ p e (gained t (c .keys) count) (gained-at s p t ht s₁ (c .keys) count refl)
+        (agrees-gain g s₁ (monitorTaken o p κ) p (c .keys) count t (unionSet (κ .knows p) (κ .monitors o)) ht (plus (κ .monitors o) (c .keys) same)
+        (agrees-seized g s κ A o (heldBy t) c m p refl (λ q u hu v. I .apart p q t u ht hu v)));
     legal = (J .legal, here-now, (some-key (c .keys) f .0, rw (same (some-key (c .keys) f .0)) (some-key (c .keys) f .1)));
   }
     where
@@ -145,7 +161,11 @@ module _ (g : Program) (s : State) (I : Inv g s) (p : ℕ) (t : Thread) (ht : ge
   unfolding storeMonitor isEmpty
   kept-release o e m = record {
     agrees = agrees-become g (storeMonitor s o d) _ p e t ht (agrees-freed g s κ A o d (heldBy t) m full (κ .knows p) (λ k. A .knows p t ht k));
-    legal = (J .legal, here-now, (λ k x. no-key 0 k refl (rw (A .monitors o k ∙ ap (λ (x : Option Cell). holds (keysOf x) k) m) at x), A .owner o (heldBy t) m refl p t ht refl));
+    legal = (
+      J .legal,
+      here-now,
+      (λ k x. no-key 0 k refl (rw (A .monitors o k ∙ ap (λ (x : Option Cell). holds (keysOf x) k) m) at x), A .owner o (heldBy t) m refl p t ht refl),
+    );
   }
     where
       d : Cell
@@ -176,12 +196,14 @@ module _ (g : Program) (s : State) (I : Inv g s) (p : ℕ) (t : Thread) (ht : ge
   unfolding passedOn
   passed v0 o f v W count h vol = agrees-unheard g s κ p count t ht A
   passed v1 o f v W count h vol =
-      agrees-gain g s κ p W count t (unionSet (κ .knows p) (κ .volatiles o f)) ht (plus (κ .volatiles o f) W (λ k. A .volatiles o f vol k ∙ ap (λ (x : Option Cell). holds (keysOf x) k) h)) A
+      agrees-gain g s κ p W count t (unionSet (κ .knows p) (κ .volatiles o f)) ht
+      (plus (κ .volatiles o f) W (λ k. A .volatiles o f vol k ∙ ap (λ (x : Option Cell). holds (keysOf x) k) h)) A
 
   kept-readv : (o f v : ℕ) (W : Keys) (e : Expression) (count : Keys → ℕ) → lookup s o f ≡ some (cell W v) → isVolatile g f ≡ true
       → Kept g (become (gain s p (passedOn (g .version) W) count) p e) (entry Kind.readv p o f v ∷ H)
   kept-readv o f v W e count h vol = record {
-    agrees = agrees-become g (gain s p (passedOn (g .version) W) count) _ p e (gained t (passedOn (g .version) W) count) (gained-at s p t ht s (passedOn (g .version) W) count refl) (passed (g .version) o f v W count h vol);
+    agrees = agrees-become g (gain s p (passedOn (g .version) W) count) _ p e (gained t (passedOn (g .version) W) count)
+        (gained-at s p t ht s (passedOn (g .version) W) count refl) (passed (g .version) o f v W count h vol);
     legal = (J .legal, here-now, tt);
   }
 
@@ -193,15 +215,18 @@ module _ (g : Program) (s : State) (I : Inv g s) (p : ℕ) (t : Thread) (ht : ge
   told v1 o f u v W h vol = agrees-told g s κ A o f (cell (union W (t .keys)) v) (cell W u) h vol (unionSet (κ .volatiles o f) (κ .knows p)) both
     where
       both : (k : ℕ) → unionSet (κ .volatiles o f) (κ .knows p) k ≡ holds (union W (t .keys)) k
-      both k = unfold unionSet in (ap₂ _||_ (A .volatiles o f vol k ∙ ap (λ (x : Option Cell). holds (keysOf x) k) h) (A .knows p t ht k) ∙ sym (holds-union W (t .keys) k))
+      both k = unfold unionSet in
+          (ap₂ _||_ (A .volatiles o f vol k ∙ ap (λ (x : Option Cell). holds (keysOf x) k) h) (A .knows p t ht k) ∙ sym (holds-union W (t .keys) k))
 
-  pub bridged : {e : Expression} {R : Rule} {r : Option Record} {s′ : State} {e′ : Expression} → Converts g s p t e R r s′ e′ → (w : Expression) → Kept g (become s′ p w) (logged r H)
+  pub bridged : {e : Expression} {R : Rule} {r : Option Record} {s′ : State} {e′ : Expression} → Converts g s p t e R r s′ e′ → (w : Expression)
+      → Kept g (become s′ p w) (logged r H)
   unfolding logged store addObject
   bridged (E-CALL os hd hp) w = quiet w
   bridged E-LET w = quiet w
   bridged (E-IF b) w = quiet w
   bridged E-WHILE w = quiet w
-  bridged (E-NEW {fs}) w = record { agrees = agrees-become g (addObject s (freshObject fs)) κ p w t ht (agrees-new g s κ fs A); legal = (J .legal, here-now, tt) }
+  bridged (E-NEW {fs}) w =
+      record { agrees = agrees-become g (addObject s (freshObject fs)) κ p w t ht (agrees-new g s κ fs A); legal = (J .legal, here-now, tt) }
   bridged (E-READ x {o} {f} {v} h k vol) w = record { agrees = agrees-become g s κ p w t ht A; legal = (J .legal, here-now, known x o f v h vol k) }
   bridged (E-WRITE x {o} {f} {u} {v} h k vol) w = kept-write x o f u v w _ h vol k
   bridged (E-READV {o} {f} {v} {W} h vol) w = kept-readv o f v W w _ h vol
@@ -220,7 +245,8 @@ module _ (g : Program) (s : State) (I : Inv g s) (p : ℕ) (t : Thread) (ht : ge
   bridged (E-NOTIFYALL {o} h) w = kept-signal _ o w
 
 -- a move of a run, with its record
-pub bridge : (g : Program) (s : State) → Inv g s → (p : ℕ) (H : List Record) → Kept g s H → {R : Rule} {r : Option Record} {s′ : State} → Moves g s p R r s′ → Kept g s′ (logged r H)
+pub bridge : (g : Program) (s : State) → Inv g s → (p : ℕ) (H : List Record) → Kept g s H → {R : Rule} {r : Option Record} {s′ : State} → Moves g s p R r s′
+    → Kept g s′ (logged r H)
 unfolding logged
 bridge g s I p H J (EVAL K {t} {e} {e′} ht he c) = bridged g s I p t ht H J c (plug K e′)
 bridge g s I p H J (EVALᶜ K {t} {c} {c′} ht he k) = quiet g s I p t ht H J (plugᶜ K c′)

@@ -7,7 +7,8 @@ use mathlib.Core.List.{List, [], _∷_}
 use mathlib.Core.Option.{Option, some, none}
 use lib.Dec.{T, ltb, eqb, ltb→lt}
 use lib.ListN.{getElem?, length}
-use Rattle.packed.specs.Syntax.{Expression, Condition, Arguments, Environment, bind, bindParameters, without, valueOr, substitute, substituteᶜ, substituteᵃ, Program}
+use Rattle.packed.specs.Syntax.{Expression, Condition, Arguments, Environment, bind, bindParameters, without, valueOr, substitute, substituteᶜ, substituteᵃ}
+use Rattle.packed.specs.Syntax.{Program}
 use Rattle.packed.specs.Slots.{bound}
 use Rattle.packed.proofs.WellFormed.{WellFormed, WellFormedᶜ, WellFormedᵃ, count, unbound}
 
@@ -82,7 +83,8 @@ module _ (g : Program) (n : ℕ) where
     filled σ ρ ρ′ k (Expression.new fs) h = tt
     filled σ ρ ρ′ k (Expression.read e f) h = (h .0, h .1, filled σ ρ ρ′ k e (h .2))
     filled σ ρ ρ′ k (Expression.write e f e′) h = (h .0, h .1, filled σ ρ ρ′ k e (h .2), filled σ ρ ρ′ k e′ (h .3))
-    filled σ ρ ρ′ k (Expression.letIn x e e′) h = (filled σ ρ ρ′ k e (h .0), filled (without x σ) (bound x ρ) (bound x ρ′) (covers-under n ρ σ ρ′ x k) e′ (h .1))
+    filled σ ρ ρ′ k (Expression.letIn x e e′) h =
+        (filled σ ρ ρ′ k e (h .0), filled (without x σ) (bound x ρ) (bound x ρ′) (covers-under n ρ σ ρ′ x k) e′ (h .1))
     filled σ ρ ρ′ k (Expression.if c e e′) h = (filledᶜ σ ρ ρ′ k c (h .0), filled σ ρ ρ′ k e (h .1), filled σ ρ ρ′ k e′ (h .2))
     filled σ ρ ρ′ k (Expression.while c e) h = (filledᶜ σ ρ ρ′ k c (h .0), filled σ ρ ρ′ k e (h .1))
     filled σ ρ ρ′ k (Expression.call m es) h = ((h .0 .0, h .0 .1, h .0 .2 ∙ sym (count-subst σ es)), filledᵃ σ ρ ρ′ k es (h .1))

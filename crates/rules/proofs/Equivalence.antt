@@ -10,12 +10,18 @@ use lib.ListN.{length, getElem?}
 use borrow.Author.Tests.{eq-eqb, ne-eqb, eqb-true, eqb-false}
 use Rattle.keys.specs.Keys.{Keys, empty, singleton, holds, subset, isEmpty}
 use Rattle.packed.specs.Syntax.{Signal, Expression, Condition, literal, end, Program, Procedure}
-use Rattle.rules.specs.Context.{Context, top, plug, plugᶜ, literals, asLiteral, Redex, Redexᶜ, redexExpression, redexCondition, Focus, value, here, hereᶜ, focus}
+use Rattle.rules.specs.Context.{Context, top, plug, plugᶜ, literals, asLiteral, Redex, Redexᶜ, redexExpression, redexCondition, Focus, value, here}
+use Rattle.rules.specs.Context.{hereᶜ, focus}
 use Rattle.rules.specs.State.{Cell, cell, Thread, State, lookup, monitor, become, threadOf, Numbered}
 use Rattle.records.specs.Record.{Record}
-use Rattle.rules.specs.Rules.{Rule, isVolatile, LacksHere, LACKS-READ, LACKS-WRITE, Lacks, LACKS, Converts, E-CALL, E-LET, E-IF, E-WHILE, E-NEW, E-READ, E-WRITE, E-READV, E-WRITEV, E-FORK, E-JOIN, E-RE-ENTER, E-ACQUIRE, E-RELEASE, E-WAIT, E-WAKE, E-NOTIFY, E-NOTIFYALL, Convertsᶜ, E-NOTNOTTRUE, E-ANDTRUE, E-ANDFALSE, E-EQUALTRUE, E-EQUALFALSE, Moves, EVAL, EVALᶜ}
-use Rattle.rules.specs.Step.{Stuck, missingField, notThread, notHeld, noRule, equalAct, Act, waits, sticks, lacks, does, forNotify, act, actᶜ, Actᶜ, Move, Attempt, moves, attempt, attemptBy, attemptAt, around, callAct, readAct, writeAct, joinAct, joinValue, synchAct, holdAct, signalMove, signalAct, wakeAct}
-use Rattle.rules.specs.Room.{Blocked, MONITOR-HELD, UNFINISHED, NO-FIELD-TO-READ, NO-FIELD-TO-WRITE, NO-THREAD, NOT-NOTIFIED, NOT-FREE, NOT-HELD, PassedOver, ABSENT, FINISHED, BLOCKED, Answer, answer, withinRoom, Room, noRoomFor, step}
+use Rattle.rules.specs.Rules.{Rule, isVolatile, LacksHere, LACKS-READ, LACKS-WRITE, Lacks, LACKS, Converts, E-CALL, E-LET, E-IF, E-WHILE, E-NEW, E-READ}
+use Rattle.rules.specs.Rules.{E-WRITE, E-READV, E-WRITEV, E-FORK, E-JOIN, E-RE-ENTER, E-ACQUIRE, E-RELEASE, E-WAIT, E-WAKE, E-NOTIFY, E-NOTIFYALL}
+use Rattle.rules.specs.Rules.{Convertsᶜ, E-NOTNOTTRUE, E-ANDTRUE, E-ANDFALSE, E-EQUALTRUE, E-EQUALFALSE, Moves, EVAL, EVALᶜ}
+use Rattle.rules.specs.Step.{Stuck, missingField, notThread, notHeld, noRule, equalAct, Act, waits, sticks, lacks, does, forNotify, act, actᶜ, Actᶜ}
+use Rattle.rules.specs.Step.{Move, Attempt, moves, attempt, attemptBy, attemptAt, around, callAct, readAct, writeAct, joinAct, joinValue, synchAct}
+use Rattle.rules.specs.Step.{holdAct, signalMove, signalAct, wakeAct}
+use Rattle.rules.specs.Room.{Blocked, MONITOR-HELD, UNFINISHED, NO-FIELD-TO-READ, NO-FIELD-TO-WRITE, NO-THREAD, NOT-NOTIFIED, NOT-FREE, NOT-HELD}
+use Rattle.rules.specs.Room.{PassedOver, ABSENT, FINISHED, BLOCKED, Answer, answer, withinRoom, Room, noRoomFor, step}
 use Rattle.keys.proofs.KeyLaws.{subset-singleton}
 use Rattle.rules.proofs.OneKey.{OneKey, its-cell}
 use Rattle.rules.proofs.Decompose.{whole, whole-focus}
@@ -104,7 +110,8 @@ module _ (s : State) (g : Program) (p : ℕ) (t : Thread) where
   acts-blocked (NOT-FREE {o} z h) = (Redex.waiting o, refl, λ K. rw (h, z))
   acts-blocked (NOT-HELD {o} {u} {k} {W} h n) = (Redex.signal k o, refl, λ K. rw h (go K (isEmpty W) (eqb u (t .self)) refl refl))
     where
-      go : (K : Context) (a b : Bool) → isEmpty W ≡ a → eqb u (t .self) ≡ b → around s p K (cond a (cond b (signalMove s p t o k) (sticks (notHeld o))) (sticks (notHeld o))) ≡ Attempt.stuck (notHeld o)
+      go : (K : Context) (a b : Bool) → isEmpty W ≡ a → eqb u (t .self) ≡ b
+          → around s p K (cond a (cond b (signalMove s p t o k) (sticks (notHeld o))) (sticks (notHeld o))) ≡ Attempt.stuck (notHeld o)
       go K true true e e′ = absurd (n e (eqb-true u (t .self) e′))
       go K true false e e′ = refl
       go K false b e e′ = refl
@@ -166,7 +173,8 @@ module _ (g : Program) (s : State) (I : OneKey g s) (p : ℕ) (t : Thread) where
   read-ruled o f (some c) h =
       which _ (isVolatile g f) _ _
       (λ v. E-READV {v = c .value} {W = c .keys} h v)
-      (λ v. let k = its-cell g s I o f c h v in which _ (subset (c .keys) (t .keys)) _ _ (λ w. E-READ (k .0) (k .2) (tested c (k .0) (k .1) ∙ w) v) (λ w. LACKS-READ (k .0) (k .2) (tested c (k .0) (k .1) ∙ w) v))
+      (λ v. let k = its-cell g s I o f c h v in which _ (subset (c .keys) (t .keys)) _ _ (λ w. E-READ (k .0) (k .2) (tested c (k .0) (k .1) ∙ w) v)
+      (λ w. LACKS-READ (k .0) (k .2) (tested c (k .0) (k .1) ∙ w) v))
 
   write-ruled : (o f x : ℕ) (c : Option Cell) → lookup s o f ≡ c → Ruled (Expression.write (literal o) f (literal x)) (writeAct g s p t o f x c)
   unfolding writeAct
@@ -174,7 +182,8 @@ module _ (g : Program) (s : State) (I : OneKey g s) (p : ℕ) (t : Thread) where
   write-ruled o f x (some c) h =
       which _ (isVolatile g f) _ _
       (λ v. E-WRITEV {u = c .value} {W = c .keys} h v)
-      (λ v. let k = its-cell g s I o f c h v in which _ (subset (c .keys) (t .keys)) _ _ (λ w. E-WRITE (k .0) (k .2) (tested c (k .0) (k .1) ∙ w) v) (λ w. LACKS-WRITE (k .0) (k .2) (tested c (k .0) (k .1) ∙ w) v))
+      (λ v. let k = its-cell g s I o f c h v in which _ (subset (c .keys) (t .keys)) _ _ (λ w. E-WRITE (k .0) (k .2) (tested c (k .0) (k .1) ∙ w) v)
+      (λ w. LACKS-WRITE (k .0) (k .2) (tested c (k .0) (k .1) ∙ w) v))
 
   join-ruled₂ : (o : ℕ) (q : Numbered) (v : Option ℕ) → threadOf 0 (s .threads) o ≡ some q → asLiteral (q .thread .expression) ≡ v
       → Ruled (Expression.join (literal o)) (joinValue s p o q v)
@@ -202,7 +211,8 @@ module _ (g : Program) (s : State) (I : OneKey g s) (p : ℕ) (t : Thread) where
   synch-ruled o e none h = tt
   synch-ruled o e (some c) h =
       which _ (isEmpty (c .keys)) _ _
-      (λ k. which _ (eqb (c .value) (t .self)) _ _ (λ v. E-RE-ENTER (h ∙ ap {B = Option Cell} some (held c k v))) (λ v. MONITOR-HELD (h ∙ ap {B = Option Cell} some (emptied c k)) (eqb-false (c .value) (t .self) v)))
+      (λ k. which _ (eqb (c .value) (t .self)) _ _ (λ v. E-RE-ENTER (h ∙ ap {B = Option Cell} some (held c k v)))
+      (λ v. MONITOR-HELD (h ∙ ap {B = Option Cell} some (emptied c k)) (eqb-false (c .value) (t .self) v)))
       (λ k. E-ACQUIRE {u = c .value} {W = c .keys} h k)
 
   hold-ruled : (o v : ℕ) (c : Option Cell) → monitor s o ≡ c → Ruled (Expression.hold o (literal v)) (holdAct s p t o v c)
@@ -213,7 +223,8 @@ module _ (g : Program) (s : State) (I : OneKey g s) (p : ℕ) (t : Thread) where
       (λ k. which _ (eqb (c .value) (t .self)) _ _ (λ q. E-RELEASE (h ∙ ap {B = Option Cell} some (held c k q))) (λ q. tt))
       (λ k. tt)
 
-  move-ruled : (k : Signal) (o : ℕ) → monitor s o ≡ some (record { keys = empty; value = t .self }) → Ruled (Expression.signal k (literal o)) (signalMove s p t o k)
+  move-ruled : (k : Signal) (o : ℕ) → monitor s o ≡ some (record { keys = empty; value = t .self })
+      → Ruled (Expression.signal k (literal o)) (signalMove s p t o k)
   unfolding signalMove
   move-ruled Signal.wait o h = E-WAIT h
   move-ruled Signal.notify o h = E-NOTIFY h
@@ -224,7 +235,8 @@ module _ (g : Program) (s : State) (I : OneKey g s) (p : ℕ) (t : Thread) where
   signal-ruled k o none h = tt
   signal-ruled k o (some c) h =
       which _ (isEmpty (c .keys)) _ _
-      (λ e. which _ (eqb (c .value) (t .self)) _ _ (λ v. move-ruled k o (h ∙ ap {B = Option Cell} some (held c e v))) (λ v. NOT-HELD {u = c .value} {W = c .keys} h (λ _ q. eqb-false (c .value) (t .self) v q)))
+      (λ e. which _ (eqb (c .value) (t .self)) _ _ (λ v. move-ruled k o (h ∙ ap {B = Option Cell} some (held c e v)))
+      (λ v. NOT-HELD {u = c .value} {W = c .keys} h (λ _ q. eqb-false (c .value) (t .self) v q)))
       (λ e. NOT-HELD {u = c .value} {W = c .keys} h (λ z _. true≢false (sym z ∙ e)))
 
   wake-ruled : (o n : ℕ) (c : Option Cell) → t .place .number ≡ n → monitor s o ≡ c → Ruled (Expression.waiting o) (wakeAct s p t o n c)

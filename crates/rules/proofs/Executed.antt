@@ -14,7 +14,8 @@ use Rattle.records.specs.Record.{Record}
 use Rattle.rules.specs.State.{Thread, State, start}
 use Rattle.rules.specs.Rules.{Rule, Moves}
 use Rattle.rules.specs.Step.{noRule, Move, Attempt, attempt}
-use Rattle.rules.specs.Room.{Blocked, MONITOR-HELD, UNFINISHED, NO-FIELD-TO-READ, NO-FIELD-TO-WRITE, NO-THREAD, NOT-NOTIFIED, NOT-FREE, NOT-HELD, PassedOver, ABSENT, FINISHED, BLOCKED, Room, noRoomFor, Answer, withinRoom, answer, step}
+use Rattle.rules.specs.Room.{Blocked, MONITOR-HELD, UNFINISHED, NO-FIELD-TO-READ, NO-FIELD-TO-WRITE, NO-THREAD, NOT-NOTIFIED, NOT-FREE, NOT-HELD}
+use Rattle.rules.specs.Room.{PassedOver, ABSENT, FINISHED, BLOCKED, Room, noRoomFor, Answer, withinRoom, answer, step}
 use Rattle.rules.specs.Run.{Run, resume, run, play, stopped, afterPass, afterMove, outcomeOf}
 use Rattle.rules.specs.Execution.{Execution, ends, passes, lacks-key, no-room, moves, moveCount}
 use Rattle.rules.specs.NewKeys.{Unused}
@@ -38,7 +39,8 @@ pub record Reachable (g : Program) (s : State) : Type 0 where
 pub reachable-start : (g : Program) → WellFormedProgram g → Reachable g start
 reachable-start g P = record { invariant = inv-start g P; one-key = one-key-start g; unused = unused-start; modest = modest-start }
 
-pub reachable-move : (g : Program) → WellFormedProgram g → (s : State) (p : ℕ) → Reachable g s → {R : Rule} {r : Option Record} {s′ : State} → Moves g s p R r s′ → Reachable g s′
+pub reachable-move : (g : Program) → WellFormedProgram g → (s : State) (p : ℕ) → Reachable g s → {R : Rule} {r : Option Record} {s′ : State}
+    → Moves g s p R r s′ → Reachable g s′
 reachable-move g P s p I m = record {
   invariant = keeps g P s (I .invariant) p m;
   one-key = one-key-move g s p (I .one-key) m;
@@ -95,7 +97,8 @@ executes-run g ends = refl
 executes-run g (passes {s} {p} {ps} h x) = rw (complete-passed g s p h, over-passed h) (ap afterPass (executes-run g x))
 executes-run g (lacks-key {s} {p} h) = rw (complete-lacks g s p h)
 executes-run g (no-room {s} {p = p} h e) = rw (complete g s p h, e)
-executes-run g (moves {s} {s′} {p} {ps} {r} {R} {e} h k x) = rw (complete g s p h, k) (ap (afterMove (record { rule = R; entry = e; state = s′ })) (executes-run g x))
+executes-run g (moves {s} {s′} {p} {ps} {r} {R} {e} h k x) =
+    rw (complete g s p h, k) (ap (afterMove (record { rule = R; entry = e; state = s′ })) (executes-run g x))
 
 -- ---- the move count is the number of rule instances
 
@@ -162,7 +165,8 @@ pub plan-executes : (b : List ℕ) → refusal b ≡ none → (ps : List ℕ) �
 plan-executes b h ps = play-executes (programOf b) (well-formed b h) ps
 
 -- after any picks, no thread of an accepted plan is stuck for a reason that document 01 does not give
-pub plan-never-ruleless : (b : List ℕ) → refusal b ≡ none → (ps : List ℕ) (p : ℕ) → attempt (programOf b) (play (programOf b) ps .final) p ≡ Attempt.stuck noRule → ⊥
+pub plan-never-ruleless : (b : List ℕ) → refusal b ≡ none → (ps : List ℕ) (p : ℕ)
+    → attempt (programOf b) (play (programOf b) ps .final) p ≡ Attempt.stuck noRule → ⊥
 plan-never-ruleless b h ps p = never-ruleless (programOf b) (well-formed b h) ps p
 
 -- after any picks, the next plain write's key is in no set

@@ -5,7 +5,8 @@ use mathlib.Core.Bool.{true, false}
 use mathlib.Core.List.{List, [], _∷_, _++_, append-nil, append-assoc}
 use mathlib.Core.Option.{none, Option·some-ne-none}
 use Rattle.packed.specs.Syntax.{Expression, Condition, Arguments, literal, end, argument}
-use Rattle.rules.specs.Context.{Context, Contextᶜ, top, read, write₁, write₂, call, letIn, synch, hold, join, signal, equal₁, equal₂, literals, plug, plugᶜ, Redex, Redexᶜ, here, hereᶜ, focus, focusᶜ, focusᵃ, asLiteral, asBool, redexExpression, redexCondition}
+use Rattle.rules.specs.Context.{Context, Contextᶜ, top, read, write₁, write₂, call, letIn, synch, hold, join, signal, equal₁, equal₂, literals, plug}
+use Rattle.rules.specs.Context.{plugᶜ, Redex, Redexᶜ, here, hereᶜ, focus, focusᶜ, focusᵃ, asLiteral, asBool, redexExpression, redexCondition}
 
 focus-args : (K : Context) (m : ℕ) (vs os : List ℕ) (es : Arguments) (e : Expression) → asLiteral e ≡ none
     → focusᵃ K m vs (literals os (argument e es)) ≡ focus (call K m (vs ++ os) es) e

@@ -15,8 +15,11 @@ use Rattle.keys.proofs.CountLaws.{size-le, size-union, new-again}
 use Rattle.packed.specs.Syntax.{Expression, Condition, Arguments, Program}
 use Rattle.records.specs.Record.{Record}
 use Rattle.rules.specs.Queue.{awake}
-use Rattle.rules.specs.State.{cell, Thread, State, start, changeAt, gain, hear, learn, become, addObject, addThread, store, storeMonitor, useKey, enqueue, signalled}
-use Rattle.rules.specs.Rules.{Rule, passedOn, Converts, E-CALL, E-LET, E-IF, E-WHILE, E-NEW, E-READ, E-WRITE, E-READV, E-WRITEV, E-FORK, E-JOIN, E-RE-ENTER, E-ACQUIRE, E-RELEASE, E-WAIT, E-WAKE, E-NOTIFY, E-NOTIFYALL, Convertsᶜ, E-NOTNOTTRUE, E-ANDTRUE, E-ANDFALSE, E-EQUALTRUE, E-EQUALFALSE, Moves, EVAL, EVALᶜ}
+use Rattle.rules.specs.State.{cell, Thread, State, start, changeAt, gain, hear, learn, become, addObject, addThread, store, storeMonitor, useKey}
+use Rattle.rules.specs.State.{enqueue, signalled}
+use Rattle.rules.specs.Rules.{Rule, passedOn, Converts, E-CALL, E-LET, E-IF, E-WHILE, E-NEW, E-READ, E-WRITE, E-READV, E-WRITEV, E-FORK, E-JOIN}
+use Rattle.rules.specs.Rules.{E-RE-ENTER, E-ACQUIRE, E-RELEASE, E-WAIT, E-WAKE, E-NOTIFY, E-NOTIFYALL, Convertsᶜ, E-NOTNOTTRUE, E-ANDTRUE, E-ANDFALSE}
+use Rattle.rules.specs.Rules.{E-EQUALTRUE, E-EQUALFALSE, Moves, EVAL, EVALᶜ}
 use Rattle.rules.specs.Run.{Run, stopped, afterPass, afterMove, totalOf, totalsFrom}
 use Rattle.rules.specs.Execution.{Execution, ends, passes, lacks-key, no-room, moves}
 use Rattle.rules.specs.Growth.{keysOfThread, counts, larger, growth}
@@ -105,7 +108,8 @@ module _ (g : Program) (s : State) (q : ℕ) (t : Thread) (ht : getElem? (s .thr
           (ap (λ (n : ℕ). t .learnt + n) (grown (size (t .keys)) (countNew W (t .keys)) ∙ ap (λ (m : ℕ). m - size (t .keys)) (sym (size-union W (t .keys)))))
       go (no x) = rw (ne-eqb q p x, change-other (s₁ .threads) q _ p x, e) (none-more (total s p))
 
-  rises : {e : Expression} {R : Rule} {r : Option Record} {s′ : State} {e′ : Expression} → Converts g s q t e R r s′ e′ → total s′ p ≡ total s p + rise p q R s s′
+  rises : {e : Expression} {R : Rule} {r : Option Record} {s′ : State} {e′ : Expression} → Converts g s q t e R r s′ e′
+      → total s′ p ≡ total s p + rise p q R s s′
   unfolding counts addObject addThread store storeMonitor useKey enqueue signalled
   rises (E-CALL os hd hp) = none-more (total s p)
   rises E-LET = none-more (total s p)
@@ -134,7 +138,8 @@ uncounted E-ANDFALSE = refl
 uncounted (E-EQUALTRUE h) = refl
 uncounted (E-EQUALFALSE h) = refl
 
-rises-move : (g : Program) (s : State) (q : ℕ) (p : ℕ) {R : Rule} {r : Option Record} {s′ : State} → Moves g s q R r s′ → total s′ p ≡ total s p + rise p q R s s′
+rises-move : (g : Program) (s : State) (q : ℕ) (p : ℕ) {R : Rule} {r : Option Record} {s′ : State} → Moves g s q R r s′
+    → total s′ p ≡ total s p + rise p q R s s′
 rises-move g s q p {R} (EVAL K {t} {s′ = s′} ht he c) =
     become-total s′ q _ p ∙ rises g s q t ht p c ∙ ap (λ (n : ℕ). total s p + cond (counts R && eqb q p) n 0) (sym (become-larger s s′ q _ p))
 rises-move g s q p (EVALᶜ K ht he c) = become-total s q _ p ∙ rw (uncounted c) (none-more (total s p))
@@ -142,7 +147,8 @@ rises-move g s q p (EVALᶜ K ht he c) = become-total s q _ p ∙ rw (uncounted 
 -- ---- a run
 
 -- A TOTAL IS THE GROWTH OF THE THREAD'S SET OVER THE MOVES THAT COUNT
-pub total-grows : {g : Program} {s : State} {ps : List ℕ} {r : Run} (p : ℕ) (x : Execution g s ps r) → totalOf (getElem? (r .final .threads) p) ≡ totalOf (getElem? (s .threads) p) + growth p x
+pub total-grows : {g : Program} {s : State} {ps : List ℕ} {r : Run} (p : ℕ) (x : Execution g s ps r)
+    → totalOf (getElem? (r .final .threads) p) ≡ totalOf (getElem? (s .threads) p) + growth p x
 unfolding growth stopped afterPass afterMove
 total-grows {s = s} p ends = none-more (total s p)
 total-grows p (passes h x) = total-grows p x
@@ -167,7 +173,8 @@ pub eight-totals : (s : State) → length (totalsFrom s 0 8) ≡ 8
 unfolding totalsFrom
 eight-totals s = refl
 
-pub listed-total : {g : Program} {ps : List ℕ} {r : Run} (x : Execution g start ps r) (p : ℕ) → p < 8 → getElem? (totalsFrom (r .final) 0 8) p ≡ some (growth p x)
+pub listed-total : {g : Program} {ps : List ℕ} {r : Run} (x : Execution g start ps r) (p : ℕ) → p < 8
+    → getElem? (totalsFrom (r .final) 0 8) p ≡ some (growth p x)
 listed-total {r = r} x p h =
     let e : totalOf (getElem? (r .final .threads) p) ≡ growth p x = omega (arith, total-grows p x, start-total p) in
     total-at (r .final) 0 8 p h ∙ ap (λ (q : ℕ). some (totalOf (getElem? (r .final .threads) q))) (omega arith) ∙ ap {B = Option ℕ} some e

@@ -12,10 +12,14 @@ use Rattle.keys.specs.Keys.{Keys, singleton, isEmpty}
 use Rattle.packed.specs.Syntax.{Signal, Expression, Condition, Arguments, Program, literal, argument, bool}
 use Rattle.packed.proofs.WellFormed.{WellFormedProgram}
 use Rattle.records.specs.Record.{Record}
-use Rattle.rules.specs.Context.{Context, Contextᶜ, top, read, write₁, write₂, call, letIn, synch, hold, join, signal, equal₁, equal₂, plug, plugᶜ, Redex, Redexᶜ, Focus, value, here, hereᶜ, focus, literals, redexExpression, redexCondition}
+use Rattle.rules.specs.Context.{Context, Contextᶜ, top, read, write₁, write₂, call, letIn, synch, hold, join, signal, equal₁, equal₂, plug, plugᶜ}
+use Rattle.rules.specs.Context.{Redex, Redexᶜ, Focus, value, here, hereᶜ, focus, literals, redexExpression, redexCondition}
 use Rattle.rules.specs.Queue.{awake}
-use Rattle.rules.specs.State.{Cell, cell, Thread, State, start, fresh, freshObject, monitor, changeAt, store, storeMonitor, addObject, gain, become, addThread, forked, useKey, enqueue, signalled}
-use Rattle.rules.specs.Rules.{Rule, Converts, E-CALL, E-LET, E-IF, E-WHILE, E-NEW, E-READ, E-WRITE, E-READV, E-WRITEV, E-FORK, E-JOIN, E-RE-ENTER, E-ACQUIRE, E-RELEASE, E-WAIT, E-WAKE, E-NOTIFY, E-NOTIFYALL, Convertsᶜ, E-NOTNOTTRUE, E-ANDTRUE, E-ANDFALSE, E-EQUALTRUE, E-EQUALFALSE, Moves, EVAL, EVALᶜ}
+use Rattle.rules.specs.State.{Cell, cell, Thread, State, start, fresh, freshObject, monitor, changeAt, store, storeMonitor, addObject, gain, become}
+use Rattle.rules.specs.State.{addThread, forked, useKey, enqueue, signalled}
+use Rattle.rules.specs.Rules.{Rule, Converts, E-CALL, E-LET, E-IF, E-WHILE, E-NEW, E-READ, E-WRITE, E-READV, E-WRITEV, E-FORK, E-JOIN, E-RE-ENTER}
+use Rattle.rules.specs.Rules.{E-ACQUIRE, E-RELEASE, E-WAIT, E-WAKE, E-NOTIFY, E-NOTIFYALL, Convertsᶜ, E-NOTNOTTRUE, E-ANDTRUE, E-ANDFALSE, E-EQUALTRUE}
+use Rattle.rules.specs.Rules.{E-EQUALFALSE, Moves, EVAL, EVALᶜ}
 use Rattle.rules.specs.Run.{Run, logged, stopped, afterPass, afterMove, play}
 use Rattle.rules.specs.Execution.{Execution, ends, passes, lacks-key, no-room, moves}
 use Rattle.rules.proofs.FocusPlug.{found, foundᶜ}
@@ -315,7 +319,8 @@ module _ (g : Program) (P : WellFormedProgram g) (s : State) (I : Inv g s) (H : 
   converted (E-IF b {e} {e′}) he y = quiet (Redex.if b e e′) _ he refl (text-if g P s I p t ht K b e e′ he)
   converted (E-WHILE {c} {e}) he y = quiet (Redex.while c e) _ he refl (text-while g P s I p t ht K c e he)
   converted (E-NEW {fs}) he y =
-      settled (Redex.new fs) (addObject s (freshObject fs)) (suc N) (literal N) he refl (follows-same (s .threads)) (held-before s fs) (omega arith) (omega arith)
+      settled (Redex.new fs) (addObject s (freshObject fs)) (suc N) (literal N) he refl (follows-same (s .threads)) (held-before s fs) (omega arith)
+      (omega arith)
   converted (E-READ w {o} {f} {v} h k vol) he y = quiet (Redex.read o f) (literal v) he refl (I .cells o f _ h)
   converted (E-WRITE w {o} {f} {u} {v} h k vol) he y =
       let x = Redex.write o f v in

@@ -11,11 +11,13 @@ use lib.ListN.{length, getElem?}
 use Rattle.keys.specs.Keys.{Keys, empty}
 use Rattle.packed.specs.Syntax.{Expression, Program}
 use Rattle.rules.specs.Context.{focus, top}
-use Rattle.rules.specs.State.{Cell, Thread, State, fresh, freshObject, lookup, monitor, store, storeMonitor, addObject, changeAt, gain, become, addThread, useKey, inPlace}
+use Rattle.rules.specs.State.{Cell, Thread, State, fresh, freshObject, lookup, monitor, store, storeMonitor, addObject, changeAt, gain, become}
+use Rattle.rules.specs.State.{addThread, useKey, inPlace}
 use Rattle.rules.proofs.Placed.{Good, holds, GivenUp}
 use Rattle.rules.proofs.MoreObjects.{good-more}
 use Rattle.rules.proofs.Relocated.{Relocated, withThreads, was-there}
-use Rattle.rules.proofs.StateLaws.{added, length-added, change-length, store-same, store-other, store-monitor, lock-same, lock-other, lock-lookup, new-lookup, new-monitor, new-monitors, who, whose}
+use Rattle.rules.proofs.StateLaws.{added, length-added, change-length, store-same, store-other, store-monitor, lock-same, lock-other, lock-lookup}
+use Rattle.rules.proofs.StateLaws.{new-lookup, new-monitor, new-monitors, who, whose}
 
 abbrev pub In : ℕ → List ℕ → Type 0
 In o [] = ⊥
@@ -49,7 +51,8 @@ pub record Inv (g : Program) (s : State) : Type 0 where
 -- ---- the threads stay, the objects change
 
 module _ (g : Program) (s s₁ : State) (I : Inv g s) (threads : s₁ .threads ≡ s .threads) (grows : length (s .objects) ≤ length (s₁ .objects))
-    (monitors : (q : ℕ) (u : Thread) (o : ℕ) → getElem? (s .threads) q ≡ some u → In o (owed u) → (GivenUp (focus top (u .expression)) o → ⊥) → monitor s o ≡ some (heldBy u) → monitor s₁ o ≡ some (heldBy u))
+    (monitors : (q : ℕ) (u : Thread) (o : ℕ) → getElem? (s .threads) q ≡ some u → In o (owed u) → (GivenUp (focus top (u .expression)) o → ⊥)
+    → monitor s o ≡ some (heldBy u) → monitor s₁ o ≡ some (heldBy u))
     (values : (o f : ℕ) (c : Cell) → lookup s₁ o f ≡ some c → c .value < length (s₁ .objects))
     (owners′ : (o : ℕ) (c : Cell) → monitor s₁ o ≡ some c → c .value < length (s₁ .objects)) where
   was : (q : ℕ) (u : Thread) → getElem? (s₁ .threads) q ≡ some u → getElem? (s .threads) q ≡ some u
@@ -73,7 +76,9 @@ module _ (g : Program) (s s₁ : State) (I : Inv g s) (threads : s₁ .threads �
 
 pub inv-store : (g : Program) (s : State) (o f : ℕ) (c d : Cell) → Inv g s → lookup s o f ≡ some d → c .value < length (s .objects) → Inv g (store s o f c)
 unfolding store
-inv-store g s o f c d I h v = inv-objects g s (store s o f c) I refl (omega (arith, len)) (λ q u o′ k i n e. store-monitor s o f c o′ ∙ e) (λ o′ f′ c′ e. let b = value o′ f′ c′ e in omega (arith, len)) (λ o′ c′ e. let b = I .owners o′ c′ (sym (store-monitor s o f c o′) ∙ e) in omega (arith, len))
+inv-store g s o f c d I h v =
+    inv-objects g s (store s o f c) I refl (omega (arith, len)) (λ q u o′ k i n e. store-monitor s o f c o′ ∙ e) (λ o′ f′ c′ e. let b =
+    value o′ f′ c′ e in omega (arith, len)) (λ o′ c′ e. let b = I .owners o′ c′ (sym (store-monitor s o f c o′) ∙ e) in omega (arith, len))
   where
     len : length (store s o f c .objects) ≡ length (s .objects)
     len = change-length (s .objects) o _
@@ -83,7 +88,8 @@ inv-store g s o f c d I h v = inv-objects g s (store s o f c) I refl (omega (ari
       where
         go : Dec (o ≡ o′) → Dec (f ≡ f′) → c′ .value < length (s .objects)
         go (yes x) (yes y) =
-            let k : some c ≡ some c′ = sym (store-same s o f c d h) ∙ ap (λ (b : ℕ). lookup (store s o f c) o b) y ∙ ap (λ (a : ℕ). lookup (store s o f c) a f′) x ∙ e in
+            let k : some c ≡ some c′ = sym (store-same s o f c d h) ∙ ap (λ (b : ℕ). lookup (store s o f c) o b) y
+            ∙ ap (λ (a : ℕ). lookup (store s o f c) a f′) x ∙ e in
             let r : c ≡ c′ = cc in
             along (λ (z : Cell). z .value < length (s .objects)) r v
         go (yes x) (no y) = I .cells o′ f′ c′ (sym (store-other s o f c o′ f′ (λ a b. y b)) ∙ e)
@@ -94,7 +100,8 @@ unfolding useKey lookup monitor
 inv-key g s I = inv-objects g s (useKey s) I refl (omega arith) (λ q u o k i n e. e) (λ o f c e. I .cells o f c e) (λ o c e. I .owners o c e)
 
 -- a monitor that unbound has to release
-pub inv-lock : (g : Program) (s : State) (o : ℕ) (c d : Cell) → Inv g s → monitor s o ≡ some d → c .value < length (s .objects) → ((q : ℕ) (u : Thread) → getElem? (s .threads) q ≡ some u → In o (owed u) → (GivenUp (focus top (u .expression)) o → ⊥) → ⊥) → Inv g (storeMonitor s o c)
+pub inv-lock : (g : Program) (s : State) (o : ℕ) (c d : Cell) → Inv g s → monitor s o ≡ some d → c .value < length (s .objects)
+    → ((q : ℕ) (u : Thread) → getElem? (s .threads) q ≡ some u → In o (owed u) → (GivenUp (focus top (u .expression)) o → ⊥) → ⊥) → Inv g (storeMonitor s o c)
 unfolding storeMonitor
 inv-lock g s o c d I was v n =
     inv-objects g s (storeMonitor s o c) I refl (omega (arith, len))
@@ -125,7 +132,9 @@ inv-new g s fs I =
     owner : (o : ℕ) (c : Cell) → monitor (addObject s (freshObject fs)) o ≡ some c → c .value < length (addObject s (freshObject fs) .objects)
     owner o c e = go (new-monitors s fs o)
       where
-        go : (monitor (addObject s (freshObject fs)) o ≡ monitor s o) ⊎ ((length (s .objects) ≡ o) × (monitor s o ≡ none) × (monitor (addObject s (freshObject fs)) o ≡ some fresh)) → c .value < length (addObject s (freshObject fs) .objects)
+        go : (monitor (addObject s (freshObject fs)) o ≡ monitor s o) ⊎
+            ((length (s .objects) ≡ o) × (monitor s o ≡ none) × (monitor (addObject s (freshObject fs)) o ≡ some fresh))
+            → c .value < length (addObject s (freshObject fs) .objects)
         go (inl h) = let b = I .owners o c (sym h ∙ e) in omega (arith, length-new s fs)
         go (inr (_, _, h)) =
             let k : fresh ≡ c = let j : some fresh ≡ some c = sym h ∙ e in cc in
@@ -134,7 +143,9 @@ inv-new g s fs I =
     value : (o f : ℕ) (c : Cell) → lookup (addObject s (freshObject fs)) o f ≡ some c → c .value < length (addObject s (freshObject fs) .objects)
     value o f c e = go (new-lookup s fs o f)
       where
-        go : (lookup (addObject s (freshObject fs)) o f ≡ lookup s o f) ⊎ ((length (s .objects) ≡ o) × (lookup s o f ≡ none) × (lookup (addObject s (freshObject fs)) o f ≡ some fresh)) → c .value < length (addObject s (freshObject fs) .objects)
+        go : (lookup (addObject s (freshObject fs)) o f ≡ lookup s o f) ⊎
+            ((length (s .objects) ≡ o) × (lookup s o f ≡ none) × (lookup (addObject s (freshObject fs)) o f ≡ some fresh))
+            → c .value < length (addObject s (freshObject fs) .objects)
         go (inl h) = let b = I .cells o f c (sym h ∙ e) in omega (arith, length-new s fs)
         go (inr (_, _, h)) =
             let k : fresh ≡ c = let j : some fresh ≡ some c = sym h ∙ e in cc in
@@ -159,7 +170,8 @@ sound-same g s s₁ t u o e d = record {
 }
 
 -- thread p becomes a thread with the same self
-module _ (g : Program) (s : State) (I : Inv g s) (p : ℕ) (h : Thread → Thread) (t : Thread) (at : getElem? (s .threads) p ≡ some t) (self : h t .self ≡ t .self) where
+module _ (g : Program) (s : State) (I : Inv g s) (p : ℕ) (h : Thread → Thread) (t : Thread) (at : getElem? (s .threads) p ≡ some t)
+    (self : h t .self ≡ t .self) where
   abbrev after : State
   after = record { objects = s .objects; threads = changeAt (s .threads) p h; nextKey = s .nextKey }
 
@@ -168,7 +180,8 @@ module _ (g : Program) (s : State) (I : Inv g s) (p : ℕ) (h : Thread → Threa
   inv-change d = record {
     null-there = I .null-there;
     each = λ q u e. one (who (s .threads) p h t at q u e);
-    apart = λ q r u w e k x. let a = whose (s .threads) p h t at self q u e in let b = whose (s .threads) p h t at self r w k in I .apart q r (a .0) (b .0) (a .1) (b .1) (sym (a .2) ∙ x ∙ b .2);
+    apart = λ q r u w e k x. let a = whose (s .threads) p h t at self q u e in let b = whose (s .threads) p h t at self r w k in
+        I .apart q r (a .0) (b .0) (a .1) (b .1) (sym (a .2) ∙ x ∙ b .2);
     cells = λ o f c e. I .cells o f c e;
     owners = λ o c e. I .owners o c e;
   }
@@ -182,7 +195,8 @@ unfolding gain
 inv-gain g s p W n t I at = inv-change g s I p _ t at refl (sound-same g s (gain s p W n) t _ refl (record { self = refl; expression = refl }) (I .each p t at))
 
 pub inv-become : (g : Program) (s : State) (p : ℕ) (e : Expression) (t : Thread) (os : List ℕ) → Inv g s → getElem? (s .threads) p ≡ some t
-    → Good g (length (s .objects)) (focus top e) → holds (focus top e) ≡ os → ((o : ℕ) → In o os → (GivenUp (focus top e) o → ⊥) → monitor s o ≡ some (heldBy t)) → Once os → Inv g (become s p e)
+    → Good g (length (s .objects)) (focus top e) → holds (focus top e) ≡ os
+    → ((o : ℕ) → In o os → (GivenUp (focus top e) o → ⊥) → monitor s o ≡ some (heldBy t)) → Once os → Inv g (become s p e)
 unfolding become monitor
 inv-become g s p e t os I at good theirs held once =
     inv-change g s I p _ t at refl
@@ -193,7 +207,8 @@ inv-become g s p e t os I at good theirs held once =
       once = rw theirs once;
     })
 
-pub inv-thread : (g : Program) (s : State) (u : Thread) → Inv g s → Sound g s u → ((q : ℕ) (t : Thread) → getElem? (s .threads) q ≡ some t → t .self ≡ u .self → ⊥) → Inv g (addThread s u)
+pub inv-thread : (g : Program) (s : State) (u : Thread) → Inv g s → Sound g s u
+    → ((q : ℕ) (t : Thread) → getElem? (s .threads) q ≡ some t → t .self ≡ u .self → ⊥) → Inv g (addThread s u)
 unfolding addThread monitor lookup
 inv-thread g s u I d n = record {
   null-there = I .null-there;
@@ -203,11 +218,14 @@ inv-thread g s u I d n = record {
   owners = λ o c e. I .owners o c e;
 }
   where
-    one : {q : ℕ} {w : Thread} → ((q < length (s .threads)) × (getElem? (s .threads) q ≡ some w)) ⊎ ((q ≡ length (s .threads)) × (u ≡ w)) → Sound g (addThread s u) w
+    one : {q : ℕ} {w : Thread} → ((q < length (s .threads)) × (getElem? (s .threads) q ≡ some w)) ⊎ ((q ≡ length (s .threads)) × (u ≡ w))
+        → Sound g (addThread s u) w
     one {q} {w} (inl (a, b)) = sound-same g s (addThread s u) w w refl (record { self = refl; expression = refl }) (I .each q w b)
-    one (inr (a, b)) = along (λ (z : Thread). Sound g (addThread s u) z) b (sound-same g s (addThread s u) u u refl (record { self = refl; expression = refl }) d)
+    one (inr (a, b)) = along (λ (z : Thread). Sound g (addThread s u) z) b
+        (sound-same g s (addThread s u) u u refl (record { self = refl; expression = refl }) d)
 
-    two : {q r : ℕ} {w x : Thread} → ((q < length (s .threads)) × (getElem? (s .threads) q ≡ some w)) ⊎ ((q ≡ length (s .threads)) × (u ≡ w)) → ((r < length (s .threads)) × (getElem? (s .threads) r ≡ some x)) ⊎ ((r ≡ length (s .threads)) × (u ≡ x)) → w .self ≡ x .self → q ≡ r
+    two : {q r : ℕ} {w x : Thread} → ((q < length (s .threads)) × (getElem? (s .threads) q ≡ some w)) ⊎ ((q ≡ length (s .threads)) × (u ≡ w))
+        → ((r < length (s .threads)) × (getElem? (s .threads) r ≡ some x)) ⊎ ((r ≡ length (s .threads)) × (u ≡ x)) → w .self ≡ x .self → q ≡ r
     two {q} {r} {w} {x} (inl (a, b)) (inl (c, d)) y = I .apart q r w x b d y
     two {q} {r} {w} {x} (inl (a, b)) (inr (c, d)) y = absurd (n q w b (y ∙ ap (λ (z : Thread). z .self) (sym d)))
     two {q} {r} {w} {x} (inr (a, b)) (inl (c, d)) y = absurd (n r x d (sym y ∙ ap (λ (z : Thread). z .self) (sym b)))
@@ -219,8 +237,11 @@ pub inv-relocated : (g : Program) (s : State) (us : List Thread) → Relocated (
 unfolding monitor lookup
 inv-relocated g s us r I = record {
   null-there = I .null-there;
-  each = λ q u e. let w = was q u e in along (Sound g (withThreads s us)) (w .2) (sound-same g s (withThreads s us) (w .0) (inPlace (u .place) (w .0)) refl (record { self = refl; expression = refl }) (I .each q (w .0) (w .1)));
-  apart = λ p q t u h k e. let w = was p t h in let x = was q u k in I .apart p q (w .0) (x .0) (w .1) (x .1) (ap (λ (z : Thread). z .self) (w .2) ∙ e ∙ ap (λ (z : Thread). z .self) (sym (x .2)));
+  each = λ q u e. let w =
+      was q u e in along (Sound g (withThreads s us)) (w .2)
+      (sound-same g s (withThreads s us) (w .0) (inPlace (u .place) (w .0)) refl (record { self = refl; expression = refl }) (I .each q (w .0) (w .1)));
+  apart = λ p q t u h k e. let w = was p t h in let x =
+      was q u k in I .apart p q (w .0) (x .0) (w .1) (x .1) (ap (λ (z : Thread). z .self) (w .2) ∙ e ∙ ap (λ (z : Thread). z .self) (sym (x .2)));
   cells = λ o f c e. I .cells o f c e;
   owners = λ o c e. I .owners o c e;
 }

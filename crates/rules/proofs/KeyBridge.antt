@@ -11,12 +11,14 @@ use lib.ListN.{length, getElem?}
 use lib.Dec.{T}
 use Rattle.keys.specs.Keys.{Keys, empty, singleton, union, holds, isEmpty}
 use Rattle.packed.specs.Syntax.{Expression, Program}
-use Rattle.rules.specs.State.{Cell, Thread, State, fresh, freshObject, lookup, monitor, store, storeMonitor, addObject, changeAt, gain, become, addThread, useKey}
+use Rattle.rules.specs.State.{Cell, Thread, State, fresh, freshObject, lookup, monitor, store, storeMonitor, addObject, changeAt, gain, become}
+use Rattle.rules.specs.State.{addThread, useKey}
 use Rattle.order.proofs.KeySets.{KeySet, noKeys, put, put-same, put-other, put₂, put₂-same, put₂-other}
 use Rattle.order.proofs.KeyMachine.{KeyState, monitorTaken, threadKnows, plainKeyed, volatileKnows, monitorFreed, threadForked}
 use Rattle.rules.specs.Rules.{isVolatile}
 use Rattle.rules.proofs.Relocated.{Relocated, withThreads, relocated-length, was-there}
-use Rattle.rules.proofs.StateLaws.{added, length-added, change-length, store-same, store-other, store-monitor, lock-same, lock-other, lock-lookup, new-lookup, new-monitors, who, whose}
+use Rattle.rules.proofs.StateLaws.{added, length-added, change-length, store-same, store-other, store-monitor, lock-same, lock-other, lock-lookup}
+use Rattle.rules.proofs.StateLaws.{new-lookup, new-monitors, who, whose}
 use Rattle.keys.proofs.KeyLaws.{holds-empty, empty-union}
 
 -- the keys of a place: a place that is not there is as good as fresh
@@ -31,12 +33,14 @@ pub record Agrees (g : Program) (s : State) (κ : KeyState) : Type 0 where
   pub plain : (o f : ℕ) → isVolatile g f ≡ false → keysOf (lookup s o f) ≡ singleton (κ .plain o f)
   pub volatiles : (o f : ℕ) → isVolatile g f ≡ true → (k : ℕ) → κ .volatiles o f k ≡ holds (keysOf (lookup s o f)) k
   pub monitors : (o k : ℕ) → κ .monitors o k ≡ holds (keysOf (monitor s o)) k
-  pub owner : (o : ℕ) (c : Cell) → monitor s o ≡ some c → isEmpty (c .keys) ≡ true → (p : ℕ) (t : Thread) → getElem? (s .threads) p ≡ some t → c .value ≡ t .self → κ .owner o ≡ p
+  pub owner : (o : ℕ) (c : Cell) → monitor s o ≡ some c → isEmpty (c .keys) ≡ true → (p : ℕ) (t : Thread) → getElem? (s .threads) p ≡ some t
+      → c .value ≡ t .self → κ .owner o ≡ p
   pub next : κ .next ≡ s .nextKey
 
 -- ---- one thread changes; its self does not
 
-module _ (g : Program) (s : State) (κ : KeyState) (A : Agrees g s κ) (p : ℕ) (h : Thread → Thread) (t : Thread) (at : getElem? (s .threads) p ≡ some t) (self : h t .self ≡ t .self) where
+module _ (g : Program) (s : State) (κ : KeyState) (A : Agrees g s κ) (p : ℕ) (h : Thread → Thread) (t : Thread) (at : getElem? (s .threads) p ≡ some t)
+    (self : h t .self ≡ t .self) where
   abbrev after : State
   after = record { objects = s .objects; threads = changeAt (s .threads) p h; nextKey = s .nextKey }
 
@@ -48,7 +52,16 @@ module _ (g : Program) (s : State) (κ : KeyState) (A : Agrees g s κ) (p : ℕ)
   Is q u = ((p ≡ q) × (h t ≡ u)) ⊎ ((p ≡ q → ⊥) × (getElem? (s .threads) q ≡ some u))
 
   agrees-when : (knows : ℕ → KeySet) → ((q : ℕ) (u : Thread) (k : ℕ) → Is q u → knows q k ≡ holds (u .keys) k)
-      → Agrees g after (record { present = κ .present; knows = knows; plain = κ .plain; volatiles = κ .volatiles; monitors = κ .monitors; owner = κ .owner; next = κ .next })
+      → Agrees g after (record {
+        present = κ .present;
+        knows = knows;
+        plain = κ .plain;
+        volatiles = κ .volatiles;
+        monitors = κ .monitors;
+        owner =
+            κ .owner;
+        next = κ .next;
+      })
   unfolding lookup monitor
   agrees-when knows known = record {
     present = λ q u e. let w = whose (s .threads) p h t at self q u e in A .present q (w .0) (w .1);
@@ -66,7 +79,8 @@ module _ (g : Program) (s : State) (κ : KeyState) (A : Agrees g s κ) (p : ℕ)
   agrees-change a same = agrees-when (put (κ .knows) p a) known
     where
       known : (q : ℕ) (u : Thread) (k : ℕ) → Is q u → put (κ .knows) p a q k ≡ holds (u .keys) k
-      known q u k (inl (x, y)) = ap (λ (b : ℕ). put (κ .knows) p a b k) (sym x) ∙ ap (λ (b : KeySet). b k) (put-same (κ .knows) p a) ∙ same k ∙ ap (λ (z : Thread). holds (z .keys) k) y
+      known q u k (inl (x, y)) = ap (λ (b : ℕ). put (κ .knows) p a b k) (sym x) ∙ ap (λ (b : KeySet). b k) (put-same (κ .knows) p a) ∙ same k
+          ∙ ap (λ (z : Thread). holds (z .keys) k) y
       known q u k (inr (x, y)) = ap (λ (b : KeySet). b k) (put-other (κ .knows) p a q x) ∙ A .knows q u y k
 
   -- its set stays
@@ -77,7 +91,8 @@ module _ (g : Program) (s : State) (κ : KeyState) (A : Agrees g s κ) (p : ℕ)
       known q u k (inl (x, y)) = A .knows q t (rw (← x) at) k ∙ ap (λ (W : Keys). holds W k) (sym same) ∙ ap (λ (z : Thread). holds (z .keys) k) y
       known q u k (inr (x, y)) = A .knows q u y k
 
-pub agrees-become : (g : Program) (s : State) (κ : KeyState) (p : ℕ) (e : Expression) (t : Thread) → getElem? (s .threads) p ≡ some t → Agrees g s κ → Agrees g (become s p e) κ
+pub agrees-become : (g : Program) (s : State) (κ : KeyState) (p : ℕ) (e : Expression) (t : Thread) → getElem? (s .threads) p ≡ some t → Agrees g s κ
+    → Agrees g (become s p e) κ
 unfolding become
 agrees-become g s κ p e t at A = agrees-keep g s κ A p _ t at refl refl
 
@@ -87,18 +102,26 @@ unfolding gain
 agrees-gain g s κ p W n t a at same A = agrees-change g s κ A p _ t at refl a same
 
 -- a thread that hears nothing
-pub agrees-unheard : (g : Program) (s : State) (κ : KeyState) (p : ℕ) (n : Keys → ℕ) (t : Thread) → getElem? (s .threads) p ≡ some t → Agrees g s κ → Agrees g (gain s p empty n) κ
+pub agrees-unheard : (g : Program) (s : State) (κ : KeyState) (p : ℕ) (n : Keys → ℕ) (t : Thread) → getElem? (s .threads) p ≡ some t → Agrees g s κ
+    → Agrees g (gain s p empty n) κ
 unfolding gain
 agrees-unheard g s κ p n t at A = agrees-keep g s κ A p _ t at refl (empty-union (t .keys))
 
 -- ---- fields
 
 module _ (g : Program) (s : State) (κ : KeyState) (A : Agrees g s κ) (o f : ℕ) (c d : Cell) (was : lookup s o f ≡ some d) where
-  stored : (o′ f′ : ℕ) → ((o ≡ o′) × (f ≡ f′) × (lookup (store s o f c) o′ f′ ≡ some c)) ⊎ ((o ≡ o′ → f ≡ f′ → ⊥) × (lookup (store s o f c) o′ f′ ≡ lookup s o′ f′))
+  stored : (o′ f′ : ℕ) → ((o ≡ o′) × (f ≡ f′) × (lookup (store s o f c) o′ f′ ≡ some c)) ⊎
+      ((o ≡ o′ → f ≡ f′ → ⊥) × (lookup (store s o f c) o′ f′ ≡ lookup s o′ f′))
   stored o′ f′ = go (ℕ-discrete o o′) (ℕ-discrete f f′)
     where
-      go : Dec (o ≡ o′) → Dec (f ≡ f′) → ((o ≡ o′) × (f ≡ f′) × (lookup (store s o f c) o′ f′ ≡ some c)) ⊎ ((o ≡ o′ → f ≡ f′ → ⊥) × (lookup (store s o f c) o′ f′ ≡ lookup s o′ f′))
-      go (yes x) (yes y) = inl (x, y, ap (λ (a : ℕ). lookup (store s o f c) a f′) (sym x) ∙ ap (λ (b : ℕ). lookup (store s o f c) o b) (sym y) ∙ store-same s o f c d was)
+      go : Dec (o ≡ o′) → Dec (f ≡ f′)
+          → ((o ≡ o′) × (f ≡ f′) × (lookup (store s o f c) o′ f′ ≡ some c)) ⊎ ((o ≡ o′ → f ≡ f′ → ⊥) × (lookup (store s o f c) o′ f′ ≡ lookup s o′ f′))
+      go (yes x) (yes y) = inl (
+        x,
+        y,
+        ap (λ (a : ℕ). lookup (store s o f c) a f′) (sym x) ∙ ap (λ (b : ℕ). lookup (store s o f c) o b) (sym y)
+            ∙ store-same s o f c d was,
+      )
       go (yes x) (no y) = inr (λ a b. y b, store-other s o f c o′ f′ (λ a b. y b))
       go (no x) y = inr (λ a b. x a, store-other s o f c o′ f′ (λ a b. x a))
 
@@ -122,12 +145,18 @@ module _ (g : Program) (s : State) (κ : KeyState) (A : Agrees g s κ) (o f : �
       lookup′ : (o′ f′ : ℕ) → lookup (useKey (store s o f c)) o′ f′ ≡ lookup (store s o f c) o′ f′
       lookup′ o′ f′ = unfold lookup in refl
 
-      plain′ : (o′ f′ : ℕ) → isVolatile g f′ ≡ false → ((o ≡ o′) × (f ≡ f′) × (lookup (store s o f c) o′ f′ ≡ some c)) ⊎ ((o ≡ o′ → f ≡ f′ → ⊥) × (lookup (store s o f c) o′ f′ ≡ lookup s o′ f′)) → keysOf (lookup (useKey (store s o f c)) o′ f′) ≡ singleton (put₂ (κ .plain) o f (κ .next) o′ f′)
+      plain′ : (o′ f′ : ℕ) → isVolatile g f′ ≡ false
+          → ((o ≡ o′) × (f ≡ f′) × (lookup (store s o f c) o′ f′ ≡ some c)) ⊎ ((o ≡ o′ → f ≡ f′ → ⊥) × (lookup (store s o f c) o′ f′ ≡ lookup s o′ f′))
+          → keysOf (lookup (useKey (store s o f c)) o′ f′) ≡ singleton (put₂ (κ .plain) o f (κ .next) o′ f′)
       plain′ o′ f′ v (inl (x, y, z)) =
-          ap keysOf (lookup′ o′ f′ ∙ z) ∙ new ∙ ap singleton (sym (A .next) ∙ sym (put₂-same (κ .plain) o f (κ .next)) ∙ ap (λ (a : ℕ). put₂ (κ .plain) o f (κ .next) a f) x ∙ ap (λ (b : ℕ). put₂ (κ .plain) o f (κ .next) o′ b) y)
+          ap keysOf (lookup′ o′ f′ ∙ z) ∙ new
+          ∙ ap singleton (sym (A .next) ∙ sym (put₂-same (κ .plain) o f (κ .next)) ∙ ap (λ (a : ℕ). put₂ (κ .plain) o f (κ .next) a f) x
+          ∙ ap (λ (b : ℕ). put₂ (κ .plain) o f (κ .next) o′ b) y)
       plain′ o′ f′ v (inr (x, z)) = ap keysOf (lookup′ o′ f′ ∙ z) ∙ A .plain o′ f′ v ∙ ap singleton (sym (put₂-other (κ .plain) o f (κ .next) o′ f′ x))
 
-      volat′ : (o′ f′ : ℕ) → isVolatile g f′ ≡ true → (k : ℕ) → ((o ≡ o′) × (f ≡ f′) × (lookup (store s o f c) o′ f′ ≡ some c)) ⊎ ((o ≡ o′ → f ≡ f′ → ⊥) × (lookup (store s o f c) o′ f′ ≡ lookup s o′ f′)) → κ .volatiles o′ f′ k ≡ holds (keysOf (lookup (useKey (store s o f c)) o′ f′)) k
+      volat′ : (o′ f′ : ℕ) → isVolatile g f′ ≡ true → (k : ℕ)
+          → ((o ≡ o′) × (f ≡ f′) × (lookup (store s o f c) o′ f′ ≡ some c)) ⊎ ((o ≡ o′ → f ≡ f′ → ⊥) × (lookup (store s o f c) o′ f′ ≡ lookup s o′ f′))
+          → κ .volatiles o′ f′ k ≡ holds (keysOf (lookup (useKey (store s o f c)) o′ f′)) k
       volat′ o′ f′ v k (inl (x, y, z)) = absurd (false≢true (sym vol ∙ ap (isVolatile g) y ∙ v))
       volat′ o′ f′ v k (inr (x, z)) = A .volatiles o′ f′ v k ∙ ap (λ (e : Option Cell). holds (keysOf e) k) (sym (lookup′ o′ f′ ∙ z))
 
@@ -136,8 +165,18 @@ module _ (g : Program) (s : State) (κ : KeyState) (A : Agrees g s κ) (o f : �
   Holds o′ f′ = ((o ≡ o′) × (f ≡ f′) × (lookup (store s o f c) o′ f′ ≡ some c)) ⊎ ((o ≡ o′ → f ≡ f′ → ⊥) × (lookup (store s o f c) o′ f′ ≡ lookup s o′ f′))
 
   -- a volatile field is stored, and the sets of volatile fields are these
-  stored-when : isVolatile g f ≡ true → (volatiles : ℕ → ℕ → KeySet) → ((o′ f′ : ℕ) → isVolatile g f′ ≡ true → (k : ℕ) → Holds o′ f′ → volatiles o′ f′ k ≡ holds (keysOf (lookup (store s o f c) o′ f′)) k)
-      → Agrees g (store s o f c) (record { present = κ .present; knows = κ .knows; plain = κ .plain; volatiles = volatiles; monitors = κ .monitors; owner = κ .owner; next = κ .next })
+  stored-when : isVolatile g f ≡ true → (volatiles : ℕ → ℕ → KeySet)
+      → ((o′ f′ : ℕ) → isVolatile g f′ ≡ true → (k : ℕ) → Holds o′ f′ → volatiles o′ f′ k ≡ holds (keysOf (lookup (store s o f c) o′ f′)) k)
+      → Agrees g (store s o f c) (record {
+        present = κ .present;
+        knows = κ .knows;
+        plain = κ .plain;
+        volatiles = volatiles;
+        monitors = κ .monitors;
+        owner =
+            κ .owner;
+        next = κ .next;
+      })
   unfolding store
   stored-when vol volatiles held = record {
     present = λ q u e. A .present q u e;
@@ -160,9 +199,11 @@ module _ (g : Program) (s : State) (κ : KeyState) (A : Agrees g s κ) (o f : �
     where
       held : (o′ f′ : ℕ) → isVolatile g f′ ≡ true → (k : ℕ) → Holds o′ f′ → put₂ (κ .volatiles) o f a o′ f′ k ≡ holds (keysOf (lookup (store s o f c) o′ f′)) k
       held o′ f′ v k (inl (x, y, z)) =
-          ap (λ (b : ℕ). put₂ (κ .volatiles) o f a b f′ k) (sym x) ∙ ap (λ (b : ℕ). put₂ (κ .volatiles) o f a o b k) (sym y) ∙ ap (λ (b : KeySet). b k) (put₂-same (κ .volatiles) o f a) ∙ new k
+          ap (λ (b : ℕ). put₂ (κ .volatiles) o f a b f′ k) (sym x) ∙ ap (λ (b : ℕ). put₂ (κ .volatiles) o f a o b k) (sym y)
+          ∙ ap (λ (b : KeySet). b k) (put₂-same (κ .volatiles) o f a) ∙ new k
           ∙ ap (λ (e : Option Cell). holds (keysOf e) k) (sym z)
-      held o′ f′ v k (inr (x, z)) = ap (λ (b : KeySet). b k) (put₂-other (κ .volatiles) o f a o′ f′ x) ∙ A .volatiles o′ f′ v k ∙ ap (λ (e : Option Cell). holds (keysOf e) k) (sym z)
+      held o′ f′ v k (inr (x, z)) = ap (λ (b : KeySet). b k) (put₂-other (κ .volatiles) o f a o′ f′ x) ∙ A .volatiles o′ f′ v k
+          ∙ ap (λ (e : Option Cell). holds (keysOf e) k) (sym z)
 
   -- a volatile field takes a value and keeps its set
   pub agrees-valued : isVolatile g f ≡ true → c .keys ≡ d .keys → Agrees g (store s o f c) κ
@@ -190,12 +231,15 @@ module _ (g : Program) (s : State) (κ : KeyState) (A : Agrees g s κ) (o : ℕ)
   monitors′ : (a : KeySet) → ((k : ℕ) → a k ≡ holds (c .keys) k) → (o′ k : ℕ) → put (κ .monitors) o a o′ k ≡ holds (keysOf (monitor locked o′)) k
   monitors′ a new o′ k = go (which o′)
     where
-      go : ((o ≡ o′) × (monitor locked o′ ≡ some c)) ⊎ ((o ≡ o′ → ⊥) × (monitor locked o′ ≡ monitor s o′)) → put (κ .monitors) o a o′ k ≡ holds (keysOf (monitor locked o′)) k
-      go (inl (x, z)) = ap (λ (b : ℕ). put (κ .monitors) o a b k) (sym x) ∙ ap (λ (b : KeySet). b k) (put-same (κ .monitors) o a) ∙ new k ∙ ap (λ (e : Option Cell). holds (keysOf e) k) (sym z)
+      go : ((o ≡ o′) × (monitor locked o′ ≡ some c)) ⊎ ((o ≡ o′ → ⊥) × (monitor locked o′ ≡ monitor s o′))
+          → put (κ .monitors) o a o′ k ≡ holds (keysOf (monitor locked o′)) k
+      go (inl (x, z)) = ap (λ (b : ℕ). put (κ .monitors) o a b k) (sym x) ∙ ap (λ (b : KeySet). b k) (put-same (κ .monitors) o a) ∙ new k
+          ∙ ap (λ (e : Option Cell). holds (keysOf e) k) (sym z)
       go (inr (x, z)) = ap (λ (b : KeySet). b k) (put-other (κ .monitors) o a o′ x) ∙ A .monitors o′ k ∙ ap (λ (e : Option Cell). holds (keysOf e) k) (sym z)
 
   -- thread p seizes it
-  pub agrees-seized : (p : ℕ) → c .keys ≡ empty → ((q : ℕ) (u : Thread) → getElem? (s .threads) q ≡ some u → c .value ≡ u .self → p ≡ q) → Agrees g locked (monitorTaken o p κ)
+  pub agrees-seized : (p : ℕ) → c .keys ≡ empty → ((q : ℕ) (u : Thread) → getElem? (s .threads) q ≡ some u → c .value ≡ u .self → p ≡ q)
+      → Agrees g locked (monitorTaken o p κ)
   unfolding storeMonitor
   agrees-seized p none′ mine = record {
     present = λ q u e. A .present q u e;
@@ -208,7 +252,8 @@ module _ (g : Program) (s : State) (κ : KeyState) (A : Agrees g s κ) (o : ℕ)
     next = A .next;
   }
     where
-      owner′ : (o′ : ℕ) (c′ : Cell) → monitor locked o′ ≡ some c′ → isEmpty (c′ .keys) ≡ true → (q : ℕ) (u : Thread) → getElem? (s .threads) q ≡ some u → c′ .value ≡ u .self → ((o ≡ o′) × (monitor locked o′ ≡ some c)) ⊎ ((o ≡ o′ → ⊥) × (monitor locked o′ ≡ monitor s o′)) → put (κ .owner) o p o′ ≡ q
+      owner′ : (o′ : ℕ) (c′ : Cell) → monitor locked o′ ≡ some c′ → isEmpty (c′ .keys) ≡ true → (q : ℕ) (u : Thread) → getElem? (s .threads) q ≡ some u
+          → c′ .value ≡ u .self → ((o ≡ o′) × (monitor locked o′ ≡ some c)) ⊎ ((o ≡ o′ → ⊥) × (monitor locked o′ ≡ monitor s o′)) → put (κ .owner) o p o′ ≡ q
       owner′ o′ c′ m e q u i v (inl (x, z)) =
           let j : some c ≡ some c′ = sym z ∙ m in
           let y : c ≡ c′ = cc in
@@ -229,7 +274,8 @@ module _ (g : Program) (s : State) (κ : KeyState) (A : Agrees g s κ) (o : ℕ)
     next = A .next;
   }
     where
-      owner′ : (o′ : ℕ) (c′ : Cell) → monitor locked o′ ≡ some c′ → isEmpty (c′ .keys) ≡ true → (q : ℕ) (u : Thread) → getElem? (s .threads) q ≡ some u → c′ .value ≡ u .self → ((o ≡ o′) × (monitor locked o′ ≡ some c)) ⊎ ((o ≡ o′ → ⊥) × (monitor locked o′ ≡ monitor s o′)) → κ .owner o′ ≡ q
+      owner′ : (o′ : ℕ) (c′ : Cell) → monitor locked o′ ≡ some c′ → isEmpty (c′ .keys) ≡ true → (q : ℕ) (u : Thread) → getElem? (s .threads) q ≡ some u
+          → c′ .value ≡ u .self → ((o ≡ o′) × (monitor locked o′ ≡ some c)) ⊎ ((o ≡ o′ → ⊥) × (monitor locked o′ ≡ monitor s o′)) → κ .owner o′ ≡ q
       owner′ o′ c′ m e q u i v (inl (x, z)) =
           let j : some c ≡ some c′ = sym z ∙ m in
           let y : c ≡ c′ = cc in
@@ -255,15 +301,18 @@ agrees-new g s κ fs A = record {
     s₁ : State
     s₁ = addObject s (freshObject fs)
 
-    same-field : (o f : ℕ) → (lookup s₁ o f ≡ lookup s o f) ⊎ ((length (s .objects) ≡ o) × (lookup s o f ≡ none) × (lookup s₁ o f ≡ some fresh)) → keysOf (lookup s₁ o f) ≡ keysOf (lookup s o f)
+    same-field : (o f : ℕ) → (lookup s₁ o f ≡ lookup s o f) ⊎ ((length (s .objects) ≡ o) × (lookup s o f ≡ none) × (lookup s₁ o f ≡ some fresh))
+        → keysOf (lookup s₁ o f) ≡ keysOf (lookup s o f)
     same-field o f (inl h) = ap keysOf h
     same-field o f (inr (_, h, k)) = ap keysOf k ∙ sym (ap keysOf h)
 
-    same-monitor : (o : ℕ) → (monitor s₁ o ≡ monitor s o) ⊎ ((length (s .objects) ≡ o) × (monitor s o ≡ none) × (monitor s₁ o ≡ some fresh)) → keysOf (monitor s₁ o) ≡ keysOf (monitor s o)
+    same-monitor : (o : ℕ) → (monitor s₁ o ≡ monitor s o) ⊎ ((length (s .objects) ≡ o) × (monitor s o ≡ none) × (monitor s₁ o ≡ some fresh))
+        → keysOf (monitor s₁ o) ≡ keysOf (monitor s o)
     same-monitor o (inl h) = ap keysOf h
     same-monitor o (inr (_, h, k)) = ap keysOf k ∙ sym (ap keysOf h)
 
-    owner′ : (o : ℕ) (c : Cell) → monitor s₁ o ≡ some c → isEmpty (c .keys) ≡ true → (q : ℕ) (u : Thread) → getElem? (s .threads) q ≡ some u → c .value ≡ u .self
+    owner′ : (o : ℕ) (c : Cell) → monitor s₁ o ≡ some c → isEmpty (c .keys) ≡ true → (q : ℕ) (u : Thread) → getElem? (s .threads) q ≡ some u
+        → c .value ≡ u .self
         → (monitor s₁ o ≡ monitor s o) ⊎ ((length (s .objects) ≡ o) × (monitor s o ≡ none) × (monitor s₁ o ≡ some fresh)) → κ .owner o ≡ q
     owner′ o c m e q u i v (inl h) = A .owner o c (sym h ∙ m) e q u i v
     owner′ o c m e q u i v (inr (_, h, k)) =
@@ -273,11 +322,14 @@ agrees-new g s κ fs A = record {
         absurd (true≢false cc)
 
 pub agrees-started : (g : Program) (s : State) (κ : KeyState) (u : Thread) (a : KeySet) → Agrees g s κ → ((k : ℕ) → a k ≡ holds (u .keys) k)
-    → ((o : ℕ) (c : Cell) → monitor s o ≡ some c → isEmpty (c .keys) ≡ true → c .value ≡ u .self → ⊥) → Agrees g (addThread s u) (threadForked (length (s .threads)) a κ)
+    → ((o : ℕ) (c : Cell) → monitor s o ≡ some c → isEmpty (c .keys) ≡ true → c .value ≡ u .self → ⊥)
+    → Agrees g (addThread s u) (threadForked (length (s .threads)) a κ)
 unfolding addThread lookup monitor
 agrees-started g s κ u a A same new = record {
   present = λ q w e. present′ q w (added (s .threads) u q w e);
-  absent = λ q l. along (λ (b : Bool). T (not b)) (sym (put-other (κ .present) (length (s .threads)) true q (λ e. let b = l in omega (arith, length-added (s .threads) u)))) (A .absent q (omega (arith, length-added (s .threads) u)));
+  absent = λ q l. along (λ (b : Bool). T (not b))
+      (sym (put-other (κ .present) (length (s .threads)) true q (λ e. let b = l in omega (arith, length-added (s .threads) u))))
+      (A .absent q (omega (arith, length-added (s .threads) u)));
   knows = λ q w e k. knows′ q w k (added (s .threads) u q w e);
   plain = λ o f v. A .plain o f v;
   volatiles = λ o f v k. A .volatiles o f v k;
@@ -295,9 +347,11 @@ agrees-started g s κ u a A same new = record {
 
     knows′ : (q : ℕ) (w : Thread) (k : ℕ) → ((q < L) × (getElem? (s .threads) q ≡ some w)) ⊎ ((q ≡ L) × (u ≡ w)) → put (κ .knows) L a q k ≡ holds (w .keys) k
     knows′ q w k (inl (x, y)) = ap (λ (b : KeySet). b k) (put-other (κ .knows) L a q (λ e. omega arith)) ∙ A .knows q w y k
-    knows′ q w k (inr (x, y)) = ap (λ (b : ℕ). put (κ .knows) L a b k) x ∙ ap (λ (b : KeySet). b k) (put-same (κ .knows) L a) ∙ same k ∙ ap (λ (z : Thread). holds (z .keys) k) y
+    knows′ q w k (inr (x, y)) = ap (λ (b : ℕ). put (κ .knows) L a b k) x ∙ ap (λ (b : KeySet). b k) (put-same (κ .knows) L a) ∙ same k
+        ∙ ap (λ (z : Thread). holds (z .keys) k) y
 
-    owner′ : (o : ℕ) (c : Cell) → monitor s o ≡ some c → isEmpty (c .keys) ≡ true → (q : ℕ) (w : Thread) → c .value ≡ w .self → ((q < L) × (getElem? (s .threads) q ≡ some w)) ⊎ ((q ≡ L) × (u ≡ w)) → κ .owner o ≡ q
+    owner′ : (o : ℕ) (c : Cell) → monitor s o ≡ some c → isEmpty (c .keys) ≡ true → (q : ℕ) (w : Thread) → c .value ≡ w .self
+        → ((q < L) × (getElem? (s .threads) q ≡ some w)) ⊎ ((q ≡ L) × (u ≡ w)) → κ .owner o ≡ q
     owner′ o c m e q w v (inl (x, y)) = A .owner o c m e q w y v
     owner′ o c m e q w v (inr (x, y)) = absurd (new o c m e (v ∙ ap (λ (z : Thread). z .self) (sym y)))
 

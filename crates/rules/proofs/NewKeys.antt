@@ -15,13 +15,17 @@ use Rattle.keys.proofs.KeyLaws.{holds-empty, holds-singleton, holds-union, no-k
 use Rattle.packed.specs.Syntax.{Expression, Condition, Arguments, Program}
 use Rattle.records.specs.Record.{Kind, Record, entry}
 use Rattle.rules.specs.Queue.{awake}
-use Rattle.rules.specs.State.{Cell, cell, Thread, State, fresh, freshObject, lookup, monitor, store, storeMonitor, addObject, gain, become, addThread, forked, useKey, enqueue, signalled, start, changeAt}
-use Rattle.rules.specs.Rules.{Rule, passedOn, e-write, Converts, E-CALL, E-LET, E-IF, E-WHILE, E-NEW, E-READ, E-WRITE, E-READV, E-WRITEV, E-FORK, E-JOIN, E-RE-ENTER, E-ACQUIRE, E-RELEASE, E-WAIT, E-WAKE, E-NOTIFY, E-NOTIFYALL, Convertsᶜ, E-NOTNOTTRUE, E-ANDTRUE, E-ANDFALSE, E-EQUALTRUE, E-EQUALFALSE, Moves, EVAL, EVALᶜ}
+use Rattle.rules.specs.State.{Cell, cell, Thread, State, fresh, freshObject, lookup, monitor, store, storeMonitor, addObject, gain, become, addThread}
+use Rattle.rules.specs.State.{forked, useKey, enqueue, signalled, start, changeAt}
+use Rattle.rules.specs.Rules.{Rule, passedOn, e-write, Converts, E-CALL, E-LET, E-IF, E-WHILE, E-NEW, E-READ, E-WRITE, E-READV, E-WRITEV, E-FORK}
+use Rattle.rules.specs.Rules.{E-JOIN, E-RE-ENTER, E-ACQUIRE, E-RELEASE, E-WAIT, E-WAKE, E-NOTIFY, E-NOTIFYALL, Convertsᶜ, E-NOTNOTTRUE, E-ANDTRUE}
+use Rattle.rules.specs.Rules.{E-ANDFALSE, E-EQUALTRUE, E-EQUALFALSE, Moves, EVAL, EVALᶜ}
 use Rattle.rules.specs.Run.{Run}
 use Rattle.rules.specs.Execution.{Execution, ends, passes, lacks-key, no-room, moves}
 use Rattle.rules.specs.NewKeys.{Below, Unused, Held, BY-THREAD, BY-FIELD, BY-MONITOR, NeverHeld, StoresNew, WritesNew}
 use Rattle.rules.proofs.Relocated.{Relocated, withThreads, was-there, enqueue-relocated, signalled-relocated}
-use Rattle.rules.proofs.StateLaws.{added, changed, store-same, store-other, store-monitor, lock-same, lock-other, lock-lookup, new-lookup, new-monitors, found-thread}
+use Rattle.rules.proofs.StateLaws.{added, changed, store-same, store-other, store-monitor, lock-same, lock-other, lock-lookup, new-lookup}
+use Rattle.rules.proofs.StateLaws.{new-monitors, found-thread}
 
 below-singleton : (w n : ℕ) → w < n → Below (singleton w) n
 below-singleton w n h k t = let e : k ≡ w = eqb→eq k w (rw (holds-singleton w k) at t) in omega arith
@@ -67,7 +71,8 @@ unused-store s o f c d h b U = record {
   where
     go : (o′ f′ : ℕ) (c′ : Cell) → lookup (store s o f c) o′ f′ ≡ some c′ → Dec (o ≡ o′) → Dec (f ≡ f′) → Below (c′ .keys) (s .nextKey)
     go o′ f′ c′ h′ (yes x) (yes y) =
-        let q : some c ≡ some c′ = sym (store-same s o f c d h) ∙ ap (λ (z : ℕ). lookup (store s o f c) o z) y ∙ ap (λ (z : ℕ). lookup (store s o f c) z f′) x ∙ h′ in
+        let q : some c ≡ some c′ = sym (store-same s o f c d h) ∙ ap (λ (z : ℕ). lookup (store s o f c) o z) y ∙ ap (λ (z : ℕ). lookup (store s o f c) z f′) x
+        ∙ h′ in
         let r : c ≡ c′ = cc in
         along (λ (z : Cell). Below (z .keys) (s .nextKey)) r b
     go o′ f′ c′ h′ (yes x) (no y) = U .fields o′ f′ c′ (sym (store-other s o f c o′ f′ (λ p q. y q)) ∙ h′)
@@ -143,7 +148,8 @@ unused-thread s u b U = record {
   positive = U .positive;
 }
   where
-    go : (q : ℕ) (w : Thread) → ((q < length (s .threads)) × (getElem? (s .threads) q ≡ some w)) ⊎ ((q ≡ length (s .threads)) × (u ≡ w)) → Below (w .keys) (s .nextKey)
+    go : (q : ℕ) (w : Thread) → ((q < length (s .threads)) × (getElem? (s .threads) q ≡ some w)) ⊎ ((q ≡ length (s .threads)) × (u ≡ w))
+        → Below (w .keys) (s .nextKey)
     go q w (inl (_, e)) = U .threads q w e
     go q w (inr (_, e)) = along (λ (z : Thread). Below (z .keys) (s .nextKey)) e b
 
@@ -175,19 +181,23 @@ module _ (g : Program) (s : State) (p : ℕ) (t : Thread) (ht : getElem? (s .thr
   kept (E-READV {o} {f} {v} {W} h vol) = unused-gain s p (passedOn (g .version) W) _ (below-passed (g .version) W (s .nextKey) (U .fields o f (cell W v) h)) U
   kept (E-WRITEV {o} {f} {u} {v} {W} h vol) =
       let W′ = passedOn (g .version) (t .keys) in
-      unused-store s o f (cell (union W W′) v) (cell W u) h (below-union W W′ (s .nextKey) (U .fields o f (cell W u) h) (below-passed (g .version) (t .keys) (s .nextKey) (U .threads p t ht))) U
+      unused-store s o f (cell (union W W′) v) (cell W u) h
+      (below-union W W′ (s .nextKey) (U .fields o f (cell W u) h) (below-passed (g .version) (t .keys) (s .nextKey) (U .threads p t ht))) U
   kept (E-FORK {e}) = unused-thread (addObject s (freshObject [])) (forked s t e) (U .threads p t ht) (unused-new s [] U)
   kept (E-JOIN {o} {v} {q} h l) =
       let j = found-thread (s .threads) 0 o q h in
       unused-gain s p (q .thread .keys) _ (U .threads (j .0) (q .thread) (j .2)) U
   kept (E-RE-ENTER h) = U
   kept (E-ACQUIRE {o} {u} {W} h n) =
-      unused-gain (storeMonitor s o (cell empty (t .self))) p W _ (U .monitors o (cell W u) h) (unused-lock s o (cell empty (t .self)) (cell W u) h (below-empty (s .nextKey)) U)
+      unused-gain (storeMonitor s o (cell empty (t .self))) p W _ (U .monitors o (cell W u) h)
+      (unused-lock s o (cell empty (t .self)) (cell W u) h (below-empty (s .nextKey)) U)
   kept (E-RELEASE {o} h) = unused-lock s o (cell (t .keys) 0) (cell empty (t .self)) h (U .threads p t ht) U
   kept (E-WAIT {o} h) =
-      unused-relocated (storeMonitor s o (cell (t .keys) 0)) _ (enqueue-relocated (storeMonitor s o (cell (t .keys) 0)) p o) (unused-lock s o (cell (t .keys) 0) (cell empty (t .self)) h (U .threads p t ht) U)
+      unused-relocated (storeMonitor s o (cell (t .keys) 0)) _ (enqueue-relocated (storeMonitor s o (cell (t .keys) 0)) p o)
+      (unused-lock s o (cell (t .keys) 0) (cell empty (t .self)) h (U .threads p t ht) U)
   kept (E-WAKE {o} {u} {W} z h n) =
-      unused-gain (storeMonitor s o (cell empty (t .self))) p W _ (U .monitors o (cell W u) h) (unused-lock s o (cell empty (t .self)) (cell W u) h (below-empty (s .nextKey)) U)
+      unused-gain (storeMonitor s o (cell empty (t .self))) p W _ (U .monitors o (cell W u) h)
+      (unused-lock s o (cell empty (t .self)) (cell W u) h (below-empty (s .nextKey)) U)
   kept (E-NOTIFY {o} h) = unused-relocated s _ (signalled-relocated _ s o) U
   kept (E-NOTIFYALL {o} h) = unused-relocated s _ (signalled-relocated _ s o) U
 
@@ -269,7 +279,8 @@ next-moves (EVALᶜ K ht he c) = omega arith
 
 -- a plain write stores the next key
 module _ (g : Program) (s : State) (p : ℕ) (past : List State) (a : NeverHeld past (s .nextKey)) where
-  stores : {t : Thread} {e : Expression} {R : Rule} {r : Option Record} {s′ : State} {e′ : Expression} → Converts g s p t e R r s′ e′ → (w : Expression) → R ≡ e-write
+  stores : {t : Thread} {e : Expression} {R : Rule} {r : Option Record} {s′ : State} {e′ : Expression} → Converts g s p t e R r s′ e′ → (w : Expression)
+      → R ≡ e-write
       → StoresNew past r (become s′ p w)
   unfolding become gain useKey lookup
   stores (E-CALL os hd hp) w q = absurd (true≢false cc)

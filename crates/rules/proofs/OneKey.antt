@@ -10,8 +10,10 @@ use lib.ListN.{length}
 use Rattle.keys.specs.Keys.{singleton, union}
 use Rattle.packed.specs.Syntax.{Expression, Program}
 use Rattle.records.specs.Record.{Record}
-use Rattle.rules.specs.State.{Cell, cell, Thread, State, fresh, freshObject, lookup, store, storeMonitor, addObject, gain, become, addThread, useKey, enqueue, signalled, start}
-use Rattle.rules.specs.Rules.{Rule, isVolatile, passedOn, Converts, E-CALL, E-LET, E-IF, E-WHILE, E-NEW, E-READ, E-WRITE, E-READV, E-WRITEV, E-FORK, E-JOIN, E-RE-ENTER, E-ACQUIRE, E-RELEASE, E-WAIT, E-WAKE, E-NOTIFY, E-NOTIFYALL, Moves, EVAL, EVALᶜ}
+use Rattle.rules.specs.State.{Cell, cell, Thread, State, fresh, freshObject, lookup, store, storeMonitor, addObject, gain, become, addThread, useKey}
+use Rattle.rules.specs.State.{enqueue, signalled, start}
+use Rattle.rules.specs.Rules.{Rule, isVolatile, passedOn, Converts, E-CALL, E-LET, E-IF, E-WHILE, E-NEW, E-READ, E-WRITE, E-READV, E-WRITEV, E-FORK}
+use Rattle.rules.specs.Rules.{E-JOIN, E-RE-ENTER, E-ACQUIRE, E-RELEASE, E-WAIT, E-WAKE, E-NOTIFY, E-NOTIFYALL, Moves, EVAL, EVALᶜ}
 use Rattle.rules.proofs.StateLaws.{store-same, store-other, lock-lookup, new-lookup}
 
 -- document 001, section 4: "For a normal field, W = {w}"
@@ -41,9 +43,11 @@ stored : (g : Program) (s : State) (o f : ℕ) (c d : Cell) → lookup s o f ≡
     → OneKey g s → OneKey g (store s o f c)
 stored g s o f c d h k I = record { its = λ o′ f′ c′ h′ v. go o′ f′ c′ h′ v (ℕ-discrete o o′) (ℕ-discrete f f′) }
   where
-    go : (o′ f′ : ℕ) (c′ : Cell) → lookup (store s o f c) o′ f′ ≡ some c′ → isVolatile g f′ ≡ false → Dec (o ≡ o′) → Dec (f ≡ f′) → (w : ℕ) × (c′ .keys ≡ singleton w)
+    go : (o′ f′ : ℕ) (c′ : Cell) → lookup (store s o f c) o′ f′ ≡ some c′ → isVolatile g f′ ≡ false → Dec (o ≡ o′) → Dec (f ≡ f′)
+        → (w : ℕ) × (c′ .keys ≡ singleton w)
     go o′ f′ c′ h′ v (yes x) (yes y) =
-        let q : some c ≡ some c′ = sym (store-same s o f c d h) ∙ ap (λ (b : ℕ). lookup (store s o f c) o b) y ∙ ap (λ (a : ℕ). lookup (store s o f c) a f′) x ∙ h′ in
+        let q : some c ≡ some c′ = sym (store-same s o f c d h) ∙ ap (λ (b : ℕ). lookup (store s o f c) o b) y ∙ ap (λ (a : ℕ). lookup (store s o f c) a f′) x
+        ∙ h′ in
         let r : c ≡ c′ = cc in
         along (λ (z : Cell). (w : ℕ) × (z .keys ≡ singleton w)) r (k (rw y v))
     go o′ f′ c′ h′ v (yes x) (no y) = I .its o′ f′ c′ (sym (store-other s o f c o′ f′ (λ a b. y b)) ∙ h′) v
@@ -53,7 +57,8 @@ added : (g : Program) (s : State) (fs : List ℕ) → OneKey g s → OneKey g (a
 added g s fs I = record { its = λ o f c h v. go o f c h v (new-lookup s fs o f) }
   where
     go : (o f : ℕ) (c : Cell) → lookup (addObject s (freshObject fs)) o f ≡ some c → isVolatile g f ≡ false
-        → (lookup (addObject s (freshObject fs)) o f ≡ lookup s o f) ⊎ ((length (s .objects) ≡ o) × (lookup s o f ≡ none) × (lookup (addObject s (freshObject fs)) o f ≡ some fresh))
+        → (lookup (addObject s (freshObject fs)) o f ≡ lookup s o f) ⊎
+        ((length (s .objects) ≡ o) × (lookup s o f ≡ none) × (lookup (addObject s (freshObject fs)) o f ≡ some fresh))
         → (w : ℕ) × (c .keys ≡ singleton w)
     go o f c h v (inl e) = I .its o f c (sym e ∙ h) v
     go o f c h v (inr (_, _, e)) =
@@ -70,16 +75,26 @@ module _ (g : Program) (s : State) (p : ℕ) (t : Thread) (I : OneKey g s) where
   kept E-WHILE = I
   kept (E-NEW {fs}) = added g s fs I
   kept (E-READ w h k v) = I
-  kept (E-WRITE w {o} {f} {u} {v} h k vol) = same-fields g (store (useKey s) o f (cell (singleton (s .nextKey)) v)) _ (λ a b. refl) (stored g (useKey s) o f (cell (singleton (s .nextKey)) v) (cell (singleton w) u) h (λ n. (s .nextKey, refl)) (same-fields g s (useKey s) (λ a b. refl) I))
+  kept (E-WRITE w {o} {f} {u} {v} h k vol) =
+      same-fields g (store (useKey s) o f (cell (singleton (s .nextKey)) v)) _ (λ a b. refl)
+      (stored g (useKey s) o f (cell (singleton (s .nextKey)) v) (cell (singleton w) u) h (λ n. (s .nextKey, refl))
+      (same-fields g s (useKey s) (λ a b. refl) I))
   kept (E-READV h v) = same-fields g s _ (λ a b. refl) I
-  kept (E-WRITEV {o} {f} {u} {v} {W} h vol) = stored g s o f (cell (union W (passedOn (g .version) (t .keys))) v) (cell W u) h (λ n. absurd (true≢false (sym vol ∙ n))) I
+  kept (E-WRITEV {o} {f} {u} {v} {W} h vol) =
+      stored g s o f (cell (union W (passedOn (g .version) (t .keys))) v) (cell W u) h (λ n. absurd (true≢false (sym vol ∙ n))) I
   kept E-FORK = same-fields g (addObject s (freshObject [])) _ (λ a b. refl) (added g s [] I)
   kept (E-JOIN h l) = same-fields g s _ (λ a b. refl) I
   kept (E-RE-ENTER h) = I
-  kept (E-ACQUIRE {o} h n) = same-fields g (storeMonitor s o (cell 0 (t .self))) _ (λ a b. refl) (same-fields g s (storeMonitor s o (cell 0 (t .self))) (lock-lookup s o (cell 0 (t .self))) I)
+  kept (E-ACQUIRE {o} h n) =
+      same-fields g (storeMonitor s o (cell 0 (t .self))) _ (λ a b. refl)
+      (same-fields g s (storeMonitor s o (cell 0 (t .self))) (lock-lookup s o (cell 0 (t .self))) I)
   kept (E-RELEASE {o} h) = same-fields g s (storeMonitor s o (cell (t .keys) 0)) (lock-lookup s o (cell (t .keys) 0)) I
-  kept (E-WAIT {o} h) = same-fields g (storeMonitor s o (cell (t .keys) 0)) _ (λ a b. refl) (same-fields g s (storeMonitor s o (cell (t .keys) 0)) (lock-lookup s o (cell (t .keys) 0)) I)
-  kept (E-WAKE {o} z h n) = same-fields g (storeMonitor s o (cell 0 (t .self))) _ (λ a b. refl) (same-fields g s (storeMonitor s o (cell 0 (t .self))) (lock-lookup s o (cell 0 (t .self))) I)
+  kept (E-WAIT {o} h) =
+      same-fields g (storeMonitor s o (cell (t .keys) 0)) _ (λ a b. refl)
+      (same-fields g s (storeMonitor s o (cell (t .keys) 0)) (lock-lookup s o (cell (t .keys) 0)) I)
+  kept (E-WAKE {o} z h n) =
+      same-fields g (storeMonitor s o (cell 0 (t .self))) _ (λ a b. refl)
+      (same-fields g s (storeMonitor s o (cell 0 (t .self))) (lock-lookup s o (cell 0 (t .self))) I)
   kept (E-NOTIFY h) = same-fields g s _ (λ a b. refl) I
   kept (E-NOTIFYALL h) = same-fields g s _ (λ a b. refl) I
 

@@ -9,7 +9,9 @@ use mathlib.Core.Option.{Option, some, none}
 use lib.ListN.{length, length-append}
 use Rattle.packed.specs.Syntax.{Expression, Condition, Arguments, literal, end, argument, Program, bool}
 use Rattle.packed.specs.Slots.{bound}
-use Rattle.rules.specs.Context.{Context, Contextᶜ, top, read, write₁, write₂, call, letIn, synch, hold, join, signal, equal₁, equal₂, literals, plug, plugᶜ, Redex, Redexᶜ, Focus, value, here, hereᶜ, focus, focusᶜ, focusᵃ, asLiteral, asBool, redexExpression, onLiteral, onBool, onNot}
+use Rattle.rules.specs.Context.{Context, Contextᶜ, top, read, write₁, write₂, call, letIn, synch, hold, join, signal, equal₁, equal₂, literals, plug}
+use Rattle.rules.specs.Context.{plugᶜ, Redex, Redexᶜ, Focus, value, here, hereᶜ, focus, focusᶜ, focusᵃ, asLiteral, asBool, redexExpression, onLiteral}
+use Rattle.rules.specs.Context.{onBool, onNot}
 use Rattle.packed.proofs.WellFormed.{WellFormed, WellFormedᶜ, WellFormedᵃ, count, Callable, unbound}
 use Rattle.rules.proofs.Closing.{Below}
 use Rattle.rules.proofs.FocusPlug.{focus-plug, focus-plugᶜ, found}
@@ -177,36 +179,57 @@ module _ (g : Program) (n : ℕ) where
     land K (Expression.literal o) h k c = absurd (true≢false cc)
     land K (Expression.variable x) h k c = absurd c
     land K (Expression.new fs) h k c = record { good = (k, tt); theirs = refl; awake = λ o z. z }
-    land K (Expression.read e f) h k c = land-lit (Lands (pending K)) (asLiteral e) _ _ (λ o q. record { good = (k, (c .0, c .1, text-lit e o q (c .2))); theirs = refl; awake = λ o z. z }) (λ q. land (read K f) e q (c .0, c .1, k) (c .2))
+    land K (Expression.read e f) h k c =
+        land-lit (Lands (pending K)) (asLiteral e) _ _ (λ o q. record { good = (k, (c .0, c .1, text-lit e o q (c .2))); theirs = refl; awake = λ o z. z })
+        (λ q. land (read K f) e q (c .0, c .1, k) (c .2))
     land K (Expression.write e f e′) h k c =
         land-lit (Lands (pending K)) (asLiteral e) _ _
-        (λ o q. land-lit (Lands (pending K)) (asLiteral e′) _ _ (λ v q′. record { good = (k, (c .0, c .1, text-lit e o q (c .2), text-lit e′ v q′ (c .3))); theirs = refl; awake = λ o z. z }) (λ q′. land (write₂ K o f) e′ q′ (c .0, c .1, text-lit e o q (c .2), k) (c .3)))
+        (λ o q. land-lit (Lands (pending K)) (asLiteral e′) _ _
+        (λ v q′. record { good = (k, (c .0, c .1, text-lit e o q (c .2), text-lit e′ v q′ (c .3))); theirs = refl; awake = λ o z. z })
+        (λ q′. land (write₂ K o f) e′ q′ (c .0, c .1, text-lit e o q (c .2), k) (c .3)))
         (λ q. land (write₁ K f e′) e q (c .0, c .1, c .3, k) (c .2))
-    land K (Expression.letIn x e e′) h k c = land-lit (Lands (pending K)) (asLiteral e) _ _ (λ o q. record { good = (k, (text-lit e o q (c .0), c .1)); theirs = refl; awake = λ o z. z }) (λ q. land (letIn K x e′) e q (c .1, k) (c .0))
-    land K (Expression.if b e e′) h k c = land-bool (Lands (pending K)) (asBool b) _ _ (λ x q. record { good = (k, (c .1, c .2)); theirs = refl; awake = λ o z. z }) (λ q. landᶜ (Contextᶜ.if K e e′) b q (c .1, c .2, k) (c .0))
+    land K (Expression.letIn x e e′) h k c =
+        land-lit (Lands (pending K)) (asLiteral e) _ _ (λ o q. record { good = (k, (text-lit e o q (c .0), c .1)); theirs = refl; awake = λ o z. z })
+        (λ q. land (letIn K x e′) e q (c .1, k) (c .0))
+    land K (Expression.if b e e′) h k c =
+        land-bool (Lands (pending K)) (asBool b) _ _ (λ x q. record { good = (k, (c .1, c .2)); theirs = refl; awake = λ o z. z })
+        (λ q. landᶜ (Contextᶜ.if K e e′) b q (c .1, c .2, k) (c .0))
     land K (Expression.while b e) h k c = record { good = (k, c); theirs = refl; awake = λ o z. z }
     land K (Expression.call m es) h k c = landᵃ K m [] es k (counted m (count es) (0 + count es) (omega arith) (c .0)) tt (c .1)
     land K (Expression.fork e) h k c = record { good = (k, c); theirs = refl; awake = λ o z. z }
-    land K (Expression.join e) h k c = land-lit (Lands (pending K)) (asLiteral e) _ _ (λ o q. record { good = (k, text-lit e o q c); theirs = refl; awake = λ o z. z }) (λ q. land (join K) e q k c)
-    land K (Expression.synch e e′) h k c = land-lit (Lands (pending K)) (asLiteral e) _ _ (λ o q. record { good = (k, (text-lit e o q (c .0), c .1)); theirs = refl; awake = λ o z. z }) (λ q. land (synch K e′) e q (c .1, k) (c .0))
+    land K (Expression.join e) h k c =
+        land-lit (Lands (pending K)) (asLiteral e) _ _ (λ o q. record { good = (k, text-lit e o q c); theirs = refl; awake = λ o z. z })
+        (λ q. land (join K) e q k c)
+    land K (Expression.synch e e′) h k c =
+        land-lit (Lands (pending K)) (asLiteral e) _ _ (λ o q. record { good = (k, (text-lit e o q (c .0), c .1)); theirs = refl; awake = λ o z. z })
+        (λ q. land (synch K e′) e q (c .1, k) (c .0))
     land K (Expression.hold o e) h k c = absurd c
-    land K (Expression.signal j e) h k c = land-lit (Lands (pending K)) (asLiteral e) _ _ (λ o q. record { good = (k, text-lit e o q c); theirs = refl; awake = λ o z. z }) (λ q. land (signal K j) e q k c)
+    land K (Expression.signal j e) h k c =
+        land-lit (Lands (pending K)) (asLiteral e) _ _ (λ o q. record { good = (k, text-lit e o q c); theirs = refl; awake = λ o z. z })
+        (λ q. land (signal K j) e q k c)
     land K (Expression.waiting o) h k c = absurd c
 
     pub landᶜ : (K : Contextᶜ) (b : Condition) → asBool b ≡ none → Aroundᶜ g n K → Textᶜ g n b → Lands (pendingᶜ K) (focusᶜ K b)
     landᶜ K Condition.truth h k c = absurd (true≢false cc)
-    landᶜ K (Condition.not b) h k c = land-bool (Lands (pendingᶜ K)) (asBool b) _ _ (λ x q. land-not K b x (as-bool b x q) h k) (λ q. landᶜ (Contextᶜ.not K) b q k c)
-    landᶜ K (Condition.and b b′) h k c = land-bool (Lands (pendingᶜ K)) (asBool b) _ _ (λ x q. record { good = (k, c .1); theirs = refl; awake = λ o z. z }) (λ q. landᶜ (Contextᶜ.and K b′) b q (c .1, k) (c .0))
+    landᶜ K (Condition.not b) h k c =
+        land-bool (Lands (pendingᶜ K)) (asBool b) _ _ (λ x q. land-not K b x (as-bool b x q) h k) (λ q. landᶜ (Contextᶜ.not K) b q k c)
+    landᶜ K (Condition.and b b′) h k c =
+        land-bool (Lands (pendingᶜ K)) (asBool b) _ _ (λ x q. record { good = (k, c .1); theirs = refl; awake = λ o z. z })
+        (λ q. landᶜ (Contextᶜ.and K b′) b q (c .1, k) (c .0))
     landᶜ K (Condition.equal e e′) h k c =
         land-lit (Lands (pendingᶜ K)) (asLiteral e) _ _
-        (λ o q. land-lit (Lands (pendingᶜ K)) (asLiteral e′) _ _ (λ v q′. record { good = (k, tt); theirs = refl; awake = λ o z. z }) (λ q′. land (equal₂ K o) e′ q′ (text-lit e o q (c .0), k) (c .1)))
+        (λ o q. land-lit (Lands (pendingᶜ K)) (asLiteral e′) _ _ (λ v q′. record { good = (k, tt); theirs = refl; awake = λ o z. z })
+        (λ q′. land (equal₂ K o) e′ q′ (text-lit e o q (c .0), k) (c .1)))
         (λ q. land (equal₁ K e′) e q (c .1, k) (c .0))
 
-    landᵃ : (K : Context) (m : ℕ) (os : List ℕ) (es : Arguments) → Around g n K → Callable g m (length os + count es) → Below n os → Textᵃ g n es → Lands (pending K) (focusᵃ K m os es)
+    landᵃ : (K : Context) (m : ℕ) (os : List ℕ) (es : Arguments) → Around g n K → Callable g m (length os + count es) → Below n os → Textᵃ g n es
+        → Lands (pending K) (focusᵃ K m os es)
     landᵃ K m os Arguments.end k d b c = record { good = (k, (counted m (length os + 0) (length os) (omega arith) d, b)); theirs = refl; awake = λ o z. z }
     landᵃ K m os (Arguments.argument e es) k d b c =
         land-lit (Lands (pending K)) (asLiteral e) _ _
-        (λ o q. landᵃ K m (os ++ (o ∷ [])) es k (counted m (length os + suc (count es)) (length (os ++ (o ∷ [])) + count es) (omega (arith, length-append os (o ∷ []))) d) (below-more os o b (text-lit e o q (c .0))) (c .1))
+        (λ o q. landᵃ K m (os ++ (o ∷ [])) es k
+        (counted m (length os + suc (count es)) (length (os ++ (o ∷ [])) + count es) (omega (arith, length-append os (o ∷ []))) d)
+        (below-more os o b (text-lit e o q (c .0))) (c .1))
         (λ q. land (call K m os es) e q (d, b, c .1, k) (c .0))
 
   -- ---- what a move leaves in the hole of a good context
@@ -235,7 +258,11 @@ module _ (g : Program) (n : ℕ) where
   rise-lit (read K f) v h k = risen K (Expression.read (literal v) f) refl (k .2) (k .0, k .1, h)
   rise-lit (write₁ K f e′) v h k = risen K (Expression.write (literal v) f e′) refl (k .3) (k .0, k .1, h, k .2)
   rise-lit (write₂ K o f) v h k = risen K (Expression.write (literal o) f (literal v)) refl (k .3) (k .0, k .1, k .2, h)
-  rise-lit (call K m os es) v h k = risen K (Expression.call m (literals os (argument (literal v) es))) refl (k .3) (counted m (length os + suc (count es)) (count (literals os (argument (literal v) es))) (sym (lits-count os (argument (literal v) es))) (k .0), lits-text os (argument (literal v) es) (k .1) (h, k .2))
+  rise-lit (call K m os es) v h k =
+      risen K (Expression.call m (literals os (argument (literal v) es))) refl (k .3) (
+        counted m (length os + suc (count es)) (count (literals os (argument (literal v) es))) (sym (lits-count os (argument (literal v) es))) (k .0),
+        lits-text os (argument (literal v) es) (k .1) (h, k .2),
+      )
   rise-lit (letIn K x e′) v h k = risen K (Expression.letIn x (literal v) e′) refl (k .1) (h, k .0)
   rise-lit (synch K e′) v h k = risen K (Expression.synch (literal v) e′) refl (k .1) (h, k .0)
   rise-lit (hold K o) v h k = rw (found K (Redex.hold o v)) (record { good = (k .1, (k .0, h)); theirs = refl; awake = λ o z. z })

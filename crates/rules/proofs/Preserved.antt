@@ -13,14 +13,18 @@ use Rattle.keys.specs.Keys.{Keys, empty, singleton, union, isEmpty}
 use Rattle.packed.specs.Syntax.{Signal, Expression, Condition, Arguments, literal, bind, bindParameters, substitute, Program, Procedure, bool, sequence}
 use Rattle.packed.specs.Slots.{bound}
 use Rattle.rules.specs.Context.{Context, Contextᶜ, Focus, focus, top, here, hold, plug, plugᶜ, Redex, Redexᶜ, redexExpression, redexCondition, literals}
-use Rattle.rules.specs.State.{Cell, cell, Thread, State, freshObject, lookup, monitor, store, storeMonitor, addObject, gain, become, addThread, forked, useKey, enqueue, signalled, threadOf, Numbered}
+use Rattle.rules.specs.State.{Cell, cell, Thread, State, freshObject, lookup, monitor, store, storeMonitor, addObject, gain, become, addThread, forked}
+use Rattle.rules.specs.State.{useKey, enqueue, signalled, threadOf, Numbered}
 use Rattle.records.specs.Record.{Record}
-use Rattle.rules.specs.Rules.{Rule, Converts, E-CALL, E-LET, E-IF, E-WHILE, E-NEW, E-READ, E-WRITE, E-READV, E-WRITEV, E-FORK, E-JOIN, E-RE-ENTER, E-ACQUIRE, E-RELEASE, E-WAIT, E-WAKE, E-NOTIFY, E-NOTIFYALL, Convertsᶜ, E-NOTNOTTRUE, E-ANDTRUE, E-ANDFALSE, E-EQUALTRUE, E-EQUALFALSE, Moves, EVAL, EVALᶜ}
+use Rattle.rules.specs.Rules.{Rule, Converts, E-CALL, E-LET, E-IF, E-WHILE, E-NEW, E-READ, E-WRITE, E-READV, E-WRITEV, E-FORK, E-JOIN, E-RE-ENTER}
+use Rattle.rules.specs.Rules.{E-ACQUIRE, E-RELEASE, E-WAIT, E-WAKE, E-NOTIFY, E-NOTIFYALL, Convertsᶜ, E-NOTNOTTRUE, E-ANDTRUE, E-ANDFALSE, E-EQUALTRUE}
+use Rattle.rules.specs.Rules.{E-EQUALFALSE, Moves, EVAL, EVALᶜ}
 use Rattle.packed.proofs.WellFormed.{WellFormedProgram, unbound}
 use Rattle.rules.proofs.Closing.{more, filled, covers-one, covers-params}
 use Rattle.rules.proofs.Placed.{Landed, Text, Textᶜ, Around, Ready, Readyᶜ, Good, held, holds, pending, pendingᶜ, GivesUp, GivenUp, rise, riseᶜ}
 use Rattle.rules.proofs.StateLaws.{inside, added-old, change-same, lock-same, lock-other, found-thread}
-use Rattle.rules.proofs.Invariant.{In, Once, owed, heldBy, Sound, Inv, inv-store, inv-key, inv-lock, length-new, inv-new, inv-gain, inv-become, inv-thread, inv-relocated}
+use Rattle.rules.proofs.Invariant.{In, Once, owed, heldBy, Sound, Inv, inv-store, inv-key, inv-lock, length-new, inv-new, inv-gain, inv-become}
+use Rattle.rules.proofs.Invariant.{inv-thread, inv-relocated}
 use Rattle.rules.proofs.Relocated.{is-there, relocated-become, enqueue-relocated, signalled-relocated}
 use Rattle.rules.proofs.FocusPlug.{found, foundᶜ}
 
@@ -35,7 +39,8 @@ unfolding gain
 gained-at s p t ht s₁ W count e = change-same (s₁ .threads) p _ t (rw e ht)
 
 -- thread p, which is t, is about to move x in K
-module _ (g : Program) (s : State) (p : ℕ) (t : Thread) (K : Context) (I : Inv g s) (at : getElem? (s .threads) p ≡ some t) (x : Redex) (h : t .expression ≡ plug K (redexExpression x)) where
+module _ (g : Program) (s : State) (p : ℕ) (t : Thread) (K : Context) (I : Inv g s) (at : getElem? (s .threads) p ≡ some t) (x : Redex)
+    (h : t .expression ≡ plug K (redexExpression x)) where
   pub seen : focus top (t .expression) ≡ here K x
   seen = ap (focus top) h ∙ found K x
 
@@ -66,11 +71,13 @@ module _ (g : Program) (P : WellFormedProgram g) (s : State) (I : Inv g s) (p : 
 
   -- ---- what a rule leaves is text
 
-  pub text-call : (m : ℕ) (os : List ℕ) (d : Procedure) → getElem? (g .procedures) m ≡ some d → d .parameters ≡ length os → t .expression ≡ plug K (Expression.call m (literals os Arguments.end))
+  pub text-call : (m : ℕ) (os : List ℕ) (d : Procedure) → getElem? (g .procedures) m ≡ some d → d .parameters ≡ length os
+      → t .expression ≡ plug K (Expression.call m (literals os Arguments.end))
       → Text g N (substitute (bindParameters os) (d .body))
   unfolding redexExpression
   text-call m os d hd hp he =
-      filled g N (bindParameters os) _ unbound (covers-params N (d .parameters) os (placed g s p t K I ht (Redex.call m os) he .1 .1) hp) (d .body) (more g 1 N (I .null-there) _ (d .body) (P .bodies m d hd))
+      filled g N (bindParameters os) _ unbound (covers-params N (d .parameters) os (placed g s p t K I ht (Redex.call m os) he .1 .1) hp) (d .body)
+      (more g 1 N (I .null-there) _ (d .body) (P .bodies m d hd))
 
   pub text-let : (x : Option ℕ) (o : ℕ) (e : Expression) → t .expression ≡ plug K (Expression.letIn x (literal o) e) → Text g N (substitute (bind x o) e)
   unfolding redexExpression bound
@@ -84,14 +91,16 @@ module _ (g : Program) (P : WellFormedProgram g) (s : State) (I : Inv g s) (p : 
   unfolding redexExpression
   text-if b e e′ he = let pl = placed g s p t K I ht (Redex.if b e e′) he in choose-text b e e′ (pl .1 .0) (pl .1 .1)
 
-  pub text-while : (c : Condition) (e : Expression) → t .expression ≡ plug K (Expression.while c e) → Text g N (Expression.if c (sequence e (Expression.while c e)) (literal 0))
+  pub text-while : (c : Condition) (e : Expression) → t .expression ≡ plug K (Expression.while c e)
+      → Text g N (Expression.if c (sequence e (Expression.while c e)) (literal 0))
   unfolding redexExpression sequence bound
   text-while c e he = let pl = placed g s p t K I ht (Redex.while c e) he in (pl .1 .0, (pl .1 .1, (pl .1 .0, pl .1 .1)), I .null-there)
 
   -- the value of a thread that has become one
   pub value-there : (o v : ℕ) (q : Numbered) → threadOf 0 (s .threads) o ≡ some q → q .thread .expression ≡ literal v → v < N
   unfolding focus
-  value-there o v q h l = let j = found-thread (s .threads) 0 o q h in along (λ (e : Expression). Good g N (focus top e)) l (I .each (j .0) (q .thread) (j .2) .good)
+  value-there o v q h l = let j =
+      found-thread (s .threads) 0 o q h in along (λ (e : Expression). Good g N (focus top e)) l (I .each (j .0) (q .thread) (j .2) .good)
 
   -- ---- the rules
 
@@ -105,11 +114,13 @@ module _ (g : Program) (P : WellFormedProgram g) (s : State) (I : Inv g s) (p : 
       let z : false ≡ true = sym e ∙ ap (λ (y : Cell). eqb (y .keys) 0) j in
       true≢false cc
 
-  kept-acquire : (o : ℕ) (e : Expression) (c : Cell) (W : Keys) (count : Keys → ℕ) → monitor s o ≡ some c → isEmpty (c .keys) ≡ false → t .expression ≡ plug K (Expression.synch (literal o) e)
+  kept-acquire : (o : ℕ) (e : Expression) (c : Cell) (W : Keys) (count : Keys → ℕ) → monitor s o ≡ some c → isEmpty (c .keys) ≡ false
+      → t .expression ≡ plug K (Expression.synch (literal o) e)
       → Inv g (become (gain (storeMonitor s o (cell empty (t .self))) p W count) p (plug K (Expression.hold o e)))
   unfolding redexExpression plug gain storeMonitor monitor
   kept-acquire o e c W count m f he =
-      inv-become g s₂ p (plug (hold K o) e) (gained t W count) (o ∷ pending K) I₂ at₂ (landed .good) (landed .theirs) (λ a i n. mine a i) (first, owing-once g s p t K I ht (Redex.synch o e) he)
+      inv-become g s₂ p (plug (hold K o) e) (gained t W count) (o ∷ pending K) I₂ at₂ (landed .good) (landed .theirs) (λ a i n. mine a i)
+      (first, owing-once g s p t K I ht (Redex.synch o e) he)
     where
       s₁ : State
       s₁ = storeMonitor s o (record { keys = empty; value = t .self })
@@ -140,9 +151,11 @@ module _ (g : Program) (P : WellFormedProgram g) (s : State) (I : Inv g s) (p : 
       mine a (inr i) = lock-other s o (heldBy t) a (λ q. first (rw q i)) ∙ owing g s p t K I ht (Redex.synch o e) he (λ o z. z) a i
 
   -- a move that gains some keys, whichever they are and however they count
-  settle-gain : (W : Keys) (count : Keys → ℕ) (x : Redex) → ((o : ℕ) → GivesUp x o → ⊥) → (v : ℕ) → t .expression ≡ plug K (redexExpression x) → held x (pending K) ≡ pending K → v < N → Inv g (become (gain s p W count) p (plug K (literal v)))
+  settle-gain : (W : Keys) (count : Keys → ℕ) (x : Redex) → ((o : ℕ) → GivesUp x o → ⊥) → (v : ℕ) → t .expression ≡ plug K (redexExpression x)
+      → held x (pending K) ≡ pending K → v < N → Inv g (become (gain s p W count) p (plug K (literal v)))
   unfolding gain
-  settle-gain W count x w v he q b = settle g (gain s p W count) p (gained t W count) K (inv-gain g s p W count t I ht) (gained-at s p t ht s W count refl) x he w (literal v) q b
+  settle-gain W count x w v he q b =
+      settle g (gain s p W count) p (gained t W count) K (inv-gain g s p W count t I ht) (gained-at s p t ht s W count refl) x he w (literal v) q b
 
   -- a plain write: a new key, stored and learnt
   kept-write : (o f v : ℕ) (c : Cell) (count : Keys → ℕ) → lookup s o f ≡ some c → t .expression ≡ plug K (redexExpression (Redex.write o f v))
@@ -150,7 +163,8 @@ module _ (g : Program) (P : WellFormedProgram g) (s : State) (I : Inv g s) (p : 
   unfolding redexExpression store useKey lookup gain
   kept-write o f v c count h he =
       let s₁ = store (useKey s) o f (record { keys = singleton (s .nextKey); value = v }) in
-      let I₁ = inv-store g (useKey s) o f (record { keys = singleton (s .nextKey); value = v }) _ (inv-key g s I) h (placed g s p t K I ht (Redex.write o f v) he .1 .3) in
+      let I₁ = inv-store g (useKey s) o f (record { keys = singleton (s .nextKey); value = v }) _ (inv-key g s I) h
+      (placed g s p t K I ht (Redex.write o f v) he .1 .3) in
       let s₂ = gain s₁ p (singleton (s .nextKey)) count in
       let t₂ = gained t (singleton (s .nextKey)) count in
       let I₂ = inv-gain g s₁ p (singleton (s .nextKey)) count t I₁ ht in
@@ -158,11 +172,13 @@ module _ (g : Program) (P : WellFormedProgram g) (s : State) (I : Inv g s) (p : 
       settle g s₂ p t₂ K I₂ at₂ (Redex.write o f v) he (λ o z. z) (literal v) refl (placed g s₂ p t₂ K I₂ at₂ (Redex.write o f v) he .1 .3)
 
   -- a write to a field, with whichever keys
-  settle-write : (d : Cell) (o f : ℕ) (c : Cell) → lookup s o f ≡ some c → t .expression ≡ plug K (redexExpression (Redex.write o f (d .value))) → Inv g (become (store s o f d) p (plug K (literal (d .value))))
+  settle-write : (d : Cell) (o f : ℕ) (c : Cell) → lookup s o f ≡ some c → t .expression ≡ plug K (redexExpression (Redex.write o f (d .value)))
+      → Inv g (become (store s o f d) p (plug K (literal (d .value))))
   unfolding store
   settle-write d o f c h he =
       let I₁ = inv-store g s o f d c I h (placed g s p t K I ht (Redex.write o f (d .value)) he .1 .3) in
-      settle g (store s o f d) p t K I₁ ht (Redex.write o f (d .value)) he (λ o z. z) (literal (d .value)) refl (placed g (store s o f d) p t K I₁ ht (Redex.write o f (d .value)) he .1 .3)
+      settle g (store s o f d) p t K I₁ ht (Redex.write o f (d .value)) he (λ o z. z) (literal (d .value)) refl
+      (placed g (store s o f d) p t K I₁ ht (Redex.write o f (d .value)) he .1 .3)
 
   kept-release : (o v : ℕ) → monitor s o ≡ some (record { keys = empty; value = t .self }) → t .expression ≡ plug K (Expression.hold o (literal v))
       → Inv g (become (storeMonitor s o (record { keys = t .keys; value = 0 })) p (plug K (literal v)))
@@ -185,7 +201,8 @@ module _ (g : Program) (P : WellFormedProgram g) (s : State) (I : Inv g s) (p : 
       landed = rise g N K (literal v) (pl .0) (pl .1 .1)
 
       I₁ : Inv g s₁
-      I₁ = inv-become g s p (plug K (literal v)) t (pending K) I ht (landed .good) (landed .theirs) (λ a i n. owing g s p t K I ht (Redex.hold o v) he (λ o z. z) a (inr i)) (once .1)
+      I₁ = inv-become g s p (plug K (literal v)) t (pending K) I ht (landed .good) (landed .theirs)
+          (λ a i n. owing g s p t K I ht (Redex.hold o v) he (λ o z. z) a (inr i)) (once .1)
 
       at₁ : getElem? (s₁ .threads) p ≡ some (record { self = t .self; expression = plug K (literal v); keys = t .keys; learnt = t .learnt; place = t .place })
       at₁ = change-same (s .threads) p _ t ht
@@ -199,7 +216,8 @@ module _ (g : Program) (P : WellFormedProgram g) (s : State) (I : Inv g s) (p : 
 
           go : Dec (p ≡ q) → ⊥
           go (yes e) =
-              let k : some (record { self = t .self; expression = plug K (literal v); keys = t .keys; learnt = t .learnt; place = t .place }) ≡ some u = sym at₁ ∙ ap (λ (a : ℕ). getElem? (s₁ .threads) a) e ∙ hu in
+              let k : some (record { self = t .self; expression = plug K (literal v); keys = t .keys; learnt = t .learnt; place = t .place }) ≡ some u =
+              sym at₁ ∙ ap (λ (a : ℕ). getElem? (s₁ .threads) a) e ∙ hu in
               let j : record { self = t .self; expression = plug K (literal v); keys = t .keys; learnt = t .learnt; place = t .place } ≡ u = cc in
               once .0 (rw (landed .theirs) at (along (λ (w : Thread). In o (owed w)) (sym j) i))
           go (no e) =
@@ -228,7 +246,8 @@ module _ (g : Program) (P : WellFormedProgram g) (s : State) (I : Inv g s) (p : 
       now = found K (Redex.waiting o)
 
       I₁ : Inv g s₁
-      I₁ = inv-become g s p (plug K (Expression.waiting o)) t (pending K) I ht (rw now (pl .0, pl .1)) (ap holds now) (λ a i k. owing g s p t K I ht (Redex.signal Signal.wait o) he (λ o z. z) a i) (owing-once g s p t K I ht (Redex.signal Signal.wait o) he)
+      I₁ = inv-become g s p (plug K (Expression.waiting o)) t (pending K) I ht (rw now (pl .0, pl .1)) (ap holds now)
+          (λ a i k. owing g s p t K I ht (Redex.signal Signal.wait o) he (λ o z. z) a i) (owing-once g s p t K I ht (Redex.signal Signal.wait o) he)
 
       t₁ : Thread
       t₁ = record { self = t .self; expression = plug K (Expression.waiting o); keys = t .keys; learnt = t .learnt; place = t .place }
@@ -251,11 +270,13 @@ module _ (g : Program) (P : WellFormedProgram g) (s : State) (I : Inv g s) (p : 
               e (I₁ .apart p q _ u at₁ hu (ap (λ (c : Cell). c .value) j))
 
   -- a wake takes it again
-  kept-wake : (o : ℕ) (c : Cell) (W : Keys) (count : Keys → ℕ) → monitor s o ≡ some c → isEmpty (c .keys) ≡ false → t .expression ≡ plug K (Expression.waiting o)
+  kept-wake : (o : ℕ) (c : Cell) (W : Keys) (count : Keys → ℕ) → monitor s o ≡ some c → isEmpty (c .keys) ≡ false
+      → t .expression ≡ plug K (Expression.waiting o)
       → Inv g (become (gain (storeMonitor s o (cell empty (t .self))) p W count) p (plug K (literal 0)))
   unfolding redexExpression gain storeMonitor monitor
   kept-wake o c W count m f he =
-      inv-become g s₂ p (plug K (literal 0)) (gained t W count) (pending K) I₂ at₂ (landed .good) (landed .theirs) (λ a i n. mine a i (ℕ-discrete o a)) (owing-once g s p t K I ht (Redex.waiting o) he)
+      inv-become g s₂ p (plug K (literal 0)) (gained t W count) (pending K) I₂ at₂ (landed .good) (landed .theirs) (λ a i n. mine a i (ℕ-discrete o a))
+      (owing-once g s p t K I ht (Redex.waiting o) he)
     where
       s₁ : State
       s₁ = storeMonitor s o (heldBy t)
@@ -285,11 +306,13 @@ module _ (g : Program) (P : WellFormedProgram g) (s : State) (I : Inv g s) (p : 
           ∙ I .each p t ht .held a (rw (owes g s p t K I ht (Redex.waiting o) he) i) (λ z. q (sym (rw (seen g s p t K I ht (Redex.waiting o) he) at z)))
 
   -- a notify changes places alone
-  kept-signal : (h : ℕ → ℕ) (k : Signal) (o : ℕ) → t .expression ≡ plug K (redexExpression (Redex.signal k o)) → Inv g (become (signalled h s o) p (plug K (literal 0)))
+  kept-signal : (h : ℕ → ℕ) (k : Signal) (o : ℕ) → t .expression ≡ plug K (redexExpression (Redex.signal k o))
+      → Inv g (become (signalled h s o) p (plug K (literal 0)))
   unfolding signalled
   kept-signal h k o he =
       let w = is-there (s .threads) _ (signalled-relocated h s o) p t ht in
-      settle g (signalled h s o) p _ K (inv-relocated g s _ (signalled-relocated h s o) I) (w .1) (Redex.signal k o) he (λ o z. z) (literal 0) refl (I .null-there)
+      settle g (signalled h s o) p _ K (inv-relocated g s _ (signalled-relocated h s o) I) (w .1) (Redex.signal k o) he (λ o z. z) (literal 0) refl
+      (I .null-there)
 
   kept-fork : (e : Expression) → t .expression ≡ plug K (Expression.fork e)
       → Inv g (become (addThread (addObject s (freshObject [])) (forked s t e)) p (plug K (literal (length (s .objects)))))
@@ -336,13 +359,15 @@ module _ (g : Program) (P : WellFormedProgram g) (s : State) (I : Inv g s) (p : 
       at₂ : getElem? (s₂ .threads) p ≡ some t
       at₂ = added-old (s .threads) u p (inside (s .threads) p t ht) ∙ ht
 
-  pub kept : {e : Expression} {R : Rule} {r : Option Record} {s′ : State} {e′ : Expression} → Converts g s p t e R r s′ e′ → t .expression ≡ plug K e → Inv g (become s′ p (plug K e′))
+  pub kept : {e : Expression} {R : Rule} {r : Option Record} {s′ : State} {e′ : Expression} → Converts g s p t e R r s′ e′ → t .expression ≡ plug K e
+      → Inv g (become s′ p (plug K e′))
   unfolding redexExpression store useKey addObject lookup
   kept (E-CALL {m} os {d} hd hp) he = settle g s p t K I ht (Redex.call m os) he (λ o z. z) _ refl (text-call m os d hd hp he)
   kept (E-LET {x} {o} {e}) he = settle g s p t K I ht (Redex.letIn x o e) he (λ o z. z) _ refl (text-let x o e he)
   kept (E-IF b {e} {e′}) he = settle g s p t K I ht (Redex.if b e e′) he (λ o z. z) _ refl (text-if b e e′ he)
   kept (E-WHILE {c} {e}) he = settle g s p t K I ht (Redex.while c e) he (λ o z. z) _ refl (text-while c e he)
-  kept (E-NEW {fs}) he = settle g (addObject s (freshObject fs)) p t K (inv-new g s fs I) ht (Redex.new fs) he (λ o z. z) (literal N) refl (omega (arith, length-new s fs))
+  kept (E-NEW {fs}) he =
+      settle g (addObject s (freshObject fs)) p t K (inv-new g s fs I) ht (Redex.new fs) he (λ o z. z) (literal N) refl (omega (arith, length-new s fs))
   kept (E-READ w {o} {f} {v} h k vol) he = settle g s p t K I ht (Redex.read o f) he (λ o z. z) (literal v) refl (I .cells o f _ h)
   kept (E-WRITE w {o} {f} {u} {v} h k vol) he = kept-write o f v _ _ h he
   kept (E-READV {o} {f} {v} h vol) he = settle-gain _ _ (Redex.read o f) (λ o z. z) v he refl (I .cells o f _ h)
@@ -358,7 +383,8 @@ module _ (g : Program) (P : WellFormedProgram g) (s : State) (I : Inv g s) (p : 
   kept (E-NOTIFYALL {o} h) he = kept-signal _ Signal.notifyAll o he
 
 module _ (g : Program) (s : State) (I : Inv g s) (p : ℕ) (t : Thread) (ht : getElem? (s .threads) p ≡ some t) (K : Contextᶜ) where
-  settleᶜ : (x : Redexᶜ) (b : Condition) → t .expression ≡ plugᶜ K (redexCondition x) → (Readyᶜ g (length (s .objects)) x → Textᶜ g (length (s .objects)) b) → Inv g (become s p (plugᶜ K b))
+  settleᶜ : (x : Redexᶜ) (b : Condition) → t .expression ≡ plugᶜ K (redexCondition x) → (Readyᶜ g (length (s .objects)) x → Textᶜ g (length (s .objects)) b)
+      → Inv g (become s p (plugᶜ K b))
   settleᶜ x b h c =
       let seen′ = ap (focus top) h ∙ foundᶜ K x in
       let d = I .each p t ht in

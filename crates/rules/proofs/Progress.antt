@@ -15,7 +15,8 @@ use Rattle.rules.specs.Context.{Context, Focus, focus, top, value, here,
 use Rattle.rules.specs.Queue.{awake}
 use Rattle.rules.specs.State.{Cell, Thread, State, start, fresh, freshObject, lookup, monitor, threadOf, Numbered}
 use Rattle.rules.specs.Rules.{isVolatile}
-use Rattle.rules.specs.Step.{Stuck, notThread, missingField, notHeld, noRule, Act, waits, sticks, lacks, does, callAct, readAct, writeAct, joinAct, joinValue, synchAct, holdAct, signalMove, signalAct, wakeAct, act, Attempt, around, attemptAt, attemptBy, attempt}
+use Rattle.rules.specs.Step.{Stuck, notThread, missingField, notHeld, noRule, Act, waits, sticks, lacks, does, callAct, readAct, writeAct, joinAct}
+use Rattle.rules.specs.Step.{joinValue, synchAct, holdAct, signalMove, signalAct, wakeAct, act, Attempt, around, attemptAt, attemptBy, attempt}
 use Rattle.packed.proofs.WellFormed.{WellFormedProgram, Callable}
 use Rattle.rules.proofs.Placed.{Good, Ready, holds, held, pending, GivesUp, GivenUp}
 use Rattle.rules.proofs.StateLaws.{monitor-there}
@@ -94,7 +95,8 @@ module _ (g : Program) (s : State) (I : Inv g s) (p : ℕ) (t : Thread) (ht : ge
 
   fine-signal : (k : Signal) (o : ℕ) → o < length (s .objects) → Fine (signalAct s p t k o (monitor s o))
   unfolding signalAct
-  fine-signal k o h = let m = monitor-there s o h in rw (m .1) (either (isEmpty (m .0 .keys)) _ _ (either (eqb (m .0 .value) (t .self)) _ _ (fine-move k o) tt) tt)
+  fine-signal k o h = let m =
+      monitor-there s o h in rw (m .1) (either (isEmpty (m .0 .keys)) _ _ (either (eqb (m .0 .value) (t .self)) _ _ (fine-move k o) tt) tt)
 
   fine-wake : (o n : ℕ) → o < length (s .objects) → Fine (wakeAct s p t o n (monitor s o))
   unfolding wakeAct
@@ -159,7 +161,8 @@ module _ (g : Program) (s : State) (I : Inv g s) (p : ℕ) (t : Thread) (ht : ge
   own-kept (Redex.signal k a) o i z = z
   own-kept (Redex.waiting a) o i z = i
 
-  fine-at : (F : Focus) → Good g (length (s .objects)) F → ((o : ℕ) → In o (holds F) → (GivenUp F o → ⊥) → monitor s o ≡ some (heldBy t)) → Ruled (attemptAt g s p t F)
+  fine-at : (F : Focus) → Good g (length (s .objects)) F → ((o : ℕ) → In o (holds F) → (GivenUp F o → ⊥) → monitor s o ≡ some (heldBy t))
+      → Ruled (attemptAt g s p t F)
   unfolding attemptAt
   fine-at (value o) h k = tt
   fine-at (here K x) h k = fine-around K (act g s p t x) (fine x (h .1) (λ o i. k o (own-part x (pending K) o i) (own-kept x o i)))

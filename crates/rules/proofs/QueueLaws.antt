@@ -199,13 +199,16 @@ length-notified o (w ∷ ws) = go (seen o w) (length-notified o ws)
     goal b b′ c e e′ k h = rw (e, e′, k) h
 
     go : Seen o w → L ≡ L′ + A → cond (queued o w) (suc L) L ≡ cond (queued o w′) (suc L′) L′ + cond (is o 1 w) (suc A) A
-    go (elsewhere e) rest = goal false false false (queued-elsewhere o w e) (queued-elsewhere o w′ (λ k. e (k ∙ moved-object pred o w))) (is-elsewhere o 1 w e) rest
-    go (woken e k) rest = goal false false false (queued-woken o w k) (queued-woken o w′ (moved-number pred o w e ∙ ap pred k)) (is-other o 1 w (λ z. omega (arith, z, k))) rest
+    go (elsewhere e) rest =
+        goal false false false (queued-elsewhere o w e) (queued-elsewhere o w′ (λ k. e (k ∙ moved-object pred o w))) (is-elsewhere o 1 w e) rest
+    go (woken e k) rest =
+        goal false false false (queued-woken o w k) (queued-woken o w′ (moved-number pred o w e ∙ ap pred k)) (is-other o 1 w (λ z. omega (arith, z, k))) rest
     go (at zero e k) rest =
         goal true false true (queued-in o w (e, omega (arith, k))) (queued-woken o w′ (moved-number pred o w e ∙ ap pred k)) (is-at o 1 w e (sym k))
         (omega (arith, rest))
     go (at (suc n) e k) rest =
-        goal true true false (queued-in o w (e, omega (arith, k))) (queued-in o w′ (e ∙ sym (moved-object pred o w), omega (arith, moved-number pred o w e ∙ ap pred k))) (is-other o 1 w (λ z. omega (arith, z, k)))
+        goal true true false (queued-in o w (e, omega (arith, k)))
+        (queued-in o w′ (e ∙ sym (moved-object pred o w), omega (arith, moved-number pred o w e ∙ ap pred k))) (is-other o 1 w (λ z. omega (arith, z, k)))
         (omega (arith, rest))
 
 pub holders-notified : (o n : ℕ) (ws : List Place) → holders o (suc n) (map (movedUp pred o) ws) ≡ holders o (suc (suc n)) ws
@@ -327,7 +330,8 @@ module _ (o : ℕ) (ws : List Place) (p : ℕ) (w : Place) (h : getElem? ws p �
 
   pub holders-last : holders o (suc (queueLength o ws)) behind ≡ suc (holders o (suc (queueLength o ws)) ws)
   holders-last =
-      holders-taken o (queueLength o ws) (lastPlace o ws) ws p w h z ∙ rw (is-at o (suc (queueLength o ws)) (lastPlace o ws) (sym last-object) (sym last-number)) (omega arith)
+      holders-taken o (queueLength o ws) (lastPlace o ws) ws p w h z
+      ∙ rw (is-at o (suc (queueLength o ws)) (lastPlace o ws) (sym last-object) (sym last-number)) (omega arith)
 
   pub holders-before : (n : ℕ) → (n ≡ queueLength o ws → ⊥) → holders o (suc n) behind ≡ holders o (suc n) ws
   holders-before n k =
@@ -417,7 +421,8 @@ within ws l o p w h i = go (w .number) refl
         far (no k) = absurd (omega (arith, l .empty o n (omega arith), held-place o (suc n) ws p w h (i .0) (sym e)))
 
 -- and of one thread
-pub alone : (ws : List Place) → Line ws → (o p q : ℕ) (v w : Place) → getElem? ws p ≡ some v → getElem? ws q ≡ some w → In o v → In o w → v .number ≡ w .number → p ≡ q
+pub alone : (ws : List Place) → Line ws → (o p q : ℕ) (v w : Place) → getElem? ws p ≡ some v → getElem? ws q ≡ some w → In o v → In o w
+    → v .number ≡ w .number → p ≡ q
 alone ws l o p q v w hp hq iv iw e = one-holder o (v .number) ws (few (v .number) refl) p q v w hp hq (iv .0) refl (iw .0) e
   where
     few : (n : ℕ) → v .number ≡ n → holders o (v .number) ws ≤ 1

@@ -22,8 +22,10 @@ use Rattle.rules.specs.Context.{Context, plug, focus, top, here, Redex, 
 use Rattle.rules.specs.Queue.{Place, awake, queueLength, lastPlace, movedUp}
 use Rattle.rules.specs.State.{Cell, cell, Thread, State, start, monitor, changeAt, become, storeMonitor, enqueue, signalled, placesOf}
 use Rattle.rules.specs.Rules.{Rule, e-notify, e-notifyall, Moves}
-use Rattle.rules.specs.Step.{forMonitor, forNotify, Stuck, notHeld, noRule, sticks, does, Move, Attempt, moves, signalMove, signalAct, act, around, attemptAt, attemptBy, attempt}
-use Rattle.rules.specs.Room.{Blocked, MONITOR-HELD, UNFINISHED, NO-FIELD-TO-READ, NO-FIELD-TO-WRITE, NO-THREAD, NOT-NOTIFIED, NOT-FREE, NOT-HELD, PassedOver, ABSENT, FINISHED, BLOCKED}
+use Rattle.rules.specs.Step.{forMonitor, forNotify, Stuck, notHeld, noRule, sticks, does, Move, Attempt, moves, signalMove, signalAct, act, around}
+use Rattle.rules.specs.Step.{attemptAt, attemptBy, attempt}
+use Rattle.rules.specs.Room.{Blocked, MONITOR-HELD, UNFINISHED, NO-FIELD-TO-READ, NO-FIELD-TO-WRITE, NO-THREAD, NOT-NOTIFIED, NOT-FREE, NOT-HELD}
+use Rattle.rules.specs.Room.{PassedOver, ABSENT, FINISHED, BLOCKED}
 use Rattle.rules.specs.Run.{Run}
 use Rattle.rules.specs.Execution.{Execution}
 use Rattle.rules.specs.Waking.{Awaits, Woken, Signals, lastWait, Longest, holders, InLine, Queueing}
@@ -34,7 +36,8 @@ use Rattle.rules.proofs.Invariant.{Inv}
 use Rattle.rules.proofs.Equivalence.{complete}
 use Rattle.rules.proofs.Executed.{Reachable, reachable-start, reachable-move, reachable-after, plan-executes}
 use Rattle.rules.proofs.QueueLaws.{In, all, within, alone, holder, Holder, moved-number, moved-other, moved-object, mapped, mapped-at}
-use Rattle.rules.proofs.Queues.{placeOf, places-taken, places-moved, become-places, Requeues, keeps, joined, queues, wakes, wakes-all, requeues, HeldIn, stands-still, Queues, queues-move, mover-at, Kept, kept-queues}
+use Rattle.rules.proofs.Queues.{placeOf, places-taken, places-moved, become-places, Requeues, keeps, joined, queues, wakes, wakes-all, requeues}
+use Rattle.rules.proofs.Queues.{HeldIn, stands-still, Queues, queues-move, mover-at, Kept, kept-queues}
 
 -- ---- (a) THE PLACES OF A QUEUE ARE 1 TO ITS LENGTH, EACH ONCE
 
@@ -59,7 +62,8 @@ abbrev Queued : List Place → ℕ → ℕ → Type 0
 Queued ws o p = (w : Place) × (getElem? ws p ≡ some w) × In o w
 
 -- the redex of a thread that waits to be notified, and its number
-waits-here : (s : State) (t : Thread) (o : ℕ) {e : Expression} {a : Attempt} → Blocked s t e a → a ≡ Attempt.waiting (forNotify o) → (e ≡ Expression.waiting o) × (t .place .number ≡ 0 → ⊥)
+waits-here : (s : State) (t : Thread) (o : ℕ) {e : Expression} {a : Attempt} → Blocked s t e a → a ≡ Attempt.waiting (forNotify o)
+    → (e ≡ Expression.waiting o) × (t .place .number ≡ 0 → ⊥)
 waits-here s t o (MONITOR-HELD h n) q = absurd (true≢false cc)
 waits-here s t o (UNFINISHED h n) q = absurd (true≢false cc)
 waits-here s t o (NO-FIELD-TO-READ h) q = absurd (true≢false cc)
@@ -77,7 +81,8 @@ queued-of s Q o p (BLOCKED K {t} {e} ht he b) q =
     let w = waits-here s t o b q in
     let k = Q .attends p t ht (w .1) in
     let f : here K (Redex.waiting o) ≡ here (k .0) (Redex.waiting (t .place .object)) =
-    sym (found K (Redex.waiting o)) ∙ ap (λ (x : Expression). focus top (plug K x)) (sym (w .0)) ∙ ap (focus top) (sym he ∙ k .1) ∙ found (k .0) (Redex.waiting (t .place .object)) in
+    sym (found K (Redex.waiting o)) ∙ ap (λ (x : Expression). focus top (plug K x)) (sym (w .0)) ∙ ap (focus top) (sym he ∙ k .1)
+    ∙ found (k .0) (Redex.waiting (t .place .object)) in
     let i : o ≡ t .place .object = cc in
     (t .place, mapped-at (λ (x : Thread). x .place) (s .threads) p t ht, (i, positive (t .place .number) (w .1)))
   where
@@ -117,18 +122,25 @@ still-queued {ws} {p} (queues a) n n′ w h z o q (v, hv, i) = (v, change-other 
 still-queued (wakes a m) n n′ w h z o q i = absurd (n refl)
 still-queued (wakes-all a m) n n′ w h z o q i = absurd (n′ refl)
 
-on-object : (f : ℕ → ℕ) (ws : List Place) (H : ℕ → Type 0) (a : ℕ) → H a → (o q : ℕ) (v : Place) → getElem? ws q ≡ some v → In o v → (Queued (map (movedUp f a) ws) o q → ⊥) → Dec (a ≡ o) → H o
+on-object : (f : ℕ → ℕ) (ws : List Place) (H : ℕ → Type 0) (a : ℕ) → H a → (o q : ℕ) (v : Place) → getElem? ws q ≡ some v → In o v
+    → (Queued (map (movedUp f a) ws) o q → ⊥) → Dec (a ≡ o) → H o
 on-object f ws H a m o q v hv i n (yes e) = rw e at m
 on-object f ws H a m o q v hv i n (no e) =
     let d : a ≡ v .object → ⊥ = λ k. e (k ∙ sym (i .0)) in
-    absurd (n (movedUp f a v, mapped-at (movedUp f a) ws q v hv, (i .0 ∙ sym (moved-object f a v), along (λ (n : ℕ). 0 < n) (sym (moved-other f a v d)) (i .1))))
+    absurd (n (
+      movedUp f a v,
+      mapped-at (movedUp f a) ws q v hv,
+      (i .0 ∙ sym (moved-object f a v), along (λ (n : ℕ). 0 < n) (sym (moved-other f a v d)) (i .1)),
+    ))
 
 -- whoever a move wakes waited on an object whose monitor is held after it
-woken-held : {ws : List Place} {p : ℕ} {H : ℕ → Type 0} {R : Rule} {ws′ : List Place} → Requeues ws p H R ws′ → (w : Place) → getElem? ws p ≡ some w → w .number ≡ 0
+woken-held : {ws : List Place} {p : ℕ} {H : ℕ → Type 0} {R : Rule} {ws′ : List Place} → Requeues ws p H R ws′ → (w : Place) → getElem? ws p ≡ some w
+    → w .number ≡ 0
     → (o q : ℕ) → Queued ws o q → (Queued ws′ o q → ⊥) → H o
 woken-held (keeps k) w h z o q i n = absurd (n i)
 woken-held {ws} {p} {H} joined w h z o q i n = absurd (n (still-queued {ws = ws} {p = p} {H = H} joined (λ e. true≢false cc) (λ e. true≢false cc) w h z o q i))
-woken-held {ws} {p} {H} (queues a) w h z o q i n = absurd (n (still-queued {ws = ws} {p = p} {H = H} (queues a) (λ e. true≢false cc) (λ e. true≢false cc) w h z o q i))
+woken-held {ws} {p} {H} (queues a) w h z o q i n =
+    absurd (n (still-queued {ws = ws} {p = p} {H = H} (queues a) (λ e. true≢false cc) (λ e. true≢false cc) w h z o q i))
 woken-held {ws} {H = H} (wakes a m) w h z o q (v, hv, i) n = on-object pred ws H a m o q v hv i n (ℕ-discrete a o)
 woken-held {ws} {H = H} (wakes-all a m) w h z o q (v, hv, i) n = on-object all ws H a m o q v hv i n (ℕ-discrete a o)
 
@@ -145,7 +157,8 @@ module _ (g : Program) (s : State) (p : ℕ) {R : Rule} {e : Option Record} {s�
   by-signal : (k : Signal) (h : Signals s p k o) → around s p (h .0) (signalMove s p (h .1) o k) ≡ moves M
   unfolding attempt act around redexExpression signalAct
   by-signal k (K, t, ht, he) =
-      held (monitor s o) (sym (ap (attemptBy g s p) ht ∙ ap (λ (x : Expression). attemptAt g s p t (focus top x)) he ∙ ap (attemptAt g s p t) (found K (Redex.signal k o))) ∙ complete g s p m)
+      held (monitor s o) (sym (ap (attemptBy g s p) ht ∙ ap (λ (x : Expression). attemptAt g s p t (focus top x)) he
+      ∙ ap (attemptAt g s p t) (found K (Redex.signal k o))) ∙ complete g s p m)
     where
       not-stuck : (y : Stuck) → around s p K (sticks y) ≡ moves M → ⊥
       not-stuck y h = true≢false cc
@@ -154,7 +167,8 @@ module _ (g : Program) (s : State) (p : ℕ) {R : Rule} {e : Option Record} {s�
       held none h = absurd (not-stuck noRule h)
       held (some c) h = tested (isEmpty (c .keys)) (eqb (c .value) (t .self)) h
         where
-          tested : (a b : Bool) → around s p K (cond a (cond b (signalMove s p t o k) (sticks (notHeld o))) (sticks (notHeld o))) ≡ moves M → around s p K (signalMove s p t o k) ≡ moves M
+          tested : (a b : Bool) → around s p K (cond a (cond b (signalMove s p t o k) (sticks (notHeld o))) (sticks (notHeld o))) ≡ moves M
+              → around s p K (signalMove s p t o k) ≡ moves M
           tested true true h = h
           tested true false h = absurd (not-stuck (notHeld o) h)
           tested false b h = absurd (not-stuck (notHeld o) h)
@@ -202,7 +216,8 @@ module _ (g : Program) (P : WellFormedProgram g) {ps : List ℕ} {r : Run} (x : 
   queued : (o q : ℕ) → Awaits s o q → Queued ws o q
   queued o q h = awaits-queued s Q o q h
 
-  lower-earlier : (o p q : ℕ) (t u : Thread) → getElem? (s .threads) p ≡ some t → getElem? (s .threads) q ≡ some u → Awaits s o p → Awaits s o q → t .place .number < u .place .number
+  lower-earlier : (o p q : ℕ) (t u : Thread) → getElem? (s .threads) p ≡ some t → getElem? (s .threads) q ≡ some u → Awaits s o p → Awaits s o q
+      → t .place .number < u .place .number
       → (i : ℕ) × (j : ℕ) × (lastWait x p ≡ some i) × (lastWait x q ≡ some j) × (i < j)
   lower-earlier o p q t u ht hu hp hq l =
       let v = queued o p hp in
@@ -225,8 +240,12 @@ module _ (g : Program) (P : WellFormedProgram g) {ps : List ℕ} {r : Run} (x : 
       later : (n : ℕ) → lastWait x q ≡ some n → (p : ℕ) → Awaits s o p → (q ≡ p → ⊥) → (m : ℕ) × (lastWait x p ≡ some m) × (n < m)
       later n hn p a d =
           let v = queued o p a in
-          let j = K .ordered .made p (v .0) (v .1) (v .2 .1) in
-          (j .0, j .1, K .ordered .order o q p w (v .0) h (v .1) i (v .2) (further (v .0) (v .1) (v .2) (ℕ-discrete (w .number) (v .0 .number))) n (j .0) hn (j .1))
+          let j = K .ordered .made p (v .0) (v .1) (v .2 .1) in (
+            j .0,
+            j .1,
+            K .ordered .order o q p w (v .0) h (v .1) i (v .2) (further (v .0) (v .1) (v .2) (ℕ-discrete (w .number) (v .0 .number))) n (j .0) hn
+                (j .1),
+          )
         where
           further : (v : Place) → getElem? ws p ≡ some v → In o v → Dec (w .number ≡ v .number) → w .number < v .number
           further v hv iv (yes z) = absurd (d (alone ws (Q .line) o q p w v h hv i iv z))
@@ -292,10 +311,12 @@ module _ (g : Program) (P : WellFormedProgram g) {ps : List ℕ} {r : Run} (x : 
             let v = mapped placeOf (s .threads) q w hw in
             let k = Q .attends q (v .0) (v .1) (λ z. omega (arith, z, i .1, ap (λ (z : Place). z .number) (v .2))) in
             let u = stands-still m q (v .0) d (v .1) in
-            let he : u .0 .expression ≡ plug (k .0) (Expression.waiting o) = u .2 ∙ k .1 ∙ ap (λ (b : ℕ). plug (k .0) (Expression.waiting b)) (ap (λ (z : Place). z .object) (v .2) ∙ sym (i .0)) in
+            let he : u .0 .expression ≡ plug (k .0) (Expression.waiting o) =
+            u .2 ∙ k .1 ∙ ap (λ (b : ℕ). plug (k .0) (Expression.waiting b)) (ap (λ (z : Place). z .object) (v .2) ∙ sym (i .0)) in
             notified (k .0) (u .0) (u .1) he held (ℕ-discrete (u .0 .place .number) 0)
           where
-            notified : (C : Context) (u : Thread) → getElem? (s′ .threads) q ≡ some u → u .expression ≡ plug C (Expression.waiting o) → HeldIn s′ o → Dec (u .place .number ≡ 0)
+            notified : (C : Context) (u : Thread) → getElem? (s′ .threads) q ≡ some u → u .expression ≡ plug C (Expression.waiting o) → HeldIn s′ o
+                → Dec (u .place .number ≡ 0)
                 → PassedOver s′ q (Attempt.waiting (forMonitor o))
             notified C u hu he held (yes z) = BLOCKED C hu he (NOT-FREE z (held .1))
             notified C u hu he held (no z) = absurd (n (BLOCKED C hu he (NOT-NOTIFIED z (held .1))))
@@ -310,7 +331,11 @@ module _ (g : Program) (P : WellFormedProgram g) {ps : List ℕ} {r : Run} (x : 
       beside a q d k =
           let v = queued a q k in
           let n : o ≡ v .0 .object → ⊥ = λ z. d (z ∙ sym (v .2 .0)) in
-          awaits′ a q (movedUp h o (v .0), now-at q (v .0) (v .1), (v .2 .0 ∙ sym (moved-object h o (v .0)), along (λ (n : ℕ). 0 < n) (sym (moved-other h o (v .0) n)) (v .2 .1)))
+          awaits′ a q (
+            movedUp h o (v .0),
+            now-at q (v .0) (v .1),
+            (v .2 .0 ∙ sym (moved-object h o (v .0)), along (λ (n : ℕ). 0 < n) (sym (moved-other h o (v .0) n)) (v .2 .1)),
+          )
 
       -- one whose number becomes 0 is woken, and no other
       woken : (q : ℕ) (w : Place) → getElem? ws q ≡ some w → In o w → h (w .number) ≡ 0 → Awaits s′ o q → ⊥
@@ -365,7 +390,8 @@ module _ (g : Program) (P : WellFormedProgram g) {ps : List ℕ} {r : Run} (x : 
         back (d, b) = let v = queued o q b in rw d (b, woken all o moved q (v .0) (v .1) (v .2) refl)
 
     waits-behind : (o : ℕ) → Signals s p Signal.wait o
-        → Awaits s′ o p × ((q : ℕ) (t u : Thread) → Awaits s o q → getElem? (s′ .threads) p ≡ some t → getElem? (s′ .threads) q ≡ some u → u .place .number < t .place .number)
+        → Awaits s′ o p × ((q : ℕ) (t u : Thread) → Awaits s o q → getElem? (s′ .threads) p ≡ some t → getElem? (s′ .threads) q ≡ some u
+        → u .place .number < t .place .number)
     unfolding lastPlace
     waits-behind o h = (awaits′ o p (lastPlace o ws, now, (refl, omega arith)), before)
       where
@@ -375,12 +401,14 @@ module _ (g : Program) (P : WellFormedProgram g) {ps : List ℕ} {r : Run} (x : 
         now : getElem? (placesOf s′) p ≡ some (lastPlace o ws)
         now = let w = mover-at g s p Q m in ap (λ (l : List Place). getElem? l p) moved ∙ change-same ws p (λ y. lastPlace o ws) (w .0) (w .1)
 
-        before : (q : ℕ) (t u : Thread) → Awaits s o q → getElem? (s′ .threads) p ≡ some t → getElem? (s′ .threads) q ≡ some u → u .place .number < t .place .number
+        before : (q : ℕ) (t u : Thread) → Awaits s o q → getElem? (s′ .threads) p ≡ some t → getElem? (s′ .threads) q ≡ some u
+            → u .place .number < t .place .number
         before q t u a ht hu =
             let v = queued o q a in
             let w = mover-at g s p Q m in
             let d : p ≡ q → ⊥ = λ c. not-mover (w .0) (v .0) (sym (w .1) ∙ ap (getElem? ws) c ∙ v .1) (w .2) (v .2 .1) in
-            let b : some (u .place) ≡ some (v .0) = sym (mapped-at placeOf (s′ .threads) q u hu) ∙ ap (λ (l : List Place). getElem? l q) moved ∙ change-other ws p _ q d ∙ v .1 in
+            let b : some (u .place) ≡ some (v .0) = sym (mapped-at placeOf (s′ .threads) q u hu) ∙ ap (λ (l : List Place). getElem? l q) moved
+            ∙ change-other ws p _ q d ∙ v .1 in
             let c : some (t .place) ≡ some (lastPlace o ws) = sym (mapped-at placeOf (s′ .threads) p t ht) ∙ now in
             let y : u .place ≡ v .0 = cc in
             let z : t .place ≡ lastPlace o ws = cc in

@@ -15,8 +15,11 @@ use Rattle.packed.specs.Syntax.{Expression, Condition, Arguments, Program, lite
 use Rattle.records.specs.Record.{Record}
 use Rattle.rules.specs.Context.{Context, plug, focus, top, Redex, redexExpression}
 use Rattle.rules.specs.Queue.{Place, awake, queueLength, lastPlace, movedUp}
-use Rattle.rules.specs.State.{Cell, cell, Thread, State, start, monitor, changeAt, gain, become, addObject, addThread, store, storeMonitor, useKey, enqueue, signalled, placesOf}
-use Rattle.rules.specs.Rules.{Rule, e-fork, e-wait, e-notify, e-notifyall, Converts, E-CALL, E-LET, E-IF, E-WHILE, E-NEW, E-READ, E-WRITE, E-READV, E-WRITEV, E-FORK, E-JOIN, E-RE-ENTER, E-ACQUIRE, E-RELEASE, E-WAIT, E-WAKE, E-NOTIFY, E-NOTIFYALL, Convertsᶜ, E-NOTNOTTRUE, E-ANDTRUE, E-ANDFALSE, E-EQUALTRUE, E-EQUALFALSE, Moves, EVAL, EVALᶜ}
+use Rattle.rules.specs.State.{Cell, cell, Thread, State, start, monitor, changeAt, gain, become, addObject, addThread, store, storeMonitor, useKey}
+use Rattle.rules.specs.State.{enqueue, signalled, placesOf}
+use Rattle.rules.specs.Rules.{Rule, e-fork, e-wait, e-notify, e-notifyall, Converts, E-CALL, E-LET, E-IF, E-WHILE, E-NEW, E-READ, E-WRITE, E-READV}
+use Rattle.rules.specs.Rules.{E-WRITEV, E-FORK, E-JOIN, E-RE-ENTER, E-ACQUIRE, E-RELEASE, E-WAIT, E-WAKE, E-NOTIFY, E-NOTIFYALL, Convertsᶜ}
+use Rattle.rules.specs.Rules.{E-NOTNOTTRUE, E-ANDTRUE, E-ANDFALSE, E-EQUALTRUE, E-EQUALFALSE, Moves, EVAL, EVALᶜ}
 use Rattle.rules.specs.Step.{Move, moves, wakeAct, act, around, attemptAt, attemptBy, attempt}
 use Rattle.rules.specs.Run.{Run, stopped, afterPass, afterMove}
 use Rattle.rules.specs.Execution.{Execution, ends, passes, lacks-key, no-room}
@@ -24,7 +27,8 @@ use Rattle.rules.specs.Waking.{isWait, noted, lastWaitAfter, lastWait, h
 use Rattle.rules.proofs.FocusPlug.{found}
 use Rattle.rules.proofs.Equivalence.{complete}
 use Rattle.rules.proofs.StateLaws.{inside, added, added-old, changed, change-same, change-other}
-use Rattle.rules.proofs.QueueLaws.{In, Line, line-awake, line-behind, line-notified, line-all, all, within, moved-number, moved-other, moved-object, mapped, mapped-at, length-awake, holders-awake}
+use Rattle.rules.proofs.QueueLaws.{In, Line, line-awake, line-behind, line-notified, line-all, all, within, moved-number, moved-other, moved-object}
+use Rattle.rules.proofs.QueueLaws.{mapped, mapped-at, length-awake, holders-awake}
 
 -- ---- what a move does to the threads
 
@@ -41,12 +45,15 @@ module _ (s : State) (p : ℕ) where
     forks : {s₁ : State} {e : Expression} (u : Thread) → u .place ≡ awake → s₁ .threads ≡ s .threads ++ (u ∷ []) → Shape e-fork s₁ e
     waits : {s₁ : State} (o : ℕ) (h : Thread → Thread) → ((x : Thread) → h x .place ≡ lastPlace o (placesOf s)) → s₁ .threads ≡ changeAt (s .threads) p h
         → Shape e-wait s₁ (Expression.waiting o)
-    notifies : {s₁ : State} {e : Expression} (o : ℕ) (h : Thread → Thread) → ((x : Thread) → (h x .expression ≡ x .expression) × (h x .place ≡ movedUp pred o (x .place)))
+    notifies : {s₁ : State} {e : Expression} (o : ℕ) (h : Thread → Thread)
+        → ((x : Thread) → (h x .expression ≡ x .expression) × (h x .place ≡ movedUp pred o (x .place)))
         → s₁ .threads ≡ map h (s .threads) → HeldIn s₁ o → Shape e-notify s₁ e
-    notifies-all : {s₁ : State} {e : Expression} (o : ℕ) (h : Thread → Thread) → ((x : Thread) → (h x .expression ≡ x .expression) × (h x .place ≡ movedUp all o (x .place)))
+    notifies-all : {s₁ : State} {e : Expression} (o : ℕ) (h : Thread → Thread)
+        → ((x : Thread) → (h x .expression ≡ x .expression) × (h x .place ≡ movedUp all o (x .place)))
         → s₁ .threads ≡ map h (s .threads) → HeldIn s₁ o → Shape e-notifyall s₁ e
 
-shaped : {g : Program} {s : State} {p : ℕ} {t : Thread} {e : Expression} {R : Rule} {r : Option Record} {s₁ : State} {e′ : Expression} → Converts g s p t e R r s₁ e′ → Shape s p R s₁ e′
+shaped : {g : Program} {s : State} {p : ℕ} {t : Thread} {e : Expression} {R : Rule} {r : Option Record} {s₁ : State} {e′ : Expression}
+    → Converts g s p t e R r s₁ e′ → Shape s p R s₁ e′
 unfolding isWait gain addObject addThread store storeMonitor useKey enqueue signalled monitor
 shaped (E-CALL os hd hp) = same refl refl
 shaped E-LET = same refl refl
@@ -86,13 +93,15 @@ places-kept [] p h k = refl
 places-kept (t ∷ ts) zero h k = ap (λ (w : Place). w ∷ map placeOf ts) (k t)
 places-kept (t ∷ ts) (suc p) h k = ap (λ (ws : List Place). t .place ∷ ws) (places-kept ts p h k)
 
-pub places-taken : (ts : List Thread) (p : ℕ) (h : Thread → Thread) (w : Place) → ((x : Thread) → h x .place ≡ w) → map placeOf (changeAt ts p h) ≡ changeAt (map placeOf ts) p (λ x. w)
+pub places-taken : (ts : List Thread) (p : ℕ) (h : Thread → Thread) (w : Place) → ((x : Thread) → h x .place ≡ w)
+    → map placeOf (changeAt ts p h) ≡ changeAt (map placeOf ts) p (λ x. w)
 unfolding changeAt
 places-taken [] p h w k = refl
 places-taken (t ∷ ts) zero h w k = ap (λ (w : Place). w ∷ map placeOf ts) (k t)
 places-taken (t ∷ ts) (suc p) h w k = ap (λ (ws : List Place). t .place ∷ ws) (places-taken ts p h w k)
 
-pub places-moved : (ts : List Thread) (h : Thread → Thread) (f : Place → Place) → ((x : Thread) → h x .place ≡ f (x .place)) → map placeOf (map h ts) ≡ map f (map placeOf ts)
+pub places-moved : (ts : List Thread) (h : Thread → Thread) (f : Place → Place) → ((x : Thread) → h x .place ≡ f (x .place))
+    → map placeOf (map h ts) ≡ map f (map placeOf ts)
 places-moved [] h f k = refl
 places-moved (t ∷ ts) h f k = rw (k t, places-moved ts h f k)
 
@@ -118,12 +127,17 @@ requeued {s} {p} {R} {s₁} (same n e) = along (λ (ts : List Thread). Requeues 
 requeued {s} {p} {R} {s₁} (gains h n k e) =
     along (Requeues (placesOf s) p (HeldIn s₁) R) (sym (ap (map placeOf) e ∙ places-kept (s .threads) p h (λ x. k x .1))) (keeps n)
 requeued {s} {p} {s₁ = s₁} (forks u k e) =
-    along (Requeues (placesOf s) p (HeldIn s₁) e-fork) (sym (ap (map placeOf) e ∙ places-more (s .threads) u ∙ ap (λ (w : Place). placesOf s ++ (w ∷ [])) k)) joined
-requeued {s} {p} {s₁ = s₁} (waits o h k e) = along (Requeues (placesOf s) p (HeldIn s₁) e-wait) (sym (ap (map placeOf) e ∙ places-taken (s .threads) p h _ k)) (queues o)
-requeued {s} {p} {s₁ = s₁} (notifies o h k e m) = along (Requeues (placesOf s) p (HeldIn s₁) e-notify) (sym (ap (map placeOf) e ∙ places-moved (s .threads) h _ (λ x. k x .1))) (wakes o m)
-requeued {s} {p} {s₁ = s₁} (notifies-all o h k e m) = along (Requeues (placesOf s) p (HeldIn s₁) e-notifyall) (sym (ap (map placeOf) e ∙ places-moved (s .threads) h _ (λ x. k x .1))) (wakes-all o m)
+    along (Requeues (placesOf s) p (HeldIn s₁) e-fork) (sym (ap (map placeOf) e ∙ places-more (s .threads) u ∙ ap (λ (w : Place). placesOf s ++ (w ∷ [])) k))
+    joined
+requeued {s} {p} {s₁ = s₁} (waits o h k e) =
+    along (Requeues (placesOf s) p (HeldIn s₁) e-wait) (sym (ap (map placeOf) e ∙ places-taken (s .threads) p h _ k)) (queues o)
+requeued {s} {p} {s₁ = s₁} (notifies o h k e m) =
+    along (Requeues (placesOf s) p (HeldIn s₁) e-notify) (sym (ap (map placeOf) e ∙ places-moved (s .threads) h _ (λ x. k x .1))) (wakes o m)
+requeued {s} {p} {s₁ = s₁} (notifies-all o h k e m) =
+    along (Requeues (placesOf s) p (HeldIn s₁) e-notifyall) (sym (ap (map placeOf) e ∙ places-moved (s .threads) h _ (λ x. k x .1))) (wakes-all o m)
 
-pub requeues : {g : Program} {s : State} {p : ℕ} {R : Rule} {r : Option Record} {s′ : State} → Moves g s p R r s′ → Requeues (placesOf s) p (HeldIn s′) R (placesOf s′)
+pub requeues : {g : Program} {s : State} {p : ℕ} {R : Rule} {r : Option Record} {s′ : State} → Moves g s p R r s′
+    → Requeues (placesOf s) p (HeldIn s′) R (placesOf s′)
 unfolding become monitor
 requeues {s = s} {p} {R} (EVAL K {s′ = s₁} ht he c) = along (Requeues (placesOf s) p (HeldIn s₁) R) (sym (become-places s₁ p _)) (requeued (shaped c))
 requeues {s = s} {p} {R} (EVALᶜ K ht he c) = along (Requeues (placesOf s) p (HeldIn s) R) (sym (become-places s p _)) (keeps (no-wait c))
@@ -139,7 +153,8 @@ pub record Queues (s : State) : Type 0 where
   pub attends : (p : ℕ) (t : Thread) → getElem? (s .threads) p ≡ some t → Attends t
 
 -- a thread that moves is in no queue
-pub mover-awake : (g : Program) (s : State) (p : ℕ) (t : Thread) → getElem? (s .threads) p ≡ some t → Attends t → {R : Rule} {r : Option Record} {s′ : State} → Moves g s p R r s′ → t .place .number ≡ 0
+pub mover-awake : (g : Program) (s : State) (p : ℕ) (t : Thread) → getElem? (s .threads) p ≡ some t → Attends t → {R : Rule} {r : Option Record} {s′ : State}
+    → Moves g s p R r s′ → t .place .number ≡ 0
 unfolding attempt act wakeAct around redexExpression
 mover-awake g s p t ht w {R} {r} {s′} m = go (t .place .number) refl
   where
@@ -163,7 +178,9 @@ mover-awake g s p t ht w {R} {r} {s′} m = go (t .place .number) refl
 
 -- whoever stands at q, which is not the mover, after a rule: in no queue, or as before but for a place that moved up
 abbrev Stood : State → ℕ → Thread → Type 0
-Stood s q u = (u .place .number ≡ 0) ⊎ ((v : Thread) × (getElem? (s .threads) q ≡ some v) × (u .expression ≡ v .expression) × (u .place .object ≡ v .place .object) × (v .place .number ≡ 0 → u .place .number ≡ 0))
+Stood s q u = (u .place .number ≡ 0) ⊎
+    ((v : Thread) × (getElem? (s .threads) q ≡ some v) × (u .expression ≡ v .expression) × (u .place .object ≡ v .place .object) × (v .place .number ≡ 0
+    → u .place .number ≡ 0))
 
 moved-zero : (h : ℕ → ℕ) (o : ℕ) (w : Place) → h 0 ≡ 0 → w .number ≡ 0 → movedUp h o w .number ≡ 0
 moved-zero h o w e z = go (ℕ-discrete o (w .object))
@@ -186,20 +203,24 @@ stood-moved s q u f o h e k a =
       λ y. ap (λ (w : Place). w .number) z ∙ moved-zero f o (v .place) e y,
     )
 
-stood : {s : State} {p : ℕ} {R : Rule} {s₁ : State} {e : Expression} → Shape s p R s₁ e → (q : ℕ) (u : Thread) → (p ≡ q → ⊥) → getElem? (s₁ .threads) q ≡ some u → Stood s q u
+stood : {s : State} {p : ℕ} {R : Rule} {s₁ : State} {e : Expression} → Shape s p R s₁ e → (q : ℕ) (u : Thread) → (p ≡ q → ⊥)
+    → getElem? (s₁ .threads) q ≡ some u → Stood s q u
 stood (same n e) q u d a = inr (u, sym (ap (λ (ts : List Thread). getElem? ts q) e) ∙ a, refl, refl, λ z. z)
-stood {s} {p} (gains h n k e) q u d a = inr (u, sym (change-other (s .threads) p h q d) ∙ sym (ap (λ (ts : List Thread). getElem? ts q) e) ∙ a, refl, refl, λ z. z)
+stood {s} {p} (gains h n k e) q u d a =
+    inr (u, sym (change-other (s .threads) p h q d) ∙ sym (ap (λ (ts : List Thread). getElem? ts q) e) ∙ a, refl, refl, λ z. z)
 stood {s} (forks w k e) q u d a = go (added (s .threads) w q u (sym (ap (λ (ts : List Thread). getElem? ts q) e) ∙ a))
   where
     go : ((q < length (s .threads)) × (getElem? (s .threads) q ≡ some u)) ⊎ ((q ≡ length (s .threads)) × (w ≡ u)) → Stood s q u
     go (inl (_, b)) = inr (u, b, refl, refl, λ z. z)
     go (inr (_, b)) = inl (ap (λ (x : Thread). x .place .number) (sym b) ∙ ap (λ (y : Place). y .number) k)
-stood {s} {p} (waits o h k e) q u d a = inr (u, sym (change-other (s .threads) p h q d) ∙ sym (ap (λ (ts : List Thread). getElem? ts q) e) ∙ a, refl, refl, λ z. z)
+stood {s} {p} (waits o h k e) q u d a =
+    inr (u, sym (change-other (s .threads) p h q d) ∙ sym (ap (λ (ts : List Thread). getElem? ts q) e) ∙ a, refl, refl, λ z. z)
 stood {s} (notifies o h k e m) q u d a = stood-moved s q u pred o h refl k (sym (ap (λ (ts : List Thread). getElem? ts q) e) ∙ a)
 stood {s} (notifies-all o h k e m) q u d a = stood-moved s q u all o h refl k (sym (ap (λ (ts : List Thread). getElem? ts q) e) ∙ a)
 
 -- who stood at q, which is not the mover, stands there with the same expression
-stands-on : {s : State} {p : ℕ} {R : Rule} {s₁ : State} {e : Expression} → Shape s p R s₁ e → (q : ℕ) (v : Thread) → (p ≡ q → ⊥) → getElem? (s .threads) q ≡ some v
+stands-on : {s : State} {p : ℕ} {R : Rule} {s₁ : State} {e : Expression} → Shape s p R s₁ e → (q : ℕ) (v : Thread) → (p ≡ q → ⊥)
+    → getElem? (s .threads) q ≡ some v
     → (u : Thread) × (getElem? (s₁ .threads) q ≡ some u) × (u .expression ≡ v .expression)
 stands-on (same n e) q v d a = (v, ap (λ (ts : List Thread). getElem? ts q) e ∙ a, refl)
 stands-on {s} {p} (gains h n k e) q v d a = (v, ap (λ (ts : List Thread). getElem? ts q) e ∙ change-other (s .threads) p h q d ∙ a, refl)
@@ -208,14 +229,16 @@ stands-on {s} {p} (waits o h k e) q v d a = (v, ap (λ (ts : List Thread). getEl
 stands-on {s} (notifies o h k e m) q v d a = (h v, ap (λ (ts : List Thread). getElem? ts q) e ∙ mapped-at h (s .threads) q v a, k v .0)
 stands-on {s} (notifies-all o h k e m) q v d a = (h v, ap (λ (ts : List Thread). getElem? ts q) e ∙ mapped-at h (s .threads) q v a, k v .0)
 
-pub stands-still : {g : Program} {s : State} {p : ℕ} {R : Rule} {r : Option Record} {s′ : State} → Moves g s p R r s′ → (q : ℕ) (v : Thread) → (p ≡ q → ⊥) → getElem? (s .threads) q ≡ some v
+pub stands-still : {g : Program} {s : State} {p : ℕ} {R : Rule} {r : Option Record} {s′ : State} → Moves g s p R r s′ → (q : ℕ) (v : Thread) → (p ≡ q → ⊥)
+    → getElem? (s .threads) q ≡ some v
     → (u : Thread) × (getElem? (s′ .threads) q ≡ some u) × (u .expression ≡ v .expression)
 unfolding become
 stands-still {p = p} (EVAL K {s′ = s₁} ht he c) q v d a = let u = stands-on (shaped c) q v d a in (u .0, change-other (s₁ .threads) p _ q d ∙ u .1, u .2)
 stands-still {s = s} {p} (EVALᶜ K ht he c) q v d a = (v, change-other (s .threads) p _ q d ∙ a, refl)
 
 -- the mover after a rule: in no queue, or before the part that waits
-mover-place : {s : State} {p : ℕ} {R : Rule} {s₁ : State} {e : Expression} → Shape s p R s₁ e → (t : Thread) → getElem? (s .threads) p ≡ some t → t .place .number ≡ 0
+mover-place : {s : State} {p : ℕ} {R : Rule} {s₁ : State} {e : Expression} → Shape s p R s₁ e → (t : Thread) → getElem? (s .threads) p ≡ some t
+    → t .place .number ≡ 0
     → (u : Thread) → getElem? (s₁ .threads) p ≡ some u → (u .place .number ≡ 0) ⊎ (e ≡ Expression.waiting (u .place .object))
 unfolding lastPlace
 mover-place {p = p} (same n e) t ht z u a =
@@ -244,7 +267,8 @@ mover-place {s} {p} (notifies-all o h k e m) t ht z u a =
     inl (ap (λ (w : Place). w .number) (ap placeOf (sym q) ∙ k t .1) ∙ moved-zero all o (t .place) refl z)
 
 module _ (g : Program) (s : State) (Q : Queues s) (p : ℕ) (t : Thread) (ht : getElem? (s .threads) p ≡ some t) (z : t .place .number ≡ 0) where
-  attends-after : (E : Expression) {R : Rule} {s₁ : State} {e : Expression} → ((o : ℕ) → e ≡ Expression.waiting o → (K : Context) × (E ≡ plug K (Expression.waiting o)))
+  attends-after : (E : Expression) {R : Rule} {s₁ : State} {e : Expression}
+      → ((o : ℕ) → e ≡ Expression.waiting o → (K : Context) × (E ≡ plug K (Expression.waiting o)))
       → Shape s p R s₁ e → (q : ℕ) (u : Thread) → getElem? (become s₁ p E .threads) q ≡ some u → Attends u
   unfolding become
   attends-after E {s₁ = s₁} {e} inside S q u a = go (ℕ-discrete p q)
@@ -258,7 +282,8 @@ module _ (g : Program) (s : State) (Q : Queues s) (p : ℕ) (t : Thread) (ht : g
           let k = Q .attends q v b (λ y. n (m y)) in
           (k .0, x ∙ k .1 ∙ ap (λ (a : ℕ). plug (k .0) (Expression.waiting a)) (sym o))
 
-      mine : (x : Thread) → getElem? (s₁ .threads) p ≡ some x → getElem? (changeAt (s₁ .threads) p B) p ≡ some u → (x .place .number ≡ 0) ⊎ (e ≡ Expression.waiting (x .place .object)) → Attends u
+      mine : (x : Thread) → getElem? (s₁ .threads) p ≡ some x → getElem? (changeAt (s₁ .threads) p B) p ≡ some u
+          → (x .place .number ≡ 0) ⊎ (e ≡ Expression.waiting (x .place .object)) → Attends u
       mine x h b (inl y) n =
           let j : some (B x) ≡ some u = sym (change-same (s₁ .threads) p B x h) ∙ b in
           let k : B x ≡ u = cc in
@@ -281,7 +306,8 @@ module _ (g : Program) (s : State) (Q : Queues s) (p : ℕ) (t : Thread) (ht : g
       go (no d) = other d (stood S q u d (sym (change-other (s₁ .threads) p B q d) ∙ a))
 
 -- the places after a move, where the mover was in no queue
-pub line-after : {ws : List Place} {p : ℕ} {H : ℕ → Type 0} {R : Rule} {ws′ : List Place} → Requeues ws p H R ws′ → (w : Place) → getElem? ws p ≡ some w → w .number ≡ 0 → Line ws → Line ws′
+pub line-after : {ws : List Place} {p : ℕ} {H : ℕ → Type 0} {R : Rule} {ws′ : List Place} → Requeues ws p H R ws′ → (w : Place) → getElem? ws p ≡ some w
+    → w .number ≡ 0 → Line ws → Line ws′
 line-after (keeps n) w h z l = l
 line-after {ws} joined w h z l = line-awake ws l
 line-after {ws} {p} (queues o) w h z l = line-behind o ws p w h z l
@@ -304,7 +330,8 @@ module _ (g : Program) (s : State) (p : ℕ) where
     attending : {R : Rule} {r : Option Record} {s′ : State} → Moves g s p R r s′ → (q : ℕ) (u : Thread) → getElem? (s′ .threads) q ≡ some u → Attends u
     attending (EVAL K {t} ht he c) q u a = attends-after g s Q p t ht (awake-now t ht (EVAL K ht he c)) _ (λ o y. (K, ap (plug K) y)) (shaped c) q u a
     attending (EVALᶜ K {t} {R = R} ht he c) q u a =
-        attends-after g s Q p t ht (awake-now t ht (EVALᶜ K ht he c)) _ {R = R} {s₁ = s} {e = literal 0} (λ o y. absurd (true≢false cc)) (same (no-wait c) refl) q u a
+        attends-after g s Q p t ht (awake-now t ht (EVALᶜ K ht he c)) _ {R = R} {s₁ = s} {e = literal 0} (λ o y. absurd (true≢false cc))
+        (same (no-wait c) refl) q u a
 
     pub queues-move : {R : Rule} {r : Option Record} {s′ : State} → Moves g s p R r s′ → Queues s′
     queues-move m = let w = mover-at m in record { line = line-after (requeues m) (w .0) (w .1) (w .2) (Q .line); attends = attending m }
@@ -323,7 +350,8 @@ queues-start = record {
     none-holds o n = holders-awake o n []
 
     nobody : (p : ℕ) (t : Thread) → getElem? (start .threads) p ≡ some t → Attends t
-    nobody zero t h n = let e : record { self = 0; expression = Expression.call 0 Arguments.end; keys = singleton 0; learnt = 0; place = awake } ≡ t = cc in absurd (n (ap (λ (x : Thread). x .place .number) (sym e)))
+    nobody zero t h n = let e : record { self = 0; expression = Expression.call 0 Arguments.end; keys = singleton 0; learnt = 0; place = awake } ≡ t =
+        cc in absurd (n (ap (λ (x : Thread). x .place .number) (sym e)))
     nobody (suc p) t h n = absurd (true≢false cc)
 
 -- ---- a lower place is that of an earlier wait
@@ -377,7 +405,8 @@ orderly-all o = orderly-moved all o (λ n h. absurd (omega (arith, h))) (λ m n 
 
 -- each place in a queue is one that was there, changed so
 ordered-as : {ws ws′ : List Place} {n : ℕ} {since since′ : ℕ → Option ℕ} (F : Place → Place) → Orderly F → ((q : ℕ) → since′ q ≡ since q)
-    → ((q : ℕ) (w : Place) → getElem? ws′ q ≡ some w → 0 < w .number → (v : Place) × (getElem? ws q ≡ some v) × (F v ≡ w)) → Ordered ws n since → Ordered ws′ (suc n) since′
+    → ((q : ℕ) (w : Place) → getElem? ws′ q ≡ some w → 0 < w .number → (v : Place) × (getElem? ws q ≡ some v) × (F v ≡ w)) → Ordered ws n since
+    → Ordered ws′ (suc n) since′
 ordered-as {ws} {ws′} {n} {since} {since′} F L e f O = record { made = made′; order = order′ }
   where
     -- the place that it was
@@ -398,13 +427,19 @@ ordered-as {ws} {ws′} {n} {since} {since′} F L e f O = record { made = made�
         let ix = as-before o v (x .0) (x .2) iv in
         let iy = as-before o w (y .0) (y .2) iw in
         let k : F (x .0) .number < F (y .0) .number = rw (x .2, y .2) l in
-        O .order o p q (x .0) (y .0) (x .1) (y .1) (ix .0) (iy .0) (L .was-before (x .0) (y .0) (sym (ix .0 .0) ∙ iy .0 .0) (ix .1) k) i j (sym (e p) ∙ hi) (sym (e q) ∙ hj)
+        O .order o p q (x .0) (y .0) (x .1) (y .1) (ix .0) (iy .0) (L .was-before (x .0) (y .0) (sym (ix .0 .0) ∙ iy .0 .0) (ix .1) k) i j (sym (e p) ∙ hi)
+        (sym (e q) ∙ hj)
 
 -- thread p waits on o
 ordered-behind : (o : ℕ) (ws : List Place) (p : ℕ) (w : Place) (n : ℕ) (since : ℕ → Option ℕ) → getElem? ws p ≡ some w → Line ws → Ordered ws n since
     → Ordered (changeAt ws p (λ x. lastPlace o ws)) (suc n) (noted since n e-wait p)
 unfolding noted isWait lastPlace
-ordered-behind o ws p w n since h l O = record { made = λ q v hv z. made′ q v hv z (ℕ-discrete p q); order = λ a q r v u hv hu iv iu k i j hi hj. order′ a q r v u hv hu iv iu k i j hi hj (ℕ-discrete p q) (ℕ-discrete p r) }
+ordered-behind o ws p w n since h l O =
+    record {
+      made = λ q v hv z. made′ q v hv z (ℕ-discrete p q);
+      order =
+          λ a q r v u hv hu iv iu k i j hi hj. order′ a q r v u hv hu iv iu k i j hi hj (ℕ-discrete p q) (ℕ-discrete p r);
+    }
   where
     B : List Place
     B = changeAt ws p (λ x. lastPlace o ws)
@@ -445,13 +480,16 @@ not-noted : (since : ℕ → Option ℕ) (n : ℕ) (R : Rule) (p : ℕ) → isWa
 unfolding noted
 not-noted since n R p e q = rw e
 
-ordered-after : {ws : List Place} {p : ℕ} {H : ℕ → Type 0} {R : Rule} {ws′ : List Place} → Requeues ws p H R ws′ → (w : Place) → getElem? ws p ≡ some w → Line ws → (n : ℕ) (since : ℕ → Option ℕ)
+ordered-after : {ws : List Place} {p : ℕ} {H : ℕ → Type 0} {R : Rule} {ws′ : List Place} → Requeues ws p H R ws′ → (w : Place) → getElem? ws p ≡ some w
+    → Line ws → (n : ℕ) (since : ℕ → Option ℕ)
     → Ordered ws n since → Ordered ws′ (suc n) (noted since n R p)
 unfolding isWait
 ordered-after {p = p} {R = R} (keeps k) w h l n since O = ordered-as (λ w. w) orderly-same (not-noted since n R p k) (λ q v hv z. (v, hv, refl)) O
-ordered-after {ws} {p} joined w h l n since O = ordered-as (λ w. w) orderly-same (not-noted since n e-fork p refl) (λ q v hv z. old q v z (added ws awake q v hv)) O
+ordered-after {ws} {p} joined w h l n since O =
+    ordered-as (λ w. w) orderly-same (not-noted since n e-fork p refl) (λ q v hv z. old q v z (added ws awake q v hv)) O
   where
-    old : (q : ℕ) (v : Place) → 0 < v .number → ((q < length ws) × (getElem? ws q ≡ some v)) ⊎ ((q ≡ length ws) × (awake ≡ v)) → (x : Place) × (getElem? ws q ≡ some x) × (x ≡ v)
+    old : (q : ℕ) (v : Place) → 0 < v .number → ((q < length ws) × (getElem? ws q ≡ some v)) ⊎ ((q ≡ length ws) × (awake ≡ v))
+        → (x : Place) × (getElem? ws q ≡ some x) × (x ≡ v)
     old q v z (inl (_, e)) = (v, e, refl)
     old q v z (inr (_, e)) = absurd (omega (arith, z, ap (λ (x : Place). x .number) e))
 ordered-after {ws} {p} (queues o) w h l n since O = ordered-behind o ws p w n since h l O
@@ -481,7 +519,8 @@ kept-run {g} (Execution.moves {s} {p = p} {R = R} h k x) since n Q O =
 
 pub kept-queues : {g : Program} {ps : List ℕ} {r : Run} (x : Execution g start ps r) → Kept (r .final) (lastWait x)
 unfolding lastWait start
-kept-queues x = kept-run x (λ p. none) 0 queues-start (record { made = λ p w h z. absurd (nobody p w h z); order = λ o p q v w hv hw iv iw l i j hi hj. absurd (nobody p v hv (iv .1)) })
+kept-queues x = kept-run x (λ p. none) 0 queues-start
+    (record { made = λ p w h z. absurd (nobody p w h z); order = λ o p q v w hv hw iv iw l i j hi hj. absurd (nobody p v hv (iv .1)) })
   where
     nobody : (p : ℕ) (w : Place) → getElem? (awake ∷ []) p ≡ some w → 0 < w .number → ⊥
     nobody zero w h z = let e : awake ≡ w = cc in omega (arith, z, ap (λ (x : Place). x .number) e)

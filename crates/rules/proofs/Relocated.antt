@@ -31,7 +31,8 @@ relocated-length (t ∷ ts) [] r = absurd r
 relocated-length (t ∷ ts) (u ∷ us) r = ap suc (relocated-length ts us (r .1))
 
 -- whoever stands at q stood there, at another place
-pub was-there : (ts us : List Thread) → Relocated ts us → (q : ℕ) (u : Thread) → getElem? us q ≡ some u → (t : Thread) × (getElem? ts q ≡ some t) × (inPlace (u .place) t ≡ u)
+pub was-there : (ts us : List Thread) → Relocated ts us → (q : ℕ) (u : Thread) → getElem? us q ≡ some u
+    → (t : Thread) × (getElem? ts q ≡ some t) × (inPlace (u .place) t ≡ u)
 was-there [] [] r q u h = absurd (true≢false cc)
 was-there [] (x ∷ us) r q u h = absurd r
 was-there (t ∷ ts) [] r q u h = absurd r

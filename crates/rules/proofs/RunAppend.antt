@@ -103,7 +103,8 @@ module _ (g : Program) where
   stopped-short s [] n = absurd (n refl)
   stopped-short s (p ∷ ps) n = go (step g s p) n (λ z k. stopped-short z ps k)
     where
-      go : (a : Answer) → (resume s (λ z. run g z ps) a .stop ≡ Stop.end → ⊥) → ((z : State) → (run g z ps .stop ≡ Stop.end → ⊥) → run g z ps .picks < length ps)
+      go : (a : Answer) → (resume s (λ z. run g z ps) a .stop ≡ Stop.end → ⊥)
+          → ((z : State) → (run g z ps .stop ≡ Stop.end → ⊥) → run g z ps .picks < length ps)
           → resume s (λ z. run g z ps) a .picks < suc (length ps)
       go Answer.passed n ih = let h = ih s n in omega arith
       go (Answer.race r) n ih = omega arith

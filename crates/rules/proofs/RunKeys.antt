@@ -30,8 +30,10 @@ use Rattle.rules.proofs.Executed.{Reachable, reachable-start, reachable
 
 module _ (g : Program) (s : State) (I : Reachable g s) (p : ℕ) (H : List Record) (J : Kept g s H) where
   pub kept-lacks : {r : Record} → Lacks g s p r → Kept g s (r ∷ H)
-  kept-lacks (LACKS K {t} ht he (LACKS-READ w {o} {f} {v} h k vol)) = record { agrees = J .agrees; legal = (J .legal, J .agrees .present p t ht, rw (sym (tested g s (I .invariant) p t ht H J w o f v h vol) ∙ k) tt) }
-  kept-lacks (LACKS K {t} ht he (LACKS-WRITE w {o} {f} {u} h k vol)) = record { agrees = J .agrees; legal = (J .legal, J .agrees .present p t ht, rw (sym (tested g s (I .invariant) p t ht H J w o f u h vol) ∙ k) tt) }
+  kept-lacks (LACKS K {t} ht he (LACKS-READ w {o} {f} {v} h k vol)) =
+      record { agrees = J .agrees; legal = (J .legal, J .agrees .present p t ht, rw (sym (tested g s (I .invariant) p t ht H J w o f v h vol) ∙ k) tt) }
+  kept-lacks (LACKS K {t} ht he (LACKS-WRITE w {o} {f} {u} h k vol)) =
+      record { agrees = J .agrees; legal = (J .legal, J .agrees .present p t ht, rw (sym (tested g s (I .invariant) p t ht H J w o f u h vol) ∙ k) tt) }
 
 -- ---- the start
 

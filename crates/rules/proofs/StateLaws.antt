@@ -10,7 +10,8 @@ use mathlib.Core.Option.{Option, some, none, Option·map}
 use lib.Dec.{eqb}
 use lib.ListN.{length, getElem?, length-append}
 use borrow.Author.Tests.{eq-eqb, ne-eqb, eqb-true}
-use Rattle.rules.specs.State.{Cell, Field, Object, Thread, State, fresh, freshFields, freshObject, findField, storeField, fieldOf, monitorOf, lookup, monitor, changeAt, store, storeMonitor, addObject, threadOf, Numbered}
+use Rattle.rules.specs.State.{Cell, Field, Object, Thread, State, fresh, freshFields, freshObject, findField, storeField, fieldOf, monitorOf, lookup}
+use Rattle.rules.specs.State.{monitor, changeAt, store, storeMonitor, addObject, threadOf, Numbered}
 
 -- ---- lists
 
@@ -43,13 +44,15 @@ module _ {A : Type 0} where
   added-new [] x = refl
   added-new (y ∷ l) x = added-new l x
 
-  pub added : (l : List A) (x : A) (i : ℕ) (u : A) → getElem? (l ++ (x ∷ [])) i ≡ some u → ((i < length l) × (getElem? l i ≡ some u)) ⊎ ((i ≡ length l) × (x ≡ u))
+  pub added : (l : List A) (x : A) (i : ℕ) (u : A) → getElem? (l ++ (x ∷ [])) i ≡ some u
+      → ((i < length l) × (getElem? l i ≡ some u)) ⊎ ((i ≡ length l) × (x ≡ u))
   added [] x zero u h = inr (refl, cc)
   added [] x (suc i) u h = absurd (true≢false cc)
   added (y ∷ l) x zero u h = inl (omega arith, h)
   added (y ∷ l) x (suc i) u h = up (added l x i u h)
     where
-      up : ((i < length l) × (getElem? l i ≡ some u)) ⊎ ((i ≡ length l) × (x ≡ u)) → ((suc i < suc (length l)) × (getElem? l i ≡ some u)) ⊎ ((suc i ≡ suc (length l)) × (x ≡ u))
+      up : ((i < length l) × (getElem? l i ≡ some u)) ⊎ ((i ≡ length l) × (x ≡ u))
+          → ((suc i < suc (length l)) × (getElem? l i ≡ some u)) ⊎ ((suc i ≡ suc (length l)) × (x ≡ u))
       up (inl (a, b)) = inl (omega arith, b)
       up (inr (a, b)) = inr (ap suc a, b)
 
@@ -77,7 +80,8 @@ module _ {A : Type 0} where
   change-other (x ∷ xs) (suc i) h (suc j) n = change-other xs i h j (λ e. n (ap suc e))
 
   -- an element of the changed list is an old one, or an old one changed
-  pub changed : (xs : List A) (i : ℕ) (h : A → A) (j : ℕ) (y : A) → getElem? (changeAt xs i h) j ≡ some y → (x : A) × (getElem? xs j ≡ some x) × ((x ≡ y) ⊎ (h x ≡ y))
+  pub changed : (xs : List A) (i : ℕ) (h : A → A) (j : ℕ) (y : A) → getElem? (changeAt xs i h) j ≡ some y
+      → (x : A) × (getElem? xs j ≡ some x) × ((x ≡ y) ⊎ (h x ≡ y))
   unfolding changeAt
   changed [] i h j y e = absurd (true≢false cc)
   changed (x ∷ xs) zero h zero y e = (x, refl, inr (cc))
@@ -101,7 +105,8 @@ who ts p h t at q u e = go (ℕ-discrete p q)
     go (no x) = inr (x, sym (change-other ts p h q x) ∙ e)
 
 -- with whose self, where thread p's stays
-pub whose : (ts : List Thread) (p : ℕ) (h : Thread → Thread) (t : Thread) → getElem? ts p ≡ some t → h t .self ≡ t .self → (q : ℕ) (u : Thread) → getElem? (changeAt ts p h) q ≡ some u
+pub whose : (ts : List Thread) (p : ℕ) (h : Thread → Thread) (t : Thread) → getElem? ts p ≡ some t → h t .self ≡ t .self → (q : ℕ) (u : Thread)
+    → getElem? (changeAt ts p h) q ≡ some u
     → (v : Thread) × (getElem? ts q ≡ some v) × (u .self ≡ v .self)
 whose ts p h t at self q u e = go (who ts p h t at q u e)
   where
@@ -200,7 +205,8 @@ module _ (s : State) (o : ℕ) (c : Cell) where
   lock-lookup o′ f′ = go (ℕ-discrete o o′)
     where
       go : Dec (o ≡ o′) → fieldOf (getElem? (changeAt (s .objects) o lock) o′) f′ ≡ fieldOf (getElem? (s .objects) o′) f′
-      go (yes e) = rw (← e) (ap (λ (x : Option Object). fieldOf x f′) (change-at (s .objects) o lock) ∙ fields-kept lock f′ (λ x. refl) (getElem? (s .objects) o))
+      go (yes e) = rw (← e) (ap (λ (x : Option Object). fieldOf x f′) (change-at (s .objects) o lock)
+          ∙ fields-kept lock f′ (λ x. refl) (getElem? (s .objects) o))
       go (no e) = ap (λ (x : Option Object). fieldOf x f′) (change-other (s .objects) o lock o′ e)
 
 -- ---- new objects
@@ -216,14 +222,18 @@ fresh-field (x ∷ fs) f = go (eqb x f) (fresh-field fs f)
     go false h = h
 
 module _ (s : State) (fs : List ℕ) where
-  pub new-lookup : (o f : ℕ) → (lookup (addObject s (freshObject fs)) o f ≡ lookup s o f) ⊎ ((length (s .objects) ≡ o) × (lookup s o f ≡ none) × (lookup (addObject s (freshObject fs)) o f ≡ some fresh))
+  pub new-lookup : (o f : ℕ)
+      → (lookup (addObject s (freshObject fs)) o f ≡ lookup s o f) ⊎
+      ((length (s .objects) ≡ o) × (lookup s o f ≡ none) × (lookup (addObject s (freshObject fs)) o f ≡ some fresh))
   unfolding lookup addObject freshObject fieldOf
   new-lookup o f = go (ℕ-discrete o (length (s .objects)))
     where
       N : List Object
       N = s .objects ++ (freshObject fs ∷ [])
 
-      go : Dec (o ≡ length (s .objects)) → (fieldOf (getElem? N o) f ≡ fieldOf (getElem? (s .objects) o) f) ⊎ ((length (s .objects) ≡ o) × (fieldOf (getElem? (s .objects) o) f ≡ none) × (fieldOf (getElem? N o) f ≡ some fresh))
+      go : Dec (o ≡ length (s .objects))
+          → (fieldOf (getElem? N o) f ≡ fieldOf (getElem? (s .objects) o) f) ⊎
+          ((length (s .objects) ≡ o) × (fieldOf (getElem? (s .objects) o) f ≡ none) × (fieldOf (getElem? N o) f ≡ some fresh))
       go (no n) = inl (ap (λ (x : Option Object). fieldOf x f) (added-other (s .objects) (freshObject fs) o n))
       go (yes e) = got (fresh-field fs f)
         where
@@ -233,7 +243,9 @@ module _ (s : State) (fs : List ℕ) where
           now : fieldOf (getElem? N o) f ≡ findField (freshFields fs) f
           now = rw e (rw (added-new (s .objects) (freshObject fs)))
 
-          got : (findField (freshFields fs) f ≡ none) ⊎ (findField (freshFields fs) f ≡ some fresh) → (fieldOf (getElem? N o) f ≡ fieldOf (getElem? (s .objects) o) f) ⊎ ((length (s .objects) ≡ o) × (fieldOf (getElem? (s .objects) o) f ≡ none) × (fieldOf (getElem? N o) f ≡ some fresh))
+          got : (findField (freshFields fs) f ≡ none) ⊎ (findField (freshFields fs) f ≡ some fresh)
+              → (fieldOf (getElem? N o) f ≡ fieldOf (getElem? (s .objects) o) f) ⊎
+              ((length (s .objects) ≡ o) × (fieldOf (getElem? (s .objects) o) f ≡ none) × (fieldOf (getElem? N o) f ≡ some fresh))
           got (inl h) = inl (now ∙ h ∙ sym was)
           got (inr h) = inr (sym e, was, now ∙ h)
 
@@ -246,11 +258,16 @@ module _ (s : State) (fs : List ℕ) where
       in-range (some x) e h = inside (s .objects) o x e
 
   -- the monitors of the longer list
-  pub new-monitors : (o : ℕ) → (monitor (addObject s (freshObject fs)) o ≡ monitor s o) ⊎ ((length (s .objects) ≡ o) × (monitor s o ≡ none) × (monitor (addObject s (freshObject fs)) o ≡ some fresh))
+  pub new-monitors : (o : ℕ)
+      → (monitor (addObject s (freshObject fs)) o ≡ monitor s o) ⊎
+      ((length (s .objects) ≡ o) × (monitor s o ≡ none) × (monitor (addObject s (freshObject fs)) o ≡ some fresh))
   unfolding monitor addObject monitorOf freshObject
   new-monitors o = go (ℕ-discrete o (length (s .objects)))
     where
-      go : Dec (o ≡ length (s .objects)) → (monitorOf (getElem? (s .objects ++ (freshObject fs ∷ [])) o) ≡ monitorOf (getElem? (s .objects) o)) ⊎ ((length (s .objects) ≡ o) × (monitorOf (getElem? (s .objects) o) ≡ none) × (monitorOf (getElem? (s .objects ++ (freshObject fs ∷ [])) o) ≡ some fresh))
+      go : Dec (o ≡ length (s .objects))
+          → (monitorOf (getElem? (s .objects ++ (freshObject fs ∷ [])) o) ≡ monitorOf (getElem? (s .objects) o)) ⊎
+          ((length (s .objects) ≡ o) × (monitorOf (getElem? (s .objects) o) ≡ none) ×
+          (monitorOf (getElem? (s .objects ++ (freshObject fs ∷ [])) o) ≡ some fresh))
       go (no n) = inl (ap monitorOf (added-other (s .objects) (freshObject fs) o n))
       go (yes e) = inr (sym e, rw e (rw (outside (s .objects) (length (s .objects)) (omega arith))), rw e (rw (added-new (s .objects) (freshObject fs))))
 
@@ -260,7 +277,8 @@ monitor-there s o h = let x = there (s .objects) o h in (x .0 .monitor, ap monit
 
 -- ---- who a join finds
 
-pub found-thread : (ts : List Thread) (i o : ℕ) (q : Numbered) → threadOf i ts o ≡ some q → (j : ℕ) × (q .number ≡ i + j) × (getElem? ts j ≡ some (q .thread)) × (q .thread .self ≡ o)
+pub found-thread : (ts : List Thread) (i o : ℕ) (q : Numbered) → threadOf i ts o ≡ some q
+    → (j : ℕ) × (q .number ≡ i + j) × (getElem? ts j ≡ some (q .thread)) × (q .thread .self ≡ o)
 unfolding threadOf
 found-thread [] i o q h = absurd (true≢false cc)
 found-thread (x ∷ ts) i o q h = go (eqb (x .self) o) refl h (found-thread ts (suc i) o q)

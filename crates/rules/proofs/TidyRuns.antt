@@ -11,9 +11,12 @@ use borrow.Author.Tests.{ne-eqb, le-ltb}
 use Rattle.keys.specs.Keys.{Keys, singleton, empty}
 use Rattle.packed.specs.Syntax.{Signal, Program, Expression}
 use Rattle.rules.specs.Context.{Context, focus, top, plug, redexExpression, Redex}
-use Rattle.rules.specs.State.{Cell, Thread, State, start, freshObject, store, storeMonitor, addObject, gain, become, addThread, forked, useKey, enqueue, signalled}
+use Rattle.rules.specs.State.{Cell, Thread, State, start, freshObject, store, storeMonitor, addObject, gain, become, addThread, forked, useKey, enqueue}
+use Rattle.rules.specs.State.{signalled}
 use Rattle.records.specs.Record.{Record}
-use Rattle.rules.specs.Rules.{Rule, passedOn, LacksHere, LACKS-READ, LACKS-WRITE, Lacks, LACKS, Converts, E-CALL, E-LET, E-IF, E-WHILE, E-NEW, E-READ, E-WRITE, E-READV, E-WRITEV, E-FORK, E-JOIN, E-RE-ENTER, E-ACQUIRE, E-RELEASE, E-WAIT, E-WAKE, E-NOTIFY, E-NOTIFYALL, Moves, EVAL, EVALᶜ}
+use Rattle.rules.specs.Rules.{Rule, passedOn, LacksHere, LACKS-READ, LACKS-WRITE, Lacks, LACKS, Converts, E-CALL, E-LET, E-IF, E-WHILE, E-NEW, E-READ}
+use Rattle.rules.specs.Rules.{E-WRITE, E-READV, E-WRITEV, E-FORK, E-JOIN, E-RE-ENTER, E-ACQUIRE, E-RELEASE, E-WAIT, E-WAKE, E-NOTIFY, E-NOTIFYALL}
+use Rattle.rules.specs.Rules.{Moves, EVAL, EVALᶜ}
 use Rattle.rules.specs.Room.{Room, noRoomBefore, noRoomAfter, noRoomFor}
 use Rattle.rules.specs.Run.{Run, logged, stopped, afterPass, afterMove, play}
 use Rattle.packed.proofs.WellFormed.{WellFormedProgram}
@@ -38,7 +41,12 @@ pub roomy-become : (s : State) (p : ℕ) (e : Expression) → Roomy s → Roomy 
 unfolding become
 roomy-become s p e z =
     let a = z .threads8 in
-    record { threads8 = omega (arith, change-length (s .threads) p (λ x. record { self = x .self; expression = e; keys = x .keys; learnt = x .learnt; place = x .place })); objects32 = z .objects32; keys256 = z .keys256 }
+    record {
+      threads8 = omega
+          (arith, change-length (s .threads) p (λ x. record { self = x .self; expression = e; keys = x .keys; learnt = x .learnt; place = x .place }));
+      objects32 = z .objects32;
+      keys256 = z .keys256;
+    }
 
 roomy-gain : (s : State) (p : ℕ) (W : Keys) (n : Keys → ℕ) → Roomy s → Roomy (gain s p W n)
 unfolding gain
@@ -91,26 +99,35 @@ module _ (g : Program) (s : State) (I : Inv g s) (z : Roomy s) (p : ℕ) (t : Th
   fits (E-READ w h k vol) l = z
   fits (E-WRITE w {o} {f} {u} {v} h k vol) l =
       let b = room-for 256 (s .nextKey) Room.key none l .0 in
-      roomy-gain (store (useKey s) o f (record { keys = singleton (s .nextKey); value = v })) p (singleton (s .nextKey)) _ (roomy-store (useKey s) o f (record { keys = singleton (s .nextKey); value = v }) (record { threads8 = z .threads8; objects32 = z .objects32; keys256 = omega arith }))
+      roomy-gain (store (useKey s) o f (record { keys = singleton (s .nextKey); value = v })) p (singleton (s .nextKey)) _
+      (roomy-store (useKey s) o f (record { keys = singleton (s .nextKey); value = v })
+      (record { threads8 = z .threads8; objects32 = z .objects32; keys256 = omega arith }))
   fits (E-READV {W = W} h vol) l = roomy-gain s p (passedOn (g .version) W) _ z
   fits (E-WRITEV {o} {f} h vol) l = roomy-store s o f _ z
   fits (E-FORK {e}) l =
       let b = room-for 8 (length (s .threads)) Room.thread _ l in
       let d = room-for 32 (length (s .objects)) Room.object none (b .1) .0 in
       let c = b .0 in
-      record { threads8 = omega (arith, length-added (s .threads) (forked s t e)); objects32 = omega (arith, length-added (s .objects) (freshObject [])); keys256 = z .keys256 }
+      record {
+        threads8 = omega (arith, length-added (s .threads) (forked s t e));
+        objects32 = omega (arith, length-added (s .objects) (freshObject []));
+        keys256 = z .keys256;
+      }
   fits (E-JOIN {q = q} h l′) l = roomy-gain s p (q .thread .keys) _ z
   fits (E-RE-ENTER h) l = z
-  fits (E-ACQUIRE {o} {W = W} h n) l = roomy-gain (storeMonitor s o (record { keys = empty; value = t .self })) p W _ (roomy-lock s o (record { keys = empty; value = t .self }) z)
+  fits (E-ACQUIRE {o} {W = W} h n) l =
+      roomy-gain (storeMonitor s o (record { keys = empty; value = t .self })) p W _ (roomy-lock s o (record { keys = empty; value = t .self }) z)
   fits (E-RELEASE {o} h) l = roomy-lock s o (record { keys = t .keys; value = 0 }) z
   fits (E-WAIT {o} h) l =
       let s₁ = storeMonitor s o (record { keys = t .keys; value = 0 }) in
       roomy-relocated s₁ _ (enqueue-relocated s₁ p o) (roomy-lock s o (record { keys = t .keys; value = 0 }) z)
-  fits (E-WAKE {o} {W = W} n h m) l = roomy-gain (storeMonitor s o (record { keys = empty; value = t .self })) p W _ (roomy-lock s o (record { keys = empty; value = t .self }) z)
+  fits (E-WAKE {o} {W = W} n h m) l =
+      roomy-gain (storeMonitor s o (record { keys = empty; value = t .self })) p W _ (roomy-lock s o (record { keys = empty; value = t .self }) z)
   fits (E-NOTIFY {o} h) l = roomy-relocated s _ (signalled-relocated _ s o) z
   fits (E-NOTIFYALL {o} h) l = roomy-relocated s _ (signalled-relocated _ s o) z
 
-  tidy : {e : Expression} {R : Rule} {r : Option Record} {s′ : State} {e′ : Expression} → Converts g s p t e R r s′ e′ → t .expression ≡ plug K e → noRoomBefore s R ≡ none → TidyOr r
+  tidy : {e : Expression} {R : Rule} {r : Option Record} {s′ : State} {e′ : Expression} → Converts g s p t e R r s′ e′ → t .expression ≡ plug K e
+      → noRoomBefore s R ≡ none → TidyOr r
   unfolding noRoomBefore redexExpression focus
   tidy (E-CALL os hd hp) he l = tt
   tidy E-LET he l = tt
@@ -135,19 +152,64 @@ module _ (g : Program) (s : State) (I : Inv g s) (z : Roomy s) (p : ℕ) (t : Th
       let b = room-for 8 (length (s .threads)) Room.thread _ l in
       let d = room-for 32 (length (s .objects)) Room.object none (b .1) .0 in
       let c = b .0 in
-      record { thread-below = three; object-below = d; field-below = omega arith; value-below = omega arith; columns = rw (le-ltb 7 (length (s .threads)) (omega arith)) }
+      record {
+        thread-below = three;
+        object-below = d;
+        field-below = omega arith;
+        value-below = omega arith;
+        columns =
+            rw (le-ltb 7 (length (s .threads)) (omega arith));
+      }
   tidy (E-JOIN {o} {v} {q} h l′) he l =
       let j = found-thread (s .threads) 0 o q h in
       let i = inside (s .threads) (j .0) (q .thread) (j .2) in
       let a = z .threads8 in
       let w : v < length (s .objects) = along (λ (e : Expression). Good g (length (s .objects)) (focus top e)) l′ (I .each (j .0) (q .thread) (j .2) .good) in
       let n : q .number < 8 = omega (arith, j .1) in
-      record { thread-below = three; object-below = five o (placed g s p t K I ht (Redex.join o) he .1); field-below = omega arith; value-below = five v w; columns = le-ltb 7 (q .number) (omega arith) }
+      record {
+        thread-below = three;
+        object-below = five o (placed g s p t K I ht (Redex.join o) he .1);
+        field-below = omega arith;
+        value-below =
+            five v w;
+        columns = le-ltb 7 (q .number) (omega arith);
+      }
   tidy (E-RE-ENTER h) he l = tt
-  tidy (E-ACQUIRE {o} {u} {W} {e} h n) he l = record { thread-below = three; object-below = five o (placed g s p t K I ht (Redex.synch o e) he .1 .0); field-below = omega arith; value-below = omega arith; columns = refl }
-  tidy (E-RELEASE {o} {v} h) he l = record { thread-below = three; object-below = five o (placed g s p t K I ht (Redex.hold o v) he .1 .0); field-below = omega arith; value-below = omega arith; columns = refl }
-  tidy (E-WAIT {o} h) he l = record { thread-below = three; object-below = five o (placed g s p t K I ht (Redex.signal Signal.wait o) he .1); field-below = omega arith; value-below = omega arith; columns = refl }
-  tidy (E-WAKE {o} z h n) he l = record { thread-below = three; object-below = five o (placed g s p t K I ht (Redex.waiting o) he .1); field-below = omega arith; value-below = omega arith; columns = refl }
+  tidy (E-ACQUIRE {o} {u} {W} {e} h n) he l =
+      record {
+        thread-below = three;
+        object-below = five o (placed g s p t K I ht (Redex.synch o e) he .1 .0);
+        field-below = omega arith;
+        value-below =
+            omega arith;
+        columns = refl;
+      }
+  tidy (E-RELEASE {o} {v} h) he l =
+      record {
+        thread-below = three;
+        object-below = five o (placed g s p t K I ht (Redex.hold o v) he .1 .0);
+        field-below = omega arith;
+        value-below =
+            omega arith;
+        columns = refl;
+      }
+  tidy (E-WAIT {o} h) he l = record {
+    thread-below = three;
+    object-below = five o (placed g s p t K I ht (Redex.signal Signal.wait o) he .1);
+    field-below =
+        omega arith;
+    value-below = omega arith;
+    columns = refl;
+  }
+  tidy (E-WAKE {o} z h n) he l =
+      record {
+        thread-below = three;
+        object-below = five o (placed g s p t K I ht (Redex.waiting o) he .1);
+        field-below = omega arith;
+        value-below =
+            omega arith;
+        columns = refl;
+      }
   tidy (E-NOTIFY h) he l = tt
   tidy (E-NOTIFYALL h) he l = tt
 
@@ -161,7 +223,8 @@ module _ (g : Program) (s : State) (I : Inv g s) (z : Roomy s) (p : ℕ) (t : Th
       record { thread-below = three; object-below = five o (q .2); field-below = q .1; value-below = five x (q .3); columns = nonzero f (q .0) }
 
 -- a pick's move
-pub tidy-move : (g : Program) (s : State) → Inv g s → Roomy s → (p : ℕ) {R : Rule} {r : Option Record} {s′ : State} → Moves g s p R r s′ → noRoomFor R s p s′ ≡ none → Roomy s′ × TidyOr r
+pub tidy-move : (g : Program) (s : State) → Inv g s → Roomy s → (p : ℕ) {R : Rule} {r : Option Record} {s′ : State} → Moves g s p R r s′
+    → noRoomFor R s p s′ ≡ none → Roomy s′ × TidyOr r
 unfolding noRoomFor
 tidy-move g s I z p (EVAL K {t} {e} {e′} {R} {r} {s′} ht he c) l =
     let b = both-none (noRoomBefore s R) (noRoomAfter s p (become s′ p (plug K e′))) l .0 in
@@ -201,4 +264,5 @@ tidy-execution g P I z (moves {s} {p = p} {r = r} {e = e} h k x) =
 -- every run's records are tidy, and there are no more of them than picks
 pub tidy-play : (g : Program) → WellFormedProgram g → (ps : List ℕ) → TidyRun ps (play g ps)
 unfolding start
-tidy-play g P ps = tidy-execution g P (reachable-start g P) (record { threads8 = omega arith; objects32 = omega arith; keys256 = omega arith }) (play-executes g P ps)
+tidy-play g P ps = tidy-execution g P (reachable-start g P) (record { threads8 = omega arith; objects32 = omega arith; keys256 = omega arith })
+    (play-executes g P ps)

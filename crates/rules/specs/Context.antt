@@ -197,7 +197,8 @@ unfoldable mutual
   focus K (Expression.variable x) = here K (variable x)
   focus K (Expression.new fs) = here K (new fs)
   focus K (Expression.read e f) = onLiteral (asLiteral e) (λ o. here K (read o f)) (focus (read K f) e)
-  focus K (Expression.write e f e′) = onLiteral (asLiteral e) (λ o. onLiteral (asLiteral e′) (λ v. here K (write o f v)) (focus (write₂ K o f) e′)) (focus (write₁ K f e′) e)
+  focus K (Expression.write e f e′) =
+      onLiteral (asLiteral e) (λ o. onLiteral (asLiteral e′) (λ v. here K (write o f v)) (focus (write₂ K o f) e′)) (focus (write₁ K f e′) e)
   focus K (Expression.letIn x e e′) = onLiteral (asLiteral e) (λ o. here K (letIn x o e′)) (focus (letIn K x e′) e)
   focus K (Expression.if c e e′) = onBool (asBool c) (λ b. here K (if b e e′)) (focusᶜ (if K e e′) c)
   focus K (Expression.while c e) = here K (while c e)
@@ -213,7 +214,8 @@ unfoldable mutual
   focusᶜ K Condition.truth = value 0  -- never asked, as in `onNot`
   focusᶜ K (Condition.not c) = onBool (asBool c) (λ b. onNot K b) (focusᶜ (not K) c)
   focusᶜ K (Condition.and c c′) = onBool (asBool c) (λ b. hereᶜ K (and b c′)) (focusᶜ (and K c′) c)
-  focusᶜ K (Condition.equal e e′) = onLiteral (asLiteral e) (λ o. onLiteral (asLiteral e′) (λ o′. hereᶜ K (equal o o′)) (focus (equal₂ K o) e′)) (focus (equal₁ K e′) e)
+  focusᶜ K (Condition.equal e e′) =
+      onLiteral (asLiteral e) (λ o. onLiteral (asLiteral e′) (λ o′. hereᶜ K (equal o o′)) (focus (equal₂ K o) e′)) (focus (equal₁ K e′) e)
 
   -- the arguments that are left of a call of m, whose earlier ones are the values os
   pub focusᵃ : Context → ℕ → List ℕ → Arguments → Focus

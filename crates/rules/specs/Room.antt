@@ -11,8 +11,10 @@ use Rattle.packed.specs.Syntax.{Signal, Expression, Program, literal}
 use Rattle.records.specs.Record.{Record}
 use Rattle.rules.specs.Context.{Context, top, plug, focus, depthOf}
 use Rattle.rules.specs.State.{cell, Thread, State, Numbered, lookup, monitor, threadOf}
-use Rattle.rules.specs.Rules.{Rule, e-call, e-let, e-if, e-while, e-notnottrue, e-andtrue, e-andfalse, e-equaltrue, e-equalfalse, e-new, e-read, e-write, e-readv, e-writev, e-fork, e-join, e-re-enter, e-acquire, e-release, e-wait, e-wake, e-notify, e-notifyall}
-use Rattle.rules.specs.Step.{forMonitor, forJoin, forNotify, missingField, notThread, notHeld, Move, Attempt, absent, finished, waiting, stuck, lacking, moves, attempt}
+use Rattle.rules.specs.Rules.{Rule, e-call, e-let, e-if, e-while, e-notnottrue, e-andtrue, e-andfalse, e-equaltrue, e-equalfalse, e-new, e-read}
+use Rattle.rules.specs.Rules.{e-write, e-readv, e-writev, e-fork, e-join, e-re-enter, e-acquire, e-release, e-wait, e-wake, e-notify, e-notifyall}
+use Rattle.rules.specs.Step.{forMonitor, forJoin, forNotify, missingField, notThread, notHeld, Move, Attempt, absent, finished, waiting, stuck, lacking}
+use Rattle.rules.specs.Step.{moves, attempt}
 
 -- ---- passing over, as a relation
 

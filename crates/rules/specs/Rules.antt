@@ -12,7 +12,8 @@ use Rattle.packed.specs.Syntax.{Signal, Expression, Condition, Procedure, Progr
 use Rattle.packed.specs.Format.{maskBit}
 use Rattle.records.specs.Record.{Kind, Record, entry}
 use Rattle.rules.specs.Context.{Context, Contextᶜ, plug, plugᶜ, literals}
-use Rattle.rules.specs.State.{cell, Thread, State, Numbered, freshObject, lookup, monitor, store, storeMonitor, addObject, learn, hear, become, addThread, forked, useKey, enqueue, signalled, threadOf}
+use Rattle.rules.specs.State.{cell, Thread, State, Numbered, freshObject, lookup, monitor, store, storeMonitor, addObject, learn, hear, become}
+use Rattle.rules.specs.State.{addThread, forked, useKey, enqueue, signalled, threadOf}
 
 -- the rules' names
 pub data Rule : Type 0 where

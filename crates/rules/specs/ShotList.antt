@@ -141,13 +141,17 @@ shots =
     record {
       plan = planP;
       picks = 0 ∷ 0 ∷ 0 ∷ 0 ∷ 0 ∷ 1 ∷ 0 ∷ [];
-      expected = ran (outcome race 6 6 4 (lacking 1 1 ∷ finished 0 ∷ absent ∷ absent ∷ absent ∷ absent ∷ absent ∷ absent ∷ [])) (entry new 0 1 0 0 ∷ entry fork 0 2 1 0 ∷ entry write 1 1 1 0 ∷ entry lacksRead 0 1 1 0 ∷ []) (0x10 ∷ 0x10 ∷ 0x00 ∷ 0x80 ∷ 0x20 ∷ 0x80 ∷ 0x32 ∷ 0x10 ∷ 0x80 ∷ 0xa0 ∷ 0x10 ∷ 0x80 ∷ []);
+      expected = ran (outcome race 6 6 4 (lacking 1 1 ∷ finished 0 ∷ absent ∷ absent ∷ absent ∷ absent ∷ absent ∷ absent ∷ []))
+          (entry new 0 1 0 0 ∷ entry fork 0 2 1 0 ∷ entry write 1 1 1 0 ∷ entry lacksRead 0 1 1 0 ∷ [])
+          (0x10 ∷ 0x10 ∷ 0x00 ∷ 0x80 ∷ 0x20 ∷ 0x80 ∷ 0x32 ∷ 0x10 ∷ 0x80 ∷ 0xa0 ∷ 0x10 ∷ 0x80 ∷ []);
     }
     -- "* P with 0 0 0 0 0 0 1: end 7 7 4"
     ∷ record {
       plan = planP;
       picks = 0 ∷ 0 ∷ 0 ∷ 0 ∷ 0 ∷ 0 ∷ 1 ∷ [];
-      expected = ran (outcome end 7 7 4 (finished 0 ∷ finished 0 ∷ absent ∷ absent ∷ absent ∷ absent ∷ absent ∷ absent ∷ [])) (entry new 0 1 0 0 ∷ entry fork 0 2 1 0 ∷ entry read 0 1 1 0 ∷ entry write 1 1 1 0 ∷ []) (0x10 ∷ 0x10 ∷ 0x00 ∷ 0x80 ∷ 0x20 ∷ 0x80 ∷ 0x20 ∷ 0x10 ∷ 0x80 ∷ 0x32 ∷ 0x10 ∷ 0x80 ∷ []);
+      expected = ran (outcome end 7 7 4 (finished 0 ∷ finished 0 ∷ absent ∷ absent ∷ absent ∷ absent ∷ absent ∷ absent ∷ []))
+          (entry new 0 1 0 0 ∷ entry fork 0 2 1 0 ∷ entry read 0 1 1 0 ∷ entry write 1 1 1 0 ∷ [])
+          (0x10 ∷ 0x10 ∷ 0x00 ∷ 0x80 ∷ 0x20 ∷ 0x80 ∷ 0x20 ∷ 0x10 ∷ 0x80 ∷ 0x32 ∷ 0x10 ∷ 0x80 ∷ []);
     }
     -- "* P cut to 54 bytes: 1."
     ∷ record {
@@ -165,7 +169,8 @@ shots =
     ∷ record {
       plan = newOfEight;
       picks = 0 ∷ 0 ∷ [];
-      expected = ran (outcome end 2 2 1 (finished 1 ∷ absent ∷ absent ∷ absent ∷ absent ∷ absent ∷ absent ∷ absent ∷ [])) (entry new 0 1 0 0 ∷ []) (0x10 ∷ 0x10 ∷ 0x00 ∷ []);
+      expected = ran (outcome end 2 2 1 (finished 1 ∷ absent ∷ absent ∷ absent ∷ absent ∷ absent ∷ absent ∷ absent ∷ [])) (entry new 0 1 0 0 ∷ [])
+          (0x10 ∷ 0x10 ∷ 0x00 ∷ []);
     }
     -- "* of nine: 4."
     ∷ record {
@@ -189,13 +194,15 @@ shots =
     ∷ record {
       plan = synchNull;
       picks = 0 ∷ 0 ∷ 0 ∷ 0 ∷ [];
-      expected = ran (outcome end 4 3 2 (finished 0 ∷ absent ∷ absent ∷ absent ∷ absent ∷ absent ∷ absent ∷ absent ∷ [])) (entry acquire 0 0 0 0 ∷ entry release 0 0 0 0 ∷ []) (0x60 ∷ 0x00 ∷ 0x00 ∷ 0x70 ∷ 0x00 ∷ 0x00 ∷ []);
+      expected = ran (outcome end 4 3 2 (finished 0 ∷ absent ∷ absent ∷ absent ∷ absent ∷ absent ∷ absent ∷ absent ∷ []))
+          (entry acquire 0 0 0 0 ∷ entry release 0 0 0 0 ∷ []) (0x60 ∷ 0x00 ∷ 0x00 ∷ 0x70 ∷ 0x00 ∷ 0x00 ∷ []);
     }
     -- "* A second synch on null inside: four moves, two records."
     ∷ record {
       plan = synchTwice;
       picks = 0 ∷ 0 ∷ 0 ∷ 0 ∷ 0 ∷ [];
-      expected = ran (outcome end 5 4 2 (finished 0 ∷ absent ∷ absent ∷ absent ∷ absent ∷ absent ∷ absent ∷ absent ∷ [])) (entry acquire 0 0 0 0 ∷ entry release 0 0 0 0 ∷ []) (0x60 ∷ 0x00 ∷ 0x00 ∷ 0x70 ∷ 0x00 ∷ 0x00 ∷ []);
+      expected = ran (outcome end 5 4 2 (finished 0 ∷ absent ∷ absent ∷ absent ∷ absent ∷ absent ∷ absent ∷ absent ∷ []))
+          (entry acquire 0 0 0 0 ∷ entry release 0 0 0 0 ∷ []) (0x60 ∷ 0x00 ∷ 0x00 ∷ 0x70 ∷ 0x00 ∷ 0x00 ∷ []);
     }
     -- "* `join null` in main, 0 0 0: one move, waiting."
     ∷ record {
@@ -207,6 +214,7 @@ shots =
     ∷ record {
       plan = joinFork;
       picks = 0 ∷ 0 ∷ 0 ∷ [];
-      expected = ran (outcome end 3 3 2 (finished 0 ∷ finished 0 ∷ absent ∷ absent ∷ absent ∷ absent ∷ absent ∷ absent ∷ [])) (entry fork 0 1 1 0 ∷ entry join 0 1 1 0 ∷ []) (0x80 ∷ 0x10 ∷ 0x80 ∷ 0x90 ∷ 0x10 ∷ 0x80 ∷ []);
+      expected = ran (outcome end 3 3 2 (finished 0 ∷ finished 0 ∷ absent ∷ absent ∷ absent ∷ absent ∷ absent ∷ absent ∷ []))
+          (entry fork 0 1 1 0 ∷ entry join 0 1 1 0 ∷ []) (0x80 ∷ 0x10 ∷ 0x80 ∷ 0x90 ∷ 0x10 ∷ 0x80 ∷ []);
     }
     ∷ []

@@ -12,7 +12,9 @@ use Rattle.records.specs.Record.{Record}
 use Rattle.rules.specs.Context.{Context, plug}
 use Rattle.rules.specs.Queue.{Place, queueLength}
 use Rattle.rules.specs.State.{Thread, State, placesOf, start}
-use Rattle.rules.specs.Rules.{Rule, e-call, e-let, e-if, e-while, e-notnottrue, e-andtrue, e-andfalse, e-equaltrue, e-equalfalse, e-new, e-read, e-write, e-readv, e-writev, e-fork, e-join, e-re-enter, e-acquire, e-release, e-wait, e-wake, e-notify, e-notifyall, Moves}
+use Rattle.rules.specs.Rules.{Rule, e-call, e-let, e-if, e-while, e-notnottrue, e-andtrue, e-andfalse, e-equaltrue, e-equalfalse, e-new, e-read}
+use Rattle.rules.specs.Rules.{e-write, e-readv, e-writev, e-fork, e-join, e-re-enter, e-acquire, e-release, e-wait, e-wake, e-notify, e-notifyall}
+use Rattle.rules.specs.Rules.{Moves}
 use Rattle.rules.specs.Step.{Attempt, forMonitor, forNotify}
 use Rattle.rules.specs.Room.{PassedOver}
 use Rattle.rules.specs.Run.{Run}

@@ -81,7 +81,12 @@ unfolding digitalsFrom behind
 digitals-length o zero L = refl
 digitals-length o (suc n) L =
     let l = digital-below o L in
-    omega (arith, digitals-length (suc o) n L, one-length (digital o L) (omega arith), length-append (44 ∷ decimal (digital o L)) (behind (digitalsFrom (suc o) n L)))
+    omega (
+      arith,
+      digitals-length (suc o) n L,
+      one-length (digital o L) (omega arith),
+      length-append (44 ∷ decimal (digital o L)) (behind (digitalsFrom (suc o) n L)),
+    )
 
 comma-length : (w v : List ℕ) (ws : List (List ℕ)) → length (commaLine (w ∷ v ∷ ws)) ≡ length w + length v + length (behind ws) + 3
 unfolding behind
@@ -109,7 +114,8 @@ module _ (b : ℕ) (L : List Record) (S : Shown b L) where
   digitals-are (suc n) h =
       ap behind (digitals-more 0 n L)
       ∙ behind-append (digitalsFrom 0 n L) (decimal (digital (0 + n) L) ∷ [])
-      ∙ ap₂ (λ (x y : List ℕ). x ++ y) (digitals-are n (omega arith)) (append-nil (44 ∷ decimal (digital (0 + n) L)) ∙ ap (λ (k : ℕ). 44 ∷ decimal (digital k L)) (zero-add n) ∙ ap (λ (l : List ℕ). 44 ∷ l) (digit-is n h))
+      ∙ ap₂ (λ (x y : List ℕ). x ++ y) (digitals-are n (omega arith)) (append-nil (44 ∷ decimal (digital (0 + n) L))
+      ∙ ap (λ (k : ℕ). 44 ∷ decimal (digital k L)) (zero-add n) ∙ ap (λ (l : List ℕ). 44 ∷ l) (digit-is n h))
 
 pub line-is : (L : List Record) (n b : ℕ) → Shown b (take n L) → lineOf n b ≡ sampleLine L n
 unfolding lineOf sampleLine behind

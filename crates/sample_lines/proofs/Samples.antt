@@ -34,7 +34,8 @@ samples =
     ∷ [])
     -- taken, freed, taken by two, freed where nobody has it, and records of other kinds
     ∷ sample
-    (entry acquire 0 1 0 0 ∷ entry acquire 1 31 0 0 ∷ entry read 0 1 1 0 ∷ entry release 0 1 0 0 ∷ entry fork 0 2 1 0 ∷ entry release 1 31 0 0 ∷ entry acquire 2 1 0 0 ∷ entry acquire 3 1 0 0 ∷ entry release 2 5 0 0 ∷ entry acquire 0 0 0 0 ∷ entry lacksRead 1 1 3 0 ∷ [])
+    (entry acquire 0 1 0 0 ∷ entry acquire 1 31 0 0 ∷ entry read 0 1 1 0 ∷ entry release 0 1 0 0 ∷ entry fork 0 2 1 0 ∷ entry release 1 31 0 0
+    ∷ entry acquire 2 1 0 0 ∷ entry acquire 3 1 0 0 ∷ entry release 2 5 0 0 ∷ entry acquire 0 0 0 0 ∷ entry lacksRead 1 1 3 0 ∷ [])
     ("1,0,0,1,0,0,0,0,0,0,0,0,0,0,0,0,0,0,0,0,0,0,0,0,0,0,0,0,0,0,0,0,0,0"
     ∷ "2,1000,0,1,0,0,0,0,0,0,0,0,0,0,0,0,0,0,0,0,0,0,0,0,0,0,0,0,0,0,0,0,0,1"
     ∷ "3,2000,0,1,0,0,0,0,0,0,0,0,0,0,0,0,0,0,0,0,0,0,0,0,0,0,0,0,0,0,0,0,0,1"

@@ -25,7 +25,8 @@ bit-below b o = mod-lt (b / 2 ^ o) (zero-lt-suc 1)
 or-bit : (a b o : ℕ) → bitOf (bitOr a b) o ≡ max (bitOf a o) (bitOf b o)
 or-bit a b o =
     ap (λ (n : ℕ). n % 2) (or-shr a b o)
-    ∙ (let x = bit-below a o in let y = bit-below b o in let e : bitOr (a / 2 ^ o) (b / 2 ^ o) % 2 ≡ max (bitOf a o) (bitOf b o) = omega (arith, or-step (a / 2 ^ o) (b / 2 ^ o)) in e)
+    ∙ (let x = bit-below a o in let y = bit-below b o in let e : bitOr (a / 2 ^ o) (b / 2 ^ o) % 2 ≡ max (bitOf a o) (bitOf b o) =
+    omega (arith, or-step (a / 2 ^ o) (b / 2 ^ o)) in e)
 
 differ-below : (x y : ℕ) → x < 2 → y < 2 → differ x y < 2
 differ-below zero y p q = q
@@ -36,7 +37,8 @@ differ-below (suc (suc x)) y p q = absurd (omega arith)
 xor-bit : (a b o : ℕ) → bitOf (bitXor a b) o ≡ differ (bitOf a o) (bitOf b o)
 xor-bit a b o =
     ap (λ (n : ℕ). n % 2) (xor-shr a b o)
-    ∙ (let d = differ-below (bitOf a o) (bitOf b o) (bit-below a o) (bit-below b o) in let e : bitXor (a / 2 ^ o) (b / 2 ^ o) % 2 ≡ differ (bitOf a o) (bitOf b o) = omega (arith, xor-step (a / 2 ^ o) (b / 2 ^ o)) in e)
+    ∙ (let d = differ-below (bitOf a o) (bitOf b o) (bit-below a o) (bit-below b o) in
+    let e : bitXor (a / 2 ^ o) (b / 2 ^ o) % 2 ≡ differ (bitOf a o) (bitOf b o) = omega (arith, xor-step (a / 2 ^ o) (b / 2 ^ o)) in e)
 
 own-bit : (o : ℕ) → bitOf (2 ^ o) o ≡ 1
 unfolding holds

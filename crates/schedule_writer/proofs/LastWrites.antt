@@ -45,8 +45,10 @@ module _ {b : List ℕ} {j i : ℕ} {a c : Columns} (A : ReadAt b j a) (R : Read
           let x : some w ≡ some (recordAt b i) = sym there ∙ ap (getElem? (logOf b)) e ∙ here in
           let y : w ≡ recordAt b i = cc in
           let k : eqb (c .kind) 3 ≡ true = write-here R ∙ ap (λ (z : Record). isWrite (z .kind)) (sym y) ∙ ap isWrite (writes .is-write) in
-          let o : eqb (c .object) (a .object) ≡ true = eq-eqb (c .object) (a .object) (R .object-is ∙ ap (λ (z : Record). z .object) (sym y) ∙ writes .same-object ∙ sym (A .object-is)) in
-          let f : eqb (c .field) (a .field) ≡ true = eq-eqb (c .field) (a .field) (R .field-is ∙ ap (λ (z : Record). z .field) (sym y) ∙ writes .same-field ∙ sym (A .field-is)) in
+          let o : eqb (c .object) (a .object) ≡ true =
+          eq-eqb (c .object) (a .object) (R .object-is ∙ ap (λ (z : Record). z .object) (sym y) ∙ writes .same-object ∙ sym (A .object-is)) in
+          let f : eqb (c .field) (a .field) ≡ true =
+          eq-eqb (c .field) (a .field) (R .field-is ∙ ap (λ (z : Record). z .field) (sym y) ∙ writes .same-field ∙ sym (A .field-is)) in
           absurd (true≢false (rw (k, o, f) at t))
 
   -- or it is the last

@@ -56,7 +56,8 @@ writing-start b kept before = record {
     first true = refl
     first false = refl
 
-pub writing-end : (b : List ℕ) (kept : List Bool) (before numbers : List ℕ) (next at index : ℕ) (area : List ℕ) → Writing b kept before numbers next at index area → length b / 3 ≤ index
+pub writing-end : (b : List ℕ) (kept : List Bool) (before numbers : List ℕ) (next at index : ℕ) (area : List ℕ)
+    → Writing b kept before numbers next at index area → length b / 3 ≤ index
     → area ≡ overwrite (picksIn b kept) before
 unfolding picksFrom recordCount
 writing-end b kept before numbers next at index area W h =
@@ -64,7 +65,8 @@ writing-end b kept before numbers next at index area W h =
     W .area-is ∙ ap (λ (l : List ℕ). overwrite l before)
     (sym (append-nil (W .done)) ∙ ap (λ (L : List Record). W .done ++ picksFrom (flagged kept) index (W .names) next L) (sym e) ∙ W .rest)
 
-module _ {b : List ℕ} {kept : List Bool} {before numbers : List ℕ} {next at index : ℕ} {area : List ℕ} (W : Writing b kept before numbers next at index area) (inside : index < length b / 3) where
+module _ {b : List ℕ} {kept : List Bool} {before numbers : List ℕ} {next at index : ℕ} {area : List ℕ} (W : Writing b kept before numbers next at index area)
+    (inside : index < length b / 3) where
   abbrev r : Record
   r = recordAt b index
 
@@ -79,13 +81,15 @@ module _ {b : List ℕ} {kept : List Bool} {before numbers : List ℕ} {next at 
 
   -- the picks of the rest, by whether this move is kept
   rest-by : (x : Bool) → flagged kept index ≡ x
-      → W .done ++ cond x (orZero (W .names (r .thread)) ∷ picksFrom (flagged kept) (suc index) (numbersAfter r (W .names) next) (nextAfter r next) (drop (suc index) (logOf b)))
+      → W .done ++ cond x (orZero (W .names (r .thread)) ∷ picksFrom (flagged kept) (suc index) (numbersAfter r (W .names) next) (nextAfter r next)
+      (drop (suc index) (logOf b)))
       (picksFrom (flagged kept) (suc index) (W .names) next (drop (suc index) (logOf b)))
       ≡ picksIn b kept
   unfolding picksFrom
   rest-by x e =
       ap (λ (y : Bool).
-      W .done ++ cond y (orZero (W .names (r .thread)) ∷ picksFrom (flagged kept) (suc index) (numbersAfter r (W .names) next) (nextAfter r next) (drop (suc index) (logOf b)))
+      W .done ++ cond y (orZero (W .names (r .thread)) ∷ picksFrom (flagged kept) (suc index) (numbersAfter r (W .names) next) (nextAfter r next)
+      (drop (suc index) (logOf b)))
       (picksFrom (flagged kept) (suc index) (W .names) next (drop (suc index) (logOf b)))) (sym e)
       ∙ ap (λ (L : List Record). W .done ++ picksFrom (flagged kept) index (W .names) next L) (sym one-more) ∙ W .rest
 
@@ -105,7 +109,8 @@ module _ {b : List ℕ} {kept : List Bool} {before numbers : List ℕ} {next at 
   }
 
   -- it is
-  module _ {c : Columns} (R : ReadAt b index c) (e : flagged kept index ≡ true) (room : length (picksIn b kept) ≤ length before) (small : Small (picksIn b kept)) where
+  module _ {c : Columns} (R : ReadAt b index c) (e : flagged kept index ≡ true) (room : length (picksIn b kept) ≤ length before)
+      (small : Small (picksIn b kept)) where
     abbrev x : ℕ
     x = orZero (W .names (r .thread))
 
@@ -119,7 +124,8 @@ module _ {b : List ℕ} {kept : List Bool} {before numbers : List ℕ} {next at 
     fits = let n : length (W .done ++ (x ∷ later)) ≡ length (picksIn b kept) = ap length all in omega (arith, n, length-append (W .done) (x ∷ later), room)
 
     pub at-below : at < length area
-    at-below = let n : length area ≡ length (overwrite (W .done) before) = ap length (W .area-is) in omega (arith, n, W .at-is, fits, overwrite-length (W .done) before (omega (arith, fits)))
+    at-below = let n : length area ≡ length (overwrite (W .done) before) =
+        ap length (W .area-is) in omega (arith, n, W .at-is, fits, overwrite-length (W .done) before (omega (arith, fits)))
 
     at-front : (l : List ℕ) (y : ℕ) (k : List ℕ) → getD (l ++ (y ∷ k)) (length l) 0 ≡ y
     at-front [] y k = refl
@@ -151,7 +157,8 @@ module _ {b : List ℕ} {kept : List Bool} {before numbers : List ℕ} {next at 
     longer a q = omega (arith, W .at-is, length-append (W .done) (x ∷ []))
 
     -- and makes no thread
-    pub writing-pick : (i a : ℕ) → i ≡ suc index → a ≡ suc at → eqb (c .kind) 8 ≡ false → Writing b kept before numbers next a i (set area at (getD numbers (c .thread) 0 % 8))
+    pub writing-pick : (i a : ℕ) → i ≡ suc index → a ≡ suc at → eqb (c .kind) 8 ≡ false
+        → Writing b kept before numbers next a i (set area at (getD numbers (c .thread) 0 % 8))
     writing-pick i a q qa k =
         let f : isFork (r .kind) ≡ false = sym (fork-here R) ∙ k in
         record {
@@ -165,7 +172,8 @@ module _ {b : List ℕ} {kept : List Bool} {before numbers : List ℕ} {next at 
           at-is = longer a qa;
           area-is = area-next;
           rest = ap (λ (n : ℕ). (W .done ++ (x ∷ [])) ++ picksFrom (flagged kept) n (W .names) next (drop n (logOf b))) q
-              ∙ next-done (W .names) next (ap (λ (y : Bool). cond y (numbered (W .names) (r .field) next) (W .names)) f) (ap (λ (y : Bool). cond y (suc next) next) f);
+              ∙ next-done (W .names) next (ap (λ (y : Bool). cond y (numbered (W .names) (r .field) next) (W .names)) f)
+              (ap (λ (y : Bool). cond y (suc next) next) f);
         }
 
     -- or makes the next one
@@ -184,7 +192,8 @@ module _ {b : List ℕ} {kept : List Bool} {before numbers : List ℕ} {next at 
           at-is = longer a qa;
           area-is = area-next;
           rest = ap₂ (λ (m o : ℕ). (W .done ++ (x ∷ [])) ++ picksFrom (flagged kept) m (numbered (W .names) (r .field) next) o (drop m (logOf b))) q qn
-              ∙ next-done (numbered (W .names) (r .field) next) (suc next) (ap (λ (y : Bool). cond y (numbered (W .names) (r .field) next) (W .names)) f) (ap (λ (y : Bool). cond y (suc next) next) f);
+              ∙ next-done (numbered (W .names) (r .field) next) (suc next) (ap (λ (y : Bool). cond y (numbered (W .names) (r .field) next) (W .names)) f)
+              (ap (λ (y : Bool). cond y (suc next) next) f);
         }
       where
         field-below : c .field < 32
@@ -192,13 +201,16 @@ module _ {b : List ℕ} {kept : List Bool} {before numbers : List ℕ} {next at 
 
         shown : (p : ℕ) → p < 32 → Dec (r .field ≡ p) → getD (set numbers (c .field) next) p 0 ≡ orZero (numbered (W .names) (r .field) next p)
         shown p h (yes d) =
-            ap (λ (m : ℕ). getD (set numbers (c .field) next) m 0) (sym (R .field-is ∙ d)) ∙ getD-set-same numbers (c .field) next 0 (omega (arith, W .numbers-long, field-below))
+            ap (λ (m : ℕ). getD (set numbers (c .field) next) m 0) (sym (R .field-is ∙ d))
+            ∙ getD-set-same numbers (c .field) next 0 (omega (arith, W .numbers-long, field-below))
             ∙ sym (ap (λ (y : Bool). orZero (cond y (some next) (W .names p))) (eq-eqb (r .field) p d))
         shown p h (no d) =
             getD-set-other numbers (c .field) p next 0 (λ z. d (sym (R .field-is) ∙ sym z)) ∙ W .shows p h
             ∙ sym (ap (λ (y : Bool). orZero (cond y (some next) (W .names p))) (ne-eqb (r .field) p d))
 
 -- the same by other names
-pub writing-as : {b : List ℕ} {kept : List Bool} {before numbers numbers′ : List ℕ} {next next′ at at′ index : ℕ} {area area′ : List ℕ} → area′ ≡ area → numbers′ ≡ numbers → next′ ≡ next → at′ ≡ at
-    → Writing b kept before numbers next at index area × (length area ≡ length before) → Writing b kept before numbers′ next′ at′ index area′ × (length area′ ≡ length before)
+pub writing-as : {b : List ℕ} {kept : List Bool} {before numbers numbers′ : List ℕ} {next next′ at at′ index : ℕ} {area area′ : List ℕ} → area′ ≡ area
+    → numbers′ ≡ numbers → next′ ≡ next → at′ ≡ at
+    → Writing b kept before numbers next at index area × (length area ≡ length before)
+    → Writing b kept before numbers′ next′ at′ index area′ × (length area′ ≡ length before)
 writing-as ea en ex et W = rw (ea, en, ex, et) W

@@ -60,7 +60,8 @@ module _ {b : List ℕ} (R : RacedIn b) (failing : ℕ) (end : suc failing ≡ l
             (along (λ (z : Record). LastWrite (logOf b) (R .failing) (z .object) (z .field) (u .last)) same (u .is-last));
       }
 
-  module _ (last : ℕ) (is-last : IsLast b failing last) (kept : List Bool) (marks : MarkedIn b failing last kept) (beyond : SameBeyond b (replicate 4096 false) kept) where
+  module _ (last : ℕ) (is-last : IsLast b failing last) (kept : List Bool) (marks : MarkedIn b failing last kept)
+      (beyond : SameBeyond b (replicate 4096 false) kept) where
     by-chains : (k : ℕ) → T (flagged kept k) ↔ (Chain v1 (logOf b) k failing ⊎ Chain v1 (logOf b) k last)
     by-chains k = go (decLt k (length b / 3))
       where
@@ -85,10 +86,12 @@ module _ {b : List ℕ} (R : RacedIn b) (failing : ℕ) (end : suc failing ≡ l
     pub counted : (n : ℕ) → n ≡ countKept (flagged kept) 0 (length b / 3) → n ≡ length (picksIn b kept)
     counted n e = e ∙ ap (countKept (flagged kept) 0) (sym (length-log b)) ∙ sym (picks-counted (flagged kept) (logOf b))
 
-    pub writes-short : (n : ℕ) (area : List ℕ) → n ≡ countKept (flagged kept) 0 (length b / 3) → length area < n → WritesFrom b area (Answer.refused (record { number = 17; place = 0 })) area
+    pub writes-short : (n : ℕ) (area : List ℕ) → n ≡ countKept (flagged kept) 0 (length b / 3) → length area < n
+        → WritesFrom b area (Answer.refused (record { number = 17; place = 0 })) area
     writes-short n area e h = too-short its-picks (omega (arith, counted n e))
 
-    pub writes-all : (n : ℕ) (area after : List ℕ) → n ≡ countKept (flagged kept) 0 (length b / 3) → (length area < n → ⊥) → after ≡ overwrite (picksIn b kept) area → WritesFrom b area (Answer.value n) after
+    pub writes-all : (n : ℕ) (area after : List ℕ) → n ≡ countKept (flagged kept) 0 (length b / 3) → (length area < n → ⊥)
+        → after ≡ overwrite (picksIn b kept) area → WritesFrom b area (Answer.value n) after
     writes-all n area after e h q =
         along (λ (m : ℕ). WritesFrom b area (Answer.value m) after) (sym (counted n e))
         (along (WritesFrom b area (Answer.value (length (picksIn b kept)))) (sym q) (wrote its-picks (omega (arith, counted n e, h))))

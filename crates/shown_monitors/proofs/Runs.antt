@@ -88,10 +88,12 @@ module _ (g : Program) where
   first-records s ps qs = go (run g s ps .stop) refl
     where
       all : (run g s ps .stop ≡ Stop.end → ⊥) → take (length (run g s ps .log)) (run g s (ps ++ qs) .log) ≡ run g s ps .log
-      all n = ap (λ (r : Run). take (length (run g s ps .log)) (r .log)) (run-stopped g s ps qs n) ∙ take-all (length (run g s ps .log)) (run g s ps .log) (omega arith)
+      all n = ap (λ (r : Run). take (length (run g s ps .log)) (r .log)) (run-stopped g s ps qs n)
+          ∙ take-all (length (run g s ps .log)) (run g s ps .log) (omega arith)
 
       go : (e : Stop) → run g s ps .stop ≡ e → take (length (run g s ps .log)) (run g s (ps ++ qs) .log) ≡ run g s ps .log
-      go Stop.end e = ap (λ (r : Run). take (length (run g s ps .log)) (r .log)) (run-append g s ps qs e) ∙ take-append-seam (run g s ps .log) (run g (run g s ps .final) qs .log)
+      go Stop.end e = ap (λ (r : Run). take (length (run g s ps .log)) (r .log)) (run-append g s ps qs e)
+          ∙ take-append-seam (run g s ps .log) (run g (run g s ps .final) qs .log)
       go Stop.race e = all (λ q. true≢false cc)
       go (Stop.noRoom k) e = all (λ q. true≢false cc)
 
@@ -142,13 +144,15 @@ module _ (g : Program) (P : WellFormedProgram g) where
       let x = written-after g start ps n h in (
         x .0,
         x .1,
-        subst (λ (rs : List ℕ). (digital o (take n (play g rs .log)) ≡ 1) ↔ Held (play g (take (x .0) ps) .final) o) (take-append-drop (x .0) ps) (line-shown (take (x .0) ps) (drop (x .0) ps) n o (x .1)),
+        subst (λ (rs : List ℕ). (digital o (take n (play g rs .log)) ≡ 1) ↔ Held (play g (take (x .0) ps) .final) o) (take-append-drop (x .0) ps)
+            (line-shown (take (x .0) ps) (drop (x .0) ps) n o (x .1)),
       )
 
 -- of plans that pass the check
 module _ (plan : List ℕ) (e : refusal plan ≡ none) where
   -- at line n of a run's log digital value o is 1 exactly when some thread holds the monitor of object o after any first picks that write n records
-  pub monitors-shown : (ps qs : List ℕ) (n o : ℕ) → length (runOf plan ps .log) ≡ n → (digital o (take n (runOf plan (ps ++ qs) .log)) ≡ 1) ↔ Held (runOf plan ps .final) o
+  pub monitors-shown : (ps qs : List ℕ) (n o : ℕ) → length (runOf plan ps .log) ≡ n
+      → (digital o (take n (runOf plan (ps ++ qs) .log)) ≡ 1) ↔ Held (runOf plan ps .final) o
   unfolding runOf
   monitors-shown = line-shown (programOf plan) (well-formed plan e)
 

@@ -55,7 +55,8 @@ module _ (g : Program) (s : State) (I : Reachable g s) (p q : ℕ) (C : Conflict
   unmoved : getElem? (s₁ .threads) q ≡ some u
   unfolding become gain store useKey
   unmoved =
-      change-other (learn (store (useKey s) o f new) p (singleton (s .nextKey)) .threads) p _ q (C .two) ∙ change-other (s .threads) p _ q (C .two) ∙ C .about-access .there
+      change-other (learn (store (useKey s) o f new) p (singleton (s .nextKey)) .threads) p _ q (C .two) ∙ change-other (s .threads) p _ q (C .two)
+      ∙ C .about-access .there
 
   cell-now : lookup s₁ o f ≡ some new
   unfolding become gain lookup useKey
@@ -78,7 +79,8 @@ module _ (g : Program) (s : State) (I : Reachable g s) (p q : ℕ) (C : Conflict
   second-act y reads = (entry Kind.lacksRead q o f 0, rw (cell-now, C .plain, lacks-it))
   second-act y (writes {v}) = (entry Kind.lacksWrite q o f v, rw (cell-now, C .plain, lacks-it))
 
-  pub conflicts : HasRoom g s p → ((r : Record) × (step g s p ≡ Answer.race r)) ⊎ ((m : Move) × (r : Record) × (step g s p ≡ Answer.moved m) × (step g (m .state) q ≡ Answer.race r))
+  pub conflicts : HasRoom g s p
+      → ((r : Record) × (step g s p ≡ Answer.race r)) ⊎ ((m : Move) × (r : Record) × (step g s p ≡ Answer.moved m) × (step g (m .state) q ≡ Answer.race r))
   unfolding act writeAct around step answer withinRoom about-still
   conflicts room = go (subset (C .cell .keys) (t .keys)) refl
     where
@@ -88,11 +90,14 @@ module _ (g : Program) (s : State) (I : Reachable g s) (p q : ℕ) (C : Conflict
       M : Move
       M = record { rule = Rule.e-write; entry = some (entry Kind.write p o f (C .value)); state = s₁ }
 
-      within : (k : Option Room) → noRoomFor Rule.e-write s p s₁ ≡ k → answer s p (Attempt.moves M) ≡ Answer.moved M ⊎ ((k : Room) × (answer s p (Attempt.moves M) ≡ Answer.noRoom k))
+      within : (k : Option Room) → noRoomFor Rule.e-write s p s₁ ≡ k
+          → answer s p (Attempt.moves M) ≡ Answer.moved M ⊎ ((k : Room) × (answer s p (Attempt.moves M) ≡ Answer.noRoom k))
       within none e = inl (rw e)
       within (some k) e = inr (k, rw e)
 
-      go : (b : Bool) → subset (C .cell .keys) (t .keys) ≡ b → ((r : Record) × (step g s p ≡ Answer.race r)) ⊎ ((m : Move) × (r : Record) × (step g s p ≡ Answer.moved m) × (step g (m .state) q ≡ Answer.race r))
+      go : (b : Bool) → subset (C .cell .keys) (t .keys) ≡ b
+          → ((r : Record) × (step g s p ≡ Answer.race r)) ⊎
+          ((m : Move) × (r : Record) × (step g s p ≡ Answer.moved m) × (step g (m .state) q ≡ Answer.race r))
       go false w =
           let lacking : attempt g s p ≡ Attempt.lacking (entry Kind.lacksWrite p o f (C .value)) = first ∙ rw (C .field-there, C .plain, w) in
           inl (entry Kind.lacksWrite p o f (C .value), ap (answer s p) lacking)
@@ -104,7 +109,8 @@ module _ (g : Program) (s : State) (I : Reachable g s) (p q : ℕ) (C : Conflict
           l : (r : Record) × (around s₁ q (C .about-access .around) (act g s₁ q u (C .part)) ≡ Attempt.lacking r)
           l = second-act (C .part) (C .accesses)
 
-          finish : (answer s p (Attempt.moves M) ≡ Answer.moved M) ⊎ ((k : Room) × (answer s p (Attempt.moves M) ≡ Answer.noRoom k)) → (m : Move) × (r : Record) × (step g s p ≡ Answer.moved m) × (step g (m .state) q ≡ Answer.race r)
+          finish : (answer s p (Attempt.moves M) ≡ Answer.moved M) ⊎ ((k : Room) × (answer s p (Attempt.moves M) ≡ Answer.noRoom k))
+              → (m : Move) × (r : Record) × (step g s p ≡ Answer.moved m) × (step g (m .state) q ≡ Answer.race r)
           finish (inl e) = (M, l .0, ap (answer s p) moved ∙ e, ap (answer s₁ q) (attempt-at g s₁ q (C .part) about-still ∙ l .1))
           finish (inr (k, e)) = absurd (room k (ap (answer s p) moved ∙ e))
 
@@ -113,12 +119,15 @@ module _ (g : Program) (s : State) (I : Reachable g s) (p q : ℕ) (C : Conflict
   unfolding run resume stopped afterMove
   two-picks room = go (conflicts room)
     where
-      go : ((r : Record) × (step g s p ≡ Answer.race r)) ⊎ ((m : Move) × (r : Record) × (step g s p ≡ Answer.moved m) × (step g (m .state) q ≡ Answer.race r)) → run g s (p ∷ q ∷ []) .stop ≡ Stop.race
+      go : ((r : Record) × (step g s p ≡ Answer.race r)) ⊎ ((m : Move) × (r : Record) × (step g s p ≡ Answer.moved m) × (step g (m .state) q ≡ Answer.race r))
+          → run g s (p ∷ q ∷ []) .stop ≡ Stop.race
       go (inl (r, e)) = rw e
       go (inr (m, r, e, e′)) = rw (e, e′)
 
 -- "wherever in a run not stopped two threads' next moves conflict so, the write would not stop for room and two more picks are allowed, picking the
 -- writer and then the other stops for a missing key by the second pick at the latest"
-pub conflict-races : (g : Program) → WellFormedProgram g → (ps : List ℕ) → play g ps .stop ≡ Stop.end → (p q : ℕ) → Conflict g (play g ps .final) p q → HasRoom g (play g ps .final) p → play g (ps ++ (p ∷ q ∷ [])) .stop ≡ Stop.race
+pub conflict-races : (g : Program) → WellFormedProgram g → (ps : List ℕ) → play g ps .stop ≡ Stop.end → (p q : ℕ) → Conflict g (play g ps .final) p q
+    → HasRoom g (play g ps .final) p → play g (ps ++ (p ∷ q ∷ [])) .stop ≡ Stop.race
 unfolding play
-conflict-races g P ps h p q C room = ap (λ (r : Run). r .stop) (run-append g start ps (p ∷ q ∷ []) h) ∙ two-picks g (run g start ps .final) (reachable-run g P start ps (reachable-start g P)) p q C room
+conflict-races g P ps h p q C room = ap (λ (r : Run). r .stop) (run-append g start ps (p ∷ q ∷ []) h)
+    ∙ two-picks g (run g start ps .final) (reachable-run g P start ps (reachable-start g P)) p q C room

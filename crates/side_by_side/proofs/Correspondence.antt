@@ -64,5 +64,7 @@ pub record Corresponds (g : Program) (S : Marks) (H : List Record) (ω τ κ : N
   pub names : Names ω τ κ s c
   pub mirrors : (p : ℕ) (t : Thread) → Live S H (ofThread p) → getElem? (s .threads) p ≡ some t → Mirror ω τ κ (c .threads) p t
   pub fields : (o a f : ℕ) (d : Cell) → ω o ≡ some a → lookup s o f ≡ some d → (d′ : Cell) × (lookup c a f ≡ some d′) × FieldLike g S H ω κ o f d d′
-  pub free : (o a : ℕ) (d : Cell) → ω o ≡ some a → monitor s o ≡ some d → isEmpty (d .keys) ≡ false → Live S H (ofMonitor o) → (d′ : Cell) × (monitor c a ≡ some d′) × (isEmpty (d′ .keys) ≡ false) × KeysIn κ (d .keys) (d′ .keys)
-  pub held : (o a p b : ℕ) (t : Thread) → ω o ≡ some a → getElem? (s .threads) p ≡ some t → Live S H (ofThread p) → monitor s o ≡ some (record { keys = empty; value = t .self }) → ω (t .self) ≡ some b → monitor c a ≡ some (record { keys = empty; value = b })
+  pub free : (o a : ℕ) (d : Cell) → ω o ≡ some a → monitor s o ≡ some d → isEmpty (d .keys) ≡ false → Live S H (ofMonitor o)
+      → (d′ : Cell) × (monitor c a ≡ some d′) × (isEmpty (d′ .keys) ≡ false) × KeysIn κ (d .keys) (d′ .keys)
+  pub held : (o a p b : ℕ) (t : Thread) → ω o ≡ some a → getElem? (s .threads) p ≡ some t → Live S H (ofThread p)
+      → monitor s o ≡ some (record { keys = empty; value = t .self }) → ω (t .self) ≡ some b → monitor c a ≡ some (record { keys = empty; value = b })

@@ -20,8 +20,11 @@ use Rattle.order.proofs.Ports.{Port, ofThread, Draws}
 use Rattle.order.proofs.KeySets.{put}
 use Rattle.rules.specs.Context.{plug, plugᶜ}
 use Rattle.rules.specs.Queue.{Place, awake}
-use Rattle.rules.specs.State.{Cell, Thread, State, start, fresh, freshObject, lookup, monitor, gain, become, forked, inPlace, enqueue, signalled, store, storeMonitor, addObject, addThread, useKey}
-use Rattle.rules.specs.Rules.{Rule, isVolatile, Converts, E-CALL, E-LET, E-IF, E-WHILE, E-NEW, E-READ, E-WRITE, E-READV, E-WRITEV, E-FORK, E-JOIN, E-RE-ENTER, E-ACQUIRE, E-RELEASE, E-WAIT, E-WAKE, E-NOTIFY, E-NOTIFYALL, Convertsᶜ, E-NOTNOTTRUE, E-ANDTRUE, E-ANDFALSE, E-EQUALTRUE, E-EQUALFALSE, Moves, EVAL, EVALᶜ}
+use Rattle.rules.specs.State.{Cell, Thread, State, start, fresh, freshObject, lookup, monitor, gain, become, forked, inPlace, enqueue, signalled, store}
+use Rattle.rules.specs.State.{storeMonitor, addObject, addThread, useKey}
+use Rattle.rules.specs.Rules.{Rule, isVolatile, Converts, E-CALL, E-LET, E-IF, E-WHILE, E-NEW, E-READ, E-WRITE, E-READV, E-WRITEV, E-FORK, E-JOIN, E-RE-ENTER}
+use Rattle.rules.specs.Rules.{E-ACQUIRE, E-RELEASE, E-WAIT, E-WAKE, E-NOTIFY, E-NOTIFYALL, Convertsᶜ, E-NOTNOTTRUE, E-ANDTRUE, E-ANDFALSE, E-EQUALTRUE}
+use Rattle.rules.specs.Rules.{E-EQUALFALSE, Moves, EVAL, EVALᶜ}
 use Rattle.rules.specs.Step.{Move}
 use Rattle.rules.specs.Room.{noRoomFor, Answer, step}
 use Rattle.rules.specs.Run.{Stop, run, resume, logged}
@@ -48,7 +51,8 @@ use Rattle.side_by_side.proofs.Drop.{framed, frame-become, frame-still,
 
 -- ---- a run's moves, one record each, are a legal log too
 
-shadow-thread : {g : Program} {s : State} {p : ℕ} {t : Thread} {e : Expression} {R : Rule} {r : Option Record} {s′ : State} {e′ : Expression} → Converts g s p t e R r s′ e′ → shown p r .thread ≡ p
+shadow-thread : {g : Program} {s : State} {p : ℕ} {t : Thread} {e : Expression} {R : Rule} {r : Option Record} {s′ : State} {e′ : Expression}
+    → Converts g s p t e R r s′ e′ → shown p r .thread ≡ p
 unfolding shown
 shadow-thread (E-CALL os hd hp) = refl
 shadow-thread E-LET = refl
@@ -69,12 +73,14 @@ shadow-thread (E-WAKE z h n) = refl
 shadow-thread (E-NOTIFY h) = refl
 shadow-thread (E-NOTIFYALL h) = refl
 
-pub mover : {g : Program} {s : State} {p : ℕ} {R : Rule} {r : Option Record} {s′ : State} → Moves g s p R r s′ → (t : Thread) × (getElem? (s .threads) p ≡ some t) × (shown p r .thread ≡ p)
+pub mover : {g : Program} {s : State} {p : ℕ} {R : Rule} {r : Option Record} {s′ : State} → Moves g s p R r s′
+    → (t : Thread) × (getElem? (s .threads) p ≡ some t) × (shown p r .thread ≡ p)
 unfolding shown
 mover (EVAL K {t} ht he c) = (t, ht, shadow-thread c)
 mover (EVALᶜ K {t} ht he k) = (t, ht, refl)
 
-pub kept-shown : (g : Program) (s : State) → Inv g s → (p : ℕ) (H : List Record) → Kept g s H → {R : Rule} {r : Option Record} {s′ : State} → Moves g s p R r s′ → Kept g s′ (shown p r ∷ H)
+pub kept-shown : (g : Program) (s : State) → Inv g s → (p : ℕ) (H : List Record) → Kept g s H → {R : Rule} {r : Option Record} {s′ : State}
+    → Moves g s p R r s′ → Kept g s′ (shown p r ∷ H)
 unfolding shown logged
 kept-shown g s I p H J {R} {r} {s′} mv = go r (bridge g s I p H J mv)
   where
@@ -93,12 +99,14 @@ snoc done q m h = pick m h done
 snoc (pick m′ h′ ps) q m h = pick m′ h′ (snoc ps q m h)
 
 -- played, every pick moves, and the run ends where it ends
-pub plays-run : {g : Program} {s s′ : State} {qs : List ℕ} → Plays g s qs s′ → (run g s qs .stop ≡ Stop.end) × (run g s qs .final ≡ s′) × (length (run g s qs .instances) ≡ length qs)
+pub plays-run : {g : Program} {s s′ : State} {qs : List ℕ} → Plays g s qs s′
+    → (run g s qs .stop ≡ Stop.end) × (run g s qs .final ≡ s′) × (length (run g s qs .instances) ≡ length qs)
 unfolding run
 plays-run done = (refl, refl, refl)
 plays-run {g} {s} {s′} (pick {q = q} {qs = qs} m h ps) =
     let d = plays-run ps in
-    along (λ (a : Answer). (resume s (λ z. run g z qs) a .stop ≡ Stop.end) × (resume s (λ z. run g z qs) a .final ≡ s′) × (length (resume s (λ z. run g z qs) a .instances) ≡ suc (length qs))) (sym h) (d .0, d .1, ap suc (d .2))
+    along (λ (a : Answer). (resume s (λ z. run g z qs) a .stop ≡ Stop.end) × (resume s (λ z. run g z qs) a .final ≡ s′) ×
+    (length (resume s (λ z. run g z qs) a .instances) ≡ suc (length qs))) (sym h) (d .0, d .1, ap suc (d .2))
 
 -- ---- the start
 
@@ -141,14 +149,23 @@ corr-start g S = record {
     mirror zero t h =
         let e : record { self = 0; expression = Expression.call 0 Arguments.end; keys = singleton 0; learnt = 0; place = awake } ≡ t = cc in
         along (λ (z : Thread). Mirror zero-only zero-only zero-only (start .threads) 0 z) e
-        (record { number = 0; thread = record { self = 0; expression = Expression.call 0 Arguments.end; keys = singleton 0; learnt = 0; place = awake }; named = refl; there = refl; expr-like = e-call a-end; self-like = refl; keys-like = zeros })
+        (record {
+          number = 0;
+          thread = record { self = 0; expression = Expression.call 0 Arguments.end; keys = singleton 0; learnt = 0; place = awake };
+          named = refl;
+          there = refl;
+          expr-like = e-call a-end;
+          self-like = refl;
+          keys-like = zeros;
+        })
     mirror (suc p) t h = absurd (true≢false cc)
 
     nowhere : (o f : ℕ) (d : Cell) → lookup start o f ≡ some d → ⊥
     nowhere zero f d h = true≢false cc
     nowhere (suc o) f d h = true≢false cc
 
-    free′ : (o a : ℕ) (d : Cell) → zero-only o ≡ some a → monitor start o ≡ some d → isEmpty (d .keys) ≡ false → (d′ : Cell) × (monitor start a ≡ some d′) × (isEmpty (d′ .keys) ≡ false) × KeysIn zero-only (d .keys) (d′ .keys)
+    free′ : (o a : ℕ) (d : Cell) → zero-only o ≡ some a → monitor start o ≡ some d → isEmpty (d .keys) ≡ false
+        → (d′ : Cell) × (monitor start a ≡ some d′) × (isEmpty (d′ .keys) ≡ false) × KeysIn zero-only (d .keys) (d′ .keys)
     free′ zero a d n m e =
         let z = zero-is 0 a n in
         let y : fresh ≡ d = cc in
@@ -179,7 +196,8 @@ pub record Cut (g : Program) (S : Marks) (s : State) (H : List Record) : Type 0 
 
 put-same-way : (f f′ : Naming) (n n′ : ℕ) (a a′ : Option ℕ) (i : ℕ) → f i ≡ f′ i → n ≡ n′ → a ≡ a′ → put f n a i ≡ put f′ n′ a′ i
 unfolding put
-put-same-way f f′ n n′ a a′ i x y z = ap (λ (b : Bool). cond b a (f i)) (ap (λ (k : ℕ). eqb k i) y) ∙ ap (λ (b : Option ℕ). cond (eqb n′ i) b (f i)) z ∙ ap (cond (eqb n′ i) a′) x
+put-same-way f f′ n n′ a a′ i x y z = ap (λ (b : Bool). cond b a (f i)) (ap (λ (k : ℕ). eqb k i) y) ∙ ap (λ (b : Option ℕ). cond (eqb n′ i) b (f i)) z
+    ∙ ap (cond (eqb n′ i) a′) x
 
 is-true : (b : Bool) → T b → b ≡ true
 is-true true h = refl
@@ -190,7 +208,8 @@ is-false true h = absurd (h tt)
 is-false false h = refl
 
 -- a rule makes a thread exactly where its record is a fork
-fork-shown : {g : Program} {s : State} {p : ℕ} {t : Thread} {e : Expression} {R : Rule} {r : Option Record} {s′ : State} {e′ : Expression} → Converts g s p t e R r s′ e′ → (forks R ≡ isFork (shown p r .kind)) × (forks R ≡ true → shown p r .field ≡ length (s .threads))
+fork-shown : {g : Program} {s : State} {p : ℕ} {t : Thread} {e : Expression} {R : Rule} {r : Option Record} {s′ : State} {e′ : Expression}
+    → Converts g s p t e R r s′ e′ → (forks R ≡ isFork (shown p r .kind)) × (forks R ≡ true → shown p r .field ≡ length (s .threads))
 unfolding shown
 fork-shown (E-CALL os hd hp) = (refl, λ h. absurd (true≢false (sym h)))
 fork-shown E-LET = (refl, λ h. absurd (true≢false (sym h)))
@@ -230,7 +249,8 @@ pub record Parked (ω τ : Naming) (c : State) (p : ℕ) (e : Expression) : Type
 abbrev Stands : State → ℕ → Thread → Type 0
 Stands s i w = (x : Place) × (getElem? (s .threads) i ≡ some (inPlace x w))
 
-untouched-by : {g : Program} {s : State} {p : ℕ} {t : Thread} {e : Expression} {R : Rule} {r : Option Record} {s′ : State} {e′ : Expression} → Converts g s p t e R r s′ e′
+untouched-by : {g : Program} {s : State} {p : ℕ} {t : Thread} {e : Expression} {R : Rule} {r : Option Record} {s′ : State} {e′ : Expression}
+    → Converts g s p t e R r s′ e′
     → (i : ℕ) (w : Thread) → (p ≡ i → ⊥) → getElem? (s .threads) i ≡ some w → Stands s′ i w
 unfolding gain store useKey addObject addThread storeMonitor enqueue signalled
 untouched-by (E-CALL os hd hp) i w n h = (w .place, h)
@@ -252,7 +272,8 @@ untouched-by {s = s} {p = p} (E-WAKE z h′ f) i w n h = (w .place, change-other
 untouched-by {s = s} (E-NOTIFY {o} h′) i w n h = is-there (s .threads) _ (signalled-relocated pred s o) i w h
 untouched-by {s = s} (E-NOTIFYALL {o} h′) i w n h = is-there (s .threads) _ (signalled-relocated (λ n. 0) s o) i w h
 
-untouched : {g : Program} {s : State} {p : ℕ} {R : Rule} {r : Option Record} {s′ : State} → Moves g s p R r s′ → (i : ℕ) (w : Thread) → (p ≡ i → ⊥) → getElem? (s .threads) i ≡ some w → Stands s′ i w
+untouched : {g : Program} {s : State} {p : ℕ} {R : Rule} {r : Option Record} {s′ : State} → Moves g s p R r s′ → (i : ℕ) (w : Thread) → (p ≡ i → ⊥)
+    → getElem? (s .threads) i ≡ some w → Stands s′ i w
 unfolding become
 untouched {p = p} (EVAL K {s′ = s₁} ht he c) i w n h = let x = untouched-by c i w n h in (x .0, change-other (s₁ .threads) p _ i n ∙ x .1)
 untouched {s = s} {p = p} (EVALᶜ K ht he c) i w n h = (w .place, change-other (s .threads) p _ i n ∙ h)
@@ -263,9 +284,11 @@ closed-older S r H c i j x y a b l q m = c i j x y (back a) (back b) l q m
 module _ (g : Program) (P : WellFormedProgram g) (Q : WaitlessProgram g) (S : Marks) where
   -- a marked move: one more pick
   abbrev Kin : (s : State) (H : List Record) → Cut g S s H → ℕ → (s′ : State) → Record → Type 0
-  Kin s H X p s′ ρ = (Y : Cut g S s′ (ρ ∷ H)) × ((i : ℕ) (e : Expression) → (T (S (length H)) → p ≡ i → ⊥) → Parked (X .ω) (X .τ) (X .cut) i e → Parked (Y .ω) (Y .τ) (Y .cut) i e)
+  Kin s H X p s′ ρ = (Y : Cut g S s′ (ρ ∷ H)) × ((i : ℕ) (e : Expression) → (T (S (length H)) → p ≡ i → ⊥) → Parked (X .ω) (X .τ) (X .cut) i e
+      → Parked (Y .ω) (Y .τ) (Y .cut) i e)
 
-  keep-one : {s s′ : State} {H : List Record} {R : Rule} {r : Option Record} → Reachable g s → Kept g s H → (p : ℕ) (mv : Moves g s p R r s′) → noRoomFor R s p s′ ≡ none → Closed S (shown p r ∷ H) → T (S (length H)) → (X : Cut g S s H) → Kin s H X p s′ (shown p r)
+  keep-one : {s s′ : State} {H : List Record} {R : Rule} {r : Option Record} → Reachable g s → Kept g s H → (p : ℕ) (mv : Moves g s p R r s′)
+      → noRoomFor R s p s′ ≡ none → Closed S (shown p r ∷ H) → T (S (length H)) → (X : Cut g S s H) → Kin s H X p s′ (shown p r)
   keep-one {s} {s′} {H} {R} {r} A J p mv room cl mk X = done-by mv room cl
     where
       I : Inv g s
@@ -278,7 +301,9 @@ module _ (g : Program) (P : WellFormedProgram g) (Q : WaitlessProgram g) (S : Ma
       positive = A .unused .positive
 
       -- from the move of the other run
-      finish : {R : Rule} (r : Option Record) {s′ : State} (q : ℕ) → X .τ p ≡ some q → shown p r .thread ≡ p → (forks R ≡ isFork (shown p r .kind)) × (forks R ≡ true → shown p r .field ≡ length (s .threads)) → Follows g S H (X .ω) (X .τ) s p (X .cut) q R s′ → noRoomFor R s p s′ ≡ none → Kin s H X p s′ (shown p r)
+      finish : {R : Rule} (r : Option Record) {s′ : State} (q : ℕ) → X .τ p ≡ some q → shown p r .thread ≡ p
+          → (forks R ≡ isFork (shown p r .kind)) × (forks R ≡ true → shown p r .field ≡ length (s .threads)) → Follows g S H (X .ω) (X .τ) s p (X .cut) q R s′
+          → noRoomFor R s p s′ ≡ none → Kin s H X p s′ (shown p r)
       finish {R} r {s′} q pq own fk F l = (
         record {
           ω = F .ω′;
@@ -291,10 +316,13 @@ module _ (g : Program) (P : WellFormedProgram g) (Q : WaitlessProgram g) (S : Ma
           corr = corr-older g S (shown p r) H (F .ω′) (F .τ′) (F .κ′) s′ (F .after) (F .corr);
           numbered = λ i. F .renamed i ∙ named-so (forks R) (fk .1) i ∙ sym (marked-names (forks R) (fk .0) i);
           count-is = F .counted ∙ ap (countBy (forks R)) (X .count-is) ∙ counted-so (forks R) (fk .0);
-          picks-are = ap (λ (l : List ℕ). l ++ (q ∷ [])) (X .picks-are) ∙ ap (λ (n : ℕ). schedule S H ++ (n ∷ [])) (ap orZero (sym pq ∙ X .numbered p ∙ ap (numbers S H) (sym own))) ∙ ap (λ (b : Bool). cond b (schedule S H ++ (orZero (numbers S H (shown p r .thread)) ∷ [])) (schedule S H)) (sym on);
+          picks-are = ap (λ (l : List ℕ). l ++ (q ∷ [])) (X .picks-are)
+              ∙ ap (λ (n : ℕ). schedule S H ++ (n ∷ [])) (ap orZero (sym pq ∙ X .numbered p ∙ ap (numbers S H) (sym own)))
+              ∙ ap (λ (b : Bool). cond b (schedule S H ++ (orZero (numbers S H (shown p r .thread)) ∷ [])) (schedule S H)) (sym on);
         },
         λ i e n k.
-            let x = untouched (F .moves) (k .number) (k .thread) (λ z. n mk (X .corr .names .threads-apart p i q pq (k .named ∙ ap {B = Option ℕ} some (sym z)))) (k .there) in
+            let x = untouched (F .moves) (k .number) (k .thread)
+            (λ z. n mk (X .corr .names .threads-apart p i q pq (k .named ∙ ap {B = Option ℕ} some (sym z)))) (k .there) in
             record {
               number = k .number;
               thread = inPlace (x .0) (k .thread);
@@ -307,14 +335,20 @@ module _ (g : Program) (P : WellFormedProgram g) (Q : WaitlessProgram g) (S : Ma
           on : S (length H) ≡ true
           on = is-true (S (length H)) mk
 
-          named-so : (b : Bool) → (b ≡ true → shown p r .field ≡ length (s .threads)) → (i : ℕ) → nameBy b (X .τ) (length (s .threads)) (length (X .cut .threads)) i ≡ nameBy b (numbers S H) (shown p r .field) (made S H) i
-          named-so true f i = put-same-way (X .τ) (numbers S H) (length (s .threads)) (shown p r .field) (some (length (X .cut .threads))) (some (made S H)) i (X .numbered i) (sym (f refl)) (ap {B = Option ℕ} some (X .count-is))
+          named-so : (b : Bool) → (b ≡ true → shown p r .field ≡ length (s .threads)) → (i : ℕ)
+              → nameBy b (X .τ) (length (s .threads)) (length (X .cut .threads)) i ≡ nameBy b (numbers S H) (shown p r .field) (made S H) i
+          named-so true f i = put-same-way (X .τ) (numbers S H) (length (s .threads)) (shown p r .field) (some (length (X .cut .threads))) (some (made S H)) i
+              (X .numbered i) (sym (f refl)) (ap {B = Option ℕ} some (X .count-is))
           named-so false f i = X .numbered i
 
-          marked-names : (b : Bool) → b ≡ isFork (shown p r .kind) → (i : ℕ) → numbers S (shown p r ∷ H) i ≡ nameBy b (numbers S H) (shown p r .field) (made S H) i
-          marked-names b e i = ap (λ (x : Bool). cond (x && isFork (shown p r .kind)) (put (numbers S H) (shown p r .field) (some (made S H))) (numbers S H) i) on ∙ go b e
+          marked-names : (b : Bool) → b ≡ isFork (shown p r .kind) → (i : ℕ)
+              → numbers S (shown p r ∷ H) i ≡ nameBy b (numbers S H) (shown p r .field) (made S H) i
+          marked-names b e i = ap
+              (λ (x : Bool). cond (x && isFork (shown p r .kind)) (put (numbers S H) (shown p r .field) (some (made S H))) (numbers S H) i) on ∙ go b e
             where
-              go : (b : Bool) → b ≡ isFork (shown p r .kind) → cond (isFork (shown p r .kind)) (put (numbers S H) (shown p r .field) (some (made S H))) (numbers S H) i ≡ nameBy b (numbers S H) (shown p r .field) (made S H) i
+              go : (b : Bool) → b ≡ isFork (shown p r .kind)
+                  → cond (isFork (shown p r .kind)) (put (numbers S H) (shown p r .field) (some (made S H))) (numbers S H) i ≡ nameBy b (numbers S H)
+                  (shown p r .field) (made S H) i
               go true e = ap (λ (x : Bool). cond x (put (numbers S H) (shown p r .field) (some (made S H))) (numbers S H) i) (sym e)
               go false e = ap (λ (x : Bool). cond x (put (numbers S H) (shown p r .field) (some (made S H))) (numbers S H) i) (sym e)
 
@@ -325,14 +359,17 @@ module _ (g : Program) (P : WellFormedProgram g) (Q : WaitlessProgram g) (S : Ma
               go true e = ap (λ (x : Bool). cond x (suc (made S H)) (made S H)) e
               go false e = ap (λ (x : Bool). cond x (suc (made S H)) (made S H)) e
 
-      done-by : {R : Rule} {r : Option Record} {s′ : State} → Moves g s p R r s′ → noRoomFor R s p s′ ≡ none → Closed S (shown p r ∷ H) → Kin s H X p s′ (shown p r)
+      done-by : {R : Rule} {r : Option Record} {s′ : State} → Moves g s p R r s′ → noRoomFor R s p s′ ≡ none → Closed S (shown p r ∷ H)
+          → Kin s H X p s′ (shown p r)
       done-by {R} {r} (EVAL K {t} ht he c) l cl =
           let live : (z : Port) → Draws v1 (shown p r) z → Live S H z = λ z i. drawn-live S (shown p r) H z cl mk i in
           let m = X .corr .mirrors p t (live (ofThread p) (inl (shadow-thread c))) ht in
-          finish r (m .number) (m .named) (shadow-thread c) (fork-shown c) (followed g P Q S H (X .ω) (X .τ) (X .κ) s (X .cut) (X .corr) I (X .inv-cut) J small positive p t ht m K c he live) l
+          finish r (m .number) (m .named) (shadow-thread c) (fork-shown c)
+          (followed g P Q S H (X .ω) (X .τ) (X .κ) s (X .cut) (X .corr) I (X .inv-cut) J small positive p t ht m K c he live) l
       done-by {R} {r} (EVALᶜ K {t} ht he c) l cl =
           let m = X .corr .mirrors p t (drawn-live S (shown p none) H (ofThread p) cl mk (inl own)) ht in
-          finish none (m .number) (m .named) own (fork-shownᶜ c ∙ quiet, λ h. absurd (false≢true (sym (fork-shownᶜ c) ∙ h))) (followedᶜ g P Q S H (X .ω) (X .τ) (X .κ) s (X .cut) (X .corr) I (X .inv-cut) J small positive p t ht m K c he) l
+          finish none (m .number) (m .named) own (fork-shownᶜ c ∙ quiet, λ h. absurd (false≢true (sym (fork-shownᶜ c) ∙ h)))
+          (followedᶜ g P Q S H (X .ω) (X .τ) (X .κ) s (X .cut) (X .corr) I (X .inv-cut) J small positive p t ht m K c he) l
         where
           own : shown p none .thread ≡ p
           own = unfold shown in refl
@@ -341,7 +378,8 @@ module _ (g : Program) (P : WellFormedProgram g) (Q : WaitlessProgram g) (S : Ma
           quiet = unfold shown in refl
 
   -- another: none
-  drop-one : {s s′ : State} {H : List Record} {R : Rule} {r : Option Record} → Inv g s → Kept g s H → (p : ℕ) (mv : Moves g s p R r s′) → (T (S (length H)) → ⊥) → (X : Cut g S s H) → Kin s H X p s′ (shown p r)
+  drop-one : {s s′ : State} {H : List Record} {R : Rule} {r : Option Record} → Inv g s → Kept g s H → (p : ℕ) (mv : Moves g s p R r s′)
+      → (T (S (length H)) → ⊥) → (X : Cut g S s H) → Kin s H X p s′ (shown p r)
   drop-one {s} {s′} {H} I J p mv n X = go mv
     where
       off : S (length H) ≡ false
@@ -357,8 +395,11 @@ module _ (g : Program) (P : WellFormedProgram g) (Q : WaitlessProgram g) (S : Ma
           picks = X .picks;
           plays = X .plays;
           inv-cut = X .inv-cut;
-          corr = corr-dropped g S H (X .ω) (X .τ) (X .κ) s (become s₁ p (plug K e′)) (X .cut) (X .corr) I p t ht (shown p r) (shadow-thread c) (frame-become g s s₁ p t (shown p r) (plug K e′) (framed g s I H J p t ht c)) n;
-          numbered = λ i. X .numbered i ∙ ap (λ (b : Bool). cond (b && isFork ((shown p r) .kind)) (put (numbers S H) ((shown p r) .field) (some (made S H))) (numbers S H) i) (sym off);
+          corr = corr-dropped g S H (X .ω) (X .τ) (X .κ) s (become s₁ p (plug K e′)) (X .cut) (X .corr) I p t ht (shown p r) (shadow-thread c)
+              (frame-become g s s₁ p t (shown p r) (plug K e′) (framed g s I H J p t ht c)) n;
+          numbered = λ i. X .numbered i
+              ∙ ap (λ (b : Bool). cond (b && isFork ((shown p r) .kind)) (put (numbers S H) ((shown p r) .field) (some (made S H))) (numbers S H) i)
+              (sym off);
           count-is = X .count-is ∙ ap (λ (b : Bool). cond (b && isFork ((shown p r) .kind)) (suc (made S H)) (made S H)) (sym off);
           picks-are = X .picks-are ∙ ap (λ (b : Bool). cond b (schedule S H ++ (orZero (numbers S H ((shown p r) .thread)) ∷ [])) (schedule S H)) (sym off);
         },
@@ -373,8 +414,11 @@ module _ (g : Program) (P : WellFormedProgram g) (Q : WaitlessProgram g) (S : Ma
           picks = X .picks;
           plays = X .plays;
           inv-cut = X .inv-cut;
-          corr = corr-dropped g S H (X .ω) (X .τ) (X .κ) s (become s p (plugᶜ K c′)) (X .cut) (X .corr) I p t ht (shown p none) own (frame-become g s s p t (shown p none) (plugᶜ K c′) (frame-still g s p t (shown p none))) n;
-          numbered = λ i. X .numbered i ∙ ap (λ (b : Bool). cond (b && isFork ((shown p none) .kind)) (put (numbers S H) ((shown p none) .field) (some (made S H))) (numbers S H) i) (sym off);
+          corr = corr-dropped g S H (X .ω) (X .τ) (X .κ) s (become s p (plugᶜ K c′)) (X .cut) (X .corr) I p t ht (shown p none) own
+              (frame-become g s s p t (shown p none) (plugᶜ K c′) (frame-still g s p t (shown p none))) n;
+          numbered = λ i. X .numbered i
+              ∙ ap (λ (b : Bool). cond (b && isFork ((shown p none) .kind)) (put (numbers S H) ((shown p none) .field) (some (made S H))) (numbers S H) i)
+              (sym off);
           count-is = X .count-is ∙ ap (λ (b : Bool). cond (b && isFork ((shown p none) .kind)) (suc (made S H)) (made S H)) (sym off);
           picks-are = X .picks-are ∙ ap (λ (b : Bool). cond b (schedule S H ++ (orZero (numbers S H ((shown p none) .thread)) ∷ [])) (schedule S H)) (sym off);
         },
@@ -384,7 +428,8 @@ module _ (g : Program) (P : WellFormedProgram g) (Q : WaitlessProgram g) (S : Ma
           own : shown p none .thread ≡ p
           own = unfold shown in refl
 
-  pub one-more : {s s′ : State} {H : List Record} {R : Rule} {r : Option Record} → Reachable g s × Kept g s H → (p : ℕ) (mv : Moves g s p R r s′) → noRoomFor R s p s′ ≡ none → Closed S (shown p r ∷ H) → (X : Cut g S s H) → Kin s H X p s′ (shown p r)
+  pub one-more : {s s′ : State} {H : List Record} {R : Rule} {r : Option Record} → Reachable g s × Kept g s H → (p : ℕ) (mv : Moves g s p R r s′)
+      → noRoomFor R s p s′ ≡ none → Closed S (shown p r ∷ H) → (X : Cut g S s H) → Kin s H X p s′ (shown p r)
   one-more {s} {s′} {H} {r = r} d p mv l cl X = by (S (length H)) refl
     where
       by : (b : Bool) → S (length H) ≡ b → Kin s H X p s′ (shown p r)
@@ -392,7 +437,20 @@ module _ (g : Program) (P : WellFormedProgram g) (Q : WaitlessProgram g) (S : Ma
       by false e = drop-one (d .0 .invariant) (d .1) p mv (λ x. rw e at x) X
 
   pub cuts : {s : State} {H : List Record} → Trail g s H → Closed S H → Cut g S s H
-  cuts begin cl = record { ω = zero-only; τ = zero-only; κ = zero-only; cut = start; picks = []; plays = done; inv-cut = inv-start g P; corr = corr-start g S; numbered = λ i. unfold zero-only in refl; count-is = unfold start in refl; picks-are = refl }
+  cuts begin cl = record {
+    ω = zero-only;
+    τ = zero-only;
+    κ = zero-only;
+    cut = start;
+    picks = [];
+    plays = done;
+    inv-cut = inv-start g P;
+    corr =
+        corr-start g S;
+    numbered = λ i. unfold zero-only in refl;
+    count-is = unfold start in refl;
+    picks-are = refl;
+  }
   cuts (move {s} {s′} {H} {R} {r} tr p mv l) cl = one-more (trail-kept g P tr) p mv l cl (cuts tr (closed-older S (shown p r) H cl)) .0
 
   -- ---- a thread whose next move is not marked stands where it stood
@@ -402,11 +460,13 @@ module _ (g : Program) (P : WellFormedProgram g) (Q : WaitlessProgram g) (S : Ma
     pub stands : Parked (its .ω) (its .τ) (its .cut) i e
 
   -- no marked move of a thread comes after an unmarked one
-  none-later : (H : List Record) (ρ : Record) (j i : ℕ) (w : Record) → Closed S (ρ ∷ H) → At H j w → w .thread ≡ i → (T (S j) → ⊥) → T (S (length H)) → ρ .thread ≡ i → ⊥
+  none-later : (H : List Record) (ρ : Record) (j i : ℕ) (w : Record) → Closed S (ρ ∷ H) → At H j w → w .thread ≡ i → (T (S j) → ⊥) → T (S (length H))
+      → ρ .thread ≡ i → ⊥
   none-later H ρ j i w cl a e n mk q = n (cl j (length H) w ρ (back a) (here refl) (at-below a) (sameThread (e ∙ sym q)) mk)
 
   -- after a move j of thread i that is not marked, over the rest of the run
-  pub beside : (j i : ℕ) (e : Expression) (w : Record) → w .thread ≡ i → (T (S j) → ⊥) → {s₀ : State} {H₀ : List Record} → At H₀ j w → {s : State} {H : List Record} → Later g s₀ H₀ s H → Closed S H → Beside s₀ H₀ i e → At H j w × Beside s H i e
+  pub beside : (j i : ℕ) (e : Expression) (w : Record) → w .thread ≡ i → (T (S j) → ⊥) → {s₀ : State} {H₀ : List Record} → At H₀ j w
+      → {s : State} {H : List Record} → Later g s₀ H₀ s H → Closed S H → Beside s₀ H₀ i e → At H j w × Beside s H i e
   beside j i e w ti n a none-yet cl B = (a, B)
   beside j i e w ti n a (then {s} {s′} {H} {R} {r} tr la p mv l) cl B =
       let X = beside j i e w ti n a la (closed-older S (shown p r) H cl) B in

@@ -24,16 +24,20 @@ use Rattle.side_by_side.proofs.Likeness.{Extends}
 -- ---- a field
 
 module _ (g : Program) (S : Marks) (H : List Record) (ω τ κ : Naming) (s c : State) (C : Corresponds g S H ω τ κ s c)
-    (o a f : ℕ) (d₀ d₀′ d₁ d₁′ : Cell) (oa : ω o ≡ some a) (was : lookup s o f ≡ some d₀) (was′ : lookup c a f ≡ some d₀′) (like : FieldLike g S H ω κ o f d₁ d₁′) where
-  field′ : (x y k : ℕ) (d : Cell) → ω x ≡ some y → lookup (store s o f d₁) x k ≡ some d → Dec (o ≡ x) → Dec (f ≡ k) → (d′ : Cell) × (lookup (store c a f d₁′) y k ≡ some d′) × FieldLike g S H ω κ x k d d′
+    (o a f : ℕ) (d₀ d₀′ d₁ d₁′ : Cell) (oa : ω o ≡ some a) (was : lookup s o f ≡ some d₀) (was′ : lookup c a f ≡ some d₀′)
+    (like : FieldLike g S H ω κ o f d₁ d₁′) where
+  field′ : (x y k : ℕ) (d : Cell) → ω x ≡ some y → lookup (store s o f d₁) x k ≡ some d → Dec (o ≡ x) → Dec (f ≡ k)
+      → (d′ : Cell) × (lookup (store c a f d₁′) y k ≡ some d′) × FieldLike g S H ω κ x k d d′
   field′ x y k d n e (yes p) (yes q) =
       let ya : some a ≡ some y = sym oa ∙ ap ω p ∙ n in
       let ay : a ≡ y = cc in
-      let e₁ : some d₁ ≡ some d = sym (store-same s o f d₁ d₀ was) ∙ ap (λ (z : ℕ). lookup (store s o f d₁) o z) q ∙ ap (λ (z : ℕ). lookup (store s o f d₁) z k) p ∙ e in
+      let e₁ : some d₁ ≡ some d = sym (store-same s o f d₁ d₀ was) ∙ ap (λ (z : ℕ). lookup (store s o f d₁) o z) q
+      ∙ ap (λ (z : ℕ). lookup (store s o f d₁) z k) p ∙ e in
       let dd : d₁ ≡ d = cc in (
         d₁′,
         ap (λ (z : ℕ). lookup (store c a f d₁′) z k) (sym ay) ∙ ap (λ (z : ℕ). lookup (store c a f d₁′) a z) (sym q) ∙ store-same c a f d₁′ d₀′ was′,
-        along (λ (z : Cell). FieldLike g S H ω κ x k z d₁′) dd (along (λ (z : ℕ). FieldLike g S H ω κ z k d₁ d₁′) p (along (λ (z : ℕ). FieldLike g S H ω κ o z d₁ d₁′) q like)),
+        along (λ (z : Cell). FieldLike g S H ω κ x k z d₁′) dd
+            (along (λ (z : ℕ). FieldLike g S H ω κ z k d₁ d₁′) p (along (λ (z : ℕ). FieldLike g S H ω κ o z d₁ d₁′) q like)),
       )
   field′ x y k d n e (yes p) (no q) =
       let r = C .fields x y k d n (sym (store-other s o f d₁ x k (λ _ b. q b)) ∙ e) in
@@ -47,13 +51,16 @@ module _ (g : Program) (S : Marks) (H : List Record) (ω τ κ : Naming) (s c : 
   corr-store = record {
     names = record {
       zero-kept = C .names .zero-kept;
-      objects = λ x y e. let b = C .names .objects x y e in (along (λ (n : ℕ). x < n) (sym (change-length (s .objects) o _)) (b .0), along (λ (n : ℕ). y < n) (sym (change-length (c .objects) a _)) (b .1));
+      objects = λ x y e. let b =
+          C .names .objects x y e in
+          (along (λ (n : ℕ). x < n) (sym (change-length (s .objects) o _)) (b .0), along (λ (n : ℕ). y < n) (sym (change-length (c .objects) a _)) (b .1));
       objects-apart = C .names .objects-apart;
       threads = C .names .threads;
       threads-apart = C .names .threads-apart;
       key-zero = C .names .key-zero;
       keys = C .names .keys;
-      fewer-objects = along (λ (n : ℕ). n ≤ length (store s o f d₁ .objects)) (sym (change-length (c .objects) a _)) (along (λ (n : ℕ). length (c .objects) ≤ n) (sym (change-length (s .objects) o _)) (C .names .fewer-objects));
+      fewer-objects = along (λ (n : ℕ). n ≤ length (store s o f d₁ .objects)) (sym (change-length (c .objects) a _))
+          (along (λ (n : ℕ). length (c .objects) ≤ n) (sym (change-length (s .objects) o _)) (C .names .fewer-objects));
       fewer-threads = C .names .fewer-threads;
       fewer-keys = C .names .fewer-keys;
     };
@@ -80,7 +87,8 @@ module _ (g : Program) (S : Marks) (H : List Record) (ω τ κ : Naming) (s c : 
   abbrev c₁ : State
   c₁ = storeMonitor c a d₁′
 
-  which : (x y : ℕ) (d : Cell) → ω x ≡ some y → monitor s₁ x ≡ some d → ((d₁ ≡ d) × (monitor c₁ y ≡ some d₁′)) ⊎ ((monitor s x ≡ some d) × (monitor c₁ y ≡ monitor c y))
+  which : (x y : ℕ) (d : Cell) → ω x ≡ some y → monitor s₁ x ≡ some d
+      → ((d₁ ≡ d) × (monitor c₁ y ≡ some d₁′)) ⊎ ((monitor s x ≡ some d) × (monitor c₁ y ≡ monitor c y))
   which x y d n m = go (ℕ-discrete o x)
     where
       go : Dec (o ≡ x) → ((d₁ ≡ d) × (monitor c₁ y ≡ some d₁′)) ⊎ ((monitor s x ≡ some d) × (monitor c₁ y ≡ monitor c y))
@@ -96,13 +104,16 @@ module _ (g : Program) (S : Marks) (H : List Record) (ω τ κ : Naming) (s c : 
   corr-lock = record {
     names = record {
       zero-kept = C .names .zero-kept;
-      objects = λ x y e. let b = C .names .objects x y e in (along (λ (n : ℕ). x < n) (sym (change-length (s .objects) o _)) (b .0), along (λ (n : ℕ). y < n) (sym (change-length (c .objects) a _)) (b .1));
+      objects = λ x y e. let b =
+          C .names .objects x y e in
+          (along (λ (n : ℕ). x < n) (sym (change-length (s .objects) o _)) (b .0), along (λ (n : ℕ). y < n) (sym (change-length (c .objects) a _)) (b .1));
       objects-apart = C .names .objects-apart;
       threads = C .names .threads;
       threads-apart = C .names .threads-apart;
       key-zero = C .names .key-zero;
       keys = C .names .keys;
-      fewer-objects = along (λ (n : ℕ). n ≤ length (s₁ .objects)) (sym (change-length (c .objects) a _)) (along (λ (n : ℕ). length (c .objects) ≤ n) (sym (change-length (s .objects) o _)) (C .names .fewer-objects));
+      fewer-objects = along (λ (n : ℕ). n ≤ length (s₁ .objects)) (sym (change-length (c .objects) a _))
+          (along (λ (n : ℕ). length (c .objects) ≤ n) (sym (change-length (s .objects) o _)) (C .names .fewer-objects));
       fewer-threads = C .names .fewer-threads;
       fewer-keys = C .names .fewer-keys;
     };
@@ -112,13 +123,18 @@ module _ (g : Program) (S : Marks) (H : List Record) (ω τ κ : Naming) (s c : 
     held = λ x y p b t n h l m e. held′ x y p b t n h l e (which x y (record { keys = empty; value = t .self }) n m);
   }
     where
-      free′ : (x y : ℕ) (d : Cell) → ω x ≡ some y → isEmpty (d .keys) ≡ false → Live S H (ofMonitor x) → ((d₁ ≡ d) × (monitor c₁ y ≡ some d₁′)) ⊎ ((monitor s x ≡ some d) × (monitor c₁ y ≡ monitor c y)) → (d′ : Cell) × (monitor c₁ y ≡ some d′) × (isEmpty (d′ .keys) ≡ false) × KeysIn κ (d .keys) (d′ .keys)
+      free′ : (x y : ℕ) (d : Cell) → ω x ≡ some y → isEmpty (d .keys) ≡ false → Live S H (ofMonitor x)
+          → ((d₁ ≡ d) × (monitor c₁ y ≡ some d₁′)) ⊎ ((monitor s x ≡ some d) × (monitor c₁ y ≡ monitor c y))
+          → (d′ : Cell) × (monitor c₁ y ≡ some d′) × (isEmpty (d′ .keys) ≡ false) × KeysIn κ (d .keys) (d′ .keys)
       free′ x y d n e l (inl (q, m)) =
           let r = freeLike (ap (λ (z : Cell). isEmpty (z .keys)) q ∙ e) in
           (d₁′, m, r .0, along (λ (z : Cell). KeysIn κ (z .keys) (d₁′ .keys)) q (r .1))
       free′ x y d n e l (inr (m, k)) = let r = C .free x y d n m e l in (r .0, k ∙ r .1, r .2, r .3)
 
-      held′ : (x y p b : ℕ) (t : Thread) → ω x ≡ some y → getElem? (s .threads) p ≡ some t → Live S H (ofThread p) → ω (t .self) ≡ some b → ((d₁ ≡ record { keys = empty; value = t .self }) × (monitor c₁ y ≡ some d₁′)) ⊎ ((monitor s x ≡ some (record { keys = empty; value = t .self })) × (monitor c₁ y ≡ monitor c y)) → monitor c₁ y ≡ some (record { keys = empty; value = b })
+      held′ : (x y p b : ℕ) (t : Thread) → ω x ≡ some y → getElem? (s .threads) p ≡ some t → Live S H (ofThread p) → ω (t .self) ≡ some b
+          → ((d₁ ≡ record { keys = empty; value = t .self }) × (monitor c₁ y ≡ some d₁′)) ⊎
+          ((monitor s x ≡ some (record { keys = empty; value = t .self })) × (monitor c₁ y ≡ monitor c y))
+          → monitor c₁ y ≡ some (record { keys = empty; value = b })
       held′ x y p b t n h l e (inl (q, m)) = m ∙ ap {B = Option Cell} some (heldLike (t .self) b q e)
       held′ x y p b t n h l e (inr (m, k)) = k ∙ C .held x y p b t n h l m e
 
@@ -128,7 +144,8 @@ pub keys-wider : (κ κ′ : Naming) → Extends κ κ′ → (W W′ : Keys) �
 keys-wider κ κ′ x W W′ h k t = let r = h k t in (r .0, x k (r .0) (r .1), r .2)
 
 module _ (g : Program) (S : Marks) (H : List Record) (ω τ κ : Naming) (s c : State) (C : Corresponds g S H ω τ κ s c)
-    (small : (o f : ℕ) (d : Cell) → lookup s o f ≡ some d → isVolatile g f ≡ false → (k : ℕ) → T (holds (d .keys) k) → k < s .nextKey) (positive : 0 < s .nextKey) where
+    (small : (o f : ℕ) (d : Cell) → lookup s o f ≡ some d → isVolatile g f ≡ false → (k : ℕ) → T (holds (d .keys) k) → k < s .nextKey)
+    (positive : 0 < s .nextKey) where
   abbrev pub κ₁ : Naming
   κ₁ = put κ (s .nextKey) (some (c .nextKey))
 
@@ -157,8 +174,26 @@ module _ (g : Program) (S : Marks) (H : List Record) (ω τ κ : Naming) (s c : 
       fewer-threads = C .names .fewer-threads;
       fewer-keys = let b = C .names .fewer-keys in omega arith;
     };
-    mirrors = λ p t l h. let m = C .mirrors p t l h in record { number = m .number; thread = m .thread; named = m .named; there = m .there; expr-like = m .expr-like; self-like = m .self-like; keys-like = keys-wider κ κ₁ longer (t .keys) (m .thread .keys) (m .keys-like) };
-    fields = λ o a f d n e. let r = C .fields o a f d n e in (r .0, r .1, record { plain = λ v k k′ h q. r .2 .plain v k k′ h (old k k′ (small o f d e v k h) q); volatile = λ v l. let w = r .2 .volatile v l in (keys-wider κ κ₁ longer (d .keys) (r .0 .keys) (w .0), w .1) });
+    mirrors = λ p t l h. let m = C .mirrors p t l h in record {
+      number = m .number;
+      thread = m .thread;
+      named = m .named;
+      there = m .there;
+      expr-like =
+          m .expr-like;
+      self-like = m .self-like;
+      keys-like = keys-wider κ κ₁ longer (t .keys) (m .thread .keys) (m .keys-like);
+    };
+    fields = λ o a f d n e. let r =
+        C .fields o a f d n e in (
+          r .0,
+          r .1,
+          record {
+            plain = λ v k k′ h q. r .2 .plain v k k′ h (old k k′ (small o f d e v k h) q);
+            volatile = λ v l. let w =
+                r .2 .volatile v l in (keys-wider κ κ₁ longer (d .keys) (r .0 .keys) (w .0), w .1);
+          },
+        );
     free = λ o a d n m e l. let r = C .free o a d n m e l in (r .0, r .1, r .2, keys-wider κ κ₁ longer (d .keys) (r .0 .keys) (r .3));
     held = λ o a p b t n h l m e. C .held o a p b t n h l m e;
   }

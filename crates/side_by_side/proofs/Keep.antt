@@ -19,8 +19,11 @@ use Rattle.order.proofs.Ports.{Port, ofThread, ofMonitor, ofVolatile, Draws}
 use Rattle.order.proofs.KeySets.{put, put-same}
 use Rattle.order.proofs.KeyMachine.{after}
 use Rattle.rules.specs.Context.{Context, Contextᶜ, Redex, Redexᶜ, Focus, focus, top, plug, plugᶜ, redexExpression, redexCondition}
-use Rattle.rules.specs.State.{cell, Cell, Thread, State, fresh, freshObject, lookup, monitor, changeAt, gain, learn, hear, become, forked, inPlace, signalled, store, storeMonitor, addObject, addThread, useKey, threadOf, Numbered}
-use Rattle.rules.specs.Rules.{Rule, isVolatile, passedOn, Converts, E-CALL, E-LET, E-IF, E-WHILE, E-NEW, E-READ, E-WRITE, E-READV, E-WRITEV, E-FORK, E-JOIN, E-RE-ENTER, E-ACQUIRE, E-RELEASE, E-WAIT, E-WAKE, E-NOTIFY, E-NOTIFYALL, Convertsᶜ, E-NOTNOTTRUE, E-ANDTRUE, E-ANDFALSE, E-EQUALTRUE, E-EQUALFALSE, Moves, EVAL, EVALᶜ}
+use Rattle.rules.specs.State.{cell, Cell, Thread, State, fresh, freshObject, lookup, monitor, changeAt, gain, learn, hear, become, forked, inPlace, signalled}
+use Rattle.rules.specs.State.{store, storeMonitor, addObject, addThread, useKey, threadOf, Numbered}
+use Rattle.rules.specs.Rules.{Rule, isVolatile, passedOn, Converts, E-CALL, E-LET, E-IF, E-WHILE, E-NEW, E-READ, E-WRITE, E-READV, E-WRITEV, E-FORK, E-JOIN}
+use Rattle.rules.specs.Rules.{E-RE-ENTER, E-ACQUIRE, E-RELEASE, E-WAIT, E-WAKE, E-NOTIFY, E-NOTIFYALL, Convertsᶜ, E-NOTNOTTRUE, E-ANDTRUE, E-ANDFALSE}
+use Rattle.rules.specs.Rules.{E-EQUALTRUE, E-EQUALFALSE, Moves, EVAL, EVALᶜ}
 use Rattle.rules.specs.Room.{Room, noRoomBefore, noRoomAfter, noRoomFor, deep, deepAt, anyDeep}
 use Rattle.rules.proofs.FocusPlug.{found, foundᶜ}
 use Rattle.rules.proofs.Decompose.{whole, whole-focus}
@@ -30,11 +33,14 @@ use Rattle.rules.proofs.Placed.{GivesUp}
 use Rattle.rules.proofs.Invariant.{Inv, heldBy}
 use Rattle.rules.proofs.Preserved.{gained}
 use Rattle.rules.proofs.Bridge.{Kept, its-key, full}
-use Rattle.side_by_side.proofs.Like.{Naming, Like, e-lit, e-lets, e-if, e-while, e-hold, Likeᶜ, LikeContext, k-top, LikeContextᶜ, LikePart, r-var, r-new, r-read, r-write, r-lets, r-if, r-while, r-call, r-fork, r-join, r-synch, r-hold, r-signal, LikePartᶜ, r-notFalse, r-and, r-equal, LikeFocus}
+use Rattle.side_by_side.proofs.Like.{Naming, Like, e-lit, e-lets, e-if, e-while, e-hold, Likeᶜ, LikeContext, k-top, LikeContextᶜ, LikePart, r-var}
+use Rattle.side_by_side.proofs.Like.{r-new, r-read, r-write, r-lets, r-if, r-while, r-call, r-fork, r-join, r-synch, r-hold, r-signal, LikePartᶜ}
+use Rattle.side_by_side.proofs.Like.{r-notFalse, r-and, r-equal, LikeFocus}
 use Rattle.side_by_side.proofs.Correspondence.{Marks, Live, KeysIn, Mirror, FieldLike, Corresponds}
 use Rattle.side_by_side.specs.Waitless.{NoWait, WaitlessProgram}
 use Rattle.side_by_side.specs.Moves.{shown}
-use Rattle.side_by_side.proofs.Likeness.{Extends, wider, widerK, filled, itself, bind-like, params-like, length-like, focus-like, same-depth, plug-like, plug-likeᶜ, bool-itself, Next, next, nextᶜ}
+use Rattle.side_by_side.proofs.Likeness.{Extends, wider, widerK, filled, itself, bind-like, params-like, length-like, focus-like, same-depth}
+use Rattle.side_by_side.proofs.Likeness.{plug-like, plug-likeᶜ, bool-itself, Next, next, nextᶜ}
 use Rattle.side_by_side.proofs.Moves.{corr-become, corr-gain, corr-signalled, keys-both}
 use Rattle.side_by_side.proofs.Heap
 use Rattle.side_by_side.proofs.Made
@@ -42,7 +48,8 @@ use Rattle.side_by_side.proofs.Heap.{empty-full, corr-store, corr-lock,
 use Rattle.side_by_side.proofs.Made.{corr-new, corr-thread, named-old}
 
 -- who a join finds, where selves are apart
-finds : (ts : List Thread) (i j o : ℕ) (u : Thread) → getElem? ts j ≡ some u → u .self ≡ o → ((k : ℕ) (w : Thread) → getElem? ts k ≡ some w → w .self ≡ o → k ≡ j) → (n : ℕ) → n ≡ i + j → threadOf i ts o ≡ some (record { number = n; thread = u })
+finds : (ts : List Thread) (i j o : ℕ) (u : Thread) → getElem? ts j ≡ some u → u .self ≡ o
+    → ((k : ℕ) (w : Thread) → getElem? ts k ≡ some w → w .self ≡ o → k ≡ j) → (n : ℕ) → n ≡ i + j → threadOf i ts o ≡ some (record { number = n; thread = u })
 unfolding threadOf
 finds [] i j o u h e a n q = absurd (let z : _≡_ {A = ℕ} 0 1 = cc in omega arith)
 finds (x ∷ ts) i zero o u h e a n q =
@@ -50,9 +57,11 @@ finds (x ∷ ts) i zero o u h e a n q =
     let s : eqb (x .self) o ≡ true = eq-eqb (x .self) o (ap (λ (z : Thread). z .self) y ∙ e) in
     let m : i ≡ n = omega arith in
     rw (s, m, y)
-finds (x ∷ ts) i (suc j) o u h e a n q = go (eqb (x .self) o) refl (finds ts (suc i) j o u h e (λ k w g f. let r : suc k ≡ suc j = a (suc k) w g f in omega arith) n (omega arith))
+finds (x ∷ ts) i (suc j) o u h e a n q =
+    go (eqb (x .self) o) refl (finds ts (suc i) j o u h e (λ k w g f. let r : suc k ≡ suc j = a (suc k) w g f in omega arith) n (omega arith))
   where
-    go : (b : Bool) → eqb (x .self) o ≡ b → threadOf (suc i) ts o ≡ some (record { number = n; thread = u }) → cond b (some (record { number = i; thread = x })) (threadOf (suc i) ts o) ≡ some (record { number = n; thread = u })
+    go : (b : Bool) → eqb (x .self) o ≡ b → threadOf (suc i) ts o ≡ some (record { number = n; thread = u })
+        → cond b (some (record { number = i; thread = x })) (threadOf (suc i) ts o) ≡ some (record { number = n; thread = u })
     go true s k = let z : _≡_ {A = ℕ} 0 (suc j) = a 0 x refl (eqb-true (x .self) o s) in absurd (omega arith)
     go false s k = k
 
@@ -132,8 +141,10 @@ pub record Follows (g : Program) (S : Marks) (H : List Record) (ω τ : Naming) 
   pub renamed : (i : ℕ) → τ′ i ≡ nameBy (forks R) τ (length (s .threads)) (length (c .threads)) i
   pub counted : length (after .threads) ≡ countBy (forks R) (length (c .threads))
 
-module _ (g : Program) (P : WellFormedProgram g) (Q : WaitlessProgram g) (S : Marks) (H : List Record) (ω τ κ : Naming) (s c : State) (C : Corresponds g S H ω τ κ s c) (I : Inv g s) (I′ : Inv g c) (J′ : Kept g s H)
-    (small : (o f : ℕ) (d : Cell) → lookup s o f ≡ some d → isVolatile g f ≡ false → (k : ℕ) → T (holds (d .keys) k) → k < s .nextKey) (positive : 0 < s .nextKey)
+module _ (g : Program) (P : WellFormedProgram g) (Q : WaitlessProgram g) (S : Marks) (H : List Record) (ω τ κ : Naming) (s c : State)
+    (C : Corresponds g S H ω τ κ s c) (I : Inv g s) (I′ : Inv g c) (J′ : Kept g s H)
+    (small : (o f : ℕ) (d : Cell) → lookup s o f ≡ some d → isVolatile g f ≡ false → (k : ℕ) → T (holds (d .keys) k) → k < s .nextKey)
+    (positive : 0 < s .nextKey)
     (p : ℕ) (t : Thread) (ht : getElem? (s .threads) p ≡ some t) (m : Mirror ω τ κ (c .threads) p t) where
   abbrev q : ℕ
   q = m .number
@@ -146,7 +157,8 @@ module _ (g : Program) (P : WellFormedProgram g) (Q : WaitlessProgram g) (S : Ma
 
   module _ (K : Context) (x : Redex) (he : t .expression ≡ plug K (redexExpression x)) where
     there : Next ω K x (focus top (u .expression))
-    there = next ω (along (λ (F : Focus). LikeFocus ω F (focus top (u .expression))) (ap (focus top) he ∙ found K x) (focus-like ω (C .names .zero-kept) (m .expr-like) k-top))
+    there = next ω (along (λ (F : Focus). LikeFocus ω F (focus top (u .expression))) (ap (focus top) he ∙ found K x)
+        (focus-like ω (C .names .zero-kept) (m .expr-like) k-top))
 
     spelt : (J : Context) (y : Redex) → focus top (u .expression) ≡ Focus.here J y → u .expression ≡ plug J (redexExpression y)
     unfolding whole
@@ -159,28 +171,40 @@ module _ (g : Program) (P : WellFormedProgram g) (Q : WaitlessProgram g) (S : Ma
   same-deep ω₂ z a b l = ap (λ (n : ℕ). ltb 32 n) (same-depth ω₂ (focus-like ω₂ z l k-top))
 
   -- with as many threads or fewer, and so on, the room before the move is there too
-  room-by : (ω₂ : Naming) (R : Rule) (s₁ c₁ : State) (t₁ u₁ : Thread) → getElem? (s₁ .threads) p ≡ some t₁ → getElem? (c₁ .threads) q ≡ some u₁ → ω₂ 0 ≡ some 0 → (d e : Expression) → Like ω₂ d e
+  room-by : (ω₂ : Naming) (R : Rule) (s₁ c₁ : State) (t₁ u₁ : Thread) → getElem? (s₁ .threads) p ≡ some t₁ → getElem? (c₁ .threads) q ≡ some u₁
+      → ω₂ 0 ≡ some 0 → (d e : Expression) → Like ω₂ d e
       → (anyDeep (drop (length (s .threads)) (become s₁ p d .threads)) ≡ false → anyDeep (drop (length (c .threads)) (become c₁ q e .threads)) ≡ false)
       → noRoomFor R s p (become s₁ p d) ≡ none → noRoomFor R c q (become c₁ q e) ≡ none
   unfolding noRoomFor noRoomBefore noRoomAfter become deepAt orElse
-  room-by ω₂ R s₁ c₁ t₁ u₁ h₁ h₂ z d e l more′ lk = both-none (noRoomBefore c R) _ (before-fewer R (first-none (noRoomBefore s R) _ lk)) (after-too (second-none (noRoomBefore s R) _ lk))
+  room-by ω₂ R s₁ c₁ t₁ u₁ h₁ h₂ z d e l more′ lk =
+      both-none (noRoomBefore c R) _ (before-fewer R (first-none (noRoomBefore s R) _ lk)) (after-too (second-none (noRoomBefore s R) _ lk))
     where
-      at-s : getElem? (changeAt (s₁ .threads) p (λ x. record { self = x .self; expression = d; keys = x .keys; learnt = x .learnt; place = x .place })) p ≡ some (record { self = t₁ .self; expression = d; keys = t₁ .keys; learnt = t₁ .learnt; place = t₁ .place })
+      at-s : getElem? (changeAt (s₁ .threads) p (λ x. record { self = x .self; expression = d; keys = x .keys; learnt = x .learnt; place = x .place })) p
+          ≡ some (record { self = t₁ .self; expression = d; keys = t₁ .keys; learnt = t₁ .learnt; place = t₁ .place })
       at-s = change-same (s₁ .threads) p _ t₁ h₁
 
-      at-c : getElem? (changeAt (c₁ .threads) q (λ x. record { self = x .self; expression = e; keys = x .keys; learnt = x .learnt; place = x .place })) q ≡ some (record { self = u₁ .self; expression = e; keys = u₁ .keys; learnt = u₁ .learnt; place = u₁ .place })
+      at-c : getElem? (changeAt (c₁ .threads) q (λ x. record { self = x .self; expression = e; keys = x .keys; learnt = x .learnt; place = x .place })) q
+          ≡ some (record { self = u₁ .self; expression = e; keys = u₁ .keys; learnt = u₁ .learnt; place = u₁ .place })
       at-c = change-same (c₁ .threads) q _ u₁ h₂
 
-      deep-s : deepAt (getElem? (become s₁ p d .threads) p) ≡ deep (record { self = t₁ .self; expression = d; keys = t₁ .keys; learnt = t₁ .learnt; place = t₁ .place })
+      deep-s : deepAt (getElem? (become s₁ p d .threads) p) ≡ deep
+          (record { self = t₁ .self; expression = d; keys = t₁ .keys; learnt = t₁ .learnt; place = t₁ .place })
       deep-s = ap deepAt at-s
 
-      deep-c : deepAt (getElem? (become c₁ q e .threads) q) ≡ deep (record { self = t₁ .self; expression = d; keys = t₁ .keys; learnt = t₁ .learnt; place = t₁ .place })
-      deep-c = ap deepAt at-c ∙ sym (same-deep ω₂ z (record { self = t₁ .self; expression = d; keys = t₁ .keys; learnt = t₁ .learnt; place = t₁ .place }) (record { self = u₁ .self; expression = e; keys = u₁ .keys; learnt = u₁ .learnt; place = u₁ .place }) l)
+      deep-c : deepAt (getElem? (become c₁ q e .threads) q) ≡ deep
+          (record { self = t₁ .self; expression = d; keys = t₁ .keys; learnt = t₁ .learnt; place = t₁ .place })
+      deep-c = ap deepAt at-c
+          ∙ sym (same-deep ω₂ z (record { self = t₁ .self; expression = d; keys = t₁ .keys; learnt = t₁ .learnt; place = t₁ .place })
+          (record { self = u₁ .self; expression = e; keys = u₁ .keys; learnt = u₁ .learnt; place = u₁ .place }) l)
 
-      after-too : cond (deepAt (getElem? (become s₁ p d .threads) p) || anyDeep (drop (length (s .threads)) (become s₁ p d .threads))) (some Room.depth) none ≡ none → cond (deepAt (getElem? (become c₁ q e .threads) q) || anyDeep (drop (length (c .threads)) (become c₁ q e .threads))) (some Room.depth) none ≡ none
-      after-too x = go (deepAt (getElem? (become s₁ p d .threads) p)) (anyDeep (drop (length (s .threads)) (become s₁ p d .threads))) (deepAt (getElem? (become c₁ q e .threads) q)) (anyDeep (drop (length (c .threads)) (become c₁ q e .threads))) (deep-s ∙ sym deep-c) more′ x
+      after-too : cond (deepAt (getElem? (become s₁ p d .threads) p) || anyDeep (drop (length (s .threads)) (become s₁ p d .threads)))
+          (some Room.depth) none ≡ none → cond (deepAt (getElem? (become c₁ q e .threads) q) || anyDeep (drop (length (c .threads)) (become c₁ q e .threads)))
+          (some Room.depth) none ≡ none
+      after-too x = go (deepAt (getElem? (become s₁ p d .threads) p)) (anyDeep (drop (length (s .threads)) (become s₁ p d .threads)))
+          (deepAt (getElem? (become c₁ q e .threads) q)) (anyDeep (drop (length (c .threads)) (become c₁ q e .threads))) (deep-s ∙ sym deep-c) more′ x
         where
-          go : (a b a′ b′ : Bool) → a ≡ a′ → (b ≡ false → b′ ≡ false) → cond (a || b) (some Room.depth) none ≡ none → cond (a′ || b′) (some Room.depth) none ≡ none
+          go : (a b a′ b′ : Bool) → a ≡ a′ → (b ≡ false → b′ ≡ false) → cond (a || b) (some Room.depth) none ≡ none
+              → cond (a′ || b′) (some Room.depth) none ≡ none
           go true b a′ b′ q′ f x = let y : _≡_ {A = ℕ} 0 1 = cc in absurd (omega arith)
           go false true a′ b′ q′ f x = let y : _≡_ {A = ℕ} 0 1 = cc in absurd (omega arith)
           go false false true b′ q′ f x = let y : _≡_ {A = ℕ} 0 1 = cc in absurd (omega arith)
@@ -198,7 +222,8 @@ module _ (g : Program) (P : WellFormedProgram g) (Q : WaitlessProgram g) (S : Ma
       both-none none b x y = y
       both-none (some r) b x y = let z : _≡_ {A = ℕ} 0 1 = cc in absurd (omega arith)
 
-      smaller : (n a b : ℕ) (k : Room) (r r′ : Option Room) → b ≤ a → (r ≡ none → r′ ≡ none) → cond (leb n a) (some k) r ≡ none → cond (leb n b) (some k) r′ ≡ none
+      smaller : (n a b : ℕ) (k : Room) (r r′ : Option Room) → b ≤ a → (r ≡ none → r′ ≡ none) → cond (leb n a) (some k) r ≡ none
+          → cond (leb n b) (some k) r′ ≡ none
       smaller n a b k r r′ le f x = go (leb n a) (leb n b) refl refl x
         where
           go : (y w : Bool) → leb n a ≡ y → leb n b ≡ w → cond y (some k) r ≡ none → cond w (some k) r′ ≡ none
@@ -221,7 +246,9 @@ module _ (g : Program) (P : WellFormedProgram g) (Q : WaitlessProgram g) (S : Ma
       before-fewer Rule.e-write x = smaller 256 (s .nextKey) (c .nextKey) Room.key none none (C .names .fewer-keys) (λ y. y) x
       before-fewer Rule.e-readv x = refl
       before-fewer Rule.e-writev x = refl
-      before-fewer Rule.e-fork x = smaller 8 (length (s .threads)) (length (c .threads)) Room.thread _ _ (C .names .fewer-threads) (λ y. smaller 32 (length (s .objects)) (length (c .objects)) Room.object none none (C .names .fewer-objects) (λ y. y) y) x
+      before-fewer Rule.e-fork x =
+          smaller 8 (length (s .threads)) (length (c .threads)) Room.thread _ _ (C .names .fewer-threads)
+          (λ y. smaller 32 (length (s .objects)) (length (c .objects)) Room.object none none (C .names .fewer-objects) (λ y. y) y) x
       before-fewer Rule.e-join x = refl
       before-fewer Rule.e-re-enter x = refl
       before-fewer Rule.e-acquire x = refl
@@ -231,10 +258,16 @@ module _ (g : Program) (P : WellFormedProgram g) (Q : WaitlessProgram g) (S : Ma
       before-fewer Rule.e-notify x = refl
       before-fewer Rule.e-notifyall x = refl
 
-  room-same : (ω₂ : Naming) (R : Rule) (s₁ c₁ : State) (t₁ u₁ : Thread) → getElem? (s₁ .threads) p ≡ some t₁ → getElem? (c₁ .threads) q ≡ some u₁ → length (s₁ .threads) ≡ length (s .threads) → length (c₁ .threads) ≡ length (c .threads) → ω₂ 0 ≡ some 0 → (d e : Expression) → Like ω₂ d e
+  room-same : (ω₂ : Naming) (R : Rule) (s₁ c₁ : State) (t₁ u₁ : Thread) → getElem? (s₁ .threads) p ≡ some t₁ → getElem? (c₁ .threads) q ≡ some u₁
+      → length (s₁ .threads) ≡ length (s .threads) → length (c₁ .threads) ≡ length (c .threads) → ω₂ 0 ≡ some 0 → (d e : Expression) → Like ω₂ d e
       → noRoomFor R s p (become s₁ p d) ≡ none → noRoomFor R c q (become c₁ q e) ≡ none
   unfolding become anyDeep
-  room-same ω₂ R s₁ c₁ t₁ u₁ h₁ h₂ x y z d e l = room-by ω₂ R s₁ c₁ t₁ u₁ h₁ h₂ z d e l (λ _. ap anyDeep (drop-of-length-le (changeAt (c₁ .threads) q (λ w. record { self = w .self; expression = e; keys = w .keys; learnt = w .learnt; place = w .place })) {i = length (c .threads)} (omega (arith, change-length (c₁ .threads) q (λ w. record { self = w .self; expression = e; keys = w .keys; learnt = w .learnt; place = w .place }), y))))
+  room-same ω₂ R s₁ c₁ t₁ u₁ h₁ h₂ x y z d e l =
+      room-by ω₂ R s₁ c₁ t₁ u₁ h₁ h₂ z d e l
+      (λ _. ap anyDeep (drop-of-length-le
+      (changeAt (c₁ .threads) q (λ w. record { self = w .self; expression = e; keys = w .keys; learnt = w .learnt; place = w .place })) {i =
+      length (c .threads)} (omega
+      (arith, change-length (c₁ .threads) q (λ w. record { self = w .self; expression = e; keys = w .keys; learnt = w .learnt; place = w .place }), y))))
 
   drop-new : (ts : List Thread) (x : Thread) (i : ℕ) (h : Thread → Thread) → i < length ts → drop (length ts) (changeAt (ts ++ (x ∷ [])) i h) ≡ x ∷ []
   unfolding changeAt
@@ -248,8 +281,12 @@ module _ (g : Program) (P : WellFormedProgram g) (Q : WaitlessProgram g) (S : Ma
 
   -- the depth of a new thread
   deep-new : {ω₂ : Naming} (a b : Thread) (d e : Expression) → ω₂ 0 ≡ some 0 → Like ω₂ (a .expression) (b .expression)
-      → anyDeep (drop (length (s .threads)) (changeAt (s .threads ++ (a ∷ [])) p (λ x. record { self = x .self; expression = d; keys = x .keys; learnt = x .learnt; place = x .place }))) ≡ false
-      → anyDeep (drop (length (c .threads)) (changeAt (c .threads ++ (b ∷ [])) q (λ x. record { self = x .self; expression = e; keys = x .keys; learnt = x .learnt; place = x .place }))) ≡ false
+      → anyDeep (drop (length (s .threads))
+      (changeAt (s .threads ++ (a ∷ [])) p (λ x. record { self = x .self; expression = d; keys = x .keys; learnt = x .learnt; place = x .place })))
+      ≡ false
+      → anyDeep (drop (length (c .threads))
+      (changeAt (c .threads ++ (b ∷ [])) q (λ x. record { self = x .self; expression = e; keys = x .keys; learnt = x .learnt; place = x .place })))
+      ≡ false
   unfolding anyDeep
   deep-new {ω₂} a b d e z l x =
       ap anyDeep (drop-new (c .threads) b q _ (inside (c .threads) q u (m .there)))
@@ -261,9 +298,12 @@ module _ (g : Program) (P : WellFormedProgram g) (Q : WaitlessProgram g) (S : Ma
   Facing K x G = (J : Context) (y : Redex) → LikePart ω x y → LikeContext ω K J → u .expression ≡ plug J (redexExpression y) → G
 
   -- what a rule that makes no thread comes to, where its state s₁ but for the mover's expression corresponds to c₁ of the same rule in the other run
-  leaves : (ω₂ κ₂ : Naming) → Extends ω ω₂ → (s₁ c₁ : State) → Corresponds g S H ω₂ τ κ₂ s₁ c₁ → (t₁ u₁ : Thread) → getElem? (s₁ .threads) p ≡ some t₁ → getElem? (c₁ .threads) q ≡ some u₁
-      → length (s₁ .threads) ≡ length (s .threads) → length (c₁ .threads) ≡ length (c .threads) → ω₂ (t₁ .self) ≡ some (u₁ .self) → KeysIn κ₂ (t₁ .keys) (u₁ .keys)
-      → (R : Rule) → forks R ≡ false → (K J : Context) {r : Option Record} {e′ : Expression} (d d′ : Expression) → LikeContext ω K J → u .expression ≡ plug J e′ → Converts g c q u e′ R r c₁ d′ → Like ω₂ d d′
+  leaves : (ω₂ κ₂ : Naming) → Extends ω ω₂ → (s₁ c₁ : State) → Corresponds g S H ω₂ τ κ₂ s₁ c₁ → (t₁ u₁ : Thread) → getElem? (s₁ .threads) p ≡ some t₁
+      → getElem? (c₁ .threads) q ≡ some u₁
+      → length (s₁ .threads) ≡ length (s .threads) → length (c₁ .threads) ≡ length (c .threads) → ω₂ (t₁ .self) ≡ some (u₁ .self)
+      → KeysIn κ₂ (t₁ .keys) (u₁ .keys)
+      → (R : Rule) → forks R ≡ false → (K J : Context) {r : Option Record} {e′ : Expression} (d d′ : Expression) → LikeContext ω K J
+      → u .expression ≡ plug J e′ → Converts g c q u e′ R r c₁ d′ → Like ω₂ d d′
       → Follows g S H ω τ s p c q R (become s₁ p (plug K d))
   unfolding become
   leaves ω₂ κ₂ wd s₁ c₁ C₁ t₁ u₁ at at′ many many′ selves keys R nf K J {r} d d′ k h cv l =
@@ -287,26 +327,33 @@ module _ (g : Program) (P : WellFormedProgram g) (Q : WaitlessProgram g) (S : Ma
   same-names o a h = h
 
   -- a move that leaves the movers' objects and keys alone
-  alters : (s₁ c₁ : State) → s₁ .threads ≡ s .threads → c₁ .threads ≡ c .threads → Corresponds g S H ω τ κ s₁ c₁ → (R : Rule) → forks R ≡ false → (K J : Context) {r : Option Record} {e′ : Expression} (d d′ : Expression)
+  alters : (s₁ c₁ : State) → s₁ .threads ≡ s .threads → c₁ .threads ≡ c .threads → Corresponds g S H ω τ κ s₁ c₁ → (R : Rule) → forks R ≡ false
+      → (K J : Context) {r : Option Record} {e′ : Expression} (d d′ : Expression)
       → LikeContext ω K J → u .expression ≡ plug J e′ → Converts g c q u e′ R r c₁ d′ → Like ω d d′ → Follows g S H ω τ s p c q R (become s₁ p (plug K d))
   alters s₁ c₁ e e′ C₁ =
-      leaves ω κ same-names s₁ c₁ C₁ t u (ap (λ (l : List Thread). getElem? l p) e ∙ ht) (ap (λ (l : List Thread). getElem? l q) e′ ∙ m .there) (ap length e) (ap length e′) (m .self-like) (m .keys-like)
+      leaves ω κ same-names s₁ c₁ C₁ t u (ap (λ (l : List Thread). getElem? l p) e ∙ ht) (ap (λ (l : List Thread). getElem? l q) e′ ∙ m .there) (ap length e)
+      (ap length e′) (m .self-like) (m .keys-like)
 
   -- a move that leaves the rest of the state alone
-  still : (R : Rule) → forks R ≡ false → (K J : Context) {r : Option Record} {e′ : Expression} (d d′ : Expression) → LikeContext ω K J → u .expression ≡ plug J e′ → Converts g c q u e′ R r c d′ → Like ω d d′
+  still : (R : Rule) → forks R ≡ false → (K J : Context) {r : Option Record} {e′ : Expression} (d d′ : Expression) → LikeContext ω K J
+      → u .expression ≡ plug J e′ → Converts g c q u e′ R r c d′ → Like ω d d′
       → Follows g S H ω τ s p c q R (become s p (plug K d))
   still = alters s c refl refl C
 
   -- a move after which the movers gain keys
-  gains : (s₁ c₁ : State) → s₁ .threads ≡ s .threads → c₁ .threads ≡ c .threads → (κ₂ : Naming) → Corresponds g S H ω τ κ₂ s₁ c₁ → KeysIn κ₂ (t .keys) (u .keys) → (W W′ : Keys) → KeysIn κ₂ W W′ → (n n′ : Keys → ℕ)
-      → (R : Rule) → forks R ≡ false → (K J : Context) {r : Option Record} {e′ : Expression} (d d′ : Expression) → LikeContext ω K J → u .expression ≡ plug J e′ → Converts g c q u e′ R r (gain c₁ q W′ n′) d′ → Like ω d d′
+  gains : (s₁ c₁ : State) → s₁ .threads ≡ s .threads → c₁ .threads ≡ c .threads → (κ₂ : Naming) → Corresponds g S H ω τ κ₂ s₁ c₁
+      → KeysIn κ₂ (t .keys) (u .keys) → (W W′ : Keys) → KeysIn κ₂ W W′ → (n n′ : Keys → ℕ)
+      → (R : Rule) → forks R ≡ false → (K J : Context) {r : Option Record} {e′ : Expression} (d d′ : Expression) → LikeContext ω K J
+      → u .expression ≡ plug J e′ → Converts g c q u e′ R r (gain c₁ q W′ n′) d′ → Like ω d d′
       → Follows g S H ω τ s p c q R (become (gain s₁ p W n) p (plug K d))
   unfolding gain
   gains s₁ c₁ e e′ κ₂ C₁ old W W′ w n n′ =
       let at : getElem? (s₁ .threads) p ≡ some t = ap (λ (l : List Thread). getElem? l p) e ∙ ht in
       let at′ : getElem? (c₁ .threads) q ≡ some u = ap (λ (l : List Thread). getElem? l q) e′ ∙ m .there in
-      leaves ω κ₂ same-names (gain s₁ p W n) (gain c₁ q W′ n′) (corr-gain g S H ω τ κ₂ s₁ c₁ C₁ p q t u (m .named) at at′ (m .self-like) (m .expr-like) old W W′ n n′ w)
-      (gained t W n) (gained u W′ n′) (change-same (s₁ .threads) p _ t at) (change-same (c₁ .threads) q _ u at′) (change-length (s₁ .threads) p _ ∙ ap length e) (change-length (c₁ .threads) q _ ∙ ap length e′)
+      leaves ω κ₂ same-names (gain s₁ p W n) (gain c₁ q W′ n′)
+      (corr-gain g S H ω τ κ₂ s₁ c₁ C₁ p q t u (m .named) at at′ (m .self-like) (m .expr-like) old W W′ n n′ w)
+      (gained t W n) (gained u W′ n′) (change-same (s₁ .threads) p _ t at) (change-same (c₁ .threads) q _ u at′)
+      (change-length (s₁ .threads) p _ ∙ ap length e) (change-length (c₁ .threads) q _ ∙ ap length e′)
       (m .self-like) (keys-both κ₂ W (t .keys) W′ (u .keys) w old)
 
   -- what a volatile access passes on, by the version
@@ -338,7 +385,8 @@ module _ (g : Program) (P : WellFormedProgram g) (Q : WaitlessProgram g) (S : Ma
       still Rule.e-call refl K J _ _ k sp (E-CALL as′ hd (hp ∙ length-like ω l))
       (filled ω (itself ω g (C .names .zero-kept) _ (d .body) (P .bodies f d hd) (Q .bodies f d hd)) (bindParameters os) (bindParameters as′) (params-like ω l))
 
-  f-let : (K : Context) (x : Option ℕ) (o : ℕ) (e : Expression) → Facing K (Redex.letIn x o e) (Follows g S H ω τ s p c q Rule.e-let (become s p (plug K (substitute (bind x o) e))))
+  f-let : (K : Context) (x : Option ℕ) (o : ℕ) (e : Expression)
+      → Facing K (Redex.letIn x o e) (Follows g S H ω τ s p c q Rule.e-let (become s p (plug K (substitute (bind x o) e))))
   unfolding redexExpression
   f-let K x o e J y (r-lets {a = a} n l) k sp = still Rule.e-let refl K J _ _ k sp E-LET (filled ω l (bind x o) (bind x a) (bind-like ω x o a n))
 
@@ -350,13 +398,17 @@ module _ (g : Program) (P : WellFormedProgram g) (Q : WaitlessProgram g) (S : Ma
   unfolding redexExpression
   f-if K b e e′ J y (r-if l l′) k sp = still Rule.e-if refl K J _ _ k sp (E-IF b) (choose-like b l l′)
 
-  f-while : (K : Context) (b : Condition) (e : Expression) → Facing K (Redex.while b e) (Follows g S H ω τ s p c q Rule.e-while (become s p (plug K (Expression.if b (sequence e (Expression.while b e)) (literal 0)))))
+  f-while : (K : Context) (b : Condition) (e : Expression)
+      → Facing K (Redex.while b e)
+      (Follows g S H ω τ s p c q Rule.e-while (become s p (plug K (Expression.if b (sequence e (Expression.while b e)) (literal 0)))))
   unfolding redexExpression sequence
   f-while K b e J y (r-while l l′) k sp = still Rule.e-while refl K J _ _ k sp E-WHILE (e-if l (e-lets l′ (e-while l l′)) (e-lit (C .names .zero-kept)))
 
-  f-read : (K : Context) (o f w v : ℕ) → lookup s o f ≡ some (cell (singleton w) v) → holds (t .keys) w ≡ true → isVolatile g f ≡ false → Facing K (Redex.read o f) (Follows g S H ω τ s p c q Rule.e-read (become s p (plug K (literal v))))
+  f-read : (K : Context) (o f w v : ℕ) → lookup s o f ≡ some (cell (singleton w) v) → holds (t .keys) w ≡ true → isVolatile g f ≡ false
+      → Facing K (Redex.read o f) (Follows g S H ω τ s p c q Rule.e-read (become s p (plug K (literal v))))
   unfolding redexExpression
-  f-read K o f w v h k vol J y (r-read {a = a} n) kk sp = let x = access o a f w v n h k vol in still Rule.e-read refl K J _ _ kk sp (E-READ (x .0) (x .2) (x .3) vol) (e-lit (x .4))
+  f-read K o f w v h k vol J y (r-read {a = a} n) kk sp = let x =
+      access o a f w v n h k vol in still Rule.e-read refl K J _ _ kk sp (E-READ (x .0) (x .2) (x .3) vol) (e-lit (x .4))
 
   f-readv : (K : Context) (o f v : ℕ) (W : Keys) → lookup s o f ≡ some (cell W v) → isVolatile g f ≡ true → Live S H (ofVolatile o f)
       → Facing K (Redex.read o f) (Follows g S H ω τ s p c q Rule.e-readv (become (hear s p (passedOn (g .version) W)) p (plug K (literal v))))
@@ -367,9 +419,11 @@ module _ (g : Program) (P : WellFormedProgram g) (Q : WaitlessProgram g) (S : Ma
       gains s c refl refl κ C (m .keys-like) (passedOn (g .version) W) (passedOn (g .version) (x .0 .keys)) (passed-in (g .version) W (x .0 .keys) (z .0)) _ _
       Rule.e-readv refl K J _ _ k sp (E-READV {v = x .0 .value} {W = x .0 .keys} (x .1) vol) (e-lit (z .1))
 
-  f-re-enter : (K : Context) (o : ℕ) (e : Expression) → monitor s o ≡ some (heldBy t) → Live S H (ofThread p) → Facing K (Redex.synch o e) (Follows g S H ω τ s p c q Rule.e-re-enter (become s p (plug K e)))
+  f-re-enter : (K : Context) (o : ℕ) (e : Expression) → monitor s o ≡ some (heldBy t) → Live S H (ofThread p)
+      → Facing K (Redex.synch o e) (Follows g S H ω τ s p c q Rule.e-re-enter (become s p (plug K e)))
   unfolding redexExpression
-  f-re-enter K o e h l J y (r-synch {a = a} n b) k sp = still Rule.e-re-enter refl K J _ _ k sp (E-RE-ENTER (C .held o a p (u .self) t n ht l h (m .self-like))) b
+  f-re-enter K o e h l J y (r-synch {a = a} n b) k sp =
+      still Rule.e-re-enter refl K J _ _ k sp (E-RE-ENTER (C .held o a p (u .self) t n ht l h (m .self-like))) b
 
   f-join : (K : Context) (o v : ℕ) (w : Numbered) → threadOf 0 (s .threads) o ≡ some w → w .thread .expression ≡ literal v → Live S H (ofThread (w .number))
       → Facing K (Redex.join o) (Follows g S H ω τ s p c q Rule.e-join (become (hear s p (w .thread .keys)) p (plug K (literal v))))
@@ -381,17 +435,23 @@ module _ (g : Program) (P : WellFormedProgram g) (Q : WaitlessProgram g) (S : Ma
       let x = like-lit v (like-same e (b .expr-like)) in
       let self : b .thread .self ≡ a = same-name o (b .thread .self) a (ap ω (sym (j .3)) ∙ b .self-like) n in
       gains s c refl refl κ C (m .keys-like) (w .thread .keys) (b .thread .keys) (b .keys-like) _ _ Rule.e-join refl K J _ _ k sp
-      (E-JOIN (finds (c .threads) 0 (b .number) a (b .thread) (b .there) self (λ i z hz ez. I′ .apart i (b .number) z (b .thread) hz (b .there) (ez ∙ sym self)) (b .number) (omega arith)) (x .1)) (e-lit (x .2))
+      (E-JOIN (finds (c .threads) 0 (b .number) a (b .thread) (b .there) self
+      (λ i z hz ez. I′ .apart i (b .number) z (b .thread) hz (b .there) (ez ∙ sym self)) (b .number) (omega arith)) (x .1)) (e-lit (x .2))
 
-  f-new : (K : Context) (fs : List ℕ) → Facing K (Redex.new fs) (Follows g S H ω τ s p c q Rule.e-new (become (addObject s (freshObject fs)) p (plug K (literal (length (s .objects))))))
+  f-new : (K : Context) (fs : List ℕ)
+      → Facing K (Redex.new fs) (Follows g S H ω τ s p c q Rule.e-new (become (addObject s (freshObject fs)) p (plug K (literal (length (s .objects))))))
   unfolding redexExpression addObject
   f-new K fs J y r-new k sp =
       let ω₂ : Naming = put ω (length (s .objects)) (some (length (c .objects))) in
       let wd : Extends ω ω₂ = Made.wide g S H ω τ κ s c C fs in
-      leaves ω₂ κ wd (addObject s (freshObject fs)) (addObject c (freshObject fs)) (corr-new g S H ω τ κ s c C fs (λ i z hz. I .each i z hz .self-there)) t u ht (m .there) refl refl
-      (wd (t .self) (u .self) (m .self-like)) (m .keys-like) Rule.e-new refl K J _ _ k sp E-NEW (e-lit (put-same ω (length (s .objects)) (some (length (c .objects)))))
+      leaves ω₂ κ wd (addObject s (freshObject fs)) (addObject c (freshObject fs))
+      (corr-new g S H ω τ κ s c C fs (λ i z hz. I .each i z hz .self-there)) t u ht (m .there) refl refl
+      (wd (t .self) (u .self) (m .self-like)) (m .keys-like) Rule.e-new refl K J _ _ k sp E-NEW
+      (e-lit (put-same ω (length (s .objects)) (some (length (c .objects)))))
 
-  f-fork : (K : Context) (e : Expression) → Facing K (Redex.fork e) (Follows g S H ω τ s p c q Rule.e-fork (become (addThread (addObject s (freshObject [])) (forked s t e)) p (plug K (literal (length (s .objects))))))
+  f-fork : (K : Context) (e : Expression)
+      → Facing K (Redex.fork e)
+      (Follows g S H ω τ s p c q Rule.e-fork (become (addThread (addObject s (freshObject [])) (forked s t e)) p (plug K (literal (length (s .objects))))))
   unfolding redexExpression addObject addThread become changeAt
   f-fork K e J y (r-fork {e = e′} l) k sp =
       let ω₂ : Naming = put ω (length (s .objects)) (some (length (c .objects))) in
@@ -402,7 +462,8 @@ module _ (g : Program) (P : WellFormedProgram g) (Q : WaitlessProgram g) (S : Ma
       let new-c : Thread = forked c u e′ in
       let C₁ = corr-new g S H ω τ κ s c C [] (λ i z hz. I .each i z hz .self-there) in
       let name : ω₂ (length (s .objects)) ≡ some (length (c .objects)) = put-same ω (length (s .objects)) (some (length (c .objects))) in
-      let C₂ = corr-thread g S H ω₂ τ κ (addObject s (freshObject [])) (addObject c (freshObject [])) C₁ new-s new-c (wider ω ω₂ wd l) name (m .keys-like) no-owner in
+      let C₂ = corr-thread g S H ω₂ τ κ (addObject s (freshObject [])) (addObject c (freshObject [])) C₁ new-s new-c (wider ω ω₂ wd l) name
+      (m .keys-like) no-owner in
       record {
         after = become (addThread (addObject c (freshObject [])) new-c) q (plug J (literal (length (c .objects))));
         entry = _;
@@ -410,10 +471,16 @@ module _ (g : Program) (P : WellFormedProgram g) (Q : WaitlessProgram g) (S : Ma
         τ′ = τ₂;
         κ′ = κ;
         moves = EVAL J (m .there) sp E-FORK;
-        corr = corr-become g S H ω₂ τ₂ κ (addThread (addObject s (freshObject [])) new-s) (addThread (addObject c (freshObject [])) new-c) C₂ p q t u (wt p q (m .named)) (added-old (s .threads) new-s p (inside (s .threads) p t ht) ∙ ht) (added-old (c .threads) new-c q (inside (c .threads) q u (m .there)) ∙ m .there) (wd (t .self) (u .self) (m .self-like)) (m .keys-like) _ _ (plug-like ω₂ (widerK ω ω₂ wd k) (e-lit name));
+        corr = corr-become g S H ω₂ τ₂ κ (addThread (addObject s (freshObject [])) new-s) (addThread (addObject c (freshObject [])) new-c) C₂ p q t u
+            (wt p q (m .named)) (added-old (s .threads) new-s p (inside (s .threads) p t ht) ∙ ht)
+            (added-old (c .threads) new-c q (inside (c .threads) q u (m .there)) ∙ m .there) (wd (t .self) (u .self) (m .self-like)) (m .keys-like) _ _
+            (plug-like ω₂ (widerK ω ω₂ wd k) (e-lit name));
         wide-objects = wd;
         wide-threads = wt;
-        room = room-by ω₂ Rule.e-fork (addThread (addObject s (freshObject [])) new-s) (addThread (addObject c (freshObject [])) new-c) t u (added-old (s .threads) new-s p (inside (s .threads) p t ht) ∙ ht) (added-old (c .threads) new-c q (inside (c .threads) q u (m .there)) ∙ m .there) (wd 0 0 (C .names .zero-kept)) _ _ (plug-like ω₂ (widerK ω ω₂ wd k) (e-lit name)) (deep-new new-s new-c _ _ (wd 0 0 (C .names .zero-kept)) (wider ω ω₂ wd l));
+        room = room-by ω₂ Rule.e-fork (addThread (addObject s (freshObject [])) new-s) (addThread (addObject c (freshObject [])) new-c) t u
+            (added-old (s .threads) new-s p (inside (s .threads) p t ht) ∙ ht) (added-old (c .threads) new-c q (inside (c .threads) q u (m .there))
+            ∙ m .there) (wd 0 0 (C .names .zero-kept)) _ _ (plug-like ω₂ (widerK ω ω₂ wd k) (e-lit name))
+            (deep-new new-s new-c _ _ (wd 0 0 (C .names .zero-kept)) (wider ω ω₂ wd l));
         renamed = λ i. refl;
         counted = change-length (c .threads ++ (new-c ∷ [])) q _ ∙ length-added (c .threads) new-c;
       }
@@ -421,7 +488,8 @@ module _ (g : Program) (P : WellFormedProgram g) (Q : WaitlessProgram g) (S : Ma
       no-owner : (o : ℕ) → monitor (addObject s (freshObject [])) o ≡ some (record { keys = empty; value = length (s .objects) }) → ⊥
       no-owner o h = go (new-monitors s [] o)
         where
-          go : (monitor (addObject s (freshObject [])) o ≡ monitor s o) ⊎ ((length (s .objects) ≡ o) × (monitor s o ≡ none) × (monitor (addObject s (freshObject [])) o ≡ some fresh)) → ⊥
+          go : (monitor (addObject s (freshObject [])) o ≡ monitor s o) ⊎
+              ((length (s .objects) ≡ o) × (monitor s o ≡ none) × (monitor (addObject s (freshObject [])) o ≡ some fresh)) → ⊥
           go (inl e) = let b = I .owners o (record { keys = empty; value = length (s .objects) }) (sym e ∙ h) in omega arith
           go (inr (_, _, e)) =
               let j : some fresh ≡ some (record { keys = empty; value = length (s .objects) }) = sym e ∙ h in
@@ -430,7 +498,9 @@ module _ (g : Program) (P : WellFormedProgram g) (Q : WaitlessProgram g) (S : Ma
               omega arith
 
   f-write : (K : Context) (o f w₀ u₀ v : ℕ) → lookup s o f ≡ some (cell (singleton w₀) u₀) → holds (t .keys) w₀ ≡ true → isVolatile g f ≡ false
-      → Facing K (Redex.write o f v) (Follows g S H ω τ s p c q Rule.e-write (become (learn (store (useKey s) o f (cell (singleton (s .nextKey)) v)) p (singleton (s .nextKey))) p (plug K (literal v))))
+      → Facing K (Redex.write o f v)
+      (Follows g S H ω τ s p c q Rule.e-write
+      (become (learn (store (useKey s) o f (cell (singleton (s .nextKey)) v)) p (singleton (s .nextKey))) p (plug K (literal v))))
   unfolding redexExpression store useKey lookup
   f-write K o f w₀ u₀ v h hk plain J y (r-write {a = a} {w = v′} n nv) k sp =
       let x = access o a f w₀ u₀ n h hk plain in
@@ -439,14 +509,18 @@ module _ (g : Program) (P : WellFormedProgram g) (Q : WaitlessProgram g) (S : Ma
       let new-s : Cell = cell (singleton (s .nextKey)) v in
       let new-c : Cell = cell (singleton (c .nextKey)) v′ in
       gains (store (useKey s) o f new-s) (store (useKey c) a f new-c) refl refl κ₂
-      (corr-store g S H ω τ κ₂ (useKey s) (useKey c) (corr-key g S H ω τ κ s c C small positive) o a f (cell (singleton w₀) u₀) (cell (singleton (x .0)) (x .1)) new-s new-c n h (x .2) (fresh-key plain v v′ nv))
+      (corr-store g S H ω τ κ₂ (useKey s) (useKey c) (corr-key g S H ω τ κ s c C small positive) o a f (cell (singleton w₀) u₀)
+      (cell (singleton (x .0)) (x .1)) new-s new-c n h (x .2) (fresh-key plain v v′ nv))
       (keys-wider κ κ₂ lg (t .keys) (u .keys) (m .keys-like)) (singleton (s .nextKey)) (singleton (c .nextKey)) one-key _ _
       Rule.e-write refl K J _ _ k sp (E-WRITE (x .0) (x .2) (x .3) plain) (e-lit nv)
     where
       one-key : KeysIn (put κ (s .nextKey) (some (c .nextKey))) (singleton (s .nextKey)) (singleton (c .nextKey))
       one-key i b =
-          let e : i ≡ s .nextKey = eqb→eq i (s .nextKey) (rw (holds-singleton (s .nextKey) i) at b) in
-          (c .nextKey, ap (put κ (s .nextKey) (some (c .nextKey))) e ∙ put-same κ (s .nextKey) (some (c .nextKey)), along T (sym (holds-singleton (c .nextKey) (c .nextKey))) (eqb-refl (c .nextKey)))
+          let e : i ≡ s .nextKey = eqb→eq i (s .nextKey) (rw (holds-singleton (s .nextKey) i) at b) in (
+            c .nextKey,
+            ap (put κ (s .nextKey) (some (c .nextKey))) e ∙ put-same κ (s .nextKey) (some (c .nextKey)),
+            along T (sym (holds-singleton (c .nextKey) (c .nextKey))) (eqb-refl (c .nextKey)),
+          )
 
       fresh-key : isVolatile g f ≡ false → (v v′ : ℕ) → ω v ≡ some v′
           → FieldLike g S H ω (put κ (s .nextKey) (some (c .nextKey))) o f (cell (singleton (s .nextKey)) v) (cell (singleton (c .nextKey)) v′)
@@ -460,7 +534,8 @@ module _ (g : Program) (P : WellFormedProgram g) (Q : WaitlessProgram g) (S : Ma
       }
 
   f-writev : (K : Context) (o f u₀ v : ℕ) (W : Keys) → lookup s o f ≡ some (cell W u₀) → isVolatile g f ≡ true
-      → Facing K (Redex.write o f v) (Follows g S H ω τ s p c q Rule.e-writev (become (store s o f (cell (union W (passedOn (g .version) (t .keys))) v)) p (plug K (literal v))))
+      → Facing K (Redex.write o f v)
+      (Follows g S H ω τ s p c q Rule.e-writev (become (store s o f (cell (union W (passedOn (g .version) (t .keys))) v)) p (plug K (literal v))))
   unfolding redexExpression store
   f-writev K o f u₀ v W h vo J y (r-write {a = a} {w = v′} n nv) k sp =
       let x = C .fields o a f (cell W u₀) n h in
@@ -476,13 +551,15 @@ module _ (g : Program) (P : WellFormedProgram g) (Q : WaitlessProgram g) (S : Ma
       Rule.e-writev refl K J _ _ k sp (E-WRITEV {u = x .0 .value} {W = x .0 .keys} (x .1) vo) (e-lit nv)
 
   f-acquire : (K : Context) (o : ℕ) (e : Expression) (d : Cell) → monitor s o ≡ some d → isEmpty (d .keys) ≡ false → Live S H (ofMonitor o)
-      → Facing K (Redex.synch o e) (Follows g S H ω τ s p c q Rule.e-acquire (become (hear (storeMonitor s o (heldBy t)) p (d .keys)) p (plug K (Expression.hold o e))))
+      → Facing K (Redex.synch o e)
+      (Follows g S H ω τ s p c q Rule.e-acquire (become (hear (storeMonitor s o (heldBy t)) p (d .keys)) p (plug K (Expression.hold o e))))
   unfolding redexExpression storeMonitor
   f-acquire K o e d h f l J y (r-synch {a = a} n b) k sp =
       let x = C .free o a d n h f l in
       gains (storeMonitor s o (heldBy t)) (storeMonitor c a (heldBy u)) refl refl κ
       (corr-lock g S H ω τ κ s c C o a d (x .0) (heldBy t) (heldBy u) n h (x .1) (λ z. absurd (empty-full z)) same-holder)
-      (m .keys-like) (d .keys) (x .0 .keys) (x .3) _ _ Rule.e-acquire refl K J _ _ k sp (E-ACQUIRE {u = x .0 .value} {W = x .0 .keys} (x .1) (x .2)) (e-hold n b)
+      (m .keys-like) (d .keys) (x .0 .keys) (x .3) _ _ Rule.e-acquire refl K J _ _ k sp (E-ACQUIRE {u = x .0 .value} {W = x .0 .keys} (x .1) (x .2))
+      (e-hold n b)
     where
       same-holder : (z b : ℕ) → heldBy t ≡ record { keys = empty; value = z } → ω z ≡ some b → heldBy u ≡ record { keys = empty; value = b }
       same-holder z b e w =
@@ -517,7 +594,8 @@ module _ (g : Program) (P : WellFormedProgram g) (Q : WaitlessProgram g) (S : Ma
   -- a notify of either kind: nothing here speaks of the places that it changes
   f-signal : (K : Context) (o : ℕ) (k : Signal) (h : ℕ → ℕ) (R : Rule) → forks R ≡ false
       → ((a : ℕ) → monitor c a ≡ some (heldBy u) → Converts g c q u (Expression.signal k (literal a)) R none (signalled h c a) (literal 0))
-      → monitor s o ≡ some (heldBy t) → Live S H (ofThread p) → Facing K (Redex.signal k o) (Follows g S H ω τ s p c q R (become (signalled h s o) p (plug K (literal 0))))
+      → monitor s o ≡ some (heldBy t) → Live S H (ofThread p)
+      → Facing K (Redex.signal k o) (Follows g S H ω τ s p c q R (become (signalled h s o) p (plug K (literal 0))))
   unfolding redexExpression
   f-signal K o k h R nf conv held l J y (r-signal {a = a} _ n) kk sp =
       let w = is-there (s .threads) _ (signalled-relocated h s o) p t ht in
@@ -536,7 +614,8 @@ module _ (g : Program) (P : WellFormedProgram g) (Q : WaitlessProgram g) (S : Ma
 
   -- ---- every rule
 
-  pub followed : {e : Expression} {R : Rule} {r : Option Record} {s′ : State} {e₁ : Expression} (K : Context) → Converts g s p t e R r s′ e₁ → t .expression ≡ plug K e → ((z : Port) → Draws v1 (shown p r) z → Live S H z)
+  pub followed : {e : Expression} {R : Rule} {r : Option Record} {s′ : State} {e₁ : Expression} (K : Context) → Converts g s p t e R r s′ e₁
+      → t .expression ≡ plug K e → ((z : Port) → Draws v1 (shown p r) z → Live S H z)
       → Follows g S H ω τ s p c q R (become s′ p (plug K e₁))
   unfolding redexExpression shown
   followed K (E-CALL {m = f} os {d} hd hp) he live = via K (Redex.call f os) he (f-call K f os d hd hp)
@@ -555,12 +634,16 @@ module _ (g : Program) (P : WellFormedProgram g) (Q : WaitlessProgram g) (S : Ma
   followed K (E-RELEASE {o} {v} h) he live = via K (Redex.hold o v) he (f-release K o v h (live (ofThread p) (inl refl)))
   followed K (E-WAIT {o} h) he live = via K (Redex.signal Signal.wait o) he (f-wait K o)
   followed K (E-WAKE {o} z h f) he live = via K (Redex.waiting o) he (f-wake K o)
-  followed K (E-NOTIFY {o} h) he live = via K (Redex.signal Signal.notify o) he (f-signal K o Signal.notify _ Rule.e-notify refl (λ a k. E-NOTIFY k) h (live (ofThread p) (inl refl)))
-  followed K (E-NOTIFYALL {o} h) he live = via K (Redex.signal Signal.notifyAll o) he (f-signal K o Signal.notifyAll _ Rule.e-notifyall refl (λ a k. E-NOTIFYALL k) h (live (ofThread p) (inl refl)))
+  followed K (E-NOTIFY {o} h) he live =
+      via K (Redex.signal Signal.notify o) he (f-signal K o Signal.notify _ Rule.e-notify refl (λ a k. E-NOTIFY k) h (live (ofThread p) (inl refl)))
+  followed K (E-NOTIFYALL {o} h) he live =
+      via K (Redex.signal Signal.notifyAll o) he
+      (f-signal K o Signal.notifyAll _ Rule.e-notifyall refl (λ a k. E-NOTIFYALL k) h (live (ofThread p) (inl refl)))
 
   -- ---- conditions
 
-  stillᶜ : (K J : Contextᶜ) (R : Rule) → forks R ≡ false → (b d d′ : Condition) → LikeContextᶜ ω K J → u .expression ≡ plugᶜ J b → Convertsᶜ b R d′ → Likeᶜ ω d d′ → Follows g S H ω τ s p c q R (become s p (plugᶜ K d))
+  stillᶜ : (K J : Contextᶜ) (R : Rule) → forks R ≡ false → (b d d′ : Condition) → LikeContextᶜ ω K J → u .expression ≡ plugᶜ J b → Convertsᶜ b R d′
+      → Likeᶜ ω d d′ → Follows g S H ω τ s p c q R (become s p (plugᶜ K d))
   unfolding become
   stillᶜ K J R nf b d d′ k h cv l = record {
     after = become c q (plugᶜ J d′);
@@ -577,33 +660,44 @@ module _ (g : Program) (P : WellFormedProgram g) (Q : WaitlessProgram g) (S : Ma
     counted = change-length (c .threads) q _ ∙ ap (λ (b : Bool). countBy b (length (c .threads))) (sym nf);
   }
 
-  viaᶜ : (K : Contextᶜ) (x : Redexᶜ) → t .expression ≡ plugᶜ K (redexCondition x) → (G : Type 0) → ((J : Contextᶜ) (y : Redexᶜ) → LikePartᶜ ω x y → LikeContextᶜ ω K J → u .expression ≡ plugᶜ J (redexCondition y) → G) → G
+  viaᶜ : (K : Contextᶜ) (x : Redexᶜ) → t .expression ≡ plugᶜ K (redexCondition x) → (G : Type 0)
+      → ((J : Contextᶜ) (y : Redexᶜ) → LikePartᶜ ω x y → LikeContextᶜ ω K J → u .expression ≡ plugᶜ J (redexCondition y) → G) → G
   unfolding whole
   viaᶜ K x he G k =
-      let n = nextᶜ ω (along (λ (F : Focus). LikeFocus ω F (focus top (u .expression))) (ap (focus top) he ∙ foundᶜ K x) (focus-like ω (C .names .zero-kept) (m .expr-like) k-top)) in
+      let n = nextᶜ ω (along (λ (F : Focus). LikeFocus ω F (focus top (u .expression))) (ap (focus top) he ∙ foundᶜ K x)
+      (focus-like ω (C .names .zero-kept) (m .expr-like) k-top)) in
       k (n .around) (n .part) (n .part-like) (n .around-like) (sym (whole-focus (u .expression)) ∙ ap whole (n .found))
 
-  fᶜ-notnot : (K J : Contextᶜ) (y : Redexᶜ) → LikePartᶜ ω Redexᶜ.notFalse y → LikeContextᶜ ω K J → u .expression ≡ plugᶜ J (redexCondition y) → Follows g S H ω τ s p c q Rule.e-notnottrue (become s p (plugᶜ K (bool true)))
+  fᶜ-notnot : (K J : Contextᶜ) (y : Redexᶜ) → LikePartᶜ ω Redexᶜ.notFalse y → LikeContextᶜ ω K J → u .expression ≡ plugᶜ J (redexCondition y)
+      → Follows g S H ω τ s p c q Rule.e-notnottrue (become s p (plugᶜ K (bool true)))
   unfolding redexCondition
   fᶜ-notnot K J y r-notFalse k sp = stillᶜ K J Rule.e-notnottrue refl _ _ _ k sp E-NOTNOTTRUE (bool-itself ω true)
 
-  fᶜ-andtrue : (K J : Contextᶜ) (b : Condition) (y : Redexᶜ) → LikePartᶜ ω (Redexᶜ.and true b) y → LikeContextᶜ ω K J → u .expression ≡ plugᶜ J (redexCondition y) → Follows g S H ω τ s p c q Rule.e-andtrue (become s p (plugᶜ K b))
+  fᶜ-andtrue : (K J : Contextᶜ) (b : Condition) (y : Redexᶜ) → LikePartᶜ ω (Redexᶜ.and true b) y → LikeContextᶜ ω K J
+      → u .expression ≡ plugᶜ J (redexCondition y) → Follows g S H ω τ s p c q Rule.e-andtrue (become s p (plugᶜ K b))
   unfolding redexCondition
   fᶜ-andtrue K J b y (r-and l) k sp = stillᶜ K J Rule.e-andtrue refl _ _ _ k sp E-ANDTRUE l
 
-  fᶜ-andfalse : (K J : Contextᶜ) (b : Condition) (y : Redexᶜ) → LikePartᶜ ω (Redexᶜ.and false b) y → LikeContextᶜ ω K J → u .expression ≡ plugᶜ J (redexCondition y) → Follows g S H ω τ s p c q Rule.e-andfalse (become s p (plugᶜ K (bool false)))
+  fᶜ-andfalse : (K J : Contextᶜ) (b : Condition) (y : Redexᶜ) → LikePartᶜ ω (Redexᶜ.and false b) y → LikeContextᶜ ω K J
+      → u .expression ≡ plugᶜ J (redexCondition y) → Follows g S H ω τ s p c q Rule.e-andfalse (become s p (plugᶜ K (bool false)))
   unfolding redexCondition
   fᶜ-andfalse K J b y (r-and l) k sp = stillᶜ K J Rule.e-andfalse refl _ _ _ k sp E-ANDFALSE (bool-itself ω false)
 
-  fᶜ-equal : (K J : Contextᶜ) (o o′ : ℕ) → o ≡ o′ → (y : Redexᶜ) → LikePartᶜ ω (Redexᶜ.equal o o′) y → LikeContextᶜ ω K J → u .expression ≡ plugᶜ J (redexCondition y) → Follows g S H ω τ s p c q Rule.e-equaltrue (become s p (plugᶜ K (bool true)))
+  fᶜ-equal : (K J : Contextᶜ) (o o′ : ℕ) → o ≡ o′ → (y : Redexᶜ) → LikePartᶜ ω (Redexᶜ.equal o o′) y → LikeContextᶜ ω K J
+      → u .expression ≡ plugᶜ J (redexCondition y) → Follows g S H ω τ s p c q Rule.e-equaltrue (become s p (plugᶜ K (bool true)))
   unfolding redexCondition
-  fᶜ-equal K J o o′ e y (r-equal {a = a} {a′ = a′} n n′) k sp = stillᶜ K J Rule.e-equaltrue refl _ _ _ k sp (E-EQUALTRUE (same-name o a a′ n (ap ω e ∙ n′))) (bool-itself ω true)
+  fᶜ-equal K J o o′ e y (r-equal {a = a} {a′ = a′} n n′) k sp =
+      stillᶜ K J Rule.e-equaltrue refl _ _ _ k sp (E-EQUALTRUE (same-name o a a′ n (ap ω e ∙ n′))) (bool-itself ω true)
 
-  fᶜ-differ : (K J : Contextᶜ) (o o′ : ℕ) → (o ≡ o′ → ⊥) → (y : Redexᶜ) → LikePartᶜ ω (Redexᶜ.equal o o′) y → LikeContextᶜ ω K J → u .expression ≡ plugᶜ J (redexCondition y) → Follows g S H ω τ s p c q Rule.e-equalfalse (become s p (plugᶜ K (bool false)))
+  fᶜ-differ : (K J : Contextᶜ) (o o′ : ℕ) → (o ≡ o′ → ⊥) → (y : Redexᶜ) → LikePartᶜ ω (Redexᶜ.equal o o′) y → LikeContextᶜ ω K J
+      → u .expression ≡ plugᶜ J (redexCondition y) → Follows g S H ω τ s p c q Rule.e-equalfalse (become s p (plugᶜ K (bool false)))
   unfolding redexCondition
-  fᶜ-differ K J o o′ e y (r-equal {a = a} {a′ = a′} n n′) k sp = stillᶜ K J Rule.e-equalfalse refl _ _ _ k sp (E-EQUALFALSE (λ z. e (C .names .objects-apart o o′ a n (n′ ∙ ap {B = Option ℕ} some (sym z))))) (bool-itself ω false)
+  fᶜ-differ K J o o′ e y (r-equal {a = a} {a′ = a′} n n′) k sp =
+      stillᶜ K J Rule.e-equalfalse refl _ _ _ k sp (E-EQUALFALSE (λ z. e (C .names .objects-apart o o′ a n (n′ ∙ ap {B = Option ℕ} some (sym z)))))
+      (bool-itself ω false)
 
-  pub followedᶜ : {b : Condition} {R : Rule} {b′ : Condition} (K : Contextᶜ) → Convertsᶜ b R b′ → t .expression ≡ plugᶜ K b → Follows g S H ω τ s p c q R (become s p (plugᶜ K b′))
+  pub followedᶜ : {b : Condition} {R : Rule} {b′ : Condition} (K : Contextᶜ) → Convertsᶜ b R b′ → t .expression ≡ plugᶜ K b
+      → Follows g S H ω τ s p c q R (become s p (plugᶜ K b′))
   unfolding redexCondition bool
   followedᶜ K E-NOTNOTTRUE he = viaᶜ K Redexᶜ.notFalse he _ (λ J y l k sp. fᶜ-notnot K J y l k sp)
   followedᶜ K (E-ANDTRUE {c = b}) he = viaᶜ K (Redexᶜ.and true b) he _ (λ J y l k sp. fᶜ-andtrue K J b y l k sp)

@@ -48,7 +48,8 @@ mutual
     k-read : {K J : Context} {f : ℕ} → LikeContext ω K J → LikeContext ω (Context.read K f) (Context.read J f)
     k-write₁ : {K J : Context} {f : ℕ} {d e : Expression} → LikeContext ω K J → Like ω d e → LikeContext ω (Context.write₁ K f d) (Context.write₁ J f e)
     k-write₂ : {K J : Context} {o a f : ℕ} → LikeContext ω K J → ω o ≡ some a → LikeContext ω (Context.write₂ K o f) (Context.write₂ J a f)
-    k-args : {K J : Context} {m : ℕ} {os as′ : List ℕ} {ds es : Arguments} → LikeContext ω K J → LikeValues ω os as′ → Likeᵃ ω ds es → LikeContext ω (Context.call K m os ds) (Context.call J m as′ es)
+    k-args : {K J : Context} {m : ℕ} {os as′ : List ℕ} {ds es : Arguments} → LikeContext ω K J → LikeValues ω os as′ → Likeᵃ ω ds es
+        → LikeContext ω (Context.call K m os ds) (Context.call J m as′ es)
     k-lets : {K J : Context} {x : Option ℕ} {d e : Expression} → LikeContext ω K J → Like ω d e → LikeContext ω (Context.letIn K x d) (Context.letIn J x e)
     k-synch : {K J : Context} {d e : Expression} → LikeContext ω K J → Like ω d e → LikeContext ω (Context.synch K d) (Context.synch J e)
     k-hold : {K J : Context} {o a : ℕ} → LikeContext ω K J → ω o ≡ some a → LikeContext ω (Context.hold K o) (Context.hold J a)

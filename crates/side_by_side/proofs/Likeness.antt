@@ -7,14 +7,21 @@ use mathlib.Core.List.{List, [], _∷_, _++_}
 use mathlib.Core.Option.{Option, some, none}
 use lib.Dec.{eqb}
 use lib.ListN.{length}
-use Rattle.packed.specs.Syntax.{Signal, Expression, Condition, Arguments, Program, Environment, bind, bindParameters, without, valueOr, substitute, substituteᶜ, substituteᵃ, bool}
+use Rattle.packed.specs.Syntax.{Signal, Expression, Condition, Arguments, Program, Environment, bind, bindParameters, without, valueOr, substitute}
+use Rattle.packed.specs.Syntax.{substituteᶜ, substituteᵃ, bool}
 use Rattle.packed.specs.Slots.{bound}
 use Rattle.packed.proofs.WellFormed.{WellFormed, WellFormedᶜ, WellFormedᵃ}
-use Rattle.rules.specs.Context.{Context, Contextᶜ, Redex, Redexᶜ, Focus, focus, focusᶜ, focusᵃ, onLiteral, onBool, onNot, asLiteral, asBool, isTruth, falseWhen, plug, plugᶜ, literals, depth, depthᶜ, depthOf}
+use Rattle.rules.specs.Context.{Context, Contextᶜ, Redex, Redexᶜ, Focus, focus, focusᶜ, focusᵃ, onLiteral, onBool, onNot, asLiteral, asBool, isTruth}
+use Rattle.rules.specs.Context.{falseWhen, plug, plugᶜ, literals, depth, depthᶜ, depthOf}
 use Rattle.rules.specs.Step.{around}
 use Rattle.rules.proofs.FocusPlug.{found}
 use Rattle.side_by_side.specs.Waitless.{Waitless, Waitlessᶜ, Waitlessᵃ}
-use Rattle.side_by_side.proofs.Like.{Naming, Like, e-lit, e-var, e-new, e-read, e-write, e-lets, e-if, e-while, e-call, e-fork, e-join, e-synch, e-hold, e-signal, Likeᶜ, c-truth, c-not, c-and, c-equal, Likeᵃ, a-end, a-arg, LikeValues, l-nil, l-cons, LikeContext, k-top, k-read, k-write₁, k-write₂, k-args, k-lets, k-synch, k-hold, k-join, k-signal, k-equal₁, k-equal₂, LikeContextᶜ, k-if, k-and, k-not, LikePart, r-var, r-new, r-read, r-write, r-lets, r-if, r-while, r-call, r-fork, r-join, r-synch, r-hold, r-signal, LikePartᶜ, r-notFalse, r-and, r-equal, LikeFocus, f-value, f-here, f-hereᶜ}
+use Rattle.side_by_side.proofs.Like.{Naming, Like, e-lit, e-var, e-new, e-read, e-write, e-lets, e-if, e-while, e-call, e-fork, e-join, e-synch}
+use Rattle.side_by_side.proofs.Like.{e-hold, e-signal, Likeᶜ, c-truth, c-not, c-and, c-equal, Likeᵃ, a-end, a-arg, LikeValues, l-nil, l-cons}
+use Rattle.side_by_side.proofs.Like.{LikeContext, k-top, k-read, k-write₁, k-write₂, k-args, k-lets, k-synch, k-hold, k-join, k-signal, k-equal₁}
+use Rattle.side_by_side.proofs.Like.{k-equal₂, LikeContextᶜ, k-if, k-and, k-not, LikePart, r-var, r-new, r-read, r-write, r-lets, r-if, r-while}
+use Rattle.side_by_side.proofs.Like.{r-call, r-fork, r-join, r-synch, r-hold, r-signal, LikePartᶜ, r-notFalse, r-and, r-equal, LikeFocus, f-value}
+use Rattle.side_by_side.proofs.Like.{f-here, f-hereᶜ}
 
 -- ---- more names
 
@@ -150,7 +157,8 @@ module _ (ω : Naming) where
   module _ (g : Program) (zero-kept : ω 0 ≡ some 0) where
     mutual
       pub itself : (ρ : ℕ → Bool) (e : Expression) → WellFormed g 1 ρ e → Waitless e → Like ω e e
-      itself ρ (Expression.literal o) h w = let z : o ≡ 0 = omega arith in along (λ (n : ℕ). Like ω (Expression.literal n) (Expression.literal n)) (sym z) (e-lit zero-kept)
+      itself ρ (Expression.literal o) h w = let z : o ≡ 0 =
+          omega arith in along (λ (n : ℕ). Like ω (Expression.literal n) (Expression.literal n)) (sym z) (e-lit zero-kept)
       itself ρ (Expression.variable x) h w = e-var
       itself ρ (Expression.new fs) h w = e-new
       itself ρ (Expression.read e f) h w = e-read (itself ρ e (h .2) w)
@@ -209,11 +217,13 @@ module _ (ω : Naming) where
   bool-like (c-and a b) = refl
   bool-like (c-equal a b) = refl
 
-  on-lit : {a b : Option ℕ} → LikeOption a b → (k k′ : ℕ → Focus) (r r′ : Focus) → ((o v : ℕ) → ω o ≡ some v → LikeFocus ω (k o) (k′ v)) → LikeFocus ω r r′ → LikeFocus ω (onLiteral a k r) (onLiteral b k′ r′)
+  on-lit : {a b : Option ℕ} → LikeOption a b → (k k′ : ℕ → Focus) (r r′ : Focus) → ((o v : ℕ) → ω o ≡ some v → LikeFocus ω (k o) (k′ v)) → LikeFocus ω r r′
+      → LikeFocus ω (onLiteral a k r) (onLiteral b k′ r′)
   on-lit o-none k k′ r r′ h h′ = h′
   on-lit (o-some {o} {a} q) k k′ r r′ h h′ = h o a q
 
-  on-bool : (a b : Option Bool) → a ≡ b → (k k′ : Bool → Focus) (r r′ : Focus) → ((x : Bool) → LikeFocus ω (k x) (k′ x)) → LikeFocus ω r r′ → LikeFocus ω (onBool a k r) (onBool b k′ r′)
+  on-bool : (a b : Option Bool) → a ≡ b → (k k′ : Bool → Focus) (r r′ : Focus) → ((x : Bool) → LikeFocus ω (k x) (k′ x)) → LikeFocus ω r r′
+      → LikeFocus ω (onBool a k r) (onBool b k′ r′)
   on-bool a (some x) e k k′ r r′ h h′ = along (λ (z : Option Bool). LikeFocus ω (onBool z k r) (k′ x)) (sym e) (h x)
   on-bool a none e k k′ r r′ h h′ = along (λ (z : Option Bool). LikeFocus ω (onBool z k r) r′) (sym e) h′
 
@@ -235,7 +245,8 @@ module _ (ω : Naming) where
       focus-like e-new k = f-here k r-new
       focus-like (e-read a) k = on-lit (as-like a) _ _ _ _ (λ o v q. f-here k (r-read q)) (focus-like a (k-read k))
       focus-like (e-write a b) k =
-          on-lit (as-like a) _ _ _ _ (λ o v q. on-lit (as-like b) _ _ _ _ (λ o′ v′ q′. f-here k (r-write q q′)) (focus-like b (k-write₂ k q))) (focus-like a (k-write₁ k b))
+          on-lit (as-like a) _ _ _ _ (λ o v q. on-lit (as-like b) _ _ _ _ (λ o′ v′ q′. f-here k (r-write q q′)) (focus-like b (k-write₂ k q)))
+          (focus-like a (k-write₁ k b))
       focus-like (e-lets a b) k = on-lit (as-like a) _ _ _ _ (λ o v q. f-here k (r-lets q b)) (focus-like a (k-lets k b))
       focus-like (e-if {b = b} {c = c} x a d) k = on-bool (asBool b) (asBool c) (bool-like x) _ _ _ _ (λ y. f-here k (r-if a d)) (focus-likeᶜ x (k-if k a d))
       focus-like (e-while c a) k = f-here k (r-while c a)
@@ -251,9 +262,11 @@ module _ (ω : Naming) where
       focus-likeᶜ (c-not {b} {c} a) k = on-bool (asBool b) (asBool c) (bool-like a) _ _ _ _ (λ y. not-like k y zero-kept) (focus-likeᶜ a (k-not k))
       focus-likeᶜ (c-and {b} {c} a d) k = on-bool (asBool b) (asBool c) (bool-like a) _ _ _ _ (λ y. f-hereᶜ k (r-and d)) (focus-likeᶜ a (k-and k d))
       focus-likeᶜ (c-equal a b) k =
-          on-lit (as-like a) _ _ _ _ (λ o v q. on-lit (as-like b) _ _ _ _ (λ o′ v′ q′. f-hereᶜ k (r-equal q q′)) (focus-like b (k-equal₂ k q))) (focus-like a (k-equal₁ k b))
+          on-lit (as-like a) _ _ _ _ (λ o v q. on-lit (as-like b) _ _ _ _ (λ o′ v′ q′. f-hereᶜ k (r-equal q q′)) (focus-like b (k-equal₂ k q)))
+          (focus-like a (k-equal₁ k b))
 
-      focus-likeᵃ : {ds es : Arguments} → Likeᵃ ω ds es → {K J : Context} → LikeContext ω K J → (m : ℕ) {os as′ : List ℕ} → LikeValues ω os as′ → LikeFocus ω (focusᵃ K m os ds) (focusᵃ J m as′ es)
+      focus-likeᵃ : {ds es : Arguments} → Likeᵃ ω ds es → {K J : Context} → LikeContext ω K J → (m : ℕ) {os as′ : List ℕ} → LikeValues ω os as′
+          → LikeFocus ω (focusᵃ K m os ds) (focusᵃ J m as′ es)
       focus-likeᵃ a-end k m l = f-here k (r-call l)
       focus-likeᵃ (a-arg a b) k m l = on-lit (as-like a) _ _ _ _ (λ o v q. focus-likeᵃ b k m (add-like l o v q)) (focus-like a (k-args k l b))
 

@@ -15,7 +15,8 @@ use Rattle.packed.specs.Syntax.{Program}
 use Rattle.records.specs.Record.{Record}
 use Rattle.order.proofs.Ports.{ofThread, ofMonitor}
 use Rattle.order.proofs.KeySets.{put, put-same, put-other}
-use Rattle.rules.specs.State.{Cell, Object, Thread, State, fresh, freshFields, freshObject, findField, fieldOf, monitorOf, lookup, monitor, addObject, addThread}
+use Rattle.rules.specs.State.{Cell, Object, Thread, State, fresh, freshFields, freshObject, findField, fieldOf, monitorOf, lookup, monitor, addObject}
+use Rattle.rules.specs.State.{addThread}
 use Rattle.rules.proofs.StateLaws.{inside, added, added-old, added-new, length-added}
 use Rattle.rules.proofs.Invariant.{length-new}
 use Rattle.side_by_side.proofs.Like.{Naming, Like}
@@ -40,7 +41,8 @@ module _ (ω : Naming) (n m : ℕ) (below : (o a : ℕ) → ω o ≡ some a → 
       go (yes e) = let k : some m ≡ some a = sym named-new ∙ ap named e ∙ h in inl (e, cc)
       go (no e) = inr (e, sym (put-other ω n (some m) o e) ∙ h)
 
-  pub named-apart : ((o a : ℕ) → ω o ≡ some a → a < m) → ((o o′ a : ℕ) → ω o ≡ some a → ω o′ ≡ some a → o ≡ o′) → (o o′ a : ℕ) → named o ≡ some a → named o′ ≡ some a → o ≡ o′
+  pub named-apart : ((o a : ℕ) → ω o ≡ some a → a < m) → ((o o′ a : ℕ) → ω o ≡ some a → ω o′ ≡ some a → o ≡ o′) → (o o′ a : ℕ) → named o ≡ some a
+      → named o′ ≡ some a → o ≡ o′
   named-apart under apart o o′ a h h′ = go (named-cases o a h) (named-cases o′ a h′)
     where
       go : ((n ≡ o) × (m ≡ a)) ⊎ ((n ≡ o → ⊥) × (ω o ≡ some a)) → ((n ≡ o′) × (m ≡ a)) ⊎ ((n ≡ o′ → ⊥) × (ω o′ ≡ some a)) → o ≡ o′
@@ -112,11 +114,15 @@ module _ (g : Program) (S : Marks) (H : List Record) (ω τ κ : Naming) (s c : 
       go true h k = cc
       go false h k = k h
 
-  new-fields : (o a f : ℕ) (d : Cell) → lookup s₁ o f ≡ some d → ((N ≡ o) × (M ≡ a)) ⊎ ((N ≡ o → ⊥) × (ω o ≡ some a)) → (d′ : Cell) × (lookup c₁ a f ≡ some d′) × FieldLike g S H ω₁ κ o f d d′
+  new-fields : (o a f : ℕ) (d : Cell) → lookup s₁ o f ≡ some d → ((N ≡ o) × (M ≡ a)) ⊎ ((N ≡ o → ⊥) × (ω o ≡ some a))
+      → (d′ : Cell) × (lookup c₁ a f ≡ some d′) × FieldLike g S H ω₁ κ o f d d′
   new-fields o a f d e (inl (x, y)) =
       let h : findField (freshFields fs) f ≡ some d = sym (new-field s fs f) ∙ ap (λ (z : ℕ). lookup s₁ z f) x ∙ e in
-      let k : fresh ≡ d = fresh-found fs f d h in
-      (fresh, ap (λ (z : ℕ). lookup c₁ z f) (sym y) ∙ new-field c fs f ∙ h ∙ ap {B = Option Cell} some (sym k), along (λ (z : Cell). FieldLike g S H ω₁ κ o f z fresh) k (fresh-like f o))
+      let k : fresh ≡ d = fresh-found fs f d h in (
+        fresh,
+        ap (λ (z : ℕ). lookup c₁ z f) (sym y) ∙ new-field c fs f ∙ h ∙ ap {B = Option Cell} some (sym k),
+        along (λ (z : Cell). FieldLike g S H ω₁ κ o f z fresh) k (fresh-like f o),
+      )
   new-fields o a f d e (inr (x, n)) =
       let b = C .names .objects o a n in
       let r = C .fields o a f d n (sym (old-field s fs o f (b .0)) ∙ e) in (
@@ -128,7 +134,9 @@ module _ (g : Program) (S : Marks) (H : List Record) (ω τ κ : Naming) (s c : 
         },
       )
 
-  new-free : (o a : ℕ) (d : Cell) → monitor s₁ o ≡ some d → isEmpty (d .keys) ≡ false → Live S H (ofMonitor o) → ((N ≡ o) × (M ≡ a)) ⊎ ((N ≡ o → ⊥) × (ω o ≡ some a)) → (d′ : Cell) × (monitor c₁ a ≡ some d′) × (isEmpty (d′ .keys) ≡ false) × KeysIn κ (d .keys) (d′ .keys)
+  new-free : (o a : ℕ) (d : Cell) → monitor s₁ o ≡ some d → isEmpty (d .keys) ≡ false → Live S H (ofMonitor o)
+      → ((N ≡ o) × (M ≡ a)) ⊎ ((N ≡ o → ⊥) × (ω o ≡ some a))
+      → (d′ : Cell) × (monitor c₁ a ≡ some d′) × (isEmpty (d′ .keys) ≡ false) × KeysIn κ (d .keys) (d′ .keys)
   unfolding fresh isEmpty
   new-free o a d m e l (inl (x, y)) =
       let h : some fresh ≡ some d = sym (new-lock s fs) ∙ ap (λ (z : ℕ). monitor s₁ z) x ∙ m in
@@ -139,7 +147,9 @@ module _ (g : Program) (S : Marks) (H : List Record) (ω τ κ : Naming) (s c : 
       let r = C .free o a d n (sym (old-lock s fs o (b .0)) ∙ m) e l in
       (r .0, old-lock c fs a (b .1) ∙ r .1, r .2, r .3)
 
-  new-held : (inside-selves : (p : ℕ) (t : Thread) → getElem? (s .threads) p ≡ some t → t .self < N) (o a p b : ℕ) (t : Thread) → getElem? (s .threads) p ≡ some t → Live S H (ofThread p) → monitor s₁ o ≡ some (record { keys = empty; value = t .self }) → ω₁ (t .self) ≡ some b → ((N ≡ o) × (M ≡ a)) ⊎ ((N ≡ o → ⊥) × (ω o ≡ some a)) → monitor c₁ a ≡ some (record { keys = empty; value = b })
+  new-held : (inside-selves : (p : ℕ) (t : Thread) → getElem? (s .threads) p ≡ some t → t .self < N) (o a p b : ℕ) (t : Thread)
+      → getElem? (s .threads) p ≡ some t → Live S H (ofThread p) → monitor s₁ o ≡ some (record { keys = empty; value = t .self }) → ω₁ (t .self) ≡ some b
+      → ((N ≡ o) × (M ≡ a)) ⊎ ((N ≡ o → ⊥) × (ω o ≡ some a)) → monitor c₁ a ≡ some (record { keys = empty; value = b })
   unfolding fresh
   new-held selves o a p b t h l m e (inl (x, y)) =
       let k : some fresh ≡ some (record { keys = empty; value = t .self }) = sym (new-lock s fs) ∙ ap (λ (z : ℕ). monitor s₁ z) x ∙ m in
@@ -148,7 +158,8 @@ module _ (g : Program) (S : Marks) (H : List Record) (ω τ κ : Naming) (s c : 
       absurd (omega arith)
   new-held selves o a p b t h l m e (inr (x, n)) =
       let w = C .names .objects o a n in
-      old-lock c fs a (w .1) ∙ C .held o a p b t n h l (sym (old-lock s fs o (w .0)) ∙ m) (sym (put-other ω N (some M) (t .self) (λ q. let v = selves p t h in omega arith)) ∙ e)
+      old-lock c fs a (w .1)
+      ∙ C .held o a p b t n h l (sym (old-lock s fs o (w .0)) ∙ m) (sym (put-other ω N (some M) (t .self) (λ q. let v = selves p t h in omega arith)) ∙ e)
 
   pub corr-new : ((p : ℕ) (t : Thread) → getElem? (s .threads) p ≡ some t → t .self < N) → Corresponds g S H ω₁ τ κ s₁ c₁
   unfolding addObject
@@ -165,7 +176,16 @@ module _ (g : Program) (S : Marks) (H : List Record) (ω τ κ : Naming) (s c : 
       fewer-threads = C .names .fewer-threads;
       fewer-keys = C .names .fewer-keys;
     };
-    mirrors = λ p t l h. let m = C .mirrors p t l h in record { number = m .number; thread = m .thread; named = m .named; there = m .there; expr-like = wider ω ω₁ wide (m .expr-like); self-like = wide (t .self) (m .thread .self) (m .self-like); keys-like = m .keys-like };
+    mirrors = λ p t l h. let m = C .mirrors p t l h in record {
+      number = m .number;
+      thread = m .thread;
+      named = m .named;
+      there = m .there;
+      expr-like =
+          wider ω ω₁ wide (m .expr-like);
+      self-like = wide (t .self) (m .thread .self) (m .self-like);
+      keys-like = m .keys-like;
+    };
     fields = λ o a f d n e. new-fields o a f d e (named-cases ω N M below o a n);
     free = λ o a d n m e l. new-free o a d m e l (named-cases ω N M below o a n);
     held = λ o a p b t n h l m e. new-held selves o a p b t h l m e (named-cases ω N M below o a n);
@@ -173,7 +193,8 @@ module _ (g : Program) (S : Marks) (H : List Record) (ω τ κ : Naming) (s c : 
     where
       there : (o a : ℕ) → ((N ≡ o) × (M ≡ a)) ⊎ ((N ≡ o → ⊥) × (ω o ≡ some a)) → (o < length (s₁ .objects)) × (a < length (c₁ .objects))
       there o a (inl (x, y)) = (omega (arith, length-new s fs), omega (arith, length-new c fs))
-      there o a (inr (x, n)) = let b = C .names .objects o a n in let d = b .0 in let e = b .1 in (omega (arith, length-new s fs), omega (arith, length-new c fs))
+      there o a (inr (x, n)) = let b = C .names .objects o a n in let d = b .0 in let e =
+          b .1 in (omega (arith, length-new s fs), omega (arith, length-new c fs))
 
 -- ---- a thread
 
@@ -215,15 +236,38 @@ module _ (g : Program) (S : Marks) (H : List Record) (ω τ κ : Naming) (s c : 
     where
       there : (p q : ℕ) → ((P ≡ p) × (Q ≡ q)) ⊎ ((P ≡ p → ⊥) × (τ p ≡ some q)) → (p < length (s .threads ++ (t ∷ []))) × (q < length (c .threads ++ (u ∷ [])))
       there p q (inl (x, y)) = (omega (arith, length-added (s .threads) t), omega (arith, length-added (c .threads) u))
-      there p q (inr (x, n)) = let b = C .names .threads p q n in let d = b .0 in let e = b .1 in (omega (arith, length-added (s .threads) t), omega (arith, length-added (c .threads) u))
+      there p q (inr (x, n)) = let b = C .names .threads p q n in let d = b .0 in let e =
+          b .1 in (omega (arith, length-added (s .threads) t), omega (arith, length-added (c .threads) u))
 
-      mirror : (p : ℕ) (w : Thread) → Live S H (ofThread p) → ((p < P) × (getElem? (s .threads) p ≡ some w)) ⊎ ((p ≡ P) × (t ≡ w)) → Mirror ω τ₁ κ (c .threads ++ (u ∷ [])) p w
+      mirror : (p : ℕ) (w : Thread) → Live S H (ofThread p) → ((p < P) × (getElem? (s .threads) p ≡ some w)) ⊎ ((p ≡ P) × (t ≡ w))
+          → Mirror ω τ₁ κ (c .threads ++ (u ∷ [])) p w
       mirror p w l (inl (b, h)) =
           let m = C .mirrors p w l h in
-          record { number = m .number; thread = m .thread; named = named-old τ P Q under p (m .number) (m .named); there = added-old (c .threads) u (m .number) (inside (c .threads) (m .number) (m .thread) (m .there)) ∙ m .there; expr-like = m .expr-like; self-like = m .self-like; keys-like = m .keys-like }
+          record {
+            number = m .number;
+            thread = m .thread;
+            named = named-old τ P Q under p (m .number) (m .named);
+            there =
+                added-old (c .threads) u (m .number) (inside (c .threads) (m .number) (m .thread) (m .there)) ∙ m .there;
+            expr-like = m .expr-like;
+            self-like =
+                m .self-like;
+            keys-like = m .keys-like;
+          }
       mirror p w l (inr (b, h)) =
-          record { number = Q; thread = u; named = ap τ₁ b ∙ named-new τ P Q under; there = added-new (c .threads) u; expr-like = along (λ (z : Thread). Like ω (z .expression) (u .expression)) h exprs; self-like = ap ω (ap (λ (z : Thread). z .self) (sym h)) ∙ selves; keys-like = along (λ (z : Thread). KeysIn κ (z .keys) (u .keys)) h keys }
+          record {
+            number = Q;
+            thread = u;
+            named = ap τ₁ b ∙ named-new τ P Q under;
+            there = added-new (c .threads) u;
+            expr-like =
+                along (λ (z : Thread). Like ω (z .expression) (u .expression)) h exprs;
+            self-like = ap ω (ap (λ (z : Thread). z .self) (sym h)) ∙ selves;
+            keys-like = along (λ (z : Thread). KeysIn κ (z .keys) (u .keys)) h keys;
+          }
 
-      held′ : (o a p b : ℕ) (w : Thread) → ω o ≡ some a → Live S H (ofThread p) → monitor s o ≡ some (record { keys = empty; value = w .self }) → ω (w .self) ≡ some b → ((p < P) × (getElem? (s .threads) p ≡ some w)) ⊎ ((p ≡ P) × (t ≡ w)) → monitor c a ≡ some (record { keys = empty; value = b })
+      held′ : (o a p b : ℕ) (w : Thread) → ω o ≡ some a → Live S H (ofThread p) → monitor s o ≡ some (record { keys = empty; value = w .self })
+          → ω (w .self) ≡ some b → ((p < P) × (getElem? (s .threads) p ≡ some w)) ⊎ ((p ≡ P) × (t ≡ w))
+          → monitor c a ≡ some (record { keys = empty; value = b })
       held′ o a p b w n l m e (inl (_, h)) = C .held o a p b w n h l m e
       held′ o a p b w n l m e (inr (_, h)) = absurd (unheld o (m ∙ ap (λ (z : Thread). some (record { keys = empty; value = z .self })) (sym h)))

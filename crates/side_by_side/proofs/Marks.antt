@@ -57,7 +57,8 @@ draws→ r (ofThread q) h = go (or-yes (eqb (r .thread) q) _ h)
     go : T (eqb (r .thread) q) ⊎ T (sameKind (r .kind) Kind.join && eqb (r .field) q) → Draws v1 r (ofThread q)
     go (inl x) = inl (eqb→eq (r .thread) q x)
     go (inr x) = let d = and-yes (sameKind (r .kind) Kind.join) (eqb (r .field) q) x in inr (sameKind→ (r .kind) Kind.join (d .0), eqb→eq (r .field) q (d .1))
-draws→ r (ofMonitor o) h = let d = and-yes (sameKind (r .kind) Kind.acquire) (eqb (r .object) o) h in (sameKind→ (r .kind) Kind.acquire (d .0), eqb→eq (r .object) o (d .1))
+draws→ r (ofMonitor o) h = let d = and-yes (sameKind (r .kind) Kind.acquire) (eqb (r .object) o) h in
+    (sameKind→ (r .kind) Kind.acquire (d .0), eqb→eq (r .object) o (d .1))
 draws→ r (ofVolatile o f) h =
     let d = and-yes (sameKind (r .kind) Kind.readv) (eqb (r .object) o && eqb (r .field) f) h in
     let e = and-yes (eqb (r .object) o) (eqb (r .field) f) (d .1) in
@@ -68,9 +69,12 @@ draws→ r (ofWrites o f) h = absurd h
 pub draws← : (r : Record) (p : Port) → Draws v1 r p → T (draws r p)
 unfolding draws
 draws← r (ofThread q) (inl e) = or← (eqb (r .thread) q) _ (inl (yes-eqb e))
-draws← r (ofThread q) (inr (k, e)) = or← (eqb (r .thread) q) _ (inr (yes-and (sameKind (r .kind) Kind.join) (eqb (r .field) q) (sameKind← (r .kind) Kind.join k) (yes-eqb e)))
+draws← r (ofThread q) (inr (k, e)) =
+    or← (eqb (r .thread) q) _ (inr (yes-and (sameKind (r .kind) Kind.join) (eqb (r .field) q) (sameKind← (r .kind) Kind.join k) (yes-eqb e)))
 draws← r (ofMonitor o) (k, e) = yes-and (sameKind (r .kind) Kind.acquire) (eqb (r .object) o) (sameKind← (r .kind) Kind.acquire k) (yes-eqb e)
-draws← r (ofVolatile o f) (_, k, e, e′) = yes-and (sameKind (r .kind) Kind.readv) (eqb (r .object) o && eqb (r .field) f) (sameKind← (r .kind) Kind.readv k) (yes-and (eqb (r .object) o) (eqb (r .field) f) (yes-eqb e) (yes-eqb e′))
+draws← r (ofVolatile o f) (_, k, e, e′) =
+    yes-and (sameKind (r .kind) Kind.readv) (eqb (r .object) o && eqb (r .field) f) (sameKind← (r .kind) Kind.readv k)
+    (yes-and (eqb (r .object) o) (eqb (r .field) f) (yes-eqb e) (yes-eqb e′))
 draws← r (ofAccesses o f) h = absurd h
 draws← r (ofWrites o f) h = absurd h
 
@@ -98,30 +102,44 @@ unfolding fed
 fed→ w r h = first (or-yes (w (ofThread (r .thread))) _ h)
   where
     fourth : T (sameKind (r .kind) Kind.writev && w (ofVolatile (r .object) (r .field))) → Feeding w r
-    fourth x = let d = and-yes (sameKind (r .kind) Kind.writev) (w (ofVolatile (r .object) (r .field))) x in (ofVolatile (r .object) (r .field), tt, (refl, sameKind→ (r .kind) Kind.writev (d .0), refl, refl), d .1)
+    fourth x = let d = and-yes (sameKind (r .kind) Kind.writev) (w (ofVolatile (r .object) (r .field))) x in
+        (ofVolatile (r .object) (r .field), tt, (refl, sameKind→ (r .kind) Kind.writev (d .0), refl, refl), d .1)
 
-    third : T (sameKind (r .kind) Kind.release && w (ofMonitor (r .object))) ⊎ T (sameKind (r .kind) Kind.writev && w (ofVolatile (r .object) (r .field))) → Feeding w r
-    third (inl x) = let d = and-yes (sameKind (r .kind) Kind.release) (w (ofMonitor (r .object))) x in (ofMonitor (r .object), tt, (sameKind→ (r .kind) Kind.release (d .0), refl), d .1)
+    third : T (sameKind (r .kind) Kind.release && w (ofMonitor (r .object))) ⊎ T (sameKind (r .kind) Kind.writev && w (ofVolatile (r .object) (r .field)))
+        → Feeding w r
+    third (inl x) = let d = and-yes (sameKind (r .kind) Kind.release) (w (ofMonitor (r .object))) x in
+        (ofMonitor (r .object), tt, (sameKind→ (r .kind) Kind.release (d .0), refl), d .1)
     third (inr x) = fourth x
 
-    second : T (sameKind (r .kind) Kind.fork && w (ofThread (r .field))) ⊎ T ((sameKind (r .kind) Kind.release && w (ofMonitor (r .object))) || (sameKind (r .kind) Kind.writev && w (ofVolatile (r .object) (r .field)))) → Feeding w r
-    second (inl x) = let d = and-yes (sameKind (r .kind) Kind.fork) (w (ofThread (r .field))) x in (ofThread (r .field), tt, inr (sameKind→ (r .kind) Kind.fork (d .0), refl), d .1)
+    second : T (sameKind (r .kind) Kind.fork && w (ofThread (r .field))) ⊎ T
+        ((sameKind (r .kind) Kind.release && w (ofMonitor (r .object))) || (sameKind (r .kind) Kind.writev && w (ofVolatile (r .object) (r .field))))
+        → Feeding w r
+    second (inl x) = let d = and-yes (sameKind (r .kind) Kind.fork) (w (ofThread (r .field))) x in
+        (ofThread (r .field), tt, inr (sameKind→ (r .kind) Kind.fork (d .0), refl), d .1)
     second (inr x) = third (or-yes (sameKind (r .kind) Kind.release && w (ofMonitor (r .object))) _ x)
 
-    first : T (w (ofThread (r .thread))) ⊎ T ((sameKind (r .kind) Kind.fork && w (ofThread (r .field))) || ((sameKind (r .kind) Kind.release && w (ofMonitor (r .object))) || (sameKind (r .kind) Kind.writev && w (ofVolatile (r .object) (r .field))))) → Feeding w r
+    first : T (w (ofThread (r .thread))) ⊎ T
+        ((sameKind (r .kind) Kind.fork && w (ofThread (r .field))) ||
+        ((sameKind (r .kind) Kind.release && w (ofMonitor (r .object))) || (sameKind (r .kind) Kind.writev && w (ofVolatile (r .object) (r .field)))))
+        → Feeding w r
     first (inl x) = (ofThread (r .thread), tt, inl refl, x)
     first (inr x) = second (or-yes (sameKind (r .kind) Kind.fork && w (ofThread (r .field))) _ x)
 
 pub fed← : (w : Wanted) (r : Record) (p : Port) → Drawable p → Feeds v1 r p → T (w p) → T (fed w r)
 unfolding fed
 fed← w r (ofThread q) _ (inl e) x = or← (w (ofThread (r .thread))) _ (inl (rw e x))
-fed← w r (ofThread q) _ (inr (k, e)) x = or← (w (ofThread (r .thread))) _ (inr (or← (sameKind (r .kind) Kind.fork && w (ofThread (r .field))) _ (inl (yes-and (sameKind (r .kind) Kind.fork) (w (ofThread (r .field))) (sameKind← (r .kind) Kind.fork k) (rw e x)))))
+fed← w r (ofThread q) _ (inr (k, e)) x =
+    or← (w (ofThread (r .thread))) _
+    (inr (or← (sameKind (r .kind) Kind.fork && w (ofThread (r .field))) _
+    (inl (yes-and (sameKind (r .kind) Kind.fork) (w (ofThread (r .field))) (sameKind← (r .kind) Kind.fork k) (rw e x)))))
 fed← w r (ofMonitor o) _ (k, e) x =
     or← (w (ofThread (r .thread))) _ (inr (or← (sameKind (r .kind) Kind.fork && w (ofThread (r .field))) _ (inr
-    (or← (sameKind (r .kind) Kind.release && w (ofMonitor (r .object))) _ (inl (yes-and (sameKind (r .kind) Kind.release) (w (ofMonitor (r .object))) (sameKind← (r .kind) Kind.release k) (rw e x)))))))
+    (or← (sameKind (r .kind) Kind.release && w (ofMonitor (r .object))) _
+    (inl (yes-and (sameKind (r .kind) Kind.release) (w (ofMonitor (r .object))) (sameKind← (r .kind) Kind.release k) (rw e x)))))))
 fed← w r (ofVolatile o f) _ (_, k, e, e′) x =
     or← (w (ofThread (r .thread))) _ (inr (or← (sameKind (r .kind) Kind.fork && w (ofThread (r .field))) _ (inr
-    (or← (sameKind (r .kind) Kind.release && w (ofMonitor (r .object))) _ (inr (yes-and (sameKind (r .kind) Kind.writev) (w (ofVolatile (r .object) (r .field))) (sameKind← (r .kind) Kind.writev k) (rw (e, e′) x)))))))
+    (or← (sameKind (r .kind) Kind.release && w (ofMonitor (r .object))) _
+    (inr (yes-and (sameKind (r .kind) Kind.writev) (w (ofVolatile (r .object) (r .field))) (sameKind← (r .kind) Kind.writev k) (rw (e, e′) x)))))))
 fed← w r (ofAccesses o f) d h x = absurd d
 fed← w r (ofWrites o f) d h x = absurd d
 
@@ -166,7 +184,16 @@ module _ (t : ℕ → Bool) where
   newer l = record { earlier = l .earlier; later = l .later; at-i = back (l .at-i); at-j = back (l .at-j); before = l .before; paired = l .paired }
 
   older : {r : Record} {H : List Record} {i j : ℕ} → j < length H → Linked v1 (r ∷ H) i j → Linked v1 H i j
-  older {i = i} {j = j} b l = let lt : i < j = l .before in record { earlier = l .earlier; later = l .later; at-i = at-older (omega arith) (l .at-i); at-j = at-older b (l .at-j); before = l .before; paired = l .paired }
+  older {i = i} {j = j} b l = let lt : i < j =
+      l .before in record {
+        earlier = l .earlier;
+        later = l .later;
+        at-i = at-older (omega arith) (l .at-i);
+        at-j = at-older b (l .at-j);
+        before =
+            l .before;
+        paired = l .paired;
+      }
 
   -- a record that feeds what the newest one draws from
   to-newest : {r s : Record} {H : List Record} {k : ℕ} → At H k s → (p : Port) → Feeds v1 s p → Draws v1 r p → Linked v1 (r ∷ H) k (length H)
@@ -190,7 +217,8 @@ module _ (t : ℕ → Bool) where
   marks→ w [] k h = absurd h
   marks→ w (r ∷ H) k h = go (eqb k (length H)) refl h (marks→ (wantedAfter (t (length H)) w r) H k)
     where
-      go : (b : Bool) → eqb k (length H) ≡ b → T (cond b (fed w r) (marksFrom t (wantedAfter (t (length H)) w r) H k)) → (T (marksFrom t (wantedAfter (t (length H)) w r) H k) → Leads (wantedAfter (t (length H)) w r) H k) → Leads w (r ∷ H) k
+      go : (b : Bool) → eqb k (length H) ≡ b → T (cond b (fed w r) (marksFrom t (wantedAfter (t (length H)) w r) H k))
+          → (T (marksFrom t (wantedAfter (t (length H)) w r) H k) → Leads (wantedAfter (t (length H)) w r) H k) → Leads w (r ∷ H) k
       go true e x ih = let d = fed→ w r x in wanted (here (eqb→eq k (length H) (rw e tt))) (d .0) (d .1) (d .2) (d .3)
       go false e x ih = up w r H (ih x)
 
@@ -207,14 +235,18 @@ module _ (t : ℕ → Bool) where
       go : Dec (m ≡ length H) → Leads (wantedAfter (t (length H)) w r) H k
       go (yes e) =
           let q = pair→port (l .paired) in
-          wanted (at-older b (l .at-i)) (q .0) (drawn-drawable _ (q .0) (q .2)) (q .1) (after-drawn (t (length H)) w r (q .0) (or← (fed w r) (t (length H)) (inr (rw (← e) x))) (along (λ (z : Record). Draws v1 z (q .0)) (sym (at-newest e (l .at-j))) (q .2)))
+          wanted (at-older b (l .at-i)) (q .0) (drawn-drawable _ (q .0) (q .2)) (q .1)
+          (after-drawn (t (length H)) w r (q .0) (or← (fed w r) (t (length H)) (inr (rw (← e) x)))
+          (along (λ (z : Record). Draws v1 z (q .0)) (sym (at-newest e (l .at-j))) (q .2)))
       go (no e) = let c : m < length (r ∷ H) = at-below (l .at-j) in reaches (older (omega arith) l) x
   down w r H b (onward {k} {m} l y) = go (ℕ-discrete m (length H)) (λ c. down w r H c y)
     where
       go : Dec (m ≡ length H) → (m < length H → Leads (wantedAfter (t (length H)) w r) H m) → Leads (wantedAfter (t (length H)) w r) H k
       go (yes e) ih =
           let q = pair→port (l .paired) in
-          wanted (at-older b (l .at-i)) (q .0) (drawn-drawable _ (q .0) (q .2)) (q .1) (after-drawn (t (length H)) w r (q .0) (or← (fed w r) (t (length H)) (inl (newest-fed w r H e y))) (along (λ (z : Record). Draws v1 z (q .0)) (sym (at-newest e (l .at-j))) (q .2)))
+          wanted (at-older b (l .at-i)) (q .0) (drawn-drawable _ (q .0) (q .2)) (q .1)
+          (after-drawn (t (length H)) w r (q .0) (or← (fed w r) (t (length H)) (inl (newest-fed w r H e y)))
+          (along (λ (z : Record). Draws v1 z (q .0)) (sym (at-newest e (l .at-j))) (q .2)))
       go (no e) ih = let c : m < length (r ∷ H) = at-below (l .at-j) in onward (older (omega arith) l) (ih (omega arith))
 
   leads-below : {w : Wanted} {H : List Record} {k : ℕ} → Leads w H k → k < length H
@@ -227,7 +259,8 @@ module _ (t : ℕ → Bool) where
   marks← w [] k h = let b : k < 0 = leads-below h in absurd (omega arith)
   marks← w (r ∷ H) k h = go (eqb k (length H)) refl (λ c. marks← (wantedAfter (t (length H)) w r) H k (down w r H c h))
     where
-      go : (b : Bool) → eqb k (length H) ≡ b → (k < length H → T (marksFrom t (wantedAfter (t (length H)) w r) H k)) → T (cond b (fed w r) (marksFrom t (wantedAfter (t (length H)) w r) H k))
+      go : (b : Bool) → eqb k (length H) ≡ b → (k < length H → T (marksFrom t (wantedAfter (t (length H)) w r) H k))
+          → T (cond b (fed w r) (marksFrom t (wantedAfter (t (length H)) w r) H k))
       go true e ih = newest-fed w r H (eqb→eq k (length H) (rw e tt)) h
       go false e ih = let b : k < length (r ∷ H) = leads-below h in ih (let n : k ≡ length H → ⊥ = eqb-false k (length H) e in omega arith)
 

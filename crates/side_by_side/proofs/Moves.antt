@@ -35,11 +35,13 @@ drawn-live S r H q c m d i w a o = c i (length H) w r (back a) (here refl) (at-b
 pub fed-dead : (S : Marks) (r : Record) (H : List Record) (q : Port) → (T (S (length H)) → ⊥) → Feeds v1 r q → Live S (r ∷ H) q → ⊥
 fed-dead S r H q n o l = n (l (length H) r (here refl) o)
 
-pub corr-older : (g : Program) (S : Marks) (r : Record) (H : List Record) (ω τ κ : Naming) (s c : State) → Corresponds g S H ω τ κ s c → Corresponds g S (r ∷ H) ω τ κ s c
+pub corr-older : (g : Program) (S : Marks) (r : Record) (H : List Record) (ω τ κ : Naming) (s c : State) → Corresponds g S H ω τ κ s c
+    → Corresponds g S (r ∷ H) ω τ κ s c
 corr-older g S r H ω τ κ s c C = record {
   names = C .names;
   mirrors = λ p t l h. C .mirrors p t (live-older S r H (ofThread p) l) h;
-  fields = λ o a f d n h. let x = C .fields o a f d n h in (x .0, x .1, record { plain = x .2 .plain; volatile = λ v l. x .2 .volatile v (live-older S r H (ofVolatile o f) l) });
+  fields = λ o a f d n h. let x =
+      C .fields o a f d n h in (x .0, x .1, record { plain = x .2 .plain; volatile = λ v l. x .2 .volatile v (live-older S r H (ofVolatile o f) l) });
   free = λ o a d n h e l. C .free o a d n h e (live-older S r H (ofMonitor o) l);
   held = λ o a p b t n h l m e. C .held o a p b t n h (live-older S r H (ofThread p) l) m e;
 }
@@ -56,7 +58,8 @@ module _ (g : Program) (S : Marks) (H : List Record) (ω τ κ : Naming) (s c : 
   abbrev c₁ : State
   c₁ = record { objects = c .objects; threads = changeAt (c .threads) q h′; nextKey = c .nextKey }
 
-  mirror : (r : ℕ) (w : Thread) → Live S H (ofThread r) → ((p ≡ r) × (h t ≡ w)) ⊎ ((p ≡ r → ⊥) × (getElem? (s .threads) r ≡ some w)) → Mirror ω τ κ (c₁ .threads) r w
+  mirror : (r : ℕ) (w : Thread) → Live S H (ofThread r) → ((p ≡ r) × (h t ≡ w)) ⊎ ((p ≡ r → ⊥) × (getElem? (s .threads) r ≡ some w))
+      → Mirror ω τ κ (c₁ .threads) r w
   mirror r w l (inl (x, y)) =
       record {
         number = q;
@@ -86,7 +89,9 @@ module _ (g : Program) (S : Marks) (H : List Record) (ω τ κ : Naming) (s c : 
       zero-kept = C .names .zero-kept;
       objects = C .names .objects;
       objects-apart = C .names .objects-apart;
-      threads = λ a b e. let x = C .names .threads a b e in (along (λ (n : ℕ). a < n) (sym (change-length (s .threads) p h)) (x .0), along (λ (n : ℕ). b < n) (sym (change-length (c .threads) q h′)) (x .1));
+      threads = λ a b e. let x =
+          C .names .threads a b e in
+          (along (λ (n : ℕ). a < n) (sym (change-length (s .threads) p h)) (x .0), along (λ (n : ℕ). b < n) (sym (change-length (c .threads) q h′)) (x .1));
       threads-apart = C .names .threads-apart;
       key-zero = C .names .key-zero;
       keys = C .names .keys;
@@ -100,14 +105,17 @@ module _ (g : Program) (S : Marks) (H : List Record) (ω τ κ : Naming) (s c : 
     held = λ o a r b w n e l m x. held′ o a r b w n l m x (who (s .threads) p h t ht r w e);
   }
     where
-      held′ : (o a r b : ℕ) (w : Thread) → ω o ≡ some a → Live S H (ofThread r) → monitor s o ≡ some (record { keys = empty; value = w .self }) → ω (w .self) ≡ some b → ((p ≡ r) × (h t ≡ w)) ⊎ ((p ≡ r → ⊥) × (getElem? (s .threads) r ≡ some w)) → monitor c a ≡ some (record { keys = empty; value = b })
+      held′ : (o a r b : ℕ) (w : Thread) → ω o ≡ some a → Live S H (ofThread r) → monitor s o ≡ some (record { keys = empty; value = w .self })
+          → ω (w .self) ≡ some b → ((p ≡ r) × (h t ≡ w)) ⊎ ((p ≡ r → ⊥) × (getElem? (s .threads) r ≡ some w))
+          → monitor c a ≡ some (record { keys = empty; value = b })
       held′ o a r b w n l m x (inl (y, z)) =
           let e : w .self ≡ t .self = ap (λ (v : Thread). v .self) (sym z) ∙ self in
           C .held o a r b t n (rw (← y) ht) l (m ∙ ap (λ (v : ℕ). some (record { keys = empty; value = v })) e) (ap ω (sym e) ∙ x)
       held′ o a r b w n l m x (inr (y, z)) = C .held o a r b w n z l m x
 
 -- a marked move's last part: both movers' expressions
-pub corr-become : (g : Program) (S : Marks) (H : List Record) (ω τ κ : Naming) (s c : State) → Corresponds g S H ω τ κ s c → (p q : ℕ) (t u : Thread) → τ p ≡ some q → getElem? (s .threads) p ≡ some t → getElem? (c .threads) q ≡ some u
+pub corr-become : (g : Program) (S : Marks) (H : List Record) (ω τ κ : Naming) (s c : State) → Corresponds g S H ω τ κ s c → (p q : ℕ) (t u : Thread)
+    → τ p ≡ some q → getElem? (s .threads) p ≡ some t → getElem? (c .threads) q ≡ some u
     → ω (t .self) ≡ some (u .self) → KeysIn κ (t .keys) (u .keys) → (d e : Expression) → Like ω d e → Corresponds g S H ω τ κ (become s p d) (become c q e)
 unfolding become
 corr-become g S H ω τ κ s c C p q t u pq ht hu selves keys d e l = corr-change g S H ω τ κ s c C p q t u pq ht hu _ _ refl refl selves l keys
@@ -131,17 +139,30 @@ keys-both κ X W X′ W′ x y k h = go (or→ (holds X k) (holds W k) (rw (hold
     go (inl a) = let r = x k a in (r .0, r .1, rw (holds-union X′ W′ (r .0)) (or-l (holds X′ (r .0)) (holds W′ (r .0)) (r .2)))
     go (inr a) = let r = y k a in (r .0, r .1, rw (holds-union X′ W′ (r .0)) (or-r (holds X′ (r .0)) (holds W′ (r .0)) (r .2)))
 
-pub corr-gain : (g : Program) (S : Marks) (H : List Record) (ω τ κ : Naming) (s c : State) → Corresponds g S H ω τ κ s c → (p q : ℕ) (t u : Thread) → τ p ≡ some q → getElem? (s .threads) p ≡ some t → getElem? (c .threads) q ≡ some u
-    → ω (t .self) ≡ some (u .self) → Like ω (t .expression) (u .expression) → KeysIn κ (t .keys) (u .keys) → (W W′ : Keys) (count count′ : Keys → ℕ) → KeysIn κ W W′ → Corresponds g S H ω τ κ (gain s p W count) (gain c q W′ count′)
+pub corr-gain : (g : Program) (S : Marks) (H : List Record) (ω τ κ : Naming) (s c : State) → Corresponds g S H ω τ κ s c → (p q : ℕ) (t u : Thread)
+    → τ p ≡ some q → getElem? (s .threads) p ≡ some t → getElem? (c .threads) q ≡ some u
+    → ω (t .self) ≡ some (u .self) → Like ω (t .expression) (u .expression) → KeysIn κ (t .keys) (u .keys) → (W W′ : Keys) (count count′ : Keys → ℕ)
+    → KeysIn κ W W′ → Corresponds g S H ω τ κ (gain s p W count) (gain c q W′ count′)
 unfolding gain
-corr-gain g S H ω τ κ s c C p q t u pq ht hu selves exprs keys W W′ count count′ w = corr-change g S H ω τ κ s c C p q t u pq ht hu _ _ refl refl selves exprs (keys-both κ W (t .keys) W′ (u .keys) w keys)
+corr-gain g S H ω τ κ s c C p q t u pq ht hu selves exprs keys W W′ count count′ w =
+    corr-change g S H ω τ κ s c C p q t u pq ht hu _ _ refl refl selves exprs (keys-both κ W (t .keys) W′ (u .keys) w keys)
 
 -- ---- places alone change: nothing here speaks of them
 
 pub mirror-relocated : {ω τ κ : Naming} {us : List Thread} {p : ℕ} {t : Thread} (w : Place) → Mirror ω τ κ us p t → Mirror ω τ κ us p (inPlace w t)
-mirror-relocated w m = record { number = m .number; thread = m .thread; named = m .named; there = m .there; expr-like = m .expr-like; self-like = m .self-like; keys-like = m .keys-like }
+mirror-relocated w m = record {
+  number = m .number;
+  thread = m .thread;
+  named = m .named;
+  there = m .there;
+  expr-like = m .expr-like;
+  self-like =
+      m .self-like;
+  keys-like = m .keys-like;
+}
 
-pub corr-relocated : (g : Program) (S : Marks) (H : List Record) (ω τ κ : Naming) (s c : State) → Corresponds g S H ω τ κ s c → (ts us : List Thread) → Relocated (s .threads) ts → Relocated (c .threads) us
+pub corr-relocated : (g : Program) (S : Marks) (H : List Record) (ω τ κ : Naming) (s c : State) → Corresponds g S H ω τ κ s c → (ts us : List Thread)
+    → Relocated (s .threads) ts → Relocated (c .threads) us
     → Corresponds g S H ω τ κ (withThreads s ts) (withThreads c us)
 unfolding lookup monitor
 corr-relocated g S H ω τ κ s c C ts us a b = record {
@@ -175,8 +196,19 @@ corr-relocated g S H ω τ κ s c C ts us a b = record {
         let m = C .mirrors p w l h in
         let x = is-there (c .threads) us b (m .number) (m .thread) (m .there) in
         along (Mirror ω τ κ us p) e
-        (mirror-relocated {t = w} (t .place) (record { number = m .number; thread = inPlace (x .0) (m .thread); named = m .named; there = x .1; expr-like = m .expr-like; self-like = m .self-like; keys-like = m .keys-like }))
+        (mirror-relocated {t = w} (t .place)
+        (record {
+          number = m .number;
+          thread = inPlace (x .0) (m .thread);
+          named = m .named;
+          there = x .1;
+          expr-like = m .expr-like;
+          self-like =
+              m .self-like;
+          keys-like = m .keys-like;
+        }))
 
-pub corr-signalled : (g : Program) (S : Marks) (H : List Record) (ω τ κ : Naming) (s c : State) → Corresponds g S H ω τ κ s c → (h h′ : ℕ → ℕ) (o a : ℕ) → Corresponds g S H ω τ κ (signalled h s o) (signalled h′ c a)
+pub corr-signalled : (g : Program) (S : Marks) (H : List Record) (ω τ κ : Naming) (s c : State) → Corresponds g S H ω τ κ s c → (h h′ : ℕ → ℕ) (o a : ℕ)
+    → Corresponds g S H ω τ κ (signalled h s o) (signalled h′ c a)
 unfolding signalled
 corr-signalled g S H ω τ κ s c C h h′ o a = corr-relocated g S H ω τ κ s c C _ _ (signalled-relocated h s o) (signalled-relocated h′ c a)

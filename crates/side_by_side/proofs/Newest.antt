@@ -40,8 +40,12 @@ module _ (S : Marks) where
       x = orZero (numbers S H (r .thread))
 
       go : (b f : Bool)
-          → cond b (schedule S H ++ (x ∷ [])) (schedule S H) ++ picksFrom S (suc (length H)) (cond (b && f) (put (numbers S H) (r .field) (some (made S H))) (numbers S H)) (cond (b && f) (suc (made S H)) (made S H)) L
-          ≡ schedule S H ++ cond b (x ∷ picksFrom S (suc (length H)) (cond f (numbered (numbers S H) (r .field) (made S H)) (numbers S H)) (cond f (suc (made S H)) (made S H)) L) (picksFrom S (suc (length H)) (numbers S H) (made S H) L)
+          → cond b (schedule S H ++ (x ∷ [])) (schedule S H)
+          ++ picksFrom S (suc (length H)) (cond (b && f) (put (numbers S H) (r .field) (some (made S H))) (numbers S H))
+          (cond (b && f) (suc (made S H)) (made S H)) L
+          ≡ schedule S H ++ cond b
+          (x ∷ picksFrom S (suc (length H)) (cond f (numbered (numbers S H) (r .field) (made S H)) (numbers S H)) (cond f (suc (made S H)) (made S H)) L)
+          (picksFrom S (suc (length H)) (numbers S H) (made S H) L)
       go true true = append-assoc (schedule S H) (x ∷ []) _
       go true false = append-assoc (schedule S H) (x ∷ []) _
       go false f = refl
@@ -52,8 +56,10 @@ module _ (S : Marks) where
   turned-numbers (r ∷ L) H p = turned-numbers L (r ∷ H) p ∙ go (S (length H)) (isFork (r .kind))
     where
       go : (b f : Bool)
-          → numbersFrom S (suc (length H)) (cond (b && f) (put (numbers S H) (r .field) (some (made S H))) (numbers S H)) (cond (b && f) (suc (made S H)) (made S H)) L p
-          ≡ cond b (numbersFrom S (suc (length H)) (cond f (numbered (numbers S H) (r .field) (made S H)) (numbers S H)) (cond f (suc (made S H)) (made S H)) L) (numbersFrom S (suc (length H)) (numbers S H) (made S H) L) p
+          → numbersFrom S (suc (length H)) (cond (b && f) (put (numbers S H) (r .field) (some (made S H))) (numbers S H))
+          (cond (b && f) (suc (made S H)) (made S H)) L p
+          ≡ cond b (numbersFrom S (suc (length H)) (cond f (numbered (numbers S H) (r .field) (made S H)) (numbers S H))
+          (cond f (suc (made S H)) (made S H)) L) (numbersFrom S (suc (length H)) (numbers S H) (made S H) L) p
       go true true = refl
       go true false = refl
       go false f = refl
@@ -63,6 +69,7 @@ module _ (S : Marks) where
   schedule-length [] = omega arith
   schedule-length (r ∷ H) = go (S (length H)) (schedule-length H)
     where
-      go : (b : Bool) → length (schedule S H) ≤ length H → length (cond b (schedule S H ++ (orZero (numbers S H (r .thread)) ∷ [])) (schedule S H)) ≤ suc (length H)
+      go : (b : Bool) → length (schedule S H) ≤ length H
+          → length (cond b (schedule S H ++ (orZero (numbers S H (r .thread)) ∷ [])) (schedule S H)) ≤ suc (length H)
       go true h = omega (arith, length-append (schedule S H) (orZero (numbers S H (r .thread)) ∷ []))
       go false h = omega arith

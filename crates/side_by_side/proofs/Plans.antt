@@ -48,12 +48,14 @@ module _ (b : List ℕ) (a : refusal b ≡ none) (k : leftOut b ≡ false) where
   plan-from-race ps r = from-race (programOf b) (well-formed b a) version-1 (waitless b a (parts .1)) ps r
 
   -- its failing access is the last of its moves, and unordered after the last write
-  pub plan-unordered : (ps : List ℕ) → runOf b ps .stop ≡ Stop.race → (j : ℕ) × (suc j ≡ length (movesOf (programOf b) ps)) × Unordered v1 (movesOf (programOf b) ps) j
+  pub plan-unordered : (ps : List ℕ) → runOf b ps .stop ≡ Stop.race
+      → (j : ℕ) × (suc j ≡ length (movesOf (programOf b) ps)) × Unordered v1 (movesOf (programOf b) ps) j
   unfolding runOf
   plan-unordered ps r = race-unordered (programOf b) (well-formed b a) version-1 (waitless b a (parts .1)) ps r
 
 -- and conversely, of every accepted plan
-pub plan-conflict-races : (b : List ℕ) → refusal b ≡ none → (ps : List ℕ) → runOf b ps .stop ≡ Stop.end → (p q : ℕ) → Conflict (programOf b) (runOf b ps .final) p q
+pub plan-conflict-races : (b : List ℕ) → refusal b ≡ none → (ps : List ℕ) → runOf b ps .stop ≡ Stop.end → (p q : ℕ)
+    → Conflict (programOf b) (runOf b ps .final) p q
     → HasRoom (programOf b) (runOf b ps .final) p → runOf b (ps ++ (p ∷ q ∷ [])) .stop ≡ Stop.race
 unfolding runOf
 plan-conflict-races b h ps r p q c room = conflict-races (programOf b) (well-formed b h) ps r p q c room

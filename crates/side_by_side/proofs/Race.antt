@@ -22,7 +22,8 @@ use Rattle.order.proofs.KeyMachine.{Legal}
 use Rattle.order.proofs.AgreeNewest.{agree-newest}
 use Rattle.rules.specs.Context.{Context, Redex, plug, redexExpression}
 use Rattle.rules.specs.State.{Cell, cell, Thread, State, start, lookup}
-use Rattle.rules.specs.Rules.{Rule, isVolatile, E-CALL, E-LET, E-IF, E-WHILE, E-NEW, E-READ, E-WRITE, E-READV, E-WRITEV, E-FORK, E-JOIN, E-RE-ENTER, E-ACQUIRE, E-RELEASE, E-WAIT, E-WAKE, E-NOTIFY, E-NOTIFYALL, Moves, EVAL, EVALᶜ, LACKS-READ, LACKS-WRITE, Lacks, LACKS}
+use Rattle.rules.specs.Rules.{Rule, isVolatile, E-CALL, E-LET, E-IF, E-WHILE, E-NEW, E-READ, E-WRITE, E-READV, E-WRITEV, E-FORK, E-JOIN, E-RE-ENTER}
+use Rattle.rules.specs.Rules.{E-ACQUIRE, E-RELEASE, E-WAIT, E-WAKE, E-NOTIFY, E-NOTIFYALL, Moves, EVAL, EVALᶜ, LACKS-READ, LACKS-WRITE, Lacks, LACKS}
 use Rattle.rules.specs.Step.{around, Attempt, attempt}
 use Rattle.rules.specs.Room.{Room, noRoomFor, Answer, answer, step, withinRoom}
 use Rattle.rules.specs.Run.{Stop, run, resume, afterMove, stopped, play, afterPass}
@@ -66,8 +67,36 @@ split begin i w a = let b : i < 0 = at-below a in absurd (omega arith)
 split {g} (move {s} {s′} {H} {R} {r} tr p mv l) i w a = go (at-cases a) (λ b. split tr i w b)
   where
     go : ((i ≡ length H) × (shown p r ≡ w)) ⊎ At H i w → (At H i w → Split g s H i w) → Split g s′ (shown p r ∷ H) i w
-    go (inl (e, q)) k = record { before = s; past = H; trail = tr; thread = p; rule = R; entry = r; after = s′; moves = mv; room = l; is-it = q; index = e; rest = none-yet }
-    go (inr b) k = let x = k b in record { before = x .before; past = x .past; trail = x .trail; thread = x .thread; rule = x .rule; entry = x .entry; after = x .after; moves = x .moves; room = x .room; is-it = x .is-it; index = x .index; rest = then tr (x .rest) p mv l }
+    go (inl (e, q)) k = record {
+      before = s;
+      past = H;
+      trail = tr;
+      thread = p;
+      rule = R;
+      entry = r;
+      after = s′;
+      moves = mv;
+      room = l;
+      is-it = q;
+      index =
+          e;
+      rest = none-yet;
+    }
+    go (inr b) k = let x = k b in record {
+      before = x .before;
+      past = x .past;
+      trail = x .trail;
+      thread = x .thread;
+      rule = x .rule;
+      entry = x .entry;
+      after =
+          x .after;
+      moves = x .moves;
+      room = x .room;
+      is-it = x .is-it;
+      index = x .index;
+      rest = then tr (x .rest) p mv l;
+    }
 
 at-later : {g : Program} {s₀ s : State} {H₀ H : List Record} → Later g s₀ H₀ s H → (i : ℕ) (r : Record) → At H₀ i r → At H i r
 at-later none-yet i r a = a
@@ -81,7 +110,8 @@ pub record Writing (s : State) (p : ℕ) (w : Record) : Type 0 where
   pub around : Context
   pub next-is : thread .expression ≡ plug around (redexExpression (Redex.write (w .object) (w .field) (w .value)))
 
-writing : {g : Program} {s : State} {p : ℕ} {R : Rule} {r : Option Record} {s′ : State} → Moves g s p R r s′ → shown p r .kind ≡ Kind.write → Writing s p (shown p r)
+writing : {g : Program} {s : State} {p : ℕ} {R : Rule} {r : Option Record} {s′ : State} → Moves g s p R r s′ → shown p r .kind ≡ Kind.write
+    → Writing s p (shown p r)
 unfolding shown redexExpression
 writing (EVAL K {t} ht he (E-CALL os hd hp)) k = absurd (differ k tt)
 writing (EVAL K {t} ht he E-LET) k = absurd (differ k tt)
@@ -130,8 +160,38 @@ written-renamed w k ω y (r-write n m) = writes (inr k) n m
 
 failing : {g : Program} {s : State} {q : ℕ} {r : Record} → Lacks g s q r → Failing g s q r
 unfolding redexExpression
-failing {q = q} (LACKS K {t} ht he (LACKS-READ w {o} {f} {v} h k vol)) = record { thread = t; there = ht; around = K; part = Redex.read o f; next-is = he; renames = read-renamed q o f; mover-is = refl; plain-access = tt; lacking = tt; cell = cell (singleton w) v; field-there = h; plain = vol }
-failing {q = q} (LACKS K {t} ht he (LACKS-WRITE w {o} {f} {u} {v = x} h k vol)) = record { thread = t; there = ht; around = K; part = Redex.write o f x; next-is = he; renames = write-renamed q o f x; mover-is = refl; plain-access = tt; lacking = tt; cell = cell (singleton w) u; field-there = h; plain = vol }
+failing {q = q} (LACKS K {t} ht he (LACKS-READ w {o} {f} {v} h k vol)) =
+    record {
+      thread = t;
+      there = ht;
+      around = K;
+      part = Redex.read o f;
+      next-is = he;
+      renames = read-renamed q o f;
+      mover-is = refl;
+      plain-access =
+          tt;
+      lacking = tt;
+      cell = cell (singleton w) v;
+      field-there = h;
+      plain = vol;
+    }
+failing {q = q} (LACKS K {t} ht he (LACKS-WRITE w {o} {f} {u} {v = x} h k vol)) =
+    record {
+      thread = t;
+      there = ht;
+      around = K;
+      part = Redex.write o f x;
+      next-is = he;
+      renames = write-renamed q o f x;
+      mover-is = refl;
+      plain-access =
+          tt;
+      lacking = tt;
+      cell = cell (singleton w) u;
+      field-there = h;
+      plain = vol;
+    }
 
 -- ---- from a list of picks
 
@@ -172,23 +232,59 @@ module _ (g : Program) (P : WellFormedProgram g) where
       I : Reachable g s
       I = trail-kept g P tr .0
 
-      move-list : (s″ : State) (M : List Record) (a : Answer) → step g s p ≡ a → reverseAux (movesBy s (λ s′. movesFrom g s′ ps) p a) H ≡ reverseAux (movesBy s (λ s′. movesFrom g s′ ps) p (step g s p)) H
+      move-list : (s″ : State) (M : List Record) (a : Answer) → step g s p ≡ a
+          → reverseAux (movesBy s (λ s′. movesFrom g s′ ps) p a) H ≡ reverseAux (movesBy s (λ s′. movesFrom g s′ ps) p (step g s p)) H
       move-list s″ M a e = ap (λ (b : Answer). reverseAux (movesBy s (λ s′. movesFrom g s′ ps) p b) H) (sym e)
 
-      go : (a : Answer) → step g s p ≡ a → resume s (λ z. run g z ps) a .stop ≡ Stop.race → ((s′ : State) (H′ : List Record) → Trail g s′ H′ → run g s′ ps .stop ≡ Stop.race → Raced g s′ H′ ps) → Raced g s H (p ∷ ps)
-      go Answer.passed e h k = let x = k s H tr h in record { state = x .state; moves = x .moves; trail = x .trail; thread = x .thread; access = x .access; lacking = x .lacking; are-moves = sym (move-list (x .state) (x .moves) Answer.passed e) ∙ x .are-moves; few = let b = x .few in omega arith }
-      go (Answer.race r) e h k = record { state = s; moves = H; trail = tr; thread = p; access = r; lacking = step-lacks s I p r e; are-moves = sym (move-list s H (Answer.race r) e); few = omega arith }
+      go : (a : Answer) → step g s p ≡ a → resume s (λ z. run g z ps) a .stop ≡ Stop.race
+          → ((s′ : State) (H′ : List Record) → Trail g s′ H′ → run g s′ ps .stop ≡ Stop.race → Raced g s′ H′ ps) → Raced g s H (p ∷ ps)
+      go Answer.passed e h k = let x =
+          k s H tr h in record {
+            state = x .state;
+            moves = x .moves;
+            trail = x .trail;
+            thread = x .thread;
+            access = x .access;
+            lacking =
+                x .lacking;
+            are-moves = sym (move-list (x .state) (x .moves) Answer.passed e) ∙ x .are-moves;
+            few = let b = x .few in omega arith;
+          }
+      go (Answer.race r) e h k =
+          record {
+            state = s;
+            moves = H;
+            trail = tr;
+            thread = p;
+            access = r;
+            lacking = step-lacks s I p r e;
+            are-moves =
+                sym (move-list s H (Answer.race r) e);
+            few = omega arith;
+          }
       go (Answer.noRoom w) e h k = absurd (true≢false cc)
       go (Answer.moved m) e h k =
           let y = step-sound g s (I .one-key) p m e in
           let x = k (m .state) (shown p (m .entry) ∷ H) (move tr p (y .0) (y .1)) h in
-          record { state = x .state; moves = x .moves; trail = x .trail; thread = x .thread; access = x .access; lacking = x .lacking; are-moves = sym (move-list (x .state) (x .moves) (Answer.moved m) e) ∙ x .are-moves; few = let b = x .few in omega arith }
+          record {
+            state = x .state;
+            moves = x .moves;
+            trail = x .trail;
+            thread = x .thread;
+            access = x .access;
+            lacking = x .lacking;
+            are-moves =
+                sym (move-list (x .state) (x .moves) (Answer.moved m) e) ∙ x .are-moves;
+            few = let b = x .few in omega arith;
+          }
 
 -- ---- picks that all move are below 8
 
-plays-below : (g : Program) (P : WellFormedProgram g) {s s′ : State} {qs : List ℕ} → Reachable g s → Roomy s → Plays g s qs s′ → (i q : ℕ) → getElem? qs i ≡ some q → q < 8
+plays-below : (g : Program) (P : WellFormedProgram g) {s s′ : State} {qs : List ℕ} → Reachable g s → Roomy s → Plays g s qs s′ → (i q : ℕ)
+    → getElem? qs i ≡ some q → q < 8
 plays-below g P I z done i q h = absurd (true≢false cc)
-plays-below g P {s} I z (pick {q = q₀} {qs = qs} m e ps) i q h = go i h (λ j. plays-below g P (reachable-move g P s q₀ I (y .0)) (tidy-move g s (I .invariant) z q₀ (y .0) (y .1) .0) ps j q)
+plays-below g P {s} I z (pick {q = q₀} {qs = qs} m e ps) i q h =
+    go i h (λ j. plays-below g P (reachable-move g P s q₀ I (y .0)) (tidy-move g s (I .invariant) z q₀ (y .0) (y .1) .0) ps j q)
   where
     y : Moves g s q₀ (m .rule) (m .entry) (m .state) × (noRoomFor (m .rule) s q₀ (m .state) ≡ none)
     y = step-sound g s (I .one-key) q₀ m e
@@ -203,7 +299,8 @@ roomy-start = record { threads8 = omega arith; objects32 = omega arith; keys256 
 
 -- ---- the theorem
 
-module _ (g : Program) (P : WellFormedProgram g) (version-1 : g .version ≡ v1) (Q : WaitlessProgram g) (ps : List ℕ) (raced-so : play g ps .stop ≡ Stop.race) where
+module _ (g : Program) (P : WellFormedProgram g) (version-1 : g .version ≡ v1) (Q : WaitlessProgram g) (ps : List ℕ)
+    (raced-so : play g ps .stop ≡ Stop.race) where
   R : Raced g start [] ps
   unfolding play
   R = raced g P ps begin raced-so
@@ -299,17 +396,29 @@ module _ (g : Program) (P : WellFormedProgram g) (version-1 : g .version ≡ v1)
   off m = marks-write S (r ∷ M) i (length M) marks (U .no-chain) (along (λ (n : ℕ). T (S n)) (sym (D .index)) m)
 
   live-p : Live S (D .past) (ofThread (D .thread))
-  live-p a z ha out = marks-feed S (r ∷ M) i (length M) marks i w₀ write-at (inl refl) a z (back (at-later (D .rest) a z (back ha))) (let b = at-below ha in let e = D .index in omega arith) (ofThread (D .thread)) out (inl (mover (D .moves) .2))
+  live-p a z ha out = marks-feed S (r ∷ M) i (length M) marks i w₀ write-at (inl refl) a z (back (at-later (D .rest) a z (back ha))) (let b =
+      at-below ha in let e = D .index in omega arith) (ofThread (D .thread)) out (inl (mover (D .moves) .2))
 
   live-q : Live S M (ofThread (R .thread))
-  live-q a z ha out = marks-feed S (r ∷ M) i (length M) marks (length M) r (here refl) (inr refl) a z (back ha) (at-below ha) (ofThread (R .thread)) out (inl (X .mover-is))
+  live-q a z ha out = marks-feed S (r ∷ M) i (length M) marks (length M) r (here refl) (inr refl) a z (back ha) (at-below ha) (ofThread (R .thread)) out
+      (inl (X .mover-is))
 
   abbrev Z : Met g S M (D .thread) (R .thread) (Redex.write (w₀ .object) (w₀ .field) (w₀ .value)) (X .part)
-  Z = met g P Q S (D .trail) (D .thread) (Y .thread) (Y .there) (Y .around) (Redex.write (w₀ .object) (w₀ .field) (w₀ .value)) (Y .next-is) (D .entry) (D .moves) (D .room) (D .rest) (R .thread) (X .thread) (X .there) (X .around) (X .part) (X .next-is) cl off live-p live-q
+  Z = met g P Q S (D .trail) (D .thread) (Y .thread) (Y .there) (Y .around) (Redex.write (w₀ .object) (w₀ .field) (w₀ .value)) (Y .next-is) (D .entry)
+      (D .moves) (D .room) (D .rest) (R .thread) (X .thread) (X .there) (X .around) (X .part) (X .next-is) cl off live-p live-q
 
   -- two threads: else the two would be paired
   apart : D .thread ≡ R .thread → ⊥
-  apart e = U .no-chain (one (record { earlier = w₀; later = r; at-i = write-at; at-j = here refl; before = W .before; paired = sameThread (mover (D .moves) .2 ∙ e ∙ sym (X .mover-is)) }))
+  apart e = U .no-chain
+      (one (record {
+        earlier = w₀;
+        later = r;
+        at-i = write-at;
+        at-j = here refl;
+        before = W .before;
+        paired =
+            sameThread (mover (D .moves) .2 ∙ e ∙ sym (X .mover-is));
+      }))
 
   pub picks : List ℕ
   picks = picksOf S L
@@ -370,7 +479,8 @@ module _ (g : Program) (P : WellFormedProgram g) (version-1 : g .version ≡ v1)
     writer-is = ap (numbersOf S L) (ap (λ (w : Record). w .thread) its-write ∙ mover (D .moves) .2) ∙ sym (numbers-turned (D .thread)) ∙ Z .writer-is;
     write-part = Z .write-part;
     about-write = along (λ (c : State). About c (Z .writer) (Z .write-part)) (sym final) (Z .about-write);
-    is-write = along (λ (w : Record). Renamed (Z .ω) w (Z .write-part)) (sym its-write) (written-renamed w₀ (ap (λ (w : Record). w .kind) (D .is-it) ∙ W .writes .is-write) (Z .ω) (Z .write-part) (Z .write-like));
+    is-write = along (λ (w : Record). Renamed (Z .ω) w (Z .write-part)) (sym its-write)
+        (written-renamed w₀ (ap (λ (w : Record). w .kind) (D .is-it) ∙ W .writes .is-write) (Z .ω) (Z .write-part) (Z .write-like));
     other = Z .other;
     other-is = ap (numbersOf S L) (X .mover-is) ∙ sym (numbers-turned (R .thread)) ∙ Z .other-is;
     access-part = Z .access-part;
@@ -379,12 +489,15 @@ module _ (g : Program) (P : WellFormedProgram g) (version-1 : g .version ≡ v1)
     two-threads = Z .two apart;
     field-there = λ o h. along (λ (c : State). (d : Cell) × (lookup c o (r .field) ≡ some d)) (sym final) (field o h);
     plain = X .plain;
-    no-longer = let a = R .few in let b = schedule-length S M in let c : length (schedule S M) ≡ length picks = ap length picks-turned ∙ unfold picks in refl in omega arith;
+    no-longer = let a = R .few in let b = schedule-length S M in let c : length (schedule S M) ≡ length picks = ap length picks-turned ∙ unfold picks in
+        refl in omega arith;
     below-8 = plays-below g P (reachable-start g P) roomy-start plays;
   }
     where
       field : (o : ℕ) → Z .ω (r .object) ≡ some o → (d : Cell) × (lookup (Z .end) o (r .field) ≡ some d)
-      field o h = met-field g P Q S (D .trail) (D .thread) (Y .thread) (Y .there) (Y .around) (Redex.write (w₀ .object) (w₀ .field) (w₀ .value)) (Y .next-is) (D .entry) (D .moves) (D .room) (D .rest) (R .thread) (X .thread) (X .there) (X .around) (X .part) (X .next-is) cl off live-p live-q (r .object) o (r .field) (X .cell) h (X .field-there)
+      field o h = met-field g P Q S (D .trail) (D .thread) (Y .thread) (Y .there) (Y .around) (Redex.write (w₀ .object) (w₀ .field) (w₀ .value)) (Y .next-is)
+          (D .entry) (D .moves) (D .room) (D .rest) (R .thread) (X .thread) (X .there) (X .around) (X .part) (X .next-is) cl off live-p live-q (r .object) o
+          (r .field) (X .cell) h (X .field-there)
 
 -- its failing access, the last of its moves, is unordered after the last write
 pub race-unordered : (g : Program) → WellFormedProgram g → g .version ≡ v1 → WaitlessProgram g → (ps : List ℕ) → play g ps .stop ≡ Stop.race
@@ -392,5 +505,6 @@ pub race-unordered : (g : Program) → WellFormedProgram g → g .version ≡ v1
 race-unordered g P version-1 Q ps h = (_, raced-end g P version-1 Q ps h, raced-unordered g P version-1 Q ps h)
 
 -- E10, from any run of a well-formed program that stops for a missing key
-pub from-race : (g : Program) → WellFormedProgram g → g .version ≡ v1 → WaitlessProgram g → (ps : List ℕ) → play g ps .stop ≡ Stop.race → (qs : List ℕ) × (w : Written g ps qs) × SideBySide g ps qs w
+pub from-race : (g : Program) → WellFormedProgram g → g .version ≡ v1 → WaitlessProgram g → (ps : List ℕ) → play g ps .stop ≡ Stop.race
+    → (qs : List ℕ) × (w : Written g ps qs) × SideBySide g ps qs w
 from-race g P version-1 Q ps h = (picks g P version-1 Q ps h, written g P version-1 Q ps h, side-by-side g P version-1 Q ps h)

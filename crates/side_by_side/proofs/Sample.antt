@@ -13,7 +13,8 @@ raced : List Record
 unfolding movesOf programOf planP
 raced = movesOf (programOf planP) (0 ∷ 0 ∷ 0 ∷ 0 ∷ 0 ∷ 1 ∷ 0 ∷ [])
 
-its-moves : raced ≡ (entry Kind.new 0 0 0 0 ∷ entry Kind.new 0 1 0 0 ∷ entry Kind.new 0 0 0 0 ∷ entry Kind.fork 0 2 1 0 ∷ entry Kind.new 0 0 0 0 ∷ entry Kind.write 1 1 1 0 ∷ entry Kind.lacksRead 0 1 1 0 ∷ [])
+its-moves : raced ≡ (entry Kind.new 0 0 0 0 ∷ entry Kind.new 0 1 0 0 ∷ entry Kind.new 0 0 0 0 ∷ entry Kind.fork 0 2 1 0 ∷ entry Kind.new 0 0 0 0
+    ∷ entry Kind.write 1 1 1 0 ∷ entry Kind.lacksRead 0 1 1 0 ∷ [])
 unfolding raced movesOf
 its-moves = refl
 

@@ -54,7 +54,8 @@ closed-before S none-yet cl = cl
 closed-before S (then {H = H} {r = r} tr la p mv l) cl = closed-before S la (closed-older S (shown p r) H cl)
 
 module _ (g : Program) (P : WellFormedProgram g) (Q : WaitlessProgram g) (S : Marks)
-    {s₀ s₁ s : State} {H₀ H : List Record} (tr₀ : Trail g s₀ H₀) (p : ℕ) (t₀ : Thread) (ht₀ : getElem? (s₀ .threads) p ≡ some t₀) (K₀ : Context) (y : Redex) (he₀ : t₀ .expression ≡ plug K₀ (redexExpression y))
+    {s₀ s₁ s : State} {H₀ H : List Record} (tr₀ : Trail g s₀ H₀) (p : ℕ) (t₀ : Thread) (ht₀ : getElem? (s₀ .threads) p ≡ some t₀) (K₀ : Context) (y : Redex)
+    (he₀ : t₀ .expression ≡ plug K₀ (redexExpression y))
     {R : Rule} (r : Option Record) (mv : Moves g s₀ p R r s₁) (room : noRoomFor R s₀ p s₁ ≡ none) (la : Later g s₁ (shown p r ∷ H₀) s H)
     (q : ℕ) (t : Thread) (ht : getElem? (s .threads) q ≡ some t) (K : Context) (x : Redex) (he : t .expression ≡ plug K (redexExpression x))
     (cl : Closed S H) (unmarked : T (S (length H₀)) → ⊥) (writer-live : Live S H₀ (ofThread p)) (other-live : Live S H (ofThread q)) where
@@ -68,7 +69,12 @@ module _ (g : Program) (P : WellFormedProgram g) (Q : WaitlessProgram g) (S : Ma
   B₁ =
       let m = X₀ .corr .mirrors p t₀ writer-live ht₀ in
       let Y = one-more g P Q S (trail-kept g P tr₀) p mv room cl₁ X₀ in
-      record { its = Y .0; stands = Y .1 p (t₀ .expression) (λ mk _. unmarked mk) (record { number = m .number; thread = m .thread; named = m .named; there = m .there; expr-like = m .expr-like }) }
+      record {
+        its = Y .0;
+        stands =
+            Y .1 p (t₀ .expression) (λ mk _. unmarked mk)
+            (record { number = m .number; thread = m .thread; named = m .named; there = m .there; expr-like = m .expr-like });
+      }
 
   pub cut-beside : Beside g P Q S s H p (t₀ .expression)
   cut-beside = beside g P Q S (length H₀) p (t₀ .expression) (shown p r) (mover mv .2) unmarked (here refl) la cl B₁ .1
@@ -103,13 +109,15 @@ module _ (g : Program) (P : WellFormedProgram g) (Q : WaitlessProgram g) (S : Ma
       zero-kept = B .its .corr .names .zero-kept
 
       n₀ : Next ω₀ K₀ y (focus top (B .stands .thread .expression))
-      n₀ = next ω₀ (along (λ (F : Focus). LikeFocus ω₀ F (focus top (B .stands .thread .expression))) (ap (focus top) he₀ ∙ found K₀ y) (focus-like ω₀ zero-kept (B .stands .expr-like) k-top))
+      n₀ = next ω₀ (along (λ (F : Focus). LikeFocus ω₀ F (focus top (B .stands .thread .expression))) (ap (focus top) he₀ ∙ found K₀ y)
+          (focus-like ω₀ zero-kept (B .stands .expr-like) k-top))
 
       m : Mirror ω₀ (B .its .τ) (B .its .κ) (B .its .cut .threads) q t
       m = B .its .corr .mirrors q t other-live ht
 
       n : Next ω₀ K x (focus top (m .thread .expression))
-      n = next ω₀ (along (λ (F : Focus). LikeFocus ω₀ F (focus top (m .thread .expression))) (ap (focus top) he ∙ found K x) (focus-like ω₀ zero-kept (m .expr-like) k-top))
+      n = next ω₀ (along (λ (F : Focus). LikeFocus ω₀ F (focus top (m .thread .expression))) (ap (focus top) he ∙ found K x)
+          (focus-like ω₀ zero-kept (m .expr-like) k-top))
 
   -- a field of the run is a field of the cut run
   pub met-field : (o a f : ℕ) (d : Cell) → met .ω o ≡ some a → lookup s o f ≡ some d → (d′ : Cell) × (lookup (met .end) a f ≡ some d′)
@@ -146,7 +154,8 @@ module _ (S : Marks) (H : List Record) (i j : ℕ) (marks : (k : ℕ) → T (S k
       go (inr c) = let b = rising c in omega arith
 
   -- all that feeds the writer's thread before the write, and the other's before its access
-  pub marks-feed : (b : ℕ) (w : Record) → At H b w → (b ≡ i) ⊎ (b ≡ j) → (a : ℕ) (r : Record) → At H a r → a < b → (z : Port) → Feeds v1 r z → Draws v1 w z → T (S a)
+  pub marks-feed : (b : ℕ) (w : Record) → At H b w → (b ≡ i) ⊎ (b ≡ j) → (a : ℕ) (r : Record) → At H a r → a < b → (z : Port) → Feeds v1 r z → Draws v1 w z
+      → T (S a)
   marks-feed b w hb e a r ha l z out inn = marks a .1 (go e)
     where
       link : Chain v1 H a b

@@ -23,7 +23,8 @@ use Rattle.side_by_side.proofs.Race.{step-lacks, roomy-start}
 
 module _ (g : Program) (P : WellFormedProgram g) where
   -- the record of a move
-  tidy-shown : (s : State) → Reachable g s → Roomy s → (p : ℕ) {R : Rule} (r : Option Record) {s′ : State} → Moves g s p R r s′ → noRoomFor R s p s′ ≡ none → Tidy (shown p r)
+  tidy-shown : (s : State) → Reachable g s → Roomy s → (p : ℕ) {R : Rule} (r : Option Record) {s′ : State} → Moves g s p R r s′ → noRoomFor R s p s′ ≡ none
+      → Tidy (shown p r)
   unfolding shown
   tidy-shown s I z p (some r) mv l = tidy-move g s (I .invariant) z p mv l .1
   tidy-shown s I z p none mv l =
@@ -40,7 +41,8 @@ module _ (g : Program) (P : WellFormedProgram g) where
   tidy-from [] s I z = (tt, omega arith)
   tidy-from (p ∷ ps) s I z = go (step g s p) refl (λ s′ I′ z′. tidy-from ps s′ I′ z′)
     where
-      go : (a : Answer) → step g s p ≡ a → ((s′ : State) → Reachable g s′ → Roomy s′ → TidyMoves ps (movesFrom g s′ ps)) → TidyMoves (p ∷ ps) (movesBy s (λ s′. movesFrom g s′ ps) p a)
+      go : (a : Answer) → step g s p ≡ a → ((s′ : State) → Reachable g s′ → Roomy s′ → TidyMoves ps (movesFrom g s′ ps))
+          → TidyMoves (p ∷ ps) (movesBy s (λ s′. movesFrom g s′ ps) p a)
       go Answer.passed e ih = let d = ih s I z in let b = d .1 in (d .0, omega arith)
       go (Answer.race r) e ih = ((tidy-lacking g s (I .invariant) z p (step-lacks g P s I p r e), tt), omega arith)
       go (Answer.noRoom k) e ih = (tt, omega arith)

@@ -103,5 +103,6 @@ module _ (b : List ℕ) (a : refusal b ≡ none) (h : hasWait b ≡ false) where
     bodies = λ m d e.
         let k = procedures-inside b m d e in
         along (λ (x : Procedure). Waitless (x .body)) (sym (k .1))
-        (tree-waitless (nodeAt b) (λ t. along WaitlessNode (sym (node-is b t (tagAt b t) refl)) (tag-waitless _ _ _ (tagAt b t) (tt, no-wait t))) (root b m) (treeAt b (root b m)) (accepted-stands b a m (k .0)));
+        (tree-waitless (nodeAt b) (λ t. along WaitlessNode (sym (node-is b t (tagAt b t) refl)) (tag-waitless _ _ _ (tagAt b t) (tt, no-wait t))) (root b m)
+        (treeAt b (root b m)) (accepted-stands b a m (k .0)));
   }

@@ -74,10 +74,12 @@ written-once L qs qs′ a b = a .picks-are ∙ same-picks L 0 firstNumbers 1 ∙
         (along (λ (n : ℕ). LastWrite L n (a .access .object) (a .access .field) (a .last)) ends-same (a .is-last))) (b .is-last)
 
     forth : (k : ℕ) → T (a .kept k) → T (b .kept k)
-    forth k h = b .kept-stays k .1 (along (λ (n : ℕ). Stays L (b .failing) n k) last-same (along (λ (n : ℕ). Stays L n (a .last) k) ends-same (a .kept-stays k .0 h)))
+    forth k h = b .kept-stays k .1
+        (along (λ (n : ℕ). Stays L (b .failing) n k) last-same (along (λ (n : ℕ). Stays L n (a .last) k) ends-same (a .kept-stays k .0 h)))
 
     back′ : (k : ℕ) → T (b .kept k) → T (a .kept k)
-    back′ k h = a .kept-stays k .1 (along (λ (n : ℕ). Stays L (a .failing) n k) (sym last-same) (along (λ (n : ℕ). Stays L n (b .last) k) (sym ends-same) (b .kept-stays k .0 h)))
+    back′ k h = a .kept-stays k .1
+        (along (λ (n : ℕ). Stays L (a .failing) n k) (sym last-same) (along (λ (n : ℕ). Stays L n (b .last) k) (sym ends-same) (b .kept-stays k .0 h)))
 
     same : (k : ℕ) → a .kept k ≡ b .kept k
     same k = go (a .kept k) (b .kept k) (forth k) (back′ k)

@@ -9,7 +9,8 @@ use Rattle.packed.specs.Steps.{tagIn, Loaded}
 use Rattle.packed.proofs.SortLaws.{tags-are}
 use Rattle.costs.proofs.Below.{any-same}
 
-pub tag-in : (b words : List ℕ) → Loaded b (terms b) words → (m k : ℕ) → m ≡ terms b → anyBelow m (λ t. eqb (tagIn words t) k) ≡ anyBelow (terms b) (λ t. eqb (tagAt b t) k)
+pub tag-in : (b words : List ℕ) → Loaded b (terms b) words → (m k : ℕ) → m ≡ terms b
+    → anyBelow m (λ t. eqb (tagIn words t) k) ≡ anyBelow (terms b) (λ t. eqb (tagAt b t) k)
 tag-in b words loaded m k e =
     ap (λ (n : ℕ). anyBelow n (λ t. eqb (tagIn words t) k)) e
     ∙ any-same (terms b) (λ t. eqb (tagIn words t) k) (λ t. eqb (tagAt b t) k) (λ t h. ap (λ (n : ℕ). eqb n k) (tags-are b (terms b) words loaded t h))

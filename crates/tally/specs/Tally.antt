@@ -13,7 +13,8 @@ abbrev pub wordOf : ℕ → Entry → ℕ
 wordOf p e = (((e .kind % 16 * 8 + p % 8) * 32 + e .object % 32) * 32 + e .field % 32) * 128 + e .value % 32 * 4
 
 unfoldable pub logPut : List ℕ → ℕ → ℕ → Entry → List ℕ
-logPut l n p e = cond (eqb (e .kind) 0) l (set (set (set l (n * 3) (wordOf p e / 65536 % 256)) (n * 3 + 1) (wordOf p e / 256 % 256)) (n * 3 + 2) (wordOf p e % 256))
+logPut l n p e = cond (eqb (e .kind) 0) l
+    (set (set (set l (n * 3) (wordOf p e / 65536 % 256)) (n * 3 + 1) (wordOf p e / 256 % 256)) (n * 3 + 2) (wordOf p e % 256))
 
 unfoldable pub recordsAfter : ℕ → Entry → ℕ
 recordsAfter n e = cond (eqb (e .kind) 0) n (n + 1)

@@ -38,4 +38,5 @@ digits-by k n false e h g =
 pub few-digits : (k n : ℕ) → n < 10 ^ suc k → length (decimal n) ≤ suc k
 few-digits zero n h = omega (arith, ap length (decimal-digit n h))
 few-digits (suc k) n h =
-    digits-by k n (ltb n 10) refl h (few-digits k (n / 10) (div-lt-iff-lt-mul {k = 10} {x = n} {y = 10 ^ suc k} (omega arith) .1 (rw (sym (pow-suc 10 (suc k))) h)))
+    digits-by k n (ltb n 10) refl h
+    (few-digits k (n / 10) (div-lt-iff-lt-mul {k = 10} {x = n} {y = 10 ^ suc k} (omega arith) .1 (rw (sym (pow-suc 10 (suc k))) h)))

@@ -17,7 +17,9 @@ use Rattle.token_writer.specs.Items.{newTokens}
 pub fields-append : (m f n k : ℕ) → fieldsFrom m f (n + k) ≡ fieldsFrom m f n ++ fieldsFrom m (f + n) k
 unfolding fieldsFrom
 fields-append m f zero k = ap (fieldsFrom m f) (zero-add k) ∙ ap (λ (g : ℕ). fieldsFrom m g k) (sym (add-zero f))
-fields-append m f (suc n) k = ap (fieldsFrom m f) (suc-left n k) ∙ go (eqb (maskBit m f) 1) (fields-append m (suc f) n k ∙ ap (λ (g : ℕ). fieldsFrom m (suc f) n ++ fieldsFrom m g k) (next f n))
+fields-append m f (suc n) k =
+    ap (fieldsFrom m f) (suc-left n k)
+    ∙ go (eqb (maskBit m f) 1) (fields-append m (suc f) n k ∙ ap (λ (g : ℕ). fieldsFrom m (suc f) n ++ fieldsFrom m g k) (next f n))
   where
     suc-left : (n k : ℕ) → suc n + k ≡ suc (n + k)
     suc-left n k = omega arith
@@ -26,7 +28,8 @@ fields-append m f (suc n) k = ap (fieldsFrom m f) (suc-left n k) ∙ go (eqb (ma
     next f n = omega arith
 
     go : (b : Bool) → fieldsFrom m (suc f) (n + k) ≡ fieldsFrom m (suc f) n ++ fieldsFrom m (f + suc n) k
-        → cond b (f ∷ fieldsFrom m (suc f) (n + k)) (fieldsFrom m (suc f) (n + k)) ≡ cond b (f ∷ fieldsFrom m (suc f) n) (fieldsFrom m (suc f) n) ++ fieldsFrom m (f + suc n) k
+        → cond b (f ∷ fieldsFrom m (suc f) (n + k)) (fieldsFrom m (suc f) (n + k)) ≡ cond b (f ∷ fieldsFrom m (suc f) n) (fieldsFrom m (suc f) n)
+        ++ fieldsFrom m (f + suc n) k
     go true e = ap (λ (l : List ℕ). f ∷ l) e
     go false e = e
 

@@ -56,7 +56,8 @@ module _ (words : List ℕ) where
   pub tokens-append : (is js : List ℕ) → tokensIn words (is ++ js) ≡ tokensIn words is ++ tokensIn words js
   unfolding tokensIn
   tokens-append [] js = refl
-  tokens-append (i ∷ is) js = ap (λ (l : List ℕ). itemTokens words i ++ l) (tokens-append is js) ∙ sym (append-assoc (itemTokens words i) (tokensIn words is) (tokensIn words js))
+  tokens-append (i ∷ is) js = ap (λ (l : List ℕ). itemTokens words i ++ l) (tokens-append is js)
+      ∙ sym (append-assoc (itemTokens words i) (tokensIn words is) (tokensIn words js))
 
   -- in parentheses
   closing-is : tokensIn words (token closing ∷ []) ≡ closing ∷ []

@@ -16,7 +16,8 @@ use Rattle.format.proofs.Ranges.{by-range}
 use Rattle.packed.proofs.Tags.{past, by-tag}
 use Rattle.packed.proofs.Walk.{row-below}
 use Rattle.notation.specs.Tokens.{opening, closing}
-use Rattle.token_writer.specs.Items.{token, child, asArguments, operandBy, binderOn, itemOf, itemRows, conditionRow, rowAs, rowNumber, itemsFrom, rowItems}
+use Rattle.token_writer.specs.Items.{token, child, asArguments, operandBy, binderOn, itemOf, itemRows, conditionRow, rowAs, rowNumber, itemsFrom}
+use Rattle.token_writer.specs.Items.{rowItems}
 
 -- an item that is a token, or a tree at a term after t in a context
 abbrev pub LaterItem : ℕ → ℕ → Type 0
@@ -84,32 +85,72 @@ module _ (ws : List ℕ) (o : Ordered ws) (t d : ℕ) where
   later-4 : Row 4 4
   unfolding rowItems itemRows itemOf operandBy nodeOf inWord layout table nodes
   later-4 e =
-      grouped-later t (ltb (rowNumber 4 0) d) (itemsFrom w 4 2 5)
-      (later-child t 3 (firstOf w) (omega arith) (below _) (row-below ws o t 4 e .0), (later-token t 65, (later-token t (fieldBits w), (later-token t 67, (later-child t 0 (writeSecond w) (omega arith) (below _) (row-below ws o t 4 e .1), tt)))))
+      grouped-later t (ltb (rowNumber 4 0) d) (itemsFrom w 4 2 5) (
+        later-child t 3 (firstOf w) (omega arith) (below _) (row-below ws o t 4 e .0),
+        (
+          later-token t 65,
+          (
+            later-token t (fieldBits w),
+            (later-token t 67, (later-child t 0 (writeSecond w) (omega arith) (below _) (row-below ws o t 4 e .1), tt)),
+          ),
+        ),
+      )
 
   later-5 : Row 5 5
   unfolding rowItems itemRows itemOf operandBy nodeOf inWord layout table nodes
   later-5 e =
-      grouped-later t (ltb (rowNumber 5 0) d) (itemsFrom w 5 2 6)
-      (later-token t 53, (later-binder t (slotBits w), (later-token t 66, (later-child t 0 (letFirst w) (omega arith) (below _) (row-below ws o t 5 e .0), (later-token t 43, (later-child t 0 (letSecond w) (omega arith) (below _) (row-below ws o t 5 e .1), tt))))))
+      grouped-later t (ltb (rowNumber 5 0) d) (itemsFrom w 5 2 6) (
+        later-token t 53,
+        (
+          later-binder t (slotBits w),
+          (
+            later-token t 66,
+            (
+              later-child t 0 (letFirst w) (omega arith) (below _) (row-below ws o t 5 e .0),
+              (later-token t 43, (later-child t 0 (letSecond w) (omega arith) (below _) (row-below ws o t 5 e .1), tt)),
+            ),
+          ),
+        ),
+      )
 
   later-6 : Row 6 6
   unfolding rowItems itemRows itemOf operandBy nodeOf inWord layout table nodes
   later-6 e =
-      grouped-later t (ltb (rowNumber 6 0) d) (itemsFrom w 6 2 6)
-      (later-token t 54, (later-child t 4 (firstOf w) (omega arith) (below _) (row-below ws o t 6 e .0), (later-token t 44, (later-child t 0 (secondOf w) (omega arith) (below _) (row-below ws o t 6 e .1), (later-token t 45, (later-child t 0 (thirdOf w) (omega arith) (below _) (row-below ws o t 6 e .2), tt))))))
+      grouped-later t (ltb (rowNumber 6 0) d) (itemsFrom w 6 2 6) (
+        later-token t 54,
+        (
+          later-child t 4 (firstOf w) (omega arith) (below _) (row-below ws o t 6 e .0),
+          (
+            later-token t 44,
+            (
+              later-child t 0 (secondOf w) (omega arith) (below _) (row-below ws o t 6 e .1),
+              (later-token t 45, (later-child t 0 (thirdOf w) (omega arith) (below _) (row-below ws o t 6 e .2), tt)),
+            ),
+          ),
+        ),
+      )
 
   later-7 : Row 7 7
   unfolding rowItems itemRows itemOf operandBy nodeOf inWord layout table nodes
   later-7 e =
-      grouped-later t (ltb (rowNumber 7 0) d) (itemsFrom w 7 2 4)
-      (later-token t 55, (later-child t 4 (firstOf w) (omega arith) (below _) (row-below ws o t 7 e .0), (later-token t 46, (later-child t 0 (secondOf w) (omega arith) (below _) (row-below ws o t 7 e .1), tt))))
+      grouped-later t (ltb (rowNumber 7 0) d) (itemsFrom w 7 2 4) (
+        later-token t 55,
+        (
+          later-child t 4 (firstOf w) (omega arith) (below _) (row-below ws o t 7 e .0),
+          (later-token t 46, (later-child t 0 (secondOf w) (omega arith) (below _) (row-below ws o t 7 e .1), tt)),
+        ),
+      )
 
   later-8 : Row 8 8
   unfolding rowItems itemRows itemOf operandBy nodeOf inWord layout table nodes
   later-8 e =
-      grouped-later t (ltb (rowNumber 8 0) d) (itemsFrom w 8 2 4)
-      (later-token t 56, (later-token t (procedureBits w), (later-token t 62, (later-child t 8 (listBits w) (omega arith) (below _) (row-below ws o t 8 e), tt))))
+      grouped-later t (ltb (rowNumber 8 0) d) (itemsFrom w 8 2 4) (
+        later-token t 56,
+        (
+          later-token t (procedureBits w),
+          (later-token t 62, (later-child t 8 (listBits w) (omega arith) (below _) (row-below ws o t 8 e), tt)),
+        ),
+      )
 
   later-9 : Row 9 9
   unfolding rowItems itemRows itemOf operandBy nodeOf inWord layout table nodes
@@ -126,8 +167,13 @@ module _ (ws : List ℕ) (o : Ordered ws) (t d : ℕ) where
   later-11 : Row 11 11
   unfolding rowItems itemRows itemOf operandBy nodeOf inWord layout table nodes
   later-11 e =
-      grouped-later t (ltb (rowNumber 11 0) d) (itemsFrom w 11 2 4)
-      (later-token t 59, (later-child t 0 (firstOf w) (omega arith) (below _) (row-below ws o t 11 e .0), (later-token t 46, (later-child t 0 (secondOf w) (omega arith) (below _) (row-below ws o t 11 e .1), tt))))
+      grouped-later t (ltb (rowNumber 11 0) d) (itemsFrom w 11 2 4) (
+        later-token t 59,
+        (
+          later-child t 0 (firstOf w) (omega arith) (below _) (row-below ws o t 11 e .0),
+          (later-token t 46, (later-child t 0 (secondOf w) (omega arith) (below _) (row-below ws o t 11 e .1), tt)),
+        ),
+      )
 
   later-18 : Row 18 18
   unfolding rowItems itemRows itemOf operandBy nodeOf inWord layout table nodes
@@ -156,26 +202,37 @@ module _ (ws : List ℕ) (o : Ordered ws) (t d : ℕ) where
   later-14-23 : Row 14 23
   unfolding rowItems itemRows itemOf operandBy nodeOf inWord layout table nodes
   later-14-23 e =
-      grouped-later t (ltb (rowNumber 23 0) d) (itemsFrom w 23 2 3)
-      (later-child t 5 (firstOf w) (omega arith) (below _) (row-below ws o t 14 e .0), (later-token t 48, (later-child t 4 (secondOf w) (omega arith) (below _) (row-below ws o t 14 e .1), tt)))
+      grouped-later t (ltb (rowNumber 23 0) d) (itemsFrom w 23 2 3) (
+        later-child t 5 (firstOf w) (omega arith) (below _) (row-below ws o t 14 e .0),
+        (later-token t 48, (later-child t 4 (secondOf w) (omega arith) (below _) (row-below ws o t 14 e .1), tt)),
+      )
 
   later-15-24 : Row 15 24
   unfolding rowItems itemRows itemOf operandBy nodeOf inWord layout table nodes
   later-15-24 e =
-      grouped-later t (ltb (rowNumber 24 0) d) (itemsFrom w 24 2 3)
-      (later-child t 2 (firstOf w) (omega arith) (below _) (row-below ws o t 15 e .0), (later-token t 66, (later-child t 2 (secondOf w) (omega arith) (below _) (row-below ws o t 15 e .1), tt)))
+      grouped-later t (ltb (rowNumber 24 0) d) (itemsFrom w 24 2 3) (
+        later-child t 2 (firstOf w) (omega arith) (below _) (row-below ws o t 15 e .0),
+        (later-token t 66, (later-child t 2 (secondOf w) (omega arith) (below _) (row-below ws o t 15 e .1), tt)),
+      )
 
   later-16-25 : Row 16 25
   unfolding rowItems itemRows itemOf operandBy nodeOf inWord layout table nodes
   later-16-25 e =
-      grouped-later t (ltb (rowNumber 25 0) d) (itemsFrom w 25 2 2)
-      (later-child t 0 (firstOf w) (omega arith) (below _) (row-below ws o t 16 e .0), (later-child t 9 (secondOf w) (omega arith) (below _) (row-below ws o t 16 e .1), tt))
+      grouped-later t (ltb (rowNumber 25 0) d) (itemsFrom w 25 2 2) (
+        later-child t 0 (firstOf w) (omega arith) (below _) (row-below ws o t 16 e .0),
+        (later-child t 9 (secondOf w) (omega arith) (below _) (row-below ws o t 16 e .1), tt),
+      )
 
   later-16-26 : Row 16 26
   unfolding rowItems itemRows itemOf operandBy nodeOf inWord layout table nodes
   later-16-26 e =
-      grouped-later t (ltb (rowNumber 26 0) d) (itemsFrom w 26 2 3)
-      (later-token t 64, (later-child t 0 (firstOf w) (omega arith) (below _) (row-below ws o t 16 e .0), (later-child t 9 (secondOf w) (omega arith) (below _) (row-below ws o t 16 e .1), tt)))
+      grouped-later t (ltb (rowNumber 26 0) d) (itemsFrom w 26 2 3) (
+        later-token t 64,
+        (
+          later-child t 0 (firstOf w) (omega arith) (below _) (row-below ws o t 16 e .0),
+          (later-child t 9 (secondOf w) (omega arith) (below _) (row-below ws o t 16 e .1), tt),
+        ),
+      )
 
   -- single tokens of other sorts
   later-single : (r x : ℕ) → itemsFrom w r 2 (rowNumber r 1) ≡ token x ∷ [] → Later t (rowItems d w r)
@@ -232,7 +289,8 @@ module _ (ws : List ℕ) (o : Ordered ws) (t d : ℕ) where
   later-past j e = rw (le-ltb (past 21 j) 21 (omega arith)) (later-single 0 51 null-items)
 
   expression-later : (k : ℕ) → Row k (cond (ltb k 21) k 0)
-  expression-later = by-tag (λ k. Row k (cond (ltb k 21) k 0)) later-0 later-1 later-2 later-3 later-4 later-5 later-6 later-7 later-8 later-9 later-10 later-11 later-12 later-13 later-14 later-15 later-16 later-17 later-18 later-19 later-20 later-past
+  expression-later = by-tag (λ k. Row k (cond (ltb k 21) k 0)) later-0 later-1 later-2 later-3 later-4 later-5 later-6 later-7 later-8 later-9 later-10
+      later-11 later-12 later-13 later-14 later-15 later-16 later-17 later-18 later-19 later-20 later-past
 
   -- a condition
   abbrev inside : ℕ → Bool
@@ -273,7 +331,9 @@ module _ (ws : List ℕ) (o : Ordered ws) (t d : ℕ) where
   unfolding rowAs
   row-later c = go (ltb c 4) (ltb c 8)
     where
-      go : (a b : Bool) → Later t (rowItems d w (cond a (cond (ltb (tagOf w) 21) (tagOf w) 0) (cond b (conditionRow (tagOf w)) (cond (eqb (tagOf w) 16) (cond (eqb c asArguments) 25 26) 27))))
+      go : (a b : Bool) → Later t
+          (rowItems d w (cond a (cond (ltb (tagOf w) 21) (tagOf w) 0)
+          (cond b (conditionRow (tagOf w)) (cond (eqb (tagOf w) 16) (cond (eqb c asArguments) 25 26) 27))))
       go true b = expression-later (tagOf w) refl
       go false true = condition-later (tagOf w) refl
       go false false = list-later c (tagOf w) refl

@@ -23,7 +23,8 @@ use Rattle.notation.specs.Tokens.{thenWord, elseWord, doWord, allWord, andWord,
 use Rattle.notation.specs.Tokens as tokens
 use Rattle.notation.specs.Tokens.{callWord, forkWord, joinWord, synchWord, waitWord, notifyWord, opening, closing, comma, dot, equals, becomes, dash}
 use Rattle.notation.specs.Shown.{loose, testing, prefix, tight, grouped, binderToken, signalTokens, shown, shownᶜ, shownᵃ, shownFurther}
-use Rattle.token_writer.specs.Items.{token, child, asCondition, asArguments, asFurther, shownAs, itemTokens, tokensIn, operandBy, binderOn, itemOf, itemRows, conditionRow, rowAs, rowNumber, itemsFrom, rowItems}
+use Rattle.token_writer.specs.Items.{token, child, asCondition, asArguments, asFurther, shownAs, itemTokens, tokensIn, operandBy, binderOn, itemOf}
+use Rattle.token_writer.specs.Items.{itemRows, conditionRow, rowAs, rowNumber, itemsFrom, rowItems}
 use Rattle.token_writer.proofs.ItemTokens.{token-is, child-is, joined, Each, tokens-are, tokens-append, grouped-are}
 
 -- bits are few
@@ -85,40 +86,78 @@ module _ (ws : List ℕ) (o : Ordered ws) (t : ℕ) where
     unfolding rowItems itemRows itemOf operandBy nodeOf inWord layout table nodes expressionOf shown shownAs binderOf
     row-4 e n =
         grouped-are ws (ltb 0 d) (itemsFrom w 4 2 5) _
-        (tokens-are ws (itemsFrom w 4 2 5) (shown tight (treeIn ws (firstOf w)) ∷ (dot ∷ []) ∷ (fieldBits w ∷ []) ∷ (becomes ∷ []) ∷ shown loose (treeIn ws (writeSecond w)) ∷ [])
-        (child-is ws 3 (firstOf w) (omega arith) (small₁₀ _), (token-is ws dot (omega arith), (token-is ws (fieldBits w) (small₅ _), (token-is ws becomes (omega arith), (child-is ws 0 (writeSecond w) (omega arith) (small₁₀ _), tt))))))
+        (tokens-are ws (itemsFrom w 4 2 5) (shown tight (treeIn ws (firstOf w)) ∷ (dot ∷ []) ∷ (fieldBits w ∷ []) ∷ (becomes ∷ [])
+        ∷ shown loose (treeIn ws (writeSecond w)) ∷ []) (
+          child-is ws 3 (firstOf w) (omega arith) (small₁₀ _),
+          (
+            token-is ws dot (omega arith),
+            (token-is ws (fieldBits w) (small₅ _), (token-is ws becomes (omega arith), (child-is ws 0 (writeSecond w) (omega arith) (small₁₀ _), tt))),
+          ),
+        ))
         ∙ sym (ap (shown d) (expr-is ws o t 4 e))
 
     row-5 : Row 5
     unfolding rowItems itemRows itemOf operandBy nodeOf inWord layout table nodes expressionOf shown shownAs binderOf
     row-5 e n =
         grouped-are ws (ltb 0 d) (itemsFrom w 5 2 6) _
-        (tokens-are ws (itemsFrom w 5 2 6) ((letWord ∷ []) ∷ (binderToken (binderOf (slotBits w)) ∷ []) ∷ (equals ∷ []) ∷ shown loose (treeIn ws (letFirst w)) ∷ (tokens.inWord ∷ []) ∷ shown loose (treeIn ws (letSecond w)) ∷ [])
-        (token-is ws letWord (omega arith), (binder-is (slotBits w) (sixteen _), (token-is ws equals (omega arith), (child-is ws 0 (letFirst w) (omega arith) (small₁₀ _), (token-is ws tokens.inWord (omega arith), (child-is ws 0 (letSecond w) (omega arith) (small₁₀ _), tt)))))))
+        (tokens-are ws (itemsFrom w 5 2 6) ((letWord ∷ []) ∷ (binderToken (binderOf (slotBits w)) ∷ []) ∷ (equals ∷ []) ∷ shown loose (treeIn ws (letFirst w))
+        ∷ (tokens.inWord ∷ []) ∷ shown loose (treeIn ws (letSecond w)) ∷ []) (
+          token-is ws letWord (omega arith),
+          (
+            binder-is (slotBits w) (sixteen _),
+            (
+              token-is ws equals (omega arith),
+              (
+                child-is ws 0 (letFirst w) (omega arith) (small₁₀ _),
+                (token-is ws tokens.inWord (omega arith), (child-is ws 0 (letSecond w) (omega arith) (small₁₀ _), tt)),
+              ),
+            ),
+          ),
+        ))
         ∙ sym (ap (shown d) (expr-is ws o t 5 e))
 
     row-6 : Row 6
     unfolding rowItems itemRows itemOf operandBy nodeOf inWord layout table nodes expressionOf shown shownAs binderOf
     row-6 e n =
         grouped-are ws (ltb 0 d) (itemsFrom w 6 2 6) _
-        (tokens-are ws (itemsFrom w 6 2 6) ((ifWord ∷ []) ∷ shownᶜ loose (conditionIn ws (firstOf w)) ∷ (thenWord ∷ []) ∷ shown loose (treeIn ws (secondOf w)) ∷ (elseWord ∷ []) ∷ shown loose (treeIn ws (thirdOf w)) ∷ [])
-        (token-is ws ifWord (omega arith), (child-is ws 4 (firstOf w) (omega arith) (small₁₀ _), (token-is ws thenWord (omega arith), (child-is ws 0 (secondOf w) (omega arith) (small₁₀ _), (token-is ws elseWord (omega arith), (child-is ws 0 (thirdOf w) (omega arith) (small₁₀ _), tt)))))))
+        (tokens-are ws (itemsFrom w 6 2 6) ((ifWord ∷ []) ∷ shownᶜ loose (conditionIn ws (firstOf w)) ∷ (thenWord ∷ []) ∷ shown loose (treeIn ws (secondOf w))
+        ∷ (elseWord ∷ []) ∷ shown loose (treeIn ws (thirdOf w)) ∷ []) (
+          token-is ws ifWord (omega arith),
+          (
+            child-is ws 4 (firstOf w) (omega arith) (small₁₀ _),
+            (
+              token-is ws thenWord (omega arith),
+              (
+                child-is ws 0 (secondOf w) (omega arith) (small₁₀ _),
+                (token-is ws elseWord (omega arith), (child-is ws 0 (thirdOf w) (omega arith) (small₁₀ _), tt)),
+              ),
+            ),
+          ),
+        ))
         ∙ sym (ap (shown d) (expr-is ws o t 6 e))
 
     row-7 : Row 7
     unfolding rowItems itemRows itemOf operandBy nodeOf inWord layout table nodes expressionOf shown shownAs binderOf
     row-7 e n =
         grouped-are ws (ltb 0 d) (itemsFrom w 7 2 4) _
-        (tokens-are ws (itemsFrom w 7 2 4) ((whileWord ∷ []) ∷ shownᶜ loose (conditionIn ws (firstOf w)) ∷ (doWord ∷ []) ∷ shown loose (treeIn ws (secondOf w)) ∷ [])
-        (token-is ws whileWord (omega arith), (child-is ws 4 (firstOf w) (omega arith) (small₁₀ _), (token-is ws doWord (omega arith), (child-is ws 0 (secondOf w) (omega arith) (small₁₀ _), tt)))))
+        (tokens-are ws (itemsFrom w 7 2 4)
+        ((whileWord ∷ []) ∷ shownᶜ loose (conditionIn ws (firstOf w)) ∷ (doWord ∷ []) ∷ shown loose (treeIn ws (secondOf w)) ∷ []) (
+          token-is ws whileWord (omega arith),
+          (
+            child-is ws 4 (firstOf w) (omega arith) (small₁₀ _),
+            (token-is ws doWord (omega arith), (child-is ws 0 (secondOf w) (omega arith) (small₁₀ _), tt)),
+          ),
+        ))
         ∙ sym (ap (shown d) (expr-is ws o t 7 e))
 
     row-8 : Row 8
     unfolding rowItems itemRows itemOf operandBy nodeOf inWord layout table nodes expressionOf shown shownAs binderOf
     row-8 e n =
         rw (le-ltb 3 d (omega arith))
-        (tokens-are ws (itemsFrom w 8 2 4) ((callWord ∷ []) ∷ (procedureBits w ∷ []) ∷ (opening ∷ []) ∷ shownᵃ (listIn ws (listBits w)) ∷ [])
-        (token-is ws callWord (omega arith), (token-is ws (procedureBits w) (small₅ _), (token-is ws opening (omega arith), (child-is ws 8 (listBits w) (omega arith) (small₁₀ _), tt)))))
+        (tokens-are ws (itemsFrom w 8 2 4) ((callWord ∷ []) ∷ (procedureBits w ∷ []) ∷ (opening ∷ []) ∷ shownᵃ (listIn ws (listBits w)) ∷ []) (
+          token-is ws callWord (omega arith),
+          (token-is ws (procedureBits w) (small₅ _), (token-is ws opening (omega arith), (child-is ws 8 (listBits w) (omega arith) (small₁₀ _), tt))),
+        ))
         ∙ sym (ap (shown d) (expr-is ws o t 8 e))
 
     row-9 : Row 9
@@ -141,8 +180,13 @@ module _ (ws : List ℕ) (o : Ordered ws) (t : ℕ) where
     unfolding rowItems itemRows itemOf operandBy nodeOf inWord layout table nodes expressionOf shown shownAs binderOf
     row-11 e n =
         grouped-are ws (ltb 0 d) (itemsFrom w 11 2 4) _
-        (tokens-are ws (itemsFrom w 11 2 4) ((synchWord ∷ []) ∷ shown loose (treeIn ws (firstOf w)) ∷ (doWord ∷ []) ∷ shown loose (treeIn ws (secondOf w)) ∷ [])
-        (token-is ws synchWord (omega arith), (child-is ws 0 (firstOf w) (omega arith) (small₁₀ _), (token-is ws doWord (omega arith), (child-is ws 0 (secondOf w) (omega arith) (small₁₀ _), tt)))))
+        (tokens-are ws (itemsFrom w 11 2 4) ((synchWord ∷ []) ∷ shown loose (treeIn ws (firstOf w)) ∷ (doWord ∷ []) ∷ shown loose (treeIn ws (secondOf w)) ∷ []) (
+          token-is ws synchWord (omega arith),
+          (
+            child-is ws 0 (firstOf w) (omega arith) (small₁₀ _),
+            (token-is ws doWord (omega arith), (child-is ws 0 (secondOf w) (omega arith) (small₁₀ _), tt)),
+          ),
+        ))
         ∙ sym (ap (shown d) (expr-is ws o t 11 e))
 
     row-12 : Row 12
@@ -227,7 +271,8 @@ module _ (ws : List ℕ) (o : Ordered ws) (t : ℕ) where
 
     -- an expression of any tag but `new`, which is written at once
     expression-row : (k : ℕ) → Row k
-    expression-row = by-tag Row row-0 row-1 (λ e n. absurd (n refl)) row-3 row-4 row-5 row-6 row-7 row-8 row-9 row-10 row-11 row-12 row-13 row-14 row-15 row-16 row-17 row-18 row-19 row-20 row-past
+    expression-row = by-tag Row row-0 row-1 (λ e n. absurd (n refl)) row-3 row-4 row-5 row-6 row-7 row-8 row-9 row-10 row-11 row-12 row-13 row-14 row-15
+        row-16 row-17 row-18 row-19 row-20 row-past
 
     -- a condition
     abbrev Rowᶜ : ℕ → Type 0
@@ -264,10 +309,12 @@ module _ (ws : List ℕ) (o : Ordered ws) (t : ℕ) where
 
     truths : (k : ℕ) → NoneOf k (15 ∷ 14 ∷ 13 ∷ []) → conditionOf (treeIn ws) (conditionIn ws) (rowOf k w) ≡ Condition.truth
     unfolding nodeOf inWord layout table nodes conditionOf
-    truths = except (λ k. conditionOf (treeIn ws) (conditionIn ws) (rowOf k w) ≡ Condition.truth) (15 ∷ 14 ∷ 13 ∷ []) refl refl refl refl refl refl refl refl refl refl refl refl refl tt tt tt refl refl refl refl refl (λ j. refl)
+    truths = except (λ k. conditionOf (treeIn ws) (conditionIn ws) (rowOf k w) ≡ Condition.truth)
+        (15 ∷ 14 ∷ 13 ∷ []) refl refl refl refl refl refl refl refl refl refl refl refl refl tt tt tt refl refl refl refl refl (λ j. refl)
 
     other-rows : (k : ℕ) → NoneOf k (15 ∷ 14 ∷ 13 ∷ []) → (ltb 12 k && ltb k 16) ≡ false
-    other-rows = except (λ k. (ltb 12 k && ltb k 16) ≡ false) (15 ∷ 14 ∷ 13 ∷ []) refl refl refl refl refl refl refl refl refl refl refl refl refl tt tt tt refl refl refl refl refl
+    other-rows = except (λ k. (ltb 12 k && ltb k 16) ≡ false) (15 ∷ 14 ∷ 13 ∷ []) refl refl refl refl refl refl refl refl refl refl refl refl refl tt tt tt
+        refl refl refl refl refl
         (λ j. rw (lt-ltb 12 (past 21 j) (omega arith), le-ltb (past 21 j) 16 (omega arith)))
 
     condition-rest : (k : ℕ) → NoneOf k (15 ∷ 14 ∷ 13 ∷ []) → Rowᶜ k
@@ -309,7 +356,8 @@ module _ (ws : List ℕ) (o : Ordered ws) (t : ℕ) where
 
   -- in any context
   by-list : (c k : ℕ) → c < 10 → (c < 8 → ⊥) → tagOf w ≡ k → Dec (k ≡ 16) → Dec (c ≡ 8)
-      → tokensIn ws (rowItems (c % 4) w (cond (eqb k 16) (cond (eqb c asArguments) 25 26) 27)) ≡ cond (eqb c 8) (shownᵃ (listIn ws t)) (shownFurther (listIn ws t))
+      → tokensIn ws (rowItems (c % 4) w (cond (eqb k 16) (cond (eqb c asArguments) 25 26) 27)) ≡ cond (eqb c 8) (shownᵃ (listIn ws t))
+      (shownFurther (listIn ws t))
   unfolding shown
   by-list c k h l e (yes q) (yes r) = rw (r, q) (arguments-row (e ∙ q))
   by-list c k h l e (yes q) (no r) = rw (nine c h l r, q) (further-row (e ∙ q))
@@ -330,8 +378,12 @@ module _ (ws : List ℕ) (o : Ordered ws) (t : ℕ) where
       high c m l = omega (arith, m)
 
       go : Dec (c < 4) → Dec (c < 8)
-          → tokensIn ws (rowItems (c % 4) w (cond (ltb c 4) (cond (ltb (tagOf w) 21) (tagOf w) 0) (cond (ltb c 8) (cond (ltb 12 (tagOf w) && ltb (tagOf w) 16) (9 + tagOf w) 21) (cond (eqb (tagOf w) 16) (cond (eqb c asArguments) 25 26) 27))))
-          ≡ cond (ltb c 4) (shown c (treeIn ws t)) (cond (ltb c 8) (shownᶜ (c - 4) (conditionIn ws t)) (cond (eqb c 8) (shownᵃ (listIn ws t)) (shownFurther (listIn ws t))))
+          → tokensIn ws (rowItems (c % 4) w
+          (cond (ltb c 4) (cond (ltb (tagOf w) 21) (tagOf w) 0)
+          (cond (ltb c 8) (cond (ltb 12 (tagOf w) && ltb (tagOf w) 16) (9 + tagOf w) 21) (cond (eqb (tagOf w) 16) (cond (eqb c asArguments) 25 26) 27))))
+          ≡ cond (ltb c 4) (shown c (treeIn ws t))
+          (cond (ltb c 8) (shownᶜ (c - 4) (conditionIn ws t)) (cond (eqb c 8) (shownᵃ (listIn ws t)) (shownFurther (listIn ws t))))
       go (yes l) m = rw (lt-ltb c 4 l, low c l) (expression-row c l (tagOf w) refl (n l))
       go (no l) (yes m) = rw (le-ltb c 4 (omega (arith, l)), lt-ltb c 8 m, high c l m) (condition-row (c - 4) (omega (arith, l)) (tagOf w) refl)
-      go (no l) (no m) = rw (le-ltb c 4 (omega (arith, l)), le-ltb c 8 (omega (arith, m))) (by-list c (tagOf w) h m refl (ℕ-discrete (tagOf w) 16) (ℕ-discrete c 8))
+      go (no l) (no m) = rw (le-ltb c 4 (omega (arith, l)), le-ltb c 8 (omega (arith, m)))
+          (by-list c (tagOf w) h m refl (ℕ-discrete (tagOf w) 16) (ℕ-discrete c 8))

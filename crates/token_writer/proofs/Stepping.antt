@@ -47,7 +47,8 @@ module _ (words : List ℕ) (o : Ordered words) where
   new-shown c t e =
       let q = both (ltb c 4) (eqb (tagOf (getD words t 0)) 2) e in rw (q .0) (ap (shown c) (expr-is words o t 2 (eqb-true _ _ (q .1))))
 
-  pub of-new : (i : ℕ) → i < 16384 → isNew (i / 1024) (tagOf (getD words (i % 1024) 0)) ≡ true → itemTokens words i ≡ newTokens (maskBits (getD words (i % 1024) 0))
+  pub of-new : (i : ℕ) → i < 16384 → isNew (i / 1024) (tagOf (getD words (i % 1024) 0)) ≡ true
+      → itemTokens words i ≡ newTokens (maskBits (getD words (i % 1024) 0))
   of-new i h e = of-term i h ∙ new-shown (i / 1024) (i % 1024) e
 
   -- no `new`
@@ -99,7 +100,8 @@ module _ (words : List ℕ) (o : Ordered words) where
       below-term = omega (arith, low-top .0 k .1, stack-length stack (top - 1))
 
       -- it gives way to them
-      pub expanded-step : (stack′ : List ℕ) (r : ℕ) → isNew (item / 1024) (tagOf (getD words term 0)) ≡ false → rowAs (item / 1024) (tagOf (getD words term 0)) < 28
+      pub expanded-step : (stack′ : List ℕ) (r : ℕ) → isNew (item / 1024) (tagOf (getD words term 0)) ≡ false
+          → rowAs (item / 1024) (tagOf (getD words term 0)) < 28
           → Pushed stack (top - 1) items stack′ r → Stepped words area at stack top area stack′ (record { top = r; at = at })
       expanded-step stack′ r e n p =
           let ts = row-tokens words o term (item / 1024) (low-top .0 k .0) (no-new _ _ e) ∙ sym (of-term item k) in
@@ -112,7 +114,8 @@ module _ (words : List ℕ) (o : Ordered words) where
             inside = within (length items) r item (p .top) (row-length _ _ _ n) below-term;
             kept = p .kept;
             less = subst (λ (is : List ℕ). weight words (stackOf stack′ r) < weight words is) (sym (top-item stack top h))
-                (subst (λ (is : List ℕ). weight words is < weight words (item ∷ under)) (sym (p .items)) (expanded-less words item items under k (row-some _ _ _ n) later ts));
+                (subst (λ (is : List ℕ). weight words is < weight words (item ∷ under)) (sym (p .items))
+                (expanded-less words item items under k (row-some _ _ _ n) later ts));
           }
 
   -- ---- the whole
@@ -142,7 +145,8 @@ new-item words o i k m b h e f g q = of-new words o i h (ap (isNew (i / 1024)) (
 pub new-some : (m : ℕ) → 0 < length (newTokens m)
 new-some m = omega (arith, new-length m)
 
-pub row-item : (words : List ℕ) → Ordered words → (area : List ℕ) (at : ℕ) (stack : List ℕ) (top : ℕ) → 0 < top → Low (stackOf stack top) → (k r x : ℕ) (b : Bool)
+pub row-item : (words : List ℕ) → Ordered words → (area : List ℕ) (at : ℕ) (stack : List ℕ) (top : ℕ) → 0 < top → Low (stackOf stack top)
+    → (k r x : ℕ) (b : Bool)
     → getD stack (top - 1) 0 < 16384 → k ≡ tagOf (getD words (getD stack (top - 1) 0 % 1024) 0) → b ≡ isNew (getD stack (top - 1) 0 / 1024) k → b ≡ false
     → x ≡ rowAs (getD stack (top - 1) 0 / 1024) k → x < 28 → (stack′ : List ℕ)
     → Pushed stack (top - 1) (rowItems (getD stack (top - 1) 0 / 1024 % 4) (getD words (getD stack (top - 1) 0 % 1024) 0) x) stack′ r

@@ -77,7 +77,8 @@ module _ (words : List ℕ) where
   unfolding weight
   expanded-less i [] is h n l e = absurd (omega arith)
   expanded-less i (j ∷ js) is h n l e =
-      by _ _ _ _ _ _ (ap length (tokens-append words (j ∷ js) is) ∙ length-append (tokensIn words (j ∷ js)) (tokensIn words is)) (ap length e) (tokens-length i is)
+      by _ _ _ _ _ _ (ap length (tokens-append words (j ∷ js) is) ∙ length-append (tokensIn words (j ∷ js)) (tokensIn words is)) (ap length e)
+      (tokens-length i is)
       (first-less (i % 1024) j (js ++ is) (omega arith) (l .0)) (key-of i is h)
     where
       by : (a b c d k l : ℕ) {m : ℕ} → a ≡ b + c → b ≡ d → {f : ℕ} → f ≡ d + c → k < m → l ≡ m → 1025 * a + k < 1025 * f + l

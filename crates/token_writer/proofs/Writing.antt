@@ -22,7 +22,8 @@ pub record Writing (words ts area₀ : List ℕ) (from : ℕ) (stack : List ℕ)
   pub size : length stack ≡ 8208
 
 -- at the start the root is on the stack
-pub starts : (words : List ℕ) → Ordered words → (root : ℕ) → root < 1024 → (area : List ℕ) (from : ℕ) {stack stack′ : List ℕ} {top : ℕ} → Pushed stack 0 (root ∷ []) stack′ top
+pub starts : (words : List ℕ) → Ordered words → (root : ℕ) → root < 1024 → (area : List ℕ) (from : ℕ) {stack stack′ : List ℕ} {top : ℕ}
+    → Pushed stack 0 (root ∷ []) stack′ top
     → length stack ≡ 8208 → Writing words (shown loose (treeIn words root)) area from stack′ top area from
 unfolding stackOf
 starts words o root h area from p e =
@@ -36,7 +37,8 @@ starts words o root h area from p e =
     }
 
 -- what a step is given
-pub going : (words : List ℕ) → Ordered words → {ts area₀ : List ℕ} {from : ℕ} {stack : List ℕ} {top : ℕ} {area : List ℕ} {at : ℕ} (rows : List (List ℕ)) → rows ≡ itemRows
+pub going : (words : List ℕ) → Ordered words → {ts area₀ : List ℕ} {from : ℕ} {stack : List ℕ} {top : ℕ} {area : List ℕ} {at : ℕ} (rows : List (List ℕ))
+    → rows ≡ itemRows
     → from + length ts ≤ length area₀ → 0 < top → Writing words ts area₀ from stack top area at → Running words rows stack top area at
 going words o {ts} {area₀} {from} {stack} {top} rows e r h w =
     record {

@@ -26,7 +26,8 @@ use Rattle.written.proofs.Masks.{mask-back, slot-back}
 use Rattle.packing.specs.Words.{leafWord, oneWord, twoWord}
 use Rattle.packing.proofs.PackedWords.{leaf-variable, leaf-new, leaf-null, one-read, one-other, two-write, two-let, two-other}
 use Rattle.tree_writer.specs.Left.{singles, pairs, pairFirst, pairSecond, expressionsIn, conditionsIn, listsIn}
-use Rattle.tree_writer.proofs.Shapes.{Leaf, One, Two, Three, is-leaf, is-first, is-second, is-first-second, is-first-third, is-second-third, is-all, leaf-as, one-as, two-as}
+use Rattle.tree_writer.proofs.Shapes.{Leaf, One, Two, Three, is-leaf, is-first, is-second, is-first-second, is-first-third, is-second-third, is-all}
+use Rattle.tree_writer.proofs.Shapes.{leaf-as, one-as, two-as}
 
 -- ---- terms whose operands are children alone
 
@@ -101,8 +102,16 @@ abbrev inner : List ℕ
 inner = 20 ∷ 19 ∷ 18 ∷ 11 ∷ 10 ∷ 9 ∷ 8 ∷ 7 ∷ 6 ∷ 5 ∷ 4 ∷ 3 ∷ 2 ∷ 1 ∷ []
 
 no-inner : (k : ℕ) → NoneOf k (8 ∷ 7 ∷ 6 ∷ []) → NoneOf k pairs → NoneOf k singles → (k ≡ 1 → ⊥) → (k ≡ 2 → ⊥) → NoneOf k inner
-no-inner k a b c d e =
-    ((((((((((((((tt, d), e), c .0 .0 .0 .0 .0 .1), b .0 .0 .1), b .0 .1), a .0 .0 .1), a .0 .1), a .1), c .0 .0 .0 .0 .1), c .0 .0 .0 .1), b .1), c .0 .0 .1), c .0 .1), c .1)
+no-inner k a b c d e = (
+  (
+    (
+      (((((((((((tt, d), e), c .0 .0 .0 .0 .0 .1), b .0 .0 .1), b .0 .1), a .0 .0 .1), a .0 .1), a .1), c .0 .0 .0 .0 .1), c .0 .0 .0 .1), b .1),
+      c .0 .0 .1,
+    ),
+    c .0 .1,
+  ),
+  c .1,
+)
 
 -- ---- shapes with children that come later, in the array
 
@@ -138,21 +147,25 @@ module _ (ws : List ℕ) (o : Ordered ws) (t : ℕ) where
 
   -- ---- by the children's places
 
-  single : (T T₁ : ℕ → TermTree) (k : ℕ) → tagOf w ≡ k → (k ≡ 3 → ⊥) → Single k → T t ≡ term k (child (T₁ (word.firstOf w))) nothing nothing → t < word.firstOf w
+  single : (T T₁ : ℕ → TermTree) (k : ℕ) → tagOf w ≡ k → (k ≡ 3 → ⊥) → Single k → T t ≡ term k (child (T₁ (word.firstOf w))) nothing nothing
+      → t < word.firstOf w
       → OneAt T T₁ t (word.firstOf w) (oneWord w)
   single T T₁ k e d q f h =
       record {
-        one-shape = rw f (one-as (oneWord w) (λ x. q x ∙ sym (one-other w x (λ z. d (sym e ∙ z)) ∙ ap (λ (i : ℕ). i * 34359738368 + x * 33554432) e)) (is-first k (T₁ (word.firstOf w)) 0 0));
+        one-shape = rw f (one-as (oneWord w) (λ x. q x ∙ sym (one-other w x (λ z. d (sym e ∙ z)) ∙ ap (λ (i : ℕ). i * 34359738368 + x * 33554432) e))
+            (is-first k (T₁ (word.firstOf w)) 0 0));
         one-later = h;
         one-inside = omega arith;
       }
 
-  double : (T T₁ T₂ : ℕ → TermTree) (k : ℕ) → tagOf w ≡ k → (k ≡ 4 → ⊥) → (k ≡ 5 → ⊥) → Double k → T t ≡ term k (child (T₁ (word.firstOf w))) (child (T₂ (word.secondOf w))) nothing
+  double : (T T₁ T₂ : ℕ → TermTree) (k : ℕ) → tagOf w ≡ k → (k ≡ 4 → ⊥) → (k ≡ 5 → ⊥) → Double k
+      → T t ≡ term k (child (T₁ (word.firstOf w))) (child (T₂ (word.secondOf w))) nothing
       → (t < word.firstOf w) × (t < word.secondOf w) → TwoAt T T₁ T₂ t (word.firstOf w) (word.secondOf w) (twoWord w)
   double T T₁ T₂ k e d g q f h =
       record {
         two-shape = rw f
-            (two-as (twoWord w) (λ x y. q x y ∙ sym (two-other w x y (λ z. d (sym e ∙ z)) (λ z. g (sym e ∙ z)) ∙ ap (λ (i : ℕ). i * 34359738368 + x * 33554432 + y * 32768) e))
+            (two-as (twoWord w) (λ x y. q x y
+            ∙ sym (two-other w x y (λ z. d (sym e ∙ z)) (λ z. g (sym e ∙ z)) ∙ ap (λ (i : ℕ). i * 34359738368 + x * 33554432 + y * 32768) e))
             (is-first-second k (T₁ (word.firstOf w)) (T₂ (word.secondOf w)) 0));
         first-later = h .0;
         first-inside = omega arith;
@@ -213,7 +226,8 @@ module _ (ws : List ℕ) (o : Ordered ws) (t : ℕ) where
 
   let-is : tagOf w ≡ 5 → E t ≡ term 5 (value (word.slotBits w)) (child (E (word.letFirst w))) (child (E (word.letSecond w)))
   unfolding nodeOf inWord layout table nodes expressionOf termsOf
-  let-is e = ap termsOf (expr-is ws o t 5 e) ∙ ap (λ (m : ℕ). term 5 (value m) (child (E (word.letFirst w))) (child (E (word.letSecond w)))) (slot-back (word.slotBits w))
+  let-is e = ap termsOf (expr-is ws o t 5 e) ∙ ap (λ (m : ℕ). term 5 (value m) (child (E (word.letFirst w))) (child (E (word.letSecond w))))
+      (slot-back (word.slotBits w))
 
   let-below : tagOf w ≡ 5 → (t < word.letFirst w) × (t < word.letSecond w)
   unfolding nodeOf inWord layout table nodes
@@ -226,7 +240,8 @@ module _ (ws : List ℕ) (o : Ordered ws) (t : ℕ) where
   write-at e =
       rw (ne-eqb (tagOf w) 5 (λ d. omega arith), eq-eqb (tagOf w) 4 e)
       record {
-        two-shape = rw (write-is e) (two-as (twoWord w) (λ x y. sym (two-write w x y e)) (is-first-third 4 (E (word.firstOf w)) (word.fieldBits w) (E (word.writeSecond w))));
+        two-shape = rw (write-is e)
+            (two-as (twoWord w) (λ x y. sym (two-write w x y e)) (is-first-third 4 (E (word.firstOf w)) (word.fieldBits w) (E (word.writeSecond w))));
         first-later = write-below e .0;
         first-inside = omega arith;
         second-later = write-below e .1;
@@ -237,7 +252,8 @@ module _ (ws : List ℕ) (o : Ordered ws) (t : ℕ) where
   let-at e =
       rw (ne-eqb (tagOf w) 4 (λ d. omega arith), eq-eqb (tagOf w) 5 e)
       record {
-        two-shape = rw (let-is e) (two-as (twoWord w) (λ x y. sym (two-let w x y e)) (is-second-third 5 (word.slotBits w) (E (word.letFirst w)) (E (word.letSecond w))));
+        two-shape = rw (let-is e)
+            (two-as (twoWord w) (λ x y. sym (two-let w x y e)) (is-second-third 5 (word.slotBits w) (E (word.letFirst w)) (E (word.letSecond w))));
         first-later = let-below e .0;
         first-inside = omega arith;
         second-later = let-below e .1;

@@ -30,7 +30,8 @@ missed js k j e h t = subst (λ (i : ℕ). NoneOf i js) e (none-left js k (sym h
 
 pub single-tag : (k : ℕ) → OneOf singles k → k ≤ 20
 single-tag k h =
-    ⊎-elim (λ e. omega arith) (⊎-elim (λ e. omega arith) (⊎-elim (λ e. omega arith) (⊎-elim (λ e. omega arith) (⊎-elim (λ e. omega arith) (λ e. omega arith))))) h
+    ⊎-elim (λ e. omega arith)
+    (⊎-elim (λ e. omega arith) (⊎-elim (λ e. omega arith) (⊎-elim (λ e. omega arith) (⊎-elim (λ e. omega arith) (λ e. omega arith))))) h
 
 pub pair-tag : (k : ℕ) → OneOf pairs k → k ≤ 20
 pair-tag k h = ⊎-elim (λ e. omega arith) (⊎-elim (λ e. omega arith) (λ e. omega arith)) h

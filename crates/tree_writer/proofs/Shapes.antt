@@ -25,7 +25,8 @@ pub record Two (e : TermTree) (w : ℕ → ℕ → ℕ) (a b : TermTree) : Type 
 pub record Three (e : TermTree) (w : ℕ → ℕ → ℕ → ℕ) (a b c : TermTree) : Type 0 where
   pub three-size : size e ≡ suc (size a + size b + size c)
   pub three-words : (n : ℕ)
-      → wordsFrom n e ≡ w (suc n) (suc n + size a) (suc n + size a + size b) ∷ wordsFrom (suc n) a ++ wordsFrom (suc n + size a) b ++ wordsFrom (suc n + size a + size b) c
+      → wordsFrom n e ≡ w (suc n) (suc n + size a) (suc n + size a + size b) ∷ wordsFrom (suc n) a ++ wordsFrom (suc n + size a) b
+      ++ wordsFrom (suc n + size a + size b) c
 
 -- ---- by the places of the children
 
@@ -80,4 +81,8 @@ one-as {e} {a} v q l = record { one-size = l .one-size; one-words = λ n. l .one
 
 pub two-as : {e a b : TermTree} {w : ℕ → ℕ → ℕ} (v : ℕ → ℕ → ℕ) → ((x y : ℕ) → w x y ≡ v x y) → Two e w a b → Two e v a b
 two-as {e} {a} {b} v q l =
-    record { two-size = l .two-size; two-words = λ n. l .two-words n ∙ ap (λ (x : ℕ). x ∷ wordsFrom (suc n) a ++ wordsFrom (suc n + size a) b) (q (suc n) (suc n + size a)) }
+    record {
+      two-size = l .two-size;
+      two-words =
+          λ n. l .two-words n ∙ ap (λ (x : ℕ). x ∷ wordsFrom (suc n) a ++ wordsFrom (suc n + size a) b) (q (suc n) (suc n + size a));
+    }

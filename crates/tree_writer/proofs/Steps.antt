@@ -42,10 +42,12 @@ module _ (base : ℕ) (area : List ℕ) where
 
   -- a word, and then others
   word-then : (n w : ℕ) (ws : List ℕ) → sets area (at n) (wordBytes (w ∷ ws)) ≡ sets (sets area (at n) (bytesOf 5 w)) (at (suc n)) (wordBytes ws)
-  word-then n w ws = ap (sets area (at n)) (first-word w ws) ∙ sets-append (bytesOf 5 w) (wordBytes ws) area (at n) (at (suc n)) (omega (arith, bytes-length 5 w))
+  word-then n w ws = ap (sets area (at n)) (first-word w ws)
+      ∙ sets-append (bytesOf 5 w) (wordBytes ws) area (at n) (at (suc n)) (omega (arith, bytes-length 5 w))
 
   -- the words of a tree, and then others
-  tree-then : (e : TermTree) (n : ℕ) (ws : List ℕ) → sets area (at n) (wordBytes (wordsFrom n e ++ ws)) ≡ sets (after e base n area) (at (n + size e)) (wordBytes ws)
+  tree-then : (e : TermTree) (n : ℕ) (ws : List ℕ)
+      → sets area (at n) (wordBytes (wordsFrom n e ++ ws)) ≡ sets (after e base n area) (at (n + size e)) (wordBytes ws)
   tree-then e n ws =
       ap (sets area (at n)) (words-append (wordsFrom n e) ws)
       ∙ sets-append (block e n) (wordBytes ws) area (at n) (at (n + size e)) (omega (arith, block-length e n))
@@ -58,7 +60,8 @@ module _ (base : ℕ) (area : List ℕ) where
 
 module _ (base : ℕ) (area : List ℕ) where
   one-bytes : {e a : TermTree} {w : ℕ → ℕ} → One e w a → (n : ℕ) → after e base n area ≡ after a base (suc n) (sets area (base + 5 * n) (bytesOf 5 (w (suc n))))
-  one-bytes {e} {a} {w} l n = ap (λ (ws : List ℕ). sets area (base + 5 * n) (wordBytes ws)) (l .one-words n) ∙ word-then base area n (w (suc n)) (wordsFrom (suc n) a)
+  one-bytes {e} {a} {w} l n = ap (λ (ws : List ℕ). sets area (base + 5 * n) (wordBytes ws)) (l .one-words n)
+      ∙ word-then base area n (w (suc n)) (wordsFrom (suc n) a)
 
   two-bytes : {e a b : TermTree} {w : ℕ → ℕ → ℕ} → Two e w a b → (n : ℕ)
       → after e base n area ≡ after b base (suc n + size a) (sets (after a base (suc n) area) (base + 5 * n) (bytesOf 5 (w (suc n) (suc n + size a))))
@@ -72,7 +75,8 @@ module _ (base : ℕ) (area : List ℕ) where
 
   three-bytes : {e a b c : TermTree} {w : ℕ → ℕ → ℕ → ℕ} → Three e w a b c → (n : ℕ)
       → after e base n area
-      ≡ after c base (suc n + size a + size b) (sets (after b base (suc n + size a) (after a base (suc n) area)) (base + 5 * n) (bytesOf 5 (w (suc n) (suc n + size a) (suc n + size a + size b))))
+      ≡ after c base (suc n + size a + size b)
+      (sets (after b base (suc n + size a) (after a base (suc n) area)) (base + 5 * n) (bytesOf 5 (w (suc n) (suc n + size a) (suc n + size a + size b))))
   three-bytes {e} {a} {b} {c} {w} l n =
       let k = suc n + size a in
       let v = w (suc n) k (k + size b) in
@@ -100,22 +104,26 @@ module _ (T : ℕ → TermTree) (base t n m : ℕ) (em : m ≡ suc n) (area : Li
       }
 
   -- a child that is left
-  pub one-going : (x : ℕ) {w : ℕ → ℕ} {area₁ : List ℕ} → One (T t) w (T x) → t < x → x < 1024 → area₁ ≡ sets area (base + 5 * n) (bytesOf 5 (w m)) → Going T base t n area area₁ (At x m)
+  pub one-going : (x : ℕ) {w : ℕ → ℕ} {area₁ : List ℕ} → One (T t) w (T x) → t < x → x < 1024 → area₁ ≡ sets area (base + 5 * n) (bytesOf 5 (w m))
+      → Going T base t n area area₁ (At x m)
   unfolding finished endOf
   one-going x {w} l h k e =
       record {
         ends = omega (arith, l .one-size);
-        bytes = ap (λ (a : List ℕ). after (T x) base m a) e ∙ ap (λ (i : ℕ). after (T x) base i (sets area (base + 5 * n) (bytesOf 5 (w i)))) em ∙ sym (one-bytes base area l n);
+        bytes = ap (λ (a : List ℕ). after (T x) base m a) e ∙ ap (λ (i : ℕ). after (T x) base i (sets area (base + 5 * n) (bytesOf 5 (w i)))) em
+            ∙ sym (one-bytes base area l n);
         later = (h, k);
       }
 
   -- a child that is written
-  pub one-done : {a : TermTree} {w : ℕ → ℕ} {area₁ area₂ : List ℕ} (r : ℕ) → One (T t) w a → area₁ ≡ sets area (base + 5 * n) (bytesOf 5 (w m)) → Wrote a base m area₁ area₂ r → Going T base t n area area₂ (Done r)
+  pub one-done : {a : TermTree} {w : ℕ → ℕ} {area₁ area₂ : List ℕ} (r : ℕ) → One (T t) w a → area₁ ≡ sets area (base + 5 * n) (bytesOf 5 (w m))
+      → Wrote a base m area₁ area₂ r → Going T base t n area area₂ (Done r)
   unfolding finished endOf
   one-done {a} {w} r l e f =
       record {
         ends = omega (arith, l .one-size, f .next);
-        bytes = f .bytes ∙ ap (λ (x : List ℕ). after a base m x) e ∙ ap (λ (i : ℕ). after a base i (sets area (base + 5 * n) (bytesOf 5 (w i)))) em ∙ sym (one-bytes base area l n);
+        bytes = f .bytes ∙ ap (λ (x : List ℕ). after a base m x) e ∙ ap (λ (i : ℕ). after a base i (sets area (base + 5 * n) (bytesOf 5 (w i)))) em
+            ∙ sym (one-bytes base area l n);
         later = tt;
       }
 
@@ -124,45 +132,53 @@ module _ (T : ℕ → TermTree) (base t n m : ℕ) (em : m ≡ suc n) (area : Li
     second-number : k ≡ suc n + size a
     second-number = f .next ∙ ap (λ (i : ℕ). i + size a) em
 
-    two-held : {area₂ : List ℕ} (w : ℕ → ℕ → ℕ) → area₂ ≡ sets area₁ (base + 5 * n) (bytesOf 5 (w m k)) → area₂ ≡ sets (after a base (suc n) area) (base + 5 * n) (bytesOf 5 (w (suc n) (suc n + size a)))
+    two-held : {area₂ : List ℕ} (w : ℕ → ℕ → ℕ) → area₂ ≡ sets area₁ (base + 5 * n) (bytesOf 5 (w m k))
+        → area₂ ≡ sets (after a base (suc n) area) (base + 5 * n) (bytesOf 5 (w (suc n) (suc n + size a)))
     two-held w e =
         e
         ∙ ap (λ (x : List ℕ). sets x (base + 5 * n) (bytesOf 5 (w m k))) (f .bytes ∙ ap (λ (i : ℕ). after a base i area) em)
         ∙ ap (λ (i : ℕ). sets (after a base (suc n) area) (base + 5 * n) (bytesOf 5 (w i k))) em
         ∙ ap (λ (i : ℕ). sets (after a base (suc n) area) (base + 5 * n) (bytesOf 5 (w (suc n) i))) second-number
 
-    pub two-going : (y : ℕ) {w : ℕ → ℕ → ℕ} {area₂ : List ℕ} → Two (T t) w a (T y) → t < y → y < 1024 → area₂ ≡ sets area₁ (base + 5 * n) (bytesOf 5 (w m k)) → Going T base t n area area₂ (At y k)
+    pub two-going : (y : ℕ) {w : ℕ → ℕ → ℕ} {area₂ : List ℕ} → Two (T t) w a (T y) → t < y → y < 1024 → area₂ ≡ sets area₁ (base + 5 * n) (bytesOf 5 (w m k))
+        → Going T base t n area area₂ (At y k)
     unfolding finished endOf
     two-going y {w} {area₂} l h g e =
         record {
           ends = omega (arith, l .two-size, second-number);
-          bytes = ap (λ (i : ℕ). after (T y) base i area₂) second-number ∙ ap (λ (x : List ℕ). after (T y) base (suc n + size a) x) (two-held w e) ∙ sym (two-bytes base area l n);
+          bytes = ap (λ (i : ℕ). after (T y) base i area₂) second-number ∙ ap (λ (x : List ℕ). after (T y) base (suc n + size a) x) (two-held w e)
+              ∙ sym (two-bytes base area l n);
           later = (h, g);
         }
 
-    pub two-done : {b : TermTree} {w : ℕ → ℕ → ℕ} {area₂ area₃ : List ℕ} (r : ℕ) → Two (T t) w a b → area₂ ≡ sets area₁ (base + 5 * n) (bytesOf 5 (w m k)) → Wrote b base k area₂ area₃ r → Going T base t n area area₃ (Done r)
+    pub two-done : {b : TermTree} {w : ℕ → ℕ → ℕ} {area₂ area₃ : List ℕ} (r : ℕ) → Two (T t) w a b → area₂ ≡ sets area₁ (base + 5 * n) (bytesOf 5 (w m k))
+        → Wrote b base k area₂ area₃ r → Going T base t n area area₃ (Done r)
     unfolding finished endOf
     two-done {b} {w} {area₂} r l e g =
         record {
           ends = omega (arith, l .two-size, second-number, g .next);
-          bytes = g .bytes ∙ ap (λ (i : ℕ). after b base i area₂) second-number ∙ ap (λ (x : List ℕ). after b base (suc n + size a) x) (two-held w e) ∙ sym (two-bytes base area l n);
+          bytes = g .bytes ∙ ap (λ (i : ℕ). after b base i area₂) second-number ∙ ap (λ (x : List ℕ). after b base (suc n + size a) x) (two-held w e)
+              ∙ sym (two-bytes base area l n);
           later = tt;
         }
 
     -- three children
-    pub three-going : {b : TermTree} (z : ℕ) {w : ℕ → ℕ → ℕ → ℕ} {area₂ area₃ : List ℕ} (i : ℕ) → Three (T t) w a b (T z) → t < z → z < 1024 → Wrote b base k area₁ area₂ i → area₃ ≡ sets area₂ (base + 5 * n) (bytesOf 5 (w m k i)) → Going T base t n area area₃ (At z i)
+    pub three-going : {b : TermTree} (z : ℕ) {w : ℕ → ℕ → ℕ → ℕ} {area₂ area₃ : List ℕ} (i : ℕ) → Three (T t) w a b (T z) → t < z → z < 1024
+        → Wrote b base k area₁ area₂ i → area₃ ≡ sets area₂ (base + 5 * n) (bytesOf 5 (w m k i)) → Going T base t n area area₃ (At z i)
     unfolding finished endOf
     three-going {b} z {w} {area₂} {area₃} i l h g f₂ e =
         let k′ = suc n + size a in
         let third : i ≡ k′ + size b = f₂ .next ∙ ap (λ (x : ℕ). x + size b) second-number in
         let held : area₂ ≡ after b base k′ (after a base (suc n) area) =
-        f₂ .bytes ∙ ap (λ (x : ℕ). after b base x area₁) second-number ∙ ap (λ (x : List ℕ). after b base k′ x) (f .bytes ∙ ap (λ (x : ℕ). after a base x area) em) in
+        f₂ .bytes ∙ ap (λ (x : ℕ). after b base x area₁) second-number
+        ∙ ap (λ (x : List ℕ). after b base k′ x) (f .bytes ∙ ap (λ (x : ℕ). after a base x area) em) in
         let word : w m k i ≡ w (suc n) k′ (k′ + size b) = ap (λ (x : ℕ). w x k i) em ∙ ap (λ (x : ℕ). w (suc n) x i) second-number ∙ ap (w (suc n) k′) third in
         record {
           ends = omega (arith, l .three-size);
           bytes =
               ap (λ (x : ℕ). after (T z) base x area₃) third
-              ∙ ap (λ (x : List ℕ). after (T z) base (k′ + size b) x) (e ∙ ap (λ (x : List ℕ). sets x (base + 5 * n) (bytesOf 5 (w m k i))) held ∙ ap (λ (x : ℕ). sets (after b base k′ (after a base (suc n) area)) (base + 5 * n) (bytesOf 5 x)) word)
+              ∙ ap (λ (x : List ℕ). after (T z) base (k′ + size b) x) (e ∙ ap (λ (x : List ℕ). sets x (base + 5 * n) (bytesOf 5 (w m k i))) held
+              ∙ ap (λ (x : ℕ). sets (after b base k′ (after a base (suc n) area)) (base + 5 * n) (bytesOf 5 x)) word)
               ∙ sym (three-bytes base area l n);
           later = (h, g);
         }

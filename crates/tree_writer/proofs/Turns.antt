@@ -25,7 +25,8 @@ module _ (T : ℕ → TermTree) (base from first : ℕ) (area₀ : List ℕ) whe
   module _ {term number : ℕ} {area : List ℕ} (s : Still T base from first area₀ term number area) where
     same-length : length area ≡ length area₀
     same-length =
-        sym (length-sets area (base + 5 * number) (wordBytes (wordsFrom number (T term)))) ∙ ap length (s .same-area) ∙ length-sets area₀ (base + 5 * first) (wordBytes (wordsFrom first (T from)))
+        sym (length-sets area (base + 5 * number) (wordBytes (wordsFrom number (T term)))) ∙ ap length (s .same-area)
+        ∙ length-sets area₀ (base + 5 * first) (wordBytes (wordsFrom first (T from)))
 
     pub still-room : Room (T from) base first area₀ → Room (T term) base number area
     still-room r = record { numbered = omega (arith, r .numbered, s .same-end); placed = omega (arith, r .placed, s .same-end, same-length) }

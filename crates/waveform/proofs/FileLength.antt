@@ -40,13 +40,25 @@ digits-more n h = go (decLt (suc n) 10) (decLt (suc n) 100) (decLt (suc n) 1000)
 
 lines-more : (L : List Record) (n : ℕ) → length (sampleLines L (suc n)) ≡ length (sampleLines L n) + length (decimal (suc n)) + length (decimal (n * 1000)) + 67
 unfolding sampleLines
-lines-more L n = omega (arith, length-append (sampleLines L n) (sampleLine L (suc n)), sample-length L (suc n), ap (λ (k : ℕ). length (decimal (k * 1000))) (let e : suc n - 1 ≡ n = omega arith in e))
+lines-more L n = omega (
+  arith,
+  length-append (sampleLines L n) (sampleLine L (suc n)),
+  sample-length L (suc n),
+  ap (λ (k : ℕ). length (decimal (k * 1000))) (let e : suc n - 1 ≡ n = omega arith in e),
+)
 
 lines-length : (L : List Record) (n : ℕ) → n < 9999 → suc (length (sampleLines L (suc n))) ≡ lengthFor (suc n)
 unfolding sampleLines lengthFor digitsTo
 lines-length L zero h = omega (arith, lines-more L 0, one-length 1 (omega arith), one-length 0 (omega arith))
 lines-length L (suc n) h =
-    omega (arith, lines-length L n (omega arith), lines-more L (suc n), digits-more (suc n) h, digits-more n (omega arith), thousand-length (suc n) (omega arith))
+    omega (
+      arith,
+      lines-length L n (omega arith),
+      lines-more L (suc n),
+      digits-more (suc n) h,
+      digits-more n (omega arith),
+      thousand-length (suc n) (omega arith),
+    )
 
 -- the lines of some records are no longer than those of more
 pub lines-within : (L : List Record) (m n : ℕ) → m ≤ n → length (sampleLines L m) ≤ length (sampleLines L n)

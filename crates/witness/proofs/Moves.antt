@@ -85,7 +85,8 @@ module _ {plan words schedule : List ℕ} (P : Passing plan words schedule) wher
 
     -- ---- it did not race
 
-    pub not-raced : noMissingKey (stopOf (r .outcome .stop)) ≡ true → (area : List ℕ) → Witnesses plan schedule area (Answer.refused (record { number = 16; place = 0 })) area
+    pub not-raced : noMissingKey (stopOf (r .outcome .stop)) ≡ true → (area : List ℕ)
+        → Witnesses plan schedule area (Answer.refused (record { number = 16; place = 0 })) area
     not-raced e area = refused (by-16 plan schedule (P .scheduled) (P .not-left-out) (sym (ap noMissingKey (ran .stop)) ∙ e))
 
     -- ---- it did

@@ -21,9 +21,11 @@ module _ (plan schedule area : List ℕ) where
   witnessed-once (refused {r} e) (wrote n w s h) = absurd (Option·none-ne-some r (sym n ∙ e))
   witnessed-once (too-short n w h) (refused {r} e) = absurd (Option·none-ne-some r (sym n ∙ e))
   witnessed-once (too-short n w h) (too-short m v k) = (refl, refl)
-  witnessed-once (too-short {qs} n w h) (wrote {qs = ps} m v s k) = let e = ap length (written-once (movesOf (programOf plan) schedule) qs ps w v) in absurd (omega arith)
+  witnessed-once (too-short {qs} n w h) (wrote {qs = ps} m v s k) = let e = ap length (written-once (movesOf (programOf plan) schedule) qs ps w v) in
+      absurd (omega arith)
   witnessed-once (wrote n w s h) (refused {r} e) = absurd (Option·none-ne-some r (sym n ∙ e))
-  witnessed-once (wrote {qs} n w s h) (too-short {qs = ps} m v k) = let e = ap length (written-once (movesOf (programOf plan) schedule) qs ps w v) in absurd (omega arith)
+  witnessed-once (wrote {qs} n w s h) (too-short {qs = ps} m v k) = let e = ap length (written-once (movesOf (programOf plan) schedule) qs ps w v) in
+      absurd (omega arith)
   witnessed-once (wrote {qs} n w s h) (wrote {qs = ps} m v t k) =
       let e : qs ≡ ps = written-once (movesOf (programOf plan) schedule) qs ps w v in
       (ap (λ (q : List ℕ). Answer.value (length q)) e, ap (λ (q : List ℕ). overwrite q area) e)

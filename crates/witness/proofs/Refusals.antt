@@ -44,8 +44,10 @@ module _ (plan schedule : List ℕ) where
 
       pub by-16 : noMissingKey (runOf plan schedule .stop) ≡ true → raceRefusal plan schedule ≡ some (record { number = 16; place = 0 })
       unfolding firstRefusal refuse
-      by-16 e = let m : lowest (λ place. noMissingKey (runOf plan schedule .stop)) 1 ≡ some 0 = whole (noMissingKey (runOf plan schedule .stop)) e in later ∙ rw (m15, m)
+      by-16 e = let m : lowest (λ place. noMissingKey (runOf plan schedule .stop)) 1 ≡ some 0 = whole (noMissingKey (runOf plan schedule .stop)) e in later
+          ∙ rw (m15, m)
 
       pub by-none : noMissingKey (runOf plan schedule .stop) ≡ false → raceRefusal plan schedule ≡ none
       unfolding firstRefusal refuse
-      by-none e = let m : lowest (λ place. noMissingKey (runOf plan schedule .stop)) 1 ≡ none = whole-none (noMissingKey (runOf plan schedule .stop)) e in later ∙ rw (m15, m)
+      by-none e = let m : lowest (λ place. noMissingKey (runOf plan schedule .stop)) 1 ≡ none = whole-none (noMissingKey (runOf plan schedule .stop)) e in
+          later ∙ rw (m15, m)

@@ -59,7 +59,8 @@ ran-passed (checked.Refused k i) o x e = absurd (true≢false cc)
 
 -- ---- a play that nothing refuses
 
-module _ (plan qs log : List ℕ) (passes : refusal plan ≡ none) (few : length qs ≤ 4096) (small : (i : ℕ) → i < length qs → getD qs i 0 ≤ 7) (wide : 3 * length qs ≤ length log) where
+module _ (plan qs log : List ℕ) (passes : refusal plan ≡ none) (few : length qs ≤ 4096) (small : (i : ℕ) → i < length qs → getD qs i 0 ≤ 7)
+    (wide : 3 * length qs ≤ length log) where
   picks-pass : firstRefusal (pickChecks qs) ≡ none
   unfolding tooManyPicks wrongPick
   picks-pass =
@@ -91,7 +92,8 @@ below l h i b = let z = h i (getD l i 0) (there l i b) in omega arith
     there (x ∷ l) zero b = refl
     there (x ∷ l) (suc i) b = there l i (omega arith)
 
-module _ (plan schedule qs log : List ℕ) (passes : refusal plan ≡ none) (few : length schedule ≤ 4096) (w : Written (programOf plan) schedule qs) (s : SideBySide (programOf plan) schedule qs w)
+module _ (plan schedule qs log : List ℕ) (passes : refusal plan ≡ none) (few : length schedule ≤ 4096) (w : Written (programOf plan) schedule qs)
+    (s : SideBySide (programOf plan) schedule qs w)
     (wide : 3 * length qs ≤ length log) (p : Played) (h : answered p ≡ played plan qs log) where
   ran : p .checked ≡ checked.Passed
   ran = runs plan qs log passes (let b = s .no-longer in omega arith) (below qs (s .below-8)) wide p h
@@ -110,7 +112,8 @@ module _ (plan schedule qs log : List ℕ) (passes : refusal plan ≡ none) (few
   }
 
 -- a play of what was written, on a log area with room for its records, comes to its end with as many moves as picks
-pub written-plays : (plan schedule area : List ℕ) {n : ℕ} {l : List ℕ} → Witnesses plan schedule area (Answer.value n) l → (log : List ℕ) → 3 * n ≤ length log → (p : Played)
+pub written-plays : (plan schedule area : List ℕ) {n : ℕ} {l : List ℕ} → Witnesses plan schedule area (Answer.value n) l → (log : List ℕ) → 3 * n ≤ length log
+    → (p : Played)
     → answered p ≡ played plan (take n l) log → PlaysThrough p n
 written-plays plan schedule area (wrote {qs} e w s le) log wide p h =
     let d = scheduled plan schedule (no-earlier plan schedule e) in
@@ -120,8 +123,10 @@ written-plays plan schedule area (wrote {qs} e w s le) log wide p h =
 
 -- where two threads' next moves conflict after a run not stopped, and the write would not stop for room: a play of the run's picks, the writer and the other
 -- stops for a missing key, if it is not refused
-pub conflict-plays : (plan schedule log : List ℕ) → refusal plan ≡ none → runOf plan schedule .stop ≡ Stop.end → (p q : ℕ) → Conflict (programOf plan) (runOf plan schedule .final) p q
-    → HasRoom (programOf plan) (runOf plan schedule .final) p → (r : Played) → answered r ≡ played plan (schedule ++ (p ∷ q ∷ [])) log → r .checked ≡ checked.Passed
+pub conflict-plays : (plan schedule log : List ℕ) → refusal plan ≡ none → runOf plan schedule .stop ≡ Stop.end → (p q : ℕ)
+    → Conflict (programOf plan) (runOf plan schedule .final) p q
+    → HasRoom (programOf plan) (runOf plan schedule .final) p → (r : Played) → answered r ≡ played plan (schedule ++ (p ∷ q ∷ [])) log
+    → r .checked ≡ checked.Passed
     → r .outcome .stop ≡ stop.Race
 conflict-plays plan schedule log passes e p q c room r h k =
     race-is (r .outcome .stop) (stop-is plan (schedule ++ (p ∷ q ∷ [])) log r h k ∙ plan-conflict-races plan passes schedule e p q c room)

@@ -42,5 +42,6 @@ pub data Witnesses (plan schedule area : List ℕ) : Answer → List ℕ → Typ
   too-short : {qs : List ℕ} → raceRefusal plan schedule ≡ none → Written (programOf plan) schedule qs → length area < length qs
       → Witnesses plan schedule area (Answer.refused (record { number = 17; place = 0 })) area
   -- "write a schedule [..] Played, every pick moves, and at its end [..]"; "Bytes past the written schedule keep their values."
-  wrote : {qs : List ℕ} → raceRefusal plan schedule ≡ none → (w : Written (programOf plan) schedule qs) → SideBySide (programOf plan) schedule qs w → length qs ≤ length area
+  wrote : {qs : List ℕ} → raceRefusal plan schedule ≡ none → (w : Written (programOf plan) schedule qs) → SideBySide (programOf plan) schedule qs w
+      → length qs ≤ length area
       → Witnesses plan schedule area (Answer.value (length qs)) (overwrite qs area)

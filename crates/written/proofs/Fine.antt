@@ -7,7 +7,8 @@ use mathlib.Core.Bool.{Bool, true, false, cond, _&&_, _||_, not, true≢false}
 use mathlib.Core.List.{List}
 use lib.Dec.{eqb, ltb, leb}
 use borrow.Author.Tests.{le-ltb, lt-leb, leb-false, eq-eqb, ne-eqb}
-use Rattle.packed.specs.Format.{procedures, terms, parameters, Operand, absent, slot, binder, mask, fieldName, procedure, expression, condition, list, table, layout, laidOut, Term, termAt, tagAt}
+use Rattle.packed.specs.Format.{procedures, terms, parameters, Operand, absent, slot, binder, mask, fieldName, procedure, expression, condition, list, table}
+use Rattle.packed.specs.Format.{layout, laidOut, Term, termAt, tagAt}
 use Rattle.packed.specs.Refusals.{wrongOperand, someOperand, breaksTable, wrongTerm, misplaced, isChild, listLength, wrongCall}
 use Rattle.packed.proofs.Children.{termOf}
 use Rattle.written.specs.Terms.{TermTree, term, Part, value, child, size, sizeOf, valueAt}
@@ -42,7 +43,8 @@ plain-sort condition k h = absurd (true≢false h)
 plain-sort list k h = absurd (true≢false h)
 
 -- a term that passes check 4
-passes-table : (count n t k x y z : ℕ) → k ≤ 20 → wrongOperand count n t (layout k .first) x ≡ false → wrongOperand count n t (layout k .second) y ≡ false → wrongOperand count n t (layout k .third) z ≡ false
+passes-table : (count n t k x y z : ℕ) → k ≤ 20 → wrongOperand count n t (layout k .first) x ≡ false → wrongOperand count n t (layout k .second) y ≡ false
+    → wrongOperand count n t (layout k .third) z ≡ false
     → breaksTable count n t (termOf k x y z 0) ≡ false
 unfolding breaksTable someOperand
 passes-table count n t k x y z s f g h = rw (le-ltb 20 k s, f, g, h)
@@ -97,23 +99,27 @@ module _ (b : List ℕ) where
         holds-placed r n (suc n + sizeOf p + sizeOf q) _ _ (h .3) (omega arith) (omega arith) (g .3) (ap (λ (m : Term). m .value₃) (g .0)),
       )
 
-      holds-placed : (p : Part) (n m : ℕ) (kind : Operand) (v : ℕ) → RightPart (procedures b) counts kind p → n < m → m + sizeOf p ≤ terms b → PlacedPart b m p → v ≡ valueAt m p → Holds b n kind v p
+      holds-placed : (p : Part) (n m : ℕ) (kind : Operand) (v : ℕ) → RightPart (procedures b) counts kind p → n < m → m + sizeOf p ≤ terms b
+          → PlacedPart b m p → v ≡ valueAt m p → Holds b n kind v p
       holds-placed (value x) n m kind v h o f g e = (h .0, e)
       holds-placed (child t) n m kind v h o f g e = rw e (h .0, o, heads-placed t m (h .2) f g)
 
     -- an operand of a tree in place
-    operand-right : (p : Part) (n m : ℕ) (kind : Operand) → RightPart (procedures b) counts kind p → n < m → m + sizeOf p ≤ terms b → wrongOperand (procedures b) (terms b) n kind (valueAt m p) ≡ false
+    operand-right : (p : Part) (n m : ℕ) (kind : Operand) → RightPart (procedures b) counts kind p → n < m → m + sizeOf p ≤ terms b
+        → wrongOperand (procedures b) (terms b) n kind (valueAt m p) ≡ false
     unfolding valueAt size
     operand-right (value x) n m kind h o f = h .2 (terms b) n
     operand-right (child (term k p q r)) n m kind h o f = child-operand kind (procedures b) (terms b) n m (h .0) o (omega arith)
 
-    operand-sorted : (p : Part) (m : ℕ) (kind : Operand) → RightPart (procedures b) counts kind p → PlacedPart b m p → misplaced kind (tagAt b (valueAt m p)) ≡ false
+    operand-sorted : (p : Part) (m : ℕ) (kind : Operand) → RightPart (procedures b) counts kind p → PlacedPart b m p
+        → misplaced kind (tagAt b (valueAt m p)) ≡ false
     unfolding valueAt
     operand-sorted (value x) m kind h g = plain-sort kind (tagAt b x) (h .0)
     operand-sorted (child e) m kind h g = ap (misplaced kind) (placed-tag e m g) ∙ h .1
 
     -- a call whose list is as long as the parameters
-    counted : (p q r : Part) (k n : ℕ) → RightTree (procedures b) counts (term k p q r) → Heads b n (term k p q r) → k ≡ 8 → listLength b (terms b) (termAt b n .value₂) ≡ parameters b (termAt b n .value₁)
+    counted : (p q r : Part) (k n : ℕ) → RightTree (procedures b) counts (term k p q r) → Heads b n (term k p q r) → k ≡ 8
+        → listLength b (terms b) (termAt b n .value₂) ≡ parameters b (termAt b n .value₁)
     unfolding lengthOf valueAt
     counted (value m) (child e) r k n h g d =
         list-length b e (termAt b n .value₂) (terms b) (g .3 .2) (omega arith)
@@ -132,7 +138,8 @@ module _ (b : List ℕ) where
         record {
           in-table = passes-four n
               (ap (breaksTable (procedures b) (terms b) n) (g .0)
-              ∙ passes-table (procedures b) (terms b) n k _ _ _ (h .0) (operand-right p n (suc n) _ (h .1) (omega arith) (omega arith)) (operand-right q n (suc n + sizeOf p) _ (h .2) (omega arith) (omega arith))
+              ∙ passes-table (procedures b) (terms b) n k _ _ _ (h .0) (operand-right p n (suc n) _ (h .1) (omega arith) (omega arith))
+              (operand-right q n (suc n + sizeOf p) _ (h .2) (omega arith) (omega arith))
               (operand-right r n (suc n + sizeOf p + sizeOf q) _ (h .3) (omega arith) (omega arith)));
           first-sorted = rw (g .0) (operand-sorted p _ _ (h .1) (g .1));
           second-sorted = rw (g .0) (operand-sorted q _ _ (h .2) (g .2));
@@ -144,9 +151,11 @@ module _ (b : List ℕ) where
     mutual
       unfolding size
 
-      pub all-fine : (e : TermTree) (n : ℕ) → RightTree (procedures b) counts e → n + size e ≤ terms b → Placed b n e → (u : ℕ) → n ≤ u → u < n + size e → Fine u
+      pub all-fine : (e : TermTree) (n : ℕ) → RightTree (procedures b) counts e → n + size e ≤ terms b → Placed b n e → (u : ℕ) → n ≤ u → u < n + size e
+          → Fine u
       all-fine (term k p q r) n h f g u a z =
-          split (root-fine (term k p q r) n h f g) (λ x y. part-fine p (suc n) _ (h .1) (omega arith) (g .1) u x y) (λ x y. part-fine q (suc n + sizeOf p) _ (h .2) (omega arith) (g .2) u x y)
+          split (root-fine (term k p q r) n h f g) (λ x y. part-fine p (suc n) _ (h .1) (omega arith) (g .1) u x y)
+          (λ x y. part-fine q (suc n + sizeOf p) _ (h .2) (omega arith) (g .2) u x y)
           (λ x y. part-fine r (suc n + sizeOf p + sizeOf q) _ (h .3) (omega arith) (g .3) u x y)
           (ℕ-discrete n u) (decLt u (suc n + sizeOf p)) (decLt u (suc n + sizeOf p + sizeOf q))
         where
@@ -158,6 +167,7 @@ module _ (b : List ℕ) where
           split here first second third (no e) (no y) (yes x) = second (omega (arith, y)) x
           split here first second third (no e) (no y) (no x) = third (omega (arith, x)) (omega arith)
 
-      part-fine : (p : Part) (m : ℕ) (kind : Operand) → RightPart (procedures b) counts kind p → m + sizeOf p ≤ terms b → PlacedPart b m p → (u : ℕ) → m ≤ u → u < m + sizeOf p → Fine u
+      part-fine : (p : Part) (m : ℕ) (kind : Operand) → RightPart (procedures b) counts kind p → m + sizeOf p ≤ terms b → PlacedPart b m p → (u : ℕ) → m ≤ u
+          → u < m + sizeOf p → Fine u
       part-fine (value v) m kind h f g u a z = absurd (omega arith)
       part-fine (child e) m kind h f g u a z = all-fine e m (h .2) f g u a z

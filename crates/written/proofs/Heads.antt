@@ -16,7 +16,8 @@ use Rattle.written.specs.Terms.{TermTree, term, Part, value, child}
 abbrev mutual
   pub Heads : List ℕ → ℕ → TermTree → Type 0
   Heads b t (term k p q r) =
-      (t < terms b) × (tagAt b t ≡ k) × Holds b t (layout k .first) (termAt b t .value₁) p × Holds b t (layout k .second) (termAt b t .value₂) q × Holds b t (layout k .third) (termAt b t .value₃) r
+      (t < terms b) × (tagAt b t ≡ k) × Holds b t (layout k .first) (termAt b t .value₁) p × Holds b t (layout k .second) (termAt b t .value₂) q × Holds b t
+      (layout k .third) (termAt b t .value₃) r
 
   -- value v at an operand of term t
   pub Holds : List ℕ → ℕ → Operand → ℕ → Part → Type 0
@@ -51,6 +52,7 @@ module _ (b : List ℕ) where
         go (no d) g = rw (ne-eqb k 16 d) (list-stop b (suc n) t (λ z. d (sym (h .1) ∙ z)))
         go (yes d) g = rw (eq-eqb k 16 d) (list-step b n t (h .1 ∙ d) ∙ ap suc (g d))
 
-    list-part : (q : Part) (t n k : ℕ) → Holds b t (layout k .second) (termAt b t .value₂) q → terms b ≤ t + suc n → k ≡ 16 → listLength b n (termAt b t .value₂) ≡ lengthIn q
+    list-part : (q : Part) (t n k : ℕ) → Holds b t (layout k .second) (termAt b t .value₂) q → terms b ≤ t + suc n → k ≡ 16
+        → listLength b n (termAt b t .value₂) ≡ lengthIn q
     list-part (value v) t n k h f d = absurd (true≢false (list-child k d ∙ h .0))
     list-part (child e) t n k h f d = let a = h .1 in list-length e _ n (h .2) (omega arith)

@@ -68,14 +68,16 @@ module _ (count : ℕ) (counts : ℕ → ℕ) (b : List ℕ) (v : ℕ) where
   abbrev names : ℕ → ℕ
   names u = timesIn (termAt b u) v
 
-  names-are : (n k x y z : ℕ) → termAt b n ≡ termOf k x y z 0 → names n ≡ oneIf (isChild (layout k .first) && eqb x v) + oneIf (isChild (layout k .second) && eqb y v) + oneIf (isChild (layout k .third) && eqb z v)
+  names-are : (n k x y z : ℕ) → termAt b n ≡ termOf k x y z 0
+      → names n ≡ oneIf (isChild (layout k .first) && eqb x v) + oneIf (isChild (layout k .second) && eqb y v) + oneIf (isChild (layout k .third) && eqb z v)
   unfolding timesIn
   names-are n k x y z e = ap (λ (m : Term). timesIn m v) e
 
   mutual
     unfolding size valueAt
 
-    pub tree-names : (e : TermTree) (n : ℕ) → RightTree count counts e → Placed b n e → sumBelow (n + size e) names ≡ sumBelow n names + between (suc n) (n + size e) v
+    pub tree-names : (e : TermTree) (n : ℕ) → RightTree count counts e → Placed b n e
+        → sumBelow (n + size e) names ≡ sumBelow n names + between (suc n) (n + size e) v
     tree-names (term k p q r) n h g =
         let n₂ = suc n + sizeOf p in
         let n₃ = n₂ + sizeOf q in

@@ -90,19 +90,28 @@ module _ (b : List ℕ) (a : Readable b) where
 
     expression-here : OfSort expression (tagAt b t) → Heads b t (termsOf (expressionAt (nodeAt b) (suc n) t))
     unfolding expressionAt
-    expression-here (inl s) = at-tag b t (λ m. Heads b t (termsOf (expressionOf E C L m))) (a .each-term t inside) (pick expressions (tagAt b t) (omega arith) (omega arith))
-    expression-here (inr s) = at-tag b t (λ m. Heads b t (termsOf (expressionOf E C L m))) (a .each-term t inside) (pick signals (tagAt b t) (s .0) (let h = s .1 in omega arith))
+    expression-here (inl s) =
+        at-tag b t (λ m. Heads b t (termsOf (expressionOf E C L m))) (a .each-term t inside) (pick expressions (tagAt b t) (omega arith) (omega arith))
+    expression-here (inr s) =
+        at-tag b t (λ m. Heads b t (termsOf (expressionOf E C L m))) (a .each-term t inside) (pick signals (tagAt b t) (s .0) (let h = s .1 in omega arith))
 
     condition-here : OfSort condition (tagAt b t) → Heads b t (termsOfᶜ (conditionAt (nodeAt b) (suc n) t))
     unfolding conditionAt
-    condition-here s = at-tag b t (λ m. Heads b t (termsOfᶜ (conditionOf E C m))) (a .each-term t inside) (pick conditions (tagAt b t) (s .0) (let h = s .1 in omega arith))
+    condition-here s = at-tag b t (λ m. Heads b t (termsOfᶜ (conditionOf E C m))) (a .each-term t inside)
+        (pick conditions (tagAt b t) (s .0) (let h = s .1 in omega arith))
 
     list-here : OfSort list (tagAt b t) → Heads b t (termsOfᵃ (argumentsAt (nodeAt b) (suc n) t))
     unfolding argumentsAt
-    list-here s = at-tag b t (λ m. Heads b t (termsOfᵃ (argumentsOf E L m))) (a .each-term t inside) (pick lists (tagAt b t) (s .0) (let h = s .1 in omega arith))
+    list-here s = at-tag b t (λ m. Heads b t (termsOfᵃ (argumentsOf E L m))) (a .each-term t inside)
+        (pick lists (tagAt b t) (s .0) (let h = s .1 in omega arith))
 
   all-head : (n : ℕ) → AllHead n
-  all-head zero = record { expression-heads = λ t h q s. absurd (omega arith); condition-heads = λ t h q s. absurd (omega arith); list-heads = λ t h q s. absurd (omega arith) }
+  all-head zero = record {
+    expression-heads = λ t h q s. absurd (omega arith);
+    condition-heads = λ t h q s. absurd (omega arith);
+    list-heads =
+        λ t h q s. absurd (omega arith);
+  }
   all-head (suc n) =
       let ih = all-head n in
       record { expression-heads = expression-here n ih; condition-heads = condition-here n ih; list-heads = list-here n ih }
@@ -129,7 +138,8 @@ module _ (b : List ℕ) (a : Readable b) where
       (λ s. (termsOfᵃ (argumentsAt (nodeAt b) (terms b) t), all .list-heads t h (omega arith) s))
       (decLt (tagAt b t) 12) (decLt (tagAt b t) 16) (decLt (tagAt b t) 18)
     where
-      go : (OfSort expression (tagAt b t) → SomeTree t) → (OfSort condition (tagAt b t) → SomeTree t) → (OfSort list (tagAt b t) → SomeTree t) → Dec (tagAt b t < 12) → Dec (tagAt b t < 16) → Dec (tagAt b t < 18) → SomeTree t
+      go : (OfSort expression (tagAt b t) → SomeTree t) → (OfSort condition (tagAt b t) → SomeTree t) → (OfSort list (tagAt b t) → SomeTree t)
+          → Dec (tagAt b t < 12) → Dec (tagAt b t < 16) → Dec (tagAt b t < 18) → SomeTree t
       go e c l (yes d) f g = e (inl (omega arith))
       go e c l (no d) (yes f) g = c (omega (arith, d), omega arith)
       go e c l (no d) (no f) (yes g) = l (omega (arith, f), omega arith)

@@ -8,7 +8,8 @@ use mathlib.Core.List.{List, [], _∷_, _++_}
 use lib.Dec.{eqb}
 use lib.ListN.{length, length-append, getD}
 use lib.Seq.{append-snoc, getD-at}
-use Rattle.packed.specs.Format.{procedures, terms, Operand, absent, slot, binder, mask, fieldName, procedure, expression, condition, list, width, layout, Term, termAt, tagAt}
+use Rattle.packed.specs.Format.{procedures, terms, Operand, absent, slot, binder, mask, fieldName, procedure, expression, condition, list, width, layout}
+use Rattle.packed.specs.Format.{Term, termAt, tagAt}
 use Rattle.packed.specs.Refusals.{misplaced, isChild}
 use Rattle.packed.specs.Steps.{wordAt, termIn}
 use Rattle.packed.proofs.Reading.{term-is}
@@ -100,10 +101,13 @@ module _ (count : ℕ) (counts : ℕ → ℕ) (b ws : List ℕ) (N : ℕ) (few :
         let two = has-first ws (suc n) (wordsBelow (suc n) p ++ wordsBelow (suc n + sizeOf p) q) (wordsBelow (suc n + sizeOf p + sizeOf q) r) below in (
           term-is b n ∙ ap termIn (words n (omega arith) small ∙ has .0) ∙ term-in-word k x y z g,
           placed-part p (suc n) (layout k .first) (h .1) (omega arith) (has-first ws (suc n) (wordsBelow (suc n) p) (wordsBelow (suc n + sizeOf p) q) two),
-          placed-part q (suc n + sizeOf p) (layout k .second) (h .2) (omega arith) (has-rest ws (suc n) (suc n + sizeOf p) (wordsBelow (suc n) p) (wordsBelow (suc n + sizeOf p) q) (omega (arith, part-length p (suc n))) two),
+          placed-part q (suc n + sizeOf p) (layout k .second) (h .2) (omega arith)
+              (has-rest ws (suc n) (suc n + sizeOf p) (wordsBelow (suc n) p) (wordsBelow (suc n + sizeOf p) q) (omega (arith, part-length p (suc n))) two),
           placed-part r (suc n + sizeOf p + sizeOf q) (layout k .third) (h .3) (omega arith)
-              (has-rest ws (suc n) (suc n + sizeOf p + sizeOf q) (wordsBelow (suc n) p ++ wordsBelow (suc n + sizeOf p) q) (wordsBelow (suc n + sizeOf p + sizeOf q) r)
-              (omega (arith, length-append (wordsBelow (suc n) p) (wordsBelow (suc n + sizeOf p) q), part-length p (suc n), part-length q (suc n + sizeOf p))) below),
+              (has-rest ws (suc n) (suc n + sizeOf p + sizeOf q) (wordsBelow (suc n) p ++ wordsBelow (suc n + sizeOf p) q)
+              (wordsBelow (suc n + sizeOf p + sizeOf q) r)
+              (omega (arith, length-append (wordsBelow (suc n) p) (wordsBelow (suc n + sizeOf p) q), part-length p (suc n), part-length q (suc n + sizeOf p)))
+              below),
         )
 
     placed-part : (p : Part) (n : ℕ) (kind : Operand) → RightPart count counts kind p → n + sizeOf p ≤ N → Has ws n (wordsBelow n p) → PlacedPart b n p

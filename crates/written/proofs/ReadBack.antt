@@ -27,7 +27,13 @@ mutual
   tree-length (term k p q r) n =
       ap suc
       (length-append (wordsBelow (suc n) p ++ wordsBelow (suc n + sizeOf p) q) (wordsBelow (suc n + sizeOf p + sizeOf q) r)
-      ∙ omega (arith, length-append (wordsBelow (suc n) p) (wordsBelow (suc n + sizeOf p) q), part-length p (suc n), part-length q (suc n + sizeOf p), part-length r (suc n + sizeOf p + sizeOf q)))
+      ∙ omega (
+        arith,
+        length-append (wordsBelow (suc n) p) (wordsBelow (suc n + sizeOf p) q),
+        part-length p (suc n),
+        part-length q (suc n + sizeOf p),
+        part-length r (suc n + sizeOf p + sizeOf q),
+      ))
 
   pub part-length : (p : Part) (n : ℕ) → length (wordsBelow n p) ≡ sizeOf p
   part-length (value v) n = refl
@@ -36,13 +42,24 @@ mutual
 pub terms-length : (ds : List Procedure) (n : ℕ) → length (termWords n ds) ≡ sizeOfAll ds
 unfolding termWords sizeOfAll
 terms-length [] n = refl
-terms-length (d ∷ ds) n = omega (arith, length-append (wordsFrom n (termsOf (d .body))) (termWords (n + size (termsOf (d .body))) ds), tree-length (termsOf (d .body)) n, terms-length ds (n + size (termsOf (d .body))))
+terms-length (d ∷ ds) n =
+    omega (
+      arith,
+      length-append (wordsFrom n (termsOf (d .body))) (termWords (n + size (termsOf (d .body))) ds),
+      tree-length (termsOf (d .body)) n,
+      terms-length ds (n + size (termsOf (d .body))),
+    )
 
 pub procedures-length : (ds : List Procedure) (n : ℕ) → length (procedureBytes n ds) ≡ 2 * length ds
 unfolding procedureBytes
 procedures-length [] n = refl
 procedures-length (d ∷ ds) n =
-    omega (arith, length-append (bytesOf 2 (d .parameters * 2 ^ 12 + n)) (procedureBytes (n + size (termsOf (d .body))) ds), bytes-length 2 (d .parameters * 2 ^ 12 + n), procedures-length ds (n + size (termsOf (d .body))))
+    omega (
+      arith,
+      length-append (bytesOf 2 (d .parameters * 2 ^ 12 + n)) (procedureBytes (n + size (termsOf (d .body))) ds),
+      bytes-length 2 (d .parameters * 2 ^ 12 + n),
+      procedures-length ds (n + size (termsOf (d .body))),
+    )
 
 -- ---- a procedure
 
@@ -50,7 +67,8 @@ procedures-length (d ∷ ds) n =
 abbrev pub startOf : ℕ → List Procedure → ℕ → ℕ
 startOf n ds p = n + sizeOfAll (take p ds)
 
-procedure-back : (front l : List ℕ) (ds : List Procedure) (k n p : ℕ) (d : Procedure) → length front ≡ k → getElem? ds p ≡ some d → d .parameters < 16 → startOf n ds p < 4096
+procedure-back : (front l : List ℕ) (ds : List Procedure) (k n p : ℕ) (d : Procedure) → length front ≡ k → getElem? ds p ≡ some d → d .parameters < 16
+    → startOf n ds p < 4096
     → bitsAt (front ++ (procedureBytes n ds ++ l)) ((k + 2 * p) * 8) 16 ≡ d .parameters * 4096 + startOf n ds p
 unfolding procedureBytes sizeOfAll
 procedure-back front l [] k n p d f e h g = absurd (true≢false cc)
@@ -144,19 +162,24 @@ module _ (g : Program) where
     header-field k c r e = field-of w 0 k c r ∙ ap (λ (n : ℕ). bitsAt w 0 n / 2 ^ r % 2 ^ c) e ∙ ap (λ (x : ℕ). x / 2 ^ r % 2 ^ c) header-bits
 
     version-bits : bitsAt w 0 4 ≡ v
-    version-bits = header-field 0 4 28 refl ∙ (let a = version-small (g .version) in let p = f .few-procedures in let n = f .few-terms in omega (arith, header-is))
+    version-bits = header-field 0 4 28 refl
+        ∙ (let a = version-small (g .version) in let p = f .few-procedures in let n = f .few-terms in omega (arith, header-is))
 
     procedures-bits : bitsAt w 4 6 ≡ length ds
-    procedures-bits = header-field 4 6 22 refl ∙ (let a = version-small (g .version) in let p = f .few-procedures in let n = f .few-terms in omega (arith, header-is))
+    procedures-bits = header-field 4 6 22 refl
+        ∙ (let a = version-small (g .version) in let p = f .few-procedures in let n = f .few-terms in omega (arith, header-is))
 
     terms-bits : bitsAt w 10 12 ≡ sizeOfAll ds
-    terms-bits = header-field 10 12 10 refl ∙ (let a = version-small (g .version) in let p = f .few-procedures in let n = f .few-terms in omega (arith, header-is))
+    terms-bits = header-field 10 12 10 refl
+        ∙ (let a = version-small (g .version) in let p = f .few-procedures in let n = f .few-terms in omega (arith, header-is))
 
     spare-bits : bitsAt w 22 10 ≡ 0
-    spare-bits = header-field 22 10 0 refl ∙ (let a = version-small (g .version) in let p = f .few-procedures in let n = f .few-terms in omega (arith, header-is))
+    spare-bits = header-field 22 10 0 refl
+        ∙ (let a = version-small (g .version) in let p = f .few-procedures in let n = f .few-terms in omega (arith, header-is))
 
     mask-bits : bitsAt w 32 32 ≡ g .volatiles
-    mask-bits = ap (λ (l : List ℕ). bitsAt l 32 32) from-mask ∙ read-back (bytesOf 4 H) (procedureBytes 0 ds ++ bodies) 4 4 (g .volatiles) (bytes-length 4 H) (f .mask-fits)
+    mask-bits = ap (λ (l : List ℕ). bitsAt l 32 32) from-mask ∙ read-back (bytesOf 4 H) (procedureBytes 0 ds ++ bodies) 4 4 (g .volatiles) (bytes-length 4 H)
+        (f .mask-fits)
 
     pub version-is : version w ≡ v
     unfolding version

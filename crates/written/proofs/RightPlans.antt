@@ -12,7 +12,8 @@ use borrow.Author.Tests.{eqb-false}
 use Rattle.format.proofs.BitLaws.{bits-below}
 use Rattle.packed.specs.Syntax.{Expression, Condition, Arguments, Procedure}
 use Rattle.packed.specs.Format.{procedures, terms, parameters, root, volatiles, maskBit, fieldsFrom, expression, condition, list, table, layout, termAt, tagAt}
-use Rattle.packed.specs.Trees.{nodes, nodeAt, binderOf, expressionOf, conditionOf, argumentsOf, expressionAt, conditionAt, argumentsAt, treeAt, proceduresFrom, programOf}
+use Rattle.packed.specs.Trees.{nodes, nodeAt, binderOf, expressionOf, conditionOf, argumentsOf, expressionAt, conditionAt, argumentsAt, treeAt}
+use Rattle.packed.specs.Trees.{proceduresFrom, programOf}
 use Rattle.packed.specs.Refusals.{listLength}
 use Rattle.packed.specs.Check.{refusal}
 use Rattle.packed.proofs.WellFormed.{count}

@@ -17,7 +17,8 @@ use Rattle.packed.specs.Format
 use Rattle.packed.specs.Format.{maskBit, fieldsFrom, version, terms, volatiles, parameters, root, planLength, Operand, expression, Term, termAt, tagAt}
 use Rattle.packed.specs.Slots.{closed}
 use Rattle.packed.specs.Trees.{treeAt, procedureAt, proceduresFrom, programOf}
-use Rattle.packed.specs.Refusals.{anyBelow, sumBelow, oneIf, wrongLength, wrongHeader, wrongProcedure, misplaced, someOperand, wrongCall, wronglySorted, timesIn, timesNamed, notNamedOnce, usesUnboundSlot}
+use Rattle.packed.specs.Refusals.{anyBelow, sumBelow, oneIf, wrongLength, wrongHeader, wrongProcedure, misplaced, someOperand, wrongCall, wronglySorted}
+use Rattle.packed.specs.Refusals.{timesIn, timesNamed, notNamedOnce, usesUnboundSlot}
 use Rattle.packed.specs.Check.{checks, refusal}
 use Rattle.packed.proofs.Passing.{AllRight}
 use Rattle.packed.proofs.Reading.{headerTests, header-tests, procedure-tests}
@@ -27,7 +28,8 @@ use Rattle.written.proofs.Heads.{Heads}
 use Rattle.written.proofs.RightTrees.{RightTree, headTag}
 use Rattle.written.proofs.Sums.{sum-cong, sum-none}
 use Rattle.written.proofs.Sizes.{times-are}
-use Rattle.written.proofs.ReadBack.{version-small, Fitted, startOf, version-is, procedures-is, terms-is, spare-is, volatiles-is, length-is, parameters-is, root-is, word-is}
+use Rattle.written.proofs.ReadBack.{version-small, Fitted, startOf, version-is, procedures-is, terms-is, spare-is, volatiles-is, length-is}
+use Rattle.written.proofs.ReadBack.{parameters-is, root-is, word-is}
 use Rattle.written.proofs.Placed.{has-own}
 use Rattle.written.proofs.Fine.{Fine, heads-placed}
 use Rattle.written.proofs.Named.{between-in, size-pos}

@@ -30,7 +30,8 @@ module _ (b : List ℕ) (counts : ℕ → ℕ) where
 
   -- procedure p's
   pub placed-at : (ds : List Procedure) (n p : ℕ) (d : Procedure) → AllPlaced n ds → getElem? ds p ≡ some d
-      → RightTree (procedures b) counts (termsOf (d .body)) × Placed b (startOf n ds p) (termsOf (d .body)) × (startOf n ds p + size (termsOf (d .body)) ≤ n + sizeOfAll ds)
+      → RightTree (procedures b) counts (termsOf (d .body)) × Placed b (startOf n ds p) (termsOf (d .body)) ×
+      (startOf n ds p + size (termsOf (d .body)) ≤ n + sizeOfAll ds)
   unfolding sizeOfAll
   placed-at [] n p d a e = absurd (true≢false cc)
   placed-at (d ∷ ds) n zero d′ a e =
@@ -48,7 +49,8 @@ module _ (b : List ℕ) (counts : ℕ → ℕ) where
       → (u : ℕ) → n ≤ u → u < n + sizeOfAll ds → Fine b u
   unfolding sizeOfAll
   all-terms-fine agree [] n a f u h k = absurd (omega arith)
-  all-terms-fine agree (d ∷ ds) n a f u h k = go (λ x y. all-terms-fine agree ds (n + size (termsOf (d .body))) (a .2) (omega arith) u x y) (decLt u (n + size (termsOf (d .body))))
+  all-terms-fine agree (d ∷ ds) n a f u h k =
+      go (λ x y. all-terms-fine agree ds (n + size (termsOf (d .body))) (a .2) (omega arith) u x y) (decLt u (n + size (termsOf (d .body))))
     where
       go : (n + size (termsOf (d .body)) ≤ u → u < n + size (termsOf (d .body)) + sizeOfAll ds → Fine b u) → Dec (u < n + size (termsOf (d .body))) → Fine b u
       go later (yes l) = all-fine b counts agree (termsOf (d .body)) n (a .0) (omega arith) (a .1) u h l
@@ -56,7 +58,8 @@ module _ (b : List ℕ) (counts : ℕ → ℕ) where
 
   -- a term is named as often as it is there, by a parent or as a root
   pub all-names : (v : ℕ) (ds : List Procedure) (n : ℕ) → AllPlaced n ds
-      → sumBelow (length ds) (λ p. oneIf (eqb (startOf n ds p) v)) + sumBelow (n + sizeOfAll ds) (λ u. timesIn (termAt b u) v) ≡ sumBelow n (λ u. timesIn (termAt b u) v) + between n (n + sizeOfAll ds) v
+      → sumBelow (length ds) (λ p. oneIf (eqb (startOf n ds p) v)) + sumBelow (n + sizeOfAll ds) (λ u. timesIn (termAt b u) v) ≡ sumBelow n
+      (λ u. timesIn (termAt b u) v) + between n (n + sizeOfAll ds) v
   unfolding sizeOfAll
   all-names v [] n a =
       let z : n + 0 ≡ n = omega arith in
@@ -68,7 +71,8 @@ module _ (b : List ℕ) (counts : ℕ → ℕ) where
       let e : n + (s + sizeOfAll ds) ≡ m + sizeOfAll ds = omega arith in
       let roots = sum-first (length ds) (λ p. oneIf (eqb (startOf n (d ∷ ds) p) v)) in
       let first : oneIf (eqb (startOf n (d ∷ ds) 0) v) ≡ between n (suc n) v = rw z (between-one n v) in
-      let later = sum-cong (length ds) (λ p. oneIf (eqb (startOf n (d ∷ ds) (suc p)) v)) (λ p. oneIf (eqb (startOf m ds p) v)) (λ p h. ap (λ (x : ℕ). oneIf (eqb x v)) (omega arith)) in
+      let later = sum-cong (length ds) (λ p. oneIf (eqb (startOf n (d ∷ ds) (suc p)) v)) (λ p. oneIf (eqb (startOf m ds p) v))
+      (λ p h. ap (λ (x : ℕ). oneIf (eqb x v)) (omega arith)) in
       let rest = all-names v ds m (a .2) in
       let own = tree-names (procedures b) counts b v (termsOf (d .body)) n (a .0) (a .1) in
       let some = size-pos (termsOf (d .body)) in
@@ -78,7 +82,8 @@ module _ (b : List ℕ) (counts : ℕ → ℕ) where
 
   -- words that fit, in their places
   pub all-placed : (ws : List ℕ) (N : ℕ) → N ≤ 1024 → ((t : ℕ) → t < N → getD ws t 0 < 2 ^ 40 → wordAt b t ≡ getD ws t 0) → (ds : List Procedure) (n : ℕ)
-      → ((p : ℕ) (d : Procedure) → getElem? ds p ≡ some d → RightTree (procedures b) counts (termsOf (d .body))) → n + sizeOfAll ds ≤ N → Has ws n (termWords n ds) → AllPlaced n ds
+      → ((p : ℕ) (d : Procedure) → getElem? ds p ≡ some d → RightTree (procedures b) counts (termsOf (d .body))) → n + sizeOfAll ds ≤ N
+      → Has ws n (termWords n ds) → AllPlaced n ds
   unfolding termWords sizeOfAll
   all-placed ws N few words [] n right f has = tt
   all-placed ws N few words (d ∷ ds) n right f has =
@@ -87,5 +92,6 @@ module _ (b : List ℕ) (counts : ℕ → ℕ) where
       let here = right 0 d refl in (
         here,
         placed (procedures b) counts b ws N few words e n here (omega arith) (has-first ws n (wordsFrom n e) (termWords m ds) has),
-        all-placed ws N few words ds m (λ p d′ h. right (suc p) d′ h) (omega arith) (has-rest ws n m (wordsFrom n e) (termWords m ds) (omega (arith, tree-length e n)) has),
+        all-placed ws N few words ds m (λ p d′ h. right (suc p) d′ h) (omega arith)
+            (has-rest ws n m (wordsFrom n e) (termWords m ds) (omega (arith, tree-length e n)) has),
       )

@@ -63,13 +63,15 @@ module _ (b : List ℕ) where
   unfolding size
   one-more n t (term k p q r) h f =
       tree-size (term k p q r) t n h f
-      ∙ sym (ap suc (below-by (sizeAt n) t k _ _ _ (h .1) (part-size p t n _ _ (h .2) (omega arith)) (part-size q t n _ _ (h .3) (omega arith)) (part-size r t n _ _ (h .4) (omega arith))))
+      ∙ sym (ap suc (below-by (sizeAt n) t k _ _ _ (h .1) (part-size p t n _ _ (h .2) (omega arith)) (part-size q t n _ _ (h .3) (omega arith))
+      (part-size r t n _ _ (h .4) (omega arith))))
 
   pub times-are : (t : ℕ) → timesNamed b t ≡ sumBelow (procedures b) (λ p. oneIf (eqb (root b p) t)) + sumBelow (terms b) (λ u. timesIn (termAt b u) t)
   unfolding timesNamed
   times-are t = refl
 
-  times-in : (m : Term) (t : ℕ) → timesIn m t ≡ oneIf (isChild (m .first) && eqb (m .value₁) t) + oneIf (isChild (m .second) && eqb (m .value₂) t) + oneIf (isChild (m .third) && eqb (m .value₃) t)
+  times-in : (m : Term) (t : ℕ) → timesIn m t ≡ oneIf (isChild (m .first) && eqb (m .value₁) t) + oneIf (isChild (m .second) && eqb (m .value₂) t) + oneIf
+      (isChild (m .third) && eqb (m .value₃) t)
   unfolding timesIn
   times-in m t = refl
 
@@ -100,7 +102,8 @@ module _ (b : List ℕ) (six : SixRight b) (a : Readable b) where
 
   by-roots : sumBelow (terms b) (λ t. s t * sumBelow (procedures b) (λ p. oneIf (eqb (root b p) t))) ≡ sumBelow (procedures b) (λ p. s (root b p))
   by-roots =
-      sum-cong (terms b) _ (λ t. sumBelow (procedures b) (λ p. s t * oneIf (eqb (root b p) t))) (λ t h. sum-mul (procedures b) (s t) (λ p. oneIf (eqb (root b p) t)))
+      sum-cong (terms b) _ (λ t. sumBelow (procedures b) (λ p. s t * oneIf (eqb (root b p) t)))
+      (λ t h. sum-mul (procedures b) (s t) (λ p. oneIf (eqb (root b p) t)))
       ∙ sum-swap (terms b) (procedures b) (λ t p. s t * oneIf (eqb (root b p) t))
       ∙ sum-cong (procedures b) _ (λ p. s (root b p)) (λ p h. sum-at (root b p) s (terms b) true (λ e. a .each-root p h .0))
 
@@ -132,7 +135,8 @@ module _ (b : List ℕ) (six : SixRight b) (a : Readable b) where
       let within : ℕ → ℕ = λ t. s t * sumBelow (terms b) (λ u. timesIn (termAt b u) t) in
       let under : ℕ → ℕ = λ t. below s (termAt b t) in
       let all : sumBelow (terms b) s ≡ sumBelow (terms b) named + sumBelow (terms b) within =
-      once ∙ sum-cong (terms b) _ (λ t. named t + within t) (λ t h. ap (λ (n : ℕ). s t * n) (times-are b t) ∙ mul-add (s t) _ _) ∙ sum-add (terms b) named within in
+      once ∙ sum-cong (terms b) _ (λ t. named t + within t) (λ t h. ap (λ (n : ℕ). s t * n) (times-are b t) ∙ mul-add (s t) _ _)
+      ∙ sum-add (terms b) named within in
       let more : sumBelow (terms b) s ≡ sumBelow (terms b) (λ t. 1) + sumBelow (terms b) under =
       sum-cong (terms b) s (λ t. 1 + under t) (λ t h. each-more t h ∙ omega arith) ∙ sum-add (terms b) (λ t. 1) under in
       omega (arith, by-roots, by-terms, sum-one (terms b))
@@ -142,7 +146,8 @@ module _ (b : List ℕ) (six : SixRight b) (a : Readable b) where
   from-roots p zero h = let e : p + 0 ≡ p = omega arith in rw (e, size-none b p) (omega arith)
   from-roots p (suc n) h =
       let e : p + suc n ≡ suc p + n = omega arith in
-      let here : s (root b p) ≡ size (termsOf (treeAt b (root b p))) = tree-size b (termsOf (treeAt b (root b p))) (root b p) (terms b) (root-heads b a p (omega arith)) (omega arith) in
+      let here : s (root b p) ≡ size (termsOf (treeAt b (root b p))) =
+      tree-size b (termsOf (treeAt b (root b p))) (root b p) (terms b) (root-heads b a p (omega arith)) (omega arith) in
       rw e (omega (arith, from-roots (suc p) n (omega arith), size-more b p n, sum-more p (λ i. s (root b i))))
 
   pub all-terms : sizeOfAll (programOf b .procedures) ≡ terms b

@@ -88,13 +88,24 @@ module _ (r : Row) (k x y z : ℕ) (f : Fitting r x y z) (room : total r ≤ 35)
 
   third-in : operandIn (width (r .first) + width (r .second)) (r .third) (wordBy r k x y z) ≡ z
   unfolding wordBy
-  third-in = ap (λ (n : ℕ). n % 2 ^ c) (rest-four k x y z a b c d (f .first-fits) (f .second-fits) (f .third-fits)) ∙ low ((k * 2 ^ a + x) * 2 ^ b + y) c (f .third-fits)
+  third-in = ap (λ (n : ℕ). n % 2 ^ c) (rest-four k x y z a b c d (f .first-fits) (f .second-fits) (f .third-fits))
+      ∙ low ((k * 2 ^ a + x) * 2 ^ b + y) c (f .third-fits)
 
   spare-in : spareIn (width (r .first) + width (r .second) + width (r .third)) (wordBy r k x y z) ≡ 0
   unfolding wordBy
   spare-in = all-spare k x y z a b c d (f .first-fits) (f .second-fits) (f .third-fits)
 
-  laid : inWord (wordBy r k x y z) k r ≡ record { tag = k; first = r .first; value₁ = x; second = r .second; value₂ = y; third = r .third; value₃ = z; spare = 0 }
+  laid : inWord (wordBy r k x y z) k r ≡ record {
+    tag = k;
+    first = r .first;
+    value₁ = x;
+    second = r .second;
+    value₂ = y;
+    third = r .third;
+    value₃ = z;
+    spare =
+        0;
+  }
   unfolding inWord
   laid = rw (first-in, second-in, third-in, spare-in)
 

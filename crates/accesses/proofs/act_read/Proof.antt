@@ -28,7 +28,15 @@ heard-requires c κs = search needs
 
 returns : tie.Need-returns
 unfolding actRead
-returns c = simp (c .heard .ensures, c .before .entry .ensures, c .before .before .join .ensures .exact, c .before .before .before .passed-on .ensures, c .before .before .before .before .before .before .before .value .ensures, sym (c .before .before .before .before .before .before .has .ensures) ∙ c .before .before .before .before .before .if1 .taken)
+returns c = simp (
+  c .heard .ensures,
+  c .before .entry .ensures,
+  c .before .before .join .ensures .exact,
+  c .before .before .before .passed-on .ensures,
+  c .before .before .before .before .before .before .before .value .ensures,
+  sym (c .before .before .before .before .before .before .has .ensures)
+      ∙ c .before .before .before .before .before .if1 .taken,
+)
 
 entry-requires-2 : tie.Need-entry-requires-2
 entry-requires-2 c κs = search needs
@@ -38,7 +46,12 @@ acted-of-requires c κs = search needs
 
 returns-2 : tie.Need-returns-2
 unfolding actRead
-returns-2 c = simp (c .acted-of .ensures, c .before .entry2 .ensures, c .before .before .before .before .value .ensures, sym (c .before .before .before .has .ensures) ∙ c .before .before .if1 .left)
+returns-2 c = simp (
+  c .acted-of .ensures,
+  c .before .entry2 .ensures,
+  c .before .before .before .before .value .ensures,
+  sym (c .before .before .before .has .ensures) ∙ c .before .before .if1 .left,
+)
 
 pub act-read-spec : {M : Type 1} → statement M
 act-read-spec =

@@ -30,7 +30,15 @@ acted-of-requires c κs = search needs
 
 returns : tie.Need-returns
 unfolding actWrite
-returns c = simp (c .acted-of .ensures, c .before .entry .ensures, c .before .before .cell-with .ensures, ap (λ (j : Joined). j .keys) (c .before .before .before .before .join .ensures .exact), c .before .before .before .before .before .passed-on .ensures, c .before .before .before .before .before .before .before .before .value .ensures, sym (c .before .before .before .before .before .before .before .has .ensures) ∙ c .before .before .before .before .before .before .if1 .taken)
+returns c = simp (
+  c .acted-of .ensures,
+  c .before .entry .ensures,
+  c .before .before .cell-with .ensures,
+  ap (λ (j : Joined). j .keys) (c .before .before .before .before .join .ensures .exact),
+  c .before .before .before .before .before .passed-on .ensures,
+  c .before .before .before .before .before .before .before .before .value .ensures,
+  sym (c .before .before .before .before .before .before .before .has .ensures) ∙ c .before .before .before .before .before .before .if1 .taken,
+)
 
 returns-2 : tie.Need-returns-2
 unfolding actWrite
@@ -56,7 +64,15 @@ acted-of-requires-2 c κs = search needs
 
 returns-3 : tie.Need-returns-3
 unfolding actWrite
-returns-3 c = simp (c .acted-of2 .ensures, c .before .entry2 .ensures, c .before .before .cell-with2 .ensures, c .before .before .before .learn .ensures .exact, c .before .before .before .before .before .before .before .value .ensures, sym (c .before .before .before .before .before .before .has .ensures) ∙ c .before .before .before .before .before .if1 .left, lt-leb _ _ (c .before .before .before .before .if2 .left))
+returns-3 c = simp (
+  c .acted-of2 .ensures,
+  c .before .entry2 .ensures,
+  c .before .before .cell-with2 .ensures,
+  c .before .before .before .learn .ensures .exact,
+  c .before .before .before .before .before .before .before .value .ensures,
+  sym (c .before .before .before .before .before .before .has .ensures) ∙ c .before .before .before .before .before .if1 .left,
+  lt-leb _ _ (c .before .before .before .before .if2 .left),
+)
 
 pub act-write-spec : {M : Type 1} → statement M
 act-write-spec =

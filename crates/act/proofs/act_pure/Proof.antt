@@ -68,7 +68,16 @@ returns-7 c = simp (c .at .ensures, c .before .ready-of .ensures, c .before .bef
 
 returns-8 : tie.Need-returns-8
 unfolding pureBy
-returns-8 c = simp (c .full .ensures, ne-eqb _ _ (c .before .match .rest .0 .0 .0 .0 .0 .0 .1), ne-eqb _ _ (c .before .match .rest .0 .0 .0 .0 .0 .1), ne-eqb _ _ (c .before .match .rest .0 .0 .0 .0 .1), ne-eqb _ _ (c .before .match .rest .0 .0 .0 .1), ne-eqb _ _ (c .before .match .rest .0 .0 .1), ne-eqb _ _ (c .before .match .rest .0 .1), ne-eqb _ _ (c .before .match .rest .1))
+returns-8 c = simp (
+  c .full .ensures,
+  ne-eqb _ _ (c .before .match .rest .0 .0 .0 .0 .0 .0 .1),
+  ne-eqb _ _ (c .before .match .rest .0 .0 .0 .0 .0 .1),
+  ne-eqb _ _ (c .before .match .rest .0 .0 .0 .0 .1),
+  ne-eqb _ _ (c .before .match .rest .0 .0 .0 .1),
+  ne-eqb _ _ (c .before .match .rest .0 .0 .1),
+  ne-eqb _ _ (c .before .match .rest .0 .1),
+  ne-eqb _ _ (c .before .match .rest .1),
+)
 
 pub act-pure-spec : {M : Type 1} → statement M
 act-pure-spec =

@@ -30,7 +30,8 @@ version-requires c κs =
     let t = c .before in
     let a = t .before .before .before .before .before .before .before .before .before .before .args in
     let p = t .before .before .before .before .before .play in
-    let w = inside (a .plan .now) (passes (a .plan .now) (a .schedule .now) (a .log .now) (p .result) (p .ensures .0) (t .enum-told .given .1) .plan-passes) .long in
+    let w = inside (a .plan .now)
+    (passes (a .plan .now) (a .schedule .now) (a .log .now) (p .result) (p .ensures .0) (t .enum-told .given .1) .plan-passes) .long in
     omega arith
 
 -- and the log area has room for them
@@ -39,7 +40,8 @@ judge-first-requires c κs =
     let t = c .before .before .before in
     let a = t .before .before .before .before .before .before .before .before .before .before .args in
     let p = t .before .before .before .before .before .play in
-    let room = within (a .plan .now) (a .schedule .now) (a .log .now) (p .result) (p .ensures .0) (t .enum-told .given .1) (p .last .1 .1 .0) (p .ensures .1 .0) in
+    let room = within (a .plan .now) (a .schedule .now) (a .log .now) (p .result) (p .ensures .0) (t .enum-told .given .1) (p .last .1 .1 .0)
+    (p .ensures .1 .0) in
     let b = c .before .before .record-bytes in
     room (b .result) (omega (arith, b .ensures))
 
@@ -64,8 +66,14 @@ returns-2 c =
     let p = t .before .before .before .before .before .play in
     let b = c .before .before .before .record-bytes in
     let v = c .before .before .version in
-    let agreed = agreed-on (a .plan .now) (a .schedule .now) (a .log .now) (p .result) (p .ensures .0) (t .enum-told .given .1) (p .last .1 .1 .0) (p .ensures .1 .0) in
-    (p .ensures .0, (p .ensures .1 .0, (agreed (c .judge-first .result) (b .result) (b .ensures) (v .result) (v .ensures) (c .judge-first .ensures), p .ensures .1 .1 .0)))
+    let agreed = agreed-on (a .plan .now) (a .schedule .now) (a .log .now) (p .result) (p .ensures .0) (t .enum-told .given .1) (p .last .1 .1 .0)
+    (p .ensures .1 .0) in (
+      p .ensures .0,
+      (
+        p .ensures .1 .0,
+        (agreed (c .judge-first .result) (b .result) (b .ensures) (v .result) (v .ensures) (c .judge-first .ensures), p .ensures .1 .1 .0),
+      ),
+    )
 
 pub play-and-judge-spec : {M : Type 1} → statement M
 play-and-judge-spec =

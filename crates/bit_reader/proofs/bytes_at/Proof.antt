@@ -39,7 +39,11 @@ cast-value c = omega (arith, c .shared-slice-known .given (c .before .before .be
 add-value-2 : tie.Need-add-value-2 Inv-loop μ-loop
 add-value-2 c =
     let a = c .before .before .before .args in
-    omega (arith, small (a .plan .now) (a .start * 8) (c .before .before .loop .index) (omega arith), c .shared-slice-known .given (a .start + c .before .before .loop .index))
+    omega (
+      arith,
+      small (a .plan .now) (a .start * 8) (c .before .before .loop .index) (omega arith),
+      c .shared-slice-known .given (a .start + c .before .before .loop .index),
+    )
 
 add-index : tie.Need-add-index Inv-loop μ-loop
 add-index c = search needs
@@ -51,8 +55,11 @@ loop-again : tie.Need-loop-again Inv-loop μ-loop
 loop-again c =
     let a = c .before .before .before .args in
     let l = c .before .before .loop in
-    let more : l .index * 8 + 8 ≡ (l .index + 1) * 8 = omega arith in
-    (search needs, sym (ap (bitsAt (a .plan .now) (a .start * 8)) (sym more) ∙ byte-more (a .plan .now) (a .start) (l .index) (l .value) ((c .shared-slice-known .given (a .start + l .index)) .fits) (sym (l .inv .1))))
+    let more : l .index * 8 + 8 ≡ (l .index + 1) * 8 = omega arith in (
+      search needs,
+      sym (ap (bitsAt (a .plan .now) (a .start * 8)) (sym more)
+          ∙ byte-more (a .plan .now) (a .start) (l .index) (l .value) ((c .shared-slice-known .given (a .start + l .index)) .fits) (sym (l .inv .1))),
+    )
 
 returns : tie.Need-returns Inv-loop μ-loop
 returns c =

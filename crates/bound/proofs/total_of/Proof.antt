@@ -33,7 +33,8 @@ returns c =
     (not-true _ (f .lowest-left .ensures .here (c .if1 .taken))))
 
 -- every procedure is known
-all-known : (c : tie.Else1) → (p : ℕ) → p < c .before .before .before .before .before .before .before .args .procedures → holds (c .before .before .settle .result) p ≡ true
+all-known : (c : tie.Else1) → (p : ℕ) → p < c .before .before .before .before .before .before .before .args .procedures
+    → holds (c .before .before .settle .result) p ≡ true
 all-known c p h = not-false (holds (c .before .before .settle .result) p) (c .before .lowest-left .ensures .before p (let e = c .if1 .left in omega arith))
 
 occurs-requires : tie.Need-occurs-requires
@@ -67,7 +68,8 @@ returns-3 c =
     let e = h .before in
     let s = e .before .before .before .before .before .before .before in
     let S = e .before .before .settle .ensures .0 in
-    answer-23 (s .pre .0) (all-acyclic (s .pre .0) S (all-known e)) (sym (while-in (s .pre .0) (s .args .count) (s .pre .1)) ∙ sym (h .occurs .ensures) ∙ n .if2 .left)
+    answer-23 (s .pre .0) (all-acyclic (s .pre .0) S (all-known e)) (sym (while-in (s .pre .0) (s .args .count) (s .pre .1)) ∙ sym (h .occurs .ensures)
+    ∙ n .if2 .left)
     _ (total-in (s .pre .0) S (all-known e) _ refl) (c .if3 .taken)
 
 returns-4 : tie.Need-returns-4
@@ -77,7 +79,8 @@ returns-4 c =
     let e = h .before in
     let s = e .before .before .before .before .before .before .before in
     let S = e .before .before .settle .ensures .0 in
-    answer-moves (s .pre .0) (all-acyclic (s .pre .0) S (all-known e)) (sym (while-in (s .pre .0) (s .args .count) (s .pre .1)) ∙ sym (h .occurs .ensures) ∙ n .if2 .left)
+    answer-moves (s .pre .0) (all-acyclic (s .pre .0) S (all-known e)) (sym (while-in (s .pre .0) (s .args .count) (s .pre .1)) ∙ sym (h .occurs .ensures)
+    ∙ n .if2 .left)
     _ (total-in (s .pre .0) S (all-known e) _ refl) (c .if3 .left)
 
 pub total-of-spec : {M : Type 1} → statement M

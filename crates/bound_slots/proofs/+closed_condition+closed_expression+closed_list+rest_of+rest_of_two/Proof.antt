@@ -4,7 +4,9 @@ use Rattle.bound_slots.proofs.+closed_condition+closed_expression+close
 use Rattle.bound_slots.proofs.+closed_condition+closed_expression+closed_list+rest_of+rest_of_two.Proof.ClosedList.{closed-list}
 use Rattle.bound_slots.proofs.+closed_condition+closed_expression+closed_list+rest_of+rest_of_two.Proof.RestOf.{rest-of}
 use Rattle.bound_slots.proofs.+closed_condition+closed_expression+closed_list+rest_of+rest_of_two.Proof.RestOfTwo.{rest-of-two}
-use Rattle.bound_slots.proofs.+closed_condition+closed_expression+closed_list+rest_of+rest_of_two.Proof.Measures.{μ-closed-condition, μ-closed-expression, μ-closed-list, μ-rest-of, μ-rest-of-two}
+use Rattle.bound_slots.proofs.+closed_condition+closed_expression+closed_list+rest_of+rest_of_two.Proof.Measures.{μ-closed-condition}
+use Rattle.bound_slots.proofs.+closed_condition+closed_expression+closed_list+rest_of+rest_of_two.Proof.Measures.{μ-closed-expression, μ-closed-list}
+use Rattle.bound_slots.proofs.+closed_condition+closed_expression+closed_list+rest_of+rest_of_two.Proof.Measures.{μ-rest-of, μ-rest-of-two}
 use Rattle.bound_slots.proofs.+closed_condition+closed_expression+closed_list+rest_of+rest_of_two.{statement}
 use Rattle.bound_slots.proofs.+closed_condition+closed_expression+closed_list+rest_of+rest_of_two.Tie.{close}
 mod Measures

@@ -25,7 +25,8 @@ returns : tie.Need-returns
 returns c =
     let k = c .before .args .parameters in
     c .closed-expression .ensures
-    ∙ ap (λ (s : ℕ → Bool). closed s (treeIn (c .before .args .words .now) (c .before .args .root))) (ap (λ (m : ℕ). slots (m - 1)) (shl-one k (c .before .pre .2)) ∙ parameters-are k)
+    ∙ ap (λ (s : ℕ → Bool). closed s (treeIn (c .before .args .words .now) (c .before .args .root)))
+    (ap (λ (m : ℕ). slots (m - 1)) (shl-one k (c .before .pre .2)) ∙ parameters-are k)
 
 pub closed-with-spec : {M : Type 1} → statement M
 closed-with-spec =

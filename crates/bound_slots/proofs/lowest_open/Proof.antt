@@ -40,13 +40,16 @@ closed-expression-requires c κs =
 -- the procedure of this turn
 seen :
     (c : tie.After-closed-expression Inv-loop μ-loop) →
-    usesUnboundSlot (c .before .before .before .before .before .before .args .plan .now) (c .before .before .before .before .loop .procedure) ≡ not (c .closed-expression .result)
+    usesUnboundSlot (c .before .before .before .before .before .before .args .plan .now) (c .before .before .before .before .loop .procedure) ≡ not
+    (c .closed-expression .result)
 seen c =
     let s = c .before .before .before .before .before .before in
-    opens (s .pre .0) _ (c .before .before .before .loop-test .taken) (s .pre .1) (c .before .root .ensures) (c .before .before .parameters .ensures) (c .closed-expression .ensures)
+    opens (s .pre .0) _ (c .before .before .before .loop-test .taken) (s .pre .1) (c .before .root .ensures) (c .before .before .parameters .ensures)
+    (c .closed-expression .ensures)
 
 returns : tie.Need-returns Inv-loop μ-loop
-returns c = found _ _ _ (c .before .before .before .before .loop-test .taken) (seen (c .before) ∙ c .if1 .taken) (c .before .before .before .before .before .loop .inv .1)
+returns c = found _ _ _ (c .before .before .before .before .loop-test .taken) (seen (c .before) ∙ c .if1 .taken)
+    (c .before .before .before .before .before .loop .inv .1)
 
 add-procedure : tie.Need-add-procedure Inv-loop μ-loop
 add-procedure c = search needs

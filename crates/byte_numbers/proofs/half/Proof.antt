@@ -32,8 +32,12 @@ add-result c = search needs
 returns : tie.Need-returns
 returns c =
     let a = c .before .before .before .before .before .args in
-    let g : (j : ℕ) → getD (a .bytes .now) j 0 < 256 = λ j. (c .before .shared-slice-known3 .given j) .fits in
-    (rw (c .before .before .wide .ensures .0, c .wide2 .ensures .0) (sym (joined (a .bytes .now) (a .at * 8) ((a .at + 1) * 8) 8 8 _ _ (byte-at (a .bytes .now) (a .at) (g (a .at))) (byte-at (a .bytes .now) (a .at + 1) (g (a .at + 1))) (omega arith))), omega arith)
+    let g : (j : ℕ) → getD (a .bytes .now) j 0 < 256 = λ j. (c .before .shared-slice-known3 .given j) .fits in (
+      rw (c .before .before .wide .ensures .0, c .wide2 .ensures .0)
+          (sym (joined (a .bytes .now) (a .at * 8) ((a .at + 1) * 8) 8 8 _ _ (byte-at (a .bytes .now) (a .at) (g (a .at)))
+          (byte-at (a .bytes .now) (a .at + 1) (g (a .at + 1))) (omega arith))),
+      omega arith,
+    )
 
 pub half-spec : {M : Type 1} → statement M
 half-spec =

@@ -19,17 +19,22 @@ write-requires : tie.Need-write-requires
 write-requires c κs =
     let a = c .before .before .before .before .before .before .before .before .args in
     let e = c .before .before .enum-told .given .1 in
-    let n = passes-both (a .plan .now) (a .area .now) (passed-none (a .plan .now) (a .area .now) _ (c .before .before .before .before .refusal .ensures .0 (a .area .now) refl) e) in
+    let n = passes-both (a .plan .now) (a .area .now)
+    (passed-none (a .plan .now) (a .area .now) _ (c .before .before .before .before .refusal .ensures .0 (a .area .now) refl) e) in
     record { passes = n .0; loaded = c .before .before .before .before .refusal .ensures .1 e; long = n .1 }
 
 returns : tie.Need-returns
-returns c = let a = c .before .before .before .before .before .before .before .args in refused-answer (a .plan .now) (a .area .now) _ _ _ (c .before .before .before .refusal .ensures .0 (a .area .now) refl) (c .before .checked .given .1)
+returns c = let a = c .before .before .before .before .before .before .before .args in
+    refused-answer (a .plan .now) (a .area .now) _ _ _ (c .before .before .before .refusal .ensures .0 (a .area .now) refl) (c .before .checked .given .1)
 
 same-length : tie.Need-same-length
 same-length c = search needs
 
 returns-2 : tie.Need-returns-2
-returns-2 c = let a = c .before .before .before .before .before .before .before .before .before .before .before .args in written-answer (a .plan .now) (a .area .now) (passed-none (a .plan .now) (a .area .now) _ (c .before .before .before .before .before .before .before .refusal .ensures .0 (a .area .now) refl) (c .before .before .before .before .before .enum-told .given .1)) (c .before .before .write .ensures)
+returns-2 c = let a = c .before .before .before .before .before .before .before .before .before .before .before .args in
+    written-answer (a .plan .now) (a .area .now)
+    (passed-none (a .plan .now) (a .area .now) _ (c .before .before .before .before .before .before .before .refusal .ensures .0 (a .area .now) refl)
+    (c .before .before .before .before .before .enum-told .given .1)) (c .before .before .write .ensures)
 
 pub canonical-spec : {M : Type 1} → statement M
 canonical-spec =

@@ -21,10 +21,17 @@ refused-requires : tie.Need-refused-requires
 refused-requires c κs = search needs
 
 returns-2 : tie.Need-returns-2
-returns-2 c = (λ a e. by-area _ a _ (c .refused .result) (c .before .before .before .before .load .ensures .0) (c .before .before .enum-told .given .1) (rw e (c .before .if1 .taken)) (c .refused .ensures), λ q. passed-refused q (c .refused .ensures))
+returns-2 c = (
+  λ a e. by-area _ a _ (c .refused .result) (c .before .before .before .before .load .ensures .0) (c .before .before .enum-told .given .1)
+      (rw e (c .before .if1 .taken)) (c .refused .ensures),
+  λ q. passed-refused q (c .refused .ensures),
+)
 
 returns-3 : tie.Need-returns-3
-returns-3 c = (λ a e. by-none _ a _ (c .before .before .before .load .ensures .0) (c .before .enum-told .given .1) (rw e (c .if1 .left)), c .before .before .before .load .ensures .1)
+returns-3 c = (
+  λ a e. by-none _ a _ (c .before .before .before .load .ensures .0) (c .before .enum-told .given .1) (rw e (c .if1 .left)),
+  c .before .before .before .load .ensures .1,
+)
 
 pub refusal-spec : {M : Type 1} → statement M
 refusal-spec =

@@ -24,7 +24,8 @@ returns : tie.Need-returns
 returns c =
     let s = c .before .before .before .before .before .before .before .before .before .before .before in
     let k = c .before .before .before .before .before .before .before .before .before .before .shared-slice-known .given in
-    c .before .before .write-trees .ensures ∙ ap (treesWritten _ 0 0) (c .before .before .before .before .before .before .copy-header .ensures) ∙ area-whole (s .args .plan .now) (s .args .area .now) (λ j. let f = k j in omega arith) (s .pre .passes) (s .pre .long)
+    c .before .before .write-trees .ensures ∙ ap (treesWritten _ 0 0) (c .before .before .before .before .before .before .copy-header .ensures)
+    ∙ area-whole (s .args .plan .now) (s .args .area .now) (λ j. let f = k j in omega arith) (s .pre .passes) (s .pre .long)
 
 pub write-spec : {M : Type 1} → statement M
 write-spec =

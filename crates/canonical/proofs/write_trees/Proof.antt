@@ -36,17 +36,21 @@ parameters-requires c κs =
     (omega (arith, s .pre .1), omega (arith, s .pre .1, sized _ _ (s .pre .0)))
 
 mul-put-procedure : tie.Need-mul-put-procedure Inv-loop μ-loop
-mul-put-procedure c = let q = few _ _ (c .before .before .before .before .before .before .pre .0) in omega (arith, c .before .before .before .before .before .before .pre .1)
+mul-put-procedure c = let q = few _ _ (c .before .before .before .before .before .before .pre .0) in
+    omega (arith, c .before .before .before .before .before .before .pre .1)
 
 add-put-procedure : tie.Need-add-put-procedure Inv-loop μ-loop
-add-put-procedure c = let q = few _ _ (c .before .before .before .before .before .before .pre .0) in omega (arith, c .before .before .before .before .before .before .pre .1)
+add-put-procedure c = let q = few _ _ (c .before .before .before .before .before .before .pre .0) in
+    omega (arith, c .before .before .before .before .before .before .pre .1)
 
 put-procedure-requires : tie.Need-put-procedure-requires Inv-loop μ-loop
 put-procedure-requires c κs =
     let s = c .before .before .before .before .before .before in
     let l = c .before .before .before .loop in
-    let h = below (c .before .before .loop-test .taken) (s .pre .1) in
-    (omega (arith, few _ _ (s .pre .0), sized _ _ (s .pre .0), s .pre .0 .long, kept _ _ (s .pre .0) (l .inv)), (rw (c .before .parameters .ensures) (parameters-small _ _ (s .pre .0) (l .inv) h), omega (arith, number-inside _ _ (s .pre .0) (l .inv) h)))
+    let h = below (c .before .before .loop-test .taken) (s .pre .1) in (
+      omega (arith, few _ _ (s .pre .0), sized _ _ (s .pre .0), s .pre .0 .long, kept _ _ (s .pre .0) (l .inv)),
+      (rw (c .before .parameters .ensures) (parameters-small _ _ (s .pre .0) (l .inv) h), omega (arith, number-inside _ _ (s .pre .0) (l .inv) h)),
+    )
 
 root-requires : tie.Need-root-requires Inv-loop μ-loop
 root-requires c κs =
@@ -59,10 +63,15 @@ write-expression-requires c κs =
     let s = c .before .before .before .before .before .before .before .before .before .before .before in
     let l = c .before .before .before .before .before .before .before .before .loop in
     let h = below (c .before .before .before .before .before .before .before .loop-test .taken) (s .pre .1) in
-    rw (c .before .root .ensures, s .pre .1) ((in-order _ _ (s .pre .0), root-inside _ _ (s .pre .0) (l .inv) h), room _ _ (s .pre .0) (l .inv) h (two-keeps _ _ _ (c .before .before .before .before .put-procedure .ensures)))
+    rw (c .before .root .ensures, s .pre .1) (
+      (in-order _ _ (s .pre .0), root-inside _ _ (s .pre .0) (l .inv) h),
+      room _ _ (s .pre .0) (l .inv) h (two-keeps _ _ _ (c .before .before .before .before .put-procedure .ensures)),
+    )
 
 add-procedure : tie.Need-add-procedure Inv-loop μ-loop
-add-procedure c = let q = few _ _ (c .before .before .before .before .before .before .before .before .before .before .before .before .before .before .pre .0) in omega (arith, c .before .before .before .before .before .before .before .before .before .before .before .before .before .before .pre .1)
+add-procedure c = let q =
+    few _ _ (c .before .before .before .before .before .before .before .before .before .before .before .before .before .before .pre .0) in
+    omega (arith, c .before .before .before .before .before .before .before .before .before .before .before .before .before .before .pre .1)
 
 loop-less : tie.Need-loop-less Inv-loop μ-loop
 loop-less c = omega arith
@@ -72,7 +81,10 @@ loop-again c =
     let s = c .before .before .before .before .before .before .before .before .before .before .before .before .before .before in
     let l = c .before .before .before .before .before .before .before .before .before .before .before .loop in
     let h = below (c .before .before .before .before .before .before .before .before .before .before .loop-test .taken) (s .pre .1) in
-    next _ _ (s .pre .0) (l .inv) h (rw (c .before .before .before .before .before .before .before .before .before .parameters .ensures) at (c .before .before .before .before .before .before .before .put-procedure .ensures)) (rw (c .before .before .before .before .root .ensures, s .pre .1) at (c .before .before .write-expression .ensures))
+    next _ _ (s .pre .0) (l .inv) h
+    (rw (c .before .before .before .before .before .before .before .before .before .parameters .ensures) at
+    (c .before .before .before .before .before .before .before .put-procedure .ensures))
+    (rw (c .before .before .before .before .root .ensures, s .pre .1) at (c .before .before .write-expression .ensures))
 
 same-length : tie.Need-same-length Inv-loop μ-loop
 same-length c = kept _ _ (c .before .before .before .before .pre .0) (c .before .loop .inv)

@@ -10,7 +10,8 @@ use Rattle.clocks.proofs.advanced.Statement.{statement}
 use Rattle.clocks.proofs.advanced.Tie as tie
 
 abbrev Inv-loop : tie.InvT-loop
-Inv-loop own heard one clocks₀ u₀ clocks u = (u ≤ 8) × (length clocks ≡ 8) × ((k : ℕ) → k < u → getD clocks k 0 ≡ max (clockOf own k) (clockOf heard k) + clockOf one k)
+Inv-loop own heard one clocks₀ u₀ clocks u =
+    (u ≤ 8) × (length clocks ≡ 8) × ((k : ℕ) → k < u → getD clocks k 0 ≡ max (clockOf own k) (clockOf heard k) + clockOf one k)
 
 abbrev μ-loop : tie.MeasureT-loop
 μ-loop own heard one clocks₀ u₀ clocks u = 8 - u
@@ -43,7 +44,13 @@ add-clocks : tie.Need-add-clocks Inv-loop μ-loop
 add-clocks c =
     let l = c .before .before .loop in
     let st = c .before .before .before in
-    omega (arith, c .higher .ensures, st .pre .0 .most (l .thread) (omega arith), st .pre .1 .0 .most (l .thread) (omega arith), st .pre .1 .1 .most (l .thread) (omega arith))
+    omega (
+      arith,
+      c .higher .ensures,
+      st .pre .0 .most (l .thread) (omega arith),
+      st .pre .1 .0 .most (l .thread) (omega arith),
+      st .pre .1 .1 .most (l .thread) (omega arith),
+    )
 
 mul-clocks-2 : tie.Need-mul-clocks-2 Inv-loop μ-loop
 mul-clocks-2 c = search needs
@@ -60,8 +67,13 @@ loop-less c = search needs
 loop-again : tie.Need-loop-again Inv-loop μ-loop
 loop-again c =
     let l = c .before .before .loop in
-    let a = c .before .before .before .args in
-    (omega arith, simp length-set (l .inv .1), filled {A = ℕ} (l .clocks) (l .thread) (c .higher .result + clockOf (a .t3) (l .thread)) 0 (λ (k x : ℕ). x ≡ max (clockOf (a .t1) k) (clockOf (a .t2) k) + clockOf (a .t3) k) (omega arith) (l .inv .2) (ap (λ (x : ℕ). x + clockOf (a .t3) (l .thread)) (c .higher .ensures)))
+    let a = c .before .before .before .args in (
+      omega arith,
+      simp length-set (l .inv .1),
+      filled {A = ℕ} (l .clocks) (l .thread) (c .higher .result + clockOf (a .t3) (l .thread)) 0
+          (λ (k x : ℕ). x ≡ max (clockOf (a .t1) k) (clockOf (a .t2) k) + clockOf (a .t3) k) (omega arith) (l .inv .2)
+          (ap (λ (x : ℕ). x + clockOf (a .t3) (l .thread)) (c .higher .ensures)),
+    )
 
 returns : tie.Need-returns Inv-loop μ-loop
 returns c = record { clocks-are = λ u h. c .before .loop .inv .2 u (omega arith) }

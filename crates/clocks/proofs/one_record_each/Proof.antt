@@ -35,8 +35,12 @@ loop-less c = search needs
 
 loop-again : tie.Need-loop-again Inv-loop μ-loop
 loop-again c =
-    let l = c .before .before .loop in
-    (omega arith, simp length-set (l .inv .1), filled {A = Row} (l .rows) (l .thread) (c .one-record .result) noRow One (omega arith) (l .inv .2) (c .one-record .ensures))
+    let l = c .before .before .loop in (
+      omega arith,
+      simp length-set (l .inv .1),
+      filled {A = Row} (l .rows) (l .thread) (c .one-record .result) noRow One (omega arith) (l .inv .2)
+          (c .one-record .ensures),
+    )
 
 returns : tie.Need-returns Inv-loop μ-loop
 returns c = record { each = λ t h. c .before .loop .inv .2 t (omega arith) }

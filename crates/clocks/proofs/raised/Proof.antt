@@ -48,8 +48,12 @@ loop-less c = search needs
 loop-again : tie.Need-loop-again Inv-loop μ-loop
 loop-again c =
     let l = c .before .before .loop in
-    let a = c .before .before .before .args in
-    (omega arith, simp length-set (l .inv .1), filled {A = ℕ} (l .clocks) (l .thread) (c .higher .result) 0 (λ (k x : ℕ). x ≡ max (clockOf (a .t1) k) (clockOf (a .t2) k)) (omega arith) (l .inv .2) (c .higher .ensures))
+    let a = c .before .before .before .args in (
+      omega arith,
+      simp length-set (l .inv .1),
+      filled {A = ℕ} (l .clocks) (l .thread) (c .higher .result) 0 (λ (k x : ℕ). x ≡ max (clockOf (a .t1) k) (clockOf (a .t2) k)) (omega arith) (l .inv .2)
+          (c .higher .ensures),
+    )
 
 returns : tie.Need-returns Inv-loop μ-loop
 returns c = record { clocks-are = λ u h. c .before .loop .inv .2 u (omega arith) }

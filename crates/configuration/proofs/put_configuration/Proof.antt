@@ -27,8 +27,11 @@ unfolding ascii
 returns c =
     let w = c .before .before .before .before .before .before .before .before .before .before .put-word .ensures in
     let v = c .before .before .before .before .before .before .put-channels .ensures in
-    let u = c .before .before .put-last .ensures in
-    (added-as (whole-is (c .before .before .before .before .before .before .before .before .before .before .before .before .before .before .args .samples)) (added-more (added-more (added-as head-is w) (v .0)) (u .0)), omega (arith, w .next, v .1, u .1))
+    let u = c .before .before .put-last .ensures in (
+      added-as (whole-is (c .before .before .before .before .before .before .before .before .before .before .before .before .before .before .args .samples))
+          (added-more (added-more (added-as head-is w) (v .0)) (u .0)),
+      omega (arith, w .next, v .1, u .1),
+    )
 
 pub put-configuration-spec : {M : Type 1} → statement M
 put-configuration-spec =

@@ -15,7 +15,8 @@ put-word-requires : tie.Need-put-word-requires
 put-word-requires c κs = search needs
 
 put-number-requires : tie.Need-put-number-requires
-put-number-requires c κs = let w = c .before .before .before .put-word .ensures in omega (arith, w .next, w .kept, few-digits 3 (c .before .before .before .before .before .before .before .args .samples) (omega arith))
+put-number-requires c κs = let w = c .before .before .before .put-word .ensures in
+    omega (arith, w .next, w .kept, few-digits 3 (c .before .before .before .before .before .before .before .args .samples) (omega arith))
 
 slice-aggregate-put-word-2 : tie.Need-slice-aggregate-put-word-2
 slice-aggregate-put-word-2 c = search needs
@@ -24,7 +25,14 @@ put-word-requires-2 : tie.Need-put-word-requires-2
 put-word-requires-2 c κs =
     let w = c .before .before .before .before .before .before .before .before .put-word .ensures in
     let v = c .before .before .before .before .put-number .ensures in
-    omega (arith, w .next, w .kept, v .next, v .kept, few-digits 3 (c .before .before .before .before .before .before .before .before .before .before .before .before .args .samples) (omega arith))
+    omega (
+      arith,
+      w .next,
+      w .kept,
+      v .next,
+      v .kept,
+      few-digits 3 (c .before .before .before .before .before .before .before .before .before .before .before .before .args .samples) (omega arith),
+    )
 
 slice-aggregate-put-word-3 : tie.Need-slice-aggregate-put-word-3
 slice-aggregate-put-word-3 c = search needs
@@ -34,7 +42,17 @@ put-word-requires-3 c κs =
     let w = c .before .before .before .before .before .before .before .before .before .before .before .before .before .put-word .ensures in
     let v = c .before .before .before .before .before .before .before .before .before .put-number .ensures in
     let u = c .before .before .before .before .put-word2 .ensures in
-    omega (arith, w .next, w .kept, v .next, v .kept, u .next, u .kept, few-digits 3 (c .before .before .before .before .before .before .before .before .before .before .before .before .before .before .before .before .before .args .samples) (omega arith))
+    omega (
+      arith,
+      w .next,
+      w .kept,
+      v .next,
+      v .kept,
+      u .next,
+      u .kept,
+      few-digits 3 (c .before .before .before .before .before .before .before .before .before .before .before .before .before .before .before .before
+          .before .args .samples) (omega arith),
+    )
 
 same-length : tie.Need-same-length
 same-length c = search needs
@@ -42,11 +60,24 @@ same-length c = search needs
 returns : tie.Need-returns
 unfolding ascii
 returns c =
-    let w = c .before .before .before .before .before .before .before .before .before .before .before .before .before .before .before .before .put-word .ensures in
+    let w = c .before .before .before .before .before .before .before .before .before .before .before .before .before .before .before
+    .before .put-word .ensures in
     let v = c .before .before .before .before .before .before .before .before .before .before .before .before .put-number .ensures in
     let u = c .before .before .before .before .before .before .before .put-word2 .ensures in
-    let t = c .before .before .put-word3 .ensures in
-    (added-as (last-parts (c .before .before .before .before .before .before .before .before .before .before .before .before .before .before .before .before .before .before .before .before .args .samples)) (added-more (added-more (added-more w v) u) t), omega (arith, w .next, v .next, u .next, t .next, few-digits 3 (c .before .before .before .before .before .before .before .before .before .before .before .before .before .before .before .before .before .before .before .before .args .samples) (omega arith)))
+    let t = c .before .before .put-word3 .ensures in (
+      added-as (last-parts
+          (c .before .before .before .before .before .before .before .before .before .before .before .before .before .before .before .before .before .before
+          .before .before .args .samples)) (added-more (added-more (added-more w v) u) t),
+      omega (
+        arith,
+        w .next,
+        v .next,
+        u .next,
+        t .next,
+        few-digits 3 (c .before .before .before .before .before .before .before .before .before .before .before .before .before .before .before .before
+            .before .before .before .before .args .samples) (omega arith),
+      ),
+    )
 
 pub put-last-spec : {M : Type 1} → statement M
 put-last-spec =

@@ -23,7 +23,14 @@ returns c =
       field-is = omega (arith, field-of-word b i);
       value-is = omega (arith, value-of-word b i);
       spare-is = omega (arith, spare-of-word b i);
-      narrow = record { kind-below = omega (arith, w .1); thread-below = omega arith; object-below = omega arith; field-below = omega arith; value-below = omega arith };
+      narrow = record {
+        kind-below = omega (arith, w .1);
+        thread-below = omega arith;
+        object-below = omega arith;
+        field-below = omega arith;
+        value-below =
+            omega arith;
+      };
     }
 
 pub columns-at-spec : {M : Type 1} → statement M

@@ -28,7 +28,8 @@ wrong-procedure-requires c κs =
     (z .terms-are, omega (arith, z, procedures-lt (s .args .plan .now)), omega (arith, z))
 
 returns : tie.Need-returns Inv-loop μ-loop
-returns c = found (wrongProcedure (c .before .before .before .before .before .args .plan .now)) _ _ (c .before .before .loop-test .taken) (sym (c .before .wrong-procedure .ensures) ∙ c .if1 .taken) (c .before .before .before .loop .inv .1)
+returns c = found (wrongProcedure (c .before .before .before .before .before .args .plan .now)) _ _ (c .before .before .loop-test .taken)
+    (sym (c .before .wrong-procedure .ensures) ∙ c .if1 .taken) (c .before .before .before .loop .inv .1)
 
 add-procedure : tie.Need-add-procedure Inv-loop μ-loop
 add-procedure c = search needs

@@ -26,8 +26,10 @@ volatiles-requires c κs = search needs
 -- the check is these tests of the numbers that were read
 are : (c : tie.After-volatiles)
     → wrongHeader (c .before .before .before .before .before .before .args .plan .now)
-    ≡ headerTests (c .before .before .before .before .version .result) (c .before .before .before .procedures .result) (c .before .before .terms .result) (c .before .spare .result) (c .volatiles .result)
-are c = header-tests _ _ _ _ _ _ (c .before .before .before .before .version .ensures) (c .before .before .before .procedures .ensures) (c .before .before .terms .ensures) (c .before .spare .ensures) (c .volatiles .ensures)
+    ≡ headerTests (c .before .before .before .before .version .result) (c .before .before .before .procedures .result) (c .before .before .terms .result)
+    (c .before .spare .result) (c .volatiles .result)
+are c = header-tests _ _ _ _ _ _ (c .before .before .before .before .version .ensures) (c .before .before .before .procedures .ensures)
+    (c .before .before .terms .ensures) (c .before .spare .ensures) (c .volatiles .ensures)
 
 returns : tie.Need-returns
 returns c = sym (are (c .before) ∙ rw (lt-ltb 1 _ (c .if1 .taken)))
@@ -36,20 +38,50 @@ returns-2 : tie.Need-returns-2
 returns-2 c = sym (are (c .before .before) ∙ rw (le-ltb 1 _ (c .before .if1 .left), lt-ltb _ 1 (c .if2 .taken)))
 
 returns-3 : tie.Need-returns-3
-returns-3 c = sym (are (c .before .before .before) ∙ rw (le-ltb 1 _ (c .before .before .if1 .left), le-ltb _ 1 (c .before .if2 .left), lt-ltb 32 _ (c .if3 .taken)))
+returns-3 c = sym (are (c .before .before .before)
+    ∙ rw (le-ltb 1 _ (c .before .before .if1 .left), le-ltb _ 1 (c .before .if2 .left), lt-ltb 32 _ (c .if3 .taken)))
 
 returns-4 : tie.Need-returns-4
-returns-4 c = sym (are (c .before .before .before .before) ∙ rw (le-ltb 1 _ (c .before .before .before .if1 .left), le-ltb _ 1 (c .before .before .if2 .left), le-ltb 32 _ (c .before .if3 .left), lt-ltb _ 1 (c .if4 .taken)))
+returns-4 c = sym (are (c .before .before .before .before)
+    ∙ rw (
+      le-ltb 1 _ (c .before .before .before .if1 .left),
+      le-ltb _ 1 (c .before .before .if2 .left),
+      le-ltb 32 _ (c .before .if3 .left),
+      lt-ltb _ 1 (c .if4 .taken),
+    ))
 
 returns-5 : tie.Need-returns-5
-returns-5 c = sym (are (c .before .before .before .before .before) ∙ rw (le-ltb 1 _ (c .before .before .before .before .if1 .left), le-ltb _ 1 (c .before .before .before .if2 .left), le-ltb 32 _ (c .before .before .if3 .left), le-ltb _ 1 (c .before .if4 .left), lt-ltb 1024 _ (c .if5 .taken)))
+returns-5 c = sym (are (c .before .before .before .before .before)
+    ∙ rw (
+      le-ltb 1 _ (c .before .before .before .before .if1 .left),
+      le-ltb _ 1 (c .before .before .before .if2 .left),
+      le-ltb 32 _ (c .before .before .if3 .left),
+      le-ltb _ 1 (c .before .if4 .left),
+      lt-ltb 1024 _ (c .if5 .taken),
+    ))
 
 returns-6 : tie.Need-returns-6
-returns-6 c = sym (are (c .before .before .before .before .before .before) ∙ rw (le-ltb 1 _ (c .before .before .before .before .before .if1 .left), le-ltb _ 1 (c .before .before .before .before .if2 .left), le-ltb 32 _ (c .before .before .before .if3 .left), le-ltb _ 1 (c .before .before .if4 .left), le-ltb 1024 _ (c .before .if5 .left), ne-eqb _ 0 (c .if6 .taken)))
+returns-6 c = sym (are (c .before .before .before .before .before .before)
+    ∙ rw (
+      le-ltb 1 _ (c .before .before .before .before .before .if1 .left),
+      le-ltb _ 1 (c .before .before .before .before .if2 .left),
+      le-ltb 32 _ (c .before .before .before .if3 .left),
+      le-ltb _ 1 (c .before .before .if4 .left),
+      le-ltb 1024 _ (c .before .if5 .left),
+      ne-eqb _ 0 (c .if6 .taken),
+    ))
 
 returns-7 : tie.Need-returns-7
 unfolding maskBit
-returns-7 c = sym (are (c .before .before .before .before .before .before) ∙ rw (le-ltb 1 _ (c .before .before .before .before .before .if1 .left), le-ltb _ 1 (c .before .before .before .before .if2 .left), le-ltb 32 _ (c .before .before .before .if3 .left), le-ltb _ 1 (c .before .before .if4 .left), le-ltb 1024 _ (c .before .if5 .left), eq-eqb _ 0 (c .if6 .left)))
+returns-7 c = sym (are (c .before .before .before .before .before .before)
+    ∙ rw (
+      le-ltb 1 _ (c .before .before .before .before .before .if1 .left),
+      le-ltb _ 1 (c .before .before .before .before .if2 .left),
+      le-ltb 32 _ (c .before .before .before .if3 .left),
+      le-ltb _ 1 (c .before .before .if4 .left),
+      le-ltb 1024 _ (c .before .if5 .left),
+      eq-eqb _ 0 (c .if6 .left),
+    ))
 
 pub wrong-header-spec : {M : Type 1} → statement M
 wrong-header-spec =

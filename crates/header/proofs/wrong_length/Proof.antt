@@ -28,7 +28,11 @@ mul-result-2 : tie.Need-mul-result-2
 mul-result-2 c = omega (arith, terms-lt (c .before .before .before .before .args .plan .now))
 
 add-result-2 : tie.Need-add-result-2
-add-result-2 c = omega (arith, procedures-lt (c .before .before .before .before .args .plan .now), terms-lt (c .before .before .before .before .args .plan .now))
+add-result-2 c = omega (
+  arith,
+  procedures-lt (c .before .before .before .before .args .plan .now),
+  terms-lt (c .before .before .before .before .args .plan .now),
+)
 
 returns-2 : tie.Need-returns-2
 unfolding wrongLength planLength

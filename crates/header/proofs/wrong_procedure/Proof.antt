@@ -18,7 +18,8 @@ returns c =
     let s = c .before .before .before in
     let a = s .args in
     let k = c .before .parameters in
-    sym (procedure-tests (a .plan .now) (a .procedure) (k .result) (a .count) (root (a .plan .now) (a .procedure)) (k .ensures) (s .pre .0) refl ∙ rw (lt-ltb 8 (k .result) (c .if1 .taken)))
+    sym (procedure-tests (a .plan .now) (a .procedure) (k .result) (a .count) (root (a .plan .now) (a .procedure)) (k .ensures) (s .pre .0) refl
+    ∙ rw (lt-ltb 8 (k .result) (c .if1 .taken)))
 
 returns-2 : tie.Need-returns-2
 returns-2 c =

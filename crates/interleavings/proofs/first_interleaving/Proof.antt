@@ -56,7 +56,8 @@ returns-4 c =
     let p = s .before .before in
     let a = began p .args in
     let x = p .before .before .load in
-    first-written (a .plan .now) (a .n) (a .area .now) (x .result) (x .ensures .0) (p .enum-told .given .1) (s .before .if1 .left) (s .if2 .left) _ (f .result) (f .ensures)
+    first-written (a .plan .now) (a .n) (a .area .now) (x .result) (x .ensures .0) (p .enum-told .given .1) (s .before .if1 .left) (s .if2 .left) _
+    (f .result) (f .ensures)
 
 pub first-interleaving-spec : {M : Type 1} → statement M
 first-interleaving-spec =

@@ -56,7 +56,8 @@ module _ (c : tie.After-put-byte) where
   abbrev from-turn : tie.After-known-told
   from-turn = c .before .before .before .before .before .before .before
 
-  first-picks : Wrote (began from-turn .args .area .now) 0 (take (place from-turn - 0) (began from-turn .args .schedule .now) ++ (pick from-turn ∷ [])) (c .put-byte .last .0) (c .put-byte .result)
+  first-picks : Wrote (began from-turn .args .area .now) 0 (take (place from-turn - 0) (began from-turn .args .schedule .now) ++ (pick from-turn ∷ []))
+      (c .put-byte .last .0) (c .put-byte .result)
   first-picks = added-more (c .before .before .before .before .put-word .ensures) (c .put-byte .ensures)
 
 sub-put-word : tie.Need-sub-put-word
@@ -75,7 +76,13 @@ cast-put-byte : tie.Need-cast-put-byte
 cast-put-byte c = record { fits = omega (arith, turns (c .before .before .before .before .before .before) .of-eight) }
 
 put-byte-requires : tie.Need-put-byte-requires
-put-byte-requires c κs = omega (arith, room (c .before .before .before .before .before .before), c .before .before .before .put-word .ensures .next, c .before .before .before .put-word .ensures .kept)
+put-byte-requires c κs =
+    omega (
+      arith,
+      room (c .before .before .before .before .before .before),
+      c .before .before .before .put-word .ensures .next,
+      c .before .before .before .put-word .ensures .kept,
+    )
 
 go-on-requires : tie.Need-go-on-requires
 go-on-requires c κs =

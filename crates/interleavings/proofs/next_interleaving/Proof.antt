@@ -60,7 +60,8 @@ returns-3 c =
     let p = k .before in
     let a = began p .args in
     let x = p .before .before .schedule-refusal in
-    next-short (a .plan .now) (a .n) (a .schedule .now) (a .area .now) (x .result) (x .ensures .0) (p .enum-told .given .1) (k .if1 .left) (listed-one (c .before)) (c .if3 .taken)
+    next-short (a .plan .now) (a .n) (a .schedule .now) (a .area .now) (x .result) (x .ensures .0) (p .enum-told .given .1) (k .if1 .left)
+    (listed-one (c .before)) (c .if3 .taken)
 
 following-requires : tie.Need-following-requires
 following-requires c κs =

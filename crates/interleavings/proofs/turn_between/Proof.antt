@@ -64,7 +64,8 @@ loop-again c =
     let a = p .before .before .before .args in (
       omega (arith, p .loop .inv .0),
       none-from (programOf (a .plan .now)) (a .schedule .now) (p .loop .place - 1)
-          (none-higher-at (programOf (a .plan .now)) (a .schedule .now) (p .loop .place - 1) (c .before .next-pick .result) (c .before .next-pick .ensures) (c .if1 .left))
+          (none-higher-at (programOf (a .plan .now)) (a .schedule .now) (p .loop .place - 1) (c .before .next-pick .result) (c .before .next-pick .ensures)
+          (c .if1 .left))
           (λ j h b. p .loop .inv .1 j (omega arith) b),
     )
 

@@ -18,11 +18,14 @@ lowest-wrong-requires : tie.Need-lowest-wrong-requires
 lowest-wrong-requires c κs = search needs
 
 returns-2 : tie.Need-returns-2
-returns-2 c = refuses (refused-record (c .before .before .before .before .before .args .log .now) (c .before .lowest-wrong .result) (sym (c .before .before .if1 .left) ∙ c .before .before .before .wrong-length .ensures) (c .before .lowest-wrong .ensures) (c .if2 .taken))
+returns-2 c = refuses
+    (refused-record (c .before .before .before .before .before .args .log .now) (c .before .lowest-wrong .result)
+    (sym (c .before .before .if1 .left) ∙ c .before .before .before .wrong-length .ensures) (c .before .lowest-wrong .ensures) (c .if2 .taken))
 
 -- past both tests nothing refuses the log
 passed : (p : tie.Else2) → logRefusal (p .before .before .before .before .before .args .log .now) ≡ none
-passed p = not-refused (p .before .before .before .before .before .args .log .now) (p .before .lowest-wrong .result) (sym (p .before .before .if1 .left) ∙ p .before .before .before .wrong-length .ensures) (p .before .lowest-wrong .ensures) (p .if2 .left)
+passed p = not-refused (p .before .before .before .before .before .args .log .now) (p .before .lowest-wrong .result)
+    (sym (p .before .before .if1 .left) ∙ p .before .before .before .wrong-length .ensures) (p .before .lowest-wrong .ensures) (p .if2 .left)
 
 short-requires : tie.Need-short-requires
 short-requires c κs = (passed (c .before), c .if3 .taken)

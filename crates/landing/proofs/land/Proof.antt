@@ -44,12 +44,19 @@ took : (c : tie.After-step Inv-loop μ-loop) → c .step .result ≡ turn (c .be
 took c = simp (c .step .ensures, c .before .before .top .ensures .0)
 
 -- the place of the frame is a place
-place : (c : tie.After-struct-known2 Inv-loop μ-loop) → base (c .before .before .before .before .before .before .before .before .before .before .before) + c .before .before .before .before .before .step .result .at < 297
-place c = omega (arith, inside (c .before .before .before .before .before), c .before .before .before .before .before .before .before .before .before .before .before .loop .inv .2)
+place : (c : tie.After-struct-known2 Inv-loop μ-loop)
+    → base (c .before .before .before .before .before .before .before .before .before .before .before) +
+    c .before .before .before .before .before .step .result .at < 297
+place c = omega (
+  arith,
+  inside (c .before .before .before .before .before),
+  c .before .before .before .before .before .before .before .before .before .before .before .loop .inv .2,
+)
 
 -- the frames after the step
 keeps : (c : tie.Joined2 Inv-loop μ-loop)
-    → c .if2 .stack ≡ stored (stack (c .before .before .before .before .before .before .before .before .before)) (base (c .before .before .before .before .before .before .before .before .before)) (c .before .before .before .step .result)
+    → c .if2 .stack ≡ stored (stack (c .before .before .before .before .before .before .before .before .before))
+    (base (c .before .before .before .before .before .before .before .before .before)) (c .before .before .before .step .result)
 keeps c =
     ⊎-elim (λ w. simp (w .3, w .1 .ensures, lt-ltb _ _ (w .0 .taken))) (λ w. simp (w .1, le-ltb _ _ (w .0 .left))) (c .if2 .came)
 
@@ -66,7 +73,9 @@ returns : tie.Need-returns Inv-loop μ-loop
 returns c =
     let l = c .before .before .before .before in
     let e : liveOf (l .loop .go) ≡ false = sym (c .before .before .live .ensures) ∙ not-true _ (c .before .if1 .taken) in (
-      simp (c .end-at .ensures) (sym (halts (l .loop .left) (words l) (roots l) (base l) (stack l) (l .loop .go) (l .loop .depth) (c .before .before .before .loop-test .taken) e) ∙ l .loop .inv .3),
+      simp (c .end-at .ensures)
+          (sym (halts (l .loop .left) (words l) (roots l) (base l) (stack l) (l .loop .go) (l .loop .depth) (c .before .before .before .loop-test .taken) e)
+          ∙ l .loop .inv .3),
       simp (c .end-at .ensures) (l .loop .inv .1),
     )
 
@@ -120,11 +129,13 @@ loop-again c =
     let l = c .before .before .before .before .before .before .before .before .before .before in
     let s = c .before .before .before .before in
     let r = s .step .result in
-    let e : liveOf (l .loop .go) ≡ true = sym (c .before .before .before .before .before .before .before .before .live .ensures) ∙ not-false _ (c .before .before .before .before .before .before .before .if1 .left) in
+    let e : liveOf (l .loop .go) ≡ true = sym (c .before .before .before .before .before .before .before .before .live .ensures)
+    ∙ not-false _ (c .before .before .before .before .before .before .before .if1 .left) in
     let q : _ ≡ landOf (l .loop .left) (words l) (roots l) (base l) (stack l) (l .loop .go) (l .loop .depth) =
     ap (λ (k : Stack). landOf (l .loop .left - 1) (words l) (roots l) (base l) k (r .go) (r .depth)) (keeps (c .before))
     ∙ ap (λ (r : Turn). landOf (l .loop .left - 1) (words l) (roots l) (base l) (stored (stack l) (base l) r) (r .go) (r .depth)) (took s)
-    ∙ sym (goes (l .loop .left) (words l) (roots l) (base l) (stack l) (l .loop .go) (l .loop .depth) (c .before .before .before .before .before .before .before .before .before .loop-test .taken) e) in
+    ∙ sym (goes (l .loop .left) (words l) (roots l) (base l) (stack l) (l .loop .go) (l .loop .depth)
+    (c .before .before .before .before .before .before .before .before .before .loop-test .taken) e) in
     (omega (arith, l .loop .inv .0), inside s .0, l .loop .inv .2, q ∙ l .loop .inv .3)
 
 full-requires : tie.Need-full-requires Inv-loop μ-loop
@@ -137,7 +148,8 @@ returns-2 : tie.Need-returns-2 Inv-loop μ-loop
 returns-2 c =
     let l = c .before .before .before in
     let z : l .loop .left ≡ 0 = omega (arith, c .before .before .loop-test .left) in (
-      simp (c .end-at2 .ensures, c .before .full .ensures) (sym (spent (l .loop .left) (words l) (roots l) (base l) (stack l) (l .loop .go) (l .loop .depth) z) ∙ l .loop .inv .3),
+      simp (c .end-at2 .ensures, c .before .full .ensures)
+          (sym (spent (l .loop .left) (words l) (roots l) (base l) (stack l) (l .loop .go) (l .loop .depth) z) ∙ l .loop .inv .3),
       simp (c .end-at2 .ensures) (l .loop .inv .1),
     )
 

@@ -25,7 +25,14 @@ want-requires c κs = search needs
 
 returns : tie.Need-returns
 unfolding listOf listBy
-returns c = rw (← c .before .before .before .before .before .before .word .ensures, ← c .before .before .before .before .before .tag .ensures) (simp (c .want .ensures, c .before .first .ensures, c .before .before .rest .ensures, c .before .before .before .second .ensures, eq-eqb _ _ (c .before .before .before .before .if1 .taken)))
+returns c = rw (← c .before .before .before .before .before .before .word .ensures, ← c .before .before .before .before .before .tag .ensures)
+    (simp (
+      c .want .ensures,
+      c .before .first .ensures,
+      c .before .before .rest .ensures,
+      c .before .before .before .second .ensures,
+      eq-eqb _ _ (c .before .before .before .before .if1 .taken),
+    ))
 
 root-requires : tie.Need-root-requires
 root-requires c κs = search needs
@@ -38,7 +45,8 @@ at-requires c κs = search needs
 
 returns-2 : tie.Need-returns-2
 unfolding listOf listBy
-returns-2 c = rw (← c .before .before .before .before .before .word .ensures, ← c .before .before .before .before .tag .ensures) (simp (c .at .ensures, c .before .ready-of .ensures, c .before .before .root .ensures, ne-eqb _ _ (c .before .before .before .if1 .left)))
+returns-2 c = rw (← c .before .before .before .before .before .word .ensures, ← c .before .before .before .before .tag .ensures)
+    (simp (c .at .ensures, c .before .ready-of .ensures, c .before .before .root .ensures, ne-eqb _ _ (c .before .before .before .if1 .left)))
 
 pub list-spec : {M : Type 1} → statement M
 list-spec =

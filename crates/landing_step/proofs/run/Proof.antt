@@ -85,35 +85,91 @@ simple-requires c κs = search needs
 
 returns : tie.Need-returns
 unfolding runOf runBy
-returns c = rw (← c .before .before .before .before .before .before .tag .ensures) (simp (c .want .ensures, c .before .frame-of .ensures, c .before .before .before .field-of .ensures, c .before .before .before .before .before .first .ensures, c .before .before .match .keys1))
+returns c = rw (← c .before .before .before .before .before .before .tag .ensures)
+    (simp (
+      c .want .ensures,
+      c .before .frame-of .ensures,
+      c .before .before .before .field-of .ensures,
+      c .before .before .before .before .before .first .ensures,
+      c .before .before .match .keys1,
+    ))
 
 returns-2 : tie.Need-returns-2
 unfolding runOf runBy
-returns-2 c = rw (← c .before .before .before .before .before .before .before .tag .ensures) (simp (c .want2 .ensures, c .before .frame-of2 .ensures, c .before .before .write-second .ensures, c .before .before .before .before .field-of .ensures, c .before .before .before .before .before .before .first .ensures, c .before .before .before .match .keys2))
+returns-2 c = rw (← c .before .before .before .before .before .before .before .tag .ensures)
+    (simp (
+      c .want2 .ensures,
+      c .before .frame-of2 .ensures,
+      c .before .before .write-second .ensures,
+      c .before .before .before .before .field-of .ensures,
+      c .before .before .before .before .before .before .first .ensures,
+      c .before .before .before .match .keys2,
+    ))
 
 returns-3 : tie.Need-returns-3
 unfolding runOf runBy
-returns-3 c = rw (← c .before .before .before .before .before .before .before .before .before .tag .ensures) (simp (c .want3 .ensures, c .before .let-first .ensures, c .before .before .let-frame .ensures, c .before .before .before .let-second .ensures, c .before .before .before .before .slot-of .ensures, c .before .before .before .before .before .match .keys3))
+returns-3 c = rw (← c .before .before .before .before .before .before .before .before .before .tag .ensures)
+    (simp (
+      c .want3 .ensures,
+      c .before .let-first .ensures,
+      c .before .before .let-frame .ensures,
+      c .before .before .before .let-second .ensures,
+      c .before .before .before .before .slot-of .ensures,
+      c .before .before .before .before .before .match .keys3,
+    ))
 
 returns-4 : tie.Need-returns-4
 unfolding runOf runBy
-returns-4 c = rw (← c .before .before .before .before .before .before .before .tag .ensures) (simp (c .want-condition .ensures, c .before .frame-of3 .ensures, c .before .before .third .ensures, c .before .before .before .before .before .second .ensures, c .before .before .before .before .before .before .first .ensures, c .before .before .before .match .keys4))
+returns-4 c = rw (← c .before .before .before .before .before .before .before .tag .ensures)
+    (simp (
+      c .want-condition .ensures,
+      c .before .frame-of3 .ensures,
+      c .before .before .third .ensures,
+      c .before .before .before .before .before .second .ensures,
+      c .before .before .before .before .before .before .first .ensures,
+      c .before .before .before .match .keys4,
+    ))
 
 returns-5 : tie.Need-returns-5
 unfolding runOf runBy
-returns-5 c = rw (← c .before .before .before .before .before .before .before .before .tag .ensures) (simp (c .list .ensures, c .before .frame-of4 .ensures, c .before .before .procedure-of .ensures, c .before .before .before .list-of .ensures, c .before .before .before .before .match .keys5))
+returns-5 c = rw (← c .before .before .before .before .before .before .before .before .tag .ensures)
+    (simp (
+      c .list .ensures,
+      c .before .frame-of4 .ensures,
+      c .before .before .procedure-of .ensures,
+      c .before .before .before .list-of .ensures,
+      c .before .before .before .before .match .keys5,
+    ))
 
 returns-6 : tie.Need-returns-6
 unfolding runOf runBy
-returns-6 c = rw (← c .before .before .before .before .before .before .tag .ensures) (simp (c .want4 .ensures, c .before .frame-of5 .ensures, c .before .before .before .before .before .first .ensures, c .before .before .match .keys6))
+returns-6 c = rw (← c .before .before .before .before .before .before .tag .ensures)
+    (simp (c .want4 .ensures, c .before .frame-of5 .ensures, c .before .before .before .before .before .first .ensures, c .before .before .match .keys6))
 
 returns-7 : tie.Need-returns-7
 unfolding runOf runBy
-returns-7 c = rw (← c .before .before .before .before .before .before .tag .ensures) (simp (c .want5 .ensures, c .before .frame-of6 .ensures, c .before .before .before .before .second .ensures, c .before .before .before .before .before .first .ensures, c .before .before .match .keys7))
+returns-7 c = rw (← c .before .before .before .before .before .before .tag .ensures)
+    (simp (
+      c .want5 .ensures,
+      c .before .frame-of6 .ensures,
+      c .before .before .before .before .second .ensures,
+      c .before .before .before .before .before .first .ensures,
+      c .before .before .match .keys7,
+    ))
 
 returns-8 : tie.Need-returns-8
 unfolding runOf runBy
-returns-8 c = simp (c .simple .ensures) (rw (← c .before .before .before .before .before .tag .ensures) (simp (ne-eqb _ _ (c .before .match .rest .0 .0 .0 .0 .0 .0 .1), ne-eqb _ _ (c .before .match .rest .0 .0 .0 .0 .0 .1), ne-eqb _ _ (c .before .match .rest .0 .0 .0 .0 .1), ne-eqb _ _ (c .before .match .rest .0 .0 .0 .1), ne-eqb _ _ (c .before .match .rest .0 .0 .1), ne-eqb _ _ (c .before .match .rest .0 .1), ne-eqb _ _ (c .before .match .rest .1))))
+returns-8 c = simp (c .simple .ensures)
+    (rw (← c .before .before .before .before .before .tag .ensures)
+    (simp (
+      ne-eqb _ _ (c .before .match .rest .0 .0 .0 .0 .0 .0 .1),
+      ne-eqb _ _ (c .before .match .rest .0 .0 .0 .0 .0 .1),
+      ne-eqb _ _ (c .before .match .rest .0 .0 .0 .0 .1),
+      ne-eqb _ _ (c .before .match .rest .0 .0 .0 .1),
+      ne-eqb _ _ (c .before .match .rest .0 .0 .1),
+      ne-eqb _ _ (c .before .match .rest .0 .1),
+      ne-eqb _ _ (c .before .match .rest .1),
+    )))
 
 pub run-spec : {M : Type 1} → statement M
 run-spec =

@@ -47,19 +47,41 @@ returns c = rw (← c .before .before .before .before .tag .ensures) (simp (c .t
 
 returns-2 : tie.Need-returns-2
 unfolding runConditionOf runConditionBy
-returns-2 c = rw (← c .before .before .before .before .before .tag .ensures) (simp (c .want-condition .ensures, c .before .frame-of .ensures, c .before .before .before .before .first .ensures, c .before .before .match .keys2))
+returns-2 c = rw (← c .before .before .before .before .before .tag .ensures)
+    (simp (c .want-condition .ensures, c .before .frame-of .ensures, c .before .before .before .before .first .ensures, c .before .before .match .keys2))
 
 returns-3 : tie.Need-returns-3
 unfolding runConditionOf runConditionBy
-returns-3 c = rw (← c .before .before .before .before .before .tag .ensures) (simp (c .want-condition2 .ensures, c .before .frame-of2 .ensures, c .before .before .before .second .ensures, c .before .before .before .before .first .ensures, c .before .before .match .keys3))
+returns-3 c = rw (← c .before .before .before .before .before .tag .ensures)
+    (simp (
+      c .want-condition2 .ensures,
+      c .before .frame-of2 .ensures,
+      c .before .before .before .second .ensures,
+      c .before .before .before .before .first .ensures,
+      c .before .before .match .keys3,
+    ))
 
 returns-4 : tie.Need-returns-4
 unfolding runConditionOf runConditionBy
-returns-4 c = rw (← c .before .before .before .before .before .tag .ensures) (simp (c .want .ensures, c .before .frame-of3 .ensures, c .before .before .before .second .ensures, c .before .before .before .before .first .ensures, c .before .before .match .keys4))
+returns-4 c = rw (← c .before .before .before .before .before .tag .ensures)
+    (simp (
+      c .want .ensures,
+      c .before .frame-of3 .ensures,
+      c .before .before .before .second .ensures,
+      c .before .before .before .before .first .ensures,
+      c .before .before .match .keys4,
+    ))
 
 returns-5 : tie.Need-returns-5
 unfolding runConditionOf runConditionBy
-returns-5 c = simp (c .at .ensures, c .before .ready-of .ensures) (rw (← c .before .before .before .before .before .tag .ensures) (simp (ne-eqb _ _ (c .before .before .match .rest .0 .0 .0 .1), ne-eqb _ _ (c .before .before .match .rest .0 .0 .1), ne-eqb _ _ (c .before .before .match .rest .0 .1), ne-eqb _ _ (c .before .before .match .rest .1))))
+returns-5 c = simp (c .at .ensures, c .before .ready-of .ensures)
+    (rw (← c .before .before .before .before .before .tag .ensures)
+    (simp (
+      ne-eqb _ _ (c .before .before .match .rest .0 .0 .0 .1),
+      ne-eqb _ _ (c .before .before .match .rest .0 .0 .1),
+      ne-eqb _ _ (c .before .before .match .rest .0 .1),
+      ne-eqb _ _ (c .before .before .match .rest .1),
+    )))
 
 pub run-condition-spec : {M : Type 1} → statement M
 run-condition-spec =

@@ -58,7 +58,11 @@ unfolding signalOf signalBy
 returns-4 c =
     simp (c .at .ensures, c .before .ready-of .ensures)
     (rw (← c .before .before .before .before .tag .ensures)
-    (simp (ne-eqb _ _ (c .before .before .match .rest .0 .0 .1), ne-eqb _ _ (c .before .before .match .rest .0 .1), ne-eqb _ _ (c .before .before .match .rest .1))))
+    (simp (
+      ne-eqb _ _ (c .before .before .match .rest .0 .0 .1),
+      ne-eqb _ _ (c .before .before .match .rest .0 .1),
+      ne-eqb _ _ (c .before .before .match .rest .1),
+    )))
 
 pub signal-spec : {M : Type 1} → statement M
 signal-spec =

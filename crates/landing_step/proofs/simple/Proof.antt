@@ -55,15 +55,24 @@ signal-requires c κs = search needs
 
 returns : tie.Need-returns
 unfolding simpleOf simpleBy
-returns c = rw (← c .before .before .before .before .tag .ensures) (simp (c .at .ensures, c .before .ready-of .ensures, c .before .before .mask-of .ensures, c .before .before .before .match .keys1))
+returns c = rw (← c .before .before .before .before .tag .ensures)
+    (simp (c .at .ensures, c .before .ready-of .ensures, c .before .before .mask-of .ensures, c .before .before .before .match .keys1))
 
 returns-2 : tie.Need-returns-2
 unfolding simpleOf simpleBy
-returns-2 c = rw (← c .before .before .before .before .before .tag .ensures) (simp (c .at2 .ensures, c .before .ready-of2 .ensures, c .before .before .second .ensures, c .before .before .before .first .ensures, c .before .before .before .before .match .keys2))
+returns-2 c = rw (← c .before .before .before .before .before .tag .ensures)
+    (simp (
+      c .at2 .ensures,
+      c .before .ready-of2 .ensures,
+      c .before .before .second .ensures,
+      c .before .before .before .first .ensures,
+      c .before .before .before .before .match .keys2,
+    ))
 
 returns-3 : tie.Need-returns-3
 unfolding simpleOf simpleBy
-returns-3 c = rw (← c .before .before .before .before .tag .ensures) (simp (c .at3 .ensures, c .before .ready-of3 .ensures, c .before .before .first2 .ensures, c .before .before .before .match .keys3))
+returns-3 c = rw (← c .before .before .before .before .tag .ensures)
+    (simp (c .at3 .ensures, c .before .ready-of3 .ensures, c .before .before .first2 .ensures, c .before .before .before .match .keys3))
 
 returns-4 : tie.Need-returns-4
 unfolding simpleOf simpleBy
@@ -71,7 +80,8 @@ returns-4 c = rw (← c .before .before .tag .ensures) (simp (c .value .ensures,
 
 returns-5 : tie.Need-returns-5
 unfolding simpleOf simpleBy
-returns-5 c = rw (← c .before .before .before .before .tag .ensures) (simp (c .value2 .ensures, c .before .slot .ensures, c .before .before .slot-of .ensures, c .before .before .before .match .keys5))
+returns-5 c = rw (← c .before .before .before .before .tag .ensures)
+    (simp (c .value2 .ensures, c .before .slot .ensures, c .before .before .slot-of .ensures, c .before .before .before .match .keys5))
 
 returns-6 : tie.Need-returns-6
 unfolding simpleOf simpleBy

@@ -16,7 +16,8 @@ stay-requires c κs = search needs
 
 returns : tie.Need-returns
 unfolding wantConditionOf wantConditionBy
-returns c = rw (← c .before .before .before .truth .ensures) (simp (c .stay .ensures, c .before .feed-condition .ensures, lt-ltb _ _ (c .before .before .if1 .taken)))
+returns c = rw (← c .before .before .before .truth .ensures)
+    (simp (c .stay .ensures, c .before .feed-condition .ensures, lt-ltb _ _ (c .before .before .if1 .taken)))
 
 run-condition-requires : tie.Need-run-condition-requires
 run-condition-requires c κs = search needs
@@ -26,7 +27,8 @@ push-requires c κs = search needs
 
 returns-2 : tie.Need-returns-2
 unfolding wantConditionOf wantConditionBy
-returns-2 c = rw (← c .before .before .before .truth .ensures) (simp (c .push .ensures, c .before .run-condition .ensures, le-ltb _ _ (c .before .before .if1 .left)))
+returns-2 c = rw (← c .before .before .before .truth .ensures)
+    (simp (c .push .ensures, c .before .run-condition .ensures, le-ltb _ _ (c .before .before .if1 .left)))
 
 pub want-condition-spec : {M : Type 1} → statement M
 want-condition-spec =

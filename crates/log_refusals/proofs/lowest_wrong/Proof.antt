@@ -13,7 +13,8 @@ use Rattle.log_refusals.proofs.lowest_wrong.Statement.{statement}
 use Rattle.log_refusals.proofs.lowest_wrong.Tie as tie
 
 abbrev Inv-loop : tie.InvT-loop
-Inv-loop log count least fields values i₀ i = (i ≤ count) × (count ≡ length log / 3) × (least ≡ leastField) × (fields ≡ fieldEnd) × (values ≡ valueEnd) × ((k : ℕ) → k < i → wrongRecord log k ≡ false)
+Inv-loop log count least fields values i₀ i =
+    (i ≤ count) × (count ≡ length log / 3) × (least ≡ leastField) × (fields ≡ fieldEnd) × (values ≡ valueEnd) × ((k : ℕ) → k < i → wrongRecord log k ≡ false)
 
 abbrev μ-loop : tie.MeasureT-loop
 μ-loop log count least fields values i₀ i = count - i
@@ -22,11 +23,17 @@ loop-holds : tie.Need-loop-holds Inv-loop μ-loop
 loop-holds c = (omega arith, refl, refl, refl, refl, λ k h. absurd (omega arith))
 
 wrong-record-requires : tie.Need-wrong-record-requires Inv-loop μ-loop
-wrong-record-requires c κs = let kept = c .before .before .before .before .loop .inv in (omega (arith, kept .1, c .before .before .before .loop-test .taken), (kept .2, (kept .3, kept .4)))
+wrong-record-requires c κs = let kept = c .before .before .before .before .loop .inv in
+    (omega (arith, kept .1, c .before .before .before .loop-test .taken), (kept .2, (kept .3, kept .4)))
 
 returns : tie.Need-returns Inv-loop μ-loop
 unfolding recordCount
-returns c = record { within = omega arith; here = λ h. sym (c .before .wrong-record .ensures) ∙ c .if1 .taken; before = c .before .before .before .before .before .before .loop .inv .5 }
+returns c = record {
+  within = omega arith;
+  here = λ h. sym (c .before .wrong-record .ensures) ∙ c .if1 .taken;
+  before =
+      c .before .before .before .before .before .before .loop .inv .5;
+}
 
 add-index : tie.Need-add-index Inv-loop μ-loop
 add-index c = search needs

@@ -25,7 +25,8 @@ element-copy-out-valued c = c .before .before .before .before .pre .0 .kind-belo
 returns : tie.Need-returns
 returns c =
     let s = c .before .before .before .before .before .before in
-    columns-by (s .args .least .now) (s .args .fields .now) (s .args .values .now) (s .pre .1 .0) (s .pre .1 .1 .0) (s .pre .1 .1 .1) (s .args .columns) (s .pre .0)
+    columns-by (s .args .least .now) (s .args .fields .now) (s .args .values .now) (s .pre .1 .0) (s .pre .1 .1 .0) (s .pre .1 .1 .1) (s .args .columns)
+    (s .pre .0)
 
 pub wrong-columns-spec : {M : Type 1} → statement M
 wrong-columns-spec =

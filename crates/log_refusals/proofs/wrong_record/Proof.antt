@@ -14,7 +14,9 @@ wrong-columns-requires : tie.Need-wrong-columns-requires
 wrong-columns-requires c κs = (c .before .columns-at .ensures .narrow, c .before .before .before .pre .1)
 
 returns : tie.Need-returns
-returns c = wrong-is (c .before .before .before .before .before .args .log .now) (c .before .before .before .before .before .args .index) (c .before .before .before .columns-at .result) (c .before .before .before .columns-at .ensures) (c .before .wrong-columns .result) (c .before .wrong-columns .ensures)
+returns c = wrong-is (c .before .before .before .before .before .args .log .now) (c .before .before .before .before .before .args .index)
+    (c .before .before .before .columns-at .result) (c .before .before .before .columns-at .ensures) (c .before .wrong-columns .result)
+    (c .before .wrong-columns .ensures)
 
 pub wrong-record-spec : {M : Type 1} → statement M
 wrong-record-spec =

@@ -28,11 +28,23 @@ holds-requires c κs = search needs
 
 returns-3 : tie.Need-returns-3
 unfolding lookField
-returns-3 c = simp (sym (c .before .before .before .before .before .before .before .has .ensures) ∙ not-false _ (c .before .before .before .before .before .before .if1 .left), sym (c .before .before .before .before .before .has2 .ensures) ∙ c .before .before .before .before .if2 .left, sym (c .before .holds .ensures .exact) ∙ c .if3 .taken)
+returns-3 c = simp (
+  sym (c .before .before .before .before .before .before .before .has .ensures)
+      ∙ not-false _ (c .before .before .before .before .before .before .if1 .left),
+  sym (c .before .before .before .before .before .has2 .ensures)
+      ∙ c .before .before .before .before .if2 .left,
+  sym (c .before .holds .ensures .exact) ∙ c .if3 .taken,
+)
 
 returns-4 : tie.Need-returns-4
 unfolding lookField
-returns-4 c = simp (sym (c .before .before .before .before .before .before .before .has .ensures) ∙ not-false _ (c .before .before .before .before .before .before .if1 .left), sym (c .before .before .before .before .before .has2 .ensures) ∙ c .before .before .before .before .if2 .left, sym (c .before .holds .ensures .exact) ∙ c .if3 .left)
+returns-4 c = simp (
+  sym (c .before .before .before .before .before .before .before .has .ensures)
+      ∙ not-false _ (c .before .before .before .before .before .before .if1 .left),
+  sym (c .before .before .before .before .before .has2 .ensures)
+      ∙ c .before .before .before .before .if2 .left,
+  sym (c .before .holds .ensures .exact) ∙ c .if3 .left,
+)
 
 pub look-field-spec : {M : Type 1} → statement M
 look-field-spec =

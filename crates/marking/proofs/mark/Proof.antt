@@ -31,7 +31,9 @@ fed-requires : tie.Need-fed-requires Inv-loop μ-loop
 fed-requires c κs = c .before .columns-at .ensures .narrow
 
 -- the columns that are read, and how long the flags are
-abbrev read : (c : tie.After-fed Inv-loop μ-loop) → ReadAt (c .before .before .before .before .before .before .before .args .log .now) (c .before .before .before .before .loop .left - 1) (c .before .before .columns-at .result)
+abbrev read : (c : tie.After-fed Inv-loop μ-loop)
+    → ReadAt (c .before .before .before .before .before .before .before .args .log .now) (c .before .before .before .before .loop .left - 1)
+    (c .before .before .columns-at .result)
 read c = c .before .before .columns-at .ensures
 
 array-read-own : tie.Need-array-read-own Inv-loop μ-loop
@@ -41,7 +43,8 @@ array-read-keep : tie.Need-array-read-keep Inv-loop μ-loop
 array-read-keep c = omega (arith, c .fed .ensures, fed-below (read c))
 
 slice-write-kept : tie.Need-slice-write-kept Inv-loop μ-loop
-slice-write-kept c = let i = c .before .before .before .before .loop .inv in omega (arith, i .within, i .kept-long, c .before .before .before .before .before .before .before .pre)
+slice-write-kept c = let i = c .before .before .before .before .loop .inv in
+    omega (arith, i .within, i .kept-long, c .before .before .before .before .before .before .before .pre)
 
 array-write-wanted : tie.Need-array-write-wanted Inv-loop μ-loop
 array-write-wanted c = search needs

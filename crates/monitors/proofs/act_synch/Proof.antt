@@ -38,7 +38,15 @@ heard-requires c κs = search needs
 
 returns-2 : tie.Need-returns-2
 unfolding actSynch
-returns-2 c = simp (c .heard .ensures, c .before .entry .ensures, c .before .before .want .ensures, c .before .before .before .cell-with .ensures, c .before .before .before .before .new .ensures .exact, c .before .before .before .before .before .join .ensures .exact, sym (c .before .before .before .before .before .before .before .is-empty .ensures .exact) ∙ c .before .before .before .before .before .before .if1 .left)
+returns-2 c = simp (
+  c .heard .ensures,
+  c .before .entry .ensures,
+  c .before .before .want .ensures,
+  c .before .before .before .cell-with .ensures,
+  c .before .before .before .before .new .ensures .exact,
+  c .before .before .before .before .before .join .ensures .exact,
+  sym (c .before .before .before .before .before .before .before .is-empty .ensures .exact) ∙ c .before .before .before .before .before .before .if1 .left,
+)
 
 pub act-synch-spec : {M : Type 1} → statement M
 act-synch-spec =

@@ -33,7 +33,8 @@ element-copy-out-if2 c = search needs
 
 returns-2 : tie.Need-returns-2 Inv-loop μ-loop
 unfolding notOnce
-returns-2 c = found (notOnce (c .before .before .before .before .before .before .args .times .now)) _ _ (c .before .before .loop-test .taken) (simp (ne-eqb _ _ (c .if2 .taken))) (c .before .before .before .loop .inv .1)
+returns-2 c = found (notOnce (c .before .before .before .before .before .before .args .times .now)) _ _ (c .before .before .loop-test .taken)
+    (simp (ne-eqb _ _ (c .if2 .taken))) (c .before .before .before .loop .inv .1)
 
 add-term : tie.Need-add-term Inv-loop μ-loop
 add-term c = search needs

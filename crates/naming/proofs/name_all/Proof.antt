@@ -13,7 +13,8 @@ use Rattle.naming.proofs.name_all.Statement.{statement}
 use Rattle.naming.proofs.name_all.Tie as tie
 
 abbrev Inv-loop : tie.InvT-loop
-Inv-loop rows plan procedures count words times₀ best₀ term₀ times best term = (term ≤ count) × Lowest (faults plan term) count best × Counted (allTimes plan term) times
+Inv-loop rows plan procedures count words times₀ best₀ term₀ times best term =
+    (term ≤ count) × Lowest (faults plan term) count best × Counted (allTimes plan term) times
 
 abbrev μ-loop : tie.MeasureT-loop
 μ-loop rows plan procedures count words times₀ best₀ term₀ times best term = count - term
@@ -66,8 +67,13 @@ loop-again c =
     let l = c .before .before .before .before .loop in
     let h = c .before .before .before .loop-test .taken in
     let right = r .terms-right (l .term) h in
-    let k = c .before .name-children in
-    (search needs, rw add-one (one-term b (a .procedures) (l .term) (a .count) (a .words .now) (l .best) (k .result) (c .lower-call .result) d (r .headed .sized) right h (k .ensures .0) (c .lower-call .ensures) (l .inv .1)), rw add-one (term-step b (a .procedures) (a .count) (l .term) (a .words .now) (l .times) _ d (r .headed) right h (k .ensures .1) (l .inv .2)))
+    let k = c .before .name-children in (
+      search needs,
+      rw add-one
+          (one-term b (a .procedures) (l .term) (a .count) (a .words .now) (l .best) (k .result) (c .lower-call .result) d (r .headed .sized) right h
+          (k .ensures .0) (c .lower-call .ensures) (l .inv .1)),
+      rw add-one (term-step b (a .procedures) (a .count) (l .term) (a .words .now) (l .times) _ d (r .headed) right h (k .ensures .1) (l .inv .2)),
+    )
 
 returns : tie.Need-returns Inv-loop μ-loop
 returns c =

@@ -32,7 +32,8 @@ unfolding lowerAll countAll
 returns c =
     let t = c .before .before in
     let a = t .before .before .args in
-    named-by-row (a .words .now) (a .term) (t .tag .result) _ _ _ _ _ (t .tag .ensures) (small t) (no-child _ (t .tag .result) (sym (c .before .number .ensures) ∙ c .if1 .taken)) refl refl
+    named-by-row (a .words .now) (a .term) (t .tag .result) _ _ _ _ _ (t .tag .ensures) (small t)
+    (no-child _ (t .tag .result) (sym (c .before .number .ensures) ∙ c .if1 .taken)) refl refl
 
 add-child : tie.Need-add-child
 add-child c = search needs
@@ -52,9 +53,12 @@ returns-2 c =
     let a = t .before .before .args in
     let k = t .tag .result in
     named-by-row (a .words .now) (a .term) k _ _ _ _ _ (t .tag .ensures) (small t)
-    (one-child _ k (λ e. c .before .before .before .before .before .if1 .left (c .before .before .before .before .before .before .number .ensures ∙ e)) (sym (c .before .number2 .ensures) ∙ c .if2 .taken))
-    (rw (c .before .before .before .before .before .before .number .ensures, c .before .before .before .before .child .ensures) at (c .before .before .name .ensures .0))
-    (rw (c .before .before .before .before .before .before .number .ensures, c .before .before .before .before .child .ensures) at (c .before .before .name .ensures .1))
+    (one-child _ k (λ e. c .before .before .before .before .before .if1 .left (c .before .before .before .before .before .before .number .ensures ∙ e))
+    (sym (c .before .number2 .ensures) ∙ c .if2 .taken))
+    (rw (c .before .before .before .before .before .before .number .ensures, c .before .before .before .before .child .ensures) at
+    (c .before .before .name .ensures .0))
+    (rw (c .before .before .before .before .before .before .number .ensures, c .before .before .before .before .child .ensures) at
+    (c .before .before .name .ensures .1))
 
 add-child-2 : tie.Need-add-child-2
 add-child-2 c = search needs
@@ -78,9 +82,26 @@ returns-3 c =
     let a = t .before .before .args in
     let k = t .tag .result in
     named-by-row (a .words .now) (a .term) k _ _ _ _ _ (t .tag .ensures) (small t)
-    (two-children _ k (λ e. c .before .before .before .before .before .before .before .before .before .before .if1 .left (c .before .before .before .before .before .before .before .before .before .before .before .number .ensures ∙ e)) (λ e. c .before .before .before .before .before .if2 .left (c .before .before .before .before .before .before .number2 .ensures ∙ e)) (sym (c .before .number3 .ensures) ∙ c .if3 .taken))
-    (lower-more (a .words .now) _ _ _ _ _ (rw (c .before .before .before .before .before .before .before .before .before .before .before .number .ensures, c .before .before .before .before .before .before .before .before .before .child .ensures) at (c .before .before .before .before .before .before .before .name .ensures .0)) (rw (c .before .before .before .before .before .before .number2 .ensures, c .before .before .before .before .child2 .ensures) at (c .before .before .name2 .ensures .0)))
-    (count-more _ _ _ _ _ (rw (c .before .before .before .before .before .before .before .before .before .before .before .number .ensures, c .before .before .before .before .before .before .before .before .before .child .ensures) at (c .before .before .before .before .before .before .before .name .ensures .1)) (rw (c .before .before .before .before .before .before .number2 .ensures, c .before .before .before .before .child2 .ensures) at (c .before .before .name2 .ensures .1)))
+    (two-children _ k (λ e. c .before .before .before .before .before .before .before .before .before .before .if1 .left
+    (c .before .before .before .before .before .before .before .before .before .before .before .number .ensures ∙ e))
+    (λ e. c .before .before .before .before .before .if2 .left (c .before .before .before .before .before .before .number2 .ensures ∙ e))
+    (sym (c .before .number3 .ensures) ∙ c .if3 .taken))
+    (lower-more (a .words .now) _ _ _ _ _
+    (rw (
+      c .before .before .before .before .before .before .before .before .before .before .before .number .ensures,
+      c .before .before .before .before .before .before .before .before .before .child .ensures,
+    ) at
+    (c .before .before .before .before .before .before .before .name .ensures .0))
+    (rw (c .before .before .before .before .before .before .number2 .ensures, c .before .before .before .before .child2 .ensures) at
+    (c .before .before .name2 .ensures .0)))
+    (count-more _ _ _ _ _
+    (rw (
+      c .before .before .before .before .before .before .before .before .before .before .before .number .ensures,
+      c .before .before .before .before .before .before .before .before .before .child .ensures,
+    ) at
+    (c .before .before .before .before .before .before .before .name .ensures .1))
+    (rw (c .before .before .before .before .before .before .number2 .ensures, c .before .before .before .before .child2 .ensures) at
+    (c .before .before .name2 .ensures .1)))
 
 add-child-3 : tie.Need-add-child-3
 add-child-3 c = search needs
@@ -101,9 +122,35 @@ returns-4 c =
     let a = t .before .before .args in
     let k = t .tag .result in
     named-by-row (a .words .now) (a .term) k _ _ _ _ _ (t .tag .ensures) (small t)
-    (three-children _ k (λ e. c .before .before .before .before .before .before .before .before .before .before .before .before .before .if1 .left (c .before .before .before .before .before .before .before .before .before .before .before .before .before .before .number .ensures ∙ e)) (λ e. c .before .before .before .before .before .before .before .before .if2 .left (c .before .before .before .before .before .before .before .before .before .number2 .ensures ∙ e)) (λ e. c .before .before .before .if3 .left (c .before .before .before .before .number3 .ensures ∙ e)))
-    (lower-more (a .words .now) _ _ _ _ _ (rw (c .before .before .before .before .before .before .before .before .before .before .before .before .before .before .number .ensures, c .before .before .before .before .before .before .before .before .before .before .before .before .child .ensures) at (c .before .before .before .before .before .before .before .before .before .before .name .ensures .0)) (lower-more (a .words .now) _ _ _ _ _ (rw (c .before .before .before .before .before .before .before .before .before .number2 .ensures, c .before .before .before .before .before .before .before .child2 .ensures) at (c .before .before .before .before .before .name2 .ensures .0)) (rw (c .before .before .before .before .number3 .ensures, c .before .before .child3 .ensures) at (c .name3 .ensures .0))))
-    (count-more _ _ _ _ _ (rw (c .before .before .before .before .before .before .before .before .before .before .before .before .before .before .number .ensures, c .before .before .before .before .before .before .before .before .before .before .before .before .child .ensures) at (c .before .before .before .before .before .before .before .before .before .before .name .ensures .1)) (count-more _ _ _ _ _ (rw (c .before .before .before .before .before .before .before .before .before .number2 .ensures, c .before .before .before .before .before .before .before .child2 .ensures) at (c .before .before .before .before .before .name2 .ensures .1)) (rw (c .before .before .before .before .number3 .ensures, c .before .before .child3 .ensures) at (c .name3 .ensures .1))))
+    (three-children _ k (λ e. c .before .before .before .before .before .before .before .before .before .before .before .before .before .if1 .left
+    (c .before .before .before .before .before .before .before .before .before .before .before .before .before .before .number .ensures ∙ e))
+    (λ e. c .before .before .before .before .before .before .before .before .if2 .left
+    (c .before .before .before .before .before .before .before .before .before .number2 .ensures ∙ e))
+    (λ e. c .before .before .before .if3 .left (c .before .before .before .before .number3 .ensures ∙ e)))
+    (lower-more (a .words .now) _ _ _ _ _
+    (rw (
+      c .before .before .before .before .before .before .before .before .before .before .before .before .before .before .number .ensures,
+      c .before .before .before .before .before .before .before .before .before .before .before .before .child .ensures,
+    ) at
+    (c .before .before .before .before .before .before .before .before .before .before .name .ensures .0))
+    (lower-more (a .words .now) _ _ _ _ _
+    (rw (
+      c .before .before .before .before .before .before .before .before .before .number2 .ensures,
+      c .before .before .before .before .before .before .before .child2 .ensures,
+    ) at (c .before .before .before .before .before .name2 .ensures .0))
+    (rw (c .before .before .before .before .number3 .ensures, c .before .before .child3 .ensures) at (c .name3 .ensures .0))))
+    (count-more _ _ _ _ _
+    (rw (
+      c .before .before .before .before .before .before .before .before .before .before .before .before .before .before .number .ensures,
+      c .before .before .before .before .before .before .before .before .before .before .before .before .child .ensures,
+    ) at
+    (c .before .before .before .before .before .before .before .before .before .before .name .ensures .1))
+    (count-more _ _ _ _ _
+    (rw (
+      c .before .before .before .before .before .before .before .before .before .number2 .ensures,
+      c .before .before .before .before .before .before .before .child2 .ensures,
+    ) at (c .before .before .before .before .before .name2 .ensures .1))
+    (rw (c .before .before .before .before .number3 .ensures, c .before .before .child3 .ensures) at (c .name3 .ensures .1))))
 
 pub name-children-spec : {M : Type 1} → statement M
 name-children-spec =

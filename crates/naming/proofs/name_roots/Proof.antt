@@ -15,7 +15,8 @@ use Rattle.naming.proofs.name_roots.Statement.{statement}
 use Rattle.naming.proofs.name_roots.Tie as tie
 
 abbrev Inv-loop : tie.InvT-loop
-Inv-loop rows plan procedures count words times₀ best₀ procedure₀ times best procedure = (procedure ≤ procedures) × Lowest (misplacedRoot plan procedure) count best × Counted (rootTimes plan procedure) times
+Inv-loop rows plan procedures count words times₀ best₀ procedure₀ times best procedure =
+    (procedure ≤ procedures) × Lowest (misplacedRoot plan procedure) count best × Counted (rootTimes plan procedure) times
 
 abbrev μ-loop : tie.MeasureT-loop
 μ-loop rows plan procedures count words times₀ best₀ procedure₀ times best procedure = procedures - procedure
@@ -34,8 +35,15 @@ name-requires c κs =
     let s = c .before .before .before .before .before in
     let a = s .args in
     let z = s .pre .0 .headed in
-    let f = z .few in
-    (omega (arith, c .before .root .ensures, root-below (a .plan .now) (a .procedures) (a .count) (c .before .before .before .loop .procedure) z (c .before .before .loop-test .taken)), (s .pre .1 .1 .1, tagged (a .plan .now) (a .procedures) (a .count) (a .words .now) (s .pre .0) (s .pre .1 .0)))
+    let f = z .few in (
+      omega (
+        arith,
+        c .before .root .ensures,
+        root-below (a .plan .now) (a .procedures) (a .count) (c .before .before .before .loop .procedure) z
+            (c .before .before .loop-test .taken),
+      ),
+      (s .pre .1 .1 .1, tagged (a .plan .now) (a .procedures) (a .count) (a .words .now) (s .pre .0) (s .pre .1 .0)),
+    )
 
 add-procedure : tie.Need-add-procedure Inv-loop μ-loop
 add-procedure c = search needs
@@ -51,8 +59,12 @@ loop-again c =
     let f = z .0 .headed .few in
     let l = c .before .before .before .before .loop in
     let h = root-below b (a .procedures) (a .count) (l .procedure) (z .0 .headed) (c .before .before .before .loop-test .taken) in
-    let e = c .before .before .root .ensures in
-    (search needs, rw add-one (one-root b (l .procedure) (a .count) (a .words .now) (l .best) (c .before .before .root .result) _ (z .1 .0) e h (c .name .ensures .0) (l .inv .1)), rw add-one (root-step b (l .procedure) (c .before .before .root .result) (l .times) _ e (omega (arith, h)) (c .name .ensures .1) (l .inv .2)))
+    let e = c .before .before .root .ensures in (
+      search needs,
+      rw add-one
+          (one-root b (l .procedure) (a .count) (a .words .now) (l .best) (c .before .before .root .result) _ (z .1 .0) e h (c .name .ensures .0) (l .inv .1)),
+      rw add-one (root-step b (l .procedure) (c .before .before .root .result) (l .times) _ e (omega (arith, h)) (c .name .ensures .1) (l .inv .2)),
+    )
 
 returns : tie.Need-returns Inv-loop μ-loop
 returns c =

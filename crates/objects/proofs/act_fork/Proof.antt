@@ -30,7 +30,13 @@ acted-with-requires c κs = search needs
 
 returns-3 : tie.Need-returns-3
 unfolding actFork
-returns-3 c = simp (c .acted-with .ensures, c .before .value .ensures, c .before .before .entry .ensures, lt-leb _ _ (c .before .before .before .before .before .if1 .left), lt-leb _ _ (c .before .before .before .before .if2 .left))
+returns-3 c = simp (
+  c .acted-with .ensures,
+  c .before .value .ensures,
+  c .before .before .entry .ensures,
+  lt-leb _ _ (c .before .before .before .before .before .if1 .left),
+  lt-leb _ _ (c .before .before .before .before .if2 .left),
+)
 
 pub act-fork-spec : {M : Type 1} → statement M
 act-fork-spec =

@@ -23,7 +23,12 @@ acted-with-requires c κs = search needs
 
 returns-2 : tie.Need-returns-2
 unfolding actNew
-returns-2 c = simp (c .acted-with .ensures, c .before .value .ensures, c .before .before .entry .ensures, lt-leb _ _ (c .before .before .before .before .if1 .left))
+returns-2 c = simp (
+  c .acted-with .ensures,
+  c .before .value .ensures,
+  c .before .before .entry .ensures,
+  lt-leb _ _ (c .before .before .before .before .if1 .left),
+)
 
 pub act-new-spec : {M : Type 1} → statement M
 act-new-spec =

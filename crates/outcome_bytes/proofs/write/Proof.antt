@@ -1,4 +1,5 @@
--- `outcome_bytes::write` meets its contract. The invariant: with the threads that are left, the bytes are those of the first seven and all eight threads. Assumes nothing.
+-- `outcome_bytes::write` meets its contract. The invariant: with the threads that are left, the bytes are those of the first seven and all eight threads.
+-- Assumes nothing.
 use Rattle.outcome_bytes.specs.declared.ThreadBytes.{ThreadBytes}
 use Rattle.player.specs.Answer.{outcomeOf}
 use Prim.Native.Nat.{_+_, _-_, _≤_, _<_}
@@ -82,8 +83,11 @@ loop-again c =
     let l = c .before .before .before in
     let all = c .before .before .before .before .before .before .before .before .args .outcome .threads in
     let p = l .loop .number in
-    let h : p < 8 = c .before .before .loop-test .taken in
-    (omega arith, ap (λ (b : ThreadBytes). turns (putThread all) (8 - (p + 1)) (p + 1) (putOne (l .loop .out) p b (getD all p absent .learnt))) (c .thread-bytes .ensures) ∙ sym (one-turn (putThread all) 8 p (l .loop .out) h) ∙ l .loop .inv .1)
+    let h : p < 8 = c .before .before .loop-test .taken in (
+      omega arith,
+      ap (λ (b : ThreadBytes). turns (putThread all) (8 - (p + 1)) (p + 1) (putOne (l .loop .out) p b (getD all p absent .learnt)))
+          (c .thread-bytes .ensures) ∙ sym (one-turn (putThread all) 8 p (l .loop .out) h) ∙ l .loop .inv .1,
+    )
 
 returns : tie.Need-returns Inv-loop μ-loop
 returns c =
@@ -91,7 +95,8 @@ returns c =
     let s = c .before .before .before .before .before .before in
     let all = s .args .outcome .threads in
     let z : 8 - l .loop .number ≡ 0 = omega arith in
-    sym (no-turn (putThread all) 8 (l .loop .number) (l .loop .out) z) ∙ l .loop .inv .1 ∙ ap (turns (putThread all) 8 0) (c .before .before .write-head .ensures) ∙ whole (s .args .outcome) (s .pre)
+    sym (no-turn (putThread all) 8 (l .loop .number) (l .loop .out) z) ∙ l .loop .inv .1
+    ∙ ap (turns (putThread all) 8 0) (c .before .before .write-head .ensures) ∙ whole (s .args .outcome) (s .pre)
 
 pub write-spec : {M : Type 1} → statement M
 write-spec =

@@ -48,7 +48,15 @@ element-write-out-7 c = search needs
 
 returns : tie.Need-returns
 unfolding headBytes
-returns c = simp (c .before .before .before .before .before .before .stop-byte .ensures, c .before .before .before .before .before .high .ensures, c .before .before .before .before .low .ensures, c .before .before .before .high2 .ensures, c .before .before .low2 .ensures, c .before .high3 .ensures, c .low3 .ensures)
+returns c = simp (
+  c .before .before .before .before .before .before .stop-byte .ensures,
+  c .before .before .before .before .before .high .ensures,
+  c .before .before .before .before .low .ensures,
+  c .before .before .before .high2 .ensures,
+  c .before .before .low2 .ensures,
+  c .before .high3 .ensures,
+  c .low3 .ensures,
+)
 
 pub write-head-spec : {M : Type 1} → statement M
 write-head-spec =

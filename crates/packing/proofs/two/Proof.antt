@@ -72,7 +72,8 @@ returns-2 : tie.Need-returns-2
 returns-2 c = let-is _ _ _ _ _ (c .before .match .keys2) (sym (c .before .before .tag .ensures) ∙ c .before .match .keys2) (c .slot-of .ensures)
 
 returns-3 : tie.Need-returns-3
-returns-3 c = rw (c .before .tag .ensures) (sym (two-other _ _ _ (λ e. c .match .rest .0 .1 (c .before .tag .ensures ∙ e)) (λ e. c .match .rest .1 (c .before .tag .ensures ∙ e))))
+returns-3 c = rw (c .before .tag .ensures)
+    (sym (two-other _ _ _ (λ e. c .match .rest .0 .1 (c .before .tag .ensures ∙ e)) (λ e. c .match .rest .1 (c .before .tag .ensures ∙ e))))
 
 pub two-spec : {M : Type 1} → statement M
 two-spec =

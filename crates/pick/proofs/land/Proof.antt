@@ -19,14 +19,17 @@ no-room-requires : tie.Need-no-room-requires
 no-room-requires c κs = search needs
 
 returns : tie.Need-returns
-returns c = land-full _ _ _ _ _ (c .before .before .before .land .ensures .0) (sym (c .before .before .full .ensures) ∙ c .before .if1 .taken) (c .no-room .ensures)
+returns c = land-full _ _ _ _ _ (c .before .before .before .land .ensures .0) (sym (c .before .before .full .ensures) ∙ c .before .if1 .taken)
+    (c .no-room .ensures)
 
 start-requires : tie.Need-start-requires
 start-requires c κs = search needs
 
 returns-2 : tie.Need-returns-2
 returns-2 c =
-    land-forked _ _ _ _ (c .before .before .before .before .before .before .before .land .ensures .0) _ (sym (c .before .before .before .before .before .before .full .ensures) ∙ c .before .before .before .before .before .if1 .left) (eq-eqb _ _ (c .before .before .if2 .taken)) (c .start .ensures)
+    land-forked _ _ _ _ (c .before .before .before .before .before .before .before .land .ensures .0) _
+    (sym (c .before .before .before .before .before .before .full .ensures) ∙ c .before .before .before .before .before .if1 .left)
+    (eq-eqb _ _ (c .before .before .if2 .taken)) (c .start .ensures)
 
 no-head-requires : tie.Need-no-head-requires
 no-head-requires c κs = search needs
@@ -36,7 +39,9 @@ leave-requires c κs = search needs
 
 returns-3 : tie.Need-returns-3
 returns-3 c =
-    land-moved _ _ _ _ _ (c .before .before .before .before .before .before .before .land .ensures .0) _ (sym (c .before .before .before .before .before .before .full .ensures) ∙ c .before .before .before .before .before .if1 .left) (ne-eqb _ _ (c .before .before .if2 .left)) (c .leave .ensures) (c .before .no-head .ensures)
+    land-moved _ _ _ _ _ (c .before .before .before .before .before .before .before .land .ensures .0) _
+    (sym (c .before .before .before .before .before .before .full .ensures) ∙ c .before .before .before .before .before .if1 .left)
+    (ne-eqb _ _ (c .before .before .if2 .left)) (c .leave .ensures) (c .before .no-head .ensures)
 
 pub land-spec : {M : Type 1} → statement M
 land-spec =

@@ -24,12 +24,14 @@ no-room-requires c κs = search needs
 returns : tie.Need-returns
 returns c =
     let s = c .before .before .before .before .before .before .before .before .before .before .before in
-    c .land .ensures ∙ ap (λ (z : Act). makeBy (s .args .words .now) (s .args .roots .now) (s .args .met) z (s .args .stack .now)) (sym (c .before .before .before .act2 .given .1) ∙ c .before .before .before .before .before .act .ensures)
+    c .land .ensures ∙ ap (λ (z : Act). makeBy (s .args .words .now) (s .args .roots .now) (s .args .met) z (s .args .stack .now))
+    (sym (c .before .before .before .act2 .given .1) ∙ c .before .before .before .before .before .act .ensures)
 
 returns-2 : tie.Need-returns-2
 returns-2 c =
     let s = c .before .before .before .before .before .before .before .before .before .before in
-    ap (picked _) (c .no-room .ensures) ∙ ap (λ (z : Act). makeBy (s .args .words .now) (s .args .roots .now) (s .args .met) z (s .args .stack .now)) (sym (c .before .before .act3 .given .1) ∙ c .before .before .before .before .act .ensures)
+    ap (picked _) (c .no-room .ensures) ∙ ap (λ (z : Act). makeBy (s .args .words .now) (s .args .roots .now) (s .args .met) z (s .args .stack .now))
+    (sym (c .before .before .act3 .given .1) ∙ c .before .before .before .before .act .ensures)
 
 pub make-spec : {M : Type 1} → statement M
 make-spec =

@@ -28,19 +28,23 @@ returns : tie.Need-returns
 unfolding pickOf
 returns c =
     let s = c .before .before .before .before .before .before .before .before .before .before .before in
-    c .make .ensures ∙ ap (λ (w : Sight). pickBy (s .args .words .now) (s .args .roots .now) (s .args .setting) (s .args .met) w (s .args .stack .now)) (sym (c .before .before .enum-told .given .1) ∙ c .before .before .before .before .look .ensures)
+    c .make .ensures ∙ ap (λ (w : Sight). pickBy (s .args .words .now) (s .args .roots .now) (s .args .setting) (s .args .met) w (s .args .stack .now))
+    (sym (c .before .before .enum-told .given .1) ∙ c .before .before .before .before .look .ensures)
 
 returns-2 : tie.Need-returns-2
 unfolding pickOf
 returns-2 c =
     let s = c .before .before .before .before .before .before .before .before .before .before in
-    ap (picked (s .args .stack .now)) (c .race .ensures) ∙ ap (λ (w : Sight). pickBy (s .args .words .now) (s .args .roots .now) (s .args .setting) (s .args .met) w (s .args .stack .now)) (sym (c .before .enum-told2 .given .1) ∙ c .before .before .before .look .ensures)
+    ap (picked (s .args .stack .now)) (c .race .ensures)
+    ∙ ap (λ (w : Sight). pickBy (s .args .words .now) (s .args .roots .now) (s .args .setting) (s .args .met) w (s .args .stack .now))
+    (sym (c .before .enum-told2 .given .1) ∙ c .before .before .before .look .ensures)
 
 returns-3 : tie.Need-returns-3
 unfolding pickOf
 returns-3 c =
     let s = c .before .before .before .before .before .before .before .before .before in
-    ap (λ (w : Sight). pickBy (s .args .words .now) (s .args .roots .now) (s .args .setting) (s .args .met) w (s .args .stack .now)) (sym (c .enum-told3 .given .1) ∙ c .before .before .look .ensures)
+    ap (λ (w : Sight). pickBy (s .args .words .now) (s .args .roots .now) (s .args .setting) (s .args .met) w (s .args .stack .now))
+    (sym (c .enum-told3 .given .1) ∙ c .before .before .look .ensures)
 
 pub pick-spec : {M : Type 1} → statement M
 pick-spec =

@@ -24,7 +24,8 @@ no-room-requires c κs = search needs
 
 returns : tie.Need-returns
 returns c =
-    start-full _ _ _ _ (c .before .before .before .land .ensures .0 ∙ rw (c .before .before .before .before .before .before .run .ensures)) (sym (c .before .before .full .ensures) ∙ c .before .if1 .taken) (c .no-room .ensures)
+    start-full _ _ _ _ (c .before .before .before .land .ensures .0 ∙ rw (c .before .before .before .before .before .before .run .ensures))
+    (sym (c .before .before .full .ensures) ∙ c .before .if1 .taken) (c .no-room .ensures)
 
 head-at-requires : tie.Need-head-at-requires
 head-at-requires c κs = search needs
@@ -34,7 +35,9 @@ leave-requires c κs = search needs
 
 returns-2 : tie.Need-returns-2
 returns-2 c =
-    start-moved _ _ _ _ _ (c .before .before .before .before .before .land .ensures .0 ∙ rw (c .before .before .before .before .before .before .before .before .run .ensures)) (sym (c .before .before .before .before .full .ensures) ∙ c .before .before .before .if1 .left) (c .leave .ensures) (c .before .head-at .ensures)
+    start-moved _ _ _ _ _ (c .before .before .before .before .before .land .ensures .0
+    ∙ rw (c .before .before .before .before .before .before .before .before .run .ensures)) (sym (c .before .before .before .before .full .ensures)
+    ∙ c .before .before .before .if1 .left) (c .leave .ensures) (c .before .head-at .ensures)
 
 pub start-spec : {M : Type 1} → statement M
 start-spec =

@@ -35,18 +35,26 @@ returns-2 : tie.Need-returns-2
 unfolding answered refuse firstRefusal checks
 returns-2 c =
     let b = c .before .before .before .before .before .before .args .plan .now in
-    let m1 : lowest (λ place. wrongLength b) 1 ≡ none = whole-none (wrongLength b) (sym (c .before .before .before .before .wrong-length .ensures) ∙ c .before .before .before .if1 .left) in
+    let m1 : lowest (λ place. wrongLength b) 1 ≡ none =
+    whole-none (wrongLength b) (sym (c .before .before .before .before .wrong-length .ensures) ∙ c .before .before .before .if1 .left) in
     let m2 : lowest (λ place. wrongHeader b) 1 ≡ some 0 = whole (wrongHeader b) (sym (c .before .before .wrong-header .ensures) ∙ c .before .if2 .taken) in
     ap answered (c .refused2 .ensures) ∙ sym (rw (m1, m2))
 
 procedures-requires : tie.Need-procedures-requires
-procedures-requires c κs = long-enough (c .before .before .before .before .before .args .plan .now) (sym (c .before .before .before .wrong-length .ensures) ∙ c .before .before .if1 .left)
+procedures-requires c κs =
+    long-enough (c .before .before .before .before .before .args .plan .now) (sym (c .before .before .before .wrong-length .ensures)
+    ∙ c .before .before .if1 .left)
 
 terms-requires : tie.Need-terms-requires
-terms-requires c κs = long-enough (c .before .before .before .before .before .before .args .plan .now) (sym (c .before .before .before .before .wrong-length .ensures) ∙ c .before .before .before .if1 .left)
+terms-requires c κs =
+    long-enough (c .before .before .before .before .before .before .args .plan .now) (sym (c .before .before .before .before .wrong-length .ensures)
+    ∙ c .before .before .before .if1 .left)
 
 lowest-wrong-procedure-requires : tie.Need-lowest-wrong-procedure-requires
-lowest-wrong-procedure-requires c κs = make-sized (c .before .before .before .before .before .before .before .args .plan .now) _ _ (sym (c .before .before .before .before .before .wrong-length .ensures) ∙ c .before .before .before .before .if1 .left) (c .before .procedures .ensures) (c .terms .ensures)
+lowest-wrong-procedure-requires c κs =
+    make-sized (c .before .before .before .before .before .before .before .args .plan .now) _ _
+    (sym (c .before .before .before .before .before .wrong-length .ensures) ∙ c .before .before .before .before .if1 .left) (c .before .procedures .ensures)
+    (c .terms .ensures)
 
 refused-requires-3 : tie.Need-refused-requires-3
 refused-requires-3 c κs = search needs
@@ -55,18 +63,29 @@ returns-3 : tie.Need-returns-3
 unfolding answered refuse firstRefusal checks
 returns-3 c =
     let b = c .before .before .before .before .before .before .before .before .before .before .args .plan .now in
-    let m1 : lowest (λ place. wrongLength b) 1 ≡ none = whole-none (wrongLength b) (sym (c .before .before .before .before .before .before .before .before .wrong-length .ensures) ∙ c .before .before .before .before .before .before .before .if1 .left) in
-    let m2 : lowest (λ place. wrongHeader b) 1 ≡ none = whole-none (wrongHeader b) (sym (c .before .before .before .before .before .before .wrong-header .ensures) ∙ c .before .before .before .before .before .if2 .left) in
-    let m3 : lowest (wrongProcedure b) (procedures b) ≡ some (c .before .before .lowest-wrong-procedure .result) = struck (wrongProcedure b) _ (procedures b) _ (c .before .before .before .before .procedures .ensures) (c .before .before .lowest-wrong-procedure .ensures) (c .before .if3 .taken) in
+    let m1 : lowest (λ place. wrongLength b) 1 ≡ none =
+    whole-none (wrongLength b) (sym (c .before .before .before .before .before .before .before .before .wrong-length .ensures)
+    ∙ c .before .before .before .before .before .before .before .if1 .left) in
+    let m2 : lowest (λ place. wrongHeader b) 1 ≡ none =
+    whole-none (wrongHeader b) (sym (c .before .before .before .before .before .before .wrong-header .ensures)
+    ∙ c .before .before .before .before .before .if2 .left) in
+    let m3 : lowest (wrongProcedure b) (procedures b) ≡ some (c .before .before .lowest-wrong-procedure .result) =
+    struck (wrongProcedure b) _ (procedures b) _ (c .before .before .before .before .procedures .ensures)
+    (c .before .before .lowest-wrong-procedure .ensures) (c .before .if3 .taken) in
     ap answered (c .refused3 .ensures) ∙ sym (rw (m1, m2, m3))
 
 returns-4 : tie.Need-returns-4
 unfolding answered refuse firstRefusal checks
 returns-4 c =
     let b = c .before .before .before .before .before .before .before .before .before .args .plan .now in
-    let m1 : lowest (λ place. wrongLength b) 1 ≡ none = whole-none (wrongLength b) (sym (c .before .before .before .before .before .before .before .wrong-length .ensures) ∙ c .before .before .before .before .before .before .if1 .left) in
-    let m2 : lowest (λ place. wrongHeader b) 1 ≡ none = whole-none (wrongHeader b) (sym (c .before .before .before .before .before .wrong-header .ensures) ∙ c .before .before .before .before .if2 .left) in
-    let m3 : lowest (wrongProcedure b) (procedures b) ≡ none = missed (wrongProcedure b) _ (procedures b) _ (c .before .before .before .procedures .ensures) (c .before .lowest-wrong-procedure .ensures) (c .if3 .left) in
+    let m1 : lowest (λ place. wrongLength b) 1 ≡ none =
+    whole-none (wrongLength b) (sym (c .before .before .before .before .before .before .before .wrong-length .ensures)
+    ∙ c .before .before .before .before .before .before .if1 .left) in
+    let m2 : lowest (λ place. wrongHeader b) 1 ≡ none =
+    whole-none (wrongHeader b) (sym (c .before .before .before .before .before .wrong-header .ensures) ∙ c .before .before .before .before .if2 .left) in
+    let m3 : lowest (wrongProcedure b) (procedures b) ≡ none =
+    missed (wrongProcedure b) _ (procedures b) _ (c .before .before .before .procedures .ensures) (c .before .lowest-wrong-procedure .ensures)
+    (c .if3 .left) in
     sym (rw (m1, m2, m3))
 
 pub check-header-spec : {M : Type 1} → statement M

@@ -24,12 +24,18 @@ returns c =
     let b = s .args .plan .now in
     let n = s .pre .0 .headed .sized .terms-are in
     let fits = c .before .all-fit .ensures (c .if1 .taken) in
-    let m5 : lowest (wronglySorted b) (terms b) ≡ none = missed (wronglySorted b) _ (terms b) _ n (found-none (wronglySorted b) (s .args .count) (s .args .count) (omega arith) (omega arith) (λ t h. fits t h .0)) (omega arith) in
-    let m6 : lowest (notNamedOnce b) (terms b) ≡ none = missed (notNamedOnce b) _ (terms b) _ n (found-none (notNamedOnce b) (s .args .count) (s .args .count) (omega arith) (omega arith) (λ t h. fits t h .1)) (omega arith) in
+    let m5 : lowest (wronglySorted b) (terms b) ≡ none =
+    missed (wronglySorted b) _ (terms b) _ n
+    (found-none (wronglySorted b) (s .args .count) (s .args .count) (omega arith) (omega arith) (λ t h. fits t h .0)) (omega arith) in
+    let m6 : lowest (notNamedOnce b) (terms b) ≡ none =
+    missed (notNamedOnce b) _ (terms b) _ n
+    (found-none (notNamedOnce b) (s .args .count) (s .args .count) (omega arith) (omega arith) (λ t h. fits t h .1)) (omega arith) in
     sym (rw (m5, m6))
 
 -- the lowest term that is not named once
-named-once : (c : tie.After-lowest-miscounted) → Lowest (notNamedOnce (c .before .before .before .before .before .before .before .args .plan .now)) (c .before .before .before .before .before .before .before .args .count) (c .lowest-miscounted .result)
+named-once : (c : tie.After-lowest-miscounted)
+    → Lowest (notNamedOnce (c .before .before .before .before .before .before .before .args .plan .now))
+    (c .before .before .before .before .before .before .before .args .count) (c .lowest-miscounted .result)
 named-once c =
     let h = c .before .before .before .before .before .before .before .pre .0 .headed in
     all-names _ _ _ _ (h .sized .terms-are) (h .few) (c .before .before .name-all .ensures .1) (c .lowest-miscounted .ensures)
@@ -49,7 +55,8 @@ returns-2 c =
     let m = c .before .before in
     let s = m .before .before .before .before .before .before .before in
     let b = s .args .plan .now in
-    let m5 : lowest (wronglySorted b) (terms b) ≡ some (m .before .before .name-all .result) = struck (wronglySorted b) _ (terms b) _ (s .pre .0 .headed .sized .terms-are) (m .before .before .name-all .ensures .0) (c .before .if2 .taken) in
+    let m5 : lowest (wronglySorted b) (terms b) ≡ some (m .before .before .name-all .result) =
+    struck (wronglySorted b) _ (terms b) _ (s .pre .0 .headed .sized .terms-are) (m .before .before .name-all .ensures .0) (c .before .if2 .taken) in
     ap answered (c .refused .ensures) ∙ sym (rw m5)
 
 refused-requires-2 : tie.Need-refused-requires-2
@@ -62,8 +69,10 @@ returns-3 c =
     let s = m .before .before .before .before .before .before .before in
     let b = s .args .plan .now in
     let n = s .pre .0 .headed .sized .terms-are in
-    let m5 : lowest (wronglySorted b) (terms b) ≡ none = missed (wronglySorted b) _ (terms b) _ n (m .before .before .name-all .ensures .0) (c .before .before .if2 .left) in
-    let m6 : lowest (notNamedOnce b) (terms b) ≡ some (m .lowest-miscounted .result) = struck (notNamedOnce b) _ (terms b) _ n (named-once m) (c .before .if3 .taken) in
+    let m5 : lowest (wronglySorted b) (terms b) ≡ none =
+    missed (wronglySorted b) _ (terms b) _ n (m .before .before .name-all .ensures .0) (c .before .before .if2 .left) in
+    let m6 : lowest (notNamedOnce b) (terms b) ≡ some (m .lowest-miscounted .result) =
+    struck (notNamedOnce b) _ (terms b) _ n (named-once m) (c .before .if3 .taken) in
     ap answered (c .refused2 .ensures) ∙ sym (rw (m5, m6))
 
 returns-4 : tie.Need-returns-4
@@ -73,7 +82,8 @@ returns-4 c =
     let s = m .before .before .before .before .before .before .before in
     let b = s .args .plan .now in
     let n = s .pre .0 .headed .sized .terms-are in
-    let m5 : lowest (wronglySorted b) (terms b) ≡ none = missed (wronglySorted b) _ (terms b) _ n (m .before .before .name-all .ensures .0) (c .before .if2 .left) in
+    let m5 : lowest (wronglySorted b) (terms b) ≡ none =
+    missed (wronglySorted b) _ (terms b) _ n (m .before .before .name-all .ensures .0) (c .before .if2 .left) in
     let m6 : lowest (notNamedOnce b) (terms b) ≡ none = missed (notNamedOnce b) _ (terms b) _ n (named-once m) (c .if3 .left) in
     sym (rw (m5, m6))
 

@@ -37,7 +37,9 @@ returns-2 c =
     let t = c .before .before .before in
     let s = t .before .before .before .before in
     let b = s .args .plan .now in
-    let m7 : lowest (usesUnboundSlot b) (procedures b) ≡ some (c .before .before .lowest-open .result) = struck (usesUnboundSlot b) _ (procedures b) _ (s .pre .0 .headed .sized .procedures-are) (c .before .before .lowest-open .ensures) (c .before .if1 .taken) in
+    let m7 : lowest (usesUnboundSlot b) (procedures b) ≡ some (c .before .before .lowest-open .result) =
+    struck (usesUnboundSlot b) _ (procedures b) _ (s .pre .0 .headed .sized .procedures-are) (c .before .before .lowest-open .ensures)
+    (c .before .if1 .taken) in
     by-slots b _ (c .refused .result) (t .before .before .check-names .ensures) (t .enum-told .given .1) (ap answered (c .refused .ensures) ∙ sym (rw m7))
 
 returns-3 : tie.Need-returns-3
@@ -46,7 +48,8 @@ returns-3 c =
     let t = c .before .before in
     let s = t .before .before .before .before in
     let b = s .args .plan .now in
-    let m7 : lowest (usesUnboundSlot b) (procedures b) ≡ none = missed (usesUnboundSlot b) _ (procedures b) _ (s .pre .0 .headed .sized .procedures-are) (c .before .lowest-open .ensures) (c .if1 .left) in
+    let m7 : lowest (usesUnboundSlot b) (procedures b) ≡ none =
+    missed (usesUnboundSlot b) _ (procedures b) _ (s .pre .0 .headed .sized .procedures-are) (c .before .lowest-open .ensures) (c .if1 .left) in
     by-slots b _ Passed (t .before .before .check-names .ensures) (t .enum-told .given .1) (sym (rw m7))
 
 pub check-trees-spec : {M : Type 1} → statement M

@@ -16,7 +16,8 @@ use Rattle.plan.proofs.load.Tie as tie
 
 -- what checks 1 to 3 have shown
 shown : (c : tie.After-terms) → Headed (c .before .before .before .before .before .before .args .plan .now) (c .before .procedures .result) (c .terms .result)
-shown c = make-headed _ _ _ (c .before .procedures .ensures) (c .terms .ensures) (headed _ _ (c .before .before .before .before .check-header .ensures) (c .before .before .enum-told .given .1))
+shown c = make-headed _ _ _ (c .before .procedures .ensures) (c .terms .ensures)
+    (headed _ _ (c .before .before .before .before .check-header .ensures) (c .before .before .enum-told .given .1))
 
 check-header-requires : tie.Need-check-header-requires
 check-header-requires c κs = search needs
@@ -32,12 +33,14 @@ returns c = (by-header _ _ _ _ (c .before .before .check-header .ensures) (c .en
 
 procedures-requires : tie.Need-procedures-requires
 procedures-requires c κs =
-    let s = make-headed (c .before .before .before .before .args .plan .now) _ _ refl refl (headed _ _ (c .before .before .check-header .ensures) (c .enum-told .given .1)) .sized in
+    let s = make-headed (c .before .before .before .before .args .plan .now) _ _ refl refl
+    (headed _ _ (c .before .before .check-header .ensures) (c .enum-told .given .1)) .sized in
     omega (arith, s .long)
 
 terms-requires : tie.Need-terms-requires
 terms-requires c κs =
-    let s = make-headed (c .before .before .before .before .before .args .plan .now) _ _ refl refl (headed _ _ (c .before .before .before .check-header .ensures) (c .before .enum-told .given .1)) .sized in
+    let s = make-headed (c .before .before .before .before .before .args .plan .now) _ _ refl refl
+    (headed _ _ (c .before .before .before .check-header .ensures) (c .before .enum-told .given .1)) .sized in
     omega (arith, s .long)
 
 layouts-requires : tie.Need-layouts-requires
@@ -60,15 +63,20 @@ returns-2 c =
     let l = c .before .before in
     let t = l .before .before .before .before .before .before .before in
     let b = t .before .before .before .before .before .before .args .plan .now in
-    let m4 : lowest (wrongTerm b) (terms b) ≡ some (l .load .result) = struck (wrongTerm b) _ (terms b) _ (t .terms .ensures) (l .load .ensures .0) (c .before .if1 .taken) in
-    (by-term b _ (t .before .before .before .before .check-header .ensures) (t .before .before .enum-told .given .1) _ _ m4 (c .refused .ensures), λ q. passed-refused q (c .refused .ensures))
+    let m4 : lowest (wrongTerm b) (terms b) ≡ some (l .load .result) =
+    struck (wrongTerm b) _ (terms b) _ (t .terms .ensures) (l .load .ensures .0) (c .before .if1 .taken) in (
+      by-term b _ (t .before .before .before .before .check-header .ensures) (t .before .before .enum-told .given .1) _ _ m4 (c .refused .ensures),
+      λ q. passed-refused q (c .refused .ensures),
+    )
 
 check-trees-requires : tie.Need-check-trees-requires
 check-trees-requires c κs =
     let i = c .before .before .before in
     let l = i .before in
-    let h = shown (l .before .before .before .before .before .before .before) in
-    (make-right _ _ _ _ h (l .load .ensures .0) (i .if1 .left), (l .load .ensures .1 .0 (i .if1 .left), (l .before .before .before .before .before .before .layouts .ensures, l .load .ensures .1 .1 (i .if1 .left))))
+    let h = shown (l .before .before .before .before .before .before .before) in (
+      make-right _ _ _ _ h (l .load .ensures .0) (i .if1 .left),
+      (l .load .ensures .1 .0 (i .if1 .left), (l .before .before .before .before .before .before .layouts .ensures, l .load .ensures .1 .1 (i .if1 .left))),
+    )
 
 returns-3 : tie.Need-returns-3
 returns-3 c =
@@ -76,8 +84,10 @@ returns-3 c =
     let l = i .before in
     let t = l .before .before .before .before .before .before .before in
     let b = t .before .before .before .before .before .before .args .plan .now in
-    let m4 : lowest (wrongTerm b) (terms b) ≡ none = missed (wrongTerm b) _ (terms b) _ (t .terms .ensures) (l .load .ensures .0) (i .if1 .left) in
-    (by-trees b _ (t .before .before .before .before .check-header .ensures) (t .before .before .enum-told .given .1) _ m4 (c .check-trees .ensures), λ q. loaded-as (t .terms .ensures) (l .load .ensures .1 .0 (i .if1 .left)))
+    let m4 : lowest (wrongTerm b) (terms b) ≡ none = missed (wrongTerm b) _ (terms b) _ (t .terms .ensures) (l .load .ensures .0) (i .if1 .left) in (
+      by-trees b _ (t .before .before .before .before .check-header .ensures) (t .before .before .enum-told .given .1) _ m4 (c .check-trees .ensures),
+      λ q. loaded-as (t .terms .ensures) (l .load .ensures .1 .0 (i .if1 .left)),
+    )
 
 pub load-spec : {M : Type 1} → statement M
 load-spec =

@@ -45,8 +45,10 @@ returns : tie.Need-returns
 returns c =
     let s = c .before .before .before .before .before .before .before .before .before .before .before .before .before in
     added-as (header-parts (s .args .plan .now))
-    (added-more (added-as (ap (λ (v : ℕ). 40 ∷ v ∷ []) (c .before .before .before .before .before .before .before .before .before .before .version .ensures)) (c .before .before .before .before .before .before .put-word .ensures))
-    (added-as (ap (λ (m : ℕ). volatileTokens (fieldsFrom m 1 31)) (c .before .before .before .before .before .before .before .before .before .volatiles .ensures)) (c .before .before .put-volatiles .ensures)))
+    (added-more (added-as (ap (λ (v : ℕ). 40 ∷ v ∷ []) (c .before .before .before .before .before .before .before .before .before .before .version .ensures))
+    (c .before .before .before .before .before .before .put-word .ensures))
+    (added-as (ap (λ (m : ℕ). volatileTokens (fieldsFrom m 1 31))
+    (c .before .before .before .before .before .before .before .before .before .volatiles .ensures)) (c .before .before .put-volatiles .ensures)))
 
 pub put-header-spec : {M : Type 1} → statement M
 put-header-spec =

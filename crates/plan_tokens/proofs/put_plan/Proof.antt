@@ -2,7 +2,8 @@
 use native.Mathlib.Omega.{arith}
 use mathlib.Core.Path.{_∙_}
 use Rattle.text.proofs.Added.{added-more, added-as}
-use Rattle.plan_tokens.proofs.Parts.{some, sized, in-order, tree-same, root-inside, version-small, room-for-header, room-for-main, room-for-others, main-wrote, whole-is}
+use Rattle.plan_tokens.proofs.Parts.{some, sized, in-order, tree-same, root-inside, version-small, room-for-header, room-for-main, room-for-others}
+use Rattle.plan_tokens.proofs.Parts.{main-wrote, whole-is}
 use borrow.Author.Needs.{needs}
 use Rattle.plan_tokens.proofs.put_plan.Statement.{statement}
 use Rattle.plan_tokens.proofs.put_plan.Tie as tie
@@ -30,28 +31,50 @@ write-expression-requires c κs =
     let s = c .before .before .before .before .before .before .before .before .before .before .before .before in
     let g = s .pre .0 in
     let p = c .before .before .before .before .before .put-header .ensures in
-    let q = c .before .before .before .before .before .before .before .before .root .ensures in
-    ((in-order _ _ g, rw q (root-inside _ _ g 0 (some _ _ g))), ((c .before .before .before .before .before .before .before .all .ensures, search needs), rw q (rw (tree-same _ _ g 0) (rw (p .kept) (room-for-main _ _ g _ _ (s .pre .1) (p .next))))))
+    let q = c .before .before .before .before .before .before .before .before .root .ensures in (
+      (in-order _ _ g, rw q (root-inside _ _ g 0 (some _ _ g))),
+      (
+        (c .before .before .before .before .before .before .before .all .ensures, search needs),
+        rw q (rw (tree-same _ _ g 0) (rw (p .kept) (room-for-main _ _ g _ _ (s .pre .1) (p .next)))),
+      ),
+    )
 
 slice-aggregate-put-procedures : tie.Need-slice-aggregate-put-procedures
 slice-aggregate-put-procedures c = search needs
 
 put-procedures-requires : tie.Need-put-procedures-requires
 put-procedures-requires c κs =
-    let s = c .before .before .before .before .before .before .before .before .before .before .before .before .before .before .before .before .before .before .before in
+    let s = c .before .before .before .before .before .before .before .before .before .before .before .before .before .before .before .before .before .before
+    .before in
     let g = s .pre .0 in
     let p = c .before .before .before .before .before .before .before .before .before .before .before .before .put-header .ensures in
-    let q = main-wrote _ _ g (c .before .before .before .before .before .before .before .before .before .before .before .before .before .before .before .root .ensures) (c .before .before .before .before .before .before .write-expression .ensures) in
-    ((g, c .before .before .before .before .before .before .before .before .before .before .before .before .before .before .all .ensures, search needs), (c .before .before .before .before .before .before .before .before .before .before .before .before .before .before .before .before .procedures .ensures, rw (q .kept ∙ p .kept) (room-for-others _ _ g _ _ _ (s .pre .1) (p .next) (q .next))))
+    let q = main-wrote _ _ g
+    (c .before .before .before .before .before .before .before .before .before .before .before .before .before .before .before .root .ensures)
+    (c .before .before .before .before .before .before .write-expression .ensures) in (
+      (g, c .before .before .before .before .before .before .before .before .before .before .before .before .before .before .all .ensures, search needs),
+      (
+        c .before .before .before .before .before .before .before .before .before .before .before .before .before .before .before
+            .before .procedures .ensures,
+        rw (q .kept ∙ p .kept) (room-for-others _ _ g _ _ _ (s .pre .1) (p .next) (q .next)),
+      ),
+    )
 
 same-length : tie.Need-same-length
-same-length c = c .before .before .before .put-procedures .ensures .kept ∙ c .before .before .before .before .before .before .before .before .before .before .write-expression .ensures .kept ∙ c .before .before .before .before .before .before .before .before .before .before .before .before .before .before .before .before .put-header .ensures .kept
+same-length c = c .before .before .before .put-procedures .ensures .kept
+    ∙ c .before .before .before .before .before .before .before .before .before .before .write-expression .ensures .kept
+    ∙ c .before .before .before .before .before .before .before .before .before .before .before .before .before .before .before
+    .before .put-header .ensures .kept
 
 returns : tie.Need-returns
 returns c =
-    let g = c .before .before .before .before .before .before .before .before .before .before .before .before .before .before .before .before .before .before .before .before .before .before .before .pre .0 in
-    let q = main-wrote _ _ g (c .before .before .before .before .before .before .before .before .before .before .before .before .before .before .before .before .before .before .before .root .ensures) (c .before .before .before .before .before .before .before .before .before .before .write-expression .ensures) in
-    added-as (whole-is _ _ g) (added-more (c .before .before .before .before .before .before .before .before .before .before .before .before .before .before .before .before .put-header .ensures) (added-more q (c .before .before .before .put-procedures .ensures)))
+    let g = c .before .before .before .before .before .before .before .before .before .before .before .before .before .before .before .before .before .before
+    .before .before .before .before .before .pre .0 in
+    let q = main-wrote _ _ g
+    (c .before .before .before .before .before .before .before .before .before .before .before .before .before .before .before .before .before .before
+    .before .root .ensures) (c .before .before .before .before .before .before .before .before .before .before .write-expression .ensures) in
+    added-as (whole-is _ _ g)
+    (added-more (c .before .before .before .before .before .before .before .before .before .before .before .before .before .before .before
+    .before .put-header .ensures) (added-more q (c .before .before .before .put-procedures .ensures)))
 
 pub put-plan-spec : {M : Type 1} → statement M
 put-plan-spec =

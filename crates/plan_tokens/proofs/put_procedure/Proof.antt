@@ -20,8 +20,10 @@ parameters-requires c κs =
 put-head-requires : tie.Need-put-head-requires
 put-head-requires c κs =
     let s = c .before .before .before .before .before in
-    let g = s .pre .0 .0 in
-    (omega (arith, s .pre .1 .1, alone-length (s .args .plan .now) (s .args .procedure)), (omega (arith, few _ _ g, s .pre .1 .0), omega (arith, c .before .parameters .ensures, parameters-small _ _ g _ (s .pre .1 .0))))
+    let g = s .pre .0 .0 in (
+      omega (arith, s .pre .1 .1, alone-length (s .args .plan .now) (s .args .procedure)),
+      (omega (arith, few _ _ g, s .pre .1 .0), omega (arith, c .before .parameters .ensures, parameters-small _ _ g _ (s .pre .1 .0))),
+    )
 
 root-requires : tie.Need-root-requires
 root-requires c κs =
@@ -34,21 +36,39 @@ write-expression-requires c κs =
     let s = c .before .before .before .before .before .before .before .before .before .before .before in
     let g = s .pre .0 .0 in
     let p = c .before .before .before .before .before .put-head .ensures in
-    let q = c .before .before .root .ensures in
-    ((in-order _ _ g, rw q (root-inside _ _ g _ (s .pre .1 .0))), ((s .pre .0 .1, s .pre .0 .2), rw q (rw (tree-same _ _ g _) (omega (arith, s .pre .1 .1, alone-length (s .args .plan .now) (s .args .procedure), p .next, p .kept, head-length (s .args .procedure) (c .before .before .before .before .before .before .before .parameters .result))))))
+    let q = c .before .before .root .ensures in (
+      (in-order _ _ g, rw q (root-inside _ _ g _ (s .pre .1 .0))),
+      (
+        (s .pre .0 .1, s .pre .0 .2),
+        rw q (rw (tree-same _ _ g _)
+            (omega (
+              arith,
+              s .pre .1 .1,
+              alone-length (s .args .plan .now) (s .args .procedure),
+              p .next,
+              p .kept,
+              head-length (s .args .procedure) (c .before .before .before .before .before .before .before .parameters .result),
+            ))),
+      ),
+    )
 
 same-length : tie.Need-same-length
 same-length c = search needs
 
 same-length-2 : tie.Need-same-length-2
-same-length-2 c = c .before .before .before .before .write-expression .ensures .kept ∙ c .before .before .before .before .before .before .before .before .before .before .put-head .ensures .kept
+same-length-2 c = c .before .before .before .before .write-expression .ensures .kept
+    ∙ c .before .before .before .before .before .before .before .before .before .before .put-head .ensures .kept
 
 returns : tie.Need-returns
 unfolding procedureAlone
 returns c =
     let s = c .before .before .before .before .before .before .before .before .before .before .before .before .before .before .before .before in
-    let e = ap (λ (x : ℕ). shown loose (treeIn (s .args .words .now) x)) (c .before .before .before .before .before .before .before .root .ensures) ∙ ap (shown loose) (tree-same _ _ (s .pre .0 .0) _) in
-    added-more (added-as (ap (procedureHead _) (c .before .before .before .before .before .before .before .before .before .before .before .before .parameters .ensures)) (c .before .before .before .before .before .before .before .before .before .before .put-head .ensures)) (added-as e (c .before .before .before .before .write-expression .ensures))
+    let e = ap (λ (x : ℕ). shown loose (treeIn (s .args .words .now) x)) (c .before .before .before .before .before .before .before .root .ensures)
+    ∙ ap (shown loose) (tree-same _ _ (s .pre .0 .0) _) in
+    added-more (added-as (ap (procedureHead _)
+    (c .before .before .before .before .before .before .before .before .before .before .before .before .parameters .ensures))
+    (c .before .before .before .before .before .before .before .before .before .before .put-head .ensures))
+    (added-as e (c .before .before .before .before .write-expression .ensures))
 
 pub put-procedure-spec : {M : Type 1} → statement M
 put-procedure-spec =

@@ -23,11 +23,14 @@ put-procedure-requires : tie.Need-put-procedure-requires Inv-loop μ-loop
 put-procedure-requires c κs =
     let s = c .before .before .before .before .before .before .before in
     let g = s .pre .0 .0 in
-    let h = rw (s .pre .1 .0) at (c .before .before .loop-test .taken) in
-    ((g, s .pre .0 .1, c .before .before .before .loop .inv .0 ∙ s .pre .0 .2), (h, room-for-one _ _ g (c .before .before .before .loop .inv .1 g) h (s .pre .1 .1)))
+    let h = rw (s .pre .1 .0) at (c .before .before .loop-test .taken) in (
+      (g, s .pre .0 .1, c .before .before .before .loop .inv .0 ∙ s .pre .0 .2),
+      (h, room-for-one _ _ g (c .before .before .before .loop .inv .1 g) h (s .pre .1 .1)),
+    )
 
 add-procedure : tie.Need-add-procedure Inv-loop μ-loop
-add-procedure c = let s = c .before .before .before .before .before .before .before .before .before .before .before .before in search (needs, few _ _ (s .pre .0 .0), s .pre .1 .0)
+add-procedure c = let s = c .before .before .before .before .before .before .before .before .before .before .before .before in
+    search (needs, few _ _ (s .pre .0 .0), s .pre .1 .0)
 
 loop-less : tie.Need-loop-less Inv-loop μ-loop
 loop-less c = search needs

@@ -33,8 +33,16 @@ put-fields-requires : tie.Need-put-fields-requires
 put-fields-requires c κs =
     let f = c .before .before .before .before .before .before .first-field .ensures in
     let l = below (f .small) (c .before .before .before .before .before .if1 .left) in
-    let p = c .before .before .before .put-byte .ensures in
-    (f .small, omega (arith, c .before .before .before .before .before .before .before .before .pre, p .next, p .kept, ap length (volatile-some _ _ (f .same) l (f .there l))))
+    let p = c .before .before .before .put-byte .ensures in (
+      f .small,
+      omega (
+        arith,
+        c .before .before .before .before .before .before .before .before .pre,
+        p .next,
+        p .kept,
+        ap length (volatile-some _ _ (f .same) l (f .there l)),
+      ),
+    )
 
 same-length : tie.Need-same-length
 same-length c = c .before .before .put-fields .ensures .kept ∙ c .before .before .before .before .before .before .put-byte .ensures .kept
@@ -43,7 +51,8 @@ returns-2 : tie.Need-returns-2
 returns-2 c =
     let f = c .before .before .before .before .before .before .before .before .before .first-field .ensures in
     let l = below (f .small) (c .before .before .before .before .before .before .before .before .if1 .left) in
-    added-as (sym (volatile-some _ _ (f .same) l (f .there l))) (added-more (c .before .before .before .before .before .before .put-byte .ensures) (c .before .before .put-fields .ensures))
+    added-as (sym (volatile-some _ _ (f .same) l (f .there l)))
+    (added-more (c .before .before .before .before .before .before .put-byte .ensures) (c .before .before .put-fields .ensures))
 
 pub put-volatiles-spec : {M : Type 1} → statement M
 put-volatiles-spec =

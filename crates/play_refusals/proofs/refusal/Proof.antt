@@ -26,7 +26,10 @@ enum-told-2 : tie.Need-enum-told-2
 enum-told-2 c = search needs
 
 returns : tie.Need-returns
-returns c = (λ a e. by-schedule _ _ a _ _ _ (c .before .before .schedule-refusal .ensures .0) (c .enum-told2 .given .1), λ q. passed-refused q (c .enum-told2 .given .1))
+returns c = (
+  λ a e. by-schedule _ _ a _ _ _ (c .before .before .schedule-refusal .ensures .0) (c .enum-told2 .given .1),
+  λ q. passed-refused q (c .enum-told2 .given .1),
+)
 
 -- the schedule is short
 mul-if1 : tie.Need-mul-if1
@@ -40,8 +43,10 @@ unfolding answered refuse firstRefusal
 returns-2 c = (
   λ a e.
       let s = c .before .before .before .before .before .before .before .before .args .schedule .now in
-      let m10 : lowest (λ place. shortArea s a) 1 ≡ some 0 = whole (shortArea s a) (unfold shortArea in rw e (lt-ltb _ (3 * length s) (c .before .if1 .taken))) in
-      by-area _ s a _ (c .refused .result) (c .before .before .before .before .schedule-refusal .ensures .0) (c .before .before .enum-told .given .1) (ap answered (c .refused .ensures) ∙ sym (rw m10)),
+      let m10 : lowest (λ place. shortArea s a) 1 ≡ some 0 =
+      whole (shortArea s a) (unfold shortArea in rw e (lt-ltb _ (3 * length s) (c .before .if1 .taken))) in
+      by-area _ s a _ (c .refused .result) (c .before .before .before .before .schedule-refusal .ensures .0) (c .before .before .enum-told .given .1)
+      (ap answered (c .refused .ensures) ∙ sym (rw m10)),
   λ q. passed-refused q (c .refused .ensures),
 )
 
@@ -52,7 +57,8 @@ returns-3 c = (
       let s = c .before .before .before .before .before .before .before .args .schedule .now in
       let m10 : lowest (λ place. shortArea s a) 1 ≡ none = whole-none (shortArea s a) (unfold shortArea in rw e (le-ltb _ (3 * length s) (c .if1 .left))) in
       let q = c .before .enum-told .given .1 in
-      by-area _ s a _ (c .before .before .before .schedule-refusal .result) (c .before .before .before .schedule-refusal .ensures .0) q (ap answered q ∙ sym (rw m10)),
+      by-area _ s a _ (c .before .before .before .schedule-refusal .result) (c .before .before .before .schedule-refusal .ensures .0) q
+      (ap answered q ∙ sym (rw m10)),
   c .before .before .before .schedule-refusal .ensures .1,
 )
 

@@ -38,8 +38,10 @@ returns-2 c =
     let p = c .before .before .before .before .before .before .before .before .args .pick in
     let s : List ℕ = q ++ (p ∷ []) in
     let m8 : lowest (λ place. tooManyPicks s) 1 ≡ some 0 = whole (tooManyPicks s) (too-many-with q p (c .before .if1 .taken)) in
-    let l = c .before .before .before .before .load in
-    (by-picks _ s _ (c .refused .result) (l .ensures .0) (c .before .before .enum-told .given .1) (ap answered (c .refused .ensures) ∙ sym (rw m8)), λ q. passed-refused q (c .refused .ensures))
+    let l = c .before .before .before .before .load in (
+      by-picks _ s _ (c .refused .result) (l .ensures .0) (c .before .before .enum-told .given .1) (ap answered (c .refused .ensures) ∙ sym (rw m8)),
+      λ q. passed-refused q (c .refused .ensures),
+    )
 
 lowest-wrong-with-requires : tie.Need-lowest-wrong-with-requires
 lowest-wrong-with-requires c κs = search needs
@@ -55,9 +57,13 @@ returns-3 c =
     let s : List ℕ = q ++ (p ∷ []) in
     let m8 : lowest (λ place. tooManyPicks s) 1 ≡ none = whole-none (tooManyPicks s) (few-with q p (c .before .before .before .if1 .left)) in
     let w = c .before .before .lowest-wrong-with in
-    let m9 : lowest (wrongPick s) (length s) ≡ some (w .result) = struck (wrongPick s) (length q + 1) (length s) _ (sym (length-with q p)) (w .ensures) (omega (arith, c .before .if2 .taken)) in
-    let l = c .before .before .before .before .before .before .load in
-    (by-picks _ s _ (c .refused2 .result) (l .ensures .0) (c .before .before .before .before .enum-told .given .1) (ap answered (c .refused2 .ensures) ∙ sym (rw (m8, m9))), λ q. passed-refused q (c .refused2 .ensures))
+    let m9 : lowest (wrongPick s) (length s) ≡ some (w .result) =
+    struck (wrongPick s) (length q + 1) (length s) _ (sym (length-with q p)) (w .ensures) (omega (arith, c .before .if2 .taken)) in
+    let l = c .before .before .before .before .before .before .load in (
+      by-picks _ s _ (c .refused2 .result) (l .ensures .0) (c .before .before .before .before .enum-told .given .1)
+          (ap answered (c .refused2 .ensures) ∙ sym (rw (m8, m9))),
+      λ q. passed-refused q (c .refused2 .ensures),
+    )
 
 returns-4 : tie.Need-returns-4
 unfolding answered refuse firstRefusal
@@ -67,7 +73,8 @@ returns-4 c =
     let s : List ℕ = q ++ (p ∷ []) in
     let m8 : lowest (λ place. tooManyPicks s) 1 ≡ none = whole-none (tooManyPicks s) (few-with q p (c .before .before .if1 .left)) in
     let w = c .before .lowest-wrong-with in
-    let m9 : lowest (wrongPick s) (length s) ≡ none = missed (wrongPick s) (length q + 1) (length s) _ (sym (length-with q p)) (w .ensures) (omega (arith, c .if2 .left)) in
+    let m9 : lowest (wrongPick s) (length s) ≡ none =
+    missed (wrongPick s) (length q + 1) (length s) _ (sym (length-with q p)) (w .ensures) (omega (arith, c .if2 .left)) in
     let l = c .before .before .before .before .before .load in
     let e = c .before .before .before .enum-told .given .1 in
     (by-picks _ s _ (l .result) (l .ensures .0) e (ap answered e ∙ sym (rw (m8, m9))), l .ensures .1)

@@ -33,8 +33,10 @@ unfolding answered refuse firstRefusal
 returns-2 c =
     let s = c .before .before .before .before .before .before .before .before .args .schedule .now in
     let m8 : lowest (λ place. tooManyPicks s) 1 ≡ some 0 = whole (tooManyPicks s) (unfold tooManyPicks in lt-ltb 4096 _ (c .before .if1 .taken)) in
-    let l = c .before .before .before .before .load in
-    (by-picks _ s _ (c .refused .result) (l .ensures .0) (c .before .before .enum-told .given .1) (ap answered (c .refused .ensures) ∙ sym (rw m8)), λ q. passed-refused q (c .refused .ensures))
+    let l = c .before .before .before .before .load in (
+      by-picks _ s _ (c .refused .result) (l .ensures .0) (c .before .before .enum-told .given .1) (ap answered (c .refused .ensures) ∙ sym (rw m8)),
+      λ q. passed-refused q (c .refused .ensures),
+    )
 
 lowest-wrong-pick-requires : tie.Need-lowest-wrong-pick-requires
 lowest-wrong-pick-requires c κs = search needs
@@ -46,11 +48,15 @@ returns-3 : tie.Need-returns-3
 unfolding answered refuse firstRefusal
 returns-3 c =
     let s = c .before .before .before .before .before .before .before .before .before .before .args .schedule .now in
-    let m8 : lowest (λ place. tooManyPicks s) 1 ≡ none = whole-none (tooManyPicks s) (unfold tooManyPicks in le-ltb 4096 _ (c .before .before .before .if1 .left)) in
+    let m8 : lowest (λ place. tooManyPicks s) 1 ≡ none =
+    whole-none (tooManyPicks s) (unfold tooManyPicks in le-ltb 4096 _ (c .before .before .before .if1 .left)) in
     let w = c .before .before .lowest-wrong-pick in
     let m9 : lowest (wrongPick s) (length s) ≡ some (w .result) = struck (wrongPick s) (length s) (length s) _ refl (w .ensures) (c .before .if2 .taken) in
-    let l = c .before .before .before .before .before .before .load in
-    (by-picks _ s _ (c .refused2 .result) (l .ensures .0) (c .before .before .before .before .enum-told .given .1) (ap answered (c .refused2 .ensures) ∙ sym (rw (m8, m9))), λ q. passed-refused q (c .refused2 .ensures))
+    let l = c .before .before .before .before .before .before .load in (
+      by-picks _ s _ (c .refused2 .result) (l .ensures .0) (c .before .before .before .before .enum-told .given .1)
+          (ap answered (c .refused2 .ensures) ∙ sym (rw (m8, m9))),
+      λ q. passed-refused q (c .refused2 .ensures),
+    )
 
 returns-4 : tie.Need-returns-4
 unfolding answered refuse firstRefusal

@@ -37,8 +37,12 @@ loop-less c = search needs
 loop-again : tie.Need-loop-again Inv-loop μ-loop
 loop-again c =
     let l = c .before .before .loop in
-    let n : l .procedure < length (l .all) = rw (l .inv .1) (omega arith) in
-    (search needs, length-set (l .all) (l .procedure) _ ∙ l .inv .1, filled {A = ℕ} (l .all) (l .procedure) (c .root .result) 0 (λ (p x : ℕ). x ≡ root (c .before .before .before .before .args .plan .now) p) n (l .inv .2) (c .root .ensures))
+    let n : l .procedure < length (l .all) = rw (l .inv .1) (omega arith) in (
+      search needs,
+      length-set (l .all) (l .procedure) _ ∙ l .inv .1,
+      filled {A = ℕ} (l .all) (l .procedure) (c .root .result) 0 (λ (p x : ℕ). x ≡ root (c .before .before .before .before .args .plan .now) p) n
+          (l .inv .2) (c .root .ensures),
+    )
 
 returns : tie.Need-returns Inv-loop μ-loop
 returns c i q = let l = c .before .loop in l .inv .2 i (omega arith)

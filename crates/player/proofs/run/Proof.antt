@@ -38,7 +38,8 @@ returns c =
     let start = c .before .before .before .before .before .before .before .before .before .before .before .before in
     let a = start .args in
     let all = c .before .before .before .before .before .before .before .roots in
-    let r : Roots (a .plan .now) (procedures (a .plan .now)) (all .result) = λ i q. all .ensures i (omega (arith, c .before .before .before .before .before .before .before .before .procedures .ensures)) in
+    let r : Roots (a .plan .now) (procedures (a .plan .now)) (all .result) =
+    λ i q. all .ensures i (omega (arith, c .before .before .before .before .before .before .before .before .procedures .ensures)) in
     let m = c .before .before .before .before .before .before .volatiles .ensures in
     let v = c .before .before .before .before .before .version .ensures in
     let e = c .before .before .run in

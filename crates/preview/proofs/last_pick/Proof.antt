@@ -61,7 +61,8 @@ returns-5 : tie.Need-returns-5
 returns-5 c =
     let l = c .before .before .before in
     let a = start l .args in
-    ap (λ (x : RecordBytes). previewed.Race x) (c .last-record .ensures) ∙ sym (raced (a .ran) (a .before) (a .pick) (a .log .now) (l .if1 .left) (c .before .enum-told .given .1))
+    ap (λ (x : RecordBytes). previewed.Race x) (c .last-record .ensures)
+    ∙ sym (raced (a .ran) (a .before) (a .pick) (a .log .now) (l .if1 .left) (c .before .enum-told .given .1))
 
 returns-6 : tie.Need-returns-6
 returns-6 c =
@@ -69,7 +70,8 @@ returns-6 c =
     let l = k .before .before in
     let a = start l .args in
     ap (λ (x : RecordBytes). previewed.Recorded x) (c .last-record2 .ensures)
-    ∙ sym (recorded (a .ran) (a .before) (a .pick) (a .log .now) (l .if1 .left) (k .enum-told2 .given .1) (c .before .before .before .before .if2 .left) (c .before .if3 .left))
+    ∙ sym (recorded (a .ran) (a .before) (a .pick) (a .log .now) (l .if1 .left) (k .enum-told2 .given .1) (c .before .before .before .before .if2 .left)
+    (c .before .if3 .left))
 
 pub last-pick-spec : {M : Type 1} → statement M
 last-pick-spec =

@@ -27,7 +27,8 @@ returns c =
     let k = c .before in
     let a = k .before .before .before .before .before .before .args in
     let x = k .before .before .refusal-with in
-    whole (a .plan .now) (a .schedule .now) (a .pick) _ (refused-answer (a .plan .now) (a .schedule .now) (a .pick) (x .result) (x .ensures .0) _ _ (k .checked .given .1)) tt
+    whole (a .plan .now) (a .schedule .now) (a .pick) _
+    (refused-answer (a .plan .now) (a .schedule .now) (a .pick) (x .result) (x .ensures .0) _ _ (k .checked .given .1)) tt
 
 returns-2 : tie.Need-returns-2
 returns-2 c =
@@ -35,7 +36,8 @@ returns-2 c =
     let a = k .before .before .before .before .before .before .args in
     let x = k .before .before .refusal-with in
     let s = c .shown .ensures in
-    whole (a .plan .now) (a .schedule .now) (a .pick) _ (shown-answer (a .plan .now) (a .schedule .now) (a .pick) (x .result) (x .ensures .0) (k .enum-told .given .1) (c .shown .result) s) (s .logged)
+    whole (a .plan .now) (a .schedule .now) (a .pick) _
+    (shown-answer (a .plan .now) (a .schedule .now) (a .pick) (x .result) (x .ensures .0) (k .enum-told .given .1) (c .shown .result) s) (s .logged)
 
 pub preview-spec : {M : Type 1} → statement M
 preview-spec = tie.close (tie.spec refusal-with-requires enum-known-checked enum-told shown-requires returns returns-2)

@@ -23,7 +23,8 @@ cast-add-pick : tie.Need-cast-add-pick
 cast-add-pick c = record { fits = omega (arith, small-pick (c .before .before .before)) }
 
 add-pick-requires : tie.Need-add-pick-requires
-add-pick-requires c κs = let a = c .before .before .before .args in omega (arith, c .before .before .before .pre .few, length-append (a .schedule .now) (a .pick ∷ []))
+add-pick-requires c κs = let a =
+    c .before .before .before .args in omega (arith, c .before .before .before .pre .few, length-append (a .schedule .now) (a .pick ∷ []))
 
 sub-run : tie.Need-sub-run
 sub-run c = search needs
@@ -41,7 +42,8 @@ run-requires : tie.Need-run-requires
 unfolding innerLog
 run-requires c κs =
     let s = c .before .before .before .before .before .before .before .before in
-    along (λ (ps : List ℕ). Given (s .args .plan .now) (s .args .words .now) ps innerLog) (sym (written (c .before .before .before .before .add-pick .ensures))) (s .pre)
+    along (λ (ps : List ℕ). Given (s .args .plan .now) (s .args .words .now) ps innerLog)
+    (sym (written (c .before .before .before .before .add-pick .ensures))) (s .pre)
 
 slice-aggregate-last-pick : tie.Need-slice-aggregate-last-pick
 slice-aggregate-last-pick c = search needs
@@ -54,7 +56,8 @@ module _ (c : tie.After-run) where
   ran : RunOn (start .args .plan .now) (withPick (start .args .schedule .now) (start .args .pick)) innerLog (c .run .last .1 .1 .1 .1 .0) (c .run .result)
   unfolding innerLog
   ran =
-      along (λ (ps : List ℕ). RunOn (start .args .plan .now) ps innerLog (c .run .last .1 .1 .1 .1 .0) (c .run .result)) (written (c .before .before .before .before .before .add-pick .ensures))
+      along (λ (ps : List ℕ). RunOn (start .args .plan .now) ps innerLog (c .run .last .1 .1 .1 .1 .0) (c .run .result))
+      (written (c .before .before .before .before .before .add-pick .ensures))
       (c .run .ensures)
 
 last-pick-requires : tie.Need-last-pick-requires
@@ -67,7 +70,8 @@ returns : tie.Need-returns
 returns c =
     let x = c .before .before .before in
     let a = start x .args in
-    let f = shown-found (a .plan .now) (a .schedule .now) (a .pick) (a .words .now) innerLog (start x .pre) (x .run .result) (x .run .last .1 .1 .1 .1 .0) (ran x) in
+    let f = shown-found (a .plan .now) (a .schedule .now) (a .pick) (a .words .now) innerLog (start x .pre) (x .run .result) (x .run .last .1 .1 .1 .1 .0)
+    (ran x) in
     record { answer = ap answered (c .last-pick .ensures) ∙ f .answer; logged = along AsLogged (sym (c .last-pick .ensures)) (f .as-logged) }
 
 pub shown-spec : {M : Type 1} → statement M

@@ -87,13 +87,16 @@ fill-requires-6 : tie.Need-fill-requires-6
 fill-requires-6 c κs = search needs
 
 returns-2 : tie.Need-returns-2
-returns-2 c = rw (c .before .before .before .before .before .previewed2 .given .1) (stopped _ _ _ _ _ (c .fill .ensures) (c .before .before .stop-bytes .ensures) (c .before .no-record .ensures))
+returns-2 c = rw (c .before .before .before .before .before .previewed2 .given .1)
+    (stopped _ _ _ _ _ (c .fill .ensures) (c .before .before .stop-bytes .ensures) (c .before .no-record .ensures))
 
 returns-3 : tie.Need-returns-3
-returns-3 c = rw (c .before .before .before .before .before .previewed3 .given .1) (passed _ _ _ _ _ (c .fill2 .ensures) (c .before .before .thread-bytes .ensures) (c .before .no-record2 .ensures))
+returns-3 c = rw (c .before .before .before .before .before .previewed3 .given .1)
+    (passed _ _ _ _ _ (c .fill2 .ensures) (c .before .before .thread-bytes .ensures) (c .before .no-record2 .ensures))
 
 returns-4 : tie.Need-returns-4
-returns-4 c = rw (c .before .before .before .before .enum-told .given .1) (moved _ _ _ _ (c .fill3 .ensures) (c .before .before .no-reason .ensures) (c .before .no-record3 .ensures))
+returns-4 c = rw (c .before .before .before .before .enum-told .given .1)
+    (moved _ _ _ _ (c .fill3 .ensures) (c .before .before .no-reason .ensures) (c .before .no-record3 .ensures))
 
 returns-5 : tie.Need-returns-5
 returns-5 c =
@@ -108,7 +111,8 @@ returns-6 c =
     rw g (raced _ _ _ _ (c .fill5 .ensures) (c .before .stop-bytes2 .ensures) l)
 
 returns-7 : tie.Need-returns-7
-returns-7 c = rw (c .before .before .before .before .before .previewed6 .given .1) (no-room _ _ _ _ _ (c .fill6 .ensures) (c .before .before .stop-bytes3 .ensures) (c .before .no-record4 .ensures))
+returns-7 c = rw (c .before .before .before .before .before .previewed6 .given .1)
+    (no-room _ _ _ _ _ (c .fill6 .ensures) (c .before .before .stop-bytes3 .ensures) (c .before .no-record4 .ensures))
 
 pub write-spec : {M : Type 1} → statement M
 write-spec =

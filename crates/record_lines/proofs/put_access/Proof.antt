@@ -83,7 +83,8 @@ returns-5 : tie.Need-returns-5
 unfolding kindWord kindOf kinds ascii
 returns-5 c =
     let rest = c .before .before .before .before .before .match .rest in
-    added-as (other-kind _ (no-access _ (c .before .before .before .before .before .before .before .pre .1) (rest .1) (rest .0 .1) (rest .0 .0 .1) (rest .0 .0 .0 .1))) (c .before .before .put-word5 .ensures)
+    added-as (other-kind _ (no-access _ (c .before .before .before .before .before .before .before .pre .1) (rest .1) (rest .0 .1) (rest .0 .0 .1)
+    (rest .0 .0 .0 .1))) (c .before .before .put-word5 .ensures)
 
 pub put-access-spec : {M : Type 1} → statement M
 put-access-spec =

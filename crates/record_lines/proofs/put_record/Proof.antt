@@ -25,22 +25,26 @@ put-column-requires c κs =
 
 put-column-requires-2 : tie.Need-put-column-requires-2
 put-column-requires-2 c κs =
-    let a = c .before .before .before .before .before .before .before .before .before .before .before .before .before .before .before .before .before .before .args in
+    let a = c .before .before .before .before .before .before .before .before .before .before .before .before .before .before .before .before .before
+    .before .args in
     omega (arith, record-length (a .index) (recordOf (a .columns)))
 
 put-column-requires-3 : tie.Need-put-column-requires-3
 put-column-requires-3 c κs =
-    let a = c .before .before .before .before .before .before .before .before .before .before .before .before .before .before .before .before .before .before .before .before .before .before .args in
+    let a = c .before .before .before .before .before .before .before .before .before .before .before .before .before .before .before .before .before .before
+    .before .before .before .before .args in
     omega (arith, record-length (a .index) (recordOf (a .columns)))
 
 put-column-requires-4 : tie.Need-put-column-requires-4
 put-column-requires-4 c κs =
-    let a = c .before .before .before .before .before .before .before .before .before .before .before .before .before .before .before .before .before .before .before .before .before .before .before .before .before .before .args in
+    let a = c .before .before .before .before .before .before .before .before .before .before .before .before .before .before .before .before .before .before
+    .before .before .before .before .before .before .before .before .args in
     omega (arith, record-length (a .index) (recordOf (a .columns)))
 
 put-byte-requires-2 : tie.Need-put-byte-requires-2
 put-byte-requires-2 c κs =
-    let a = c .before .before .before .before .before .before .before .before .before .before .before .before .before .before .before .before .before .before .before .before .before .before .before .before .before .before .before .before .before .before .args in
+    let a = c .before .before .before .before .before .before .before .before .before .before .before .before .before .before .before .before .before .before
+    .before .before .before .before .before .before .before .before .before .before .before .before .args in
     omega (arith, record-length (a .index) (recordOf (a .columns)))
 
 same-length : tie.Need-same-length
@@ -58,7 +62,8 @@ returns c =
     let index = space .before .before .before .before in
     let a = index .before .before .before .args in
     added-as (record-parts (a .index) (recordOf (a .columns)))
-    (added-more (added-more (added-more (added-more (added-more (added-more (added-more (index .put-number .ensures) (space .put-byte .ensures)) (kind .put-kind .ensures))
+    (added-more (added-more
+    (added-more (added-more (added-more (added-more (added-more (index .put-number .ensures) (space .put-byte .ensures)) (kind .put-kind .ensures))
     (thread .put-column .ensures)) (object .put-column2 .ensures)) (field .put-column3 .ensures)) (value .put-column4 .ensures)) (last .put-byte2 .ensures))
 
 pub put-record-spec : {M : Type 1} → statement M

@@ -21,13 +21,22 @@ add-if2 c =
     let r = c .before .before .replay in
     let e = c .before .before .before in
     let s = e .before .before .before in
-    record { fits = omega (arith, few-counts (s .args .plan .now) (s .args .schedule .now) (r .result) (r .ensures), c .before .stop-count .ensures, e .if1 .left, s .pre .2) }
+    record {
+      fits = omega (
+        arith,
+        few-counts (s .args .plan .now) (s .args .schedule .now) (r .result) (r .ensures),
+        c .before .stop-count .ensures,
+        e .if1 .left,
+        s .pre .2,
+      );
+    }
 
 returns-2 : tie.Need-returns-2
 returns-2 c =
     let r = c .before .before .before .replay in
     let a = c .before .before .before .before .before .before .before .args in
-    miscounted (a .plan .now) (a .schedule .now) (r .result) (r .ensures) (a .n) (λ e. c .if2 .taken (ap (λ (x : ℕ). r .result .moves + x) (c .before .before .stop-count .ensures) ∙ e))
+    miscounted (a .plan .now) (a .schedule .now) (r .result) (r .ensures) (a .n)
+    (λ e. c .if2 .taken (ap (λ (x : ℕ). r .result .moves + x) (c .before .before .stop-count .ensures) ∙ e))
 
 returns-3 : tie.Need-returns-3
 returns-3 c =
@@ -46,7 +55,8 @@ returns-4 c =
     let e = c .before .before .before .before .before .before in
     let s = e .before .before .before in
     by-lowest (s .args .plan .now) (s .args .schedule .now) (r .result) (r .ensures) (s .args .n) (s .pre .1) (omega (arith, e .if1 .left))
-    (ap (λ (x : ℕ). r .result .moves + x) (sym (c .before .before .before .before .stop-count .ensures)) ∙ c .before .before .if2 .left) (c .follower .result) (c .before .if3 .left) (c .follower .ensures)
+    (ap (λ (x : ℕ). r .result .moves + x) (sym (c .before .before .before .before .stop-count .ensures)) ∙ c .before .before .if2 .left) (c .follower .result)
+    (c .before .if3 .left) (c .follower .ensures)
 
 pub listed-spec : {M : Type 1} → statement M
 listed-spec =

@@ -32,7 +32,13 @@ put-record-requires : tie.Need-put-record-requires Inv-loop μ-loop
 put-record-requires c κs =
     let l = c .before .before .before .loop in
     let r = c .before .columns-at in
-    omega (arith, l .inv .1, l .inv .2 .kept, line-short (c .before .before .before .before .before .before .args .log .now) (l .index) (r .result) (omega arith) (r .ensures))
+    omega (
+      arith,
+      l .inv .1,
+      l .inv .2 .kept,
+      line-short (c .before .before .before .before .before .before .args .log .now) (l .index) (r .result)
+          (omega arith) (r .ensures),
+    )
 
 add-index : tie.Need-add-index Inv-loop μ-loop
 add-index c = search needs
@@ -47,7 +53,8 @@ loop-again c =
     let p = c .before .before .put-record in
     let b = c .before .before .before .before .before .before .before .before .before .args .log .now in
     let short = line-short b (l .index) (r .result) (omega arith) (r .ensures) in
-    let e = ap (λ (x : Record). recordLines 0 (recordsFrom b 0 (l .index)) ++ recordLine (l .index) x) (columns-are b (l .index) (r .result) (r .ensures)) ∙ sym (text-more b (l .index)) in
+    let e = ap (λ (x : Record). recordLines 0 (recordsFrom b 0 (l .index)) ++ recordLine (l .index) x) (columns-are b (l .index) (r .result) (r .ensures))
+    ∙ sym (text-more b (l .index)) in
     (search needs, omega (arith, l .inv .1, p .ensures .next, short), rw add-one (added-as e (added-more (l .inv .2) (p .ensures))))
 
 same-length : tie.Need-same-length Inv-loop μ-loop

@@ -35,8 +35,10 @@ put-digitals-requires c κs =
 
 put-byte-requires-2 : tie.Need-put-byte-requires-2
 put-byte-requires-2 c κs =
-    let a = c .before .before .before .before .before .before .before .before .before .before .before .before .before .before .before .before .before .before .args in
-    let w = c .before .before .before .before .before .before .before .before .before .before .before .before .before .before .before .put-below-10000 .ensures in
+    let a = c .before .before .before .before .before .before .before .before .before .before .before .before .before .before .before .before .before
+    .before .args in
+    let w = c .before .before .before .before .before .before .before .before .before .before .before .before .before .before
+    .before .put-below-10000 .ensures in
     let v = c .before .before .before .before .before .before .before .before .before .before .before .put-byte .ensures in
     let u = c .before .before .before .before .before .before .before .put-thousands .ensures in
     let d = c .before .before .before .put-digitals .ensures in
@@ -44,23 +46,48 @@ put-byte-requires-2 c κs =
 
 put-byte-requires-3 : tie.Need-put-byte-requires-3
 put-byte-requires-3 c κs =
-    let a = c .before .before .before .before .before .before .before .before .before .before .before .before .before .before .before .before .before .before .before .before .before .before .args in
-    let w = c .before .before .before .before .before .before .before .before .before .before .before .before .before .before .before .before .before .before .before .put-below-10000 .ensures in
+    let a = c .before .before .before .before .before .before .before .before .before .before .before .before .before .before .before .before .before .before
+    .before .before .before .before .args in
+    let w = c .before .before .before .before .before .before .before .before .before .before .before .before .before .before .before .before .before .before
+    .before .put-below-10000 .ensures in
     let v = c .before .before .before .before .before .before .before .before .before .before .before .before .before .before .before .put-byte .ensures in
     let u = c .before .before .before .before .before .before .before .before .before .before .before .put-thousands .ensures in
     let d = c .before .before .before .before .before .before .before .put-digitals .ensures in
     let e = c .before .before .before .put-byte2 .ensures in
-    omega (arith, w .next, w .kept, v .next, v .kept, u .next, u .kept, d .next, d .kept, e .next, e .kept, shown-length (a .shown) 32, line-length (a .number) (a .shown))
+    omega (
+      arith,
+      w .next,
+      w .kept,
+      v .next,
+      v .kept,
+      u .next,
+      u .kept,
+      d .next,
+      d .kept,
+      e .next,
+      e .kept,
+      shown-length (a .shown) 32,
+      line-length (a .number) (a .shown),
+    )
 
 same-length : tie.Need-same-length
 same-length c = search needs
 
 returns : tie.Need-returns
 returns c =
-    let a = c .before .before .before .before .before .before .before .before .before .before .before .before .before .before .before .before .before .before .before .before .before .before .before .before .before .args in
+    let a = c .before .before .before .before .before .before .before .before .before .before .before .before .before .before .before .before .before .before
+    .before .before .before .before .before .before .before .args in
     added-as (line-parts (a .number) (a .shown))
     (added-more
-    (added-more (added-more (added-more (added-more (c .before .before .before .before .before .before .before .before .before .before .before .before .before .before .before .before .before .before .before .before .before .before .put-below-10000 .ensures) (c .before .before .before .before .before .before .before .before .before .before .before .before .before .before .before .before .before .before .put-byte .ensures)) (c .before .before .before .before .before .before .before .before .before .before .before .before .before .before .put-thousands .ensures)) (c .before .before .before .before .before .before .before .before .before .before .put-digitals .ensures)) (c .before .before .before .before .before .before .put-byte2 .ensures))
+    (added-more (added-more
+    (added-more (added-more
+    (c .before .before .before .before .before .before .before .before .before .before .before .before .before .before .before .before .before .before
+    .before .before .before .before .put-below-10000 .ensures)
+    (c .before .before .before .before .before .before .before .before .before .before .before .before .before .before .before .before .before
+    .before .put-byte .ensures))
+    (c .before .before .before .before .before .before .before .before .before .before .before .before .before .before .put-thousands .ensures))
+    (c .before .before .before .before .before .before .before .before .before .before .put-digitals .ensures))
+    (c .before .before .before .before .before .before .put-byte2 .ensures))
     (c .before .before .put-byte3 .ensures))
 
 pub put-sample-spec : {M : Type 1} → statement M

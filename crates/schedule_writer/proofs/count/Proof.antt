@@ -10,13 +10,20 @@ use Rattle.schedule_writer.proofs.count.Statement.{statement}
 use Rattle.schedule_writer.proofs.count.Tie as tie
 
 abbrev Inv-loop : tie.InvT-loop
-Inv-loop kept moves total₀ index₀ total index = (index ≤ moves) × (total ≤ index) × (total + countKept (flagged kept) index (moves - index) ≡ countKept (flagged kept) 0 moves)
+Inv-loop kept moves total₀ index₀ total index =
+    (index ≤ moves) × (total ≤ index) × (total + countKept (flagged kept) index (moves - index) ≡ countKept (flagged kept) 0 moves)
 
 abbrev μ-loop : tie.MeasureT-loop
 μ-loop kept moves total₀ index₀ total index = moves - index
 
 loop-holds : tie.Need-loop-holds Inv-loop μ-loop
-loop-holds c = let a = c .args in (omega arith, omega arith, let e : a .moves - 0 ≡ a .moves = omega arith in let k = ap (countKept (flagged (a .kept .now)) 0) e in omega (arith, k))
+loop-holds c = let a =
+    c .args in (
+      omega arith,
+      omega arith,
+      let e : a .moves - 0 ≡ a .moves = omega arith in let k = ap (countKept (flagged (a .kept .now)) 0) e in
+          omega (arith, k),
+    )
 
 shared-slice-read-if1 : tie.Need-shared-slice-read-if1 Inv-loop μ-loop
 shared-slice-read-if1 c = search needs
@@ -35,8 +42,10 @@ loop-again c =
     let l = c .before .before .before .loop in
     let a = c .before .before .before .before .args in
     let h = c .before .before .loop-test .taken in
-    ⊎-elim (λ w. let e = counted-one (flagged (a .kept .now)) (l .index) (a .moves) h (w .0 .taken) in (omega arith, omega (arith, w .1), omega (arith, e, w .1, l .inv .2)))
-    (λ w. let e = counted-none (flagged (a .kept .now)) (l .index) (a .moves) h (w .0 .left) in (omega arith, omega (arith, w .1), omega (arith, e, w .1, l .inv .2))) (c .if1 .came)
+    ⊎-elim (λ w. let e = counted-one (flagged (a .kept .now)) (l .index) (a .moves) h (w .0 .taken) in
+    (omega arith, omega (arith, w .1), omega (arith, e, w .1, l .inv .2)))
+    (λ w. let e = counted-none (flagged (a .kept .now)) (l .index) (a .moves) h (w .0 .left) in
+    (omega arith, omega (arith, w .1), omega (arith, e, w .1, l .inv .2))) (c .if1 .came)
 
 returns : tie.Need-returns Inv-loop μ-loop
 returns c =

@@ -32,7 +32,8 @@ returns c =
     let i : ℕ = l .loop .index - 1 in
     let taken = c .before .before .before .before .before .before .before .loop-test .taken in
     let next : l .loop .index ≡ suc i = omega arith in
-    found {j = s .args .failing} {i = i} (l .before .columns-at .ensures) (c .before .before .before .before .before .before .columns-at2 .ensures) (omega (arith, l .loop .inv .0, s .pre .inside)) (c .if1 .taken)
+    found {j = s .args .failing} {i = i} (l .before .columns-at .ensures) (c .before .before .before .before .before .before .columns-at2 .ensures)
+    (omega (arith, l .loop .inv .0, s .pre .inside)) (c .if1 .taken)
     (omega (arith, l .loop .inv .0)) (along (Earlier (s .args .log .now) (s .args .failing)) next (l .loop .inv .1))
 
 loop-less : tie.Need-loop-less Inv-loop μ-loop
@@ -46,7 +47,8 @@ loop-again c =
     let taken = c .before .before .before .before .before .before .before .loop-test .taken in
     let next : l .loop .index ≡ suc i = omega arith in (
       omega (arith, l .loop .inv .0),
-      passed {j = s .args .failing} {i = i} (l .before .columns-at .ensures) (c .before .before .before .before .before .before .columns-at2 .ensures) (omega (arith, l .loop .inv .0, s .pre .inside)) (c .if1 .left)
+      passed {j = s .args .failing} {i = i} (l .before .columns-at .ensures) (c .before .before .before .before .before .before .columns-at2 .ensures)
+          (omega (arith, l .loop .inv .0, s .pre .inside)) (c .if1 .left)
           (along (Earlier (s .args .log .now) (s .args .failing)) next (l .loop .inv .1)),
     )
 

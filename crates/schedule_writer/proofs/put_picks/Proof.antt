@@ -66,11 +66,13 @@ loop-again c =
     let next-index : l .index + 1 ≡ suc (l .index) = omega arith in
     ⊎-elim (λ w.
     writing-as (w .4) (w .5) (w .6) (w .7) (
-      writing-fork (l .inv .0) less (w .1 .ensures) (w .0 .taken) (s .pre .1 .0) (s .pre .1 .1) (l .index + 1) (l .at + 1) (l .next + 1) next-index (omega arith) (omega arith) (eq-eqb _ 8 (w .3 .taken)),
+      writing-fork (l .inv .0) less (w .1 .ensures) (w .0 .taken) (s .pre .1 .0) (s .pre .1 .1) (l .index + 1) (l .at + 1) (l .next + 1) next-index
+          (omega arith) (omega arith) (eq-eqb _ 8 (w .3 .taken)),
       length-set (l .area) (l .at) _ ∙ l .inv .1,
     )) (λ w. ⊎-elim (λ w.
     writing-as (w .4) (w .5) (w .6) (w .7) (
-      writing-pick (l .inv .0) less (w .1 .ensures) (w .0 .taken) (s .pre .1 .0) (s .pre .1 .1) (l .index + 1) (l .at + 1) next-index (omega arith) (ne-eqb _ 8 (w .3 .left)),
+      writing-pick (l .inv .0) less (w .1 .ensures) (w .0 .taken) (s .pre .1 .0) (s .pre .1 .1) (l .index + 1) (l .at + 1) next-index (omega arith)
+          (ne-eqb _ 8 (w .3 .left)),
       length-set (l .area) (l .at) _ ∙ l .inv .1,
     )) (λ w.
     writing-as (w .1) (w .2) (w .3) (w .4) (writing-skip (l .inv .0) less (l .index + 1) next-index (w .0 .left), l .inv .1)) w) (c .if1 .came)

@@ -34,7 +34,8 @@ returns : tie.Need-returns
 returns c =
     let m = c .before .before .before .before in
     let s = m .before .before .before .before .before in
-    writes-short (s .pre) _ (ends (m .before .before .before)) (m .before .before .last-write .result) (m .before .before .last-write .ensures) (m .mark .last .1 .1 .1 .0) (m .mark .ensures .0) (m .mark .ensures .1)
+    writes-short (s .pre) _ (ends (m .before .before .before)) (m .before .before .last-write .result) (m .before .before .last-write .ensures)
+    (m .mark .last .1 .1 .1 .0) (m .mark .ensures .0) (m .mark .ensures .1)
     (c .before .count .result) (s .args .area .now) (c .before .count .ensures .0) (c .if1 .taken)
 
 slice-aggregate-put-picks : tie.Need-slice-aggregate-put-picks
@@ -45,11 +46,13 @@ put-picks-requires c κs =
     let m = c .before .before .before .before .before .before in
     let s = m .before .before .before .before .before in
     let n = c .before .before .before .count in
-    let e = counted (s .pre) _ (ends (m .before .before .before)) (m .before .before .last-write .result) (m .before .before .last-write .ensures) (m .mark .last .1 .1 .1 .0) (m .mark .ensures .0) (m .mark .ensures .1) (n .result) (n .ensures .0) in (
+    let e = counted (s .pre) _ (ends (m .before .before .before)) (m .before .before .last-write .result) (m .before .before .last-write .ensures)
+    (m .mark .last .1 .1 .1 .0) (m .mark .ensures .0) (m .mark .ensures .1) (n .result) (n .ensures .0) in (
       omega (arith, m .mark .kept .1 .1 .1 .0, s .pre .few),
       (
         omega (arith, e, c .before .before .if1 .left),
-        few-picks (s .pre) _ (ends (m .before .before .before)) (m .before .before .last-write .result) (m .before .before .last-write .ensures) (m .mark .last .1 .1 .1 .0) (m .mark .ensures .0) (m .mark .ensures .1),
+        few-picks (s .pre) _ (ends (m .before .before .before)) (m .before .before .last-write .result) (m .before .before .last-write .ensures)
+            (m .mark .last .1 .1 .1 .0) (m .mark .ensures .0) (m .mark .ensures .1),
       ),
     )
 
@@ -61,10 +64,13 @@ returns-2 c =
     let m = c .before .before .before .before .before .before .before .before .before in
     let s = m .before .before .before .before .before in
     let n = c .before .before .before .before .before .before .count in
-    writes-all (s .pre) _ (ends (m .before .before .before)) (m .before .before .last-write .result) (m .before .before .last-write .ensures) (m .mark .last .1 .1 .1 .0) (m .mark .ensures .0) (m .mark .ensures .1)
-    (n .result) (s .args .area .now) _ (n .ensures .0) (λ h. let q = c .before .before .before .before .before .if1 .left in omega arith) (c .before .before .put-picks .ensures)
+    writes-all (s .pre) _ (ends (m .before .before .before)) (m .before .before .last-write .result) (m .before .before .last-write .ensures)
+    (m .mark .last .1 .1 .1 .0) (m .mark .ensures .0) (m .mark .ensures .1)
+    (n .result) (s .args .area .now) _ (n .ensures .0) (λ h. let q = c .before .before .before .before .before .if1 .left in omega arith)
+    (c .before .before .put-picks .ensures)
 
 pub write-spec : {M : Type 1} → statement M
 write-spec =
     tie.close
-    (tie.spec sub-failing last-write-requires slice-aggregate-mark mark-requires slice-aggregate-count count-requires returns slice-aggregate-put-picks put-picks-requires same-length returns-2)
+    (tie.spec sub-failing last-write-requires slice-aggregate-mark mark-requires slice-aggregate-count count-requires returns slice-aggregate-put-picks
+    put-picks-requires same-length returns-2)

@@ -28,8 +28,10 @@ returns c =
 returns-2 : tie.Need-returns-2
 returns-2 c =
     let s = c .before .before in
-    let a = s .args in
-    ((not-counted (a .tally) (a .every) (a .entry) (c .if1 .left) (s .pre .2), omega arith), not-written (a .log .now) (a .tally .records) (a .thread) (a .every) (a .entry) (c .if1 .left) (s .pre .2))
+    let a = s .args in (
+      (not-counted (a .tally) (a .every) (a .entry) (c .if1 .left) (s .pre .2), omega arith),
+      not-written (a .log .now) (a .tally .records) (a .thread) (a .every) (a .entry) (c .if1 .left) (s .pre .2),
+    )
 
 pub put-unlogged-spec : {M : Type 1} → statement M
 put-unlogged-spec = tie.close (tie.spec entry-requires put-requires same-length returns returns-2)

@@ -58,7 +58,8 @@ put-number-returns : (t : ℕ) → put-number-lts.Need-returns (
   put-number-below t,
   put-number.Post,
 ) (put-number-at t) put-number.Post
-put-number-returns t c = added-as (sym (decimal-digit (c .before .before .before .before .before .before .args .number) (omega arith))) (c .before .before .put-byte .ensures)
+put-number-returns t c =
+    added-as (sym (decimal-digit (c .before .before .before .before .before .before .args .number) (omega arith))) (c .before .before .put-byte .ensures)
 
 put-number-put-number-requires : (t : ℕ) → put-number-lts.Need-put-number-requires (
   put-byte-reads.Asked,
@@ -66,7 +67,14 @@ put-number-put-number-requires : (t : ℕ) → put-number-lts.Need-put-number-re
   put-number-below t,
   put-number.Post,
 ) (put-number-at t) put-number.Post
-put-number-put-number-requires t c κs = (omega arith, omega (arith, ap length (decimal-more (c .before .before .before .args .number) (omega arith)), length-append (decimal (c .before .before .before .args .number / 10)) ((48 + c .before .before .before .args .number % 10) ∷ [])))
+put-number-put-number-requires t c κs = (
+  omega arith,
+  omega (
+    arith,
+    ap length (decimal-more (c .before .before .before .args .number) (omega arith)),
+    length-append (decimal (c .before .before .before .args .number / 10)) ((48 + c .before .before .before .args .number % 10) ∷ []),
+  ),
+)
 
 put-number-cast-put-byte-2 : (t : ℕ) → put-number-lts.Need-cast-put-byte-2 (
   put-byte-reads.Asked,
@@ -101,7 +109,9 @@ put-number-returns-2 : (t : ℕ) → put-number-lts.Need-returns-2 (
   put-number-below t,
   put-number.Post,
 ) (put-number-at t) put-number.Post
-put-number-returns-2 t c = added-as (sym (decimal-more (c .before .before .before .before .before .before .before .before .before .before .args .number) (omega arith))) (added-more (c .before .before .before .before .before .before .put-number .ensures) (c .before .before .put-byte2 .ensures))
+put-number-returns-2 t c =
+    added-as (sym (decimal-more (c .before .before .before .before .before .before .before .before .before .before .args .number) (omega arith)))
+    (added-more (c .before .before .before .before .before .before .put-number .ensures) (c .before .before .put-byte2 .ensures))
 
 put-number-same-length : (t : ℕ) → put-number-lts.Need-same-length (
   put-byte-reads.Asked,

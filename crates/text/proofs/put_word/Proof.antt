@@ -37,8 +37,12 @@ loop-less c = search needs
 loop-again : tie.Need-loop-again Inv-loop μ-loop
 loop-again c =
     let l = c .before .before .before .before .before .before .loop in
-    let w = c .before .before .before .before .before .before .before .before .before .args .word .now in
-    (search needs, rw add-one (added-as (sym (take-suc w (l .index) 0 (c .before .before .before .before .before .loop-test .taken))) (added-more (l .inv .1) (c .before .before .put-byte .ensures))))
+    let w = c .before .before .before .before .before .before .before .before .before .args .word .now in (
+      search needs,
+      rw add-one
+          (added-as (sym (take-suc w (l .index) 0 (c .before .before .before .before .before .loop-test .taken)))
+          (added-more (l .inv .1) (c .before .before .put-byte .ensures))),
+    )
 
 same-length : tie.Need-same-length Inv-loop μ-loop
 same-length c = c .before .loop .inv .1 .kept

@@ -60,7 +60,10 @@ returns-2 c = (shifted _ _ (c .slot-of .ensures) ∙ sym (ap (itemOf _) (c .befo
 
 returns-3 : tie.Need-returns-3
 unfolding itemOf
-returns-3 c = (c .binder .ensures .0 ∙ ap binderOn (c .before .slot-of2 .ensures) ∙ sym (ap (itemOf _) (c .before .before .match .keys2)), c .binder .ensures .1)
+returns-3 c = (
+  c .binder .ensures .0 ∙ ap binderOn (c .before .slot-of2 .ensures) ∙ sym (ap (itemOf _) (c .before .before .match .keys2)),
+  c .binder .ensures .1,
+)
 
 returns-4 : tie.Need-returns-4
 unfolding itemOf
@@ -71,7 +74,10 @@ unfolding itemOf
 returns-5 c = (ap token (c .procedure-of .ensures) ∙ sym (ap (itemOf _) (c .before .match .keys4)), search needs)
 
 returns-6 : tie.Need-returns-6
-returns-6 c = (ap (child _) (c .operand .ensures .0) ∙ sym (item-child _ _ (c .before .before .if1 .left) (c .before .match .rest)), omega (arith, c .operand .ensures .1))
+returns-6 c = (
+  ap (child _) (c .operand .ensures .0) ∙ sym (item-child _ _ (c .before .before .if1 .left) (c .before .match .rest)),
+  omega (arith, c .operand .ensures .1),
+)
 
 pub item-spec : {M : Type 1} → statement M
 item-spec =

@@ -35,27 +35,45 @@ returns c = (c .first .ensures ∙ sym (ap (λ (k : ℕ). operandBy k (c .before
 
 returns-2 : tie.Need-returns-2
 unfolding operandBy
-returns-2 c = (c .second .ensures ∙ sym (ap (λ (k : ℕ). operandBy k (c .before .before .args .word)) (c .before .match .keys2)), rw (c .second .ensures) (below _))
+returns-2 c = (
+  c .second .ensures ∙ sym (ap (λ (k : ℕ). operandBy k (c .before .before .args .word)) (c .before .match .keys2)),
+  rw (c .second .ensures) (below _),
+)
 
 returns-3 : tie.Need-returns-3
 unfolding operandBy
-returns-3 c = (c .third .ensures ∙ sym (ap (λ (k : ℕ). operandBy k (c .before .before .args .word)) (c .before .match .keys3)), rw (c .third .ensures) (below _))
+returns-3 c = (
+  c .third .ensures ∙ sym (ap (λ (k : ℕ). operandBy k (c .before .before .args .word)) (c .before .match .keys3)),
+  rw (c .third .ensures) (below _),
+)
 
 returns-4 : tie.Need-returns-4
 unfolding operandBy
-returns-4 c = (c .let-first .ensures ∙ sym (ap (λ (k : ℕ). operandBy k (c .before .before .args .word)) (c .before .match .keys4)), rw (c .let-first .ensures) (below _))
+returns-4 c = (
+  c .let-first .ensures ∙ sym (ap (λ (k : ℕ). operandBy k (c .before .before .args .word)) (c .before .match .keys4)),
+  rw (c .let-first .ensures) (below _),
+)
 
 returns-5 : tie.Need-returns-5
 unfolding operandBy
-returns-5 c = (c .let-second .ensures ∙ sym (ap (λ (k : ℕ). operandBy k (c .before .before .args .word)) (c .before .match .keys5)), rw (c .let-second .ensures) (below _))
+returns-5 c = (
+  c .let-second .ensures ∙ sym (ap (λ (k : ℕ). operandBy k (c .before .before .args .word)) (c .before .match .keys5)),
+  rw (c .let-second .ensures) (below _),
+)
 
 returns-6 : tie.Need-returns-6
 unfolding operandBy
-returns-6 c = (c .write-second .ensures ∙ sym (ap (λ (k : ℕ). operandBy k (c .before .before .args .word)) (c .before .match .keys6)), rw (c .write-second .ensures) (below _))
+returns-6 c = (
+  c .write-second .ensures ∙ sym (ap (λ (k : ℕ). operandBy k (c .before .before .args .word)) (c .before .match .keys6)),
+  rw (c .write-second .ensures) (below _),
+)
 
 returns-7 : tie.Need-returns-7
 unfolding operandBy
-returns-7 c = (c .list-of .ensures ∙ sym (ap (λ (k : ℕ). operandBy k (c .before .before .args .word)) (c .before .match .keys7)), rw (c .list-of .ensures) (below _))
+returns-7 c = (
+  c .list-of .ensures ∙ sym (ap (λ (k : ℕ). operandBy k (c .before .before .args .word)) (c .before .match .keys7)),
+  rw (c .list-of .ensures) (below _),
+)
 
 returns-8 : tie.Need-returns-8
 unfolding operandBy

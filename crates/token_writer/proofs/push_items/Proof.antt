@@ -52,8 +52,11 @@ loop-less c = search needs
 loop-again : tie.Need-loop-again Inv-loop μ-loop
 loop-again c =
     let l = c .before .before .before .before .before .before .before .loop .inv in
-    let x = c .before .before .before .item .ensures .0 ∙ ap (itemOf _) (c .before .before .before .before .before .number2 .ensures .0) in
-    (omega (arith, l .0), pushed-as (items-back _ _ _ _ (c .before .before .before .before .before .before .loop-test .taken) (l .0)) (pushed-more (l .1) (pushed-as (ap (λ (y : ℕ). y ∷ []) x) (c .before .before .push .ensures))))
+    let x = c .before .before .before .item .ensures .0 ∙ ap (itemOf _) (c .before .before .before .before .before .number2 .ensures .0) in (
+      omega (arith, l .0),
+      pushed-as (items-back _ _ _ _ (c .before .before .before .before .before .before .loop-test .taken) (l .0))
+          (pushed-more (l .1) (pushed-as (ap (λ (y : ℕ). y ∷ []) x) (c .before .before .push .ensures))),
+    )
 
 same-length : tie.Need-same-length Inv-loop μ-loop
 same-length c = c .before .loop .inv .1 .kept

@@ -30,17 +30,32 @@ push-requires-2 : tie.Need-push-requires-2
 push-requires-2 c κs =
     let s = c .before .before .before .before .before .before .before .before .before .before .before .before in
     let p = c .before .before .before .before .before .before .before .push .ensures in
-    let q = c .before .before .before .push-items .ensures in
-    (omega (arith, s .pre .2, p .top, p .kept, q .top, q .kept, few-items _ (s .pre .1), items-length (s .args .word) (s .args .row) 2 (rowNumber (s .args .row) 1)), omega arith)
+    let q = c .before .before .before .push-items .ensures in (
+      omega (
+        arith,
+        s .pre .2,
+        p .top,
+        p .kept,
+        q .top,
+        q .kept,
+        few-items _ (s .pre .1),
+        items-length (s .args .word) (s .args .row) 2 (rowNumber (s .args .row) 1),
+      ),
+      omega arith,
+    )
 
 same-length : tie.Need-same-length
-same-length c = c .before .before .push2 .ensures .kept ∙ c .before .before .before .before .before .before .push-items .ensures .kept ∙ c .before .before .before .before .before .before .before .before .before .before .push .ensures .kept
+same-length c = c .before .before .push2 .ensures .kept ∙ c .before .before .before .before .before .before .push-items .ensures .kept
+    ∙ c .before .before .before .before .before .before .before .before .before .before .push .ensures .kept
 
 returns : tie.Need-returns
 returns c =
     let s = c .before .before .before .before .before .before .before .before .before .before .before .before .before .before .before in
-    pushed-as (in-parentheses (s .args .level) (s .args .word) (s .args .row) (rw (c .before .before .before .before .before .before .before .before .before .before .before .before .before .number .ensures .0) at (c .before .before .before .before .before .before .before .before .before .before .before .before .if1 .taken)))
-    (pushed-more (pushed-more (c .before .before .before .before .before .before .before .before .before .before .push .ensures) (c .before .before .before .before .before .before .push-items .ensures)) (c .before .before .push2 .ensures))
+    pushed-as (in-parentheses (s .args .level) (s .args .word) (s .args .row)
+    (rw (c .before .before .before .before .before .before .before .before .before .before .before .before .before .number .ensures .0) at
+    (c .before .before .before .before .before .before .before .before .before .before .before .before .if1 .taken)))
+    (pushed-more (pushed-more (c .before .before .before .before .before .before .before .before .before .before .push .ensures)
+    (c .before .before .before .before .before .before .push-items .ensures)) (c .before .before .push2 .ensures))
 
 push-items-requires-2 : tie.Need-push-items-requires-2
 push-items-requires-2 c κs = search needs
@@ -51,7 +66,9 @@ same-length-2 c = c .before .before .push-items2 .ensures .kept
 returns-2 : tie.Need-returns-2
 returns-2 c =
     let s = c .before .before .before .before .before .before .before in
-    pushed-as (without (s .args .level) (s .args .word) (s .args .row) (rw (c .before .before .before .before .before .number .ensures .0) at (c .before .before .before .before .if1 .left))) (c .before .before .push-items2 .ensures)
+    pushed-as (without (s .args .level) (s .args .word) (s .args .row)
+    (rw (c .before .before .before .before .before .number .ensures .0) at (c .before .before .before .before .if1 .left)))
+    (c .before .before .push-items2 .ensures)
 
 pub push-row-spec : {M : Type 1} → statement M
 push-row-spec =

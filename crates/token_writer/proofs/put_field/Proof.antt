@@ -24,7 +24,8 @@ same-length : tie.Need-same-length
 same-length c = c .before .before .put-byte .ensures .kept
 
 returns : tie.Need-returns
-returns c = added-as (sym (field-there _ _ (sym (c .before .before .before .before .before .bit .ensures) ∙ c .before .before .before .before .if1 .taken))) (c .before .before .put-byte .ensures)
+returns c = added-as (sym (field-there _ _ (sym (c .before .before .before .before .before .bit .ensures) ∙ c .before .before .before .before .if1 .taken)))
+    (c .before .before .put-byte .ensures)
 
 returns-2 : tie.Need-returns-2
 returns-2 c = added-as (sym (field-not-there _ _ (λ e. c .if1 .left (c .before .bit .ensures ∙ e)))) (added-none _ _)

@@ -41,10 +41,15 @@ put-byte-requires-3 c κs =
     omega (arith, s .pre, new-length (s .args .mask), p .next, p .kept, q .next, q .kept, r .next, r .kept)
 
 same-length : tie.Need-same-length
-same-length c = c .before .before .put-byte3 .ensures .kept ∙ c .before .before .before .before .before .before .put-fields .ensures .kept ∙ c .before .before .before .before .before .before .before .before .before .before .put-byte2 .ensures .kept ∙ c .before .before .before .before .before .before .before .before .before .before .before .before .before .before .put-byte .ensures .kept
+same-length c = c .before .before .put-byte3 .ensures .kept ∙ c .before .before .before .before .before .before .put-fields .ensures .kept
+    ∙ c .before .before .before .before .before .before .before .before .before .before .put-byte2 .ensures .kept
+    ∙ c .before .before .before .before .before .before .before .before .before .before .before .before .before .before .put-byte .ensures .kept
 
 returns : tie.Need-returns
-returns c = added-as (new-parts _) (added-more (c .before .before .before .before .before .before .before .before .before .before .before .before .before .before .put-byte .ensures) (added-more (c .before .before .before .before .before .before .before .before .before .before .put-byte2 .ensures) (added-more (c .before .before .before .before .before .before .put-fields .ensures) (c .before .before .put-byte3 .ensures))))
+returns c = added-as (new-parts _)
+    (added-more (c .before .before .before .before .before .before .before .before .before .before .before .before .before .before .put-byte .ensures)
+    (added-more (c .before .before .before .before .before .before .before .before .before .before .put-byte2 .ensures)
+    (added-more (c .before .before .before .before .before .before .put-fields .ensures) (c .before .before .put-byte3 .ensures))))
 
 pub put-new-spec : {M : Type 1} → statement M
 put-new-spec =

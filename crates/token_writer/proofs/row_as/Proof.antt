@@ -27,11 +27,27 @@ returns-4 c = (rw (le-ltb _ 4 (c .before .before .if1 .left), le-ltb _ 8 (c .bef
 
 returns-5 : tie.Need-returns-5
 unfolding rowAs
-returns-5 c = (rw (le-ltb _ 4 (c .before .before .before .if1 .left), le-ltb _ 8 (c .before .before .if3 .left), eq-eqb _ 16 (c .before .if4 .left), eq-eqb _ 8 (c .if5 .taken)), omega arith)
+returns-5 c = (
+  rw (
+    le-ltb _ 4 (c .before .before .before .if1 .left),
+    le-ltb _ 8 (c .before .before .if3 .left),
+    eq-eqb _ 16 (c .before .if4 .left),
+    eq-eqb _ 8 (c .if5 .taken),
+  ),
+  omega arith,
+)
 
 returns-6 : tie.Need-returns-6
 unfolding rowAs
-returns-6 c = (rw (le-ltb _ 4 (c .before .before .before .if1 .left), le-ltb _ 8 (c .before .before .if3 .left), eq-eqb _ 16 (c .before .if4 .left), ne-eqb _ 8 (c .if5 .left)), omega arith)
+returns-6 c = (
+  rw (
+    le-ltb _ 4 (c .before .before .before .if1 .left),
+    le-ltb _ 8 (c .before .before .if3 .left),
+    eq-eqb _ 16 (c .before .if4 .left),
+    ne-eqb _ 8 (c .if5 .left),
+  ),
+  omega arith,
+)
 
 pub row-as-spec : {M : Type 1} → statement M
 row-as-spec =

@@ -38,7 +38,8 @@ same-length c = c .before .before .put-byte .ensures .kept
 returns : tie.Need-returns
 returns c =
     let p = c .before .before .before .before .before .before .before .before .pre in
-    written-step _ (p .ordered) _ _ _ _ (p .some) (p .low) _ _ _ (of-token _ (p .ordered) _ (c .before .before .before .before .if1 .taken)) (omega arith) (p .inside) (c .before .before .put-byte .ensures)
+    written-step _ (p .ordered) _ _ _ _ (p .some) (p .low) _ _ _ (of-token _ (p .ordered) _ (c .before .before .before .before .if1 .taken)) (omega arith)
+    (p .inside) (c .before .before .put-byte .ensures)
 
 mul-word : tie.Need-mul-word
 mul-word c = search needs
@@ -58,7 +59,9 @@ mask-of-requires c κs = search needs
 put-new-requires : tie.Need-put-new-requires
 put-new-requires c κs =
     let p = c .before .before .before .before .before .before .before .before .before .before .pre in
-    room _ (p .ordered) [] _ _ _ (p .some) (p .low) _ _ (new-item _ (p .ordered) _ _ _ _ (c .before .before .before .before .before .before .if1 .left) (c .before .before .before .before .tag .ensures) (c .before .before .before .is-new .ensures) (c .before .before .if2 .taken) (c .mask-of .ensures)) (p .room)
+    room _ (p .ordered) [] _ _ _ (p .some) (p .low) _ _
+    (new-item _ (p .ordered) _ _ _ _ (c .before .before .before .before .before .before .if1 .left) (c .before .before .before .before .tag .ensures)
+    (c .before .before .before .is-new .ensures) (c .before .before .if2 .taken) (c .mask-of .ensures)) (p .room)
 
 same-length-2 : tie.Need-same-length-2
 same-length-2 c = c .before .before .put-new .ensures .kept
@@ -67,7 +70,9 @@ returns-2 : tie.Need-returns-2
 returns-2 c =
     let p = c .before .before .before .before .before .before .before .before .before .before .before .before .before .pre in
     written-step _ (p .ordered) _ _ _ _ (p .some) (p .low) _ _ _
-    (new-item _ (p .ordered) _ _ _ _ (c .before .before .before .before .before .before .before .before .before .if1 .left) (c .before .before .before .before .before .before .before .tag .ensures) (c .before .before .before .before .before .before .is-new .ensures) (c .before .before .before .before .before .if2 .taken) (c .before .before .before .mask-of .ensures))
+    (new-item _ (p .ordered) _ _ _ _ (c .before .before .before .before .before .before .before .before .before .if1 .left)
+    (c .before .before .before .before .before .before .before .tag .ensures) (c .before .before .before .before .before .before .is-new .ensures)
+    (c .before .before .before .before .before .if2 .taken) (c .before .before .before .mask-of .ensures))
     (new-some _) (p .inside) (c .before .before .put-new .ensures)
 
 row-as-requires : tie.Need-row-as-requires
@@ -75,8 +80,11 @@ row-as-requires c κs = search needs
 
 push-row-requires : tie.Need-push-row-requires
 push-row-requires c κs =
-    let p = c .before .before .before .before .before .before .before .before .before .before .pre in
-    (p .table, c .row-as .ensures .1, capacity _ _ _ (below-term _ (p .ordered) [] 0 _ _ (p .some) (p .low) (c .before .before .before .before .before .before .if1 .left)) (p .size))
+    let p = c .before .before .before .before .before .before .before .before .before .before .pre in (
+      p .table,
+      c .row-as .ensures .1,
+      capacity _ _ _ (below-term _ (p .ordered) [] 0 _ _ (p .some) (p .low) (c .before .before .before .before .before .before .if1 .left)) (p .size),
+    )
 
 same-length-3 : tie.Need-same-length-3
 same-length-3 c = c .before .before .push-row .ensures .kept
@@ -84,7 +92,10 @@ same-length-3 c = c .before .before .push-row .ensures .kept
 returns-3 : tie.Need-returns-3
 returns-3 c =
     let p = c .before .before .before .before .before .before .before .before .before .before .before .before .before .pre in
-    row-item _ (p .ordered) _ _ _ _ (p .some) (p .low) _ _ _ _ (c .before .before .before .before .before .before .before .before .before .if1 .left) (c .before .before .before .before .before .before .before .tag .ensures) (c .before .before .before .before .before .before .is-new .ensures) (c .before .before .before .before .before .if2 .left) (c .before .before .before .row-as .ensures .0) (c .before .before .before .row-as .ensures .1) _ (c .before .before .push-row .ensures)
+    row-item _ (p .ordered) _ _ _ _ (p .some) (p .low) _ _ _ _ (c .before .before .before .before .before .before .before .before .before .if1 .left)
+    (c .before .before .before .before .before .before .before .tag .ensures) (c .before .before .before .before .before .before .is-new .ensures)
+    (c .before .before .before .before .before .if2 .left) (c .before .before .before .row-as .ensures .0)
+    (c .before .before .before .row-as .ensures .1) _ (c .before .before .push-row .ensures)
 
 pub step-spec : {M : Type 1} → statement M
 step-spec =

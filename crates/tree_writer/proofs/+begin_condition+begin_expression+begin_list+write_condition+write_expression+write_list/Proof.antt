@@ -1,11 +1,21 @@
 -- The writer's walk: each function takes a term apart once, and its children come after it, so that the span of terms from it on falls.
+use Rattle.tree_writer.proofs.+begin_condition+begin_expression+begin_list+write_condition+write_expression+write_list.Proof.BeginCondition.{}
 use Rattle.tree_writer.proofs.+begin_condition+begin_expression+begin_list+write_condition+write_expression+write_list.Proof.BeginCondition.{begin-condition}
+use Rattle.tree_writer.proofs.+begin_condition+begin_expression+begin_list+write_condition+write_expression+write_list.Proof.BeginExpression.{}
 use Rattle.tree_writer.proofs.+begin_condition+begin_expression+begin_list+write_condition+write_expression+write_list.Proof.BeginExpression.{begin-expression}
 use Rattle.tree_writer.proofs.+begin_condition+begin_expression+begin_list+write_condition+write_expression+write_list.Proof.BeginList.{begin-list}
+use Rattle.tree_writer.proofs.+begin_condition+begin_expression+begin_list+write_condition+write_expression+write_list.Proof.WriteCondition.{}
 use Rattle.tree_writer.proofs.+begin_condition+begin_expression+begin_list+write_condition+write_expression+write_list.Proof.WriteCondition.{write-condition}
+use Rattle.tree_writer.proofs.+begin_condition+begin_expression+begin_list+write_condition+write_expression+write_list.Proof.WriteExpression.{}
 use Rattle.tree_writer.proofs.+begin_condition+begin_expression+begin_list+write_condition+write_expression+write_list.Proof.WriteExpression.{write-expression}
 use Rattle.tree_writer.proofs.+begin_condition+begin_expression+begin_list+write_condition+write_expression+write_list.Proof.WriteList.{write-list}
-use Rattle.tree_writer.proofs.+begin_condition+begin_expression+begin_list+write_condition+write_expression+write_list.Proof.Measures.{μ-begin-condition, μ-begin-expression, μ-begin-list, μ-write-condition, μ-write-expression, μ-write-list}
+use Rattle.tree_writer.proofs.+begin_condition+begin_expression+begin_list+write_condition+write_expression+write_list.Proof.Measures.{}
+use Rattle.tree_writer.proofs.+begin_condition+begin_expression+begin_list+write_condition+write_expression+write_list.Proof.Measures.{μ-begin-condition}
+use Rattle.tree_writer.proofs.+begin_condition+begin_expression+begin_list+write_condition+write_expression+write_list.Proof.Measures.{μ-begin-expression}
+use Rattle.tree_writer.proofs.+begin_condition+begin_expression+begin_list+write_condition+write_expression+write_list.Proof.Measures.{μ-begin-list}
+use Rattle.tree_writer.proofs.+begin_condition+begin_expression+begin_list+write_condition+write_expression+write_list.Proof.Measures.{μ-write-condition}
+use Rattle.tree_writer.proofs.+begin_condition+begin_expression+begin_list+write_condition+write_expression+write_list.Proof.Measures.{μ-write-expression}
+use Rattle.tree_writer.proofs.+begin_condition+begin_expression+begin_list+write_condition+write_expression+write_list.Proof.Measures.{μ-write-list}
 use Rattle.tree_writer.proofs.+begin_condition+begin_expression+begin_list+write_condition+write_expression+write_list.{statement}
 use Rattle.tree_writer.proofs.+begin_condition+begin_expression+begin_list+write_condition+write_expression+write_list.Tie.{close}
 mod Measures

@@ -26,10 +26,14 @@ returns : tie.Need-returns
 returns c = rw (eq-eqb _ _ (sym (c .before .before .tag .ensures) ∙ c .before .match .keys1)) (c .write-second .ensures)
 
 returns-2 : tie.Need-returns-2
-returns-2 c = let e = sym (c .before .before .tag .ensures) ∙ c .before .match .keys2 in rw (ne-eqb _ 4 (λ d. four-five _ d e), eq-eqb _ _ e) (c .let-second .ensures)
+returns-2 c = let e = sym (c .before .before .tag .ensures) ∙ c .before .match .keys2 in
+    rw (ne-eqb _ 4 (λ d. four-five _ d e), eq-eqb _ _ e) (c .let-second .ensures)
 
 returns-3 : tie.Need-returns-3
-returns-3 c = rw (ne-eqb _ _ (λ e. c .before .match .rest .0 .1 (c .before .before .tag .ensures ∙ e)), ne-eqb _ _ (λ e. c .before .match .rest .1 (c .before .before .tag .ensures ∙ e))) (c .second .ensures)
+returns-3 c = rw (
+  ne-eqb _ _ (λ e. c .before .match .rest .0 .1 (c .before .before .tag .ensures ∙ e)),
+  ne-eqb _ _ (λ e. c .before .match .rest .1 (c .before .before .tag .ensures ∙ e)),
+) (c .second .ensures)
 
 pub pair-second-spec : {M : Type 1} → statement M
 pair-second-spec =

@@ -32,12 +32,14 @@ returns-2 c =
     let a = c .before .before .before .before .before .before .args in
     answers.turned-away (a .log .now) (a .area .now)
     (answers.refused-log (a .log .now) (a .area .now)
-    (refused-record (a .log .now) (c .before .lowest-wrong .result) (sym (c .before .before .if1 .left) ∙ c .before .before .before .wrong-length .ensures) (c .before .lowest-wrong .ensures) (c .if2 .taken)))
+    (refused-record (a .log .now) (c .before .lowest-wrong .result) (sym (c .before .before .if1 .left) ∙ c .before .before .before .wrong-length .ensures)
+    (c .before .lowest-wrong .ensures) (c .if2 .taken)))
 
 -- past both tests nothing refuses the log
 passed : (c : tie.Else2) → logRefusal (c .before .before .before .before .before .before .args .log .now) ≡ none
 passed c =
-    not-refused (c .before .before .before .before .before .before .args .log .now) (c .before .lowest-wrong .result) (sym (c .before .before .if1 .left) ∙ c .before .before .before .wrong-length .ensures) (c .before .lowest-wrong .ensures) (c .if2 .left)
+    not-refused (c .before .before .before .before .before .before .args .log .now) (c .before .lowest-wrong .result)
+    (sym (c .before .before .if1 .left) ∙ c .before .before .before .wrong-length .ensures) (c .before .lowest-wrong .ensures) (c .if2 .left)
 
 few : (c : tie.Else2) → length (c .before .before .before .before .before .before .args .log .now) ≤ 12288
 few c = accepted (c .before .before .before .before .before .before .args .log .now) (passed c) .length-most
@@ -50,20 +52,31 @@ unfolding recordCount
 returns-3 c =
     let a = c .before .before .before .before .before .before .before .before .args in
     answers.turned-away (a .log .now) (a .area .now)
-    (answers.refused-short (a .log .now) (a .area .now) (passed (c .before .before)) (omega (arith, c .if3 .taken, c .before .file-length .ensures, file-length (a .log .now) (few (c .before .before)))))
+    (answers.refused-short (a .log .now) (a .area .now) (passed (c .before .before))
+    (omega (arith, c .if3 .taken, c .before .file-length .ensures, file-length (a .log .now) (few (c .before .before)))))
 
 put-samples-requires : tie.Need-put-samples-requires
 unfolding recordCount
 put-samples-requires c κs =
-    let a = c .before .before .before .before .before .before .before .before .before .args in
-    (few (c .before .before .before), omega (arith, c .before .if3 .left, c .before .before .file-length .ensures, file-length (a .log .now) (few (c .before .before .before))))
+    let a = c .before .before .before .before .before .before .before .before .before .args in (
+      few (c .before .before .before),
+      omega (arith, c .before .if3 .left, c .before .before .file-length .ensures, file-length (a .log .now) (few (c .before .before .before))),
+    )
 
 put-byte-requires : tie.Need-put-byte-requires
 unfolding recordCount
 put-byte-requires c κs =
     let a = c .before .before .before .before .before .before .before .before .before .before .before .before .before .args in
     let w = c .before .before .before .put-samples .ensures in
-    omega (arith, w .next, w .kept, c .before .before .before .before .before .if3 .left, c .before .before .before .before .before .before .file-length .ensures, file-length (a .log .now) (few (c .before .before .before .before .before .before .before)), answers.lines-length (a .log .now))
+    omega (
+      arith,
+      w .next,
+      w .kept,
+      c .before .before .before .before .before .if3 .left,
+      c .before .before .before .before .before .before .file-length .ensures,
+      file-length (a .log .now) (few (c .before .before .before .before .before .before .before)),
+      answers.lines-length (a .log .now),
+    )
 
 same-length : tie.Need-same-length
 same-length c = search needs
@@ -73,8 +86,15 @@ unfolding recordCount
 returns-4 c =
     let a = c .before .before .before .before .before .before .before .before .before .before .before .before .before .before .before .before .args in
     answers.written (a .log .now) (a .area .now)
-    (answers.not-refused (a .log .now) (a .area .now) (passed (c .before .before .before .before .before .before .before .before .before .before)) (omega (arith, c .before .before .before .before .before .before .before .before .if3 .left, c .before .before .before .before .before .before .before .before .before .file-length .ensures, file-length (a .log .now) (few (c .before .before .before .before .before .before .before .before .before .before)))))
-    (added-as (answers.whole-file (a .log .now)) (added-more (c .before .before .before .before .before .before .put-samples .ensures) (c .before .before .put-byte .ensures)))
+    (answers.not-refused (a .log .now) (a .area .now) (passed (c .before .before .before .before .before .before .before .before .before .before))
+    (omega (
+      arith,
+      c .before .before .before .before .before .before .before .before .if3 .left,
+      c .before .before .before .before .before .before .before .before .before .file-length .ensures,
+      file-length (a .log .now) (few (c .before .before .before .before .before .before .before .before .before .before)),
+    )))
+    (added-as (answers.whole-file (a .log .now))
+    (added-more (c .before .before .before .before .before .before .put-samples .ensures) (c .before .before .put-byte .ensures)))
 
 pub comtrade-spec : {M : Type 1} → statement M
 comtrade-spec =

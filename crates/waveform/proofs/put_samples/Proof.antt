@@ -44,7 +44,8 @@ put-sample-requires c κs =
     let b = c .before .before .before .before .before .before .before .args .log .now in
     let l = c .before .before .before .before .loop in
     let r = c .before .before .columns-at in
-    let S = shown-next b (l .index) (omega arith) (r .result) (c .before .after-record .result) (r .ensures) (c .before .after-record .ensures (take (l .index) (logOf b)) (l .inv .1)) in
+    let S = shown-next b (l .index) (omega arith) (r .result) (c .before .after-record .result) (r .ensures)
+    (c .before .after-record .ensures (take (l .index) (logOf b)) (l .inv .1)) in
     let e = ap length (line-is (logOf b) (l .index + 1) (c .before .after-record .result) (rw add-one S)) in (
       omega arith,
       omega arith,

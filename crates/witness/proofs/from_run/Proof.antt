@@ -48,7 +48,8 @@ unfolding stopOf
 write-requires c κs =
     let r = c .before .before .before .before .before .before .before .before in
     let s = r .before .before .before .before .before in
-    raced-in (s .pre) _ (r .run .result) (r .run .ensures) (ap stopOf (c .before .before .before .before .enum-told .given .1)) _ (begins (s .pre) _ (r .run .result) (r .run .ensures) _ (c .before .before .before .record-bytes .ensures))
+    raced-in (s .pre) _ (r .run .result) (r .run .ensures) (ap stopOf (c .before .before .before .before .enum-told .given .1)) _
+    (begins (s .pre) _ (r .run .result) (r .run .ensures) _ (c .before .before .before .record-bytes .ensures))
 
 same-length : tie.Need-same-length
 same-length c = search needs
@@ -59,7 +60,8 @@ returns-2 c =
     let r = c .before .before .before .before .before .before .before .before .before .before .before in
     let s = r .before .before .before .before .before in
     witnessed (s .pre) _ (r .run .result) (r .run .ensures) (ap stopOf (c .before .before .before .before .before .before .before .enum-told .given .1)) _
-    (begins (s .pre) _ (r .run .result) (r .run .ensures) _ (c .before .before .before .before .before .before .record-bytes .ensures)) (c .before .before .write .ensures)
+    (begins (s .pre) _ (r .run .result) (r .run .ensures) _ (c .before .before .before .before .before .before .record-bytes .ensures))
+    (c .before .before .write .ensures)
 
 pub from-run-spec : {M : Type 1} → statement M
 from-run-spec =

@@ -24,7 +24,8 @@ returns : tie.Need-returns
 unfolding leftOut hasWait
 returns c =
     let s = c .before .before .before .before in
-    ap₂ _||_ (ap (λ (n : ℕ). eqb n 0) (c .before .version .ensures)) (c .occurs .ensures ∙ tag-in (s .args .plan .now) (s .args .words .now) (s .pre .loaded) _ 18 (c .before .before .terms .ensures))
+    ap₂ _||_ (ap (λ (n : ℕ). eqb n 0) (c .before .version .ensures))
+    (c .occurs .ensures ∙ tag-in (s .args .plan .now) (s .args .words .now) (s .pre .loaded) _ 18 (c .before .before .terms .ensures))
 
 pub left-out-spec : {M : Type 1} → statement M
 left-out-spec = tie.close (tie.spec terms-requires version-requires occurs-requires returns)

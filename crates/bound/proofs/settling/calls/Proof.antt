@@ -30,7 +30,8 @@ root-requires : tie.Need-root-requires Inv-loop μ-loop
 root-requires c κs = root-there (c .before .before .before .before .pre) _ (c .loop-test .taken)
 
 walk-expression-requires : tie.Need-walk-expression-requires Inv-loop μ-loop
-walk-expression-requires c κs = root-call (c .before .before .before .before .before .before .pre) _ (c .before .before .loop-test .taken) (c .before .root .ensures)
+walk-expression-requires c κs =
+    root-call (c .before .before .before .before .before .before .pre) _ (c .before .before .loop-test .taken) (c .before .root .ensures)
 
 mul-all : tie.Need-mul-all Inv-loop μ-loop
 mul-all c = let m = few-procedures (c .before .before .before .before .before .before .before .pre) in search needs

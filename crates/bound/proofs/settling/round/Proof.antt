@@ -88,7 +88,8 @@ loop-again c =
     let y = l .loop .procedure - 1 in
     let e : y + 1 ≡ l .loop .procedure = omega arith in
     let f : (1 * 2 ^ y) % 2 ^ 64 ≡ singleton y = shl-one y (omega arith) in
-    rw f (takes-in (s .pre .0) (s .pre .1 .0) (l .loop .inv) e (r .root .ensures) (c .walk-expression .ensures) (sym (n .is-next .ensures) ∙ r .before .if1 .taken))
+    rw f (takes-in (s .pre .0) (s .pre .1 .0) (l .loop .inv) e (r .root .ensures) (c .walk-expression .ensures)
+    (sym (n .is-next .ensures) ∙ r .before .if1 .taken))
 
 loop-less-2 : tie.Need-loop-less-2 Inv-loop μ-loop
 loop-less-2 c = search needs

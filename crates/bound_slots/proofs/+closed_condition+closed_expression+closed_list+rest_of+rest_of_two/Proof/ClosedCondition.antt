@@ -9,7 +9,8 @@ use Rattle.format.proofs.Ranges.{NoneOf}
 use Rattle.packed.specs.Steps.{slots}
 use Rattle.bound_slots.specs.Left.{seen}
 use Rattle.bound_slots.specs.declared.Rest.the-variants.{Closed, Open}
-use Rattle.bound_slots.proofs.Conditions.{conditionsOf, past-not, before-truth, first-closed, first-open, first-call, equal-call, equal-told, equal-next, childless}
+use Rattle.bound_slots.proofs.Conditions.{conditionsOf, past-not, before-truth, first-closed, first-open, first-call, equal-call, equal-told}
+use Rattle.bound_slots.proofs.Conditions.{equal-next, childless}
 use Rattle.bound_slots.proofs.Turns.{Left, start}
 use Rattle.operands.proofs.first.Reads as first
 use Rattle.operands.proofs.second.Reads as second
@@ -17,7 +18,10 @@ use Rattle.operands.proofs.tag.Reads as tag
 use Rattle.bound_slots.proofs.closed_condition.Reads.{Post}
 use Rattle.bound_slots.proofs.closed_expression.Reads as closed-expression
 use Rattle.bound_slots.proofs.rest_of_two.Reads as rest-of-two
-use Rattle.bound_slots.proofs.+closed_condition+closed_expression+closed_list+rest_of+rest_of_two.Proof.Measures.{closed-condition-at, closed-condition-below, closed-expression-below, rest-of-two-below}
+use Rattle.bound_slots.proofs.+closed_condition+closed_expression+closed_list+rest_of+rest_of_two.Proof.Measures.{closed-condition-at}
+use Rattle.bound_slots.proofs.+closed_condition+closed_expression+closed_list+rest_of+rest_of_two.Proof.Measures.{closed-condition-below}
+use Rattle.bound_slots.proofs.+closed_condition+closed_expression+closed_list+rest_of+rest_of_two.Proof.Measures.{closed-expression-below}
+use Rattle.bound_slots.proofs.+closed_condition+closed_expression+closed_list+rest_of+rest_of_two.Proof.Measures.{rest-of-two-below}
 use Rattle.bound_slots.proofs.+closed_condition+closed_expression+closed_list+rest_of+rest_of_two.Lts-closed_condition as lts
 
 abbrev Inv : lts.InvT-loop
@@ -28,7 +32,20 @@ abbrev μ : lts.MeasureT-loop
 
 module _ (span : ℕ) where
   abbrev callees : lts.Claims
-  callees = (first.Asked, first.Learnt, second.Asked, second.Learnt, tag.Asked, tag.Learnt, closed-condition-below span, Post, rest-of-two-below span, rest-of-two.Post, closed-expression-below span, closed-expression.Post)
+  callees = (
+    first.Asked,
+    first.Learnt,
+    second.Asked,
+    second.Learnt,
+    tag.Asked,
+    tag.Learnt,
+    closed-condition-below span,
+    Post,
+    rest-of-two-below span,
+    rest-of-two.Post,
+    closed-expression-below span,
+    closed-expression.Post,
+  )
 
   loop-holds : lts.Need-loop-holds callees (closed-condition-at span) Post Inv μ
   loop-holds c = start (c .pre .1 .0) (c .pre .1 .1)
@@ -71,19 +88,22 @@ module _ (span : ℕ) where
   loop-less-2 c =
       let k = c .before .before .before .before in
       rw (k .before .before .first .ensures)
-      (before-truth _ _ (k .before .before .before .before .loop .inv) (sym (k .tag .ensures) ∙ c .before .before .before .match .keys2) (rw (k .before .second .ensures) at (sym (c .before .tag2 .ensures) ∙ c .if1 .taken)) .0)
+      (before-truth _ _ (k .before .before .before .before .loop .inv) (sym (k .tag .ensures) ∙ c .before .before .before .match .keys2)
+      (rw (k .before .second .ensures) at (sym (c .before .tag2 .ensures) ∙ c .if1 .taken)) .0)
 
   loop-again-2 : lts.Need-loop-again-2 callees (closed-condition-at span) Post Inv μ
   loop-again-2 c =
       let k = c .before .before .before .before in
       rw (k .before .before .first .ensures)
-      (before-truth _ _ (k .before .before .before .before .loop .inv) (sym (k .tag .ensures) ∙ c .before .before .before .match .keys2) (rw (k .before .second .ensures) at (sym (c .before .tag2 .ensures) ∙ c .if1 .taken)) .1)
+      (before-truth _ _ (k .before .before .before .before .loop .inv) (sym (k .tag .ensures) ∙ c .before .before .before .match .keys2)
+      (rw (k .before .second .ensures) at (sym (c .before .tag2 .ensures) ∙ c .if1 .taken)) .1)
 
   closed-condition-requires : lts.Need-closed-condition-requires callees (closed-condition-at span) Post Inv μ
   closed-condition-requires c κs =
       let k = c .before .before .before .before in
       rw (k .before .before .first .ensures)
-      (first-call _ _ (k .before .before .before .before .loop .inv) (sym (k .tag .ensures) ∙ c .before .before .before .match .keys2) (k .before .before .before .before .before .pre .0))
+      (first-call _ _ (k .before .before .before .before .loop .inv) (sym (k .tag .ensures) ∙ c .before .before .before .match .keys2)
+      (k .before .before .before .before .before .pre .0))
 
   returns : lts.Need-returns callees (closed-condition-at span) Post Inv μ
   returns c =
@@ -109,7 +129,8 @@ module _ (span : ℕ) where
   rest-of-two-requires c κs =
       let k = c .before in
       rw (k .before .before .first .ensures, k .before .second .ensures)
-      (equal-call _ _ (k .before .before .before .before .loop .inv) (sym (k .tag .ensures) ∙ c .match .keys3) (k .before .before .before .before .before .pre .0))
+      (equal-call _ _ (k .before .before .before .before .loop .inv) (sym (k .tag .ensures) ∙ c .match .keys3)
+      (k .before .before .before .before .before .pre .0))
 
   enum-told : lts.Need-enum-told callees (closed-condition-at span) Post Inv μ
   enum-told c = search needs
@@ -119,7 +140,8 @@ module _ (span : ℕ) where
   returns-2 c =
       let k = c .before .before .before in
       let r = c .before .before .rest-of-two in
-      equal-told _ _ (k .before .before .before .before .before .loop .inv) (sym (k .before .tag .ensures) ∙ k .match .keys3) (r .result) (rw (k .before .before .before .first .ensures, k .before .before .second .ensures) at (r .ensures)) Closed (c .enum-told .given .1)
+      equal-told _ _ (k .before .before .before .before .before .loop .inv) (sym (k .before .tag .ensures) ∙ k .match .keys3) (r .result)
+      (rw (k .before .before .before .first .ensures, k .before .before .second .ensures) at (r .ensures)) Closed (c .enum-told .given .1)
 
   enum-told-2 : lts.Need-enum-told-2 callees (closed-condition-at span) Post Inv μ
   enum-told-2 c = search needs
@@ -129,7 +151,8 @@ module _ (span : ℕ) where
   returns-3 c =
       let k = c .before .before .before in
       let r = c .before .before .rest-of-two in
-      equal-told _ _ (k .before .before .before .before .before .loop .inv) (sym (k .before .tag .ensures) ∙ k .match .keys3) (r .result) (rw (k .before .before .before .first .ensures, k .before .before .second .ensures) at (r .ensures)) Open (c .enum-told2 .given .1)
+      equal-told _ _ (k .before .before .before .before .before .loop .inv) (sym (k .before .tag .ensures) ∙ k .match .keys3) (r .result)
+      (rw (k .before .before .before .first .ensures, k .before .before .second .ensures) at (r .ensures)) Open (c .enum-told2 .given .1)
 
   enum-known-rest : lts.Need-enum-known-rest callees (closed-condition-at span) Post Inv μ
   enum-known-rest c = search needs
@@ -138,17 +161,23 @@ module _ (span : ℕ) where
   closed-expression-requires c κs =
       let k = c .before .before .before .before in
       let r = c .before .before .before .rest-of-two in
-      equal-next _ _ (k .before .before .before .before .before .loop .inv) (sym (k .before .tag .ensures) ∙ k .match .keys3) (r .result) (rw (k .before .before .before .first .ensures, k .before .before .second .ensures) at (r .ensures)) span _ _ (k .before .before .before .before .before .before .pre .0) (c .before .rest .given .1)
+      equal-next _ _ (k .before .before .before .before .before .loop .inv) (sym (k .before .tag .ensures) ∙ k .match .keys3) (r .result)
+      (rw (k .before .before .before .first .ensures, k .before .before .second .ensures) at (r .ensures)) span _ _
+      (k .before .before .before .before .before .before .pre .0) (c .before .rest .given .1)
 
   returns-4 : lts.Need-returns-4 callees (closed-condition-at span) Post Inv μ
   unfolding seen
   returns-4 c =
       let k = c .before .before .before .before .before in
       let r = c .before .before .before .before .rest-of-two in
-      c .closed-expression .ensures ∙ equal-told _ _ (k .before .before .before .before .before .loop .inv) (sym (k .before .tag .ensures) ∙ k .match .keys3) (r .result) (rw (k .before .before .before .first .ensures, k .before .before .second .ensures) at (r .ensures)) _ (c .before .before .rest .given .1)
+      c .closed-expression .ensures ∙ equal-told _ _ (k .before .before .before .before .before .loop .inv) (sym (k .before .tag .ensures) ∙ k .match .keys3)
+      (r .result) (rw (k .before .before .before .first .ensures, k .before .before .second .ensures) at (r .ensures)) _
+      (c .before .before .rest .given .1)
 
   returns-5 : lts.Need-returns-5 callees (closed-condition-at span) Post Inv μ
-  returns-5 c = let k = c .before in childless _ _ (k .before .before .before .before .loop .inv) (subst (λ (x : ℕ). NoneOf x (15 ∷ 14 ∷ 13 ∷ [])) (k .tag .ensures) (c .match .rest))
+  returns-5 c = let k =
+      c .before in childless _ _ (k .before .before .before .before .loop .inv)
+      (subst (λ (x : ℕ). NoneOf x (15 ∷ 14 ∷ 13 ∷ [])) (k .tag .ensures) (c .match .rest))
 
   pub closed-condition : {M : Type 1} → lts.Closed callees (closed-condition-at span) Post M
   closed-condition =

@@ -13,7 +13,8 @@ use Rattle.bound_slots.proofs.+closed_condition+closed_expression+close
 use Rattle.bound_slots.proofs.+closed_condition+closed_expression+closed_list+rest_of+rest_of_two.Lts-closed_expression as lts
 
 abbrev Inv : lts.InvT-loop
-Inv words from outer term₀ bound₀ term bound = (from ≤ term) × (term < 1024) × (closed (slots bound) (treeIn words term) ≡ closed (slots outer) (treeIn words from))
+Inv words from outer term₀ bound₀ term bound =
+    (from ≤ term) × (term < 1024) × (closed (slots bound) (treeIn words term) ≡ closed (slots outer) (treeIn words from))
 
 abbrev μ : lts.MeasureT-loop
 μ words from outer term₀ bound₀ term bound = 1024 - term

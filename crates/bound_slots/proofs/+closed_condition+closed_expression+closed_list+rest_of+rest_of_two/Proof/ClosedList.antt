@@ -12,7 +12,8 @@ use Rattle.operands.proofs.first.Reads as first
 use Rattle.operands.proofs.second.Reads as second
 use Rattle.bound_slots.proofs.closed_list.Reads.{Post}
 use Rattle.bound_slots.proofs.closed_expression.Reads as closed-expression
-use Rattle.bound_slots.proofs.+closed_condition+closed_expression+closed_list+rest_of+rest_of_two.Proof.Measures.{closed-list-at, closed-expression-below}
+use Rattle.bound_slots.proofs.+closed_condition+closed_expression+closed_list+rest_of+rest_of_two.Proof.Measures.{closed-list-at}
+use Rattle.bound_slots.proofs.+closed_condition+closed_expression+closed_list+rest_of+rest_of_two.Proof.Measures.{closed-expression-below}
 use Rattle.bound_slots.proofs.+closed_condition+closed_expression+closed_list+rest_of+rest_of_two.Lts-closed_list as lts
 
 abbrev Inv : lts.InvT-loop
@@ -44,7 +45,8 @@ module _ (span : ℕ) where
   first-requires c κs = tt
 
   -- the term is one of a list
-  more : (c : lts.Else1 callees (closed-list-at span) Post Inv μ) → Tagged (c .before .before .before .before .args .words .now) (c .before .before .before .loop .term) 16
+  more : (c : lts.Else1 callees (closed-list-at span) Post Inv μ)
+      → Tagged (c .before .before .before .before .args .words .now) (c .before .before .before .loop .term) 16
   more c = sym (c .before .tag .ensures) ∙ c .if1 .left
 
   closed-expression-requires : lts.Need-closed-expression-requires callees (closed-list-at span) Post Inv μ
@@ -55,17 +57,24 @@ module _ (span : ℕ) where
   returns-2 : lts.Need-returns-2 callees (closed-list-at span) Post Inv μ
   returns-2 c =
       let k = c .before .before .before in
-      first-open _ _ (k .before .before .before .loop .inv) (more k) (rw (c .before .before .first .ensures) at (sym (c .before .closed-expression .ensures) ∙ not-true _ (c .if2 .taken)))
+      first-open _ _ (k .before .before .before .loop .inv) (more k)
+      (rw (c .before .before .first .ensures) at (sym (c .before .closed-expression .ensures) ∙ not-true _ (c .if2 .taken)))
 
   second-requires : lts.Need-second-requires callees (closed-list-at span) Post Inv μ
   second-requires c κs = tt
 
   -- the next term
   goes-on : (c : lts.After-second callees (closed-list-at span) Post Inv μ)
-      → Next (c .before .before .before .before .before .before .before .before .args .words .now) (listsOf (c .before .before .before .before .before .before .before .before .args .words .now) (slots (c .before .before .before .before .before .before .before .before .args .bound))) (c .before .before .before .before .before .before .before .before .args .from) (c .before .before .before .before .before .before .before .loop .term) (c .second .result)
+      → Next (c .before .before .before .before .before .before .before .before .args .words .now)
+      (listsOf (c .before .before .before .before .before .before .before .before .args .words .now)
+      (slots (c .before .before .before .before .before .before .before .before .args .bound)))
+      (c .before .before .before .before .before .before .before .before .args .from)
+      (c .before .before .before .before .before .before .before .loop .term) (c .second .result)
   goes-on c =
       let k = c .before .before .before .before in
-      rw (c .second .ensures) (next _ _ (k .before .before .before .loop .inv) (more k) (rw (c .before .before .before .first .ensures) at (sym (c .before .before .closed-expression .ensures) ∙ not-false _ (c .before .if2 .left))))
+      rw (c .second .ensures)
+      (next _ _ (k .before .before .before .loop .inv) (more k)
+      (rw (c .before .before .before .first .ensures) at (sym (c .before .before .closed-expression .ensures) ∙ not-false _ (c .before .if2 .left))))
 
   loop-less : lts.Need-loop-less callees (closed-list-at span) Post Inv μ
   loop-less c = goes-on c .0

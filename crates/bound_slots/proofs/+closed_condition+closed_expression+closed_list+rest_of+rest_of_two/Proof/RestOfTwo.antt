@@ -10,7 +10,8 @@ use Rattle.operands.proofs.tag.Reads as tag
 use Rattle.bound_slots.proofs.rest_of_two.Reads.{Post}
 use Rattle.bound_slots.proofs.closed_expression.Reads as closed-expression
 use Rattle.bound_slots.proofs.closed_leaf.Reads as closed-leaf
-use Rattle.bound_slots.proofs.+closed_condition+closed_expression+closed_list+rest_of+rest_of_two.Proof.Measures.{rest-of-two-at, closed-expression-below}
+use Rattle.bound_slots.proofs.+closed_condition+closed_expression+closed_list+rest_of+rest_of_two.Proof.Measures.{rest-of-two-at}
+use Rattle.bound_slots.proofs.+closed_condition+closed_expression+closed_list+rest_of+rest_of_two.Proof.Measures.{closed-expression-below}
 use Rattle.bound_slots.proofs.+closed_condition+closed_expression+closed_list+rest_of+rest_of_two.Lts-rest_of_two as lts
 
 module _ (span : ℕ) where
@@ -27,7 +28,8 @@ module _ (span : ℕ) where
   tag-requires c κs = tt
 
   -- the second operand has no children
-  leaf : (c : lts.Then1 callees (rest-of-two-at span) Post) → tagOf (getD (c .before .before .before .args .words .now) (c .before .before .before .args .second) 0) < 3
+  leaf : (c : lts.Then1 callees (rest-of-two-at span) Post)
+      → tagOf (getD (c .before .before .before .args .words .now) (c .before .before .before .args .second) 0) < 3
   leaf c = subst (λ (k : ℕ). k < 3) (c .before .tag .ensures) (c .if1 .taken)
 
   closed-leaf-requires : lts.Need-closed-leaf-requires callees (rest-of-two-at span) Post
@@ -39,7 +41,8 @@ module _ (span : ℕ) where
       leaf-closed _ (s .pre .1 .0) _ _ _ _ (leaf (c .before .before)) (c .before .closed-leaf .ensures) (s .pre .1 .1 .0) (c .if2 .taken)
 
   returns-2 : lts.Need-returns-2 callees (rest-of-two-at span) Post
-  returns-2 c = leaf-open _ (c .before .before .before .before .before .pre .1 .0) _ _ _ _ (leaf (c .before .before)) (c .before .closed-leaf .ensures) (c .if2 .left)
+  returns-2 c = leaf-open _ (c .before .before .before .before .before .pre .1 .0) _ _ _ _ (leaf (c .before .before)) (c .before .closed-leaf .ensures)
+      (c .if2 .left)
 
   closed-expression-requires : lts.Need-closed-expression-requires callees (rest-of-two-at span) Post
   closed-expression-requires c κs = let s = c .before .before .before in (just span (s .args .first) (s .pre .0), (s .pre .1 .0, s .pre .1 .1 .0))

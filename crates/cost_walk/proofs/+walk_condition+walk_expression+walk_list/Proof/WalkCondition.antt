@@ -52,48 +52,69 @@ module _ (span : ℕ) where
   walk-condition-requires : lts.Need-walk-condition-requires callees (walk-condition-at span) Post
   walk-condition-requires c κs =
       let k = c .before in
-      rw (k .before .before .before .first .ensures) (not-call _ (k .before .before .before .before .before .pre .1 .0) _ (k .before .before .before .before .before .pre .0) (sym (k .tag .ensures) ∙ c .match .keys1))
+      rw (k .before .before .before .first .ensures)
+      (not-call _ (k .before .before .before .before .before .pre .1 .0) _ (k .before .before .before .before .before .pre .0)
+      (sym (k .tag .ensures) ∙ c .match .keys1))
 
   walk-condition-requires-2 : lts.Need-walk-condition-requires-2 callees (walk-condition-at span) Post
   walk-condition-requires-2 c κs =
       let k = c .before in
-      rw (k .before .before .before .first .ensures) (and-first _ (k .before .before .before .before .before .pre .1 .0) _ (k .before .before .before .before .before .pre .0) (sym (k .tag .ensures) ∙ c .match .keys2))
+      rw (k .before .before .before .first .ensures)
+      (and-first _ (k .before .before .before .before .before .pre .1 .0) _ (k .before .before .before .before .before .pre .0)
+      (sym (k .tag .ensures) ∙ c .match .keys2))
 
   walk-condition-requires-3 : lts.Need-walk-condition-requires-3 callees (walk-condition-at span) Post
   walk-condition-requires-3 c κs =
       let k = c .before .before in
-      rw (k .before .before .second .ensures) (and-second _ (k .before .before .before .before .before .pre .1 .0) _ (k .before .before .before .before .before .pre .0) (sym (k .tag .ensures) ∙ c .before .match .keys2))
+      rw (k .before .before .second .ensures)
+      (and-second _ (k .before .before .before .before .before .pre .1 .0) _ (k .before .before .before .before .before .pre .0)
+      (sym (k .tag .ensures) ∙ c .before .match .keys2))
 
   walk-expression-requires : lts.Need-walk-expression-requires callees (walk-condition-at span) Post
   walk-expression-requires c κs =
       let k = c .before in
-      rw (k .before .before .before .first .ensures) (equal-first _ (k .before .before .before .before .before .pre .1 .0) _ (k .before .before .before .before .before .pre .0) (sym (k .tag .ensures) ∙ c .match .keys3))
+      rw (k .before .before .before .first .ensures)
+      (equal-first _ (k .before .before .before .before .before .pre .1 .0) _ (k .before .before .before .before .before .pre .0)
+      (sym (k .tag .ensures) ∙ c .match .keys3))
 
   walk-expression-requires-2 : lts.Need-walk-expression-requires-2 callees (walk-condition-at span) Post
   walk-expression-requires-2 c κs =
       let k = c .before .before in
-      rw (k .before .before .second .ensures) (equal-second _ (k .before .before .before .before .before .pre .1 .0) _ (k .before .before .before .before .before .pre .0) (sym (k .tag .ensures) ∙ c .before .match .keys3))
+      rw (k .before .before .second .ensures)
+      (equal-second _ (k .before .before .before .before .before .pre .1 .0) _ (k .before .before .before .before .before .pre .0)
+      (sym (k .tag .ensures) ∙ c .before .match .keys3))
 
   returns : lts.Need-returns callees (walk-condition-at span) Post
   returns c =
       let k = c .before .before in
-      not-walked _ (k .before .before .before .before .before .pre .1 .0) _ (k .before .before .before .before .before .args .counting) _ _ (sym (k .tag .ensures) ∙ c .before .match .keys1) (k .before .more .ensures) (rw (k .before .before .before .first .ensures) at (c .walk-condition .ensures))
+      not-walked _ (k .before .before .before .before .before .pre .1 .0) _ (k .before .before .before .before .before .args .counting) _ _
+      (sym (k .tag .ensures) ∙ c .before .match .keys1) (k .before .more .ensures)
+      (rw (k .before .before .before .first .ensures) at (c .walk-condition .ensures))
 
   returns-2 : lts.Need-returns-2 callees (walk-condition-at span) Post
   returns-2 c =
       let k = c .before .before .before in
-      and-walked _ (k .before .before .before .before .before .pre .1 .0) _ (k .before .before .before .before .before .args .counting) _ _ (sym (k .tag .ensures) ∙ c .before .before .match .keys2) (k .before .more .ensures) (rw (k .before .before .before .first .ensures) at (c .before .walk-condition2 .ensures)) (rw (k .before .before .second .ensures) at (c .walk-condition3 .ensures))
+      and-walked _ (k .before .before .before .before .before .pre .1 .0) _ (k .before .before .before .before .before .args .counting) _ _
+      (sym (k .tag .ensures) ∙ c .before .before .match .keys2) (k .before .more .ensures)
+      (rw (k .before .before .before .first .ensures) at (c .before .walk-condition2 .ensures))
+      (rw (k .before .before .second .ensures) at (c .walk-condition3 .ensures))
 
   returns-3 : lts.Need-returns-3 callees (walk-condition-at span) Post
   returns-3 c =
       let k = c .before .before .before in
-      equal-walked _ (k .before .before .before .before .before .pre .1 .0) _ (k .before .before .before .before .before .args .counting) _ _ (sym (k .tag .ensures) ∙ c .before .before .match .keys3) (k .before .more .ensures) (rw (k .before .before .before .first .ensures) at (c .before .walk-expression .ensures)) (rw (k .before .before .second .ensures) at (c .walk-expression2 .ensures))
+      equal-walked _ (k .before .before .before .before .before .pre .1 .0) _ (k .before .before .before .before .before .args .counting) _ _
+      (sym (k .tag .ensures) ∙ c .before .before .match .keys3) (k .before .more .ensures)
+      (rw (k .before .before .before .first .ensures) at (c .before .walk-expression .ensures))
+      (rw (k .before .before .second .ensures) at (c .walk-expression2 .ensures))
 
   returns-4 : lts.Need-returns-4 callees (walk-condition-at span) Post
   returns-4 c =
       let k = c .before in
-      rest-walkedᶜ _ (k .before .before .before .before .before .pre .1 .0) _ (k .before .before .before .before .before .args .counting) _ _ (subst (λ (x : ℕ). NoneOf x (15 ∷ 14 ∷ 13 ∷ [])) (k .tag .ensures) (c .match .rest))
+      rest-walkedᶜ _ (k .before .before .before .before .before .pre .1 .0) _ (k .before .before .before .before .before .args .counting) _ _
+      (subst (λ (x : ℕ). NoneOf x (15 ∷ 14 ∷ 13 ∷ [])) (k .tag .ensures) (c .match .rest))
 
   pub walk-condition : {M : Type 1} → lts.Closed callees (walk-condition-at span) Post M
   walk-condition =
-      lts.spec callees (walk-condition-at span) Post mul-word element-copy-out-word first-requires second-requires more-requires tag-requires walk-condition-requires walk-condition-requires-2 walk-condition-requires-3 walk-expression-requires walk-expression-requires-2 returns returns-2 returns-3 returns-4
+      lts.spec callees (walk-condition-at span) Post mul-word element-copy-out-word first-requires second-requires more-requires tag-requires
+      walk-condition-requires walk-condition-requires-2 walk-condition-requires-3 walk-expression-requires walk-expression-requires-2 returns returns-2
+      returns-3 returns-4

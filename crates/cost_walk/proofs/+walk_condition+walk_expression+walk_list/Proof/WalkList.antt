@@ -67,4 +67,5 @@ module _ (span : ℕ) where
 
   pub walk-list : {M : Type 1} → lts.Closed callees (walk-list-at span) Post M
   walk-list =
-      lts.spec callees (walk-list-at span) Post mul-word element-copy-out-word tag-requires returns first-requires walk-expression-requires second-requires walk-list-requires returns-2
+      lts.spec callees (walk-list-at span) Post mul-word element-copy-out-word tag-requires returns first-requires walk-expression-requires second-requires
+      walk-list-requires returns-2

@@ -55,7 +55,9 @@ returns-4 c = simp (c .at3 .ensures, c .before .ready-of3 .ensures, c .before .b
 
 returns-5 : tie.Need-returns-5
 unfolding feedConditionOf
-returns-5 c = c .feed-if .ensures ∙ sym (feed-condition-other (c .before .before .args .frame .kind) (c .before .before .args .frame) (c .before .before .args .truth) (c .before .match .keys3))
+returns-5 c = c .feed-if .ensures
+    ∙ sym (feed-condition-other (c .before .before .args .frame .kind) (c .before .before .args .frame) (c .before .before .args .truth)
+    (c .before .match .keys3))
 
 pub feed-condition-spec : {M : Type 1} → statement M
 feed-condition-spec =

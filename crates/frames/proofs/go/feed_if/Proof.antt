@@ -61,7 +61,9 @@ returns-4 c = simp (c .at4 .ensures, c .before .ready-of4 .ensures, c .before .b
 
 returns-5 : tie.Need-returns-5
 unfolding feedIfOf
-returns-5 c = (simp (c .at5 .ensures, c .before .ready-of5 .ensures)) ∙ sym (if-other (c .before .before .before .args .frame .kind) (c .before .before .before .args .frame) (c .before .before .before .args .truth) (c .before .before .match .keys3))
+returns-5 c = (simp (c .at5 .ensures, c .before .ready-of5 .ensures))
+    ∙ sym (if-other (c .before .before .before .args .frame .kind) (c .before .before .before .args .frame) (c .before .before .before .args .truth)
+    (c .before .before .match .keys3))
 
 pub feed-if-spec : {M : Type 1} → statement M
 feed-if-spec =

@@ -3,7 +3,8 @@
 use Rattle.format.specs.Version.{versionOf}
 use Rattle.clocks.specs.Rows.{rowAt}
 use Rattle.judge.proofs.Going.{Going, going-start, one-few, none-named}
-use Rattle.judge.proofs.Here.{Here, columns-known, at-most, own-below, source-below, target-below, also-below, source-most, target-most, also-most, own-few, heard-few, short, names-late}
+use Rattle.judge.proofs.Here.{Here, columns-known, at-most, own-below, source-below, target-below, also-below, source-most, target-most, also-most}
+use Rattle.judge.proofs.Here.{own-few, heard-few, short, names-late}
 use Rattle.judge.proofs.Next.{next-by}
 use Rattle.judge.proofs.Table.{still-below}
 use lib.ListN.{length, set, length-set}
@@ -23,7 +24,14 @@ abbrev μ-loop : tie.MeasureT-loop
 
 -- what is known of a record once its place has its number
 here : (p : tie.After-higher Inv-loop μ-loop)
-    → Here (versionOf (p .before .before .before .before .before .before .before .before .before .before .before .args .version)) (p .before .before .before .before .before .before .before .before .before .before .before .args .log .now) (p .before .before .before .before .before .before .before .before .loop .index) (p .before .before .before .before .before .before .before .before .loop .numbers) (p .before .before .before .before .before .before .before .before .loop .given) (p .before .before .before .before .before .before .before .before .loop .rows) (p .before .before .before .before .before .before .columns-at .result) (p .before .before .number .last .0) (p .higher .result) (p .before .before .number .result)
+    → Here (versionOf (p .before .before .before .before .before .before .before .before .before .before .before .args .version))
+    (p .before .before .before .before .before .before .before .before .before .before .before .args .log .now)
+    (p .before .before .before .before .before .before .before .before .loop .index)
+    (p .before .before .before .before .before .before .before .before .loop .numbers)
+    (p .before .before .before .before .before .before .before .before .loop .given)
+    (p .before .before .before .before .before .before .before .before .loop .rows)
+    (p .before .before .before .before .before .before .columns-at .result) (p .before .before .number .last .0) (p .higher .result)
+    (p .before .before .number .result)
 here p =
     record {
       accepted-log = p .before .before .before .before .before .before .before .before .before .before .before .pre .0;
@@ -38,7 +46,13 @@ one-record-each-requires : tie.Need-one-record-each-requires Inv-loop μ-loop
 one-record-each-requires c κs = search needs
 
 loop-holds : tie.Need-loop-holds Inv-loop μ-loop
-loop-holds c = (omega arith, refl, refl, going-start (versionOf (c .before .before .args .version)) (c .before .before .args .log .now) (c .before .before .args .rows .now) (c .before .before .pre .1))
+loop-holds c = (
+  omega arith,
+  refl,
+  refl,
+  going-start (versionOf (c .before .before .args .version)) (c .before .before .args .log .now)
+      (c .before .before .args .rows .now) (c .before .before .pre .1),
+)
 
 columns-at-requires : tie.Need-columns-at-requires Inv-loop μ-loop
 columns-at-requires c κs = search needs
@@ -77,10 +91,16 @@ slice-copy-out-own : tie.Need-slice-copy-out-own Inv-loop μ-loop
 slice-copy-out-own c = own-below (here (c .before .before .before .before))
 
 mul-heard : tie.Need-mul-heard Inv-loop μ-loop
-mul-heard c = omega (arith, source-most (here (c .before .before .before .before .before)) (c .before .before .before .before .first .result) (c .before .before .before .source .result) (c .before .before .before .before .first .ensures) (c .before .before .before .source .ensures))
+mul-heard c = omega (
+  arith,
+  source-most (here (c .before .before .before .before .before)) (c .before .before .before .before .first .result)
+      (c .before .before .before .source .result) (c .before .before .before .before .first .ensures) (c .before .before .before .source .ensures),
+)
 
 slice-copy-out-heard : tie.Need-slice-copy-out-heard Inv-loop μ-loop
-slice-copy-out-heard c = source-below (here (c .before .before .before .before .before)) (c .before .before .before .before .first .result) (c .before .before .before .source .result) (c .before .before .before .before .first .ensures) (c .before .before .before .source .ensures)
+slice-copy-out-heard c =
+    source-below (here (c .before .before .before .before .before)) (c .before .before .before .before .first .result)
+    (c .before .before .before .source .result) (c .before .before .before .before .first .ensures) (c .before .before .before .source .ensures)
 
 access-requires : tie.Need-access-requires Inv-loop μ-loop
 access-requires c κs = search needs
@@ -93,13 +113,26 @@ same-length c = search needs
 
 returns : tie.Need-returns Inv-loop μ-loop
 returns c =
-    names-late (here (c .before .before .before .before .before .before .before .before .before)) (c .before .before .before .before .before .before .before .before .first .result) (c .before .before .before .before .before .before .before .source .result) _ _ (c .before .before .before .before .before .before .before .before .first .ensures) (c .before .before .before .before .before .before .before .source .ensures) (c .before .before .access .ensures) (c .before .lower .ensures) (sym (c .if1 .taken))
+    names-late (here (c .before .before .before .before .before .before .before .before .before))
+    (c .before .before .before .before .before .before .before .before .first .result)
+    (c .before .before .before .before .before .before .before .source .result) _ _
+    (c .before .before .before .before .before .before .before .before .first .ensures)
+    (c .before .before .before .before .before .before .before .source .ensures) (c .before .before .access .ensures) (c .before .lower .ensures)
+    (sym (c .if1 .taken))
 
 mul-fed : tie.Need-mul-fed Inv-loop μ-loop
-mul-fed c = omega (arith, target-most (here (c .before .before .before .before .before .before .before .before .before)) (c .before .before .before .before .before .before .before .before .first .result) (c .before .before .before .before .before .before .target .result) (c .before .before .before .before .before .before .before .before .first .ensures) (c .before .before .before .before .before .before .target .ensures))
+mul-fed c = omega (
+  arith,
+  target-most (here (c .before .before .before .before .before .before .before .before .before))
+      (c .before .before .before .before .before .before .before .before .first .result) (c .before .before .before .before .before .before .target .result)
+      (c .before .before .before .before .before .before .before .before .first .ensures) (c .before .before .before .before .before .before .target .ensures),
+)
 
 slice-copy-out-fed : tie.Need-slice-copy-out-fed Inv-loop μ-loop
-slice-copy-out-fed c = target-below (here (c .before .before .before .before .before .before .before .before .before)) (c .before .before .before .before .before .before .before .before .first .result) (c .before .before .before .before .before .before .target .result) (c .before .before .before .before .before .before .before .before .first .ensures) (c .before .before .before .before .before .before .target .ensures)
+slice-copy-out-fed c =
+    target-below (here (c .before .before .before .before .before .before .before .before .before))
+    (c .before .before .before .before .before .before .before .before .first .result) (c .before .before .before .before .before .before .target .result)
+    (c .before .before .before .before .before .before .before .before .first .ensures) (c .before .before .before .before .before .before .target .ensures)
 
 mul-one : tie.Need-mul-one Inv-loop μ-loop
 mul-one c = search needs
@@ -109,9 +142,20 @@ array-copy-out-one c = search needs
 
 advanced-requires : tie.Need-advanced-requires Inv-loop μ-loop
 advanced-requires c κs =
-    let ones = c .before .before .before .before .before .before .before .before .before .before .before .before .before .before .before .before .before .before .before .before .one-record-each in
-    let columns = c .before .before .before .before .before .before .before .before .before .before .before .before .before .before .before .before .before .columns-at in
-    (own-few (here (c .before .before .before .before .before .before .before .before .before .before .before)), (heard-few (here (c .before .before .before .before .before .before .before .before .before .before .before)) (c .before .before .before .before .before .before .before .before .before .before .first .result) (c .before .before .before .before .before .before .before .before .before .source .result) (c .before .before .before .before .before .before .before .before .before .before .first .ensures) (c .before .before .before .before .before .before .before .before .before .source .ensures), one-few (ones .result) (ones .ensures) (columns .result .thread) (columns .ensures .narrow .thread-below)))
+    let ones = c .before .before .before .before .before .before .before .before .before .before .before .before .before .before .before .before .before
+    .before .before .before .one-record-each in
+    let columns = c .before .before .before .before .before .before .before .before .before .before .before .before .before .before .before .before
+    .before .columns-at in (
+      own-few (here (c .before .before .before .before .before .before .before .before .before .before .before)),
+      (
+        heard-few (here (c .before .before .before .before .before .before .before .before .before .before .before))
+            (c .before .before .before .before .before .before .before .before .before .before .first .result)
+            (c .before .before .before .before .before .before .before .before .before .source .result)
+            (c .before .before .before .before .before .before .before .before .before .before .first .ensures)
+            (c .before .before .before .before .before .before .before .before .before .source .ensures),
+        one-few (ones .result) (ones .ensures) (columns .result .thread) (columns .ensures .narrow .thread-below),
+      ),
+    )
 
 raised-requires : tie.Need-raised-requires Inv-loop μ-loop
 raised-requires c κs = search needs
@@ -123,24 +167,54 @@ slice-set-from-moved : tie.Need-slice-set-from-moved Inv-loop μ-loop
 slice-set-from-moved c = own-below (here (c .before .before .before .before .before .before .before .before .before .before .before .before .before))
 
 mul-told : tie.Need-mul-told Inv-loop μ-loop
-mul-told c = omega (arith, target-most (here (c .before .before .before .before .before .before .before .before .before .before .before .before .before)) (c .before .before .before .before .before .before .before .before .before .before .before .before .first .result) (c .before .before .before .before .before .before .before .before .before .before .target .result) (c .before .before .before .before .before .before .before .before .before .before .before .before .first .ensures) (c .before .before .before .before .before .before .before .before .before .before .target .ensures))
+mul-told c = omega (
+  arith,
+  target-most (here (c .before .before .before .before .before .before .before .before .before .before .before .before .before))
+      (c .before .before .before .before .before .before .before .before .before .before .before .before .first .result)
+      (c .before .before .before .before .before .before .before .before .before .before .target .result)
+      (c .before .before .before .before .before .before .before .before .before .before .before .before .first .ensures)
+      (c .before .before .before .before .before .before .before .before .before .before .target .ensures),
+)
 
 slice-set-from-told : tie.Need-slice-set-from-told Inv-loop μ-loop
 slice-set-from-told c =
-    let rows = c .before .before .before .before .before .before .before .before .before .before .before .before .before .before .before .before .before .before .before .before .before .loop .rows in
-    let thread = c .before .before .before .before .before .before .before .before .before .before .before .before .before .before .before .before .before .before .before .columns-at .result .thread in
+    let rows = c .before .before .before .before .before .before .before .before .before .before .before .before .before .before .before .before .before
+    .before .before .before .before .loop .rows in
+    let thread = c .before .before .before .before .before .before .before .before .before .before .before .before .before .before .before .before .before
+    .before .before .columns-at .result .thread in
     let moved = c .before .advanced .result in
-    still-below rows thread (c .before .before .before .before .before .before .before .before .before .before .target .result) moved (target-below (here (c .before .before .before .before .before .before .before .before .before .before .before .before .before)) (c .before .before .before .before .before .before .before .before .before .before .before .before .first .result) (c .before .before .before .before .before .before .before .before .before .before .target .result) (c .before .before .before .before .before .before .before .before .before .before .before .before .first .ensures) (c .before .before .before .before .before .before .before .before .before .before .target .ensures))
+    still-below rows thread (c .before .before .before .before .before .before .before .before .before .before .target .result) moved
+    (target-below (here (c .before .before .before .before .before .before .before .before .before .before .before .before .before))
+    (c .before .before .before .before .before .before .before .before .before .before .before .before .first .result)
+    (c .before .before .before .before .before .before .before .before .before .before .target .result)
+    (c .before .before .before .before .before .before .before .before .before .before .before .before .first .ensures)
+    (c .before .before .before .before .before .before .before .before .before .before .target .ensures))
 
 mul-moved-2 : tie.Need-mul-moved-2 Inv-loop μ-loop
-mul-moved-2 c = omega (arith, also-most (here (c .before .before .before .before .before .before .before .before .before .before .before .before .before)) (c .before .before .before .before .before .before .before .before .before .before .before .before .first .result) (c .before .before .before .before .before .before .before .before .before .writes .result) (c .before .before .before .before .before .before .before .before .before .before .before .before .first .ensures) (c .before .before .before .before .before .before .before .before .before .writes .ensures))
+mul-moved-2 c = omega (
+  arith,
+  also-most (here (c .before .before .before .before .before .before .before .before .before .before .before .before .before))
+      (c .before .before .before .before .before .before .before .before .before .before .before .before .first .result)
+      (c .before .before .before .before .before .before .before .before .before .writes .result)
+      (c .before .before .before .before .before .before .before .before .before .before .before .before .first .ensures)
+      (c .before .before .before .before .before .before .before .before .before .writes .ensures),
+)
 
 slice-set-from-moved-2 : tie.Need-slice-set-from-moved-2 Inv-loop μ-loop
 slice-set-from-moved-2 c =
-    let rows = c .before .before .before .before .before .before .before .before .before .before .before .before .before .before .before .before .before .before .before .before .before .loop .rows in
-    let thread = c .before .before .before .before .before .before .before .before .before .before .before .before .before .before .before .before .before .before .before .columns-at .result .thread in
+    let rows = c .before .before .before .before .before .before .before .before .before .before .before .before .before .before .before .before .before
+    .before .before .before .before .loop .rows in
+    let thread = c .before .before .before .before .before .before .before .before .before .before .before .before .before .before .before .before .before
+    .before .before .columns-at .result .thread in
     let moved = c .before .advanced .result in
-    still-below (set rows thread moved) (c .before .before .before .before .before .before .before .before .before .before .target .result) (c .before .before .before .before .before .before .before .before .before .writes .result) (c .raised .result) (still-below rows thread (c .before .before .before .before .before .before .before .before .before .writes .result) moved (also-below (here (c .before .before .before .before .before .before .before .before .before .before .before .before .before)) (c .before .before .before .before .before .before .before .before .before .before .before .before .first .result) (c .before .before .before .before .before .before .before .before .before .writes .result) (c .before .before .before .before .before .before .before .before .before .before .before .before .first .ensures) (c .before .before .before .before .before .before .before .before .before .writes .ensures)))
+    still-below (set rows thread moved) (c .before .before .before .before .before .before .before .before .before .before .target .result)
+    (c .before .before .before .before .before .before .before .before .before .writes .result) (c .raised .result)
+    (still-below rows thread (c .before .before .before .before .before .before .before .before .before .writes .result) moved
+    (also-below (here (c .before .before .before .before .before .before .before .before .before .before .before .before .before))
+    (c .before .before .before .before .before .before .before .before .before .before .before .before .first .result)
+    (c .before .before .before .before .before .before .before .before .before .writes .result)
+    (c .before .before .before .before .before .before .before .before .before .before .before .before .first .ensures)
+    (c .before .before .before .before .before .before .before .before .before .writes .ensures)))
 
 add-index : tie.Need-add-index Inv-loop μ-loop
 add-index c = omega (arith, short (here (c .before .before .before .before .before .before .before .before .before .before .before .before .before)))
@@ -150,22 +224,46 @@ loop-less c = search needs
 
 loop-again : tie.Need-loop-again Inv-loop μ-loop
 loop-again c =
-    let ones = c .before .before .before .before .before .before .before .before .before .before .before .before .before .before .before .before .before .before .before .before .before .before .one-record-each in
-    let columns = c .before .before .before .before .before .before .before .before .before .before .before .before .before .before .before .before .before .before .before .columns-at in
-    let loop = c .before .before .before .before .before .before .before .before .before .before .before .before .before .before .before .before .before .before .before .before .before .loop in (
-      omega (arith, c .before .before .before .before .before .before .before .before .before .before .before .before .before .before .before .before .before .before .before .before .loop-test .taken),
+    let ones = c .before .before .before .before .before .before .before .before .before .before .before .before .before .before .before .before .before
+    .before .before .before .before .before .one-record-each in
+    let columns = c .before .before .before .before .before .before .before .before .before .before .before .before .before .before .before .before .before
+    .before .before .columns-at in
+    let loop = c .before .before .before .before .before .before .before .before .before .before .before .before .before .before .before .before .before
+    .before .before .before .before .loop in (
+      omega (
+        arith,
+        c .before .before .before .before .before .before .before .before .before .before .before .before .before .before .before .before .before
+            .before .before .before .loop-test .taken,
+      ),
       loop .inv .1,
-      length-set (set (set (loop .rows) (columns .result .thread) (c .before .advanced .result)) (c .before .before .before .before .before .before .before .before .before .before .target .result) (c .raised .result)) (c .before .before .before .before .before .before .before .before .before .writes .result) (c .before .advanced .result) ∙ length-set (set (loop .rows) (columns .result .thread) (c .before .advanced .result)) (c .before .before .before .before .before .before .before .before .before .before .target .result) (c .raised .result)
+      length-set (set (set (loop .rows) (columns .result .thread) (c .before .advanced .result))
+          (c .before .before .before .before .before .before .before .before .before .before .target .result) (c .raised .result))
+          (c .before .before .before .before .before .before .before .before .before .writes .result) (c .before .advanced .result)
+          ∙ length-set (set (loop .rows) (columns .result .thread) (c .before .advanced .result))
+          (c .before .before .before .before .before .before .before .before .before .before .target .result) (c .raised .result)
           ∙ length-set (loop .rows) (columns .result .thread) (c .before .advanced .result) ∙ loop .inv .2,
-      next-by (here (c .before .before .before .before .before .before .before .before .before .before .before .before .before)) (c .before .before .before .before .before .before .before .before .before .before .before .before .first .result) (c .before .before .before .before .before .before .before .before .before .before .before .source .result) (c .before .before .before .before .before .before .before .before .before .before .target .result) (c .before .before .before .before .before .before .before .before .before .writes .result) _ _ (rowAt (ones .result) (columns .result .thread)) (c .before .advanced .result) (c .raised .result) (c .before .before .before .before .before .before .before .before .before .before .before .before .first .ensures) (c .before .before .before .before .before .before .before .before .before .before .before .source .ensures) (c .before .before .before .before .before .before .before .before .before .before .target .ensures) (c .before .before .before .before .before .before .before .before .before .writes .ensures)
-          (c .before .before .before .before .before .before .access .ensures) (c .before .before .before .before .before .lower .ensures) (sym (c .before .before .before .before .if1 .left)) (ones .ensures .each (columns .result .thread) (columns .ensures .narrow .thread-below)) (c .before .advanced .ensures) (c .raised .ensures),
+      next-by (here (c .before .before .before .before .before .before .before .before .before .before .before .before .before))
+          (c .before .before .before .before .before .before .before .before .before .before .before .before .first .result)
+          (c .before .before .before .before .before .before .before .before .before .before .before .source .result)
+          (c .before .before .before .before .before .before .before .before .before .before .target .result)
+          (c .before .before .before .before .before .before .before .before .before .writes .result) _ _ (rowAt (ones .result) (columns .result .thread))
+          (c .before .advanced .result) (c .raised .result)
+          (c .before .before .before .before .before .before .before .before .before .before .before .before .first .ensures)
+          (c .before .before .before .before .before .before .before .before .before .before .before .source .ensures)
+          (c .before .before .before .before .before .before .before .before .before .before .target .ensures)
+          (c .before .before .before .before .before .before .before .before .before .writes .ensures)
+          (c .before .before .before .before .before .before .access .ensures) (c .before .before .before .before .before .lower .ensures)
+          (sym (c .before .before .before .before .if1 .left)) (ones .ensures .each (columns .result .thread) (columns .ensures .narrow .thread-below))
+          (c .before .advanced .ensures) (c .raised .ensures),
     )
 
 same-length-2 : tie.Need-same-length-2 Inv-loop μ-loop
 same-length-2 c = search needs
 
 returns-2 : tie.Need-returns-2 Inv-loop μ-loop
-returns-2 c = none-named (versionOf (c .before .before .before .before .args .version)) (c .before .before .before .before .args .log .now) (c .before .loop .index) (c .before .loop .numbers) (c .before .loop .given) (c .before .loop .rows) (c .before .before .before .before .pre .0) (c .before .loop .inv .3) (omega arith)
+returns-2 c = none-named (versionOf (c .before .before .before .before .args .version)) (c .before .before .before .before .args .log .now)
+    (c .before .loop .index) (c .before .loop .numbers) (c .before .loop .given) (c .before .loop .rows) (c .before .before .before .before .pre .0)
+    (c .before .loop .inv .3) (omega arith)
 
 pub pass-spec : {M : Type 1} → statement M
 pass-spec =

@@ -38,12 +38,14 @@ element-copy-out-if1 : tie.Need-element-copy-out-if1 Inv-loop μ-loop
 element-copy-out-if1 c = let f = c .before .before .before .before .before .pre .0 .headed .few in omega arith
 
 -- the tag is the term's
-tag-is : (c : tie.After-tag Inv-loop μ-loop) → c .tag .result ≡ tagAt (c .before .before .before .before .before .args .plan .now) (c .before .before .before .loop .term)
+tag-is : (c : tie.After-tag Inv-loop μ-loop)
+    → c .tag .result ≡ tagAt (c .before .before .before .before .before .args .plan .now) (c .before .before .before .loop .term)
 unfolding tagIn
 tag-is c =
     let s = c .before .before .before .before .before in
     let a = s .args in
-    c .tag .ensures ∙ tags-are (a .plan .now) (a .count) (a .words .now) (s .pre .1 .0) (c .before .before .before .loop .term) (c .before .before .loop-test .taken)
+    c .tag .ensures ∙ tags-are (a .plan .now) (a .count) (a .words .now) (s .pre .1 .0) (c .before .before .before .loop .term)
+    (c .before .before .loop-test .taken)
 
 -- and one of the table
 small : (c : tie.After-tag Inv-loop μ-loop) → c .tag .result < tagCount
@@ -51,7 +53,8 @@ unfolding tagIn
 small c =
     let s = c .before .before .before .before .before in
     let a = s .args in
-    subst (λ (k : ℕ). k < tagCount) (sym (c .tag .ensures)) (tagged (a .plan .now) (a .procedures) (a .count) (a .words .now) (s .pre .0) (s .pre .1 .0) (c .before .before .before .loop .term))
+    subst (λ (k : ℕ). k < tagCount) (sym (c .tag .ensures))
+    (tagged (a .plan .now) (a .procedures) (a .count) (a .words .now) (s .pre .0) (s .pre .1 .0) (c .before .before .before .loop .term))
 
 number-requires : tie.Need-number-requires Inv-loop μ-loop
 number-requires c κs = (c .before .before .before .before .before .before .pre .1 .1 .0, (small (c .before), search needs))
@@ -76,13 +79,19 @@ loop-less : tie.Need-loop-less Inv-loop μ-loop
 loop-less c = search needs
 
 -- the note of the term is its sort
-own-sort : (c : tie.Else1 Inv-loop μ-loop) → getD (c .before .before .before .before .before .before .before .before .args .notes .now) (c .before .before .before .before .before .before .loop .term) 0 ≡ tagSort (tagAt (c .before .before .before .before .before .before .before .before .args .plan .now) (c .before .before .before .before .before .before .loop .term))
+own-sort : (c : tie.Else1 Inv-loop μ-loop)
+    → getD (c .before .before .before .before .before .before .before .before .args .notes .now)
+    (c .before .before .before .before .before .before .loop .term) 0 ≡ tagSort
+    (tagAt (c .before .before .before .before .before .before .before .before .args .plan .now)
+    (c .before .before .before .before .before .before .loop .term))
 own-sort c =
     let t = c .before .before .before in
     c .if1 .left ∙ c .before .number .ensures ∙ sort-is (t .tag .result) (small t) ∙ ap tagSort (tag-is t)
 
 -- it is no wrong call
-right-call : (c : tie.Joined2 Inv-loop μ-loop) → wrongCall (c .before .before .before .before .before .before .before .before .before .args .plan .now) (c .before .before .before .before .before .before .before .loop .term) ≡ false
+right-call : (c : tie.Joined2 Inv-loop μ-loop)
+    → wrongCall (c .before .before .before .before .before .before .before .before .before .args .plan .now)
+    (c .before .before .before .before .before .before .before .loop .term) ≡ false
 right-call c = ⊎-elim (λ w. sym (w .1 .ensures) ∙ w .2 .left) (λ e. no-call _ _ (λ q. e .left (tag-is (c .before .before .before .before) ∙ q))) (c .if2 .came)
 
 loop-again : tie.Need-loop-again Inv-loop μ-loop
@@ -93,8 +102,12 @@ loop-again c =
     let a = s .args in
     let r = s .pre .0 in
     let f = r .headed .few in
-    let h = i .loop-test .taken in
-    (search needs, below-more _ _ (l .inv .1) (note-fits (a .plan .now) (a .count) (l .term) (a .notes .now) (r .headed .sized .terms-are) (omega arith) (s .pre .1 .1 .1) (own-sort (c .before)) (right-call c)))
+    let h = i .loop-test .taken in (
+      search needs,
+      below-more _ _ (l .inv .1)
+          (note-fits (a .plan .now) (a .count) (l .term) (a .notes .now) (r .headed .sized .terms-are) (omega arith) (s .pre .1 .1 .1) (own-sort (c .before))
+          (right-call c)),
+    )
 
 returns-3 : tie.Need-returns-3 Inv-loop μ-loop
 returns-3 c = λ e t h. c .before .loop .inv .1 t (omega arith)

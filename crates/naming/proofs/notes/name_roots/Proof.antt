@@ -31,7 +31,12 @@ name-requires c κs =
     let s = c .before .before .before .before .before in
     let a = s .args in
     let f = s .pre .0 .few in
-    omega (arith, c .before .root .ensures, root-below (a .plan .now) (a .procedures) (a .count) (c .before .before .before .loop .procedure) (s .pre .0) (c .before .before .loop-test .taken))
+    omega (
+      arith,
+      c .before .root .ensures,
+      root-below (a .plan .now) (a .procedures) (a .count) (c .before .before .before .loop .procedure) (s .pre .0)
+          (c .before .before .loop-test .taken),
+    )
 
 add-procedure : tie.Need-add-procedure Inv-loop μ-loop
 add-procedure c = search needs
@@ -47,8 +52,12 @@ loop-again c =
     let b = a .plan .now in
     let f = s .pre .0 .few in
     let l = c .before .before .before .before .loop in
-    let h = root-below b (a .procedures) (a .count) (l .procedure) (s .pre .0) (c .before .before .before .loop-test .taken) in
-    (search needs, rw add-one (root-noted b (l .procedure) (c .before .before .root .result) (l .notes) _ (c .before .before .root .ensures) (omega (arith, h)) (c .name .ensures) (l .inv .1)))
+    let h = root-below b (a .procedures) (a .count) (l .procedure) (s .pre .0) (c .before .before .before .loop-test .taken) in (
+      search needs,
+      rw add-one
+          (root-noted b (l .procedure) (c .before .before .root .result) (l .notes) _ (c .before .before .root .ensures) (omega (arith, h)) (c .name .ensures)
+          (l .inv .1)),
+    )
 
 returns : tie.Need-returns Inv-loop μ-loop
 returns c =

@@ -11,7 +11,8 @@ use Rattle.naming.proofs.sorts.list_length.Statement.{statement}
 use Rattle.naming.proofs.sorts.list_length.Tie as tie
 
 abbrev Inv-loop : tie.InvT-loop
-Inv-loop plan procedures count words from length₀ term₀ length term = (length ≤ 9) × (term < count) × (length + listLength plan (9 - length) term ≡ listLength plan 9 from)
+Inv-loop plan procedures count words from length₀ term₀ length term =
+    (length ≤ 9) × (term < count) × (length + listLength plan (9 - length) term ≡ listLength plan 9 from)
 
 abbrev μ-loop : tie.MeasureT-loop
 μ-loop plan procedures count words from length₀ term₀ length term = 9 - length
@@ -33,7 +34,8 @@ returns c =
     let s = c .before .before .before .before .before .before in
     let b = s .args .plan .now in
     let l = c .before .before .before .before .loop in
-    let n = no-next b (l .term) (getD (s .args .words .now) (l .term) 0) (s .pre .1 .0 .each (l .term) (l .inv .1)) (λ e. c .if1 .taken (c .before .tag .ensures ∙ e)) in
+    let n = no-next b (l .term) (getD (s .args .words .now) (l .term) 0) (s .pre .1 .0 .each (l .term) (l .inv .1))
+    (λ e. c .if1 .taken (c .before .tag .ensures ∙ e)) in
     omega (arith, l .inv .2, list-stop b (9 - l .length) (l .term) n)
 
 second-requires : tie.Need-second-requires Inv-loop μ-loop
@@ -55,7 +57,8 @@ loop-again c =
     let e = next-is b (l .term) w (s .pre .1 .0 .each (l .term) (l .inv .1)) (sym (c .before .before .tag .ensures) ∙ c .before .if1 .left) in
     let next : c .second .result ≡ termAt b (l .term) .value₂ = c .second .ensures ∙ e .1 in
     let k : 9 - l .length ≡ suc (9 - (l .length + 1)) = omega arith in
-    let q : listLength b (9 - l .length) (l .term) ≡ suc (listLength b (9 - (l .length + 1)) (termAt b (l .term) .value₂)) = rw k (list-step b (9 - (l .length + 1)) (l .term) (e .0)) in
+    let q : listLength b (9 - l .length) (l .term) ≡ suc (listLength b (9 - (l .length + 1)) (termAt b (l .term) .value₂)) =
+    rw k (list-step b (9 - (l .length + 1)) (l .term) (e .0)) in
     (search needs, rw next (rest-between b (a .procedures) (a .count) (s .pre .0) (l .term) (l .inv .1) (e .0) .1), rw next (omega (arith, q, l .inv .2)))
 
 returns-2 : tie.Need-returns-2 Inv-loop μ-loop

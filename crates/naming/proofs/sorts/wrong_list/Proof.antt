@@ -31,8 +31,13 @@ list-of-requires c κs = search needs
 list-length-requires : tie.Need-list-length-requires
 list-length-requires c κs =
     let s = c .before .before .before in
-    let a = s .args in
-    (s .pre .0, (s .pre .1 .0, rw (c .list-of .ensures) (list-below (a .plan .now) (a .procedures) (a .count) (a .term) (s .pre .0) (s .pre .1 .1 .0) _ (word-is s) (is-call s))))
+    let a = s .args in (
+      s .pre .0,
+      (
+        s .pre .1 .0,
+        rw (c .list-of .ensures) (list-below (a .plan .now) (a .procedures) (a .count) (a .term) (s .pre .0) (s .pre .1 .1 .0) _ (word-is s) (is-call s)),
+      ),
+    )
 
 procedure-of-requires : tie.Need-procedure-of-requires
 procedure-of-requires c κs = search needs

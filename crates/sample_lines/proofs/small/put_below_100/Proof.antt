@@ -20,13 +20,19 @@ put-last-requires-2 : tie.Need-put-last-requires-2
 put-last-requires-2 c κs = omega (arith, more-length (c .before .before .before .args .number) (omega arith))
 
 put-last-requires-3 : tie.Need-put-last-requires-3
-put-last-requires-3 c κs = omega (arith, more-length (c .before .before .before .before .before .before .before .args .number) (omega arith), one-length (c .before .before .before .before .before .before .before .args .number / 10) (omega arith))
+put-last-requires-3 c κs =
+    omega (
+      arith,
+      more-length (c .before .before .before .before .before .before .before .args .number) (omega arith),
+      one-length (c .before .before .before .before .before .before .before .args .number / 10) (omega arith),
+    )
 
 same-length-2 : tie.Need-same-length-2
 same-length-2 c = search needs
 
 returns-2 : tie.Need-returns-2
-returns-2 c = added-as (two-digits (c .before .before .before .before .before .before .before .before .before .before .args .number) (omega arith) (omega arith)) (added-more (c .before .before .before .before .before .before .put-last2 .ensures) (c .before .before .put-last3 .ensures))
+returns-2 c = added-as (two-digits (c .before .before .before .before .before .before .before .before .before .before .args .number) (omega arith)
+    (omega arith)) (added-more (c .before .before .before .before .before .before .put-last2 .ensures) (c .before .before .put-last3 .ensures))
 
 pub put-below-100-spec : {M : Type 1} → statement M
 put-below-100-spec =

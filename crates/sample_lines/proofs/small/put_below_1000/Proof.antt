@@ -29,7 +29,8 @@ same-length-2 : tie.Need-same-length-2
 same-length-2 c = search needs
 
 returns-2 : tie.Need-returns-2
-returns-2 c = added-as (sym (decimal-more (c .before .before .before .before .before .before .before .before .before .before .args .number) (omega arith))) (added-more (c .before .before .before .before .before .before .put-below-1002 .ensures) (c .before .before .put-last .ensures))
+returns-2 c = added-as (sym (decimal-more (c .before .before .before .before .before .before .before .before .before .before .args .number) (omega arith)))
+    (added-more (c .before .before .before .before .before .before .put-below-1002 .ensures) (c .before .before .put-last .ensures))
 
 pub put-below-1000-spec : {M : Type 1} → statement M
 put-below-1000-spec =

@@ -36,7 +36,8 @@ same-length-2 : tie.Need-same-length-2
 same-length-2 c = search needs
 
 returns-2 : tie.Need-returns-2
-returns-2 c = added-as (thousandfold (c .before .before .before .before .before .before .before .before .before .before .before .args .number) (omega arith)) (added-more (c .before .before .before .before .before .before .before .put-below-10000 .ensures) (c .before .before .put-word .ensures))
+returns-2 c = added-as (thousandfold (c .before .before .before .before .before .before .before .before .before .before .before .args .number) (omega arith))
+    (added-more (c .before .before .before .before .before .before .before .put-below-10000 .ensures) (c .before .before .put-word .ensures))
 
 pub put-thousands-spec : {M : Type 1} → statement M
 put-thousands-spec =

@@ -13,7 +13,11 @@ shl-result : tie.Need-shl-result
 shl-result c = search needs
 
 returns : tie.Need-returns
-returns c = (one-shl (c .args .slot) (c .pre), rw (one-shl (c .args .slot) (c .pre)) (pow-pos (c .args .slot * 5)), rw (one-shl (c .args .slot) (c .pre)) (unit-lt (c .args .slot) (c .pre)))
+returns c = (
+  one-shl (c .args .slot) (c .pre),
+  rw (one-shl (c .args .slot) (c .pre)) (pow-pos (c .args .slot * 5)),
+  rw (one-shl (c .args .slot) (c .pre)) (unit-lt (c .args .slot) (c .pre)),
+)
 
 pub unit-spec : {M : Type 1} → statement M
 unit-spec = tie.close (tie.spec mul-result shl-result returns)

@@ -26,15 +26,38 @@ tag-requires-2 c κs = search needs
 
 returns-2 : tie.Need-returns-2
 unfolding truthOf truthBy
-returns-2 c = rw (← c .before .before .before .before .before .before .before .word .ensures, ← c .before .before .before .before .before .before .tag .ensures, ← c .before .before .before .first .ensures, ← c .before .before .word2 .ensures, ← c .before .tag2 .ensures) (simp (ne-eqb _ _ (c .before .before .before .before .before .if1 .left), eq-eqb _ _ (c .before .before .before .before .if2 .taken), eq-eqb _ _ (c .if3 .taken)))
+returns-2 c = rw (
+  ← c .before .before .before .before .before .before .before .word .ensures,
+  ← c .before .before .before .before .before .before .tag .ensures,
+  ← c .before .before .before .first .ensures,
+  ← c .before .before .word2 .ensures,
+  ← c .before .tag2 .ensures,
+)
+    (simp (
+      ne-eqb _ _ (c .before .before .before .before .before .if1 .left),
+      eq-eqb _ _ (c .before .before .before .before .if2 .taken),
+      eq-eqb _ _ (c .if3 .taken),
+    ))
 
 returns-3 : tie.Need-returns-3
 unfolding truthOf truthBy
-returns-3 c = rw (← c .before .before .before .before .before .before .before .word .ensures, ← c .before .before .before .before .before .before .tag .ensures, ← c .before .before .before .first .ensures, ← c .before .before .word2 .ensures, ← c .before .tag2 .ensures) (simp (ne-eqb _ _ (c .before .before .before .before .before .if1 .left), eq-eqb _ _ (c .before .before .before .before .if2 .taken), ne-eqb _ _ (c .if3 .left)))
+returns-3 c = rw (
+  ← c .before .before .before .before .before .before .before .word .ensures,
+  ← c .before .before .before .before .before .before .tag .ensures,
+  ← c .before .before .before .first .ensures,
+  ← c .before .before .word2 .ensures,
+  ← c .before .tag2 .ensures,
+)
+    (simp (
+      ne-eqb _ _ (c .before .before .before .before .before .if1 .left),
+      eq-eqb _ _ (c .before .before .before .before .if2 .taken),
+      ne-eqb _ _ (c .if3 .left),
+    ))
 
 returns-4 : tie.Need-returns-4
 unfolding truthOf truthBy
-returns-4 c = rw (← c .before .before .before .word .ensures, ← c .before .before .tag .ensures) (simp (ne-eqb _ _ (c .before .if1 .left), ne-eqb _ _ (c .if2 .left)))
+returns-4 c = rw (← c .before .before .before .word .ensures, ← c .before .before .tag .ensures)
+    (simp (ne-eqb _ _ (c .before .if1 .left), ne-eqb _ _ (c .if2 .left)))
 
 pub truth-spec : {M : Type 1} → statement M
 truth-spec =

@@ -23,11 +23,13 @@ slot-requires c κs = search needs
 
 returns-2 : tie.Need-returns-2
 unfolding valueOf valueBy
-returns-2 c = rw (← c .before .before .before .before .before .word .ensures, ← c .before .before .before .before .tag .ensures) (simp (ne-eqb _ _ (c .before .before .before .if1 .left), eq-eqb _ _ (c .before .before .if2 .taken), c .slot .ensures, c .before .slot-of .ensures))
+returns-2 c = rw (← c .before .before .before .before .before .word .ensures, ← c .before .before .before .before .tag .ensures)
+    (simp (ne-eqb _ _ (c .before .before .before .if1 .left), eq-eqb _ _ (c .before .before .if2 .taken), c .slot .ensures, c .before .slot-of .ensures))
 
 returns-3 : tie.Need-returns-3
 unfolding valueOf valueBy
-returns-3 c = rw (← c .before .before .before .word .ensures, ← c .before .before .tag .ensures) (simp (ne-eqb _ _ (c .before .if1 .left), ne-eqb _ _ (c .if2 .left)))
+returns-3 c = rw (← c .before .before .before .word .ensures, ← c .before .before .tag .ensures)
+    (simp (ne-eqb _ _ (c .before .if1 .left), ne-eqb _ _ (c .if2 .left)))
 
 pub value-spec : {M : Type 1} → statement M
 value-spec =

@@ -26,8 +26,12 @@ abbrev μ-loop : tie.MeasureT-loop
 loop-holds : tie.Need-loop-holds Inv-loop μ-loop
 loop-holds c =
     let s = c .before in
-    let b = s .args .plan .now in
-    (search needs, (λ k h. absurd (omega arith)), unloaded b _ (s .pre .1 .1 .0), no-terms-noted b (s .args .procedures) _ (s .pre .1 .0 .sized .procedures-are) (s .pre .1 .1 .1))
+    let b = s .args .plan .now in (
+      search needs,
+      (λ k h. absurd (omega arith)),
+      unloaded b _ (s .pre .1 .1 .0),
+      no-terms-noted b (s .args .procedures) _ (s .pre .1 .0 .sized .procedures-are) (s .pre .1 .1 .1),
+    )
 
 word-at-requires : tie.Need-word-at-requires Inv-loop μ-loop
 word-at-requires c κs =
@@ -45,12 +49,16 @@ verdict c x h =
     let w = c .before .before in
     let s = w .before .before .before .before in
     let a = s .args in
-    judged (a .plan .now) (a .procedures) (a .count) (w .before .before .loop .term) (w .word-at .result) (c .wrong-term .result) x (s .pre .1 .0 .sized) (w .word-at .ensures) (c .wrong-term .ensures .0) h
+    judged (a .plan .now) (a .procedures) (a .count) (w .before .before .loop .term) (w .word-at .result) (c .wrong-term .result) x (s .pre .1 .0 .sized)
+    (w .word-at .ensures) (c .wrong-term .ensures .0) h
 
 returns : tie.Need-returns Inv-loop μ-loop
 returns c =
-    let i = c .before .before .before .before in
-    (found (wrongTerm (i .before .before .before .args .plan .now)) _ _ (i .loop-test .taken) (verdict (c .before) true (c .if1 .taken)) (i .before .loop .inv .1), ((λ q. absurd (omega arith)), λ q. absurd (omega arith)))
+    let i = c .before .before .before .before in (
+      found (wrongTerm (i .before .before .before .args .plan .now)) _ _ (i .loop-test .taken) (verdict (c .before) true (c .if1 .taken))
+          (i .before .loop .inv .1),
+      ((λ q. absurd (omega arith)), λ q. absurd (omega arith)),
+    )
 
 mul-words : tie.Need-mul-words Inv-loop μ-loop
 mul-words c = let f = c .before .before .before .before .before .before .before .pre .1 .0 .few in omega arith
@@ -77,7 +85,8 @@ loop-again c =
       search needs,
       below-more _ _ (l .inv .1) right,
       rw add-one (loaded-more b (l .term) (l .words) (w .word-at .result) (omega arith) (w .word-at .ensures) (l .inv .2)),
-      rw add-one (term-noted b (s .args .procedures) (s .args .count) (l .term) (l .notes) _ (s .pre .1 .0) right (rw (w .word-at .ensures, ← term-is b (l .term)) at (c .before .wrong-term .ensures .1 (c .if1 .left))) (l .inv .3)),
+      rw add-one (term-noted b (s .args .procedures) (s .args .count) (l .term) (l .notes) _ (s .pre .1 .0) right
+          (rw (w .word-at .ensures, ← term-is b (l .term)) at (c .before .wrong-term .ensures .1 (c .if1 .left))) (l .inv .3)),
     )
 
 returns-2 : tie.Need-returns-2 Inv-loop μ-loop

@@ -22,7 +22,9 @@ returns c = (sym (c .if1 .taken) ∙ c .before .outside .ensures, λ e. absurd (
 name-requires : tie.Need-name-requires
 name-requires c κs =
     let a = c .before .before .before .args in
-    let h : a .child < a .count = leb-false (a .count) (a .child) (neither (leb (a .child) (a .term)) (leb (a .count) (a .child)) (sym (c .before .before .outside .ensures) ∙ c .before .if1 .left)) in
+    let h : a .child < a .count =
+    leb-false (a .count) (a .child)
+    (neither (leb (a .child) (a .term)) (leb (a .count) (a .child)) (sym (c .before .before .outside .ensures) ∙ c .before .if1 .left)) in
     omega arith
 
 returns-2 : tie.Need-returns-2

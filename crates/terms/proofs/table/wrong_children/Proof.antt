@@ -27,17 +27,22 @@ some₁ : (c : tie.Else1) → numberAt (c .before .before .args .tag) 4 ≡ 0 �
 some₁ c e = c .if1 .left (c .before .number .ensures ∙ e)
 
 seen₁ : (c : tie.After-wrong-child) (x : Bool) → c .wrong-child .result ≡ x
-    → outside (c .before .before .before .before .before .args .count) (c .before .before .before .before .before .args .term) (childAt (numberAt (c .before .before .before .before .before .args .tag) 5) (c .before .before .before .before .before .args .word)) ≡ x
+    → outside (c .before .before .before .before .before .args .count) (c .before .before .before .before .before .args .term)
+    (childAt (numberAt (c .before .before .before .before .before .args .tag) 5) (c .before .before .before .before .before .args .word)) ≡ x
 seen₁ c x h = seen _ _ _ _ _ x (c .before .before .child .ensures) (c .wrong-child .ensures .0) h
 
 some₂ : (c : tie.Else3) → numberAt (c .before .before .before .before .before .before .before .before .args .tag) 6 ≡ 0 → ⊥
 some₂ c e = c .if3 .left (c .before .number2 .ensures ∙ e)
 
 seen₂ : (c : tie.After-wrong-child2) (x : Bool) → c .wrong-child2 .result ≡ x
-    → outside (c .before .before .before .before .before .before .before .before .before .before .before .args .count) (c .before .before .before .before .before .before .before .before .before .before .before .args .term) (childAt (numberAt (c .before .before .before .before .before .before .before .before .before .before .before .args .tag) 7) (c .before .before .before .before .before .before .before .before .before .before .before .args .word)) ≡ x
+    → outside (c .before .before .before .before .before .before .before .before .before .before .before .args .count)
+    (c .before .before .before .before .before .before .before .before .before .before .before .args .term)
+    (childAt (numberAt (c .before .before .before .before .before .before .before .before .before .before .before .args .tag) 7)
+    (c .before .before .before .before .before .before .before .before .before .before .before .args .word)) ≡ x
 seen₂ c x h = seen _ _ _ _ _ x (c .before .before .child2 .ensures) (c .wrong-child2 .ensures .0) h
 
-some₃ : (c : tie.Else5) → numberAt (c .before .before .before .before .before .before .before .before .before .before .before .before .before .before .args .tag) 8 ≡ 0 → ⊥
+some₃ : (c : tie.Else5)
+    → numberAt (c .before .before .before .before .before .before .before .before .before .before .before .before .before .before .args .tag) 8 ≡ 0 → ⊥
 some₃ c e = c .if5 .left (c .before .number3 .ensures ∙ e)
 
 number-requires : tie.Need-number-requires
@@ -71,8 +76,12 @@ returns-3 c =
     let w = c .before .before .before in
     let s = w .before .before .before .before .before in
     let a = some₁ (w .before .before .before) in
-    let e = sym (c .before .number2 .ensures) ∙ c .if3 .taken in
-    (simp (ne-eqb _ _ a, seen₁ w false (c .before .before .if2 .left), eq-eqb _ _ e), λ q. rw (one-child (s .args .word) (s .args .tag) a e) (rw (w .before .before .before .before .number .ensures, w .before .before .child .ensures) at (w .wrong-child .ensures .1 (c .before .before .if2 .left))))
+    let e = sym (c .before .number2 .ensures) ∙ c .if3 .taken in (
+      simp (ne-eqb _ _ a, seen₁ w false (c .before .before .if2 .left), eq-eqb _ _ e),
+      λ q. rw (one-child (s .args .word) (s .args .tag) a e)
+          (rw (w .before .before .before .before .number .ensures, w .before .before .child .ensures) at
+          (w .wrong-child .ensures .1 (c .before .before .if2 .left))),
+    )
 
 add-child-2 : tie.Need-add-child-2
 add-child-2 c = search needs
@@ -87,8 +96,15 @@ returns-4 : tie.Need-returns-4
 unfolding wrongTerms
 returns-4 c =
     let b = c .before .before .before .before in
-    let w = b .before .before .before in
-    (simp (ne-eqb _ _ (some₁ (w .before .before .before)), seen₁ w false (b .before .before .if2 .left), ne-eqb _ _ (some₂ b), seen₂ (c .before) true (c .if4 .taken)), λ q. absurd (true≢false q))
+    let w = b .before .before .before in (
+      simp (
+        ne-eqb _ _ (some₁ (w .before .before .before)),
+        seen₁ w false (b .before .before .if2 .left),
+        ne-eqb _ _ (some₂ b),
+        seen₂ (c .before) true (c .if4 .taken),
+      ),
+      λ q. absurd (true≢false q),
+    )
 
 number-requires-3 : tie.Need-number-requires-3
 number-requires-3 c κs = search needs
@@ -101,8 +117,14 @@ returns-5 c =
     let w = b .before .before .before in
     let s = w .before .before .before .before .before in
     let a = some₁ (w .before .before .before) in
-    let e = sym (c .before .number3 .ensures) ∙ c .if5 .taken in
-    (simp (ne-eqb _ _ a, seen₁ w false (b .before .before .if2 .left), ne-eqb _ _ (some₂ b), seen₂ v false (c .before .before .if4 .left), eq-eqb _ _ e), λ q. rw (two-children (s .args .word) (s .args .tag) a (some₂ b) e) (note-more _ _ _ _ _ (rw (w .before .before .before .before .number .ensures, w .before .before .child .ensures) at (w .wrong-child .ensures .1 (b .before .before .if2 .left))) (rw (v .before .before .before .before .number2 .ensures, v .before .before .child2 .ensures) at (v .wrong-child2 .ensures .1 (c .before .before .if4 .left)))))
+    let e = sym (c .before .number3 .ensures) ∙ c .if5 .taken in (
+      simp (ne-eqb _ _ a, seen₁ w false (b .before .before .if2 .left), ne-eqb _ _ (some₂ b), seen₂ v false (c .before .before .if4 .left), eq-eqb _ _ e),
+      λ q. rw (two-children (s .args .word) (s .args .tag) a (some₂ b) e)
+          (note-more _ _ _ _ _ (rw (w .before .before .before .before .number .ensures, w .before .before .child .ensures) at
+          (w .wrong-child .ensures .1 (b .before .before .if2 .left)))
+          (rw (v .before .before .before .before .number2 .ensures, v .before .before .child2 .ensures) at
+          (v .wrong-child2 .ensures .1 (c .before .before .if4 .left)))),
+    )
 
 add-child-3 : tie.Need-add-child-3
 add-child-3 c = search needs
@@ -124,7 +146,12 @@ returns-6 c =
     let a = some₁ (w .before .before .before) in (
       c .wrong-child3 .ensures .0 ∙ ap (outside (s .args .count) (s .args .term)) (c .before .before .child3 .ensures)
           ∙ last-of _ _ _ _ _ _ a (seen₁ w false (b .before .before .if2 .left)) (some₂ b) (seen₂ v false (d .before .before .if4 .left)) (some₃ d),
-      λ q. rw (three-children (s .args .word) (s .args .tag) a (some₂ b) (some₃ d)) (note-more _ _ _ _ _ (rw (w .before .before .before .before .number .ensures, w .before .before .child .ensures) at (w .wrong-child .ensures .1 (b .before .before .if2 .left))) (note-more _ _ _ _ _ (rw (v .before .before .before .before .number2 .ensures, v .before .before .child2 .ensures) at (v .wrong-child2 .ensures .1 (d .before .before .if4 .left))) (rw (d .before .number3 .ensures, c .before .before .child3 .ensures) at (c .wrong-child3 .ensures .1 q)))),
+      λ q. rw (three-children (s .args .word) (s .args .tag) a (some₂ b) (some₃ d))
+          (note-more _ _ _ _ _ (rw (w .before .before .before .before .number .ensures, w .before .before .child .ensures) at
+          (w .wrong-child .ensures .1 (b .before .before .if2 .left)))
+          (note-more _ _ _ _ _ (rw (v .before .before .before .before .number2 .ensures, v .before .before .child2 .ensures) at
+          (v .wrong-child2 .ensures .1 (d .before .before .if4 .left)))
+          (rw (d .before .number3 .ensures, c .before .before .child3 .ensures) at (c .wrong-child3 .ensures .1 q)))),
     )
 
 pub wrong-children-spec : {M : Type 1} → statement M

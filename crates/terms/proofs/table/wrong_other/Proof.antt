@@ -18,8 +18,10 @@ wrong-mask-requires : tie.Need-wrong-mask-requires
 wrong-mask-requires c κs = search needs
 
 -- the bits that the place cuts off
-cut : (c : tie.After-bits-to) (j : ℕ) (r : Bool) → c .before .before .args .kind ≡ j → r ≡ wrongOther (c .before .before .args .procedures) j (c .bits-to .result)
-    → r ≡ wrongOther (c .before .before .args .procedures) (c .before .before .args .kind) (bitsTo (c .before .before .args .place) (c .before .before .args .word))
+cut : (c : tie.After-bits-to) (j : ℕ) (r : Bool) → c .before .before .args .kind ≡ j
+    → r ≡ wrongOther (c .before .before .args .procedures) j (c .bits-to .result)
+    → r ≡ wrongOther (c .before .before .args .procedures) (c .before .before .args .kind)
+    (bitsTo (c .before .before .args .place) (c .before .before .args .word))
 cut c j r e h = rw (e, ← c .bits-to .ensures) h
 
 returns : tie.Need-returns

@@ -45,8 +45,10 @@ tag-requires c κs = search needs
 
 returns : tie.Need-returns
 returns c =
-    let a = c .before .before .args in
-    (past-table (a .procedures) (a .count) (a .term) (a .word) (subst (λ (k : ℕ). tagCount ≤ k) (c .before .tag .ensures) (c .if1 .taken)), λ q. absurd (true≢false q))
+    let a = c .before .before .args in (
+      past-table (a .procedures) (a .count) (a .term) (a .word) (subst (λ (k : ℕ). tagCount ≤ k) (c .before .tag .ensures) (c .if1 .taken)),
+      λ q. absurd (true≢false q),
+    )
 
 number-requires : tie.Need-number-requires
 number-requires c κs = search needs
@@ -65,14 +67,19 @@ wrong-other-requires c κs =
 -- what the row says of the operand that is no term
 other-is :
     (c : tie.After-wrong-other) →
-    c .wrong-other .result ≡ wrongOther (c .before .before .before .before .before .args .procedures) (numberAt (c .before .before .before .before .tag .result) 2) (bitsTo (numberAt (c .before .before .before .before .tag .result) 3) (c .before .before .before .before .before .args .word))
+    c .wrong-other .result ≡ wrongOther (c .before .before .before .before .before .args .procedures)
+    (numberAt (c .before .before .before .before .tag .result) 2)
+    (bitsTo (numberAt (c .before .before .before .before .tag .result) 3) (c .before .before .before .before .before .args .word))
 other-is c = rw (c .before .number2 .ensures, c .before .before .number .ensures) at (c .wrong-other .ensures)
 
 returns-2 : tie.Need-returns-2
 returns-2 c =
     let x = c .before .before .before .before .before in
-    let a = x .before .args in
-    (other-wrong (a .procedures) (a .count) (a .term) (a .word) (x .tag .result) (x .tag .ensures) (c .before .before .before .before .if1 .left) _ (other-is (c .before)) (c .if2 .taken), λ q. absurd (true≢false q))
+    let a = x .before .args in (
+      other-wrong (a .procedures) (a .count) (a .term) (a .word) (x .tag .result) (x .tag .ensures) (c .before .before .before .before .if1 .left) _
+          (other-is (c .before)) (c .if2 .taken),
+      λ q. absurd (true≢false q),
+    )
 
 wrong-children-requires : tie.Need-wrong-children-requires
 wrong-children-requires c κs = search needs
@@ -81,8 +88,11 @@ returns-3 : tie.Need-returns-3
 returns-3 c =
     let o = c .before .before .before .before in
     let x = o .before .before .before .before in
-    let a = x .before .args in
-    (child-wrong (a .procedures) (a .count) (a .term) (a .word) (x .tag .result) (x .tag .ensures) (o .before .before .before .if1 .left) _ (other-is o) _ (c .before .wrong-children .ensures .0) (c .before .before .before .if2 .left) (c .if3 .taken), λ q. absurd (true≢false q))
+    let a = x .before .args in (
+      child-wrong (a .procedures) (a .count) (a .term) (a .word) (x .tag .result) (x .tag .ensures) (o .before .before .before .if1 .left) _ (other-is o) _
+          (c .before .wrong-children .ensures .0) (c .before .before .before .if2 .left) (c .if3 .taken),
+      λ q. absurd (true≢false q),
+    )
 
 number-requires-3 : tie.Need-number-requires-3
 number-requires-3 c κs = search needs
@@ -95,8 +105,13 @@ returns-4 c =
     let w = c .before .before .before in
     let o = w .before .before .before in
     let x = o .before .before .before .before in
-    let a = x .before .args in
-    (by-spare (a .procedures) (a .count) (a .term) (a .word) (x .tag .result) (x .tag .ensures) (o .before .before .before .if1 .left) _ (other-is o) _ (w .wrong-children .ensures .0) (w .before .before .if2 .left) (c .before .before .if3 .left) _ (rw (c .before .number3 .ensures) at (c .bits-after .ensures)), λ q. rw (by-tag (a .procedures) (a .count) (a .term) (a .word) (x .tag .result) (x .tag .ensures) (o .before .before .before .if1 .left)) at (w .wrong-children .ensures .1 (c .before .before .if3 .left)))
+    let a = x .before .args in (
+      by-spare (a .procedures) (a .count) (a .term) (a .word) (x .tag .result) (x .tag .ensures) (o .before .before .before .if1 .left) _ (other-is o) _
+          (w .wrong-children .ensures .0) (w .before .before .if2 .left) (c .before .before .if3 .left) _
+          (rw (c .before .number3 .ensures) at (c .bits-after .ensures)),
+      λ q. rw (by-tag (a .procedures) (a .count) (a .term) (a .word) (x .tag .result) (x .tag .ensures) (o .before .before .before .if1 .left)) at
+          (w .wrong-children .ensures .1 (c .before .before .if3 .left)),
+    )
 
 pub wrong-term-spec : {M : Type 1} → statement M
 wrong-term-spec =

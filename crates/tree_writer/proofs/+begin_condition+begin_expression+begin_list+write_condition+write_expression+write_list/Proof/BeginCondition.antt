@@ -17,7 +17,11 @@ use Rattle.packing.proofs.two.Reads as two
 use Rattle.tree_writer.proofs.write_condition.Reads as write-condition
 use Rattle.tree_writer.proofs.write_expression.Reads as write-expression
 use Rattle.tree_writer.proofs.begin_condition.Reads.{Post}
-use Rattle.tree_writer.proofs.+begin_condition+begin_expression+begin_list+write_condition+write_expression+write_list.Proof.Measures.{begin-condition-at, write-condition-below, write-expression-below, later}
+use Rattle.tree_writer.proofs.+begin_condition+begin_expression+begin_list+write_condition+write_expression+write_list.Proof.Measures.{}
+use Rattle.tree_writer.proofs.+begin_condition+begin_expression+begin_list+write_condition+write_expression+write_list.Proof.Measures.{begin-condition-at}
+use Rattle.tree_writer.proofs.+begin_condition+begin_expression+begin_list+write_condition+write_expression+write_list.Proof.Measures.{write-condition-below}
+use Rattle.tree_writer.proofs.+begin_condition+begin_expression+begin_list+write_condition+write_expression+write_list.Proof.Measures.{write-expression-below}
+use Rattle.tree_writer.proofs.+begin_condition+begin_expression+begin_list+write_condition+write_expression+write_list.Proof.Measures.{later}
 use Rattle.tree_writer.proofs.+begin_condition+begin_expression+begin_list+write_condition+write_expression+write_list.Lts-begin_condition as lts
 
 module _ (span : ℕ) where
@@ -76,7 +80,10 @@ module _ (span : ℕ) where
   write-condition-requires c κs =
       let s = c .before .before .before .before .before .before in
       let a = and-at _ (s .pre .1 .0 .0) _ (sym (c .before .before .tag .ensures) ∙ c .before .match .keys2) in
-      rw (c .before .before .before .first .ensures) (later _ _ _ (s .pre .0) (a .first-later) (a .first-inside), ((s .pre .1 .0 .0, a .first-inside), two-first (s .pre .1 .1) (a .two-shape)))
+      rw (c .before .before .before .first .ensures) (
+        later _ _ _ (s .pre .0) (a .first-later) (a .first-inside),
+        ((s .pre .1 .0 .0, a .first-inside), two-first (s .pre .1 .1) (a .two-shape)),
+      )
 
   two-requires : lts.Need-two-requires callees (begin-condition-at span) Post
   two-requires c κs =
@@ -87,7 +94,8 @@ module _ (span : ℕ) where
       (omega arith, two-small (s .pre .1 .1) (a .two-shape) f .0, two-small (s .pre .1 .1) (a .two-shape) f .1)
 
   put-requires-2 : lts.Need-put-requires-2 callees (begin-condition-at span) Post
-  put-requires-2 c κs = let k = tree-keeps (c .before .before .before .before .write-condition .ensures) in let r = put-room (c .before .before .before .before .before .before .before .before .before .before .before .pre .1 .1) in omega arith
+  put-requires-2 c κs = let k = tree-keeps (c .before .before .before .before .write-condition .ensures) in let r =
+      put-room (c .before .before .before .before .before .before .before .before .before .before .before .pre .1 .1) in omega arith
 
   second-requires : lts.Need-second-requires callees (begin-condition-at span) Post
   second-requires c κs = tt
@@ -96,7 +104,10 @@ module _ (span : ℕ) where
   write-expression-requires c κs =
       let s = c .before .before .before .before .before .before in
       let a = equal-at _ (s .pre .1 .0 .0) _ (sym (c .before .before .tag .ensures) ∙ c .before .match .keys3) in
-      rw (c .before .before .before .first .ensures) (later _ _ _ (s .pre .0) (a .first-later) (a .first-inside), ((s .pre .1 .0 .0, a .first-inside), two-first (s .pre .1 .1) (a .two-shape)))
+      rw (c .before .before .before .first .ensures) (
+        later _ _ _ (s .pre .0) (a .first-later) (a .first-inside),
+        ((s .pre .1 .0 .0, a .first-inside), two-first (s .pre .1 .1) (a .two-shape)),
+      )
 
   two-requires-2 : lts.Need-two-requires-2 callees (begin-condition-at span) Post
   two-requires-2 c κs =
@@ -107,7 +118,8 @@ module _ (span : ℕ) where
       (omega arith, two-small (s .pre .1 .1) (a .two-shape) f .0, two-small (s .pre .1 .1) (a .two-shape) f .1)
 
   put-requires-3 : lts.Need-put-requires-3 callees (begin-condition-at span) Post
-  put-requires-3 c κs = let k = tree-keeps (c .before .before .before .before .write-expression .ensures) in let r = put-room (c .before .before .before .before .before .before .before .before .before .before .before .pre .1 .1) in omega arith
+  put-requires-3 c κs = let k = tree-keeps (c .before .before .before .before .write-expression .ensures) in let r =
+      put-room (c .before .before .before .before .before .before .before .before .before .before .before .pre .1 .1) in omega arith
 
   second-requires-2 : lts.Need-second-requires-2 callees (begin-condition-at span) Post
   second-requires-2 c κs = tt
@@ -115,10 +127,18 @@ module _ (span : ℕ) where
   write-expression-requires-2 : lts.Need-write-expression-requires-2 callees (begin-condition-at span) Post
   write-expression-requires-2 c κs =
       let s = c .before .before .before .before .before .before .before .before .before .before .before .before .before .before .before .before in
-      let a = equal-at _ (s .pre .1 .0 .0) _ (sym (c .before .before .before .before .before .before .before .before .before .before .before .before .tag .ensures) ∙ c .before .before .before .before .before .before .before .before .before .before .before .match .keys3) in
-      let f = rw (c .before .before .before .before .before .before .before .before .before .before .before .before .before .first .ensures) at (c .before .before .before .before .before .before .before .before .before .write-expression .ensures) in
-      rw (c .before .second2 .ensures)
-      (later _ _ _ (s .pre .0) (a .second-later) (a .second-inside), ((s .pre .1 .0 .0, a .second-inside), two-second (s .pre .1 .1) (a .two-shape) f (put-keeps _ _ _ (c .before .before .before .before .put3 .ensures))))
+      let a = equal-at _ (s .pre .1 .0 .0) _
+      (sym (c .before .before .before .before .before .before .before .before .before .before .before .before .tag .ensures)
+      ∙ c .before .before .before .before .before .before .before .before .before .before .before .match .keys3) in
+      let f = rw (c .before .before .before .before .before .before .before .before .before .before .before .before .before .first .ensures) at
+      (c .before .before .before .before .before .before .before .before .before .write-expression .ensures) in
+      rw (c .before .second2 .ensures) (
+        later _ _ _ (s .pre .0) (a .second-later) (a .second-inside),
+        (
+          (s .pre .1 .0 .0, a .second-inside),
+          two-second (s .pre .1 .1) (a .two-shape) f (put-keeps _ _ _ (c .before .before .before .before .put3 .ensures)),
+        ),
+      )
 
   mul-put : lts.Need-mul-put callees (begin-condition-at span) Post
   mul-put c = omega arith
@@ -132,29 +152,46 @@ module _ (span : ℕ) where
   returns : lts.Need-returns callees (begin-condition-at span) Post
   returns c =
       let s = c .before .before .before .before .before .before .before .before .before .before in
-      let a = not-at _ (s .pre .1 .0 .0) _ (sym (c .before .before .before .before .before .before .tag .ensures) ∙ c .before .before .before .before .before .match .keys1) in
-      rw (c .before .before .before .before .before .before .before .first .ensures) (one-going _ _ _ _ _ (add-one _) _ _ (a .one-shape) (a .one-later) (a .one-inside) (rw (c .before .before .before .one .ensures) at (c .before .before .put .ensures)))
+      let a = not-at _ (s .pre .1 .0 .0) _ (sym (c .before .before .before .before .before .before .tag .ensures)
+      ∙ c .before .before .before .before .before .match .keys1) in
+      rw (c .before .before .before .before .before .before .before .first .ensures)
+      (one-going _ _ _ _ _ (add-one _) _ _ (a .one-shape) (a .one-later) (a .one-inside)
+      (rw (c .before .before .before .one .ensures) at (c .before .before .put .ensures)))
 
   same-length-2 : lts.Need-same-length-2 callees (begin-condition-at span) Post
-  same-length-2 c = put-keeps _ _ _ (c .before .before .before .put2 .ensures) ∙ tree-keeps (c .before .before .before .before .before .before .before .before .write-condition .ensures)
+  same-length-2 c = put-keeps _ _ _ (c .before .before .before .put2 .ensures)
+      ∙ tree-keeps (c .before .before .before .before .before .before .before .before .write-condition .ensures)
 
   returns-2 : lts.Need-returns-2 callees (begin-condition-at span) Post
   returns-2 c =
       let s = c .before .before .before .before .before .before .before .before .before .before .before .before .before .before .before in
-      let a = and-at _ (s .pre .1 .0 .0) _ (sym (c .before .before .before .before .before .before .before .before .before .before .before .tag .ensures) ∙ c .before .before .before .before .before .before .before .before .before .before .match .keys2) in
-      let f = rw (c .before .before .before .before .before .before .before .before .before .before .before .before .first .ensures) at (c .before .before .before .before .before .before .before .before .write-condition .ensures) in
-      rw (c .second .ensures) (two-going _ _ _ _ _ (add-one _) _ _ f _ (a .two-shape) (a .second-later) (a .second-inside) (rw (c .before .before .before .before .two .ensures) at (c .before .before .before .put2 .ensures)))
+      let a = and-at _ (s .pre .1 .0 .0) _ (sym (c .before .before .before .before .before .before .before .before .before .before .before .tag .ensures)
+      ∙ c .before .before .before .before .before .before .before .before .before .before .match .keys2) in
+      let f = rw (c .before .before .before .before .before .before .before .before .before .before .before .before .first .ensures) at
+      (c .before .before .before .before .before .before .before .before .write-condition .ensures) in
+      rw (c .second .ensures)
+      (two-going _ _ _ _ _ (add-one _) _ _ f _ (a .two-shape) (a .second-later) (a .second-inside)
+      (rw (c .before .before .before .before .two .ensures) at (c .before .before .before .put2 .ensures)))
 
   same-length-3 : lts.Need-same-length-3 callees (begin-condition-at span) Post
-  same-length-3 c = tree-keeps (c .before .before .write-expression2 .ensures) ∙ put-keeps _ _ _ (c .before .before .before .before .before .before .before .put3 .ensures) ∙ tree-keeps (c .before .before .before .before .before .before .before .before .before .before .before .before .write-expression .ensures)
+  same-length-3 c = tree-keeps (c .before .before .write-expression2 .ensures)
+      ∙ put-keeps _ _ _ (c .before .before .before .before .before .before .before .put3 .ensures)
+      ∙ tree-keeps (c .before .before .before .before .before .before .before .before .before .before .before .before .write-expression .ensures)
 
   returns-3 : lts.Need-returns-3 callees (begin-condition-at span) Post
   returns-3 c =
-      let s = c .before .before .before .before .before .before .before .before .before .before .before .before .before .before .before .before .before .before .before in
-      let a = equal-at _ (s .pre .1 .0 .0) _ (sym (c .before .before .before .before .before .before .before .before .before .before .before .before .before .before .before .tag .ensures) ∙ c .before .before .before .before .before .before .before .before .before .before .before .before .before .before .match .keys3) in
-      let f = rw (c .before .before .before .before .before .before .before .before .before .before .before .before .before .before .before .before .first .ensures) at (c .before .before .before .before .before .before .before .before .before .before .before .before .write-expression .ensures) in
+      let s = c .before .before .before .before .before .before .before .before .before .before .before .before .before .before .before .before .before
+      .before .before in
+      let a = equal-at _ (s .pre .1 .0 .0) _
+      (sym (c .before .before .before .before .before .before .before .before .before .before .before .before .before .before .before .tag .ensures)
+      ∙ c .before .before .before .before .before .before .before .before .before .before .before .before .before .before .match .keys3) in
+      let f = rw (c .before .before .before .before .before .before .before .before .before .before .before .before .before .before .before
+      .before .first .ensures) at
+      (c .before .before .before .before .before .before .before .before .before .before .before .before .write-expression .ensures) in
       let g = rw (c .before .before .before .before .second2 .ensures) at (c .before .before .write-expression2 .ensures) in
-      two-done _ _ _ _ _ (add-one _) _ _ f _ (a .two-shape) (rw (c .before .before .before .before .before .before .before .before .two2 .ensures) at (c .before .before .before .before .before .before .before .put3 .ensures)) g
+      two-done _ _ _ _ _ (add-one _) _ _ f _ (a .two-shape)
+      (rw (c .before .before .before .before .before .before .before .before .two2 .ensures) at
+      (c .before .before .before .before .before .before .before .put3 .ensures)) g
 
   same-length-4 : lts.Need-same-length-4 callees (begin-condition-at span) Post
   same-length-4 c = put-keeps _ _ _ (c .before .before .put4 .ensures)
@@ -162,8 +199,14 @@ module _ (span : ℕ) where
   returns-4 : lts.Need-returns-4 callees (begin-condition-at span) Post
   returns-4 c =
       let s = c .before .before .before .before .before .before .before .before .before in
-      leaf-going _ _ _ _ _ (add-one _) _ (truth-at _ (s .pre .1 .0 .0) _ (subst (λ (x : ℕ). NoneOf x (15 ∷ 14 ∷ 13 ∷ [])) (c .before .before .before .before .before .tag .ensures) (c .before .before .before .before .match .rest))) (c .before .before .put4 .ensures)
+      leaf-going _ _ _ _ _ (add-one _) _
+      (truth-at _ (s .pre .1 .0 .0) _
+      (subst (λ (x : ℕ). NoneOf x (15 ∷ 14 ∷ 13 ∷ [])) (c .before .before .before .before .before .tag .ensures)
+      (c .before .before .before .before .match .rest))) (c .before .before .put4 .ensures)
 
   pub begin-condition : {M : Type 1} → lts.Closed callees (begin-condition-at span) Post M
   begin-condition =
-      lts.spec callees (begin-condition-at span) Post mul-word element-copy-out-word mul-place add-place add-next first-requires tag-requires one-requires put-requires write-condition-requires two-requires put-requires-2 second-requires write-expression-requires two-requires-2 put-requires-3 second-requires-2 write-expression-requires-2 mul-put put-requires-4 same-length returns same-length-2 returns-2 same-length-3 returns-3 same-length-4 returns-4
+      lts.spec callees (begin-condition-at span) Post mul-word element-copy-out-word mul-place add-place add-next first-requires tag-requires one-requires
+      put-requires write-condition-requires two-requires put-requires-2 second-requires write-expression-requires two-requires-2 put-requires-3
+      second-requires-2 write-expression-requires-2 mul-put put-requires-4 same-length returns same-length-2 returns-2 same-length-3 returns-3
+      same-length-4 returns-4

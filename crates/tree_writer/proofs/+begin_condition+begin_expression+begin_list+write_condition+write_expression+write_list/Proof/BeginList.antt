@@ -13,7 +13,9 @@ use Rattle.operands.proofs.tag.Reads as tag
 use Rattle.packing.proofs.two.Reads as two
 use Rattle.tree_writer.proofs.write_expression.Reads as write-expression
 use Rattle.tree_writer.proofs.begin_list.Reads.{Post}
-use Rattle.tree_writer.proofs.+begin_condition+begin_expression+begin_list+write_condition+write_expression+write_list.Proof.Measures.{begin-list-at, write-expression-below, later}
+use Rattle.tree_writer.proofs.+begin_condition+begin_expression+begin_list+write_condition+write_expression+write_list.Proof.Measures.{begin-list-at}
+use Rattle.tree_writer.proofs.+begin_condition+begin_expression+begin_list+write_condition+write_expression+write_list.Proof.Measures.{write-expression-below}
+use Rattle.tree_writer.proofs.+begin_condition+begin_expression+begin_list+write_condition+write_expression+write_list.Proof.Measures.{later}
 use Rattle.tree_writer.proofs.+begin_condition+begin_expression+begin_list+write_condition+write_expression+write_list.Lts-begin_list as lts
 
 module _ (span : ℕ) where
@@ -61,7 +63,9 @@ module _ (span : ℕ) where
   same-length c = put-keeps _ _ _ (c .before .before .put .ensures)
 
   returns : lts.Need-returns callees (begin-list-at span) Post
-  returns c = leaf-going _ _ _ _ _ (add-one _) _ (end-at _ (c .before .before .before .before .before .before .before .before .pre .1 .0 .0) _ (λ e. c .before .before .before .before .if1 .taken (c .before .before .before .before .before .tag .ensures ∙ e))) (c .before .before .put .ensures)
+  returns c = leaf-going _ _ _ _ _ (add-one _) _
+      (end-at _ (c .before .before .before .before .before .before .before .before .pre .1 .0 .0) _
+      (λ e. c .before .before .before .before .if1 .taken (c .before .before .before .before .before .tag .ensures ∙ e))) (c .before .before .put .ensures)
 
   first-requires : lts.Need-first-requires callees (begin-list-at span) Post
   first-requires c κs = tt
@@ -70,7 +74,10 @@ module _ (span : ℕ) where
   write-expression-requires c κs =
       let s = c .before .before .before .before .before .before in
       let a = list-at _ (s .pre .1 .0 .0) _ (sym (c .before .before .before .tag .ensures) ∙ c .before .before .if1 .left) in
-      rw (c .before .first .ensures) (later _ _ _ (s .pre .0) (a .first-later) (a .first-inside), ((s .pre .1 .0 .0, a .first-inside), two-first (s .pre .1 .1) (a .two-shape)))
+      rw (c .before .first .ensures) (
+        later _ _ _ (s .pre .0) (a .first-later) (a .first-inside),
+        ((s .pre .1 .0 .0, a .first-inside), two-first (s .pre .1 .1) (a .two-shape)),
+      )
 
   two-requires : lts.Need-two-requires callees (begin-list-at span) Post
   two-requires c κs =
@@ -81,21 +88,29 @@ module _ (span : ℕ) where
       (omega arith, two-small (s .pre .1 .1) (a .two-shape) f .0, two-small (s .pre .1 .1) (a .two-shape) f .1)
 
   put-requires-2 : lts.Need-put-requires-2 callees (begin-list-at span) Post
-  put-requires-2 c κs = let k = tree-keeps (c .before .before .before .before .write-expression .ensures) in let r = put-room (c .before .before .before .before .before .before .before .before .before .before .before .pre .1 .1) in omega arith
+  put-requires-2 c κs = let k = tree-keeps (c .before .before .before .before .write-expression .ensures) in let r =
+      put-room (c .before .before .before .before .before .before .before .before .before .before .before .pre .1 .1) in omega arith
 
   second-requires : lts.Need-second-requires callees (begin-list-at span) Post
   second-requires c κs = tt
 
   same-length-2 : lts.Need-same-length-2 callees (begin-list-at span) Post
-  same-length-2 c = put-keeps _ _ _ (c .before .before .before .put2 .ensures) ∙ tree-keeps (c .before .before .before .before .before .before .before .before .write-expression .ensures)
+  same-length-2 c = put-keeps _ _ _ (c .before .before .before .put2 .ensures)
+      ∙ tree-keeps (c .before .before .before .before .before .before .before .before .write-expression .ensures)
 
   returns-2 : lts.Need-returns-2 callees (begin-list-at span) Post
   returns-2 c =
       let s = c .before .before .before .before .before .before .before .before .before .before .before .before .before .before .before in
-      let a = list-at _ (s .pre .1 .0 .0) _ (sym (c .before .before .before .before .before .before .before .before .before .before .before .before .tag .ensures) ∙ c .before .before .before .before .before .before .before .before .before .before .before .if1 .left) in
-      let f = rw (c .before .before .before .before .before .before .before .before .before .before .first .ensures) at (c .before .before .before .before .before .before .before .before .write-expression .ensures) in
-      rw (c .second .ensures) (two-going _ _ _ _ _ (add-one _) _ _ f _ (a .two-shape) (a .second-later) (a .second-inside) (rw (c .before .before .before .before .two .ensures) at (c .before .before .before .put2 .ensures)))
+      let a = list-at _ (s .pre .1 .0 .0) _
+      (sym (c .before .before .before .before .before .before .before .before .before .before .before .before .tag .ensures)
+      ∙ c .before .before .before .before .before .before .before .before .before .before .before .if1 .left) in
+      let f = rw (c .before .before .before .before .before .before .before .before .before .before .first .ensures) at
+      (c .before .before .before .before .before .before .before .before .write-expression .ensures) in
+      rw (c .second .ensures)
+      (two-going _ _ _ _ _ (add-one _) _ _ f _ (a .two-shape) (a .second-later) (a .second-inside)
+      (rw (c .before .before .before .before .two .ensures) at (c .before .before .before .put2 .ensures)))
 
   pub begin-list : {M : Type 1} → lts.Closed callees (begin-list-at span) Post M
   begin-list =
-      lts.spec callees (begin-list-at span) Post mul-word element-copy-out-word mul-place add-place add-next tag-requires mul-put put-requires same-length returns first-requires write-expression-requires two-requires put-requires-2 second-requires same-length-2 returns-2
+      lts.spec callees (begin-list-at span) Post mul-word element-copy-out-word mul-place add-place add-next tag-requires mul-put put-requires same-length
+      returns first-requires write-expression-requires two-requires put-requires-2 second-requires same-length-2 returns-2

@@ -6,7 +6,10 @@ use Rattle.tree_writer.proofs.Rooms.{tree-keeps}
 use Rattle.tree_writer.proofs.Turns.{Still, start, still-room, on, done}
 use Rattle.tree_writer.proofs.begin_condition.Reads as begin-condition
 use Rattle.tree_writer.proofs.write_condition.Reads.{Post}
-use Rattle.tree_writer.proofs.+begin_condition+begin_expression+begin_list+write_condition+write_expression+write_list.Proof.Measures.{write-condition-at, begin-condition-below, turn}
+use Rattle.tree_writer.proofs.+begin_condition+begin_expression+begin_list+write_condition+write_expression+write_list.Proof.Measures.{}
+use Rattle.tree_writer.proofs.+begin_condition+begin_expression+begin_list+write_condition+write_expression+write_list.Proof.Measures.{write-condition-at}
+use Rattle.tree_writer.proofs.+begin_condition+begin_expression+begin_list+write_condition+write_expression+write_list.Proof.Measures.{begin-condition-below}
+use Rattle.tree_writer.proofs.+begin_condition+begin_expression+begin_list+write_condition+write_expression+write_list.Proof.Measures.{turn}
 use Rattle.tree_writer.proofs.+begin_condition+begin_expression+begin_list+write_condition+write_expression+write_list.Lts-write_condition as lts
 
 abbrev Inv : lts.InvT-loop
@@ -35,20 +38,26 @@ module _ (span : ℕ) where
   enum-known-left c = search needs
 
   same-length : lts.Need-same-length callees (write-condition-at span) Post Inv μ
-  same-length c = tree-keeps (done _ _ _ _ _ (c .before .before .before .before .before .before .before .loop .inv) (c .before .before .before .before .before .begin-condition .ensures) _ (c .before .left .given .1))
+  same-length c = tree-keeps
+      (done _ _ _ _ _ (c .before .before .before .before .before .before .before .loop .inv)
+      (c .before .before .before .before .before .begin-condition .ensures) _ (c .before .left .given .1))
 
   returns : lts.Need-returns callees (write-condition-at span) Post Inv μ
-  returns c = done _ _ _ _ _ (c .before .before .before .before .before .before .before .loop .inv) (c .before .before .before .before .before .begin-condition .ensures) _ (c .before .left .given .1)
+  returns c = done _ _ _ _ _ (c .before .before .before .before .before .before .before .loop .inv)
+      (c .before .before .before .before .before .begin-condition .ensures) _ (c .before .left .given .1)
 
   enum-known-left-2 : lts.Need-enum-known-left-2 callees (write-condition-at span) Post Inv μ
   enum-known-left-2 c = search needs
 
   loop-less : lts.Need-loop-less callees (write-condition-at span) Post Inv μ
-  loop-less c = on _ _ _ _ _ (c .before .before .before .before .before .before .before .loop .inv) (c .before .before .before .before .before .begin-condition .ensures) _ _ (c .before .left2 .given .1) .0
+  loop-less c = on _ _ _ _ _ (c .before .before .before .before .before .before .before .loop .inv)
+      (c .before .before .before .before .before .begin-condition .ensures) _ _ (c .before .left2 .given .1) .0
 
   loop-again : lts.Need-loop-again callees (write-condition-at span) Post Inv μ
-  loop-again c = on _ _ _ _ _ (c .before .before .before .before .before .before .before .loop .inv) (c .before .before .before .before .before .begin-condition .ensures) _ _ (c .before .left2 .given .1) .1
+  loop-again c = on _ _ _ _ _ (c .before .before .before .before .before .before .before .loop .inv)
+      (c .before .before .before .before .before .begin-condition .ensures) _ _ (c .before .left2 .given .1) .1
 
   pub write-condition : {M : Type 1} → lts.Closed callees (write-condition-at span) Post M
   write-condition =
-      lts.spec callees (write-condition-at span) Post Inv μ loop-holds begin-condition-requires enum-known-left same-length returns enum-known-left-2 loop-less loop-again
+      lts.spec callees (write-condition-at span) Post Inv μ loop-holds begin-condition-requires enum-known-left same-length returns enum-known-left-2
+      loop-less loop-again
