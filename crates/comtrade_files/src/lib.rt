@@ -29,7 +29,7 @@ fn write_configuration(name: &[u8], samples: usize)
 // The line of a refusal, on standard output.
 fn say_refusal(number: usize, place: usize) {
     let mut area = [0u8; 64];
-    let length = last_lines::put_refusal(&mut area, 0, number, place);
+    let length = refusal_lines::put_refusal(&mut area, 0, number, place);
     io::write_all(STDOUT_FILENO, &area[..length]);
 }
 

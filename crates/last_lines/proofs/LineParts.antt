@@ -1,16 +1,15 @@
--- The lines of an outcome and of a refusal: the parts that they are put together from, and how long they are. Assumes nothing.
+-- The line of an outcome: the parts that it is put together from, and how long it is. Assumes nothing.
 use Prim.Native.Nat.{ℕ, _+_, _<_, _≤_}
 use native.Mathlib.Omega.{arith}
 use mathlib.Core.Path.{_≡_, ap}
 use mathlib.Core.List.{[], _∷_, _++_, append-assoc}
 use lib.ListN.{length, length-append}
-use Rattle.format.specs.Refusal.{Refusal}
 use Rattle.rules.specs.Room as room
 use Rattle.rules.specs.Run as run
 use Rattle.rules.specs.Run.{Stop}
 use Rattle.text.specs.Text.{ascii, decimal, line}
 use Rattle.text.proofs.Decimals.{few-digits}
-use Rattle.last_lines.specs.Lines.{stopWord, outcomeLine, refusalLine}
+use Rattle.last_lines.specs.Lines.{stopWord, outcomeLine}
 
 stop-short : (s : Stop) → length (stopWord s) ≤ 9
 unfolding stopWord ascii
@@ -21,8 +20,6 @@ stop-short (run.noRoom room.object) = omega arith
 stop-short (run.noRoom room.key) = omega arith
 stop-short (run.noRoom room.depth) = omega arith
 
--- ---- an outcome's line
-
 pub outcome-parts : (stop : Stop) (picks moves records : ℕ)
     → (((stopWord stop ++ (32 ∷ decimal picks)) ++ (32 ∷ decimal moves)) ++ (32 ∷ decimal records)) ++ (10 ∷ []) ≡ outcomeLine stop picks moves records
 unfolding outcomeLine line
@@ -32,18 +29,7 @@ pub outcome-length : (stop : Stop) (picks moves records : ℕ)
     → length (outcomeLine stop picks moves records) ≡ length (stopWord stop) + length (decimal picks) + length (decimal moves) + length (decimal records) + 4
 outcome-length stop picks moves records = omega (arith, simp length-append at (ap length (outcome-parts stop picks moves records)))
 
--- ---- a refusal's line
-
-pub refusal-parts : (r : Refusal) → ((ascii "refused" ++ (32 ∷ decimal (r .number))) ++ (32 ∷ decimal (r .place))) ++ (10 ∷ []) ≡ refusalLine r
-unfolding refusalLine line
-refusal-parts r = simp append-assoc
-
-pub refusal-length : (r : Refusal) → length (refusalLine r) ≡ length (decimal (r .number)) + length (decimal (r .place)) + 10
-unfolding ascii
-refusal-length r = omega (arith, simp length-append at (ap length (refusal-parts r)))
-
--- ---- numbers of 64 bits have at most 20 digits
-
+-- numbers of 64 bits have at most 20 digits
 wide-digits : (n : ℕ) → n < 18446744073709551616 → length (decimal n) ≤ 20
 wide-digits n h = few-digits 19 n (omega arith)
 
@@ -51,6 +37,3 @@ pub outcome-short : (stop : Stop) (picks moves records : ℕ) → picks < 184467
     → length (outcomeLine stop picks moves records) ≤ 73
 outcome-short stop picks moves records h₁ h₂ h₃ =
     omega (arith, outcome-length stop picks moves records, stop-short stop, wide-digits picks h₁, wide-digits moves h₂, wide-digits records h₃)
-
-pub refusal-short : (r : Refusal) → r .number < 18446744073709551616 → r .place < 18446744073709551616 → length (refusalLine r) ≤ 50
-refusal-short r h₁ h₂ = omega (arith, refusal-length r, wide-digits (r .number) h₁, wide-digits (r .place) h₂)

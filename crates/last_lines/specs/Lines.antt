@@ -1,7 +1,6 @@
--- The last line of a run, and the line of a refusal (document 01, "Shot list"). Assumes nothing.
+-- The last line of a run (document 01, "Shot list"). Assumes nothing.
 use Prim.Native.Nat.{ℕ}
 use mathlib.Core.List.{List, [], _∷_}
-use Rattle.format.specs.Refusal.{Refusal}
 use Rattle.rules.specs.Room as room
 use Rattle.rules.specs.Run as run
 use Rattle.rules.specs.Run.{Stop}
@@ -21,8 +20,3 @@ stopWord (run.noRoom room.depth) = ascii "no-depth"
 unfoldable pub outcomeLine : Stop → ℕ → ℕ → ℕ → List ℕ
 unfolding line decimal stopWord
 outcomeLine stop picks moves records = line (stopWord stop ∷ decimal picks ∷ decimal moves ∷ decimal records ∷ [])
-
--- "A refusal prints one line: refused, number, place"
-unfoldable pub refusalLine : Refusal → List ℕ
-unfolding line decimal ascii
-refusalLine r = line (ascii "refused" ∷ decimal (r .number) ∷ decimal (r .place) ∷ [])

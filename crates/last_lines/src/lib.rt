@@ -1,9 +1,9 @@
-// The last line of a run, and the line of a refusal (document 01, "Shot list"), each written behind the text that is there.
+// The last line of a run (document 01, "Shot list"), written behind the text that is there.
 ghost use Prim.Native.Nat.{_+_, _≤_};
 ghost use lib.ListN.{length};
 ghost use Rattle.player.specs.Answer.{stopOf};
 ghost use Rattle.text.specs.Wrote.{Wrote};
-ghost use Rattle.last_lines.specs.Lines.{stopWord, outcomeLine, refusalLine};
+ghost use Rattle.last_lines.specs.Lines.{stopWord, outcomeLine};
 use run_outcome::NoRoom;
 use run_outcome::Stop;
 
@@ -47,16 +47,5 @@ pub fn put_outcome(
     let at = text::put_column(area, at, picks);
     let at = text::put_column(area, at, moves);
     let at = text::put_column(area, at, records);
-    text::put_byte(area, at, 10)
-}
-
-// Refused, number, place.
-pub fn put_refusal(area: &mut [u8], at: usize, number: usize, place: usize) -> usize
-    requires { ⌜ at + length (refusalLine (record { number = number; place = place })) ≤ length (now area) ⌝ }
-    ensures { λ r. ⌜ Wrote (now (area .entry)) at (refusalLine (record { number = number; place = place })) (now (area .exit)) r ⌝ }
-{
-    let at = text::put_word(area, at, b"refused");
-    let at = text::put_column(area, at, number);
-    let at = text::put_column(area, at, place);
     text::put_byte(area, at, 10)
 }

@@ -16,7 +16,8 @@ use Rattle.player.specs.declared.outcome.Played.{Played}
 use Rattle.player.specs.Answer.{stopOf, outcomeOf, answeredBy, answered}
 use Rattle.player.proofs.Ran.{passes, begins}
 use Rattle.record_lines.specs.Lines.{recordLines}
-use Rattle.last_lines.specs.Lines.{outcomeLine, refusalLine}
+use Rattle.refusal_lines.specs.Lines.{refusalLine}
+use Rattle.last_lines.specs.Lines.{outcomeLine}
 use Rattle.printing.specs.Printed.{lentArea, answerText, playText}
 
 module _ (plan schedule : List ℕ) (p : Played) (h : answered p ≡ played plan schedule lentArea) where
@@ -25,7 +26,8 @@ module _ (plan schedule : List ℕ) (p : Played) (h : answered p ≡ played plan
   unfolding answered playText
   text-is c e = ap (λ (x : Checked). answerText (runOf plan schedule .log) (answeredBy x (p .outcome))) (sym e) ∙ ap (answerText (runOf plan schedule .log)) h
 
-  pub refused-text : (number place : ℕ) → p .checked ≡ checked.Refused number place → refusalLine (record { number = number; place = place }) ≡ playText plan schedule
+  pub refused-text : (number place : ℕ) → p .checked ≡ checked.Refused number place
+      → refusalLine (record { number = number; place = place }) ≡ playText plan schedule
   unfolding answerText
   refused-text number place e = text-is (checked.Refused number place) e
 
@@ -34,11 +36,14 @@ module _ (plan schedule : List ℕ) (p : Played) (h : answered p ≡ played plan
     unfolding runOf
     log-is n q =
         ap logOf (begins plan schedule lentArea p h e after left n q)
-        ∙ logOf-bytesOf (runOf plan schedule .log) (tidy-play (programOf plan) (well-formed plan (passes plan schedule lentArea p h e .plan-passes)) schedule .all-tidy)
+        ∙ logOf-bytesOf (runOf plan schedule .log)
+        (tidy-play (programOf plan) (well-formed plan (passes plan schedule lentArea p h e .plan-passes)) schedule .all-tidy)
 
     pub ran-text : (n : ℕ) → n ≡ 3 * p .outcome .records
-        → recordLines 0 (logOf (take (n - 0) after)) ++ outcomeLine (stopOf (p .outcome .stop)) (p .outcome .picks) (p .outcome .moves) (p .outcome .records) ≡ playText plan schedule
+        → recordLines 0 (logOf (take (n - 0) after)) ++ outcomeLine (stopOf (p .outcome .stop)) (p .outcome .picks) (p .outcome .moves)
+        (p .outcome .records) ≡ playText plan schedule
     unfolding answerText outcomeOf
     ran-text n q =
-        ap (λ (L : List Record). recordLines 0 L ++ outcomeLine (stopOf (p .outcome .stop)) (p .outcome .picks) (p .outcome .moves) (p .outcome .records)) (log-is n q)
+        ap (λ (L : List Record). recordLines 0 L ++ outcomeLine (stopOf (p .outcome .stop)) (p .outcome .picks) (p .outcome .moves) (p .outcome .records))
+        (log-is n q)
         ∙ text-is checked.Passed e

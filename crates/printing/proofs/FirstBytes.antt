@@ -15,7 +15,7 @@ use Rattle.packed.specs.Check.{refusal}
 use Rattle.records.specs.Record.{Record}
 use Rattle.rules.specs.Play.{tooManyPicks, scheduleRefusal, playRefusal, played, playedBy, runOf}
 use Rattle.play_refusals.proofs.RefusalChain.{areaChecks, schedule-stages, play-stages}
-use Rattle.last_lines.specs.Lines.{refusalLine}
+use Rattle.refusal_lines.specs.Lines.{refusalLine}
 use Rattle.input_parts.specs.Input.{lengthRead, planRead, scheduleRead}
 use Rattle.input_parts.proofs.Parts.{cut-long, not-cut}
 use Rattle.printing.specs.Printed.{lentArea, answerText, playText, printed}

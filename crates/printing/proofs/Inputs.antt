@@ -7,7 +7,7 @@ use mathlib.Core.List.{List}
 use lib.ListN.{length}
 use Rattle.text.specs.Wrote.{Wrote}
 use Rattle.text.proofs.Added.{added-as, added-whole}
-use Rattle.last_lines.specs.Lines.{refusalLine}
+use Rattle.refusal_lines.specs.Lines.{refusalLine}
 use Rattle.input_parts.specs.Input.{planRead, scheduleRead, cutShort}
 use Rattle.printing.specs.Printed.{playText, printed, TextWritten}
 
@@ -20,7 +20,8 @@ module _ (input : List ℕ) where
   unfolding printed
   whole-text e = simp e
 
-  pub parts-text : {plan schedule : List ℕ} → cutShort input ≡ false → plan ≡ planRead input → schedule ≡ scheduleRead input → playText plan schedule ≡ printed input
+  pub parts-text : {plan schedule : List ℕ} → cutShort input ≡ false → plan ≡ planRead input → schedule ≡ scheduleRead input
+      → playText plan schedule ≡ printed input
   parts-text e p s = rw (p, s) (whole-text e)
 
   -- what the entry promises of a text that is written

@@ -7,7 +7,8 @@ use lib.ListN.{length, replicate, drop}
 use Rattle.records.specs.Record.{Record}
 use Rattle.rules.specs.Play.{Played, refused, ran, played, runOf}
 use Rattle.record_lines.specs.Lines.{recordLines}
-use Rattle.last_lines.specs.Lines.{outcomeLine, refusalLine}
+use Rattle.refusal_lines.specs.Lines.{refusalLine}
+use Rattle.last_lines.specs.Lines.{outcomeLine}
 use Rattle.input_parts.specs.Input.{planRead, scheduleRead, cutShort}
 
 -- the log area that the program lends to the play: three bytes for each of 4,096 picks

@@ -17,7 +17,7 @@ fn print_play(plan: &[u8], schedule: &[u8], area: &mut [u8]) -> usize
     let checked = played.checked;
     let outcome = played.outcome;
     match checked {
-        Checked::Refused { number, place } => last_lines::put_refusal(area, 0, number, place),
+        Checked::Refused { number, place } => refusal_lines::put_refusal(area, 0, number, place),
         Checked::Passed => {
             let end = player::outcome::record_bytes(outcome.records);
             let stop = outcome.stop;
@@ -42,7 +42,7 @@ pub fn shot_list(input: &[u8], area: &mut [u8]) -> usize
         return 0;
     }
     if input_parts::cut_short(input) {
-        return last_lines::put_refusal(area, 0, 1, 0);
+        return refusal_lines::put_refusal(area, 0, 1, 0);
     }
     let plan = input_parts::plan_of(input);
     let schedule = input_parts::schedule_of(input);

@@ -33,11 +33,11 @@ module _ (plan area : List ℕ) where
   stages = refusal-append (checks plan) textChecks
 
   -- both, once the refusal is known
-  by-refusal : (r : Refusal) → showRefusal plan area ≡ some r → (refused r ≡ showAnswer plan area) × (area ≡ showArea plan area)
+  pub by-refusal : (r : Refusal) → showRefusal plan area ≡ some r → (refused r ≡ showAnswer plan area) × (area ≡ showArea plan area)
   unfolding showAnswer answerBy showArea shownBy
   by-refusal r s = (sym (ap (λ (o : Option Refusal). answerBy o (length (shownText plan))) s), sym (ap (shownBy plan area) s))
 
-  by-none : showRefusal plan area ≡ none → (value (length (shownText plan)) ≡ showAnswer plan area) × (overwrite (shownText plan) area ≡ showArea plan area)
+  pub by-none : showRefusal plan area ≡ none → (value (length (shownText plan)) ≡ showAnswer plan area) × (overwrite (shownText plan) area ≡ showArea plan area)
   unfolding showAnswer answerBy showArea shownBy
   by-none s = (sym (ap (λ (o : Option Refusal). answerBy o (length (shownText plan))) s), sym (ap (shownBy plan area) s))
 
@@ -56,11 +56,13 @@ module _ (plan area : List ℕ) where
 
     short-refusal : length area < length (shownText plan) → showRefusal plan area ≡ some (record { number = 25; place = 0 })
     unfolding refuse firstRefusal shortForText
-    short-refusal l = let m : lowest (λ place. shortForText plan area) 1 ≡ some 0 = whole (shortForText plan area) (lt-ltb (length area) (length (shownText plan)) l) in passed ∙ rw m refl
+    short-refusal l = let m : lowest (λ place. shortForText plan area) 1 ≡ some 0 =
+        whole (shortForText plan area) (lt-ltb (length area) (length (shownText plan)) l) in passed ∙ rw m refl
 
-    no-refusal : length (shownText plan) ≤ length area → showRefusal plan area ≡ none
+    pub no-refusal : length (shownText plan) ≤ length area → showRefusal plan area ≡ none
     unfolding refuse firstRefusal shortForText
-    no-refusal l = let m : lowest (λ place. shortForText plan area) 1 ≡ none = whole-none (shortForText plan area) (le-ltb (length area) (length (shownText plan)) l) in passed ∙ rw m refl
+    no-refusal l = let m : lowest (λ place. shortForText plan area) 1 ≡ none =
+        whole-none (shortForText plan area) (le-ltb (length area) (length (shownText plan)) l) in passed ∙ rw m refl
 
     -- the text of its tokens is its text
     pub text-written : (ts area′ : List ℕ) (r : Answered) → ts ≡ shownPlan (programOf plan) → TextWritten ts area area′ r

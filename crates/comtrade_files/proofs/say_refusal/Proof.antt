@@ -2,7 +2,7 @@
 use native.Mathlib.Omega.{arith}
 use mathlib.Core.Path.{sym}
 use lib.Seq.{length-take-le}
-use Rattle.last_lines.proofs.LineParts.{refusal-short}
+use Rattle.refusal_lines.proofs.LineParts.{refusal-short}
 use borrow.Author.Needs.{needs}
 use Rattle.comtrade_files.proofs.say_refusal.Statement.{statement}
 use Rattle.comtrade_files.proofs.say_refusal.Tie as tie
@@ -11,7 +11,8 @@ slice-aggregate-put-refusal : tie.Need-slice-aggregate-put-refusal
 slice-aggregate-put-refusal c = search needs
 
 put-refusal-requires : tie.Need-put-refusal-requires
-put-refusal-requires c κs = let a = c .before .args in omega (arith, refusal-short (record { number = a .number; place = a .place }) (omega arith) (omega arith))
+put-refusal-requires c κs = let a =
+    c .before .args in omega (arith, refusal-short (record { number = a .number; place = a .place }) (omega arith) (omega arith))
 
 array-share-prefix-area : tie.Need-array-share-prefix-area
 array-share-prefix-area c =

@@ -27,7 +27,8 @@ put-column-requires-3 c κs =
 
 put-byte-requires : tie.Need-put-byte-requires
 put-byte-requires c κs =
-    let a = c .before .before .before .before .before .before .before .before .before .before .before .before .before .before .before .before .before .before .args in
+    let a = c .before .before .before .before .before .before .before .before .before .before .before .before .before .before .before .before .before
+    .before .args in
     omega (arith, outcome-length (stopOf (a .stop)) (a .picks) (a .moves) (a .records))
 
 same-length : tie.Need-same-length
@@ -35,9 +36,16 @@ same-length c = search needs
 
 returns : tie.Need-returns
 returns c =
-    let a = c .before .before .before .before .before .before .before .before .before .before .before .before .before .before .before .before .before .before .before .before .before .args in
+    let a = c .before .before .before .before .before .before .before .before .before .before .before .before .before .before .before .before .before .before
+    .before .before .before .args in
     added-as (outcome-parts (stopOf (a .stop)) (a .picks) (a .moves) (a .records))
-    (added-more (added-more (added-more (added-more (c .before .before .before .before .before .before .before .before .before .before .before .before .before .before .before .before .before .before .put-stop .ensures) (c .before .before .before .before .before .before .before .before .before .before .before .before .before .before .put-column .ensures)) (c .before .before .before .before .before .before .before .before .before .before .put-column2 .ensures)) (c .before .before .before .before .before .before .put-column3 .ensures)) (c .before .before .put-byte .ensures))
+    (added-more (added-more
+    (added-more (added-more
+    (c .before .before .before .before .before .before .before .before .before .before .before .before .before .before .before .before .before
+    .before .put-stop .ensures)
+    (c .before .before .before .before .before .before .before .before .before .before .before .before .before .before .put-column .ensures))
+    (c .before .before .before .before .before .before .before .before .before .before .put-column2 .ensures))
+    (c .before .before .before .before .before .before .put-column3 .ensures)) (c .before .before .put-byte .ensures))
 
 pub put-outcome-spec : {M : Type 1} → statement M
 put-outcome-spec =

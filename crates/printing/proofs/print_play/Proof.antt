@@ -5,7 +5,7 @@ use lib.ListN.{length-take}
 use Rattle.player.proofs.Ran.{few-records, within}
 use Rattle.printing.specs.Printed.{lentArea}
 use Rattle.text.proofs.Added.{added-as}
-use Rattle.last_lines.proofs.LineParts.{refusal-short}
+use Rattle.refusal_lines.proofs.LineParts.{refusal-short}
 use Rattle.printing.proofs.Answers.{refused-text, ran-text}
 use borrow.Author.Needs.{needs}
 use Rattle.printing.proofs.print_play.Statement.{statement}
@@ -49,7 +49,8 @@ part-put-run-end c =
     let p = c .before .before .before .before .before .before .before .play in
     let e = c .before .before .before .enum-told .given .1 in
     let r = c .before .before .record-bytes in
-    within (a .plan .now) (a .schedule .now) lentArea (p .result) (p .ensures .0) e (p .last .1 .1 .0) (p .ensures .1 .0) (r .result) (omega (arith, r .ensures))
+    within (a .plan .now) (a .schedule .now) lentArea (p .result) (p .ensures .0) e (p .last .1 .1 .0) (p .ensures .1 .0) (r .result)
+    (omega (arith, r .ensures))
 
 put-run-requires : tie.Need-put-run-requires
 unfolding lentArea
@@ -70,7 +71,8 @@ returns c =
     let a = c .before .before .before .before .before .before .before .before .before .before .before .before .before .before .args in
     let p = c .before .before .before .before .before .before .before .before .before .play in
     let k = c .before .before .before .before .before .checked .given in
-    added-as (refused-text (a .plan .now) (a .schedule .now) (p .result) (p .ensures .0) (k .0 .0) (k .0 .1 .0) (k .1)) (c .before .before .put-refusal .ensures)
+    added-as (refused-text (a .plan .now) (a .schedule .now) (p .result) (p .ensures .0) (k .0 .0) (k .0 .1 .0) (k .1))
+    (c .before .before .put-refusal .ensures)
 
 same-length-2 : tie.Need-same-length-2
 same-length-2 c = search needs
@@ -82,7 +84,8 @@ returns-2 c =
     let p = c .before .before .before .before .before .before .before .before .before .before .before .play in
     let e = c .before .before .before .before .before .before .before .enum-told .given .1 in
     let r = c .before .before .before .before .before .before .record-bytes in
-    added-as (ran-text (a .plan .now) (a .schedule .now) (p .result) (p .ensures .0) e (p .last .1 .1 .0) (p .ensures .1 .0) (r .result) (r .ensures)) (c .before .before .put-run .ensures)
+    added-as (ran-text (a .plan .now) (a .schedule .now) (p .result) (p .ensures .0) e (p .last .1 .1 .0) (p .ensures .1 .0) (r .result) (r .ensures))
+    (c .before .before .put-run .ensures)
 
 pub print-play-spec : {M : Type 1} → statement M
 print-play-spec =

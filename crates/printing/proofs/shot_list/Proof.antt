@@ -1,7 +1,7 @@
 -- `printing::shot_list` meets its contract. Assumes nothing.
 use native.Mathlib.Omega.{arith}
 use mathlib.Core.Path.{refl, sym, _∙_}
-use Rattle.last_lines.proofs.LineParts.{refusal-short}
+use Rattle.refusal_lines.proofs.LineParts.{refusal-short}
 use Rattle.printing.proofs.Inputs.{cut-text, parts-text, finished}
 use borrow.Author.Needs.{needs}
 use Rattle.printing.proofs.shot_list.Statement.{statement}
@@ -40,7 +40,8 @@ same-length-2 c = search needs
 returns-3 : tie.Need-returns-3
 returns-3 c =
     let a = c .before .before .before .before .before .before .before .before .before .before .before .args in
-    let cut = sym (c .before .before .before .before .before .before .before .cut-short .ensures) ∙ c .before .before .before .before .before .before .if2 .left in
+    let cut = sym (c .before .before .before .before .before .before .before .cut-short .ensures)
+    ∙ c .before .before .before .before .before .before .if2 .left in
     let plan = c .before .before .before .before .before .plan-of .ensures in
     let schedule = c .before .before .before .before .schedule-of .ensures in
     finished (a .input .now) (omega arith) (parts-text (a .input .now) cut plan schedule) (c .before .before .print-play .ensures)

@@ -40,7 +40,8 @@ part-write-end c =
 write-requires : tie.Need-write-requires
 write-requires c κs =
     let l = c .before .before .before .before .before .before .before .before .before .load .ensures in
-    known-tokens (given (l .0) (l .1) (c .before .before .before .before .before .before .before .enum-told .given .1)) (c .before .before .before .before .put-plan .ensures)
+    known-tokens (given (l .0) (l .1) (c .before .before .before .before .before .before .before .enum-told .given .1))
+    (c .before .before .before .before .put-plan .ensures)
 
 returns : tie.Need-returns
 returns c = plan-refused _ _ _ _ _ (c .before .before .before .load .ensures .0) (c .before .checked .given .1)
@@ -51,7 +52,8 @@ same-length c = search needs
 returns-2 : tie.Need-returns-2
 returns-2 c =
     let l = c .before .before .before .before .before .before .before .before .before .before .before .before .load .ensures in
-    text-written _ _ (passed-none _ _ (l .0) (c .before .before .before .before .before .before .before .before .before .before .enum-told .given .1)) _ _ _ (first-tokens _ (c .before .before .before .before .before .before .before .put-plan .ensures)) (c .before .before .write .ensures)
+    text-written _ _ (passed-none _ _ (l .0) (c .before .before .before .before .before .before .before .before .before .before .enum-told .given .1)) _ _ _
+    (first-tokens _ (c .before .before .before .before .before .before .before .put-plan .ensures)) (c .before .before .write .ensures)
 
 pub show-spec : {M : Type 1} → statement M
 show-spec =

@@ -19,7 +19,8 @@ lay-out-requires c κs = (c .before .before .before .before .before .pre, rw (c 
 
 same-length : tie.Need-same-length
 same-length c =
-    ap L.length (c .before .before .lay-out .ensures) ∙ overwrite-length _ _ (rw (c .before .before .before .before .before .length .ensures) at (c .before .before .before .before .if1 .left))
+    ap L.length (c .before .before .lay-out .ensures)
+    ∙ overwrite-length _ _ (rw (c .before .before .before .before .before .length .ensures) at (c .before .before .before .before .if1 .left))
 
 returns-2 : tie.Need-returns-2
 returns-2 c =

@@ -1,0 +1,4 @@
+pub mod KindTests
+pub mod LastConflicts
+pub mod Answers
+pub mod OneText

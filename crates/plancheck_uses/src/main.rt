@@ -1,0 +1,4 @@
+// A test of the program plancheck: a word that it does not have.
+fn main() {
+    plancheck_files::run();
+}

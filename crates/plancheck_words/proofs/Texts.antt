@@ -1,0 +1,86 @@
+-- The plan of a text, by what `read` answers and leaves in an area of 5,192 bytes. Assumes nothing.
+use Prim.Native.Nat.{ℕ, _+_, _*_, _-_, _≤_, _<_}
+use native.Mathlib.Omega.{arith}
+use mathlib.Core.Path.{_≡_, refl, sym, ap, subst, _∙_}
+use mathlib.Core.Bool.{Bool, true, false, cond}
+use mathlib.Core.List.{List}
+use mathlib.Core.Option.{none}
+use lib.ListN.{length, take}
+use borrow.Author.Tests.{ltb-true, ltb-false}
+use Rattle.format.specs.Area.{overwrite}
+use Rattle.format.proofs.AreaLaws.{overwrite-first}
+use Rattle.packed.specs.Syntax.{Program}
+use Rattle.packed.specs.Format.{planLength}
+use Rattle.packed.specs.Check.{refusal}
+use Rattle.packed.proofs.Accepted.{accepted}
+use Rattle.written.specs.Written as bytes
+use Rattle.notation.specs.Lexing.{codesOf}
+use Rattle.lexer.specs.Place.{placeOf}
+use Rattle.parsing.specs.Plan as reading
+use Rattle.parsing.specs.Plan.{Reading, readPlan}
+use Rattle.parsing.proofs.PlanRight.{text-passes}
+use Rattle.read.specs.Read as texts
+use Rattle.read.specs.Read.{Failure, tooMany, shortForPlan, failedAt, answerBy, areaBy, readAnswer, readArea}
+use Rattle.read.specs.Answer.{failureOf, answered}
+use Rattle.read.specs.declared.Answer.{Answer}
+use Rattle.read.specs.declared.Answer.the-variants.{Written, Short, Failed}
+use Rattle.plancheck_words.specs.Given.{Given, plan, noPlan, noPlanAt, planBy, textPlan}
+
+-- no plan that passes is longer than 5,192 bytes
+few-by : (n p t : ℕ) → n ≡ 8 + 2 * p + 5 * t → p ≤ 32 → t ≤ 1024 → n ≤ 5192
+few-by n p t e few many = omega arith
+
+pub plan-few : (b : List ℕ) → refusal b ≡ none → length b ≤ 5192
+unfolding planLength
+plan-few b e = let a = accepted b e in few-by _ _ _ (a .length-right) (a .few-procedures) (a .few-terms)
+
+-- nor is the plan of a text
+few-bytes : (text : List ℕ) (g : Program) → readPlan (codesOf text) ≡ reading.plan g → length (bytes.written g) ≤ 5192
+few-bytes text g e = plan-few (bytes.written g) (text-passes text g e .0)
+
+module _ (text area : List ℕ) (size : length area ≡ 5192) where
+  -- what the answer and the area say
+  abbrev Means : texts.Read → List ℕ → Type 0
+  Means (texts.Read.written n) after = (n ≤ 5192) × (textPlan text ≡ plan (take n after))
+  Means texts.Read.short after = ⊥
+  Means (texts.Read.failed l c f) after = textPlan text ≡ noPlan l c f
+
+  by-room : (g : Program) (short : Bool) → readPlan (codesOf text) ≡ reading.plan g → shortForPlan g area ≡ short → textPlan text ≡ plan (bytes.written g)
+      → Means (answerBy text area (reading.plan g)) (areaBy area (reading.plan g))
+  unfolding shortForPlan answerBy areaBy
+  by-room g true e s t = absurd (omega (arith, few-bytes text g e, ltb-true (length area) (length (bytes.written g)) s))
+  by-room g false e s t = simp s (few-bytes text g e, t ∙ ap plan (sym (overwrite-first (bytes.written g) area)))
+
+  by-reading : (r : Reading) → readPlan (codesOf text) ≡ r → textPlan text ≡ planBy text r → Means (answerBy text area r) (areaBy area r)
+  unfolding planBy answerBy areaBy failedAt noPlanAt
+  by-reading (reading.plan g) e t = by-room g (shortForPlan g area) e refl t
+  by-reading (reading.fault f rest) e t = t
+
+  few-plan : tooMany text ≡ false → textPlan text ≡ planBy text (readPlan (codesOf text))
+  unfolding textPlan
+  few-plan m = ap (λ (b : Bool). cond b (noPlanAt text 16384 texts.tokens) (planBy text (readPlan (codesOf text)))) m
+
+  by-count : (many : Bool) → tooMany text ≡ many → Means (readAnswer text area) (readArea text area)
+  unfolding readAnswer readArea textPlan failedAt noPlanAt
+  by-count true m = simp m
+  by-count false m = simp m (by-reading (readPlan (codesOf text)) refl (few-plan m))
+
+  pub means : Means (readAnswer text area) (readArea text area)
+  means = by-count (tooMany text) refl
+
+  -- by the answer of the code
+  module _ (x : Answer) (after : List ℕ) (h : answered x ≡ readAnswer text area) (k : after ≡ readArea text area) where
+    so : Means (answered x) after
+    so = rw (h, k) means
+
+    pub written-means : (n : ℕ) → x ≡ Written n → (n ≤ 5192) × (textPlan text ≡ plan (take (n - 0) after))
+    written-means n e =
+        let m = subst (λ (y : Answer). Means (answered y) after) e so in
+        let z : n - 0 ≡ n = omega arith in
+        (m .0, rw z (m .1))
+
+    pub short-means : x ≡ Short → ⊥
+    short-means e = subst (λ (y : Answer). Means (answered y) after) e so
+
+    pub failed-means : (l c kind reason : ℕ) → x ≡ Failed l c kind reason → textPlan text ≡ noPlan l c (failureOf kind reason)
+    failed-means l c kind reason e = subst (λ (y : Answer). Means (answered y) after) e so

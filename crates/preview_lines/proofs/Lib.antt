@@ -1,0 +1,4 @@
+pub mod MoveWords
+pub mod LineParts
+pub mod Answers
+pub mod Samples

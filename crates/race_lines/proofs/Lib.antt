@@ -1,0 +1,4 @@
+pub mod AccessKinds
+pub mod LineParts
+pub mod Records
+pub mod Samples

@@ -1,0 +1,5 @@
+pub mod StatusWords
+pub mod LineParts
+pub mod ThreadTexts
+pub mod Answers
+pub mod Samples

@@ -1,0 +1,5 @@
+pub mod Answers
+pub mod Parts
+pub mod Areas
+pub mod Witnessed
+pub mod Runs
