@@ -7,10 +7,9 @@ use mathlib.Core.Option.{some, none}
 use lib.ListN.{length, drop}
 use Rattle.format.specs.Area.{overwrite}
 use Rattle.format.specs.Version.{v1, versionOf}
-use Rattle.records.specs.Packed.{recordAt, recordCount, logOf}
+use Rattle.records.specs.Packed.{recordAt, logOf}
 use Rattle.records.specs.Record.{Record}
 use Rattle.records.specs.Refusals.{logRefusal}
-use Rattle.records.proofs.Accepted.{accepted}
 use Rattle.order.specs.Chains.{At}
 use Rattle.conflicts.specs.Conflicts.{Conflicting}
 use Rattle.conflicts.specs.Judge.{refused, named, Names, names-first, names-none, Answers, refuses, judges, AnswersTold}
@@ -30,7 +29,7 @@ use Rattle.judge_lines.proofs.LastConflicts.{inside}
 
 -- ---- the two records that were found
 
-module _ (b : List ℕ) (j i : ℕ) (w x : Columns) (L : LastOf b j i) (W : ReadAt b i w) (X : ReadAt b j x) where
+module _ (b : List ℕ) (j i : ℕ) (w x : Columns) (L : LastOf v1 b j i) (W : ReadAt b i w) (X : ReadAt b j x) where
   lines-are : conflictLines i (recordOf w) j (recordOf x) ≡ conflictingLines (L .last)
   unfolding conflictingLines
   lines-are =
@@ -45,7 +44,7 @@ module _ (b : List ℕ) (j i : ℕ) (w x : Columns) (L : LastOf b j i) (W : Read
       ∙ ap (λ (n : ℕ). conflictLines n (c .other) j (c .access)) (sym (L .index-is))
 
   pub wrote-conflict : {before after : List ℕ} {r : ℕ} → Wrote before 0 (conflictLines i (recordOf w) j (recordOf x)) after r
-      → WroteConflict b j before after r
+      → WroteConflict v1 b j before after r
   wrote-conflict v = record { last = L .last; latest = λ d. let q = L .latest d in omega (arith, L .index-is); wrote = added-as lines-are v }
 
 -- ---- the judge's answer
@@ -77,16 +76,15 @@ module _ (b area : List ℕ) (big : 200 ≤ length area) where
   pub ordered-told : {late : List ℕ} {r : ℕ} → AnswersTold 1 b (named none) → Wrote area 0 orderedLine late r → JudgeTold b area (Answer.value r) late
   ordered-told t w = ordered-by (version-one t) w
 
-  named-by : {j : ℕ} → Answers v1 b (named (some j)) → Named b j
-  unfolding recordCount
-  named-by (judges e (names-first c low)) = let h = accepted b e in record { few = omega (arith, h .length-most); conflicting = c }
+  named-by : {j : ℕ} → Answers v1 b (named (some j)) → Named v1 b j
+  named-by (judges e (names-first c low)) = record { passed = e; conflicting = c }
 
-  pub named-here : {j : ℕ} → AnswersTold 1 b (named (some j)) → Named b j
+  pub named-here : {j : ℕ} → AnswersTold 1 b (named (some j)) → Named v1 b j
   named-here t = named-by (version-one t)
 
-  conflict-by : {j : ℕ} {late : List ℕ} {r : ℕ} → Answers v1 b (named (some j)) → WroteConflict b j area late r → JudgeTold b area (Answer.value r) late
+  conflict-by : {j : ℕ} {late : List ℕ} {r : ℕ} → Answers v1 b (named (some j)) → WroteConflict v1 b j area late r → JudgeTold b area (Answer.value r) late
   conflict-by (judges e (names-first c low)) w = told-by e (w .wrote) (told.conflicts (w .last) low (w .latest))
 
-  pub conflict-told : {j : ℕ} {late : List ℕ} {r : ℕ} → AnswersTold 1 b (named (some j)) → WroteConflict b j area late r
+  pub conflict-told : {j : ℕ} {late : List ℕ} {r : ℕ} → AnswersTold 1 b (named (some j)) → WroteConflict v1 b j area late r
       → JudgeTold b area (Answer.value r) late
   conflict-told t w = conflict-by (version-one t) w

@@ -1,15 +1,15 @@
 -- The search for the last earlier access that conflicts with a given one and has no chain to it: none later is one. Assumes nothing.
-use Prim.Native.Nat.{ℕ, suc, _/_, _<_, _≤_}
+use Prim.Native.Nat.{ℕ, zero, suc, _/_, _<_, _≤_}
 use native.Mathlib.Omega.{arith}
 use native.Mathlib.Decide.{ℕ-discrete}
 use mathlib.Core.Path.{_≡_, refl, sym, ap, _∙_, subst as along}
 use mathlib.Core.Bool.{Bool, true, false, _&&_, _||_, not, true≢false}
 use mathlib.Core.List.{List}
 use mathlib.Core.Logic.{_⊎_, inl, inr, ⊎-elim}
-use lib.Dec.{T, eqb}
-use lib.ListN.{length, getD}
-use borrow.Author.Tests.{eq-eqb, eqb-true}
-use Rattle.format.specs.Version.{v1}
+use lib.Dec.{T, eqb, ltb}
+use lib.ListN.{length}
+use borrow.Author.Tests.{eq-eqb, eqb-true, lt-ltb, ltb-true}
+use Rattle.format.specs.Version.{Version}
 use Rattle.records.specs.Record.{Kind, Record, isPlain}
 use Rattle.records.specs.Packed.{kindOf, recordAt, logOf}
 use Rattle.order.specs.Accesses.{isWrite}
@@ -20,8 +20,11 @@ use Rattle.records.proofs.RoundTrip.{length-log}
 use Rattle.decoding.specs.declared.Columns.{Columns}
 use Rattle.decoding.specs.Columns.{ReadAt}
 use Rattle.decoding.proofs.Decoded.{kind-is-kind}
+use Rattle.clocks.specs.Rows.{Row, clockOf}
+use Rattle.arrows.specs.Newest.{Heard, Newest}
+use Rattle.arrows.proofs.Chains.{chain-before, chain-on, thread-chain}
 use Rattle.race_lines.proofs.Records.{at-once, record-here}
-use Rattle.judge_lines.specs.Search.{conflictTest, Named, Flagged, LastOf}
+use Rattle.judge_lines.specs.Search.{conflictTest, Named, LastOf}
 
 -- ---- truth values
 
@@ -89,28 +92,61 @@ module _ {b : List ℕ} {j i : ℕ} {w x : Columns} (W : ReadAt b i w) (X : Read
 -- ---- the search
 
 -- every access that is sought comes before `index`
-abbrev pub Earlier : List ℕ → ℕ → ℕ → Type 0
-Earlier b j index = (d : Conflicting v1 (logOf b) j) → d .index < index
+abbrev pub Earlier : Version → List ℕ → ℕ → ℕ → Type 0
+Earlier v b j index = (d : Conflicting v (logOf b) j) → d .index < index
 
 -- the record that the judge names is one of the log
-pub inside : (b : List ℕ) (j : ℕ) → Conflicting v1 (logOf b) j → j < length b / 3
+pub inside : {v : Version} (b : List ℕ) (j : ℕ) → Conflicting v (logOf b) j → j < length b / 3
 inside b j c = omega (arith, at-within (logOf b) j (c .access) (c .at-j), length-log b)
 
-module _ {b : List ℕ} {j i : ℕ} {w x : Columns} {kept : List Bool} (F : Flagged b j kept) (W : ReadAt b i w) (X : ReadAt b j x) (less : i < j) where
+-- a row says what record j has heard of each thread
+pub record HeardBy (v : Version) (b : List ℕ) (j : ℕ) (row : Row) : Type 0 where
+  pub newest : (u : ℕ) → u < 8 → Newest v (logOf b) j u (clockOf row u)
+
+-- it has heard of earlier records alone
+pub heard-most : {v : Version} {b : List ℕ} {j : ℕ} {row : Row} → HeardBy v b j row → (u : ℕ) → u < 8 → clockOf row u ≤ j
+heard-most {v} {b} {j} {row} R u h = go (clockOf row u) (R .newest u h)
+  where
+    go : (n : ℕ) → Newest v (logOf b) j u n → n ≤ j
+    go zero N = omega arith
+    go (suc m) N = chain-before (N .is-heard m refl .chain)
+
+-- it has heard of record i exactly where a chain leads from i to j
+module _ {v : Version} {b : List ℕ} {j i : ℕ} {w : Columns} {row : Row} (R : HeardBy v b j row) (W : ReadAt b i w) (within : i < length b / 3) where
+  chain→heard : Chain v (logOf b) i j → ltb i (clockOf row (w .thread)) ≡ true
+  chain→heard k = lt-ltb i (clockOf row (w .thread)) (R .newest (w .thread) (W .narrow .thread-below) .none-newer i
+      (record { by = recordAt b i; at = record-here b i within; of-thread = sym (W .thread-is); chain = k }))
+
+  newest→chain : (n : ℕ) → Newest v (logOf b) j (w .thread) n → i < n → Chain v (logOf b) i j
+  newest→chain zero N h = absurd (omega arith)
+  newest→chain (suc m) N h = go (ℕ-discrete i m) (N .is-heard m refl)
+    where
+      go : Dec (i ≡ m) → Heard v (logOf b) j (w .thread) m → Chain v (logOf b) i j
+      go (yes e) d = along (λ (n : ℕ). Chain v (logOf b) n j) (sym e) (d .chain)
+      go (no n) d = chain-on (thread-chain v (logOf b) i m (recordAt b i) (d .by) (record-here b i within) (d .at) (sym (W .thread-is) ∙ sym (d .of-thread))
+          (omega (arith, n))) (d .chain)
+
+  heard→chain : ltb i (clockOf row (w .thread)) ≡ true → Chain v (logOf b) i j
+  heard→chain e = newest→chain (clockOf row (w .thread)) (R .newest (w .thread) (W .narrow .thread-below)) (ltb-true i (clockOf row (w .thread)) e)
+
+module _ {v : Version} {b : List ℕ} {j i : ℕ} {w x : Columns} {row : Row} (N : Named v b j) (R : HeardBy v b j row) (W : ReadAt b i w) (X : ReadAt b j x)
+    (less : i < j) {z : Bool} (same : z ≡ conflictTest w x) where
+  abbrev named : Conflicting v (logOf b) j
+  named = N .conflicting
+
   within : i < length b / 3
-  within = let h = inside b j (F .named .conflicting) in omega arith
+  within = let h = inside b j named in omega arith
 
   -- the code's test
   abbrev pub test : Bool
-  test = conflictTest w x && not (getD kept i false)
+  test = z && not (ltb i (clockOf row (w .thread)))
 
   later-plain : T (isPlain (recordAt b j .kind))
   later-plain =
-      let c = F .named .conflicting in
-      along (λ (r : Record). T (isPlain (r .kind))) (at-once (logOf b) j (c .at-j) (record-here b j (inside b j c))) (c .conflict .later-plain)
+      along (λ (r : Record). T (isPlain (r .kind))) (at-once (logOf b) j (named .at-j) (record-here b j (inside b j named))) (named .conflict .later-plain)
 
   -- it is passed by
-  pub passed : test ≡ false → Earlier b j (suc i) → Earlier b j i
+  pub passed : test ≡ false → Earlier v b j (suc i) → Earlier v b j i
   passed t h d = go (ℕ-discrete (d .index) i) (h d)
     where
       go : Dec (d .index ≡ i) → d .index < suc i → d .index < i
@@ -119,32 +155,32 @@ module _ {b : List ℕ} {j i : ℕ} {w x : Columns} {kept : List Bool} (F : Flag
           let there = along (λ (n : ℕ). At (logOf b) n (d .other)) e (d .at-index) in
           let other : d .other ≡ recordAt b i = at-once (logOf b) i there (record-here b i within) in
           let access : d .access ≡ recordAt b j = at-once (logOf b) j (d .at-j) (record-here b j (inside b j d)) in
-          let conflict : Conflict (recordAt b i) (recordAt b j) = along (λ (r : Record). Conflict r (recordAt b j)) other
-          (along (λ (r : Record). Conflict (d .other) r) access (d .conflict)) in
-          let apart : Chain v1 (logOf b) i j → ⊥ = along (λ (n : ℕ). Chain v1 (logOf b) n j → ⊥) e (d .no-chain) in
-          let left : not (getD kept i false) ≡ true = not-false (getD kept i false) (λ k. ⊎-elim apart apart (F .marked i within .0 k)) in
-          absurd (true≢false (rw (test← W X conflict, left) at t))
+          let conflict : Conflict (recordAt b i) (recordAt b j) =
+          along (λ (r : Record). Conflict r (recordAt b j)) other (along (λ (r : Record). Conflict (d .other) r) access (d .conflict)) in
+          let apart : Chain v (logOf b) i j → ⊥ = along (λ (n : ℕ). Chain v (logOf b) n j → ⊥) e (d .no-chain) in
+          let left : not (ltb i (clockOf row (w .thread))) ≡ true =
+          not-false (ltb i (clockOf row (w .thread))) (λ k. apart (heard→chain R W within (holds (ltb i (clockOf row (w .thread))) k))) in
+          absurd (true≢false (rw (same ∙ test← W X conflict, left) at t))
 
   -- or it is the last
-  pub found : test ≡ true → Earlier b j (suc i) → LastOf b j i
+  pub found : test ≡ true → Earlier v b j (suc i) → LastOf v b j i
   found t h =
-      let d = both (conflictTest w x) (not (getD kept i false)) t in
-      let c = F .named .conflicting in
+      let d = both z (not (ltb i (clockOf row (w .thread)))) t in
       record {
         last = record {
           access = recordAt b j;
-          at-j = record-here b j (inside b j c);
+          at-j = record-here b j (inside b j named);
           other = recordAt b i;
           index = i;
           at-index = record-here b i within;
           before = less;
-          conflict = test→ W X (d .0) later-plain;
-          no-chain = λ k. not-true (getD kept i false) (d .1) (F .marked i within .1 (inl k));
+          conflict = test→ W X (sym same ∙ d .0) later-plain;
+          no-chain = λ k. not-true (ltb i (clockOf row (w .thread))) (d .1) (held (ltb i (clockOf row (w .thread))) (chain→heard R W within k));
         };
         index-is = refl;
         latest = λ e. let q = h e in omega arith;
       }
 
 -- where there is one, the search does not come to its end
-pub not-none : {b : List ℕ} {j : ℕ} → Named b j → Earlier b j 0 → ⊥
+pub not-none : {v : Version} {b : List ℕ} {j : ℕ} → Named v b j → Earlier v b j 0 → ⊥
 not-none N h = let q = h (N .conflicting) in omega arith

@@ -1,8 +1,9 @@
 // The judge's answer to a log in words: the access that it names and the last earlier one that conflicts with it and from which no chain leads to it.
-mod search; // search.rt: which earlier access that is
+pub mod search; // search.rt: which earlier access that is
 
 ghost use Prim.Native.Nat.{_≤_};
 ghost use lib.ListN.{length};
+ghost use Rattle.format.specs.Version.{v1};
 ghost use Rattle.answers.specs.Answer.{answered};
 ghost use Rattle.text.specs.Wrote.{Wrote};
 ghost use Rattle.judge_lines.specs.Told.{orderedLine, JudgeTold};
@@ -21,10 +22,10 @@ fn put_ordered(area: &mut [u8]) -> usize
 
 // The lines of the access that the judge names.
 fn put_named(area: &mut [u8], log: &[u8], later: usize) -> usize
-    requires { ⌜ Named (now log) later ⌝ ∗ ⌜ 200 ≤ length (now area) ⌝ }
-    ensures { λ r. ⌜ WroteConflict (now (log .entry)) later (now (area .entry)) (now (area .exit)) r ⌝ }
+    requires { ⌜ Named v1 (now log) later ⌝ ∗ ⌜ 200 ≤ length (now area) ⌝ }
+    ensures { λ r. ⌜ WroteConflict v1 (now (log .entry)) later (now (area .entry)) (now (area .exit)) r ⌝ }
 {
-    let earlier = search::last_conflict(log, later);
+    let earlier = search::last_conflict(1, log, later);
     let first = decoding::columns_at(log, earlier);
     let second = decoding::columns_at(log, later);
     race_lines::put_conflict(area, 0, earlier, first, later, second)

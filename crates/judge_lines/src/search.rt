@@ -1,12 +1,13 @@
-// The last earlier access that conflicts with a given one and from which no chain leads to it: the records with a chain to it are marked in one pass, and
-// the others looked at from the last to the first.
+// The last earlier access that conflicts with a given one and from which no chain leads to it: one pass says which records the given one has heard of, and
+// the others are looked at from the last to the first.
 ghost use mathlib.Core.Path.{_≡_};
 ghost use Prim.Native.Nat.{_<_};
+ghost use Rattle.format.specs.Version.{versionOf};
 ghost use Rattle.records.specs.Packed.{kindOf};
 ghost use Rattle.records.specs.Record.{isPlain};
 ghost use Rattle.order.specs.Accesses.{isWrite};
 ghost use Rattle.decoding.specs.Columns.{Narrow};
-ghost use Rattle.judge_lines.specs.Search.{conflictTest, Named, Flagged, LastOf};
+ghost use Rattle.judge_lines.specs.Search.{conflictTest, Named, LastOf};
 use decoding::Columns;
 use records::kind;
 
@@ -41,30 +42,25 @@ fn conflict(earlier: Columns, later: Columns) -> bool
         & (earlier.field == later.field)
 }
 
-// The last record before `later` that conflicts with it and is not marked.
-fn last_unmarked(log: &[u8], later: usize, kept: &[bool]) -> usize
-    requires { ⌜ Flagged (now log) later (now kept) ⌝ }
-    ensures { λ r. ⌜ LastOf (now (log .entry)) later r ⌝ }
+// The last earlier access that conflicts with the one at `later` and from which no chain leads to it, by the chains of a version.
+pub fn last_conflict(version: usize, log: &[u8], later: usize) -> usize
+    requires { ⌜ Named (versionOf version) (now log) later ⌝ }
+    ensures { λ r. ⌜ LastOf (versionOf version) (now (log .entry)) later r ⌝ }
 {
+    let none = [0u16; 8];
+    let mut rows = [none; 4096];
+    arrows::heard::rows(version, log, &mut rows);
+    let row = rows[later];
     let access = decoding::columns_at(log, later);
     let mut index = later;
     while 0 < index {
         index -= 1;
         let columns = decoding::columns_at(log, index);
-        let marked = kept[index];
-        if conflict(columns, access) & !marked {
+        let thread = columns.thread;
+        let heard = index < row[thread] as usize;
+        if conflict(columns, access) & !heard {
             return index;
         }
     }
     index
-}
-
-// The last earlier access that conflicts with the one at `later` and from which no chain leads to it.
-pub fn last_conflict(log: &[u8], later: usize) -> usize
-    requires { ⌜ Named (now log) later ⌝ }
-    ensures { λ r. ⌜ LastOf (now (log .entry)) later r ⌝ }
-{
-    let mut kept = [false; 4096];
-    marking::mark(log, later, later, &mut kept);
-    last_unmarked(log, later, &kept)
 }

@@ -2,6 +2,8 @@
 use Prim.Native.Nat.{_/_, _<_}
 use native.Mathlib.Omega.{arith}
 use lib.ListN.{length}
+use Rattle.format.specs.Version.{versionOf}
+use Rattle.arrows.proofs.OfLog.{log-short}
 use Rattle.judge_lines.proofs.LastConflicts.{inside}
 use Rattle.judge_lines.proofs.Answers.{wrote-conflict}
 use borrow.Author.Needs.{needs}
@@ -9,7 +11,8 @@ use Rattle.judge_lines.proofs.put_named.Statement.{statement}
 use Rattle.judge_lines.proofs.put_named.Tie as tie
 
 last-conflict-requires : tie.Need-last-conflict-requires
-last-conflict-requires c κs = search needs
+unfolding versionOf
+last-conflict-requires c κs = c .before .before .pre .0
 
 columns-at-requires : tie.Need-columns-at-requires
 columns-at-requires c κs =
@@ -23,9 +26,10 @@ put-conflict-requires : tie.Need-put-conflict-requires
 put-conflict-requires c κs =
     let l = c .before .before .before .last-conflict .ensures in
     let h = inside _ _ (c .before .before .before .before .before .before .pre .0 .conflicting) in
+    let few = log-short _ (c .before .before .before .before .before .before .pre .0 .passed) in
     record {
-      few-earlier = omega (arith, l .index-is, l .last .before, h, c .before .before .before .before .before .before .pre .0 .few);
-      few-later = omega (arith, h, c .before .before .before .before .before .before .pre .0 .few);
+      few-earlier = omega (arith, l .index-is, l .last .before, h, few);
+      few-later = omega (arith, h, few);
       earlier = c .before .before .columns-at .ensures .narrow;
       later = c .before .columns-at2 .ensures .narrow;
       room = omega (arith, c .before .before .before .before .before .before .pre .1);
@@ -35,6 +39,7 @@ same-length : tie.Need-same-length
 same-length c = search needs
 
 returns : tie.Need-returns
+unfolding versionOf
 returns c =
     let w = c .before .before .before .before .before .columns-at in
     let x = c .before .before .before .before .columns-at2 in
