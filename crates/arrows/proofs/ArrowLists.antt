@@ -51,7 +51,7 @@ ordered-append {L} {ys = ys} (next {x = x} {rest = xs} b p) q f = next first (or
         go (inr c) = f (x .0) (x .1) i j (here refl refl) c
 
 -- a list with an arrow is not empty
-among-some : {i j : ℕ} {xs : List (ℕ × ℕ)} → Among i j xs → 0 < length xs
+pub among-some : {i j : ℕ} {xs : List (ℕ × ℕ)} → Among i j xs → 0 < length xs
 among-some (here e g) = omega arith
 among-some (further a) = omega arith
 

@@ -5,6 +5,7 @@ pub mod NeededArrows
 pub mod ArrowLists
 pub mod ShownChains
 pub mod PairLaws
+pub mod OneList
 pub mod Samples
 pub mod Ports
 pub mod Marked
