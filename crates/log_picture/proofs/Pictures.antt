@@ -4,7 +4,7 @@ use native.Mathlib.Omega.{arith}
 use mathlib.Core.Path.{_≡_, refl, sym, ap, _∙_, subst as along}
 use mathlib.Core.List.{List, [], _∷_, _++_}
 use mathlib.Core.Option.{Option, some, none, Option·none-ne-some}
-use lib.ListN.{length, getD, drop}
+use lib.ListN.{length, length-append, getD, drop}
 use Rattle.format.specs.Area.{overwrite}
 use Rattle.format.specs.Version.{Version, versionOf}
 use Rattle.records.specs.Record.{Record}
@@ -112,6 +112,15 @@ module _ {version : ℕ} {b area : List ℕ} where
       → Pictured version b area (Answer.refused (record { number = k; place = i })) area
   refused-picture (wrong-version h) = picture.wrong-version h
   refused-picture (right-version l a) = refused-by l a
+
+-- a text that is written lies within its area
+within : {version : ℕ} {b area late : List ℕ} {n : ℕ} → Pictured version b area (Answer.value n) late → length late ≡ length area → n ≤ length area
+unfolding overwrite
+within {area = area} (picture.shows {text = text} l e room p) same = omega (arith, same, length-append text (drop (length text) area))
+
+pub value-within : {version : ℕ} {b area late : List ℕ} {a : Answer} {n : ℕ} → a ≡ Answer.value n → Pictured version b area a late
+    → length late ≡ length area → n ≤ length area
+value-within {version} {b} {area} {late} e p = within (along (λ (x : Answer). Pictured version b area x late) e p)
 
 -- ---- what the judge answers
 
