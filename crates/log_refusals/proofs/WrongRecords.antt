@@ -1,98 +1,133 @@
--- What the tests of refusal 12 mean. Assumes nothing.
-use Prim.Native.Nat.{ℕ, zero, suc, _+_, _/_, _<_}
+-- What the tests of refusal 12 mean: the tables' rule, in one computed test of every kind with every 12 bits. Assumes nothing.
+use Prim.Native.Nat.{ℕ, zero, suc, _+_, _*_, _/_, _%_, _<_}
 use native.Mathlib.Omega.{arith}
+use native.Mathlib.Decide.{decLt}
 use native.Mathlib.Numerals.{add-one}
-use mathlib.Core.Path.{_≡_, refl, sym, _∙_}
-use mathlib.Core.Bool.{Bool, true, false, _&&_, _||_, not, or-false}
-use mathlib.Core.List.{List, [], _∷_}
+use mathlib.Core.Path.{_≡_, refl, sym, ap, _∙_}
+use mathlib.Core.Bool.{Bool, true, false, _&&_, _||_, not, or-assoc}
+use mathlib.Core.List.{List}
+use mathlib.Core.Option.{none}
+use lib.Bits.{bitAnd, and-block, and-mask}
 use lib.Dec.{eqb, ltb, leb}
 use lib.ListN.{length, getD}
-use borrow.Author.Tests.{ne-eqb, lt-ltb, le-ltb, le-leb}
+use borrow.Author.Tests.{eq-eqb, ne-eqb, lt-ltb, le-ltb, eqb-true, not-false}
+use Rattle.format.specs.Refusal.{lowest}
+use Rattle.format.proofs.RefusalLaws.{lowest-none}
 use Rattle.records.specs.Packed.{kindOf, recordCount}
 use Rattle.records.specs.Refusals.{wrongColumns, wrongRecord}
 use Rattle.records.proofs.Accepted.{wrong-record}
-use Rattle.format.proofs.Ranges.{by-range}
-use Rattle.decoding.specs.Columns.{Narrow, ReadAt}
-use Rattle.log_refusals.specs.Limits.{leastField, fieldEnd, valueEnd}
+use Rattle.decoding.specs.Columns.{ReadAt}
 use Rattle.decoding.specs.declared.Columns.{Columns}
-use Rattle.decoding.proofs.Decoded.{kind-is-kind}
+use Rattle.decoding.proofs.Decoded.{kind-is-kind, spare-of-word}
+use Rattle.log_refusals.specs.Limits.{leastBits, zeroBits}
 
--- ---- the columns of a kind
+-- ---- the tables
 
--- what the code tests of a kind's columns
-abbrev pub columnsTest : ℕ → ℕ → ℕ → Bool
-columnsTest k f v = ltb f (getD leastField k 0) || leb (getD fieldEnd k 0) f || leb (getD valueEnd k 0) v
+-- what the code tests of a kind and the 12 bits, in the last record or before it
+abbrev byTables : Bool → ℕ → ℕ → Bool
+byTables last k n = ltb n (getD (leastBits last) k 0) || not (eqb (bitAnd n (getD zeroBits k 0)) 0)
 
-below-one : (f : ℕ) → ltb f 1 ≡ eqb f 0
-below-one zero = refl
-below-one (suc f) = rw (ne-eqb (suc f) 0 (λ e. omega arith)) (le-ltb (suc f) 1 (omega arith))
+-- the same of field and value alone, without the spare bits
+abbrev upperBits : Bool → ℕ → ℕ → Bool
+upperBits last k g = ltb g (getD (leastBits last) k 0 / 4) || not (eqb (bitAnd g (getD zeroBits k 0 / 4)) 0)
 
-some-number : (f : ℕ) → ltb 0 f ≡ not (eqb f 0)
-some-number zero = refl
-some-number (suc f) = rw (ne-eqb (suc f) 0 (λ e. omega arith)) (lt-ltb 0 (suc f) (omega arith))
+-- what refusal 12 tests of them
+abbrev byColumns : Bool → ℕ → ℕ → ℕ → Bool
+byColumns last k f v = eqb k 0 || ltb 11 k || (leb 10 k && not last) || wrongColumns (kindOf k) f v
 
-module _ (f v : ℕ) (hf : f < 32) (hv : v < 32) where
-  least : ltb f 0 ≡ false
-  least = le-ltb f 0 (omega arith)
+abbrev same : Bool → Bool → Bool
+same true y = y
+same false y = not y
 
-  no-more : ltb 31 f ≡ false
-  no-more = le-ltb 31 f (omega arith)
+same-is : (x y : Bool) → same x y ≡ true → x ≡ y
+same-is true y e = sym e
+same-is false true e = e
+same-is false false e = refl
 
-  any-value : ltb 31 v ≡ false
-  any-value = le-ltb 31 v (omega arith)
+-- both agree at a kind, a field and a value in one number
+abbrev agree : Bool → ℕ → Bool
+agree last m = same (upperBits last (m / 1024) (m % 1024)) (byColumns last (m / 1024) (m % 1024 / 32) (m % 32))
 
-  no-kind : (ltb f 0 || leb 0 f || leb 32 v) ≡ true
-  no-kind = rw (least, le-leb 0 f (omega arith))
+all-agree : (last : Bool) → lowest (λ (m : ℕ). not (agree last m)) 16384 ≡ none
+unfolding kindOf leastBits lowest
+all-agree true = refl
+all-agree false = refl
 
-  nothing : (ltb f 0 || leb 1 f || leb 1 v) ≡ (not (eqb f 0) || not (eqb v 0))
-  nothing = rw (least, some-number f, some-number v)
+module _ (last : Bool) (m : ℕ) (h : m < 16384) where
+  at-number : upperBits last (m / 1024) (m % 1024) ≡ byColumns last (m / 1024) (m % 1024 / 32) (m % 32)
+  at-number = same-is _ _ (not-false (agree last m) (lowest-none (λ (m : ℕ). not (agree last m)) 16384 (all-agree last) m h))
 
-  access : (ltb f 1 || leb 32 f || leb 32 v) ≡ eqb f 0
-  access = rw (no-more, any-value, below-one f) (simp or-false)
+  at-columns : (k g f v : ℕ) → m / 1024 ≡ k → m % 1024 ≡ g → m % 1024 / 32 ≡ f → m % 32 ≡ v → upperBits last k g ≡ byColumns last k f v
+  at-columns k g f v a b c d = rw (← a, ← b, ← c, ← d) at-number
 
-  lacking : (ltb f 1 || leb 32 f || leb 1 v) ≡ (eqb f 0 || not (eqb v 0))
-  lacking = rw (no-more, some-number v, below-one f) (simp or-false)
+-- ---- the spare bits, which are 0 with every kind
 
-  forks : (ltb f 0 || leb 8 f || leb 1 v) ≡ (ltb 7 f || not (eqb v 0))
-  forks = rw (least, some-number v)
+-- no least number has them
+least-rows : (last : Bool) → lowest (λ (k : ℕ). not (eqb (getD (leastBits last) k 0 % 4) 0)) 16 ≡ none
+unfolding leastBits lowest
+least-rows true = refl
+least-rows false = refl
 
-  joins : (ltb f 0 || leb 8 f || leb 32 v) ≡ ltb 7 f
-  joins = rw (least, any-value) (simp or-false)
+-- they are among the bits that must be 0
+zero-rows : lowest (λ (k : ℕ). not (eqb (getD zeroBits k 0 % 4) 3)) 16 ≡ none
+unfolding lowest
+zero-rows = refl
 
-  abbrev Tested : ℕ → Type 0
-  Tested k = columnsTest k f v ≡ (eqb k 0 || ltb 11 k || wrongColumns (kindOf k) f v)
+module _ (g s : ℕ) (hs : s < 4) where
+  lower : (L : ℕ) → L % 4 ≡ 0 → ltb (g * 4 + s) L ≡ ltb g (L / 4)
+  lower L e = go (decLt g (L / 4))
+    where
+      go : Dec (g < L / 4) → ltb (g * 4 + s) L ≡ ltb g (L / 4)
+      go (yes p) = lt-ltb (g * 4 + s) L (omega (arith, e, p, hs)) ∙ sym (lt-ltb g (L / 4) p)
+      go (no p) = le-ltb (g * 4 + s) L (omega (arith, e, p)) ∙ sym (le-ltb g (L / 4) (omega (arith, p)))
 
-  columns-are : (k : ℕ) → k < 16 → Tested k
-  unfolding kindOf
-  columns-are =
-      by-range Tested 0 16 ((k : ℕ) → k < 16 → Tested k) (λ all k h. all k (omega arith) (omega arith))
-      no-kind nothing access access access access nothing nothing forks joins lacking access no-kind no-kind no-kind no-kind
+  common : (Z : ℕ) → Z % 4 ≡ 3 → bitAnd (g * 4 + s) Z ≡ bitAnd g (Z / 4) * 4 + s
+  common Z e =
+      let whole : Z ≡ Z / 4 * 4 + 3 = omega (arith, e) in
+      let own : bitAnd s 3 ≡ s = and-mask s 2 ∙ omega (arith, hs) in
+      ap (bitAnd (g * 4 + s)) whole ∙ and-block 2 g (Z / 4) s 3 hs (omega arith) ∙ ap (λ (x : ℕ). bitAnd g (Z / 4) * 4 + x) own
 
--- by the tables as they are lent
-pub columns-by : (A B C : List ℕ) → A ≡ leastField → B ≡ fieldEnd → C ≡ valueEnd → (r : Columns) → Narrow r
-    → (ltb (r .field) (getD A (r .kind) 0) || leb (getD B (r .kind) 0) (r .field) || leb (getD C (r .kind) 0) (r .value))
-    ≡ (eqb (r .kind) 0 || ltb 11 (r .kind) || wrongColumns (kindOf (r .kind)) (r .field) (r .value))
-columns-by A B C a b c r n = rw (a, b, c) (columns-are (r .field) (r .value) (n .field-below) (n .value-below) (r .kind) (n .kind-below))
+some-bit : (x s : ℕ) → not (eqb (x * 4 + s) 0) ≡ (not (eqb x 0) || not (eqb s 0))
+some-bit zero s = let alone : 0 * 4 + s ≡ s = omega arith in ap (λ (n : ℕ). not (eqb n 0)) alone
+some-bit (suc x) s = rw (ne-eqb (suc x * 4 + s) 0 (λ e. omega (arith, e)), ne-eqb (suc x) 0 (λ e. omega (arith, e)))
+
+by-tables : (last : Bool) (k f v s : ℕ) → k < 16 → f < 32 → v < 32 → s < 4
+    → byTables last k ((f * 32 + v) * 4 + s) ≡ (byColumns last k f v || not (eqb s 0))
+by-tables last k f v s hk hf hv hs =
+    let L : ℕ = getD (leastBits last) k 0 in
+    let Z : ℕ = getD zeroBits k 0 in
+    let none-least = eqb-true (L % 4) 0 (not-false _ (lowest-none (λ (k : ℕ). not (eqb (getD (leastBits last) k 0 % 4) 0)) 16 (least-rows last) k hk)) in
+    let all-zero = eqb-true (Z % 4) 3 (not-false _ (lowest-none (λ (k : ℕ). not (eqb (getD zeroBits k 0 % 4) 3)) 16 zero-rows k hk)) in
+    let upper : upperBits last k (f * 32 + v) ≡ byColumns last k f v =
+    at-columns last (k * 1024 + (f * 32 + v)) (omega (arith, hk, hf, hv)) k (f * 32 + v) f v
+    (omega (arith, hf, hv)) (omega (arith, hf, hv)) (omega (arith, hf, hv)) (omega (arith, hv)) in
+    rw (lower (f * 32 + v) s hs L none-least, common (f * 32 + v) s hs Z all-zero, some-bit (bitAnd (f * 32 + v) (Z / 4)) s)
+    (sym (or-assoc (ltb (f * 32 + v) (L / 4)) (not (eqb (bitAnd (f * 32 + v) (Z / 4)) 0)) (not (eqb s 0))) ∙ ap (λ (x : Bool). x || not (eqb s 0)) upper)
+
+-- ---- the table for a place
+
+pub early-table : (A : List ℕ) (i n : ℕ) → A ≡ leastBits false → i + 1 < n → A ≡ leastBits (eqb (i + 1) n)
+early-table A i n e h = e ∙ ap leastBits (sym (ne-eqb (i + 1) n (λ q. omega (arith, q, h))))
+
+pub last-table : (A : List ℕ) (i n : ℕ) → A ≡ leastBits true → i + 1 ≡ n → A ≡ leastBits (eqb (i + 1) n)
+last-table A i n e h = e ∙ ap leastBits (sym (eq-eqb (i + 1) n h))
 
 -- ---- a record
 
--- the order of the tests makes no difference
-turned : (a x z w : Bool) → (a || x || z || w) ≡ (a || z || x || w)
-turned true x z w = refl
-turned false true true w = refl
-turned false true false w = refl
-turned false false true w = refl
-turned false false false w = refl
-
 module _ (b : List ℕ) (i : ℕ) (r : Columns) (R : ReadAt b i r) where
-  pub wrong-is : (x : Bool) → x ≡ (eqb (r .kind) 0 || ltb 11 (r .kind) || wrongColumns (kindOf (r .kind)) (r .field) (r .value))
-      → (x || (leb 10 (r .kind) && not (eqb (i + 1) (length b / 3))) || not (eqb (r .spare) 0)) ≡ wrongRecord b i
+  pub spare-below : r .spare < 4
+  spare-below = omega (arith, R .spare-is, spare-of-word b i)
+
+  -- by the tables as they are lent
+  pub wrong-is : (A Z : List ℕ) → A ≡ leastBits (eqb (i + 1) (length b / 3)) → Z ≡ zeroBits
+      → (ltb ((r .field * 32 + r .value) * 4 + r .spare) (getD A (r .kind) 0)
+      || not (eqb (bitAnd ((r .field * 32 + r .value) * 4 + r .spare) (getD Z (r .kind) 0)) 0))
+      ≡ wrongRecord b i
   unfolding recordCount
-  wrong-is x h =
-      let early : Bool = leb 10 (r .kind) && not (eqb (i + 1) (length b / 3)) in
-      let spare : Bool = not (eqb (r .spare) 0) in
-      let columns : Bool = wrongColumns (kindOf (r .kind)) (r .field) (r .value) in
-      let none : Bool = eqb (r .kind) 0 || ltb 11 (r .kind) in
-      let defined : wrongRecord b i ≡ (none || early || columns || spare) =
+  wrong-is A Z a z =
+      let N = R .narrow in
+      let last : Bool = eqb (i + 1) (length b / 3) in
+      let defined : wrongRecord b i
+      ≡ (byColumns last (r .kind) (r .field) (r .value) || not (eqb (r .spare) 0)) =
       wrong-record b i ∙ rw (kind-is-kind b i, ← R .kind-is, ← R .field-is, ← R .value-is, ← R .spare-is, ← add-one i) in
-      rw h (turned none columns early spare ∙ sym defined)
+      rw (a, z) (by-tables last (r .kind) (r .field) (r .value) (r .spare) (N .kind-below) (N .field-below) (N .value-below) spare-below ∙ sym defined)
