@@ -1,4 +1,4 @@
--- What the tests of refusal 12 mean: the tables' rule, in one computed test of every kind with every 12 bits. Assumes nothing.
+-- What the tests of refusal 12 mean: the tables' rule, in one computed test of every kind with every field and value. Assumes nothing.
 use Prim.Native.Nat.{ℕ, zero, suc, _+_, _*_, _/_, _%_, _<_}
 use native.Mathlib.Omega.{arith}
 use native.Mathlib.Decide.{decLt}
@@ -48,6 +48,7 @@ same-is false false e = refl
 abbrev agree : Bool → ℕ → Bool
 agree last m = same (upperBits last (m / 1024) (m % 1024)) (byColumns last (m / 1024) (m % 1024 / 32) (m % 32))
 
+-- the tables' rule
 all-agree : (last : Bool) → lowest (λ (m : ℕ). not (agree last m)) 16384 ≡ none
 unfolding kindOf leastBits lowest
 all-agree true = refl

@@ -18,7 +18,9 @@ mul-bits-2 : tie.Need-mul-bits-2
 mul-bits-2 c = search needs
 
 add-bits-2 : tie.Need-add-bits-2
-add-bits-2 c = let R = c .before .before .before .columns-at in omega (arith, spare-below _ _ _ (R .ensures), R .ensures .narrow .field-below, R .ensures .narrow .value-below)
+add-bits-2 c =
+    let read = c .before .before .before .columns-at .ensures in
+    omega (arith, spare-below _ _ _ read, read .narrow .field-below, read .narrow .value-below)
 
 mul-low : tie.Need-mul-low
 mul-low c = search needs
