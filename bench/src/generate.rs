@@ -1,5 +1,6 @@
 //! Random programs, schedules and logs, and damage to them.
 
+use crate::independent::WORDS;
 use crate::plans::{self, *};
 use crate::random::Random;
 
@@ -332,60 +333,22 @@ pub fn damaged_log(random: &mut Random, mut log: Vec<u8>) -> Vec<u8> {
     log
 }
 
-/// Pieces that can be put into a text, most of them tokens.
-const PIECES: [&str; 44] = [
-    "version",
-    "volatile",
-    "procedure",
-    "in",
-    "then",
-    "else",
-    "do",
-    "all",
-    "and",
-    "true",
-    "not",
-    "null",
-    "new",
-    "let",
-    "if",
-    "while",
-    "call",
-    "fork",
-    "join",
-    "synch",
-    "wait",
-    "notify",
-    "(",
-    ")",
-    ",",
-    ".",
-    "=",
-    ":=",
-    "-",
-    "0",
-    "1",
-    "2",
-    "7",
-    "8",
-    "9",
-    "31",
-    "32",
-    "v0",
-    "v7",
-    "v8",
-    "# c\n",
-    ":",
-    "\n",
-    "new1",
-];
+/// Pieces that can be put into a text besides its words, most of them tokens.
+const PIECES: [&str; 22] =
+    ["(", ")", ",", ".", "=", ":=", "-", "0", "1", "2", "7", "8", "9", "31", "32", "v0", "v7", "v8", "# c\n", ":", "\n", "new1"];
+
+/// A word or another piece.
+fn piece(random: &mut Random) -> &'static str {
+    let index = random.below(WORDS.len() + PIECES.len());
+    WORDS.get(index).unwrap_or_else(|| &PIECES[index - WORDS.len()])
+}
 
 /// A text with a few pieces put in, taken out or put in the place of others; it may be a plan's still.
 pub fn changed_text(random: &mut Random, text: &[u8]) -> Vec<u8> {
     let mut words: Vec<Vec<u8>> = text.split_inclusive(|byte| !byte.is_ascii_alphanumeric()).map(<[u8]>::to_vec).collect();
     for _ in 0..1 + random.below(3) {
         let at = random.below(words.len() + 1);
-        let piece = format!(" {} ", random.pick(&PIECES)).into_bytes();
+        let piece = format!(" {} ", piece(random)).into_bytes();
         match random.below(4) {
             0 => words.insert(at, piece),
             1 if at < words.len() => words[at] = piece,

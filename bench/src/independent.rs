@@ -22,7 +22,7 @@ pub use interleavings::{first_interleaving, next_interleaving};
 pub use judge::judge;
 pub use plan::check;
 pub use preview::{preview, Preview};
-pub use read::read;
+pub use read::{read, WORDS};
 pub use run::{play, Outcome, State};
 pub use show::show;
 pub use witness::witness;

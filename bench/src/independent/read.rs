@@ -3,7 +3,7 @@
 use super::Refusal;
 
 // tokens: 0 to 31 are numbers, 32 to 39 variables, 40 to 61 words, and then the marks, the end of the text and what is no token
-const WORDS: [&str; 22] = [
+pub const WORDS: [&str; 22] = [
     "version",
     "volatile",
     "procedure",
