@@ -148,7 +148,7 @@ static inline const char *ruqzhemil_refusal_text(unsigned number) {
     case RUQZHEMIL_REFUSAL_TOTAL: return "a total of over 65,535 moves";
     case RUQZHEMIL_REFUSAL_FILE_AREA: return "an area too short for the whole data file";
     case RUQZHEMIL_REFUSAL_TEXT_AREA: return "an area shorter than the plan's text";
-    case RUQZHEMIL_REFUSAL_READ_AREA: return "an area shorter than the plan that was read";
+    case RUQZHEMIL_REFUSAL_READ_AREA: return "an area shorter than the plan of the text";
     default: return "a refusal that this header does not know";
     }
 }

@@ -103,7 +103,7 @@ impl fmt::Display for Reason {
             Reason::Total => "a total of over 65,535 moves",
             Reason::FileArea => "an area too short for the whole data file",
             Reason::TextArea => "an area shorter than the plan's text",
-            Reason::ReadArea => "an area shorter than the plan that was read",
+            Reason::ReadArea => "an area shorter than the plan of the text",
             Reason::Other(_) => "a refusal that this package does not know",
         })
     }
