@@ -2,9 +2,10 @@
 // an array of numbers that only landing touches, the places of threads in queues in one that only a signal changes. What is made is stored past the
 // present ones, and counts once it is counted.
 ghost use mathlib.Core.Path.{_≡_};
-ghost use Prim.Native.Nat.{_<_, _≤_, _+_, _*_};
-ghost use lib.ListN.{length};
-ghost use Rattle.engine.specs.Machine.{Placed, headOf, noThing, absent, threadBy, startOf, playOf, CountedBefore};
+ghost use Prim.Native.Nat.{_≤_};
+ghost use Rattle.engine.specs.Machine.{Placed, headOf, noThing, absent, threadBy, startOf};
+ghost use Rattle.engine.specs.Open.{isOpen, openAt, LowestFrom};
+ghost use Rattle.engine.specs.Exploring.{pickAt, Unseen, GoesOnBy, Explorable, ExploredOn};
 use frames::go;
 use frames::part;
 use keys::KeySet;
@@ -96,21 +97,91 @@ pub struct Ran {
     pub before: Before,
 }
 
-// The run of the picks from the start, with its records in the log, of every move or of those that have one; then what each of the eight threads would
-// meet. It owns arrays of structs, which no function can be lent, so both loops stand in it. A thread whose pick was passed over is not looked at again
-// before the next move: nothing has changed that it would meet.
-pub fn run(
+// The same of a run that may go on behind the given picks, and how many picks it made, one that stopped it among them.
+pub struct Explored {
+    pub ran: Ran,
+    pub made: usize,
+}
+
+// A thread in this state can move or stop the run.
+fn is_open(state: ThreadState) -> bool
+    ensures { λ r. ⌜ r ≡ isOpen state ⌝ }
+{
+    match state {
+        ThreadState::Absent => false,
+        ThreadState::Finished { value: _ } => false,
+        ThreadState::Ready => true,
+        ThreadState::Waiting(_) => false,
+        ThreadState::Stuck(_) => false,
+        ThreadState::Lacking {
+            object: _,
+            field: _,
+        } => true,
+    }
+}
+
+// The lowest of the threads from `from` on that can be picked, or 8.
+pub fn open_from(threads: [Thread; 8], from: usize) -> usize
+    requires { ⌜ from ≤ 8 ⌝ }
+    ensures { λ r. ⌜ LowestFrom (openAt threads) from r ⌝ }
+{
+    let mut thread = from;
+    while thread < 8 {
+        let next = threads[thread];
+        let state = next.state;
+        if is_open(state) {
+            return thread;
+        }
+        thread += 1;
+    }
+    thread
+}
+
+// The lowest thread by which a run goes on; 8 where it has stopped, where no place is left, or where no thread can be picked.
+fn goes_on_by(threads: [Thread; 8], stopped: bool, places: usize, made: usize) -> usize
+    ensures { λ r. ⌜ GoesOnBy threads stopped places made r ⌝ }
+{
+    if stopped {
+        return 8;
+    }
+    if places <= made {
+        return 8;
+    }
+    open_from(threads, 0)
+}
+
+// The pick of a place: the given one, and behind those the lowest thread that can be picked.
+fn pick_at(picks: &[u8], place: usize, lowest: usize) -> usize
+    ensures { λ r. ⌜ r ≡ pickAt (now (picks .entry)) place lowest ⌝ }
+{
+    if place < picks.len() {
+        return byte_numbers::wide(picks[place]);
+    }
+    lowest
+}
+
+// How many picks are made before the first look at all threads: all of them where nothing is noted, and else none.
+fn unseen(picks: usize, places: usize) -> usize
+    ensures { λ r. ⌜ Unseen picks places r ⌝ }
+{
+    if places == 0 { picks } else { 0 }
+}
+
+// The run of the picks from the start, with its records in the log, of every move or of those that have one; then what each of the eight threads would meet.
+// Where notes are lent, it goes on behind the picks by the lowest thread that can be picked, and notes at each place that thread and the lowest above the pick
+// that could be picked there, or 8. It owns arrays of structs, which no function can be lent, so its loops stand in it. A thread whose pick was passed over is
+// not looked at again before the next move: nothing has changed that it would meet.
+pub fn explore(
     words: &[usize; 1024],
     roots: &[usize; 32],
     setting: Setting,
     every: bool,
     picks: &[u8],
+    notes: &mut [u8],
     log: &mut [u8],
-) -> Ran
-    requires { ⌜ (length (now picks) ≤ 4096) × (length (now picks) * 3 ≤ length (now log)) ⌝ }
-    ensures ran { λ r. ⌜ r .outcome ≡ playOf (now (words .entry)) (now (roots .entry)) setting (startOf every (now (roots .entry)) (now (log .entry))) (now (picks .entry)) 0 .outcome ⌝ }
-    ensures area { λ r. ⌜ now (log .exit) ≡ playOf (now (words .entry)) (now (roots .entry)) setting (startOf every (now (roots .entry)) (now (log .entry))) (now (picks .entry)) 0 .area ⌝ }
-    ensures before { λ r. ⌜ CountedBefore (now (words .entry)) (now (roots .entry)) setting (startOf every (now (roots .entry)) (now (log .entry))) (now (picks .entry)) r ⌝ }
+) -> Explored
+    requires { ⌜ Explorable (now picks) (now notes) (now log) ⌝ }
+    ensures { λ r. ⌜ ExploredOn (now (words .entry)) (now (roots .entry)) setting (startOf every (now (roots .entry)) (now (log .entry))) (now (picks .entry)) (now (notes .entry)) (now (notes .exit)) (now (log .exit)) r ⌝ }
 {
     let mut heads = [pick::no_head(); 16];
     heads[0] = first_head(roots[0]);
@@ -121,89 +192,103 @@ pub fn run(
     let mut passed = [false; 8];
     let mut tally = tally::first();
     let mut stop = Stop::End;
-    let mut dealt = picks.len();
+    let mut dealt = 0;
     let mut moves_before = 0;
     let mut records_before = 0;
-    for i in 0..picks.len() {
-        moves_before = tally.moves;
-        records_before = tally.records;
-        let thread = (picks[i] % 8) as usize;
-        let counts = tally.counts;
-        if counts.threads <= thread {
-            continue;
-        }
-        if passed[thread] {
-            continue;
-        }
-        let head = heads[thread];
-        let number = cell_of(head);
-        let stored = cells[number];
-        let cell = kept::restore(stored);
-        let thing = objects[number / 32];
-        let other = heads[thing.thread % 16];
-        let met = Met {
-            counts: counts,
-            head: head,
-            cell: cell,
-            thing: thing,
-            other: other,
-            thread: thread,
-            place: places[thread],
-        };
-        let answer = pick::pick(words, roots, &mut stack, setting, met);
-        let Answer::Moved(left) = answer else {
-            let Answer::Stopped {
-                stop: reason,
-                entry,
-            } = answer
-            else {
-                passed[thread] = true;
-                continue;
-            };
-            tally = tally::put(&mut *log, tally, thread, entry);
-            stop = reason;
-            dealt = i;
-            break;
-        };
-        passed = [false; 8];
-        let ready = head.ready;
-        queue::after(&mut places, ready, thread);
-        let entry = left.entry;
-        tally = tally::put_move(&mut *log, tally, every, thread, entry);
-        if left.forks {
-            let young = left.young;
-            heads[counts.threads % 9] = young;
-        }
-        let mover = left.mover;
-        let changed = left.cell;
-        let made = left.thing;
-        let counted = left.counts;
-        heads[thread] = mover;
-        if act::changes(ready.part) {
-            cells[number] = kept::keep(changed);
-        }
-        objects[counts.objects % 33] = made;
-        tally = tally::moved(tally, counted);
-    }
-    let counts = tally.counts;
     let mut threads = [no_thread(); 8];
-    for thread in 0..8 {
-        let head = heads[thread];
-        let number = cell_of(head);
-        let stored = cells[number];
-        let cell = kept::restore(stored);
-        let thing = objects[number / 32];
-        let other = heads[thing.thread % 16];
-        let met = Met {
-            counts: counts,
-            head: head,
-            cell: cell,
-            thing: thing,
-            other: other,
-            thread: thread,
-            place: places[thread],
-        };
-        threads[thread] = thread_of(setting, met);
+    let mut lowest = 0;
+    let mut from = 0;
+    let mut to = unseen(picks.len(), notes.len());
+    loop {
+        dealt = to;
+        for i in from..to {
+            moves_before = tally.moves;
+            records_before = tally.records;
+            let thread = pick_at(picks, i, lowest) % 8;
+            let counts = tally.counts;
+            if counts.threads <= thread {
+                continue;
+            }
+            if passed[thread] {
+                continue;
+            }
+            let head = heads[thread];
+            let number = cell_of(head);
+            let stored = cells[number];
+            let cell = kept::restore(stored);
+            let thing = objects[number / 32];
+            let other = heads[thing.thread % 16];
+            let met = Met {
+                counts: counts,
+                head: head,
+                cell: cell,
+                thing: thing,
+                other: other,
+                thread: thread,
+                place: places[thread],
+            };
+            let answer = pick::pick(words, roots, &mut stack, setting, met);
+            let Answer::Moved(left) = answer else {
+                let Answer::Stopped {
+                    stop: reason,
+                    entry,
+                } = answer
+                else {
+                    passed[thread] = true;
+                    continue;
+                };
+                tally = tally::put(&mut *log, tally, thread, entry);
+                stop = reason;
+                dealt = i;
+                break;
+            };
+            passed = [false; 8];
+            let ready = head.ready;
+            queue::after(&mut places, ready, thread);
+            let entry = left.entry;
+            tally = tally::put_move(&mut *log, tally, every, thread, entry);
+            if left.forks {
+                let young = left.young;
+                heads[counts.threads % 9] = young;
+            }
+            let mover = left.mover;
+            let changed = left.cell;
+            let made = left.thing;
+            let counted = left.counts;
+            heads[thread] = mover;
+            if act::changes(ready.part) {
+                cells[number] = kept::keep(changed);
+            }
+            objects[counts.objects % 33] = made;
+            tally = tally::moved(tally, counted);
+        }
+        let counts = tally.counts;
+        for thread in 0..8 {
+            let head = heads[thread];
+            let number = cell_of(head);
+            let stored = cells[number];
+            let cell = kept::restore(stored);
+            let thing = objects[number / 32];
+            let other = heads[thing.thread % 16];
+            let met = Met {
+                counts: counts,
+                head: head,
+                cell: cell,
+                thing: thing,
+                other: other,
+                thread: thread,
+                place: places[thread],
+            };
+            threads[thread] = thread_of(setting, met);
+        }
+        lowest = goes_on_by(threads, dealt < to, notes.len(), to);
+        if lowest == 8 {
+            break;
+        }
+        let next = pick_at(picks, to, lowest) % 8;
+        notes[to] = (lowest * 16 + open_from(threads, next + 1)) as u8;
+        from = to;
+        to += 1;
     }
     let outcome = Outcome {
         stop: stop,
@@ -216,8 +301,9 @@ pub fn run(
         moves: moves_before,
         records: records_before,
     };
-    Ran {
+    let ran = Ran {
         outcome: outcome,
         before: before,
-    }
+    };
+    Explored { ran: ran, made: to }
 }
