@@ -5,15 +5,14 @@ use native.Mathlib.Numerals.{add-one}
 use native.Mathlib.Omega.{arith}
 use mathlib.Core.Path.{_≡_, refl, sym, ap, _∙_, subst as along}
 use mathlib.Core.Bool.{Bool, true, false, true≢false}
-use mathlib.Core.List.{List, [], _∷_, _++_}
+use mathlib.Core.List.{List, [], _∷_}
 use mathlib.Core.Option.{Option, some, none}
 use lib.ListN.{length, getElem?, take}
-use Rattle.format.specs.Area.{overwrite}
 use Rattle.format.proofs.AreaLaws.{overwrite-first, overwrite-covers}
 use Rattle.packed.specs.Syntax.{Program}
 use Rattle.packed.specs.Trees.{programOf}
 use Rattle.text.specs.Wrote.{Wrote}
-use Rattle.listing.specs.Listed.{Listed, First, Following, Over}
+use Rattle.listing.specs.Listed.{Listed, Following, Over}
 use Rattle.listing.specs.WholeList.{WholeList}
 use Rattle.listing.proofs.Order.{empty-lowest}
 use Rattle.listing.proofs.WholeList.{at-first, at-next, at-last, whole-list}

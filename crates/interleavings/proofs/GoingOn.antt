@@ -8,7 +8,8 @@ use mathlib.Core.Bool.{true, false}
 use mathlib.Core.List.{List, _++_}
 use mathlib.Core.Logic.{_⊎_, inl, inr}
 use lib.ListN.{length, length-append, length-set, getD, set, take, drop, List·getD-append}
-use lib.Seq.{length-take-le, take-all, take-append-le, take-take, take-suc, take-set-le, drop-set-lt, drop-drop, getD-take, getD-set-same, getD-set-other, ext-getD}
+use lib.Seq.{length-take-le, take-all, take-append-le, take-take, take-suc, take-set-le, drop-set-lt, drop-drop}
+use lib.Seq.{getD-take, getD-set-same, getD-set-other, ext-getD}
 use Rattle.packed.specs.Syntax.{Program}
 use Rattle.packed.specs.Trees.{programOf}
 use Rattle.engine.specs.declared.Explored.{Explored}

@@ -2,7 +2,7 @@
 use Prim.Native.Nat.{ℕ, _+_, _%_, _≤_, _<_}
 use native.Mathlib.Decide.{decLt}
 use native.Mathlib.Omega.{arith}
-use mathlib.Core.Path.{_≡_, refl, sym, ap, _∙_, subst as along}
+use mathlib.Core.Path.{_≡_, refl, sym, _∙_, subst as along}
 use mathlib.Core.Bool.{false}
 use mathlib.Core.List.{List}
 use lib.ListN.{length, getD, take}
@@ -40,7 +40,8 @@ module _ {plan picks log log′ before after : List ℕ} {r : Explored} (x : Exp
       record {
         of-eight = b;
         lowest = λ d. lowest-follows plan (take i ps) (n .0) (n .1) 0 _ (along (LowestFrom _ 0) (sym (noted-at picks after i d)) (n .2 .lowest));
-        higher = lowest-follows plan (take i ps) (n .0) (n .1) _ _ (along (λ (p : ℕ). LowestFrom (openAfter (n .0)) (p + 1) (getD after i 0 % 16)) e (n .2 .higher));
+        higher = lowest-follows plan (take i ps) (n .0) (n .1) _ _
+            (along (λ (p : ℕ). LowestFrom (openAfter (n .0)) (p + 1) (getD after i 0 % 16)) e (n .2 .higher));
       }
 
   pub explores : Explores plan picks before after r
