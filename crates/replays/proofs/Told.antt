@@ -23,7 +23,7 @@ use Rattle.run_outcome.specs.declared.Stop.the-variants as stop
 use Rattle.run_outcome.specs.declared.ThreadState.{ThreadState}
 use Rattle.run_outcome.specs.declared.ThreadState.the-variants as state
 use Rattle.run_outcome.specs.declared.Outcome.{Outcome}
-use Rattle.engine.specs.Machine.{absent}
+use Rattle.open_threads.specs.Open.{absent}
 use Rattle.player.specs.Answer.{stopOf, statusOf, outcomeOf}
 use Rattle.player.proofs.Threads.{status-of}
 use Rattle.listing.specs.Listed.{Listed, HAS-N}

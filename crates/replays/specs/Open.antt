@@ -10,7 +10,7 @@ use Rattle.run_outcome.specs.declared.ThreadState.{ThreadState}
 use Rattle.run_outcome.specs.declared.ThreadState.the-variants as state
 use Rattle.run_outcome.specs.declared.Thread.{Thread}
 use Rattle.run_outcome.specs.declared.Outcome.{Outcome}
-use Rattle.engine.specs.Machine.{absent}
+use Rattle.open_threads.specs.Open.{absent}
 use Rattle.player.specs.Answer.{stopOf}
 use Rattle.listing.specs.CanFollow.{goesOn}
 
