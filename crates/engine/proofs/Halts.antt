@@ -21,7 +21,7 @@ use Rattle.pick.specs.declared.Answer.{Answer}
 use Rattle.pick.specs.declared.Answer.the-variants as answer
 use Rattle.pick.specs.Pick.{picked, noRoom, fullOf, forksOf, landYoung, startBy, landBy, makeBy, actMet, pickBy, lookMet, pickOf}
 use Rattle.engine.specs.Machine.{Machine, pickedBy}
-use Rattle.engine.specs.Open.{openAt, unstopped, openAfter}
+use Rattle.open_threads.specs.Open.{openAt, unstopped, openAfter}
 
 -- an answer that stops the run does not end it
 abbrev halts : Answer → Bool

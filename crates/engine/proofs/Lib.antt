@@ -3,7 +3,6 @@ pub mod Plays
 pub mod PassedOver
 pub mod Restored
 pub mod MovedCell
-pub mod Lowest
 pub mod AllPicks
 pub mod Standing
 pub mod Rounds

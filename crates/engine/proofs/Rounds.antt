@@ -11,7 +11,7 @@ use lib.Seq.{getD-set-same, getD-set-other}
 use borrow.Author.Tests.{lt-ltb}
 use Rattle.run_outcome.specs.declared.Outcome.{Outcome}
 use Rattle.state.specs.declared.Setting.{Setting}
-use Rattle.engine.specs.Open.{openAfter, LowestFrom}
+use Rattle.open_threads.specs.Open.{openAfter, LowestFrom}
 use Rattle.engine.specs.Exploring.{allPicks, pickAt, Unseen, Explorable, NotedAt}
 use Rattle.engine.proofs.AllPicks.{length-all, given-at, kept-before, kept-at, added}
 use Rattle.engine.proofs.Standing.{played}

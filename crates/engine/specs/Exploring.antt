@@ -2,16 +2,15 @@
 -- reader of the entries' promises needs it. Assumes nothing.
 use Prim.Native.Nat.{ℕ, _+_, _*_, _/_, _%_, _≤_, _<_}
 use mathlib.Core.Path.{_≡_}
-use mathlib.Core.Bool.{Bool, false, cond}
+use mathlib.Core.Bool.{false, cond}
 use mathlib.Core.List.{List, _++_, map}
 use lib.Dec.{ltb}
 use lib.ListN.{length, getD, take, drop}
-use Rattle.run_outcome.specs.declared.Thread.{Thread}
 use Rattle.run_outcome.specs.declared.Outcome.{Outcome}
 use Rattle.state.specs.declared.Setting.{Setting}
 use Rattle.engine.specs.declared.Explored.{Explored}
 use Rattle.engine.specs.Machine.{Machine, Played, playOf, CountedBefore}
-use Rattle.engine.specs.Open.{openAt, openAfter, LowestFrom}
+use Rattle.open_threads.specs.Open.{openAfter, LowestFrom}
 
 -- the picks: the given ones, and behind them those that are noted, 16 times in each note
 abbrev pub allPicks : List ℕ → List ℕ → List ℕ
@@ -25,12 +24,6 @@ pickAt picks i lowest = cond (ltb i (length picks)) (getD picks i 0) lowest
 pub record Unseen (picks places r : ℕ) : Type 0 where
   pub all : places ≡ 0 → r ≡ picks
   pub none : 0 < places → r ≡ 0
-
--- the lowest thread by which a run goes on, or 8: it has stopped, no place is left, or no thread can be picked
-pub record GoesOnBy (threads : List Thread) (stopped : Bool) (places made r : ℕ) : Type 0 where
-  pub within : r ≤ 8
-  pub going : r < 8 → (stopped ≡ false) × (made < places) × LowestFrom (openAt threads) 0 r
-  pub none : r ≡ 8 → stopped ≡ false → made < places → (k : ℕ) → k < 8 → openAt threads k ≡ false
 
 -- few picks and places for notes, and room for a record to each
 pub record Explorable (picks notes log : List ℕ) : Type 0 where

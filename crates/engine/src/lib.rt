@@ -3,9 +3,8 @@
 // present ones, and counts once it is counted.
 ghost use mathlib.Core.Path.{_≡_};
 ghost use Prim.Native.Nat.{_≤_};
-ghost use Rattle.engine.specs.Machine.{Placed, headOf, noThing, absent, threadBy, startOf};
-ghost use Rattle.engine.specs.Open.{isOpen, openAt, LowestFrom};
-ghost use Rattle.engine.specs.Exploring.{pickAt, Unseen, GoesOnBy, Explorable, ExploredOn};
+ghost use Rattle.engine.specs.Machine.{Placed, headOf, noThing, threadBy, startOf};
+ghost use Rattle.engine.specs.Exploring.{pickAt, Unseen, Explorable, ExploredOn};
 use frames::go;
 use frames::part;
 use keys::KeySet;
@@ -54,23 +53,13 @@ pub fn cell_of(head: Head) -> usize
     object * 32 + field
 }
 
-// No thread.
-fn no_thread() -> Thread
-    ensures { λ r. ⌜ r ≡ absent ⌝ }
-{
-    Thread {
-        state: ThreadState::Absent,
-        learnt: 0,
-    }
-}
-
 // What a thread's next pick would meet, and its total.
 pub fn thread_of(setting: Setting, met: Met) -> Thread
     ensures { λ r. ⌜ r ≡ threadBy setting met ⌝ }
 {
     let counts = met.counts;
     if counts.threads <= met.thread {
-        return no_thread();
+        return open_threads::no_thread();
     }
     let head = met.head;
     let cell = met.cell;
@@ -101,53 +90,6 @@ pub struct Ran {
 pub struct Explored {
     pub ran: Ran,
     pub made: usize,
-}
-
-// A thread in this state can move or stop the run.
-fn is_open(state: ThreadState) -> bool
-    ensures { λ r. ⌜ r ≡ isOpen state ⌝ }
-{
-    match state {
-        ThreadState::Absent => false,
-        ThreadState::Finished { value: _ } => false,
-        ThreadState::Ready => true,
-        ThreadState::Waiting(_) => false,
-        ThreadState::Stuck(_) => false,
-        ThreadState::Lacking {
-            object: _,
-            field: _,
-        } => true,
-    }
-}
-
-// The lowest of the threads from `from` on that can be picked, or 8.
-pub fn open_from(threads: [Thread; 8], from: usize) -> usize
-    requires { ⌜ from ≤ 8 ⌝ }
-    ensures { λ r. ⌜ LowestFrom (openAt threads) from r ⌝ }
-{
-    let mut thread = from;
-    while thread < 8 {
-        let next = threads[thread];
-        let state = next.state;
-        if is_open(state) {
-            return thread;
-        }
-        thread += 1;
-    }
-    thread
-}
-
-// The lowest thread by which a run goes on; 8 where it has stopped, where no place is left, or where no thread can be picked.
-fn goes_on_by(threads: [Thread; 8], stopped: bool, places: usize, made: usize) -> usize
-    ensures { λ r. ⌜ GoesOnBy threads stopped places made r ⌝ }
-{
-    if stopped {
-        return 8;
-    }
-    if places <= made {
-        return 8;
-    }
-    open_from(threads, 0)
 }
 
 // The pick of a place: the given one, and behind those the lowest thread that can be picked.
@@ -195,7 +137,7 @@ pub fn explore(
     let mut dealt = 0;
     let mut moves_before = 0;
     let mut records_before = 0;
-    let mut threads = [no_thread(); 8];
+    let mut threads = [open_threads::no_thread(); 8];
     let mut lowest = 0;
     let mut from = 0;
     let mut to = unseen(picks.len(), notes.len());
@@ -281,12 +223,12 @@ pub fn explore(
             };
             threads[thread] = thread_of(setting, met);
         }
-        lowest = goes_on_by(threads, dealt < to, notes.len(), to);
+        lowest = open_threads::goes_on_by(threads, dealt < to, notes.len(), to);
         if lowest == 8 {
             break;
         }
         let next = pick_at(picks, to, lowest) % 8;
-        notes[to] = (lowest * 16 + open_from(threads, next + 1)) as u8;
+        notes[to] = (lowest * 16 + open_threads::open_from(threads, next + 1)) as u8;
         from = to;
         to += 1;
     }

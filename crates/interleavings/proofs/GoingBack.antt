@@ -6,7 +6,7 @@ use mathlib.Core.List.{List, [], _∷_, _++_}
 use lib.ListN.{length, getD, take, drop, take-append-drop}
 use lib.Seq.{take-all, take-suc, split-at, append-snoc}
 use Rattle.packed.specs.Syntax.{Program}
-use Rattle.engine.specs.Open.{LowestFrom}
+use Rattle.open_threads.specs.Open.{LowestFrom}
 use Rattle.listing.specs.Order.{Before, AtMost}
 use Rattle.listing.specs.Listed.{Listed, Over}
 use Rattle.listing.specs.CanFollow.{canFollow}

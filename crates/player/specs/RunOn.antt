@@ -17,7 +17,7 @@ use Rattle.side_by_side.specs.Moves.{movesOf}
 use Rattle.engine.specs.Machine.{picksBefore}
 use Rattle.engine.specs.declared.Ran.{Ran}
 use Rattle.engine.specs.declared.Explored.{Explored}
-use Rattle.engine.specs.Open.{openAfter}
+use Rattle.open_threads.specs.Open.{openAfter}
 use Rattle.engine.specs.Exploring.{allPicks, NotedAt}
 use Rattle.run_outcome.specs.declared.Outcome.{Outcome}
 use Rattle.player.specs.Answer.{stopOf, outcomeOf}

@@ -18,9 +18,8 @@ use Rattle.run_outcome.specs.declared.Stop.the-variants as stop
 use Rattle.run_outcome.specs.declared.ThreadState.{ThreadState}
 use Rattle.run_outcome.specs.declared.ThreadState.the-variants as state
 use Rattle.run_outcome.specs.declared.Outcome.{Outcome}
-use Rattle.engine.specs.Machine.{absent}
-use Rattle.engine.specs.Open.{isOpen, openAt, unstopped, openAfter, LowestFrom}
-use Rattle.engine.proofs.Lowest.{lowest-ext}
+use Rattle.open_threads.specs.Open.{isOpen, absent, openAt, unstopped, openAfter, LowestFrom}
+use Rattle.open_threads.proofs.Lowest.{lowest-ext}
 use Rattle.player.specs.Answer.{stopOf, statusOf, outcomeOf}
 use Rattle.player.specs.RunOn.{OutcomeOf}
 use Rattle.player.proofs.Threads.{status-of}

@@ -8,8 +8,8 @@ use mathlib.Core.List.{List}
 use lib.ListN.{length, getD, take}
 use Rattle.packed.specs.Syntax.{Program}
 use Rattle.packed.specs.Trees.{programOf}
+use Rattle.open_threads.specs.Open.{openAfter, LowestFrom}
 use Rattle.engine.specs.declared.Explored.{Explored}
-use Rattle.engine.specs.Open.{openAfter, LowestFrom}
 use Rattle.engine.specs.Exploring.{allPicks}
 use Rattle.engine.proofs.AllPicks.{noted-at}
 use Rattle.player.specs.RunOn.{ExploredBy}

@@ -18,8 +18,8 @@ use Rattle.rules.specs.Play.{runOf}
 use Rattle.run_outcome.specs.declared.Stop.{Stop}
 use Rattle.run_outcome.specs.declared.Stop.the-variants as stop
 use Rattle.run_outcome.specs.declared.Outcome.{Outcome}
+use Rattle.open_threads.specs.Open.{LowestFrom}
 use Rattle.engine.specs.declared.Explored.{Explored}
-use Rattle.engine.specs.Open.{LowestFrom}
 use Rattle.engine.specs.Exploring.{allPicks}
 use Rattle.engine.proofs.AllPicks.{given-at}
 use Rattle.player.specs.Answer.{stopOf, outcomeOf}

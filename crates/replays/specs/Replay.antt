@@ -11,8 +11,8 @@ use Rattle.packed.specs.Check.{refusal}
 use Rattle.packed.specs.Steps.{Loaded}
 use Rattle.run_outcome.specs.declared.Stop.{Stop}
 use Rattle.run_outcome.specs.declared.Stop.the-variants as stop
+use Rattle.open_threads.specs.Open.{LowestFrom}
 use Rattle.engine.specs.declared.Explored.{Explored}
-use Rattle.engine.specs.Open.{LowestFrom}
 use Rattle.engine.specs.Exploring.{allPicks}
 use Rattle.player.specs.RunOn.{OutcomeOf}
 use Rattle.listing.specs.CanFollow.{canFollow}

@@ -6,7 +6,7 @@ use mathlib.Core.Bool.{Bool, true, false}
 use mathlib.Core.List.{List}
 use lib.ListN.{length, getD, take}
 use Rattle.packed.specs.Syntax.{Program}
-use Rattle.engine.specs.Open.{LowestFrom}
+use Rattle.open_threads.specs.Open.{LowestFrom}
 use Rattle.listing.specs.Listed.{Listed}
 use Rattle.listing.specs.CanFollow.{canFollow}
 use Rattle.replays.specs.Replay.{Accepted, OfEight}

@@ -28,14 +28,14 @@ use Rattle.pick.specs.Pick.{Picked, pickOf}
 use Rattle.engine.specs.declared.kept.Kept.{Kept}
 use Rattle.engine.specs.Kept.{restoreOf, keptFirst}
 use Rattle.engine.specs.Machine.{noCell, Machine, Played, headAt, cellNumber, Placed, threadBy, threadsOf, endOf, pickedBy, startOf, playOf}
-use Rattle.engine.specs.Open.{openAt, unstopped, openAfter, LowestFrom}
+use Rattle.open_threads.specs.Open.{openAt, unstopped, openAfter, LowestFrom}
 use Rattle.engine.specs.Exploring.{allPicks, pickAt}
 use Rattle.engine.proofs.Looks.{metWith, met, putThread, all-threads, eight-threads}
 use Rattle.engine.proofs.Plays.{neither, begins, absent-passed, passed, moved, stops, young-made, young-none, ends-as}
 use Rattle.engine.proofs.PassedOver.{none-marked, marked-too, passed-again}
 use Rattle.engine.proofs.Restored.{machineOf, all-restored, restored-at, cell-put, cell-left}
 use Rattle.engine.proofs.MovedCell.{cell-unchanged}
-use Rattle.engine.proofs.Lowest.{lowest-ext}
+use Rattle.open_threads.proofs.Lowest.{lowest-ext}
 use Rattle.engine.proofs.Standing as standing
 use Rattle.engine.proofs.Standing.{Standing, in-list, standing-as}
 use Rattle.engine.proofs.Rounds.{Round, first-round, same-front, next-round}

@@ -4,10 +4,10 @@ use native.Mathlib.Omega.{arith}
 use mathlib.Core.Path.{_≡_, sym, _∙_}
 use mathlib.Core.Bool.{false}
 use borrow.Author.Needs.{needs}
-use Rattle.engine.specs.Open.{openAt}
-use Rattle.engine.proofs.Lowest.{none-more}
-use Rattle.engine.proofs.open_from.Statement.{statement}
-use Rattle.engine.proofs.open_from.Tie as tie
+use Rattle.open_threads.specs.Open.{openAt}
+use Rattle.open_threads.proofs.Lowest.{none-more}
+use Rattle.open_threads.proofs.open_from.Statement.{statement}
+use Rattle.open_threads.proofs.open_from.Tie as tie
 
 abbrev Inv-loop : tie.InvT-loop
 Inv-loop from threads thread₀ thread = (from ≤ thread) × (thread ≤ 8) × ((k : ℕ) → from ≤ k → k < thread → openAt threads k ≡ false)

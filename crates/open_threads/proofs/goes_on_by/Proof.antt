@@ -3,8 +3,8 @@ use native.Mathlib.Omega.{arith}
 use mathlib.Core.Path.{sym, _∙_}
 use mathlib.Core.Bool.{true≢false}
 use borrow.Author.Needs.{needs}
-use Rattle.engine.proofs.goes_on_by.Statement.{statement}
-use Rattle.engine.proofs.goes_on_by.Tie as tie
+use Rattle.open_threads.proofs.goes_on_by.Statement.{statement}
+use Rattle.open_threads.proofs.goes_on_by.Tie as tie
 
 returns : tie.Need-returns
 returns c = record { within = omega arith; going = λ h. absurd (omega arith); none = λ e f. absurd (true≢false (sym (c .if1 .taken) ∙ f)) }

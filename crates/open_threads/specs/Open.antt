@@ -10,7 +10,6 @@ use Rattle.run_outcome.specs.declared.ThreadState.{ThreadState}
 use Rattle.run_outcome.specs.declared.ThreadState.the-variants as state
 use Rattle.run_outcome.specs.declared.Thread.{Thread}
 use Rattle.run_outcome.specs.declared.Outcome.{Outcome}
-use Rattle.engine.specs.Machine.{absent}
 
 -- a thread in this state moves, or stops the run for a missing key or for room
 abbrev pub isOpen : ThreadState → Bool
@@ -20,6 +19,10 @@ isOpen state.Ready = true
 isOpen (state.Waiting w) = false
 isOpen (state.Stuck w) = false
 isOpen (state.Lacking o f) = true
+
+-- no thread
+abbrev pub absent : Thread
+absent = record { state = state.Absent; learnt = 0 }
 
 unfoldable pub openAt : List Thread → ℕ → Bool
 openAt threads k = isOpen (getD threads k absent .state)
@@ -41,3 +44,9 @@ pub record LowestFrom (f : ℕ → Bool) (from r : ℕ) : Type 0 where
   pub reached : from ≤ r
   pub here : r < 8 → f r ≡ true
   pub before : (k : ℕ) → from ≤ k → k < r → f k ≡ false
+
+-- the lowest thread by which a run goes on, or 8: it has stopped, no place is left, or no thread can be picked
+pub record GoesOnBy (threads : List Thread) (stopped : Bool) (places made r : ℕ) : Type 0 where
+  pub within : r ≤ 8
+  pub going : r < 8 → (stopped ≡ false) × (made < places) × LowestFrom (openAt threads) 0 r
+  pub none : r ≡ 8 → stopped ≡ false → made < places → (k : ℕ) → k < 8 → openAt threads k ≡ false
