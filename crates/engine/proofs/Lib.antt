@@ -3,3 +3,7 @@ pub mod Plays
 pub mod PassedOver
 pub mod Restored
 pub mod MovedCell
+pub mod AllPicks
+pub mod Standing
+pub mod Rounds
+pub mod Halts

@@ -1,8 +1,9 @@
 -- What a pick meets, found by its cell's number; the threads at the end, seen one after the other. Assumes nothing.
 use mathlib.Core.Path.{_≡_, refl}
-use mathlib.Core.List.{List}
+use mathlib.Core.List.{List, [], _∷_}
 use Prim.Native.Nat.{ℕ, _/_, _%_}
-use lib.ListN.{getD, set, replicate}
+use native.Mathlib.Omega.{arith}
+use lib.ListN.{length, getD, set}
 use Rattle.format.proofs.Turns.{turns}
 use Rattle.run_outcome.specs.declared.Thread.{Thread}
 use Rattle.state.specs.declared.Setting.{Setting}
@@ -12,7 +13,7 @@ use Rattle.state.specs.declared.Object.{Object}
 use Rattle.state.specs.declared.Counts.{Counts}
 use Rattle.pick.specs.declared.Met.{Met}
 use Rattle.pick.specs.Pick.{noHead}
-use Rattle.engine.specs.Machine.{noCell, noThing, headAt, Placed, metBy, absent, threadAt, threadsOf}
+use Rattle.engine.specs.Machine.{noCell, noThing, headAt, Placed, metBy, threadAt, threadsOf}
 
 module _ (n : Counts) (l : List Head) (cs : List Cell) (ts : List Object) (qs : List ℕ) where
   -- with the cell c, of the object at o
@@ -37,6 +38,19 @@ module _ (n : Counts) (l : List Head) (cs : List Cell) (ts : List Object) (qs : 
     abbrev pub putThread : ℕ → List Thread → List Thread
     putThread p all = set all p (threadAt setting n l cs ts qs p)
 
-    pub all-threads : turns putThread 8 0 (replicate 8 absent) ≡ threadsOf setting n l cs ts qs
+    pub all-threads : (seen : List Thread) → length seen ≡ 8 → turns putThread 8 0 seen ≡ threadsOf setting n l cs ts qs
     unfolding turns threadsOf
-    all-threads = refl
+    all-threads [] e = absurd (omega arith)
+    all-threads (a ∷ []) e = absurd (omega arith)
+    all-threads (a ∷ b ∷ []) e = absurd (omega arith)
+    all-threads (a ∷ b ∷ c ∷ []) e = absurd (omega arith)
+    all-threads (a ∷ b ∷ c ∷ d ∷ []) e = absurd (omega arith)
+    all-threads (a ∷ b ∷ c ∷ d ∷ f ∷ []) e = absurd (omega arith)
+    all-threads (a ∷ b ∷ c ∷ d ∷ f ∷ g ∷ []) e = absurd (omega arith)
+    all-threads (a ∷ b ∷ c ∷ d ∷ f ∷ g ∷ h ∷ []) e = absurd (omega arith)
+    all-threads (a ∷ b ∷ c ∷ d ∷ f ∷ g ∷ h ∷ k ∷ []) e = refl
+    all-threads (a ∷ b ∷ c ∷ d ∷ f ∷ g ∷ h ∷ k ∷ m ∷ r) e = absurd (omega arith)
+
+    pub eight-threads : length (threadsOf setting n l cs ts qs) ≡ 8
+    unfolding threadsOf
+    eight-threads = refl

@@ -13,7 +13,6 @@ use Rattle.landing.specs.Landing.{Stack}
 use Rattle.run_outcome.specs.declared.Stop.{Stop}
 use Rattle.run_outcome.specs.declared.Stop.the-variants as stop
 use Rattle.run_outcome.specs.declared.ThreadState.{ThreadState}
-use Rattle.run_outcome.specs.declared.ThreadState.the-variants as state
 use Rattle.run_outcome.specs.declared.Thread.{Thread}
 use Rattle.run_outcome.specs.declared.Outcome.{Outcome}
 use Rattle.state.specs.declared.Setting.{Setting}
@@ -30,6 +29,7 @@ use Rattle.pick.specs.declared.Answer.{Answer}
 use Rattle.pick.specs.declared.Answer.the-variants as answer
 use Rattle.pick.specs.Pick.{noHead, Picked, picked, pickOf}
 use Rattle.queue.specs.Queue.{afterOf}
+use Rattle.open_threads.specs.Open.{absent}
 use Rattle.engine.specs.declared.Ran.{Ran}
 use Rattle.tally.specs.declared.Tally.{Tally}
 use Rattle.tally.specs.Tally.{shownEntry, tallyFirst, tallyPut, tallyMoved, logPut}
@@ -82,9 +82,6 @@ unfoldable pub metBy : Counts → List Head → List Cell → List Object → Li
 metBy n l cs ts qs p = metAt n l cs ts qs p (cellNumber (headAt l p .ready)) (objectOf (headAt l p .ready))
 
 -- ---- the threads at the end
-
-abbrev pub absent : Thread
-absent = record { state = state.Absent; learnt = 0 }
 
 abbrev pub stateBy : Setting → Met → ThreadState
 stateBy g x = stateOf (lookOf g (x .head) (x .cell) (x .thing) (x .other .ready .part) (x .place)) (x .head .ready)

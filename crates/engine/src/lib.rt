@@ -2,9 +2,9 @@
 // an array of numbers that only landing touches, the places of threads in queues in one that only a signal changes. What is made is stored past the
 // present ones, and counts once it is counted.
 ghost use mathlib.Core.Path.{_≡_};
-ghost use Prim.Native.Nat.{_<_, _≤_, _+_, _*_};
-ghost use lib.ListN.{length};
-ghost use Rattle.engine.specs.Machine.{Placed, headOf, noThing, absent, threadBy, startOf, playOf, CountedBefore};
+ghost use Prim.Native.Nat.{_≤_};
+ghost use Rattle.engine.specs.Machine.{Placed, headOf, noThing, threadBy, startOf};
+ghost use Rattle.engine.specs.Exploring.{pickAt, Unseen, Explorable, ExploredOn};
 use frames::go;
 use frames::part;
 use keys::KeySet;
@@ -53,23 +53,13 @@ pub fn cell_of(head: Head) -> usize
     object * 32 + field
 }
 
-// No thread.
-fn no_thread() -> Thread
-    ensures { λ r. ⌜ r ≡ absent ⌝ }
-{
-    Thread {
-        state: ThreadState::Absent,
-        learnt: 0,
-    }
-}
-
 // What a thread's next pick would meet, and its total.
 pub fn thread_of(setting: Setting, met: Met) -> Thread
     ensures { λ r. ⌜ r ≡ threadBy setting met ⌝ }
 {
     let counts = met.counts;
     if counts.threads <= met.thread {
-        return no_thread();
+        return open_threads::no_thread();
     }
     let head = met.head;
     let cell = met.cell;
@@ -96,21 +86,44 @@ pub struct Ran {
     pub before: Before,
 }
 
-// The run of the picks from the start, with its records in the log, of every move or of those that have one; then what each of the eight threads would
-// meet. It owns arrays of structs, which no function can be lent, so both loops stand in it. A thread whose pick was passed over is not looked at again
-// before the next move: nothing has changed that it would meet.
-pub fn run(
+// The same of a run that may go on behind the given picks, and how many picks it made, one that stopped it among them.
+pub struct Explored {
+    pub ran: Ran,
+    pub made: usize,
+}
+
+// The pick of a place: the given one, and behind those the lowest thread that can be picked.
+fn pick_at(picks: &[u8], place: usize, lowest: usize) -> usize
+    ensures { λ r. ⌜ r ≡ pickAt (now (picks .entry)) place lowest ⌝ }
+{
+    if place < picks.len() {
+        return byte_numbers::wide(picks[place]);
+    }
+    lowest
+}
+
+// How many picks are made before the first look at all threads: all of them where nothing is noted, and else none.
+fn unseen(picks: usize, places: usize) -> usize
+    ensures { λ r. ⌜ Unseen picks places r ⌝ }
+{
+    if places == 0 { picks } else { 0 }
+}
+
+// The run of the picks from the start, with its records in the log, of every move or of those that have one; then what each of the eight threads would meet.
+// Where notes are lent, it goes on behind the picks by the lowest thread that can be picked, and notes at each place that thread and the lowest above the pick
+// that could be picked there, or 8. It owns arrays of structs, which no function can be lent, so its loops stand in it. A thread whose pick was passed over is
+// not looked at again before the next move: nothing has changed that it would meet.
+pub fn explore(
     words: &[usize; 1024],
     roots: &[usize; 32],
     setting: Setting,
     every: bool,
     picks: &[u8],
+    notes: &mut [u8],
     log: &mut [u8],
-) -> Ran
-    requires { ⌜ (length (now picks) ≤ 4096) × (length (now picks) * 3 ≤ length (now log)) ⌝ }
-    ensures ran { λ r. ⌜ r .outcome ≡ playOf (now (words .entry)) (now (roots .entry)) setting (startOf every (now (roots .entry)) (now (log .entry))) (now (picks .entry)) 0 .outcome ⌝ }
-    ensures area { λ r. ⌜ now (log .exit) ≡ playOf (now (words .entry)) (now (roots .entry)) setting (startOf every (now (roots .entry)) (now (log .entry))) (now (picks .entry)) 0 .area ⌝ }
-    ensures before { λ r. ⌜ CountedBefore (now (words .entry)) (now (roots .entry)) setting (startOf every (now (roots .entry)) (now (log .entry))) (now (picks .entry)) r ⌝ }
+) -> Explored
+    requires { ⌜ Explorable (now picks) (now notes) (now log) ⌝ }
+    ensures { λ r. ⌜ ExploredOn (now (words .entry)) (now (roots .entry)) setting (startOf every (now (roots .entry)) (now (log .entry))) (now (picks .entry)) (now (notes .entry)) (now (notes .exit)) (now (log .exit)) r ⌝ }
 {
     let mut heads = [pick::no_head(); 16];
     heads[0] = first_head(roots[0]);
@@ -121,89 +134,103 @@ pub fn run(
     let mut passed = [false; 8];
     let mut tally = tally::first();
     let mut stop = Stop::End;
-    let mut dealt = picks.len();
+    let mut dealt = 0;
     let mut moves_before = 0;
     let mut records_before = 0;
-    for i in 0..picks.len() {
-        moves_before = tally.moves;
-        records_before = tally.records;
-        let thread = (picks[i] % 8) as usize;
-        let counts = tally.counts;
-        if counts.threads <= thread {
-            continue;
-        }
-        if passed[thread] {
-            continue;
-        }
-        let head = heads[thread];
-        let number = cell_of(head);
-        let stored = cells[number];
-        let cell = kept::restore(stored);
-        let thing = objects[number / 32];
-        let other = heads[thing.thread % 16];
-        let met = Met {
-            counts: counts,
-            head: head,
-            cell: cell,
-            thing: thing,
-            other: other,
-            thread: thread,
-            place: places[thread],
-        };
-        let answer = pick::pick(words, roots, &mut stack, setting, met);
-        let Answer::Moved(left) = answer else {
-            let Answer::Stopped {
-                stop: reason,
-                entry,
-            } = answer
-            else {
-                passed[thread] = true;
+    let mut threads = [open_threads::no_thread(); 8];
+    let mut lowest = 0;
+    let mut from = 0;
+    let mut to = unseen(picks.len(), notes.len());
+    loop {
+        dealt = to;
+        for i in from..to {
+            moves_before = tally.moves;
+            records_before = tally.records;
+            let thread = pick_at(picks, i, lowest) % 8;
+            let counts = tally.counts;
+            if counts.threads <= thread {
                 continue;
+            }
+            if passed[thread] {
+                continue;
+            }
+            let head = heads[thread];
+            let number = cell_of(head);
+            let stored = cells[number];
+            let cell = kept::restore(stored);
+            let thing = objects[number / 32];
+            let other = heads[thing.thread % 16];
+            let met = Met {
+                counts: counts,
+                head: head,
+                cell: cell,
+                thing: thing,
+                other: other,
+                thread: thread,
+                place: places[thread],
             };
-            tally = tally::put(&mut *log, tally, thread, entry);
-            stop = reason;
-            dealt = i;
+            let answer = pick::pick(words, roots, &mut stack, setting, met);
+            let Answer::Moved(left) = answer else {
+                let Answer::Stopped {
+                    stop: reason,
+                    entry,
+                } = answer
+                else {
+                    passed[thread] = true;
+                    continue;
+                };
+                tally = tally::put(&mut *log, tally, thread, entry);
+                stop = reason;
+                dealt = i;
+                break;
+            };
+            passed = [false; 8];
+            let ready = head.ready;
+            queue::after(&mut places, ready, thread);
+            let entry = left.entry;
+            tally = tally::put_move(&mut *log, tally, every, thread, entry);
+            if left.forks {
+                let young = left.young;
+                heads[counts.threads % 9] = young;
+            }
+            let mover = left.mover;
+            let changed = left.cell;
+            let made = left.thing;
+            let counted = left.counts;
+            heads[thread] = mover;
+            if act::changes(ready.part) {
+                cells[number] = kept::keep(changed);
+            }
+            objects[counts.objects % 33] = made;
+            tally = tally::moved(tally, counted);
+        }
+        let counts = tally.counts;
+        for thread in 0..8 {
+            let head = heads[thread];
+            let number = cell_of(head);
+            let stored = cells[number];
+            let cell = kept::restore(stored);
+            let thing = objects[number / 32];
+            let other = heads[thing.thread % 16];
+            let met = Met {
+                counts: counts,
+                head: head,
+                cell: cell,
+                thing: thing,
+                other: other,
+                thread: thread,
+                place: places[thread],
+            };
+            threads[thread] = thread_of(setting, met);
+        }
+        lowest = open_threads::goes_on_by(threads, dealt < to, notes.len(), to);
+        if lowest == 8 {
             break;
-        };
-        passed = [false; 8];
-        let ready = head.ready;
-        queue::after(&mut places, ready, thread);
-        let entry = left.entry;
-        tally = tally::put_move(&mut *log, tally, every, thread, entry);
-        if left.forks {
-            let young = left.young;
-            heads[counts.threads % 9] = young;
         }
-        let mover = left.mover;
-        let changed = left.cell;
-        let made = left.thing;
-        let counted = left.counts;
-        heads[thread] = mover;
-        if act::changes(ready.part) {
-            cells[number] = kept::keep(changed);
-        }
-        objects[counts.objects % 33] = made;
-        tally = tally::moved(tally, counted);
-    }
-    let counts = tally.counts;
-    let mut threads = [no_thread(); 8];
-    for thread in 0..8 {
-        let head = heads[thread];
-        let number = cell_of(head);
-        let stored = cells[number];
-        let cell = kept::restore(stored);
-        let thing = objects[number / 32];
-        let other = heads[thing.thread % 16];
-        let met = Met {
-            counts: counts,
-            head: head,
-            cell: cell,
-            thing: thing,
-            other: other,
-            thread: thread,
-            place: places[thread],
-        };
-        threads[thread] = thread_of(setting, met);
+        let next = pick_at(picks, to, lowest) % 8;
+        notes[to] = (lowest * 16 + open_threads::open_from(threads, next + 1)) as u8;
+        from = to;
+        to += 1;
     }
     let outcome = Outcome {
         stop: stop,
@@ -216,8 +243,9 @@ pub fn run(
         moves: moves_before,
         records: records_before,
     };
-    Ran {
+    let ran = Ran {
         outcome: outcome,
         before: before,
-    }
+    };
+    Explored { ran: ran, made: to }
 }

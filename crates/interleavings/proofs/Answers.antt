@@ -115,11 +115,11 @@ module _ (plan : List ℕ) (n : ℕ) (area : List ℕ) where
           → FirstAnswer plan n area (answer.value at) after
       first-written b s after at x =
           let qs = take at after in
-          let m : length qs ≡ at = taken (programOf plan) n 0 area after at (x .went) s in
+          let m : length qs ≡ at = taken x s in
           let a : after ≡ overwrite qs area =
-          overwrite-only qs area after (ap (λ (k : ℕ). take k after) m) (ap (λ (k : ℕ). drop k after) m ∙ x .went .rest
+          overwrite-only qs area after (ap (λ (k : ℕ). take k after) m) (ap (λ (k : ℕ). drop k after) m ∙ x .rest
           ∙ ap (λ (k : ℕ). drop k area) (sym m)) in
-          let f : First (programOf plan) n qs = record { has = x .listed; least = λ rs l. x .went .least rs l (empty-lowest rs) } in
+          let f : First (programOf plan) n qs = record { has = x .listed; least = λ rs l. x .least rs l (empty-lowest rs) } in
           along (λ (k : ℕ). FirstAnswer plan n area (answer.value k) after) m
           (along (FirstAnswer plan n area (answer.value (length qs))) (sym a) (FirstAnswer.WRITTEN (first-none b s) f))
 
@@ -161,7 +161,7 @@ module _ (g : Program) (n : ℕ) (ps : List ℕ) (x : Listed g n ps) (area : Lis
 
     pub followed : (after : List ℕ) (at : ℕ) → Reached g n from middle after at → Followed g n ps area after (next.Written at)
     followed after at y =
-        let m : length qs ≡ at = taken g n from middle after at (y .went) still-long in (
+        let m : length qs ≡ at = taken y still-long in (
           qs,
           record { has = y .listed; above = along (Before ps) (sym whole-is) (turned-above g n ps x place pick t (drop from qs)); least = least },
           sym m,
@@ -174,15 +174,15 @@ module _ (g : Program) (n : ℕ) (ps : List ℕ) (x : Listed g n ps) (area : Lis
         whole-is : take at after ≡ (take place ps ++ (pick ∷ [])) ++ drop from (take at after)
         whole-is =
             sym (take-append-drop from (take at after))
-            ∙ ap (λ (l : List ℕ). l ++ drop from (take at after)) (take-take from at after (y .went .reached) ∙ y .went .front ∙ front)
+            ∙ ap (λ (l : List ℕ). l ++ drop from (take at after)) (take-take from at after (y .reached) ∙ y .front ∙ front)
 
         least : (rs : List ℕ) → Listed g n rs → Before ps rs → AtMost qs rs
-        least rs l b = y .went .least rs l (along (λ (l : List ℕ). AtMost l rs) (sym front) (turned-least g n ps x place pick t rs l b))
+        least rs l b = y .least rs l (along (λ (l : List ℕ). AtMost l rs) (sym front) (turned-least g n ps x place pick t rs l b))
 
         past : drop at after ≡ drop at area
         past =
-            let e : from + (at - from) ≡ at = omega (arith, y .went .reached) in
-            y .went .rest ∙ ap (λ (k : ℕ). drop k middle) (sym e) ∙ sym (drop-drop (at - from) from middle) ∙ ap (drop (at - from)) (w .rest)
+            let e : from + (at - from) ≡ at = omega (arith, y .reached) in
+            y .rest ∙ ap (λ (k : ℕ). drop k middle) (sym e) ∙ sym (drop-drop (at - from) from middle) ∙ ap (drop (at - from)) (w .rest)
             ∙ drop-drop (at - from) from area ∙ ap (λ (k : ℕ). drop k area) e
 
 module _ (plan : List ℕ) (n : ℕ) (schedule area : List ℕ) where

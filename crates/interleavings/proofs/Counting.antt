@@ -4,20 +4,20 @@ use native.Mathlib.Nat.{sub-zero}
 use native.Mathlib.Numerals.{add-one}
 use native.Mathlib.Omega.{arith}
 use mathlib.Core.Path.{_≡_, refl, sym, ap, _∙_, subst as along}
-use mathlib.Core.Bool.{true≢false}
-use mathlib.Core.List.{List, [], _∷_, _++_}
+use mathlib.Core.Bool.{Bool, true, false, true≢false}
+use mathlib.Core.List.{List, [], _∷_}
 use mathlib.Core.Option.{Option, some, none}
 use lib.ListN.{length, getElem?, take}
-use Rattle.format.specs.Area.{overwrite}
 use Rattle.format.proofs.AreaLaws.{overwrite-first, overwrite-covers}
 use Rattle.packed.specs.Syntax.{Program}
 use Rattle.packed.specs.Trees.{programOf}
 use Rattle.text.specs.Wrote.{Wrote}
-use Rattle.listing.specs.Listed.{Listed, First, Following, Over}
+use Rattle.listing.specs.Listed.{Listed, Following, Over}
 use Rattle.listing.specs.WholeList.{WholeList}
 use Rattle.listing.proofs.Order.{empty-lowest}
 use Rattle.listing.proofs.WholeList.{at-first, at-next, at-last, whole-list}
 use Rattle.replays.specs.Replay.{Accepted}
+use Rattle.replays.specs.Told.{Tells, Listable, ListedBy}
 use Rattle.interleavings.specs.declared.Next.the-variants as next
 use Rattle.interleavings.specs.declared.Counted.{Counted}
 use Rattle.interleavings.specs.declared.Counted.the-variants as counted
@@ -37,8 +37,20 @@ module _ {plan words : List ℕ} {n : ℕ} {area : List ℕ} {picks place : ℕ}
   same : take picks area ≡ take (picks - 0) area
   same = ap (λ (k : ℕ). take k area) (sym (sub-zero picks))
 
-  pub to-follow : (room : List ℕ) → n ≤ length room → Listing plan words n (take (picks - 0) area) room
-  to-follow room h = record { accepted = s .accepted; bound = s .bound; long = h; listed = along (Listed g n) same (s .listed) }
+  still-listed : Listed g n (take (picks - 0) area)
+  still-listed = along (Listed g n) same (s .listed)
+
+  pub to-note : (notes : List ℕ) → n ≤ length notes → Listable plan words n (take (picks - 0) area) notes
+  to-note notes h = record { accepted = s .accepted; of-eight = still-listed .of-eight; bound = s .bound; room = h }
+
+  pub to-follow : (notes room : List ℕ) (r : Bool) → ListedBy g n (take (picks - 0) area) notes r → n ≤ length room
+      → Listing plan words n (take (picks - 0) area) notes room
+  to-follow notes room r l h =
+      record { accepted = s .accepted; bound = s .bound; long = h; listed = still-listed; noted = l .noted (told r (l .tells)) }
+    where
+      told : (b : Bool) → Tells b (Listed g n (take (picks - 0) area)) → b ≡ true
+      told true t = refl
+      told false t = absurd (t .1 refl still-listed)
 
   pub longer : (L : List (List ℕ)) → WholeList g n L → place < length L
   longer L w = inside L place (take picks area) (s .at-place L w)
@@ -85,10 +97,10 @@ stands-first plan words n room after at a b h x =
     record {
       accepted = a;
       bound = b;
-      long = omega (arith, h, x .went .kept);
-      few = omega (arith, x .went .within, b);
+      long = omega (arith, h, x .kept);
+      few = omega (arith, x .within, b);
       listed = x .listed;
-      at-place = λ L l. at-first (programOf plan) n (l .begins) (record { has = x .listed; least = λ rs k. x .went .least rs k (empty-lowest rs) });
+      at-place = λ L l. at-first (programOf plan) n (l .begins) (record { has = x .listed; least = λ rs k. x .least rs k (empty-lowest rs) });
     }
 
 -- the answer

@@ -1,14 +1,12 @@
 -- Going back from a listed schedule: where no higher thread can be picked any more, every listed schedule above it leaves it earlier. Assumes nothing.
-use Prim.Native.Nat.{ℕ, zero, suc, _+_, _-_, _≤_, _<_}
-use native.Mathlib.Decide.{ℕ-discrete}
-use native.Mathlib.Nat.{sub-zero}
+use Prim.Native.Nat.{ℕ, zero, suc, _+_, _-_, _%_, _≤_, _<_}
 use native.Mathlib.Omega.{arith}
-use mathlib.Core.Path.{_≡_, sym, ap, _∙_, subst as along}
-use mathlib.Core.Bool.{Bool}
+use mathlib.Core.Path.{_≡_, sym, subst as along}
 use mathlib.Core.List.{List, [], _∷_, _++_}
 use lib.ListN.{length, getD, take, drop, take-append-drop}
-use lib.Seq.{length-take-le, getD-take, take-all, take-suc, split-at, append-snoc}
+use lib.Seq.{take-all, take-suc, split-at, append-snoc}
 use Rattle.packed.specs.Syntax.{Program}
+use Rattle.open_threads.specs.Open.{LowestFrom}
 use Rattle.listing.specs.Order.{Before, AtMost}
 use Rattle.listing.specs.Listed.{Listed, Over}
 use Rattle.listing.specs.CanFollow.{canFollow}
@@ -16,54 +14,30 @@ use Rattle.listing.specs.Ways.{Way}
 use Rattle.listing.proofs.Order.{Higher, none-higher, higher-before, higher-here}
 use Rattle.listing.proofs.Ways.{one-more, first-picks, back-start, go-back, turn}
 use Rattle.listing.proofs.Listed.{complete-of}
-use Rattle.replays.specs.Open.{LowestFrom}
-use Rattle.replays.specs.Replay.{Replayable}
-use Rattle.interleavings.specs.Steps.{NoneHigher, TurnsAt}
+use Rattle.replays.specs.Told.{Noted}
+use Rattle.interleavings.specs.Steps.{LastAt, NoneHigher, TurnsAt}
 
--- ---- what the lowest pick above that can follow tells
+-- ---- what the notes tell
 
-module _ (g : Program) (ps : List ℕ) (i r : ℕ) (l : LowestFrom (canFollow g (take (i - 0) ps)) (getD ps i 0 + 1) r) where
-  the-same : (k : ℕ) → canFollow g (take i ps) k ≡ canFollow g (take (i - 0) ps) k
-  the-same k = ap (λ (j : ℕ). canFollow g (take j ps) k) (sym (sub-zero i))
+module _ (g : Program) (ps notes : List ℕ) (x : Noted g ps notes) where
+  -- no higher thread is noted
+  pub none-higher-at : (i : ℕ) → i < length ps → 8 ≤ getD notes i 0 % 16 → NoneHigher g ps i
+  none-higher-at i h b k a d = x .higher i h .before k (omega arith) (omega arith)
 
-  -- there is none
-  pub none-higher-at : 8 ≤ r → NoneHigher g ps i
-  none-higher-at h k a b = the-same k ∙ l .before k (omega arith) (omega arith)
-
-  -- there is one
-  pub turns-at : r < 8 → i < length ps → ((j : ℕ) → i < j → j < length ps → NoneHigher g ps j) → TurnsAt g ps i r
-  turns-at b h last =
+  -- the last that is
+  pub turns-at : (place pick : ℕ) → LastAt notes (length ps) place pick → TurnsAt g ps place pick
+  turns-at place pick t =
       record {
-        inside = h;
+        inside = t .inside;
         higher = omega (arith, l .reached);
-        of-eight = b;
-        can = the-same r ∙ l .here b;
-        lowest = λ k a d. the-same k ∙ l .before k (omega arith) d;
-        last = last;
+        of-eight = t .of-eight;
+        can = l .here (t .of-eight);
+        lowest = λ k a d. l .before k (omega arith) d;
+        last = λ i a h. none-higher-at i h (t .last i a h);
       }
-
--- the picks before a place are a way
-pub first-way : (can : List ℕ → ℕ → Bool) (ps : List ℕ) (i : ℕ) → Way can ps → Way can (take i ps)
-first-way can ps i w = first-picks can (take i ps) (drop i ps) (along (Way can) (sym (take-append-drop i ps)) w)
-
--- the picks before a place can be replayed
-pub first-few : (plan words ps : List ℕ) (i : ℕ) → Replayable plan words ps → i ≤ length ps → Replayable plan words (take (i - 0) ps)
-first-few plan words ps i x h =
-    let m : length (take (i - 0) ps) ≡ i = length-take-le (i - 0) ps (omega arith) ∙ sub-zero i in
-    record {
-      accepted = x .accepted;
-      few = omega (arith, x .few, m);
-      of-eight = λ j b. along (λ (p : ℕ). p < 8) (sym (getD-take (i - 0) ps j 0 (omega (arith, b, m)))) (x .of-eight j (omega (arith, b, m)));
-    }
-
--- one place more where there is none
-pub none-from : (g : Program) (ps : List ℕ) (i : ℕ) → NoneHigher g ps i → ((j : ℕ) → i < j → j < length ps → NoneHigher g ps j) → (j : ℕ) → i ≤ j
-    → j < length ps → NoneHigher g ps j
-none-from g ps i here later j h b = by (ℕ-discrete i j)
-  where
-    by : Dec (i ≡ j) → NoneHigher g ps j
-    by (yes e) = along (NoneHigher g ps) e here
-    by (no e) = later j (omega (arith, h, e)) b
+    where
+      l : LowestFrom (canFollow g (take place ps)) (getD ps place 0 + 1) pick
+      l = along (LowestFrom (canFollow g (take place ps)) (getD ps place 0 + 1)) (sym (t .here)) (x .higher place (t .inside))
 
 -- ---- what follows for listed schedules
 
@@ -79,8 +53,8 @@ module _ (g : Program) (n : ℕ) (ps : List ℕ) (x : Listed g n ps) where
       (none i (omega arith) (omega arith))
 
   -- to the beginning
-  pub over : ((i : ℕ) → 0 ≤ i → i < length ps → NoneHigher g ps i) → Over g n ps
-  over none rs l b = none-higher rs (back-to rs l b (length ps) 0 (omega arith) none)
+  pub over : ((i : ℕ) → i < length ps → NoneHigher g ps i) → Over g n ps
+  over none rs l b = none-higher rs (back-to rs l b (length ps) 0 (omega arith) (λ j h. none j))
 
   -- to the last place where a higher thread can be picked
   module _ (place pick : ℕ) (t : TurnsAt g ps place pick) where
@@ -90,7 +64,8 @@ module _ (g : Program) (n : ℕ) (ps : List ℕ) (x : Listed g n ps) where
     pub turned-way : Way (canFollow g) turned
     turned-way =
         one-more (canFollow g) (take place ps) pick
-        (first-way (canFollow g) ps place (complete-of g n ps x .way))
+        (first-picks (canFollow g) (take place ps) (drop place ps)
+        (along (Way (canFollow g)) (sym (take-append-drop place ps)) (complete-of g n ps x .way)))
         (t .of-eight) (t .can)
 
     pub turned-least : (rs : List ℕ) → Listed g n rs → Before ps rs → AtMost turned rs

@@ -1,72 +1,179 @@
 -- Going on from the first picks of an area: by the lowest pick that can follow, until there are n or none can. Assumes nothing.
-use Prim.Native.Nat.{ℕ, _+_, _-_, _≤_, _<_}
+use Prim.Native.Nat.{ℕ, zero, suc, _+_, _-_, _/_, _≤_, _<_}
+use native.Mathlib.Decide.{ℕ-discrete, decLt}
 use native.Mathlib.Nat.{sub-zero}
-use native.Mathlib.Numerals.{add-one}
 use native.Mathlib.Omega.{arith}
 use mathlib.Core.Path.{_≡_, refl, sym, ap, _∙_, subst as along}
-use mathlib.Core.Bool.{false}
-use mathlib.Core.List.{List, [], _∷_, _++_}
+use mathlib.Core.Bool.{true, false}
+use mathlib.Core.List.{List, _++_}
 use mathlib.Core.Logic.{_⊎_, inl, inr}
-use lib.ListN.{length, length-set, set, take, drop}
-use lib.Seq.{length-take-le, take-suc-set, take-set-le, drop-set-lt, drop-drop}
+use lib.ListN.{length, length-append, length-set, getD, set, take, drop, List·getD-append}
+use lib.Seq.{length-take-le, take-all, take-append-le, take-take, take-suc, take-set-le, drop-set-lt, drop-drop}
+use lib.Seq.{getD-take, getD-set-same, getD-set-other, ext-getD}
 use Rattle.packed.specs.Syntax.{Program}
+use Rattle.packed.specs.Trees.{programOf}
+use Rattle.engine.specs.declared.Explored.{Explored}
+use Rattle.engine.specs.Exploring.{allPicks}
+use Rattle.engine.proofs.AllPicks.{length-all, given-at, noted-at}
 use Rattle.listing.specs.Order.{AtMost}
+use Rattle.listing.specs.Listed.{Listed}
 use Rattle.listing.specs.CanFollow.{canFollow}
 use Rattle.listing.specs.Ways.{Way}
-use Rattle.listing.proofs.Ways.{one-more, go-on}
+use Rattle.listing.proofs.Ways.{go-on}
 use Rattle.listing.proofs.Listed.{complete-of, listed-by}
-use Rattle.replays.specs.Open.{LowestFrom}
-use Rattle.replays.specs.Replay.{Accepted, Replayable}
-use Rattle.interleavings.specs.Steps.{WentOn, Reached}
+use Rattle.replays.specs.Replay.{Explorable, Explores}
+use Rattle.replays.proofs.Told.{goes-past}
+use Rattle.interleavings.specs.Steps.{Begins, Puts, PutNoted, Reached}
 
--- past one byte more
-drop-more : (a b : List ℕ) (n : ℕ) → drop n a ≡ drop n b → drop (n + 1) a ≡ drop (n + 1) b
-drop-more a b n e = sym (drop-drop 1 n a) ∙ ap (drop 1) e ∙ drop-drop 1 n b
+-- the picks that are written
+pub taken : {g : Program} {n from : ℕ} {before after : List ℕ} {at : ℕ} → Reached g n from before after at → n ≤ length before → length (take at after) ≡ at
+taken {after = after} {at = at} x long = length-take-le at after (omega (arith, x .within, x .kept))
 
-module _ (g : Program) (n from : ℕ) (before : List ℕ) where
-  pub start : from ≤ n → Way (canFollow g) (take from before) → WentOn g n from before before from
-  start h w = record { within = h; reached = omega arith; kept = refl; front = refl; rest = refl; way = w; least = λ rs l a. a }
+-- ---- noted picks into an area
 
-  module _ (after : List ℕ) (at : ℕ) (x : WentOn g n from before after at) (long : n ≤ length before) where
-    pub taken : length (take at after) ≡ at
-    taken = length-take-le at after (omega (arith, x .within, x .kept))
+past-one-more : (a b : List ℕ) (n : ℕ) → drop n a ≡ drop n b → drop (n + 1) a ≡ drop (n + 1) b
+past-one-more a b n e = sym (drop-drop 1 n a) ∙ ap (drop 1) e ∙ drop-drop 1 n b
 
-    -- the picks so far can be replayed
-    pub so-far : (plan words : List ℕ) → Accepted plan words → n ≤ 64 → Replayable plan words (take (at - 0) after)
-    so-far plan words a b =
-        along (λ (k : ℕ). Replayable plan words (take k after)) (sym (sub-zero at))
-        (record { accepted = a; few = omega (arith, taken, x .within); of-eight = x .way .of-eight })
+module _ (notes : List ℕ) (from : ℕ) (before : List ℕ) where
+  pub put-none : PutNoted notes from from before before
+  put-none = record { kept = refl; front = refl; rest = refl; are = λ i a b. absurd (omega arith) }
 
-    -- one pick more
-    pub more : (pick : ℕ) → at < n → pick < 8 → LowestFrom (canFollow g (take (at - 0) after)) 0 pick → WentOn g n from before (set after at pick) (at + 1)
-    more pick h b l =
+  pub put-one : (at : ℕ) (after : List ℕ) → PutNoted notes at from before after → from ≤ at → at < length after
+      → PutNoted notes (at + 1) from before (set after at (getD notes at 0 / 16))
+  put-one at after x h b =
+      record {
+        kept = length-set after at _ ∙ x .kept;
+        front = take-set-le from after at _ h ∙ x .front;
+        rest = drop-set-lt (at + 1) after at _ (omega arith) ∙ past-one-more after before at (x .rest);
+        are = λ i a d. each i a d (ℕ-discrete i at);
+      }
+    where
+      each : (i : ℕ) → from ≤ i → i < at + 1 → Dec (i ≡ at) → getD (set after at (getD notes at 0 / 16)) i 0 ≡ getD notes i 0 / 16
+      each i a d (yes e) =
+          ap (λ (j : ℕ). getD (set after at (getD notes at 0 / 16)) j 0) e ∙ getD-set-same after at _ 0 b ∙ ap (λ (j : ℕ). getD notes j 0 / 16) (sym e)
+      each i a d (no e) = getD-set-other after at i _ 0 e ∙ x .are i a (omega (arith, d, e))
+
+-- ---- by the run of the first picks
+
+module _ {plan words : List ℕ} {n : ℕ} {before : List ℕ} {from : ℕ} (b : Begins plan words n before from) where
+  pub first-is : take (from - 0) before ≡ take from before
+  first-is = ap (λ (k : ℕ). take k before) (sub-zero from)
+
+  pub can-explore : (empty : List ℕ) → length empty ≡ n → Explorable plan words (take (from - 0) before) empty
+  can-explore empty long =
+      along (λ (l : List ℕ). Explorable plan words l empty) (sym first-is)
+      (record {
+        accepted = b .accepted;
+        of-eight = b .way .of-eight;
+        room = omega (arith, length-take-le from before (omega (arith, b .within, b .long)), b .within, long);
+        few = omega (arith, long, b .bound);
+      })
+
+module _ {plan words : List ℕ} {n : ℕ} {before : List ℕ} {from : ℕ} (b : Begins plan words n before from) {first empty notes : List ℕ} {r : Explored}
+    (x : Explores plan first empty notes r) (f : first ≡ take from before) (long : length empty ≡ n) where
+  abbrev g : Program
+  g = programOf plan
+
+  abbrev ps : List ℕ
+  ps = allPicks first notes
+
+  way : Way (canFollow g) first
+  way = along (Way (canFollow g)) (sym f) (b .way)
+
+  given : length first ≡ from
+  given = ap length f ∙ length-take-le from before (omega (arith, b .within, b .long))
+
+  all : length ps ≡ n
+  all = omega (arith, length-all first notes, given, b .within, long, x .kept)
+
+  behind : from ≤ r .made
+  behind = omega (arith, given, goes-past x (omega (arith, given, b .within, long)) way)
+
+  pub puts : (rest : List ℕ) → Puts (notes ++ rest) (r .made) before from
+  puts rest =
+      record { noted = omega (arith, x .within, x .kept, length-append notes rest); room = omega (arith, x .within, long, b .long); behind = behind }
+
+  can : (i : ℕ) → i < r .made → canFollow g (take i ps) (getD ps i 0) ≡ true
+  can i h = by (decLt i (length first))
+    where
+      by : Dec (i < length first) → canFollow g (take i ps) (getD ps i 0) ≡ true
+      by (yes k) =
+          ap (λ (l : List ℕ). canFollow g l (getD ps i 0)) (take-append-le i first _ (omega arith))
+          ∙ ap (canFollow g (take i first)) (given-at first notes i k) ∙ way .follows i k
+      by (no k) = x .noted i h .lowest (omega (arith, k)) .here (x .noted i h .of-eight)
+
+  -- no listed schedule that is not before the first picks is before the first j
+  least-to : (rs : List ℕ) → Listed g n rs → AtMost first rs → (k j : ℕ) → from + k ≡ j → j ≤ r .made → AtMost (take j ps) rs
+  least-to rs l a zero j e h =
+      along (λ (qs : List ℕ). AtMost qs rs)
+      (sym (take-append-le j first _ (omega (arith, given)) ∙ take-all j first (omega (arith, given)))) a
+  least-to rs l a (suc k) zero e h = absurd (omega arith)
+  least-to rs l a (suc k) (suc j) e h =
+      let d = x .noted j (omega arith) in
+      let c = d .lowest (omega (arith, given)) in
+      along (λ (qs : List ℕ). AtMost qs rs) (sym (take-suc ps j 0 (omega (arith, all, x .within, long))))
+      (go-on (canFollow g) (take j ps) (getD ps j 0) (omega (arith, length-take-le j ps (omega (arith, all, x .within, long)), x .within, long))
+      (d .of-eight) (c .here (d .of-eight)) (λ i u. c .before i (omega arith) u)
+      rs (complete-of g n rs l) (least-to rs l a k j (omega arith) (omega arith)))
+
+  -- and then the noted picks are written
+  module _ (rest after : List ℕ) (p : PutNoted (notes ++ rest) (r .made) from before after) where
+    abbrev at : ℕ
+    at = r .made
+
+    fits : at ≤ length after
+    fits = omega (arith, x .within, long, b .long, p .kept)
+
+    its-length : length (take at ps) ≡ at
+    its-length = length-take-le at ps (omega (arith, all, x .within, long))
+
+    same : take at after ≡ take at ps
+    same = ext-getD 0 (take at after) (take at ps) (length-take-le at after fits ∙ sym its-length)
+        (λ i h. let k : i < at = omega (arith, h, length-take-le at after fits) in
+        getD-take at after i 0 k ∙ each i k (decLt i from) ∙ sym (getD-take at ps i 0 k))
+      where
+        each : (i : ℕ) → i < at → Dec (i < from) → getD after i 0 ≡ getD ps i 0
+        each i h (yes k) =
+            sym (getD-take from after i 0 k) ∙ ap (λ (l : List ℕ). getD l i 0) (p .front ∙ sym f) ∙ sym (given-at first notes i (omega (arith, given)))
+        each i h (no k) =
+            p .are i (omega (arith, k)) h ∙ ap (λ (y : ℕ). y / 16) (List·getD-append notes rest 0 i (omega (arith, x .within, x .kept)))
+            ∙ sym (noted-at first notes i (omega (arith, k, given)))
+
+    at-most : at ≤ n
+    at-most = omega (arith, x .within, long)
+
+    ends : (length (take at ps) ≡ n) ⊎ ((q : ℕ) → q < 8 → canFollow g (take at ps) q ≡ false)
+    ends = by (ℕ-discrete at n)
+      where
+        by : Dec (at ≡ n) → (length (take at ps) ≡ n) ⊎ ((q : ℕ) → q < 8 → canFollow g (take at ps) q ≡ false)
+        by (yes e) = inl (its-length ∙ e)
+        by (no e) = inr (x .shut (omega (arith, at-most, long, e)))
+
+    listed : Listed g n (take at ps)
+    listed =
+        listed-by g n (take at ps)
+        (record {
+          way = record {
+            of-eight = λ i h. let k : i < at = omega (arith, h, its-length) in along (λ (q : ℕ). q < 8) (sym (getD-take at ps i 0 k)) (x .noted i k .of-eight);
+            follows = λ i h.
+                let k : i < at = omega (arith, h, its-length) in
+                ap (λ (l : List ℕ). canFollow g l (getD (take at ps) i 0)) (take-take i at ps (omega arith))
+                ∙ ap (canFollow g (take i ps)) (getD-take at ps i 0 k) ∙ can i k;
+          };
+          at-most = omega (arith, its-length, at-most);
+          ends = ends;
+        })
+
+    pub reached : Reached g n from before after at
+    reached =
         record {
-          within = omega arith;
-          reached = omega (arith, x .reached);
-          kept = length-set after at pick ∙ x .kept;
-          front = take-set-le from after at pick (x .reached) ∙ x .front;
-          rest = drop-set-lt (at + 1) after at pick (omega arith) ∙ drop-more after before at (x .rest);
-          way = along (Way (canFollow g)) (sym grown) (one-more (canFollow g) (take at after) pick (x .way) b (can .here b));
+          within = at-most;
+          reached = behind;
+          kept = p .kept;
+          front = p .front;
+          rest = p .rest;
+          listed = along (Listed g n) (sym same) listed;
           least = λ rs l a.
-              along (λ (ps : List ℕ). AtMost ps rs) (sym grown)
-              (go-on (canFollow g) (take at after) pick (omega (arith, h, taken)) b (can .here b) (λ k d. can .before k (omega arith) d)
-              rs (complete-of g n rs l) (x .least rs l a));
+              along (λ (qs : List ℕ). AtMost qs rs) (sym same)
+              (least-to rs l (along (λ (qs : List ℕ). AtMost qs rs) (sym f) a) (at - from) at (omega (arith, behind)) (omega arith));
         }
-      where
-        can : LowestFrom (canFollow g (take at after)) 0 pick
-        can = along (λ (k : ℕ). LowestFrom (canFollow g (take k after)) 0 pick) (sub-zero at) l
-
-        grown : take (at + 1) (set after at pick) ≡ take at after ++ (pick ∷ [])
-        grown = rw add-one (take-suc-set after at pick (omega (arith, h, x .kept, long)))
-
-    -- no pick more
-    pub none-can : (r : ℕ) → r ≡ 8 → LowestFrom (canFollow g (take (at - 0) after)) 0 r → (p : ℕ) → p < 8 → canFollow g (take at after) p ≡ false
-    none-can r e l p b = ap (λ (k : ℕ). canFollow g (take k after) p) (sym (sub-zero at)) ∙ l .before p (omega arith) (omega arith)
-
-    pub ends : (at ≡ n) ⊎ ((p : ℕ) → p < 8 → canFollow g (take at after) p ≡ false) → Reached g n from before after at
-    ends e = record { went = x; listed = listed-by g n (take at after) (record { way = x .way; at-most = omega (arith, taken, x .within); ends = by e }) }
-      where
-        by : (at ≡ n) ⊎ ((p : ℕ) → p < 8 → canFollow g (take at after) p ≡ false)
-            → (length (take at after) ≡ n) ⊎ ((p : ℕ) → p < 8 → canFollow g (take at after) p ≡ false)
-        by (inl q) = inl (taken ∙ q)
-        by (inr q) = inr q

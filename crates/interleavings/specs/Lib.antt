@@ -1,5 +1,4 @@
 pub mod Interleavings
 pub mod Answer
 pub mod Steps
-pub mod Search
 pub mod Count

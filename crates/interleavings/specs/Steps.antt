@@ -1,5 +1,5 @@
 -- Going back and going on, step by step. For inner contracts; no reader of the entries' promise needs it. Assumes nothing.
-use Prim.Native.Nat.{ℕ, _+_, _≤_, _<_}
+use Prim.Native.Nat.{ℕ, _+_, _/_, _%_, _≤_, _<_}
 use mathlib.Core.Path.{_≡_}
 use mathlib.Core.Bool.{true, false}
 use mathlib.Core.List.{List}
@@ -15,7 +15,7 @@ use Rattle.listing.specs.WholeList.{WholeList}
 use Rattle.listing.specs.CanFollow.{canFollow}
 use Rattle.listing.specs.Ways.{Way}
 use Rattle.replays.specs.Replay.{Accepted}
-use Rattle.interleavings.specs.Search.{Closed, Beside}
+use Rattle.replays.specs.Told.{Noted}
 use Rattle.interleavings.specs.declared.Turn.{Turn}
 use Rattle.interleavings.specs.declared.Turn.the-variants as turn
 use Rattle.interleavings.specs.declared.Next.{Next}
@@ -33,31 +33,43 @@ pub record Begins (plan words : List ℕ) (n : ℕ) (area : List ℕ) (from : �
   pub within : from ≤ n
   pub way : Way (canFollow (programOf plan)) (take from area)
 
--- the first `from` picks of an area, gone on with up to `at`: the same bytes past it, and no listed schedule that is not before the first picks is before all
-pub record WentOn (g : Program) (n from : ℕ) (before after : List ℕ) (at : ℕ) : Type 0 where
+-- notes of `made` picks, room for them in an area, which has the first `from`
+pub record Puts (notes : List ℕ) (made : ℕ) (area : List ℕ) (from : ℕ) : Type 0 where
+  pub noted : made ≤ length notes
+  pub room : made ≤ length area
+  pub behind : from ≤ made
+
+-- the picks that are noted from `from` on, up to `made`, are in the area, which is otherwise as it was
+pub record PutNoted (notes : List ℕ) (made from : ℕ) (before after : List ℕ) : Type 0 where
+  pub kept : length after ≡ length before
+  pub front : take from after ≡ take from before
+  pub rest : drop made after ≡ drop made before
+  pub are : (i : ℕ) → from ≤ i → i < made → getD after i 0 ≡ getD notes i 0 / 16
+
+-- the first `from` picks of an area, gone on with up to `at`: the same bytes past it, a listed schedule, and no listed one that is not before the first picks
+-- is before it
+pub record Reached (g : Program) (n from : ℕ) (before after : List ℕ) (at : ℕ) : Type 0 where
   pub within : at ≤ n
   pub reached : from ≤ at
   pub kept : length after ≡ length before
   pub front : take from after ≡ take from before
   pub rest : drop at after ≡ drop at before
-  pub way : Way (canFollow g) (take at after)
+  pub listed : Listed g n (take at after)
   pub least : (rs : List ℕ) → Listed g n rs → AtMost (take from before) rs → AtMost (take at after) rs
 
--- going on from `at` to r, whatever the first picks are
-abbrev pub Stretches : Program → (n at : ℕ) → (before after : List ℕ) → ℕ → Type 0
-Stretches g n at before after r = (from : ℕ) (first : List ℕ) → n ≤ length first → WentOn g n from first before at → WentOn g n from first after r
-
--- the same by the picks of a replay, and those of them that are taken
-abbrev pub WalksOn : (picks movers : List ℕ) → (from limit : ℕ) → (before after : List ℕ) → ℕ → Type 0
-WalksOn picks movers from limit before after r =
-    (g : Program) (n : ℕ) → limit ≤ n → Beside (canFollow g) picks movers before from limit → Stretches g n from before after r
-
--- to the end
-pub record Reached (g : Program) (n from : ℕ) (before after : List ℕ) (at : ℕ) : Type 0 where
-  pub went : WentOn g n from before after at
-  pub listed : Listed g n (take at after)
-
 -- ---- going back
+
+-- the last of some notes that has a higher thread, and that thread
+pub record LastAt (notes : List ℕ) (count place pick : ℕ) : Type 0 where
+  pub inside : place < count
+  pub here : pick ≡ getD notes place 0 % 16
+  pub of-eight : pick < 8
+  pub last : (i : ℕ) → place < i → i < count → 8 ≤ getD notes i 0 % 16
+
+-- that, or none has
+abbrev pub LastTurn : List ℕ → ℕ → Turn → Type 0
+LastTurn notes count (turn.At place pick) = LastAt notes count place pick
+LastTurn notes count turn.Over = (i : ℕ) → i < count → 8 ≤ getD notes i 0 % 16
 
 -- no thread above pick i can be picked in its place
 abbrev pub NoneHigher : Program → List ℕ → ℕ → Type 0
@@ -72,23 +84,15 @@ pub record TurnsAt (g : Program) (ps : List ℕ) (place pick : ℕ) : Type 0 whe
   pub lowest : (k : ℕ) → getD ps place 0 < k → k < pick → canFollow g (take place ps) k ≡ false
   pub last : (i : ℕ) → place < i → i < length ps → NoneHigher g ps i
 
--- that, or there is no such place from `start` on
-abbrev pub TurnsFrom : Program → List ℕ → ℕ → Turn → Type 0
-TurnsFrom g ps start (turn.At place pick) = TurnsAt g ps place pick
-TurnsFrom g ps start turn.Over = Closed (canFollow g) ps start (length ps)
-
--- there is none from `end` on
-abbrev pub ClosedFrom : List ℕ → List ℕ → ℕ → Type 0
-ClosedFrom plan ps end = (end ≤ length ps) × Closed (canFollow (programOf plan)) ps end (length ps)
-
 -- ---- both
 
--- a listed schedule, an accepted plan, an area that is long enough
-pub record Listing (plan words : List ℕ) (n : ℕ) (schedule area : List ℕ) : Type 0 where
+-- a listed schedule and its notes, an accepted plan, an area that is long enough
+pub record Listing (plan words : List ℕ) (n : ℕ) (schedule notes area : List ℕ) : Type 0 where
   pub accepted : Accepted plan words
   pub bound : n ≤ 64
   pub long : n ≤ length area
   pub listed : Listed (programOf plan) n schedule
+  pub noted : Noted (programOf plan) schedule notes
 
 -- the following schedule is written, or the list is over
 abbrev pub Followed : Program → ℕ → List ℕ → List ℕ → List ℕ → Next → Type 0

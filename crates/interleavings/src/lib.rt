@@ -1,17 +1,13 @@
 // The entries `first_interleaving` and `next_interleaving`: all interleavings of a short plan, one after the other (document 02, E11); and `count`, how many
 // there are.
-mod closed; // closed.rt: the places of a schedule where no higher thread can be picked
-mod lowest; // lowest.rt: going on by the lowest picks that can follow, as far as one replay tells
-mod probes; // probes.rt: picks put in to see whether they are passed over
-
+ghost use Prim.Native.Nat.{_≤_};
+ghost use lib.ListN.{length};
 ghost use Rattle.packed.specs.Trees.{programOf};
 ghost use Rattle.answers.specs.Answer as answer;
-ghost use Rattle.replays.specs.Replay.{Replayable};
 ghost use Rattle.interleavings.specs.Interleavings.{FirstAnswer, NextAnswer};
 ghost use Rattle.interleavings.specs.Answer.{answered};
 ghost use Rattle.interleavings.specs.Count.{CountAnswer};
-ghost use Rattle.interleavings.specs.Search.{Replays};
-ghost use Rattle.interleavings.specs.Steps.{Begins, Reached, ClosedFrom, TurnsFrom, Listing, Followed, Stands, Advanced, CountsOn};
+ghost use Rattle.interleavings.specs.Steps.{LastTurn, Puts, PutNoted, Begins, Reached, Listing, Followed, Stands, Advanced, CountsOn};
 use answers::Answered;
 use refusals::Checked;
 
@@ -41,23 +37,15 @@ pub enum Turn {
     Over,
 }
 
-// The last place from `start` on and before `end` where a higher thread can be picked, and the lowest such thread; from `end` on there is none. By one replay
-// to each place, the last first.
-fn turn_between(
-    plan: &[u8],
-    words: &[usize; 1024],
-    schedule: &[u8],
-    start: usize,
-    end: usize,
-) -> Turn
-    requires { ⌜ Replayable (now plan) (now words) (now schedule) × ClosedFrom (now plan) (now schedule) end ⌝ }
-    ensures { λ r. ⌜ TurnsFrom (programOf (now (plan .entry))) (now (schedule .entry)) start r ⌝ }
+// The last of the first notes that has a higher thread, and that thread.
+fn last_turn(notes: &[u8], count: usize) -> Turn
+    requires { ⌜ count ≤ length (now notes) ⌝ }
+    ensures { λ r. ⌜ LastTurn (now (notes .entry)) count r ⌝ }
 {
-    let mut place = end;
-    while place > start {
+    let mut place = count;
+    while place > 0 {
         place -= 1;
-        let higher = schedule[place] as usize + 1;
-        let pick = replays::next_pick(plan, words, &schedule[0..place], higher);
+        let pick = byte_numbers::wide(notes[place]) % 16;
         if pick < 8 {
             return Turn::At { place, pick };
         }
@@ -65,53 +53,44 @@ fn turn_between(
     Turn::Over
 }
 
-// The last place of a schedule where a higher thread can be picked, and the lowest such thread: among the last three places, and else by halves.
-fn go_back(plan: &[u8], words: &[usize; 1024], schedule: &[u8]) -> Turn
-    requires { ⌜ Replays (now plan) (now words) (now schedule) ⌝ }
-    ensures { λ r. ⌜ TurnsFrom (programOf (now (plan .entry))) (now (schedule .entry)) 0 r ⌝ }
+// The picks that are noted from `from` on, up to `made`, into the area.
+fn put_noted(notes: &[u8], made: usize, area: &mut [u8], from: usize)
+    requires { ⌜ Puts (now notes) made (now area) from ⌝ }
+    ensures { λ r. ⌜ PutNoted (now (notes .entry)) made from (now (area .entry)) (now (area .exit)) ⌝ }
 {
-    let near = schedule.len() - replays::lesser(schedule.len(), 3);
-    let turn = turn_between(plan, words, schedule, near, schedule.len());
-    match turn {
-        Turn::At { place, pick } => Turn::At { place, pick },
-        Turn::Over => {
-            let end = closed::closed_from(plan, words, schedule, near);
-            turn_between(plan, words, schedule, 0, end)
-        }
+    let mut place = from;
+    while place < made {
+        area[place] = notes[place] / 16;
+        place += 1;
     }
 }
 
-// From the first `from` picks of the area on, the lowest pick that can follow, until there are n or none can; how many picks that makes. As far as one replay
-// tells, and one pick more by the threads' states, again and again; the thread of that pick is guessed to go on.
+// From the first `from` picks of the area on, the lowest pick that can follow, until there are n or none can; how many picks that makes.
 fn go_on(plan: &[u8], words: &[usize; 1024], n: usize, area: &mut [u8], from: usize) -> usize
     requires { ⌜ Begins (now plan) (now words) n (now area) from ⌝ }
     ensures { λ r. ⌜ Reached (programOf (now (plan .entry))) n from (now (area .entry)) (now (area .exit)) r ⌝ }
 {
-    let mut at = from;
-    let mut guess = 0;
-    while at < n {
-        at = lowest::stretch(plan, words, n, area, at, guess);
-        if at == n {
-            return at;
-        }
-        let pick = replays::next_pick(plan, words, &area[0..at], 0);
-        if pick == 8 {
-            return at;
-        }
-        area[at] = pick as u8;
-        at += 1;
-        guess = pick;
-    }
-    at
+    let mut notes = [0u8; 64];
+    let explored = replays::explore(plan, words, &area[0..from], &mut notes[0..n]);
+    let made = explored.made;
+    put_noted(&notes, made, area, from);
+    made
 }
 
-// The schedule that follows a listed one, into the area, or that the list is over: back to the last place where a higher thread can be picked, and on from
-// there.
-fn following(plan: &[u8], words: &[usize; 1024], n: usize, schedule: &[u8], area: &mut [u8]) -> Next
-    requires { ⌜ Listing (now plan) (now words) n (now schedule) (now area) ⌝ }
+// The schedule that follows a listed one, by its notes, into the area, or that the list is over: back to the last place where a higher thread can be picked,
+// and on from there.
+fn following(
+    plan: &[u8],
+    words: &[usize; 1024],
+    n: usize,
+    schedule: &[u8],
+    notes: &[u8],
+    area: &mut [u8],
+) -> Next
+    requires { ⌜ Listing (now plan) (now words) n (now schedule) (now notes) (now area) ⌝ }
     ensures { λ r. ⌜ Followed (programOf (now (plan .entry))) n (now (schedule .entry)) (now (area .entry)) (now (area .exit)) r ⌝ }
 {
-    let turn = go_back(plan, words, schedule);
+    let turn = last_turn(notes, schedule.len());
     match turn {
         Turn::Over => Next::Over,
         Turn::At { place, pick } => {
@@ -166,7 +145,8 @@ pub fn next_interleaving(plan: &[u8], n: usize, schedule: &[u8], area: &mut [u8]
                     place: 0,
                 };
             }
-            if !replays::listed(plan, &words, n, schedule) {
+            let mut notes = [0u8; 64];
+            if !replays::listed(plan, &words, n, schedule, &mut notes) {
                 return Next::Refused {
                     number: 19,
                     place: 0,
@@ -178,7 +158,7 @@ pub fn next_interleaving(plan: &[u8], n: usize, schedule: &[u8], area: &mut [u8]
                     place: 0,
                 };
             }
-            following(plan, &words, n, schedule, area)
+            following(plan, &words, n, schedule, &notes, area)
         }
     }
 }
@@ -195,8 +175,10 @@ fn advance(
     requires { ⌜ Stands (now plan) (now words) n (now area) picks place ⌝ }
     ensures { λ r. ⌜ Advanced (now (plan .entry)) (now (words .entry)) n (now (area .exit)) place r ⌝ }
 {
+    let mut notes = [0u8; 64];
+    replays::listed(plan, words, n, &area[0..picks], &mut notes);
     let mut after = [0u8; 64];
-    let next = following(plan, words, n, &area[0..picks], &mut after);
+    let next = following(plan, words, n, &area[0..picks], &notes, &mut after);
     match next {
         Next::Written(length) => Next::Written(text::put_word(area, 0, &after[0..length])),
         Next::Over => Next::Over,

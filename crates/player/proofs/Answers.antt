@@ -93,7 +93,7 @@ module _ (plan ws rs area : List ℕ) (passes : refusal plan ≡ none) (words : 
         × (code ps .area ≡ overwrite (bytesOf (run.play (programOf plan) ps .log)) area)
     defined = plays-defined plan ws rs passes loaded ps area small wide
 
-    outcome-defined : outcomeOf (code ps .outcome) ≡ run.outcomeOf (programOf plan) (runOf plan ps)
+    pub outcome-defined : outcomeOf (code ps .outcome) ≡ run.outcomeOf (programOf plan) (runOf plan ps)
     unfolding runOf
     outcome-defined = outcome-same _ ∙ defined .0
 

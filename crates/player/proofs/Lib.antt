@@ -1,5 +1,6 @@
 pub mod EveryMove
 pub mod Answers
+pub mod Explores
 pub mod Entry
 pub mod Ran
 pub mod Executed

@@ -8,8 +8,9 @@ ghost use Rattle.rules.specs.Play.{played, areaAfter};
 ghost use Rattle.player.specs.Answer.{answered, NoRunIfRefused};
 ghost use Rattle.player.specs.ExecutedOn.{ExecutedIfPassed};
 ghost use Rattle.player.specs.Roots.{Roots};
-ghost use Rattle.player.specs.RunOn.{Given, RunBy};
+ghost use Rattle.player.specs.RunOn.{Given, RunBy, Notable, ExploredBy};
 use crate::outcome::Played;
+use engine::Explored;
 use engine::Ran;
 use header::layout;
 use refusals::Checked;
@@ -29,10 +30,18 @@ fn roots(plan: &[u8], procedures: usize) -> [usize; 32]
     all
 }
 
-// The run of picks on an accepted plan whose words are loaded, its records into the log: of every move, or of those that have one.
-pub fn run(plan: &[u8], words: &[usize; 1024], every: bool, picks: &[u8], log: &mut [u8]) -> Ran
-    requires { ⌜ Given (now plan) (now words) (now picks) (now log) ⌝ }
-    ensures { λ r. ⌜ RunBy every (now (plan .entry)) (now (picks .entry)) (now (log .entry)) (now (log .exit)) r ⌝ }
+// The run of picks on an accepted plan whose words are loaded, its records into the log: of every move, or of those that have one. Where notes are lent, it goes
+// on behind the picks by the lowest thread that can be picked, and notes at each place what could be picked there.
+pub fn explore(
+    plan: &[u8],
+    words: &[usize; 1024],
+    every: bool,
+    picks: &[u8],
+    notes: &mut [u8],
+    log: &mut [u8],
+) -> Explored
+    requires { ⌜ Given (now plan) (now words) (now picks) (now log) × Notable (now notes) (now log) ⌝ }
+    ensures { λ r. ⌜ ExploredBy every (now (plan .entry)) (now (picks .entry)) (now (log .entry)) (now (log .exit)) (now (notes .entry)) (now (notes .exit)) r ⌝ }
 {
     let procedures = layout::procedures(plan);
     let roots = roots(plan, procedures);
@@ -42,7 +51,17 @@ pub fn run(plan: &[u8], words: &[usize; 1024], every: bool, picks: &[u8], log: &
         mask: mask,
         version: version,
     };
-    engine::run(words, &roots, setting, every, picks, log)
+    engine::explore(words, &roots, setting, every, picks, notes, log)
+}
+
+// The run of the picks alone.
+pub fn run(plan: &[u8], words: &[usize; 1024], every: bool, picks: &[u8], log: &mut [u8]) -> Ran
+    requires { ⌜ Given (now plan) (now words) (now picks) (now log) ⌝ }
+    ensures { λ r. ⌜ RunBy every (now (plan .entry)) (now (picks .entry)) (now (log .entry)) (now (log .exit)) r ⌝ }
+{
+    let mut none = [0u8; 1];
+    let explored = explore(plan, words, every, picks, &mut none[0..0], log);
+    explored.ran
 }
 
 // Every plan, schedule and log area gets document 01's answer: a refusal of number 1 to 10 with its place, and no byte of the area changed; or the

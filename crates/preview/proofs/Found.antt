@@ -29,7 +29,8 @@ use Rattle.run_outcome.specs.declared.NoRoom.{NoRoom}
 use Rattle.run_outcome.specs.declared.NoRoom.the-variants as room
 use Rattle.run_outcome.specs.declared.Stop.{Stop}
 use Rattle.run_outcome.specs.declared.Stop.the-variants as stop
-use Rattle.engine.specs.Machine.{absent, picksBefore}
+use Rattle.open_threads.specs.Open.{absent}
+use Rattle.engine.specs.Machine.{picksBefore}
 use Rattle.engine.specs.declared.Ran.{Ran}
 use Rattle.player.specs.Answer.{roomOf, stopOf, statusOf, outcomeOf}
 use Rattle.player.specs.RunOn.{Given, RunOn}

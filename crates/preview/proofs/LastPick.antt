@@ -6,7 +6,7 @@ use lib.ListN.{getD}
 use borrow.Author.Tests.{lt-ltb, le-ltb, eq-eqb, ne-eqb}
 use Rattle.run_outcome.specs.declared.NoRoom.{NoRoom}
 use Rattle.run_outcome.specs.declared.Stop.the-variants as stop
-use Rattle.engine.specs.Machine.{absent}
+use Rattle.open_threads.specs.Open.{absent}
 use Rattle.engine.specs.declared.Ran.{Ran}
 use Rattle.preview.specs.declared.Previewed.the-variants as previewed
 use Rattle.preview.specs.LastPick.{lastRecord, lastEnded, lastMet, lastPick}

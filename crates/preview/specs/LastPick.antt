@@ -10,7 +10,7 @@ use Rattle.rules.specs.Play.{runOf}
 use Rattle.run_outcome.specs.declared.Stop.{Stop}
 use Rattle.run_outcome.specs.declared.Stop.the-variants as stop
 use Rattle.run_outcome.specs.declared.Outcome.{Outcome}
-use Rattle.engine.specs.Machine.{absent}
+use Rattle.open_threads.specs.Open.{absent}
 use Rattle.engine.specs.declared.Before.{Before}
 use Rattle.engine.specs.declared.Ran.{Ran}
 use Rattle.preview.specs.declared.RecordBytes.{RecordBytes}

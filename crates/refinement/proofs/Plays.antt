@@ -49,7 +49,8 @@ use Rattle.pick.specs.declared.Answer.the-variants as answer
 use Rattle.pick.specs.Pick.{Picked, lookMet}
 use Rattle.tally.specs.Tally.{shownEntry}
 use Rattle.engine.specs.Machine as engine
-use Rattle.engine.specs.Machine.{headAt, metBy, absent, stateBy, threadBy, threadAt, threadsOf, stopped, stayed, after, turnBy, onAnswer, playOf, startOf}
+use Rattle.open_threads.specs.Open.{absent}
+use Rattle.engine.specs.Machine.{headAt, metBy, stateBy, threadBy, threadAt, threadsOf, stopped, stayed, after, turnBy, onAnswer, playOf, startOf}
 use Rattle.refinement.proofs.Meant.{Loaded}
 use Rattle.refinement.proofs.States.{settingOf, Related}
 use Rattle.refinement.proofs.Looks.{Written, Entered, BlockedBy, MeetsBy, attempt-absent}

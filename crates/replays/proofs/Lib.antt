@@ -1,4 +1,3 @@
-pub mod Lowest
+pub mod Opens
+pub mod Places
 pub mod Told
-pub mod Taken
-pub mod FirstTaken

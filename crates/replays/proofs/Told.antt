@@ -1,71 +1,39 @@
--- What a replay's outcome tells of the run: which picks can follow, and whether the schedule is listed. Assumes nothing.
-use Prim.Native.Nat.{ℕ, _+_, _≤_, _<_}
-use native.Mathlib.Decide.{ℕ-discrete}
+-- What the run of a schedule tells of it: whether it is listed, and what can be picked in place of each of its picks. Assumes nothing.
+use Prim.Native.Nat.{ℕ, _+_, _%_, _≤_, _<_}
+use native.Mathlib.Decide.{ℕ-discrete, decLt}
 use native.Mathlib.Omega.{arith}
-use mathlib.Core.Path.{_≡_, refl, sym, ap, _∙_}
-use mathlib.Core.Bool.{Bool, true, false, _&&_, true≢false}
-use mathlib.Core.List.{List}
+use mathlib.Core.Path.{_≡_, refl, sym, ap, _∙_, subst as along}
+use mathlib.Core.Bool.{true, false, true≢false}
+use mathlib.Core.List.{List, _++_}
 use mathlib.Core.Logic.{_⊎_, inl, inr}
-use mathlib.Core.Option.{Option, some, none}
 use lib.Dec.{eqb}
-use lib.ListN.{length, getD}
+use lib.ListN.{length, length-append, getD, take, List·getD-append}
+use lib.Seq.{take-append-seam, take-append-le}
 use borrow.Author.Tests.{eq-eqb, ne-eqb}
 use Rattle.packed.specs.Syntax.{Program}
 use Rattle.packed.specs.Trees.{programOf}
-use Rattle.rules.specs.State.{State}
-use Rattle.rules.specs.Step.{Move, Attempt, attempt}
-use Rattle.rules.specs.Room.{Room, noRoomFor, withinRoom, answer, step}
 use Rattle.rules.specs.Run as run
-use Rattle.rules.specs.Run.{Status, status, play}
+use Rattle.rules.specs.Run.{play}
 use Rattle.rules.specs.Play.{runOf}
 use Rattle.run_outcome.specs.declared.Stop.{Stop}
 use Rattle.run_outcome.specs.declared.Stop.the-variants as stop
-use Rattle.run_outcome.specs.declared.ThreadState.{ThreadState}
-use Rattle.run_outcome.specs.declared.ThreadState.the-variants as state
 use Rattle.run_outcome.specs.declared.Outcome.{Outcome}
-use Rattle.engine.specs.Machine.{absent}
-use Rattle.player.specs.Answer.{stopOf, statusOf, outcomeOf}
-use Rattle.player.proofs.Threads.{status-of}
-use Rattle.listing.specs.Listed.{Listed, HAS-N}
-use Rattle.listing.specs.CanFollow.{goesOn, movesOrStops, canFollow, stops}
+use Rattle.open_threads.specs.Open.{LowestFrom}
+use Rattle.engine.specs.declared.Explored.{Explored}
+use Rattle.engine.specs.Exploring.{allPicks}
+use Rattle.engine.proofs.AllPicks.{given-at}
+use Rattle.player.specs.Answer.{stopOf, outcomeOf}
+use Rattle.player.specs.RunOn.{OutcomeOf}
+use Rattle.listing.specs.Listed.{Listed, Whole, HAS-N}
+use Rattle.listing.specs.CanFollow.{canFollow, stops}
+use Rattle.listing.specs.Ways.{Way, Complete}
 use Rattle.listing.proofs.Listed.{complete-of, whole-by}
 use Rattle.listing.proofs.Counted.{counted, counts-few, listed-counts, listed-by-count}
-use Rattle.replays.specs.Open.{isOpen, openAt, openAfter, stopCount, LowestFrom}
-use Rattle.replays.specs.Replay.{OfEight, OutcomeOf, Tells}
-use Rattle.replays.proofs.Lowest.{lowest-ext}
+use Rattle.replays.specs.Replay.{OfEight, stopCount, Explores}
+use Rattle.replays.specs.Told.{Tells, Noted, ListedBy}
+use Rattle.replays.proofs.Opens.{stop-is}
 
--- ---- a thread that can move or stop, by its state
-
-abbrev openStatus : Status → Bool
-openStatus Status.absent = false
-openStatus (Status.finished v) = false
-openStatus Status.ready = true
-openStatus (Status.waiting w) = false
-openStatus (Status.stuck r) = false
-openStatus (Status.lacking o f) = true
-
-by-status : (x : ThreadState) → isOpen x ≡ openStatus (statusOf x)
-unfolding statusOf
-by-status state.Absent = refl
-by-status (state.Finished v) = refl
-by-status state.Ready = refl
-by-status (state.Waiting w) = refl
-by-status (state.Stuck w) = refl
-by-status (state.Lacking o f) = refl
-
-within : (m : Move) (k : Option Room) → movesOrStops (withinRoom m k) ≡ true
-unfolding movesOrStops withinRoom
-within m none = refl
-within m (some k) = refl
-
-by-answer : (s : State) (p : ℕ) (a : Attempt) → openStatus (status a) ≡ movesOrStops (answer s p a)
-unfolding status answer movesOrStops
-by-answer s p Attempt.absent = refl
-by-answer s p (Attempt.finished v) = refl
-by-answer s p (Attempt.waiting w) = refl
-by-answer s p (Attempt.stuck r) = refl
-by-answer s p (Attempt.lacking r) = refl
-by-answer s p (Attempt.moves m) = sym (within m (noRoomFor (m .rule) s p (m .state)))
+-- ---- the counts of an outcome
 
 stop-counts : (e : Stop) → stopCount e ≡ stops (stopOf e)
 unfolding stops stopOf
@@ -73,76 +41,107 @@ stop-counts stop.End = refl
 stop-counts stop.Race = refl
 stop-counts (stop.NoRoom k) = refl
 
--- ---- whether they are listed: there are more than the bound
-
-pub too-long : (plan picks : List ℕ) (n : ℕ) → n < length picks → Tells false (Listed (programOf plan) n picks)
-too-long plan picks n b = (λ e. absurd (true≢false (sym e)), λ e l. let w = l .at-most in omega arith)
-
--- ---- of the outcome of some picks
-
 module _ (plan picks : List ℕ) (o : Outcome) (h : OutcomeOf plan picks o) where
-  abbrev g : Program
-  g = programOf plan
-
-  stop-is : stopOf (o .stop) ≡ play g picks .stop
-  unfolding outcomeOf run.outcomeOf runOf
-  stop-is = ap (λ (x : run.Outcome). x .stop) h
-
-  moves-are : o .moves ≡ length (play g picks .instances)
+  moves-are : o .moves ≡ length (play (programOf plan) picks .instances)
   unfolding outcomeOf run.outcomeOf runOf
   moves-are = ap (λ (x : run.Outcome). x .moves) h
 
-  thread-open : (k : ℕ) → k < 8 → openAt (o .threads) k ≡ movesOrStops (step g (play g picks .final) k)
-  unfolding openAt step runOf
-  thread-open k b =
-      let s = play g picks .final in
-      by-status (getD (o .threads) k absent .state) ∙ ap openStatus (status-of g (runOf plan picks) o h k b) ∙ by-answer s k (attempt g s k)
-
-  pub can-is : (k : ℕ) → k < 8 → openAfter o k ≡ canFollow g picks k
-  unfolding openAfter canFollow
-  can-is k b = ap (λ (e : run.Stop). goesOn e && openAt (o .threads) k) stop-is ∙ ap (λ (x : Bool). goesOn (play g picks .stop) && x) (thread-open k b)
-
-  -- the lowest that can follow
-  pub lowest-follows : (from r : ℕ) → LowestFrom (openAfter o) from r → LowestFrom (canFollow g picks) from r
-  lowest-follows from r l = lowest-ext (openAfter o) (canFollow g picks) from r can-is l
-
-  pub counts-are : o .moves + stopCount (o .stop) ≡ counted (play g picks)
+  pub counts-are : o .moves + stopCount (o .stop) ≡ counted (play (programOf plan) picks)
   counts-are =
-      let e : stopCount (o .stop) ≡ stops (play g picks .stop) = stop-counts (o .stop) ∙ ap stops stop-is in
+      let e : stopCount (o .stop) ≡ stops (play (programOf plan) picks .stop) = stop-counts (o .stop) ∙ ap stops (stop-is plan picks o h) in
       omega (arith, moves-are, e)
 
   pub few-counts : o .moves + stopCount (o .stop) ≤ length picks
-  few-counts = omega (arith, counts-are, counts-few g picks)
+  few-counts = omega (arith, counts-are, counts-few (programOf plan) picks)
 
-  -- ---- whether they are listed: by the counts, and by what can follow
+-- ---- a run goes past the given picks where each of them can follow
 
-  module _ (n : ℕ) where
-    pub miscounted : (o .moves + stopCount (o .stop) ≡ length picks → ⊥) → Tells false (Listed g n picks)
-    miscounted b = (λ e. absurd (true≢false (sym e)), λ e l. b (counts-are ∙ listed-counts g n picks l))
+module _ {plan picks before after : List ℕ} {r : Explored} (x : Explores plan picks before after r) where
+  pub goes-past : length picks ≤ length before → Way (canFollow (programOf plan)) picks → length picks ≤ r .made
+  goes-past room w = by (decLt (r .made) (length picks))
+    where
+      by : Dec (r .made < length picks) → length picks ≤ r .made
+      by (no h) = omega (arith, h)
+      by (yes h) =
+          absurd
+          (true≢false
+          (sym (w .follows (r .made) h)
+          ∙ ap (λ (l : List ℕ). canFollow (programOf plan) l (getD picks (r .made) 0)) (sym (take-append-le (r .made) picks _ (omega arith)))
+          ∙ x .shut (omega arith) (getD picks (r .made) 0) (w .of-eight (r .made) h)))
 
-    module _ (eight : OfEight picks) (most : length picks ≤ n) (c : o .moves + stopCount (o .stop) ≡ length picks) where
-      pub has-n : length picks ≡ n → Tells true (Listed g n picks)
-      has-n e = (λ t. listed-by-count g n picks most eight (sym counts-are ∙ c) (HAS-N e), λ f. absurd (true≢false f))
+-- ---- whether the schedule is listed
 
-      shut : (r : ℕ) → LowestFrom (openAfter o) 0 r → r ≡ 8 → Listed g n picks
-      shut r l e =
-          listed-by-count g n picks most eight (sym counts-are ∙ c)
-          (whole-by g n picks (inr (λ p b. lowest-follows 0 r l .before p (omega arith) (omega arith))))
+not-so : {A : Type 0} → (A → ⊥) → Tells false A
+not-so n = (λ e. absurd (true≢false (sym e)), λ e x. n x)
 
-      open-one : (r : ℕ) → (length picks ≡ n → ⊥) → LowestFrom (openAfter o) 0 r → (r ≡ 8 → ⊥) → Listed g n picks → ⊥
-      open-one r d l e x = by (complete-of g n picks x .ends)
-        where
-          below : r < 8
-          below = omega (arith, l .within, e)
+refused : (g : Program) (n : ℕ) (ps notes : List ℕ) → (Listed g n ps → ⊥) → ListedBy g n ps notes false
+refused g n ps notes x = record { tells = not-so x; noted = λ e. absurd (true≢false (sym e)) }
 
-          by : (length picks ≡ n) ⊎ ((p : ℕ) → p < 8 → canFollow g picks p ≡ false) → ⊥
-          by (inl q) = d q
-          by (inr q) = true≢false (sym (lowest-follows 0 r l .here below) ∙ q r below)
+-- there are more picks than the bound
+pub too-long : (g : Program) (n : ℕ) (ps notes : List ℕ) → n < length ps → ListedBy g n ps notes false
+too-long g n ps notes b = refused g n ps notes (λ l. let w = l .at-most in omega arith)
 
-      -- fewer picks than the bound: by the lowest that can follow
-      pub by-lowest : (r : ℕ) → (length picks ≡ n → ⊥) → LowestFrom (openAfter o) 0 r → Tells (eqb r 8) (Listed g n picks)
-      by-lowest r d l = go (ℕ-discrete r 8)
-        where
-          go : Dec (r ≡ 8) → Tells (eqb r 8) (Listed g n picks)
-          go (yes e) = (λ t. shut r l e, λ f. absurd (true≢false (sym (eq-eqb r 8 e) ∙ f)))
-          go (no e) = (λ t. absurd (true≢false (sym t ∙ ne-eqb r 8 e)), λ f x. open-one r d l e x)
+-- by its run of at most n picks, whose notes come first in an area
+module _ (n : ℕ) {plan ps before after : List ℕ} {r : Explored} (x : Explores plan ps before after r) (most : length ps ≤ n) (long : length before ≡ n)
+    (rest : List ℕ) where
+  abbrev g : Program
+  g = programOf plan
+
+  abbrev notes : List ℕ
+  notes = after ++ rest
+
+  -- where it has as many picks, it is the run of the schedule
+  module _ (m : r .made ≡ length ps) where
+    whole : take (r .made) (allPicks ps after) ≡ ps
+    whole = ap (λ (k : ℕ). take k (allPicks ps after)) m ∙ take-append-seam ps _
+
+    pub its-outcome : OutcomeOf plan ps (r .ran .outcome)
+    its-outcome = along (λ (l : List ℕ). OutcomeOf plan l (r .ran .outcome)) whole (x .outcome)
+
+    noted : Noted g ps notes
+    noted =
+        record {
+          room = omega (arith, x .kept, length-append after rest);
+          higher = λ i h.
+              let l = x .noted i (omega (arith, m, h)) .higher in
+              along (λ (p : ℕ). LowestFrom (canFollow g (take i ps)) (p + 1) (getD notes i 0 % 16)) (given-at ps after i h)
+              (along (λ (q : List ℕ). LowestFrom (canFollow g q) (getD (allPicks ps after) i 0 + 1) (getD notes i 0 % 16)) (take-append-le i ps _ (omega arith))
+              (along (λ (y : ℕ). LowestFrom (canFollow g (take i (allPicks ps after))) (getD (allPicks ps after) i 0 + 1) (y % 16))
+              (sym (List·getD-append after rest 0 i (omega (arith, x .kept)))) l));
+        }
+
+    ends : Whole g n ps
+    ends = by (ℕ-discrete (length ps) n)
+      where
+        by : Dec (length ps ≡ n) → Whole g n ps
+        by (yes e) = HAS-N e
+        by (no e) = whole-by g n ps (inr (λ p b. ap (λ (l : List ℕ). canFollow g l p) (sym whole) ∙ x .shut (omega (arith, m, most, long, e)) p b))
+
+    pub by-count : OfEight ps → ListedBy g n ps notes (eqb (r .ran .outcome .moves + stopCount (r .ran .outcome .stop)) (length ps))
+    by-count eight = by (ℕ-discrete c (length ps))
+      where
+        c : ℕ
+        c = r .ran .outcome .moves + stopCount (r .ran .outcome .stop)
+
+        are : c ≡ counted (play g ps)
+        are = counts-are plan ps (r .ran .outcome) its-outcome
+
+        by : Dec (c ≡ length ps) → ListedBy g n ps notes (eqb c (length ps))
+        by (yes e) =
+            along (ListedBy g n ps notes) (sym (eq-eqb c (length ps) e))
+            (record { tells = (λ t. listed-by-count g n ps most eight (sym are ∙ e) ends, λ f. absurd (true≢false f)); noted = λ t. noted })
+        by (no e) = along (ListedBy g n ps notes) (sym (ne-eqb c (length ps) e)) (refused g n ps notes (λ l. e (are ∙ listed-counts g n ps l)))
+
+  -- where it has not, a pick of the schedule cannot follow, or another can behind it
+  pub not-all : (r .made ≡ length ps → ⊥) → ListedBy g n ps notes false
+  not-all d = refused g n ps notes (λ l. by (complete-of g n ps l))
+    where
+      more : length ps < r .made → (length ps ≡ n) ⊎ ((p : ℕ) → p < 8 → canFollow g ps p ≡ false) → ⊥
+      more h (inl e) = omega (arith, x .within)
+      more h (inr e) =
+          let a = x .noted (length ps) h in
+          let q = getD (allPicks ps after) (length ps) 0 in
+          true≢false (sym (a .lowest (omega arith) .here (a .of-eight)) ∙ ap (λ (l : List ℕ). canFollow g l q) (take-append-seam ps _) ∙ e q (a .of-eight))
+
+      by : Complete (canFollow g) n ps → ⊥
+      by c = more (omega (arith, d, goes-past x (omega arith) (c .way))) (c .ends)

@@ -1,3 +1,2 @@
-pub mod Open
 pub mod Replay
-pub mod Taken
+pub mod Told

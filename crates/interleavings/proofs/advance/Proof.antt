@@ -8,9 +8,24 @@ use borrow.Author.Needs.{needs}
 use Rattle.packed.specs.Trees.{programOf}
 use Rattle.interleavings.specs.declared.Next.the-variants as next
 use Rattle.interleavings.specs.Steps.{Followed}
-use Rattle.interleavings.proofs.Counting.{to-follow, at-end, written-fits, written-room, stands-next}
+use Rattle.interleavings.proofs.Counting.{to-note, to-follow, at-end, written-fits, written-room, stands-next}
 use Rattle.interleavings.proofs.advance.Statement.{statement}
 use Rattle.interleavings.proofs.advance.Tie as tie
+
+sub-listed : tie.Need-sub-listed
+sub-listed c = search needs
+
+part-listed-start : tie.Need-part-listed-start
+part-listed-start c = search needs
+
+part-listed-end : tie.Need-part-listed-end
+part-listed-end c = search needs
+
+slice-aggregate-listed : tie.Need-slice-aggregate-listed
+slice-aggregate-listed c = search needs
+
+listed-requires : tie.Need-listed-requires
+listed-requires c κs = let s = c .before .before .before .before .before in to-note (s .pre) _ (s .pre .bound)
 
 sub-following : tie.Need-sub-following
 sub-following c = search needs
@@ -24,8 +39,14 @@ part-following-end c = search needs
 slice-aggregate-following : tie.Need-slice-aggregate-following
 slice-aggregate-following c = search needs
 
+slice-aggregate-following-2 : tie.Need-slice-aggregate-following-2
+slice-aggregate-following-2 c = search needs
+
 following-requires : tie.Need-following-requires
-following-requires c κs = let s = c .before .before .before .before .before in to-follow (s .pre) _ (s .pre .bound)
+following-requires c κs =
+    let l = c .before .before .before .before .before in
+    let s = l .before .before .before .before .before .before in
+    to-follow (s .pre) _ _ (l .listed .result) (l .listed .ensures) (s .pre .bound)
 
 enum-known-next : tie.Need-enum-known-next
 enum-known-next c = search needs
@@ -34,7 +55,7 @@ enum-known-next c = search needs
 
 module _ (c : tie.After-known-told) where
   abbrev began : tie.Start
-  began = c .before .before .before .before .before .before .before .before .before .before
+  began = c .before .before .before .before .before .before .before .before .before .before .before .before .before .before .before .before
 
   abbrev given : List ℕ
   given = take (began .args .picks - 0) (began .args .area .now)
@@ -44,7 +65,7 @@ module _ (c : tie.After-known-told) where
   room = replicate 64 0
 
   abbrev after : List ℕ
-  after = c .before .before .before .before .following .last .1 .1 .1 .1 .0
+  after = c .before .before .before .before .following .last .1 .1 .1 .1 .1 .0
 
   written : Followed (programOf (began .args .plan .now)) (began .args .n) given room after (next.Written (c .before .next .given .0 .0))
   written =
@@ -84,7 +105,7 @@ same-length-2 c = search needs
 returns-2 : tie.Need-returns-2
 returns-2 c =
     let f = c .before .before .before in
-    let s = f .before .before .before .before .before .before in
+    let s = f .before .before .before .before .before .before .before .before .before .before .before .before in
     at-end (s .pre) _ _
     (along (Followed (programOf (s .args .plan .now)) (s .args .n) (take (s .args .picks - 0) (s .args .area .now)) _ _) (c .enum-told .given .1)
     (f .following .ensures))
@@ -95,7 +116,7 @@ same-length-3 c = search needs
 returns-3 : tie.Need-returns-3
 returns-3 c =
     let f = c .before .before .before .before in
-    let s = f .before .before .before .before .before .before in
+    let s = f .before .before .before .before .before .before .before .before .before .before .before .before in
     along (Followed (programOf (s .args .plan .now)) (s .args .n) (take (s .args .picks - 0) (s .args .area .now)) _ _) (c .before .next2 .given .1)
     (f .following .ensures)
 
@@ -103,10 +124,16 @@ pub advance-spec : {M : Type 1} → statement M
 advance-spec =
     tie.close
     (tie.spec
+    sub-listed
+    part-listed-start
+    part-listed-end
+    slice-aggregate-listed
+    listed-requires
     sub-following
     part-following-start
     part-following-end
     slice-aggregate-following
+    slice-aggregate-following-2
     following-requires
     enum-known-next
     sub-put-word

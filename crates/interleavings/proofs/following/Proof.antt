@@ -7,23 +7,16 @@ use lib.ListN.{length, take}
 use borrow.Author.Needs.{needs}
 use Rattle.packed.specs.Syntax.{Program}
 use Rattle.packed.specs.Trees.{programOf}
-use Rattle.listing.proofs.Listed.{complete-of}
 use Rattle.text.specs.Wrote.{Wrote}
 use Rattle.text.proofs.Added.{added-more}
-use Rattle.interleavings.specs.Steps.{TurnsAt, TurnsFrom}
-use Rattle.interleavings.proofs.GoingBack.{over}
+use Rattle.interleavings.specs.Steps.{LastTurn, TurnsAt}
+use Rattle.interleavings.proofs.GoingBack.{none-higher-at, turns-at, over}
 use Rattle.interleavings.proofs.Answers.{turn-fits, begins, followed}
 use Rattle.interleavings.proofs.following.Statement.{statement}
 use Rattle.interleavings.proofs.following.Tie as tie
 
-go-back-requires : tie.Need-go-back-requires
-go-back-requires c κs =
-    let s = c .before .before .before in
-    let p = s .pre in
-    record {
-      replayable = record { accepted = p .accepted; few = omega (arith, p .listed .at-most, p .bound); of-eight = p .listed .of-eight };
-      way = complete-of (programOf (s .args .plan .now)) (s .args .n) (s .args .schedule .now) (p .listed) .way;
-    }
+last-turn-requires : tie.Need-last-turn-requires
+last-turn-requires c κs = search needs
 
 enum-told : tie.Need-enum-told
 enum-told c = search needs
@@ -34,7 +27,7 @@ enum-known-turn c = search needs
 -- where a higher thread can be picked
 module _ (c : tie.After-known-told) where
   abbrev began : tie.Start
-  began = c .before .before .before .before .before .before .before
+  began = c .before .before .before .before .before .before .before .before
 
   abbrev g : Program
   g = programOf (began .args .plan .now)
@@ -46,7 +39,10 @@ module _ (c : tie.After-known-told) where
   pick = c .before .turn .given .0 .1 .0
 
   turns : TurnsAt g (began .args .schedule .now) place pick
-  turns = along (TurnsFrom g (began .args .schedule .now) 0) (c .before .turn .given .1) (c .before .before .before .go-back .ensures)
+  turns =
+      turns-at g (began .args .schedule .now) (began .args .notes .now) (began .pre .noted) place pick
+      (along (LastTurn (began .args .notes .now) (length (began .args .schedule .now))) (c .before .turn .given .1)
+      (c .before .before .before .last-turn .ensures))
 
   room : length (take (place - 0) (began .args .schedule .now)) + 1 ≤ length (began .args .area .now)
   room = let s = began in turn-fits g (s .args .n) (s .args .schedule .now) (s .pre .listed) (s .args .area .now) (s .pre .long) place pick turns
@@ -94,9 +90,11 @@ go-on-requires c κs =
 
 returns : tie.Need-returns
 returns c =
-    let s = c .before .before .before .before .before .before in (
-      over (programOf (s .args .plan .now)) (s .args .n) (s .args .schedule .now) (s .pre .listed)
-          (along (TurnsFrom (programOf (s .args .plan .now)) (s .args .schedule .now) 0) (c .enum-told .given .1) (c .before .before .go-back .ensures)),
+    let s = c .before .before .before .before .before .before .before in
+    let g = programOf (s .args .plan .now) in
+    let t = along (LastTurn (s .args .notes .now) (length (s .args .schedule .now))) (c .enum-told .given .1) (c .before .before .last-turn .ensures) in (
+      over g (s .args .n) (s .args .schedule .now) (s .pre .listed)
+          (λ i h. none-higher-at g (s .args .schedule .now) (s .args .notes .now) (s .pre .noted) i h (t i h)),
       refl,
     )
 
@@ -115,7 +113,7 @@ pub following-spec : {M : Type 1} → statement M
 following-spec =
     tie.close
     (tie.spec
-    go-back-requires
+    last-turn-requires
     enum-told
     enum-known-turn
     sub-put-word

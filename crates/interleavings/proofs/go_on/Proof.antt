@@ -1,127 +1,74 @@
 -- `go_on` meets its contract. Assumes nothing.
-use Prim.Native.Nat.{_-_, _≤_, _<_}
+use Prim.Native.Nat.{ℕ, _-_, _≤_}
+use native.Mathlib.Nat.{sub-zero}
 use native.Mathlib.Omega.{arith}
-use mathlib.Core.Logic.{inl, inr}
+use mathlib.Core.Path.{_≡_, sym, _∙_}
+use lib.ListN.{length, take, replicate}
+use lib.Seq.{length-take-le, length-front}
 use borrow.Author.Needs.{needs}
-use Rattle.packed.specs.Trees.{programOf}
-use Rattle.interleavings.specs.Steps.{WentOn}
-use Rattle.interleavings.proofs.GoingOn.{start, so-far, more, none-can, ends}
+use Rattle.interleavings.proofs.GoingOn.{first-is, can-explore, puts, reached}
 use Rattle.interleavings.proofs.go_on.Statement.{statement}
 use Rattle.interleavings.proofs.go_on.Tie as tie
 
-abbrev Inv-loop : tie.InvT-loop
-Inv-loop plan words n area₀ from at₀ guess₀ area at guess = WentOn (programOf plan) n from area₀ area at × (guess ≤ 7)
+-- room for n notes
+few : (n : ℕ) → n ≤ 64 → length (take {A = ℕ} (n - 0) (replicate 64 0)) ≡ n
+few n h = length-take-le (n - 0) (replicate 64 0) (omega arith) ∙ sub-zero n
 
-abbrev μ-loop : tie.MeasureT-loop
-μ-loop plan words n area₀ from at₀ guess₀ area at guess = n - at
+sub-explore : tie.Need-sub-explore
+sub-explore c = search needs
 
-loop-holds : tie.Need-loop-holds Inv-loop μ-loop
-loop-holds c =
-    let s = c .before .before in
-    (start (programOf (s .args .plan .now)) (s .args .n) (s .args .from) (s .args .area .now) (s .pre .within) (s .pre .way), omega arith)
+part-explore-start : tie.Need-part-explore-start
+part-explore-start c = search needs
 
-stretch-requires : tie.Need-stretch-requires Inv-loop μ-loop
-stretch-requires c κs =
-    let l = c .before .before in
-    let s = l .before .before .before in
-    let w = l .loop .inv .0 in (
-      record { accepted = s .pre .accepted; bound = s .pre .bound; long = omega (arith, s .pre .long, w .kept); within = w .within; way = w .way },
-      l .loop .inv .1,
-    )
+part-explore-end : tie.Need-part-explore-end
+part-explore-end c = search needs
 
--- ---- after a stretch
+sub-explore-2 : tie.Need-sub-explore-2
+sub-explore-2 c = search needs
 
-module _ (c : tie.After-stretch Inv-loop μ-loop) where
-  abbrev began : tie.Start Inv-loop μ-loop
-  began = c .before .before .before .before .before .before
+part-notes-start : tie.Need-part-notes-start
+part-notes-start c = search needs
 
-  went : WentOn (programOf (began .args .plan .now)) (began .args .n) (began .args .from) (began .args .area .now) (c .stretch .last .1 .1 .1 .0)
-      (c .stretch .result)
-  went = c .stretch .ensures .1 (began .args .from) (began .args .area .now) (began .pre .long) (c .before .before .before .loop .inv .0)
+part-notes-end : tie.Need-part-notes-end
+part-notes-end c = search needs
 
-same-length : tie.Need-same-length Inv-loop μ-loop
+explore-requires : tie.Need-explore-requires
+explore-requires c κs = let s = c .before .before .before .before .before in can-explore (s .pre) _ (few (s .args .n) (s .pre .bound))
+
+slice-aggregate-put-noted : tie.Need-slice-aggregate-put-noted
+slice-aggregate-put-noted c =
+    let x = c .before .before in
+    let s = x .before .before .before .before .before .before in
+    sym (length-front (replicate 64 0) (x .explore .last .1 .1 .1 .0) (s .args .n - 0) (x .explore .ensures .kept))
+
+put-noted-requires : tie.Need-put-noted-requires
+put-noted-requires c κs =
+    let x = c .before .before .before in
+    let s = x .before .before .before .before .before .before in
+    puts (s .pre) (x .explore .ensures) (first-is (s .pre)) (few (s .args .n) (s .pre .bound)) _
+
+same-length : tie.Need-same-length
 same-length c = search needs
 
-returns : tie.Need-returns Inv-loop μ-loop
+returns : tie.Need-returns
 returns c =
-    let t = c .before .before .before in
-    ends _ _ _ _ _ _ (went t) (began t .pre .long) (inl (c .if1 .taken))
-
-sub-next-pick : tie.Need-sub-next-pick Inv-loop μ-loop
-sub-next-pick c = search needs
-
-part-next-pick-start : tie.Need-part-next-pick-start Inv-loop μ-loop
-part-next-pick-start c = search needs
-
-part-next-pick-end : tie.Need-part-next-pick-end Inv-loop μ-loop
-part-next-pick-end c = let t = c .before .before .before .before in omega (arith, went t .within, went t .kept, began t .pre .long)
-
-next-pick-requires : tie.Need-next-pick-requires Inv-loop μ-loop
-next-pick-requires c κs =
-    let t = c .before .before .before .before .before in
-    let s = began t in
-    (so-far _ _ _ _ _ _ (went t) (s .pre .long) (s .args .plan .now) (s .args .words .now) (s .pre .accepted) (s .pre .bound), omega arith)
-
-same-length-2 : tie.Need-same-length-2 Inv-loop μ-loop
-same-length-2 c = search needs
-
-returns-2 : tie.Need-returns-2 Inv-loop μ-loop
-returns-2 c =
-    let t = c .before .before .before .before .before .before .before in
-    ends _ _ _ _ _ _ (went t) (began t .pre .long)
-    (inr (none-can _ _ _ _ _ _ (went t) (began t .pre .long) (c .before .next-pick .result) (c .if2 .taken) (c .before .next-pick .ensures)))
-
-cast-area : tie.Need-cast-area Inv-loop μ-loop
-cast-area c = search needs
-
-slice-write-area : tie.Need-slice-write-area Inv-loop μ-loop
-slice-write-area c =
-    let t = c .before .before .before .before .before .before .before in
-    omega (arith, went t .within, went t .kept, began t .pre .long, c .before .before .before .before .if1 .left)
-
-add-at : tie.Need-add-at Inv-loop μ-loop
-add-at c = let t = c .before .before .before .before .before .before .before in omega (arith, went t .within, began t .pre .bound)
-
-loop-less : tie.Need-loop-less Inv-loop μ-loop
-loop-less c = let t = c .before .before .before .before .before .before .before in omega (arith, t .stretch .ensures .0, t .before .before .loop-test .taken)
-
-loop-again : tie.Need-loop-again Inv-loop μ-loop
-loop-again c =
-    let t = c .before .before .before .before .before .before .before in
-    let l = c .before .next-pick in
-    let b : l .result < 8 = omega (arith, c .if2 .left, l .ensures .within) in (
-      more _ _ _ _ _ _ (went t) (began t .pre .long) (l .result) (omega (arith, went t .within, c .before .before .before .before .if1 .left)) b (l .ensures),
-      omega (arith, b),
-    )
-
-same-length-3 : tie.Need-same-length-3 Inv-loop μ-loop
-same-length-3 c = search needs
-
-returns-3 : tie.Need-returns-3 Inv-loop μ-loop
-returns-3 c =
-    let w = c .before .loop .inv .0 in
-    ends _ _ _ _ _ _ w (c .before .before .before .before .pre .long) (inl (omega (arith, w .within, c .loop-test .left)))
+    let p = c .before .before in
+    let x = p .before .before .before .before in
+    let s = x .before .before .before .before .before .before in
+    reached (s .pre) (x .explore .ensures) (first-is (s .pre)) (few (s .args .n) (s .pre .bound)) _ _ (p .put-noted .ensures)
 
 pub go-on-spec : {M : Type 1} → statement M
 go-on-spec =
     tie.close
     (tie.spec
-    Inv-loop
-    μ-loop
-    loop-holds
-    stretch-requires
+    sub-explore
+    part-explore-start
+    part-explore-end
+    sub-explore-2
+    part-notes-start
+    part-notes-end
+    explore-requires
+    slice-aggregate-put-noted
+    put-noted-requires
     same-length
-    returns
-    sub-next-pick
-    part-next-pick-start
-    part-next-pick-end
-    next-pick-requires
-    same-length-2
-    returns-2
-    cast-area
-    slice-write-area
-    add-at
-    loop-less
-    loop-again
-    same-length-3
-    returns-3)
+    returns)

@@ -22,10 +22,10 @@ began c = c .before .before .before .before .before .before .before
 
 -- and 19
 abbrev given : tie.Else2 → tie.Start
-given c = began (c .before .before .before .before)
+given c = began (c .before .before .before .before .before .before)
 
 listed-one : (c : tie.Else2) → Listed (programOf (given c .args .plan .now)) (given c .args .n) (given c .args .schedule .now)
-listed-one c = c .before .listed .ensures .0 (not-false _ (c .if2 .left))
+listed-one c = c .before .before .listed .ensures .tells .0 (not-false _ (c .if2 .left))
 
 returns : tie.Need-returns
 returns c =
@@ -34,39 +34,48 @@ returns c =
     let x = p .before .before .schedule-refusal in
     next-over-bound (a .plan .now) (a .n) (a .schedule .now) (a .area .now) (x .result) (x .ensures .0) (p .enum-told .given .1) (c .if1 .taken)
 
+slice-aggregate-listed : tie.Need-slice-aggregate-listed
+slice-aggregate-listed c = search needs
+
 listed-requires : tie.Need-listed-requires
 listed-requires c κs =
-    let p = c .before .before in
+    let k = c .before .before in
+    let p = k .before in
     let a = began p .args in
     let x = p .before .before .schedule-refusal in
-    let e = p .enum-told .given .1 in (
-      given-plan (a .plan .now) (a .n) (a .schedule .now) (a .area .now) (x .result) (x .ensures .0) e _ (x .ensures .1 e),
-      given-picks (a .plan .now) (a .n) (a .schedule .now) (a .area .now) (x .result) (x .ensures .0) e,
-      c .before .if1 .left,
-    )
+    let e = p .enum-told .given .1 in
+    record {
+      accepted = given-plan (a .plan .now) (a .n) (a .schedule .now) (a .area .now) (x .result) (x .ensures .0) e _ (x .ensures .1 e);
+      of-eight = given-picks (a .plan .now) (a .n) (a .schedule .now) (a .area .now) (x .result) (x .ensures .0) e;
+      bound = k .if1 .left;
+      room = k .if1 .left;
+    }
 
 returns-2 : tie.Need-returns-2
 returns-2 c =
-    let k = c .before .before .before in
+    let k = c .before .before .before .before .before in
     let p = k .before in
     let a = began p .args in
     let x = p .before .before .schedule-refusal in
     next-not-listed (a .plan .now) (a .n) (a .schedule .now) (a .area .now) (x .result) (x .ensures .0) (p .enum-told .given .1) (k .if1 .left)
-    (c .before .listed .ensures .1 (not-true _ (c .if2 .taken)))
+    (c .before .before .listed .ensures .tells .1 (not-true _ (c .if2 .taken)))
 
 returns-3 : tie.Need-returns-3
 returns-3 c =
-    let k = c .before .before .before .before in
+    let k = c .before .before .before .before .before .before in
     let p = k .before in
     let a = began p .args in
     let x = p .before .before .schedule-refusal in
     next-short (a .plan .now) (a .n) (a .schedule .now) (a .area .now) (x .result) (x .ensures .0) (p .enum-told .given .1) (k .if1 .left)
     (listed-one (c .before)) (c .if3 .taken)
 
+slice-aggregate-following : tie.Need-slice-aggregate-following
+slice-aggregate-following c = search needs
+
 following-requires : tie.Need-following-requires
 following-requires c κs =
-    let s = c .before .before in
-    let k = s .before .before .before .before in
+    let s = c .before .before .before in
+    let k = s .before .before .before .before .before .before in
     let p = k .before in
     let a = began p .args in
     let x = p .before .before .schedule-refusal in
@@ -76,6 +85,7 @@ following-requires c κs =
       bound = k .if1 .left;
       long = s .if3 .left;
       listed = listed-one (s .before);
+      noted = s .before .before .before .listed .ensures .noted (not-false _ (s .before .if2 .left));
     }
 
 returns-4 : tie.Need-returns-4
@@ -90,8 +100,8 @@ same-length c = search needs
 returns-5 : tie.Need-returns-5
 returns-5 c =
     let f = c .before .before .following in
-    let s = c .before .before .before .before .before in
-    let k = s .before .before .before .before in
+    let s = c .before .before .before .before .before .before in
+    let k = s .before .before .before .before .before .before in
     let p = k .before in
     let a = began p .args in
     let x = p .before .before .schedule-refusal in
@@ -106,9 +116,11 @@ next-interleaving-spec =
     enum-known-checked
     enum-told
     returns
+    slice-aggregate-listed
     listed-requires
     returns-2
     returns-3
+    slice-aggregate-following
     following-requires
     returns-4
     same-length

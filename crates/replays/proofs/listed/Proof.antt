@@ -1,72 +1,91 @@
 -- `listed` meets its contract. Assumes nothing.
-use Prim.Native.Nat.{ℕ, _+_}
+use Prim.Native.Nat.{ℕ, _-_, _≤_}
+use native.Mathlib.Nat.{sub-zero}
 use native.Mathlib.Omega.{arith}
-use mathlib.Core.Path.{sym, ap, _∙_}
+use mathlib.Core.Path.{_≡_, _∙_}
+use mathlib.Core.List.{List, []}
+use lib.ListN.{length, take}
+use lib.Seq.{length-take-le}
 use borrow.Author.Needs.{needs}
-use Rattle.replays.proofs.Told.{few-counts, too-long, miscounted, has-n, by-lowest}
+use Rattle.packed.specs.Trees.{programOf}
+use Rattle.replays.proofs.Told.{few-counts, too-long, its-outcome, by-count, not-all}
 use Rattle.replays.proofs.listed.Statement.{statement}
 use Rattle.replays.proofs.listed.Tie as tie
 
-returns : tie.Need-returns
-returns c = let a = c .before .before .before .args in too-long (a .plan .now) (a .schedule .now) (a .n) (c .if1 .taken)
+-- the notes that the run is given
+notes-length : (n : ℕ) (notes : List ℕ) → n ≤ length notes → length (take (n - 0) notes) ≡ n
+notes-length n notes h = length-take-le (n - 0) notes (omega arith) ∙ sub-zero n
 
-replay-requires : tie.Need-replay-requires
-replay-requires c κs = let s = c .before .before .before in record { accepted = s .pre .0; few = omega (arith, s .pre .2, c .if1 .left); of-eight = s .pre .1 }
+-- what the run of at most n picks tells
+module _ (c : tie.After-explore) where
+  abbrev began : tie.Start
+  began = c .before .before .before .before .before .before
+
+  abbrev most : length (began .args .schedule .now) ≤ began .args .n
+  most = c .before .before .if1 .left
+
+  abbrev long : length (take (began .args .n - 0) (began .args .notes .now)) ≡ began .args .n
+  long = notes-length (began .args .n) (began .args .notes .now) (began .pre .room)
+
+returns : tie.Need-returns
+returns c = let s = c .before .before .before .before in too-long (programOf (s .args .plan .now)) (s .args .n) (s .args .schedule .now) _ (c .if1 .taken)
+
+sub-explore : tie.Need-sub-explore
+sub-explore c = search needs
+
+part-explore-start : tie.Need-part-explore-start
+part-explore-start c = search needs
+
+part-explore-end : tie.Need-part-explore-end
+part-explore-end c = search needs
+
+explore-requires : tie.Need-explore-requires
+explore-requires c κs =
+    let s = c .before .before .before .before .before in
+    let m = notes-length (s .args .n) (s .args .notes .now) (s .pre .room) in
+    let b = c .before .if1 .left in
+    record { accepted = s .pre .accepted; of-eight = s .pre .of-eight; room = omega (arith, m, b); few = omega (arith, m, s .pre .bound) }
+
+same-length : tie.Need-same-length
+same-length c = search needs
+
+returns-2 : tie.Need-returns-2
+returns-2 c =
+    let r = c .before .before .before .before in
+    not-all (began r .args .n) (r .explore .ensures) (most r) (long r) _ (c .if2 .taken)
 
 stop-count-requires : tie.Need-stop-count-requires
 stop-count-requires c κs = search needs
 
-add-if2 : tie.Need-add-if2
-add-if2 c =
-    let r = c .before .before .replay in
-    let e = c .before .before .before in
-    let s = e .before .before .before in
-    record {
-      fits = omega (
-        arith,
-        few-counts (s .args .plan .now) (s .args .schedule .now) (r .result) (r .ensures),
-        c .before .stop-count .ensures,
-        e .if1 .left,
-        s .pre .2,
-      );
-    }
+add-result : tie.Need-add-result
+add-result c =
+    let t = c .before .before .before .before in
+    let r = t .before .before .before .before in
+    let o = its-outcome (began r .args .n) (r .explore .ensures) (most r) (long r) [] (t .if2 .left) in
+    record { fits = omega (arith, few-counts _ _ _ o, c .before .stop-count .ensures, most r, began r .pre .bound) }
 
-returns-2 : tie.Need-returns-2
-returns-2 c =
-    let r = c .before .before .before .replay in
-    let a = c .before .before .before .before .before .before .before .args in
-    miscounted (a .plan .now) (a .schedule .now) (r .result) (r .ensures) (a .n)
-    (λ e. c .if2 .taken (ap (λ (x : ℕ). r .result .moves + x) (c .before .before .stop-count .ensures) ∙ e))
+same-length-2 : tie.Need-same-length-2
+same-length-2 c = search needs
 
 returns-3 : tie.Need-returns-3
 returns-3 c =
-    let r = c .before .before .before .before .replay in
-    let e = c .before .before .before .before .before in
-    let s = e .before .before .before in
-    has-n (s .args .plan .now) (s .args .schedule .now) (r .result) (r .ensures) (s .args .n) (s .pre .1) (omega (arith, e .if1 .left))
-    (ap (λ (x : ℕ). r .result .moves + x) (sym (c .before .before .before .stop-count .ensures)) ∙ c .before .if2 .left) (c .if3 .taken)
-
-follower-requires : tie.Need-follower-requires
-follower-requires c κs = search needs
-
-returns-4 : tie.Need-returns-4
-returns-4 c =
-    let r = c .before .before .before .before .before .replay in
-    let e = c .before .before .before .before .before .before in
-    let s = e .before .before .before in
-    by-lowest (s .args .plan .now) (s .args .schedule .now) (r .result) (r .ensures) (s .args .n) (s .pre .1) (omega (arith, e .if1 .left))
-    (ap (λ (x : ℕ). r .result .moves + x) (sym (c .before .before .before .before .stop-count .ensures)) ∙ c .before .before .if2 .left) (c .follower .result)
-    (c .before .if3 .left) (c .follower .ensures)
+    let t = c .before .before .before .before in
+    let r = t .before .before .before .before in
+    rw (c .before .stop-count .ensures)
+    (by-count (began r .args .n) (r .explore .ensures) (most r) (long r) _ (t .if2 .left) (began r .pre .of-eight))
 
 pub listed-spec : {M : Type 1} → statement M
 listed-spec =
     tie.close
     (tie.spec
     returns
-    replay-requires
-    stop-count-requires
-    add-if2
+    sub-explore
+    part-explore-start
+    part-explore-end
+    explore-requires
+    same-length
     returns-2
-    returns-3
-    follower-requires
-    returns-4)
+    stop-count-requires
+    add-result
+    same-length-2
+    returns-3)

@@ -1,4 +1,0 @@
-pub mod Lowest
-pub mod Opens
-pub mod Reached
-pub mod SoFar
