@@ -94,21 +94,30 @@ pub fn obey(count: usize, word: &[u8], first: &[u8], second: &[u8], third: &[u8]
     }
 }
 
+// The third argument of the word.
+fn with_second(word: &[u8], first: &[u8], second: &[u8]) {
+    let mut third = io::buffer();
+    let length = os::arg(4, &mut third);
+    obey(os::arg_count(), word, first, second, &third[..length]);
+}
+
+// The second.
+fn with_first(word: &[u8], first: &[u8]) {
+    let mut second = io::buffer();
+    let length = os::arg(3, &mut second);
+    with_second(word, first, &second[..length]);
+}
+
+// The first.
+fn with_word(word: &[u8]) {
+    let mut first = io::buffer();
+    let length = os::arg(2, &mut first);
+    with_first(word, &first[..length]);
+}
+
 // The whole program.
 pub fn run() {
     let mut word = io::buffer();
-    let word_length = os::arg(1, &mut word);
-    let mut first = io::buffer();
-    let first_length = os::arg(2, &mut first);
-    let mut second = io::buffer();
-    let second_length = os::arg(3, &mut second);
-    let mut third = io::buffer();
-    let third_length = os::arg(4, &mut third);
-    obey(
-        os::arg_count(),
-        &word[..word_length],
-        &first[..first_length],
-        &second[..second_length],
-        &third[..third_length],
-    );
+    let length = os::arg(1, &mut word);
+    with_word(&word[..length]);
 }

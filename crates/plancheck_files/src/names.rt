@@ -60,6 +60,9 @@ fn of_number(word: &[u8], number: usize) -> Found {
     if check::same(word, b"diagram") {
         return Found::Log(LogWord::Diagram(number));
     }
+    if check::same(word, b"interleavings") {
+        return Found::Plan(Word::Interleavings(number));
+    }
     of_schedule(word)
 }
 
@@ -117,8 +120,9 @@ plancheck comtrade LOG DATA CONFIGURATION\n\
 plancheck witness PLAN SCHEDULE\n\
 plancheck bound PLAN\n\
 plancheck charge PLAN SCHEDULE\n\
+plancheck interleavings PLAN PICKS\n\
 A file is its path, or - for standard input. A PLAN is text or packed bytes;\n\
 a SCHEDULE is a file of digits or packed picks, or its digits, as in 0000010.\n\
-VERSION is the plan's, 0 or 1.\n",
+VERSION is the plan's, 0 or 1; PICKS is how many an interleaving has at most.\n",
     );
 }

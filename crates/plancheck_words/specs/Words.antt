@@ -7,6 +7,7 @@ use Rattle.read_lines.specs.Reasons.{failureLine}
 use Rattle.plan_words.specs.Texts.{checkText, planText, showText, canonicalText, boundText}
 use Rattle.run_words.specs.Texts.{chargeText, WitnessText}
 use Rattle.run_words.specs.Runs.{PlayText, threadsText, previewText, logText}
+use Rattle.interleaving_lines.specs.Lines.{InterleavingsText}
 use Rattle.plancheck_words.specs.Given.{Given, plan, noPlan}
 use Rattle.plancheck_words.specs.declared.Word.{Word}
 use Rattle.plancheck_words.specs.declared.Word.the-variants as word
@@ -24,6 +25,7 @@ SaysBy (word.Preview pick) p s text = text ≡ previewText p s pick
 SaysBy word.Log p s text = text ≡ logText p s
 SaysBy word.Witness p s text = WitnessText p s text
 SaysBy word.Charge p s text = text ≡ chargeText p s
+SaysBy (word.Interleavings n) p s text = InterleavingsText p n text
 
 pub record Says (w : Word) (p s text : List ℕ) : Type 0 where
   pub so : SaysBy w p s text

@@ -23,6 +23,7 @@ pub enum Word {
     Log,
     Witness,
     Charge,
+    Interleavings(usize),
 }
 
 // The answer to a packed plan.
@@ -42,6 +43,7 @@ fn packed_text(word: Word, plan: &[u8], schedule: &[u8], area: &mut [u8]) -> usi
         Word::Log => told::log_text(plan, schedule, area),
         Word::Witness => run_words::witness_text(plan, schedule, area),
         Word::Charge => run_words::charge_text(plan, schedule, area),
+        Word::Interleavings(n) => interleaving_lines::interleavings_text(plan, n, area),
     }
 }
 

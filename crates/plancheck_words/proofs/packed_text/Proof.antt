@@ -71,6 +71,12 @@ enum-told-10 c = search needs
 charge-text-requires : tie.Need-charge-text-requires
 charge-text-requires c κs = search needs
 
+enum-known-word-2 : tie.Need-enum-known-word-2
+enum-known-word-2 c = search needs
+
+interleavings-text-requires : tie.Need-interleavings-text-requires
+interleavings-text-requires c κs = search needs
+
 same-length : tie.Need-same-length
 same-length c = search needs
 
@@ -159,6 +165,14 @@ returns-11 c =
     let charge-text = c .before .before .charge-text in
     says-text (c .before .before .before .before .enum-told10 .given .1) refl (charge-text .ensures)
 
+same-length-12 : tie.Need-same-length-12
+same-length-12 c = search needs
+
+returns-12 : tie.Need-returns-12
+returns-12 c =
+    let interleavings-text = c .before .before .interleavings-text in
+    says-text (c .before .before .before .before .before .word2 .given .1) (interleavings-text .ensures .says) (interleavings-text .ensures .wrote)
+
 pub packed-text-spec : {M : Type 1} → statement M
 packed-text-spec =
     tie.close
@@ -185,6 +199,8 @@ packed-text-spec =
     witness-text-requires
     enum-told-10
     charge-text-requires
+    enum-known-word-2
+    interleavings-text-requires
     same-length
     returns
     same-length-2
@@ -206,4 +222,6 @@ packed-text-spec =
     same-length-10
     returns-10
     same-length-11
-    returns-11)
+    returns-11
+    same-length-12
+    returns-12)
