@@ -161,6 +161,14 @@ SHOTS = [
     (PLAN_P, [8], [9, 0], None),
 ]
 
+# the relay test of examples/relay: a plan by its name, picks, and the outcome, picks, moves and records
+RELAY = [
+    ("plain", "000000011222220", ("end", 15, 15, 7)),
+    ("plain", "000000001122222", ("race", 14, 14, 7)),
+    ("volatile", "000000001122222", ("end", 15, 15, 7)),
+    ("monitor", "0000000000112222222", ("end", 19, 19, 11)),
+]
+
 
 # ---- cases at the edges, which a definition and its code could get wrong together
 

@@ -18,7 +18,7 @@ an input of 9,291 bytes of the printing program and its text. The same words giv
   previews                       plays and picks for preview: by hand, and random ones
   plans                          plans for canonical: by hand, and random ones
   texts                          the same plans for show, with the texts that tools/plan_text.py writes
-  reads                          texts for read: by hand, those of examples/plans, shown plans, and random ones, with the answers of tools/plan_text.py
+  reads                          texts for read: by hand, those of examples/plans and examples/relay, shown plans, and random ones, with the answers of tools/plan_text.py
   bounds                         plans for bound: by hand, and random ones
   witnesses                      plays for witness: by hand, and random ones
   interleavings                  plans and schedules for first_interleaving and next_interleaving: by hand, and random ones
@@ -279,8 +279,15 @@ def play_by_hand(oracle, plan, picks, right):
     return play_of(plan, bytes(picks), area, want)
 
 
+def relay_plan(name):
+    """A plan of examples/relay."""
+    with open(header.ROOT + "/examples/relay/" + name + ".plan", "rb") as file:
+        return plan_text.answered(file.read())
+
+
 def shots(oracle):
-    return [play_by_hand(oracle, plan, picks, lambda want: says(want, stated, word)) for plan, picks, stated, word in rows.SHOTS]
+    relay = [(relay_plan(name), [int(pick) for pick in picks], stated, None) for name, picks, stated in rows.RELAY]
+    return [play_by_hand(oracle, plan, picks, lambda want: says(want, stated, word)) for plan, picks, stated, word in rows.SHOTS + relay]
 
 
 def edges(oracle, landed):
@@ -395,13 +402,13 @@ def edge_reads():
 
 
 def example_reads():
-    """The texts of examples/plans, and what is shown of them: P, the shot list's other plans, and every form."""
+    """The texts of examples/plans and examples/relay, and what is shown of them: P, the shot list's other plans, every form, and the relay test's plans."""
     shot_plans = [plan for plan, *_ in rows.SHOTS]
-    for path in sorted(glob.glob(header.ROOT + "/examples/plans/*.plan")):
+    for path in sorted(glob.glob(header.ROOT + "/examples/plans/*.plan") + glob.glob(header.ROOT + "/examples/relay/*.plan")):
         with open(path, "rb") as file:
             text = file.read()
         plan = plan_text.answered(text)
-        assert plan in shot_plans or path.endswith("/every_form.plan"), path
+        assert plan in shot_plans or path.endswith("/every_form.plan") or "/relay/" in path, path
         yield from (read_of(text, plan, 0), read_of(plan_text.shown(plan).encode(), plan, 5))
 
 

@@ -1,37 +1,48 @@
 #!/bin/sh
-# Builds the static library, the programs plancheck, comtrade and log_picture_drawn, and two programs in C over the library; runs what README.md shows, and compares it with expected.txt and the
-# pictures with right.svg and race.svg. The COMTRADE pair of the race is left in target/examples.
+# Builds the program plancheck, runs what README.md shows, and compares it with expected.txt and the pictures with right.svg and race.svg. The logs, the pictures and the COMTRADE pair of the race are
+# left in target/examples. Some 6,000 schedules are played and judged, a process to each: up to a minute.
 set -eu
 cd "$(dirname "$0")/../.."
-examples/library.sh
-for program in plancheck comtrade log_picture_drawn; do
-    [ -x "target/bin/$program" ] || rt check "$program" >&2
-done
+[ -x target/bin/plancheck ] || rt check plancheck >&2
 relay=examples/relay
 out=target/examples
 mkdir -p "$out"
-for program in every_interleaving play_log; do
-    "${CC:-cc}" -std=c99 -Wall -Wextra -Werror -O2 -I include "$relay/$program.c" target/staticlib/libruqzhemil.a -o "$out/$program"
-done
+plancheck() {
+    target/bin/plancheck "$@"
+}
+
+# Every interleaving of a plan: how many, how many of them race, and in how many the judge names an access.
+try_all() {
+    plancheck interleavings "$1" 64 > "$out/all.txt"
+    tail -n 1 "$out/all.txt"
+    sed '$d' "$out/all.txt" | while read -r s; do plancheck play "$1" "$s"; done | grep -c ^race || true
+    sed '$d' "$out/all.txt" | while read -r s; do plancheck log "$1" "$s" | plancheck judge - 1; done | grep -c conflict$ || true
+}
+
+# The lines, the log, the judge's word and the picture of a schedule of plain.plan.
+show() {
+    plancheck play "$relay/plain.plan" "$2"
+    plancheck log "$relay/plain.plan" "$2" > "$out/$1.log"
+    plancheck judge "$out/$1.log" 1
+    plancheck diagram "$out/$1.log" 1 > "$out/$1.svg"
+}
+
 {
     for plan in plain volatile monitor; do
         echo "== $plan.plan"
-        target/bin/plancheck check "$relay/$plan.plan"
-        target/bin/plancheck bound "$relay/$plan.plan"
-        "$out/every_interleaving" < "$relay/$plan.plan"
+        plancheck check "$relay/$plan.plan"
+        plancheck bound "$relay/$plan.plan"
+        try_all "$relay/$plan.plan"
     done
     echo "== a schedule of plain.plan that reads right"
-    target/bin/plancheck play "$relay/plain.plan" 000000011222220
-    "$out/play_log" 000000011222220 < "$relay/plain.plan" 2>&1 > "$out/right.log"
+    show right 000000011222220
     echo "== a schedule of plain.plan that races"
-    target/bin/plancheck play "$relay/plain.plan" 000000001122222
-    "$out/play_log" 000000001122222 < "$relay/plain.plan" 2>&1 > "$out/race.log"
+    show race 000000001122222
+    plancheck comtrade "$out/race.log" "$out/race.dat" "$out/race.cfg"
     echo "== both threads at their accesses"
-    target/bin/plancheck witness "$relay/plain.plan" 000000001122222
+    plancheck witness "$relay/plain.plan" 000000001122222
 } | tee "$out/relay.out"
 cmp "$out/relay.out" "$relay/expected.txt"
 for log in right race; do
-    target/bin/log_picture_drawn < "$out/$log.log" > "$out/$log.svg"
     cmp "$out/$log.svg" "$relay/$log.svg"
 done
-target/bin/comtrade "$out/race.dat" "$out/race.cfg" < "$out/race.log"

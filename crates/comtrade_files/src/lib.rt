@@ -1,8 +1,18 @@
-// What the program comtrade does (document 02, E14): reads a log, and writes its data file and its configuration file, or says the refusal.
+// What the program comtrade does (document 02, E14): reads a log, and writes its data file and its configuration file, or says what refuses it.
 ghost use Prim.Native.Nat.{_≤_};
 use answers::Answered;
 use libc::STDIN_FILENO;
 use libc::STDOUT_FILENO;
+
+// An area for a log, with one byte more than a log may have.
+pub fn log_area() -> [u8; 12289] {
+    [0; 12289]
+}
+
+// An area for every data file.
+fn file_area() -> [u8; 317269] {
+    [0; 317269]
+}
 
 // The bytes into the file of this name. What fails is said on standard error.
 fn write_file(name: &[u8], bytes: &[u8]) {
@@ -26,26 +36,31 @@ fn write_configuration(name: &[u8], samples: usize)
     write_file(name, &area[..length]);
 }
 
-// The line of a refusal, on standard output.
+// The lines of a refusal, on standard output.
 fn say_refusal(number: usize, place: usize) {
-    let mut area = [0u8; 64];
-    let length = refusal_lines::put_refusal(&mut area, 0, number, place);
+    let mut area = [0u8; 200];
+    let length = refusal_lines::put_refusal_lines(&mut area, 0, number, place);
     io::write_all(STDOUT_FILENO, &area[..length]);
 }
 
-// The first 12,289 bytes decide what is written: one more than a log may have.
-pub fn write_pair(data: &[u8], configuration: &[u8]) {
-    let mut log = [0u8; 12289];
-    let size = io::read_full(STDIN_FILENO, &mut log);
-    let mut area = [0u8; 317269];
-    let answered = waveform::comtrade(&log[..size], &mut area);
+// The data file and the configuration file of a log, under these names.
+pub fn write_log(log: &[u8], data: &[u8], configuration: &[u8]) {
+    let mut area = file_area();
+    let answered = waveform::comtrade(log, &mut area);
     match answered {
         Answered::Refused { number, place } => {
             say_refusal(number, place);
         }
         Answered::Value(length) => {
             write_file(data, &area[..length]);
-            write_configuration(configuration, size / 3);
+            write_configuration(configuration, log.len() / 3);
         }
     }
+}
+
+// Those of the log on standard input, of which the first 12,289 bytes decide what is written.
+pub fn write_pair(data: &[u8], configuration: &[u8]) {
+    let mut log = log_area();
+    let size = io::read_full(STDIN_FILENO, &mut log);
+    write_log(&log[..size], data, configuration);
 }

@@ -6,14 +6,13 @@ use mathlib.Core.List.{List, _++_}
 use mathlib.Core.Option.{some, none}
 use lib.ListN.{length, drop}
 use Rattle.format.specs.Area.{overwrite}
-use Rattle.format.specs.Version.{v1, versionOf}
+use Rattle.format.specs.Version.{Version, versionOf}
 use Rattle.records.specs.Packed.{recordAt, logOf}
 use Rattle.records.specs.Record.{Record}
 use Rattle.records.specs.Refusals.{logRefusal}
 use Rattle.order.specs.Chains.{At}
 use Rattle.conflicts.specs.Conflicts.{Conflicting}
-use Rattle.conflicts.specs.Judge.{refused, named, Names, names-first, names-none, Answers, refuses, judges, AnswersTold}
-use Rattle.conflicts.proofs.Told.{told-known}
+use Rattle.conflicts.specs.Judge.{refused, named, Names, names-first, names-none, Answers, refuses, judges, AnswersTold, wrong-version, right-version}
 use Rattle.answers.specs.Answer.{Answer}
 use Rattle.decoding.specs.declared.Columns.{Columns}
 use Rattle.decoding.specs.Columns.{ReadAt}
@@ -29,7 +28,7 @@ use Rattle.judge_lines.proofs.LastConflicts.{inside}
 
 -- ---- the two records that were found
 
-module _ (b : List ℕ) (j i : ℕ) (w x : Columns) (L : LastOf v1 b j i) (W : ReadAt b i w) (X : ReadAt b j x) where
+module _ {v : Version} (b : List ℕ) (j i : ℕ) (w x : Columns) (L : LastOf v b j i) (W : ReadAt b i w) (X : ReadAt b j x) where
   lines-are : conflictLines i (recordOf w) j (recordOf x) ≡ conflictingLines (L .last)
   unfolding conflictingLines
   lines-are =
@@ -44,47 +43,49 @@ module _ (b : List ℕ) (j i : ℕ) (w x : Columns) (L : LastOf v1 b j i) (W : R
       ∙ ap (λ (n : ℕ). conflictLines n (c .other) j (c .access)) (sym (L .index-is))
 
   pub wrote-conflict : {before after : List ℕ} {r : ℕ} → Wrote before 0 (conflictLines i (recordOf w) j (recordOf x)) after r
-      → WroteConflict v1 b j before after r
-  wrote-conflict v = record { last = L .last; latest = λ d. let q = L .latest d in omega (arith, L .index-is); wrote = added-as lines-are v }
+      → WroteConflict v b j before after r
+  wrote-conflict t = record { last = L .last; latest = λ d. let q = L .latest d in omega (arith, L .index-is); wrote = added-as lines-are t }
 
 -- ---- the judge's answer
 
-module _ (b area : List ℕ) (big : 200 ≤ length area) where
-  version-one : {a : _} → AnswersTold 1 b a → Answers v1 b a
-  unfolding versionOf
-  version-one t = told-known (omega arith) t
+module _ (version : ℕ) (b area : List ℕ) (big : 200 ≤ length area) where
+  refused-by : {k i : ℕ} → version ≤ 1 → Answers (versionOf version) b (refused (record { number = k; place = i }))
+      → JudgeTold version b area (Answer.refused (record { number = k; place = i })) area
+  refused-by l (refuses e) = told.refuses big l e
 
-  refused-by : {k i : ℕ} → Answers v1 b (refused (record { number = k; place = i }))
-      → JudgeTold b area (Answer.refused (record { number = k; place = i })) area
-  refused-by (refuses e) = told.refuses big e
+  pub refused-told : {k i : ℕ} → AnswersTold version b (refused (record { number = k; place = i }))
+      → JudgeTold version b area (Answer.refused (record { number = k; place = i })) area
+  refused-told (wrong-version h) = told.wrong-version big h
+  refused-told (right-version l a) = refused-by l a
 
-  pub refused-told : {k i : ℕ} → AnswersTold 1 b (refused (record { number = k; place = i }))
-      → JudgeTold b area (Answer.refused (record { number = k; place = i })) area
-  refused-told t = refused-by (version-one t)
-
-  told-by : {t late : List ℕ} {r : ℕ} → logRefusal b ≡ none → Wrote area 0 t late r → LogTold v1 (logOf b) t → JudgeTold b area (Answer.value r) late
+  told-by : {t late : List ℕ} {r : ℕ} → version ≤ 1 → logRefusal b ≡ none → Wrote area 0 t late r → LogTold (versionOf version) (logOf b) t
+      → JudgeTold version b area (Answer.value r) late
   unfolding overwrite
-  told-by {t} {late} {r} e w l =
+  told-by {t} {late} {r} l e w x =
       let m : length t ≡ r = omega (arith, w .next) in
       let whole : overwrite t area ≡ late = ap (λ (k : ℕ). t ++ drop k area) m ∙ sym (added-whole w) in
-      along (λ (k : ℕ). JudgeTold b area (Answer.value k) late) m
-      (along (λ (y : List ℕ). JudgeTold b area (Answer.value (length t)) y) whole (told.tells big e l))
+      along (λ (k : ℕ). JudgeTold version b area (Answer.value k) late) m
+      (along (λ (y : List ℕ). JudgeTold version b area (Answer.value (length t)) y) whole (told.tells big l e x))
 
-  ordered-by : {late : List ℕ} {r : ℕ} → Answers v1 b (named none) → Wrote area 0 orderedLine late r → JudgeTold b area (Answer.value r) late
-  ordered-by (judges e (names-none f)) w = told-by e w (told.ordered f)
+  ordered-by : {late : List ℕ} {r : ℕ} → version ≤ 1 → Answers (versionOf version) b (named none) → Wrote area 0 orderedLine late r
+      → JudgeTold version b area (Answer.value r) late
+  ordered-by l (judges e (names-none f)) w = told-by l e w (told.ordered f)
 
-  pub ordered-told : {late : List ℕ} {r : ℕ} → AnswersTold 1 b (named none) → Wrote area 0 orderedLine late r → JudgeTold b area (Answer.value r) late
-  ordered-told t w = ordered-by (version-one t) w
+  pub ordered-told : {late : List ℕ} {r : ℕ} → AnswersTold version b (named none) → Wrote area 0 orderedLine late r
+      → JudgeTold version b area (Answer.value r) late
+  ordered-told (right-version l a) w = ordered-by l a w
 
-  named-by : {j : ℕ} → Answers v1 b (named (some j)) → Named v1 b j
+  named-by : {j : ℕ} → Answers (versionOf version) b (named (some j)) → Named (versionOf version) b j
   named-by (judges e (names-first c low)) = record { passed = e; conflicting = c }
 
-  pub named-here : {j : ℕ} → AnswersTold 1 b (named (some j)) → Named v1 b j
-  named-here t = named-by (version-one t)
+  pub named-here : {j : ℕ} → AnswersTold version b (named (some j)) → Named (versionOf version) b j
+  named-here (right-version l a) = named-by a
 
-  conflict-by : {j : ℕ} {late : List ℕ} {r : ℕ} → Answers v1 b (named (some j)) → WroteConflict v1 b j area late r → JudgeTold b area (Answer.value r) late
-  conflict-by (judges e (names-first c low)) w = told-by e (w .wrote) (told.conflicts (w .last) low (w .latest))
+  conflict-by : {j : ℕ} {late : List ℕ} {r : ℕ} → version ≤ 1 → Answers (versionOf version) b (named (some j))
+      → WroteConflict (versionOf version) b j area late r
+      → JudgeTold version b area (Answer.value r) late
+  conflict-by l (judges e (names-first c low)) w = told-by l e (w .wrote) (told.conflicts (w .last) low (w .latest))
 
-  pub conflict-told : {j : ℕ} {late : List ℕ} {r : ℕ} → AnswersTold 1 b (named (some j)) → WroteConflict v1 b j area late r
-      → JudgeTold b area (Answer.value r) late
-  conflict-told t w = conflict-by (version-one t) w
+  pub conflict-told : {j : ℕ} {late : List ℕ} {r : ℕ} → AnswersTold version b (named (some j)) → WroteConflict (versionOf version) b j area late r
+      → JudgeTold version b area (Answer.value r) late
+  conflict-told (right-version l a) w = conflict-by l a w

@@ -1,4 +1,4 @@
--- The judge's answer to a log in words (document 01, "The log and its order"; document 02, E7), by the chains of version 1. Assumes nothing.
+-- The judge's answer to a log in words (document 01, "The log and its order"; document 02, E7 and E8). Assumes nothing.
 use Prim.Native.Nat.{ℕ, _≤_, _<_}
 use mathlib.Core.Path.{_≡_}
 use mathlib.Core.List.{List, [], _∷_, _++_}
@@ -6,7 +6,7 @@ use mathlib.Core.Option.{some, none}
 use lib.ListN.{length}
 use Rattle.format.specs.Area.{overwrite}
 use Rattle.format.specs.Refusal.{Refusal}
-use Rattle.format.specs.Version.{Version, v1}
+use Rattle.format.specs.Version.{Version, versionOf}
 use Rattle.records.specs.Record.{Record}
 use Rattle.records.specs.Packed.{logOf}
 use Rattle.records.specs.Refusals.{logRefusal}
@@ -26,11 +26,12 @@ pub data LogTold (v : Version) (L : List Record) : List ℕ → Type 0 where
   conflicts : {j : ℕ} (c : Conflicting v L j) → ((i : ℕ) → Conflicting v L i → j ≤ i) → ((d : Conflicting v L j) → d .index ≤ c .index)
       → LogTold v L (conflictingLines c)
 
--- the answer and the lent area afterwards. An area of 200 bytes or more has room for every text, and keeps its old bytes after it; a shorter one stays as
--- it was, and the answer is 0
-pub data JudgeTold (b area : List ℕ) : Answer → List ℕ → Type 0 where
-  short : length area < 200 → JudgeTold b area (Answer.value 0) area
-  refuses : {r : Refusal} → 200 ≤ length area → logRefusal b ≡ some r → JudgeTold b area (Answer.refused r) area
+-- the answer and the lent area afterwards, by the version that the judge is told: 14, 11 or 12 as the judge's. An area of 200 bytes or more has room for
+-- every text, and keeps its old bytes after it; a shorter one stays as it was, and the answer is 0
+pub data JudgeTold (version : ℕ) (b area : List ℕ) : Answer → List ℕ → Type 0 where
+  short : length area < 200 → JudgeTold version b area (Answer.value 0) area
+  wrong-version : 200 ≤ length area → 1 < version → JudgeTold version b area (Answer.refused (record { number = 14; place = 0 })) area
+  refuses : {r : Refusal} → 200 ≤ length area → version ≤ 1 → logRefusal b ≡ some r → JudgeTold version b area (Answer.refused r) area
   tells : {text : List ℕ}
-      → 200 ≤ length area → logRefusal b ≡ none → LogTold v1 (logOf b) text
-      → JudgeTold b area (Answer.value (length text)) (overwrite text area)
+      → 200 ≤ length area → version ≤ 1 → logRefusal b ≡ none → LogTold (versionOf version) (logOf b) text
+      → JudgeTold version b area (Answer.value (length text)) (overwrite text area)

@@ -3,7 +3,7 @@ pub mod search; // search.rt: which earlier access that is
 
 ghost use Prim.Native.Nat.{_≤_};
 ghost use lib.ListN.{length};
-ghost use Rattle.format.specs.Version.{v1};
+ghost use Rattle.format.specs.Version.{versionOf};
 ghost use Rattle.answers.specs.Answer.{answered};
 ghost use Rattle.text.specs.Wrote.{Wrote};
 ghost use Rattle.judge_lines.specs.Told.{orderedLine, JudgeTold};
@@ -21,31 +21,30 @@ fn put_ordered(area: &mut [u8]) -> usize
 }
 
 // The lines of the access that the judge names.
-fn put_named(area: &mut [u8], log: &[u8], later: usize) -> usize
-    requires { ⌜ Named v1 (now log) later ⌝ ∗ ⌜ 200 ≤ length (now area) ⌝ }
-    ensures { λ r. ⌜ WroteConflict v1 (now (log .entry)) later (now (area .entry)) (now (area .exit)) r ⌝ }
+fn put_named(area: &mut [u8], version: usize, log: &[u8], later: usize) -> usize
+    requires { ⌜ Named (versionOf version) (now log) later ⌝ ∗ ⌜ 200 ≤ length (now area) ⌝ }
+    ensures { λ r. ⌜ WroteConflict (versionOf version) (now (log .entry)) later (now (area .entry)) (now (area .exit)) r ⌝ }
 {
-    let earlier = search::last_conflict(1, log, later);
+    let earlier = search::last_conflict(version, log, later);
     let first = decoding::columns_at(log, earlier);
     let second = decoding::columns_at(log, later);
     race_lines::put_conflict(area, 0, earlier, first, later, second)
 }
 
-// Every log gets its text at the start of an area of 200 bytes or more, and the text's length; or refusal 11 or 12. It is judged as the log of a plan of
-// version 1.
-pub fn judge_text(log: &[u8], area: &mut [u8]) -> Answered
-    ensures { λ r. ⌜ JudgeTold (now (log .entry)) (now (area .entry)) (answered r) (now (area .exit)) ⌝ }
+// Every log of a version gets its text at the start of an area of 200 bytes or more, and the text's length; or refusal 14, 11 or 12 as the judge gives it.
+pub fn judge_text(version: usize, log: &[u8], area: &mut [u8]) -> Answered
+    ensures { λ r. ⌜ JudgeTold version (now (log .entry)) (now (area .entry)) (answered r) (now (area .exit)) ⌝ }
 {
     if area.len() < 200 {
         return Answered::Value(0);
     }
-    let judgement = judge::judge(1, log);
+    let judgement = judge::judge(version, log);
     match judgement {
         Judgement::Refused { number, place } => Answered::Refused {
             number: number,
             place: place,
         },
         Judgement::Ordered => Answered::Value(put_ordered(area)),
-        Judgement::Unordered(index) => Answered::Value(put_named(area, log, index)),
+        Judgement::Unordered(index) => Answered::Value(put_named(area, version, log, index)),
     }
 }

@@ -1,4 +1,4 @@
-// Files and standard input, and schedules.
+// Files and standard input, areas, and schedules.
 use inputs::schedules;
 use libc::STDERR_FILENO;
 use libc::STDIN_FILENO;
@@ -14,6 +14,21 @@ pub fn open_input(name: &[u8]) -> i32 {
         os::fail(name);
     }
     file
+}
+
+// An area for a plan: one that fills it is not taken.
+pub fn plan_area() -> [u8; 600000] {
+    [0; 600000]
+}
+
+// An area for every text about a plan.
+pub fn text_area() -> [u8; 574501] {
+    [0; 574501]
+}
+
+// An area for every text about a log.
+pub fn picture_area() -> [u8; 2680576] {
+    [0; 2680576]
 }
 
 // A file that fills its buffer is not taken.

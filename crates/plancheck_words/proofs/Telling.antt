@@ -1,38 +1,16 @@
 -- What is told of a plan, by the word, and by how the plan is given. Assumes nothing.
-use Prim.Native.Nat.{ℕ, _≤_}
-use mathlib.Core.Path.{_≡_, refl, sym, ap, subst, _∙_}
+use Prim.Native.Nat.{ℕ}
+use mathlib.Core.Path.{_≡_, sym, subst}
 use mathlib.Core.Bool.{true, false}
 use mathlib.Core.List.{List}
-use mathlib.Core.Option.{Option, some, none}
-use lib.ListN.{length, take}
-use lib.Seq.{length-take-le}
-use Rattle.format.specs.Refusal.{Refusal}
-use Rattle.packed.specs.Check.{refusal}
 use Rattle.text.specs.Wrote.{Wrote}
-use Rattle.refusals.specs.Answer as refusals
-use Rattle.refusals.specs.declared.Checked.{Checked}
-use Rattle.refusals.specs.declared.Checked.the-variants as checked
-use Rattle.refusal_lines.specs.Lines.{refusalLines}
 use Rattle.inputs.specs.Plans.{isText}
 use Rattle.read.specs.Read.{Failure}
 use Rattle.read_lines.specs.Reasons.{failureLine}
-use Rattle.tool_lines.specs.Texts.{textBy}
-use Rattle.tool_lines.specs.Told.{Told}
-use Rattle.tool_lines.proofs.Areas.{wrote-within}
+use Rattle.answer_lines.specs.Told.{Told}
 use Rattle.plancheck_words.specs.Given.{Given, plan, noPlan, textPlan, givenPlan}
-use Rattle.plancheck_words.specs.Words.{planText, SaysBy, Says, Answers, of-plan, of-none}
+use Rattle.plancheck_words.specs.Words.{SaysBy, Says, Answers, of-plan, of-none}
 use Rattle.plancheck_words.specs.declared.Word.{Word}
-
--- ---- the plan itself
-
-module _ (p : List ℕ) (x : Checked) (h : refusals.answered x ≡ refusal p) where
-  pub bytes-refused : (k i : ℕ) → x ≡ checked.Refused k i → refusalLines (record { number = k; place = i }) ≡ planText p
-  unfolding planText textBy refusals.answered
-  bytes-refused k i e = ap (λ (o : Option Refusal). textBy o p) (sym (ap refusals.answered e) ∙ h)
-
-  pub bytes-passed : x ≡ checked.Passed → (p ≡ planText p) × (refusal p ≡ none)
-  unfolding planText textBy refusals.answered
-  bytes-passed e = let o = sym (ap refusals.answered e) ∙ h in (ap (λ (y : Option Refusal). textBy y p) o, sym o)
 
 -- ---- by the word
 
@@ -61,8 +39,3 @@ module _ {w : Word} {s before after : List ℕ} {r : ℕ} where
 
   pub none-told : {g : Given} {l c : ℕ} {f : Failure} → g ≡ noPlan l c f → Wrote before 0 (failureLine l c f) after r → Told (Answers w s g) before after r
   none-told e t = of-given e (record { text = _; says = of-none; wrote = t })
-
--- ---- a text within its area, as a part of it asks
-
-pub within : {P : List ℕ → Type 0} {before after : List ℕ} {r : ℕ} → Told P before after r → (r ≤ length after) × (r ≡ length (take r after))
-within {after = after} {r = r} t = let h = wrote-within (t .wrote) in (h, sym (length-take-le r after h))

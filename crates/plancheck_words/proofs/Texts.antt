@@ -1,18 +1,14 @@
 -- The plan of a text, by what `read` answers and leaves in an area of 5,192 bytes. Assumes nothing.
-use Prim.Native.Nat.{ℕ, _+_, _*_, _-_, _≤_, _<_}
+use Prim.Native.Nat.{ℕ, _-_, _≤_, _<_}
 use native.Mathlib.Omega.{arith}
 use mathlib.Core.Path.{_≡_, refl, sym, ap, subst, _∙_}
 use mathlib.Core.Bool.{Bool, true, false, cond}
 use mathlib.Core.List.{List}
-use mathlib.Core.Option.{none}
 use lib.ListN.{length, take}
 use borrow.Author.Tests.{ltb-true, ltb-false}
 use Rattle.format.specs.Area.{overwrite}
 use Rattle.format.proofs.AreaLaws.{overwrite-first}
 use Rattle.packed.specs.Syntax.{Program}
-use Rattle.packed.specs.Format.{planLength}
-use Rattle.packed.specs.Check.{refusal}
-use Rattle.packed.proofs.Accepted.{accepted}
 use Rattle.written.specs.Written as bytes
 use Rattle.notation.specs.Lexing.{codesOf}
 use Rattle.lexer.specs.Place.{placeOf}
@@ -24,17 +20,10 @@ use Rattle.read.specs.Read.{Failure, tooMany, shortForPlan, failedAt, answerBy,
 use Rattle.read.specs.Answer.{failureOf, answered}
 use Rattle.read.specs.declared.Answer.{Answer}
 use Rattle.read.specs.declared.Answer.the-variants.{Written, Short, Failed}
+use Rattle.plan_words.proofs.Areas.{plan-few}
 use Rattle.plancheck_words.specs.Given.{Given, plan, noPlan, noPlanAt, planBy, textPlan}
 
--- no plan that passes is longer than 5,192 bytes
-few-by : (n p t : ℕ) → n ≡ 8 + 2 * p + 5 * t → p ≤ 32 → t ≤ 1024 → n ≤ 5192
-few-by n p t e few many = omega arith
-
-pub plan-few : (b : List ℕ) → refusal b ≡ none → length b ≤ 5192
-unfolding planLength
-plan-few b e = let a = accepted b e in few-by _ _ _ (a .length-right) (a .few-procedures) (a .few-terms)
-
--- nor is the plan of a text
+-- no plan of a text is longer than 5,192 bytes
 few-bytes : (text : List ℕ) (g : Program) → readPlan (codesOf text) ≡ reading.plan g → length (bytes.written g) ≤ 5192
 few-bytes text g e = plan-few (bytes.written g) (text-passes text g e .0)
 

@@ -2,29 +2,30 @@
 use Prim.Native.Nat.{ℕ}
 use mathlib.Core.Path.{_≡_}
 use mathlib.Core.List.{List}
-use Rattle.packed.specs.Check.{refusal}
 use Rattle.read.specs.Read.{Failure}
 use Rattle.read_lines.specs.Reasons.{failureLine}
-use Rattle.tool_lines.specs.Texts.{textBy, checkText, showText, boundText, chargeText, WitnessText}
-use Rattle.tool_lines.specs.Runs.{PlayText}
+use Rattle.plan_words.specs.Texts.{checkText, planText, showText, canonicalText, boundText}
+use Rattle.run_words.specs.Texts.{chargeText, WitnessText}
+use Rattle.run_words.specs.Runs.{PlayText, threadsText, previewText, logText}
+use Rattle.interleaving_lines.specs.Lines.{InterleavingsText}
 use Rattle.plancheck_words.specs.Given.{Given, plan, noPlan}
 use Rattle.plancheck_words.specs.declared.Word.{Word}
 use Rattle.plancheck_words.specs.declared.Word.the-variants as word
-
--- read: the plan itself, where it passes
-unfoldable pub planText : List ℕ → List ℕ
-unfolding textBy refusal
-planText p = textBy (refusal p) p
 
 -- to a packed plan, by the word
 abbrev pub SaysBy : Word → List ℕ → List ℕ → List ℕ → Type 0
 SaysBy word.Check p s text = text ≡ checkText p
 SaysBy word.Show p s text = text ≡ showText p
 SaysBy word.Read p s text = text ≡ planText p
+SaysBy word.Canonical p s text = text ≡ canonicalText p
 SaysBy word.Bound p s text = text ≡ boundText p
 SaysBy word.Play p s text = PlayText p s text
+SaysBy word.States p s text = text ≡ threadsText p s
+SaysBy (word.Preview pick) p s text = text ≡ previewText p s pick
+SaysBy word.Log p s text = text ≡ logText p s
 SaysBy word.Witness p s text = WitnessText p s text
 SaysBy word.Charge p s text = text ≡ chargeText p s
+SaysBy (word.Interleavings n) p s text = InterleavingsText p n text
 
 pub record Says (w : Word) (p s text : List ℕ) : Type 0 where
   pub so : SaysBy w p s text

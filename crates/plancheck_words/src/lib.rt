@@ -1,39 +1,29 @@
 // What the program plancheck answers to a word, a plan as it is given and a schedule: the whole text.
 use inputs::plans;
 use read::Answer;
-use refusals::Checked;
+use run_words::told;
 ghost use Prim.Native.Nat.{_≤_};
 ghost use mathlib.Core.Path.{_≡_};
 ghost use lib.ListN.{length, take};
-ghost use Rattle.text.specs.Wrote.{Wrote};
-ghost use Rattle.tool_lines.specs.Told.{Told};
-ghost use Rattle.plancheck_words.specs.Words.{planText, Says, Answers};
+ghost use Rattle.answer_lines.specs.Told.{Told};
+ghost use Rattle.plancheck_words.specs.Words.{Says, Answers};
 ghost use Rattle.plancheck_words.specs.Given.{textPlan};
 ghost use Rattle.plancheck_words.specs.Area.{Answered};
 
-// The words whose answer is a text about a plan.
+// The words whose answer is a text about a plan, some with a number.
 pub enum Word {
     Check,
     Show,
     Read,
+    Canonical,
     Bound,
     Play,
+    States,
+    Preview(usize),
+    Log,
     Witness,
     Charge,
-}
-
-// The plan itself, where it passes.
-fn plan_bytes(plan: &[u8], area: &mut [u8]) -> usize
-    requires { ⌜ 574501 ≤ length (now area) ⌝ }
-    ensures { λ r. ⌜ Wrote (now (area .entry)) 0 (planText (now (plan .entry))) (now (area .exit)) r ⌝ }
-{
-    let checked = plan::check(plan);
-    match checked {
-        Checked::Refused { number, place } => {
-            refusal_lines::put_refusal_lines(area, 0, number, place)
-        }
-        Checked::Passed => text::put_word(area, 0, plan),
-    }
+    Interleavings(usize),
 }
 
 // The answer to a packed plan.
@@ -42,13 +32,18 @@ fn packed_text(word: Word, plan: &[u8], schedule: &[u8], area: &mut [u8]) -> usi
     ensures { λ r. ⌜ Told (Says word (now (plan .entry)) (now (schedule .entry))) (now (area .entry)) (now (area .exit)) r ⌝ }
 {
     match word {
-        Word::Check => tool_lines::check_text(plan, area),
-        Word::Show => tool_lines::show_text(plan, area),
-        Word::Read => plan_bytes(plan, area),
-        Word::Bound => tool_lines::bound_text(plan, area),
-        Word::Play => tool_lines::told::play_text(plan, schedule, area),
-        Word::Witness => tool_lines::witness_text(plan, schedule, area),
-        Word::Charge => tool_lines::charge_text(plan, schedule, area),
+        Word::Check => plan_words::check_text(plan, area),
+        Word::Show => plan_words::show_text(plan, area),
+        Word::Read => plan_words::plan_text(plan, area),
+        Word::Canonical => plan_words::canonical_text(plan, area),
+        Word::Bound => plan_words::bound_text(plan, area),
+        Word::Play => told::play_text(plan, schedule, area),
+        Word::States => told::states_text(plan, schedule, area),
+        Word::Preview(pick) => told::preview_text(plan, schedule, pick, area),
+        Word::Log => told::log_text(plan, schedule, area),
+        Word::Witness => run_words::witness_text(plan, schedule, area),
+        Word::Charge => run_words::charge_text(plan, schedule, area),
+        Word::Interleavings(n) => interleaving_lines::interleavings_text(plan, n, area),
     }
 }
 

@@ -14,13 +14,13 @@ use Rattle.word_table.proofs.Words.{word-is, room-for, longest, not-longer}
 use Rattle.refusal_lines.specs.Lines.{sentences, sentenceRow, sentenceLine, refusalLine, refusalLines}
 use Rattle.refusal_lines.proofs.LineParts.{refusal-short}
 
-row-by : (n : ℕ) (small : Bool) → ltb n 27 ≡ small → cond small n 0 < 27
-row-by n true e = ltb-true n 27 e
+row-by : (n : ℕ) (small : Bool) → ltb n 28 ≡ small → cond small n 0 < 28
+row-by n true e = ltb-true n 28 e
 row-by n false e = omega arith
 
 row-inside : (n : ℕ) → sentenceRow n < length sentences
 unfolding sentenceRow sentences
-row-inside n = row-by n (ltb n 27) refl
+row-inside n = row-by n (ltb n 28) refl
 
 -- the word of the code's table
 pub sentence-is : {bytes starts : List ℕ} {row : ℕ} (n : ℕ) → bytes ≡ joined sentences → starts ≡ startsFrom 0 sentences → row ≡ sentenceRow n

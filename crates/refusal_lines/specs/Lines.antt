@@ -43,11 +43,12 @@ sentences =
     ∷ ascii "an area too short for the whole data file"  -- 24: "output too short for the whole file"
     ∷ ascii "an area shorter than the plan's text"  -- 25: of `show`
     ∷ ascii "an area shorter than the plan of the text"  -- 26: of `read`
+    ∷ ascii "an area without room for every picture of so many records"  -- of `diagram`, 27, which the library does not have
     ∷ []
 
 -- the row of a number
 unfoldable pub sentenceRow : ℕ → ℕ
-sentenceRow number = cond (ltb number 27) number 0
+sentenceRow number = cond (ltb number 28) number 0
 
 -- the sentence of a number, as a line
 unfoldable pub sentenceLine : ℕ → List ℕ

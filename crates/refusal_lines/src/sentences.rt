@@ -4,10 +4,10 @@ ghost use Rattle.word_table.specs.Table.{joined, startsFrom};
 ghost use Rattle.refusal_lines.specs.Lines.{sentences, sentenceRow};
 
 // How many sentences there are, that of row 0 among them.
-const SENTENCES: usize = 27;
+const SENTENCES: usize = 28;
 
 // One sentence to a line, in the order of the numbers.
-pub fn words() -> [u8; 1109]
+pub fn words() -> [u8; 1166]
     ensures { λ r. ⌜ r ≡ joined sentences ⌝ }
 {
     *b"a refusal without a sentence\
@@ -36,11 +36,12 @@ a while in a plan whose moves are asked for\
 a total of over 65,535 moves\
 an area too short for the whole data file\
 an area shorter than the plan's text\
-an area shorter than the plan of the text"
+an area shorter than the plan of the text\
+an area without room for every picture of so many records"
 }
 
 // Where each begins, and where the last ends.
-pub fn starts() -> [usize; 28]
+pub fn starts() -> [usize; 29]
     ensures { λ r. ⌜ r ≡ startsFrom 0 sentences ⌝ }
 {
     [
@@ -72,6 +73,7 @@ pub fn starts() -> [usize; 28]
         1032,
         1068,
         1109,
+        1166,
     ]
 }
 

@@ -30,27 +30,30 @@ enum-known-judgement-2 c = search needs
 
 put-named-requires : tie.Need-put-named-requires
 put-named-requires c κs =
-    let b = c .before .before .before .before .before .before .before .before .args .log .now in (
-      named-here b (c .before .before .before .before .before .before .before .before .args .area .now) (omega arith)
-          (along (λ (j : Judgement). AnswersTold 1 b (answered j)) (c .before .before .judgement2 .given .1)
+    let s = c .before .before .before .before .before .before .before .before .args in
+    let b = s .log .now in (
+      named-here (s .version) b (s .area .now) (omega arith)
+          (along (λ (j : Judgement). AnswersTold (s .version) b (answered j)) (c .before .before .judgement2 .given .1)
           (c .before .before .before .before .judge .ensures)),
       omega arith,
     )
 
 returns-2 : tie.Need-returns-2
 returns-2 c =
-    let b = c .before .before .before .before .before .before .before .args .log .now in
-    refused-told b (c .before .before .before .before .before .before .before .args .area .now) (omega arith)
-    (along (λ (j : Judgement). AnswersTold 1 b (answered j)) (c .before .judgement .given .1) (c .before .before .before .judge .ensures))
+    let s = c .before .before .before .before .before .before .before .args in
+    let b = s .log .now in
+    refused-told (s .version) b (s .area .now) (omega arith)
+    (along (λ (j : Judgement). AnswersTold (s .version) b (answered j)) (c .before .judgement .given .1) (c .before .before .before .judge .ensures))
 
 same-length : tie.Need-same-length
 same-length c = search needs
 
 returns-3 : tie.Need-returns-3
 returns-3 c =
-    let b = c .before .before .before .before .before .before .before .before .before .before .args .log .now in
-    ordered-told b (c .before .before .before .before .before .before .before .before .before .before .args .area .now) (omega arith)
-    (along (λ (j : Judgement). AnswersTold 1 b (answered j)) (c .before .before .before .before .enum-told .given .1)
+    let s = c .before .before .before .before .before .before .before .before .before .before .args in
+    let b = s .log .now in
+    ordered-told (s .version) b (s .area .now) (omega arith)
+    (along (λ (j : Judgement). AnswersTold (s .version) b (answered j)) (c .before .before .before .before .enum-told .given .1)
     (c .before .before .before .before .before .before .judge .ensures)) (c .before .before .put-ordered .ensures)
 
 same-length-2 : tie.Need-same-length-2
@@ -58,9 +61,10 @@ same-length-2 c = search needs
 
 returns-4 : tie.Need-returns-4
 returns-4 c =
-    let b = c .before .before .before .before .before .before .before .before .before .before .before .args .log .now in
-    conflict-told b (c .before .before .before .before .before .before .before .before .before .before .before .args .area .now) (omega arith)
-    (along (λ (j : Judgement). AnswersTold 1 b (answered j)) (c .before .before .before .before .before .judgement2 .given .1)
+    let s = c .before .before .before .before .before .before .before .before .before .before .before .args in
+    let b = s .log .now in
+    conflict-told (s .version) b (s .area .now) (omega arith)
+    (along (λ (j : Judgement). AnswersTold (s .version) b (answered j)) (c .before .before .before .before .before .judgement2 .given .1)
     (c .before .before .before .before .before .before .before .judge .ensures)) (c .before .before .put-named .ensures)
 
 pub judge-text-spec : {M : Type 1} → statement M

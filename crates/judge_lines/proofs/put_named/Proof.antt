@@ -2,7 +2,6 @@
 use Prim.Native.Nat.{_/_, _<_}
 use native.Mathlib.Omega.{arith}
 use lib.ListN.{length}
-use Rattle.format.specs.Version.{versionOf}
 use Rattle.arrows.proofs.OfLog.{log-short}
 use Rattle.judge_lines.proofs.LastConflicts.{inside}
 use Rattle.judge_lines.proofs.Answers.{wrote-conflict}
@@ -11,7 +10,6 @@ use Rattle.judge_lines.proofs.put_named.Statement.{statement}
 use Rattle.judge_lines.proofs.put_named.Tie as tie
 
 last-conflict-requires : tie.Need-last-conflict-requires
-unfolding versionOf
 last-conflict-requires c κs = c .before .before .pre .0
 
 columns-at-requires : tie.Need-columns-at-requires
@@ -39,7 +37,6 @@ same-length : tie.Need-same-length
 same-length c = search needs
 
 returns : tie.Need-returns
-unfolding versionOf
 returns c =
     let w = c .before .before .before .before .before .columns-at in
     let x = c .before .before .before .before .columns-at2 in

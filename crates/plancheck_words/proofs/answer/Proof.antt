@@ -1,7 +1,8 @@
 -- `answer` meets its contract. Assumes nothing.
 use native.Mathlib.Omega.{arith}
 use mathlib.Core.Path.{_≡_, refl, sym, _∙_}
-use Rattle.plancheck_words.proofs.Telling.{given-text, given-packed, of-given, plan-told, within}
+use Rattle.answer_lines.proofs.Settling.{within}
+use Rattle.plancheck_words.proofs.Telling.{given-text, given-packed, of-given, plan-told}
 use borrow.Author.Needs.{needs}
 use Rattle.plancheck_words.proofs.answer.Statement.{statement}
 use Rattle.plancheck_words.proofs.answer.Tie as tie

@@ -1,3 +1,0 @@
-pub mod Texts
-pub mod Runs
-pub mod Told
