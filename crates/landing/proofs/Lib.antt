@@ -1,1 +1,4 @@
 pub mod Turns
+pub mod Others
+pub mod Along
+pub mod After

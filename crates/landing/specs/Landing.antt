@@ -10,6 +10,8 @@ use Rattle.frames.specs.declared.go.Stage.the-variants as stage
 use Rattle.frames.specs.declared.go.Go.{Go}
 use Rattle.landing_step.specs.declared.Turn.{Turn}
 use Rattle.landing.specs.declared.Landed.{Landed}
+use Rattle.landing.specs.declared.Way.{Way}
+use Rattle.landing.specs.declared.Landings.{Landings}
 use Rattle.frames.specs.Frames.{packOf}
 use Rattle.frames.specs.Going.{readyIn, goFull}
 use Rattle.landing_step.specs.Down.{frameAt, stepOf}
@@ -62,3 +64,37 @@ landOf (suc n) ws rs base k g d =
     cond (liveOf g)
     (landOf n ws rs base (stored k base (turnAt ws rs base k g d)) (turnAt ws rs base k g d .go) (turnAt ws rs base k g d .depth))
     (ended k g d)
+
+-- ---- a landing, and another after it
+
+-- whether there was no room
+abbrev pub fullBy : Stage → Bool
+fullBy stage.Full = true
+fullBy stage.At = false
+fullBy stage.Run = false
+fullBy stage.RunCondition = false
+fullBy stage.Want = false
+fullBy stage.WantCondition = false
+fullBy stage.List = false
+fullBy stage.Value = false
+fullBy stage.Truth = false
+
+abbrev pub fullOf : Landed → Bool
+fullOf l = fullBy (l .stage)
+
+abbrev pub landFrom : List ℕ → List ℕ → Way → Stack → Ended
+landFrom ws rs w k = landOf 2100 ws rs (w .base) k (w .go) (w .depth)
+
+abbrev pub landingsOf : Landed → Landed → Landings
+landingsOf b l = record { before = b; last = l }
+
+pub record Ends : Type 0 where
+  pub stack : Stack
+  pub landings : Landings
+
+abbrev pub endsAt : Landed → Ended → Ends
+endsAt b e = record { stack = e .stack; landings = landingsOf b (e .landed) }
+
+-- after a landing that ended at e, with b before it: another from w, where one more is to be done and there was room
+unfoldable pub afterOf : List ℕ → List ℕ → Bool → Way → Landed → Ended → Ends
+afterOf ws rs more w b e = cond more (cond (fullOf (e .landed)) (endsAt b e) (endsAt (e .landed) (landFrom ws rs w (e .stack)))) (endsAt b e)

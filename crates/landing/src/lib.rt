@@ -3,8 +3,9 @@
 ghost use mathlib.Core.Path.{_≡_};
 ghost use mathlib.Core.Bool.{true, false};
 ghost use Prim.Native.Nat.{_<_, _≤_};
-ghost use Rattle.landing.specs.Landing.{liveOf, landedOf, topOf, landOf};
+ghost use Rattle.landing.specs.Landing.{liveOf, fullOf, landedOf, landingsOf, topOf, storeAt, landFrom, afterOf};
 use frames::frame;
+use frames::frame::Frame;
 use frames::go;
 use frames::go::Go;
 use frames::go::Ready;
@@ -15,6 +16,28 @@ pub struct Landed {
     pub ready: Ready,
     pub depth: usize,
     pub stage: Stage,
+}
+
+// Where a landing starts: the place of the thread's first frame, how deep it stands, and its stage.
+pub struct Way {
+    pub base: usize,
+    pub depth: usize,
+    pub go: Go,
+}
+
+// The last of one or two landings, and the one before it; of one alone, where it started.
+pub struct Landings {
+    pub before: Landed,
+    pub last: Landed,
+}
+
+fn ends(before: Landed, last: Landed) -> Landings
+    ensures { λ r. ⌜ r ≡ landingsOf before last ⌝ }
+{
+    Landings {
+        before: before,
+        last: last,
+    }
 }
 
 pub fn end_at(go: Go, depth: usize) -> Landed
@@ -47,6 +70,17 @@ fn live(go: Go) -> bool
     }
 }
 
+// Whether there was no room.
+pub fn full(landed: Landed) -> bool
+    ensures { λ r. ⌜ r ≡ fullOf landed ⌝ }
+{
+    let stage = landed.stage;
+    match stage {
+        Stage::Full => true,
+        _ => false,
+    }
+}
+
 // The place of the top frame, of a thread whose places start at base.
 fn top(base: usize, depth: usize) -> usize
     requires { ⌜ (base ≤ 264) × (depth ≤ 32) ⌝ }
@@ -58,40 +92,65 @@ fn top(base: usize, depth: usize) -> usize
     base + (depth - 1)
 }
 
-// Steps until the part that moves next is found, or there is no room. A landing has fewer than 2,100 steps.
+// The store of a frame.
+fn store(stack: &mut [usize; 891], place: usize, frame: Frame)
+    requires { ⌜ place < 297 ⌝ }
+    ensures { λ r. ⌜ now (stack .exit) ≡ storeAt (now (stack .entry)) place frame ⌝ }
+{
+    let packed = frame::pack(frame);
+    let at = place * 3;
+    stack[at] = packed.top;
+    stack[at + 1] = packed.environment;
+    stack[at + 2] = packed.arguments;
+}
+
+// Steps until the part that moves next is found, or there is no room; then, of a fork whose mover has room, the same from the second way. A landing has fewer
+// than 2,100 steps. Both go through one loop, so that a step has one caller, and the loop with it. Where a landing ends, two tests are faster than one of both.
 pub fn land(
     words: &[usize; 1024],
     roots: &[usize; 32],
     stack: &mut [usize; 891],
-    base: usize,
-    from: Go,
-    depth: usize,
-) -> Landed
-    requires { ⌜ (base ≤ 264) × (depth ≤ 32) ⌝ }
-    ensures { λ r. ⌜ (record { stack = now (stack .exit); landed = r }) ≡ landOf 2100 (now (words .entry)) (now (roots .entry)) base (now (stack .entry)) from depth ⌝ }
-    ensures { λ r. ⌜ r .depth ≤ 32 ⌝ }
+    first: Way,
+    second: Way,
+    forks: bool,
+) -> Landings
+    requires { ⌜ (first .base ≤ 264) × (first .depth ≤ 32) × (second .base ≤ 264) × (second .depth ≤ 32) ⌝ }
+    ensures { λ r. ⌜ (record { stack = now (stack .exit); landings = r }) ≡ afterOf (now (words .entry)) (now (roots .entry)) forks second (landedOf (first .go) (first .depth)) (landFrom (now (words .entry)) (now (roots .entry)) first (now (stack .entry))) ⌝ }
+    ensures { λ r. ⌜ (r .before .depth ≤ 32) × (r .last .depth ≤ 32) ⌝ }
 {
-    let mut go = from;
-    let mut depth = depth;
+    let mut base = first.base;
+    let mut go = first.go;
+    let mut depth = first.depth;
+    let mut more = forks;
+    let mut before = end_at(go, depth);
     let mut left: usize = 2100;
     while 0 < left {
         if !live(go) {
-            return end_at(go, depth);
+            let ended = end_at(go, depth);
+            if !more {
+                return ends(before, ended);
+            }
+            if full(ended) {
+                return ends(before, ended);
+            }
+            before = ended;
+            base = second.base;
+            go = second.go;
+            depth = second.depth;
+            more = false;
+            left = 2100;
+            continue;
         }
         let place = top(base, depth);
-        let turn = landing_step::step(words, roots, stack, place, go, depth);
+        let stepped = landing_step::step(words, roots, stack, place, go, depth, left);
+        let turn = stepped.turn;
         let pushed = turn.frame;
         if turn.at < turn.depth {
-            let packed = frame::pack(pushed);
-            let above = (base + turn.at) * 3;
-            stack[above] = packed.top;
-            stack[above + 1] = packed.environment;
-            stack[above + 2] = packed.arguments;
+            store(stack, base + turn.at, pushed);
         }
-        let next = turn.go;
-        go = next;
+        go = turn.go;
         depth = turn.depth;
-        left -= 1;
+        left = stepped.left - 1;
     }
-    end_at(go::full(), depth)
+    ends(before, end_at(go::full(), depth))
 }

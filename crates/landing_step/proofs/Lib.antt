@@ -1,2 +1,4 @@
 pub mod Others
 pub mod Depths
+pub mod Gathers
+pub mod Along

@@ -9,7 +9,8 @@ use Rattle.frames.specs.declared.frame.Frame.{Frame}
 use Rattle.frames.specs.declared.go.Stage.{Stage}
 use Rattle.frames.specs.declared.go.Stage.the-variants as stage
 use Rattle.frames.specs.declared.go.Go.{Go}
-use Rattle.landing_step.specs.Down.{stayOf, openedBy, listedBy, wantedBy, downOf, stepBy}
+use Rattle.landing_step.specs.Ahead.{aheadBy, intoBy}
+use Rattle.landing_step.specs.Down.{stayOf, openedBy, wantedBy, downOf, stepBy}
 
 pub opened-other : (x : Stage) (ws : List ℕ) (g : Go) → OneOf (0 ∷ 1 ∷ 4 ∷ 5 ∷ 6 ∷ 7 ∷ 8 ∷ []) (tagOf stage-type.the-type x) → openedBy x ws g ≡ g
 opened-other stage.Full ws g h = refl
@@ -22,16 +23,29 @@ opened-other stage.List ws g h = refl
 opened-other stage.Value ws g h = refl
 opened-other stage.Truth ws g h = refl
 
-pub listed-other : (x : Stage) (ws rs : List ℕ) (g : Go) → OneOf (0 ∷ 1 ∷ 2 ∷ 3 ∷ 4 ∷ 5 ∷ 7 ∷ 8 ∷ []) (tagOf stage-type.the-type x) → listedBy x ws rs g ≡ g
-listed-other stage.Full ws rs g h = refl
-listed-other stage.At ws rs g h = refl
-listed-other stage.Run ws rs g h = refl
-listed-other stage.RunCondition ws rs g h = refl
-listed-other stage.Want ws rs g h = refl
-listed-other stage.WantCondition ws rs g h = refl
-listed-other stage.List ws rs g h = absurd (miss (0 ∷ 1 ∷ 2 ∷ 3 ∷ 4 ∷ 5 ∷ 7 ∷ 8 ∷ []) 6 tt h)
-listed-other stage.Value ws rs g h = refl
-listed-other stage.Truth ws rs g h = refl
+pub ahead-other : (x : Stage) (n : ℕ) (ws : List ℕ) (g : Go) → OneOf (0 ∷ 1 ∷ 2 ∷ 3 ∷ 4 ∷ 5 ∷ 7 ∷ 8 ∷ []) (tagOf stage-type.the-type x)
+    → aheadBy x n ws g ≡ record { left = n; frame = g .frame }
+ahead-other stage.Full n ws g h = refl
+ahead-other stage.At n ws g h = refl
+ahead-other stage.Run n ws g h = refl
+ahead-other stage.RunCondition n ws g h = refl
+ahead-other stage.Want n ws g h = refl
+ahead-other stage.WantCondition n ws g h = refl
+ahead-other stage.List n ws g h = absurd (miss (0 ∷ 1 ∷ 2 ∷ 3 ∷ 4 ∷ 5 ∷ 7 ∷ 8 ∷ []) 6 tt h)
+ahead-other stage.Value n ws g h = refl
+ahead-other stage.Truth n ws g h = refl
+
+pub into-other : (x : Stage) (ws rs : List ℕ) (g : Go) (f : Frame) → OneOf (0 ∷ 1 ∷ 2 ∷ 3 ∷ 4 ∷ 5 ∷ 7 ∷ 8 ∷ []) (tagOf stage-type.the-type x)
+    → intoBy x ws rs g f ≡ g
+into-other stage.Full ws rs g f h = refl
+into-other stage.At ws rs g f h = refl
+into-other stage.Run ws rs g f h = refl
+into-other stage.RunCondition ws rs g f h = refl
+into-other stage.Want ws rs g f h = refl
+into-other stage.WantCondition ws rs g f h = refl
+into-other stage.List ws rs g f h = absurd (miss (0 ∷ 1 ∷ 2 ∷ 3 ∷ 4 ∷ 5 ∷ 7 ∷ 8 ∷ []) 6 tt h)
+into-other stage.Value ws rs g f h = refl
+into-other stage.Truth ws rs g f h = refl
 
 pub wanted-other : (x : Stage) (ws : List ℕ) (g : Go) (d : ℕ) → OneOf (0 ∷ 1 ∷ 2 ∷ 3 ∷ 6 ∷ 7 ∷ 8 ∷ []) (tagOf stage-type.the-type x)
     → wantedBy x ws g d ≡ stayOf g d

@@ -1,1 +1,2 @@
 pub mod Down
+pub mod Ahead

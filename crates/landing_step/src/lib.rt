@@ -1,7 +1,8 @@
-// One step of landing: the way down (an operand, a call's list, a term), or up with a value.
+// One step of landing, the way down (an operand, a call's list, a term) or up with a value; before it, one for each value that comes next in a call's list.
 ghost use mathlib.Core.Path.{_≡_};
-ghost use Prim.Native.Nat.{_<_};
-ghost use Rattle.landing_step.specs.Down.{stayOf, pushOf, wantOf, wantConditionOf, rootAt, listOf, signalOf, simpleOf, runOf, runConditionOf, openedOf, listedOf, wantedOf, backOf, backConditionOf, frameAt, stepOf};
+ghost use Prim.Native.Nat.{_<_, _-_};
+ghost use Rattle.landing_step.specs.Ahead.{nextOf, gatheredOf, aheadOf, intoOf, steppedOf};
+ghost use Rattle.landing_step.specs.Down.{stayOf, pushOf, wantOf, wantConditionOf, rootAt, listOf, signalOf, simpleOf, runOf, runConditionOf, openedOf, wantedOf, backOf, backConditionOf, frameAt};
 use frames::frame;
 use frames::frame::Frame;
 use frames::frame::Kind;
@@ -19,6 +20,18 @@ pub struct Turn {
     pub at: usize,
     pub frame: Frame,
     pub go: Go,
+}
+
+// A call's frame after the values that came next in its list, and how many steps are left.
+pub struct Gathered {
+    pub left: usize,
+    pub frame: Frame,
+}
+
+// A step, and how many are left with it.
+pub struct Stepped {
+    pub left: usize,
+    pub turn: Turn,
 }
 
 // No frame more.
@@ -91,6 +104,41 @@ fn list(words: &[usize; 1024], roots: &[usize; 32], frame: Frame) -> Go
     }
     let term = root(roots, frame.member);
     go::at(go::ready_of(part::RUN, term, 0, 0, frame.arguments))
+}
+
+// The value that comes next in a call's list whose word this is; 32 where the list is over or its next operand needs a move.
+fn next(words: &[usize; 1024], environment: usize, word: usize) -> usize
+    ensures { λ r. ⌜ r ≡ nextOf (now (words .entry)) environment word ⌝ }
+{
+    if operands::tag(word) == tags::LIST {
+        return words::value(words, environment, operands::first(word));
+    }
+    32
+}
+
+// Takes the values that come next in a call's list into its frame, a step to each, as long as another step is left.
+fn gather(words: &[usize; 1024], frame: Frame, left: usize) -> Gathered
+    requires { ⌜ 0 < left ⌝ }
+    ensures { λ r. ⌜ r ≡ gatheredOf (left - 1) (now (words .entry)) frame ⌝ }
+{
+    let mut frame = frame;
+    let mut left = left;
+    while 1 < left {
+        let word = words::word(words, frame.first);
+        let value = next(words, frame.environment, word);
+        if 32 <= value {
+            return Gathered {
+                frame: frame,
+                left: left,
+            };
+        }
+        frame = frame::collect(frame::rest(frame, operands::second(word)), value);
+        left -= 1;
+    }
+    Gathered {
+        frame: frame,
+        left: left,
+    }
 }
 
 // Down from a wait, a notify or a notify all.
@@ -206,11 +254,26 @@ fn opened(words: &[usize; 1024], go: Go) -> Go
     }
 }
 
-// A call's list is gone into.
-fn listed(words: &[usize; 1024], roots: &[usize; 32], go: Go) -> Go
-    ensures { λ r. ⌜ r ≡ listedOf (now (words .entry)) (now (roots .entry)) go ⌝ }
+// The frame where landing stands; of a call's list, with the values that come next taken into it.
+fn ahead(words: &[usize; 1024], go: Go, left: usize) -> Gathered
+    requires { ⌜ 0 < left ⌝ }
+    ensures { λ r. ⌜ r ≡ aheadOf left (now (words .entry)) go ⌝ }
 {
     let frame = go.frame;
+    let stage = go.stage;
+    match stage {
+        Stage::List => gather(words, frame, left),
+        _ => Gathered {
+            left: left,
+            frame: frame,
+        },
+    }
+}
+
+// A call's list is gone into, with this frame.
+fn listed(words: &[usize; 1024], roots: &[usize; 32], go: Go, frame: Frame) -> Go
+    ensures { λ r. ⌜ r ≡ intoOf (now (words .entry)) (now (roots .entry)) go frame ⌝ }
+{
     let stage = go.stage;
     match stage {
         Stage::List => list(words, roots, frame),
@@ -260,8 +323,8 @@ fn frame_at(stack: &[usize; 891], place: usize) -> Frame
     frame::unpack(stack[at], stack[at + 1], stack[at + 2])
 }
 
-// One step of landing, with the top frame at the place, which only a value on its way up takes from there. A way down goes through its three functions one
-// after the other, so that each has one caller.
+// One step of landing and, before it, one for each value that comes next in a call's list, of at most so many, with the top frame at the place, which only a
+// value on its way up takes from there. A way down goes through its functions one after the other, so that each has one caller.
 pub fn step(
     words: &[usize; 1024],
     roots: &[usize; 32],
@@ -269,14 +332,36 @@ pub fn step(
     place: usize,
     go: Go,
     depth: usize,
-) -> Turn
-    requires { ⌜ place < 297 ⌝ }
-    ensures { λ r. ⌜ r ≡ stepOf (now (words .entry)) (now (roots .entry)) go depth (frameAt (now (stack .entry)) place) ⌝ }
+    left: usize,
+) -> Stepped
+    requires { ⌜ (place < 297) × (0 < left) ⌝ }
+    ensures { λ r. ⌜ r ≡ steppedOf (now (words .entry)) (now (roots .entry)) left go depth (frameAt (now (stack .entry)) place) ⌝ }
 {
     let stage = go.stage;
     match stage {
-        Stage::Value => back(frame_at(stack, place), go.operand, depth),
-        Stage::Truth => back_condition(frame_at(stack, place), go.operand, depth),
-        _ => wanted(words, listed(words, roots, opened(words, go)), depth),
+        Stage::Value => {
+            let turn = back(frame_at(stack, place), go.operand, depth);
+            Stepped {
+                left: left,
+                turn: turn,
+            }
+        }
+        Stage::Truth => {
+            let turn = back_condition(frame_at(stack, place), go.operand, depth);
+            Stepped {
+                left: left,
+                turn: turn,
+            }
+        }
+        _ => {
+            let opened = opened(words, go);
+            let ahead = ahead(words, opened, left);
+            let frame = ahead.frame;
+            let turn = wanted(words, listed(words, roots, opened, frame), depth);
+            Stepped {
+                left: ahead.left,
+                turn: turn,
+            }
+        }
     }
 }

@@ -7,12 +7,12 @@ use Rattle.keys.specs.KeySet.{emptySet}
 use Rattle.records.specs.Record.{Kind, kindNumber}
 use Rattle.frames.specs.Parts.{Part as part, isPart}
 use Rattle.frames.specs.declared.go.Ready.{Ready}
-use Rattle.frames.specs.declared.go.Stage.{Stage}
-use Rattle.frames.specs.declared.go.Stage.the-variants as stage
 use Rattle.frames.specs.declared.go.Go.{Go}
 use Rattle.frames.specs.Going.{readyOf, goRun}
 use Rattle.landing.specs.declared.Landed.{Landed}
+use Rattle.landing.specs.declared.Way.{Way}
 use Rattle.landing.specs.Landing.{Stack, Ended, landOf}
+pub use Rattle.landing.specs.Landing.{fullBy, fullOf}
 use Rattle.run_outcome.specs.declared.NoRoom.{NoRoom}
 use Rattle.run_outcome.specs.declared.NoRoom.the-variants as room
 use Rattle.run_outcome.specs.declared.Stop.the-variants as stop
@@ -56,20 +56,6 @@ lackEntry r = lackBy (r .part) r
 abbrev pub forksOf : Head → Bool
 forksOf h = isPart part.Fork (h .ready .part)
 
-abbrev pub fullBy : Stage → Bool
-fullBy stage.Full = true
-fullBy stage.At = false
-fullBy stage.Run = false
-fullBy stage.RunCondition = false
-fullBy stage.Want = false
-fullBy stage.WantCondition = false
-fullBy stage.List = false
-fullBy stage.Value = false
-fullBy stage.Truth = false
-
-abbrev pub fullOf : Landed → Bool
-fullOf l = fullBy (l .stage)
-
 -- a thread where its landing ended
 abbrev pub landedHead : Landed → ℕ → KeySet → ℕ → Head
 landedHead l o ks n = record { ready = l .ready; depth = l .depth; object = o; keys = ks; learnt = n }
@@ -99,6 +85,13 @@ youngGo h = goRun (h .ready .first) (h .ready .environment)
 
 abbrev pub landYoung : List ℕ → List ℕ → Met → Stack → Ended
 landYoung ws rs x k = landOf 2100 ws rs (x .counts .threads % 9 * 33) k (youngGo (x .head)) 0
+
+-- from where the two land
+abbrev pub moverWay : Met → Acted → Way
+moverWay x a = record { base = x .thread * 33; depth = x .head .depth % 33; go = a .go }
+
+abbrev pub youngWay : Met → Way
+youngWay x = record { base = x .counts .threads % 9 * 33; depth = 0; go = youngGo (x .head) }
 
 -- ---- the answer
 

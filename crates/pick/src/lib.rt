@@ -1,15 +1,15 @@
 // One pick: what it meets, and what it leaves. The frames alone are lent; all else goes by value.
 ghost use mathlib.Core.Path.{_≡_};
 ghost use Prim.Native.Nat.{_<_};
-ghost use Rattle.pick.specs.Pick.{noRoom, lackEntry, fullOf, landedHead, noHead, moveOf, landMover, landYoung, startBy, landBy, makeBy, actMet, pickOf};
+ghost use Rattle.pick.specs.Pick.{noRoom, lackEntry, landedHead, noHead, moveOf, landMover, moverWay, youngWay, landBy, makeBy, actMet, pickOf};
 ghost use Rattle.run_outcome.specs.declared.Stop.the-variants as stop;
 ghost use Rattle.pick.specs.declared.Answer.the-variants as answer;
 use frames::go;
 use frames::go::Ready;
-use frames::go::Stage;
 use frames::part;
 use keys::KeySet;
 use landing::Landed;
+use landing::Way;
 use look::Sight;
 use records::kind;
 use run_outcome::NoRoom;
@@ -85,16 +85,6 @@ fn race(ready: Ready) -> Answer
     }
 }
 
-fn full(landed: Landed) -> bool
-    ensures { λ r. ⌜ r ≡ fullOf landed ⌝ }
-{
-    let stage = landed.stage;
-    match stage {
-        Stage::Full => true,
-        _ => false,
-    }
-}
-
 // A thread where its landing ended.
 fn head_at(landed: Landed, object: usize, keys: KeySet, learnt: usize) -> Head
     ensures { λ r. ⌜ r ≡ landedHead landed object keys learnt ⌝ }
@@ -147,31 +137,37 @@ fn leave(met: Met, acted: Acted, landed: Landed, young: Head, forks: bool) -> An
     })
 }
 
-// Lands the thread that a fork makes: its object is the next one, its keys are its maker's, and it has learnt none of them.
-fn start(
-    words: &[usize; 1024],
-    roots: &[usize; 32],
-    stack: &mut [usize; 891],
-    met: Met,
-    acted: Acted,
-    landed: Landed,
-) -> Answer
-    ensures { λ r. ⌜ (record { stack = now (stack .exit); answer = r }) ≡ startBy met acted landed (landYoung (now (words .entry)) (now (roots .entry)) met (now (stack .entry))) ⌝ }
+// From where the mover lands.
+fn mover_way(met: Met, acted: Acted) -> Way
+    requires { ⌜ met .thread < 8 ⌝ }
+    ensures { λ r. ⌜ r ≡ moverWay met acted ⌝ }
+{
+    let head = met.head;
+    let from = acted.go;
+    Way {
+        base: met.thread * 33,
+        depth: head.depth % 33,
+        go: from,
+    }
+}
+
+// From where the thread lands that a fork makes.
+fn young_way(met: Met) -> Way
+    ensures { λ r. ⌜ r ≡ youngWay met ⌝ }
 {
     let counts = met.counts;
     let head = met.head;
     let ready = head.ready;
     let from = go::run(ready.first, ready.environment);
-    let young = landing::land(words, roots, stack, counts.threads % 9 * 33, from, 0);
-    if full(young) {
-        return no_room(NoRoom::Depth);
+    Way {
+        base: counts.threads % 9 * 33,
+        depth: 0,
+        go: from,
     }
-    let keys = head.keys;
-    let born = head_at(young, counts.objects, keys, 0);
-    leave(met, acted, landed, born, true)
 }
 
-// Lands the mover; of a fork, the new thread too.
+// Lands the mover and, of a fork, the thread that it makes: its object is the next one, its keys are its maker's, and it has learnt none of them. One call of
+// `landing` for both, so that it is compiled into its caller.
 fn land(
     words: &[usize; 1024],
     roots: &[usize; 32],
@@ -182,17 +178,24 @@ fn land(
     requires { ⌜ met .thread < 8 ⌝ }
     ensures { λ r. ⌜ (record { stack = now (stack .exit); answer = r }) ≡ landBy (now (words .entry)) (now (roots .entry)) met acted (landMover (now (words .entry)) (now (roots .entry)) met acted (now (stack .entry))) ⌝ }
 {
+    let counts = met.counts;
     let head = met.head;
-    let from = acted.go;
-    let landed = landing::land(words, roots, stack, met.thread * 33, from, head.depth % 33);
-    if full(landed) {
+    let ready = head.ready;
+    let forks = ready.part == part::FORK;
+    let mover = mover_way(met, acted);
+    let young = young_way(met);
+    let landings = landing::land(words, roots, stack, mover, young, forks);
+    let last = landings.last;
+    if landing::full(last) {
         return no_room(NoRoom::Depth);
     }
-    let ready = head.ready;
-    if ready.part == part::FORK {
-        return start(words, roots, stack, met, acted, landed);
+    if forks {
+        let landed = landings.before;
+        let keys = head.keys;
+        let born = head_at(last, counts.objects, keys, 0);
+        return leave(met, acted, landed, born, true);
     }
-    leave(met, acted, landed, no_head(), false)
+    leave(met, acted, last, no_head(), false)
 }
 
 // The move of a thread that is ready, where there is room for it.

@@ -1,7 +1,11 @@
 -- `step` meets its contract. Assumes nothing.
-use mathlib.Core.Path.{sym}
+use mathlib.Core.Path.{_≡_, refl, ap}
 use Rattle.landing_step.proofs.Others.{step-other}
-use Rattle.landing_step.specs.Down.{frameAt, stepOf}
+use Rattle.landing_step.proofs.Along.{along-step}
+use Rattle.landing_step.specs.declared.Turn.{Turn}
+use Rattle.landing_step.specs.declared.Stepped.{Stepped}
+use Rattle.landing_step.specs.Ahead.{aheadOf}
+use Rattle.landing_step.specs.Down.{frameAt, openedOf, downOf, stepOf}
 use borrow.Author.Needs.{needs}
 use Rattle.landing_step.proofs.step.Statement.{statement}
 use Rattle.landing_step.proofs.step.Tie as tie
@@ -27,6 +31,9 @@ back-condition-requires c κs = search needs
 opened-requires : tie.Need-opened-requires
 opened-requires c κs = search needs
 
+ahead-requires : tie.Need-ahead-requires
+ahead-requires c κs = search needs
+
 listed-requires : tie.Need-listed-requires
 listed-requires c κs = search needs
 
@@ -44,10 +51,15 @@ returns-2 c = simp (c .back-condition .ensures, c .before .frame-at2 .ensures, c
 returns-3 : tie.Need-returns-3
 unfolding stepOf
 returns-3 c =
-    let a = c .before .before .before .before .args in
-    simp (c .wanted .ensures, c .before .listed .ensures, c .before .before .opened .ensures)
-    (sym (step-other (a .go .stage) (a .words .now) (a .roots .now) (a .go) (a .depth) (frameAt (a .stack .now) (a .place))
-    (c .before .before .before .match .keys3)))
+    let a = c .before .before .before .before .before .before .args in
+    let ws = a .words .now in
+    let o = openedOf ws (a .go) in
+    let x = frameAt (a .stack .now) (a .place) in
+    let h : stepOf ws (a .roots .now) (a .go) (a .depth) x ≡ downOf ws (a .roots .now) (a .go) (a .depth) =
+    step-other (a .go .stage) ws (a .roots .now) (a .go) (a .depth) x (c .before .before .before .before .before .match .keys3) in
+    simp (c .wanted .ensures, c .before .listed .ensures, c .before .before .before .ahead .ensures, c .before .before .before .before .opened .ensures)
+    (ap (λ (t : Turn). record { left = aheadOf (a .left) ws o .left; turn = t })
+    (along-step ws (a .roots .now) (a .go) o (aheadOf (a .left) ws o .frame) (a .depth) x h (o .stage) refl))
 
 pub step-spec : {M : Type 1} → statement M
 step-spec =
@@ -60,6 +72,7 @@ step-spec =
     frame-at-requires-2
     back-condition-requires
     opened-requires
+    ahead-requires
     listed-requires
     wanted-requires
     returns

@@ -1,9 +1,9 @@
 -- `full` meets its contract. Assumes nothing.
 use mathlib.Core.Path.{sym}
-use Rattle.pick.proofs.Others.{full-other}
+use Rattle.landing.proofs.Others.{full-other}
 use borrow.Author.Needs.{needs}
-use Rattle.pick.proofs.full.Statement.{statement}
-use Rattle.pick.proofs.full.Tie as tie
+use Rattle.landing.proofs.full.Statement.{statement}
+use Rattle.landing.proofs.full.Tie as tie
 
 enum-told : tie.Need-enum-told
 enum-told c = search needs

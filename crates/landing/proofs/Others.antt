@@ -7,7 +7,7 @@ use denote.Enum.Declared.{tagOf}
 use Rattle.frames.proofs.go.Stage as stage-type
 use Rattle.frames.specs.declared.go.Stage.{Stage}
 use Rattle.frames.specs.declared.go.Stage.the-variants as stage
-use Rattle.pick.specs.Pick.{fullBy}
+use Rattle.landing.specs.Landing.{fullBy}
 
 pub full-other : (x : Stage) → OneOf (1 ∷ 2 ∷ 3 ∷ 4 ∷ 5 ∷ 6 ∷ 7 ∷ 8 ∷ []) (tagOf stage-type.the-type x) → fullBy x ≡ false
 full-other stage.Full h = absurd (miss (1 ∷ 2 ∷ 3 ∷ 4 ∷ 5 ∷ 6 ∷ 7 ∷ 8 ∷ []) 0 tt h)
