@@ -1,10 +1,12 @@
 -- What a pick meets, found by its cell's number; the threads at the end, seen one after the other. Assumes nothing.
 use mathlib.Core.Path.{_≡_, refl}
 use mathlib.Core.List.{List, [], _∷_}
-use Prim.Native.Nat.{ℕ, _/_, _%_}
+use Prim.Native.Nat.{ℕ, _/_, _%_, _≤_}
 use native.Mathlib.Omega.{arith}
 use lib.ListN.{length, getD, set}
+use borrow.Author.Tests.{le-leb}
 use Rattle.format.proofs.Turns.{turns}
+use Rattle.open_threads.specs.Open.{absent}
 use Rattle.run_outcome.specs.declared.Thread.{Thread}
 use Rattle.state.specs.declared.Setting.{Setting}
 use Rattle.state.specs.declared.Head.{Head}
@@ -13,7 +15,7 @@ use Rattle.state.specs.declared.Object.{Object}
 use Rattle.state.specs.declared.Counts.{Counts}
 use Rattle.pick.specs.declared.Met.{Met}
 use Rattle.pick.specs.Pick.{noHead}
-use Rattle.engine.specs.Machine.{noCell, noThing, headAt, Placed, metBy, threadAt, threadsOf}
+use Rattle.engine.specs.Machine.{noCell, noThing, headAt, Placed, metBy, threadBy, threadAt, threadsOf}
 
 module _ (n : Counts) (l : List Head) (cs : List Cell) (ts : List Object) (qs : List ℕ) where
   -- with the cell c, of the object at o
@@ -37,6 +39,11 @@ module _ (n : Counts) (l : List Head) (cs : List Cell) (ts : List Object) (qs : 
     -- a thread put at its number
     abbrev pub putThread : ℕ → List Thread → List Thread
     putThread p all = set all p (threadAt setting n l cs ts qs p)
+
+    -- a thread that is not there
+    pub absent-at : (p : ℕ) → n .threads ≤ p → threadAt setting n l cs ts qs p ≡ absent
+    unfolding threadBy metBy
+    absent-at p h = rw (le-leb (n .threads) p h)
 
     pub all-threads : (seen : List Thread) → length seen ≡ 8 → turns putThread 8 0 seen ≡ threadsOf setting n l cs ts qs
     unfolding turns threadsOf

@@ -206,6 +206,10 @@ pub fn explore(
         }
         let counts = tally.counts;
         for thread in 0..8 {
+            if thread >= counts.threads {
+                threads[thread] = open_threads::no_thread();
+                continue;
+            }
             let head = heads[thread];
             let number = cell_of(head);
             let stored = cells[number];

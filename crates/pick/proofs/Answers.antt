@@ -4,7 +4,7 @@ use mathlib.Core.Bool.{Bool, true, false}
 use mathlib.Core.List.{List}
 use Prim.Native.Nat.{ℕ}
 use Rattle.landing.specs.declared.Landed.{Landed}
-use Rattle.landing.specs.Landing.{Ended, Ends, endsAt, afterOf}
+use Rattle.landing.specs.Landing.{Ended, Ends, afterOf}
 use Rattle.landing.proofs.After.{last, last-full, both}
 use Rattle.run_outcome.specs.declared.NoRoom.the-variants as room
 use Rattle.state.specs.declared.Head.{Head}
@@ -12,7 +12,7 @@ use Rattle.state.specs.declared.acted.Acted.{Acted}
 use Rattle.pick.specs.declared.Met.{Met}
 use Rattle.pick.specs.declared.Answer.{Answer}
 use Rattle.pick.specs.declared.Answer.the-variants as answer
-use Rattle.pick.specs.Pick.{Picked, picked, noRoom, noHead, fullOf, forksOf, bornOf, moveOf, landYoung, youngWay, startBy, landBy}
+use Rattle.pick.specs.Pick.{picked, noRoom, noHead, fullOf, forksOf, bornOf, moveOf, landYoung, youngWay, startBy, landBy}
 
 module _ (x : Met) (a : Acted) (ws rs : List ℕ) (m : Ended) where
   -- where the mover has landed at m: without room; of a fork, with a young that has no room or has landed; of another move

@@ -30,7 +30,7 @@ use Rattle.engine.specs.Kept.{restoreOf, keptFirst}
 use Rattle.engine.specs.Machine.{noCell, Machine, Played, headAt, cellNumber, Placed, threadBy, threadsOf, endOf, pickedBy, startOf, playOf}
 use Rattle.open_threads.specs.Open.{openAt, unstopped, openAfter, LowestFrom}
 use Rattle.engine.specs.Exploring.{allPicks, pickAt}
-use Rattle.engine.proofs.Looks.{metWith, met, putThread, all-threads, eight-threads}
+use Rattle.engine.proofs.Looks.{metWith, met, putThread, absent-at, all-threads, eight-threads}
 use Rattle.engine.proofs.Plays.{neither, begins, absent-passed, passed, moved, stops, young-made, young-none, ends-as}
 use Rattle.engine.proofs.PassedOver.{none-marked, marked-too, passed-again}
 use Rattle.engine.proofs.Restored.{machineOf, all-restored, restored-at, cell-put, cell-left}
@@ -570,15 +570,32 @@ loop3-holds c =
           (opened m .loop .threads) (opened m .loop .inv .2),
     )
 
+-- one that is not there
 loop3-again : tie.Need-loop3-again Inv-loop2 μ-loop2 Inv-loop3 μ-loop3 Inv-loop μ-loop
 loop3-again c =
-    let a = c .before .before .before .before .before .before .before .before .before in
+    let a = c .before .before .before .before in
+    let l = left a in
+    let m = l .before in
+    let p = a .loop3 .thread in
+    let h : p < 8 = c .before .before .before .loop3-test .taken in
+    let e = c .no-thread2 .ensures
+    ∙ sym (absent-at (l .loop2-test .tally .counts) (m .loop2 .heads) (cells m) (m .loop2 .objects) (m .loop2 .places) (setting (opened m)) p
+    (c .before .if5 .taken)) in (
+      omega arith,
+      ap (λ (x : Thread). turns (put l) (8 - (p + 1)) (p + 1) (set (a .loop3 .threads) p x)) e
+          ∙ sym (one-turn (put l) 8 p (a .loop3 .threads) h) ∙ a .loop3 .inv .1,
+    )
+
+-- one that is
+loop3-again-2 : tie.Need-loop3-again-2 Inv-loop2 μ-loop2 Inv-loop3 μ-loop3 Inv-loop μ-loop
+loop3-again-2 c =
+    let a = c .before .before .before .before .before .before .before .before .before .before .before in
     let l = left a in
     let m = l .before in
     let p = a .loop3 .thread in
     let k = c .before .before .before .before .before .before .cell-of2 in
     let r = c .before .before .before .before .restore2 in
-    let h : p < 8 = c .before .before .before .before .before .before .before .before .loop3-test .taken in
+    let h : p < 8 = c .before .before .before .before .before .before .before .before .before .before .loop3-test .taken in
     let e = c .thread-of .ensures
     ∙ ap (threadBy (setting (opened m))) (met (l .loop2-test .tally .counts) (m .loop2 .heads) (cells m) (m .loop2 .objects) (m .loop2 .places) p (k .result)
     (r .result) (k .ensures) (r .ensures ∙ restored-at (m .loop2 .cells) (k .result))) in (
@@ -642,7 +659,7 @@ module _ (c : Noted) where
   lowest = answer-of c .goes-on-by .result
 
   by-this : answer-of c .goes-on-by .result < 8
-  by-this = omega (arith, answer-of c .goes-on-by .ensures .within, c .before .before .if5 .left)
+  by-this = omega (arith, answer-of c .goes-on-by .ensures .within, c .before .before .if6 .left)
 
   going : (ltb (left (answer-of c .before .before) .loop2-test .dealt) (end o) ≡ false) × (end o < length (o .loop .notes))
       × LowestFrom (openAt (answer-of c .before .before .loop3 .threads)) 0 (answer-of c .goes-on-by .result)
@@ -722,7 +739,7 @@ same-length-2 c =
     ⊎-elim (λ w. ap length (w .1) ∙ v .kept) (λ w. ap length (w .23) ∙ w .20 .kept .0 ∙ v .kept) (l .loop2-test .came)
 
 -- short of the last place, it has stopped or no thread can be picked
-shut-off : (c : tie.Then5 Inv-loop2 μ-loop2 Inv-loop3 μ-loop3 Inv-loop μ-loop) → end (closed (left (c .before .before .before))) < length (closed (left (c .before .before .before)) .loop .notes) → (k : ℕ)
+shut-off : (c : tie.Then6 Inv-loop2 μ-loop2 Inv-loop3 μ-loop3 Inv-loop μ-loop) → end (closed (left (c .before .before .before))) < length (closed (left (c .before .before .before)) .loop .notes) → (k : ℕ)
     → k < 8 → Dec (left (c .before .before .before) .loop2-test .dealt < end (closed (left (c .before .before .before))))
     → openAfter (whole (closed (left (c .before .before .before))) .outcome) k ≡ false
 unfolding openAfter
@@ -734,7 +751,7 @@ shut-off c b k h (no d) =
     let l = left (a .before) in
     ap (λ (x : Outcome). openAfter x k) (sym (outcome-is a))
     ∙ ap (λ (x : Stop). unstopped x && openAt (a .before .loop3 .threads) k) (stood l (omega (arith, d)) .unstopped)
-    ∙ c .before .goes-on-by .ensures .none (c .if5 .taken) (le-ltb (l .loop2-test .dealt) (end (closed l)) (omega (arith, d))) b k h
+    ∙ c .before .goes-on-by .ensures .none (c .if6 .taken) (le-ltb (l .loop2-test .dealt) (end (closed l)) (omega (arith, d))) b k h
 
 returns : tie.Need-returns Inv-loop2 μ-loop2 Inv-loop3 μ-loop3 Inv-loop μ-loop
 returns c =
@@ -790,9 +807,10 @@ explore-spec =
     -- the counts, and the next pick
     moved-requires (λ c. record { fits = omega (arith, few (recorded (c .before .before .before .before .before .before .before .before .before .before .before))) }) (λ c. omega (arith, begun (recorded (c .before .before .before .before .before .before .before .before .before .before .before)))) loop2-again-4
     -- the threads at the end of a round
-    loop3-holds (λ c. search needs) (λ c. search needs) (λ c κs. search needs) (λ c. search needs) (λ c. search needs) (λ c κs. search needs)
+    loop3-holds (λ c κs. search needs) (λ c. search needs) (λ c. search needs) (λ c. search needs) (λ c. search needs) loop3-again
+    (λ c. search needs) (λ c. search needs) (λ c κs. search needs) (λ c. search needs) (λ c. search needs) (λ c κs. search needs)
     (λ c. search needs) (λ c. search needs) (λ c. search needs) (λ c. search needs) (λ c. search needs) (λ c. search needs)
-    (λ c κs. search needs) (λ c. search needs) (λ c. search needs) (λ c. search needs) (λ c. search needs) loop3-again
+    (λ c κs. search needs) (λ c. search needs) (λ c. search needs) (λ c. search needs) (λ c. search needs) loop3-again-2
     -- the note, and the next round
     (λ c κs. search needs) (λ c κs. search needs)
     mul-notes add-open-from open-from-requires add-notes cast-notes slice-write-notes add-to loop-less loop-again

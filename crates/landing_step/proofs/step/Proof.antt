@@ -3,7 +3,6 @@ use mathlib.Core.Path.{_≡_, refl, ap}
 use Rattle.landing_step.proofs.Others.{step-other}
 use Rattle.landing_step.proofs.Along.{along-step}
 use Rattle.landing_step.specs.declared.Turn.{Turn}
-use Rattle.landing_step.specs.declared.Stepped.{Stepped}
 use Rattle.landing_step.specs.Ahead.{aheadOf}
 use Rattle.landing_step.specs.Down.{frameAt, openedOf, downOf, stepOf}
 use borrow.Author.Needs.{needs}
