@@ -90,7 +90,8 @@ returns c =
     let s = far .before .before .before .before .before .before .before .before .before .args in
     let advance = c .before .before .before .before .before .before .before .before .advance in
     let line = far .put-digit-line in
-    let over = along (Advanced (s .plan .now) (s .n) (loop .schedule) (loop .picks) _) (c .before .before .before .before .enum-told .given .1) (advance .ensures) in
+    let e = c .before .before .before .before .enum-told .given .1 in
+    let over = along (Advanced (s .plan .now) (s .n) (loop .schedule) (loop .picks) _) e (advance .ensures) in
     let told = all-told (s .plan .now) (s .n) (s .area .now) (loop .inv .0) _ _ (line .ensures) in
     told (omega arith) over _ _ (c .before .before .put-count .ensures)
 

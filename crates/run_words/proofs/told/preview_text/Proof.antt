@@ -19,7 +19,8 @@ returns c =
     let preview-text = c .before .before .before .before .before .before .preview-text in
     let a = c .before .before .before .before .before .before .before .before .before .before .before .args in
     let given = c .before .before .before .before .before .before .before .before .before .before .before .pre in
-    preview-told (a .plan .now) (a .schedule .now) (a .pick) (a .area .now) given _ _ _ _ (preview-text .kept .1 .1 .1 .0) (preview-text .ensures) (settle .ensures)
+    let told = preview-told (a .plan .now) (a .schedule .now) (a .pick) (a .area .now) given in
+    told _ _ _ _ (preview-text .kept .1 .1 .1 .0) (preview-text .ensures) (settle .ensures)
 
 pub preview-text-spec : {M : Type 1} → statement M
 preview-text-spec = tie.close (tie.spec preview-text-requires settle-requires same-length returns)
