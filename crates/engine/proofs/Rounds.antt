@@ -79,9 +79,6 @@ module _ (ws rs : List ℕ) (g : Setting) (every : Bool) (first picks : List ℕ
     here : getD (allPicks picks after) to 0 ≡ pickAt picks to next
     here = added picks notes to next higher within (high .within)
 
-    pub same-front : take to (allPicks picks after) ≡ take to (allPicks picks notes)
-    same-front = kept-before picks notes to (next * 16 + higher) to (omega arith)
-
     same-outcome : (j : ℕ) → j ≤ to → outcomeAt after j ≡ outcomeAt notes j
     same-outcome j b = ap (λ (l : List ℕ). played ws rs g every first l .outcome) (kept-before picks notes to (next * 16 + higher) j b)
 

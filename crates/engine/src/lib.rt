@@ -231,8 +231,8 @@ pub fn explore(
         if lowest == 8 {
             break;
         }
-        let next = pick_at(picks, to, lowest) % 8;
-        notes[to] = (lowest * 16 + open_threads::open_from(threads, next + 1)) as u8;
+        let pick = pick_at(picks, to, lowest);
+        notes[to] = place_notes::note(threads, lowest, pick);
         from = to;
         to += 1;
     }

@@ -15,7 +15,8 @@ use Rattle.listing.proofs.Order.{Higher, none-higher, higher-before, higher-her
 use Rattle.listing.proofs.Ways.{one-more, first-picks, back-start, go-back, turn}
 use Rattle.listing.proofs.Listed.{complete-of}
 use Rattle.replays.specs.Told.{Noted}
-use Rattle.interleavings.specs.Steps.{LastAt, NoneHigher, TurnsAt}
+use Rattle.place_notes.specs.Notes.{LastAt}
+use Rattle.interleavings.specs.Steps.{NoneHigher, TurnsAt}
 
 -- ---- what the notes tell
 

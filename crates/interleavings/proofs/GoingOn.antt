@@ -21,37 +21,14 @@ use Rattle.listing.specs.CanFollow.{canFollow}
 use Rattle.listing.specs.Ways.{Way}
 use Rattle.listing.proofs.Ways.{go-on}
 use Rattle.listing.proofs.Listed.{complete-of, listed-by}
+use Rattle.place_notes.specs.Notes.{Puts, PutNoted}
 use Rattle.replays.specs.Replay.{Explorable, Explores}
 use Rattle.replays.proofs.Told.{goes-past}
-use Rattle.interleavings.specs.Steps.{Begins, Puts, PutNoted, Reached}
+use Rattle.interleavings.specs.Steps.{Begins, Reached}
 
 -- the picks that are written
 pub taken : {g : Program} {n from : ℕ} {before after : List ℕ} {at : ℕ} → Reached g n from before after at → n ≤ length before → length (take at after) ≡ at
 taken {after = after} {at = at} x long = length-take-le at after (omega (arith, x .within, x .kept))
-
--- ---- noted picks into an area
-
-past-one-more : (a b : List ℕ) (n : ℕ) → drop n a ≡ drop n b → drop (n + 1) a ≡ drop (n + 1) b
-past-one-more a b n e = sym (drop-drop 1 n a) ∙ ap (drop 1) e ∙ drop-drop 1 n b
-
-module _ (notes : List ℕ) (from : ℕ) (before : List ℕ) where
-  pub put-none : PutNoted notes from from before before
-  put-none = record { kept = refl; front = refl; rest = refl; are = λ i a b. absurd (omega arith) }
-
-  pub put-one : (at : ℕ) (after : List ℕ) → PutNoted notes at from before after → from ≤ at → at < length after
-      → PutNoted notes (at + 1) from before (set after at (getD notes at 0 / 16))
-  put-one at after x h b =
-      record {
-        kept = length-set after at _ ∙ x .kept;
-        front = take-set-le from after at _ h ∙ x .front;
-        rest = drop-set-lt (at + 1) after at _ (omega arith) ∙ past-one-more after before at (x .rest);
-        are = λ i a d. each i a d (ℕ-discrete i at);
-      }
-    where
-      each : (i : ℕ) → from ≤ i → i < at + 1 → Dec (i ≡ at) → getD (set after at (getD notes at 0 / 16)) i 0 ≡ getD notes i 0 / 16
-      each i a d (yes e) =
-          ap (λ (j : ℕ). getD (set after at (getD notes at 0 / 16)) j 0) e ∙ getD-set-same after at _ 0 b ∙ ap (λ (j : ℕ). getD notes j 0 / 16) (sym e)
-      each i a d (no e) = getD-set-other after at i _ 0 e ∙ x .are i a (omega (arith, d, e))
 
 -- ---- by the run of the first picks
 

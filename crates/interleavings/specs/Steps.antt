@@ -1,5 +1,5 @@
 -- Going back and going on, step by step. For inner contracts; no reader of the entries' promise needs it. Assumes nothing.
-use Prim.Native.Nat.{ℕ, _+_, _/_, _%_, _≤_, _<_}
+use Prim.Native.Nat.{ℕ, _+_, _≤_, _<_}
 use mathlib.Core.Path.{_≡_}
 use mathlib.Core.Bool.{true, false}
 use mathlib.Core.List.{List}
@@ -16,8 +16,6 @@ use Rattle.listing.specs.CanFollow.{canFollow}
 use Rattle.listing.specs.Ways.{Way}
 use Rattle.replays.specs.Replay.{Accepted}
 use Rattle.replays.specs.Told.{Noted}
-use Rattle.interleavings.specs.declared.Turn.{Turn}
-use Rattle.interleavings.specs.declared.Turn.the-variants as turn
 use Rattle.interleavings.specs.declared.Next.{Next}
 use Rattle.interleavings.specs.declared.Next.the-variants as next
 use Rattle.interleavings.specs.declared.Counted.{Counted}
@@ -33,19 +31,6 @@ pub record Begins (plan words : List ℕ) (n : ℕ) (area : List ℕ) (from : �
   pub within : from ≤ n
   pub way : Way (canFollow (programOf plan)) (take from area)
 
--- notes of `made` picks, room for them in an area, which has the first `from`
-pub record Puts (notes : List ℕ) (made : ℕ) (area : List ℕ) (from : ℕ) : Type 0 where
-  pub noted : made ≤ length notes
-  pub room : made ≤ length area
-  pub behind : from ≤ made
-
--- the picks that are noted from `from` on, up to `made`, are in the area, which is otherwise as it was
-pub record PutNoted (notes : List ℕ) (made from : ℕ) (before after : List ℕ) : Type 0 where
-  pub kept : length after ≡ length before
-  pub front : take from after ≡ take from before
-  pub rest : drop made after ≡ drop made before
-  pub are : (i : ℕ) → from ≤ i → i < made → getD after i 0 ≡ getD notes i 0 / 16
-
 -- the first `from` picks of an area, gone on with up to `at`: the same bytes past it, a listed schedule, and no listed one that is not before the first picks
 -- is before it
 pub record Reached (g : Program) (n from : ℕ) (before after : List ℕ) (at : ℕ) : Type 0 where
@@ -58,18 +43,6 @@ pub record Reached (g : Program) (n from : ℕ) (before after : List ℕ) (at : 
   pub least : (rs : List ℕ) → Listed g n rs → AtMost (take from before) rs → AtMost (take at after) rs
 
 -- ---- going back
-
--- the last of some notes that has a higher thread, and that thread
-pub record LastAt (notes : List ℕ) (count place pick : ℕ) : Type 0 where
-  pub inside : place < count
-  pub here : pick ≡ getD notes place 0 % 16
-  pub of-eight : pick < 8
-  pub last : (i : ℕ) → place < i → i < count → 8 ≤ getD notes i 0 % 16
-
--- that, or none has
-abbrev pub LastTurn : List ℕ → ℕ → Turn → Type 0
-LastTurn notes count (turn.At place pick) = LastAt notes count place pick
-LastTurn notes count turn.Over = (i : ℕ) → i < count → 8 ≤ getD notes i 0 % 16
 
 -- no thread above pick i can be picked in its place
 abbrev pub NoneHigher : Program → List ℕ → ℕ → Type 0

@@ -1,14 +1,13 @@
 // The entries `first_interleaving` and `next_interleaving`: all interleavings of a short plan, one after the other (document 02, E11); and `count`, how many
 // there are.
-ghost use Prim.Native.Nat.{_≤_};
-ghost use lib.ListN.{length};
 ghost use Rattle.packed.specs.Trees.{programOf};
 ghost use Rattle.answers.specs.Answer as answer;
 ghost use Rattle.interleavings.specs.Interleavings.{FirstAnswer, NextAnswer};
 ghost use Rattle.interleavings.specs.Answer.{answered};
 ghost use Rattle.interleavings.specs.Count.{CountAnswer};
-ghost use Rattle.interleavings.specs.Steps.{LastTurn, Puts, PutNoted, Begins, Reached, Listing, Followed, Stands, Advanced, CountsOn};
+ghost use Rattle.interleavings.specs.Steps.{Begins, Reached, Listing, Followed, Stands, Advanced, CountsOn};
 use answers::Answered;
+use place_notes::Turn;
 use refusals::Checked;
 
 // What `next_interleaving` answers.
@@ -31,40 +30,6 @@ pub enum Counted {
     More,
 }
 
-// Where the following schedule leaves a given one, and its pick there.
-pub enum Turn {
-    At { place: usize, pick: usize },
-    Over,
-}
-
-// The last of the first notes that has a higher thread, and that thread.
-fn last_turn(notes: &[u8], count: usize) -> Turn
-    requires { ⌜ count ≤ length (now notes) ⌝ }
-    ensures { λ r. ⌜ LastTurn (now (notes .entry)) count r ⌝ }
-{
-    let mut place = count;
-    while place > 0 {
-        place -= 1;
-        let pick = byte_numbers::wide(notes[place]) % 16;
-        if pick < 8 {
-            return Turn::At { place, pick };
-        }
-    }
-    Turn::Over
-}
-
-// The picks that are noted from `from` on, up to `made`, into the area.
-fn put_noted(notes: &[u8], made: usize, area: &mut [u8], from: usize)
-    requires { ⌜ Puts (now notes) made (now area) from ⌝ }
-    ensures { λ r. ⌜ PutNoted (now (notes .entry)) made from (now (area .entry)) (now (area .exit)) ⌝ }
-{
-    let mut place = from;
-    while place < made {
-        area[place] = notes[place] / 16;
-        place += 1;
-    }
-}
-
 // From the first `from` picks of the area on, the lowest pick that can follow, until there are n or none can; how many picks that makes.
 fn go_on(plan: &[u8], words: &[usize; 1024], n: usize, area: &mut [u8], from: usize) -> usize
     requires { ⌜ Begins (now plan) (now words) n (now area) from ⌝ }
@@ -73,7 +38,7 @@ fn go_on(plan: &[u8], words: &[usize; 1024], n: usize, area: &mut [u8], from: us
     let mut notes = [0u8; 64];
     let explored = replays::explore(plan, words, &area[0..from], &mut notes[0..n]);
     let made = explored.made;
-    put_noted(&notes, made, area, from);
+    place_notes::put_noted(&notes, made, area, from);
     made
 }
 
@@ -90,7 +55,7 @@ fn following(
     requires { ⌜ Listing (now plan) (now words) n (now schedule) (now notes) (now area) ⌝ }
     ensures { λ r. ⌜ Followed (programOf (now (plan .entry))) n (now (schedule .entry)) (now (area .entry)) (now (area .exit)) r ⌝ }
 {
-    let turn = last_turn(notes, schedule.len());
+    let turn = place_notes::last_turn(notes, schedule.len());
     match turn {
         Turn::Over => Next::Over,
         Turn::At { place, pick } => {

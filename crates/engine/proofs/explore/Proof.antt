@@ -36,9 +36,10 @@ use Rattle.engine.proofs.PassedOver.{none-marked, marked-too, passed-ag
 use Rattle.engine.proofs.Restored.{machineOf, all-restored, restored-at, cell-put, cell-left}
 use Rattle.engine.proofs.MovedCell.{cell-unchanged}
 use Rattle.open_threads.proofs.Lowest.{lowest-ext}
+use Rattle.engine.proofs.AllPicks.{kept-before}
 use Rattle.engine.proofs.Standing as standing
 use Rattle.engine.proofs.Standing.{Standing, in-list, standing-as}
-use Rattle.engine.proofs.Rounds.{Round, first-round, same-front, next-round}
+use Rattle.engine.proofs.Rounds.{Round, first-round, next-round}
 use Rattle.engine.proofs.Halts.{stop-halts, shut-after}
 use borrow.Author.Needs.{needs}
 use Rattle.engine.proofs.explore.Statement.{statement}
@@ -639,7 +640,7 @@ outcome-is c =
 -- ---- the run goes on
 
 abbrev Noted : Type 0
-Noted = tie.After-open-from Inv-loop2 μ-loop2 Inv-loop3 μ-loop3 Inv-loop μ-loop
+Noted = tie.After-note Inv-loop2 μ-loop2 Inv-loop3 μ-loop3 Inv-loop μ-loop
 
 -- by this answer
 abbrev answer-of : Noted → tie.After-goes-on-by Inv-loop2 μ-loop2 Inv-loop3 μ-loop3 Inv-loop μ-loop
@@ -678,10 +679,14 @@ module _ (c : Noted) where
   low : LowestFrom (openAfter (whole o .outcome)) 0 (answer-of c .goes-on-by .result)
   low = lowest-ext (openAt (answer-of c .before .before .loop3 .threads)) (openAfter (whole o .outcome)) 0 _ shown (going .2)
 
-  high : LowestFrom (openAfter (whole o .outcome)) (pickAt (picks o) (end o) (answer-of c .goes-on-by .result) % 8 + 1) (c .open-from .result)
+  -- the next higher thread
+  abbrev higher : ℕ
+  higher = c .note .ensures .higher
+
+  high : LowestFrom (openAfter (whole o .outcome)) (pickAt (picks o) (end o) (answer-of c .goes-on-by .result) % 8 + 1) (c .note .ensures .higher)
   high =
-      along (λ (p : ℕ). LowestFrom (openAfter (whole o .outcome)) (p % 8 + 1) (c .open-from .result)) (c .before .pick-at2 .ensures)
-      (lowest-ext (openAt (answer-of c .before .before .loop3 .threads)) (openAfter (whole o .outcome)) _ _ shown (c .open-from .ensures))
+      along (λ (p : ℕ). LowestFrom (openAfter (whole o .outcome)) (p % 8 + 1) (c .note .ensures .higher)) (c .before .pick-at2 .ensures)
+      (lowest-ext (openAt (answer-of c .before .before .loop3 .threads)) (openAfter (whole o .outcome)) _ _ shown (c .note .ensures .above))
 
   inside : end o < length (start o .args .notes .now)
   inside = omega (arith, going .1, round o .kept)
@@ -689,34 +694,20 @@ module _ (c : Noted) where
 loop-again : tie.Need-loop-again Inv-loop2 μ-loop2 Inv-loop3 μ-loop3 Inv-loop μ-loop
 loop-again c =
     let r = o c in
-    let z = start r .pre in
-    let n = lowest c in
-    let h = c .open-from .result in
     let before = start r .args .notes .now in (
-      in-list (words r) (roots r) (setting r) (every r) (first r) _
-          (same-front (words r) (roots r) (setting r) (every r) (first r) (picks r) before (r .loop .notes) (r .loop .lowest) (r .loop .from) (end r) (round r) z
-          (inside c) n h (by-this c) (low c) (high c)) (stood (gone c) (unhalted c)),
-      next-round (words r) (roots r) (setting r) (every r) (first r) (picks r) before (r .loop .notes) (r .loop .lowest) (r .loop .from) (end r) (round r) z
-          (inside c) n h (by-this c) (low c) (high c),
+      in-list (words r) (roots r) (setting r) (every r) (first r) _ (kept-before (picks r) (r .loop .notes) (end r) (c .note .result) (end r) (omega arith))
+          (stood (gone c) (unhalted c)),
+      along (λ (x : ℕ). Round (words r) (roots r) (setting r) (every r) (first r) (picks r) before (set (r .loop .notes) (end r) x) (lowest c) (end r)
+          (end r + 1)) (sym (c .note .ensures .is))
+          (next-round (words r) (roots r) (setting r) (every r) (first r) (picks r) before (r .loop .notes) (r .loop .lowest) (r .loop .from) (end r) (round r)
+          (start r .pre) (inside c) (lowest c) (higher c) (by-this c) (low c) (high c)),
       ap length (all-seen (over c))
           ∙ eight-threads (gone c .loop2-test .tally .counts) (gone c .before .loop2 .heads) (cells (gone c .before)) (gone c .before .loop2 .objects)
           (gone c .before .loop2 .places) (setting r),
     )
 
-mul-notes : tie.Need-mul-notes Inv-loop2 μ-loop2 Inv-loop3 μ-loop3 Inv-loop μ-loop
-mul-notes c = record { fits = omega (arith, c .before .before .goes-on-by .ensures .within) }
-
-add-open-from : tie.Need-add-open-from Inv-loop2 μ-loop2 Inv-loop3 μ-loop3 Inv-loop μ-loop
-add-open-from c = search needs
-
-open-from-requires : tie.Need-open-from-requires Inv-loop2 μ-loop2 Inv-loop3 μ-loop3 Inv-loop μ-loop
-open-from-requires c κs = search needs
-
-add-notes : tie.Need-add-notes Inv-loop2 μ-loop2 Inv-loop3 μ-loop3 Inv-loop μ-loop
-add-notes c = record { fits = omega (arith, by-this c, high c .within) }
-
-cast-notes : tie.Need-cast-notes Inv-loop2 μ-loop2 Inv-loop3 μ-loop3 Inv-loop μ-loop
-cast-notes c = record { fits = omega (arith, by-this c, high c .within) }
+note-requires : tie.Need-note-requires Inv-loop2 μ-loop2 Inv-loop3 μ-loop3 Inv-loop μ-loop
+note-requires c κs = c .before .before .goes-on-by .ensures .within
 
 slice-write-notes : tie.Need-slice-write-notes Inv-loop2 μ-loop2 Inv-loop3 μ-loop3 Inv-loop μ-loop
 slice-write-notes c = going c .1
@@ -725,7 +716,7 @@ add-to : tie.Need-add-to Inv-loop2 μ-loop2 Inv-loop3 μ-loop3 Inv-loop μ-loop
 add-to c = record { fits = omega (arith, inside c, start (o c) .pre .few-notes) }
 
 loop-less : tie.Need-loop-less Inv-loop2 μ-loop2 Inv-loop3 μ-loop3 Inv-loop μ-loop
-loop-less c = omega (arith, going c .1, length-set (o c .loop .notes) (end (o c)) (lowest c * 16 + c .open-from .result))
+loop-less c = omega (arith, going c .1, length-set (o c .loop .notes) (end (o c)) (c .note .result))
 
 -- ---- it is over
 
@@ -813,6 +804,6 @@ explore-spec =
     (λ c κs. search needs) (λ c. search needs) (λ c. search needs) (λ c. search needs) (λ c. search needs) loop3-again-2
     -- the note, and the next round
     (λ c κs. search needs) (λ c κs. search needs)
-    mul-notes add-open-from open-from-requires add-notes cast-notes slice-write-notes add-to loop-less loop-again
+    note-requires slice-write-notes add-to loop-less loop-again
     -- the end
     same-length same-length-2 returns)

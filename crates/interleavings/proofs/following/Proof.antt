@@ -9,7 +9,8 @@ use Rattle.packed.specs.Syntax.{Program}
 use Rattle.packed.specs.Trees.{programOf}
 use Rattle.text.specs.Wrote.{Wrote}
 use Rattle.text.proofs.Added.{added-more}
-use Rattle.interleavings.specs.Steps.{LastTurn, TurnsAt}
+use Rattle.place_notes.specs.Notes.{LastTurn}
+use Rattle.interleavings.specs.Steps.{TurnsAt}
 use Rattle.interleavings.proofs.GoingBack.{none-higher-at, turns-at, over}
 use Rattle.interleavings.proofs.Answers.{turn-fits, begins, followed}
 use Rattle.interleavings.proofs.following.Statement.{statement}

@@ -6,8 +6,8 @@ use mathlib.Core.Path.{_≡_, ap, subst as along}
 use mathlib.Core.List.{List}
 use lib.ListN.{getD}
 use borrow.Author.Needs.{needs}
-use Rattle.interleavings.proofs.last_turn.Statement.{statement}
-use Rattle.interleavings.proofs.last_turn.Tie as tie
+use Rattle.place_notes.proofs.last_turn.Statement.{statement}
+use Rattle.place_notes.proofs.last_turn.Tie as tie
 
 -- one note more without a higher thread
 from-here : (notes : List ℕ) (count place : ℕ) → ((i : ℕ) → place ≤ i → i < count → 8 ≤ getD notes i 0 % 16) → 8 ≤ getD notes (place - 1) 0 % 16

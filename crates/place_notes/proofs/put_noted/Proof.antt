@@ -3,10 +3,10 @@ use Prim.Native.Nat.{ℕ, _-_, _≤_}
 use native.Mathlib.Omega.{arith}
 use mathlib.Core.Path.{subst as along}
 use borrow.Author.Needs.{needs}
-use Rattle.interleavings.specs.Steps.{PutNoted}
-use Rattle.interleavings.proofs.GoingOn.{put-none, put-one}
-use Rattle.interleavings.proofs.put_noted.Statement.{statement}
-use Rattle.interleavings.proofs.put_noted.Tie as tie
+use Rattle.place_notes.specs.Notes.{PutNoted}
+use Rattle.place_notes.proofs.Put.{put-none, put-one}
+use Rattle.place_notes.proofs.put_noted.Statement.{statement}
+use Rattle.place_notes.proofs.put_noted.Tie as tie
 
 abbrev Inv-loop : tie.InvT-loop
 Inv-loop notes made area₀ from place₀ area place = (from ≤ place) × (place ≤ made) × PutNoted notes place from area₀ area
