@@ -1,5 +1,3 @@
-pub mod Encoded
-pub mod Moves
 pub mod Stacks
 pub mod Making
 pub mod Reading

@@ -1,6 +1,4 @@
 // An expression's tokens into terms, by a stack of goals.
-mod forms; // forms.rt: the forms that begin with a word
-pub mod moves; // moves.rt: what a step does with the stacks
 mod stacks; // stacks.rt: the arrays of goals and of values
 mod terms; // terms.rt: terms made of values
 pub mod turns; // turns.rt: the goal on top, done
