@@ -67,8 +67,8 @@ module _ (ws rs : List ℕ) (g : Setting) (every : Bool) (first picks : List ℕ
           }
 
   -- and from each to the next: one pick more, which is noted
-  module _ (before notes : List ℕ) (lowest from to : ℕ) (r : Round before notes lowest from to) (h : Explorable picks before first) (inside : to < length before)
-      (next higher : ℕ) (there : next < 8) (low : LowestFrom (openAfter (outcomeAt notes to)) 0 next)
+  module _ (before notes : List ℕ) (lowest from to : ℕ) (r : Round before notes lowest from to) (h : Explorable picks before first)
+      (inside : to < length before) (next higher : ℕ) (there : next < 8) (low : LowestFrom (openAfter (outcomeAt notes to)) 0 next)
       (high : LowestFrom (openAfter (outcomeAt notes to)) (pickAt picks to next % 8 + 1) higher) where
     abbrev after : List ℕ
     after = set notes to (next * 16 + higher)

@@ -40,7 +40,8 @@ module _ (ws rs : List ℕ) (g : Setting) (every : Bool) (first : List ℕ) wher
   -- the same in a list whose first picks are those
   pub in-list : {list : List ℕ} {i : ℕ} {log : List ℕ} {heads : List Head} {cells : List Kept} {objects : List Object} {places : List ℕ} {stack : Stack}
       {passed : List Bool} {tally : Tally} {halt : Stop} {mb rb : ℕ} (longer : List ℕ) → take i longer ≡ take i list
-      → Standing list i log heads cells objects places stack passed tally halt mb rb → Standing longer i log heads cells objects places stack passed tally halt mb rb
+      → Standing list i log heads cells objects places stack passed tally halt mb rb
+      → Standing longer i log heads cells objects places stack passed tally halt mb rb
   in-list {list} {i} longer e s =
       record {
         few-moves = s .few-moves;

@@ -1,5 +1,5 @@
--- Notes, a byte to each place of a run: 16 times the lowest thread that can be picked there, and the lowest above the pick, or 8. For inner contracts; no reader
--- of the entries' promises needs it. Assumes nothing.
+-- Notes, a byte to each place of a run: 16 times the lowest thread that can be picked there, and the lowest above the pick, or 8. For inner contracts; no
+-- reader of the entries' promises needs it. Assumes nothing.
 use Prim.Native.Nat.{ℕ, _+_, _*_, _/_, _%_, _≤_, _<_}
 use mathlib.Core.Path.{_≡_}
 use mathlib.Core.List.{List}

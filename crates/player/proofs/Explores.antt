@@ -98,7 +98,8 @@ module _ (plan ws rs picks area notes noted after : List ℕ) (given : Given pla
       → ExploredOn ws rs (record { mask = mask; version = v }) (startOf every rs area) picks notes noted after r
       → ExploredBy every plan picks area after notes noted r
   explored-by every mask v em ev x =
-      explored-here every (along (λ (n : ℕ). ExploredOn ws rs (record { mask = volatiles plan; version = n }) (startOf every rs area) picks notes noted after r) ev
+      explored-here every
+      (along (λ (n : ℕ). ExploredOn ws rs (record { mask = volatiles plan; version = n }) (startOf every rs area) picks notes noted after r) ev
       (along (λ (n : ℕ). ExploredOn ws rs (record { mask = n; version = v }) (startOf every rs area) picks notes noted after r) em x))
 
 -- where no note is lent, all its picks are the given ones

@@ -30,8 +30,8 @@ fn roots(plan: &[u8], procedures: usize) -> [usize; 32]
     all
 }
 
-// The run of picks on an accepted plan whose words are loaded, its records into the log: of every move, or of those that have one. Where notes are lent, it goes
-// on behind the picks by the lowest thread that can be picked, and notes at each place what could be picked there.
+// The run of picks on an accepted plan whose words are loaded, its records into the log: of every move, or of those that have one. Where notes are lent, it
+// goes on behind the picks by the lowest thread that can be picked, and notes at each place what could be picked there.
 pub fn explore(
     plan: &[u8],
     words: &[usize; 1024],

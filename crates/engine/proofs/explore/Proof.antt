@@ -156,7 +156,8 @@ here : (l : Turn) → At l (first (opened l))
 here l = l .loop2 .inv .3 (first (opened l)) (opened l .loop .inv .0)
 
 -- there is such a pick, and it is one of few
-started : (c : tie.In-loop2 Inv-loop2 μ-loop2 Inv-loop3 μ-loop3 Inv-loop μ-loop) → (c .before .loop2 .i < end (opened (c .before))) × (c .before .loop2 .i < 4096)
+started : (c : tie.In-loop2 Inv-loop2 μ-loop2 Inv-loop3 μ-loop3 Inv-loop μ-loop)
+    → (c .before .loop2 .i < end (opened (c .before))) × (c .before .loop2 .i < 4096)
 started c = let h = c .loop2-test .taken in (h, omega (arith, h, round (opened (c .before)) .few))
 
 abbrev turn : Drawn → Turn
@@ -226,7 +227,8 @@ loop-holds c =
         kept = refl;
         goes = λ qs. begins (a .words .now) (a .roots .now) (a .setting) (a .every) qs (a .log .now) _ _ _ _ _
             (c .before .before .before .before .before .before .before .no-head .ensures) (c .before .before .before .before .before .first-head .ensures)
-            (all-restored 1024 (c .before .before .before .before .zeros .result) ∙ ap (λ (x : Kept). replicate 1024 (restoreOf x)) (c .before .before .before .before .zeros .ensures))
+            (all-restored 1024 (c .before .before .before .before .zeros .result)
+            ∙ ap (λ (x : Kept). replicate 1024 (restoreOf x)) (c .before .before .before .before .zeros .ensures))
             (c .before .before .before .first-object .ensures) (c .before .before .first .ensures);
         unstopped = refl;
         eight = refl;
@@ -315,7 +317,8 @@ placed c = c .before .before .before .before .before .before .before
 came : (c : Answered)
     → given c ≡ pickedBy (words (opened (at c))) (roots (opened (at c))) (setting (opened (at c))) (machine (at c)) (pick (asked c) % 8)
 came c =
-    answered (at c) (pick (asked c)) (placed c .cell-of .result) _ (given c) (placed c .cell-of .ensures) (c .before .before .before .before .before .restore .ensures) (c .pick .ensures)
+    let restored = c .before .before .before .before .before .restore .ensures in
+    answered (at c) (pick (asked c)) (placed c .cell-of .result) _ (given c) (placed c .cell-of .ensures) restored (c .pick .ensures)
 
 -- its thread is there
 present : (c : Answered) → pick (asked c) % 8 < at c .loop2 .tally .counts .threads
@@ -537,8 +540,8 @@ module _ (c : Left) where
   counted-records =
       ⊎-elim (λ w. w .7 ∙ here (c .before) .records
       ∙ ap (λ (n : ℕ). played (closed c) (take n (list (closed c))) .outcome .records) (at-end (w .0 .left) (w .5)))
-      (λ w. w .29 ∙ records-before (record { before = record { before = c .before; loop2-test = w .0 }; pick-at = w .1 }) (first (closed c)) (here (c .before)) k
-      (at-stop (w .0 .taken) (w .27))) (c .loop2-test .came)
+      (λ w. w .29 ∙ records-before (record { before = record { before = c .before; loop2-test = w .0 }; pick-at = w .1 }) (first (closed c)) (here (c .before))
+      k (at-stop (w .0 .taken) (w .27))) (c .loop2-test .came)
       ∙ ap (λ (ps : List ℕ). played (closed c) ps .outcome .records) same
 
 -- ---- the look at all threads
@@ -730,7 +733,8 @@ same-length-2 c =
     ⊎-elim (λ w. ap length (w .1) ∙ v .kept) (λ w. ap length (w .23) ∙ w .20 .kept .0 ∙ v .kept) (l .loop2-test .came)
 
 -- short of the last place, it has stopped or no thread can be picked
-shut-off : (c : tie.Then6 Inv-loop2 μ-loop2 Inv-loop3 μ-loop3 Inv-loop μ-loop) → end (closed (left (c .before .before .before))) < length (closed (left (c .before .before .before)) .loop .notes) → (k : ℕ)
+shut-off : (c : tie.Then6 Inv-loop2 μ-loop2 Inv-loop3 μ-loop3 Inv-loop μ-loop)
+    → end (closed (left (c .before .before .before))) < length (closed (left (c .before .before .before)) .loop .notes) → (k : ℕ)
     → k < 8 → Dec (left (c .before .before .before) .loop2-test .dealt < end (closed (left (c .before .before .before))))
     → openAfter (whole (closed (left (c .before .before .before))) .outcome) k ≡ false
 unfolding openAfter
@@ -777,9 +781,11 @@ explore-spec =
     (λ c κs. search needs) (λ c. search needs) (λ c κs. search needs) (λ c. search needs) (λ c κs. search needs) (λ c κs. search needs) (λ c κs. search needs)
     (λ c κs. search needs) (λ c κs. search needs) loop-holds loop2-holds
     -- the thread of a pick, which is absent
-    (λ c κs. search needs) (λ c. record { fits = omega (arith, started (c .before .before .before .before)) }) (λ c. omega (arith, started (c .before .before .before .before))) loop2-again
+    (λ c κs. search needs) (λ c. record { fits = omega (arith, started (c .before .before .before .before)) })
+    (λ c. omega (arith, started (c .before .before .before .before))) loop2-again
     -- which was passed over since the last move
-    (λ c. search needs) (λ c. record { fits = omega (arith, started (c .before .before .before .before .before)) }) (λ c. omega (arith, started (c .before .before .before .before .before))) loop2-again-2
+    (λ c. search needs) (λ c. record { fits = omega (arith, started (c .before .before .before .before .before)) })
+    (λ c. omega (arith, started (c .before .before .before .before .before))) loop2-again-2
     -- what the pick meets
     (λ c. search needs) (λ c. search needs) (λ c κs. search needs) (λ c. search needs) (λ c. search needs) (λ c κs. search needs) (λ c. search needs)
     (λ c. search needs) (λ c. search needs) (λ c. search needs) (λ c. search needs) (λ c. search needs)
@@ -788,15 +794,20 @@ explore-spec =
     -- it is passed over
     (λ c. search needs) (λ c. record { fits = omega (arith, few (c .before .before)) }) (λ c. omega (arith, begun (c .before .before))) loop2-again-3
     -- it stops, or the queues are changed and its record is put
-    (λ c κs. fits (c .before .before .before .before .before)) slice-aggregate-after after-requires (λ c κs. fits (c .before .before .before .before .before .before .before .before .before))
+    (λ c κs. fits (c .before .before .before .before .before)) slice-aggregate-after after-requires
+    (λ c κs. fits (c .before .before .before .before .before .before .before .before .before))
     -- a new thread, the mover, the cell, the object
     (λ c. search needs) (λ c. search needs) (λ c. search needs) (λ c. search needs)
     (λ c κs. search needs) (λ c κs. search needs)
-    (λ c. record { fits = omega (arith, placed (recorded (c .before .before .before .before .before .before .before .before .before .before)) .cell-of .ensures .inside) })
+    (λ c. record {
+      fits = omega (arith, placed (recorded (c .before .before .before .before .before .before .before .before .before .before)) .cell-of .ensures .inside);
+    })
     (λ c. omega (arith, placed (recorded (c .before .before .before .before .before .before .before .before .before .before)) .cell-of .ensures .inside))
     (λ c. search needs) (λ c. search needs)
     -- the counts, and the next pick
-    moved-requires (λ c. record { fits = omega (arith, few (recorded (c .before .before .before .before .before .before .before .before .before .before .before))) }) (λ c. omega (arith, begun (recorded (c .before .before .before .before .before .before .before .before .before .before .before)))) loop2-again-4
+    moved-requires
+    (λ c. record { fits = omega (arith, few (recorded (c .before .before .before .before .before .before .before .before .before .before .before))) })
+    (λ c. omega (arith, begun (recorded (c .before .before .before .before .before .before .before .before .before .before .before)))) loop2-again-4
     -- the threads at the end of a round
     loop3-holds (λ c κs. search needs) (λ c. search needs) (λ c. search needs) (λ c. search needs) (λ c. search needs) loop3-again
     (λ c. search needs) (λ c. search needs) (λ c κs. search needs) (λ c. search needs) (λ c. search needs) (λ c κs. search needs)
