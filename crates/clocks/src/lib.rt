@@ -1,7 +1,7 @@
-// Rows of eight clocks. A row's clock of thread u says how many of u's records have reached what the row is of.
+// Rows of eight clocks, one to a thread. A record of thread u has reached what a row is of when its index is below the row's clock of u.
 ghost use mathlib.Core.Path.{_≡_};
-ghost use Prim.Native.Nat.{_<_, max};
-ghost use Rattle.clocks.specs.Rows.{Raised, Advanced, One, OneEach, Few, lowerOf};
+ghost use Prim.Native.Nat.{max, min};
+ghost use Rattle.clocks.specs.Rows.{Raised, RaisedTo, lowerOf};
 
 pub type Row = [u16; 8];
 
@@ -10,6 +10,13 @@ pub fn higher(one: u16, other: u16) -> u16
     ensures { λ r. ⌜ r ≡ max one other ⌝ }
 {
     if one < other { other } else { one }
+}
+
+// The lower of two clocks.
+fn lesser(one: u16, other: u16) -> u16
+    ensures { λ r. ⌜ r ≡ min one other ⌝ }
+{
+    if one < other { one } else { other }
 }
 
 // The row that is told what another row knows.
@@ -25,16 +32,15 @@ pub fn raised(row: Row, told: Row) -> Row
     clocks
 }
 
-// The row of a thread after a record: it hears another row, and counts the record. `one` is the row of that one record: eight sums at once
-// are quicker than a store to one of eight clocks.
-pub fn advanced(own: Row, heard: Row, one: Row) -> Row
-    requires { ⌜ Few own ⌝ ∗ ⌜ Few heard ⌝ ∗ ⌜ Few one ⌝ }
-    ensures { λ r. ⌜ Advanced own heard one r ⌝ }
+// The row that is told what another row knows of the records below `most`.
+pub fn raised_to(row: Row, told: Row, most: u16) -> Row
+    ensures { λ r. ⌜ RaisedTo most row told r ⌝ }
 {
     let mut clocks = [0u16; 8];
     let mut thread = 0;
     while thread < 8 {
-        clocks[thread] = higher(own[thread], heard[thread]) + one[thread];
+        let known = lesser(told[thread], most);
+        clocks[thread] = higher(row[thread], known);
         thread += 1;
     }
     clocks
@@ -51,29 +57,4 @@ pub fn lower(own: Row, heard: Row) -> bool
         thread += 1;
     }
     found
-}
-
-// The row with one record of a thread, and none of the others.
-fn one_record(thread: usize) -> Row
-    requires { ⌜ thread < 8 ⌝ }
-    ensures { λ r. ⌜ One thread r ⌝ }
-{
-    let mut clocks = [0u16; 8];
-    clocks[thread] = 1;
-    clocks
-}
-
-// That row for each thread.
-pub fn one_record_each() -> [Row; 8]
-    ensures { λ r. ⌜ OneEach r ⌝ }
-{
-    let none = [0u16; 8];
-    let mut rows = [none; 8];
-    let mut thread = 0;
-    while thread < 8 {
-        let row = one_record(thread);
-        rows[thread] = row;
-        thread += 1;
-    }
-    rows
 }

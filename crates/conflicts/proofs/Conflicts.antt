@@ -1,9 +1,9 @@
 -- Conflicting accesses, by the clocks: whether the next record of a log conflicts with an earlier one that has no chain to it. Logs newest first.
 -- Assumes nothing.
-use Prim.Native.Nat.{ℕ, zero, suc, _<_, _≤_, max}
-use mathlib.Core.Path.{_≡_, refl, subst}
-use mathlib.Core.Bool.{Bool, true, false, cond, _||_}
-use mathlib.Core.List.{List, [], _∷_}
+use Prim.Native.Nat.{ℕ, zero, suc, _<_, _≤_}
+use mathlib.Core.Path.{_≡_, refl, ap, subst}
+use mathlib.Core.Bool.{Bool, true, false, _||_}
+use mathlib.Core.List.{List}
 use mathlib.Core.Logic.{_⊎_, inl, inr}
 use lib.Dec.{T, ltb, leb→le, le→leb}
 use mir.Facts.{or-yes}
@@ -14,10 +14,10 @@ use Rattle.records.specs.Record.{Kind, new, read, write, readv, writev, acquire
 use Rattle.order.specs.Accesses.{isWrite}
 use Rattle.conflicts.specs.Conflicts.{Conflict}
 use Rattle.order.proofs.Tests.{or←}
-use Rattle.order.proofs.Newest.{At, here, back}
+use Rattle.order.proofs.Newest.{At}
 use Rattle.order.proofs.Ports.{Port, ofThread, ofAccesses, ofWrites, Feeds}
 use Rattle.order.proofs.Flow.{Reach}
-use Rattle.conflicts.proofs.Clock.{clock, feeds, feeds→, feeds←}
+use Rattle.conflicts.proofs.Clock.{clock}
 use Rattle.conflicts.proofs.Heard.{Missed, behind→missed, missed→behind}
 
 -- some number below n passes
@@ -101,65 +101,69 @@ not-plain-held κ t o f e = rw e (go (isWrite κ) refl)
     go true q = absurd (subst T e (write-plain κ (rw q tt)))
     go false q = refl
 
+-- ---- what feeds that port is what conflicts
+
+pub held-conflict : (v : Version) (w r : Record) → T (isPlain (r .kind)) → Feeds v w (held r) → Conflict w r
+held-conflict v w r p = by (isWrite (r .kind)) (isPlain (r .kind)) refl refl
+  where
+    by : (a b : Bool) → isWrite (r .kind) ≡ a → isPlain (r .kind) ≡ b → Feeds v w (heldBy a b (r .thread) (r .object) (r .field)) → Conflict w r
+    by true b e g (h, x, y) = record { earlier-plain = h; later-plain = p; same-object = x; same-field = y; one-writes = inr (rw e tt) }
+    by false true e g (h, x, y) =
+        record { earlier-plain = write-plain (w .kind) h; later-plain = p; same-object = x; same-field = y; one-writes = inl h }
+    by false false e g f = absurd (subst T g p)
+
+pub conflict-held : (v : Version) (w r : Record) → Conflict w r → Feeds v w (held r)
+conflict-held v w r c = by (isWrite (r .kind)) (isPlain (r .kind)) refl refl
+  where
+    writes : isWrite (r .kind) ≡ false → T (isWrite (w .kind)) ⊎ T (isWrite (r .kind)) → T (isWrite (w .kind))
+    writes e (inl x) = x
+    writes e (inr x) = absurd (subst T e x)
+
+    by : (a b : Bool) → isWrite (r .kind) ≡ a → isPlain (r .kind) ≡ b → Feeds v w (heldBy a b (r .thread) (r .object) (r .field))
+    by true b e g = (c .earlier-plain, c .same-object, c .same-field)
+    by false true e g = (writes e (c .one-writes), c .same-object, c .same-field)
+    by false false e g = absurd (subst T g (c .later-plain))
+
 -- ---- the test decides
+
+-- what is behind is no record's own thread
+held-plain : (v : Version) (H : List Record) (r : Record) (u : ℕ) → clock v H (ofThread (r .thread)) u < clock v H (held r) u → T (isPlain (r .kind))
+held-plain v H r u k = go (isPlain (r .kind)) refl
+  where
+    go : (d : Bool) → isPlain (r .kind) ≡ d → T (isPlain (r .kind))
+    go true e = rw e tt
+    go false e =
+        let own : clock v H (held r) u ≡ clock v H (ofThread (r .thread)) u
+        = ap (λ (p : Port). clock v H p u) (not-plain-held (r .kind) (r .thread) (r .object) (r .field) e) in
+        absurd (omega arith)
 
 module _ (v : Version) (H : List Record) (r : Record) where
   abbrev Own : ℕ → ℕ
   Own u = clock v H (ofThread (r .thread)) u
 
   pub clashes→ : T (clashes v H r) → Clash v H r
-  clashes→ h = by (isWrite (r .kind)) (isPlain (r .kind)) refl refl less
-    where
-      u : ℕ
-      u = any→ 8 (behind v H r) h .0
-
-      less : Own u < clock v H (held r) u
-      less = leb→le (suc (Own u)) (clock v H (held r) u) (any→ 8 (behind v H r) h .1)
-
-      clash : (p : Port) → ((w : Record) → Feeds v w p → Conflict w r) → Own u < clock v H p u → Clash v H r
-      clash p c k =
-          let m = behind→missed v H (r .thread) p u k in
-          record { index = m .index; other = m .feeder; at-index = m .at-index; conflict = c (m .feeder) (m .feeds); no-reach = m .no-reach }
-
-      by : (w p : Bool) → isWrite (r .kind) ≡ w → isPlain (r .kind) ≡ p → Own u < clock v H (heldBy w p (r .thread) (r .object) (r .field)) u → Clash v H r
-      by true p e g k =
-          let t : T (isWrite (r .kind)) = rw e tt in
-          clash (ofAccesses (r .object) (r .field))
-          (λ w (a, x, y). record { earlier-plain = a; later-plain = write-plain (r .kind) t; same-object = x; same-field = y; one-writes = inr t }) k
-      by false true e g k =
-          clash (ofWrites (r .object) (r .field))
-          (λ w (a, x, y). record { earlier-plain = write-plain (w .kind) a; later-plain = rw g tt; same-object = x; same-field = y; one-writes = inl a })
-          k
-      by false false e g k = absurd (omega arith)
+  clashes→ h =
+      let d = any→ 8 (behind v H r) h in
+      let less : Own (d .0) < clock v H (held r) (d .0) = leb→le (suc (Own (d .0))) (clock v H (held r) (d .0)) (d .1) in
+      let m = behind→missed v H (r .thread) (held r) (d .0) less in
+      record {
+        index = m .index;
+        other = m .feeder;
+        at-index = m .at-index;
+        conflict = held-conflict v (m .feeder) r (held-plain v H r (d .0) less) (m .feeds);
+        no-reach = m .no-reach;
+      }
 
   pub clashes← : Eight H → Clash v H r → T (clashes v H r)
   clashes← ei c =
       any← 8 (behind v H r) (c .other .thread) (ei (c .index) (c .other) (c .at-index))
-      (le→leb (suc (Own (c .other .thread))) (clock v H (held r) (c .other .thread)) (by (isWrite (r .kind)) (isPlain (r .kind)) refl refl))
+      (le→leb (suc (Own (c .other .thread))) (clock v H (held r) (c .other .thread)) (missed→behind v H (r .thread) (held r) missed))
     where
-      less : (p : Port) → Feeds v (c .other) p → Own (c .other .thread) < clock v H p (c .other .thread)
-      less p x = missed→behind v H (r .thread) p (record { index = c .index; feeder = c .other; at-index = c .at-index; feeds = x; no-reach = c .no-reach })
-
-      writes : isWrite (r .kind) ≡ false → T (isWrite (c .other .kind)) ⊎ T (isWrite (r .kind)) → T (isWrite (c .other .kind))
-      writes e (inl x) = x
-      writes e (inr x) = absurd (subst T e x)
-
-      by : (w p : Bool) → isWrite (r .kind) ≡ w → isPlain (r .kind) ≡ p
-          → Own (c .other .thread) < clock v H (heldBy w p (r .thread) (r .object) (r .field)) (c .other .thread)
-      by true p e g = less (ofAccesses (r .object) (r .field)) (c .conflict .earlier-plain, c .conflict .same-object, c .conflict .same-field)
-      by false true e g = less (ofWrites (r .object) (r .field)) (writes e (c .conflict .one-writes), c .conflict .same-object, c .conflict .same-field)
-      by false false e g = absurd (subst T g (c .conflict .later-plain))
-
--- ---- the writes of a field are among its accesses
-
-among : (a b : Bool) (C D G : ℕ) → (T a → T b) → C ≤ D → cond a (max C G) C ≤ cond b (max D G) D
-among true true C D G i h = omega arith
-among true false C D G i h = absurd (i tt)
-among false true C D G i h = omega arith
-among false false C D G i h = h
-
-pub writes-among : (v : Version) (H : List Record) (o f u : ℕ) → clock v H (ofWrites o f) u ≤ clock v H (ofAccesses o f) u
-writes-among v [] o f u = omega arith
-writes-among v (r ∷ H) o f u =
-    among (feeds v r (ofWrites o f)) (feeds v r (ofAccesses o f)) _ _ _
-    (λ h. let d = feeds→ v r (ofWrites o f) h in feeds← v r (ofAccesses o f) (write-plain (r .kind) (d .0), d .1, d .2)) (writes-among v H o f u)
+      missed : Missed v H (r .thread) (held r)
+      missed = record {
+        index = c .index;
+        feeder = c .other;
+        at-index = c .at-index;
+        feeds = conflict-held v (c .other) r (c .conflict);
+        no-reach = c .no-reach;
+      }

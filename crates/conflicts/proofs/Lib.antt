@@ -5,3 +5,4 @@ pub mod Conflicts
 pub mod FirstConflict
 pub mod Samples
 pub mod Told
+pub mod RowClocks

@@ -1,11 +1,10 @@
-// The rows that a record hears and tells. Thread q has row q. The place of number n has three rows, the first at 8 + 3 n: what its monitor's releases
-// or its volatile writes tell, what its plain accesses tell, and what its plain writes tell.
+// The rows that a record is held against and kept in, and which records hear and tell. Thread q has row q. The place of number n has three rows, the first
+// at 8 + 3 n: what its monitor's releases or its volatile writes tell, its plain accesses, and its plain writes.
 ghost use mathlib.Core.Path.{_≡_};
 ghost use mathlib.Core.Bool.{cond};
 ghost use Prim.Native.Nat.{_≤_};
 ghost use Rattle.format.specs.Version.{versionOf};
-ghost use Rattle.effects.specs.Rows.{Known, placeRow, isAccess, passes, sourceRow, targetRow, writesRow};
-use decoding::Columns;
+ghost use Rattle.effects.specs.Rows.{placeRow, isAccess, passes, heldRow, keptRow};
 use records::kind;
 
 // Chooses without a branch, since a log's kinds follow no pattern.
@@ -36,41 +35,32 @@ fn passing(version: usize, kind: usize, monitor: usize, volatile: usize) -> bool
     (kind == monitor) | ((kind == volatile) & (version == 1))
 }
 
-// The row that a record hears besides its thread's own, or its own: an acquire the monitor's, a join the thread's, a volatile read the field's. A plain
-// access must have heard it already: a write that of the field's accesses, a read that of its writes.
-pub fn source(version: usize, columns: Columns, at: usize) -> usize
-    requires { ⌜ Known columns ⌝ ∗ ⌜ at ≤ 65536 ⌝ }
-    ensures { λ r. ⌜ r ≡ sourceRow (versionOf version) columns at ⌝ }
+// A record that hears what has come to its place: an acquire, a volatile read.
+pub fn hears(version: usize, kind: usize) -> bool
+    ensures { λ r. ⌜ r ≡ passes (versionOf version) 6 4 kind ⌝ }
 {
-    let of_write = choose(columns.kind % 8 == kind::WRITE, at + 1, columns.thread);
-    let of_access = choose(columns.kind % 8 == kind::READ, at + 2, of_write);
-    let of_thread = choose(columns.kind == kind::JOIN, columns.field, of_access);
-    choose(
-        passing(version, columns.kind, kind::ACQUIRE, kind::VOLATILE_READ),
-        at,
-        of_thread,
-    )
+    passing(version, kind, kind::ACQUIRE, kind::VOLATILE_READ)
 }
 
-// The row that a record tells besides its thread's own, or its own: a release the monitor's, a fork the thread's, a volatile write the field's, a plain
-// access that of the field's accesses.
-pub fn target(version: usize, columns: Columns, at: usize) -> usize
-    requires { ⌜ Known columns ⌝ ∗ ⌜ at ≤ 65536 ⌝ }
-    ensures { λ r. ⌜ r ≡ targetRow (versionOf version) columns at ⌝ }
+// A record that tells its place what its thread knows: a release, a volatile write.
+pub fn tells(version: usize, kind: usize) -> bool
+    ensures { λ r. ⌜ r ≡ passes (versionOf version) 7 5 kind ⌝ }
 {
-    let of_access = choose(access(columns.kind), at + 1, columns.thread);
-    let of_thread = choose(columns.kind == kind::FORK, columns.field, of_access);
-    choose(
-        passing(version, columns.kind, kind::RELEASE, kind::VOLATILE_WRITE),
-        at,
-        of_thread,
-    )
+    passing(version, kind, kind::RELEASE, kind::VOLATILE_WRITE)
 }
 
-// The row of the field's writes, which a plain write tells too; of the other records their thread's own.
-pub fn writes(columns: Columns, at: usize) -> usize
+// The row that a plain access must have heard: a write that of the field's accesses, a read that of its writes.
+pub fn held(kind: usize, at: usize) -> usize
     requires { ⌜ at ≤ 65536 ⌝ }
-    ensures { λ r. ⌜ r ≡ writesRow columns at ⌝ }
+    ensures { λ r. ⌜ r ≡ heldRow kind at ⌝ }
 {
-    choose(columns.kind % 8 == kind::WRITE, at + 2, columns.thread)
+    choose(kind % 8 == kind::WRITE, at + 1, at + 2)
+}
+
+// The row that a plain access is kept in besides that of the field's accesses: a write in that of its writes.
+pub fn kept(kind: usize, at: usize) -> usize
+    requires { ⌜ at ≤ 65536 ⌝ }
+    ensures { λ r. ⌜ r ≡ keptRow kind at ⌝ }
+{
+    choose(kind % 8 == kind::WRITE, at + 2, at + 1)
 }

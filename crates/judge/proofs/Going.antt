@@ -1,77 +1,120 @@
--- What the pass keeps: its rows show the clocks of the records so far by the numbers of their places, and no record so far is an unordered access.
+-- What the pass keeps: its table shows the clocks of the records so far by the numbers of their places, and no record so far is an unordered access.
 -- Assumes nothing.
 use Prim.Native.Nat.{ℕ, _+_, _*_, _/_, _<_, _≤_}
 use native.Mathlib.Omega.{arith}
-use mathlib.Core.Path.{_≡_, refl, sym, subst}
-use mathlib.Core.Bool.{Bool, true, false, cond}
+use native.Mathlib.Decide.{ℕ-discrete}
+use mathlib.Core.Path.{_≡_, refl, sym, ap, subst, _∙_}
 use mathlib.Core.List.{List, []}
+use mathlib.Core.Logic.{_⊎_, inl, inr}
 use mathlib.Core.Option.{none}
-use lib.Dec.{T, eqb}
-use lib.ListN.{length, replicate, length-replicate}
+use lib.ListN.{length, replicate, length-replicate, getD-replicate}
 use Rattle.format.specs.Version.{Version}
+use Rattle.format.proofs.Filled.{repeated, zeros}
 use Rattle.records.specs.Record.{Record}
 use Rattle.records.specs.Packed.{recordCount, logOf}
 use Rattle.records.specs.Refusals.{logRefusal}
 use Rattle.records.proofs.RoundTrip.{count-log}
 use Rattle.records.proofs.Tidy.{tidy-at}
 use Rattle.records.proofs.Accepted.{accepted-tidy}
-use Rattle.conflicts.specs.Judge.{named, Answers, judges}
-use Rattle.order.proofs.Past.{past, past-zero}
-use Rattle.conflicts.proofs.FirstConflict.{conflictsAt, Threads, names-no}
-use Rattle.clocks.specs.Rows.{Row, clockOf, noRow, rowAt, OneEach, Few}
+use Rattle.order.proofs.Past.{past, past-zero, at-within}
+use Rattle.order.proofs.Ports.{Port, ofThread, ofMonitor, ofVolatile, ofAccesses, ofWrites}
+use Rattle.conflicts.specs.Conflicts.{Conflicting}
+use Rattle.conflicts.specs.Judge.{Names, names-none}
+use Rattle.conflicts.proofs.FirstConflict.{Threads}
+use Rattle.conflicts.proofs.RowClocks.{heard-start, kept-start}
+use Rattle.clocks.specs.Rows.{Row, clockOf, noRow}
 use Rattle.effects.specs.Rows.{placeRow}
-use Rattle.format.proofs.Filled.{repeated, zeros}
-use Rattle.judge.specs.Clear.{Room, Clear}
+use Rattle.effects.specs.Table.{Wide, clockAt, Started}
+use Rattle.judge.specs.Clear.{Clear}
 use Rattle.judge.proofs.PlaceNumbers.{Places, places-start}
-use Rattle.judge.proofs.PortRows.{rowOf}
-use Rattle.judge.proofs.Table.{Shows, Blank}
+use Rattle.judge.proofs.PortRows.{rowOf, Valid}
+use Rattle.judge.proofs.Table.{Shown, Shows, Blank, clocks}
 
 -- the records before record i, newest first
 abbrev pub before : List ℕ → ℕ → List Record
 before b i = past (logOf b) i
 
-pub record Going (v : Version) (b : List ℕ) (i : ℕ) (N : List ℕ) (given : ℕ) (rows : List Row) : Type 0 where
-  pub room : Room (length b / 3) rows
-  pub places : Places N given
+pub record Going (v : Version) (b : List ℕ) (places i : ℕ) (N : List ℕ) (given : ℕ) (rows : List Row) : Type 0 where
+  pub most : places ≤ 1024
+  pub room : placeRow places + 2 < length rows
+  pub wide : Wide rows
+  pub numbers : Places N given
   pub few : given ≤ i
+  pub within : given ≤ places
   pub blank : Blank given rows
   pub shows : Shows v (before b i) N rows
-  pub none-late : (j : ℕ) → j < i → conflictsAt v (logOf b) j ≡ false
+  pub none-late : (j : ℕ) → j < i → Conflicting v (logOf b) j → ⊥
 
 -- ---- the start
 
-pub going-start : (v : Version) (b : List ℕ) (rows : List Row) → Clear (length b / 3) rows → Going v b 0 (replicate 1024 0) 0 rows
-unfolding Shows Blank
-going-start v b rows C =
-    record {
-      room = C .room;
-      places = places-start;
-      few = omega arith;
-      blank = λ k q x y d u h. C .zero q u;
-      shows = λ p vp u h. rw (past-zero (logOf b)) (C .zero (rowOf (replicate 1024 0) p) u);
-      none-late = λ j h. absurd (omega arith);
-    }
+module _ (v : Version) (places : ℕ) (rows after : List Row) (C : Clear places rows) (A : Started 8 rows after) where
+  no-clock : (q u : ℕ) → (q < 8 → q ≡ u → ⊥) → clockAt after q u ≡ 0
+  no-clock q u n = A .others q u n ∙ C .zero q u
+
+  abbrev N : List ℕ
+  N = replicate 1024 0
+
+  shown-start : (p : Port) → Valid p → Shown v [] p (clocks N after p)
+  shown-start (ofThread q) w = heard-start v (ofThread q) (clocks N after (ofThread q)) (λ u h. go u (ℕ-discrete q u)) own
+    where
+      go : (u : ℕ) → Dec (q ≡ u) → (ofThread q ≡ ofThread u) ⊎ (clockAt after q u ≡ 0)
+      go u (yes e) = inl (ap ofThread e)
+      go u (no n) = inr (no-clock q u (λ h. n))
+
+      own : (t : ℕ) → ofThread q ≡ ofThread t → 4096 ≤ clockAt after q t
+      own t e = let same : q ≡ t = cc in let k : clockAt after q t ≡ 65535 = subst (λ (x : ℕ). clockAt after q x ≡ 65535) same (A .own q w) in omega arith
+  shown-start (ofMonitor o) w =
+      heard-start v (ofMonitor o) (clocks N after (ofMonitor o)) (λ u h. inr (no-clock (rowOf N (ofMonitor o)) u (λ k. absurd (omega arith))))
+      (λ t e. absurd (apart e))
+    where
+      apart : {t : ℕ} → ofMonitor o ≡ ofThread t → ⊥
+      apart e = let z : _≡_ {A = ℕ} 0 1 = cc in omega arith
+  shown-start (ofVolatile o f) w =
+      heard-start v (ofVolatile o f) (clocks N after (ofVolatile o f)) (λ u h. inr (no-clock (rowOf N (ofVolatile o f)) u (λ k. absurd (omega arith))))
+      (λ t e. absurd (apart e))
+    where
+      apart : {t : ℕ} → ofVolatile o f ≡ ofThread t → ⊥
+      apart e = let z : _≡_ {A = ℕ} 0 1 = cc in omega arith
+  shown-start (ofAccesses o f) w =
+      kept-start v (ofAccesses o f) (clocks N after (ofAccesses o f)) (λ u h. no-clock (rowOf N (ofAccesses o f)) u (λ k. absurd (omega arith)))
+  shown-start (ofWrites o f) w =
+      kept-start v (ofWrites o f) (clocks N after (ofWrites o f)) (λ u h. no-clock (rowOf N (ofWrites o f)) u (λ k. absurd (omega arith)))
+
+  pub going-start : (b : List ℕ) → Going v b places 0 (replicate 1024 0) 0 after
+  unfolding Shows Blank
+  going-start b =
+      record {
+        most = C .most;
+        room = omega (arith, C .room, A .long);
+        wide = A .wide;
+        numbers = places-start;
+        few = omega arith;
+        within = omega arith;
+        blank = λ k q x y d u h. no-clock q u (λ l. absurd (omega arith));
+        shows = λ p w. rw (past-zero (logOf b)) (shown-start p w);
+        none-late = λ j h. absurd (omega arith);
+      }
 
 -- rows that are all clear
-pub clear-rows : (records long : ℕ) → ((n : ℕ) → n ≤ records → n ≤ 1024 → placeRow n + 2 < long) → Clear records (replicate long (replicate 8 0))
-clear-rows records long h =
+pub clear-rows : (places long : ℕ) → places ≤ 1024 → placeRow places + 2 < long → Clear places (replicate long (replicate 8 0))
+clear-rows places long h k =
     record {
-      room = λ n a b. subst (λ (m : ℕ). placeRow n + 2 < m) (sym (length-replicate {A = Row} long (replicate 8 0))) (h n a b);
+      most = h;
+      room = subst (λ (m : ℕ). placeRow places + 2 < m) (sym (length-replicate {A = Row} long (replicate 8 0))) k;
+      wide = wide;
       zero = λ q u. repeated long q (replicate 8 0) noRow (λ (r : Row). clockOf r u ≡ 0) (zeros 8 u) refl;
     }
+  where
+    wide : Wide (replicate long (replicate 8 0))
+    wide q b =
+        ap length (getD-replicate {A = Row} long q (replicate 8 0) noRow (omega (arith, length-replicate {A = Row} long (replicate 8 0))))
+        ∙ length-replicate {A = ℕ} 8 0
 
 pub threads : (b : List ℕ) → logRefusal b ≡ none → Threads (logOf b)
 threads b ok i w h = tidy-at (logOf b) (accepted-tidy b ok) i w h .thread-below
 
 -- the whole log is passed
-pub none-named : (v : Version) (b : List ℕ) (i : ℕ) (N : List ℕ) (given : ℕ) (rows : List Row) → logRefusal b ≡ none → Going v b i N given rows
-    → length b / 3 ≤ i → Answers v b (named none)
+pub none-named : {v : Version} {b : List ℕ} {places i : ℕ} {N : List ℕ} {given : ℕ} {rows : List Row} → Going v b places i N given rows
+    → length b / 3 ≤ i → Names v (logOf b) none
 unfolding recordCount
-none-named v b i N given rows ok G h = judges ok (names-no v (logOf b) (threads b ok) (λ j k. G .none-late j (omega (arith, count-log b))))
-
-one-small : (d : Bool) → cond d 1 0 ≤ 4095
-one-small true = omega arith
-one-small false = omega arith
-
-pub one-few : (rows : List Row) → OneEach rows → (t : ℕ) → t < 8 → Few (rowAt rows t)
-one-few rows each t h = record { most = λ u k. subst (λ (n : ℕ). n ≤ 4095) (sym (each .each t h .clocks-are u k)) (one-small (eqb t u)) }
+none-named {b = b} G h = names-none (λ j c. G .none-late j (let k = at-within (logOf b) j (c .access) (c .at-j) in omega (arith, count-log b)) c)

@@ -1,14 +1,15 @@
--- The pass at a record of a log that is not refused: its place, its rows, and whether it is an unordered access. Assumes nothing.
-use Prim.Native.Nat.{ℕ, zero, suc, _+_, _*_, _/_, _<_, _≤_, max}
+-- The pass at a record of a log that is not refused: its place, what the table must be for it, and whether it is an unordered access. Assumes nothing.
+use Prim.Native.Nat.{ℕ, zero, suc, _+_, _*_, _/_, _%_, _<_, _≤_, max}
 use native.Mathlib.Omega.{arith}
-use mathlib.Core.Path.{_≡_, refl, sym, ap, _∙_}
-use mathlib.Core.Bool.{Bool, true, false, _&&_, _||_, not, cond, true≢false}
+use native.Mathlib.Decide.{ℕ-discrete, decLt}
+use mathlib.Core.Path.{_≡_, refl, sym, ap, subst, _∙_}
+use mathlib.Core.Bool.{Bool, true, false, _||_, not, true≢false}
 use mathlib.Core.List.{List, _∷_}
-use mathlib.Core.Logic.{_⊎_, inl, inr}
+use mathlib.Core.Logic.{_⊎_, inl, inr, _↔_}
 use mathlib.Core.Option.{some, none}
-use lib.Dec.{eqb, ltb, eqb→eq}
+use lib.Dec.{T, eqb, ltb, eqb→eq}
 use lib.ListN.{length, getD}
-use borrow.Author.Tests.{ltb-false, le-ltb}
+use borrow.Author.Tests.{ltb-true, ltb-false}
 use Rattle.format.specs.Version.{Version}
 use Rattle.format.proofs.RefusalLaws.{neither}
 use Rattle.records.specs.Record.{Kind, readv, writev, acquire, release, fork, join, Record, isPlain}
@@ -17,23 +18,26 @@ use Rattle.records.specs.Refusals.{wrongColumns, logRefusal}
 use Rattle.records.proofs.RoundTrip.{count-log, log-element}
 use Rattle.records.proofs.Accepted.{RightRecord, accepted}
 use Rattle.order.specs.Accesses.{isWrite}
-use Rattle.conflicts.specs.Judge.{named, Answers, judges}
-use Rattle.order.proofs.Ports.{Port, ofThread}
-use Rattle.conflicts.proofs.Clock.{count, clock, second, clock-bound}
-use Rattle.conflicts.proofs.Conflicts.{any, heldBy, clashes, not-plain-held}
+use Rattle.order.specs.Chains.{At}
+use Rattle.order.proofs.Newest.{at-below}
 use Rattle.order.proofs.Past.{past-suc, past-length, at→getD}
-use Rattle.conflicts.proofs.FirstConflict.{conflictsAt, names-lowest}
+use Rattle.order.proofs.Ports.{ofThread, ofAccesses, ofWrites}
+use Rattle.conflicts.specs.Conflicts.{Conflicting}
+use Rattle.conflicts.specs.Judge.{Names, names-first}
+use Rattle.conflicts.proofs.Conflicts.{Eight, Clash, held, heldBy}
+use Rattle.conflicts.proofs.FirstConflict.{conflicting↔, at-past}
+use Rattle.conflicts.proofs.RowClocks.{Kept, lower→clash, clash→lower}
 use Rattle.decoding.specs.Columns.{ReadAt}
-use Rattle.clocks.specs.Rows.{Row, clockOf, rowAt, Few, lowerOf}
-use Rattle.effects.specs.Places.{Numbered, known, next}
-use Rattle.effects.specs.Rows.{Known, placeRow, isAccess, sourceRow, targetRow, writesRow}
 use Rattle.decoding.specs.declared.Columns.{Columns}
 use Rattle.decoding.proofs.Decoded.{kind-is-kind}
-use Rattle.judge.proofs.PlaceNumbers.{Places, Placed, placed, given-most}
+use Rattle.clocks.specs.Rows.{Row, clockOf, rowAt, lowerOf}
+use Rattle.effects.specs.Places.{Numbered, known, next, full}
+use Rattle.effects.specs.Rows.{placeRow, isAccess, heldRow}
+use Rattle.effects.specs.Table.{clockAt, Ready}
+use Rattle.judge.proofs.PlaceNumbers.{Placed, placed, given-most, given-below}
 use Rattle.judge.proofs.PortRows.{rowOf}
-use Rattle.judge.proofs.RecordPorts.{Fits, portOr, sourcePort, targetPort, alsoPort, Near, source-near, target-near, also-near, near-spot, heard-row}
-use Rattle.judge.proofs.RecordPorts.{told-row, also-row, access-plain}
-use Rattle.judge.proofs.Table.{Shows, Blank, shows-placed, blank-more, count-length, from-inside, to-inside, also-inside, own-shows, heard-shows}
+use Rattle.judge.proofs.RecordPorts.{Fits, is-fork, is-join, access-plain, write-kind}
+use Rattle.judge.proofs.Table.{Shows, Blank, shows-placed, blank-more, clocks}
 use Rattle.judge.proofs.Going.{before, Going, threads}
 
 fork-field : (k : Kind) (f x : ℕ) → k ≡ fork → wrongColumns k f x ≡ false → f < 8
@@ -62,33 +66,45 @@ volatile-field : (k : Kind) (f x : ℕ) → (k ≡ readv) ⊎ (k ≡ writev) →
 volatile-field k f x (inl e) h = let w : eqb f 0 ≡ false = rw e at h in some-field f w
 volatile-field k f x (inr e) h = let w : eqb f 0 ≡ false = rw e at h in some-field f w
 
--- a lower clock among those that are shown
-lower-any : (own heard : Row) (X A : ℕ → ℕ) (n : ℕ) → n ≤ 8 → ((u : ℕ) → u < 8 → clockOf own u ≡ X u) → ((u : ℕ) → u < 8 → clockOf heard u ≡ A u)
-    → lowerOf n own heard ≡ any n (λ u. ltb (X u) (A u))
+-- a lower clock, or none
+lower-some : (a b : Row) (n : ℕ) → lowerOf n a b ≡ true → (u : ℕ) × ((u < n) × (clockOf a u < clockOf b u))
 unfolding lowerOf
-lower-any own heard X A zero h x y = refl
-lower-any own heard X A (suc n) h x y = rw (lower-any own heard X A n (omega arith) x y, x n (omega arith), y n (omega arith))
+lower-some a b zero e = absurd (true≢false (sym e))
+lower-some a b (suc n) e = go (lowerOf n a b) (lower-some a b n) (ltb (clockOf a n) (clockOf b n)) refl e
+  where
+    go : (d : Bool) → (d ≡ true → (u : ℕ) × ((u < n) × (clockOf a u < clockOf b u))) → (f : Bool) → ltb (clockOf a n) (clockOf b n) ≡ f → (d || f) ≡ true
+        → (u : ℕ) × ((u < suc n) × (clockOf a u < clockOf b u))
+    go true ih f h x = let l = ih refl in (l .0, (let k = l .1 .0 in omega arith, l .1 .1))
+    go false ih true h x = (n, (omega arith, ltb-true (clockOf a n) (clockOf b n) h))
+    go false ih false h x = absurd (true≢false (sym x))
 
--- a record that is no access is held against its own thread
-none-lower : (n : ℕ) (X : ℕ → ℕ) → any n (λ u. ltb (X u) (X u)) ≡ false
-none-lower zero X = refl
-none-lower (suc n) X = rw (none-lower n X, le-ltb (X n) (X n) (omega arith))
+lower-none : (a b : Row) (n : ℕ) → lowerOf n a b ≡ false → (u : ℕ) → u < n → clockOf a u < clockOf b u → ⊥
+unfolding lowerOf
+lower-none a b zero e u h k = absurd (omega arith)
+lower-none a b (suc n) e u h k =
+    let d = neither (lowerOf n a b) (ltb (clockOf a n) (clockOf b n)) e in
+    go (ℕ-discrete u n) (d .1) (λ l. lower-none a b n (d .0) u l k)
+  where
+    go : Dec (u ≡ n) → ltb (clockOf a n) (clockOf b n) ≡ false → (u < n → ⊥) → ⊥
+    go (yes g) y ih =
+        let w : clockOf a n < clockOf b n = subst (λ (m : ℕ). clockOf a m < clockOf b m) g k in
+        omega (arith, ltb-false (clockOf a n) (clockOf b n) y)
+    go (no g) y ih = ih (omega arith)
 
 -- the pass is at record i, whose columns are c, and whose place then has the number n
-pub record Here (v : Version) (b : List ℕ) (i : ℕ) (N : List ℕ) (given : ℕ) (rows : List Row) (c : Columns) (N′ : List ℕ) (given′ n : ℕ) : Type 0 where
+pub record Here (v : Version) (b : List ℕ) (places i : ℕ) (N : List ℕ) (given : ℕ) (rows : List Row) (c : Columns) (N′ : List ℕ) (n : ℕ) : Type 0 where
   pub accepted-log : logRefusal b ≡ none
   pub below : i < length b / 3
   pub read : ReadAt b i c
-  pub going : Going v b i N given rows
-  pub numbered : Numbered N (c .object * 32 + c .field) given N′ n
-  pub given-is : given′ ≡ max given n
+  pub going : Going v b places i N given rows
+  pub numbered : Numbered N (c .object * 32 + c .field) given places N′ n
 
-module _ {v : Version} {b : List ℕ} {i : ℕ} {N : List ℕ} {given : ℕ} {rows : List Row} {c : Columns} {N′ : List ℕ} {given′ n : ℕ}
-    (W : Here v b i N given rows c N′ given′ n) where
+module _ {v : Version} {b : List ℕ} {places i : ℕ} {N : List ℕ} {given : ℕ} {rows : List Row} {c : Columns} {N′ : List ℕ} {n : ℕ}
+    (W : Here v b places i N given rows c N′ n) where
   abbrev R : ReadAt b i c
   R = W .read
 
-  abbrev G : Going v b i N given rows
+  abbrev G : Going v b places i N given rows
   G = W .going
 
   abbrev r : Record
@@ -104,6 +120,12 @@ module _ {v : Version} {b : List ℕ} {i : ℕ} {N : List ℕ} {given : ℕ} {ro
   pub kind-here : recordAt b i .kind ≡ kindOf (c .kind)
   kind-here = kind-is-kind b i ∙ ap kindOf (sym (R .kind-is))
 
+  pub kind-least : 0 < c .kind
+  kind-least = omega (arith, R .kind-is, right .kind-least)
+
+  pub kind-most : c .kind ≤ 11
+  kind-most = omega (arith, R .kind-is, right .kind-most)
+
   pub fits : Fits (recordAt b i)
   fits =
       record {
@@ -118,169 +140,129 @@ module _ {v : Version} {b : List ℕ} {i : ℕ} {N : List ℕ} {given : ℕ} {ro
         writev-fits = λ e. volatile-field _ _ _ (inr e) (right .columns);
       }
 
-  pub columns-known : Known c
-  columns-known =
-      record {
-        kind-least = omega (arith, R .kind-is, right .kind-least);
-        kind-most = omega (arith, R .kind-is, right .kind-most);
-        thread-below = R .narrow .thread-below;
-        object-below = R .narrow .object-below;
-        field-below = R .narrow .field-below;
-      }
+  pub short : i < 4096
+  short = omega (arith, W .below, accepted b (W .accepted-log) .length-most)
 
-  -- ---- the place's number
+  within : i < length (logOf b)
+  within = omega (arith, inside, count-log b)
+
+  pub long : length (before b i) ≡ i
+  long = past-length (logOf b) i (omega (arith, within))
+
+  pub at-here : At (logOf b) i (recordAt b i)
+  at-here = log-element b i inside
+
+  pub eight : Eight (before b i)
+  eight j w h = let k = at-below h in threads b (W .accepted-log) j w (at-past v (logOf b) i r at-here j w (omega (arith, long)) .1 h)
+
+  pub next-past : before b (suc i) ≡ recordAt b i ∷ before b i
+  next-past = past-suc (logOf b) i r within ∙ ap (λ (x : Record). x ∷ before b i) (at→getD (logOf b) i r r at-here)
 
   place-below : c .object * 32 + c .field < 1024
   place-below = omega (arith, R .narrow .object-below, R .narrow .field-below)
 
-  placed-here : Placed N′ given′ (c .object * 32 + c .field) n
-  placed-here = placed N N′ given given′ (c .object * 32 + c .field) n (G .places) place-below (W .numbered) (W .given-is)
-
-  pub placed-at : Placed N′ given′ (r .object * 32 + r .field) n
-  placed-at = rw (← R .object-is, ← R .field-is) placed-here
-
-  pub number-most : n ≤ i + 1
-  number-most = go (W .numbered)
+  -- all numbers are given, and there are more places
+  pub none-left : n ≡ 0 → (places < recordCount b) × (places < 1024)
+  none-left e = go (W .numbered) e
     where
-      go : {M : List ℕ} {m : ℕ} → Numbered N (c .object * 32 + c .field) given M m → m ≤ i + 1
-      go (known k) = omega (arith, G .places .most (c .object * 32 + c .field), G .few)
-      go (next k) = omega (arith, G .few)
+      go : {M : List ℕ} {m : ℕ} → Numbered N (c .object * 32 + c .field) given places M m → m ≡ 0 → (places < recordCount b) × (places < 1024)
+      go (known k) z = absurd (omega arith)
+      go (next k l) z = absurd (omega arith)
+      go (full k l) z = (omega (arith, G .few, inside), omega (arith, given-below (G .numbers) (c .object * 32 + c .field) place-below k))
 
-  number-given : n ≤ given′
-  number-given = omega (arith, W .given-is)
+  -- ---- a place with a number
 
-  pub room-here : placeRow n + 2 < length rows
-  room-here = G .room n (omega (arith, number-most, W .below)) (omega (arith, number-given, given-most (placed-here .places)))
+  module _ (some-number : n ≡ 0 → ⊥) where
+    abbrev given′ : ℕ
+    given′ = max given n
 
-  pub shows-here : Shows v (before b i) N′ rows
-  shows-here = shows-placed v (before b i) N N′ given (c .object * 32 + c .field) n (G .places) place-below rows (G .blank) (G .shows) (W .numbered)
+    placed-here : Placed N′ given′ (c .object * 32 + c .field) n
+    placed-here = placed N N′ given given′ (c .object * 32 + c .field) n places (G .numbers) place-below (W .numbered) some-number refl
 
-  pub blank-here : Blank given′ rows
-  blank-here = blank-more given given′ rows (omega (arith, W .given-is)) (G .blank)
+    pub placed-at : Placed N′ (max given n) (recordAt b i .object * 32 + recordAt b i .field) n
+    placed-at = rw (← R .object-is, ← R .field-is) placed-here
 
-  -- ---- the rows
+    pub number-most : (n ≤ i + 1) × (n ≤ places)
+    number-most = go (W .numbered)
+      where
+        go : {M : List ℕ} {m : ℕ} → Numbered N (c .object * 32 + c .field) given places M m → (m ≤ i + 1) × (m ≤ places)
+        go (known k) = let m = G .numbers .most (c .object * 32 + c .field) in (omega (arith, G .few), omega (arith, G .within))
+        go (next k l) = (omega (arith, G .few), omega arith)
+        go (full k l) = (omega arith, omega arith)
 
-  at-is : (at : ℕ) → at ≡ placeRow n → at ≡ placeRow (getD N′ (r .object * 32 + r .field) 0)
-  at-is at e = e ∙ ap placeRow (sym (placed-at .number))
+    pub shows-here : Shows v (before b i) N′ rows
+    shows-here = shows-placed v (before b i) eight N N′ given (c .object * 32 + c .field) n places (G .numbers) place-below rows (G .blank) (G .shows) (W .numbered)
 
-  pub at-most : (at : ℕ) → at ≡ placeRow n → at ≤ 65536
-  at-most at e = omega (arith, number-given, given-most (placed-here .places))
+    pub blank-here : Blank (max given n) rows
+    blank-here = blank-more given given′ rows (omega arith) (G .blank)
 
-  pub source-is : (at from : ℕ) → at ≡ placeRow n → from ≡ sourceRow v c at → from ≡ rowOf N′ (sourcePort v r)
-  unfolding sourceRow
-  source-is at from e g =
-      g ∙ rw (at-is at e, R .thread-is, R .field-is, kind-here)
-      (heard-row N′ (r .thread) (r .object) (r .field) v (c .kind) (columns-known .kind-least) (columns-known .kind-most)
-      (λ q. fits .acquire-fits (kind-here ∙ q)))
+    pub ready : (at : ℕ) → at ≡ placeRow n → Ready c at rows
+    ready at e =
+        record {
+          wide = G .wide;
+          thread-below = R .narrow .thread-below;
+          field-below = λ k. omega (arith, R .field-is, thread-field k);
+          at-least = omega arith;
+          at-most = omega (arith, number-most .1, G .most);
+          room = omega (arith, number-most .1, G .room);
+        }
+      where
+        thread-field : (c .kind ≡ 8) ⊎ (c .kind ≡ 9) → r .field < 8
+        thread-field (inl k) = fits .fork-fits (is-fork v r (c .kind) kind-least kind-most kind-here fits k)
+        thread-field (inr k) = fits .join-fits (is-join v r (c .kind) kind-least kind-most kind-here fits k)
 
-  pub target-is : (at to : ℕ) → at ≡ placeRow n → to ≡ targetRow v c at → to ≡ rowOf N′ (targetPort v r)
-  unfolding targetRow
-  target-is at to e g =
-      g ∙ rw (at-is at e, R .thread-is, R .field-is, kind-here)
-      (told-row N′ (r .thread) (r .object) (r .field) v (c .kind) (columns-known .kind-least) (columns-known .kind-most)
-      (λ q. fits .release-fits (kind-here ∙ q)))
+    -- ---- whether it is an unordered access
 
-  pub also-is : (at also : ℕ) → at ≡ placeRow n → also ≡ writesRow c at → also ≡ rowOf N′ (alsoPort r)
-  unfolding writesRow
-  also-is at also e g =
-      g ∙ rw (at-is at e, R .thread-is, kind-here)
-      (also-row N′ (r .thread) (r .object) (r .field) (c .kind) (columns-known .kind-least) (columns-known .kind-most))
+    module _ (access : isAccess (c .kind) ≡ true) (at : ℕ) (at-is : at ≡ placeRow n) where
+      pub plain : T (isPlain (recordAt b i .kind))
+      plain = rw (kind-here, ← access-plain (c .kind) kind-least kind-most, access) tt
 
-  pub own-below : c .thread < length rows
-  own-below = omega (arith, room-here, R .narrow .thread-below)
+      held-row : rowOf N′ (held r) ≡ heldRow (c .kind) at
+      held-row = go (isWrite (r .kind)) refl (isPlain (r .kind)) refl
+        where
+          write-is : eqb (c .kind % 8) 3 ≡ isWrite (r .kind)
+          write-is = write-kind (c .kind) kind-least kind-most ∙ ap isWrite (sym kind-here)
 
-  pub source-below : (at from : ℕ) → at ≡ placeRow n → from ≡ sourceRow v c at → from < length rows
-  source-below at from e g = omega (arith, source-is at from e g, from-inside v r (before b i) N′ given′ n rows fits placed-at room-here shows-here)
+          row : placeRow (getD N′ (r .object * 32 + r .field) 0) ≡ at
+          row = ap placeRow (placed-at .number) ∙ sym at-is
 
-  pub target-below : (at to : ℕ) → at ≡ placeRow n → to ≡ targetRow v c at → to < length rows
-  target-below at to e g = omega (arith, target-is at to e g, to-inside v r (before b i) N′ given′ n rows fits placed-at room-here shows-here)
+          go : (x : Bool) → isWrite (r .kind) ≡ x → (y : Bool) → isPlain (r .kind) ≡ y
+              → rowOf N′ (heldBy x y (r .thread) (r .object) (r .field)) ≡ heldRow (c .kind) at
+          go true e y g = ap (λ (m : ℕ). m + 1) row ∙ rw (write-is, e)
+          go false e true g = ap (λ (m : ℕ). m + 2) row ∙ rw (write-is, e)
+          go false e false g = absurd (subst T g plain)
 
-  pub also-below : (at also : ℕ) → at ≡ placeRow n → also ≡ writesRow c at → also < length rows
-  also-below at also e g = omega (arith, also-is at also e g, also-inside v r (before b i) N′ given′ n rows fits placed-at room-here shows-here)
+      kept-held : Kept v (before b i) (held r) (clockAt rows (heldRow (c .kind) at))
+      unfolding Shows
+      kept-held = subst (λ (q : ℕ). Kept v (before b i) (held r) (clockAt rows q)) held-row (go (isWrite (r .kind)) refl (isPlain (r .kind)) refl)
+        where
+          go : (x : Bool) → isWrite (r .kind) ≡ x → (y : Bool) → isPlain (r .kind) ≡ y
+              → Kept v (before b i) (heldBy x y (r .thread) (r .object) (r .field)) (clocks N′ rows (heldBy x y (r .thread) (r .object) (r .field)))
+          go true e y g = shows-here (ofAccesses (r .object) (r .field)) (fits .object-fits, fits .field-fits)
+          go false e true g = shows-here (ofWrites (r .object) (r .field)) (fits .object-fits, fits .field-fits)
+          go false e false g = absurd (subst T g plain)
 
-  -- a row is one of few
-  spot-most : (p : Port) → Near (r .object) (r .field) p → rowOf N′ p ≤ 65536
-  spot-most p k = go (near-spot (r .object) (r .field) placed-at p k)
-    where
-      go : (rowOf N′ p < 8) ⊎ ((placeRow n ≤ rowOf N′ p) × (rowOf N′ p ≤ placeRow n + 2)) → rowOf N′ p ≤ 65536
-      go (inl h) = omega arith
-      go (inr (a, h)) = omega (arith, number-given, given-most (placed-here .places))
+      -- the test says whether it conflicts with an access that does not reach it
+      pub late-names : lowerOf 8 (rowAt rows (c .thread)) (rowAt rows (heldRow (c .kind) at)) ≡ true → Names v (logOf b) (some i)
+      unfolding Shows
+      late-names e =
+          let l = lower-some (rowAt rows (c .thread)) (rowAt rows (heldRow (c .kind) at)) 8 e in
+          names-first (conflicting↔ v (logOf b) i r at-here .0
+          (lower→clash v (before b i) r plain (shows-here (ofThread (r .thread)) (fits .thread-fits)) kept-held (l .0) (l .1 .0)
+          (subst (λ (t : ℕ). clockAt rows t (l .0) < clockAt rows (heldRow (c .kind) at) (l .0)) (R .thread-is) (l .1 .1))))
+          (λ j k. not-below j k)
+        where
+          not-below : (j : ℕ) → Conflicting v (logOf b) j → i ≤ j
+          not-below j k = go (decLt j i)
+            where
+              go : Dec (j < i) → i ≤ j
+              go (yes h) = absurd (G .none-late j h k)
+              go (no h) = omega arith
 
-  pub source-most : (at from : ℕ) → at ≡ placeRow n → from ≡ sourceRow v c at → from ≤ 65536
-  source-most at from e g = omega (arith, source-is at from e g, spot-most (sourcePort v r) (source-near v r fits))
-
-  pub target-most : (at to : ℕ) → at ≡ placeRow n → to ≡ targetRow v c at → to ≤ 65536
-  target-most at to e g = omega (arith, target-is at to e g, spot-most (targetPort v r) (target-near v r fits))
-
-  pub also-most : (at also : ℕ) → at ≡ placeRow n → also ≡ writesRow c at → also ≤ 65536
-  also-most at also e g = omega (arith, also-is at also e g, spot-most (alsoPort r) (also-near r fits))
-
-  -- ---- the clocks
-
-  pub short : i ≤ 4095
-  short = omega (arith, W .below, accepted b (W .accepted-log) .length-most)
-
-  within : i < length (logOf b)
-  within = rw (count-log b) inside
-
-  pub next-past : before b (suc i) ≡ recordAt b i ∷ before b i
-  next-past = past-suc (logOf b) i (recordAt b i) within
-      ∙ ap (λ (r : Record). r ∷ before b i) (at→getD (logOf b) i (recordAt b i) (recordAt b i) (log-element b i inside))
-
-  few : (u : ℕ) → count (before b i) u ≤ 4095
-  few u = omega (arith, count-length (before b i) u, past-length (logOf b) i (omega (arith, within)), short)
-
-  pub conflicts-is : conflictsAt v (logOf b) i ≡ clashes v (before b i) (recordAt b i)
-  unfolding conflictsAt
-  conflicts-is = rw (log-element b i inside)
-
-  own-clock : (u : ℕ) → u < 8 → clockOf (rowAt rows (c .thread)) u ≡ clock v (before b i) (ofThread (r .thread)) u
-  own-clock u h = ap (λ (t : ℕ). clockOf (rowAt rows t) u) (R .thread-is) ∙ own-shows v r (before b i) N′ given′ n rows fits placed-at room-here shows-here u h
-
-  heard-clock : (at from : ℕ) → at ≡ placeRow n → from ≡ sourceRow v c at → (u : ℕ) → u < 8
-      → clockOf (rowAt rows from) u ≡ clock v (before b i) (sourcePort v r) u
-  heard-clock at from e g u h = ap (λ (q : ℕ). clockOf (rowAt rows q) u) (source-is at from e g)
-      ∙ heard-shows v r (before b i) N′ given′ n rows fits placed-at room-here shows-here u h
-
-  pub own-few : Few (rowAt rows (c .thread))
-  own-few = record { most = λ u k. omega (arith, own-clock u k, clock-bound v (before b i) (ofThread (r .thread)) u, few u) }
-
-  pub heard-few : (at from : ℕ) → at ≡ placeRow n → from ≡ sourceRow v c at → Few (rowAt rows from)
-  heard-few at from e g = record { most = λ u k. omega (arith, heard-clock at from e g u k, clock-bound v (before b i) (sourcePort v r) u, few u) }
-
-  -- ---- whether it is an unordered access
-
-  pub late-is : (at from : ℕ) (access late : Bool) → at ≡ placeRow n → from ≡ sourceRow v c at → access ≡ isAccess (c .kind)
-      → late ≡ lowerOf 8 (rowAt rows (c .thread)) (rowAt rows from)
-      → (access && late) ≡ clashes v (before b i) r
-  late-is at from access late e g h k =
-      rw (h, access-plain (c .kind) (columns-known .kind-least) (columns-known .kind-most), ← kind-here) (go (isPlain (r .kind)) refl)
-    where
-      Own : ℕ → ℕ
-      Own u = clock v (before b i) (ofThread (r .thread)) u
-
-      heard : (d : Bool) → isPlain (r .kind) ≡ d
-          → late ≡ any 8 (λ u. ltb (Own u)
-          (clock v (before b i) (cond d (heldBy (isWrite (r .kind)) true (r .thread) (r .object) (r .field)) (portOr (r .thread) (second v r))) u))
-      heard d q =
-          k ∙ lower-any (rowAt rows (c .thread)) (rowAt rows from) Own (clock v (before b i) (sourcePort v r)) 8 (omega arith) own-clock
-          (heard-clock at from e g)
-          ∙ ap (λ (x : Bool). any 8
-          (λ u. ltb (Own u) (clock v (before b i)
-          (cond x (heldBy (isWrite (r .kind)) true (r .thread) (r .object) (r .field)) (portOr (r .thread) (second v r))) u))) q
-
-      go : (d : Bool) → isPlain (r .kind) ≡ d → (d && late) ≡ clashes v (before b i) r
-      go true q =
-          heard true q ∙ ap (λ (x : Bool). any 8
-          (λ u. ltb (Own u) (clock v (before b i) (heldBy (isWrite (r .kind)) x (r .thread) (r .object) (r .field)) u))) (sym q)
-      go false q =
-          sym (ap (λ (p : Port). any 8 (λ u. ltb (Own u) (clock v (before b i) p u))) (not-plain-held (r .kind) (r .thread) (r .object) (r .field) q)
-          ∙ none-lower 8 Own)
-
-  -- what the pass answers
-  pub names-late : (at from : ℕ) (access late : Bool) → at ≡ placeRow n → from ≡ sourceRow v c at → access ≡ isAccess (c .kind)
-      → late ≡ lowerOf 8 (rowAt rows (c .thread)) (rowAt rows from)
-      → true ≡ (access && late) → Answers v b (named (some i))
-  names-late at from access late e g h k t =
-      judges (W .accepted-log) (names-lowest v (logOf b) (threads b (W .accepted-log)) i (rw (conflicts-is, ← late-is at from access late e g h k, ← t) tt)
-      (G .none-late))
+      pub on-time : lowerOf 8 (rowAt rows (c .thread)) (rowAt rows (heldRow (c .kind) at)) ≡ false → Conflicting v (logOf b) i → ⊥
+      unfolding Shows
+      on-time e k =
+          let l = clash→lower v (before b i) r plain (shows-here (ofThread (r .thread)) (fits .thread-fits)) kept-held eight
+          (conflicting↔ v (logOf b) i r at-here .1 k) in
+          lower-none (rowAt rows (c .thread)) (rowAt rows (heldRow (c .kind) at)) 8 e (l .0) (l .1 .0)
+          (subst (λ (t : ℕ). clockAt rows t (l .0) < clockAt rows (heldRow (c .kind) at) (l .0)) (sym (R .thread-is)) (l .1 .1))

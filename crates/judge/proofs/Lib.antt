@@ -5,3 +5,4 @@ pub mod Table
 pub mod Going
 pub mod Here
 pub mod Next
+pub mod Answered

@@ -10,7 +10,7 @@ use lib.ListN.{length, getD, set, replicate, length-set, length-replicate}
 use lib.Seq.{getD-set-same, getD-set-other}
 use borrow.Author.Tests.{ne-eqb}
 use Rattle.format.proofs.Filled.{zeros}
-use Rattle.effects.specs.Places.{Numbered, known, next}
+use Rattle.effects.specs.Places.{Numbered, known, next, full}
 
 -- how many places have no number
 abbrev unnumbered : List ℕ → ℕ
@@ -95,13 +95,28 @@ pub record Placed (N : List ℕ) (given p n : ℕ) : Type 0 where
 pub given-most : {N : List ℕ} {given : ℕ} → Places N given → given ≤ 1024
 given-most P = omega (arith, P .left)
 
-pub placed : (N N′ : List ℕ) (given given′ p n : ℕ) → Places N given → p < 1024 → Numbered N p given N′ n → given′ ≡ max given n → Placed N′ given′ p n
-placed N N′ given given′ p n P h (known k) e =
+pub placed : (N N′ : List ℕ) (given given′ p n most : ℕ) → Places N given → p < 1024 → Numbered N p given most N′ n → (n ≡ 0 → ⊥) → given′ ≡ max given n
+    → Placed N′ given′ p n
+placed N N′ given given′ p n most P h (known k) m e =
     record { places = subst (Places N) (let m = P .most p in omega arith) P; number = refl; some = k }
-placed N N′ given given′ p n P h (next k) e =
+placed N N′ given given′ p n most P h (next k l) m e =
     record {
       places = subst (Places (set N p (given + 1))) (omega arith) (places-next N given p P h k);
       number = numbered-own N given p P h k;
       some =
           omega arith;
     }
+placed N N′ given given′ p n most P h (full k l) m e = absurd (m refl)
+
+-- while a place has no number, fewer are given than there are places
+some-left : (N : List ℕ) (p : ℕ) → p < length N → getD N p 0 ≡ 0 → 0 < unnumbered N
+some-left [] p h e = absurd (omega arith)
+some-left (n ∷ N) zero h e = rw (e) (omega arith)
+some-left (n ∷ N) (suc p) h e = go (eqb n 0) (some-left N p (omega arith) e)
+  where
+    go : (d : Bool) → 0 < unnumbered N → 0 < cond d (suc (unnumbered N)) (unnumbered N)
+    go true q = omega arith
+    go false q = q
+
+pub given-below : {N : List ℕ} {given : ℕ} → Places N given → (p : ℕ) → p < 1024 → getD N p 0 ≡ 0 → given < 1024
+given-below {N} P p h e = omega (arith, P .left, some-left N p (omega (arith, P .long)) e)

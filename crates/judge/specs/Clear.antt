@@ -1,16 +1,15 @@
--- The rows that the pass is lent. No reader of the entries' promises needs it. Assumes nothing.
+-- The table that the pass is lent. No reader of the entries' promises needs it. Assumes nothing.
 use Prim.Native.Nat.{ℕ, _+_, _<_, _≤_}
 use mathlib.Core.Path.{_≡_}
 use mathlib.Core.List.{List}
 use lib.ListN.{length}
-use Rattle.clocks.specs.Rows.{Row, clockOf, rowAt}
+use Rattle.clocks.specs.Rows.{Row}
 use Rattle.effects.specs.Rows.{placeRow}
+use Rattle.effects.specs.Table.{Wide, clockAt}
 
--- three rows for each number that a place can have in a log of so many records, where there are 1,024 places
-abbrev pub Room : (records : ℕ) → List Row → Type 0
-Room records rows = (n : ℕ) → n ≤ records → n ≤ 1024 → placeRow n + 2 < length rows
-
--- that many rows, all clocks 0
-pub record Clear (records : ℕ) (rows : List Row) : Type 0 where
-  pub room : Room records rows
-  pub zero : (q u : ℕ) → clockOf (rowAt rows q) u ≡ 0
+-- rows for so many places, of the 1,024 that there are, all clocks 0
+pub record Clear (places : ℕ) (rows : List Row) : Type 0 where
+  pub most : places ≤ 1024
+  pub room : placeRow places + 2 < length rows
+  pub wide : Wide rows
+  pub zero : (q u : ℕ) → clockAt rows q u ≡ 0

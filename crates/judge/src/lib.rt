@@ -47,11 +47,8 @@ fn judge_version(log: &[u8], version: usize) -> Judgement
             place: wrong,
         };
     }
-    if log.len() / 3 <= 64 {
+    if log.len() / 3 <= 16 {
         return pass::short(log, version);
-    }
-    if log.len() / 3 <= 512 {
-        return pass::middle(log, version);
     }
     pass::long(log, version)
 }

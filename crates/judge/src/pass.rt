@@ -1,4 +1,4 @@
-// The pass over a log: each record is held against the plain accesses of its field that it must come after, then moves the clocks.
+// The pass over a log: each record is held against the plain accesses of its field that it must come after, then the table takes it in.
 ghost use mathlib.Core.Path.{_≡_};
 ghost use mathlib.Core.Option.{none};
 ghost use Prim.Native.Nat.{_/_, _≤_};
@@ -7,75 +7,118 @@ ghost use Rattle.format.specs.Version.{versionOf};
 ghost use Rattle.records.specs.Refusals.{logRefusal};
 ghost use Rattle.conflicts.specs.Judge.{Answers};
 ghost use Rattle.judge.specs.Answer.{answered};
+ghost use Rattle.judge.specs.Found.{Finds, judgementOf, isFull};
 ghost use Rattle.judge.specs.Clear.{Clear};
 use crate::Judgement;
 use clocks::Row;
 
-// The judge's answer to a log that is not refused, by its version. The rows are lent, enough for the log's places and clear.
-fn pass(log: &[u8], version: usize, rows: &mut [Row]) -> Judgement
-    requires { ⌜ logRefusal (now log) ≡ none ⌝ ∗ ⌜ Clear (length (now log) / 3) (now rows) ⌝ }
-    ensures { λ r. ⌜ Answers (versionOf version) (now (log .entry)) (answered r) ⌝ }
+// What a pass finds.
+pub enum Found {
+    // The record with this index is the first unordered access.
+    Access(usize),
+    // No unordered access.
+    Nothing,
+    // The log is at more places than the table has rows for.
+    Full,
+}
+
+// The pass over a log that is not refused, by its version. The table is lent, clear, with rows for so many places.
+fn pass(log: &[u8], version: usize, places: u16, table: &mut [Row]) -> Found
+    requires { ⌜ logRefusal (now log) ≡ none ⌝ ∗ ⌜ Clear places (now table) ⌝ }
+    ensures { λ r. ⌜ Finds (versionOf version) (now (log .entry)) places r ⌝ }
 {
     let count = log.len() / 3;
-    let ones = clocks::one_record_each();
+    effects::table::start(table);
     let mut numbers = [0u16; 1024];
     let mut given = 0;
     let mut index = 0;
     while index < count {
         let columns = decoding::columns_at(log, index);
-        let thread = columns.thread;
         let place = columns.object * 32 + columns.field;
-        let number = effects::places::number(&mut numbers, place, given);
+        let number = effects::places::number(&mut numbers, place, given, places);
+        if number == 0 {
+            return Found::Full;
+        }
         given = clocks::higher(given, number);
         let at = effects::rows::first(number);
-        let from = effects::rows::source(version, columns, at);
-        let to = effects::rows::target(version, columns, at);
-        let also = effects::rows::writes(columns, at);
-        let own = rows[thread];
-        let heard = rows[from];
-        if effects::rows::access(columns.kind) & clocks::lower(own, heard) {
-            return Judgement::Unordered(index);
+        if effects::table::step(version, columns, at, index as u16 + 1, table) {
+            return Found::Access(index);
         }
-        // Read before the thread's row is stored: where the two are one row, what it is told is what the thread has moved to.
-        let fed = rows[to];
-        let one = ones[thread];
-        let moved = clocks::advanced(own, heard, one);
-        let told = clocks::raised(fed, moved);
-        rows[thread] = moved;
-        rows[to] = told;
-        // What a write has heard is all that its field's row of writes knows.
-        rows[also] = moved;
         index += 1;
     }
-    Judgement::Ordered
+    Found::Nothing
 }
 
-// The answer by rows for 64 places: clearing rows for all places would take longer than judging so few records.
+// What is found by a table for 16 places.
+fn by_few(log: &[u8], version: usize) -> Found
+    requires { ⌜ logRefusal (now log) ≡ none ⌝ }
+    ensures { λ r. ⌜ Finds (versionOf version) (now (log .entry)) 16 r ⌝ }
+{
+    let clear = [0u16; 8];
+    let mut table = [clear; 59];
+    pass(log, version, 16, &mut table)
+}
+
+// What is found by a table for 64 places.
+fn by_some(log: &[u8], version: usize) -> Found
+    requires { ⌜ logRefusal (now log) ≡ none ⌝ }
+    ensures { λ r. ⌜ Finds (versionOf version) (now (log .entry)) 64 r ⌝ }
+{
+    let clear = [0u16; 8];
+    let mut table = [clear; 203];
+    pass(log, version, 64, &mut table)
+}
+
+// What is found by a table for all 1,024 places.
+fn by_all(log: &[u8], version: usize) -> Found
+    requires { ⌜ logRefusal (now log) ≡ none ⌝ }
+    ensures { λ r. ⌜ Finds (versionOf version) (now (log .entry)) 1024 r ⌝ }
+{
+    let clear = [0u16; 8];
+    let mut table = [clear; 3083];
+    pass(log, version, 1024, &mut table)
+}
+
+// What is found, as an answer.
+fn judgement(found: Found) -> Judgement
+    ensures { λ r. ⌜ r ≡ judgementOf found ⌝ }
+{
+    match found {
+        Found::Access(index) => Judgement::Unordered(index),
+        Found::Nothing => Judgement::Ordered,
+        Found::Full => Judgement::Ordered,
+    }
+}
+
+// The table did not suffice.
+fn full(found: Found) -> bool
+    ensures { λ r. ⌜ r ≡ isFull found ⌝ }
+{
+    match found {
+        Found::Access(_) => false,
+        Found::Nothing => false,
+        Found::Full => true,
+    }
+}
+
+// The answer to a log of few records: clearing rows for more places would take longer than judging it.
 pub fn short(log: &[u8], version: usize) -> Judgement
-    requires { ⌜ logRefusal (now log) ≡ none ⌝ ∗ ⌜ length (now log) / 3 ≤ 64 ⌝ }
+    requires { ⌜ logRefusal (now log) ≡ none ⌝ ∗ ⌜ length (now log) / 3 ≤ 16 ⌝ }
     ensures { λ r. ⌜ Answers (versionOf version) (now (log .entry)) (answered r) ⌝ }
 {
-    let clear = [0u16; 8];
-    let mut rows = [clear; 203];
-    pass(log, version, &mut rows)
+    let found = by_few(log, version);
+    judgement(found)
 }
 
-// The answer by rows for 512 places.
-pub fn middle(log: &[u8], version: usize) -> Judgement
-    requires { ⌜ logRefusal (now log) ≡ none ⌝ ∗ ⌜ length (now log) / 3 ≤ 512 ⌝ }
-    ensures { λ r. ⌜ Answers (versionOf version) (now (log .entry)) (answered r) ⌝ }
-{
-    let clear = [0u16; 8];
-    let mut rows = [clear; 1547];
-    pass(log, version, &mut rows)
-}
-
-// The answer by rows for all 1,024 places.
+// The answer to any log: most are at few places, so that rows for all are cleared only where those for 64 do not suffice.
 pub fn long(log: &[u8], version: usize) -> Judgement
     requires { ⌜ logRefusal (now log) ≡ none ⌝ }
     ensures { λ r. ⌜ Answers (versionOf version) (now (log .entry)) (answered r) ⌝ }
 {
-    let clear = [0u16; 8];
-    let mut rows = [clear; 3083];
-    pass(log, version, &mut rows)
+    let found = by_some(log, version);
+    if full(found) {
+        let again = by_all(log, version);
+        return judgement(again);
+    }
+    judgement(found)
 }

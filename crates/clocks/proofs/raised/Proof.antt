@@ -56,7 +56,7 @@ loop-again c =
     )
 
 returns : tie.Need-returns Inv-loop μ-loop
-returns c = record { clocks-are = λ u h. c .before .loop .inv .2 u (omega arith) }
+returns c = record { wide = c .before .loop .inv .1; clocks-are = λ u h. c .before .loop .inv .2 u (omega arith) }
 
 pub raised-spec : {M : Type 1} → statement M
 raised-spec =

@@ -1,5 +1,5 @@
 -- `effects::places::number` meets its contract. Assumes nothing.
-use Rattle.effects.specs.Places.{known, next}
+use Rattle.effects.specs.Places.{known, next, full}
 use native.Mathlib.Omega.{arith}
 use borrow.Author.Needs.{needs}
 use Rattle.effects.proofs.places.number.Statement.{statement}
@@ -10,6 +10,9 @@ mul-known c = search needs
 
 slice-read-known : tie.Need-slice-read-known
 slice-read-known c = search needs
+
+returns : tie.Need-returns
+returns c = full (omega arith) (omega arith)
 
 add-next : tie.Need-add-next
 add-next c = search needs
@@ -23,11 +26,11 @@ slice-write-numbers c = search needs
 same-length : tie.Need-same-length
 same-length c = search needs
 
-returns : tie.Need-returns
-returns c = next (omega arith)
-
 returns-2 : tie.Need-returns-2
-returns-2 c = known (omega arith)
+returns-2 c = next (omega arith) (omega arith)
+
+returns-3 : tie.Need-returns-3
+returns-3 c = known (omega arith)
 
 pub number-spec : {M : Type 1} → statement M
 number-spec =
@@ -35,9 +38,10 @@ number-spec =
     (tie.spec
     mul-known
     slice-read-known
+    returns
     add-next
     mul-numbers
     slice-write-numbers
     same-length
-    returns
-    returns-2)
+    returns-2
+    returns-3)

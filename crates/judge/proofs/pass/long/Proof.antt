@@ -1,18 +1,43 @@
--- `judge::pass::long` meets its contract: there are no more than 1,024 places. Assumes nothing.
-use Rattle.judge.proofs.Going.{clear-rows}
+-- `judge::pass::long` meets its contract. Assumes nothing.
+use Rattle.judge.proofs.Answered.{answers-found, never-full}
 use native.Mathlib.Omega.{arith}
+use mathlib.Core.Path.{sym, _∙_}
+use mathlib.Core.Logic.{inr}
 use borrow.Author.Needs.{needs}
 use Rattle.judge.proofs.pass.long.Statement.{statement}
 use Rattle.judge.proofs.pass.long.Tie as tie
 
-slice-aggregate-pass : tie.Need-slice-aggregate-pass
-slice-aggregate-pass c = search needs
+by-some-requires : tie.Need-by-some-requires
+by-some-requires c κs = search needs
 
-pass-requires : tie.Need-pass-requires
-pass-requires c κs = (c .before .before .pre, clear-rows _ 3083 (λ n a b. omega arith))
+full-requires : tie.Need-full-requires
+full-requires c κs = search needs
+
+by-all-requires : tie.Need-by-all-requires
+by-all-requires c κs = search needs
+
+judgement-requires : tie.Need-judgement-requires
+judgement-requires c κs = search needs
 
 returns : tie.Need-returns
-returns c = search needs
+returns c =
+    let f = c .before .by-all .ensures in
+    answers-found (c .before .before .before .before .before .before .pre) f (never-full (inr (omega arith)) f) _ (c .judgement .ensures)
+
+judgement-requires-2 : tie.Need-judgement-requires-2
+judgement-requires-2 c κs = search needs
+
+returns-2 : tie.Need-returns-2
+returns-2 c = answers-found (c .before .before .before .before .before .pre) (c .before .before .before .by-some .ensures) (sym (c .before .before .full .ensures) ∙ c .before .if1 .left) _ (c .judgement2 .ensures)
 
 pub long-spec : {M : Type 1} → statement M
-long-spec = tie.close (tie.spec slice-aggregate-pass pass-requires returns)
+long-spec =
+    tie.close
+    (tie.spec
+    by-some-requires
+    full-requires
+    by-all-requires
+    judgement-requires
+    returns
+    judgement-requires-2
+    returns-2)

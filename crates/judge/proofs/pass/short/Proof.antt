@@ -1,18 +1,21 @@
--- `judge::pass::short` meets its contract: a log of at most 64 records is at no more than 64 places. Assumes nothing.
-use Rattle.judge.proofs.Going.{clear-rows}
-use native.Mathlib.Omega.{arith}
+-- `judge::pass::short` meets its contract. Assumes nothing.
+use Rattle.judge.proofs.Answered.{answers-found, never-full}
+use mathlib.Core.Logic.{inl}
 use borrow.Author.Needs.{needs}
 use Rattle.judge.proofs.pass.short.Statement.{statement}
 use Rattle.judge.proofs.pass.short.Tie as tie
 
-slice-aggregate-pass : tie.Need-slice-aggregate-pass
-slice-aggregate-pass c = search needs
+by-few-requires : tie.Need-by-few-requires
+by-few-requires c κs = search needs
 
-pass-requires : tie.Need-pass-requires
-pass-requires c κs = (c .before .before .pre .0, clear-rows _ 203 (λ n a b. let few = c .before .before .pre .1 in omega arith))
+judgement-requires : tie.Need-judgement-requires
+judgement-requires c κs = search needs
 
 returns : tie.Need-returns
-returns c = search needs
+returns c =
+    let p = c .before .before .before .pre in
+    let f = c .before .by-few .ensures in
+    answers-found (p .0) f (never-full (inl (p .1)) f) _ (c .judgement .ensures)
 
 pub short-spec : {M : Type 1} → statement M
-short-spec = tie.close (tie.spec slice-aggregate-pass pass-requires returns)
+short-spec = tie.close (tie.spec by-few-requires judgement-requires returns)

@@ -1,0 +1,31 @@
+-- What is found is the answer, where the table sufficed. Assumes nothing.
+use Prim.Native.Nat.{ℕ, _/_, _≤_}
+use native.Mathlib.Omega.{arith}
+use mathlib.Core.Path.{_≡_, refl, sym, ap, subst}
+use mathlib.Core.Bool.{Bool, true, false, true≢false}
+use mathlib.Core.List.{List}
+use mathlib.Core.Logic.{_⊎_, inl, inr}
+use mathlib.Core.Option.{none}
+use lib.ListN.{length}
+use Rattle.format.specs.Version.{Version}
+use Rattle.records.specs.Packed.{recordCount}
+use Rattle.records.specs.Refusals.{logRefusal}
+use Rattle.conflicts.specs.Judge.{Answers, judges}
+use Rattle.judge.specs.Answer.{answered}
+use Rattle.judge.specs.Found.{Finds, finds-access, finds-nothing, finds-full, judgementOf, isFull}
+use Rattle.judge.specs.declared.Judgement.{Judgement}
+use Rattle.judge.specs.declared.pass.Found.{Found}
+
+pub answers-found : {v : Version} {b : List ℕ} {places : ℕ} {f : Found} → logRefusal b ≡ none → Finds v b places f → isFull f ≡ false → (j : Judgement)
+    → j ≡ judgementOf f → Answers v b (answered j)
+answers-found {v} {b} ok (finds-access n) h j e = subst (λ (x : Judgement). Answers v b (answered x)) (sym e) (judges ok n)
+answers-found {v} {b} ok (finds-nothing n) h j e = subst (λ (x : Judgement). Answers v b (answered x)) (sym e) (judges ok n)
+answers-found ok (finds-full k l) h j e = absurd (true≢false h)
+
+-- a table for as many places as the log has records, or as there are, suffices
+pub never-full : {v : Version} {b : List ℕ} {places : ℕ} {f : Found} → (length b / 3 ≤ places) ⊎ (1024 ≤ places) → Finds v b places f → isFull f ≡ false
+unfolding recordCount
+never-full h (finds-access n) = refl
+never-full h (finds-nothing n) = refl
+never-full (inl h) (finds-full k l) = absurd (omega arith)
+never-full (inr h) (finds-full k l) = absurd (omega arith)
