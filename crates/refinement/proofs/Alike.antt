@@ -14,7 +14,7 @@ use Rattle.refinement.proofs.States.{Headed}
 
 pub record Same (t u : machine.Thread) : Type 0 where
   pub self : t .self ≡ u .self
-  pub code : t .code ≡ u .code
+  pub expression : t .expression ≡ u .expression
   pub keys : t .keys ≡ u .keys
   pub learnt : t .learnt ≡ u .learnt
 
@@ -25,7 +25,7 @@ Alike (x ∷ xs) [] = ⊥
 Alike (x ∷ xs) (y ∷ ys) = Same x y × Alike xs ys
 
 itself : (x : machine.Thread) → Same x x
-itself x = record { self = refl; code = refl; keys = refl; learnt = refl }
+itself x = record { self = refl; expression = refl; keys = refl; learnt = refl }
 
 pub alike-same : (xs : List machine.Thread) → Alike xs xs
 alike-same [] = tt
@@ -63,7 +63,7 @@ headed-same {b} {k} {base} {h} {t} {u} e H = record {
   held = H .held;
   depth = H .depth;
   shallow = H .shallow;
-  stands = along (λ (F : frames.Found). Stands b (h .ready) (H .stack) F) (e .code) (H .stands);
+  stands = along (λ (F : frames.Found). Stands b (h .ready) (H .stack) F) (e .expression) (H .stands);
   object = H .object ∙ e .self;
   keys = H .keys ∙ e .keys;
   keys-fit = H .keys-fit;

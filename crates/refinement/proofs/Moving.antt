@@ -21,7 +21,7 @@ use Rattle.machine.specs.Frames as frames
 use Rattle.machine.specs.Machine as machine
 use Rattle.machine.specs.Playing.{tableOf}
 use Rattle.machine.specs.Playing as playing
-use Rattle.machine.proofs.Runs.{reached-total}
+use Rattle.machine.proofs.Runs.{reached-threads, reached-total}
 use Rattle.frames.specs.Parts.{Part as part, isPart}
 use Rattle.frames.specs.declared.go.Ready.{Ready}
 use Rattle.frames.specs.declared.go.Go.{Go}
@@ -45,7 +45,7 @@ use Rattle.refinement.proofs.ChangeLaws.{change-agree, change-none, cha
 
 -- a thread that knows the keys K, of which it has learnt this many
 abbrev knowing : Keys → ℕ → machine.Thread → machine.Thread
-knowing K l x = record { self = x .self; code = x .code; keys = K; learnt = l; place = x .place }
+knowing K l x = record { self = x .self; expression = x .expression; keys = K; learnt = l; place = x .place }
 
 -- thread p's head, were r its part
 abbrev pub headFor : engine.Machine → ℕ → Ready → Head
@@ -71,7 +71,7 @@ module _ {b : List ℕ} {m : engine.Machine} {s : machine.State} {p : ℕ} (move
   ks = headAt (m .heads) p .keys
 
   -- what is ready is tried
-  pub attempts : {A : machine.Act} (R : frames.Ready) → t .code ≡ frames.Found.here S R → machine.act (tableOf b) s p t R ≡ A
+  pub attempts : {A : machine.Act} (R : frames.Ready) → t .expression ≡ frames.Found.here S R → machine.act (tableOf b) s p t R ≡ A
       → machine.attempt (tableOf b) s p ≡ machine.around (tableOf b) p S A
   attempts R e h = attempt-act (tableOf b) s p t there S R _ e h
 
@@ -103,7 +103,7 @@ module _ {b : List ℕ} {m : engine.Machine} {s : machine.State} {p : ℕ} (move
   pub gained : (K L : Keys) (count : Keys → ℕ) (i : ℕ) → union K (t .keys) ≡ L → count (t .keys) ≡ i
       → changeAt (s .threads) p (λ x. record {
         self = x .self;
-        code = x .code;
+        expression = x .expression;
         keys = union K (x .keys);
         learnt = x .learnt + count (x .keys);
         place =
@@ -132,7 +132,7 @@ module _ {b : List ℕ} {m : engine.Machine} {s : machine.State} {p : ℕ} (move
   moved-among xs r₀ i R r s′ F g n′ ks′ new c x e alike places lack ent forks goes fit threads kept = record {
     lacks = lack;
     entered = ent;
-    code = F;
+    expression = F;
     goes = goes;
     young = none;
     born = forks;
@@ -140,9 +140,10 @@ module _ {b : List ℕ} {m : engine.Machine} {s : machine.State} {p : ℕ} (move
     alike = alike;
     places = places;
     threads =
-        ap (λ (xs : List machine.Thread). changeAt xs p (λ x. record { self = x .self; code = F; keys = x .keys; learnt = x .learnt; place = x .place }))
+        ap (λ (xs : List machine.Thread). changeAt xs p (λ x. record { self = x .self; expression = F; keys = x .keys; learnt = x .learnt; place = x .place }))
         threads
-        ∙ change-twice xs p (knowing (keysOf ks′) (total new)) (λ x. record { self = x .self; code = F; keys = x .keys; learnt = x .learnt; place = x .place });
+        ∙ change-twice xs p (knowing (keysOf ks′) (total new))
+        (λ x. record { self = x .self; expression = F; keys = x .keys; learnt = x .learnt; place = x .place });
     keys-fit = fit;
     kept = kept-changed kept p _ (λ x. refl);
   }
@@ -167,7 +168,7 @@ module _ {b : List ℕ} {m : engine.Machine} {s : machine.State} {p : ℕ} (move
       moved r₀ i R none s F g n ks 0 (getD cs i noCell) nothing noEntry lack refl forks signals goes fits unlearnt (kept-past (kept-same k i) nothing)
 
   pub few-threads : n .threads ≤ 8
-  few-threads = let a = k .threads-count in let c = reach .limits .counts .few-threads in omega arith
+  few-threads = let a = k .threads-count in let c = reached-threads (tableOf b) reach in omega arith
 
   pub object-there : (o : ℕ) → o < length (s .objects) → o < n .objects
   object-there o h = let a = k .objects-count in omega arith

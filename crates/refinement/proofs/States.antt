@@ -73,7 +73,7 @@ pub record Headed (b : List ℕ) (k : Stack) (base : ℕ) (h : Head) (t : machin
   pub held : Holds b k base stack
   pub depth : h .depth ≡ length stack
   pub shallow : length stack ≤ 32
-  pub stands : Stands b (h .ready) stack (t .code)
+  pub stands : Stands b (h .ready) stack (t .expression)
   pub object : h .object ≡ t .self
   pub keys : keysOf (h .keys) ≡ t .keys
   pub keys-fit : Fits (h .keys)
