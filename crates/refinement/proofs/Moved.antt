@@ -16,6 +16,7 @@ use Rattle.rules.specs.Queue.{Place}
 use Rattle.rules.specs.State.{changeAt}
 use Rattle.rules.specs.Room as rooms
 use Rattle.rules.proofs.StateLaws.{there as present, inside, added, change-same, change-other, change-length}
+use Rattle.rules.proofs.Relocated.{relocated-length, was-there}
 use Rattle.machine.specs.Frames.{height}
 use Rattle.machine.specs.Machine as machine
 use Rattle.machine.specs.Playing as playing
@@ -35,8 +36,7 @@ use Rattle.refinement.proofs.Meant.{Loaded, Sized, Lands}
 use Rattle.refinement.proofs.FrameLaws.{holds-same}
 use Rattle.refinement.proofs.Landing.{landed}
 use Rattle.refinement.proofs.Queues.{placesOf, Places, places-kept, places-more, after-size}
-use Rattle.refinement.proofs.States.{settingOf, Kept, Headed, Related}
-use Rattle.refinement.proofs.Alike.{alike-length, alike-there, headed-same}
+use Rattle.refinement.proofs.States.{settingOf, Kept, Headed, headed-elsewhere, Related}
 use Rattle.refinement.proofs.Moves.{withYoung, moverIn, Mover, Born, Does, met}
 use Rattle.refinement.proofs.Moving.{few-threads}
 use Rattle.refinement.proofs.Depths.{found-full, found-at}
@@ -155,7 +155,7 @@ module _ {b ws rs : List ℕ} (loaded : Loaded b ws rs) {m : engine.Machine} {s 
   -- ---- the room after the move
 
   size : length (D .placed) ≡ length (s .threads)
-  size = alike-length (s .threads) (D .placed) (D .alike)
+  size = relocated-length (s .threads) (D .placed) (D .relocated)
 
   -- the mover, in the place that it then has
   there′ : (u : machine.Thread) × (getElem? (D .placed) p ≡ some u)
@@ -167,9 +167,9 @@ module _ {b ws rs : List ℕ} (loaded : Loaded b ws rs) {m : engine.Machine} {s 
   same-self : t .self ≡ t′ .self
   unfolding t′
   same-self =
-      let (u, was, same) = alike-there (s .threads) (D .placed) p t′ (D .alike) (there′ .1) in
+      let (u, was, same) = was-there (s .threads) (D .placed) (D .relocated) p t′ (there′ .1) in
       let z : t ≡ u = cc in
-      ap (λ (x : machine.Thread). x .self) z ∙ same .self
+      ap (λ (x : machine.Thread). x .self) z ∙ ap (λ (x : machine.Thread). x .self) same
 
   mover-there : getElem? olds p ≡ some (gone t′)
   unfolding t′
@@ -284,9 +284,10 @@ module _ {b ws rs : List ℕ} (loaded : Loaded b ws rs) {m : engine.Machine} {s 
               (along (λ (h : Head). Headed b (Y .stack) (p * 33) h (gone t′)) (sym head-mover) (mover-headed fl)))
           at (no e) =
               let g₁ = sym (change-other (D .placed) p gone q (λ x. e (sym x))) ∙ g in
-              let (v, g₂, same) = alike-there (s .threads) (D .placed) q u (D .alike) g₁ in
+              let (v, g₂, same) = was-there (s .threads) (D .placed) (D .relocated) q u g₁ in
               let l : q < n .threads = (let x = rel .kept .threads-count in let y = inside (s .threads) q v g₂ in omega arith) in
-              along (λ (h : Head). Headed b (Y .stack) (q * 33) h u) (sym (head-other q e l)) (headed-same same (other-headed q v e g₂))
+              along (λ (h : Head). Headed b (Y .stack) (q * 33) h u) (sym (head-other q e l)) (along (Headed b (Y .stack) (q * 33) _) same
+              (headed-elsewhere _ (other-headed q v e g₂)))
 
       by : (young : Option machine.Thread) → D .young ≡ young → getElem? (withYoung olds young) q ≡ some u
           → Headed b (Y .stack) (q * 33) (headAt heads′ q) u

@@ -13,6 +13,7 @@ use Rattle.packed.specs.Check.{refusal}
 use Rattle.rules.specs.Queue.{awake}
 use Rattle.rules.specs.State.{changeAt}
 use Rattle.rules.specs.Room as rooms
+use Rattle.rules.proofs.Relocated.{Relocated}
 use Rattle.machine.specs.Frames as frames
 use Rattle.machine.specs.Machine as machine
 use Rattle.machine.specs.Playing.{tableOf}
@@ -35,7 +36,6 @@ use Rattle.engine.specs.Machine.{headAt, cellNumber, metAt}
 use Rattle.refinement.proofs.Meant.{Goes}
 use Rattle.refinement.proofs.Queues.{placesOf, Places}
 use Rattle.refinement.proofs.States.{settingOf, Kept, Headed, Related}
-use Rattle.refinement.proofs.Alike.{Alike}
 use Rattle.refinement.proofs.Looks.{Entered}
 
 -- what there is no room for
@@ -82,7 +82,7 @@ module _ {b : List ℕ} {m : engine.Machine} {s : machine.State} {p : ℕ} (move
     pub born : Born r young
     -- the threads, with the places that the move leaves them
     pub placed : List machine.Thread
-    pub alike : Alike (s .threads) placed
+    pub relocated : Relocated (s .threads) placed
     pub places : Places (afterOf (m .places) r p) (placesOf placed)
     pub threads : v .state .threads ≡ withYoung (changeAt placed p (moverIn expression (keysOf (a .keys)) (headAt (m .heads) p .learnt % 256 + a .new))) young
     pub keys-fit : Fits (a .keys)

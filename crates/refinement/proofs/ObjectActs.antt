@@ -22,7 +22,8 @@ use Rattle.rules.specs.Queue.{awake}
 use Rattle.rules.specs.State.{freshObject, changeAt}
 use Rattle.rules.specs.Rules.{e-new, e-join}
 use Rattle.rules.specs.Step.{forJoin, notThread}
-use Rattle.rules.proofs.StateLaws.{inside, length-added}
+use Rattle.rules.proofs.StateLaws.{inside, length-added, found-thread}
+use Rattle.rules.proofs.Relocated.{relocated-same}
 use Rattle.machine.specs.Frames as frames
 use Rattle.machine.specs.Landing.{enter, up}
 use Rattle.machine.specs.Landing as land
@@ -51,8 +52,7 @@ use Rattle.engine.specs.Machine.{noCell, noThing, headAt}
 use Rattle.refinement.proofs.Meant.{closed, IsExpression}
 use Rattle.refinement.proofs.States.{settingOf, numberOf, Kept, Headed, Related}
 use Rattle.refinement.proofs.Tests.{test-true, test-false}
-use Rattle.refinement.proofs.Alike.{alike-same}
-use Rattle.refinement.proofs.ThreadNumbers.{Strange, strange-number, added-number, other-number, found-thread}
+use Rattle.refinement.proofs.ThreadNumbers.{Strange, strange-number, added-number, other-number}
 use Rattle.refinement.proofs.KeptLaws.{kept-changed, kept-past, kept-object, kept-same, no-fields, no-bit}
 use Rattle.refinement.proofs.Looks.{Written, MeetsBy, ready-there}
 use Rattle.refinement.proofs.Moves.{Mover, Acts, moverIn}
@@ -223,7 +223,7 @@ module _ {b : List ℕ} {m : engine.Machine} {s : machine.State} {p : ℕ} (move
               young = some y;
               born = (refl, g, count, known, refl, refl, (tt, hu, refl));
               placed = s .threads;
-              alike = alike-same (s .threads);
+              relocated = relocated-same (s .threads);
               places = mover .related .places;
               threads = threads-after;
               keys-fit = fits;

@@ -132,11 +132,12 @@ outcomeBy attempt r = record {
   totals = totalsFrom (r .final) 0 8;
 }
 
--- by the rules of a program
+-- the statuses of n threads from thread p on, by the rules of a program
 unfoldable pub statusesFrom : Program → State → ℕ → ℕ → List Status
 unfolding attempt statusesBy
 statusesFrom g s p n = statusesBy (attempt g) s p n
 
+-- the outcome of a run by the rules of a program
 unfoldable pub outcomeOf : Program → Run → Outcome
 unfolding statusesFrom outcomeBy
 outcomeOf g r = outcomeBy (attempt g) r

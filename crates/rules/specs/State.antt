@@ -29,12 +29,12 @@ pub record Object : Type 0 where
   pub monitor : Cell
   pub fields : List Field
 
--- how the expressions of threads are kept: as what, and how deep one is. "Depth is the number of constructs around the part that moves next"
+-- the form in which a thread's expression is kept: as what, and how deep one is. "Depth is the number of constructs around the part that moves next"
 pub record Form : Type 1 where
   pub Carrier : Type 0
   pub depth : Carrier → ℕ
 
--- as they are written: the rules move these
+-- as it is written: this is the form of the rules
 abbrev pub expressions : Form
 expressions = record { Carrier = Expression; depth = λ e. depthOf (focus top e) }
 
@@ -46,14 +46,23 @@ pub record ThreadOf (F : Form) : Type 0 where
   pub learnt : ℕ
   pub place : Place
 
+-- a thread with its number
+pub record NumberedOf (F : Form) : Type 0 where
+  pub number : ℕ
+  pub thread : ThreadOf F
+
 -- "Objects and threads are numbered in order of creation and live to the end of the run"
 pub record StateOf (F : Form) : Type 0 where
   pub objects : List Object
   pub threads : List (ThreadOf F)
   pub nextKey : ℕ
 
+-- those of the rules
 abbrev pub Thread : Type 0
 Thread = ThreadOf expressions
+
+abbrev pub Numbered : Type 0
+Numbered = NumberedOf expressions
 
 abbrev pub State : Type 0
 State = StateOf expressions
@@ -102,15 +111,7 @@ unfoldable pub monitorOf : Option Object → Option Cell
 monitorOf none = none
 monitorOf (some x) = some (x .monitor)
 
--- a thread with its number
-pub record NumberedOf (F : Form) : Type 0 where
-  pub number : ℕ
-  pub thread : ThreadOf F
-
-abbrev pub Numbered : Type 0
-Numbered = NumberedOf expressions
-
--- what holds of every form
+-- what a move reads and changes, in any form
 module _ {F : Form} where
   -- μ(o, f), f not the monitor
   unfoldable pub lookup : StateOf F → ℕ → ℕ → Option Cell

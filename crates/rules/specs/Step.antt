@@ -32,7 +32,7 @@ pub data Stuck : Type 0 where
   -- a slot that nothing binds, a call without its procedure or arguments, an object or a held monitor that is not there: no accepted plan comes here
   noRule : Stuck
 
--- what a redex comes to. Of a rule: its record, the state after it but for the mover's expression, and what replaces the redex
+-- what a redex comes to. Of a rule: its record, the state after it but for the mover's expression, and what replaces the redex, which is an E
 pub data ActOf (F : Form) (E : Type 0) : Type 0 where
   waits : Wait → ActOf F E
   sticks : Stuck → ActOf F E
