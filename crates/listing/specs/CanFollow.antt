@@ -3,7 +3,7 @@ use Prim.Native.Nat.{ℕ}
 use mathlib.Core.Bool.{Bool, true, false, _&&_}
 use mathlib.Core.List.{List}
 use Rattle.packed.specs.Syntax.{Program}
-use Rattle.rules.specs.Room.{Answer, step}
+use Rattle.rules.specs.Room.{AnswerOf, Answer, step}
 use Rattle.rules.specs.Run.{Stop, play}
 
 -- a run that has not stopped
@@ -14,10 +14,10 @@ goesOn (Stop.noRoom k) = false
 
 -- a pick that moves or stops the run
 unfoldable pub movesOrStops : Answer → Bool
-movesOrStops Answer.passed = false
-movesOrStops (Answer.race r) = true
-movesOrStops (Answer.noRoom k) = true
-movesOrStops (Answer.moved m) = true
+movesOrStops AnswerOf.passed = false
+movesOrStops (AnswerOf.race r) = true
+movesOrStops (AnswerOf.noRoom k) = true
+movesOrStops (AnswerOf.moved m) = true
 
 -- thread p's pick can follow these picks
 unfoldable pub canFollow : Program → List ℕ → ℕ → Bool

@@ -11,7 +11,7 @@ use Rattle.packed.specs.Syntax.{Program}
 use Rattle.rules.specs.Context.{Context, plug, plugᶜ}
 use Rattle.rules.specs.State.{Thread, State}
 use Rattle.rules.specs.Rules.{Rule}
-use Rattle.rules.specs.Step.{Act, waits, sticks, lacks, does, act, actᶜ, equalAct, Attempt, around, attemptAt, attemptBy, attempt}
+use Rattle.rules.specs.Step.{Act, waits, sticks, lacks, does, act, actᶜ, equalAct, AttemptOf, around, attemptAt, attemptBy, attempt}
 use Rattle.rules.proofs.Decompose.{focus-whole}
 use Rattle.rules.proofs.Progress.{Ruled}
 use Rattle.machine.specs.Frames.{Frame, Readyᶜ, Found}
@@ -27,11 +27,11 @@ module _ (table : Table) (g : Program) (law : Tabulates table g) where
   around-of : (s : State) (p : ℕ) (S : List Frame) (a : machine.Act)
       → attemptOf table (machine.around table p S a) ≡ around s p (context (table .node) (table .count) S) (actOf table a)
   unfolding machine.around around
-  around-of s p S (machine.Act.waits w) = refl
-  around-of s p S (machine.Act.sticks r) = refl
-  around-of s p S (machine.Act.lacks r) = refl
-  around-of s p S (machine.Act.does R r s′ x) =
-      ap (λ (z : State). Attempt.moves (record { rule = R; entry = r; state = z }))
+  around-of s p S (waits w) = refl
+  around-of s p S (sticks r) = refl
+  around-of s p S (lacks r) = refl
+  around-of s p S (does R r s′ x) =
+      ap (λ (z : State). AttemptOf.moves (record { rule = R; entry = r; state = z }))
       (become-of table s′ p (go (table .node) (table .count) S x) (plug (context (table .node) (table .count) S) (resultOf (table .node) (table .count) x))
       (whole-go (table .node) (table .count) (law .ordered) S x))
 
@@ -49,7 +49,8 @@ module _ (table : Table) (g : Program) (law : Tabulates table g) where
   equal-of S false = whole-up (table .node) (table .count) (law .ordered) S false
 
   code-of : (S : List Frame) (r : Readyᶜ)
-      → meant table (machine.actᶜ table S r .code) ≡ plugᶜ (contextᶜ (table .node) (table .count) S) (actᶜ (redexᶜ (table .node) (table .count) r) .result)
+      → meant table (machine.actᶜ table S r .expression)
+      ≡ plugᶜ (contextᶜ (table .node) (table .count) S) (actᶜ (redexᶜ (table .node) (table .count) r) .result)
   unfolding machine.actᶜ actᶜ
   code-of S Readyᶜ.notFalse = whole-up (table .node) (table .count) (law .ordered) S true
   code-of S (Readyᶜ.and true x) = whole-enter (table .node) (table .count) (law .ordered) S x
@@ -75,16 +76,16 @@ module _ (table : Table) (g : Program) (law : Tabulates table g) where
       (around-ruled (stateOf table s) p (context (table .node) (table .count) S)
       (act g (stateOf table s) p (threadMeant table t) (redex (table .node) (table .count) r)) k))
   at-of s p t (Found.hereᶜ S r) k =
-      ap₂ (λ (R : Rule) (z : State). Attempt.moves (record { rule = R; entry = none; state = z })) (rule-of S r)
-      (become-of table s p (machine.actᶜ table S r .code) _ (code-of S r))
+      ap₂ (λ (R : Rule) (z : State). AttemptOf.moves (record { rule = R; entry = none; state = z })) (rule-of S r)
+      (become-of table s p (machine.actᶜ table S r .expression) _ (code-of S r))
 
   by-of : (s : machine.State) (p : ℕ) (t : Option machine.Thread) → Ruled (attemptBy g (stateOf table s) p (Option·map (threadMeant table) t))
       → attemptOf table (machine.attemptBy table s p t) ≡ attemptBy g (stateOf table s) p (Option·map (threadMeant table) t)
   unfolding machine.attemptBy attemptBy
   by-of s p none k = refl
   by-of s p (some t) k =
-      let e = focus-whole (mean (table .node) (table .count) (t .code)) in
-      at-of s p t (t .code) (rw e at k) ∙ ap (attemptAt g (stateOf table s) p (threadMeant table t)) (sym e)
+      let e = focus-whole (mean (table .node) (table .count) (t .expression)) in
+      at-of s p t (t .expression) (rw e at k) ∙ ap (attemptAt g (stateOf table s) p (threadMeant table t)) (sym e)
 
   -- what a thread of the machine can do is what the definitions say, unless they say that no rule applies
   pub attempt-of : (s : machine.State) (p : ℕ) → Ruled (attempt g (stateOf table s) p)

@@ -12,7 +12,6 @@ pub mod StateMeaning
 pub mod MeantActs
 pub mod Attempts
 pub mod WellSorted
-pub mod Limits
 pub mod Runs
 pub mod PlanTable
 pub mod Standing

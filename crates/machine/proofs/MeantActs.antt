@@ -16,7 +16,7 @@ use Rattle.rules.specs.Queue.{awake}
 use Rattle.rules.specs.State.{Cell, Thread, State, monitorOf, fieldOf, threadOf}
 use Rattle.rules.specs.Rules.{isVolatile, e-call, e-let, e-if}
 use Rattle.rules.specs.Step.{Stuck, Act, waits, sticks, lacks, does, callAct, readAct, writeAct, joinAct, synchAct, holdAct, signalMove, signalAct, wakeAct}
-use Rattle.rules.specs.Step.{act, Attempt}
+use Rattle.rules.specs.Step.{act, AttemptOf}
 use Rattle.rules.proofs.Progress.{Ruled}
 use Rattle.machine.specs.Frames.{Slots, Closure, closure, Ready, Result}
 use Rattle.machine.specs.Landing.{enter, go}
@@ -31,7 +31,7 @@ use Rattle.machine.proofs.StateMeaning.{join-of, choose-of, branch-of, 
 -- a rule applies
 abbrev pub RuledAct : Act → Type 0
 RuledAct (waits w) = Unit {0}
-RuledAct (sticks r) = Ruled (Attempt.stuck r)
+RuledAct (sticks r) = Ruled (AttemptOf.stuck r)
 RuledAct (lacks r) = Unit {0}
 RuledAct (does R r s e) = Unit {0}
 
@@ -122,7 +122,7 @@ module _ (table : Table) where
 
     fork-of : (s : machine.State) (x : Closure) (o : ℕ) (W : Keys)
         → map (threadMeant table)
-        (s .threads ++ (record { self = o; code = enter (table .node) (table .count) [] x; keys = W; learnt = 0; place = awake } ∷ []))
+        (s .threads ++ (record { self = o; expression = enter (table .node) (table .count) [] x; keys = W; learnt = 0; place = awake } ∷ []))
         ≡ map (threadMeant table) (s .threads)
         ++ (record { self = o; expression = expressionIn (table .node) (table .count) x; keys = W; learnt = 0; place = awake } ∷ [])
     unfolding go plug
@@ -143,7 +143,7 @@ module _ (table : Table) where
     act-of s p t (Ready.while x) k = refl
     act-of s p t (Ready.call m n σ) k = call-of s p t m n σ (getElem? (g .procedures) m) refl k
     act-of s p t (Ready.fork x) k = rw (length-map (s .threads) (threadMeant table), fork-of s x (length (s .objects)) (t .keys))
-    act-of s p t (Ready.join o) k = join-of table s p o (machine.threadOf 0 (s .threads) o)
+    act-of s p t (Ready.join o) k = join-of table s p o (threadOf 0 (s .threads) o)
         ∙ ap (joinAct (stateOf table s) p o) (sym (thread-of table 0 (s .threads) o))
     act-of s p t (Ready.synch o x) k = synch-of s p t o x (monitorOf (getElem? (s .objects) o)) k
     act-of s p t (Ready.hold o v) k = hold-of s p t o v (monitorOf (getElem? (s .objects) o)) k

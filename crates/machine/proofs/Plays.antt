@@ -1,5 +1,6 @@
 -- The machine plays every accepted plan as it is defined: the same stop, picks, rules, log, final state and outcome. Assumes nothing.
 use Prim.Native.Nat.{ℕ}
+use native.Mathlib.Omega.{arith}
 use mathlib.Core.Path.{_≡_, refl, ap, ap₂, _∙_, subst as along}
 use mathlib.Core.List.{List}
 use mathlib.Core.Option.{none}
@@ -10,6 +11,7 @@ use Rattle.packed.proofs.Accepted.{accepted}
 use Rattle.packed.proofs.Decoded.{well-formed}
 use Rattle.rules.specs.Context.{literals, plug, redexExpression}
 use Rattle.rules.specs.State.{State, start}
+use Rattle.rules.specs.Room.{AnswerOf}
 use Rattle.rules.specs.Run.{Run, run, play, Status, statusesFrom, outcomeOf}
 use Rattle.rules.proofs.Decompose.{whole}
 use Rattle.rules.proofs.Executed.{Reachable, reachable-start}
@@ -17,7 +19,6 @@ use Rattle.machine.specs.Machine as machine
 use Rattle.machine.specs.Playing as playing
 use Rattle.machine.specs.Playing.{tableOf}
 use Rattle.machine.proofs.Substitution.{firstSlots}
-use Rattle.machine.proofs.Limits.{start-limits}
 use Rattle.machine.proofs.Runs.{Reached, step-reached, runMeant, run-of, run-reached, statuses-of, totals-of}
 use Rattle.machine.proofs.PlanTable.{tabulates}
 use Rattle.machine.proofs.StateMeaning.{stateOf}
@@ -32,7 +33,7 @@ module _ (b : List ℕ) (h : refusal b ≡ none) where
   unfolding playing.start
   start-reached = record {
     sorted = (tt, tt);
-    limits = start-limits;
+    roomy = record { threads8 = omega arith; objects32 = omega arith; keys256 = omega arith };
     reachable =
         along (Reachable (programOf b)) (start-of (tableOf b)) (reachable-start (programOf b) (well-formed b h));
   }
@@ -42,7 +43,7 @@ module _ (b : List ℕ) (h : refusal b ≡ none) where
   plays-reached ps = run-reached (tableOf b) (programOf b) (well-formed b h) (tabulates b (accepted b h)) ps playing.start start-reached
 
   pub move-reached : (s : machine.State) (p : ℕ) (m : machine.Move) → Reached (tableOf b) (programOf b) s
-      → playing.step (tableOf b) s p ≡ playing.Answer.moved m
+      → playing.step (tableOf b) s p ≡ AnswerOf.moved m
       → Reached (tableOf b) (programOf b) (m .state)
   move-reached = step-reached (tableOf b) (programOf b) (well-formed b h) (tabulates b (accepted b h))
 
@@ -66,16 +67,8 @@ module _ (b : List ℕ) (h : refusal b ≡ none) where
   pub plays-outcome : (ps : List ℕ) → outcomeOf (programOf b) (play (programOf b) ps) ≡ playing.outcomeOf (tableOf b) (playing.runOf b ps)
   unfolding outcomeOf playing.outcomeOf
   plays-outcome ps =
-      ap (λ (r : Run). outcomeOf (programOf b) r) (plays ps)
-      ∙ ap₂ (λ (l : List Status) (n : List ℕ).
-      record {
-        stop = playing.runOf b ps .stop;
-        picks = playing.runOf b ps .picks;
-        moves = length (playing.runOf b ps .instances);
-        records =
-            length (playing.runOf b ps .log);
-        threads = l;
-        totals = n;
-      })
-      (statuses-of (tableOf b) (programOf b) (well-formed b h) (tabulates b (accepted b h)) (playing.runOf b ps .final) (plays-reached ps) 0 8)
-      (totals-of (tableOf b) (playing.runOf b ps .final) 0 8)
+      ap (outcomeOf (programOf b)) (plays ps)
+      ∙ rw (
+        statuses-of (tableOf b) (programOf b) (well-formed b h) (tabulates b (accepted b h)) (playing.runOf b ps .final) (plays-reached ps) 0 8,
+        totals-of (tableOf b) (playing.runOf b ps .final) 0 8,
+      )

@@ -17,22 +17,22 @@ use Rattle.machine.proofs.StateMeaning.{threadMeant, get-map}
 -- thread t of state s. `Good` says of what is ready that its objects are there, its field is 1 to 31 and its procedure has its count of arguments,
 -- and the like of every frame.
 pub record Standing (table : Table) (g : Program) (s : machine.State) (t : machine.Thread) : Type 0 where
-  pub good : Good g (length (s .objects)) (mean (table .node) (table .count) (t .code))
+  pub good : Good g (length (s .objects)) (mean (table .node) (table .count) (t .expression))
   pub self-there : t .self < length (s .objects)
   -- the monitors of the holds that it has still to leave are its own, but for one that it has given up
-  pub held : (o : ℕ) → In o (holds (mean (table .node) (table .count) (t .code)))
-      → (GivenUp (mean (table .node) (table .count) (t .code)) o → ⊥) → monitorOf (getElem? (s .objects) o) ≡ some (heldBy (threadMeant table t))
+  pub held : (o : ℕ) → In o (holds (mean (table .node) (table .count) (t .expression)))
+      → (GivenUp (mean (table .node) (table .count) (t .expression)) o → ⊥) → monitorOf (getElem? (s .objects) o) ≡ some (heldBy (threadMeant table t))
 
 pub standing : (table : Table) (g : Program) (s : machine.State) (p : ℕ) (t : machine.Thread) → Reached table g s → getElem? (s .threads) p ≡ some t
     → Standing table g s t
 unfolding monitor
 standing table g s p t r h =
-    let e = focus-whole (mean (table .node) (table .count) (t .code)) in
+    let e = focus-whole (mean (table .node) (table .count) (t .expression)) in
     let d = r .reachable .invariant .each p (threadMeant table t) (get-map (threadMeant table) (s .threads) p ∙ ap (Option·map (threadMeant table)) h) in
     record { good = rw e at (d .good); self-there = d .self-there; held = rw e at (d .held) }
 
 -- every value in a cell is an object that is there
-pub cell-there : (table : Table) (g : Program) (s : machine.State) → Reached table g s → (o f : ℕ) (c : Cell) → machine.lookup s o f ≡ some c
+pub cell-there : (table : Table) (g : Program) (s : machine.State) → Reached table g s → (o f : ℕ) (c : Cell) → lookup s o f ≡ some c
     → c .value < length (s .objects)
-unfolding machine.lookup lookup
+unfolding lookup
 cell-there table g s r o f c h = r .reachable .invariant .cells o f c h

@@ -15,7 +15,7 @@ use Rattle.rules.specs.Context.{asLiteral}
 use Rattle.rules.specs.Queue.{Place, lastPlace, movedUp}
 use Rattle.rules.specs.State.{Thread, State, Numbered, changeAt, gain, become, inPlace, enqueue, signalled, threadOf}
 use Rattle.rules.specs.Rules.{isVolatile}
-use Rattle.rules.specs.Step.{Act, waits, sticks, lacks, does, joinValue, joinAct, Attempt}
+use Rattle.rules.specs.Step.{Act, waits, sticks, lacks, does, joinValue, joinAct, AttemptOf, Attempt}
 use Rattle.rules.proofs.Decompose.{whole, no-literal}
 use Rattle.machine.specs.Frames.{Branches, closure, firstOf, secondOf, Found, Result}
 use Rattle.machine.specs.Machine as machine
@@ -47,7 +47,7 @@ module _ (table : Table) where
   meant F = whole (mean (table .node) (table .count) F)
 
   abbrev pub threadMeant : machine.Thread → Thread
-  threadMeant x = record { self = x .self; expression = meant (x .code); keys = x .keys; learnt = x .learnt; place = x .place }
+  threadMeant x = record { self = x .self; expression = meant (x .expression); keys = x .keys; learnt = x .learnt; place = x .place }
 
   abbrev pub stateOf : machine.State → State
   stateOf s = record { objects = s .objects; threads = map threadMeant (s .threads); nextKey = s .nextKey }
@@ -56,18 +56,18 @@ module _ (table : Table) where
   numberedMeant q = record { number = q .number; thread = threadMeant (q .thread) }
 
   abbrev pub actOf : machine.Act → Act
-  actOf (machine.Act.waits w) = waits w
-  actOf (machine.Act.sticks r) = sticks r
-  actOf (machine.Act.lacks r) = lacks r
-  actOf (machine.Act.does R r s x) = does R r (stateOf s) (resultOf (table .node) (table .count) x)
+  actOf (waits w) = waits w
+  actOf (sticks r) = sticks r
+  actOf (lacks r) = lacks r
+  actOf (does R r s x) = does R r (stateOf s) (resultOf (table .node) (table .count) x)
 
   abbrev pub attemptOf : machine.Attempt → Attempt
-  attemptOf machine.Attempt.absent = Attempt.absent
-  attemptOf (machine.Attempt.finished v) = Attempt.finished v
-  attemptOf (machine.Attempt.waiting w) = Attempt.waiting w
-  attemptOf (machine.Attempt.stuck r) = Attempt.stuck r
-  attemptOf (machine.Attempt.lacking r) = Attempt.lacking r
-  attemptOf (machine.Attempt.moves m) = Attempt.moves (record { rule = m .rule; entry = m .entry; state = stateOf (m .state) })
+  attemptOf AttemptOf.absent = AttemptOf.absent
+  attemptOf (AttemptOf.finished v) = AttemptOf.finished v
+  attemptOf (AttemptOf.waiting w) = AttemptOf.waiting w
+  attemptOf (AttemptOf.stuck r) = AttemptOf.stuck r
+  attemptOf (AttemptOf.lacking r) = AttemptOf.lacking r
+  attemptOf (AttemptOf.moves m) = AttemptOf.moves (record { rule = m .rule; entry = m .entry; state = stateOf (m .state) })
 
   -- ---- the parts of a move
 
@@ -78,12 +78,12 @@ module _ (table : Table) where
   change-of (x ∷ xs) zero k k′ q = rw (q x)
   change-of (x ∷ xs) (suc p) k k′ q = ap (λ (l : List Thread). threadMeant x ∷ l) (change-of xs p k k′ q)
 
-  pub gain-of : (s : machine.State) (p : ℕ) (W : Keys) (n : Keys → ℕ) → stateOf (machine.gain s p W n) ≡ gain (stateOf s) p W n
-  unfolding machine.gain gain
+  pub gain-of : (s : machine.State) (p : ℕ) (W : Keys) (n : Keys → ℕ) → stateOf (gain s p W n) ≡ gain (stateOf s) p W n
+  unfolding gain
   gain-of s p W n = ap (λ (l : List Thread). record { objects = s .objects; threads = l; nextKey = s .nextKey }) (change-of (s .threads) p _ _ (λ x. refl))
 
-  pub become-of : (s : machine.State) (p : ℕ) (F : Found) (e : Expression) → meant F ≡ e → stateOf (machine.become s p F) ≡ become (stateOf s) p e
-  unfolding machine.become become
+  pub become-of : (s : machine.State) (p : ℕ) (F : Found) (e : Expression) → meant F ≡ e → stateOf (become s p F) ≡ become (stateOf s) p e
+  unfolding become
   become-of s p F e q =
       ap (λ (l : List Thread). record { objects = s .objects; threads = l; nextKey = s .nextKey })
       (change-of (s .threads) p _ _
@@ -93,30 +93,30 @@ module _ (table : Table) where
   places-of [] = refl
   places-of (x ∷ xs) = ap (λ (l : List Place). x .place ∷ l) (places-of xs)
 
-  pub enqueue-of : (s : machine.State) (p o : ℕ) → stateOf (machine.enqueue s p o) ≡ enqueue (stateOf s) p o
-  unfolding machine.enqueue enqueue
+  pub enqueue-of : (s : machine.State) (p o : ℕ) → stateOf (enqueue s p o) ≡ enqueue (stateOf s) p o
+  unfolding enqueue
   enqueue-of s p o =
       ap (λ (l : List Thread). record { objects = s .objects; threads = l; nextKey = s .nextKey })
       (change-of (s .threads) p _ _ (λ x. ap (λ (l : List Place). inPlace (lastPlace o l) (threadMeant x)) (sym (places-of (s .threads)))))
 
   moved-of : (h : ℕ → ℕ) (o : ℕ) (xs : List machine.Thread)
-      → map threadMeant (map (λ (x : machine.Thread). machine.inPlace (movedUp h o (x .place)) x) xs)
+      → map threadMeant (map (λ (x : machine.Thread). inPlace (movedUp h o (x .place)) x) xs)
       ≡ map (λ (x : Thread). inPlace (movedUp h o (x .place)) x) (map threadMeant xs)
   moved-of h o [] = refl
-  moved-of h o (x ∷ xs) = ap (λ (l : List Thread). threadMeant (machine.inPlace (movedUp h o (x .place)) x) ∷ l) (moved-of h o xs)
+  moved-of h o (x ∷ xs) = ap (λ (l : List Thread). threadMeant (inPlace (movedUp h o (x .place)) x) ∷ l) (moved-of h o xs)
 
-  pub signalled-of : (h : ℕ → ℕ) (s : machine.State) (o : ℕ) → stateOf (machine.signalled h s o) ≡ signalled h (stateOf s) o
-  unfolding machine.signalled signalled
+  pub signalled-of : (h : ℕ → ℕ) (s : machine.State) (o : ℕ) → stateOf (signalled h s o) ≡ signalled h (stateOf s) o
+  unfolding signalled
   signalled-of h s o = ap (λ (l : List Thread). record { objects = s .objects; threads = l; nextKey = s .nextKey }) (moved-of h o (s .threads))
 
-  pub thread-of : (i : ℕ) (xs : List machine.Thread) (o : ℕ) → threadOf i (map threadMeant xs) o ≡ Option·map numberedMeant (machine.threadOf i xs o)
-  unfolding threadOf machine.threadOf
+  pub thread-of : (i : ℕ) (xs : List machine.Thread) (o : ℕ) → threadOf i (map threadMeant xs) o ≡ Option·map numberedMeant (threadOf i xs o)
+  unfolding threadOf
   thread-of i [] o = refl
   thread-of i (x ∷ xs) o = at (eqb (x .self) o) (thread-of (suc i) xs o)
     where
-      at : (b : Bool) → threadOf (suc i) (map threadMeant xs) o ≡ Option·map numberedMeant (machine.threadOf (suc i) xs o)
+      at : (b : Bool) → threadOf (suc i) (map threadMeant xs) o ≡ Option·map numberedMeant (threadOf (suc i) xs o)
           → cond b (some (record { number = i; thread = threadMeant x })) (threadOf (suc i) (map threadMeant xs) o)
-          ≡ Option·map numberedMeant (cond b (some (record { number = i; thread = x })) (machine.threadOf (suc i) xs o))
+          ≡ Option·map numberedMeant (cond b (some (record { number = i; thread = x })) (threadOf (suc i) xs o))
       at true q = refl
       at false q = q
 
@@ -141,7 +141,8 @@ module _ (table : Table) where
   unfolding machine.joinAct joinAct
   join-of s p o none = refl
   join-of s p o (some q) =
-      join-value s p o q (machine.finishedWith (q .thread .code)) ∙ ap (joinValue (stateOf s) p o (numberedMeant q)) (sym (finished-of (q .thread .code)))
+      join-value s p o q (machine.finishedWith (q .thread .expression))
+      ∙ ap (joinValue (stateOf s) p o (numberedMeant q)) (sym (finished-of (q .thread .expression)))
 
   pub choose-of : (b : Bool) (x y : Result)
       → resultOf (table .node) (table .count) (cond b x y) ≡ cond b (resultOf (table .node) (table .count) x) (resultOf (table .node) (table .count) y)

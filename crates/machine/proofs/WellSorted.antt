@@ -20,11 +20,11 @@ use Rattle.machine.proofs.Sorted.{Well, Wellᶜ, WellFound, go-well, en
 
 abbrev pub WellAll : List Thread → Type 0
 WellAll [] = Unit {0}
-WellAll (t ∷ ts) = WellFound (t .code) × WellAll ts
+WellAll (t ∷ ts) = WellFound (t .expression) × WellAll ts
 
 abbrev pub WellAt : Option Thread → Type 0
 WellAt none = Unit {0}
-WellAt (some t) = WellFound (t .code)
+WellAt (some t) = WellFound (t .expression)
 
 pub well-at : (xs : List Thread) (p : ℕ) → WellAll xs → WellAt (getElem? xs p)
 well-at [] p w = tt
@@ -36,14 +36,14 @@ well-drop zero xs w = w
 well-drop (suc n) [] w = tt
 well-drop (suc n) (x ∷ xs) w = well-drop n xs (w .1)
 
-well-change : (xs : List Thread) (p : ℕ) (k : Thread → Thread) → ((x : Thread) → WellFound (x .code) → WellFound (k x .code)) → WellAll xs
+well-change : (xs : List Thread) (p : ℕ) (k : Thread → Thread) → ((x : Thread) → WellFound (x .expression) → WellFound (k x .expression)) → WellAll xs
     → WellAll (changeAt xs p k)
 unfolding changeAt
 well-change [] p k q w = tt
 well-change (x ∷ xs) zero k q w = (q x (w .0), w .1)
 well-change (x ∷ xs) (suc p) k q w = (w .0, well-change xs p k q (w .1))
 
-well-added : (xs : List Thread) (x : Thread) → WellAll xs → WellFound (x .code) → WellAll (xs ++ (x ∷ []))
+well-added : (xs : List Thread) (x : Thread) → WellAll xs → WellFound (x .expression) → WellAll (xs ++ (x ∷ []))
 well-added [] x w v = (v, tt)
 well-added (y ∷ xs) x w v = (w .0, well-added xs x (w .1) v)
 
@@ -88,7 +88,7 @@ join-value-well s p o q (some v) w = gain-well s p (q .thread .keys) _ w
 join-well : (s : State) (p o : ℕ) (q : Option Numbered) → WellAll (s .threads) → WellAct (joinAct s p o q)
 unfolding joinAct
 join-well s p o none w = tt
-join-well s p o (some q) w = join-value-well s p o q (finishedWith (q .thread .code)) w
+join-well s p o (some q) w = join-value-well s p o q (finishedWith (q .thread .expression)) w
 
 synch-well : (s : State) (p : ℕ) (t : Thread) (o : ℕ) (x : Closure) (c : Cell) → WellAll (s .threads) → WellAct (synchAct s p t o x c)
 unfolding synchAct
@@ -142,7 +142,7 @@ module _ (table : Table) where
   act-well s p t (Ready.whileTest b x) w = w
   act-well s p t (Ready.whileBody o x) w = w
 
-  code-well : (S : List Frame) (r : Readyᶜ) → Wellᶜ S → WellFound (actᶜ table S r .code)
+  code-well : (S : List Frame) (r : Readyᶜ) → Wellᶜ S → WellFound (actᶜ table S r .expression)
   unfolding actᶜ
   code-well S Readyᶜ.notFalse w = up-wellᶜ (table .node) (table .count) S true w
   code-well S (Readyᶜ.and true x) w = enter-wellᶜ (table .node) (table .count) S x w
@@ -170,12 +170,12 @@ module _ (table : Table) where
   unfolding attemptAt
   attempt-at-well s p t (Found.value o) w v = tt
   attempt-at-well s p t (Found.here S r) w v = around-well p S (act table s p t r) v (act-well s p t r w)
-  attempt-at-well s p t (Found.hereᶜ S r) w v = become-well s p (actᶜ table S r .code) w (code-well S r v)
+  attempt-at-well s p t (Found.hereᶜ S r) w v = become-well s p (actᶜ table S r .expression) w (code-well S r v)
 
   attempt-by-well : (s : State) (p : ℕ) (t : Option Thread) → WellAll (s .threads) → WellAt t → WellAttempt (attemptBy table s p t)
   unfolding attemptBy
   attempt-by-well s p none w v = tt
-  attempt-by-well s p (some t) w v = attempt-at-well s p t (t .code) w v
+  attempt-by-well s p (some t) w v = attempt-at-well s p t (t .expression) w v
 
   pub attempt-well : (s : State) (p : ℕ) → WellAll (s .threads) → WellAttempt (attempt table s p)
   unfolding attempt

@@ -1,97 +1,40 @@
--- The abstract machine; no reader of the entries' promises needs it. Its state, and what a thread can do in it. Its names are those of the
--- definitions that it follows: use them qualified. Assumes nothing.
-use Prim.Native.Nat.{ℕ, zero, suc, pred, _+_}
+-- The abstract machine; no reader of the entries' promises needs it. Its state is the rules', with frames for expressions; here is what a thread can do in
+-- it. Its names are those of the definitions that it follows: use them qualified. Assumes nothing.
+use Prim.Native.Nat.{ℕ, zero, suc, pred}
 use mathlib.Core.Bool.{Bool, true, false, cond}
-use mathlib.Core.List.{List, [], _∷_, _++_, map}
+use mathlib.Core.List.{List, []}
 use mathlib.Core.Option.{Option, some, none}
 use lib.Dec.{eqb}
 use lib.ListN.{length, getElem?}
 use Rattle.format.specs.Version.{Version}
-use Rattle.keys.specs.Keys.{Keys, empty, singleton, union, subset, isEmpty, countNew}
+use Rattle.keys.specs.Keys.{empty, singleton, union, subset, isEmpty}
 use Rattle.packed.specs.Syntax.{Signal}
 use Rattle.packed.specs.Trees.{Node}
-use Rattle.records.specs.Record.{Kind, Record, entry}
-use Rattle.rules.specs.Queue.{Place, awake, lastPlace, movedUp}
-use Rattle.rules.specs.State.{Cell, cell, Object, fresh, freshObject, changeAt, storeField, fieldOf, monitorOf}
+use Rattle.records.specs.Record.{Kind, entry}
+use Rattle.rules.specs.State.{Form, ThreadOf, StateOf, NumberedOf, Cell, cell, fresh, freshObject, monitorOf, forked}
 use Rattle.rules.specs.Rules.{Rule, passedOn, e-call, e-let, e-if, e-while, e-notnottrue, e-andtrue, e-andfalse, e-new, e-read, e-write, e-readv, e-writev}
 use Rattle.rules.specs.Rules.{e-fork, e-join, e-re-enter, e-acquire, e-release, e-wait, e-wake, e-notify, e-notifyall}
-use Rattle.rules.specs.Step.{Wait, forMonitor, forJoin, forNotify, Stuck, missingField, notThread, notHeld, equalAct}
-use Rattle.machine.specs.Frames.{putBound, Closure, closure, Frame, Ready, Readyᶜ, Found, Result}
+use Rattle.rules.specs.Step.{forMonitor, forJoin, forNotify, missingField, notThread, notHeld, ActOf, MoveOf, AttemptOf, equalAct}
+use Rattle.machine.specs.Frames.{putBound, Closure, closure, Frame, Ready, Readyᶜ, Found, height, Result}
 use Rattle.machine.specs.Landing.{upᶜ, enter, enterᶜ, go}
+pub use Rattle.rules.specs.State.{learn, hear, inPlace}
+unfoldable pub use Rattle.rules.specs.State.{lookup, store, storeMonitor, addObject, addThread, gain, become, useKey, enqueue, signalled, threadOf}
+pub use Rattle.rules.specs.Step.{waits, sticks, lacks, does, absent, finished, waiting, stuck, lacking, moves}
 
 -- ---- the state
 
--- a thread: the object that stands for it, where it stands, its key set, its total, its place in a queue
-pub record Thread : Type 0 where
-  pub self : ℕ
-  pub code : Found
-  pub keys : Keys
-  pub learnt : ℕ
-  pub place : Place
+-- expressions as frames around what is ready, and as deep as there are frames
+abbrev pub frames : Form
+frames = record { Carrier = Found; depth = height }
 
-pub record State : Type 0 where
-  pub objects : List Object
-  pub threads : List Thread
-  pub nextKey : ℕ
+abbrev pub Thread : Type 0
+Thread = ThreadOf frames
 
-unfoldable pub onObjects : State → List Object → State
-onObjects s l = record { objects = l; threads = s .threads; nextKey = s .nextKey }
+abbrev pub State : Type 0
+State = StateOf frames
 
-unfoldable pub onThreads : State → List Thread → State
-onThreads s l = record { objects = s .objects; threads = l; nextKey = s .nextKey }
-
-unfoldable pub store : State → ℕ → ℕ → Cell → State
-unfolding onObjects changeAt storeField
-store s o f c = onObjects s (changeAt (s .objects) o (λ x. record { monitor = x .monitor; fields = storeField (x .fields) f c }))
-
-unfoldable pub storeMonitor : State → ℕ → Cell → State
-unfolding onObjects changeAt
-storeMonitor s o c = onObjects s (changeAt (s .objects) o (λ x. record { monitor = c; fields = x .fields }))
-
-unfoldable pub addObject : State → List ℕ → State
-unfolding onObjects freshObject
-addObject s fs = onObjects s (s .objects ++ (freshObject fs ∷ []))
-
-unfoldable pub addThread : State → Thread → State
-unfolding onThreads
-addThread s x = onThreads s (s .threads ++ (x ∷ []))
-
-unfoldable pub gain : State → ℕ → Keys → (Keys → ℕ) → State
-unfolding onThreads changeAt union
-gain s p W count =
-    onThreads s (changeAt (s .threads) p
-    (λ x. record { self = x .self; code = x .code; keys = union W (x .keys); learnt = x .learnt + count (x .keys); place = x .place }))
-
-abbrev pub learn : State → ℕ → Keys → State
-learn s p W = gain s p W (λ K. 0)
-
-abbrev pub hear : State → ℕ → Keys → State
-hear s p W = gain s p W (countNew W)
-
-unfoldable pub become : State → ℕ → Found → State
-unfolding onThreads changeAt
-become s p F = onThreads s (changeAt (s .threads) p (λ x. record { self = x .self; code = F; keys = x .keys; learnt = x .learnt; place = x .place }))
-
--- the thread at this place
-abbrev pub inPlace : Place → Thread → Thread
-inPlace w t = record { self = t .self; code = t .code; keys = t .keys; learnt = t .learnt; place = w }
-
--- thread p takes the last place of the queue of o
-unfoldable pub enqueue : State → ℕ → ℕ → State
-unfolding onThreads changeAt lastPlace
-enqueue s p o = onThreads s (changeAt (s .threads) p (inPlace (lastPlace o (map (λ (y : Thread). y .place) (s .threads)))))
-
--- the numbers of the places on o are changed by h
-unfoldable pub signalled : (ℕ → ℕ) → State → ℕ → State
-unfolding onThreads movedUp
-signalled h s o = onThreads s (map (λ (x : Thread). inPlace (movedUp h o (x .place)) x) (s .threads))
-
-unfoldable pub useKey : State → State
-useKey s = record { objects = s .objects; threads = s .threads; nextKey = suc (s .nextKey) }
-
-unfoldable pub lookup : State → ℕ → ℕ → Option Cell
-unfolding fieldOf
-lookup s o f = fieldOf (getElem? (s .objects) o) f
+abbrev pub Numbered : Type 0
+Numbered = NumberedOf frames
 
 -- every object that a run asks for is there: past the last, a new monitor is as good as any
 unfoldable pub cellOr : Option Cell → Cell
@@ -102,16 +45,6 @@ cellOr (some c) = c
 unfoldable pub monitor : State → ℕ → Cell
 unfolding cellOr monitorOf
 monitor s o = cellOr (monitorOf (getElem? (s .objects) o))
-
--- a thread with its number
-pub record Numbered : Type 0 where
-  pub number : ℕ
-  pub thread : Thread
-
--- the thread that object o stands for, among threads numbered from i
-unfoldable pub threadOf : ℕ → List Thread → ℕ → Option Numbered
-threadOf i [] o = none
-threadOf i (x ∷ xs) o = cond (eqb (x .self) o) (some (record { number = i; thread = x })) (threadOf (suc i) xs o)
 
 unfoldable pub finishedWith : Found → Option ℕ
 finishedWith (Found.value o) = some o
@@ -128,32 +61,20 @@ pub record Table : Type 0 where
   pub isVolatile : ℕ → Bool
   pub root : ℕ → ℕ
 
--- what is ready comes to this. Of a rule: its record, the state after it but for where the mover stands, and what takes the place of what was ready
-pub data Act : Type 0 where
-  waits : Wait → Act
-  sticks : Stuck → Act
-  lacks : Record → Act
-  does : Rule → Option Record → State → Result → Act
+-- what is ready comes to this
+abbrev pub Act : Type 0
+Act = ActOf frames Result
 
--- a move: its rule, its record, the state after it
-pub record Move : Type 0 where
-  pub rule : Rule
-  pub entry : Option Record
-  pub state : State
+abbrev pub Move : Type 0
+Move = MoveOf frames
 
--- what a thread can do, whatever the room
-pub data Attempt : Type 0 where
-  absent : Attempt
-  finished : ℕ → Attempt
-  waiting : Wait → Attempt
-  stuck : Stuck → Attempt
-  lacking : Record → Attempt
-  moves : Move → Attempt
+abbrev pub Attempt : Type 0
+Attempt = AttemptOf frames
 
 -- where a thread stands after a condition's rule
 pub record Actᶜ : Type 0 where
   pub rule : Rule
-  pub code : Found
+  pub expression : Found
 
 unfoldable pub joinValue : State → ℕ → ℕ → Numbered → Option ℕ → Act
 unfolding gain
@@ -163,7 +84,7 @@ joinValue s p o q (some v) = does e-join (some (entry Kind.join p o (q .number) 
 unfoldable pub joinAct : State → ℕ → ℕ → Option Numbered → Act
 unfolding joinValue finishedWith
 joinAct s p o none = sticks (notThread o)
-joinAct s p o (some q) = joinValue s p o q (finishedWith (q .thread .code))
+joinAct s p o (some q) = joinValue s p o q (finishedWith (q .thread .expression))
 
 unfoldable pub synchAct : State → ℕ → Thread → ℕ → Closure → Cell → Act
 unfolding gain storeMonitor isEmpty
@@ -217,8 +138,8 @@ module _ (table : Table) where
 
   -- thread p, which is t. A call has its procedure and its count of arguments, and a hold its monitor: no run comes to another, and none is tested
   unfoldable pub act : State → ℕ → Thread → Ready → Act
-  unfolding readAct writeAct joinAct synchAct signalAct wakeAct putBound enter addThread addObject storeMonitor threadOf lookup monitor
-  act s p t (Ready.new fs) = does e-new (some (entry Kind.new p (length (s .objects)) 0 0)) (addObject s fs) (Result.value (length (s .objects)))
+  unfolding readAct writeAct joinAct synchAct signalAct wakeAct putBound enter freshObject addThread addObject storeMonitor threadOf lookup monitor
+  act s p t (Ready.new fs) = does e-new (some (entry Kind.new p (length (s .objects)) 0 0)) (addObject s (freshObject fs)) (Result.value (length (s .objects)))
   act s p t (Ready.read o f) = readAct s p t o f (lookup s o f)
   act s p t (Ready.write o f v) = writeAct s p t o f v (lookup s o f)
   act s p t (Ready.letIn x o y) = does e-let none s (Result.run (closure (y .at) (putBound (y .slots) x o)))
@@ -227,14 +148,7 @@ module _ (table : Table) where
   act s p t (Ready.call m n σ) = does e-call none s (Result.run (closure (table .root m) σ))
   act s p t (Ready.fork x) =
       does e-fork (some (entry Kind.fork p (length (s .objects)) (length (s .threads)) 0))
-      (addThread (addObject s []) (record {
-        self = length (s .objects);
-        code = enter (table .node) (table .count) [] x;
-        keys = t .keys;
-        learnt = 0;
-        place =
-            awake;
-      }))
+      (addThread (addObject s (freshObject [])) (forked s t (enter (table .node) (table .count) [] x)))
       (Result.value (length (s .objects)))
   act s p t (Ready.join o) = joinAct s p o (threadOf 0 (s .threads) o)
   act s p t (Ready.synch o x) = synchAct s p t o x (monitor s o)
@@ -246,10 +160,10 @@ module _ (table : Table) where
 
   unfoldable pub actᶜ : List Frame → Readyᶜ → Actᶜ
   unfolding upᶜ enterᶜ equalAct
-  actᶜ S Readyᶜ.notFalse = record { rule = e-notnottrue; code = upᶜ (table .node) (table .count) S true }
-  actᶜ S (Readyᶜ.and true x) = record { rule = e-andtrue; code = enterᶜ (table .node) (table .count) S x }
-  actᶜ S (Readyᶜ.and false x) = record { rule = e-andfalse; code = upᶜ (table .node) (table .count) S false }
-  actᶜ S (Readyᶜ.equal o o′) = record { rule = equalAct (eqb o o′) .rule; code = upᶜ (table .node) (table .count) S (eqb o o′) }
+  actᶜ S Readyᶜ.notFalse = record { rule = e-notnottrue; expression = upᶜ (table .node) (table .count) S true }
+  actᶜ S (Readyᶜ.and true x) = record { rule = e-andtrue; expression = enterᶜ (table .node) (table .count) S x }
+  actᶜ S (Readyᶜ.and false x) = record { rule = e-andfalse; expression = upᶜ (table .node) (table .count) S false }
+  actᶜ S (Readyᶜ.equal o o′) = record { rule = equalAct (eqb o o′) .rule; expression = upᶜ (table .node) (table .count) S (eqb o o′) }
 
   unfoldable pub around : ℕ → List Frame → Act → Attempt
   unfolding become go
@@ -262,12 +176,12 @@ module _ (table : Table) where
   unfolding around act actᶜ become
   attemptAt s p t (Found.value o) = finished o
   attemptAt s p t (Found.here S r) = around p S (act s p t r)
-  attemptAt s p t (Found.hereᶜ S r) = moves (record { rule = actᶜ S r .rule; entry = none; state = become s p (actᶜ S r .code) })
+  attemptAt s p t (Found.hereᶜ S r) = moves (record { rule = actᶜ S r .rule; entry = none; state = become s p (actᶜ S r .expression) })
 
   unfoldable pub attemptBy : State → ℕ → Option Thread → Attempt
   unfolding attemptAt
   attemptBy s p none = absent
-  attemptBy s p (some t) = attemptAt s p t (t .code)
+  attemptBy s p (some t) = attemptAt s p t (t .expression)
 
   -- what thread p can do in state s
   unfoldable pub attempt : State → ℕ → Attempt

@@ -35,10 +35,10 @@ module _ (table : machine.Table) (g : Program) (good : WellFormedProgram g) (law
       by : (a : playing.Answer) → playing.step table s p ≡ a
           → ((z : machine.State) → Reached table g z → recordsFrom true table z ps ≡ movesFrom g (stateOf table z) ps)
           → recordsBy true s (λ z. recordsFrom true table z ps) p a ≡ movesBy (stateOf table s) (λ z. movesFrom g z ps) p (answerOf table a)
-      by playing.Answer.passed e ih = ih s r
-      by (playing.Answer.race x) e ih = refl
-      by (playing.Answer.noRoom w) e ih = refl
-      by (playing.Answer.moved m) e ih = moved (m .entry) (ih (m .state) (step-reached table g good law s p m r e))
+      by playing.passed e ih = ih s r
+      by (playing.race x) e ih = refl
+      by (playing.noRoom w) e ih = refl
+      by (playing.moved m) e ih = moved (m .entry) (ih (m .state) (step-reached table g good law s p m r e))
         where
           moved : (x : Option Record) → recordsFrom true table (m .state) ps ≡ movesFrom g (stateOf table (m .state)) ps
               → logged (shownIn true p x) (recordsFrom true table (m .state) ps) ≡ shown p x ∷ movesFrom g (stateOf table (m .state)) ps

@@ -13,8 +13,8 @@ use Rattle.packed.proofs.Decoded.{well-formed}
 use Rattle.records.specs.Record.{Record}
 use Rattle.rules.specs.State.{State, start}
 use Rattle.rules.specs.Rules.{Moves}
-use Rattle.rules.specs.Step.{Move, Attempt, attempt}
-use Rattle.rules.specs.Room.{PassedOver, Room, noRoomFor, Answer, withinRoom, answer, step}
+use Rattle.rules.specs.Step.{Move, AttemptOf, Attempt, attempt}
+use Rattle.rules.specs.Room.{PassedOver, Room, noRoomFor, AnswerOf, Answer, withinRoom, answer, step}
 use Rattle.rules.specs.Run.{Stop, Run, Status, status, afterPass, afterMove, stopped, resume, run, play}
 use Rattle.rules.specs.Play.{runOf}
 use Rattle.rules.proofs.Equivalence.{Described, described, complete, complete-lacks, complete-passed}
@@ -43,7 +43,7 @@ module _ (g : Program) (p : ℕ) (r : Run) (ended : r .stop ≡ Stop.end) where
       no-more : r .picks ≡ r .picks + 0
       no-more = omega arith
 
-  passed-as : {a : Attempt} → PassedOver (r .final) p a → PlaysAs g p r (Preview.passed (status a)) (onAnswer Answer.passed)
+  passed-as : {a : Attempt} → PassedOver (r .final) p a → PlaysAs g p r (Preview.passed (status a)) (onAnswer AnswerOf.passed)
   unfolding resume afterPass stopped
   passed-as h = PASSED ended h
 
@@ -57,12 +57,12 @@ module _ (g : Program) (p : ℕ) (r : Run) (ended : r .stop ≡ Stop.end) where
     met : (a : Attempt) → Described g (r .final) (I .one-key) p a → Ruled a
         → PlaysAs g p r (shownBy (status a) (answer (r .final) p a)) (onAnswer (answer (r .final) p a))
     unfolding answer shownBy status resume
-    met Attempt.absent h k = passed-as h
-    met (Attempt.finished v) h k = passed-as h
-    met (Attempt.waiting w) h k = passed-as h
-    met (Attempt.stuck x) h k = passed-as (unless-ruled x _ k h)
-    met (Attempt.lacking e) h k = along (PlaysAs g p r (Preview.race e)) (stopped-next Stop.race (e ∷ [])) (RACE ended h)
-    met (Attempt.moves m) h k = within m h (status (Attempt.moves m)) (noRoomFor (m .rule) (r .final) p (m .state)) refl
+    met AttemptOf.absent h k = passed-as h
+    met (AttemptOf.finished v) h k = passed-as h
+    met (AttemptOf.waiting w) h k = passed-as h
+    met (AttemptOf.stuck x) h k = passed-as (unless-ruled x _ k h)
+    met (AttemptOf.lacking e) h k = along (PlaysAs g p r (Preview.race e)) (stopped-next Stop.race (e ∷ [])) (RACE ended h)
+    met (AttemptOf.moves m) h k = within m h (status (AttemptOf.moves m)) (noRoomFor (m .rule) (r .final) p (m .state)) refl
 
     shown-plays : PlaysAs g p r (shown g (r .final) p) (onAnswer (step g (r .final) p))
     unfolding shown step

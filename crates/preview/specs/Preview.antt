@@ -8,7 +8,7 @@ use Rattle.packed.specs.Trees.{programOf}
 use Rattle.records.specs.Record.{Record}
 use Rattle.rules.specs.State.{State}
 use Rattle.rules.specs.Step.{attempt}
-use Rattle.rules.specs.Room.{Room, Answer, step}
+use Rattle.rules.specs.Room.{Room, AnswerOf, Answer, step}
 use Rattle.rules.specs.Run.{Stop, Run, Status, status}
 use Rattle.rules.specs.Play.{scheduleRefusal, runOf}
 
@@ -22,10 +22,10 @@ pub data Preview : Type 0 where
 
 -- what the answer to a pick of a thread in this state shows
 unfoldable pub shownBy : Status → Answer → Preview
-shownBy x Answer.passed = passed x
-shownBy x (Answer.moved m) = moved (m .entry)
-shownBy x (Answer.race r) = race r
-shownBy x (Answer.noRoom k) = noRoom k
+shownBy x AnswerOf.passed = passed x
+shownBy x (AnswerOf.moved m) = moved (m .entry)
+shownBy x (AnswerOf.race r) = race r
+shownBy x (AnswerOf.noRoom k) = noRoom k
 
 -- "what a pick would do": document 01's step of thread p in state s
 unfoldable pub shown : Program → State → ℕ → Preview

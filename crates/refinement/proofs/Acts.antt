@@ -61,7 +61,7 @@ module _ {b : List ℕ} {m : engine.Machine} {s : machine.State} {p : ℕ} (move
   abbrev Meets : Ready → Type 0
   Meets r = MeetsBy (sees (settingOf b) m p r) p r (machine.attempt (tableOf b) s p) (Acts mover r (cellNumber r) (does (settingOf b) m p r))
 
-  meets : (P : Part) (a b′ c environment : ℕ) → StandsBy b P (readyOf P a b′ c environment) S (t .code) → Meets (readyOf P a b′ c environment)
+  meets : (P : Part) (a b′ c environment : ℕ) → StandsBy b P (readyOf P a b′ c environment) S (t .expression) → Meets (readyOf P a b′ c environment)
   unfolding objectBy fieldBy aboutField lookBy pureBy actBy machine.actᶜ land.go playing.noRoomBefore tableOf
   meets part.Done a b′ c environment h = attempt-value (tableOf b) s p t there a (h .1)
   meets part.NoRule a b′ c environment h = absurd h
@@ -120,7 +120,7 @@ looks b ok m s rel reach p small here =
     meets-more (sees (settingOf b) m p r) p r (machine.attempt (tableOf b) s p) _ (Ahead b m s p) (λ v z. record { mover = mover; acts = z })
     (along (Meets mover) same
     (meets mover P (r .first) (r .second) (r .third) (r .environment)
-    (along (λ (r′ : Ready). StandsBy b P r′ (H .stack) (t .code)) (sym same) (H .stands .2))))
+    (along (λ (r′ : Ready). StandsBy b P r′ (H .stack) (t .expression)) (sym same) (H .stands .2))))
   where
     r : Ready
     r = headAt (m .heads) p .ready

@@ -36,7 +36,7 @@ module _ (b : List ℕ) where
   let-unlogged x v y z e = record {
     rule = e-let;
     needs-no-room = λ s. refl;
-    acts = λ s p t. ap (λ (z : Closure). machine.Act.does e-let none s (frames.Result.run z)) e;
+    acts = λ s p t. ap (λ (z : Closure). machine.does e-let none s (frames.Result.run z)) e;
   }
 
   if-unlogged : (t : Bool) (x : frames.Branches) → Unlogged b (frames.Ready.if t x) (frames.Result.run (closure (cond t (x .first) (x .second)) (x .slots)))
@@ -49,7 +49,7 @@ module _ (b : List ℕ) where
   call-unlogged m n σ z e = record {
     rule = e-call;
     needs-no-room = λ s. refl;
-    acts = λ s p t. ap (λ (z : Closure). machine.Act.does e-call none s (frames.Result.run z)) e;
+    acts = λ s p t. ap (λ (z : Closure). machine.does e-call none s (frames.Result.run z)) e;
   }
 
   test-unlogged : (x : frames.Branches) → Unlogged b (frames.Ready.whileTest false x) (frames.Result.value 0)

@@ -88,7 +88,7 @@ module _ {b : List ℕ} {m : engine.Machine} {s : machine.State} {p : ℕ} (move
 
   -- E-READ, E-READV
   pub read-meets : (o f w environment i j : ℕ) → i ≡ o * 32 + f → j ≡ o → Well S → o < 32 → 0 < f → f < 32
-      → t .code ≡ frames.Found.here S (frames.Ready.read o f)
+      → t .expression ≡ frames.Found.here S (frames.Ready.read o f)
       → MeetsBy (lookField (settingOf b) (headFor m p (readyOf part.Read o f w environment)) (getD cs i noCell) (getD ts j noThing) f) p
       (readyOf part.Read o f w environment) (machine.attempt (tableOf b) s p)
       (Acts mover (readyOf part.Read o f w environment) i (actRead (settingOf b) n (headFor m p (readyOf part.Read o f w environment)) (getD cs i noCell) o f))
@@ -114,7 +114,7 @@ module _ {b : List ℕ} {m : engine.Machine} {s : machine.State} {p : ℕ} (move
       value-fits y e =
           let h = cell-there (tableOf b) (programOf b) s reach o f (cellMeant y c) e in
           let q = meant-value y c in
-          let z = reach .limits .counts .few-objects in
+          let z = reach .roomy .objects32 in
           omega arith
 
       by : (x y z : Bool) → machine.lookup s o f ≡ cond x (some (cellMeant y c)) none → tableOf b .isVolatile f ≡ y
@@ -126,7 +126,7 @@ module _ {b : List ℕ} {m : engine.Machine} {s : machine.State} {p : ℕ} (move
           (actedOf (goValue (c .value)) n ks c (entryOf (records.kindNumber records.Kind.read) o f (c .value)))))
       by false y z e v q =
           attempts mover (frames.Ready.read o f) code (ap (machine.readAct (tableOf b) s p t o f) e)
-          ∙ ap₂ (λ (o f : ℕ). machine.Attempt.stuck (missingField o f)) (sym (mod-eq-of-lt ho)) (sym (mod-eq-of-lt hf))
+          ∙ ap₂ (λ (o f : ℕ). machine.stuck (missingField o f)) (sym (mod-eq-of-lt ho)) (sym (mod-eq-of-lt hf))
       by true true z e v q = (
         _,
         attempts mover (frames.Ready.read o f) code (ap (machine.readAct (tableOf b) s p t o f) e ∙ test-true (tableOf b .isVolatile f) _ _ v),
@@ -164,7 +164,7 @@ module _ {b : List ℕ} {m : engine.Machine} {s : machine.State} {p : ℕ} (move
 
   -- E-WRITE, E-WRITEV
   pub write-meets : (o f w environment i j : ℕ) → i ≡ o * 32 + f → j ≡ o → Well S → o < 32 → 0 < f → f < 32 → w < 32
-      → t .code ≡ frames.Found.here S (frames.Ready.write o f w)
+      → t .expression ≡ frames.Found.here S (frames.Ready.write o f w)
       → MeetsBy (lookField (settingOf b) (headFor m p (readyOf part.Write o f w environment)) (getD cs i noCell) (getD ts j noThing) f) p
       (readyOf part.Write o f w environment) (machine.attempt (tableOf b) s p)
       (Acts mover (readyOf part.Write o f w environment) i
@@ -208,7 +208,7 @@ module _ {b : List ℕ} {m : engine.Machine} {s : machine.State} {p : ℕ} (move
           (entryOf (records.kindNumber records.Kind.write) o f w)))))
       by false y z u e g v q r =
           attempts mover (frames.Ready.write o f w) code (ap (machine.writeAct (tableOf b) s p t o f w) e)
-          ∙ ap₂ (λ (o f : ℕ). machine.Attempt.stuck (missingField o f)) (sym (mod-eq-of-lt ho)) (sym (mod-eq-of-lt hf))
+          ∙ ap₂ (λ (o f : ℕ). machine.stuck (missingField o f)) (sym (mod-eq-of-lt ho)) (sym (mod-eq-of-lt hf))
       by true true z u e g v q r = (
         _,
         attempts mover (frames.Ready.write o f w) code (ap (machine.writeAct (tableOf b) s p t o f w) e ∙ test-true (tableOf b .isVolatile f) _ _ v),

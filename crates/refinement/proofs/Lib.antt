@@ -14,7 +14,6 @@ pub mod Steps
 pub mod Landing
 pub mod Queues
 pub mod States
-mod Alike
 mod Tests
 mod MemoryOf
 mod ThreadNumbers

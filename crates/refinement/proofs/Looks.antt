@@ -70,20 +70,20 @@ Entered p e (some r) = Written p e r
 
 -- a thread at part r that is blocked; no accepted plan comes to a part without a rule
 abbrev pub BlockedBy : Block → Ready → machine.Attempt → Type 0
-BlockedBy block.Finished r A = A ≡ machine.Attempt.finished (r .first)
-BlockedBy block.Monitor r A = A ≡ machine.Attempt.waiting (forMonitor (objectOf r))
-BlockedBy block.Join r A = A ≡ machine.Attempt.waiting (forJoin (objectOf r))
-BlockedBy block.Notify r A = A ≡ machine.Attempt.waiting (forNotify (objectOf r))
-BlockedBy block.Field r A = A ≡ machine.Attempt.stuck (missingField (objectOf r) (look.fieldOf r))
-BlockedBy block.Thread r A = A ≡ machine.Attempt.stuck (notThread (objectOf r))
-BlockedBy block.NotHeld r A = A ≡ machine.Attempt.stuck (notHeld (objectOf r))
+BlockedBy block.Finished r A = A ≡ machine.finished (r .first)
+BlockedBy block.Monitor r A = A ≡ machine.waiting (forMonitor (objectOf r))
+BlockedBy block.Join r A = A ≡ machine.waiting (forJoin (objectOf r))
+BlockedBy block.Notify r A = A ≡ machine.waiting (forNotify (objectOf r))
+BlockedBy block.Field r A = A ≡ machine.stuck (missingField (objectOf r) (look.fieldOf r))
+BlockedBy block.Thread r A = A ≡ machine.stuck (notThread (objectOf r))
+BlockedBy block.NotHeld r A = A ≡ machine.stuck (notHeld (objectOf r))
 BlockedBy block.NoRule r A = ⊥
 
 -- thread p, at part r, sees w; where it is ready, Z holds of its move
 abbrev pub MeetsBy : Sight → ℕ → Ready → machine.Attempt → (machine.Move → Type 0) → Type 0
-MeetsBy sight.Ready p r A Z = (v : machine.Move) × (A ≡ machine.Attempt.moves v) × Z v
+MeetsBy sight.Ready p r A Z = (v : machine.Move) × (A ≡ machine.moves v) × Z v
 MeetsBy sight.Lacking p r A Z =
-    (x : Record) × (A ≡ machine.Attempt.lacking x) × (x .object ≡ objectOf r) × (x .field ≡ look.fieldOf r) × Written p (lackEntry r) x
+    (x : Record) × (A ≡ machine.lacking x) × (x .object ≡ objectOf r) × (x .field ≡ look.fieldOf r) × Written p (lackEntry r) x
 MeetsBy (sight.Blocked x) p r A Z = BlockedBy x r A
 
 -- ---- what is read
@@ -131,35 +131,35 @@ module _ {setting : Setting} {cs : List Cell} {ts : List Object} {n : Counts} {s
 -- ---- what a thread can do
 
 module _ (table : machine.Table) (s : machine.State) (p : ℕ) where
-  pub attempt-absent : length (s .threads) ≤ p → machine.attempt table s p ≡ machine.Attempt.absent
+  pub attempt-absent : length (s .threads) ≤ p → machine.attempt table s p ≡ machine.absent
   unfolding machine.attempt
   attempt-absent h = ap (machine.attemptBy table s p) (outside (s .threads) p h)
 
   module _ (t : machine.Thread) (there : getElem? (s .threads) p ≡ some t) where
-    attempt-code : machine.attempt table s p ≡ machine.attemptAt table s p t (t .code)
+    attempt-here : machine.attempt table s p ≡ machine.attemptAt table s p t (t .expression)
     unfolding machine.attempt
-    attempt-code = ap (machine.attemptBy table s p) there
+    attempt-here = ap (machine.attemptBy table s p) there
 
-    pub attempt-value : (v : ℕ) → t .code ≡ frames.Found.value v → machine.attempt table s p ≡ machine.Attempt.finished v
+    pub attempt-value : (v : ℕ) → t .expression ≡ frames.Found.value v → machine.attempt table s p ≡ machine.finished v
     unfolding machine.attemptAt
-    attempt-value v e = attempt-code ∙ ap (machine.attemptAt table s p t) e
+    attempt-value v e = attempt-here ∙ ap (machine.attemptAt table s p t) e
 
     -- an expression that is ready
-    pub attempt-act : (S : List frames.Frame) (R : frames.Ready) (A : machine.Act) → t .code ≡ frames.Found.here S R → machine.act table s p t R ≡ A
+    pub attempt-act : (S : List frames.Frame) (R : frames.Ready) (A : machine.Act) → t .expression ≡ frames.Found.here S R → machine.act table s p t R ≡ A
         → machine.attempt table s p ≡ machine.around table p S A
     unfolding machine.attemptAt
-    attempt-act S R A e h = attempt-code ∙ ap (machine.attemptAt table s p t) e ∙ ap (machine.around table p S) h
+    attempt-act S R A e h = attempt-here ∙ ap (machine.attemptAt table s p t) e ∙ ap (machine.around table p S) h
 
     -- a condition that is ready
-    pub attempt-condition : (S : List frames.Frame) (Q : frames.Readyᶜ) → t .code ≡ frames.Found.hereᶜ S Q
+    pub attempt-condition : (S : List frames.Frame) (Q : frames.Readyᶜ) → t .expression ≡ frames.Found.hereᶜ S Q
         → machine.attempt table s p
-        ≡ machine.Attempt.moves (record { rule = machine.actᶜ table S Q .rule; entry = none; state = machine.become s p (machine.actᶜ table S Q .code) })
+        ≡ machine.moves (record { rule = machine.actᶜ table S Q .rule; entry = none; state = machine.become s p (machine.actᶜ table S Q .expression) })
     unfolding machine.attemptAt
-    attempt-condition S Q e = attempt-code ∙ ap (machine.attemptAt table s p t) e
+    attempt-condition S Q e = attempt-here ∙ ap (machine.attemptAt table s p t) e
 
 -- what is ready is there
 pub ready-there : (b : List ℕ) (s : machine.State) (p : ℕ) (t : machine.Thread) → Reached (tableOf b) (programOf b) s → getElem? (s .threads) p ≡ some t
-    → (S : List frames.Frame) (R : frames.Ready) → t .code ≡ frames.Found.here S R
+    → (S : List frames.Frame) (R : frames.Ready) → t .expression ≡ frames.Found.here S R
     → placed.Ready (programOf b) (length (s .objects)) (redex (tableOf b .node) (tableOf b .count) R)
 ready-there b s p t r there S R e =
     along (λ (F : frames.Found). placed.Good (programOf b) (length (s .objects)) (mean (tableOf b .node) (tableOf b .count) F)) e

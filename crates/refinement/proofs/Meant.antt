@@ -125,12 +125,12 @@ module _ (b : List ℕ) where
   pub record Unlogged (R : frames.Ready) (x : frames.Result) : Type 0 where
     pub rule : Rule
     pub needs-no-room : (s : machine.State) → playing.noRoomBefore s rule ≡ none
-    pub acts : (s : machine.State) (p : ℕ) (t : machine.Thread) → machine.act (playing.tableOf b) s p t R ≡ machine.Act.does rule none s x
+    pub acts : (s : machine.State) (p : ℕ) (t : machine.Thread) → machine.act (playing.tableOf b) s p t R ≡ machine.does rule none s x
 
   -- the same of a part of a condition, whose value is v
   pub record Unloggedᶜ (S : List frames.Frame) (Q : frames.Readyᶜ) (code : frames.Found) : Type 0 where
     pub needs-no-room : (s : machine.State) → playing.noRoomBefore s (machine.actᶜ (playing.tableOf b) S Q .rule) ≡ none
-    pub acts : machine.actᶜ (playing.tableOf b) S Q .code ≡ code
+    pub acts : machine.actᶜ (playing.tableOf b) S Q .expression ≡ code
 
   abbrev Pure : List frames.Frame → frames.Result → frames.Found → Type 0
   Pure S x X = (R : frames.Ready) × (X ≡ frames.Found.here S R) × Unlogged R x

@@ -71,7 +71,7 @@ module _ {b : List ℕ} {m : engine.Machine} {s : machine.State} {p : ℕ} (move
 
   -- E-RE-ENTER, E-ACQUIRE
   pub synch-meets : (o u w environment i : ℕ) → i ≡ o * 32 + 0 → Well S → o < 32 → IsExpression b u
-      → t .code ≡ frames.Found.here S (frames.Ready.synch o (closed u environment))
+      → t .expression ≡ frames.Found.here S (frames.Ready.synch o (closed u environment))
       → MeetsBy (lookSynch (headFor m p (readyOf part.Synch o u w environment)) (getD cs i noCell)) p (readyOf part.Synch o u w environment)
       (machine.attempt (tableOf b) s p)
       (Acts mover (readyOf part.Synch o u w environment) i (actSynch n (headFor m p (readyOf part.Synch o u w environment)) (getD cs i noCell) o u environment))
@@ -93,7 +93,7 @@ module _ {b : List ℕ} {m : engine.Machine} {s : machine.State} {p : ℕ} (move
       found = monitor-cell k o (monitor-bit b ok) o-there ho ∙ ap (λ (i : ℕ). cellMeant true (getD cs i noCell)) (sym ei)
 
       self-fits : t .self < 32
-      self-fits = let z = standing (tableOf b) (programOf b) s p t reach there .self-there in let l = reach .limits .counts .few-objects in omega arith
+      self-fits = let z = standing (tableOf b) (programOf b) s p t reach there .self-there in let l = reach .roomy .objects32 in omega arith
 
       c′ : Cell
       c′ = cellOf self 0 emptySet
@@ -116,7 +116,7 @@ module _ {b : List ℕ} {m : engine.Machine} {s : machine.State} {p : ℕ} (move
       by true false e q =
           attempts mover (frames.Ready.synch o (closed u environment)) code
           (acted ∙ test-true (isEmpty (keysOf (c .keys))) _ _ e ∙ test-false (eqb (c .value) (t .self)) _ _ q)
-          ∙ ap (λ (o : ℕ). machine.Attempt.waiting (forMonitor o)) (sym (mod-eq-of-lt ho))
+          ∙ ap (λ (o : ℕ). machine.waiting (forMonitor o)) (sym (mod-eq-of-lt ho))
       by false y e q = (
         _,
         attempts mover (frames.Ready.synch o (closed u environment)) code (acted ∙ test-false (isEmpty (keysOf (c .keys))) _ _ e),
@@ -134,7 +134,7 @@ module _ {b : List ℕ} {m : engine.Machine} {s : machine.State} {p : ℕ} (move
       )
 
   -- E-RELEASE
-  pub hold-meets : (o v w environment i : ℕ) → i ≡ o * 32 + 0 → Well S → o < 32 → v < 32 → t .code ≡ frames.Found.here S (frames.Ready.hold o v)
+  pub hold-meets : (o v w environment i : ℕ) → i ≡ o * 32 + 0 → Well S → o < 32 → v < 32 → t .expression ≡ frames.Found.here S (frames.Ready.hold o v)
       → MeetsBy sight.Ready p (readyOf part.Hold o v w environment) (machine.attempt (tableOf b) s p)
       (Acts mover (readyOf part.Hold o v w environment) i (actHold n (headFor m p (readyOf part.Hold o v w environment)) o v))
   unfolding machine.act machine.around machine.storeMonitor playing.noRoomBefore land.go tableOf

@@ -16,6 +16,7 @@ use Rattle.rules.specs.Queue.{Place}
 use Rattle.rules.specs.State.{changeAt}
 use Rattle.rules.specs.Room as rooms
 use Rattle.rules.proofs.StateLaws.{there as present, inside, added, change-same, change-other, change-length}
+use Rattle.rules.proofs.Relocated.{relocated-length, was-there}
 use Rattle.machine.specs.Frames.{height}
 use Rattle.machine.specs.Machine as machine
 use Rattle.machine.specs.Playing as playing
@@ -35,8 +36,7 @@ use Rattle.refinement.proofs.Meant.{Loaded, Sized, Lands}
 use Rattle.refinement.proofs.FrameLaws.{holds-same}
 use Rattle.refinement.proofs.Landing.{landed}
 use Rattle.refinement.proofs.Queues.{placesOf, Places, places-kept, places-more, after-size}
-use Rattle.refinement.proofs.States.{settingOf, Kept, Headed, Related}
-use Rattle.refinement.proofs.Alike.{alike-length, alike-there, headed-same}
+use Rattle.refinement.proofs.States.{settingOf, Kept, Headed, headed-elsewhere, Related}
 use Rattle.refinement.proofs.Moves.{withYoung, moverIn, Mover, Born, Does, met}
 use Rattle.refinement.proofs.Moving.{few-threads}
 use Rattle.refinement.proofs.Depths.{found-full, found-at}
@@ -86,24 +86,24 @@ module _ {b ws rs : List ℕ} (loaded : Loaded b ws rs) {m : engine.Machine} {s 
 
   -- the mover after its move, and the threads that were there
   abbrev gone : machine.Thread → machine.Thread
-  gone = moverIn (D .code) (keysOf (a .keys)) (h .learnt % 256 + a .new)
+  gone = moverIn (D .expression) (keysOf (a .keys)) (h .learnt % 256 + a .new)
 
   abbrev olds : List machine.Thread
   olds = changeAt (D .placed) p gone
 
   few-objects : n .objects ≤ 32
-  few-objects = let x = rel .kept .objects-count in let y = reach .limits .counts .few-objects in omega arith
+  few-objects = let x = rel .kept .objects-count in let y = reach .roomy .objects32 in omega arith
 
   here : p < n .threads
   here = let x = rel .kept .threads-count in let y = inside (s .threads) p t there in omega arith
 
-  lands : Lands b (m .stack) (p * 33) (D .code) L
+  lands : Lands b (m .stack) (p * 33) (D .expression) L
   lands =
       let x = H .depth in
       let y = H .shallow in
       let e : h .depth % 33 ≡ h .depth = mod-eq-of-lt (omega arith) in
       landed b ws rs ok loaded (p * 33) (m .stack) (rel .sized) (omega arith) (H .stack) (H .held) (a .go) (h .depth % 33)
-      (omega arith) (omega arith) (D .code) (D .goes)
+      (omega arith) (omega arith) (D .expression) (D .goes)
 
   -- the second landing: nothing, or the new thread's
   record Second (young : Option machine.Thread) : Type 0 where
@@ -125,18 +125,19 @@ module _ {b ws rs : List ℕ} (loaded : Loaded b ws rs) {m : engine.Machine} {s 
       let e : n .threads % 9 ≡ n .threads = mod-eq-of-lt (omega arith) in
       let q : landOf 2100 ws rs (n .threads % 9 * 33) (L .stack) (youngGo h) 0 ≡ Y =
       ap (landed-young ws rs X L) (sym k) in
-      let lands′ : Lands b (L .stack) (n .threads * 33) (y .code) Y =
-      along (λ (E : Ended). Lands b (L .stack) (n .threads * 33) (y .code) E) q
-      (along (λ (c : ℕ). Lands b (L .stack) (c * 33) (y .code) (landOf 2100 ws rs (n .threads % 9 * 33) (L .stack) (youngGo h) 0)) e
-      (landed b ws rs ok loaded (n .threads % 9 * 33) (L .stack) (lands .sized) (omega arith) [] tt (youngGo h) 0 refl (omega arith) (y .code) goes)) in
+      let lands′ : Lands b (L .stack) (n .threads * 33) (y .expression) Y =
+      along (λ (E : Ended). Lands b (L .stack) (n .threads * 33) (y .expression) E) q
+      (along (λ (c : ℕ). Lands b (L .stack) (c * 33) (y .expression) (landOf 2100 ws rs (n .threads % 9 * 33) (L .stack) (youngGo h) 0)) e
+      (landed b ws rs ok loaded (n .threads % 9 * 33) (L .stack) (lands .sized) (omega arith) [] tt (youngGo h) 0 refl (omega arith) (y .expression) goes)) in
       record {
         sized = lands′ .sized;
         others = λ i l. lands′ .others i (inl l);
-        full = ap (λ (x : Bool). x && fullOf (Y .landed)) k ∙ found-full b (Y .landed .stage) Y (n .threads * 33) (y .code) (lands′ .found);
+        full = ap (λ (x : Bool). x && fullOf (Y .landed)) k ∙ found-full b (Y .landed .stage) Y (n .threads * 33) (y .expression) (lands′ .found);
         head = λ y′ z f.
             let same : y ≡ y′ = cc in
             along (λ (y′ : machine.Thread). Headed b (Y .stack) (n .threads * 33) (bornOf X (Y .landed)) y′) same
-            (let F = found-at b (Y .landed .stage) Y (n .threads * 33) (y .code) (lands′ .found) (ap (λ (x : Bool). x && fullOf (Y .landed)) (sym k) ∙ f) in
+            (let F = found-at b (Y .landed .stage) Y (n .threads * 33) (y .expression) (lands′ .found)
+            (ap (λ (x : Bool). x && fullOf (Y .landed)) (sym k) ∙ f) in
             record {
               stack = F .0;
               held = F .1;
@@ -154,7 +155,7 @@ module _ {b ws rs : List ℕ} (loaded : Loaded b ws rs) {m : engine.Machine} {s 
   -- ---- the room after the move
 
   size : length (D .placed) ≡ length (s .threads)
-  size = alike-length (s .threads) (D .placed) (D .alike)
+  size = relocated-length (s .threads) (D .placed) (D .relocated)
 
   -- the mover, in the place that it then has
   there′ : (u : machine.Thread) × (getElem? (D .placed) p ≡ some u)
@@ -166,9 +167,9 @@ module _ {b ws rs : List ℕ} (loaded : Loaded b ws rs) {m : engine.Machine} {s 
   same-self : t .self ≡ t′ .self
   unfolding t′
   same-self =
-      let (u, was, same) = alike-there (s .threads) (D .placed) p t′ (D .alike) (there′ .1) in
+      let (u, was, same) = was-there (s .threads) (D .placed) (D .relocated) p t′ (there′ .1) in
       let z : t ≡ u = cc in
-      ap (λ (x : machine.Thread). x .self) z ∙ same .self
+      ap (λ (x : machine.Thread). x .self) z ∙ ap (λ (x : machine.Thread). x .self) same
 
   mover-there : getElem? olds p ≡ some (gone t′)
   unfolding t′
@@ -177,8 +178,8 @@ module _ {b ws rs : List ℕ} (loaded : Loaded b ws rs) {m : engine.Machine} {s 
   two : Second (D .young)
   two = second (D .young) (D .born)
 
-  mover-full : fullOf (L .landed) ≡ ltb 32 (height (D .code))
-  mover-full = found-full b (L .landed .stage) L (p * 33) (D .code) (lands .found)
+  mover-full : fullOf (L .landed) ≡ ltb 32 (height (D .expression))
+  mover-full = found-full b (L .landed .stage) L (p * 33) (D .expression) (lands .found)
 
   pub deep-after : playing.noRoomAfter s p (v .state) ≡ cond (fullOf (L .landed) || youngFull) (some rooms.Room.depth) none
   unfolding playing.noRoomAfter
@@ -225,7 +226,7 @@ module _ {b ws rs : List ℕ} (loaded : Loaded b ws rs) {m : engine.Machine} {s 
   -- its frames are as they were, or as the first landing left them
   mover-headed : fullOf (L .landed) ≡ false → Headed b (Y .stack) (p * 33) (moverOf X a (L .landed)) (gone t′)
   mover-headed f =
-      let F = found-at b (L .landed .stage) L (p * 33) (D .code) (lands .found) f in
+      let F = found-at b (L .landed .stage) L (p * 33) (D .expression) (lands .found) f in
       let sh = F .3 in
       let l = here in
       record {
@@ -283,9 +284,10 @@ module _ {b ws rs : List ℕ} (loaded : Loaded b ws rs) {m : engine.Machine} {s 
               (along (λ (h : Head). Headed b (Y .stack) (p * 33) h (gone t′)) (sym head-mover) (mover-headed fl)))
           at (no e) =
               let g₁ = sym (change-other (D .placed) p gone q (λ x. e (sym x))) ∙ g in
-              let (v, g₂, same) = alike-there (s .threads) (D .placed) q u (D .alike) g₁ in
+              let (v, g₂, same) = was-there (s .threads) (D .placed) (D .relocated) q u g₁ in
               let l : q < n .threads = (let x = rel .kept .threads-count in let y = inside (s .threads) q v g₂ in omega arith) in
-              along (λ (h : Head). Headed b (Y .stack) (q * 33) h u) (sym (head-other q e l)) (headed-same same (other-headed q v e g₂))
+              along (λ (h : Head). Headed b (Y .stack) (q * 33) h u) (sym (head-other q e l)) (along (Headed b (Y .stack) (q * 33) _) same
+              (headed-elsewhere _ (other-headed q v e g₂)))
 
       by : (young : Option machine.Thread) → D .young ≡ young → getElem? (withYoung olds young) q ≡ some u
           → Headed b (Y .stack) (q * 33) (headAt heads′ q) u

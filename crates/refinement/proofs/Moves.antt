@@ -13,6 +13,7 @@ use Rattle.packed.specs.Check.{refusal}
 use Rattle.rules.specs.Queue.{awake}
 use Rattle.rules.specs.State.{changeAt}
 use Rattle.rules.specs.Room as rooms
+use Rattle.rules.proofs.Relocated.{Relocated}
 use Rattle.machine.specs.Frames as frames
 use Rattle.machine.specs.Machine as machine
 use Rattle.machine.specs.Playing.{tableOf}
@@ -35,7 +36,6 @@ use Rattle.engine.specs.Machine.{headAt, cellNumber, metAt}
 use Rattle.refinement.proofs.Meant.{Goes}
 use Rattle.refinement.proofs.Queues.{placesOf, Places}
 use Rattle.refinement.proofs.States.{settingOf, Kept, Headed, Related}
-use Rattle.refinement.proofs.Alike.{Alike}
 use Rattle.refinement.proofs.Looks.{Entered}
 
 -- what there is no room for
@@ -52,7 +52,7 @@ withYoung xs (some y) = xs ++ (y ∷ [])
 
 -- a thread that has come to F, and knows the keys K, of which it has learnt this many
 abbrev pub moverIn : frames.Found → Keys → ℕ → machine.Thread → machine.Thread
-moverIn F K l x = record { self = x .self; code = F; keys = K; learnt = l; place = x .place }
+moverIn F K l x = record { self = x .self; expression = F; keys = K; learnt = l; place = x .place }
 
 -- thread p is there, in a state s that a run of the accepted plan b has reached and that the engine's state m stands for
 pub record Mover (b : List ℕ) (m : engine.Machine) (s : machine.State) (p : ℕ) : Type 0 where
@@ -70,21 +70,21 @@ module _ {b : List ℕ} {m : engine.Machine} {s : machine.State} {p : ℕ} (move
   Born r none = isPart part.Fork (r .part) ≡ false
   Born r (some y) =
       (isPart part.Fork (r .part) ≡ true) × (m .tally .counts .threads < 8) × (m .tally .counts .objects ≡ y .self) ×
-      (keysOf (headAt (m .heads) p .keys) ≡ y .keys) × (0 ≡ y .learnt) × (awake ≡ y .place) × Goes b (goRun (r .first) (r .environment)) [] (y .code)
+      (keysOf (headAt (m .heads) p .keys) ≡ y .keys) × (0 ≡ y .learnt) × (awake ≡ y .place) × Goes b (goRun (r .first) (r .environment)) [] (y .expression)
 
   -- the thread, at part r, makes the move v, for which there is room: a is what the code does, with cell i
   pub record Does (r : Ready) (i : ℕ) (a : Acted) (v : machine.Move) : Type 0 where
     pub lacks : playing.noRoomBefore s (v .rule) ≡ none
     pub entered : Entered p (a .entry) (v .entry)
-    pub code : frames.Found
-    pub goes : Goes b (a .go) (mover .headed .stack) code
+    pub expression : frames.Found
+    pub goes : Goes b (a .go) (mover .headed .stack) expression
     pub young : Option machine.Thread
     pub born : Born r young
     -- the threads, with the places that the move leaves them
     pub placed : List machine.Thread
-    pub alike : Alike (s .threads) placed
+    pub relocated : Relocated (s .threads) placed
     pub places : Places (afterOf (m .places) r p) (placesOf placed)
-    pub threads : v .state .threads ≡ withYoung (changeAt placed p (moverIn code (keysOf (a .keys)) (headAt (m .heads) p .learnt % 256 + a .new))) young
+    pub threads : v .state .threads ≡ withYoung (changeAt placed p (moverIn expression (keysOf (a .keys)) (headAt (m .heads) p .learnt % 256 + a .new))) young
     pub keys-fit : Fits (a .keys)
     pub kept : Kept (settingOf b) (set (m .cells) i (a .cell)) (set (m .objects) (m .tally .counts .objects) (a .thing)) (a .counts) (v .state)
 

@@ -17,11 +17,12 @@ use Rattle.records.specs.Record as records
 use Rattle.rules.specs.State.{changeAt}
 use Rattle.rules.specs.Rules.{Rule}
 use Rattle.rules.proofs.StateLaws.{inside, there as present}
+use Rattle.rules.proofs.Relocated.{Relocated, relocated-same, relocated-length, was-there}
 use Rattle.machine.specs.Frames as frames
 use Rattle.machine.specs.Machine as machine
 use Rattle.machine.specs.Playing.{tableOf}
 use Rattle.machine.specs.Playing as playing
-use Rattle.machine.proofs.Runs.{reached-total}
+use Rattle.machine.proofs.Runs.{reached-threads, reached-total}
 use Rattle.frames.specs.Parts.{Part as part, isPart}
 use Rattle.frames.specs.declared.go.Ready.{Ready}
 use Rattle.frames.specs.declared.go.Go.{Go}
@@ -37,7 +38,6 @@ use Rattle.engine.specs.Machine.{noCell, headAt}
 use Rattle.refinement.proofs.Meant.{Goes}
 use Rattle.refinement.proofs.Queues.{placesOf, Places, after-quiet}
 use Rattle.refinement.proofs.States.{settingOf, Kept, Headed, Related}
-use Rattle.refinement.proofs.Alike.{Alike, alike-same, alike-length, alike-there}
 use Rattle.refinement.proofs.KeptLaws.{kept-changed, kept-past, kept-same}
 use Rattle.refinement.proofs.Looks.{Written, Entered, attempt-act}
 use Rattle.refinement.proofs.Moves.{Mover, Does, Acts}
@@ -45,7 +45,7 @@ use Rattle.refinement.proofs.ChangeLaws.{change-agree, change-none, cha
 
 -- a thread that knows the keys K, of which it has learnt this many
 abbrev knowing : Keys → ℕ → machine.Thread → machine.Thread
-knowing K l x = record { self = x .self; code = x .code; keys = K; learnt = l; place = x .place }
+knowing K l x = record { self = x .self; expression = x .expression; keys = K; learnt = l; place = x .place }
 
 -- thread p's head, were r its part
 abbrev pub headFor : engine.Machine → ℕ → Ready → Head
@@ -71,7 +71,7 @@ module _ {b : List ℕ} {m : engine.Machine} {s : machine.State} {p : ℕ} (move
   ks = headAt (m .heads) p .keys
 
   -- what is ready is tried
-  pub attempts : {A : machine.Act} (R : frames.Ready) → t .code ≡ frames.Found.here S R → machine.act (tableOf b) s p t R ≡ A
+  pub attempts : {A : machine.Act} (R : frames.Ready) → t .expression ≡ frames.Found.here S R → machine.act (tableOf b) s p t R ≡ A
       → machine.attempt (tableOf b) s p ≡ machine.around (tableOf b) p S A
   attempts R e h = attempt-act (tableOf b) s p t there S R _ e h
 
@@ -86,24 +86,24 @@ module _ {b : List ℕ} {m : engine.Machine} {s : machine.State} {p : ℕ} (move
       sym e ∙ sym (mod-eq-of-lt (omega (arith, e, l)))
 
   -- what the mover knows, in whatever place
-  pub unlearnt-among : (xs : List machine.Thread) → Alike (s .threads) xs → xs ≡ changeAt xs p (knowing (keysOf ks) (total 0))
-  unlearnt-among xs alike =
-      let l = alike-length (s .threads) xs alike in
+  pub unlearnt-among : (xs : List machine.Thread) → Relocated (s .threads) xs → xs ≡ changeAt xs p (knowing (keysOf ks) (total 0))
+  unlearnt-among xs r =
+      let l = relocated-length (s .threads) xs r in
       let y = inside (s .threads) p t there in
       let (u, at) = present xs p (omega arith) in
-      let (v, was, same) = alike-there (s .threads) xs p u alike at in
+      let (v, was, same) = was-there (s .threads) xs r p u at in
       let z : v ≡ t = cc in
-      let K : u .keys ≡ keysOf ks = sym (same .keys) ∙ ap (λ (x : machine.Thread). x .keys) z ∙ sym known in
-      let L : u .learnt ≡ total 0 = sym (same .learnt) ∙ ap (λ (x : machine.Thread). x .learnt) z ∙ omega (arith, same-total) in
+      let K : u .keys ≡ keysOf ks = sym (ap (λ (x : machine.Thread). x .keys) same) ∙ ap (λ (x : machine.Thread). x .keys) z ∙ sym known in
+      let L : u .learnt ≡ total 0 = sym (ap (λ (x : machine.Thread). x .learnt) same) ∙ ap (λ (x : machine.Thread). x .learnt) z ∙ omega (arith, same-total) in
       sym (change-none xs p) ∙ change-agree xs p (λ x. x) (knowing (keysOf ks) (total 0)) u at (ap₂ (λ (K : Keys) (l : ℕ). knowing K l u) K L)
 
   pub unlearnt : s .threads ≡ changeAt (s .threads) p (knowing (keysOf ks) (total 0))
-  unlearnt = unlearnt-among (s .threads) (alike-same (s .threads))
+  unlearnt = unlearnt-among (s .threads) (relocated-same (s .threads))
 
   pub gained : (K L : Keys) (count : Keys → ℕ) (i : ℕ) → union K (t .keys) ≡ L → count (t .keys) ≡ i
       → changeAt (s .threads) p (λ x. record {
         self = x .self;
-        code = x .code;
+        expression = x .expression;
         keys = union K (x .keys);
         learnt = x .learnt + count (x .keys);
         place =
@@ -123,26 +123,27 @@ module _ {b : List ℕ} {m : engine.Machine} {s : machine.State} {p : ℕ} (move
   -- a move that forks no thread, and leaves these places
   pub moved-among : (xs : List machine.Thread) (r₀ : Ready) (i : ℕ) (R : Rule) (r : Option Record) (s′ : machine.State) (F : frames.Found) (g : Go)
       (n′ : Counts) (ks′ : KeySet) (new : ℕ) (c : Cell) (x : Object) (e : Entry)
-      → Alike (s .threads) xs → Places (afterOf (m .places) r₀ p) (placesOf xs)
+      → Relocated (s .threads) xs → Places (afterOf (m .places) r₀ p) (placesOf xs)
       → playing.noRoomBefore s R ≡ none → Entered p e r → isPart part.Fork (r₀ .part) ≡ false → Goes b g S F → Fits ks′
       → s′ .threads ≡ changeAt xs p (knowing (keysOf ks′) (total new)) → Kept (settingOf b) (set cs i c) (set ts (n .objects) x) n′ s′
       → Does mover r₀ i (record { go = g; keys = ks′; cell = c; thing = x; counts = n′; entry = e; new = new })
       (record { rule = R; entry = r; state = machine.become s′ p F })
   unfolding machine.become
-  moved-among xs r₀ i R r s′ F g n′ ks′ new c x e alike places lack ent forks goes fit threads kept = record {
+  moved-among xs r₀ i R r s′ F g n′ ks′ new c x e relocated places lack ent forks goes fit threads kept = record {
     lacks = lack;
     entered = ent;
-    code = F;
+    expression = F;
     goes = goes;
     young = none;
     born = forks;
     placed = xs;
-    alike = alike;
+    relocated = relocated;
     places = places;
     threads =
-        ap (λ (xs : List machine.Thread). changeAt xs p (λ x. record { self = x .self; code = F; keys = x .keys; learnt = x .learnt; place = x .place }))
+        ap (λ (xs : List machine.Thread). changeAt xs p (λ x. record { self = x .self; expression = F; keys = x .keys; learnt = x .learnt; place = x .place }))
         threads
-        ∙ change-twice xs p (knowing (keysOf ks′) (total new)) (λ x. record { self = x .self; code = F; keys = x .keys; learnt = x .learnt; place = x .place });
+        ∙ change-twice xs p (knowing (keysOf ks′) (total new))
+        (λ x. record { self = x .self; expression = F; keys = x .keys; learnt = x .learnt; place = x .place });
     keys-fit = fit;
     kept = kept-changed kept p _ (λ x. refl);
   }
@@ -155,7 +156,7 @@ module _ {b : List ℕ} {m : engine.Machine} {s : machine.State} {p : ℕ} (move
       → Does mover r₀ i (record { go = g; keys = ks′; cell = c; thing = x; counts = n′; entry = e; new = new })
       (record { rule = R; entry = r; state = machine.become s′ p F })
   moved r₀ i R r s′ F g n′ ks′ new c x e lack ent forks signals goes fit threads kept =
-      moved-among (s .threads) r₀ i R r s′ F g n′ ks′ new c x e (alike-same (s .threads))
+      moved-among (s .threads) r₀ i R r s′ F g n′ ks′ new c x e (relocated-same (s .threads))
       (along (λ (ws : List ℕ). Places ws (placesOf (s .threads))) (sym (after-quiet (m .places) r₀ p signals)) (mover .related .places)) lack ent forks goes
       fit threads kept
 
@@ -167,7 +168,7 @@ module _ {b : List ℕ} {m : engine.Machine} {s : machine.State} {p : ℕ} (move
       moved r₀ i R none s F g n ks 0 (getD cs i noCell) nothing noEntry lack refl forks signals goes fits unlearnt (kept-past (kept-same k i) nothing)
 
   pub few-threads : n .threads ≤ 8
-  few-threads = let a = k .threads-count in let c = reach .limits .counts .few-threads in omega arith
+  few-threads = let a = k .threads-count in let c = reached-threads (tableOf b) reach in omega arith
 
   pub object-there : (o : ℕ) → o < length (s .objects) → o < n .objects
   object-there o h = let a = k .objects-count in omega arith

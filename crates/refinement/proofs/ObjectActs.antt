@@ -19,10 +19,11 @@ use Rattle.packed.specs.Trees.{nodeAt, programOf}
 use Rattle.records.specs.Record.{entry}
 use Rattle.records.specs.Record as records
 use Rattle.rules.specs.Queue.{awake}
-use Rattle.rules.specs.State.{changeAt}
+use Rattle.rules.specs.State.{freshObject, changeAt}
 use Rattle.rules.specs.Rules.{e-new, e-join}
 use Rattle.rules.specs.Step.{forJoin, notThread}
-use Rattle.rules.proofs.StateLaws.{inside, length-added}
+use Rattle.rules.proofs.StateLaws.{inside, length-added, found-thread}
+use Rattle.rules.proofs.Relocated.{relocated-same}
 use Rattle.machine.specs.Frames as frames
 use Rattle.machine.specs.Landing.{enter, up}
 use Rattle.machine.specs.Landing as land
@@ -51,8 +52,7 @@ use Rattle.engine.specs.Machine.{noCell, noThing, headAt}
 use Rattle.refinement.proofs.Meant.{closed, IsExpression}
 use Rattle.refinement.proofs.States.{settingOf, numberOf, Kept, Headed, Related}
 use Rattle.refinement.proofs.Tests.{test-true, test-false}
-use Rattle.refinement.proofs.Alike.{alike-same}
-use Rattle.refinement.proofs.ThreadNumbers.{Strange, strange-number, added-number, other-number, found-thread}
+use Rattle.refinement.proofs.ThreadNumbers.{Strange, strange-number, added-number, other-number}
 use Rattle.refinement.proofs.KeptLaws.{kept-changed, kept-past, kept-object, kept-same, no-fields, no-bit}
 use Rattle.refinement.proofs.Looks.{Written, MeetsBy, ready-there}
 use Rattle.refinement.proofs.Moves.{Mover, Acts, moverIn}
@@ -81,7 +81,7 @@ module _ {b : List ℕ} {m : engine.Machine} {s : machine.State} {p : ℕ} (move
       omega arith
 
   -- E-NEW
-  pub new-meets : (a b′ w environment i : ℕ) → Well S → eqb (maskBit a 0) 1 ≡ false → t .code ≡ frames.Found.here S (frames.Ready.new (fieldsFrom a 0 32))
+  pub new-meets : (a b′ w environment i : ℕ) → Well S → eqb (maskBit a 0) 1 ≡ false → t .expression ≡ frames.Found.here S (frames.Ready.new (fieldsFrom a 0 32))
       → MeetsBy sight.Ready p (readyOf part.New a b′ w environment) (machine.attempt (tableOf b) s p)
       (Acts mover (readyOf part.New a b′ w environment) i (actNew n (headFor m p (readyOf part.New a b′ w environment)) (getD cs i noCell) a))
   unfolding actNew machine.act machine.around machine.addObject playing.noRoomBefore land.go tableOf
@@ -92,7 +92,7 @@ module _ {b : List ℕ} {m : engine.Machine} {s : machine.State} {p : ℕ} (move
 
       kept : n .objects < 32
           → Kept (settingOf b) (set cs i (getD cs i noCell)) (set ts (n .objects) (record { mask = a; thread = 8 }))
-          (countsOf (n .threads) (n .objects + 1) (n .keys)) (machine.addObject s (fieldsFrom a 0 32))
+          (countsOf (n .threads) (n .objects + 1) (n .keys)) (machine.addObject s (freshObject (fieldsFrom a 0 32)))
       kept h =
           kept-object (kept-same k i) (record { mask = a; thread = 8 }) (s .threads) (n .threads) h out (k .threads-count) (λ o l. refl)
           (ap numberOf (sym (strange-number (s .threads) 0 (n .objects) strange)))
@@ -101,7 +101,7 @@ module _ {b : List ℕ} {m : engine.Machine} {s : machine.State} {p : ℕ} (move
       acted = attempts mover (frames.Ready.new (fieldsFrom a 0 32)) code refl
 
       by : (x : Bool) → leb 32 (n .objects) ≡ x
-          → (v : machine.Move) × (machine.attempt (tableOf b) s p ≡ machine.Attempt.moves v)
+          → (v : machine.Move) × (machine.attempt (tableOf b) s p ≡ machine.moves v)
           × Acts mover (readyOf part.New a b′ w environment) i (cond x
           (act.NoRoom room.Object)
           (act.Done (record {
@@ -118,7 +118,7 @@ module _ {b : List ℕ} {m : engine.Machine} {s : machine.State} {p : ℕ} (move
           let h : n .objects < 32 = leb-false 32 (n .objects) e in (
             _,
             acted,
-            moved mover _ i e-new (some (entry records.Kind.new p (length (s .objects)) 0 0)) (machine.addObject s (fieldsFrom a 0 32))
+            moved mover _ i e-new (some (entry records.Kind.new p (length (s .objects)) 0 0)) (machine.addObject s (freshObject (fieldsFrom a 0 32)))
                 (up (nodeAt b) (terms b) S (length (s .objects))) (goValue (n .objects))
                 (countsOf (n .threads) (n .objects + 1) (n .keys)) ks 0 (getD cs i noCell) (record { mask = a; thread = 8 })
                 (entryOf (records.kindNumber records.Kind.new) (n .objects) 0 0)
@@ -129,7 +129,7 @@ module _ {b : List ℕ} {m : engine.Machine} {s : machine.State} {p : ℕ} (move
           )
 
   -- E-FORK
-  pub fork-meets : (u b′ w environment i : ℕ) → Well S → IsExpression b u → t .code ≡ frames.Found.here S (frames.Ready.fork (closed u environment))
+  pub fork-meets : (u b′ w environment i : ℕ) → Well S → IsExpression b u → t .expression ≡ frames.Found.here S (frames.Ready.fork (closed u environment))
       → MeetsBy sight.Ready p (readyOf part.Fork u b′ w environment) (machine.attempt (tableOf b) s p)
       (Acts mover (readyOf part.Fork u b′ w environment) i (actFork n (headFor m p (readyOf part.Fork u b′ w environment)) (getD cs i noCell)))
   unfolding afterOf actFork machine.act machine.around machine.addObject machine.addThread machine.become playing.noRoomBefore land.go tableOf
@@ -142,13 +142,13 @@ module _ {b : List ℕ} {m : engine.Machine} {s : machine.State} {p : ℕ} (move
       count-threads = k .threads-count
 
       y : machine.Thread
-      y = record { self = length (s .objects); code = enter (nodeAt b) (terms b) [] (closed u environment); keys = t .keys; learnt = 0; place = awake }
+      y = record { self = length (s .objects); expression = enter (nodeAt b) (terms b) [] (closed u environment); keys = t .keys; learnt = 0; place = awake }
 
       x : Object
       x = record { mask = 0; thread = n .threads }
 
       s′ : machine.State
-      s′ = machine.addThread (machine.addObject s []) y
+      s′ = machine.addThread (machine.addObject s (freshObject [])) y
 
       F : frames.Found
       F = up (nodeAt b) (terms b) S (length (s .objects))
@@ -164,7 +164,8 @@ module _ {b : List ℕ} {m : engine.Machine} {s : machine.State} {p : ℕ} (move
 
       kept : n .objects < 32 → Kept (settingOf b) (set cs i (getD cs i noCell)) (set ts (n .objects) x) n′ s′
       kept h =
-          along (λ (fs : List ℕ). Kept (settingOf b) (set cs i (getD cs i noCell)) (set ts (n .objects) x) n′ (machine.addThread (machine.addObject s fs) y))
+          along (λ (fs : List ℕ). Kept (settingOf b) (set cs i (getD cs i noCell)) (set ts (n .objects) x) n′
+          (machine.addThread (machine.addObject s (freshObject fs)) y))
           no-fields
           (kept-object (kept-same k i) x (s .threads ++ (y ∷ [])) (n .threads + 1) h no-bit (more (s .threads) y count-threads)
           (λ o l. other-number (s .threads) y 0 o (λ e. omega arith))
@@ -177,7 +178,7 @@ module _ {b : List ℕ} {m : engine.Machine} {s : machine.State} {p : ℕ} (move
       acted = attempts mover (frames.Ready.fork (closed u environment)) code refl
 
       by : (x₁ x₂ : Bool) → leb 8 (n .threads) ≡ x₁ → leb 32 (n .objects) ≡ x₂
-          → (v : machine.Move) × (machine.attempt (tableOf b) s p ≡ machine.Attempt.moves v)
+          → (v : machine.Move) × (machine.attempt (tableOf b) s p ≡ machine.moves v)
           × Acts mover (readyOf part.Fork u b′ w environment) i (cond x₁
           (act.NoRoom room.Thread)
           (cond x₂
@@ -217,12 +218,12 @@ module _ {b : List ℕ} {m : engine.Machine} {s : machine.State} {p : ℕ} (move
                 field-fits = omega arith;
                 value-fits = omega arith;
               };
-              code = F;
+              expression = F;
               goes = (well, h, ap (up (nodeAt b) (terms b) S) (sym count));
               young = some y;
               born = (refl, g, count, known, refl, refl, (tt, hu, refl));
               placed = s .threads;
-              alike = alike-same (s .threads);
+              relocated = relocated-same (s .threads);
               places = mover .related .places;
               threads = threads-after;
               keys-fit = fits;
@@ -231,7 +232,7 @@ module _ {b : List ℕ} {m : engine.Machine} {s : machine.State} {p : ℕ} (move
           )
 
   -- E-JOIN
-  pub join-meets : (o b′ w environment i j : ℕ) → j ≡ o → Well S → o < 32 → t .code ≡ frames.Found.here S (frames.Ready.join o)
+  pub join-meets : (o b′ w environment i j : ℕ) → j ≡ o → Well S → o < 32 → t .expression ≡ frames.Found.here S (frames.Ready.join o)
       → MeetsBy (lookJoin (getD ts j noThing) (getD l (getD ts j noThing .thread % 16) noHead .ready .part)) p (readyOf part.Join o b′ w environment)
       (machine.attempt (tableOf b) s p)
       (Acts mover (readyOf part.Join o b′ w environment) i
@@ -258,7 +259,7 @@ module _ {b : List ℕ} {m : engine.Machine} {s : machine.State} {p : ℕ} (move
       acted x e = attempts mover (frames.Ready.join o) code (ap (machine.joinAct s p o) e)
 
       finish : (q : machine.Numbered) (h : Head) (w₁ : Sight) → machine.threadOf 0 (s .threads) o ≡ some q → q .number < 8
-          → keysOf (h .keys) ≡ q .thread .keys → Fits (h .keys) → Ends (h .ready .part) (h .ready .first) (q .thread .code) → joinBy (h .ready .part) ≡ w₁
+          → keysOf (h .keys) ≡ q .thread .keys → Fits (h .keys) → Ends (h .ready .part) (h .ready .first) (q .thread .expression) → joinBy (h .ready .part) ≡ w₁
           → Sees w₁ (q .number) h
       finish q h w₁ e lt eq fit (inl (j, f, v)) e₁ =
           along (λ (w₁ : Sight). Sees w₁ (q .number) h) (sym j ∙ e₁) (
@@ -279,13 +280,13 @@ module _ {b : List ℕ} {m : engine.Machine} {s : machine.State} {p : ℕ} (move
           along (λ (w₁ : Sight). Sees w₁ (q .number) h) (sym j ∙ e₁)
           (acted (some q) e
           ∙ ap (λ (v : Option ℕ). machine.around (tableOf b) p S (machine.joinValue s p o q v)) f
-          ∙ ap (λ (o : ℕ). machine.Attempt.waiting (forJoin o)) (sym (mod-eq-of-lt ho)))
+          ∙ ap (λ (o : ℕ). machine.waiting (forJoin o)) (sym (mod-eq-of-lt ho)))
 
       by : (x : Option machine.Numbered) → machine.threadOf 0 (s .threads) o ≡ x → getD ts j noThing .thread ≡ numberOf x
           → Goal (getD ts j noThing .thread) (getD l (getD ts j noThing .thread % 16) noHead)
       by none e num =
           along (λ (a : ℕ). Goal a (getD l (a % 16) noHead)) (sym num)
-          (acted none e ∙ ap (λ (o : ℕ). machine.Attempt.stuck (notThread o)) (sym (mod-eq-of-lt ho)))
+          (acted none e ∙ ap (λ (o : ℕ). machine.stuck (notThread o)) (sym (mod-eq-of-lt ho)))
       by (some q) e num =
           let f = found-thread (s .threads) 0 o q e in
           let f₁ : q .number ≡ f .0 = omega (arith, f .1) in
@@ -297,5 +298,5 @@ module _ {b : List ℕ} {m : engine.Machine} {s : machine.State} {p : ℕ} (move
           (along (λ (z : ℕ). Goal (q .number) (getD l z noHead)) (sym (mod-eq-of-lt {m = 16} (omega arith)))
           (along (λ (x : Bool). Sees (cond x (sight.Blocked block.Thread) (joinBy (headAt l (q .number) .ready .part))) (q .number) (headAt l (q .number)))
           (sym (lt-leb 8 (q .number) lt))
-          (finish q (headAt l (q .number)) _ e lt (H .keys) (H .keys-fit) (ends b (headAt l (q .number) .ready) (H .stack) (q .thread .code) (H .stands))
+          (finish q (headAt l (q .number)) _ e lt (H .keys) (H .keys-fit) (ends b (headAt l (q .number) .ready) (H .stack) (q .thread .expression) (H .stands))
           refl)))

@@ -48,14 +48,14 @@ use Rattle.refinement.proofs.Moved.{landed-young, left, deep-after, rel
 -- a stop with its last record
 abbrev pub StoppedBy : List ℕ → machine.State → ℕ → Stop → Entry → Type 0
 StoppedBy b s p stop.End x = ⊥
-StoppedBy b s p stop.Race x = (y : Record) × (playing.step (tableOf b) s p ≡ playing.Answer.race y) × Written p x y
-StoppedBy b s p (stop.NoRoom R) x = (playing.step (tableOf b) s p ≡ playing.Answer.noRoom (roomMeant R)) × (x .kind ≡ 0)
+StoppedBy b s p stop.Race x = (y : Record) × (playing.step (tableOf b) s p ≡ playing.race y) × Written p x y
+StoppedBy b s p (stop.NoRoom R) x = (playing.step (tableOf b) s p ≡ playing.noRoom (roomMeant R)) × (x .kind ≡ 0)
 
 -- what the code answers to a pick of thread p, leaving the frames k, is what the abstract machine answers
 abbrev pub AnsweredBy : List ℕ → engine.Machine → machine.State → ℕ → Answer → Stack → Type 0
-AnsweredBy b m s p answer.Passed k = (playing.step (tableOf b) s p ≡ playing.Answer.passed) × (k ≡ m .stack)
+AnsweredBy b m s p answer.Passed k = (playing.step (tableOf b) s p ≡ playing.passed) × (k ≡ m .stack)
 AnsweredBy b m s p (answer.Moved v) k =
-    (u : machine.Move) × (playing.step (tableOf b) s p ≡ playing.Answer.moved u) × Entered p (v .entry) (u .entry) × Related b (after m p v k) (u .state)
+    (u : machine.Move) × (playing.step (tableOf b) s p ≡ playing.moved u) × Entered p (v .entry) (u .entry) × Related b (after m p v k) (u .state)
 AnsweredBy b m s p (answer.Stopped e x) k = StoppedBy b s p e x
 
 abbrev pub By : List ℕ → engine.Machine → machine.State → ℕ → Picked → Type 0
@@ -63,7 +63,7 @@ By b m s p z = AnsweredBy b m s p (z .answer) (z .stack)
 
 -- a pick that is passed over
 passed-by : (b : List ℕ) (s : machine.State) (p : ℕ) (x : Block) (r : Ready) → BlockedBy x r (machine.attempt (tableOf b) s p)
-    → playing.step (tableOf b) s p ≡ playing.Answer.passed
+    → playing.step (tableOf b) s p ≡ playing.passed
 unfolding playing.step playing.answer
 passed-by b s p block.Finished r h = ap (playing.answer s p) h
 passed-by b s p block.Monitor r h = ap (playing.answer s p) h
@@ -75,7 +75,7 @@ passed-by b s p block.NotHeld r h = ap (playing.answer s p) h
 passed-by b s p block.NoRule r h = absurd h
 
 module _ {b ws rs : List ℕ} (loaded : Loaded b ws rs) {m : engine.Machine} {s : machine.State} {p : ℕ} (mover : Mover b m s p) {v : machine.Move}
-    (attempts : machine.attempt (tableOf b) s p ≡ machine.Attempt.moves v) where
+    (attempts : machine.attempt (tableOf b) s p ≡ machine.moves v) where
   abbrev r : Ready
   r = headAt (m .heads) p .ready
 

@@ -49,7 +49,7 @@ module _ {b : List ℕ} {m : engine.Machine} {s : machine.State} {p : ℕ} (move
 
   -- a part that leaves no record and changes nothing but where its thread stands
   pub pure-meets : (i : ℕ) (r : Ready) → isPart part.Fork (r .part) ≡ false → isPart part.Signal (r .part) ≡ false
-      → (x : frames.Result) (R : frames.Ready) (g : Go) → t .code ≡ frames.Found.here S R → Unlogged b R x
+      → (x : frames.Result) (R : frames.Ready) (g : Go) → t .expression ≡ frames.Found.here S R → Unlogged b R x
       → Goes b g S (land.go (nodeAt b) (terms b) S x)
       → MeetsBy sight.Ready p r (machine.attempt (tableOf b) s p) (Acts mover r i (actedOf g n ks (getD cs i noCell) noEntry))
   unfolding machine.around tableOf
@@ -57,13 +57,13 @@ module _ {b : List ℕ} {m : engine.Machine} {s : machine.State} {p : ℕ} (move
       (_, attempts mover R code (u .acts s p t), plain mover r i (u .rule) (land.go (nodeAt b) (terms b) S x) g forks signals (u .needs-no-room s) goes)
 
   pub condition-meets : (i : ℕ) (r : Ready) → isPart part.Fork (r .part) ≡ false → isPart part.Signal (r .part) ≡ false → (Q : frames.Readyᶜ) (g : Go)
-      → t .code ≡ frames.Found.hereᶜ S Q → playing.noRoomBefore s (machine.actᶜ (tableOf b) S Q .rule) ≡ none
-      → Goes b g S (machine.actᶜ (tableOf b) S Q .code)
+      → t .expression ≡ frames.Found.hereᶜ S Q → playing.noRoomBefore s (machine.actᶜ (tableOf b) S Q .rule) ≡ none
+      → Goes b g S (machine.actᶜ (tableOf b) S Q .expression)
       → MeetsBy sight.Ready p r (machine.attempt (tableOf b) s p) (Acts mover r i (actedOf g n ks (getD cs i noCell) noEntry))
   condition-meets i r forks signals Q g code lack goes = (
     _,
     attempt-condition (tableOf b) s p t there S Q code,
-    plain mover r i (machine.actᶜ (tableOf b) S Q .rule) (machine.actᶜ (tableOf b) S Q .code) g forks signals lack goes,
+    plain mover r i (machine.actᶜ (tableOf b) S Q .rule) (machine.actᶜ (tableOf b) S Q .expression) g forks signals lack goes,
   )
 
   -- a while, and the turn of its body
@@ -71,7 +71,7 @@ module _ {b : List ℕ} {m : engine.Machine} {s : machine.State} {p : ℕ} (move
   loops x y = let z = accepted b ok .few-terms in omega arith
 
   pub while-meets : (a b′ w environment i : ℕ) → Well S → IsCondition b a → IsExpression b b′
-      → t .code ≡ frames.Found.here S (frames.Ready.while (branches a b′ (slots environment)))
+      → t .expression ≡ frames.Found.here S (frames.Ready.while (branches a b′ (slots environment)))
       → MeetsBy sight.Ready p (readyOf part.While a b′ w environment) (machine.attempt (tableOf b) s p)
       (Acts mover (readyOf part.While a b′ w environment) i (actedOf (goWantCondition (framed kind.Test a b′ 0 environment) a) n ks (getD cs i noCell) noEntry))
   unfolding machine.act machine.around playing.noRoomBefore land.go tableOf
@@ -85,7 +85,7 @@ module _ {b : List ℕ} {m : engine.Machine} {s : machine.State} {p : ℕ} (move
       )
 
   pub body-meets : (a b′ w environment i : ℕ) → Well S → IsCondition b a → IsExpression b b′
-      → t .code ≡ frames.Found.here S (frames.Ready.whileTest true (branches a b′ (slots environment)))
+      → t .expression ≡ frames.Found.here S (frames.Ready.whileTest true (branches a b′ (slots environment)))
       → MeetsBy sight.Ready p (readyOf part.Body a b′ w environment) (machine.attempt (tableOf b) s p)
       (Acts mover (readyOf part.Body a b′ w environment) i (actedOf (goWant (framed kind.Body a b′ 0 environment) b′) n ks (getD cs i noCell) noEntry))
   unfolding machine.act machine.around playing.noRoomBefore land.go tableOf

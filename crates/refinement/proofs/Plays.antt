@@ -218,7 +218,7 @@ module _ (b ws rs : List ℕ) (ok : refusal b ≡ none) (loaded : Loaded b ws rs
         (onAnswer z (playOf ws rs (settingOf b) (stayed m k) ps (i + 1)) (λ v. playOf ws rs (settingOf b) (after m p v k) ps (i + 1))
         (λ e x. stopped (settingOf b) m p x e i)) R L
 
-    passed-plays : (k : Stack) → k ≡ m .stack → Plays answer.Passed k (playing.resume s goOn playing.Answer.passed) (recorded playing.Answer.passed)
+    passed-plays : (k : Stack) → k ≡ m .stack → Plays answer.Passed k (playing.resume s goOn playing.passed) (recorded playing.passed)
     unfolding playing.resume playing.afterPass recordsBy
     passed-plays k e =
         let same : Related b (stayed m (m .stack)) s =
@@ -243,9 +243,9 @@ module _ (b ws rs : List ℕ) (ok : refusal b ≡ none) (loaded : Loaded b ws rs
           area = r .area;
         }
 
-    moved-plays : (v : Move) (k : Stack) (u : machine.Move) → playing.step (tableOf b) s p ≡ playing.Answer.moved u → Entered p (v .entry) (u .entry)
+    moved-plays : (v : Move) (k : Stack) (u : machine.Move) → playing.step (tableOf b) s p ≡ playing.moved u → Entered p (v .entry) (u .entry)
         → Related b (after m p v k) (u .state)
-        → Plays (answer.Moved v) k (playing.resume s goOn (playing.Answer.moved u)) (recorded (playing.Answer.moved u))
+        → Plays (answer.Moved v) k (playing.resume s goOn (playing.moved u)) (recorded (playing.moved u))
     unfolding playing.resume playing.afterMove recordsBy
     moved-plays v k u e entered rel′ =
         let x : Entry = shownEntry (m .every) (v .entry) in
@@ -266,7 +266,7 @@ module _ (b ws rs : List ℕ) (ok : refusal b ≡ none) (loaded : Loaded b ws rs
         }
 
     race-plays : (x : Entry) (y : Record) (k : Stack) → Written p x y
-        → Plays (answer.Stopped stop.Race x) k (playing.resume s goOn (playing.Answer.race y)) (recorded (playing.Answer.race y))
+        → Plays (answer.Stopped stop.Race x) k (playing.resume s goOn (playing.race y)) (recorded (playing.race y))
     unfolding playing.resume playing.stopped recordsBy
     race-plays x y k written = record {
       stop = refl;
@@ -279,8 +279,8 @@ module _ (b ws rs : List ℕ) (ok : refusal b ≡ none) (loaded : Loaded b ws rs
     }
 
     full-plays : (x : Entry) (R : NoRoom) (k : Stack) → x .kind ≡ 0
-        → Plays (answer.Stopped (stop.NoRoom R) x) k (playing.resume s goOn (playing.Answer.noRoom (roomMeant R)))
-        (recorded (playing.Answer.noRoom (roomMeant R)))
+        → Plays (answer.Stopped (stop.NoRoom R) x) k (playing.resume s goOn (playing.noRoom (roomMeant R)))
+        (recorded (playing.noRoom (roomMeant R)))
     unfolding playing.resume playing.stopped recordsBy
     full-plays x R k none-written =
         let q = put-none (m .log) (m .tally .records) p x none-written in

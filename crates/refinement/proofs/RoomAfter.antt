@@ -19,7 +19,7 @@ use Rattle.refinement.proofs.Moves.{withYoung}
 
 -- the step of a move, by what it lacks
 pub step-moves : (b : List ℕ) (s : machine.State) (p : ℕ) (v : machine.Move) (x y : Option rooms.Room)
-    → machine.attempt (tableOf b) s p ≡ machine.Attempt.moves v
+    → machine.attempt (tableOf b) s p ≡ machine.moves v
     → playing.noRoomBefore s (v .rule) ≡ x → playing.noRoomAfter s p (v .state) ≡ y → playing.step (tableOf b) s p ≡ playing.withinRoom v (orElse x y)
 unfolding playing.step playing.answer playing.noRoomFor
 step-moves b s p v x y e h k = ap (playing.answer s p) e ∙ ap₂ (λ (x y : Option rooms.Room). playing.withinRoom v (orElse x y)) h k
@@ -27,12 +27,12 @@ step-moves b s p v x y e h k = ap (playing.answer s p) e ∙ ap₂ (λ (x y : Op
 -- whether a new thread has too many frames
 abbrev pub youngDeep : Option machine.Thread → Bool
 youngDeep none = false
-youngDeep (some y) = ltb 32 (height (y .code))
+youngDeep (some y) = ltb 32 (height (y .expression))
 
 -- the room after a move, with n threads before it
 pub room-after : (xs : List machine.Thread) (young : Option machine.Thread) (u : machine.Thread) (p n : ℕ) → length xs ≡ n → getElem? xs p ≡ some u
     → cond (playing.deepAt (getElem? (withYoung xs young) p) || playing.anyDeep (drop n (withYoung xs young))) (some rooms.Room.depth) none
-    ≡ cond (ltb 32 (height (u .code)) || youngDeep young) (some rooms.Room.depth) none
+    ≡ cond (ltb 32 (height (u .expression)) || youngDeep young) (some rooms.Room.depth) none
 unfolding playing.deepAt playing.deep playing.anyDeep
 room-after xs none u p n l e =
     ap₂ (λ (x : Option machine.Thread) (ys : List machine.Thread). cond (playing.deepAt x || playing.anyDeep ys) (some rooms.Room.depth) none) e
@@ -40,4 +40,4 @@ room-after xs none u p n l e =
 room-after xs (some y) u p n l e =
     ap₂ (λ (x : Option machine.Thread) (ys : List machine.Thread). cond (playing.deepAt x || playing.anyDeep ys) (some rooms.Room.depth) none)
     (added-old xs y p (inside xs p u e) ∙ e) (ap (λ (n : ℕ). drop n (xs ++ (y ∷ []))) (sym l) ∙ drop-append-seam xs (y ∷ []))
-    ∙ ap (λ (x : Bool). cond (ltb 32 (height (u .code)) || x) (some rooms.Room.depth) none) (or-false (ltb 32 (height (y .code))))
+    ∙ ap (λ (x : Bool). cond (ltb 32 (height (u .expression)) || x) (some rooms.Room.depth) none) (or-false (ltb 32 (height (y .expression))))

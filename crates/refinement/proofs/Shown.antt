@@ -42,10 +42,10 @@ entered-shown true p e (some r) b w = rw (ne-eqb (e .kind) 0 (λ z. let k = kind
 
 -- the records from a pick's answer on, where k are those after it
 unfoldable pub recordsBy : Bool → machine.State → (machine.State → List Record) → ℕ → playing.Answer → List Record
-recordsBy every s k p playing.Answer.passed = k s
-recordsBy every s k p (playing.Answer.race r) = r ∷ []
-recordsBy every s k p (playing.Answer.noRoom w) = []
-recordsBy every s k p (playing.Answer.moved m) = logged (shownIn every p (m .entry)) (k (m .state))
+recordsBy every s k p playing.passed = k s
+recordsBy every s k p (playing.race r) = r ∷ []
+recordsBy every s k p (playing.noRoom w) = []
+recordsBy every s k p (playing.moved m) = logged (shownIn every p (m .entry)) (k (m .state))
 
 unfoldable pub recordsFrom : Bool → machine.Table → machine.State → List ℕ → List Record
 unfolding recordsBy playing.step
@@ -60,7 +60,7 @@ records-log table (p ∷ ps) s = by (playing.step table s p) (λ s′. records-l
   where
     by : (a : playing.Answer) → ((s′ : machine.State) → recordsFrom false table s′ ps ≡ playing.run table s′ ps .log)
         → recordsBy false s (λ s′. recordsFrom false table s′ ps) p a ≡ playing.resume s (λ s′. playing.run table s′ ps) a .log
-    by playing.Answer.passed ih = ih s
-    by (playing.Answer.race r) ih = refl
-    by (playing.Answer.noRoom w) ih = refl
-    by (playing.Answer.moved m) ih = ap (logged (m .entry)) (ih (m .state))
+    by playing.passed ih = ih s
+    by (playing.race r) ih = refl
+    by (playing.noRoom w) ih = refl
+    by (playing.moved m) ih = ap (logged (m .entry)) (ih (m .state))

@@ -23,6 +23,7 @@ use Rattle.rules.specs.State as rules
 use Rattle.rules.specs.Rules.{Rule, e-wait, e-wake, e-notify, e-notifyall}
 use Rattle.rules.specs.Step.{forMonitor, forNotify, notHeld}
 use Rattle.rules.proofs.StateLaws.{inside}
+use Rattle.rules.proofs.Relocated.{Relocated, changed-place, mapped-places}
 use Rattle.machine.specs.Frames as frames
 use Rattle.machine.specs.Landing.{up}
 use Rattle.machine.specs.Landing as land
@@ -47,7 +48,6 @@ use Rattle.engine.specs.Machine.{noCell, headAt}
 use Rattle.refinement.proofs.Meant.{signalMeant}
 use Rattle.refinement.proofs.Queues.{placesOf, Places, place-there, waited, notified, all-notified}
 use Rattle.refinement.proofs.States.{cellMeant, CellFits, Headed, Related}
-use Rattle.refinement.proofs.Alike.{Alike, alike-map, alike-change}
 use Rattle.refinement.proofs.Tests.{test-true, test-false}
 use Rattle.refinement.proofs.KeptLaws.{kept-changed, kept-mapped, kept-past, kept-same}
 use Rattle.refinement.proofs.Looks.{MeetsBy, monitor-bit, monitor-cell, ready-there}
@@ -95,7 +95,7 @@ module _ {b : List ℕ} {m : engine.Machine} {s : machine.State} {p : ℕ} (move
   -- ---- E-WAIT, E-NOTIFY, E-NOTIFYALL
 
   module _ (o j w environment i : ℕ) (ei : i ≡ o * 32 + 0) (well : Well S) (ho : o < 32)
-      (code : t .code ≡ frames.Found.here S (frames.Ready.signal (signalMeant j) o)) where
+      (code : t .expression ≡ frames.Found.here S (frames.Ready.signal (signalMeant j) o)) where
     abbrev ready : Ready
     ready = readyOf part.Signal o j w environment
 
@@ -125,16 +125,16 @@ module _ {b : List ℕ} {m : engine.Machine} {s : machine.State} {p : ℕ} (move
     wait-acts : Held → eqb j 0 ≡ true → MeetsBy sight.Ready p ready (machine.attempt (tableOf b) s p) (Acts mover ready i (actWait n (headFor m p ready) o))
     unfolding waiters machine.signalMove machine.around machine.enqueue machine.storeMonitor playing.noRoomBefore land.go tableOf
     wait-acts h e =
-        let alike : Alike (s .threads) waiters = alike-change (s .threads) p _ (λ x. record { self = refl; code = refl; keys = refl; learnt = refl }) in (
+        let relocated : Relocated (s .threads) waiters = changed-place (s .threads) p _ in (
           _,
           attempts mover (frames.Ready.signal (signalMeant j) o) code (held Signal.wait (test-true (eqb j 0) _ _ e) h),
           moved-among mover waiters _ i e-wait (some (entry records.Kind.release p o 0 0))
               (machine.enqueue (machine.storeMonitor s o (rules.cell (t .keys) 0)) p o) (frames.Found.here S (frames.Ready.waiting o))
-              (goAt (readyOf part.Waiting o 0 0 0)) n ks 0 (cellOf 0 0 ks) nothing (entryOf (records.kindNumber records.Kind.release) o 0 0) alike
+              (goAt (readyOf part.Waiting o 0 0 0)) n ks 0 (cellOf 0 0 ks) nothing (entryOf (records.kindNumber records.Kind.release) o 0 0) relocated
               (along (λ (ws : List ℕ). Places ws (placesOf waiters)) (after-wait (m .places) o j w environment p ho e)
               (waited o p (m .places) (s .threads) _ ho (let l = places-size in omega (arith, small)) (inside (s .threads) p t there) (λ x. refl) places))
               refl (written mover records.Kind.release o 0 0 ho (omega arith) (omega arith)) refl (part.Waiting, refl, (well, ho, refl)) fits
-              (unlearnt-among mover waiters alike)
+              (unlearnt-among mover waiters relocated)
               (kept-changed (monitor-stored mover o i (cellOf 0 0 ks) _ ei (ap (λ (K : Keys). rules.cell K 0) known)
               (record { key = omega arith; keys = fits }) o-there ho) p _ (λ x. refl)),
         )
@@ -148,10 +148,10 @@ module _ {b : List ℕ} {m : engine.Machine} {s : machine.State} {p : ℕ} (move
         (record { rule = R; entry = none; state = machine.become (machine.signalled h s o) p (up (nodeAt b) (terms b) S 0) })
     unfolding woken machine.signalled
     notify-does h R lack after =
-        let alike : Alike (s .threads) (woken h) = alike-map (s .threads) _ (λ x. record { self = refl; code = refl; keys = refl; learnt = refl }) in
+        let relocated : Relocated (s .threads) (woken h) = mapped-places _ (s .threads) in
         moved-among mover (woken h) _ i R none (machine.signalled h s o) (up (nodeAt b) (terms b) S 0)
-        (goValue 0) n ks 0 c nothing noEntry alike after lack refl refl
-        (well, omega arith, refl) fits (unlearnt-among mover (woken h) alike) (kept-mapped (kept-past (kept-same k i) nothing) _ (λ x. refl))
+        (goValue 0) n ks 0 c nothing noEntry relocated after lack refl refl
+        (well, omega arith, refl) fits (unlearnt-among mover (woken h) relocated) (kept-mapped (kept-past (kept-same k i) nothing) _ (λ x. refl))
 
     notify-acts : Held → eqb j 0 ≡ false → (y : Bool) → eqb j 1 ≡ y
         → MeetsBy sight.Ready p ready (machine.attempt (tableOf b) s p) (Acts mover ready i (actedOf (goValue 0) n ks c noEntry))
@@ -176,11 +176,11 @@ module _ {b : List ℕ} {m : engine.Machine} {s : machine.State} {p : ℕ} (move
     unfolding objectBy lookSignal actSignal machine.signalAct machine.around
     signal-meets = by (isEmptyOf (c .keys)) (eqb (c .value) self) (eqb j 0) (sym (keys-is-empty (c .keys))) (ap (eqb (c .value)) (sym same)) refl
       where
-        not-held : machine.signalAct s p t (signalMeant j) o (cellMeant true c) ≡ machine.Act.sticks (notHeld o)
-            → machine.attempt (tableOf b) s p ≡ machine.Attempt.stuck (notHeld (o % 32))
+        not-held : machine.signalAct s p t (signalMeant j) o (cellMeant true c) ≡ machine.sticks (notHeld o)
+            → machine.attempt (tableOf b) s p ≡ machine.stuck (notHeld (o % 32))
         not-held e =
             attempts mover (frames.Ready.signal (signalMeant j) o) code (found ∙ e)
-            ∙ ap (λ (o : ℕ). machine.Attempt.stuck (notHeld o)) (sym (mod-eq-of-lt ho))
+            ∙ ap (λ (o : ℕ). machine.stuck (notHeld o)) (sym (mod-eq-of-lt ho))
 
         by : (x y z : Bool) → isEmpty (keysOf (c .keys)) ≡ x → eqb (c .value) (t .self) ≡ y → eqb j 0 ≡ z
             → MeetsBy (cond x (cond y sight.Ready (sight.Blocked block.NotHeld)) (sight.Blocked block.NotHeld)) p ready (machine.attempt (tableOf b) s p)
@@ -192,7 +192,7 @@ module _ {b : List ℕ} {m : engine.Machine} {s : machine.State} {p : ℕ} (move
 
   -- ---- E-WAKE
 
-  pub wake-meets : (o u w environment i : ℕ) → i ≡ o * 32 + 0 → Well S → o < 32 → t .code ≡ frames.Found.here S (frames.Ready.waiting o)
+  pub wake-meets : (o u w environment i : ℕ) → i ≡ o * 32 + 0 → Well S → o < 32 → t .expression ≡ frames.Found.here S (frames.Ready.waiting o)
       → MeetsBy (lookWaiting (getD cs i noCell) (getD (m .places) p 0)) p (readyOf part.Waiting o u w environment) (machine.attempt (tableOf b) s p)
       (Acts mover (readyOf part.Waiting o u w environment) i (actWake n (headFor m p (readyOf part.Waiting o u w environment)) (getD cs i noCell) o))
   unfolding objectBy fieldBy lookWaiting machine.act machine.wakeAct machine.around machine.gain machine.storeMonitor playing.noRoomBefore land.go tableOf
@@ -216,7 +216,7 @@ module _ {b : List ℕ} {m : engine.Machine} {s : machine.State} {p : ℕ} (move
       found = monitor-cell k o (monitor-bit b ok) o-there ho ∙ ap (λ (i : ℕ). cellMeant true (getD cs i noCell)) (sym ei)
 
       self-fits : t .self < 32
-      self-fits = let z = standing (tableOf b) (programOf b) s p t reach there .self-there in let l = reach .limits .counts .few-objects in omega arith
+      self-fits = let z = standing (tableOf b) (programOf b) s p t reach there .self-there in let l = reach .roomy .objects32 in omega arith
 
       c′ : Cell
       c′ = cellOf self 0 emptySet
@@ -229,10 +229,10 @@ module _ {b : List ℕ} {m : engine.Machine} {s : machine.State} {p : ℕ} (move
           (Acts mover r i (heardOf (goValue 0) n (joinedOf ks (c .keys)) c′ (entryOf (records.kindNumber records.Kind.acquire) o 0 0)))
       by (suc N) x e q =
           rw (eqb·suc-zero N)
-          (attempts mover (frames.Ready.waiting o) code (acted (suc N) e) ∙ ap (λ (o : ℕ). machine.Attempt.waiting (forNotify o)) (sym (mod-eq-of-lt ho)))
+          (attempts mover (frames.Ready.waiting o) code (acted (suc N) e) ∙ ap (λ (o : ℕ). machine.waiting (forNotify o)) (sym (mod-eq-of-lt ho)))
       by zero true e q =
           attempts mover (frames.Ready.waiting o) code (acted 0 e ∙ test-true (isEmpty (keysOf (c .keys))) _ _ q)
-          ∙ ap (λ (o : ℕ). machine.Attempt.waiting (forMonitor o)) (sym (mod-eq-of-lt ho))
+          ∙ ap (λ (o : ℕ). machine.waiting (forMonitor o)) (sym (mod-eq-of-lt ho))
       by zero false e q = (
         _,
         attempts mover (frames.Ready.waiting o) code (acted 0 e ∙ test-false (isEmpty (keysOf (c .keys))) _ _ q),

@@ -93,7 +93,7 @@ module _ (b ws rs : List ℕ) (ok : refusal b ≡ none) (loaded : Loaded b ws rs
         record {
           rule = e-call;
           needs-no-room = λ s. refl;
-          acts = λ s p t. ap₂ (λ (t : ℕ) (ρ : Slots). machine.Act.does e-call none s (frames.Result.run (closure t ρ))) main-root (sym none-bound);
+          acts = λ s p t. ap₂ (λ (t : ℕ) (ρ : Slots). machine.does e-call none s (frames.Result.run (closure t ρ))) main-root (sym none-bound);
         },
       ),
     ),
@@ -101,7 +101,7 @@ module _ (b ws rs : List ℕ) (ok : refusal b ≡ none) (loaded : Loaded b ws rs
 
   start-headed : (k : Stack)
       → Headed b k (0 * 33) (headOf (getD rs 0 0))
-      (record { self = 0; code = frames.Found.here [] (frames.Ready.call 0 0 noSlots); keys = singleton 0; learnt = 0; place = awake })
+      (record { self = 0; expression = frames.Found.here [] (frames.Ready.call 0 0 noSlots); keys = singleton 0; learnt = 0; place = awake })
   start-headed k = record {
     stack = [];
     held = tt;
@@ -119,7 +119,7 @@ module _ (b ws rs : List ℕ) (ok : refusal b ≡ none) (loaded : Loaded b ws rs
       → Headed b (startOf every rs area .stack) (p * 33) (headAt (startOf every rs area .heads) p) t
   unfolding startOf playing.start
   start-each every area zero t h =
-      let e : record { self = 0; code = frames.Found.here [] (frames.Ready.call 0 0 noSlots); keys = singleton 0; learnt = 0; place = awake } ≡ t = cc in
+      let e : record { self = 0; expression = frames.Found.here [] (frames.Ready.call 0 0 noSlots); keys = singleton 0; learnt = 0; place = awake } ≡ t = cc in
       along (λ (t : machine.Thread). Headed b (startOf every rs area .stack) (0 * 33) (headAt (startOf every rs area .heads) 0) t) e
       (start-headed (startOf every rs area .stack))
   start-each every area (suc p) t h = absurd (Option·none-ne-some t h)

@@ -10,6 +10,7 @@ use Rattle.keys.specs.Keys.{singleton}
 use Rattle.keys.specs.KeySet.{keysOf}
 use Rattle.keys.proofs.KeySetLaws.{Fits}
 use Rattle.packed.specs.Format.{version, volatiles}
+use Rattle.rules.specs.Queue.{Place}
 use Rattle.rules.specs.State.{fresh}
 use Rattle.rules.specs.State as rules
 use Rattle.machine.specs.Frames as frames
@@ -73,11 +74,26 @@ pub record Headed (b : List ℕ) (k : Stack) (base : ℕ) (h : Head) (t : machin
   pub held : Holds b k base stack
   pub depth : h .depth ≡ length stack
   pub shallow : length stack ≤ 32
-  pub stands : Stands b (h .ready) stack (t .code)
+  pub stands : Stands b (h .ready) stack (t .expression)
   pub object : h .object ≡ t .self
   pub keys : keysOf (h .keys) ≡ t .keys
   pub keys-fit : Fits (h .keys)
   pub learnt : h .learnt ≡ t .learnt
+
+-- it says nothing of the thread's place
+pub headed-elsewhere : {b : List ℕ} {k : Stack} {base : ℕ} {h : Head} {t : machine.Thread} (w : Place) → Headed b k base h t
+    → Headed b k base h (machine.inPlace w t)
+headed-elsewhere w H = record {
+  stack = H .stack;
+  held = H .held;
+  depth = H .depth;
+  shallow = H .shallow;
+  stands = H .stands;
+  object = H .object;
+  keys = H .keys;
+  keys-fit = H .keys-fit;
+  learnt = H .learnt;
+}
 
 -- the engine's state m stands for s, on plan b
 pub record Related (b : List ℕ) (m : engine.Machine) (s : machine.State) : Type 0 where

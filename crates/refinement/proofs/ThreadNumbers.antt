@@ -4,7 +4,7 @@ use native.Mathlib.Omega.{arith}
 use mathlib.Core.Path.{_≡_, refl, ap, _∙_}
 use mathlib.Core.Bool.{Bool, true, false, cond}
 use mathlib.Core.List.{List, [], _∷_, _++_, map}
-use mathlib.Core.Option.{some, none, Option·none-ne-some}
+use mathlib.Core.Option.{some, none}
 use lib.Dec.{eqb}
 use lib.ListN.{length, getElem?}
 use borrow.Author.Tests.{eq-eqb, ne-eqb}
@@ -79,19 +79,3 @@ other-number (y ∷ xs) x i o n = at (eqb (y .self) o) (other-number xs x (suc i
         (cond t (some (record { number = i; thread = y })) (machine.threadOf (suc i) xs o))
     at true q = refl
     at false q = q
-
--- the thread that a search found stands at its number
-pub found-thread : (xs : List machine.Thread) (i o : ℕ) (q : machine.Numbered) → machine.threadOf i xs o ≡ some q
-    → (j : ℕ) × (q .number ≡ i + j) × (getElem? xs j ≡ some (q .thread))
-unfolding machine.threadOf
-found-thread [] i o q h = absurd (Option·none-ne-some q h)
-found-thread (x ∷ xs) i o q h = go (eqb (x .self) o) h (found-thread xs (suc i) o q)
-  where
-    go : (b : Bool) → cond b (some (record { number = i; thread = x })) (machine.threadOf (suc i) xs o) ≡ some q
-        → (machine.threadOf (suc i) xs o ≡ some q → (j : ℕ) × (q .number ≡ suc i + j) × (getElem? xs j ≡ some (q .thread)))
-        → (j : ℕ) × (q .number ≡ i + j) × (getElem? (x ∷ xs) j ≡ some (q .thread))
-    go true h k =
-        let same : _≡_ {A = machine.Numbered} (record { number = i; thread = x }) q = cc in
-        let sn : i ≡ q .number = ap (λ (z : machine.Numbered). z .number) same in
-        (0, omega arith, ap (λ (z : machine.Numbered). some (z .thread)) same)
-    go false h k = let r = k h in (suc (r .0), omega (arith, r .1), r .2)

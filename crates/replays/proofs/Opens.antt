@@ -8,7 +8,7 @@ use lib.ListN.{getD}
 use Rattle.packed.specs.Syntax.{Program}
 use Rattle.packed.specs.Trees.{programOf}
 use Rattle.rules.specs.State.{State}
-use Rattle.rules.specs.Step.{Move, Attempt, attempt}
+use Rattle.rules.specs.Step.{Move, AttemptOf, Attempt, attempt}
 use Rattle.rules.specs.Room.{Room, noRoomFor, withinRoom, answer, step}
 use Rattle.rules.specs.Run as run
 use Rattle.rules.specs.Run.{Status, status, play}
@@ -51,12 +51,12 @@ within m (some k) = refl
 
 by-answer : (s : State) (p : ℕ) (a : Attempt) → openStatus (status a) ≡ movesOrStops (answer s p a)
 unfolding status answer movesOrStops
-by-answer s p Attempt.absent = refl
-by-answer s p (Attempt.finished v) = refl
-by-answer s p (Attempt.waiting w) = refl
-by-answer s p (Attempt.stuck r) = refl
-by-answer s p (Attempt.lacking r) = refl
-by-answer s p (Attempt.moves m) = sym (within m (noRoomFor (m .rule) s p (m .state)))
+by-answer s p AttemptOf.absent = refl
+by-answer s p (AttemptOf.finished v) = refl
+by-answer s p (AttemptOf.waiting w) = refl
+by-answer s p (AttemptOf.stuck r) = refl
+by-answer s p (AttemptOf.lacking r) = refl
+by-answer s p (AttemptOf.moves m) = sym (within m (noRoomFor (m .rule) s p (m .state)))
 
 goes-on : (e : Stop) → unstopped e ≡ goesOn (stopOf e)
 unfolding goesOn stopOf

@@ -4,7 +4,8 @@ use mathlib.Core.Path.{_≡_, refl}
 use mathlib.Core.List.{List, [], _∷_, map}
 use mathlib.Core.Option.{none}
 use Rattle.packed.specs.Syntax.{Expression, Condition, Signal, literal, end, argument}
-use Rattle.rules.specs.Context.{top, focus, depthOf}
+use Rattle.rules.specs.Context.{focus, depthOf}
+use Rattle.rules.specs.State.{expressions}
 
 -- an expression, and the number of constructs around the part of it that moves next
 record Sample : Type 0 where
@@ -51,6 +52,6 @@ samples =
     ∷ sample (ifThen (Condition.and Condition.truth (Condition.equal part part))) 1
     ∷ []
 
-depths : map (λ (x : Sample). depthOf (focus top (x .expression))) samples ≡ map (λ (x : Sample). x .depth) samples
+depths : map (λ (x : Sample). expressions .depth (x .expression)) samples ≡ map (λ (x : Sample). x .depth) samples
 unfolding depthOf focus
 depths = refl

@@ -18,12 +18,13 @@ use Rattle.rules.specs.Rules.{Rule, isVolatile, LacksHere, LACKS-READ, L
 use Rattle.rules.specs.Rules.{E-WRITE, E-READV, E-WRITEV, E-FORK, E-JOIN, E-RE-ENTER, E-ACQUIRE, E-RELEASE, E-WAIT, E-WAKE, E-NOTIFY, E-NOTIFYALL}
 use Rattle.rules.specs.Rules.{Convertsᶜ, E-NOTNOTTRUE, E-ANDTRUE, E-ANDFALSE, E-EQUALTRUE, E-EQUALFALSE, Moves, EVAL, EVALᶜ}
 use Rattle.rules.specs.Step.{Stuck, missingField, notThread, notHeld, noRule, equalAct, Act, waits, sticks, lacks, does, forNotify, act, actᶜ, Actᶜ}
-use Rattle.rules.specs.Step.{Move, Attempt, moves, attempt, attemptBy, attemptAt, around, callAct, readAct, writeAct, joinAct, joinValue, synchAct}
-use Rattle.rules.specs.Step.{holdAct, signalMove, signalAct, wakeAct}
+use Rattle.rules.specs.Step.{Move, AttemptOf, Attempt, moves, attempt, attemptBy, attemptAt, around, callAct, readAct, writeAct, joinAct, joinValue}
+use Rattle.rules.specs.Step.{synchAct, holdAct, signalMove, signalAct, wakeAct}
 use Rattle.rules.specs.Room.{Blocked, MONITOR-HELD, UNFINISHED, NO-FIELD-TO-READ, NO-FIELD-TO-WRITE, NO-THREAD, NOT-NOTIFIED, NOT-FREE, NOT-HELD}
-use Rattle.rules.specs.Room.{PassedOver, ABSENT, FINISHED, BLOCKED, Answer, answer, withinRoom, Room, noRoomFor, step}
+use Rattle.rules.specs.Room.{PassedOver, ABSENT, FINISHED, BLOCKED, AnswerOf, answer, withinRoom, Room, noRoomFor, step}
 use Rattle.keys.proofs.KeyLaws.{subset-singleton}
 use Rattle.rules.proofs.OneKey.{OneKey, its-cell}
+use Rattle.rules.proofs.RoomLaws.{answer-moved}
 use Rattle.rules.proofs.Decompose.{whole, whole-focus}
 use Rattle.rules.proofs.FocusPlug.{found, foundᶜ}
 use Rattle.rules.proofs.Back.{as-literal}
@@ -104,14 +105,14 @@ module _ (s : State) (g : Program) (p : ℕ) (t : Thread) where
   acts-blocked (NO-THREAD {o} h) = (Redex.join o, refl, λ K. rw h)
   acts-blocked (NOT-NOTIFIED {o} {u} {W} n h) = (Redex.waiting o, refl, λ K. rw h (go K (t .place .number) n))
     where
-      go : (K : Context) (m : ℕ) → (m ≡ 0 → ⊥) → around s p K (wakeAct s p t o m (some (cell W u))) ≡ Attempt.waiting (forNotify o)
+      go : (K : Context) (m : ℕ) → (m ≡ 0 → ⊥) → around s p K (wakeAct s p t o m (some (cell W u))) ≡ AttemptOf.waiting (forNotify o)
       go K zero n = absurd (n refl)
       go K (suc m) n = refl
   acts-blocked (NOT-FREE {o} z h) = (Redex.waiting o, refl, λ K. rw (h, z))
   acts-blocked (NOT-HELD {o} {u} {k} {W} h n) = (Redex.signal k o, refl, λ K. rw h (go K (isEmpty W) (eqb u (t .self)) refl refl))
     where
       go : (K : Context) (a b : Bool) → isEmpty W ≡ a → eqb u (t .self) ≡ b
-          → around s p K (cond a (cond b (signalMove s p t o k) (sticks (notHeld o))) (sticks (notHeld o))) ≡ Attempt.stuck (notHeld o)
+          → around s p K (cond a (cond b (signalMove s p t o k) (sticks (notHeld o))) (sticks (notHeld o))) ≡ AttemptOf.stuck (notHeld o)
       go K true true e e′ = absurd (n e (eqb-true u (t .self) e′))
       go K true false e e′ = refl
       go K false b e e′ = refl
@@ -127,7 +128,7 @@ complete-passed g s p (BLOCKED K {t} ht he b) =
     ∙ ap (attemptAt g s p t) (found K (x .0))
     ∙ x .2 K
 
-pub complete-lacks : (g : Program) (s : State) (p : ℕ) {r : Record} → Lacks g s p r → attempt g s p ≡ Attempt.lacking r
+pub complete-lacks : (g : Program) (s : State) (p : ℕ) {r : Record} → Lacks g s p r → attempt g s p ≡ AttemptOf.lacking r
 unfolding attempt
 complete-lacks g s p (LACKS K {t} ht he w) =
     let a = acts-lacking g s p t w in
@@ -148,8 +149,8 @@ Unless noRule A = Unit {0}
 module _ (g : Program) (s : State) (I : OneKey g s) (p : ℕ) (t : Thread) where
   -- an act that is a move is a rule
   abbrev Ruled : Expression → Act → Type 0
-  Ruled e (waits w) = Blocked s t e (Attempt.waiting w)
-  Ruled e (sticks r) = Unless r (Blocked s t e (Attempt.stuck r))
+  Ruled e (waits w) = Blocked s t e (AttemptOf.waiting w)
+  Ruled e (sticks r) = Unless r (Blocked s t e (AttemptOf.stuck r))
   Ruled e (lacks r) = LacksHere g s p t e r
   Ruled e (does R r s′ e′) = Converts g s p t e R r s′ e′
 
@@ -279,11 +280,11 @@ ruledᶜ (Redexᶜ.equal o o′) = ruled-equal o o′ (eqb o o′) refl
 module _ (g : Program) (s : State) (I : OneKey g s) (p : ℕ) where
   -- what an attempt says of the thread
   abbrev pub Described : Attempt → Type 0
-  Described Attempt.absent = PassedOver s p Attempt.absent
-  Described (Attempt.finished v) = PassedOver s p (Attempt.finished v)
-  Described (Attempt.waiting w) = PassedOver s p (Attempt.waiting w)
-  Described (Attempt.stuck r) = Unless r (PassedOver s p (Attempt.stuck r))
-  Described (Attempt.lacking r) = Lacks g s p r
+  Described AttemptOf.absent = PassedOver s p AttemptOf.absent
+  Described (AttemptOf.finished v) = PassedOver s p (AttemptOf.finished v)
+  Described (AttemptOf.waiting w) = PassedOver s p (AttemptOf.waiting w)
+  Described (AttemptOf.stuck r) = Unless r (PassedOver s p (AttemptOf.stuck r))
+  Described (AttemptOf.lacking r) = Lacks g s p r
   Described (moves m) = Moves g s p (m .rule) (m .entry) (m .state)
 
   -- in a context
@@ -317,7 +318,7 @@ module _ (g : Program) (s : State) (I : OneKey g s) (p : ℕ) where
   unfolding attempt
   described = described-by (getElem? (s .threads) p) refl
 
-  pub sound-lacks : (r : Record) → attempt g s p ≡ Attempt.lacking r → Lacks g s p r
+  pub sound-lacks : (r : Record) → attempt g s p ≡ AttemptOf.lacking r → Lacks g s p r
   sound-lacks r h = along Described h described
 
   pub sound : (m : Move) → attempt g s p ≡ moves m → Moves g s p (m .rule) (m .entry) (m .state)
@@ -325,28 +326,12 @@ module _ (g : Program) (s : State) (I : OneKey g s) (p : ℕ) where
 
 -- ---- a pick moves exactly where a rule applies and there is room after it
 
-admit-moved : (m m′ : Move) (k : Option Room) → withinRoom m k ≡ Answer.moved m′ → (m ≡ m′) × (k ≡ none)
-unfolding withinRoom
-admit-moved m m′ none h = (cc, refl)
-admit-moved m m′ (some k) h = absurd (true≢false cc)
-
-answer-moved : (s : State) (p : ℕ) (a : Attempt) (m : Move) → answer s p a ≡ Answer.moved m → (a ≡ moves m) × (noRoomFor (m .rule) s p (m .state) ≡ none)
-unfolding answer
-answer-moved s p Attempt.absent m h = absurd (true≢false cc)
-answer-moved s p (Attempt.finished v) m h = absurd (true≢false cc)
-answer-moved s p (Attempt.waiting w) m h = absurd (true≢false cc)
-answer-moved s p (Attempt.stuck r) m h = absurd (true≢false cc)
-answer-moved s p (Attempt.lacking r) m h = absurd (true≢false cc)
-answer-moved s p (moves m′) m h =
-    let a = admit-moved m′ m (noRoomFor (m′ .rule) s p (m′ .state)) h in
-    (ap moves (a .0), ap (λ (x : Move). noRoomFor (x .rule) s p (x .state)) (sym (a .0)) ∙ a .1)
-
 module _ (g : Program) (s : State) (I : OneKey g s) (p : ℕ) where
-  pub step-sound : (m : Move) → step g s p ≡ Answer.moved m → Moves g s p (m .rule) (m .entry) (m .state) × (noRoomFor (m .rule) s p (m .state) ≡ none)
+  pub step-sound : (m : Move) → step g s p ≡ AnswerOf.moved m → Moves g s p (m .rule) (m .entry) (m .state) × (noRoomFor (m .rule) s p (m .state) ≡ none)
   unfolding step
   step-sound m h = let a = answer-moved s p (attempt g s p) m h in (sound g s I p m (a .0), a .1)
 
 pub step-complete : (g : Program) (s : State) (p : ℕ) {R : Rule} {r : Option Record} {s′ : State} → Moves g s p R r s′ → noRoomFor R s p s′ ≡ none
-    → step g s p ≡ Answer.moved (record { rule = R; entry = r; state = s′ })
+    → step g s p ≡ AnswerOf.moved (record { rule = R; entry = r; state = s′ })
 unfolding step answer withinRoom
 step-complete g s p m q = rw (complete g s p m, q)

@@ -13,9 +13,9 @@ use Rattle.packed.proofs.Decoded.{well-formed}
 use Rattle.records.specs.Record.{Record}
 use Rattle.rules.specs.State.{Thread, State, start}
 use Rattle.rules.specs.Rules.{Rule, Moves}
-use Rattle.rules.specs.Step.{noRule, Move, Attempt, attempt}
+use Rattle.rules.specs.Step.{noRule, Move, AttemptOf, Attempt, attempt}
 use Rattle.rules.specs.Room.{Blocked, MONITOR-HELD, UNFINISHED, NO-FIELD-TO-READ, NO-FIELD-TO-WRITE, NO-THREAD, NOT-NOTIFIED, NOT-FREE, NOT-HELD}
-use Rattle.rules.specs.Room.{PassedOver, ABSENT, FINISHED, BLOCKED, Room, noRoomFor, Answer, withinRoom, answer, step}
+use Rattle.rules.specs.Room.{PassedOver, ABSENT, FINISHED, BLOCKED, Room, noRoomFor, AnswerOf, withinRoom, answer, step}
 use Rattle.rules.specs.Run.{Run, resume, run, play, stopped, afterPass, afterMove, outcomeOf}
 use Rattle.rules.specs.Execution.{Execution, ends, passes, lacks-key, no-room, moves, moveCount}
 use Rattle.rules.specs.NewKeys.{Unused}
@@ -60,12 +60,12 @@ module _ (g : Program) (P : WellFormedProgram g) where
   dealt : (s : State) (p : ℕ) (ps : List ℕ) (I : Reachable g s) (a : Attempt) → Described g s (I .one-key) p a → Ruled a
       → ((s′ : State) → Reachable g s′ → Execution g s′ ps (run g s′ ps)) → Execution g s (p ∷ ps) (resume s (λ s′. run g s′ ps) (answer s p a))
   unfolding answer resume
-  dealt s p ps I Attempt.absent h k ih = passes h (ih s I)
-  dealt s p ps I (Attempt.finished v) h k ih = passes h (ih s I)
-  dealt s p ps I (Attempt.waiting w) h k ih = passes h (ih s I)
-  dealt s p ps I (Attempt.stuck r) h k ih = passes (unless-ruled r _ k h) (ih s I)
-  dealt s p ps I (Attempt.lacking r) h k ih = lacks-key h
-  dealt s p ps I (Attempt.moves m) h k ih = admitted s p ps m h (ih (m .state) (reachable-move g P s p I h)) (noRoomFor (m .rule) s p (m .state)) refl
+  dealt s p ps I AttemptOf.absent h k ih = passes h (ih s I)
+  dealt s p ps I (AttemptOf.finished v) h k ih = passes h (ih s I)
+  dealt s p ps I (AttemptOf.waiting w) h k ih = passes h (ih s I)
+  dealt s p ps I (AttemptOf.stuck r) h k ih = passes (unless-ruled r _ k h) (ih s I)
+  dealt s p ps I (AttemptOf.lacking r) h k ih = lacks-key h
+  dealt s p ps I (AttemptOf.moves m) h k ih = admitted s p ps m h (ih (m .state) (reachable-move g P s p I h)) (noRoomFor (m .rule) s p (m .state)) refl
 
   pub run-executes : (s : State) (ps : List ℕ) → Reachable g s → Execution g s ps (run g s ps)
   unfolding run step
@@ -74,7 +74,7 @@ module _ (g : Program) (P : WellFormedProgram g) where
 
 -- ---- an execution is the run
 
-blocked-passed : (p : ℕ) {s : State} {t : Thread} {e : Expression} {a : Attempt} → Blocked s t e a → answer s p a ≡ Answer.passed
+blocked-passed : (p : ℕ) {s : State} {t : Thread} {e : Expression} {a : Attempt} → Blocked s t e a → answer s p a ≡ AnswerOf.passed
 unfolding answer
 blocked-passed p (MONITOR-HELD h n) = refl
 blocked-passed p (UNFINISHED h n) = refl
@@ -85,7 +85,7 @@ blocked-passed p (NOT-NOTIFIED n h) = refl
 blocked-passed p (NOT-FREE z h) = refl
 blocked-passed p (NOT-HELD h n) = refl
 
-pub over-passed : {s : State} {p : ℕ} {a : Attempt} → PassedOver s p a → answer s p a ≡ Answer.passed
+pub over-passed : {s : State} {p : ℕ} {a : Attempt} → PassedOver s p a → answer s p a ≡ AnswerOf.passed
 unfolding answer
 over-passed (ABSENT h) = refl
 over-passed (FINISHED h e) = refl
@@ -128,7 +128,7 @@ unfolding play
 play-executes g P ps = run-executes g P start ps (reachable-start g P)
 
 -- after any picks no thread is stuck for want of a rule
-pub never-ruleless : (g : Program) → WellFormedProgram g → (ps : List ℕ) (p : ℕ) → attempt g (play g ps .final) p ≡ Attempt.stuck noRule → ⊥
+pub never-ruleless : (g : Program) → WellFormedProgram g → (ps : List ℕ) (p : ℕ) → attempt g (play g ps .final) p ≡ AttemptOf.stuck noRule → ⊥
 unfolding play
 never-ruleless g P ps p h = along Ruled h (ruled g (run g start ps .final) (reachable-run g P start ps (reachable-start g P) .invariant) p)
 
@@ -166,7 +166,7 @@ plan-executes b h ps = play-executes (programOf b) (well-formed b h) ps
 
 -- after any picks, no thread of an accepted plan is stuck for a reason that document 01 does not give
 pub plan-never-ruleless : (b : List ℕ) → refusal b ≡ none → (ps : List ℕ) (p : ℕ)
-    → attempt (programOf b) (play (programOf b) ps .final) p ≡ Attempt.stuck noRule → ⊥
+    → attempt (programOf b) (play (programOf b) ps .final) p ≡ AttemptOf.stuck noRule → ⊥
 plan-never-ruleless b h ps p = never-ruleless (programOf b) (well-formed b h) ps p
 
 -- after any picks, the next plain write's key is in no set

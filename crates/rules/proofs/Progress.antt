@@ -16,7 +16,7 @@ use Rattle.rules.specs.Queue.{awake}
 use Rattle.rules.specs.State.{Cell, Thread, State, start, fresh, freshObject, lookup, monitor, threadOf, Numbered}
 use Rattle.rules.specs.Rules.{isVolatile}
 use Rattle.rules.specs.Step.{Stuck, notThread, missingField, notHeld, noRule, Act, waits, sticks, lacks, does, callAct, readAct, writeAct, joinAct}
-use Rattle.rules.specs.Step.{joinValue, synchAct, holdAct, signalMove, signalAct, wakeAct, act, Attempt, around, attemptAt, attemptBy, attempt}
+use Rattle.rules.specs.Step.{joinValue, synchAct, holdAct, signalMove, signalAct, wakeAct, act, AttemptOf, Attempt, around, attemptAt, attemptBy, attempt}
 use Rattle.packed.proofs.WellFormed.{WellFormedProgram, Callable}
 use Rattle.rules.proofs.Placed.{Good, Ready, holds, held, pending, GivesUp, GivenUp}
 use Rattle.rules.proofs.StateLaws.{monitor-there}
@@ -37,14 +37,14 @@ Fine (lacks r) = Unit {0}
 Fine (does R r s e) = Unit {0}
 
 abbrev pub Ruled : Attempt → Type 0
-Ruled Attempt.absent = Unit {0}
-Ruled (Attempt.finished v) = Unit {0}
-Ruled (Attempt.waiting w) = Unit {0}
-Ruled (Attempt.stuck r) = Known r
-Ruled (Attempt.lacking r) = Unit {0}
-Ruled (Attempt.moves m) = Unit {0}
+Ruled AttemptOf.absent = Unit {0}
+Ruled (AttemptOf.finished v) = Unit {0}
+Ruled (AttemptOf.waiting w) = Unit {0}
+Ruled (AttemptOf.stuck r) = Known r
+Ruled (AttemptOf.lacking r) = Unit {0}
+Ruled (AttemptOf.moves m) = Unit {0}
 
-pub unless-ruled : (r : Stuck) (A : Type 0) → Ruled (Attempt.stuck r) → Unless r A → A
+pub unless-ruled : (r : Stuck) (A : Type 0) → Ruled (AttemptOf.stuck r) → Unless r A → A
 unless-ruled (missingField o f) A k h = h
 unless-ruled (notThread o) A k h = h
 unless-ruled (notHeld o) A k h = h

@@ -22,7 +22,8 @@ use Rattle.rules.specs.Context.{Context, plug, focus, top, here, Redex, 
 use Rattle.rules.specs.Queue.{Place, awake, queueLength, lastPlace, movedUp}
 use Rattle.rules.specs.State.{Cell, cell, Thread, State, start, monitor, changeAt, become, storeMonitor, enqueue, signalled, placesOf}
 use Rattle.rules.specs.Rules.{Rule, e-notify, e-notifyall, Moves}
-use Rattle.rules.specs.Step.{forMonitor, forNotify, Stuck, notHeld, noRule, sticks, does, Move, Attempt, moves, signalMove, signalAct, act, around}
+use Rattle.rules.specs.Step.{forMonitor, forNotify, Stuck, notHeld, noRule, sticks, does, Move, AttemptOf, Attempt, moves, signalMove, signalAct, act}
+use Rattle.rules.specs.Step.{around}
 use Rattle.rules.specs.Step.{attemptAt, attemptBy, attempt}
 use Rattle.rules.specs.Room.{Blocked, MONITOR-HELD, UNFINISHED, NO-FIELD-TO-READ, NO-FIELD-TO-WRITE, NO-THREAD, NOT-NOTIFIED, NOT-FREE, NOT-HELD}
 use Rattle.rules.specs.Room.{PassedOver, ABSENT, FINISHED, BLOCKED}
@@ -62,7 +63,7 @@ abbrev Queued : List Place → ℕ → ℕ → Type 0
 Queued ws o p = (w : Place) × (getElem? ws p ≡ some w) × In o w
 
 -- the redex of a thread that waits to be notified, and its number
-waits-here : (s : State) (t : Thread) (o : ℕ) {e : Expression} {a : Attempt} → Blocked s t e a → a ≡ Attempt.waiting (forNotify o)
+waits-here : (s : State) (t : Thread) (o : ℕ) {e : Expression} {a : Attempt} → Blocked s t e a → a ≡ AttemptOf.waiting (forNotify o)
     → (e ≡ Expression.waiting o) × (t .place .number ≡ 0 → ⊥)
 waits-here s t o (MONITOR-HELD h n) q = absurd (true≢false cc)
 waits-here s t o (UNFINISHED h n) q = absurd (true≢false cc)
@@ -73,7 +74,7 @@ waits-here s t o (NOT-NOTIFIED {o = a} n h) q = let e : a ≡ o = cc in (ap Expr
 waits-here s t o (NOT-FREE z h) q = absurd (true≢false cc)
 waits-here s t o (NOT-HELD h n) q = absurd (true≢false cc)
 
-queued-of : (s : State) → Queues s → (o p : ℕ) {a : Attempt} → PassedOver s p a → a ≡ Attempt.waiting (forNotify o) → Queued (placesOf s) o p
+queued-of : (s : State) → Queues s → (o p : ℕ) {a : Attempt} → PassedOver s p a → a ≡ AttemptOf.waiting (forNotify o) → Queued (placesOf s) o p
 unfolding redexExpression
 queued-of s Q o p (ABSENT h) q = absurd (true≢false cc)
 queued-of s Q o p (FINISHED h e) q = absurd (true≢false cc)
@@ -296,10 +297,10 @@ module _ (g : Program) (P : WellFormedProgram g) {ps : List ℕ} {r : Run} (x : 
     nothing-else-wakes : (R ≡ e-notify → ⊥) → (R ≡ e-notifyall → ⊥) → (o q : ℕ) → Awaits s o q → Awaits s′ o q
     nothing-else-wakes n n′ o q h = let w = mover-at g s p Q m in awaits′ o q (still-queued (requeues m) n n′ (w .0) (w .1) (w .2) o q (queued o q h))
 
-    woken-kept-out : (o q : ℕ) → Woken s s′ o q → PassedOver s′ q (Attempt.waiting (forMonitor o))
+    woken-kept-out : (o q : ℕ) → Woken s s′ o q → PassedOver s′ q (AttemptOf.waiting (forMonitor o))
     woken-kept-out o q (a, n) = kept-out (queued o q a) (ℕ-discrete p q)
       where
-        kept-out : Queued ws o q → Dec (p ≡ q) → PassedOver s′ q (Attempt.waiting (forMonitor o))
+        kept-out : Queued ws o q → Dec (p ≡ q) → PassedOver s′ q (AttemptOf.waiting (forMonitor o))
         kept-out (w, hw, i) (yes d) =
             let y = mover-at g s p Q m in
             let k : some (y .0) ≡ some w = sym (y .1) ∙ ap (getElem? ws) d ∙ hw in
@@ -317,7 +318,7 @@ module _ (g : Program) (P : WellFormedProgram g) {ps : List ℕ} {r : Run} (x : 
           where
             notified : (C : Context) (u : Thread) → getElem? (s′ .threads) q ≡ some u → u .expression ≡ plug C (Expression.waiting o) → HeldIn s′ o
                 → Dec (u .place .number ≡ 0)
-                → PassedOver s′ q (Attempt.waiting (forMonitor o))
+                → PassedOver s′ q (AttemptOf.waiting (forMonitor o))
             notified C u hu he held (yes z) = BLOCKED C hu he (NOT-FREE z (held .1))
             notified C u hu he held (no z) = absurd (n (BLOCKED C hu he (NOT-NOTIFIED z (held .1))))
 

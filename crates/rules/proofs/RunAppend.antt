@@ -11,7 +11,7 @@ use Rattle.packed.specs.Syntax.{Program}
 use Rattle.records.specs.Record.{Record}
 use Rattle.rules.specs.State.{State}
 use Rattle.rules.specs.Step.{Move}
-use Rattle.rules.specs.Room.{Answer, step}
+use Rattle.rules.specs.Room.{AnswerOf, Answer, step}
 use Rattle.rules.specs.Run.{Stop, Run, logged, afterPass, afterMove, stopped, resume, run}
 
 -- a run, and then another from the state where it stands
@@ -65,10 +65,10 @@ module _ (g : Program) where
       go : (a : Answer) → resume s (λ z. run g z ps) a .stop ≡ Stop.end
           → ((z : State) → run g z ps .stop ≡ Stop.end → run g z (ps ++ qs) ≡ andThen (run g z ps) (run g (run g z ps .final) qs))
           → resume s (λ z. run g z (ps ++ qs)) a ≡ andThen (resume s (λ z. run g z ps) a) (run g (resume s (λ z. run g z ps) a .final) qs)
-      go Answer.passed h ih = ap afterPass (ih s h) ∙ pass-and-then (run g s ps) (run g (run g s ps .final) qs)
-      go (Answer.race r) h ih = absurd (true≢false cc)
-      go (Answer.noRoom k) h ih = absurd (true≢false cc)
-      go (Answer.moved m) h ih = ap (afterMove m) (ih (m .state) h) ∙ move-and-then m (run g (m .state) ps) (run g (run g (m .state) ps .final) qs)
+      go AnswerOf.passed h ih = ap afterPass (ih s h) ∙ pass-and-then (run g s ps) (run g (run g s ps .final) qs)
+      go (AnswerOf.race r) h ih = absurd (true≢false cc)
+      go (AnswerOf.noRoom k) h ih = absurd (true≢false cc)
+      go (AnswerOf.moved m) h ih = ap (afterMove m) (ih (m .state) h) ∙ move-and-then m (run g (m .state) ps) (run g (run g (m .state) ps .final) qs)
 
   -- the first run stopped
   pub run-stopped : (s : State) (ps qs : List ℕ) → (run g s ps .stop ≡ Stop.end → ⊥) → run g s (ps ++ qs) ≡ run g s ps
@@ -79,10 +79,10 @@ module _ (g : Program) where
       go : (a : Answer) → (resume s (λ z. run g z ps) a .stop ≡ Stop.end → ⊥)
           → ((z : State) → (run g z ps .stop ≡ Stop.end → ⊥) → run g z (ps ++ qs) ≡ run g z ps)
           → resume s (λ z. run g z (ps ++ qs)) a ≡ resume s (λ z. run g z ps) a
-      go Answer.passed h ih = ap afterPass (ih s h)
-      go (Answer.race r) h ih = refl
-      go (Answer.noRoom k) h ih = refl
-      go (Answer.moved m) h ih = ap (afterMove m) (ih (m .state) h)
+      go AnswerOf.passed h ih = ap afterPass (ih s h)
+      go (AnswerOf.race r) h ih = refl
+      go (AnswerOf.noRoom k) h ih = refl
+      go (AnswerOf.moved m) h ih = ap (afterMove m) (ih (m .state) h)
 
   -- a run that did not stop has dealt with every pick
   pub all-dealt-with : (s : State) (ps : List ℕ) → run g s ps .stop ≡ Stop.end → run g s ps .picks ≡ length ps
@@ -92,10 +92,10 @@ module _ (g : Program) where
     where
       go : (a : Answer) → resume s (λ z. run g z ps) a .stop ≡ Stop.end → ((z : State) → run g z ps .stop ≡ Stop.end → run g z ps .picks ≡ length ps)
           → resume s (λ z. run g z ps) a .picks ≡ suc (length ps)
-      go Answer.passed h ih = ap suc (ih s h)
-      go (Answer.race r) h ih = absurd (true≢false cc)
-      go (Answer.noRoom k) h ih = absurd (true≢false cc)
-      go (Answer.moved m) h ih = ap suc (ih (m .state) h)
+      go AnswerOf.passed h ih = ap suc (ih s h)
+      go (AnswerOf.race r) h ih = absurd (true≢false cc)
+      go (AnswerOf.noRoom k) h ih = absurd (true≢false cc)
+      go (AnswerOf.moved m) h ih = ap suc (ih (m .state) h)
 
   -- a run that stopped has not
   pub stopped-short : (s : State) (ps : List ℕ) → (run g s ps .stop ≡ Stop.end → ⊥) → run g s ps .picks < length ps
@@ -106,10 +106,10 @@ module _ (g : Program) where
       go : (a : Answer) → (resume s (λ z. run g z ps) a .stop ≡ Stop.end → ⊥)
           → ((z : State) → (run g z ps .stop ≡ Stop.end → ⊥) → run g z ps .picks < length ps)
           → resume s (λ z. run g z ps) a .picks < suc (length ps)
-      go Answer.passed n ih = let h = ih s n in omega arith
-      go (Answer.race r) n ih = omega arith
-      go (Answer.noRoom k) n ih = omega arith
-      go (Answer.moved m) n ih = let h = ih (m .state) n in omega arith
+      go AnswerOf.passed n ih = let h = ih s n in omega arith
+      go (AnswerOf.race r) n ih = omega arith
+      go (AnswerOf.noRoom k) n ih = omega arith
+      go (AnswerOf.moved m) n ih = let h = ih (m .state) n in omega arith
 
   -- more picks make no fewer records
   pub records-grow : (s : State) (ps qs : List ℕ) → length (run g s ps .log) ≤ length (run g s (ps ++ qs) .log)

@@ -10,8 +10,9 @@ use mathlib.Core.Option.{Option, some, none, Option·map}
 use lib.Dec.{eqb}
 use lib.ListN.{length, getElem?, length-append}
 use borrow.Author.Tests.{eq-eqb, ne-eqb, eqb-true}
-use Rattle.rules.specs.State.{Cell, Field, Object, Thread, State, fresh, freshFields, freshObject, findField, storeField, fieldOf, monitorOf, lookup}
-use Rattle.rules.specs.State.{monitor, changeAt, store, storeMonitor, addObject, threadOf, Numbered}
+use Rattle.rules.specs.State.{Form, ThreadOf, NumberedOf, Cell, Field, Object, Thread, State, fresh, freshFields, freshObject, findField, storeField}
+use Rattle.rules.specs.State.{fieldOf, monitorOf, lookup}
+use Rattle.rules.specs.State.{monitor, changeAt, store, storeMonitor, addObject, threadOf}
 
 -- ---- lists
 
@@ -277,18 +278,18 @@ monitor-there s o h = let x = there (s .objects) o h in (x .0 .monitor, ap monit
 
 -- ---- who a join finds
 
-pub found-thread : (ts : List Thread) (i o : ℕ) (q : Numbered) → threadOf i ts o ≡ some q
+pub found-thread : {F : Form} (ts : List (ThreadOf F)) (i o : ℕ) (q : NumberedOf F) → threadOf i ts o ≡ some q
     → (j : ℕ) × (q .number ≡ i + j) × (getElem? ts j ≡ some (q .thread)) × (q .thread .self ≡ o)
 unfolding threadOf
 found-thread [] i o q h = absurd (true≢false cc)
-found-thread (x ∷ ts) i o q h = go (eqb (x .self) o) refl h (found-thread ts (suc i) o q)
+found-thread {F} (x ∷ ts) i o q h = go (eqb (x .self) o) refl h (found-thread ts (suc i) o q)
   where
     go : (b : Bool) → eqb (x .self) o ≡ b → cond b (some (record { number = i; thread = x })) (threadOf (suc i) ts o) ≡ some q
         → (threadOf (suc i) ts o ≡ some q → (j : ℕ) × (q .number ≡ suc i + j) × (getElem? ts j ≡ some (q .thread)) × (q .thread .self ≡ o))
         → (j : ℕ) × (q .number ≡ i + j) × (getElem? (x ∷ ts) j ≡ some (q .thread)) × (q .thread .self ≡ o)
     go true e h k =
-        let same : _≡_ {A = Numbered} (record { number = i; thread = x }) q = cc in
-        let sn : i ≡ q .number = ap (λ (z : Numbered). z .number) same in
-        let st : x ≡ q .thread = ap (λ (z : Numbered). z .thread) same in
-        (0, omega arith, ap {B = Option Thread} some st, ap (λ (z : Thread). z .self) (sym st) ∙ eqb-true (x .self) o e)
+        let same : _≡_ {A = NumberedOf F} (record { number = i; thread = x }) q = cc in
+        let sn : i ≡ q .number = ap (λ (z : NumberedOf F). z .number) same in
+        let st : x ≡ q .thread = ap (λ (z : NumberedOf F). z .thread) same in
+        (0, omega arith, ap {B = Option (ThreadOf F)} some st, ap (λ (z : ThreadOf F). z .self) (sym st) ∙ eqb-true (x .self) o e)
     go false e h k = let r = k h in (suc (r .0), omega (arith, r .1), r .2, r .3)

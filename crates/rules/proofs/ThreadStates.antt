@@ -7,7 +7,7 @@ use mathlib.Core.Option.{Option, some}
 use lib.ListN.{length, getElem?}
 use Rattle.packed.specs.Syntax.{Program}
 use Rattle.rules.specs.State.{State}
-use Rattle.rules.specs.Step.{Attempt, attempt}
+use Rattle.rules.specs.Step.{AttemptOf, Attempt, attempt}
 use Rattle.rules.specs.Run.{Status, absent, finished, ready, waiting, stuck, lacking, status, statusesFrom}
 use Rattle.rules.specs.ThreadStates.{HasStatus}
 use Rattle.rules.proofs.OneKey.{OneKey}
@@ -29,12 +29,12 @@ module _ (g : Program) (s : State) (p : ℕ) where
   module _ (I : OneKey g s) where
     has-status-of : (a : Attempt) → Described g s I p a → Ruled a → HasStatus g s p (status a)
     unfolding status
-    has-status-of Attempt.absent h k = h
-    has-status-of (Attempt.finished v) h k = h
-    has-status-of (Attempt.waiting w) h k = h
-    has-status-of (Attempt.stuck r) h k = unless-ruled r _ k h
-    has-status-of (Attempt.lacking r) h k = (r, h, refl, refl)
-    has-status-of (Attempt.moves m) h k = (m .rule, m .entry, m .state, h)
+    has-status-of AttemptOf.absent h k = h
+    has-status-of (AttemptOf.finished v) h k = h
+    has-status-of (AttemptOf.waiting w) h k = h
+    has-status-of (AttemptOf.stuck r) h k = unless-ruled r _ k h
+    has-status-of (AttemptOf.lacking r) h k = (r, h, refl, refl)
+    has-status-of (AttemptOf.moves m) h k = (m .rule, m .entry, m .state, h)
 
     -- the state that the function computes
     pub has-status : Inv g s → HasStatus g s p (status (attempt g s p))

@@ -9,11 +9,12 @@ use lib.ListN.{length, getElem?, drop}
 use Rattle.keys.specs.Keys.{Keys, empty, isEmpty}
 use Rattle.packed.specs.Syntax.{Signal, Expression, Program, literal}
 use Rattle.records.specs.Record.{Record}
-use Rattle.rules.specs.Context.{Context, top, plug, focus, depthOf}
-use Rattle.rules.specs.State.{cell, Thread, State, Numbered, lookup, monitor, threadOf}
+use Rattle.rules.specs.Context.{Context, plug, depthOf}
+use Rattle.rules.specs.State.{Form, expressions, ThreadOf, StateOf, cell, Thread, State, Numbered, lookup, monitor, threadOf}
 use Rattle.rules.specs.Rules.{Rule, e-call, e-let, e-if, e-while, e-notnottrue, e-andtrue, e-andfalse, e-equaltrue, e-equalfalse, e-new, e-read}
 use Rattle.rules.specs.Rules.{e-write, e-readv, e-writev, e-fork, e-join, e-re-enter, e-acquire, e-release, e-wait, e-wake, e-notify, e-notifyall}
-use Rattle.rules.specs.Step.{forMonitor, forJoin, forNotify, missingField, notThread, notHeld, Move, Attempt, absent, finished, waiting, stuck, lacking}
+use Rattle.rules.specs.Step.{forMonitor, forJoin, forNotify, missingField, notThread, notHeld, MoveOf, AttemptOf, Attempt, absent, finished, waiting}
+use Rattle.rules.specs.Step.{stuck, lacking}
 use Rattle.rules.specs.Step.{moves, attempt}
 
 -- ---- passing over, as a relation
@@ -95,63 +96,67 @@ noRoomAmong threads objects keys e-wake = none
 noRoomAmong threads objects keys e-notify = none
 noRoomAmong threads objects keys e-notifyall = none
 
--- the room that the state before the move lacks
-unfoldable pub noRoomBefore : State → Rule → Option Room
-noRoomBefore s = noRoomAmong (length (s .threads)) (length (s .objects)) (s .nextKey)
+module _ {F : Form} where
+  -- the room that the state before the move lacks
+  unfoldable pub noRoomBefore : StateOf F → Rule → Option Room
+  noRoomBefore s = noRoomAmong (length (s .threads)) (length (s .objects)) (s .nextKey)
 
--- a depth over 32
-unfoldable pub deep : Thread → Bool
-unfolding depthOf focus
-deep t = ltb 32 (depthOf (focus top (t .expression)))
+  -- a depth over 32
+  unfoldable pub deep : ThreadOf F → Bool
+  deep t = ltb 32 (F .depth (t .expression))
 
--- a depth over 32 in a thread, if there is one
-unfoldable pub deepAt : Option Thread → Bool
-unfolding deep
-deepAt none = false
-deepAt (some t) = deep t
+  -- a depth over 32 in a thread, if there is one
+  unfoldable pub deepAt : Option (ThreadOf F) → Bool
+  unfolding deep
+  deepAt none = false
+  deepAt (some t) = deep t
 
--- a depth over 32 in one of these threads
-unfoldable pub anyDeep : List Thread → Bool
-unfolding deep
-anyDeep [] = false
-anyDeep (t ∷ ts) = deep t || anyDeep ts
+  -- a depth over 32 in one of these threads
+  unfoldable pub anyDeep : List (ThreadOf F) → Bool
+  unfolding deep
+  anyDeep [] = false
+  anyDeep (t ∷ ts) = deep t || anyDeep ts
 
--- "a depth over 32 after the move, in the mover or in the thread it forks": thread p moved from s to s′
-unfoldable pub noRoomAfter : State → ℕ → State → Option Room
-unfolding deepAt anyDeep
-noRoomAfter s p s′ = cond (deepAt (getElem? (s′ .threads) p) || anyDeep (drop (length (s .threads)) (s′ .threads))) (some Room.depth) none
+  -- "a depth over 32 after the move, in the mover or in the thread it forks": thread p moved from s to s′
+  unfoldable pub noRoomAfter : StateOf F → ℕ → StateOf F → Option Room
+  unfolding deepAt anyDeep
+  noRoomAfter s p s′ = cond (deepAt (getElem? (s′ .threads) p) || anyDeep (drop (length (s .threads)) (s′ .threads))) (some Room.depth) none
 
--- the first room that thread p's move from s to s′ by a rule lacks
-unfoldable pub noRoomFor : Rule → State → ℕ → State → Option Room
-unfolding noRoomBefore noRoomAfter orElse
-noRoomFor R s p s′ = orElse (noRoomBefore s R) (noRoomAfter s p s′)
+  -- the first room that thread p's move from s to s′ by a rule lacks
+  unfoldable pub noRoomFor : Rule → StateOf F → ℕ → StateOf F → Option Room
+  unfolding noRoomBefore noRoomAfter orElse
+  noRoomFor R s p s′ = orElse (noRoomBefore s R) (noRoomAfter s p s′)
 
 -- ---- the answer to a pick
 
 -- it is passed over, stops the run or moves its thread
-pub data Answer : Type 0 where
-  passed : Answer  -- "A pick is passed over, changing nothing"
-  race : Record → Answer  -- the run stops: key missing
-  noRoom : Room → Answer  -- the run stops: no room
-  moved : Move → Answer
+pub data AnswerOf (F : Form) : Type 0 where
+  passed : AnswerOf F  -- "A pick is passed over, changing nothing"
+  race : Record → AnswerOf F  -- the run stops: key missing
+  noRoom : Room → AnswerOf F  -- the run stops: no room
+  moved : MoveOf F → AnswerOf F
 
--- a move is made, or "the run stops at this pick, unmoved", for the room that it lacks
-unfoldable pub withinRoom : Move → Option Room → Answer
-withinRoom m none = moved m
-withinRoom m (some k) = noRoom k
+abbrev pub Answer : Type 0
+Answer = AnswerOf expressions
 
--- "A pick is passed over [..] if that thread is absent, finished, waiting [..] or stuck [..]. Otherwise the run stops at this pick, unmoved, for the
--- first of: key missing; [..]"
-unfoldable pub answer : State → ℕ → Attempt → Answer
-unfolding noRoomFor withinRoom
-answer s p absent = passed
-answer s p (finished v) = passed
-answer s p (waiting w) = passed
-answer s p (stuck r) = passed
-answer s p (lacking r) = race r
-answer s p (moves m) = withinRoom m (noRoomFor (m .rule) s p (m .state))
+module _ {F : Form} where
+  -- a move is made, or "the run stops at this pick, unmoved", for the room that it lacks
+  unfoldable pub withinRoom : MoveOf F → Option Room → AnswerOf F
+  withinRoom m none = moved m
+  withinRoom m (some k) = noRoom k
+
+  -- "A pick is passed over [..] if that thread is absent, finished, waiting [..] or stuck [..]. Otherwise the run stops at this pick, unmoved, for the
+  -- first of: key missing; [..]"
+  unfoldable pub answer : StateOf F → ℕ → AttemptOf F → AnswerOf F
+  unfolding noRoomFor withinRoom
+  answer s p absent = passed
+  answer s p (finished v) = passed
+  answer s p (waiting w) = passed
+  answer s p (stuck r) = passed
+  answer s p (lacking r) = race r
+  answer s p (moves m) = withinRoom m (noRoomFor (m .rule) s p (m .state))
 
 -- the answer to a pick of thread p in state s
 unfoldable pub step : Program → State → ℕ → Answer
-unfolding attempt answer
+unfolding attempt answer depthOf
 step g s p = answer s p (attempt g s p)

@@ -7,6 +7,7 @@ use lib.Dec.{eqb}
 use lib.ListN.{length, getElem?}
 use Rattle.keys.specs.Keys.{Keys, singleton, union, countNew}
 use Rattle.packed.specs.Syntax.{Expression, Arguments}
+use Rattle.rules.specs.Context.{top, focus, depthOf}
 use Rattle.rules.specs.Queue.{Place, awake, lastPlace, movedUp}
 
 -- what a location holds: (W, o)
@@ -28,19 +29,43 @@ pub record Object : Type 0 where
   pub monitor : Cell
   pub fields : List Field
 
+-- the form in which a thread's expression is kept: as what, and how deep one is. "Depth is the number of constructs around the part that moves next"
+pub record Form : Type 1 where
+  pub Carrier : Type 0
+  pub depth : Carrier → ℕ
+
+-- as it is written: this is the form of the rules
+abbrev pub expressions : Form
+expressions = record { Carrier = Expression; depth = λ e. depthOf (focus top e) }
+
 -- a thread: the object that stands for it, its expression θ, its key set κ, how many keys it has heard of that were new to it, and its place in a queue
-pub record Thread : Type 0 where
+pub record ThreadOf (F : Form) : Type 0 where
   pub self : ℕ
-  pub expression : Expression
+  pub expression : F .Carrier
   pub keys : Keys
   pub learnt : ℕ
   pub place : Place
 
+-- a thread with its number
+pub record NumberedOf (F : Form) : Type 0 where
+  pub number : ℕ
+  pub thread : ThreadOf F
+
 -- "Objects and threads are numbered in order of creation and live to the end of the run"
-pub record State : Type 0 where
+pub record StateOf (F : Form) : Type 0 where
   pub objects : List Object
-  pub threads : List Thread
+  pub threads : List (ThreadOf F)
   pub nextKey : ℕ
+
+-- those of the rules
+abbrev pub Thread : Type 0
+Thread = ThreadOf expressions
+
+abbrev pub Numbered : Type 0
+Numbered = NumberedOf expressions
+
+abbrev pub State : Type 0
+State = StateOf expressions
 
 -- "New fields and new monitors hold null and key set {0}."
 unfoldable pub fresh : Cell
@@ -86,130 +111,132 @@ unfoldable pub monitorOf : Option Object → Option Cell
 monitorOf none = none
 monitorOf (some x) = some (x .monitor)
 
--- μ(o, f), f not the monitor
-unfoldable pub lookup : State → ℕ → ℕ → Option Cell
-unfolding fieldOf
-lookup s o f = fieldOf (getElem? (s .objects) o) f
+-- what a move reads and changes, in any form
+module _ {F : Form} where
+  -- μ(o, f), f not the monitor
+  unfoldable pub lookup : StateOf F → ℕ → ℕ → Option Cell
+  unfolding fieldOf
+  lookup s o f = fieldOf (getElem? (s .objects) o) f
 
--- μ(o, Lock)
-unfoldable pub monitor : State → ℕ → Option Cell
-unfolding monitorOf
-monitor s o = monitorOf (getElem? (s .objects) o)
+  -- μ(o, Lock)
+  unfoldable pub monitor : StateOf F → ℕ → Option Cell
+  unfolding monitorOf
+  monitor s o = monitorOf (getElem? (s .objects) o)
 
--- μ[(o, f) ↦ c]
-unfoldable pub store : State → ℕ → ℕ → Cell → State
-unfolding changeAt storeField
-store s o f c = record {
-  objects = changeAt (s .objects) o (λ x. record { monitor = x .monitor; fields = storeField (x .fields) f c });
-  threads = s .threads;
-  nextKey = s .nextKey;
-}
+  -- μ[(o, f) ↦ c]
+  unfoldable pub store : StateOf F → ℕ → ℕ → Cell → StateOf F
+  unfolding changeAt storeField
+  store s o f c = record {
+    objects = changeAt (s .objects) o (λ x. record { monitor = x .monitor; fields = storeField (x .fields) f c });
+    threads = s .threads;
+    nextKey = s .nextKey;
+  }
 
--- μ[(o, Lock) ↦ c]
-unfoldable pub storeMonitor : State → ℕ → Cell → State
-unfolding changeAt
-storeMonitor s o c = record {
-  objects = changeAt (s .objects) o (λ x. record { monitor = c; fields = x .fields });
-  threads = s .threads;
-  nextKey = s .nextKey;
-}
+  -- μ[(o, Lock) ↦ c]
+  unfoldable pub storeMonitor : StateOf F → ℕ → Cell → StateOf F
+  unfolding changeAt
+  storeMonitor s o c = record {
+    objects = changeAt (s .objects) o (λ x. record { monitor = c; fields = x .fields });
+    threads = s .threads;
+    nextKey = s .nextKey;
+  }
 
--- "Objects [..] are numbered in order of creation": one more object
-unfoldable pub addObject : State → Object → State
-addObject s x = record { objects = s .objects ++ (x ∷ []); threads = s .threads; nextKey = s .nextKey }
+  -- "Objects [..] are numbered in order of creation": one more object
+  unfoldable pub addObject : StateOf F → Object → StateOf F
+  addObject s x = record { objects = s .objects ++ (x ∷ []); threads = s .threads; nextKey = s .nextKey }
 
--- ---- θ and κ
+  -- ---- θ and κ
 
--- κ[p ↦ W ∪ κ(p)], where p's total rises by what `count` says of κ(p)
-unfoldable pub gain : State → ℕ → Keys → (Keys → ℕ) → State
-unfolding changeAt union
-gain s p W count = record {
-  objects = s .objects;
-  threads = changeAt (s .threads) p (λ x. record {
-    self = x .self;
-    expression = x .expression;
-    keys = union W (x .keys);
-    learnt = x .learnt + count (x .keys);
-    place = x .place;
-  });
-  nextKey = s .nextKey;
-}
+  -- κ[p ↦ W ∪ κ(p)], where p's total rises by what `count` says of κ(p)
+  unfoldable pub gain : StateOf F → ℕ → Keys → (Keys → ℕ) → StateOf F
+  unfolding changeAt union
+  gain s p W count = record {
+    objects = s .objects;
+    threads = changeAt (s .threads) p (λ x. record {
+      self = x .self;
+      expression = x .expression;
+      keys = union W (x .keys);
+      learnt = x .learnt + count (x .keys);
+      place = x .place;
+    });
+    nextKey = s .nextKey;
+  }
 
--- thread p learns W, and nothing is counted: a key of its own
-abbrev pub learn : State → ℕ → Keys → State
-learn s p W = gain s p W (λ K. 0)
+  -- thread p learns W, and nothing is counted: a key of its own
+  abbrev pub learn : StateOf F → ℕ → Keys → StateOf F
+  learn s p W = gain s p W (λ K. 0)
 
--- thread p hears of W, and the keys that are new to it are counted: "acquire, volatile read and join pass that count up" (document 02, E6)
-abbrev pub hear : State → ℕ → Keys → State
-hear s p W = gain s p W (countNew W)
+  -- thread p hears of W, and the keys that are new to it are counted: "acquire, volatile read and join pass that count up" (document 02, E6)
+  abbrev pub hear : StateOf F → ℕ → Keys → StateOf F
+  hear s p W = gain s p W (countNew W)
 
--- θ[p ↦ e]
-unfoldable pub become : State → ℕ → Expression → State
-unfolding changeAt
-become s p e = record {
-  objects = s .objects;
-  threads = changeAt (s .threads) p (λ x. record { self = x .self; expression = e; keys = x .keys; learnt = x .learnt; place = x .place });
-  nextKey = s .nextKey;
-}
+  -- θ[p ↦ e]
+  unfoldable pub become : StateOf F → ℕ → F .Carrier → StateOf F
+  unfolding changeAt
+  become s p e = record {
+    objects = s .objects;
+    threads = changeAt (s .threads) p (λ x. record { self = x .self; expression = e; keys = x .keys; learnt = x .learnt; place = x .place });
+    nextKey = s .nextKey;
+  }
 
--- "threads are numbered in order of creation": one more thread
-unfoldable pub addThread : State → Thread → State
-addThread s x = record { objects = s .objects; threads = s .threads ++ (x ∷ []); nextKey = s .nextKey }
+  -- "threads are numbered in order of creation": one more thread
+  unfoldable pub addThread : StateOf F → ThreadOf F → StateOf F
+  addThread s x = record { objects = s .objects; threads = s .threads ++ (x ∷ []); nextKey = s .nextKey }
 
--- "the next unused key, 1 upward"
-unfoldable pub useKey : State → State
-useKey s = record { objects = s .objects; threads = s .threads; nextKey = suc (s .nextKey) }
+  -- "the next unused key, 1 upward"
+  unfoldable pub useKey : StateOf F → StateOf F
+  useKey s = record { objects = s .objects; threads = s .threads; nextKey = suc (s .nextKey) }
 
--- "A forked thread starts with its maker's set." It runs e, has heard of no set and waits on nothing; t is its maker
-abbrev pub forked : State → Thread → Expression → Thread
-forked s t e = record { self = length (s .objects); expression = e; keys = t .keys; learnt = 0; place = awake }
+  -- "A forked thread starts with its maker's set." It runs e, has heard of no set and waits on nothing; t is its maker
+  abbrev pub forked : StateOf F → ThreadOf F → F .Carrier → ThreadOf F
+  forked s t e = record { self = length (s .objects); expression = e; keys = t .keys; learnt = 0; place = awake }
 
--- ---- the queues (document 02, E3)
+  -- ---- the queues (document 02, E3)
 
--- the places of the threads
-abbrev pub placesOf : State → List Place
-placesOf s = map (λ (t : Thread). t .place) (s .threads)
+  -- the places of the threads
+  abbrev pub placesOf : StateOf F → List Place
+  placesOf s = map (λ (t : ThreadOf F). t .place) (s .threads)
 
--- the thread at this place
-abbrev pub inPlace : Place → Thread → Thread
-inPlace w t = record { self = t .self; expression = t .expression; keys = t .keys; learnt = t .learnt; place = w }
+  -- the thread at this place
+  abbrev pub inPlace : Place → ThreadOf F → ThreadOf F
+  inPlace w t = record { self = t .self; expression = t .expression; keys = t .keys; learnt = t .learnt; place = w }
 
--- thread p takes the last place of the queue of o
-unfoldable pub enqueue : State → ℕ → ℕ → State
-unfolding changeAt lastPlace
-enqueue s p o = record {
-  objects = s .objects;
-  threads = changeAt (s .threads) p (inPlace (lastPlace o (placesOf s)));
-  nextKey = s .nextKey;
-}
+  -- thread p takes the last place of the queue of o
+  unfoldable pub enqueue : StateOf F → ℕ → ℕ → StateOf F
+  unfolding changeAt lastPlace
+  enqueue s p o = record {
+    objects = s .objects;
+    threads = changeAt (s .threads) p (inPlace (lastPlace o (placesOf s)));
+    nextKey = s .nextKey;
+  }
 
--- the numbers of the places on o are changed by h
-unfoldable pub signalled : (ℕ → ℕ) → State → ℕ → State
-unfolding movedUp
-signalled h s o = record {
-  objects = s .objects;
-  threads = map (λ (x : Thread). inPlace (movedUp h o (x .place)) x) (s .threads);
-  nextKey = s .nextKey;
-}
+  -- the numbers of the places on o are changed by h
+  unfoldable pub signalled : (ℕ → ℕ) → StateOf F → ℕ → StateOf F
+  unfolding movedUp
+  signalled h s o = record {
+    objects = s .objects;
+    threads = map (λ (x : ThreadOf F). inPlace (movedUp h o (x .place)) x) (s .threads);
+    nextKey = s .nextKey;
+  }
 
--- ---- threads by their objects
+  -- ---- threads by their objects
 
--- a thread with its number
-pub record Numbered : Type 0 where
-  pub number : ℕ
-  pub thread : Thread
+  -- the thread that object o stands for, among threads numbered from i
+  unfoldable pub threadOf : ℕ → List (ThreadOf F) → ℕ → Option (NumberedOf F)
+  threadOf i [] o = none
+  threadOf i (x ∷ xs) o = cond (eqb (x .self) o) (some (record { number = i; thread = x })) (threadOf (suc i) xs o)
 
--- the thread that object o stands for, among threads numbered from i
-unfoldable pub threadOf : ℕ → List Thread → ℕ → Option Numbered
-threadOf i [] o = none
-threadOf i (x ∷ xs) o = cond (eqb (x .self) o) (some (record { number = i; thread = x })) (threadOf (suc i) xs o)
+  -- "The run starts with object 0 (null), its monitor free with key set {0}, and thread 0 about to call main, knowing key 0. Object 0 also stands for
+  -- thread 0.": e is that call
+  unfoldable pub startAt : F .Carrier → StateOf F
+  unfolding freshObject
+  startAt e = record {
+    objects = freshObject [] ∷ [];
+    threads = record { self = 0; expression = e; keys = singleton 0; learnt = 0; place = awake } ∷ [];
+    nextKey = 1;
+  }
 
--- "The run starts with object 0 (null), its monitor free with key set {0}, and thread 0 about to call main, knowing key 0. Object 0 also stands for
--- thread 0."
+-- the start of the rules' runs
 unfoldable pub start : State
-unfolding freshObject
-start = record {
-  objects = freshObject [] ∷ [];
-  threads = record { self = 0; expression = Expression.call 0 Arguments.end; keys = singleton 0; learnt = 0; place = awake } ∷ [];
-  nextKey = 1;
-}
+unfolding startAt
+start = startAt (Expression.call 0 Arguments.end)

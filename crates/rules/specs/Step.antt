@@ -9,7 +9,8 @@ use Rattle.keys.specs.Keys.{empty, singleton, union, subset, isEmpty}
 use Rattle.packed.specs.Syntax.{Signal, Expression, Condition, Procedure, Program, literal, sequence, bool, bind, bindParameters, substitute}
 use Rattle.records.specs.Record.{Kind, Record, entry}
 use Rattle.rules.specs.Context.{Context, top, plug, plugᶜ, Redex, Redexᶜ, Focus, value, here, hereᶜ, focus, asLiteral}
-use Rattle.rules.specs.State.{Cell, cell, Thread, State, Numbered, freshObject, lookup, monitor, store, storeMonitor, addObject, gain, learn, hear}
+use Rattle.rules.specs.State.{Form, expressions, StateOf, Cell, cell, Thread, State, Numbered, freshObject, lookup, monitor, store, storeMonitor}
+use Rattle.rules.specs.State.{addObject, gain, learn, hear}
 use Rattle.rules.specs.State.{become, addThread, forked, useKey, enqueue, signalled, threadOf}
 use Rattle.rules.specs.Rules.{Rule, isVolatile, passedOn, e-call, e-let, e-if, e-while, e-notnottrue, e-andtrue, e-andfalse, e-equaltrue, e-equalfalse}
 use Rattle.rules.specs.Rules.{e-new, e-read, e-write, e-readv, e-writev, e-fork, e-join, e-re-enter, e-acquire, e-release, e-wait, e-wake, e-notify}
@@ -31,12 +32,15 @@ pub data Stuck : Type 0 where
   -- a slot that nothing binds, a call without its procedure or arguments, an object or a held monitor that is not there: no accepted plan comes here
   noRule : Stuck
 
--- what a redex comes to. Of a rule: its record, the state after it but for the mover's expression, and what replaces the redex
-pub data Act : Type 0 where
-  waits : Wait → Act
-  sticks : Stuck → Act
-  lacks : Record → Act
-  does : Rule → Option Record → State → Expression → Act
+-- what a redex comes to. Of a rule: its record, the state after it but for the mover's expression, and what replaces the redex, which is an E
+pub data ActOf (F : Form) (E : Type 0) : Type 0 where
+  waits : Wait → ActOf F E
+  sticks : Stuck → ActOf F E
+  lacks : Record → ActOf F E
+  does : Rule → Option Record → StateOf F → E → ActOf F E
+
+abbrev pub Act : Type 0
+Act = ActOf expressions Expression
 
 -- E-CALL
 unfoldable pub callAct : State → Option Procedure → List ℕ → Act
@@ -164,19 +168,25 @@ actᶜ (Redexᶜ.and false c) = record { rule = e-andfalse; result = bool false 
 actᶜ (Redexᶜ.equal o o′) = equalAct (eqb o o′)
 
 -- a move: its rule, its record, the state after it
-pub record Move : Type 0 where
+pub record MoveOf (F : Form) : Type 0 where
   pub rule : Rule
   pub entry : Option Record
-  pub state : State
+  pub state : StateOf F
+
+abbrev pub Move : Type 0
+Move = MoveOf expressions
 
 -- what a thread can do, whatever the room
-pub data Attempt : Type 0 where
-  absent : Attempt
-  finished : ℕ → Attempt
-  waiting : Wait → Attempt
-  stuck : Stuck → Attempt
-  lacking : Record → Attempt
-  moves : Move → Attempt
+pub data AttemptOf (F : Form) : Type 0 where
+  absent : AttemptOf F
+  finished : ℕ → AttemptOf F
+  waiting : Wait → AttemptOf F
+  stuck : Stuck → AttemptOf F
+  lacking : Record → AttemptOf F
+  moves : MoveOf F → AttemptOf F
+
+abbrev pub Attempt : Type 0
+Attempt = AttemptOf expressions
 
 -- EVAL
 unfoldable pub around : State → ℕ → Context → Act → Attempt

@@ -15,7 +15,7 @@ use Rattle.rules.specs.State.{Thread, State, placesOf, start}
 use Rattle.rules.specs.Rules.{Rule, e-call, e-let, e-if, e-while, e-notnottrue, e-andtrue, e-andfalse, e-equaltrue, e-equalfalse, e-new, e-read}
 use Rattle.rules.specs.Rules.{e-write, e-readv, e-writev, e-fork, e-join, e-re-enter, e-acquire, e-release, e-wait, e-wake, e-notify, e-notifyall}
 use Rattle.rules.specs.Rules.{Moves}
-use Rattle.rules.specs.Step.{Attempt, forMonitor, forNotify}
+use Rattle.rules.specs.Step.{AttemptOf, forMonitor, forNotify}
 use Rattle.rules.specs.Room.{PassedOver}
 use Rattle.rules.specs.Run.{Run}
 use Rattle.rules.specs.Execution.{Execution, ends, passes, lacks-key, no-room, moves}
@@ -24,7 +24,7 @@ use Rattle.rules.specs.Execution.{Execution, ends, passes, lacks-key, no
 
 -- thread p "waits until notified" on o: its pick would be passed over for that reason
 abbrev pub Awaits : State → ℕ → ℕ → Type 0
-Awaits s o p = PassedOver s p (Attempt.waiting (forNotify o))
+Awaits s o p = PassedOver s p (AttemptOf.waiting (forNotify o))
 
 -- over a move from s to s′ thread p, which waited on o, is woken
 abbrev pub Woken : State → State → ℕ → ℕ → Type 0
@@ -124,7 +124,7 @@ pub record Queueing {g : Program} {ps : List ℕ} {r : Run} (x : Execution g sta
       → (o q : ℕ) → Awaits (r .final) o q → Awaits s′ o q
   -- "its next move needs the monitor free": whoever is woken waits for the monitor, which the waker holds
   pub woken-kept-out : (p : ℕ) (R : Rule) (e : Option Record) (s′ : State) → Moves g (r .final) p R e s′
-      → (o q : ℕ) → Woken (r .final) s′ o q → PassedOver s′ q (Attempt.waiting (forMonitor o))
+      → (o q : ℕ) → Woken (r .final) s′ o q → PassedOver s′ q (AttemptOf.waiting (forMonitor o))
   -- a thread that waits, for the first time or again, stands behind those who wait
   pub waits-behind : (p : ℕ) (R : Rule) (e : Option Record) (s′ : State) → Moves g (r .final) p R e s′ → (o : ℕ) → Signals (r .final) p Signal.wait o
       → Awaits s′ o p

@@ -10,7 +10,7 @@ use Rattle.packed.specs.Trees.{programOf}
 use Rattle.packed.proofs.Decoded.{well-formed}
 use Rattle.rules.specs.State.{State, start}
 use Rattle.rules.specs.Step.{attempt}
-use Rattle.rules.specs.Room.{Answer, step}
+use Rattle.rules.specs.Room.{AnswerOf, Answer, step}
 use Rattle.rules.specs.Run.{Stop, status, run, play}
 use Rattle.rules.specs.Play.{scheduleRefusal, runOf}
 use Rattle.rules.proofs.Invariant.{Inv}
@@ -25,10 +25,10 @@ use Rattle.ruqzhemil.proofs.Statuses.{small-thread}
 module _ (g : Program) (s : State) (I : Inv g s) (z : Roomy s) (p : ℕ) where
   small-by : (a : Answer) → SmallPreview (shownBy (status (attempt g s p)) a)
   unfolding shownBy
-  small-by Answer.passed = small-thread g s I z p
-  small-by (Answer.moved m) = tt
-  small-by (Answer.race r) = tt
-  small-by (Answer.noRoom k) = tt
+  small-by AnswerOf.passed = small-thread g s I z p
+  small-by (AnswerOf.moved m) = tt
+  small-by (AnswerOf.race r) = tt
+  small-by (AnswerOf.noRoom k) = tt
 
   small-at : (e : Stop) → SmallPreview (shownAt g s p e)
   unfolding shownAt shown

@@ -26,7 +26,7 @@ use Rattle.rules.specs.Rules.{Rule, isVolatile, Converts, E-CALL, E-LET, E-IF, 
 use Rattle.rules.specs.Rules.{E-ACQUIRE, E-RELEASE, E-WAIT, E-WAKE, E-NOTIFY, E-NOTIFYALL, Convertsᶜ, E-NOTNOTTRUE, E-ANDTRUE, E-ANDFALSE, E-EQUALTRUE}
 use Rattle.rules.specs.Rules.{E-EQUALFALSE, Moves, EVAL, EVALᶜ}
 use Rattle.rules.specs.Step.{Move}
-use Rattle.rules.specs.Room.{noRoomFor, Answer, step}
+use Rattle.rules.specs.Room.{noRoomFor, AnswerOf, Answer, step}
 use Rattle.rules.specs.Run.{Stop, run, resume, logged}
 use Rattle.rules.proofs.Relocated.{is-there, signalled-relocated}
 use Rattle.rules.proofs.StateLaws.{inside, added-old, change-other}
@@ -94,7 +94,8 @@ trail-kept g P (move {s} {H = H} tr p mv l) = let d = trail-kept g P tr in (reac
 
 -- ---- lists of picks that all move
 
-snoc : {g : Program} {s s′ : State} {qs : List ℕ} → Plays g s qs s′ → (q : ℕ) (m : Move) → step g s′ q ≡ Answer.moved m → Plays g s (qs ++ (q ∷ [])) (m .state)
+snoc : {g : Program} {s s′ : State} {qs : List ℕ} → Plays g s qs s′ → (q : ℕ) (m : Move) → step g s′ q ≡ AnswerOf.moved m
+    → Plays g s (qs ++ (q ∷ [])) (m .state)
 snoc done q m h = pick m h done
 snoc (pick m′ h′ ps) q m h = pick m′ h′ (snoc ps q m h)
 

@@ -179,23 +179,14 @@ module _ (g : Program) (P : WellFormedProgram g) (Q : WaitlessProgram g) (S : Ma
   room-by ω₂ R s₁ c₁ t₁ u₁ h₁ h₂ z d e l more′ lk =
       both-none (noRoomBefore c R) _ (before-fewer R (first-none (noRoomBefore s R) _ lk)) (after-too (second-none (noRoomBefore s R) _ lk))
     where
-      at-s : getElem? (changeAt (s₁ .threads) p (λ x. record { self = x .self; expression = d; keys = x .keys; learnt = x .learnt; place = x .place })) p
-          ≡ some (record { self = t₁ .self; expression = d; keys = t₁ .keys; learnt = t₁ .learnt; place = t₁ .place })
-      at-s = change-same (s₁ .threads) p _ t₁ h₁
+      withExpression : Expression → Thread → Thread
+      withExpression e x = record { self = x .self; expression = e; keys = x .keys; learnt = x .learnt; place = x .place }
 
-      at-c : getElem? (changeAt (c₁ .threads) q (λ x. record { self = x .self; expression = e; keys = x .keys; learnt = x .learnt; place = x .place })) q
-          ≡ some (record { self = u₁ .self; expression = e; keys = u₁ .keys; learnt = u₁ .learnt; place = u₁ .place })
-      at-c = change-same (c₁ .threads) q _ u₁ h₂
+      deep-s : deepAt (getElem? (become s₁ p d .threads) p) ≡ deep (withExpression d t₁)
+      deep-s = ap deepAt (change-same (s₁ .threads) p (withExpression d) t₁ h₁)
 
-      deep-s : deepAt (getElem? (become s₁ p d .threads) p) ≡ deep
-          (record { self = t₁ .self; expression = d; keys = t₁ .keys; learnt = t₁ .learnt; place = t₁ .place })
-      deep-s = ap deepAt at-s
-
-      deep-c : deepAt (getElem? (become c₁ q e .threads) q) ≡ deep
-          (record { self = t₁ .self; expression = d; keys = t₁ .keys; learnt = t₁ .learnt; place = t₁ .place })
-      deep-c = ap deepAt at-c
-          ∙ sym (same-deep ω₂ z (record { self = t₁ .self; expression = d; keys = t₁ .keys; learnt = t₁ .learnt; place = t₁ .place })
-          (record { self = u₁ .self; expression = e; keys = u₁ .keys; learnt = u₁ .learnt; place = u₁ .place }) l)
+      deep-c : deepAt (getElem? (become c₁ q e .threads) q) ≡ deep (withExpression d t₁)
+      deep-c = ap deepAt (change-same (c₁ .threads) q (withExpression e) u₁ h₂) ∙ sym (same-deep ω₂ z (withExpression d t₁) (withExpression e u₁) l)
 
       after-too : cond (deepAt (getElem? (become s₁ p d .threads) p) || anyDeep (drop (length (s .threads)) (become s₁ p d .threads)))
           (some Room.depth) none ≡ none → cond (deepAt (getElem? (become c₁ q e .threads) q) || anyDeep (drop (length (c .threads)) (become c₁ q e .threads)))
