@@ -53,9 +53,6 @@ unfolding anyBelow
 any-same zero f h e = refl
 any-same (suc n) f h e = ap₂ _||_ (any-same n f h (λ k b. e k (omega arith))) (e n (omega arith))
 
-pub none-below : (n : ℕ) (f : ℕ → Bool) → anyBelow n f ≡ false → (k : ℕ) → k < n → f k ≡ false
-none-below n f h k b = by-true (f k) (λ e. true≢false (sym (any-true n f k b e) ∙ h))
-
 pub none-any : (n : ℕ) (f : ℕ → Bool) → ((k : ℕ) → k < n → f k ≡ false) → anyBelow n f ≡ false
 none-any n f h = by-true (anyBelow n f) (λ e. let a = any-found n f e in true≢false (sym (a .2) ∙ h (a .0) (a .1)))
 

@@ -7,7 +7,7 @@ use mathlib.Core.List.{List}
 use lib.Dec.{eqb}
 use borrow.Author.Tests.{eqb-true, eqb-false}
 use Rattle.packed.specs.Format.{procedures, terms, list, table, layout, tagAt, termAt}
-use Rattle.packed.specs.Trees.{Node, nodes, nodeAt, argumentsOf, expressionAt, argumentsAt}
+use Rattle.packed.specs.Trees.{ArgumentsNode, Node, nodes, nodeAt, argumentsOf, expressionAt, argumentsAt}
 use Rattle.packed.specs.Refusals.{listLength}
 use Rattle.packed.specs.Steps.{Descending}
 use Rattle.packed.proofs.WellFormed.{count}
@@ -19,7 +19,8 @@ use Rattle.machine.proofs.PlanTable.{ordered}
 
 -- ---- one term of a list
 
-pub list-left : (h : ℕ → Node) (N : ℕ) → Descending h N → (t i j : ℕ) → h t ≡ Node.list i j → count (treeᵃ h N t) ≡ suc (count (treeᵃ h N j))
+pub list-left : (h : ℕ → Node) (N : ℕ) → Descending h N → (t i j : ℕ) → h t ≡ Node.arguments (ArgumentsNode.list i j)
+    → count (treeᵃ h N t) ≡ suc (count (treeᵃ h N j))
 unfolding argumentsOf
 list-left h N o t i j e = ap count (tree-lawᵃ h N o t) ∙ rw e
 

@@ -6,7 +6,8 @@ use mathlib.Core.Bool.{Bool, true, false}
 use mathlib.Core.List.{List}
 use mathlib.Core.Option.{Option, some, none}
 use Rattle.packed.specs.Syntax.{Expression, Condition, Arguments, substitute, substituteᶜ, substituteᵃ}
-use Rattle.packed.specs.Trees.{Node, expressionOf, conditionOf, argumentsOf}
+use Rattle.packed.specs.Trees.{null, variable, new, read, write, letIn, if, while, call, fork, join, synch, signal, truth, not, and, equal, list, listEnd}
+use Rattle.packed.specs.Trees.{Node, expression, condition, arguments, unknown, expressionOf, conditionOf, argumentsOf}
 use Rattle.packed.specs.Steps.{Below, Descending}
 use Rattle.packed.proofs.TreeLaws.{tree, treeᶜ, treeᵃ, tree-law, tree-lawᶜ, tree-lawᵃ}
 use Rattle.rules.specs.Context.{asLiteral, asBool, isTruth, falseWhen, Focus, focus, focusᶜ, focusᵃ, onLiteral, onBool, onNot}
@@ -20,26 +21,22 @@ module _ (h : ℕ → Node) (N : ℕ) (o : Descending h N) where
 
   value-law : (ρ : Slots) (x : Node) → asLiteral (substitute (every ρ) (expressionOf (tree h N) (treeᶜ h N) (treeᵃ h N) x)) ≡ valueOf ρ x
   unfolding substitute expressionOf valueOf asLiteral
-  value-law ρ Node.null = refl
-  value-law ρ (Node.variable x) = refl
-  value-law ρ (Node.new fs) = refl
-  value-law ρ (Node.read i f) = refl
-  value-law ρ (Node.write i f j) = refl
-  value-law ρ (Node.letIn x i j) = refl
-  value-law ρ (Node.if i j k) = refl
-  value-law ρ (Node.while i j) = refl
-  value-law ρ (Node.call m i) = refl
-  value-law ρ (Node.fork i) = refl
-  value-law ρ (Node.join i) = refl
-  value-law ρ (Node.signal j i) = refl
-  value-law ρ (Node.synch i j) = refl
-  value-law ρ Node.truth = refl
-  value-law ρ (Node.not i) = refl
-  value-law ρ (Node.and i j) = refl
-  value-law ρ (Node.equal i j) = refl
-  value-law ρ (Node.list i j) = refl
-  value-law ρ Node.listEnd = refl
-  value-law ρ Node.unknown = refl
+  value-law ρ (expression null) = refl
+  value-law ρ (expression (variable x)) = refl
+  value-law ρ (expression (new fs)) = refl
+  value-law ρ (expression (read i f)) = refl
+  value-law ρ (expression (write i f j)) = refl
+  value-law ρ (expression (letIn x i j)) = refl
+  value-law ρ (expression (if i j k)) = refl
+  value-law ρ (expression (while i j)) = refl
+  value-law ρ (expression (call m i)) = refl
+  value-law ρ (expression (fork i)) = refl
+  value-law ρ (expression (join i)) = refl
+  value-law ρ (expression (synch i j)) = refl
+  value-law ρ (expression (signal k i)) = refl
+  value-law ρ (condition x) = refl
+  value-law ρ (arguments x) = refl
+  value-law ρ unknown = refl
 
   -- a closure is the value that the machine sees
   pub value-in : (x : Closure) → asLiteral (expressionIn h N x) ≡ valueIn h x
@@ -48,49 +45,23 @@ module _ (h : ℕ → Node) (N : ℕ) (o : Descending h N) where
 
   truth-law : (ρ : Slots) (x : Node) → isTruth (substituteᶜ (every ρ) (conditionOf (tree h N) (treeᶜ h N) x)) ≡ isTrue x
   unfolding substitute conditionOf isTrue isTruth
-  truth-law ρ Node.null = refl
-  truth-law ρ (Node.variable x) = refl
-  truth-law ρ (Node.new fs) = refl
-  truth-law ρ (Node.read i f) = refl
-  truth-law ρ (Node.write i f j) = refl
-  truth-law ρ (Node.letIn x i j) = refl
-  truth-law ρ (Node.if i j k) = refl
-  truth-law ρ (Node.while i j) = refl
-  truth-law ρ (Node.call m i) = refl
-  truth-law ρ (Node.fork i) = refl
-  truth-law ρ (Node.join i) = refl
-  truth-law ρ (Node.signal j i) = refl
-  truth-law ρ (Node.synch i j) = refl
-  truth-law ρ Node.truth = refl
-  truth-law ρ (Node.not i) = refl
-  truth-law ρ (Node.and i j) = refl
-  truth-law ρ (Node.equal i j) = refl
-  truth-law ρ (Node.list i j) = refl
-  truth-law ρ Node.listEnd = refl
-  truth-law ρ Node.unknown = refl
+  truth-law ρ (expression x) = refl
+  truth-law ρ (condition truth) = refl
+  truth-law ρ (condition (not i)) = refl
+  truth-law ρ (condition (and i j)) = refl
+  truth-law ρ (condition (equal i j)) = refl
+  truth-law ρ (arguments x) = refl
+  truth-law ρ unknown = refl
 
   bool-law : (ρ : Slots) (x : Node) → asBool (substituteᶜ (every ρ) (conditionOf (tree h N) (treeᶜ h N) x)) ≡ boolOf h x
   unfolding substitute conditionOf boolOf asBool
-  bool-law ρ Node.null = refl
-  bool-law ρ (Node.variable x) = refl
-  bool-law ρ (Node.new fs) = refl
-  bool-law ρ (Node.read i f) = refl
-  bool-law ρ (Node.write i f j) = refl
-  bool-law ρ (Node.letIn x i j) = refl
-  bool-law ρ (Node.if i j k) = refl
-  bool-law ρ (Node.while i j) = refl
-  bool-law ρ (Node.call m i) = refl
-  bool-law ρ (Node.fork i) = refl
-  bool-law ρ (Node.join i) = refl
-  bool-law ρ (Node.signal j i) = refl
-  bool-law ρ (Node.synch i j) = refl
-  bool-law ρ Node.truth = refl
-  bool-law ρ (Node.not i) = ap falseWhen (ap (λ (c : Condition). isTruth (substituteᶜ (every ρ) c)) (tree-lawᶜ h N o i) ∙ truth-law ρ (h i))
-  bool-law ρ (Node.and i j) = refl
-  bool-law ρ (Node.equal i j) = refl
-  bool-law ρ (Node.list i j) = refl
-  bool-law ρ Node.listEnd = refl
-  bool-law ρ Node.unknown = refl
+  bool-law ρ (expression x) = refl
+  bool-law ρ (condition truth) = refl
+  bool-law ρ (condition (not i)) = ap falseWhen (ap (λ (c : Condition). isTruth (substituteᶜ (every ρ) c)) (tree-lawᶜ h N o i) ∙ truth-law ρ (h i))
+  bool-law ρ (condition (and i j)) = refl
+  bool-law ρ (condition (equal i j)) = refl
+  bool-law ρ (arguments x) = refl
+  bool-law ρ unknown = refl
 
   pub bool-in : (x : Closure) → asBool (conditionIn h N x) ≡ boolIn h x
   unfolding boolIn
@@ -119,81 +90,49 @@ module _ (h : ℕ → Node) (N : ℕ) (o : Descending h N) where
     level : (S : List Frame) (x : Node) → Below t x
         → mean h N (downBy h (λ F. F) d c l ρ S x) ≡ focus (context h N S) (substitute (every ρ) (expressionOf (tree h N) (treeᶜ h N) (treeᵃ h N) x))
     unfolding downBy substitute expressionOf focus firstSlots
-    level S Node.null b = refl
-    level S (Node.variable x) b = refl
-    level S (Node.new fs) b = refl
-    level S (Node.read i f) b = by-literal _ _ _ _ _ _ (value-in (closure i ρ)) (λ o. refl) (hd _ (closure i ρ) b)
-    level S (Node.write i f j) b =
+    level S (expression null) b = refl
+    level S (expression (variable x)) b = refl
+    level S (expression (new fs)) b = refl
+    level S (expression (read i f)) b = by-literal _ _ _ _ _ _ (value-in (closure i ρ)) (λ o. refl) (hd _ (closure i ρ) b)
+    level S (expression (write i f j)) b =
         by-literal _ _ _ _ _ _ (value-in (closure i ρ)) (λ o. by-literal _ _ _ _ _ _ (value-in (closure j ρ)) (λ v. refl) (hd _ (closure j ρ) (b .1)))
         (hd _ (closure i ρ) (b .0))
-    level S (Node.letIn x i j) b = by-literal _ _ _ _ _ _ (value-in (closure i ρ)) (λ o. refl) (hd _ (closure i ρ) (b .0))
-    level S (Node.if i j k) b = by-bool _ _ _ _ _ _ (bool-in (closure i ρ)) (λ o. refl) (hc _ (closure i ρ) (b .0))
-    level S (Node.while i j) b = refl
-    level S (Node.call m i) b = hl S m 0 noSlots (closure i ρ) b
-    level S (Node.fork i) b = refl
-    level S (Node.join i) b = by-literal _ _ _ _ _ _ (value-in (closure i ρ)) (λ o. refl) (hd _ (closure i ρ) b)
-    level S (Node.signal j i) b = by-literal _ _ _ _ _ _ (value-in (closure i ρ)) (λ o. refl) (hd _ (closure i ρ) b)
-    level S (Node.synch i j) b = by-literal _ _ _ _ _ _ (value-in (closure i ρ)) (λ o. refl) (hd _ (closure i ρ) (b .0))
-    level S Node.truth b = refl
-    level S (Node.not i) b = refl
-    level S (Node.and i j) b = refl
-    level S (Node.equal i j) b = refl
-    level S (Node.list i j) b = refl
-    level S Node.listEnd b = refl
-    level S Node.unknown b = refl
+    level S (expression (letIn x i j)) b = by-literal _ _ _ _ _ _ (value-in (closure i ρ)) (λ o. refl) (hd _ (closure i ρ) (b .0))
+    level S (expression (if i j k)) b = by-bool _ _ _ _ _ _ (bool-in (closure i ρ)) (λ o. refl) (hc _ (closure i ρ) (b .0))
+    level S (expression (while i j)) b = refl
+    level S (expression (call m i)) b = hl S m 0 noSlots (closure i ρ) b
+    level S (expression (fork i)) b = refl
+    level S (expression (join i)) b = by-literal _ _ _ _ _ _ (value-in (closure i ρ)) (λ o. refl) (hd _ (closure i ρ) b)
+    level S (expression (signal j i)) b = by-literal _ _ _ _ _ _ (value-in (closure i ρ)) (λ o. refl) (hd _ (closure i ρ) b)
+    level S (expression (synch i j)) b = by-literal _ _ _ _ _ _ (value-in (closure i ρ)) (λ o. refl) (hd _ (closure i ρ) (b .0))
+    level S (condition x) b = refl
+    level S (arguments x) b = refl
+    level S unknown b = refl
 
     levelᶜ : (S : List Frame) (x : Node) → Below t x
         → mean h N (downByᶜ h (λ F. F) d c l ρ S x) ≡ focusᶜ (contextᶜ h N S) (substituteᶜ (every ρ) (conditionOf (tree h N) (treeᶜ h N) x))
     unfolding downByᶜ substitute conditionOf focus
-    levelᶜ S Node.null b = refl
-    levelᶜ S (Node.variable x) b = refl
-    levelᶜ S (Node.new fs) b = refl
-    levelᶜ S (Node.read i f) b = refl
-    levelᶜ S (Node.write i f j) b = refl
-    levelᶜ S (Node.letIn x i j) b = refl
-    levelᶜ S (Node.if i j k) b = refl
-    levelᶜ S (Node.while i j) b = refl
-    levelᶜ S (Node.call m i) b = refl
-    levelᶜ S (Node.fork i) b = refl
-    levelᶜ S (Node.join i) b = refl
-    levelᶜ S (Node.signal j i) b = refl
-    levelᶜ S (Node.synch i j) b = refl
-    levelᶜ S Node.truth b = refl
-    levelᶜ S (Node.not i) b = by-bool _ _ _ _ _ _ (bool-in (closure i ρ)) (λ o. by-not S o) (hc _ (closure i ρ) b)
-    levelᶜ S (Node.and i j) b = by-bool _ _ _ _ _ _ (bool-in (closure i ρ)) (λ o. refl) (hc _ (closure i ρ) (b .0))
-    levelᶜ S (Node.equal i j) b =
+    levelᶜ S (expression x) b = refl
+    levelᶜ S (condition truth) b = refl
+    levelᶜ S (condition (not i)) b = by-bool _ _ _ _ _ _ (bool-in (closure i ρ)) (λ o. by-not S o) (hc _ (closure i ρ) b)
+    levelᶜ S (condition (and i j)) b = by-bool _ _ _ _ _ _ (bool-in (closure i ρ)) (λ o. refl) (hc _ (closure i ρ) (b .0))
+    levelᶜ S (condition (equal i j)) b =
         by-literal _ _ _ _ _ _ (value-in (closure i ρ)) (λ o. by-literal _ _ _ _ _ _ (value-in (closure j ρ)) (λ v. refl) (hd _ (closure j ρ) (b .1)))
         (hd _ (closure i ρ) (b .0))
-    levelᶜ S (Node.list i j) b = refl
-    levelᶜ S Node.listEnd b = refl
-    levelᶜ S Node.unknown b = refl
+    levelᶜ S (arguments x) b = refl
+    levelᶜ S unknown b = refl
 
     levelᵃ : (S : List Frame) (m n : ℕ) (σ : Slots) (x : Node) → Below t x
         → mean h N (downByᵃ h (λ F. F) d c l ρ S m n σ x) ≡ focusᵃ (context h N S) m (firstSlots n σ)
         (substituteᵃ (every ρ) (argumentsOf (tree h N) (treeᵃ h N) x))
     unfolding downByᵃ substitute argumentsOf focus
-    levelᵃ S m n σ Node.null b = refl
-    levelᵃ S m n σ (Node.variable x) b = refl
-    levelᵃ S m n σ (Node.new fs) b = refl
-    levelᵃ S m n σ (Node.read i f) b = refl
-    levelᵃ S m n σ (Node.write i f j) b = refl
-    levelᵃ S m n σ (Node.letIn x i j) b = refl
-    levelᵃ S m n σ (Node.if i j k) b = refl
-    levelᵃ S m n σ (Node.while i j) b = refl
-    levelᵃ S m n σ (Node.call m′ i) b = refl
-    levelᵃ S m n σ (Node.fork i) b = refl
-    levelᵃ S m n σ (Node.join i) b = refl
-    levelᵃ S m n σ (Node.signal j i) b = refl
-    levelᵃ S m n σ (Node.synch i j) b = refl
-    levelᵃ S m n σ Node.truth b = refl
-    levelᵃ S m n σ (Node.not i) b = refl
-    levelᵃ S m n σ (Node.and i j) b = refl
-    levelᵃ S m n σ (Node.equal i j) b = refl
-    levelᵃ S m n σ (Node.list i j) b =
+    levelᵃ S m n σ (expression x) b = refl
+    levelᵃ S m n σ (condition x) b = refl
+    levelᵃ S m n σ (arguments (list i j)) b =
         by-literal _ _ _ _ _ _ (value-in (closure i ρ)) (λ v. hl S m (suc n) (put σ n v) (closure j ρ) (b .1)
         ∙ ap (λ (os : List ℕ). focusᵃ (context h N S) m os (substituteᵃ (every ρ) (treeᵃ h N j))) (first-put n v σ)) (hd _ (closure i ρ) (b .0))
-    levelᵃ S m n σ Node.listEnd b = refl
-    levelᵃ S m n σ Node.unknown b = refl
+    levelᵃ S m n σ (arguments listEnd) b = refl
+    levelᵃ S m n σ unknown b = refl
 
   -- ---- the whole way
 

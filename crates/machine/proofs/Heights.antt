@@ -7,7 +7,8 @@ use mathlib.Core.Bool.{Bool, true, false}
 use mathlib.Core.List.{List, [], _∷_}
 use mathlib.Core.Option.{Option, some, none, Option·some-ne-none}
 use lib.ListN.{length}
-use Rattle.packed.specs.Trees.{Node}
+use Rattle.packed.specs.Trees.{null, variable, new, read, write, letIn, if, while, call, fork, join, synch, signal, truth, not, and, equal, list, listEnd}
+use Rattle.packed.specs.Trees.{Node, expression, condition, arguments, unknown}
 use Rattle.packed.specs.Steps.{Below, Descending}
 use Rattle.rules.specs.Context.{falseWhen}
 use Rattle.machine.specs.Frames.{Slots, noSlots, put, Closure, closure, Frame, Found, height}
@@ -18,30 +19,17 @@ use Rattle.machine.proofs.Levels.{level, levelᶜ, levelᵃ, up-level}
 -- a condition that is true is true at its node
 true-node : (h : ℕ → Node) (x : Node) → boolOf h x ≡ some true → isTrue x ≡ true
 unfolding boolOf isTrue falseWhen
-true-node h Node.null e = refl
-true-node h (Node.variable x) e = refl
-true-node h (Node.new fs) e = refl
-true-node h (Node.read i f) e = refl
-true-node h (Node.write i f j) e = refl
-true-node h (Node.letIn x i j) e = refl
-true-node h (Node.if i j k) e = refl
-true-node h (Node.while i j) e = refl
-true-node h (Node.call m i) e = refl
-true-node h (Node.fork i) e = refl
-true-node h (Node.join i) e = refl
-true-node h (Node.signal j i) e = refl
-true-node h (Node.synch i j) e = refl
-true-node h Node.truth e = refl
-true-node h (Node.not i) e = at (isTrue (h i)) e
+true-node h (expression x) e = refl
+true-node h (condition truth) e = refl
+true-node h (condition (not i)) e = at (isTrue (h i)) e
   where
     at : (b : Bool) → falseWhen b ≡ some true → false ≡ true
     at true e = cc
     at false e = cc
-true-node h (Node.and i j) e = cc
-true-node h (Node.equal i j) e = cc
-true-node h (Node.list i j) e = refl
-true-node h Node.listEnd e = refl
-true-node h Node.unknown e = refl
+true-node h (condition (and i j)) e = cc
+true-node h (condition (equal i j)) e = cc
+true-node h (arguments x) e = refl
+true-node h unknown e = refl
 
 given-height : {A : Type 0} (n : ℕ) (v : Option A) (k : A → Found) (r : Found) → ((a : A) → v ≡ some a → n ≤ height (k a)) → (v ≡ none → n ≤ height r)
     → n ≤ height (given v k r)
@@ -55,28 +43,24 @@ module _ (h : ℕ → Node) where
       (hl : (m n : ℕ) (σ : Slots) (x : Closure) → t < x .at → length S ≤ height (l S m n σ x)) where
     at-least : (ρ : Slots) (x : Node) → Below t x → valueOf ρ x ≡ none → length S ≤ height (downBy h (λ F. F) d c l ρ S x)
     unfolding downBy valueOf height
-    at-least ρ Node.null b e = absurd (Option·some-ne-none 0 e)
-    at-least ρ (Node.variable x) b e = absurd (Option·some-ne-none (ρ x) e)
-    at-least ρ (Node.new fs) b e = omega arith
-    at-least ρ (Node.read i f) b e = given-height (length S) (valueIn h (closure i ρ)) _ _ (λ a q. omega arith) (hd _ (closure i ρ) b)
-    at-least ρ (Node.write i f j) b e =
+    at-least ρ (expression null) b e = absurd (Option·some-ne-none 0 e)
+    at-least ρ (expression (variable x)) b e = absurd (Option·some-ne-none (ρ x) e)
+    at-least ρ (expression (new fs)) b e = omega arith
+    at-least ρ (expression (read i f)) b e = given-height (length S) (valueIn h (closure i ρ)) _ _ (λ a q. omega arith) (hd _ (closure i ρ) b)
+    at-least ρ (expression (write i f j)) b e =
         given-height (length S) (valueIn h (closure i ρ)) _ _
         (λ a q. given-height (length S) (valueIn h (closure j ρ)) _ _ (λ v r. omega arith) (hd _ (closure j ρ) (b .1))) (hd _ (closure i ρ) (b .0))
-    at-least ρ (Node.letIn x i j) b e = given-height (length S) (valueIn h (closure i ρ)) _ _ (λ a q. omega arith) (hd _ (closure i ρ) (b .0))
-    at-least ρ (Node.if i j k) b e = given-height (length S) (boolIn h (closure i ρ)) _ _ (λ a q. omega arith) (hc _ (closure i ρ) (b .0))
-    at-least ρ (Node.while i j) b e = omega arith
-    at-least ρ (Node.call m i) b e = hl m 0 noSlots (closure i ρ) b
-    at-least ρ (Node.fork i) b e = omega arith
-    at-least ρ (Node.join i) b e = given-height (length S) (valueIn h (closure i ρ)) _ _ (λ a q. omega arith) (hd _ (closure i ρ) b)
-    at-least ρ (Node.signal j i) b e = given-height (length S) (valueIn h (closure i ρ)) _ _ (λ a q. omega arith) (hd _ (closure i ρ) b)
-    at-least ρ (Node.synch i j) b e = given-height (length S) (valueIn h (closure i ρ)) _ _ (λ a q. omega arith) (hd _ (closure i ρ) (b .0))
-    at-least ρ Node.truth b e = absurd (Option·some-ne-none 0 e)
-    at-least ρ (Node.not i) b e = absurd (Option·some-ne-none 0 e)
-    at-least ρ (Node.and i j) b e = absurd (Option·some-ne-none 0 e)
-    at-least ρ (Node.equal i j) b e = absurd (Option·some-ne-none 0 e)
-    at-least ρ (Node.list i j) b e = absurd (Option·some-ne-none 0 e)
-    at-least ρ Node.listEnd b e = absurd (Option·some-ne-none 0 e)
-    at-least ρ Node.unknown b e = absurd (Option·some-ne-none 0 e)
+    at-least ρ (expression (letIn x i j)) b e = given-height (length S) (valueIn h (closure i ρ)) _ _ (λ a q. omega arith) (hd _ (closure i ρ) (b .0))
+    at-least ρ (expression (if i j k)) b e = given-height (length S) (boolIn h (closure i ρ)) _ _ (λ a q. omega arith) (hc _ (closure i ρ) (b .0))
+    at-least ρ (expression (while i j)) b e = omega arith
+    at-least ρ (expression (call m i)) b e = hl m 0 noSlots (closure i ρ) b
+    at-least ρ (expression (fork i)) b e = omega arith
+    at-least ρ (expression (join i)) b e = given-height (length S) (valueIn h (closure i ρ)) _ _ (λ a q. omega arith) (hd _ (closure i ρ) b)
+    at-least ρ (expression (signal j i)) b e = given-height (length S) (valueIn h (closure i ρ)) _ _ (λ a q. omega arith) (hd _ (closure i ρ) b)
+    at-least ρ (expression (synch i j)) b e = given-height (length S) (valueIn h (closure i ρ)) _ _ (λ a q. omega arith) (hd _ (closure i ρ) (b .0))
+    at-least ρ (condition x) b e = absurd (Option·some-ne-none 0 e)
+    at-least ρ (arguments x) b e = absurd (Option·some-ne-none 0 e)
+    at-least ρ unknown b e = absurd (Option·some-ne-none 0 e)
 
     not-least : (i : ℕ) (b : Bool) → boolOf h (h i) ≡ some b → falseWhen (isTrue (h i)) ≡ none → length S ≤ height (foundNot h (λ F. F) S b)
     unfolding height falseWhen
@@ -85,52 +69,24 @@ module _ (h : ℕ → Node) where
 
     at-leastᶜ : (ρ : Slots) (x : Node) → Below t x → boolOf h x ≡ none → length S ≤ height (downByᶜ h (λ F. F) d c l ρ S x)
     unfolding downByᶜ boolOf boolIn height
-    at-leastᶜ ρ Node.null b e = absurd (Option·some-ne-none true e)
-    at-leastᶜ ρ (Node.variable x) b e = absurd (Option·some-ne-none true e)
-    at-leastᶜ ρ (Node.new fs) b e = absurd (Option·some-ne-none true e)
-    at-leastᶜ ρ (Node.read i f) b e = absurd (Option·some-ne-none true e)
-    at-leastᶜ ρ (Node.write i f j) b e = absurd (Option·some-ne-none true e)
-    at-leastᶜ ρ (Node.letIn x i j) b e = absurd (Option·some-ne-none true e)
-    at-leastᶜ ρ (Node.if i j k) b e = absurd (Option·some-ne-none true e)
-    at-leastᶜ ρ (Node.while i j) b e = absurd (Option·some-ne-none true e)
-    at-leastᶜ ρ (Node.call m i) b e = absurd (Option·some-ne-none true e)
-    at-leastᶜ ρ (Node.fork i) b e = absurd (Option·some-ne-none true e)
-    at-leastᶜ ρ (Node.join i) b e = absurd (Option·some-ne-none true e)
-    at-leastᶜ ρ (Node.signal j i) b e = absurd (Option·some-ne-none true e)
-    at-leastᶜ ρ (Node.synch i j) b e = absurd (Option·some-ne-none true e)
-    at-leastᶜ ρ Node.truth b e = absurd (Option·some-ne-none true e)
-    at-leastᶜ ρ (Node.not i) b e = given-height (length S) (boolIn h (closure i ρ)) _ _ (λ a q. not-least i a q e) (hc _ (closure i ρ) b)
-    at-leastᶜ ρ (Node.and i j) b e = given-height (length S) (boolIn h (closure i ρ)) _ _ (λ a q. omega arith) (hc _ (closure i ρ) (b .0))
-    at-leastᶜ ρ (Node.equal i j) b e =
+    at-leastᶜ ρ (expression x) b e = absurd (Option·some-ne-none true e)
+    at-leastᶜ ρ (condition truth) b e = absurd (Option·some-ne-none true e)
+    at-leastᶜ ρ (condition (not i)) b e = given-height (length S) (boolIn h (closure i ρ)) _ _ (λ a q. not-least i a q e) (hc _ (closure i ρ) b)
+    at-leastᶜ ρ (condition (and i j)) b e = given-height (length S) (boolIn h (closure i ρ)) _ _ (λ a q. omega arith) (hc _ (closure i ρ) (b .0))
+    at-leastᶜ ρ (condition (equal i j)) b e =
         given-height (length S) (valueIn h (closure i ρ)) _ _
         (λ a q. given-height (length S) (valueIn h (closure j ρ)) _ _ (λ v r. omega arith) (hd _ (closure j ρ) (b .1))) (hd _ (closure i ρ) (b .0))
-    at-leastᶜ ρ (Node.list i j) b e = absurd (Option·some-ne-none true e)
-    at-leastᶜ ρ Node.listEnd b e = absurd (Option·some-ne-none true e)
-    at-leastᶜ ρ Node.unknown b e = absurd (Option·some-ne-none true e)
+    at-leastᶜ ρ (arguments x) b e = absurd (Option·some-ne-none true e)
+    at-leastᶜ ρ unknown b e = absurd (Option·some-ne-none true e)
 
     at-leastᵃ : (ρ : Slots) (m n : ℕ) (σ : Slots) (x : Node) → Below t x → length S ≤ height (downByᵃ h (λ F. F) d c l ρ S m n σ x)
     unfolding downByᵃ height
-    at-leastᵃ ρ m n σ Node.null b = omega arith
-    at-leastᵃ ρ m n σ (Node.variable x) b = omega arith
-    at-leastᵃ ρ m n σ (Node.new fs) b = omega arith
-    at-leastᵃ ρ m n σ (Node.read i f) b = omega arith
-    at-leastᵃ ρ m n σ (Node.write i f j) b = omega arith
-    at-leastᵃ ρ m n σ (Node.letIn x i j) b = omega arith
-    at-leastᵃ ρ m n σ (Node.if i j k) b = omega arith
-    at-leastᵃ ρ m n σ (Node.while i j) b = omega arith
-    at-leastᵃ ρ m n σ (Node.call m′ i) b = omega arith
-    at-leastᵃ ρ m n σ (Node.fork i) b = omega arith
-    at-leastᵃ ρ m n σ (Node.join i) b = omega arith
-    at-leastᵃ ρ m n σ (Node.signal j i) b = omega arith
-    at-leastᵃ ρ m n σ (Node.synch i j) b = omega arith
-    at-leastᵃ ρ m n σ Node.truth b = omega arith
-    at-leastᵃ ρ m n σ (Node.not i) b = omega arith
-    at-leastᵃ ρ m n σ (Node.and i j) b = omega arith
-    at-leastᵃ ρ m n σ (Node.equal i j) b = omega arith
-    at-leastᵃ ρ m n σ (Node.list i j) b =
+    at-leastᵃ ρ m n σ (expression x) b = omega arith
+    at-leastᵃ ρ m n σ (condition x) b = omega arith
+    at-leastᵃ ρ m n σ (arguments (list i j)) b =
         given-height (length S) (valueIn h (closure i ρ)) _ _ (λ a q. hl m (suc n) (put σ n a) (closure j ρ) (b .1)) (hd _ (closure i ρ) (b .0))
-    at-leastᵃ ρ m n σ Node.listEnd b = omega arith
-    at-leastᵃ ρ m n σ Node.unknown b = omega arith
+    at-leastᵃ ρ m n σ (arguments listEnd) b = omega arith
+    at-leastᵃ ρ m n σ unknown b = omega arith
 
   module _ (N : ℕ) (o : Descending h N) where
     -- past the end there are only values

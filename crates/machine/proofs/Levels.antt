@@ -4,7 +4,8 @@ use mathlib.Core.Path.{_≡_, refl}
 use mathlib.Core.Bool.{Bool, true, false}
 use mathlib.Core.List.{List, [], _∷_}
 use mathlib.Core.Option.{Option, some, none}
-use Rattle.packed.specs.Trees.{Node}
+use Rattle.packed.specs.Trees.{null, variable, new, read, write, letIn, if, while, call, fork, join, synch, signal, truth, not, and, equal, list, listEnd}
+use Rattle.packed.specs.Trees.{Node, expression, condition, arguments, unknown}
 use Rattle.packed.specs.Steps.{Below}
 use Rattle.machine.specs.Frames.{Slots, noSlots, put, Closure, closure, Frame, Found}
 use Rattle.machine.specs.Landing.{given, valueIn, boolIn, foundNot, downBy, downByᶜ, downByᵃ, upBy}
@@ -27,77 +28,45 @@ module _ (h : ℕ → Node) {R R′ : Type 0} (Related : R → R′ → Type 0) 
       (hl : (m n : ℕ) (σ : Slots) (x : Closure) → t < x .at → Related (l S m n σ x) (l′ S m n σ x)) where
     pub level : (ρ : Slots) (x : Node) → Below t x → Related (downBy h found d c l ρ S x) (downBy h found′ d′ c′ l′ ρ S x)
     unfolding downBy
-    level ρ Node.null b = hf _
-    level ρ (Node.variable x) b = hf _
-    level ρ (Node.new fs) b = hf _
-    level ρ (Node.read i f) b = given-related (valueIn h (closure i ρ)) _ _ _ _ (λ o. hf _) (hd _ (closure i ρ) b)
-    level ρ (Node.write i f j) b =
+    level ρ (expression null) b = hf _
+    level ρ (expression (variable x)) b = hf _
+    level ρ (expression (new fs)) b = hf _
+    level ρ (expression (read i f)) b = given-related (valueIn h (closure i ρ)) _ _ _ _ (λ o. hf _) (hd _ (closure i ρ) b)
+    level ρ (expression (write i f j)) b =
         given-related (valueIn h (closure i ρ)) _ _ _ _
         (λ o. given-related (valueIn h (closure j ρ)) _ _ _ _ (λ v. hf _) (hd _ (closure j ρ) (b .1))) (hd _ (closure i ρ) (b .0))
-    level ρ (Node.letIn x i j) b = given-related (valueIn h (closure i ρ)) _ _ _ _ (λ o. hf _) (hd _ (closure i ρ) (b .0))
-    level ρ (Node.if i j k) b = given-related (boolIn h (closure i ρ)) _ _ _ _ (λ o. hf _) (hc _ (closure i ρ) (b .0))
-    level ρ (Node.while i j) b = hf _
-    level ρ (Node.call m i) b = hl m 0 noSlots (closure i ρ) b
-    level ρ (Node.fork i) b = hf _
-    level ρ (Node.join i) b = given-related (valueIn h (closure i ρ)) _ _ _ _ (λ o. hf _) (hd _ (closure i ρ) b)
-    level ρ (Node.signal j i) b = given-related (valueIn h (closure i ρ)) _ _ _ _ (λ o. hf _) (hd _ (closure i ρ) b)
-    level ρ (Node.synch i j) b = given-related (valueIn h (closure i ρ)) _ _ _ _ (λ o. hf _) (hd _ (closure i ρ) (b .0))
-    level ρ Node.truth b = hf _
-    level ρ (Node.not i) b = hf _
-    level ρ (Node.and i j) b = hf _
-    level ρ (Node.equal i j) b = hf _
-    level ρ (Node.list i j) b = hf _
-    level ρ Node.listEnd b = hf _
-    level ρ Node.unknown b = hf _
+    level ρ (expression (letIn x i j)) b = given-related (valueIn h (closure i ρ)) _ _ _ _ (λ o. hf _) (hd _ (closure i ρ) (b .0))
+    level ρ (expression (if i j k)) b = given-related (boolIn h (closure i ρ)) _ _ _ _ (λ o. hf _) (hc _ (closure i ρ) (b .0))
+    level ρ (expression (while i j)) b = hf _
+    level ρ (expression (call m i)) b = hl m 0 noSlots (closure i ρ) b
+    level ρ (expression (fork i)) b = hf _
+    level ρ (expression (join i)) b = given-related (valueIn h (closure i ρ)) _ _ _ _ (λ o. hf _) (hd _ (closure i ρ) b)
+    level ρ (expression (signal j i)) b = given-related (valueIn h (closure i ρ)) _ _ _ _ (λ o. hf _) (hd _ (closure i ρ) b)
+    level ρ (expression (synch i j)) b = given-related (valueIn h (closure i ρ)) _ _ _ _ (λ o. hf _) (hd _ (closure i ρ) (b .0))
+    level ρ (condition x) b = hf _
+    level ρ (arguments x) b = hf _
+    level ρ unknown b = hf _
 
     pub levelᶜ : (ρ : Slots) (x : Node) → Below t x → Related (downByᶜ h found d c l ρ S x) (downByᶜ h found′ d′ c′ l′ ρ S x)
     unfolding downByᶜ
-    levelᶜ ρ Node.null b = hf _
-    levelᶜ ρ (Node.variable x) b = hf _
-    levelᶜ ρ (Node.new fs) b = hf _
-    levelᶜ ρ (Node.read i f) b = hf _
-    levelᶜ ρ (Node.write i f j) b = hf _
-    levelᶜ ρ (Node.letIn x i j) b = hf _
-    levelᶜ ρ (Node.if i j k) b = hf _
-    levelᶜ ρ (Node.while i j) b = hf _
-    levelᶜ ρ (Node.call m i) b = hf _
-    levelᶜ ρ (Node.fork i) b = hf _
-    levelᶜ ρ (Node.join i) b = hf _
-    levelᶜ ρ (Node.signal j i) b = hf _
-    levelᶜ ρ (Node.synch i j) b = hf _
-    levelᶜ ρ Node.truth b = hf _
-    levelᶜ ρ (Node.not i) b = given-related (boolIn h (closure i ρ)) _ _ _ _ (λ o. not-related S o) (hc _ (closure i ρ) b)
-    levelᶜ ρ (Node.and i j) b = given-related (boolIn h (closure i ρ)) _ _ _ _ (λ o. hf _) (hc _ (closure i ρ) (b .0))
-    levelᶜ ρ (Node.equal i j) b =
+    levelᶜ ρ (expression x) b = hf _
+    levelᶜ ρ (condition truth) b = hf _
+    levelᶜ ρ (condition (not i)) b = given-related (boolIn h (closure i ρ)) _ _ _ _ (λ o. not-related S o) (hc _ (closure i ρ) b)
+    levelᶜ ρ (condition (and i j)) b = given-related (boolIn h (closure i ρ)) _ _ _ _ (λ o. hf _) (hc _ (closure i ρ) (b .0))
+    levelᶜ ρ (condition (equal i j)) b =
         given-related (valueIn h (closure i ρ)) _ _ _ _
         (λ o. given-related (valueIn h (closure j ρ)) _ _ _ _ (λ v. hf _) (hd _ (closure j ρ) (b .1))) (hd _ (closure i ρ) (b .0))
-    levelᶜ ρ (Node.list i j) b = hf _
-    levelᶜ ρ Node.listEnd b = hf _
-    levelᶜ ρ Node.unknown b = hf _
+    levelᶜ ρ (arguments x) b = hf _
+    levelᶜ ρ unknown b = hf _
 
     pub levelᵃ : (ρ : Slots) (m n : ℕ) (σ : Slots) (x : Node) → Below t x → Related (downByᵃ h found d c l ρ S m n σ x) (downByᵃ h found′ d′ c′ l′ ρ S m n σ x)
     unfolding downByᵃ
-    levelᵃ ρ m n σ Node.null b = hf _
-    levelᵃ ρ m n σ (Node.variable x) b = hf _
-    levelᵃ ρ m n σ (Node.new fs) b = hf _
-    levelᵃ ρ m n σ (Node.read i f) b = hf _
-    levelᵃ ρ m n σ (Node.write i f j) b = hf _
-    levelᵃ ρ m n σ (Node.letIn x i j) b = hf _
-    levelᵃ ρ m n σ (Node.if i j k) b = hf _
-    levelᵃ ρ m n σ (Node.while i j) b = hf _
-    levelᵃ ρ m n σ (Node.call m′ i) b = hf _
-    levelᵃ ρ m n σ (Node.fork i) b = hf _
-    levelᵃ ρ m n σ (Node.join i) b = hf _
-    levelᵃ ρ m n σ (Node.signal j i) b = hf _
-    levelᵃ ρ m n σ (Node.synch i j) b = hf _
-    levelᵃ ρ m n σ Node.truth b = hf _
-    levelᵃ ρ m n σ (Node.not i) b = hf _
-    levelᵃ ρ m n σ (Node.and i j) b = hf _
-    levelᵃ ρ m n σ (Node.equal i j) b = hf _
-    levelᵃ ρ m n σ (Node.list i j) b =
+    levelᵃ ρ m n σ (expression x) b = hf _
+    levelᵃ ρ m n σ (condition x) b = hf _
+    levelᵃ ρ m n σ (arguments (list i j)) b =
         given-related (valueIn h (closure i ρ)) _ _ _ _ (λ o. hl m (suc n) (put σ n o) (closure j ρ) (b .1)) (hd _ (closure i ρ) (b .0))
-    levelᵃ ρ m n σ Node.listEnd b = hf _
-    levelᵃ ρ m n σ Node.unknown b = hf _
+    levelᵃ ρ m n σ (arguments listEnd) b = hf _
+    levelᵃ ρ m n σ unknown b = hf _
 
   -- up
   module _ (hd : (S : List Frame) (x : Closure) → valueIn h x ≡ none → Related (d S x) (d′ S x))

@@ -5,7 +5,8 @@ use mathlib.Core.Bool.{Bool, true, false}
 use mathlib.Core.List.{List, [], _∷_}
 use mathlib.Core.Option.{Option, some, none}
 use lib.ListN.{length}
-use Rattle.packed.specs.Trees.{Node}
+use Rattle.packed.specs.Trees.{null, variable, new, read, write, letIn, if, while, call, fork, join, synch, signal, truth, not, and, equal, list, listEnd}
+use Rattle.packed.specs.Trees.{Node, expression, condition, arguments, unknown}
 use Rattle.rules.specs.Context.{depth, depthᶜ, depthOf}
 use Rattle.machine.specs.Frames.{Slots, noSlots, put, Closure, closure, firstOf, secondOf, Frame, Found, height, Result}
 use Rattle.machine.specs.Landing.{given, valueIn, boolIn, foundNot, downBy, downByᶜ, downByᵃ, down, downᶜ, downᵃ, up, upᶜ, enter, enterᶜ, go}
@@ -122,74 +123,43 @@ module _ (h : ℕ → Node) where
       (hl : (S : List Frame) (m n : ℕ) (σ : Slots) (x : Closure) → Well S → WellFound (l S m n σ x)) where
     level-well : (ρ : Slots) (S : List Frame) (x : Node) → Well S → WellFound (downBy h (λ F. F) d c l ρ S x)
     unfolding downBy
-    level-well ρ S Node.null w = tt
-    level-well ρ S (Node.variable x) w = tt
-    level-well ρ S (Node.new fs) w = w
-    level-well ρ S (Node.read i f) w = given-well (valueIn h (closure i ρ)) _ _ (λ o. w) (hd _ (closure i ρ) w)
-    level-well ρ S (Node.write i f j) w =
+    level-well ρ S (expression null) w = tt
+    level-well ρ S (expression (variable x)) w = tt
+    level-well ρ S (expression (new fs)) w = w
+    level-well ρ S (expression (read i f)) w = given-well (valueIn h (closure i ρ)) _ _ (λ o. w) (hd _ (closure i ρ) w)
+    level-well ρ S (expression (write i f j)) w =
         given-well (valueIn h (closure i ρ)) _ _ (λ o. given-well (valueIn h (closure j ρ)) _ _ (λ v. w) (hd _ (closure j ρ) w)) (hd _ (closure i ρ) w)
-    level-well ρ S (Node.letIn x i j) w = given-well (valueIn h (closure i ρ)) _ _ (λ o. w) (hd _ (closure i ρ) w)
-    level-well ρ S (Node.if i j k) w = given-well (boolIn h (closure i ρ)) _ _ (λ o. w) (hc _ (closure i ρ) w)
-    level-well ρ S (Node.while i j) w = w
-    level-well ρ S (Node.call m i) w = hl S m 0 noSlots (closure i ρ) w
-    level-well ρ S (Node.fork i) w = w
-    level-well ρ S (Node.join i) w = given-well (valueIn h (closure i ρ)) _ _ (λ o. w) (hd _ (closure i ρ) w)
-    level-well ρ S (Node.signal j i) w = given-well (valueIn h (closure i ρ)) _ _ (λ o. w) (hd _ (closure i ρ) w)
-    level-well ρ S (Node.synch i j) w = given-well (valueIn h (closure i ρ)) _ _ (λ o. w) (hd _ (closure i ρ) w)
-    level-well ρ S Node.truth w = tt
-    level-well ρ S (Node.not i) w = tt
-    level-well ρ S (Node.and i j) w = tt
-    level-well ρ S (Node.equal i j) w = tt
-    level-well ρ S (Node.list i j) w = tt
-    level-well ρ S Node.listEnd w = tt
-    level-well ρ S Node.unknown w = tt
+    level-well ρ S (expression (letIn x i j)) w = given-well (valueIn h (closure i ρ)) _ _ (λ o. w) (hd _ (closure i ρ) w)
+    level-well ρ S (expression (if i j k)) w = given-well (boolIn h (closure i ρ)) _ _ (λ o. w) (hc _ (closure i ρ) w)
+    level-well ρ S (expression (while i j)) w = w
+    level-well ρ S (expression (call m i)) w = hl S m 0 noSlots (closure i ρ) w
+    level-well ρ S (expression (fork i)) w = w
+    level-well ρ S (expression (join i)) w = given-well (valueIn h (closure i ρ)) _ _ (λ o. w) (hd _ (closure i ρ) w)
+    level-well ρ S (expression (signal j i)) w = given-well (valueIn h (closure i ρ)) _ _ (λ o. w) (hd _ (closure i ρ) w)
+    level-well ρ S (expression (synch i j)) w = given-well (valueIn h (closure i ρ)) _ _ (λ o. w) (hd _ (closure i ρ) w)
+    level-well ρ S (condition x) w = tt
+    level-well ρ S (arguments x) w = tt
+    level-well ρ S unknown w = tt
 
     level-wellᶜ : (ρ : Slots) (S : List Frame) (x : Node) → Wellᶜ S → WellFound (downByᶜ h (λ F. F) d c l ρ S x)
     unfolding downByᶜ
-    level-wellᶜ ρ S Node.null w = tt
-    level-wellᶜ ρ S (Node.variable x) w = tt
-    level-wellᶜ ρ S (Node.new fs) w = tt
-    level-wellᶜ ρ S (Node.read i f) w = tt
-    level-wellᶜ ρ S (Node.write i f j) w = tt
-    level-wellᶜ ρ S (Node.letIn x i j) w = tt
-    level-wellᶜ ρ S (Node.if i j k) w = tt
-    level-wellᶜ ρ S (Node.while i j) w = tt
-    level-wellᶜ ρ S (Node.call m i) w = tt
-    level-wellᶜ ρ S (Node.fork i) w = tt
-    level-wellᶜ ρ S (Node.join i) w = tt
-    level-wellᶜ ρ S (Node.signal j i) w = tt
-    level-wellᶜ ρ S (Node.synch i j) w = tt
-    level-wellᶜ ρ S Node.truth w = tt
-    level-wellᶜ ρ S (Node.not i) w = given-well (boolIn h (closure i ρ)) _ _ (λ b. not-well h S b w) (hc _ (closure i ρ) w)
-    level-wellᶜ ρ S (Node.and i j) w = given-well (boolIn h (closure i ρ)) _ _ (λ b. w) (hc _ (closure i ρ) w)
-    level-wellᶜ ρ S (Node.equal i j) w =
+    level-wellᶜ ρ S (expression x) w = tt
+    level-wellᶜ ρ S (condition truth) w = tt
+    level-wellᶜ ρ S (condition (not i)) w = given-well (boolIn h (closure i ρ)) _ _ (λ b. not-well h S b w) (hc _ (closure i ρ) w)
+    level-wellᶜ ρ S (condition (and i j)) w = given-well (boolIn h (closure i ρ)) _ _ (λ b. w) (hc _ (closure i ρ) w)
+    level-wellᶜ ρ S (condition (equal i j)) w =
         given-well (valueIn h (closure i ρ)) _ _ (λ o. given-well (valueIn h (closure j ρ)) _ _ (λ v. w) (hd _ (closure j ρ) w)) (hd _ (closure i ρ) w)
-    level-wellᶜ ρ S (Node.list i j) w = tt
-    level-wellᶜ ρ S Node.listEnd w = tt
-    level-wellᶜ ρ S Node.unknown w = tt
+    level-wellᶜ ρ S (arguments x) w = tt
+    level-wellᶜ ρ S unknown w = tt
 
     level-wellᵃ : (ρ : Slots) (S : List Frame) (m n : ℕ) (σ : Slots) (x : Node) → Well S → WellFound (downByᵃ h (λ F. F) d c l ρ S m n σ x)
     unfolding downByᵃ
-    level-wellᵃ ρ S m n σ Node.null w = w
-    level-wellᵃ ρ S m n σ (Node.variable x) w = w
-    level-wellᵃ ρ S m n σ (Node.new fs) w = w
-    level-wellᵃ ρ S m n σ (Node.read i f) w = w
-    level-wellᵃ ρ S m n σ (Node.write i f j) w = w
-    level-wellᵃ ρ S m n σ (Node.letIn x i j) w = w
-    level-wellᵃ ρ S m n σ (Node.if i j k) w = w
-    level-wellᵃ ρ S m n σ (Node.while i j) w = w
-    level-wellᵃ ρ S m n σ (Node.call m′ i) w = w
-    level-wellᵃ ρ S m n σ (Node.fork i) w = w
-    level-wellᵃ ρ S m n σ (Node.join i) w = w
-    level-wellᵃ ρ S m n σ (Node.signal j i) w = w
-    level-wellᵃ ρ S m n σ (Node.synch i j) w = w
-    level-wellᵃ ρ S m n σ Node.truth w = w
-    level-wellᵃ ρ S m n σ (Node.not i) w = w
-    level-wellᵃ ρ S m n σ (Node.and i j) w = w
-    level-wellᵃ ρ S m n σ (Node.equal i j) w = w
-    level-wellᵃ ρ S m n σ (Node.list i j) w = given-well (valueIn h (closure i ρ)) _ _ (λ o. hl S m (suc n) (put σ n o) (closure j ρ) w) (hd _ (closure i ρ) w)
-    level-wellᵃ ρ S m n σ Node.listEnd w = w
-    level-wellᵃ ρ S m n σ Node.unknown w = w
+    level-wellᵃ ρ S m n σ (expression x) w = w
+    level-wellᵃ ρ S m n σ (condition x) w = w
+    level-wellᵃ ρ S m n σ (arguments (list i j)) w =
+        given-well (valueIn h (closure i ρ)) _ _ (λ o. hl S m (suc n) (put σ n o) (closure j ρ) w) (hd _ (closure i ρ) w)
+    level-wellᵃ ρ S m n σ (arguments listEnd) w = w
+    level-wellᵃ ρ S m n σ unknown w = w
 
   mutual
     unfolding down

@@ -4,8 +4,8 @@ use Prim.Native.Nat.{ℕ, zero, suc}
 use mathlib.Core.Bool.{Bool, true, false}
 use mathlib.Core.List.{List, [], _∷_}
 use mathlib.Core.Option.{Option, some, none}
-use Rattle.packed.specs.Trees.{Node, null, variable, new, read, write, letIn, if, while, call, fork, join, signal, synch, truth, not, and, equal, list}
-use Rattle.packed.specs.Trees.{listEnd, unknown}
+use Rattle.packed.specs.Trees.{null, variable, new, read, write, letIn, if, while, call, fork, join, synch, signal, truth, not, and, equal, list, listEnd}
+use Rattle.packed.specs.Trees.{Node, expression, condition, arguments, unknown}
 use Rattle.rules.specs.Context.{falseWhen}
 use Rattle.machine.specs.Frames.{Slots, noSlots, put, Closure, closure, branches, firstOf, secondOf, Frame, Ready, Readyᶜ, Found, Result}
 
@@ -18,73 +18,43 @@ given none k r = r
 
 -- the value that the expression at a node is
 unfoldable pub valueOf : Slots → Node → Option ℕ
-valueOf ρ null = some 0
-valueOf ρ (variable x) = some (ρ x)
-valueOf ρ (new fs) = none
-valueOf ρ (read i f) = none
-valueOf ρ (write i f j) = none
-valueOf ρ (letIn x i j) = none
-valueOf ρ (if i j k) = none
-valueOf ρ (while i j) = none
-valueOf ρ (call m i) = none
-valueOf ρ (fork i) = none
-valueOf ρ (join i) = none
-valueOf ρ (signal k i) = none
-valueOf ρ (synch i j) = none
-valueOf ρ truth = some 0
-valueOf ρ (not i) = some 0
-valueOf ρ (and i j) = some 0
-valueOf ρ (equal i j) = some 0
-valueOf ρ (list i j) = some 0
-valueOf ρ listEnd = some 0
+valueOf ρ (expression null) = some 0
+valueOf ρ (expression (variable x)) = some (ρ x)
+valueOf ρ (expression (new fs)) = none
+valueOf ρ (expression (read i f)) = none
+valueOf ρ (expression (write i f j)) = none
+valueOf ρ (expression (letIn x i j)) = none
+valueOf ρ (expression (if i j k)) = none
+valueOf ρ (expression (while i j)) = none
+valueOf ρ (expression (call m i)) = none
+valueOf ρ (expression (fork i)) = none
+valueOf ρ (expression (join i)) = none
+valueOf ρ (expression (signal k i)) = none
+valueOf ρ (expression (synch i j)) = none
+valueOf ρ (condition x) = some 0
+valueOf ρ (arguments x) = some 0
 valueOf ρ unknown = some 0
 
 -- the condition at a node is true
 unfoldable pub isTrue : Node → Bool
-isTrue null = true
-isTrue (variable x) = true
-isTrue (new fs) = true
-isTrue (read i f) = true
-isTrue (write i f j) = true
-isTrue (letIn x i j) = true
-isTrue (if i j k) = true
-isTrue (while i j) = true
-isTrue (call m i) = true
-isTrue (fork i) = true
-isTrue (join i) = true
-isTrue (signal k i) = true
-isTrue (synch i j) = true
-isTrue truth = true
-isTrue (not i) = false
-isTrue (and i j) = false
-isTrue (equal i j) = false
-isTrue (list i j) = true
-isTrue listEnd = true
+isTrue (expression x) = true
+isTrue (condition truth) = true
+isTrue (condition (not i)) = false
+isTrue (condition (and i j)) = false
+isTrue (condition (equal i j)) = false
+isTrue (arguments x) = true
 isTrue unknown = true
 
 module _ (h : ℕ → Node) where
   -- the value that the condition at a node is: true, or `not true`
   unfoldable pub boolOf : Node → Option Bool
   unfolding isTrue falseWhen
-  boolOf null = some true
-  boolOf (variable x) = some true
-  boolOf (new fs) = some true
-  boolOf (read i f) = some true
-  boolOf (write i f j) = some true
-  boolOf (letIn x i j) = some true
-  boolOf (if i j k) = some true
-  boolOf (while i j) = some true
-  boolOf (call m i) = some true
-  boolOf (fork i) = some true
-  boolOf (join i) = some true
-  boolOf (signal k i) = some true
-  boolOf (synch i j) = some true
-  boolOf truth = some true
-  boolOf (not i) = falseWhen (isTrue (h i))
-  boolOf (and i j) = none
-  boolOf (equal i j) = none
-  boolOf (list i j) = some true
-  boolOf listEnd = some true
+  boolOf (expression x) = some true
+  boolOf (condition truth) = some true
+  boolOf (condition (not i)) = falseWhen (isTrue (h i))
+  boolOf (condition (and i j)) = none
+  boolOf (condition (equal i j)) = none
+  boolOf (arguments x) = some true
   boolOf unknown = some true
 
   unfoldable pub valueIn : Closure → Option ℕ
@@ -115,77 +85,46 @@ module _ (h : ℕ → Node) where
       -- down from the expression at a node, which is no value
       unfoldable pub downBy : Slots → List Frame → Node → R
       unfolding valueIn boolIn noSlots
-      downBy ρ S null = found (Found.value 0)
-      downBy ρ S (variable x) = found (Found.value (ρ x))
-      downBy ρ S (new fs) = found (Found.here S (Ready.new fs))
-      downBy ρ S (read i f) = given (valueIn (closure i ρ)) (λ o. found (Found.here S (Ready.read o f))) (d (Frame.read f ∷ S) (closure i ρ))
-      downBy ρ S (write i f j) = given (valueIn (closure i ρ)) (λ o. writeBy S o f (closure j ρ)) (d (Frame.write₁ f (closure j ρ) ∷ S) (closure i ρ))
-      downBy ρ S (letIn x i j) =
+      downBy ρ S (expression null) = found (Found.value 0)
+      downBy ρ S (expression (variable x)) = found (Found.value (ρ x))
+      downBy ρ S (expression (new fs)) = found (Found.here S (Ready.new fs))
+      downBy ρ S (expression (read i f)) = given (valueIn (closure i ρ)) (λ o. found (Found.here S (Ready.read o f))) (d (Frame.read f ∷ S) (closure i ρ))
+      downBy ρ S (expression (write i f j)) =
+          given (valueIn (closure i ρ)) (λ o. writeBy S o f (closure j ρ)) (d (Frame.write₁ f (closure j ρ) ∷ S) (closure i ρ))
+      downBy ρ S (expression (letIn x i j)) =
           given (valueIn (closure i ρ)) (λ o. found (Found.here S (Ready.letIn x o (closure j ρ)))) (d (Frame.letIn x (closure j ρ) ∷ S) (closure i ρ))
-      downBy ρ S (if i j k) =
+      downBy ρ S (expression (if i j k)) =
           given (boolIn (closure i ρ)) (λ b. found (Found.here S (Ready.if b (branches j k ρ)))) (c (Frame.if (branches j k ρ) ∷ S) (closure i ρ))
-      downBy ρ S (while i j) = found (Found.here S (Ready.while (branches i j ρ)))
-      downBy ρ S (call m i) = l S m 0 noSlots (closure i ρ)
-      downBy ρ S (fork i) = found (Found.here S (Ready.fork (closure i ρ)))
-      downBy ρ S (join i) = given (valueIn (closure i ρ)) (λ o. found (Found.here S (Ready.join o))) (d (Frame.join ∷ S) (closure i ρ))
-      downBy ρ S (signal k i) = given (valueIn (closure i ρ)) (λ o. found (Found.here S (Ready.signal k o))) (d (Frame.signal k ∷ S) (closure i ρ))
-      downBy ρ S (synch i j) =
+      downBy ρ S (expression (while i j)) = found (Found.here S (Ready.while (branches i j ρ)))
+      downBy ρ S (expression (call m i)) = l S m 0 noSlots (closure i ρ)
+      downBy ρ S (expression (fork i)) = found (Found.here S (Ready.fork (closure i ρ)))
+      downBy ρ S (expression (join i)) = given (valueIn (closure i ρ)) (λ o. found (Found.here S (Ready.join o))) (d (Frame.join ∷ S) (closure i ρ))
+      downBy ρ S (expression (signal k i)) = given (valueIn (closure i ρ)) (λ o. found (Found.here S (Ready.signal k o))) (d (Frame.signal k ∷ S) (closure i ρ))
+      downBy ρ S (expression (synch i j)) =
           given (valueIn (closure i ρ)) (λ o. found (Found.here S (Ready.synch o (closure j ρ)))) (d (Frame.synch (closure j ρ) ∷ S) (closure i ρ))
-      downBy ρ S truth = found (Found.value 0)
-      downBy ρ S (not i) = found (Found.value 0)
-      downBy ρ S (and i j) = found (Found.value 0)
-      downBy ρ S (equal i j) = found (Found.value 0)
-      downBy ρ S (list i j) = found (Found.value 0)
-      downBy ρ S listEnd = found (Found.value 0)
+      downBy ρ S (condition x) = found (Found.value 0)
+      downBy ρ S (arguments x) = found (Found.value 0)
       downBy ρ S unknown = found (Found.value 0)
 
       unfoldable pub downByᶜ : Slots → List Frame → Node → R
       unfolding valueIn boolIn
-      downByᶜ ρ S null = found (Found.value 0)
-      downByᶜ ρ S (variable x) = found (Found.value 0)
-      downByᶜ ρ S (new fs) = found (Found.value 0)
-      downByᶜ ρ S (read i f) = found (Found.value 0)
-      downByᶜ ρ S (write i f j) = found (Found.value 0)
-      downByᶜ ρ S (letIn x i j) = found (Found.value 0)
-      downByᶜ ρ S (if i j k) = found (Found.value 0)
-      downByᶜ ρ S (while i j) = found (Found.value 0)
-      downByᶜ ρ S (call m i) = found (Found.value 0)
-      downByᶜ ρ S (fork i) = found (Found.value 0)
-      downByᶜ ρ S (join i) = found (Found.value 0)
-      downByᶜ ρ S (signal k i) = found (Found.value 0)
-      downByᶜ ρ S (synch i j) = found (Found.value 0)
-      downByᶜ ρ S truth = found (Found.value 0)
-      downByᶜ ρ S (not i) = given (boolIn (closure i ρ)) (λ b. foundNot S b) (c (Frame.not ∷ S) (closure i ρ))
-      downByᶜ ρ S (and i j) =
+      downByᶜ ρ S (expression x) = found (Found.value 0)
+      downByᶜ ρ S (condition truth) = found (Found.value 0)
+      downByᶜ ρ S (condition (not i)) = given (boolIn (closure i ρ)) (λ b. foundNot S b) (c (Frame.not ∷ S) (closure i ρ))
+      downByᶜ ρ S (condition (and i j)) =
           given (boolIn (closure i ρ)) (λ b. found (Found.hereᶜ S (Readyᶜ.and b (closure j ρ)))) (c (Frame.and (closure j ρ) ∷ S) (closure i ρ))
-      downByᶜ ρ S (equal i j) = given (valueIn (closure i ρ)) (λ o. equalBy S o (closure j ρ)) (d (Frame.equal₁ (closure j ρ) ∷ S) (closure i ρ))
-      downByᶜ ρ S (list i j) = found (Found.value 0)
-      downByᶜ ρ S listEnd = found (Found.value 0)
+      downByᶜ ρ S (condition (equal i j)) = given (valueIn (closure i ρ)) (λ o. equalBy S o (closure j ρ)) (d (Frame.equal₁ (closure j ρ) ∷ S) (closure i ρ))
+      downByᶜ ρ S (arguments x) = found (Found.value 0)
       downByᶜ ρ S unknown = found (Found.value 0)
 
       -- the list of a call of m, whose earlier n values are in slots 0 upward of σ
       unfoldable pub downByᵃ : Slots → List Frame → ℕ → ℕ → Slots → Node → R
       unfolding valueIn put
-      downByᵃ ρ S m n σ null = found (Found.here S (Ready.call m n σ))
-      downByᵃ ρ S m n σ (variable x) = found (Found.here S (Ready.call m n σ))
-      downByᵃ ρ S m n σ (new fs) = found (Found.here S (Ready.call m n σ))
-      downByᵃ ρ S m n σ (read i f) = found (Found.here S (Ready.call m n σ))
-      downByᵃ ρ S m n σ (write i f j) = found (Found.here S (Ready.call m n σ))
-      downByᵃ ρ S m n σ (letIn x i j) = found (Found.here S (Ready.call m n σ))
-      downByᵃ ρ S m n σ (if i j k) = found (Found.here S (Ready.call m n σ))
-      downByᵃ ρ S m n σ (while i j) = found (Found.here S (Ready.call m n σ))
-      downByᵃ ρ S m n σ (call m′ i) = found (Found.here S (Ready.call m n σ))
-      downByᵃ ρ S m n σ (fork i) = found (Found.here S (Ready.call m n σ))
-      downByᵃ ρ S m n σ (join i) = found (Found.here S (Ready.call m n σ))
-      downByᵃ ρ S m n σ (signal k i) = found (Found.here S (Ready.call m n σ))
-      downByᵃ ρ S m n σ (synch i j) = found (Found.here S (Ready.call m n σ))
-      downByᵃ ρ S m n σ truth = found (Found.here S (Ready.call m n σ))
-      downByᵃ ρ S m n σ (not i) = found (Found.here S (Ready.call m n σ))
-      downByᵃ ρ S m n σ (and i j) = found (Found.here S (Ready.call m n σ))
-      downByᵃ ρ S m n σ (equal i j) = found (Found.here S (Ready.call m n σ))
-      downByᵃ ρ S m n σ (list i j) =
+      downByᵃ ρ S m n σ (expression x) = found (Found.here S (Ready.call m n σ))
+      downByᵃ ρ S m n σ (condition x) = found (Found.here S (Ready.call m n σ))
+      downByᵃ ρ S m n σ (arguments (list i j)) =
           given (valueIn (closure i ρ)) (λ o. l S m (suc n) (put σ n o) (closure j ρ)) (d (Frame.call m n σ (closure j ρ) ∷ S) (closure i ρ))
-      downByᵃ ρ S m n σ listEnd = found (Found.here S (Ready.call m n σ))
+      downByᵃ ρ S m n σ (arguments listEnd) = found (Found.here S (Ready.call m n σ))
       downByᵃ ρ S m n σ unknown = found (Found.here S (Ready.call m n σ))
 
       -- a value into the innermost frame

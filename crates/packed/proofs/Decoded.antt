@@ -9,7 +9,7 @@ use mathlib.Core.List.{List}
 use mathlib.Core.Logic.{inl, inr}
 use mathlib.Core.Option.{some, none}
 use lib.Dec.{T, ltb, lit<}
-use lib.ListN.{take, getElem?, getD}
+use lib.ListN.{take, getElem?}
 use mir.Facts.{and-yes}
 use borrow.Author.Tests.{not-true}
 use Rattle.format.specs.Refusal.{firstRefusal}
@@ -20,6 +20,7 @@ use Rattle.packed.specs.Trees.{conditionAt, argumentsAt, treeAt, procedu
 use Rattle.packed.specs.Slots.{bound, closed, closedᶜ, closedᵃ}
 use Rattle.packed.specs.Refusals.{listLength, usesUnboundSlot}
 use Rattle.packed.specs.Check.{checks, refusal}
+use Rattle.packed.proofs.Children.{nodeOfTag}
 use Rattle.packed.proofs.WellFormed.{count, Callable, WellFormed, WellFormedᶜ, WellFormedᵃ, WellFormedProgram}
 use Rattle.packed.proofs.Passing.{six-right, seventh}
 use Rattle.packed.proofs.Accepted.{OfSort, Child, Fits, RightTerm, Readable, readable, Accepted, accepted, its-trees}
@@ -75,10 +76,9 @@ unfolding procedureAt
 callable b m k h e = (procedureAt b m, procedures-are b m h, e)
 
 -- the node at term t, by its tag
-pub node-is : (b : List ℕ) (t k : ℕ) → tagAt b t ≡ k
-    → nodeAt b t ≡ getD nodes k (λ x y z. Node.unknown) (termAt b t .value₁) (termAt b t .value₂) (termAt b t .value₃)
+pub node-is : (b : List ℕ) (t k : ℕ) → tagAt b t ≡ k → nodeAt b t ≡ nodeOfTag k (termAt b t .value₁) (termAt b t .value₂) (termAt b t .value₃)
 unfolding nodeAt nodeOf termAt laidOut
-node-is b t k e = ap (λ (i : ℕ). getD nodes i (λ x y z. Node.unknown) (termAt b t .value₁) (termAt b t .value₂) (termAt b t .value₃)) e
+node-is b t k e = ap (λ (i : ℕ). nodeOfTag i (termAt b t .value₁) (termAt b t .value₂) (termAt b t .value₃)) e
 
 -- ---- a tree at its term
 
@@ -118,8 +118,7 @@ module _ (b : List ℕ) where
     -- what holds of the node if term t has tag k
     abbrev pub Row : (Node → Type 0) → ℕ → Type 0
     Row P k =
-        tagAt b t ≡ k → Fits b t (layout k .first) x → Fits b t (layout k .second) y → Fits b t (layout k .third) z
-        → P (getD nodes k (λ x y z. Node.unknown) x y z)
+        tagAt b t ≡ k → Fits b t (layout k .first) x → Fits b t (layout k .second) y → Fits b t (layout k .third) z → P (nodeOfTag k x y z)
 
     -- the row of the term's own tag
     pub at-tag : (P : Node → Type 0) → RightTerm b t → Row P (tagAt b t) → P (nodeAt b t)

@@ -1,17 +1,25 @@
 -- The nodes of a plan whose terms are right: children come after their parents, and past the last term there are nulls; so the array has the plan's trees.
 -- Assumes nothing.
 use mathlib.Core.Path.{_≡_, refl, sym, _∙_, fun-ext}
+use mathlib.Core.Bool.{false}
 use mathlib.Core.List.{List}
+use mathlib.Core.Option.{none}
 use Prim.Native.Nat.{ℕ, _+_, _-_, _*_, _≤_, _<_}
 use native.Mathlib.Decide.{decLt}
 use native.Mathlib.Omega.{arith}
+use lib.Dec.{eqb}
 use lib.ListN.{length}
+use borrow.Author.Tests.{eqb-false}
 use Rattle.format.proofs.BitLaws.{bits-past}
 use Rattle.packed.specs.Format
 use Rattle.packed.specs.Format.{terms, planLength, table, layout, termBit, termAt, tagAt}
-use Rattle.packed.specs.Trees.{Node, nodes, nodeOf, nodeAt, treeAt}
+use Rattle.packed.specs.Trees.{ExpressionNode, Node, nodes, nodeOf, nodeAt, treeAt}
 use Rattle.packed.specs.Steps.{Right, Loaded, Ordered, Descending, Below, inWord, termIn, nodeIn, treeIn}
+use Rattle.packed.specs.Refusals.{anyBelow}
+use Rattle.packed.specs.Check.{refusal}
 use Rattle.packed.proofs.Tags.{by-tag}
+use Rattle.packed.proofs.Passing.{none-of}
+use Rattle.packed.proofs.Accepted.{accepted}
 use Rattle.packed.proofs.Decoded.{node-is}
 use Rattle.packed.proofs.TreeLaws.{expression-fuel}
 use Rattle.packed.proofs.SingleTerm.{IfChild, children-between}
@@ -55,15 +63,28 @@ Descends b t =
     × IfChild (λ v. t < v) (layout (tagAt b t) .second) (termAt b t .value₂)
     × IfChild (λ v. t < v) (layout (tagAt b t) .third) (termAt b t .value₃)
 
-pub descending : (b : List ℕ) → length b ≡ planLength b → ((t : ℕ) → t < terms b → Descends b t) → Descending (nodeAt b) (terms b)
-unfolding nodes tagAt termBit planLength
-descending b whole each = record { past = past; below = λ t. below t (decLt t (terms b)) }
+-- past the last term the tags are 0
+past-tag : (b : List ℕ) → length b ≡ planLength b → (t : ℕ) → terms b ≤ t → tagAt b t ≡ 0
+unfolding tagAt termBit planLength
+past-tag b whole t h = bits-past b (termBit b t) 5 (far (length b) (Format.procedures b) (terms b) t whole h)
   where
     far : (l p n t : ℕ) → l ≡ 8 + 2 * p + 5 * n → n ≤ t → l * 8 ≤ (8 + 2 * p + 5 * t) * 8
     far l p n t e h = omega arith
 
-    past : (t : ℕ) → terms b ≤ t → nodeAt b t ≡ Node.null
-    past t h = node-is b t 0 (bits-past b (termBit b t) 5 (far (length b) (Format.procedures b) (terms b) t whole h))
+-- so a tag over 0 that no term of an accepted plan has is found nowhere
+pub no-tag : (b : List ℕ) → refusal b ≡ none → (k : ℕ) → 0 < k → anyBelow (terms b) (λ t. eqb (tagAt b t) k) ≡ false → (t : ℕ) → tagAt b t ≡ k → ⊥
+no-tag b a k some h t e = go (decLt t (terms b))
+  where
+    go : Dec (t < terms b) → ⊥
+    go (yes q) = eqb-false (tagAt b t) k (none-of (terms b) (λ t. eqb (tagAt b t) k) h t q) e
+    go (no q) = let z = past-tag b (accepted b a .length-right) t (omega (arith, q)) in omega arith
+
+pub descending : (b : List ℕ) → length b ≡ planLength b → ((t : ℕ) → t < terms b → Descends b t) → Descending (nodeAt b) (terms b)
+unfolding nodes
+descending b whole each = record { past = past; below = λ t. below t (decLt t (terms b)) }
+  where
+    past : (t : ℕ) → terms b ≤ t → nodeAt b t ≡ Node.expression ExpressionNode.null
+    past t h = node-is b t 0 (past-tag b whole t h)
 
     below : (t : ℕ) → Dec (t < terms b) → Below t (nodeAt b t)
     below t (yes h) = let d = each t h in rw (node-is b t (tagAt b t) refl) (rows-below t _ _ _ (tagAt b t) (d .0) (d .1) (d .2))

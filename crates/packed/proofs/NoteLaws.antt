@@ -13,7 +13,7 @@ use borrow.Author.Tests.{eq-eqb, ne-eqb}
 use Rattle.format.proofs.Filled.{zeros}
 use Rattle.packed.specs.Format
 use Rattle.packed.specs.Format.{terms, root, tagAt}
-use Rattle.packed.specs.Trees.{Node, nodeAt}
+use Rattle.packed.specs.Trees.{ExpressionNode, ConditionNode, ArgumentsNode, Node, nodeAt}
 use Rattle.packed.specs.Refusals.{anyBelow, sumBelow, oneIf, wrongTerm, wrongCall, wronglySorted, timesNamed, notNamedOnce}
 use Rattle.packed.specs.Steps.{Headed, Child, childrenOf, tagSort, wrongSort, misplacedRoot, misfits, rootTimes, allTimes, noteOf, noteAll, Noted}
 use Rattle.packed.specs.Steps.{RootsNoted, TermsNoted}
@@ -101,25 +101,25 @@ Wanted (k ∷ ks) = (0 < k .sort) × Wanted ks
 
 children-wanted : (x : Node) → Wanted (childrenOf x)
 unfolding childrenOf
-children-wanted Node.null = tt
-children-wanted (Node.variable x) = tt
-children-wanted (Node.new fs) = tt
-children-wanted (Node.read i f) = (lit< tt, tt)
-children-wanted (Node.write i f j) = (lit< tt, (lit< tt, tt))
-children-wanted (Node.letIn x i j) = (lit< tt, (lit< tt, tt))
-children-wanted (Node.if i j k) = (lit< tt, (lit< tt, (lit< tt, tt)))
-children-wanted (Node.while i j) = (lit< tt, (lit< tt, tt))
-children-wanted (Node.call m i) = (lit< tt, tt)
-children-wanted (Node.fork i) = (lit< tt, tt)
-children-wanted (Node.join i) = (lit< tt, tt)
-children-wanted (Node.synch i j) = (lit< tt, (lit< tt, tt))
-children-wanted (Node.signal k i) = (lit< tt, tt)
-children-wanted Node.truth = tt
-children-wanted (Node.not i) = (lit< tt, tt)
-children-wanted (Node.and i j) = (lit< tt, (lit< tt, tt))
-children-wanted (Node.equal i j) = (lit< tt, (lit< tt, tt))
-children-wanted (Node.list i j) = (lit< tt, (lit< tt, tt))
-children-wanted Node.listEnd = tt
+children-wanted (Node.expression ExpressionNode.null) = tt
+children-wanted (Node.expression (ExpressionNode.variable x)) = tt
+children-wanted (Node.expression (ExpressionNode.new fs)) = tt
+children-wanted (Node.expression (ExpressionNode.read i f)) = (lit< tt, tt)
+children-wanted (Node.expression (ExpressionNode.write i f j)) = (lit< tt, (lit< tt, tt))
+children-wanted (Node.expression (ExpressionNode.letIn x i j)) = (lit< tt, (lit< tt, tt))
+children-wanted (Node.expression (ExpressionNode.if i j k)) = (lit< tt, (lit< tt, (lit< tt, tt)))
+children-wanted (Node.expression (ExpressionNode.while i j)) = (lit< tt, (lit< tt, tt))
+children-wanted (Node.expression (ExpressionNode.call m i)) = (lit< tt, tt)
+children-wanted (Node.expression (ExpressionNode.fork i)) = (lit< tt, tt)
+children-wanted (Node.expression (ExpressionNode.join i)) = (lit< tt, tt)
+children-wanted (Node.expression (ExpressionNode.synch i j)) = (lit< tt, (lit< tt, tt))
+children-wanted (Node.expression (ExpressionNode.signal k i)) = (lit< tt, tt)
+children-wanted (Node.condition ConditionNode.truth) = tt
+children-wanted (Node.condition (ConditionNode.not i)) = (lit< tt, tt)
+children-wanted (Node.condition (ConditionNode.and i j)) = (lit< tt, (lit< tt, tt))
+children-wanted (Node.condition (ConditionNode.equal i j)) = (lit< tt, (lit< tt, tt))
+children-wanted (Node.arguments (ArgumentsNode.list i j)) = (lit< tt, (lit< tt, tt))
+children-wanted (Node.arguments ArgumentsNode.listEnd) = tt
 children-wanted Node.unknown = tt
 
 note-all : (b : List ℕ) (ks : List Child) (f : ℕ → ℕ) (m : ℕ → Bool) (c : List ℕ) → Within 1024 ks → Wanted ks → Noted b f m c

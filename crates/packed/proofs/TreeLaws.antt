@@ -5,7 +5,9 @@ use native.Mathlib.Omega.{arith}
 use mathlib.Core.Path.{_≡_, refl, _∙_}
 use Rattle.packed.specs.Syntax.{Expression, Condition, Arguments}
 use Rattle.packed.specs.Steps.{Below, Descending}
-use Rattle.packed.specs.Trees.{Node, expressionOf, conditionOf, argumentsOf, expressionAt, conditionAt, argumentsAt}
+use Rattle.packed.specs.Trees.{null, variable, new, read, write, letIn, if, while, call, fork, join, synch, signal, truth, not, and, equal, list, listEnd}
+use Rattle.packed.specs.Trees.{Node, expression, condition, arguments, unknown}
+use Rattle.packed.specs.Trees.{expressionOf, conditionOf, argumentsOf, expressionAt, conditionAt, argumentsAt}
 
 -- ---- the trees
 
@@ -28,72 +30,40 @@ module _ (t : ℕ) (e e′ : ℕ → Expression) (c c′ : ℕ → Condition) (l
     (he : (i : ℕ) → t < i → e i ≡ e′ i) (hc : (i : ℕ) → t < i → c i ≡ c′ i) (hl : (i : ℕ) → t < i → l i ≡ l′ i) where
   pub expression-cong : (x : Node) → Below t x → expressionOf e c l x ≡ expressionOf e′ c′ l′ x
   unfolding expressionOf
-  expression-cong Node.null b = refl
-  expression-cong (Node.variable x) b = refl
-  expression-cong (Node.new fs) b = refl
-  expression-cong (Node.read i f) b = rw (he i b)
-  expression-cong (Node.write i f j) b = rw (he i (b .0), he j (b .1))
-  expression-cong (Node.letIn x i j) b = rw (he i (b .0), he j (b .1))
-  expression-cong (Node.if i j k) b = rw (hc i (b .0), he j (b .1), he k (b .2))
-  expression-cong (Node.while i j) b = rw (hc i (b .0), he j (b .1))
-  expression-cong (Node.call m i) b = rw (hl i b)
-  expression-cong (Node.fork i) b = rw (he i b)
-  expression-cong (Node.join i) b = rw (he i b)
-  expression-cong (Node.synch i j) b = rw (he i (b .0), he j (b .1))
-  expression-cong (Node.signal k i) b = rw (he i b)
-  expression-cong Node.truth b = refl
-  expression-cong (Node.not i) b = refl
-  expression-cong (Node.and i j) b = refl
-  expression-cong (Node.equal i j) b = refl
-  expression-cong (Node.list i j) b = refl
-  expression-cong Node.listEnd b = refl
-  expression-cong Node.unknown b = refl
+  expression-cong (expression null) b = refl
+  expression-cong (expression (variable x)) b = refl
+  expression-cong (expression (new fs)) b = refl
+  expression-cong (expression (read i f)) b = rw (he i b)
+  expression-cong (expression (write i f j)) b = rw (he i (b .0), he j (b .1))
+  expression-cong (expression (letIn x i j)) b = rw (he i (b .0), he j (b .1))
+  expression-cong (expression (if i j k)) b = rw (hc i (b .0), he j (b .1), he k (b .2))
+  expression-cong (expression (while i j)) b = rw (hc i (b .0), he j (b .1))
+  expression-cong (expression (call m i)) b = rw (hl i b)
+  expression-cong (expression (fork i)) b = rw (he i b)
+  expression-cong (expression (join i)) b = rw (he i b)
+  expression-cong (expression (synch i j)) b = rw (he i (b .0), he j (b .1))
+  expression-cong (expression (signal k i)) b = rw (he i b)
+  expression-cong (condition x) b = refl
+  expression-cong (arguments x) b = refl
+  expression-cong unknown b = refl
 
   pub condition-cong : (x : Node) → Below t x → conditionOf e c x ≡ conditionOf e′ c′ x
   unfolding conditionOf
-  condition-cong Node.null b = refl
-  condition-cong (Node.variable x) b = refl
-  condition-cong (Node.new fs) b = refl
-  condition-cong (Node.read i f) b = refl
-  condition-cong (Node.write i f j) b = refl
-  condition-cong (Node.letIn x i j) b = refl
-  condition-cong (Node.if i j k) b = refl
-  condition-cong (Node.while i j) b = refl
-  condition-cong (Node.call m i) b = refl
-  condition-cong (Node.fork i) b = refl
-  condition-cong (Node.join i) b = refl
-  condition-cong (Node.synch i j) b = refl
-  condition-cong (Node.signal k i) b = refl
-  condition-cong Node.truth b = refl
-  condition-cong (Node.not i) b = rw (hc i b)
-  condition-cong (Node.and i j) b = rw (hc i (b .0), hc j (b .1))
-  condition-cong (Node.equal i j) b = rw (he i (b .0), he j (b .1))
-  condition-cong (Node.list i j) b = refl
-  condition-cong Node.listEnd b = refl
-  condition-cong Node.unknown b = refl
+  condition-cong (expression x) b = refl
+  condition-cong (condition truth) b = refl
+  condition-cong (condition (not i)) b = rw (hc i b)
+  condition-cong (condition (and i j)) b = rw (hc i (b .0), hc j (b .1))
+  condition-cong (condition (equal i j)) b = rw (he i (b .0), he j (b .1))
+  condition-cong (arguments x) b = refl
+  condition-cong unknown b = refl
 
   pub arguments-cong : (x : Node) → Below t x → argumentsOf e l x ≡ argumentsOf e′ l′ x
   unfolding argumentsOf
-  arguments-cong Node.null b = refl
-  arguments-cong (Node.variable x) b = refl
-  arguments-cong (Node.new fs) b = refl
-  arguments-cong (Node.read i f) b = refl
-  arguments-cong (Node.write i f j) b = refl
-  arguments-cong (Node.letIn x i j) b = refl
-  arguments-cong (Node.if i j k) b = refl
-  arguments-cong (Node.while i j) b = refl
-  arguments-cong (Node.call m i) b = refl
-  arguments-cong (Node.fork i) b = refl
-  arguments-cong (Node.join i) b = refl
-  arguments-cong (Node.synch i j) b = refl
-  arguments-cong (Node.signal k i) b = refl
-  arguments-cong Node.truth b = refl
-  arguments-cong (Node.not i) b = refl
-  arguments-cong (Node.and i j) b = refl
-  arguments-cong (Node.equal i j) b = refl
-  arguments-cong (Node.list i j) b = rw (he i (b .0), hl j (b .1))
-  arguments-cong Node.listEnd b = refl
-  arguments-cong Node.unknown b = refl
+  arguments-cong (expression x) b = refl
+  arguments-cong (condition x) b = refl
+  arguments-cong (arguments (list i j)) b = rw (he i (b .0), hl j (b .1))
+  arguments-cong (arguments listEnd) b = refl
+  arguments-cong unknown b = refl
 
 -- ---- how far a tree is looked into
 

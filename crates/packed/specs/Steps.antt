@@ -11,7 +11,7 @@ use Rattle.packed.specs.Syntax.{Expression, Condition, Arguments}
 use Rattle.packed.specs.Format
 use Rattle.packed.specs.Format.{terms, root, expression, width, Row, layout, Term, termBit, tagAt, termAt}
 use Rattle.packed.specs.Operands.{tagOf, operandIn, spareIn}
-use Rattle.packed.specs.Trees.{Node, nodeOf, expressionOf, expressionAt, conditionAt, argumentsAt}
+use Rattle.packed.specs.Trees.{ExpressionNode, ConditionNode, ArgumentsNode, Node, nodeOf, expressionOf, expressionAt, conditionAt, argumentsAt}
 use Rattle.packed.specs.Refusals.{anyBelow, sumBelow, oneIf, wrongProcedure, wrongTerm, misplaced, someOperand, wrongCall, wronglySorted, timesIn}
 use Rattle.packed.specs.Refusals.{notNamedOnce}
 
@@ -77,30 +77,30 @@ nodeIn words t = nodeOf (termIn (getD words t 0))
 
 -- the children of a node come after term t
 abbrev pub Below : ℕ → Node → Type 0
-Below t Node.null = Unit {0}
-Below t (Node.variable x) = Unit {0}
-Below t (Node.new fs) = Unit {0}
-Below t (Node.read i f) = t < i
-Below t (Node.write i f j) = (t < i) × (t < j)
-Below t (Node.letIn x i j) = (t < i) × (t < j)
-Below t (Node.if i j k) = (t < i) × (t < j) × (t < k)
-Below t (Node.while i j) = (t < i) × (t < j)
-Below t (Node.call m i) = t < i
-Below t (Node.fork i) = t < i
-Below t (Node.join i) = t < i
-Below t (Node.synch i j) = (t < i) × (t < j)
-Below t (Node.signal k i) = t < i
-Below t Node.truth = Unit {0}
-Below t (Node.not i) = t < i
-Below t (Node.and i j) = (t < i) × (t < j)
-Below t (Node.equal i j) = (t < i) × (t < j)
-Below t (Node.list i j) = (t < i) × (t < j)
-Below t Node.listEnd = Unit {0}
+Below t (Node.expression ExpressionNode.null) = Unit {0}
+Below t (Node.expression (ExpressionNode.variable x)) = Unit {0}
+Below t (Node.expression (ExpressionNode.new fs)) = Unit {0}
+Below t (Node.expression (ExpressionNode.read i f)) = t < i
+Below t (Node.expression (ExpressionNode.write i f j)) = (t < i) × (t < j)
+Below t (Node.expression (ExpressionNode.letIn x i j)) = (t < i) × (t < j)
+Below t (Node.expression (ExpressionNode.if i j k)) = (t < i) × (t < j) × (t < k)
+Below t (Node.expression (ExpressionNode.while i j)) = (t < i) × (t < j)
+Below t (Node.expression (ExpressionNode.call m i)) = t < i
+Below t (Node.expression (ExpressionNode.fork i)) = t < i
+Below t (Node.expression (ExpressionNode.join i)) = t < i
+Below t (Node.expression (ExpressionNode.synch i j)) = (t < i) × (t < j)
+Below t (Node.expression (ExpressionNode.signal k i)) = t < i
+Below t (Node.condition ConditionNode.truth) = Unit {0}
+Below t (Node.condition (ConditionNode.not i)) = t < i
+Below t (Node.condition (ConditionNode.and i j)) = (t < i) × (t < j)
+Below t (Node.condition (ConditionNode.equal i j)) = (t < i) × (t < j)
+Below t (Node.arguments (ArgumentsNode.list i j)) = (t < i) × (t < j)
+Below t (Node.arguments ArgumentsNode.listEnd) = Unit {0}
 Below t Node.unknown = Unit {0}
 
 -- N nodes, in which every child comes after its parent, and nulls past them
 pub record Descending (h : ℕ → Node) (N : ℕ) : Type 0 where
-  pub past : (t : ℕ) → N ≤ t → h t ≡ Node.null
+  pub past : (t : ℕ) → N ≤ t → h t ≡ Node.expression ExpressionNode.null
   pub below : (t : ℕ) → Below t (h t)
 
 -- the nodes of the array
@@ -136,25 +136,25 @@ childOf s i = record { sort = s; index = i }
 
 -- the children of a node
 unfoldable pub childrenOf : Node → List Child
-childrenOf Node.null = []
-childrenOf (Node.variable x) = []
-childrenOf (Node.new fs) = []
-childrenOf (Node.read i f) = childOf anExpression i ∷ []
-childrenOf (Node.write i f j) = childOf anExpression i ∷ childOf anExpression j ∷ []
-childrenOf (Node.letIn x i j) = childOf anExpression i ∷ childOf anExpression j ∷ []
-childrenOf (Node.if i j k) = childOf aCondition i ∷ childOf anExpression j ∷ childOf anExpression k ∷ []
-childrenOf (Node.while i j) = childOf aCondition i ∷ childOf anExpression j ∷ []
-childrenOf (Node.call m i) = childOf aList i ∷ []
-childrenOf (Node.fork i) = childOf anExpression i ∷ []
-childrenOf (Node.join i) = childOf anExpression i ∷ []
-childrenOf (Node.synch i j) = childOf anExpression i ∷ childOf anExpression j ∷ []
-childrenOf (Node.signal k i) = childOf anExpression i ∷ []
-childrenOf Node.truth = []
-childrenOf (Node.not i) = childOf aCondition i ∷ []
-childrenOf (Node.and i j) = childOf aCondition i ∷ childOf aCondition j ∷ []
-childrenOf (Node.equal i j) = childOf anExpression i ∷ childOf anExpression j ∷ []
-childrenOf (Node.list i j) = childOf anExpression i ∷ childOf aList j ∷ []
-childrenOf Node.listEnd = []
+childrenOf (Node.expression ExpressionNode.null) = []
+childrenOf (Node.expression (ExpressionNode.variable x)) = []
+childrenOf (Node.expression (ExpressionNode.new fs)) = []
+childrenOf (Node.expression (ExpressionNode.read i f)) = childOf anExpression i ∷ []
+childrenOf (Node.expression (ExpressionNode.write i f j)) = childOf anExpression i ∷ childOf anExpression j ∷ []
+childrenOf (Node.expression (ExpressionNode.letIn x i j)) = childOf anExpression i ∷ childOf anExpression j ∷ []
+childrenOf (Node.expression (ExpressionNode.if i j k)) = childOf aCondition i ∷ childOf anExpression j ∷ childOf anExpression k ∷ []
+childrenOf (Node.expression (ExpressionNode.while i j)) = childOf aCondition i ∷ childOf anExpression j ∷ []
+childrenOf (Node.expression (ExpressionNode.call m i)) = childOf aList i ∷ []
+childrenOf (Node.expression (ExpressionNode.fork i)) = childOf anExpression i ∷ []
+childrenOf (Node.expression (ExpressionNode.join i)) = childOf anExpression i ∷ []
+childrenOf (Node.expression (ExpressionNode.synch i j)) = childOf anExpression i ∷ childOf anExpression j ∷ []
+childrenOf (Node.expression (ExpressionNode.signal k i)) = childOf anExpression i ∷ []
+childrenOf (Node.condition ConditionNode.truth) = []
+childrenOf (Node.condition (ConditionNode.not i)) = childOf aCondition i ∷ []
+childrenOf (Node.condition (ConditionNode.and i j)) = childOf aCondition i ∷ childOf aCondition j ∷ []
+childrenOf (Node.condition (ConditionNode.equal i j)) = childOf anExpression i ∷ childOf anExpression j ∷ []
+childrenOf (Node.arguments (ArgumentsNode.list i j)) = childOf anExpression i ∷ childOf aList j ∷ []
+childrenOf (Node.arguments ArgumentsNode.listEnd) = []
 childrenOf Node.unknown = []
 
 -- ---- check 5

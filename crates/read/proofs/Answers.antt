@@ -15,7 +15,7 @@ use Rattle.format.proofs.Filled.{zeros}
 use Rattle.format.proofs.AreaLaws.{overwrite-length}
 use Rattle.packed.specs.Syntax.{Program}
 use Rattle.packed.specs.Format.{table, layout}
-use Rattle.packed.specs.Trees.{Node, nodes, nodeOf}
+use Rattle.packed.specs.Trees.{ExpressionNode, Node, nodes, nodeOf}
 use Rattle.packed.specs.Steps.{Ordered, Below, inWord, termIn, nodeIn}
 use Rattle.written.specs.Written as bytes
 use Rattle.written.specs.Written.{sizeOfAll}
@@ -75,11 +75,11 @@ module _ {v m n left : ℕ} {words roots counts : List ℕ} (h : Held v m n left
 
 -- ---- the start
 
-null-node : (w : ℕ) → w ≡ 0 → nodeOf (termIn w) ≡ Node.null
+null-node : (w : ℕ) → w ≡ 0 → nodeOf (termIn w) ≡ Node.expression ExpressionNode.null
 unfolding nodeOf termIn inWord layout table nodes
 null-node w e = rw e refl
 
-null-in : (t : ℕ) → nodeIn (replicate 1024 0) t ≡ Node.null
+null-in : (t : ℕ) → nodeIn (replicate 1024 0) t ≡ Node.expression ExpressionNode.null
 unfolding nodeIn
 null-in t = null-node (getD (replicate 1024 0) t 0) (zeros 1024 t)
 

@@ -7,7 +7,7 @@ use mathlib.Core.List.{List, _∷_}
 use mathlib.Core.Option.{some, Option·none-ne-some, Option·some-injective}
 use lib.ListN.{length}
 use Rattle.packed.specs.Format.{terms}
-use Rattle.packed.specs.Trees.{Node, nodeAt}
+use Rattle.packed.specs.Trees.{ConditionNode, Node, nodeAt}
 use Rattle.rules.specs.Context.{falseWhen}
 use Rattle.machine.specs.Frames as frames
 use Rattle.machine.specs.Landing.{isTrue, boolOf, boolIn, enterᶜ}
@@ -36,12 +36,13 @@ module _ {b ws rs : List ℕ} {k : Stack} {base : ℕ} {S : List frames.Frame} (
   abbrev word : ℕ
   word = wordAt ws t
 
-  truth-in : nodeAt b t ≡ Node.truth → boolIn (nodeAt b) (closed t e) ≡ some true
+  truth-in : nodeAt b t ≡ Node.condition ConditionNode.truth → boolIn (nodeAt b) (closed t e) ≡ some true
   unfolding boolIn boolOf
   truth-in q = rw q
 
   -- `not true` is a value, and the operand of another `not` is not true
-  not-in : (i : ℕ) → nodeAt b t ≡ Node.not i → Condition b i (wordAt ws i) → X ≡ enterᶜ (nodeAt b) (terms b) (frames.Frame.not ∷ S) (closed i e)
+  not-in : (i : ℕ) → nodeAt b t ≡ Node.condition (ConditionNode.not i) → Condition b i (wordAt ws i)
+      → X ≡ enterᶜ (nodeAt b) (terms b) (frames.Frame.not ∷ S) (closed i e)
   unfolding isTrue boolOf
   not-in i q (Condition.truth r o) = x ∙ enter-not-true (ordered b (c .right)) S t (slots e) q o
   not-in i q (Condition.not r o _) =

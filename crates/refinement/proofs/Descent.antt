@@ -6,7 +6,8 @@ use mathlib.Core.List.{List, _∷_}
 use mathlib.Core.Option.{Option, some, none}
 use lib.ListN.{length}
 use Rattle.packed.specs.Syntax.{Signal}
-use Rattle.packed.specs.Trees.{Node}
+use Rattle.packed.specs.Trees.{new, read, write, letIn, if, while, call, fork, join, synch, signal, truth, not, and, equal, list, listEnd}
+use Rattle.packed.specs.Trees.{Node, expression, condition, arguments}
 use Rattle.packed.specs.Steps.{Descending}
 use Rattle.rules.specs.Context.{falseWhen}
 use Rattle.machine.specs.Frames.{Slots, noSlots, Closure, closure, branches, Frame, Ready, Found, height}
@@ -87,70 +88,72 @@ module _ {h : ℕ → Node} {N : ℕ} (o : Descending h N) where
 
     -- ---- expressions
 
-    pub enter-new : {fs : List ℕ} → h t ≡ Node.new fs → enter h N S (closure t ρ) ≡ Found.here S (Ready.new fs)
+    pub enter-new : {fs : List ℕ} → h t ≡ expression (new fs) → enter h N S (closure t ρ) ≡ Found.here S (Ready.new fs)
     unfolding downBy valueOf landTurn
-    enter-new {fs} e = by (Node.new fs) e refl
+    enter-new {fs} e = by (expression (new fs)) e refl
 
-    pub enter-while : {i j : ℕ} → h t ≡ Node.while i j → enter h N S (closure t ρ) ≡ Found.here S (Ready.while (branches i j ρ))
+    pub enter-while : {i j : ℕ} → h t ≡ expression (while i j) → enter h N S (closure t ρ) ≡ Found.here S (Ready.while (branches i j ρ))
     unfolding downBy valueOf landTurn
-    enter-while {i} {j} e = by (Node.while i j) e refl
+    enter-while {i} {j} e = by (expression (while i j)) e refl
 
-    pub enter-fork : {i : ℕ} → h t ≡ Node.fork i → enter h N S (closure t ρ) ≡ Found.here S (Ready.fork (closure i ρ))
+    pub enter-fork : {i : ℕ} → h t ≡ expression (fork i) → enter h N S (closure t ρ) ≡ Found.here S (Ready.fork (closure i ρ))
     unfolding downBy valueOf landTurn
-    enter-fork {i} e = by (Node.fork i) e refl
+    enter-fork {i} e = by (expression (fork i)) e refl
 
-    pub enter-call : {m i : ℕ} → h t ≡ Node.call m i → enter h N S (closure t ρ) ≡ downᵃ h N S m 0 noSlots (closure i ρ)
+    pub enter-call : {m i : ℕ} → h t ≡ expression (call m i) → enter h N S (closure t ρ) ≡ downᵃ h N S m 0 noSlots (closure i ρ)
     unfolding downBy valueOf landTurn land
-    enter-call {m} {i} e = by (Node.call m i) e refl
+    enter-call {m} {i} e = by (expression (call m i)) e refl
 
-    pub enter-read : {i f : ℕ} → h t ≡ Node.read i f → enter h N S (closure t ρ) ≡ enter h N (Frame.read f ∷ S) (closure i ρ)
+    pub enter-read : {i f : ℕ} → h t ≡ expression (read i f) → enter h N S (closure t ρ) ≡ enter h N (Frame.read f ∷ S) (closure i ρ)
     unfolding downBy valueOf landTurn land enter up
-    enter-read {i} {f} e = by (Node.read i f) e refl ∙ given-same (valueIn h (closure i ρ)) _ _ _ _ (λ v. refl) refl
+    enter-read {i} {f} e = by (expression (read i f)) e refl ∙ given-same (valueIn h (closure i ρ)) _ _ _ _ (λ v. refl) refl
 
-    pub enter-write : {i f j : ℕ} → h t ≡ Node.write i f j → enter h N S (closure t ρ) ≡ enter h N (Frame.write₁ f (closure j ρ) ∷ S) (closure i ρ)
+    pub enter-write : {i f j : ℕ} → h t ≡ expression (write i f j) → enter h N S (closure t ρ) ≡ enter h N (Frame.write₁ f (closure j ρ) ∷ S) (closure i ρ)
     unfolding downBy valueOf landTurn land enter turn upBy
     enter-write {i} {f} {j} e =
-        by (Node.write i f j) e refl ∙ given-same (valueIn h (closure i ρ)) _ _ _ _ (λ v. upped (Frame.write₁ f (closure j ρ) ∷ S) v) refl
+        by (expression (write i f j)) e refl ∙ given-same (valueIn h (closure i ρ)) _ _ _ _ (λ v. upped (Frame.write₁ f (closure j ρ) ∷ S) v) refl
 
-    pub enter-let : {x : Option ℕ} {i j : ℕ} → h t ≡ Node.letIn x i j → enter h N S (closure t ρ) ≡ enter h N (Frame.letIn x (closure j ρ) ∷ S) (closure i ρ)
+    pub enter-let : {x : Option ℕ} {i j : ℕ} → h t ≡ expression (letIn x i j)
+        → enter h N S (closure t ρ) ≡ enter h N (Frame.letIn x (closure j ρ) ∷ S) (closure i ρ)
     unfolding downBy valueOf landTurn land enter up
-    enter-let {x} {i} {j} e = by (Node.letIn x i j) e refl ∙ given-same (valueIn h (closure i ρ)) _ _ _ _ (λ v. refl) refl
+    enter-let {x} {i} {j} e = by (expression (letIn x i j)) e refl ∙ given-same (valueIn h (closure i ρ)) _ _ _ _ (λ v. refl) refl
 
-    pub enter-if : {i j k : ℕ} → h t ≡ Node.if i j k → enter h N S (closure t ρ) ≡ enterᶜ h N (Frame.if (branches j k ρ) ∷ S) (closure i ρ)
+    pub enter-if : {i j k : ℕ} → h t ≡ expression (if i j k) → enter h N S (closure t ρ) ≡ enterᶜ h N (Frame.if (branches j k ρ) ∷ S) (closure i ρ)
     unfolding downBy valueOf landTurn land enterᶜ upᶜ
-    enter-if {i} {j} {k} e = by (Node.if i j k) e refl ∙ given-same (boolIn h (closure i ρ)) _ _ _ _ (λ v. refl) refl
+    enter-if {i} {j} {k} e = by (expression (if i j k)) e refl ∙ given-same (boolIn h (closure i ρ)) _ _ _ _ (λ v. refl) refl
 
-    pub enter-join : {i : ℕ} → h t ≡ Node.join i → enter h N S (closure t ρ) ≡ enter h N (Frame.join ∷ S) (closure i ρ)
+    pub enter-join : {i : ℕ} → h t ≡ expression (join i) → enter h N S (closure t ρ) ≡ enter h N (Frame.join ∷ S) (closure i ρ)
     unfolding downBy valueOf landTurn land enter up
-    enter-join {i} e = by (Node.join i) e refl ∙ given-same (valueIn h (closure i ρ)) _ _ _ _ (λ v. refl) refl
+    enter-join {i} e = by (expression (join i)) e refl ∙ given-same (valueIn h (closure i ρ)) _ _ _ _ (λ v. refl) refl
 
-    pub enter-synch : {i j : ℕ} → h t ≡ Node.synch i j → enter h N S (closure t ρ) ≡ enter h N (Frame.synch (closure j ρ) ∷ S) (closure i ρ)
+    pub enter-synch : {i j : ℕ} → h t ≡ expression (synch i j) → enter h N S (closure t ρ) ≡ enter h N (Frame.synch (closure j ρ) ∷ S) (closure i ρ)
     unfolding downBy valueOf landTurn land enter up
-    enter-synch {i} {j} e = by (Node.synch i j) e refl ∙ given-same (valueIn h (closure i ρ)) _ _ _ _ (λ v. refl) refl
+    enter-synch {i} {j} e = by (expression (synch i j)) e refl ∙ given-same (valueIn h (closure i ρ)) _ _ _ _ (λ v. refl) refl
 
-    pub enter-signal : {k : Signal} {i : ℕ} → h t ≡ Node.signal k i → enter h N S (closure t ρ) ≡ enter h N (Frame.signal k ∷ S) (closure i ρ)
+    pub enter-signal : {k : Signal} {i : ℕ} → h t ≡ expression (signal k i) → enter h N S (closure t ρ) ≡ enter h N (Frame.signal k ∷ S) (closure i ρ)
     unfolding downBy valueOf landTurn land enter up
-    enter-signal {k} {i} e = by (Node.signal k i) e refl ∙ given-same (valueIn h (closure i ρ)) _ _ _ _ (λ v. refl) refl
+    enter-signal {k} {i} e = by (expression (signal k i)) e refl ∙ given-same (valueIn h (closure i ρ)) _ _ _ _ (λ v. refl) refl
 
     -- ---- conditions
 
-    pub enter-and : {i j : ℕ} → h t ≡ Node.and i j → enterᶜ h N S (closure t ρ) ≡ enterᶜ h N (Frame.and (closure j ρ) ∷ S) (closure i ρ)
+    pub enter-and : {i j : ℕ} → h t ≡ condition (and i j) → enterᶜ h N S (closure t ρ) ≡ enterᶜ h N (Frame.and (closure j ρ) ∷ S) (closure i ρ)
     unfolding downByᶜ boolOf landTurn land enterᶜ upᶜ
-    enter-and {i} {j} e = byᶜ (Node.and i j) e refl ∙ given-same (boolIn h (closure i ρ)) _ _ _ _ (λ v. refl) refl
+    enter-and {i} {j} e = byᶜ (condition (and i j)) e refl ∙ given-same (boolIn h (closure i ρ)) _ _ _ _ (λ v. refl) refl
 
-    pub enter-equal : {i j : ℕ} → h t ≡ Node.equal i j → enterᶜ h N S (closure t ρ) ≡ enter h N (Frame.equal₁ (closure j ρ) ∷ S) (closure i ρ)
+    pub enter-equal : {i j : ℕ} → h t ≡ condition (equal i j) → enterᶜ h N S (closure t ρ) ≡ enter h N (Frame.equal₁ (closure j ρ) ∷ S) (closure i ρ)
     unfolding downByᶜ boolOf landTurn land enter turn upBy
-    enter-equal {i} {j} e = byᶜ (Node.equal i j) e refl ∙ given-same (valueIn h (closure i ρ)) _ _ _ _ (λ v. upped (Frame.equal₁ (closure j ρ) ∷ S) v) refl
+    enter-equal {i} {j} e =
+        byᶜ (condition (equal i j)) e refl ∙ given-same (valueIn h (closure i ρ)) _ _ _ _ (λ v. upped (Frame.equal₁ (closure j ρ) ∷ S) v) refl
 
     -- `not true` is a value; the operand of another `not` is not true
-    pub enter-not-true : {i : ℕ} → h t ≡ Node.not i → h i ≡ Node.truth → enterᶜ h N S (closure t ρ) ≡ enterᶜ h N (Frame.not ∷ S) (closure i ρ)
+    pub enter-not-true : {i : ℕ} → h t ≡ condition (not i) → h i ≡ condition truth → enterᶜ h N S (closure t ρ) ≡ enterᶜ h N (Frame.not ∷ S) (closure i ρ)
     unfolding boolIn boolOf isTrue falseWhen upᶜ
     enter-not-true {i} e q = enter-truth S (closure t ρ) false (rw (e, q)) ∙ sym (enter-truth (Frame.not ∷ S) (closure i ρ) true (rw q))
 
-    pub enter-not : {i : ℕ} → h t ≡ Node.not i → isTrue (h i) ≡ false → (boolOf h (h i) ≡ some true → ⊥)
+    pub enter-not : {i : ℕ} → h t ≡ condition (not i) → isTrue (h i) ≡ false → (boolOf h (h i) ≡ some true → ⊥)
         → enterᶜ h N S (closure t ρ) ≡ enterᶜ h N (Frame.not ∷ S) (closure i ρ)
     unfolding downByᶜ boolOf falseWhen landTurn land enterᶜ upᶜ boolIn
-    enter-not {i} e q never = byᶜ (Node.not i) e (rw q) ∙ at (boolOf h (h i)) never
+    enter-not {i} e q never = byᶜ (condition (not i)) e (rw q) ∙ at (boolOf h (h i)) never
       where
         at : (v : Option Bool) → (v ≡ some true → ⊥)
             → landTurn h N (given v (λ b. foundNot h ends S b) (goDownᶜ (Frame.not ∷ S) (closure i ρ))) ≡ given v (λ b. upᶜ h N (Frame.not ∷ S) b)
@@ -161,13 +164,13 @@ module _ {h : ℕ → Node} {N : ℕ} (o : Descending h N) where
 
     -- ---- a call's list
 
-    pub list-more : (m n : ℕ) (σ : Slots) {i j : ℕ} → h t ≡ Node.list i j
+    pub list-more : (m n : ℕ) (σ : Slots) {i j : ℕ} → h t ≡ arguments (list i j)
         → downᵃ h N S m n σ (closure t ρ) ≡ enter h N (Frame.call m n σ (closure j ρ) ∷ S) (closure i ρ)
     unfolding turn downByᵃ landTurn land enter up
     list-more m n σ {i} {j} e =
         openedᵃ S m n σ (closure t ρ) ∙ ap (λ (x : Node). landTurn h N (downByᵃ h ends goDown goDownᶜ goList ρ S m n σ x)) e
         ∙ given-same (valueIn h (closure i ρ)) _ _ _ _ (λ v. refl) refl
 
-    pub list-end : (m n : ℕ) (σ : Slots) → h t ≡ Node.listEnd → downᵃ h N S m n σ (closure t ρ) ≡ Found.here S (Ready.call m n σ)
+    pub list-end : (m n : ℕ) (σ : Slots) → h t ≡ arguments listEnd → downᵃ h N S m n σ (closure t ρ) ≡ Found.here S (Ready.call m n σ)
     unfolding turn downByᵃ landTurn
     list-end m n σ e = openedᵃ S m n σ (closure t ρ) ∙ ap (λ (x : Node). landTurn h N (downByᵃ h ends goDown goDownᶜ goList ρ S m n σ x)) e

@@ -5,7 +5,7 @@ use mathlib.Core.Path.{_≡_, refl, sym, ap, _∙_}
 use mathlib.Core.List.{List}
 use lib.ListN.{length}
 use Rattle.packed.specs.Format.{terms, expression}
-use Rattle.packed.specs.Trees.{Node, nodeAt}
+use Rattle.packed.specs.Trees.{ExpressionNode, Node, nodeAt}
 use Rattle.packed.proofs.Accepted.{Child}
 use Rattle.machine.specs.Frames.{Slots}
 use Rattle.machine.specs.Frames as frames
@@ -56,7 +56,7 @@ module _ {b ws rs : List ℕ} {k : Stack} {base : ℕ} {S : List frames.Frame} (
   one = omega arith
 
   -- a signal, by its number
-  signal-step : (j : ℕ) → j < 32 → nodeAt b t ≡ Node.signal (signalMeant j) (firstOf word) → Child b t expression (firstOf word)
+  signal-step : (j : ℕ) → j < 32 → nodeAt b t ≡ Node.expression (ExpressionNode.signal (signalMeant j) (firstOf word)) → Child b t expression (firstOf word)
       → Next b ws k base n X (wantOf ws (framed kind.Signal 0 0 j e) (firstOf word) (length S))
   signal-step j h q i =
       want c (framed kind.Signal 0 0 j e) (firstOf word) (plain-fine kind.Signal 0 0 j e (omega arith) (omega arith) h tt)

@@ -5,7 +5,7 @@ use mathlib.Core.Path.{_≡_, refl, sym, ap, _∙_}
 use mathlib.Core.List.{List}
 use mathlib.Core.Option.{some, none}
 use lib.Dec.{eqb}
-use Rattle.packed.specs.Trees.{Node, nodeAt}
+use Rattle.packed.specs.Trees.{ExpressionNode, ConditionNode, Node, nodeAt}
 use Rattle.packed.proofs.Accepted.{Accepted}
 use Rattle.rules.specs.Context.{falseWhen}
 use Rattle.machine.specs.Landing.{valueIn, boolIn, boolOf, isTrue}
@@ -33,11 +33,11 @@ module _ (b ws : List ℕ) (t e : ℕ) where
   valued-by : (n : ℕ) → valueOf ws e t ≡ n → n < 32 → valueIn (nodeAt b) (closed t e) ≡ some n → Valued b ws t e
   valued-by n p l q = Valued.value (rw p l) (q ∙ ap some (sym p))
 
-  at-null : tagOf (wordAt ws t) ≡ 0 → nodeAt b t ≡ Node.null → Valued b ws t e
+  at-null : tagOf (wordAt ws t) ≡ 0 → nodeAt b t ≡ Node.expression ExpressionNode.null → Valued b ws t e
   unfolding valueOf valueBy valueIn machine.valueOf
   at-null p q = valued-by 0 (rw p) (omega arith) (rw q)
 
-  at-variable : tagOf (wordAt ws t) ≡ 1 → nodeAt b t ≡ Node.variable (slotBits (wordAt ws t)) → Valued b ws t e
+  at-variable : tagOf (wordAt ws t) ≡ 1 → nodeAt b t ≡ Node.expression (ExpressionNode.variable (slotBits (wordAt ws t))) → Valued b ws t e
   unfolding valueOf valueBy valueIn machine.valueOf
   at-variable p q = valued-by (slotOf e (slotBits (wordAt ws t))) (rw p) (slot-below e (slotBits (wordAt ws t))) (rw q)
 
@@ -65,11 +65,12 @@ module _ (b ws : List ℕ) (t e : ℕ) where
   tested-by : (n : ℕ) → truthOf ws t ≡ n → n < 2 → boolIn (nodeAt b) (closed t e) ≡ some (eqb n 1) → Tested b ws t e
   tested-by n p l q = Tested.value (rw p l) (q ∙ ap (λ (n : ℕ). some (eqb n 1)) (sym p))
 
-  at-truth : tagOf (wordAt ws t) ≡ 12 → nodeAt b t ≡ Node.truth → Tested b ws t e
+  at-truth : tagOf (wordAt ws t) ≡ 12 → nodeAt b t ≡ Node.condition ConditionNode.truth → Tested b ws t e
   unfolding truthOf truthBy boolIn boolOf
   at-truth p q = tested-by 1 (rw p) (omega arith) (rw q)
 
-  at-not : (i : ℕ) → i ≡ firstOf (wordAt ws t) → tagOf (wordAt ws t) ≡ 13 → nodeAt b t ≡ Node.not i → Condition b i (wordAt ws i) → Tested b ws t e
+  at-not : (i : ℕ) → i ≡ firstOf (wordAt ws t) → tagOf (wordAt ws t) ≡ 13 → nodeAt b t ≡ Node.condition (ConditionNode.not i) → Condition b i (wordAt ws i)
+      → Tested b ws t e
   unfolding truthOf truthBy boolIn boolOf isTrue falseWhen
   at-not i f p q (Condition.truth r s) = tested-by 0 (rw (p, ← f, r)) (omega arith) (rw (q, s))
   at-not i f p q (Condition.not r s _) = Tested.other (rw (p, ← f, r)) (rw (q, s))

@@ -7,14 +7,14 @@ use mathlib.Core.Bool.{false}
 use mathlib.Core.List.{List}
 use mathlib.Core.Logic.{_⊎_, inl, inr}
 use lib.Dec.{eqb}
-use lib.ListN.{getD}
 use Rattle.packed.specs.Syntax.{Signal}
 use Rattle.packed.specs.Format.{procedures, terms, maskBit, fieldsFrom, expression, condition, list, width, table, layout, tagAt, termAt}
-use Rattle.packed.specs.Trees.{Node, binderOf, nodes, nodeAt}
+use Rattle.packed.specs.Trees.{ExpressionNode, ConditionNode, ArgumentsNode, Node, binderOf, nodes, nodeAt}
 use Rattle.packed.specs.Steps as packed
 use Rattle.packed.proofs.WellFormed.{count}
 use Rattle.packed.proofs.Accepted.{OfSort, Child, Fits, RightTerm, Accepted}
 use Rattle.packed.proofs.Reading.{tag-in, first-was, second-was, third-was}
+use Rattle.packed.proofs.Children.{nodeOfTag}
 use Rattle.packed.proofs.Decoded.{node-is}
 use Rattle.packed.proofs.TreeLaws.{treeᵃ}
 use Rattle.machine.proofs.CallLists.{call-fits}
@@ -27,40 +27,45 @@ use Rattle.refinement.proofs.Meant.{Loaded}
 
 -- an expression
 pub data Expression (b : List ℕ) (t w : ℕ) : Type 0 where
-  null : tagOf w ≡ 0 → nodeAt b t ≡ Node.null → Expression b t w
-  variable : tagOf w ≡ 1 → nodeAt b t ≡ Node.variable (slotBits w) → Expression b t w
-  new : tagOf w ≡ 2 → nodeAt b t ≡ Node.new (fieldsFrom (maskBits w) 0 32) → eqb (maskBit (maskBits w) 0) 1 ≡ false → Expression b t w
-  read : tagOf w ≡ 3 → nodeAt b t ≡ Node.read (firstOf w) (fieldBits w) → Child b t expression (firstOf w) → 0 < fieldBits w → Expression b t w
-  write : tagOf w ≡ 4 → nodeAt b t ≡ Node.write (firstOf w) (fieldBits w) (writeSecond w) → Child b t expression (firstOf w) → 0 < fieldBits w
-      → Child b t expression (writeSecond w) → Expression b t w
-  letIn : tagOf w ≡ 5 → nodeAt b t ≡ Node.letIn (binderOf (slotBits w)) (letFirst w) (letSecond w) → (slotBits w < 8) ⊎ (slotBits w ≡ 15)
-      → Child b t expression (letFirst w) → Child b t expression (letSecond w) → Expression b t w
-  if : tagOf w ≡ 6 → nodeAt b t ≡ Node.if (firstOf w) (secondOf w) (thirdOf w) → Child b t condition (firstOf w) → Child b t expression (secondOf w)
-      → Child b t expression (thirdOf w) → Expression b t w
-  while : tagOf w ≡ 7 → nodeAt b t ≡ Node.while (firstOf w) (secondOf w) → Child b t condition (firstOf w) → Child b t expression (secondOf w)
+  null : tagOf w ≡ 0 → nodeAt b t ≡ Node.expression ExpressionNode.null → Expression b t w
+  variable : tagOf w ≡ 1 → nodeAt b t ≡ Node.expression (ExpressionNode.variable (slotBits w)) → Expression b t w
+  new : tagOf w ≡ 2 → nodeAt b t ≡ Node.expression (ExpressionNode.new (fieldsFrom (maskBits w) 0 32)) → eqb (maskBit (maskBits w) 0) 1 ≡ false
       → Expression b t w
-  call : tagOf w ≡ 8 → nodeAt b t ≡ Node.call (procedureBits w) (listBits w) → procedureBits w < procedures b → Child b t list (listBits w)
-      → count (treeᵃ (nodeAt b) (terms b) (listBits w)) ≤ 8 → Expression b t w
-  fork : tagOf w ≡ 9 → nodeAt b t ≡ Node.fork (firstOf w) → Child b t expression (firstOf w) → Expression b t w
-  join : tagOf w ≡ 10 → nodeAt b t ≡ Node.join (firstOf w) → Child b t expression (firstOf w) → Expression b t w
-  synch : tagOf w ≡ 11 → nodeAt b t ≡ Node.synch (firstOf w) (secondOf w) → Child b t expression (firstOf w) → Child b t expression (secondOf w)
+  read : tagOf w ≡ 3 → nodeAt b t ≡ Node.expression (ExpressionNode.read (firstOf w) (fieldBits w)) → Child b t expression (firstOf w) → 0 < fieldBits w
       → Expression b t w
-  wait : tagOf w ≡ 18 → nodeAt b t ≡ Node.signal Signal.wait (firstOf w) → Child b t expression (firstOf w) → Expression b t w
-  notify : tagOf w ≡ 19 → nodeAt b t ≡ Node.signal Signal.notify (firstOf w) → Child b t expression (firstOf w) → Expression b t w
-  notifyAll : tagOf w ≡ 20 → nodeAt b t ≡ Node.signal Signal.notifyAll (firstOf w) → Child b t expression (firstOf w) → Expression b t w
+  write : tagOf w ≡ 4 → nodeAt b t ≡ Node.expression (ExpressionNode.write (firstOf w) (fieldBits w) (writeSecond w)) → Child b t expression (firstOf w)
+      → 0 < fieldBits w → Child b t expression (writeSecond w) → Expression b t w
+  letIn : tagOf w ≡ 5 → nodeAt b t ≡ Node.expression (ExpressionNode.letIn (binderOf (slotBits w)) (letFirst w) (letSecond w))
+      → (slotBits w < 8) ⊎ (slotBits w ≡ 15) → Child b t expression (letFirst w) → Child b t expression (letSecond w) → Expression b t w
+  if : tagOf w ≡ 6 → nodeAt b t ≡ Node.expression (ExpressionNode.if (firstOf w) (secondOf w) (thirdOf w)) → Child b t condition (firstOf w)
+      → Child b t expression (secondOf w) → Child b t expression (thirdOf w) → Expression b t w
+  while : tagOf w ≡ 7 → nodeAt b t ≡ Node.expression (ExpressionNode.while (firstOf w) (secondOf w)) → Child b t condition (firstOf w)
+      → Child b t expression (secondOf w) → Expression b t w
+  call : tagOf w ≡ 8 → nodeAt b t ≡ Node.expression (ExpressionNode.call (procedureBits w) (listBits w)) → procedureBits w < procedures b
+      → Child b t list (listBits w) → count (treeᵃ (nodeAt b) (terms b) (listBits w)) ≤ 8 → Expression b t w
+  fork : tagOf w ≡ 9 → nodeAt b t ≡ Node.expression (ExpressionNode.fork (firstOf w)) → Child b t expression (firstOf w) → Expression b t w
+  join : tagOf w ≡ 10 → nodeAt b t ≡ Node.expression (ExpressionNode.join (firstOf w)) → Child b t expression (firstOf w) → Expression b t w
+  synch : tagOf w ≡ 11 → nodeAt b t ≡ Node.expression (ExpressionNode.synch (firstOf w) (secondOf w)) → Child b t expression (firstOf w)
+      → Child b t expression (secondOf w) → Expression b t w
+  wait : tagOf w ≡ 18 → nodeAt b t ≡ Node.expression (ExpressionNode.signal Signal.wait (firstOf w)) → Child b t expression (firstOf w) → Expression b t w
+  notify : tagOf w ≡ 19 → nodeAt b t ≡ Node.expression (ExpressionNode.signal Signal.notify (firstOf w)) → Child b t expression (firstOf w) → Expression b t w
+  notifyAll : tagOf w ≡ 20 → nodeAt b t ≡ Node.expression (ExpressionNode.signal Signal.notifyAll (firstOf w)) → Child b t expression (firstOf w)
+      → Expression b t w
 
 -- a condition
 pub data Condition (b : List ℕ) (t w : ℕ) : Type 0 where
-  truth : tagOf w ≡ 12 → nodeAt b t ≡ Node.truth → Condition b t w
-  not : tagOf w ≡ 13 → nodeAt b t ≡ Node.not (firstOf w) → Child b t condition (firstOf w) → Condition b t w
-  and : tagOf w ≡ 14 → nodeAt b t ≡ Node.and (firstOf w) (secondOf w) → Child b t condition (firstOf w) → Child b t condition (secondOf w) → Condition b t w
-  equal : tagOf w ≡ 15 → nodeAt b t ≡ Node.equal (firstOf w) (secondOf w) → Child b t expression (firstOf w) → Child b t expression (secondOf w)
-      → Condition b t w
+  truth : tagOf w ≡ 12 → nodeAt b t ≡ Node.condition ConditionNode.truth → Condition b t w
+  not : tagOf w ≡ 13 → nodeAt b t ≡ Node.condition (ConditionNode.not (firstOf w)) → Child b t condition (firstOf w) → Condition b t w
+  and : tagOf w ≡ 14 → nodeAt b t ≡ Node.condition (ConditionNode.and (firstOf w) (secondOf w)) → Child b t condition (firstOf w)
+      → Child b t condition (secondOf w) → Condition b t w
+  equal : tagOf w ≡ 15 → nodeAt b t ≡ Node.condition (ConditionNode.equal (firstOf w) (secondOf w)) → Child b t expression (firstOf w)
+      → Child b t expression (secondOf w) → Condition b t w
 
 -- the rest of a call's list
 pub data Rest (b : List ℕ) (t w : ℕ) : Type 0 where
-  more : tagOf w ≡ 16 → nodeAt b t ≡ Node.list (firstOf w) (secondOf w) → Child b t expression (firstOf w) → Child b t list (secondOf w) → Rest b t w
-  end : tagOf w ≡ 17 → nodeAt b t ≡ Node.listEnd → Rest b t w
+  more : tagOf w ≡ 16 → nodeAt b t ≡ Node.arguments (ArgumentsNode.list (firstOf w) (secondOf w)) → Child b t expression (firstOf w)
+      → Child b t list (secondOf w) → Rest b t w
+  end : tagOf w ≡ 17 → nodeAt b t ≡ Node.arguments ArgumentsNode.listEnd → Rest b t w
 
 -- ---- the operands
 
@@ -76,7 +81,7 @@ thirdIn k w = operandIn (width (layout k .first) + width (layout k .second)) (la
 
 -- node and fits of a term of tag k, by the values of its operands
 record Known (b : List ℕ) (t k x y z : ℕ) : Type 0 where
-  node : nodeAt b t ≡ getD nodes k (λ x y z. Node.unknown) x y z
+  node : nodeAt b t ≡ nodeOfTag k x y z
   first : Fits b t (layout k .first) x
   second : Fits b t (layout k .second) y
   third : Fits b t (layout k .third) z

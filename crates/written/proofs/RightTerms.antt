@@ -15,6 +15,7 @@ use Rattle.packed.specs.Format.{terms, maskBit, fieldsFrom, absent, fieldName, 
 use Rattle.packed.specs.Trees.{Node, nodes, nodeAt, binderOf, expressionOf, conditionOf, argumentsOf, expressionAt, conditionAt, argumentsAt}
 use Rattle.packed.specs.Refusals.{misplaced}
 use Rattle.packed.proofs.WellFormed.{count}
+use Rattle.packed.proofs.Children.{nodeOfTag}
 use Rattle.packed.proofs.Decoded.{node-is}
 use Rattle.written.specs.Terms.{value, maskOf, slotOf, termsOf, termsOfᶜ, termsOfᵃ, valueAt}
 use Rattle.written.proofs.Masks.{mask-from}
@@ -222,7 +223,7 @@ module _ (b : List ℕ) (n : ℕ) where
   module _ (t k : ℕ) (inside : t < terms b) (near : terms b ≤ t + n) (tag : tagAt b t ≡ k) where
     -- by the tag's row
     abbrev row : Node
-    row = getD nodes k (λ x y z. Node.unknown) (termAt b t .value₁) (termAt b t .value₂) (termAt b t .value₃)
+    row = nodeOfTag k (termAt b t .value₁) (termAt b t .value₂) (termAt b t .value₃)
 
     some-left : n ≡ suc (n - 1)
     some-left = omega arith
