@@ -7,7 +7,7 @@ use lib.Dec.{eqb}
 use lib.ListN.{length, getElem?}
 use Rattle.keys.specs.Keys.{Keys, singleton, union, countNew}
 use Rattle.packed.specs.Syntax.{Expression, Arguments}
-use Rattle.rules.specs.Context.{top, focus, depthOf}
+use Rattle.rules.specs.Context.{expressionDepth}
 use Rattle.rules.specs.Queue.{Place, awake, lastPlace, movedUp}
 
 -- what a location holds: (W, o)
@@ -36,7 +36,7 @@ pub record Form : Type 1 where
 
 -- as it is written: this is the form of the rules
 abbrev pub expressions : Form
-expressions = record { Carrier = Expression; depth = λ e. depthOf (focus top e) }
+expressions = record { Carrier = Expression; depth = expressionDepth }
 
 -- a thread: the object that stands for it, its expression θ, its key set κ, how many keys it has heard of that were new to it, and its place in a queue
 pub record ThreadOf (F : Form) : Type 0 where
