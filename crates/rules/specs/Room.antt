@@ -14,8 +14,7 @@ use Rattle.rules.specs.State.{Form, expressions, ThreadOf, StateOf, cell
 use Rattle.rules.specs.Rules.{Rule, e-call, e-let, e-if, e-while, e-notnottrue, e-andtrue, e-andfalse, e-equaltrue, e-equalfalse, e-new, e-read}
 use Rattle.rules.specs.Rules.{e-write, e-readv, e-writev, e-fork, e-join, e-re-enter, e-acquire, e-release, e-wait, e-wake, e-notify, e-notifyall}
 use Rattle.rules.specs.Step.{forMonitor, forJoin, forNotify, missingField, notThread, notHeld, MoveOf, AttemptOf, Attempt, absent, finished, waiting}
-use Rattle.rules.specs.Step.{stuck, lacking}
-use Rattle.rules.specs.Step.{moves, attempt}
+use Rattle.rules.specs.Step.{stuck, lacking, moves, attempt}
 
 -- ---- passing over, as a relation
 

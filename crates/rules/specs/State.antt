@@ -29,12 +29,12 @@ pub record Object : Type 0 where
   pub monitor : Cell
   pub fields : List Field
 
--- the form in which a thread's expression is kept: as what, and how deep one is. "Depth is the number of constructs around the part that moves next"
+-- the form in which a thread's expression is kept: as what, and how deep one is. The rules keep it as it is written, and are read with `expressions` for F
 pub record Form : Type 1 where
   pub Carrier : Type 0
   pub depth : Carrier → ℕ
 
--- as it is written: this is the form of the rules
+-- as it is written
 abbrev pub expressions : Form
 expressions = record { Carrier = Expression; depth = expressionDepth }
 
