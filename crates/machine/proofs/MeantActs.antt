@@ -2,7 +2,7 @@
 use Prim.Native.Nat.{ℕ, zero, suc}
 use mathlib.Core.Path.{_≡_, refl, sym, ap, _∙_, subst as along}
 use mathlib.Core.Bool.{Bool, true, false, cond}
-use mathlib.Core.List.{[], _∷_, _++_, map}
+use mathlib.Core.List.{[], _∷_, _++_, map, map-append}
 use mathlib.Core.Option.{Option, some, none}
 use lib.Dec.{T, eqb, ltb}
 use lib.ListN.{length, getElem?, length-map}
@@ -25,7 +25,7 @@ use Rattle.machine.specs.Machine.{Table}
 use Rattle.machine.proofs.Substitution.{every, firstSlots, first-length, let-put, call-slots}
 use Rattle.machine.proofs.Meaning.{expressionIn, redex}
 use Rattle.machine.proofs.Onward.{whole-go}
-use Rattle.machine.proofs.StateMeaning.{map-added, Tabulates, threadMeant, stateOf, actOf, gain-of, enqueue-of, signalled-of, thread-of, cond-of}
+use Rattle.machine.proofs.StateMeaning.{Tabulates, threadMeant, stateOf, actOf, gain-of, enqueue-of, signalled-of, thread-of, cond-of}
 use Rattle.machine.proofs.StateMeaning.{join-of, choose-of, branch-of, again-of}
 
 -- a rule applies
@@ -127,7 +127,7 @@ module _ (table : Table) where
         ++ (record { self = o; expression = expressionIn (table .node) (table .count) x; keys = W; learnt = 0; place = awake } ∷ [])
     unfolding go plug
     fork-of s x o W =
-        map-added (threadMeant table) (s .threads) _
+        map-append (threadMeant table) (s .threads) _
         ∙ ap (λ (e : Expression). map (threadMeant table) (s .threads) ++ (record { self = o; expression = e; keys = W; learnt = 0; place = awake } ∷ []))
         (whole-go (table .node) (table .count) (law .ordered) [] (Result.run x))
 

@@ -1,10 +1,9 @@
 -- The machine plays every accepted plan as it is defined: the same stop, picks, rules, log, final state and outcome. Assumes nothing.
 use Prim.Native.Nat.{ℕ}
 use native.Mathlib.Omega.{arith}
-use mathlib.Core.Path.{_≡_, refl, ap, ap₂, _∙_, subst as along}
+use mathlib.Core.Path.{_≡_, refl, ap, _∙_, subst as along}
 use mathlib.Core.List.{List}
 use mathlib.Core.Option.{none}
-use lib.ListN.{length}
 use Rattle.packed.specs.Trees.{programOf}
 use Rattle.packed.specs.Check.{refusal}
 use Rattle.packed.proofs.Accepted.{accepted}
@@ -12,7 +11,7 @@ use Rattle.packed.proofs.Decoded.{well-formed}
 use Rattle.rules.specs.Context.{literals, plug, redexExpression}
 use Rattle.rules.specs.State.{State, start}
 use Rattle.rules.specs.Room.{AnswerOf}
-use Rattle.rules.specs.Run.{Run, run, play, Status, statusesFrom, outcomeOf}
+use Rattle.rules.specs.Run.{Run, run, play, statusesFrom, outcomeOf}
 use Rattle.rules.proofs.Decompose.{whole}
 use Rattle.rules.proofs.Executed.{Reachable, reachable-start}
 use Rattle.machine.specs.Machine as machine

@@ -10,7 +10,7 @@ use lib.ListN.{length, getElem?, drop, length-map}
 use Rattle.keys.proofs.CountLaws.{size-le}
 use Rattle.packed.specs.Syntax.{Program}
 use Rattle.packed.proofs.WellFormed.{WellFormedProgram}
-use Rattle.rules.specs.Context.{Focus, depthOf}
+use Rattle.rules.specs.Context.{Focus, depthOf, expressionDepth}
 use Rattle.rules.specs.State.{Thread, State}
 use Rattle.rules.specs.Rules.{Rule}
 use Rattle.rules.specs.Step.{AttemptOf, Move, attempt}
@@ -44,7 +44,7 @@ module _ (table : Table) where
   lack-before s R = ap (λ (n : ℕ). noRoomAmong n (length (s .objects)) (s .nextKey) R) (length-map (s .threads) (threadMeant table))
 
   deep-of : (t : machine.Thread) → WellFound (t .expression) → deep (threadMeant table t) ≡ deep t
-  unfolding deep
+  unfolding deep expressionDepth
   deep-of t w =
       ap (λ (F : Focus). ltb 32 (depthOf F)) (focus-whole (mean (table .node) (table .count) (t .expression)))
       ∙ ap (λ (n : ℕ). ltb 32 n) (depth-height (table .node) (table .count) (t .expression) w)

@@ -23,10 +23,6 @@ use Rattle.machine.specs.Machine.{Table}
 use Rattle.machine.proofs.Substitution.{let-nothing, let-nothingᶜ}
 use Rattle.machine.proofs.Meaning.{expressionIn, whileIn, mean, resultOf}
 
-pub map-added : {A B : Type 0} (f : A → B) (xs : List A) (x : A) → map f (xs ++ (x ∷ [])) ≡ map f xs ++ (f x ∷ [])
-map-added f [] x = refl
-map-added f (y ∷ xs) x = ap (λ l. f y ∷ l) (map-added f xs x)
-
 pub get-map : {A B : Type 0} (f : A → B) (xs : List A) (i : ℕ) → getElem? (map f xs) i ≡ Option·map f (getElem? xs i)
 get-map f [] i = refl
 get-map f (x ∷ xs) zero = refl

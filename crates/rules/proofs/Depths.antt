@@ -4,7 +4,7 @@ use mathlib.Core.Path.{_≡_, refl}
 use mathlib.Core.List.{List, [], _∷_, map}
 use mathlib.Core.Option.{none}
 use Rattle.packed.specs.Syntax.{Expression, Condition, Signal, literal, end, argument}
-use Rattle.rules.specs.Context.{focus, depthOf}
+use Rattle.rules.specs.Context.{expressionDepth}
 use Rattle.rules.specs.State.{expressions}
 
 -- an expression, and the number of constructs around the part of it that moves next
@@ -53,5 +53,5 @@ samples =
     ∷ []
 
 depths : map (λ (x : Sample). expressions .depth (x .expression)) samples ≡ map (λ (x : Sample). x .depth) samples
-unfolding depthOf focus
+unfolding expressionDepth
 depths = refl

@@ -21,7 +21,7 @@ use Rattle.rules.specs.Step.{Stuck, missingField, notThread, notHeld, no
 use Rattle.rules.specs.Step.{Move, AttemptOf, Attempt, moves, attempt, attemptBy, attemptAt, around, callAct, readAct, writeAct, joinAct, joinValue}
 use Rattle.rules.specs.Step.{synchAct, holdAct, signalMove, signalAct, wakeAct}
 use Rattle.rules.specs.Room.{Blocked, MONITOR-HELD, UNFINISHED, NO-FIELD-TO-READ, NO-FIELD-TO-WRITE, NO-THREAD, NOT-NOTIFIED, NOT-FREE, NOT-HELD}
-use Rattle.rules.specs.Room.{PassedOver, ABSENT, FINISHED, BLOCKED, AnswerOf, answer, withinRoom, Room, noRoomFor, step}
+use Rattle.rules.specs.Room.{PassedOver, ABSENT, FINISHED, BLOCKED, AnswerOf, answer, withinRoom, noRoomFor, step}
 use Rattle.keys.proofs.KeyLaws.{subset-singleton}
 use Rattle.rules.proofs.OneKey.{OneKey, its-cell}
 use Rattle.rules.proofs.RoomLaws.{answer-moved}

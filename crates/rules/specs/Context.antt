@@ -228,3 +228,8 @@ unfolding depth
 depthOf (value o) = 0
 depthOf (here K r) = depth K
 depthOf (hereᶜ K r) = depthᶜ K
+
+-- the depth of a whole expression
+unfoldable pub expressionDepth : Expression → ℕ
+unfolding focus depthOf
+expressionDepth e = depthOf (focus top e)

@@ -9,13 +9,12 @@ use lib.ListN.{length, getElem?, drop}
 use Rattle.keys.specs.Keys.{Keys, empty, isEmpty}
 use Rattle.packed.specs.Syntax.{Signal, Expression, Program, literal}
 use Rattle.records.specs.Record.{Record}
-use Rattle.rules.specs.Context.{Context, plug, depthOf}
+use Rattle.rules.specs.Context.{Context, plug, expressionDepth}
 use Rattle.rules.specs.State.{Form, expressions, ThreadOf, StateOf, cell, Thread, State, Numbered, lookup, monitor, threadOf}
 use Rattle.rules.specs.Rules.{Rule, e-call, e-let, e-if, e-while, e-notnottrue, e-andtrue, e-andfalse, e-equaltrue, e-equalfalse, e-new, e-read}
 use Rattle.rules.specs.Rules.{e-write, e-readv, e-writev, e-fork, e-join, e-re-enter, e-acquire, e-release, e-wait, e-wake, e-notify, e-notifyall}
 use Rattle.rules.specs.Step.{forMonitor, forJoin, forNotify, missingField, notThread, notHeld, MoveOf, AttemptOf, Attempt, absent, finished, waiting}
-use Rattle.rules.specs.Step.{stuck, lacking}
-use Rattle.rules.specs.Step.{moves, attempt}
+use Rattle.rules.specs.Step.{stuck, lacking, moves, attempt}
 
 -- ---- passing over, as a relation
 
@@ -158,5 +157,5 @@ module _ {F : Form} where
 
 -- the answer to a pick of thread p in state s
 unfoldable pub step : Program → State → ℕ → Answer
-unfolding attempt answer depthOf
+unfolding attempt answer expressionDepth
 step g s p = answer s p (attempt g s p)

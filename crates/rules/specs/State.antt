@@ -7,7 +7,7 @@ use lib.Dec.{eqb}
 use lib.ListN.{length, getElem?}
 use Rattle.keys.specs.Keys.{Keys, singleton, union, countNew}
 use Rattle.packed.specs.Syntax.{Expression, Arguments}
-use Rattle.rules.specs.Context.{top, focus, depthOf}
+use Rattle.rules.specs.Context.{expressionDepth}
 use Rattle.rules.specs.Queue.{Place, awake, lastPlace, movedUp}
 
 -- what a location holds: (W, o)
@@ -29,14 +29,14 @@ pub record Object : Type 0 where
   pub monitor : Cell
   pub fields : List Field
 
--- the form in which a thread's expression is kept: as what, and how deep one is. "Depth is the number of constructs around the part that moves next"
+-- the form in which a thread's expression is kept: as what, and how deep one is. The rules keep it as it is written, and are read with `expressions` for F
 pub record Form : Type 1 where
   pub Carrier : Type 0
   pub depth : Carrier → ℕ
 
--- as it is written: this is the form of the rules
+-- as it is written
 abbrev pub expressions : Form
-expressions = record { Carrier = Expression; depth = λ e. depthOf (focus top e) }
+expressions = record { Carrier = Expression; depth = expressionDepth }
 
 -- a thread: the object that stands for it, its expression θ, its key set κ, how many keys it has heard of that were new to it, and its place in a queue
 pub record ThreadOf (F : Form) : Type 0 where

@@ -10,8 +10,7 @@ use Rattle.packed.specs.Syntax.{Signal, Expression, Condition, Procedure, Progr
 use Rattle.records.specs.Record.{Kind, Record, entry}
 use Rattle.rules.specs.Context.{Context, top, plug, plugᶜ, Redex, Redexᶜ, Focus, value, here, hereᶜ, focus, asLiteral}
 use Rattle.rules.specs.State.{Form, expressions, StateOf, Cell, cell, Thread, State, Numbered, freshObject, lookup, monitor, store, storeMonitor}
-use Rattle.rules.specs.State.{addObject, gain, learn, hear}
-use Rattle.rules.specs.State.{become, addThread, forked, useKey, enqueue, signalled, threadOf}
+use Rattle.rules.specs.State.{addObject, gain, learn, hear, become, addThread, forked, useKey, enqueue, signalled, threadOf}
 use Rattle.rules.specs.Rules.{Rule, isVolatile, passedOn, e-call, e-let, e-if, e-while, e-notnottrue, e-andtrue, e-andfalse, e-equaltrue, e-equalfalse}
 use Rattle.rules.specs.Rules.{e-new, e-read, e-write, e-readv, e-writev, e-fork, e-join, e-re-enter, e-acquire, e-release, e-wait, e-wake, e-notify}
 use Rattle.rules.specs.Rules.{e-notifyall}

@@ -18,7 +18,7 @@ use Rattle.records.specs.Record.{Record, entry}
 use Rattle.order.proofs.Ports.{Port, ofThread, ofMonitor, ofVolatile, Draws}
 use Rattle.order.proofs.KeySets.{put, put-same}
 use Rattle.order.proofs.KeyMachine.{after}
-use Rattle.rules.specs.Context.{Context, Contextᶜ, Redex, Redexᶜ, Focus, focus, top, plug, plugᶜ, redexExpression, redexCondition}
+use Rattle.rules.specs.Context.{Context, Contextᶜ, Redex, Redexᶜ, Focus, focus, expressionDepth, top, plug, plugᶜ, redexExpression, redexCondition}
 use Rattle.rules.specs.State.{cell, Cell, Thread, State, fresh, freshObject, lookup, monitor, changeAt, gain, learn, hear, become, forked, inPlace, signalled}
 use Rattle.rules.specs.State.{store, storeMonitor, addObject, addThread, useKey, threadOf, Numbered}
 use Rattle.rules.specs.Rules.{Rule, isVolatile, passedOn, Converts, E-CALL, E-LET, E-IF, E-WHILE, E-NEW, E-READ, E-WRITE, E-READV, E-WRITEV, E-FORK, E-JOIN}
@@ -167,7 +167,7 @@ module _ (g : Program) (P : WellFormedProgram g) (Q : WaitlessProgram g) (S : Ma
   -- ---- room
 
   same-deep : (ω₂ : Naming) → ω₂ 0 ≡ some 0 → (a b : Thread) → Like ω₂ (a .expression) (b .expression) → deep a ≡ deep b
-  unfolding deep
+  unfolding deep expressionDepth
   same-deep ω₂ z a b l = ap (λ (n : ℕ). ltb 32 n) (same-depth ω₂ (focus-like ω₂ z l k-top))
 
   -- with as many threads or fewer, and so on, the room before the move is there too
