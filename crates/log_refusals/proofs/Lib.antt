@@ -1,2 +1,3 @@
 pub mod WrongRecords
 pub mod Refused
+pub mod Fours

@@ -6,7 +6,8 @@ ghost use lib.ListN.{length};
 ghost use Rattle.format.specs.Lowest.{Lowest};
 ghost use Rattle.records.specs.Packed.{recordCount};
 ghost use Rattle.records.specs.Refusals.{wrongLogLength, wrongRecord};
-ghost use Rattle.log_refusals.specs.Limits.{leastBits, zeroBits};
+ghost use Rattle.log_refusals.specs.Limits.{leastBits, zeroBits, fourWrong, RightTo};
+ghost use mathlib.Core.Bool.{false};
 
 // Refusal 11: the length is no multiple of 3, or over 12,288.
 pub fn wrong_length(log: &[u8]) -> bool
@@ -89,6 +90,34 @@ fn wrong_record<'a>(log: &[u8], index: usize, least: &'a [usize; 16], zero: &'a 
     low | (set != 0)
 }
 
+// Refusal 12 at one of four records in a row, none of them the last.
+fn four_wrong<'a>(log: &[u8], index: usize, least: &'a [usize; 16], zero: &'a [usize; 16]) -> bool
+    requires { ⌜ index + 4 < length (now log) / 3 ⌝ ∗ ⌜ now least ≡ leastBits false ⌝ ∗ ⌜ now zero ≡ zeroBits ⌝ }
+    ensures { λ r. ⌜ r ≡ fourWrong (now (log .entry)) index ⌝ }
+{
+    let first = wrong_record(log, index, least, zero);
+    let second = wrong_record(log, index + 1, least, zero);
+    let third = wrong_record(log, index + 2, least, zero);
+    let fourth = wrong_record(log, index + 3, least, zero);
+    first | second | third | fourth
+}
+
+// A count of records from the first on that are all right: four are tested before a branch.
+fn right_fours<'a>(log: &[u8], least: &'a [usize; 16], zero: &'a [usize; 16]) -> usize
+    requires { ⌜ now least ≡ leastBits false ⌝ ∗ ⌜ now zero ≡ zeroBits ⌝ }
+    ensures { λ r. ⌜ RightTo (now (log .entry)) r ⌝ }
+{
+    let count = log.len() / 3;
+    let mut index = 0;
+    while index + 4 < count {
+        if four_wrong(log, index, least, zero) {
+            return index;
+        }
+        index += 4;
+    }
+    index
+}
+
 // The lowest record that refusal 12 finds wrong, or the count of records. The tables are laid out once, and the last record is tested by its own.
 pub fn lowest_wrong(log: &[u8]) -> usize
     ensures { λ r. ⌜ Lowest (wrongRecord (now (log .entry))) (recordCount (now (log .entry))) r ⌝ }
@@ -97,7 +126,7 @@ pub fn lowest_wrong(log: &[u8]) -> usize
     let early = LEAST_EARLY;
     let last = LEAST_LAST;
     let zero = ZERO;
-    let mut index = 0;
+    let mut index = right_fours(log, &early, &zero);
     while index + 1 < count {
         if wrong_record(log, index, &early, &zero) {
             return index;

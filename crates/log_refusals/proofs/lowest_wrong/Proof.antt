@@ -25,9 +25,13 @@ Inv-loop log count early last zero i₀ i =
 abbrev μ-loop : tie.MeasureT-loop
 μ-loop log count early last zero i₀ i = count - i
 
-loop-holds : tie.Need-loop-holds Inv-loop μ-loop
+right-fours-requires : tie.Need-right-fours-requires Inv-loop μ-loop
 unfolding leastBits
-loop-holds c = (omega arith, refl, refl, refl, refl, λ k h. absurd (omega arith))
+right-fours-requires c κs = (refl, refl)
+
+loop-holds : tie.Need-loop-holds Inv-loop μ-loop
+unfolding leastBits recordCount
+loop-holds c = let start = c .right-fours .ensures in (start .within, refl, refl, refl, refl, start .right)
 
 add-loop : tie.Need-add-loop Inv-loop μ-loop
 add-loop c = search needs
@@ -35,7 +39,7 @@ add-loop c = search needs
 wrong-record-requires : tie.Need-wrong-record-requires Inv-loop μ-loop
 wrong-record-requires c κs =
     let at = c .before .before .before .loop in
-    let n : ℕ = length (c .before .before .before .before .before .args .log .now) / 3 in
+    let n : ℕ = length (c .before .before .before .before .before .before .before .before .args .log .now) / 3 in
     let more = c .before .before .loop-test .taken in
     (omega (arith, at .inv .1, more), (early-table _ (at .index) n (at .inv .2) (omega (arith, at .inv .1, more)), at .inv .4))
 
@@ -66,7 +70,7 @@ returns-2 c = record { within = omega arith; here = λ h. absurd (omega arith); 
 wrong-record-requires-2 : tie.Need-wrong-record-requires-2 Inv-loop μ-loop
 wrong-record-requires-2 c κs =
     let at = c .before .before .before .before .loop in
-    let n : ℕ = length (c .before .before .before .before .before .before .args .log .now) / 3 in
+    let n : ℕ = length (c .before .before .before .before .before .before .before .before .before .args .log .now) / 3 in
     let done = c .before .before .before .loop-test .left in
     let some = c .before .before .if2 .left in
     (omega (arith, at .inv .1, some), (last-table _ (at .index) n (at .inv .3) (omega (arith, at .inv .1, done, some)), at .inv .4))
@@ -93,6 +97,7 @@ lowest-wrong-spec =
     (tie.spec
     Inv-loop
     μ-loop
+    right-fours-requires
     loop-holds
     add-loop
     wrong-record-requires
