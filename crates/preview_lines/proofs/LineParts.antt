@@ -9,7 +9,7 @@ use Rattle.record_lines.specs.Columns as columns
 use Rattle.run_lines.proofs.RecordText.{columns-are}
 use Rattle.rules.specs.Room.{Room}
 use Rattle.rules.specs.Run.{Stop, Status}
-use Rattle.preview.specs.declared.RecordBytes.{RecordBytes}
+use Rattle.last_pick.specs.declared.RecordBytes.{RecordBytes}
 use Rattle.preview.specs.Preview.{passed, noRoom, stopped}
 use Rattle.preview.specs.Answer.{bytesIn, recordOf}
 use Rattle.text.specs.Text.{ascii}
