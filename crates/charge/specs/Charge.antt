@@ -1,30 +1,13 @@
 -- What a checked plan is charged (document 02, E13): "Quotes are made from the move count. Given are plan, schedule and option, under checks 1 to 9." Assumes
 -- nothing.
-use Prim.Native.Nat.{ℕ, _+_, _*_, _/_}
-use mathlib.Core.Bool.{Bool, cond}
+use Prim.Native.Nat.{ℕ}
+use mathlib.Core.Bool.{Bool}
 use mathlib.Core.List.{List}
 use Rattle.packed.specs.Trees.{programOf}
 use Rattle.rules.specs.Run.{Stop, Outcome, outcomeOf}
 use Rattle.rules.specs.Play.{scheduleRefusal, runOf}
 use Rattle.answers.specs.Answer.{Answer, answerBy}
-
--- "each started hundred moves": the hundreds that n moves take, the last one whole or begun
-unfoldable pub startedHundreds : ℕ → ℕ
-startedHundreds n = (n + 99) / 100
-
--- "A run costs 1,200 cents and 35 for each started hundred moves"
-unfoldable pub runCost : ℕ → ℕ
-unfolding startedHundreds
-runCost n = 1200 + 35 * startedHundreds n
-
--- "the sum rises by 15 percent, a part of a cent counting as a whole one"
-unfoldable pub risen : ℕ → ℕ
-risen sum = (115 * sum + 99) / 100
-
--- "with the one-millisecond option": what a run of n moves costs
-unfoldable pub price : Bool → ℕ → ℕ
-unfolding runCost risen
-price option n = cond option (risen (runCost n)) (runCost n)
+use Rattle.prices.specs.Price.{price}
 
 -- "Runs that stop for room are free."; a run that ends, or stops for a missing key, costs its price
 unfoldable pub priceBy : Bool → Stop → ℕ → ℕ

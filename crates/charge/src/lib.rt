@@ -3,22 +3,11 @@ ghost use mathlib.Core.Path.{_≡_};
 ghost use Prim.Native.Nat.{_≤_};
 ghost use Rattle.answers.specs.Answer.{answered};
 ghost use Rattle.player.specs.Answer.{stopOf};
-ghost use Rattle.charge.specs.Charge.{price, priceBy, charged};
+ghost use Rattle.charge.specs.Charge.{priceBy, charged};
 use answers::Answered;
+use prices::price;
 use refusals::Checked;
 use run_outcome::Stop;
-
-// A run costs 1,200 cents and 35 for each started hundred moves; with the option 15 percent more, a part of a cent counting as a whole one.
-fn price(option: bool, moves: usize) -> usize
-    requires { ⌜ moves ≤ 4096 ⌝ }
-    ensures { λ r. ⌜ r ≡ price option moves ⌝ }
-{
-    let sum = 1200 + 35 * ((moves + 99) / 100);
-    if option {
-        return (115 * sum + 99) / 100;
-    }
-    sum
-}
 
 // A run that stops for room is free.
 fn price_by(option: bool, stop: Stop, moves: usize) -> usize

@@ -5,7 +5,7 @@ use mathlib.Core.List.{List, [], _∷_, _++_}
 use mathlib.Core.Option.{Option, some}
 use Rattle.records.specs.Record.{new, write, fork, lacksRead, Record, entry}
 use Rattle.text.specs.Text.{ascii}
-use Rattle.diagram.specs.Diagram.{laneCount, openingText, laneText, rowTexts, arrowTexts, raceText}
+use Rattle.diagram_elements.specs.Diagram.{laneCount, openingText, laneText, rowTexts, arrowTexts, raceText}
 
 abbrev log : List Record
 log = entry new 0 1 0 0 ∷ entry fork 0 1 1 0 ∷ entry write 1 1 1 5 ∷ entry lacksRead 0 1 1 0 ∷ []

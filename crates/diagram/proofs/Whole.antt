@@ -6,7 +6,7 @@ use mathlib.Core.Option.{Option}
 use lib.ListN.{length}
 use Rattle.records.specs.Record.{Record}
 use Rattle.text.specs.Text.{ascii}
-use Rattle.diagram.specs.Diagram.{laneCount, headText, laneTexts, rowTexts, arrowTexts, raceText, diagramText}
+use Rattle.diagram_elements.specs.Diagram.{laneCount, headText, laneTexts, rowTexts, arrowTexts, raceText, diagramText}
 
 -- the picture with so many lanes and rows
 abbrev sized : List Record → List (ℕ × ℕ) → Option (ℕ × ℕ) → ℕ → ℕ → List ℕ

@@ -1,9 +1,8 @@
 // What stands before the lanes: the size of the picture, how classes look, and the title of the words.
 ghost use Prim.Native.Nat.{_+_, _≤_};
 ghost use lib.ListN.{length};
-ghost use Rattle.diagram.specs.Diagram.{openingText, styleText, columnsText, headText};
-ghost use Rattle.diagram.specs.Drawn.{Drawn};
-use crate::elements;
+ghost use Rattle.diagram_elements.specs.Diagram.{openingText, styleText, columnsText, headText};
+ghost use Rattle.diagram_elements.specs.Drawn.{Drawn};
 
 // The size of the picture.
 fn put_opening(area: &mut [u8], at: usize, lanes: usize, records: usize) -> usize
@@ -11,8 +10,8 @@ fn put_opening(area: &mut [u8], at: usize, lanes: usize, records: usize) -> usiz
     ensures { λ r. ⌜ Drawn 128 (now (area .entry)) at (openingText lanes records) (now (area .exit)) r ⌝ }
 {
     let at = text::put_word(area, at, b"<svg xmlns=\"http://www.w3.org/2000/svg\"");
-    let at = elements::put_attribute(area, at, b"width", 40 + 80 * lanes + 280);
-    let at = elements::put_attribute(area, at, b"height", 48 + 24 * records);
+    let at = diagram_elements::put_attribute(area, at, b"width", 40 + 80 * lanes + 280);
+    let at = diagram_elements::put_attribute(area, at, b"height", 48 + 24 * records);
     text::put_word(area, at, b" font-family=\"monospace\" font-size=\"12\">\n")
 }
 
@@ -54,7 +53,7 @@ fn put_columns(area: &mut [u8], at: usize, lanes: usize) -> usize
     ensures { λ r. ⌜ Drawn 80 (now (area .entry)) at (columnsText lanes) (now (area .exit)) r ⌝ }
 {
     let at = text::put_word(area, at, b"<text");
-    let at = elements::put_attribute(area, at, b"x", 40 + 80 * lanes);
+    let at = diagram_elements::put_attribute(area, at, b"x", 40 + 80 * lanes);
     text::put_word(
         area,
         at,

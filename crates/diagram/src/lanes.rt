@@ -3,9 +3,8 @@ ghost use Prim.Native.Nat.{_+_, _≤_, _<_};
 ghost use mathlib.Core.Path.{_≡_};
 ghost use lib.ListN.{length};
 ghost use Rattle.records.specs.Packed.{logOf};
-ghost use Rattle.diagram.specs.Diagram.{laneCount, laneText, laneTexts};
-ghost use Rattle.diagram.specs.Drawn.{Drawn};
-use crate::elements;
+ghost use Rattle.diagram_elements.specs.Diagram.{laneCount, laneText, laneTexts};
+ghost use Rattle.diagram_elements.specs.Drawn.{Drawn};
 
 // One for each thread from 0 to the highest of the log.
 pub fn lane_count(log: &[u8]) -> usize
@@ -29,9 +28,9 @@ fn put_lane(area: &mut [u8], at: usize, thread: usize, records: usize) -> usize
     ensures { λ r. ⌜ Drawn 120 (now (area .entry)) at (laneText records thread) (now (area .exit)) r ⌝ }
 {
     let x = 40 + 80 * thread;
-    let at = elements::put_segment(area, at, b"lane", x, 28, x, 48 + 24 * records);
+    let at = diagram_elements::put_segment(area, at, b"lane", x, 28, x, 48 + 24 * records);
     let at = text::put_word(area, at, b"<text class=\"title\"");
-    let at = elements::put_attribute(area, at, b"x", x);
+    let at = diagram_elements::put_attribute(area, at, b"x", x);
     let at = text::put_word(area, at, b" y=\"20\">thread ");
     let at = text::put_number(area, at, thread);
     text::put_word(area, at, b"</text>\n")

@@ -1,23 +1,14 @@
 // The picture of a log as SVG text: a lane for each thread, a row for each record, arrows between records, and a race in red.
-mod elements; // elements.rt: attributes and lines
 mod head; // head.rt: what stands before the lanes
 mod lanes; // lanes.rt: the lanes of threads
-mod rows; // rows.rt: the rows of records
-mod links; // links.rt: arrows, and the line of a race
 
 ghost use Prim.Native.Nat.{_+_, _*_, _/_, _≤_};
 ghost use lib.ListN.{length};
 ghost use Rattle.records.specs.Packed.{logOf};
 ghost use Rattle.text.specs.Wrote.{Wrote};
-ghost use Rattle.diagram.specs.Diagram.{diagramText, arrowsOf, raceOf};
-ghost use Rattle.diagram.specs.Drawn.{Room};
-
-// The race that is drawn.
-pub enum Race {
-    // The indices of its last write and of the access that is unordered after it.
-    Between { write: usize, access: usize },
-    Nowhere,
-}
+ghost use Rattle.diagram_elements.specs.Diagram.{diagramText, arrowsOf, raceOf};
+ghost use Rattle.diagram_elements.specs.Drawn.{Room};
+use diagram_elements::Race;
 
 // The whole picture of a log, the first `count` arrows from records with the indices in `starts` to those in `ends`.
 pub fn put_diagram(
@@ -38,8 +29,8 @@ pub fn put_diagram(
     let lanes = lanes::lane_count(log);
     let at = head::put_head(area, at, lanes, records);
     let at = lanes::put_lanes(area, at, lanes, records);
-    let at = rows::put_rows(area, at, log, lanes, race);
-    let at = links::put_arrows(area, at, log, starts, ends, count);
-    let at = links::put_race(area, at, log, race);
+    let at = diagram_rows::put_rows(area, at, log, lanes, race);
+    let at = diagram_links::put_arrows(area, at, log, starts, ends, count);
+    let at = diagram_links::put_race(area, at, log, race);
     text::put_word(area, at, b"</svg>\n")
 }

@@ -9,8 +9,8 @@ use lib.ListN.{length, length-append, length-replicate, getD, drop, drop-of-leng
 use lib.Seq.{drop-cons}
 use Rattle.notation.specs.Tokens.{textOf}
 use Rattle.notation.specs.Layout.{Pen, penAfter, laidFrom}
-use Rattle.layout.specs.declared.pen.Gap.{Gap}
-use Rattle.layout.specs.Pens.{gapBytes, Parts}
+use Rattle.pen.specs.declared.Gap.{Gap}
+use Rattle.pen.specs.Pens.{gapBytes, Parts}
 
 -- a gap is short
 pub gap-short : (g : Gap) → g .spaces ≤ 40 → length (gapBytes g) ≤ 41

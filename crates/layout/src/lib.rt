@@ -1,5 +1,4 @@
 // Tokens as text: spaces, lines, indentation (docs/FORMAT.md, "A plan as text").
-pub mod pen;
 pub mod rows;
 
 use pen::Gap;
@@ -13,7 +12,7 @@ ghost use Rattle.notation.specs.Tokens.{textEnd, textOf};
 ghost use Rattle.notation.specs.Known.{Known};
 ghost use Rattle.notation.specs.Layout.{laidOut};
 ghost use Rattle.layout.specs.Rows.{textRows};
-ghost use Rattle.layout.specs.Pens.{gapBytes};
+ghost use Rattle.pen.specs.Pens.{gapBytes};
 
 // How many bytes the text of some tokens has.
 pub fn length(tokens: &[u8]) -> usize

@@ -7,7 +7,7 @@ use mathlib.Core.List.{List, [], _∷_, _++_, append-nil}
 use lib.ListN.{length, length-append, set, length-set}
 use borrow.Author.Tests.{eq-eqb, ne-eqb}
 use Rattle.format.proofs.AreaLaws.{overwrite-none, overwrite-next}
-use Rattle.lexer.specs.Ended.{coded}
+use Rattle.token_automaton.specs.Ended.{coded}
 use Rattle.lexer.specs.Kept.{Kept}
 use Rattle.lexer.specs.Adds.{Adds}
 

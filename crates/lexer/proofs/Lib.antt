@@ -1,6 +1,3 @@
-pub mod NameLaws
-pub mod ClassLaws
-pub mod AutomatonLaws
 pub mod TurnLaws
 pub mod KeptLaws
 pub mod PlaceLaws

@@ -12,8 +12,8 @@ use lib.Seq.{getD-append-add, drop-cons}
 use borrow.Author.Tests.{eq-eqb, ne-eqb, le-ltb, ltb-true, ltb-false}
 use Rattle.notation.specs.Tokens.{textEnd}
 use Rattle.notation.specs.Lexing.{Token, token, Begun, begunAfter, endedAtEnd, tokensFrom, placeFrom}
-use Rattle.lexer.specs.declared.automaton.Ended.{Ended}
-use Rattle.lexer.specs.Ended.{listed, beforeOf, withOf}
+use Rattle.token_automaton.specs.declared.automaton.Ended.{Ended}
+use Rattle.token_automaton.specs.Ended.{listed, beforeOf, withOf}
 use Rattle.lexer.specs.Place.{placeIn}
 use Rattle.lexer.proofs.TurnLaws.{one-byte, no-byte}
 

@@ -9,9 +9,9 @@ use lib.ListN.{length, getD, drop, drop-of-length-le}
 use lib.Seq.{drop-cons}
 use Rattle.notation.specs.Tokens.{textEnd}
 use Rattle.notation.specs.Lexing.{Token, token, Begun, begunAfter, endedAtEnd, tokensFrom}
-use Rattle.lexer.specs.declared.automaton.Ended.{Ended}
-use Rattle.lexer.specs.Ended.{listed, coded, beforeOf, withOf}
-use Rattle.lexer.proofs.AutomatonLaws.{parted}
+use Rattle.token_automaton.specs.declared.automaton.Ended.{Ended}
+use Rattle.token_automaton.specs.Ended.{listed, coded, beforeOf, withOf}
+use Rattle.token_automaton.proofs.AutomatonLaws.{parted}
 
 module _ (text : List ℕ) (i : ℕ) (b : Begun) where
   abbrev byte : ℕ

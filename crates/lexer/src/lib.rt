@@ -1,13 +1,13 @@
 // From the bytes of a text to its tokens (docs/FORMAT.md, "A plan as text").
-pub mod automaton;
-pub mod classes;
-pub mod names;
 pub mod places;
 
-use automaton::Begun;
-use automaton::NONE;
+use token_automaton::automaton;
+use token_automaton::automaton::Begun;
+use token_automaton::automaton::NONE;
+use token_automaton::classes;
+use token_automaton::names;
 ghost use Rattle.notation.specs.Lexing.{codesOf};
-ghost use Rattle.lexer.specs.Ended.{coded};
+ghost use Rattle.token_automaton.specs.Ended.{coded};
 ghost use Rattle.lexer.specs.Kept.{Kept};
 ghost use Rattle.lexer.specs.Adds.{Adds};
 

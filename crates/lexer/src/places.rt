@@ -1,16 +1,16 @@
 // The line and the column of a token.
-use crate::automaton;
-use crate::automaton::Begun;
-use crate::automaton::Ended;
-use crate::automaton::NONE;
-use crate::classes;
-use crate::names;
+use token_automaton::automaton;
+use token_automaton::automaton::Begun;
+use token_automaton::automaton::Ended;
+use token_automaton::automaton::NONE;
+use token_automaton::classes;
+use token_automaton::names;
 ghost use mathlib.Core.Path.{_≡_};
 ghost use Prim.Native.Nat.{_-_};
 ghost use lib.Dec.{ltb};
 ghost use lib.ListN.{length};
 ghost use Rattle.notation.specs.Lexing.{tokensOf, placeAfter};
-ghost use Rattle.lexer.specs.Ended.{listed};
+ghost use Rattle.token_automaton.specs.Ended.{listed};
 ghost use Rattle.lexer.specs.Place.{placeIn, placeOf};
 
 // Both from 1.

@@ -8,7 +8,7 @@ use Rattle.format.specs.Version.{Version}
 use Rattle.records.specs.Record.{Record}
 use Rattle.conflicts.specs.Conflicts.{Conflicting}
 use Rattle.arrows.proofs.OneList.{arrows-once}
-use Rattle.diagram.specs.Diagram.{diagramText}
+use Rattle.diagram_elements.specs.Diagram.{diagramText}
 use Rattle.log_picture.specs.Picture.{Red, ordered, unordered, Picture}
 
 -- the two records that are red

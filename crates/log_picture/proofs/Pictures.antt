@@ -18,10 +18,10 @@ use Rattle.arrows.specs.Arrows.{AllArrows, pairs}
 use Rattle.arrows.proofs.PairLaws.{pair-within}
 use Rattle.text.specs.Wrote.{Wrote}
 use Rattle.text.proofs.Added.{added-as, added-whole}
-use Rattle.diagram.specs.declared.Race.{Race}
-use Rattle.diagram.specs.declared.Race.the-variants.{Between, Nowhere}
-use Rattle.diagram.specs.Diagram.{diagramText, arrowsOf, raceOf}
-use Rattle.diagram.specs.Drawn.{ArrowsInside, RaceInside}
+use Rattle.diagram_elements.specs.declared.Race.{Race}
+use Rattle.diagram_elements.specs.declared.Race.the-variants.{Between, Nowhere}
+use Rattle.diagram_elements.specs.Diagram.{diagramText, arrowsOf, raceOf}
+use Rattle.diagram_elements.specs.Drawn.{ArrowsInside, RaceInside}
 use Rattle.judge_lines.specs.Search.{Named, LastOf}
 use Rattle.log_picture.specs.Picture as picture
 use Rattle.log_picture.specs.Picture.{Red, ordered, unordered, Picture, roomFor, Pictured}

@@ -10,8 +10,8 @@ use Rattle.records.specs.Refusals.{logRefusal}
 use Rattle.conflicts.specs.Conflicts.{Conflicting}
 use Rattle.arrows.specs.Arrows.{AllArrows}
 use Rattle.text.specs.Wrote.{Wrote}
-use Rattle.diagram.specs.declared.Race.{Race}
-use Rattle.diagram.specs.Diagram.{diagramText, raceOf}
+use Rattle.diagram_elements.specs.declared.Race.{Race}
+use Rattle.diagram_elements.specs.Diagram.{diagramText, raceOf}
 use Rattle.log_picture.specs.Picture.{Red, roomFor}
 
 -- neither the version nor the log is refused, and these two records are red

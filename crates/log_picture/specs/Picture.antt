@@ -13,7 +13,7 @@ use Rattle.records.specs.Refusals.{logRefusal}
 use Rattle.conflicts.specs.Conflicts.{Conflicting}
 use Rattle.arrows.specs.Arrows.{AllArrows}
 use Rattle.answers.specs.Answer.{Answer, value, refused}
-use Rattle.diagram.specs.Diagram.{diagramText}
+use Rattle.diagram_elements.specs.Diagram.{diagramText}
 
 -- what is red: nothing where every two accesses that conflict are joined by a chain; else the record that the judge names, the lowest that an earlier access
 -- conflicts with and no chain leads to from it, and the last of those earlier accesses

@@ -6,7 +6,7 @@ ghost use Rattle.answers.specs.Answer.{answered};
 ghost use Rattle.log_picture.specs.Picture.{Pictured};
 ghost use Rattle.log_picture.specs.Drawing.{Judged, NamedBy, Roomy, WroteArrows};
 use answers::Answered;
-use diagram::Race;
+use diagram_elements::Race;
 use judge::Judgement;
 
 // Writes the text of a log's picture at the area's start, and returns its length. A record has at most seven arrows.

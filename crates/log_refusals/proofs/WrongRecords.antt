@@ -1,18 +1,19 @@
--- What the tests of refusal 12 mean: the tables' rule, in one computed test of every kind with every field and value. Assumes nothing.
+-- What the tests of refusal 12 mean: the tables' rule, in computed tests of every kind with every field, and with every value and spare. Assumes nothing.
 use Prim.Native.Nat.{ℕ, zero, suc, _+_, _*_, _/_, _%_, _<_}
 use native.Mathlib.Omega.{arith}
 use native.Mathlib.Decide.{decLt}
 use native.Mathlib.Numerals.{add-one}
 use mathlib.Core.Path.{_≡_, refl, sym, ap, _∙_}
-use mathlib.Core.Bool.{Bool, true, false, _&&_, _||_, not, or-assoc}
+use mathlib.Core.Bool.{Bool, true, false, _&&_, _||_, not, or-assoc, or-false}
 use mathlib.Core.List.{List}
 use mathlib.Core.Option.{none}
-use lib.Bits.{bitAnd, and-block, and-mask}
+use lib.Bits.{bitAnd, and-block}
 use lib.Dec.{eqb, ltb, leb}
 use lib.ListN.{length, getD}
 use borrow.Author.Tests.{eq-eqb, ne-eqb, lt-ltb, le-ltb, eqb-true, not-false}
 use Rattle.format.specs.Refusal.{lowest}
 use Rattle.format.proofs.RefusalLaws.{lowest-none}
+use Rattle.records.specs.Record.{Kind, new, read, write, readv, writev, acquire, release, fork, join, lacksRead, lacksWrite}
 use Rattle.records.specs.Packed.{kindOf, recordCount}
 use Rattle.records.specs.Refusals.{wrongColumns, wrongRecord}
 use Rattle.records.proofs.Accepted.{wrong-record}
@@ -27,13 +28,57 @@ use Rattle.log_refusals.specs.Limits.{leastBits, zeroBits}
 abbrev byTables : Bool → ℕ → ℕ → Bool
 byTables last k n = ltb n (getD (leastBits last) k 0) || not (eqb (bitAnd n (getD zeroBits k 0)) 0)
 
--- the same of field and value alone, without the spare bits
-abbrev upperBits : Bool → ℕ → ℕ → Bool
-upperBits last k g = ltb g (getD (leastBits last) k 0 / 4) || not (eqb (bitAnd g (getD zeroBits k 0 / 4)) 0)
+-- the same of the field alone, and of the 7 bits behind it, which are value and spare
+abbrev fieldByTables : Bool → ℕ → ℕ → Bool
+fieldByTables last k f = ltb f (getD (leastBits last) k 0 / 128) || not (eqb (bitAnd f (getD zeroBits k 0 / 128)) 0)
 
--- what refusal 12 tests of them
+abbrev restByTables : ℕ → ℕ → Bool
+restByTables k n = not (eqb (bitAnd n (getD zeroBits k 0 % 128)) 0)
+
+-- ---- what refusal 12 tests
+
+-- a number that no kind has there, in the last record or before it
+abbrev noKind : Bool → ℕ → Bool
+noKind last k = eqb k 0 || ltb 11 k || (leb 10 k && not last)
+
 abbrev byColumns : Bool → ℕ → ℕ → ℕ → Bool
-byColumns last k f v = eqb k 0 || ltb 11 k || (leb 10 k && not last) || wrongColumns (kindOf k) f v
+byColumns last k f v = noKind last k || wrongColumns (kindOf k) f v
+
+-- a field that a kind allows
+abbrev rightField : Kind → ℕ
+rightField new = 0
+rightField read = 1
+rightField write = 1
+rightField readv = 1
+rightField writev = 1
+rightField acquire = 0
+rightField release = 0
+rightField fork = 0
+rightField join = 0
+rightField lacksRead = 1
+rightField lacksWrite = 1
+
+-- field and value are wrong each by itself
+columns-apart : (k : Kind) (f v : ℕ) → wrongColumns k f v ≡ (wrongColumns k f 0 || wrongColumns k (rightField k) v)
+columns-apart new f v = simp or-false
+columns-apart read f v = simp or-false
+columns-apart write f v = simp or-false
+columns-apart readv f v = simp or-false
+columns-apart writev f v = simp or-false
+columns-apart acquire f v = simp or-false
+columns-apart release f v = simp or-false
+columns-apart fork f v = simp or-false
+columns-apart join f v = simp or-false
+columns-apart lacksRead f v = simp or-false
+columns-apart lacksWrite f v = simp or-false
+
+abbrev fieldByColumns : Bool → ℕ → ℕ → Bool
+fieldByColumns last k f = noKind last k || wrongColumns (kindOf k) f 0
+
+abbrev restByColumns : ℕ → ℕ → Bool
+restByColumns k n = wrongColumns (kindOf k) (rightField (kindOf k)) (n / 4) || not (eqb (n % 4) 0)
+
+-- ---- the tables' rule, tested at every kind with every field, and with all that can stand behind one
 
 abbrev same : Bool → Bool → Bool
 same true y = y
@@ -44,66 +89,93 @@ same-is true y e = sym e
 same-is false true e = e
 same-is false false e = refl
 
--- both agree at a kind, a field and a value in one number
-abbrev agree : Bool → ℕ → Bool
-agree last m = same (upperBits last (m / 1024) (m % 1024)) (byColumns last (m / 1024) (m % 1024 / 32) (m % 32))
+-- both agree at a kind and a field, or a kind and the bits behind a field, in one number
+abbrev fieldsAgree : Bool → ℕ → Bool
+fieldsAgree last m = same (fieldByTables last (m / 32) (m % 32)) (fieldByColumns last (m / 32) (m % 32))
 
--- the tables' rule
-all-agree : (last : Bool) → lowest (λ (m : ℕ). not (agree last m)) 16384 ≡ none
+abbrev restsAgree : ℕ → Bool
+restsAgree m = same (restByTables (m / 128) (m % 128)) (restByColumns (m / 128) (m % 128))
+
+all-fields : (last : Bool) → lowest (λ (m : ℕ). not (fieldsAgree last m)) 512 ≡ none
 unfolding kindOf leastBits lowest
-all-agree true = refl
-all-agree false = refl
+all-fields true = refl
+all-fields false = refl
 
-module _ (last : Bool) (m : ℕ) (h : m < 16384) where
-  at-number : upperBits last (m / 1024) (m % 1024) ≡ byColumns last (m / 1024) (m % 1024 / 32) (m % 32)
-  at-number = same-is _ _ (not-false (agree last m) (lowest-none (λ (m : ℕ). not (agree last m)) 16384 (all-agree last) m h))
+all-rests : lowest (λ (m : ℕ). not (restsAgree m)) 2048 ≡ none
+unfolding kindOf lowest
+all-rests = refl
 
-  at-columns : (k g f v : ℕ) → m / 1024 ≡ k → m % 1024 ≡ g → m % 1024 / 32 ≡ f → m % 32 ≡ v → upperBits last k g ≡ byColumns last k f v
-  at-columns k g f v a b c d = rw (← a, ← b, ← c, ← d) at-number
-
--- ---- the spare bits, which are 0 with every kind
-
--- no least number has them
-least-rows : (last : Bool) → lowest (λ (k : ℕ). not (eqb (getD (leastBits last) k 0 % 4) 0)) 16 ≡ none
+-- no least number has a bit behind its field
+least-rows : (last : Bool) → lowest (λ (k : ℕ). not (eqb (getD (leastBits last) k 0 % 128) 0)) 16 ≡ none
 unfolding leastBits lowest
 least-rows true = refl
 least-rows false = refl
 
--- they are among the bits that must be 0
-zero-rows : lowest (λ (k : ℕ). not (eqb (getD zeroBits k 0 % 4) 3)) 16 ≡ none
-unfolding lowest
-zero-rows = refl
+-- what a test of all numbers below n says of one
+passed : (f : ℕ → Bool) (n : ℕ) → lowest (λ (m : ℕ). not (f m)) n ≡ none → (m : ℕ) → m < n → f m ≡ true
+passed f n e m h = not-false (f m) (lowest-none (λ (m : ℕ). not (f m)) n e m h)
 
-module _ (g s : ℕ) (hs : s < 4) where
-  lower : (L : ℕ) → L % 4 ≡ 0 → ltb (g * 4 + s) L ≡ ltb g (L / 4)
-  lower L e = go (decLt g (L / 4))
+agreed : (p q : ℕ → ℕ → Bool) {a b k n : ℕ} → a ≡ k → b ≡ n → same (p a b) (q a b) ≡ true → p k n ≡ q k n
+agreed p q {a} {b} row column e = rw (← row, ← column) (same-is (p a b) (q a b) e)
+
+module _ (k : ℕ) (hk : k < 16) where
+  field-agrees : (last : Bool) (f : ℕ) → f < 32 → fieldByTables last k f ≡ fieldByColumns last k f
+  field-agrees last f hf =
+      let m : ℕ = k * 32 + f in
+      let row : m / 32 ≡ k = omega (arith, hf) in
+      let column : m % 32 ≡ f = omega (arith, hf) in
+      agreed (fieldByTables last) (fieldByColumns last) row column (passed (fieldsAgree last) 512 (all-fields last) m (omega (arith, hk, hf)))
+
+  rest-agrees : (n : ℕ) → n < 128 → restByTables k n ≡ restByColumns k n
+  rest-agrees n hn =
+      let m : ℕ = k * 128 + n in
+      let row : m / 128 ≡ k = omega (arith, hn) in
+      let column : m % 128 ≡ n = omega (arith, hn) in
+      agreed restByTables restByColumns row column (passed restsAgree 2048 all-rests m (omega (arith, hk, hn)))
+
+-- ---- field and rest in one number
+
+module _ (f n : ℕ) (hn : n < 128) where
+  lower : (L : ℕ) → L % 128 ≡ 0 → ltb (f * 128 + n) L ≡ ltb f (L / 128)
+  lower L e = go (decLt f (L / 128))
     where
-      go : Dec (g < L / 4) → ltb (g * 4 + s) L ≡ ltb g (L / 4)
-      go (yes p) = lt-ltb (g * 4 + s) L (omega (arith, e, p, hs)) ∙ sym (lt-ltb g (L / 4) p)
-      go (no p) = le-ltb (g * 4 + s) L (omega (arith, e, p)) ∙ sym (le-ltb g (L / 4) (omega (arith, p)))
+      go : Dec (f < L / 128) → ltb (f * 128 + n) L ≡ ltb f (L / 128)
+      go (yes p) = lt-ltb (f * 128 + n) L (omega (arith, e, p, hn)) ∙ sym (lt-ltb f (L / 128) p)
+      go (no p) = le-ltb (f * 128 + n) L (omega (arith, e, p)) ∙ sym (le-ltb f (L / 128) (omega (arith, p)))
 
-  common : (Z : ℕ) → Z % 4 ≡ 3 → bitAnd (g * 4 + s) Z ≡ bitAnd g (Z / 4) * 4 + s
-  common Z e =
-      let whole : Z ≡ Z / 4 * 4 + 3 = omega (arith, e) in
-      let own : bitAnd s 3 ≡ s = and-mask s 2 ∙ omega (arith, hs) in
-      ap (bitAnd (g * 4 + s)) whole ∙ and-block 2 g (Z / 4) s 3 hs (omega arith) ∙ ap (λ (x : ℕ). bitAnd g (Z / 4) * 4 + x) own
+  common : (Z : ℕ) → bitAnd (f * 128 + n) Z ≡ bitAnd f (Z / 128) * 128 + bitAnd n (Z % 128)
+  common Z =
+      let whole : Z ≡ Z / 128 * 128 + Z % 128 = omega arith in
+      ap (bitAnd (f * 128 + n)) whole ∙ and-block 7 f (Z / 128) n (Z % 128) hn (omega arith)
 
-some-bit : (x s : ℕ) → not (eqb (x * 4 + s) 0) ≡ (not (eqb x 0) || not (eqb s 0))
-some-bit zero s = let alone : 0 * 4 + s ≡ s = omega arith in ap (λ (n : ℕ). not (eqb n 0)) alone
-some-bit (suc x) s = rw (ne-eqb (suc x * 4 + s) 0 (λ e. omega (arith, e)), ne-eqb (suc x) 0 (λ e. omega (arith, e)))
+some-bit : (x y : ℕ) → not (eqb (x * 128 + y) 0) ≡ (not (eqb x 0) || not (eqb y 0))
+some-bit zero y = let alone : 0 * 128 + y ≡ y = omega arith in ap (λ (n : ℕ). not (eqb n 0)) alone
+some-bit (suc x) y = rw (ne-eqb (suc x * 128 + y) 0 (λ e. omega (arith, e)), ne-eqb (suc x) 0 (λ e. omega (arith, e)))
+
+-- four tests, the middle two as one
+regrouped : (a b c d : Bool) → (a || b || (c || d)) ≡ (a || (b || c) || d)
+regrouped true b c d = refl
+regrouped false true c d = refl
+regrouped false false c d = refl
 
 by-tables : (last : Bool) (k f v s : ℕ) → k < 16 → f < 32 → v < 32 → s < 4
     → byTables last k ((f * 32 + v) * 4 + s) ≡ (byColumns last k f v || not (eqb s 0))
 by-tables last k f v s hk hf hv hs =
+    let n : ℕ = v * 4 + s in
+    let small : n < 128 = omega (arith, hv, hs) in
     let L : ℕ = getD (leastBits last) k 0 in
     let Z : ℕ = getD zeroBits k 0 in
-    let none-least = eqb-true (L % 4) 0 (not-false _ (lowest-none (λ (k : ℕ). not (eqb (getD (leastBits last) k 0 % 4) 0)) 16 (least-rows last) k hk)) in
-    let all-zero = eqb-true (Z % 4) 3 (not-false _ (lowest-none (λ (k : ℕ). not (eqb (getD zeroBits k 0 % 4) 3)) 16 zero-rows k hk)) in
-    let upper : upperBits last k (f * 32 + v) ≡ byColumns last k f v =
-    at-columns last (k * 1024 + (f * 32 + v)) (omega (arith, hk, hf, hv)) k (f * 32 + v) f v
-    (omega (arith, hf, hv)) (omega (arith, hf, hv)) (omega (arith, hf, hv)) (omega (arith, hv)) in
-    rw (lower (f * 32 + v) s hs L none-least, common (f * 32 + v) s hs Z all-zero, some-bit (bitAnd (f * 32 + v) (Z / 4)) s)
-    (sym (or-assoc (ltb (f * 32 + v) (L / 4)) (not (eqb (bitAnd (f * 32 + v) (Z / 4)) 0)) (not (eqb s 0))) ∙ ap (λ (x : Bool). x || not (eqb s 0)) upper)
+    let K : Kind = kindOf k in
+    let one-number : (f * 32 + v) * 4 + s ≡ f * 128 + n = omega arith in
+    let none-least = eqb-true (L % 128) 0 (passed (λ (k : ℕ). eqb (getD (leastBits last) k 0 % 128) 0) 16 (least-rows last) k hk) in
+    let value-is : n / 4 ≡ v = omega (arith, hs) in
+    let spare-is : n % 4 ≡ s = omega (arith, hs) in
+    let parts : byTables last k (f * 128 + n) ≡ (fieldByTables last k f || restByTables k n) =
+    rw (lower f n small L none-least, common f n small Z, some-bit (bitAnd f (Z / 128)) (bitAnd n (Z % 128)))
+    (sym (or-assoc (ltb f (L / 128)) (not (eqb (bitAnd f (Z / 128)) 0)) (not (eqb (bitAnd n (Z % 128)) 0)))) in
+    ap (byTables last k) one-number ∙ parts ∙ rw (field-agrees k hk last f hf, rest-agrees k hk n small, value-is, spare-is)
+    (regrouped (noKind last k) (wrongColumns K f 0) (wrongColumns K (rightField K) v) (not (eqb s 0))
+    ∙ ap (λ (w : Bool). noKind last k || w || not (eqb s 0)) (sym (columns-apart K f v)))
 
 -- ---- the table for a place
 

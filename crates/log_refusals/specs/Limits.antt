@@ -11,9 +11,9 @@ unfoldable pub leastBits : Bool → List ℕ
 leastBits true = 4096 ∷ 0 ∷ 128 ∷ 128 ∷ 128 ∷ 128 ∷ 0 ∷ 0 ∷ 0 ∷ 0 ∷ 128 ∷ 128 ∷ 4096 ∷ 4096 ∷ 4096 ∷ 4096 ∷ []
 leastBits false = 4096 ∷ 0 ∷ 128 ∷ 128 ∷ 128 ∷ 128 ∷ 0 ∷ 0 ∷ 0 ∷ 0 ∷ 4096 ∷ 4096 ∷ 4096 ∷ 4096 ∷ 4096 ∷ 4096 ∷ []
 
--- for each kind, the bits that must be 0
+-- for each kind, the bits that must be 0; of what is no kind, all
 abbrev pub zeroBits : List ℕ
-zeroBits = 3 ∷ 4095 ∷ 3 ∷ 3 ∷ 3 ∷ 3 ∷ 4095 ∷ 4095 ∷ 3199 ∷ 3075 ∷ 127 ∷ 3 ∷ 3 ∷ 3 ∷ 3 ∷ 3 ∷ []
+zeroBits = 4095 ∷ 4095 ∷ 3 ∷ 3 ∷ 3 ∷ 3 ∷ 4095 ∷ 4095 ∷ 3199 ∷ 3075 ∷ 127 ∷ 3 ∷ 4095 ∷ 4095 ∷ 4095 ∷ 4095 ∷ []
 
 -- refusal 12 at one of four records in a row
 abbrev pub fourWrong : List ℕ → ℕ → Bool

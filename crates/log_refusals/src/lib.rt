@@ -57,9 +57,10 @@ const LEAST_LAST: [usize; 16] = [
     4096,
 ];
 
-// For each kind, those of the 12 bits that must be 0: a column without a use, what is above a thread in the field of fork and join, and the spare bits.
+// For each kind, those of the 12 bits that must be 0: a column without a use, what is above a thread in the field of fork and join, and the
+// spare bits; of what is no kind, all.
 const ZERO: [usize; 16] = [
-    3,
+    4095,
     4095,
     3,
     3,
@@ -71,10 +72,10 @@ const ZERO: [usize; 16] = [
     3075,
     127,
     3,
-    3,
-    3,
-    3,
-    3,
+    4095,
+    4095,
+    4095,
+    4095,
 ];
 
 // Refusal 12 at the record of an index, by the tables for its place.

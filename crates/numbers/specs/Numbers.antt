@@ -1,41 +1,14 @@
 -- The number that each entry returns, by the answer that the papers define. Assumes nothing.
-use Prim.Native.Nat.{ℕ, _+_, _*_, _^_, min}
+use Prim.Native.Nat.{ℕ}
 use mathlib.Core.Path.{_≡_}
 use mathlib.Core.List.{List}
-use mathlib.Core.Option.{Option, some, none}
-use Rattle.format.specs.Refusal.{Refusal}
+use mathlib.Core.Option.{some, none}
 use Rattle.conflicts.specs.Judge.{Judged, refused, named, AnswersTold}
-use Rattle.rules.specs.Play as play
 use Rattle.answers.specs.Answer as tool
+use Rattle.return_convention.specs.Convention.{valueNumber, otherNumber, refusalNumber, answerNumber, placeNumber}
 use Rattle.interleavings.specs.Interleavings.{Next, FirstAnswer, NextAnswer}
 use Rattle.witness.specs.Witness.{Witnesses}
 use Rattle.read.specs.Read.{Read}
-
--- ---- the convention of every entry: a number of 64 bits, whose upper half says which kind of answer it is
-
--- upper half 0: an answer, with its value in the lower half, 0 where it has none
-abbrev pub valueNumber : ℕ → ℕ
-valueNumber value = value
-
--- upper half 1: the entry's other answer, with its value in the lower half
-abbrev pub otherNumber : ℕ → ℕ
-otherNumber value = 2 ^ 32 + value
-
--- upper half 2: a refusal, with number * 65536 + place in the lower half
-abbrev pub refusalNumber : Refusal → ℕ
-refusalNumber r = 2 * 2 ^ 32 + (r .number * 65536 + r .place)
-
--- ---- by it
-
--- check: 0 for a plan that passes
-unfoldable pub checkNumber : Option Refusal → ℕ
-checkNumber none = valueNumber 0
-checkNumber (some r) = refusalNumber r
-
--- play: 0 for a run
-unfoldable pub playNumber : play.Played → ℕ
-playNumber (play.Played.ran o) = valueNumber 0
-playNumber (play.Played.refused r) = refusalNumber r
 
 -- judge: 0 for none; its other answer is the index of the first unordered access
 unfoldable pub judgeNumber : Judged → ℕ
@@ -43,20 +16,11 @@ judgeNumber (named none) = valueNumber 0
 judgeNumber (named (some j)) = otherNumber j
 judgeNumber (refused r) = refusalNumber r
 
--- a tool of document 02: its value
-unfoldable pub answerNumber : tool.Answer → ℕ
-answerNumber (tool.Answer.value n) = valueNumber n
-answerNumber (tool.Answer.refused r) = refusalNumber r
-
 -- next_interleaving: the length of the following schedule; its other answer is that the list is over
 unfoldable pub nextNumber : Next → ℕ
 nextNumber (Next.written n) = valueNumber n
 nextNumber Next.over = otherNumber 0
 nextNumber (Next.refused r) = refusalNumber r
-
--- "line * 65536 + column", each 65,535 where it is more
-abbrev pub placeNumber : ℕ → ℕ → ℕ
-placeNumber line column = min line 65535 * 65536 + min column 65535
 
 -- read: the length of the written plan; its other answer is the line and the column where reading stops; 26 for an area that is too short
 unfoldable pub readNumber : Read → ℕ

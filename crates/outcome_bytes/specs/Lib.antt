@@ -1,3 +1,4 @@
 pub mod Bytes
 pub mod Small
 pub mod Parts
+pub mod Play

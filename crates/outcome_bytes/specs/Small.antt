@@ -5,6 +5,8 @@ use mathlib.Core.List.{List, [], _∷_}
 use lib.ListN.{length}
 use Rattle.rules.specs.Step.{Wait, Stuck}
 use Rattle.rules.specs.Run.{Status, Outcome}
+use Rattle.rules.specs.Play as play
+use Rattle.refusals.specs.Small.{SmallRefusal}
 
 abbrev pub SmallWait : Wait → Type 0
 SmallWait (Wait.forMonitor o) = o < 256
@@ -35,3 +37,8 @@ pub record SmallOutcome (o : Outcome) : Type 0 where
   pub records : o .records < 65536
   pub threads : AllSmall (o .threads)
   pub eight : length (o .threads) ≡ 8
+
+-- of what a play answers
+abbrev pub SmallPlayed : play.Played → Type 0
+SmallPlayed (play.Played.ran o) = SmallOutcome o
+SmallPlayed (play.Played.refused r) = SmallRefusal r

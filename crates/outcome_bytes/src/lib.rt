@@ -1,10 +1,13 @@
-// The outcome of a run as 40 bytes.
+// The outcome of a run as 40 bytes, and what a play returns.
 ghost use mathlib.Core.Path.{_≡_};
 ghost use Prim.Native.Nat.{_/_, _%_, _<_};
-ghost use Rattle.player.specs.Answer.{stopOf, statusOf, outcomeOf};
+ghost use Rattle.player.specs.Answer.{stopOf, statusOf, outcomeOf, answered};
 ghost use Rattle.outcome_bytes.specs.Bytes.{stopByte, three, threadBytes, outcomeBytes};
-ghost use Rattle.outcome_bytes.specs.Small.{SmallStatus, SmallOutcome};
+ghost use Rattle.outcome_bytes.specs.Small.{SmallStatus, SmallOutcome, SmallPlayed};
+ghost use Rattle.outcome_bytes.specs.Play.{playNumber, outAfter};
 ghost use Rattle.outcome_bytes.specs.Parts.{headBytes};
+use player::outcome::Played;
+use refusals::Checked;
 use run_outcome::NoRoom;
 use run_outcome::Outcome;
 use run_outcome::Stop;
@@ -132,5 +135,22 @@ pub fn write(out: &mut [u8; 40], outcome: Outcome)
         out[9 + 4 * number] = bytes.named;
         out[10 + 4 * number] = bytes.field;
         out[11 + 4 * number] = thread.learnt;
+    }
+}
+
+// 0 and the 40 bytes of a run; or the refusal, and no byte changed.
+pub fn write_play(out: &mut [u8; 40], played: Played) -> u64
+    requires { ⌜ SmallPlayed (answered played) ⌝ }
+    ensures number { λ r. ⌜ r ≡ playNumber (answered played) ⌝ }
+    ensures bytes { λ r. ⌜ now (out .exit) ≡ outAfter (now (out .entry)) (answered played) ⌝ }
+{
+    let checked = played.checked;
+    match checked {
+        Checked::Refused { number, place } => return_convention::refusal(number, place),
+        Checked::Passed => {
+            let outcome = played.outcome;
+            write(out, outcome);
+            0
+        }
     }
 }

@@ -16,9 +16,9 @@ use Rattle.parsing.specs.Goals.{Sort, either, expression, condition, Goal, expe
 use Rattle.parsing.specs.Goals.{number, ofExpression, ofCondition, ofArguments, numberIn, operandCounts, terms, valueAt, made, Form, forms, argumentGoals}
 use Rattle.parsing.specs.Parser.{ahead, Step, go, stop, Reason, wanted, takesCondition, inside, begun, wordForm, operandStep, isField, dotStep, moreStep}
 use Rattle.parsing.specs.Parser.{fieldsStep, furtherStep, step, isExpression, isCondition, fits}
-use Rattle.parser_moves.specs.Encoded.{goalOf}
-use Rattle.parser_moves.specs.Moves.{IsTerm, IsBelow, IsOf, operandKinds, Operands, MaskTo, Fits, Sound, onto, formAt}
-use Rattle.parser_moves.proofs.Numbers.{expect-goal, further-goal}
+use Rattle.parser_goals.specs.Encoded.{goalOf}
+use Rattle.parser_goals.specs.Moves.{IsTerm, IsBelow, IsOf, operandKinds, Operands, MaskTo, Fits, Sound, onto, formAt}
+use Rattle.parser_goals.proofs.Numbers.{expect-goal, further-goal}
 
 -- what a step leaves finds what it takes
 abbrev pub FitsAfter : List Goal → Step → Type 0

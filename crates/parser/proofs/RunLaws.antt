@@ -12,8 +12,8 @@ use Rattle.parsing.specs.Goals.{Goal, Value, number, numberIn, expressionIn, va
 use Rattle.parsing.specs.Parser as definition
 use Rattle.parsing.specs.Parser.{Reason, Step, go, stop, step, afterStep, parseBy, parse}
 use Rattle.parsing.specs.Plan.{procedureGoals}
-use Rattle.parser_moves.specs.Encoded.{goalOf, reasonOf, goalsOf, valueOf, valuesOf}
-use Rattle.parser_moves.specs.Moves.{IsTerm, IsBelow, Operands, Fits, onto}
+use Rattle.parser_goals.specs.Encoded.{goalOf, reasonOf, goalsOf, valueOf, valuesOf}
+use Rattle.parser_goals.specs.Moves.{IsTerm, IsBelow, Operands, Fits, onto}
 use Rattle.parser.specs.Stacks.{Stacked, Entries}
 use Rattle.parser.specs.Reading.{State, Going, shown, Kept, Turned, Resumes, Finished, Reads, Ran, readFrom}
 use Rattle.parser.specs.declared.turns.Standing.{Standing}

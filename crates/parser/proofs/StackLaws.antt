@@ -16,10 +16,10 @@ use Rattle.packed.specs.Steps.{tagIn, treeIn, listIn}
 use Rattle.packed.specs.Steps as array
 use Rattle.parsing.specs.Goals.{Goal, expect, Value, number, ofExpression, ofCondition, ofArguments, numberIn, valueAt}
 use Rattle.parsing.specs.Plan.{procedureGoals}
-use Rattle.parser_moves.specs.Encoded.{goalOf, goalsOf, stacked, valueOf, termValue, valuesOf, valueSort}
-use Rattle.parser_moves.specs.Moves.{pushed}
+use Rattle.parser_goals.specs.Encoded.{goalOf, goalsOf, stacked, valueOf, termValue, valuesOf, valueSort}
+use Rattle.parser_goals.specs.Moves.{pushed}
 use Rattle.parser.specs.Stacks.{Stacked, Entries, Put, Looks, lastOf, operandAt}
-use Rattle.parser_moves.proofs.Numbers.{expect-goal, stacked-some, pushed-some}
+use Rattle.parser_goals.proofs.Numbers.{expect-goal, stacked-some, pushed-some}
 
 -- ---- goals
 

@@ -25,8 +25,8 @@ use Rattle.written.specs.Terms.{wordOf}
 use Rattle.written.proofs.Words.{Fitting, term-in-word}
 use Rattle.parsing.specs.Goals.{Value, number, ofExpression, ofCondition, ofArguments, numberIn, expressionIn, conditionIn, argumentsIn, operandCounts}
 use Rattle.parsing.specs.Goals.{terms, valueAt, made}
-use Rattle.parser_moves.specs.Encoded.{termValue, valueOf, valuesOf}
-use Rattle.parser_moves.specs.Moves.{IsTerm, IsBelow, IsOf, operandKinds, Operands}
+use Rattle.parser_goals.specs.Encoded.{termValue, valueOf, valuesOf}
+use Rattle.parser_goals.specs.Moves.{IsTerm, IsBelow, IsOf, operandKinds, Operands}
 use Rattle.parser.specs.Stacks.{Entries, operandAt}
 use Rattle.parser.proofs.StackLaws.{values-set}
 

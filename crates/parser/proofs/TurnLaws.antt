@@ -11,16 +11,16 @@ use borrow.Author.Tests.{eq-eqb, ne-eqb}
 use Rattle.packed.specs.Steps.{Ordered}
 use Rattle.parsing.specs.Goals.{Goal, make, Value, made}
 use Rattle.parsing.specs.Parser.{Reason, Step, go, stop, step}
-use Rattle.parser_moves.specs.Encoded.{goalOf, reasonOf, goalsOf, valuesOf}
-use Rattle.parser_moves.specs.Moves.{Operands, operandKinds, Fits, onto, done, Small, Calls, Sound}
+use Rattle.parser_goals.specs.Encoded.{goalOf, reasonOf, goalsOf, valuesOf}
+use Rattle.parser_goals.specs.Moves.{Operands, operandKinds, Fits, onto, done, Small, Calls, Sound}
 use Rattle.parser.specs.Stacks.{Entries, Stacked, Put, Looks}
 use Rattle.parser.specs.Making.{Makeable, Makes}
 use Rattle.parser.specs.Reading.{State, Going, Found, Room, Went, WentWith, shown, Nearer, Kept, Turned}
 use Rattle.parser.specs.declared.turns.Standing.{Standing}
 use Rattle.parser.specs.declared.turns.Turn.the-variants.{On}
 use Rattle.parser.specs.declared.turns.Turn.the-variants as turn
-use Rattle.parser_moves.specs.declared.moves.Move.{Move}
-use Rattle.parser_moves.specs.declared.moves.Move.the-variants.{Go, Make, Stop}
+use Rattle.parser_goals.specs.declared.Move.{Move}
+use Rattle.parser_goals.specs.declared.Move.the-variants.{Go, Make, Stop}
 use Rattle.parser.proofs.FitLaws.{FitsAfter, step-fits, fits-sound}
 
 -- ---- numbers

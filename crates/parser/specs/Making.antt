@@ -5,8 +5,8 @@ use mathlib.Core.List.{List, []}
 use lib.ListN.{length, getD}
 use Rattle.packed.specs.Steps.{Ordered}
 use Rattle.parsing.specs.Goals.{made}
-use Rattle.parser_moves.specs.Encoded.{valuesOf}
-use Rattle.parser_moves.specs.Moves.{operandKinds, Operands}
+use Rattle.parser_goals.specs.Encoded.{valuesOf}
+use Rattle.parser_goals.specs.Moves.{operandKinds, Operands}
 use Rattle.parser.specs.Stacks.{Entries}
 
 -- a term of tag k can be made of the last of n values, below those from left on

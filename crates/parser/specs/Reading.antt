@@ -7,12 +7,12 @@ use Rattle.packed.specs.Steps.{Ordered, treeIn}
 use Rattle.parsing.specs.Goals.{Value, numberIn, expressionIn, valueAt}
 use Rattle.parsing.specs.Parser as definition
 use Rattle.parsing.specs.Parser.{Step, go, stop, step, parseBy, parse}
-use Rattle.parser_moves.specs.Encoded.{goalOf, reasonOf, goalsOf, stacked, unpacked, valuesOf}
-use Rattle.parser_moves.specs.Moves.{Fits, onto, Calls}
+use Rattle.parser_goals.specs.Encoded.{goalOf, reasonOf, goalsOf, stacked, unpacked, valuesOf}
+use Rattle.parser_goals.specs.Moves.{Fits, onto, Calls}
 use Rattle.parser.specs.Stacks.{Stacked, Entries, Put, Looks}
 use Rattle.parser.specs.Making.{Makes}
-use Rattle.parser_moves.specs.declared.moves.Sight.{Sight}
-use Rattle.parser_moves.specs.declared.moves.Move.{Move}
+use Rattle.parser_goals.specs.declared.Sight.{Sight}
+use Rattle.parser_goals.specs.declared.Move.{Move}
 use Rattle.parser.specs.declared.turns.Standing.{Standing}
 use Rattle.parser.specs.declared.turns.Turn.{Turn}
 use Rattle.parser.specs.declared.turns.Turn.the-variants.{On, Stop}

@@ -6,9 +6,9 @@ use mathlib.Core.List.{List}
 use lib.Dec.{eqb, ltb}
 use lib.ListN.{length, getD, drop}
 use Rattle.parsing.specs.Goals.{Goal}
-use Rattle.parser_moves.specs.Encoded.{goalsOf, valuesOf, stacked, unpacked}
-use Rattle.parser_moves.specs.Moves.{Seen, pushed}
-use Rattle.parser_moves.specs.declared.moves.Sight.{Sight}
+use Rattle.parser_goals.specs.Encoded.{goalsOf, valuesOf, stacked, unpacked}
+use Rattle.parser_goals.specs.Moves.{Seen, pushed}
+use Rattle.parser_goals.specs.declared.Sight.{Sight}
 
 -- goals on those of an array, of which so many were there
 pub record Stacked (f : List Goal → List Goal) (goals : List ℕ) (n : ℕ) (goals′ : List ℕ) (n′ : ℕ) : Type 0 where

@@ -1,6 +1,6 @@
 // The arrays of goals and of values.
 use byte_numbers::wide;
-use parser_moves::moves::Sight;
+use parser_goals::Sight;
 ghost use mathlib.Core.Path.{_≡_};
 ghost use mathlib.Core.Bool.{cond};
 ghost use Prim.Native.Nat.{_<_, _≤_, _+_, _-_, _*_, _/_, _%_};
@@ -8,7 +8,7 @@ ghost use lib.Dec.{ltb};
 ghost use lib.ListN.{length, getD};
 ghost use mathlib.Core.List.{_++_};
 ghost use Rattle.parsing.specs.Plan.{procedureGoals};
-ghost use Rattle.parser_moves.specs.Encoded.{valueOf, valueSort, stacked, unpacked};
+ghost use Rattle.parser_goals.specs.Encoded.{valueOf, valueSort, stacked, unpacked};
 ghost use Rattle.parser.specs.Stacks.{Stacked, Entries, Put, Looks, lastOf, operandAt};
 
 // A goal on the others; 0 is none.

@@ -1,8 +1,8 @@
 // A turn: the goal on top is taken, and done.
 use crate::stacks;
 use crate::terms;
+use parser_goals::Move;
 use parser_moves::moves;
-use parser_moves::moves::Move;
 ghost use mathlib.Core.Path.{_≡_};
 ghost use Prim.Native.Nat.{_<_};
 ghost use Rattle.parser.specs.Making.{Makeable};

@@ -14,7 +14,7 @@ use Rattle.parsing.specs.Goals.{Value, number, numberIn, expressionIn, valueAt}
 use Rattle.parsing.specs.Parser as definition
 use Rattle.parsing.specs.Parser.{ahead, parse}
 use Rattle.parsing.specs.Plan.{fault, Fault, countsOf, procedureGoals, readPlan}
-use Rattle.parser_moves.specs.Encoded.{reasonOf}
+use Rattle.parser_goals.specs.Encoded.{reasonOf}
 use Rattle.parser.specs.Reading as parser
 use Rattle.parser.specs.Reading.{Finished}
 use Rattle.parser.specs.declared.Parsed.{Parsed}

@@ -12,7 +12,7 @@ use Rattle.packed.specs.Slots.{closed}
 use Rattle.packed.specs.Steps.{Ordered, treeIn}
 use Rattle.written.specs.Written.{sizeOfAll}
 use Rattle.plan_writer.specs.Held.{heldFrom, heldProgram}
-use Rattle.parser_moves.specs.Encoded.{reasonOf}
+use Rattle.parser_goals.specs.Encoded.{reasonOf}
 use Rattle.plan_reader.specs.declared.Heading.{Heading}
 use Rattle.plan_reader.specs.declared.Outcome.{Outcome}
 use Rattle.plan_reader.specs.declared.Outcome.the-variants.{Plan, Refused}

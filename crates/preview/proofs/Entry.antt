@@ -13,12 +13,12 @@ use Rattle.refusals.specs.declared.Checked.the-variants as checked
 use Rattle.rules.specs.Play.{scheduleRefusal}
 use Rattle.play_refusals.proofs.Passed.{scheduled-by-code}
 use Rattle.player.specs.RunOn.{Given}
-use Rattle.preview.specs.declared.Previewed.{Previewed}
-use Rattle.preview.specs.declared.Previewed.the-variants as shows
+use Rattle.last_pick.specs.declared.Previewed.{Previewed}
+use Rattle.last_pick.specs.declared.Previewed.the-variants as shows
 use Rattle.preview.specs.Preview.{withPick, previewRefusal, previewedBy, previewed}
 use Rattle.preview.specs.PlaysAs.{PlaysIfShown}
 use Rattle.preview.specs.Answer.{answered, AsLogged}
-use Rattle.preview.specs.LastPick.{innerLog, Shown}
+use Rattle.preview.specs.Shown.{innerLog, Shown}
 use Rattle.preview.proofs.PlaysAs.{previewed-plays}
 
 -- the contract of `preview`, where its answer is the defined one

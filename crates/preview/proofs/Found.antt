@@ -36,14 +36,14 @@ use Rattle.player.specs.Answer.{roomOf, stopOf, statusOf, outcomeOf}
 use Rattle.player.specs.RunOn.{Given, RunOn}
 use Rattle.player.proofs.Threads.{status-of}
 use Rattle.text.specs.Wrote.{Wrote}
-use Rattle.preview.specs.declared.Previewed.{Previewed}
+use Rattle.last_pick.specs.declared.Previewed.{Previewed}
 use Rattle.preview.specs.Preview as preview
 use Rattle.preview.specs.Preview.{Preview, shownAfter, withPick}
 use Rattle.preview.specs.PlaysAs.{onePickMore, stoppedNext, PlaysAs, STOPPED, PASSED, MOVED, RACE, NO-ROOM}
 use Rattle.preview.specs.Answer.{bytesIn, recordOf, answered, BytesAsLogged, AsLogged}
-use Rattle.preview.specs.LastPick.{recordIn, lastRecord, lastPick, LastGiven}
+use Rattle.last_pick.specs.LastPick.{recordIn, lastRecord, lastPick, LastGiven}
 use Rattle.preview.proofs.PlaysAs.{preview-plays}
-use Rattle.preview.proofs.LastPick.{early, full, raced, passed, moved, recorded}
+use Rattle.last_pick.proofs.LastPick.{early, full, raced, passed, moved, recorded}
 
 -- ---- the code's stop, by what it means
 
@@ -104,10 +104,14 @@ module _ (L : List Record) (area after : List ℕ) (left : after ≡ overwrite (
 
 -- ---- the run of the schedule with the pick added
 
+-- what its last pick did
+abbrev lastOf : Ran → ℕ → ℕ → List ℕ → Previewed
+lastOf r = lastPick (r .outcome) (r .before .moves) (r .before .records)
+
 -- what follows of it
 pub record Found (r : Ran) (schedule : List ℕ) (pick : ℕ) (after : List ℕ) (x : Preview) : Type 0 where
-  pub answer : answered (lastPick r (length schedule) pick after) ≡ preview.Previewed.shows x
-  pub as-logged : AsLogged (lastPick r (length schedule) pick after)
+  pub answer : answered (lastOf r (length schedule) pick after) ≡ preview.Previewed.shows x
+  pub as-logged : AsLogged (lastOf r (length schedule) pick after)
   pub raced-once : length schedule ≤ r .outcome .picks → r .outcome .stop ≡ stop.Race → 1 ≤ r .outcome .records
 
 -- the pick is one of eight threads
@@ -202,7 +206,7 @@ module _ (plan schedule : List ℕ) (pick : ℕ) (ws area : List ℕ) (given : G
   short h = stopped-short (programOf plan) start schedule h
 
   -- by what the code finds
-  found-as : (y : Previewed) (x : Preview) → lastPick r n pick after ≡ y → answered y ≡ preview.Previewed.shows x → AsLogged y
+  found-as : (y : Previewed) (x : Preview) → lastOf r n pick after ≡ y → answered y ≡ preview.Previewed.shows x → AsLogged y
       → (n ≤ r .outcome .picks → r .outcome .stop ≡ stop.Race → 1 ≤ r .outcome .records) → Found r schedule pick after x
   found-as y x e a l o = record { answer = ap answered e ∙ a; as-logged = along AsLogged (sym e) l; raced-once = o }
 
@@ -221,7 +225,7 @@ module _ (plan schedule : List ℕ) (pick : ℕ) (ws area : List ℕ) (given : G
   unfolding answered logged
   found x t same (STOPPED h) =
       let few : r .outcome .picks < n = omega (arith, short h, picks-are _ same) in
-      found-as _ _ (early r n pick after few) (ap (λ (e : run.Stop). preview.Previewed.shows (Preview.stopped e)) (stop-is _ same)) tt
+      found-as _ _ (early (r .outcome) (r .before .moves) (r .before .records) n pick after few) (ap (λ (e : run.Stop). preview.Previewed.shows (Preview.stopped e)) (stop-is _ same)) tt
       (λ q e. absurd (omega arith))
   found x t same (PASSED {a} h p) =
       let e : r .outcome .stop ≡ stop.End = ended _ (stop-is _ same) in
@@ -230,30 +234,30 @@ module _ (plan schedule : List ℕ) (pick : ℕ) (ws area : List ℕ) (given : G
       status-of (programOf plan) longer (r .outcome) (ran .outcome) pick small
       ∙ ap (λ (z : State). status (attempt (programOf plan) z pick)) (ap (λ (u : Run). u .final) (sym same))
       ∙ ap status (complete-passed (programOf plan) (shorter .final) pick p) in
-      found-as _ _ (passed r n pick after (omega (arith, picks-are _ same, one-more h)) e m)
+      found-as _ _ (passed (r .outcome) (r .before .moves) (r .before .records) n pick after (omega (arith, picks-are _ same, one-more h)) e m)
       (ap (λ (z : Status). preview.Previewed.shows (Preview.passed z)) y) tt (ended-once e)
   found x t same (MOVED {R} {e = none} h m k) =
       let e : r .outcome .stop ≡ stop.End = ended _ (stop-is _ same) in
       let grown : length (shorter .instances ++ (R ∷ [])) ≡ length (shorter .instances) + 1 = length-append (shorter .instances) (R ∷ []) in
       let n : r .outcome .records ≡ r .before .records = records-are _ same ∙ ap length (append-nil (shorter .log))
       ∙ sym (records-before _ same (one-more h)) in
-      found-as _ _ (moved r _ pick after (omega (arith, picks-are _ same, one-more h)) e
+      found-as _ _ (moved (r .outcome) (r .before .moves) (r .before .records) _ pick after (omega (arith, picks-are _ same, one-more h)) e
       (λ q. omega (arith, q, grown, moves-are _ same, moves-before _ same (one-more h))) n) refl tt (ended-once e)
   found x t same (MOVED {R} {e = some e} h m k) =
       let q : r .outcome .stop ≡ stop.End = ended _ (stop-is _ same) in
       let grown : length (shorter .instances ++ (R ∷ [])) ≡ length (shorter .instances) + 1 = length-append (shorter .instances) (R ∷ []) in
-      found-as _ _ (recorded r n pick after (omega (arith, picks-are _ same, one-more h)) q
+      found-as _ _ (recorded (r .outcome) (r .before .moves) (r .before .records) n pick after (omega (arith, picks-are _ same, one-more h)) q
       (λ q. omega (arith, q, grown, moves-are _ same, moves-before _ same (one-more h)))
       (λ q. omega (arith, q, last-index _ same e refl, records-before _ same (one-more h))))
       (ap (λ (z : Record). preview.Previewed.shows (Preview.moved (some z))) (last-is _ same e refl))
       (last-bytes _ same e refl) (ended-once q)
   found x t same (RACE {e} h l) =
-      found-as _ _ (raced r n pick after (omega (arith, picks-are _ same, all-dealt h)) (lacked _ (stop-is _ same)))
+      found-as _ _ (raced (r .outcome) (r .before .moves) (r .before .records) n pick after (omega (arith, picks-are _ same, all-dealt h)) (lacked _ (stop-is _ same)))
       (ap (λ (z : Record). preview.Previewed.shows (Preview.race z)) (last-is _ same e refl))
       (last-bytes _ same e refl) (λ q y. omega (arith, last-index _ same e refl))
   found x t same (NO-ROOM {k = k} h m q) =
       let w = no-room _ k (stop-is _ same) in
-      found-as _ _ (full r n pick after (omega (arith, picks-are _ same, all-dealt h)) (w .0) (w .1))
+      found-as _ _ (full (r .outcome) (r .before .moves) (r .before .records) n pick after (omega (arith, picks-are _ same, all-dealt h)) (w .0) (w .1))
       (ap (λ (z : Room). preview.Previewed.shows (Preview.noRoom z)) (w .2)) tt (full-once (w .0) (w .1))
 
   -- what the code answers
@@ -272,7 +276,7 @@ module _ (plan schedule : List ℕ) (pick : ℕ) (ws area : List ℕ) (given : G
       (records-grow (programOf plan) start (take k (withPick schedule pick)) (drop k (withPick schedule pick))) in
       omega (arith, h, ran .records-before, records-are longer refl)
 
-  pub last-given : LastGiven r n pick after
+  pub last-given : LastGiven (r .outcome) (r .before .records) n pick after
   last-given =
       record {
         one-of-eight = small;

@@ -6,9 +6,9 @@ use mathlib.Core.Option.{some, none}
 use Rattle.records.specs.Record.{Record}
 use Rattle.records.specs.Packed.{recordAt, bytesOf}
 use Rattle.player.specs.Answer.{roomOf, stopOf, statusOf}
-use Rattle.preview.specs.declared.RecordBytes.{RecordBytes}
-use Rattle.preview.specs.declared.Previewed.{Previewed}
-use Rattle.preview.specs.declared.Previewed.the-variants as previewed
+use Rattle.last_pick.specs.declared.RecordBytes.{RecordBytes}
+use Rattle.last_pick.specs.declared.Previewed.{Previewed}
+use Rattle.last_pick.specs.declared.Previewed.the-variants as previewed
 use Rattle.preview.specs.Preview as preview
 
 -- "A record has 24 bits" (document 01): its three bytes, in their order

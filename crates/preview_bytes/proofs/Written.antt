@@ -10,9 +10,9 @@ use Rattle.records.specs.Packed.{bytesOf}
 use Rattle.player.specs.Answer.{stopOf, roomOf, statusOf}
 use Rattle.outcome_bytes.specs.Bytes.{three, stopByte, threadBytes}
 use Rattle.outcome_bytes.specs.declared.ThreadBytes.{ThreadBytes}
-use Rattle.preview.specs.declared.RecordBytes.{RecordBytes}
-use Rattle.preview.specs.declared.Previewed.{Previewed}
-use Rattle.preview.specs.declared.Previewed.the-variants as previewed
+use Rattle.last_pick.specs.declared.RecordBytes.{RecordBytes}
+use Rattle.last_pick.specs.declared.Previewed.{Previewed}
+use Rattle.last_pick.specs.declared.Previewed.the-variants as previewed
 use Rattle.preview.specs.Answer.{answered, BytesAsLogged}
 use Rattle.preview_bytes.specs.Bytes.{previewBytes, previewNumber, outAfter}
 use Rattle.preview_bytes.specs.Small.{eight, noRecord}

@@ -5,7 +5,7 @@ use mathlib.Core.Option.{some, none}
 use Rattle.records.specs.Packed.{bytesOf}
 use Rattle.rules.specs.Run.{Stop}
 use Rattle.outcome_bytes.specs.Bytes.{stopByte, threadBytes}
-use Rattle.numbers.specs.Numbers.{valueNumber, refusalNumber}
+use Rattle.return_convention.specs.Convention.{valueNumber, refusalNumber}
 use Rattle.preview.specs.Preview.{Preview, Previewed}
 
 -- byte 0: 0 passed over, 1 moved without a record, 2 moved with one, 3 race, 4 no room, 5 the schedule had stopped;

@@ -5,7 +5,7 @@ use mathlib.Core.List.{List, [], _∷_}
 use Rattle.refusals.specs.Small.{SmallRefusal}
 use Rattle.outcome_bytes.specs.Small.{SmallStatus}
 use Rattle.outcome_bytes.specs.declared.ThreadBytes.{ThreadBytes}
-use Rattle.preview.specs.declared.RecordBytes.{RecordBytes}
+use Rattle.last_pick.specs.declared.RecordBytes.{RecordBytes}
 use Rattle.preview.specs.Preview.{Preview, Previewed}
 
 abbrev pub SmallPreview : Preview → Type 0

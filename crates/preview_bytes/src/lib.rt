@@ -5,9 +5,9 @@ ghost use Rattle.outcome_bytes.specs.Bytes.{three, stopByte};
 ghost use Rattle.preview.specs.Answer.{answered, AsLogged};
 ghost use Rattle.preview_bytes.specs.Bytes.{previewNumber, outAfter};
 ghost use Rattle.preview_bytes.specs.Small.{SmallPreviewed, eight, noRecord};
+use last_pick::Previewed;
+use last_pick::RecordBytes;
 use outcome_bytes::ThreadBytes;
-use preview::Previewed;
-use preview::RecordBytes;
 use run_outcome::Stop;
 
 // A stop, where a thread's bytes would stand.
@@ -64,7 +64,7 @@ pub fn write(out: &mut [u8; 8], previewed: Previewed) -> u64
 {
     match previewed {
         Previewed::Refused { number, place } => {
-            return numbers::refusal(number, place);
+            return return_convention::refusal(number, place);
         }
         Previewed::Stopped(stop) => fill(out, 5, stop_bytes(stop), no_record()),
         Previewed::Passed(state) => fill(out, 0, outcome_bytes::thread_bytes(state), no_record()),

@@ -6,8 +6,8 @@ use mathlib.Core.List.{List, _++_}
 use lib.ListN.{length, drop}
 use Rattle.format.specs.Area.{overwrite}
 use Rattle.answers.specs.Answer.{Answer}
-use Rattle.preview.specs.declared.Previewed.{Previewed}
-use Rattle.preview.specs.declared.Previewed.the-variants as variants
+use Rattle.last_pick.specs.declared.Previewed.{Previewed}
+use Rattle.last_pick.specs.declared.Previewed.the-variants as variants
 use Rattle.preview.specs.Preview as preview
 use Rattle.preview.specs.Preview.{Preview, previewed}
 use Rattle.preview.specs.Answer.{answered}

@@ -1,4 +1,4 @@
-pub mod MoveWords
+pub mod StopWords
 pub mod LineParts
 pub mod Answers
 pub mod Samples

@@ -9,13 +9,14 @@ use Rattle.record_lines.specs.Columns as columns
 use Rattle.run_lines.proofs.RecordText.{columns-are}
 use Rattle.rules.specs.Room.{Room}
 use Rattle.rules.specs.Run.{Stop, Status}
-use Rattle.preview.specs.declared.RecordBytes.{RecordBytes}
+use Rattle.last_pick.specs.declared.RecordBytes.{RecordBytes}
 use Rattle.preview.specs.Preview.{passed, noRoom, stopped}
 use Rattle.preview.specs.Answer.{bytesIn, recordOf}
 use Rattle.text.specs.Text.{ascii}
 use Rattle.phrases.specs.Phrase.{phrase}
-use Rattle.state_lines.specs.Lines.{statusWords}
-use Rattle.preview_lines.specs.Lines.{recordWords, roomWords, stopWords, previewLine}
+use Rattle.status_words.specs.Words.{statusWords}
+use Rattle.move_words.specs.Words.{recordWords}
+use Rattle.preview_lines.specs.Lines.{roomWords, stopWords, previewLine}
 
 pub passed-parts : (p : ℕ) (s : Status)
     → (phrase "thread " p ++ statusWords s) ++ (ascii ": its pick is passed over" ++ (10 ∷ [])) ≡ previewLine p (passed s)

@@ -7,9 +7,10 @@ use Rattle.rules.specs.Room.{Room}
 use Rattle.rules.specs.Run.{Stop, Status}
 use Rattle.text.specs.Text.{ascii, decimal}
 use Rattle.phrases.specs.Phrase.{phrase}
-use Rattle.state_lines.specs.Lines.{statusWords}
+use Rattle.status_words.specs.Words.{statusWords}
 use Rattle.preview.specs.Preview.{passed, moved, race, noRoom, stopped}
-use Rattle.preview_lines.specs.Lines.{recordWordsBy, recordWords, roomWords, stopWords, previewLine}
+use Rattle.move_words.specs.Words.{recordWordsBy, recordWords}
+use Rattle.preview_lines.specs.Lines.{roomWords, stopWords, previewLine}
 
 passed-absent : previewLine 7 (passed Status.absent) ≡ ascii "thread 7 is absent: its pick is passed over" ++ (10 ∷ [])
 unfolding previewLine statusWords phrase ascii decimal

@@ -1,5 +1,5 @@
 // What the next pick would do after a schedule, in words.
-mod moves; // moves.rt: moves and stops in words
+mod stops; // stops.rt: what stops a run, in words
 
 ghost use Prim.Native.Nat.{_≤_};
 ghost use mathlib.Core.List.{[], _∷_, _++_};
@@ -11,11 +11,12 @@ ghost use Rattle.preview.specs.Preview as preview;
 ghost use Rattle.preview.specs.Answer.{recordOf};
 ghost use Rattle.text.specs.Wrote.{Wrote};
 ghost use Rattle.phrases.specs.Phrase.{phrase};
-ghost use Rattle.preview_lines.specs.Lines.{recordWords, previewLine};
+ghost use Rattle.move_words.specs.Words.{recordWords};
+ghost use Rattle.preview_lines.specs.Lines.{previewLine};
 ghost use Rattle.preview_lines.specs.Told.{PreviewTold};
 use answers::Answered;
-use preview::Previewed;
-use preview::RecordBytes;
+use last_pick::Previewed;
+use last_pick::RecordBytes;
 use run_outcome::NoRoom;
 use run_outcome::Stop;
 use run_outcome::ThreadState;
@@ -26,7 +27,7 @@ fn put_passed(area: &mut [u8], pick: usize, state: ThreadState) -> usize
     ensures { λ r. ⌜ Wrote (now (area .entry)) 0 (previewLine pick (preview.passed (statusOf state))) (now (area .exit)) r ⌝ }
 {
     let at = phrases::put_phrase(area, 0, b"thread ", pick);
-    let at = state_lines::status::put_status(area, at, state);
+    let at = status_words::put_status(area, at, state);
     text::put_word(area, at, b": its pick is passed over\n")
 }
 
@@ -47,7 +48,7 @@ fn put_recorded(area: &mut [u8], pick: usize, bytes: RecordBytes, end: &[u8]) ->
     let packed = [bytes.high, bytes.middle, bytes.low];
     let columns = decoding::columns_at(&packed, 0);
     let at = phrases::put_phrase(area, 0, b"thread ", pick);
-    let at = moves::put_move(area, at, columns);
+    let at = move_words::put_move(area, at, columns);
     text::put_word(area, at, end)
 }
 
@@ -58,7 +59,7 @@ fn put_no_room(area: &mut [u8], pick: usize, room: NoRoom) -> usize
 {
     let at = phrases::put_phrase(area, 0, b"thread ", pick);
     let at = text::put_word(area, at, b" stops the run: ");
-    let at = moves::put_room(area, at, room);
+    let at = stops::put_room(area, at, room);
     text::put_byte(area, at, 10)
 }
 
@@ -68,7 +69,7 @@ fn put_stopped(area: &mut [u8], stop: Stop) -> usize
     ensures { λ r. ⌜ Wrote (now (area .entry)) 0 (previewLine 0 (preview.stopped (stopOf stop))) (now (area .exit)) r ⌝ }
 {
     let at = text::put_word(area, 0, b"the run has stopped already: ");
-    let at = moves::put_stop(area, at, stop);
+    let at = stops::put_stop(area, at, stop);
     text::put_byte(area, at, 10)
 }
 

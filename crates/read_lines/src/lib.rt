@@ -5,7 +5,7 @@ ghost use Prim.Native.Nat.{_+_, _≤_, _<_};
 ghost use mathlib.Core.Path.{_≡_};
 ghost use lib.ListN.{length};
 ghost use Rattle.text.specs.Wrote.{Wrote};
-ghost use Rattle.parser_moves.specs.Encoded.{goalOf, sortOf, reasonOf};
+ghost use Rattle.parser_goals.specs.Encoded.{goalOf, sortOf, reasonOf};
 ghost use Rattle.read.specs.Answer.{failureOf};
 ghost use Rattle.read_lines.specs.Reasons.{tokenRow, sortRow, goalRow, reasonRow, failureRow, placeWords, reasonWords, failureLine};
 

@@ -18,8 +18,9 @@ use Rattle.answers.specs.Answer.{Answer}
 use Rattle.listing.specs.Listed.{Listed}
 use Rattle.interleavings.specs.Interleavings.{overBound, shortOutput, firstRefused, FirstAnswer, Next, nextRefused, NextAnswer}
 use Rattle.interleavings.proofs.Answers.{first-stages, next-stages}
-use Rattle.numbers.specs.Small.{SmallAnswer, SmallNext}
-use Rattle.numbers.proofs.Wider.{wider}
+use Rattle.return_convention.specs.Small.{SmallAnswer}
+use Rattle.numbers.specs.Small.{SmallNext}
+use Rattle.return_convention.proofs.Wider.{wider}
 use Rattle.ruqzhemil.proofs.Refusals.{whole, small-plan, small-schedule}
 
 -- 18 comes first

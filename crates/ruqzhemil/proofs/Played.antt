@@ -1,5 +1,5 @@
--- The two ways that a play ends, as numbers and bytes. Assumes nothing.
-use Prim.Native.Nat.{ℕ, _+_, _*_, _^_}
+-- What a play answers fits its number and its bytes. Assumes nothing.
+use Prim.Native.Nat.{ℕ}
 use mathlib.Core.Path.{_≡_, refl, sym, ap, _∙_, subst as along}
 use mathlib.Core.Bool.{true≢false}
 use mathlib.Core.List.{List}
@@ -13,11 +13,8 @@ use Rattle.rules.specs.Play.{playRefusal, played, playedBy, runOf}
 use Rattle.player.specs.declared.outcome.Played.{Played}
 use Rattle.player.specs.Answer.{outcomeOf, answeredBy, answered}
 use Rattle.player.proofs.Ran.{passes, outcome-is}
-use Rattle.numbers.specs.Numbers.{playNumber}
 use Rattle.refusals.specs.Small.{SmallRefusal, SmallCheck}
-use Rattle.outcome_bytes.specs.Bytes.{outcomeBytes}
-use Rattle.ruqzhemil.specs.Bytes.{outAfter}
-use Rattle.outcome_bytes.specs.Small.{SmallOutcome}
+use Rattle.outcome_bytes.specs.Small.{SmallOutcome, SmallPlayed}
 use Rattle.ruqzhemil.proofs.Refusals.{small-play}
 use Rattle.ruqzhemil.proofs.Outcomes.{small-outcome}
 
@@ -28,7 +25,7 @@ module _ (plan schedule area : List ℕ) (p : Played) (h : answered p ≡ played
     unfolding answered
     refused-is = ap (λ (y : Checked). answeredBy y (p .outcome)) (sym e) ∙ h
 
-    pub refused-small : SmallRefusal (record { number = k; place = i })
+    refused-small : SmallRefusal (record { number = k; place = i })
     unfolding played playedBy
     refused-small = go (playRefusal plan schedule area) refl
       where
@@ -41,30 +38,19 @@ module _ (plan schedule area : List ℕ) (p : Played) (h : answered p ≡ played
             let y : play.Played.refused (record { number = k; place = i }) ≡ playedBy plan schedule none = refused-is ∙ ap (playedBy plan schedule) q in
             absurd (true≢false cc)
 
-    pub refused-number : 2 * 2 ^ 32 + (k * 65536 + i) ≡ playNumber (played plan schedule area)
-    unfolding playNumber
-    refused-number = ap playNumber refused-is
-
-    pub refused-bytes : (out : List ℕ) → out ≡ outAfter out (played plan schedule area)
-    unfolding outAfter
-    refused-bytes out = ap (outAfter out) refused-is
-
   -- a run
   module _ (e : p .checked ≡ checked.Passed) where
-    ran-is : play.Played.ran (outcomeOf (p .outcome)) ≡ played plan schedule area
-    unfolding answered
-    ran-is = ap (λ (y : Checked). answeredBy y (p .outcome)) (sym e) ∙ h
-
-    pub ran-small : SmallOutcome (outcomeOf (p .outcome))
+    ran-small : SmallOutcome (outcomeOf (p .outcome))
     unfolding runOf
     ran-small =
         let a = passes plan schedule area p h e in
         along (λ (x : run.Outcome). SmallOutcome x) (sym (outcome-is plan schedule area p h e)) (small-outcome plan schedule (a .plan-passes) (a .few))
 
-    pub ran-number : 0 ≡ playNumber (played plan schedule area)
-    unfolding playNumber
-    ran-number = ap playNumber ran-is
-
-    pub ran-bytes : (out : List ℕ) → outcomeBytes (outcomeOf (p .outcome)) ≡ outAfter out (played plan schedule area)
-    unfolding outAfter
-    ran-bytes out = ap (outAfter out) ran-is
+  -- either way
+  pub small-played : SmallPlayed (answered p)
+  unfolding answered
+  small-played = go (p .checked) refl
+    where
+      go : (y : Checked) → p .checked ≡ y → SmallPlayed (answered p)
+      go checked.Passed e = along (λ (y : Checked). SmallPlayed (answeredBy y (p .outcome))) (sym e) (ran-small e)
+      go (checked.Refused k i) e = along (λ (y : Checked). SmallPlayed (answeredBy y (p .outcome))) (sym e) (refused-small k i e)

@@ -14,8 +14,8 @@ use Rattle.notation.specs.Text.{shownText}
 use Rattle.show.specs.Show.{shortForText, showAnswer}
 use Rattle.show.proofs.Answers.{stages}
 use Rattle.show.proofs.Lengths.{text-few}
-use Rattle.numbers.specs.Small.{SmallAnswer}
-use Rattle.numbers.proofs.Wider.{wider}
+use Rattle.return_convention.specs.Small.{SmallAnswer}
+use Rattle.return_convention.proofs.Wider.{wider}
 use Rattle.ruqzhemil.proofs.Refusals.{small-plan}
 
 few-text : (plan : List ℕ) → refusal plan ≡ none → length (shownText plan) < 2 ^ 32

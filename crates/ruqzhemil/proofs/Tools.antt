@@ -13,8 +13,8 @@ use Rattle.records.proofs.Accepted.{accepted}
 use Rattle.refusals.specs.Small.{SmallCheck}
 use Rattle.refusals.proofs.Bounds.{small-checks, small-stages}
 use Rattle.answers.specs.Answer.{answerBy}
-use Rattle.numbers.specs.Small.{SmallAnswer}
-use Rattle.numbers.proofs.Wider.{wider}
+use Rattle.return_convention.specs.Small.{SmallAnswer}
+use Rattle.return_convention.proofs.Wider.{wider}
 use Rattle.waveform.specs.Comtrade.{fileOf, shortOutput, comtradeRefusal, comtradeAnswer}
 use Rattle.waveform.proofs.Answers.{last, stages}
 use Rattle.waveform.proofs.FileLength.{file-most}

@@ -12,8 +12,8 @@ use Rattle.play_refusals.proofs.Passed.{scheduled}
 use Rattle.answers.specs.Answer.{Answer}
 use Rattle.witness.specs.Witness.{raceRefusal, Witnesses}
 use Rattle.witness.proofs.Refusals.{laterChecks, stages, no-earlier}
-use Rattle.numbers.specs.Small.{SmallAnswer}
-use Rattle.numbers.proofs.Wider.{wider}
+use Rattle.return_convention.specs.Small.{SmallAnswer}
+use Rattle.return_convention.proofs.Wider.{wider}
 use Rattle.ruqzhemil.proofs.Refusals.{whole, small-schedule}
 
 few-picks : (n k : ℕ) → n ≤ 4096 → k < n → k < 2 ^ 32

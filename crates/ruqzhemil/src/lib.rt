@@ -3,7 +3,9 @@
 ghost use mathlib.Core.Path.{_≡_};
 ghost use Rattle.packed.specs.Check.{refusal};
 ghost use Rattle.rules.specs.Play.{played, areaAfter};
-ghost use Rattle.numbers.specs.Numbers.{checkNumber, playNumber, answerNumber, readNumber, JudgeReturns, WitnessReturns, FirstReturns, NextReturns};
+ghost use Rattle.return_convention.specs.Convention.{checkNumber, answerNumber};
+ghost use Rattle.outcome_bytes.specs.Play.{playNumber};
+ghost use Rattle.numbers.specs.Numbers.{readNumber, JudgeReturns, WitnessReturns, FirstReturns, NextReturns};
 ghost use mathlib.Core.Bool.{not};
 ghost use lib.Dec.{eqb};
 ghost use Rattle.preview.specs.Preview.{previewed};
@@ -15,9 +17,8 @@ ghost use Rattle.read.specs.Read.{readAnswer, readArea};
 ghost use Rattle.costs.specs.Bound.{bounded};
 ghost use Rattle.charge.specs.Charge.{charged};
 ghost use Rattle.waveform.specs.Comtrade.{comtradeAnswer, comtradeArea};
-ghost use Rattle.ruqzhemil.specs.Bytes.{outAfter};
-ghost use Rattle.ruqzhemil.specs.Version.{version};
-use refusals::Checked;
+ghost use Rattle.outcome_bytes.specs.Play.{outAfter};
+ghost use Rattle.interface_version.specs.Version.{version};
 
 // 0 for a plan that passes; else the refusal.
 #[no_mangle]
@@ -25,7 +26,7 @@ pub extern "C" fn ruqzhemil_check(plan: &[u8]) -> u64
     ensures { λ r. ⌜ r ≡ checkNumber (refusal (now (plan .entry))) ⌝ }
 {
     let checked = plan::check(plan);
-    numbers::of_check(checked)
+    return_convention::of_check(checked)
 }
 
 // 0 for a run, whose records begin the log area and whose outcome is in `out`; else the refusal, and neither area changed.
@@ -41,15 +42,7 @@ pub extern "C" fn ruqzhemil_play(
     ensures bytes { λ r. ⌜ now (out .exit) ≡ outAfter (now (out .entry)) (played (now (plan .entry)) (now (schedule .entry)) (now (log .entry))) ⌝ }
 {
     let played = player::play(plan, schedule, log);
-    let checked = played.checked;
-    match checked {
-        Checked::Refused { number, place } => numbers::refusal(number, place),
-        Checked::Passed => {
-            let outcome = played.outcome;
-            outcome_bytes::write(out, outcome);
-            0
-        }
-    }
+    outcome_bytes::write_play(out, played)
 }
 
 // Of a log of plans of this version, 0 or 1: 0 for a log without an unordered access; the other answer is the index of the first one.
@@ -83,7 +76,7 @@ pub extern "C" fn ruqzhemil_canonical(plan: &[u8], area: &mut [u8]) -> u64
     ensures area { λ r. ⌜ now (area .exit) ≡ canonicalArea (now (plan .entry)) (now (area .entry)) ⌝ }
 {
     let answered = canonical::canonical(plan, area);
-    numbers::of_answer(answered)
+    return_convention::of_answer(answered)
 }
 
 // The length in bytes of the plan's text, which begins the area; the area's other bytes, and all of them after a refusal, are as they were.
@@ -93,7 +86,7 @@ pub extern "C" fn ruqzhemil_show(plan: &[u8], area: &mut [u8]) -> u64
     ensures area { λ r. ⌜ now (area .exit) ≡ showArea (now (plan .entry)) (now (area .entry)) ⌝ }
 {
     let answered = show::show(plan, area);
-    numbers::of_answer(answered)
+    return_convention::of_answer(answered)
 }
 
 // The length in bytes of the plan that the text is, written in the one way, which begins the area; the other answer is the line and the column where
@@ -114,7 +107,7 @@ pub extern "C" fn ruqzhemil_comtrade(log: &[u8], area: &mut [u8]) -> u64
     ensures area { λ r. ⌜ now (area .exit) ≡ comtradeArea (now (log .entry)) (now (area .entry)) ⌝ }
 {
     let answered = waveform::comtrade(log, area);
-    numbers::of_answer(answered)
+    return_convention::of_answer(answered)
 }
 
 // From a run that stopped for a missing key, the length of the schedule after which the two accesses stand side by side, which begins the area; the area's
@@ -124,7 +117,7 @@ pub extern "C" fn ruqzhemil_witness(plan: &[u8], schedule: &[u8], area: &mut [u8
     ensures { λ r. ⌜ WitnessReturns (now (plan .entry)) (now (schedule .entry)) (now (area .entry)) r (now (area .exit)) ⌝ }
 {
     let answered = witness::witness(plan, schedule, area);
-    numbers::of_answer(answered)
+    return_convention::of_answer(answered)
 }
 
 // The length of the first schedule of at most n picks that is listed, which begins the area; the area's other bytes, and all of them after a refusal, are as
@@ -134,7 +127,7 @@ pub extern "C" fn ruqzhemil_first_interleaving(plan: &[u8], n: u64, area: &mut [
     ensures { λ r. ⌜ FirstReturns (now (plan .entry)) n (now (area .entry)) r (now (area .exit)) ⌝ }
 {
     let answered = interleavings::first_interleaving(plan, n as usize, area);
-    numbers::of_answer(answered)
+    return_convention::of_answer(answered)
 }
 
 // The length of the schedule that follows a listed one, which begins the area; the other answer is that the list is over. The area's other bytes, and all of
@@ -158,7 +151,7 @@ pub extern "C" fn ruqzhemil_bound(plan: &[u8]) -> u64
     ensures { λ r. ⌜ r ≡ answerNumber (bounded (now (plan .entry))) ⌝ }
 {
     let answered = bound::bound(plan);
-    numbers::of_answer(answered)
+    return_convention::of_answer(answered)
 }
 
 // What a run of the schedule on the plan is charged, in cents; an option of 0 is without, any other with.
@@ -167,7 +160,7 @@ pub extern "C" fn ruqzhemil_charge(plan: &[u8], schedule: &[u8], option: u64) ->
     ensures { λ r. ⌜ r ≡ answerNumber (charged (now (plan .entry)) (now (schedule .entry)) (not (eqb option 0))) ⌝ }
 {
     let answered = charge::charge(plan, schedule, option != 0);
-    numbers::of_answer(answered)
+    return_convention::of_answer(answered)
 }
 
 // The version of these entries.
@@ -175,5 +168,5 @@ pub extern "C" fn ruqzhemil_charge(plan: &[u8], schedule: &[u8], option: u64) ->
 pub extern "C" fn ruqzhemil_version() -> u64
     ensures { λ r. ⌜ r ≡ version ⌝ }
 {
-    66304
+    interface_version::version()
 }

@@ -1,4 +1,3 @@
-pub mod StatusWords
 pub mod LineParts
 pub mod ThreadTexts
 pub mod Answers

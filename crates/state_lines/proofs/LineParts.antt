@@ -8,7 +8,8 @@ use Rattle.run_outcome.specs.declared.ThreadState.{ThreadState}
 use Rattle.run_outcome.specs.declared.ThreadState.the-variants as state
 use Rattle.player.specs.Answer.{statusOf}
 use Rattle.phrases.specs.Phrase.{phrase}
-use Rattle.state_lines.specs.Lines.{statusWords, isAbsent, presentLine, stateLine}
+use Rattle.status_words.specs.Words.{statusWords}
+use Rattle.state_lines.specs.Lines.{isAbsent, presentLine, stateLine}
 use Rattle.state_lines.specs.Threads.{notThere}
 
 pub present-parts : (p : ℕ) (s : Status) (total : ℕ)

@@ -6,7 +6,8 @@ use Rattle.rules.specs.Step.{forMonitor, missingField}
 use Rattle.rules.specs.Run.{absent, finished, ready, waiting, stuck, lacking}
 use Rattle.text.specs.Text.{ascii, decimal}
 use Rattle.phrases.specs.Phrase.{phrase}
-use Rattle.state_lines.specs.Lines.{waitWords, stuckWords, statusWords, presentLine, stateLine, stateLines}
+use Rattle.status_words.specs.Words.{waitWords, stuckWords, statusWords}
+use Rattle.state_lines.specs.Lines.{presentLine, stateLine, stateLines}
 
 -- a line of its own
 abbrev ended : List ℕ → List ℕ

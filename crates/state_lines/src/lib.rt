@@ -1,6 +1,4 @@
 // The states of a run's threads in words: a line to each thread that is there.
-pub mod status; // status.rt: the words for a state
-
 ghost use mathlib.Core.Path.{_≡_};
 ghost use Prim.Native.Nat.{_+_, _≤_};
 ghost use lib.ListN.{length};
@@ -21,7 +19,7 @@ fn put_present(area: &mut [u8], at: usize, index: usize, state: ThreadState, lea
     ensures { λ r. ⌜ Wrote (now (area .entry)) at (presentLine index (statusOf state) learnt) (now (area .exit)) r ⌝ ∗ ⌜ r ≤ at + 163 ⌝ }
 {
     let at = phrases::put_phrase(area, at, b"thread ", index);
-    let at = status::put_status(area, at, state);
+    let at = status_words::put_status(area, at, state);
     let at = phrases::put_phrase(area, at, b"; keys learnt: ", learnt);
     text::put_byte(area, at, 10)
 }

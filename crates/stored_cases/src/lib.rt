@@ -19,6 +19,21 @@ use judge::Judgement;
 // What every lent area is filled with before a play.
 const FILL: u8 = 165;
 
+// The area that is lent for a plan, a schedule or a log.
+fn lent_area() -> [u8; 16384] {
+    [FILL; 16384]
+}
+
+// The area that is lent for a plan as text.
+fn text_area() -> [u8; 65536] {
+    [FILL; 65536]
+}
+
+// The area that is lent for a data file.
+fn file_area() -> [u8; 317269] {
+    [FILL; 317269]
+}
+
 // A number of eight bytes.
 fn number_at(case: &[u8], at: usize) -> u64
     requires { ⌜ at + 8 ≤ length (now case) ⌝ }
@@ -100,7 +115,7 @@ pub fn play_case(case: &[u8]) -> bool {
     if 16384 < size {
         return false;
     }
-    let mut area = [FILL; 16384];
+    let mut area = lent_area();
     let mut out = [FILL; 40];
     let got = play_in(&case[70..end], &case[end..last], &mut area, size, &mut out);
     (got == number_at(case, 14)) & same_bytes(&out, &case[30..70]) & begins(&area, &case[last..])
@@ -166,7 +181,7 @@ pub fn both_case(case: &[u8]) -> bool {
     if 16384 < size {
         return false;
     }
-    let mut area = [FILL; 16384];
+    let mut area = lent_area();
     let got = both_in(&case[70..end], &case[end..last], &mut area, size);
     let played = number_at(case, 14);
     if played == 0 {
@@ -206,7 +221,7 @@ pub fn file_case(case: &[u8]) -> bool {
     if 317269 < size {
         return false;
     }
-    let mut area = [FILL; 317269];
+    let mut area = file_area();
     let got = comtrade_in(&case[14..end], &mut area, size);
     (got == number_at(case, 6)) & begins(&area, &case[end..])
 }
@@ -274,7 +289,7 @@ pub fn plan_case(case: &[u8]) -> bool {
     if 16384 < size {
         return false;
     }
-    let mut area = [FILL; 16384];
+    let mut area = lent_area();
     let got = canonical_in(&case[12..end], &mut area, size);
     (got == number_at(case, 4)) & begins(&area, &case[end..])
 }
@@ -298,7 +313,7 @@ pub fn text_case(case: &[u8]) -> bool {
     if case.len() < end {
         return false;
     }
-    let mut area = [FILL; 65536];
+    let mut area = text_area();
     let got = show_in(&case[12..end], &mut area, size);
     (got == number_at(case, 4)) & begins(&area, &case[end..])
 }
@@ -325,7 +340,7 @@ pub fn read_case(case: &[u8]) -> bool {
     if 16384 < size {
         return false;
     }
-    let mut area = [FILL; 16384];
+    let mut area = lent_area();
     let got = read_in(&case[12..end], &mut area, size);
     (got == number_at(case, 4)) & begins(&area, &case[end..])
 }
@@ -413,7 +428,7 @@ pub fn witness_case(case: &[u8]) -> bool {
     if 16384 < size {
         return false;
     }
-    let mut area = [FILL; 16384];
+    let mut area = lent_area();
     let got = witness_in(&case[14..end], &case[end..last], &mut area, size);
     (got == number_at(case, 6)) & begins(&area, &case[last..])
 }

@@ -5,7 +5,7 @@ use Rattle.records.specs.Packed.{logOf}
 use Rattle.records.proofs.RoundTrip.{length-log}
 use Rattle.text.specs.Text.{ascii}
 use Rattle.text.proofs.Added.{added-more, added-as}
-use Rattle.diagram.specs.Diagram.{arrowsOf, raceOf}
+use Rattle.diagram_elements.specs.Diagram.{arrowsOf, raceOf}
 use Rattle.diagram.proofs.Whole.{whole-is}
 use borrow.Author.Needs.{needs}
 use Rattle.diagram.proofs.put_diagram.Statement.{statement}

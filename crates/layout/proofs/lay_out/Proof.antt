@@ -11,8 +11,8 @@ use Rattle.text.proofs.Added.{added-none, added-more, added-as, added-whole}
 use Rattle.format.specs.Area.{overwrite}
 use Rattle.notation.specs.Layout.{Pen, laidFrom, laidOut}
 use Rattle.notation.proofs.Widths.{few-bytes}
-use Rattle.layout.specs.Pens.{penOf}
-use Rattle.layout.proofs.PenLaws.{next-column, next-depth}
+use Rattle.pen.specs.Pens.{penOf}
+use Rattle.pen.proofs.PenLaws.{next-column, next-depth}
 use Rattle.layout.proofs.LaidLaws.{laid-on, room, laid-none}
 use Rattle.layout.proofs.lay_out.Statement.{statement}
 use Rattle.layout.proofs.lay_out.Tie as tie

@@ -7,8 +7,8 @@ use lib.ListN.{length, drop}
 use borrow.Author.Needs.{needs}
 use Rattle.notation.specs.Layout.{Pen, laidFrom, laidOut}
 use Rattle.notation.proofs.Widths.{few-bytes}
-use Rattle.layout.specs.Pens.{penOf}
-use Rattle.layout.proofs.PenLaws.{next-column, next-depth}
+use Rattle.pen.specs.Pens.{penOf}
+use Rattle.pen.proofs.PenLaws.{next-column, next-depth}
 use Rattle.layout.proofs.LaidLaws.{gap-short, laid-length, laid-none}
 use Rattle.layout.proofs.length.Statement.{statement}
 use Rattle.layout.proofs.length.Tie as tie

@@ -6,8 +6,8 @@ use mathlib.Core.List.{List, [], _++_}
 use lib.ListN.{length, drop}
 use borrow.Author.Needs.{needs}
 use Rattle.notation.specs.Lexing.{tokensFrom, codesOf}
-use Rattle.lexer.specs.Begun.{begunOf}
-use Rattle.lexer.specs.Ended.{coded}
+use Rattle.token_automaton.specs.Begun.{begunOf}
+use Rattle.token_automaton.specs.Ended.{coded}
 use Rattle.lexer.specs.Kept.{Kept}
 use Rattle.lexer.proofs.TurnLaws.{codes, one-byte, no-byte, codes-on, codes-last}
 use Rattle.lexer.proofs.KeptLaws.{kept-none, kept-as}

@@ -1,6 +1,6 @@
 -- `numbers::of_judge` meets its contract: the number of each answer. Assumes nothing.
 use Rattle.numbers.specs.Numbers.{judgeNumber}
-use Rattle.numbers.proofs.Wider.{wider}
+use Rattle.return_convention.proofs.Wider.{wider}
 use borrow.Author.Needs.{needs}
 use Rattle.numbers.proofs.of_judge.Statement.{statement}
 use Rattle.numbers.proofs.of_judge.Tie as tie

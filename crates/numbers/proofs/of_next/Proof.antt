@@ -1,6 +1,6 @@
 -- `numbers::of_next` meets its contract: the number of each answer. Assumes nothing.
 use Rattle.numbers.specs.Numbers.{nextNumber}
-use Rattle.numbers.proofs.Wider.{wider}
+use Rattle.return_convention.proofs.Wider.{wider}
 use borrow.Author.Needs.{needs}
 use Rattle.numbers.proofs.of_next.Statement.{statement}
 use Rattle.numbers.proofs.of_next.Tie as tie

@@ -8,7 +8,7 @@ use borrow.Author.Needs.{needs}
 use Rattle.player.specs.RunOn.{Given, RunOn}
 use Rattle.preview.specs.Preview.{withPick}
 use Rattle.preview.specs.Answer.{answered, AsLogged}
-use Rattle.preview.specs.LastPick.{innerLog}
+use Rattle.preview.specs.Shown.{innerLog}
 use Rattle.preview.proofs.Found.{one-of-eight, shown-found, last-given, written}
 use Rattle.preview.proofs.shown.Statement.{statement}
 use Rattle.preview.proofs.shown.Tie as tie
@@ -62,13 +62,13 @@ module _ (c : tie.After-run) where
 
 last-pick-requires : tie.Need-last-pick-requires
 last-pick-requires c κs =
-    let x = c .before .before in
+    let x = c .before .before .before in
     let a = start x .args in
     last-given (a .plan .now) (a .schedule .now) (a .pick) (a .words .now) innerLog (start x .pre) (x .run .result) (x .run .last .1 .1 .1 .1 .0) (ran x)
 
 returns : tie.Need-returns
 returns c =
-    let x = c .before .before .before in
+    let x = c .before .before .before .before in
     let a = start x .args in
     let f = shown-found (a .plan .now) (a .schedule .now) (a .pick) (a .words .now) innerLog (start x .pre) (x .run .result) (x .run .last .1 .1 .1 .1 .0)
     (ran x) in

@@ -1,7 +1,7 @@
 -- `preview_bytes::write` meets its contract: the number and the bytes of each preview. Assumes nothing.
 use mathlib.Core.Path.{refl}
 use Rattle.preview.specs.Answer.{answered}
-use Rattle.numbers.proofs.Wider.{wider}
+use Rattle.return_convention.proofs.Wider.{wider}
 use Rattle.preview_bytes.specs.Bytes.{previewNumber, outAfter}
 use borrow.Author.Needs.{needs}
 use Rattle.preview_bytes.proofs.Written.{stopped, passed, moved, recorded, raced, no-room}

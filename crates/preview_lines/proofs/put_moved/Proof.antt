@@ -3,7 +3,7 @@ use native.Mathlib.Omega.{arith}
 use Rattle.text.specs.Text.{ascii}
 use Rattle.text.proofs.Added.{added-more}
 use Rattle.phrases.specs.Phrase.{phrase}
-use Rattle.state_lines.proofs.StatusWords.{wide-digits}
+use Rattle.phrase_pairs.proofs.Digits.{wide-digits}
 use Rattle.preview_lines.specs.Lines.{previewLine}
 use borrow.Author.Needs.{needs}
 use Rattle.preview_lines.proofs.put_moved.Statement.{statement}

@@ -3,7 +3,7 @@ use native.Mathlib.Omega.{arith}
 use Rattle.text.specs.Text.{ascii}
 use Rattle.text.proofs.Added.{added-more, added-as}
 use Rattle.phrases.specs.Phrase.{phrase}
-use Rattle.state_lines.proofs.StatusWords.{wide-digits}
+use Rattle.phrase_pairs.proofs.Digits.{wide-digits}
 use Rattle.preview_lines.proofs.LineParts.{recorded-parts}
 use borrow.Author.Needs.{needs}
 use Rattle.preview_lines.proofs.put_recorded.Statement.{statement}

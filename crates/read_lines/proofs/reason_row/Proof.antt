@@ -1,6 +1,6 @@
 -- `reason_row`: the code is its definition, a reason by its number. Assumes nothing.
 use borrow.Author.Tests.{eq-eqb, ne-eqb}
-use Rattle.parser_moves.specs.Encoded.{reasonOf}
+use Rattle.parser_goals.specs.Encoded.{reasonOf}
 use Rattle.read_lines.specs.Reasons.{reasonRow}
 use borrow.Author.Needs.{needs}
 use Rattle.read_lines.proofs.reason_row.Statement.{statement}

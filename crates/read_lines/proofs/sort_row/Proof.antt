@@ -2,7 +2,7 @@
 use native.Mathlib.Omega.{arith}
 use Prim.Native.Nat.{ℕ, zero, suc}
 use mathlib.Core.Path.{_≡_, refl, sym, ap}
-use Rattle.parser_moves.specs.Encoded.{sortOf}
+use Rattle.parser_goals.specs.Encoded.{sortOf}
 use Rattle.read_lines.specs.Reasons.{sortRow}
 use Rattle.read_lines.proofs.sort_row.Statement.{statement}
 use Rattle.read_lines.proofs.sort_row.Tie as tie

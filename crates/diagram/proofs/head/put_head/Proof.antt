@@ -1,7 +1,7 @@
 -- `diagram::head::put_head` meets its contract. Assumes nothing.
 use native.Mathlib.Omega.{arith}
 use Rattle.text.proofs.Added.{added-more}
-use Rattle.diagram.specs.Diagram.{headText}
+use Rattle.diagram_elements.specs.Diagram.{headText}
 use borrow.Author.Needs.{needs}
 use Rattle.diagram.proofs.head.put_head.Statement.{statement}
 use Rattle.diagram.proofs.head.put_head.Tie as tie

@@ -6,8 +6,8 @@ use mathlib.Core.Path.{_≡_, refl, ap, _∙_}
 use mathlib.Core.Logic.{⊎-elim}
 use lib.ListN.{length, take}
 use Rattle.records.specs.Packed.{logOf}
-use Rattle.diagram.specs.Diagram.{laneCount}
-use Rattle.diagram.proofs.NextRecord.{all-taken, lanes-next}
+use Rattle.diagram_elements.specs.Diagram.{laneCount}
+use Rattle.diagram_elements.proofs.NextRecord.{all-taken, lanes-next}
 use borrow.Author.Needs.{needs}
 use Rattle.diagram.proofs.lanes.lane_count.Statement.{statement}
 use Rattle.diagram.proofs.lanes.lane_count.Tie as tie

@@ -3,7 +3,7 @@ use native.Mathlib.Omega.{arith}
 use Rattle.text.specs.Text.{ascii}
 use Rattle.text.proofs.Decimals.{few-digits}
 use Rattle.text.proofs.Added.{added-more}
-use Rattle.diagram.specs.Diagram.{laneText}
+use Rattle.diagram_elements.specs.Diagram.{laneText}
 use borrow.Author.Needs.{needs}
 use Rattle.diagram.proofs.lanes.put_lane.Statement.{statement}
 use Rattle.diagram.proofs.lanes.put_lane.Tie as tie

@@ -4,9 +4,9 @@ use native.Mathlib.Numerals.{add-one}
 use native.Mathlib.Omega.{arith}
 use mathlib.Core.Path.{_≡_, ap}
 use Rattle.text.proofs.Added.{added-as}
-use Rattle.diagram.specs.Diagram.{laneTexts}
-use Rattle.diagram.specs.Drawn.{Drawn}
-use Rattle.diagram.proofs.Together.{drawn-none, drawn-more}
+use Rattle.diagram_elements.specs.Diagram.{laneTexts}
+use Rattle.diagram_elements.specs.Drawn.{Drawn}
+use Rattle.diagram_elements.proofs.Together.{drawn-none, drawn-more}
 use borrow.Author.Needs.{needs}
 use Rattle.diagram.proofs.lanes.put_lanes.Statement.{statement}
 use Rattle.diagram.proofs.lanes.put_lanes.Tie as tie

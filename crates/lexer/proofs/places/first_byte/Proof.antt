@@ -5,7 +5,7 @@ use mathlib.Core.Path.{_≡_, refl, sym, _∙_}
 use lib.ListN.{length, drop}
 use borrow.Author.Needs.{needs}
 use Rattle.notation.specs.Lexing.{tokensOf, tokensFrom}
-use Rattle.lexer.specs.Begun.{begunOf}
+use Rattle.token_automaton.specs.Begun.{begunOf}
 use Rattle.lexer.specs.Place.{placeIn}
 use Rattle.lexer.proofs.PlaceLaws.{sought-before, sought-with, sought-behind, sought-last, sought-end}
 use Rattle.lexer.proofs.places.first_byte.Statement.{statement}

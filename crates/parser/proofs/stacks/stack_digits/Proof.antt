@@ -1,6 +1,6 @@
 -- `stack_digits` meets its contract. Assumes nothing.
 use native.Mathlib.Omega.{arith}
-use Rattle.parser_moves.specs.Encoded.{unpacked}
+use Rattle.parser_goals.specs.Encoded.{unpacked}
 use Rattle.parser.proofs.StackLaws.{stacks-twice, six-few}
 use borrow.Author.Needs.{needs}
 use Rattle.parser.proofs.stacks.stack_digits.Statement.{statement}

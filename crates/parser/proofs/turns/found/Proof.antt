@@ -2,7 +2,7 @@
 use Rattle.parser.proofs.TurnLaws.{fit, sound, small-entries}
 use native.Mathlib.Omega.{arith}
 use mathlib.Core.Path.{sym, subst}
-use Rattle.parser_moves.specs.Moves.{Sound, Calls}
+use Rattle.parser_goals.specs.Moves.{Sound, Calls}
 use borrow.Author.Needs.{needs}
 use Rattle.parser.proofs.turns.found.Statement.{statement}
 use Rattle.parser.proofs.turns.found.Tie as tie

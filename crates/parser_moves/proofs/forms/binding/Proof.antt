@@ -1,5 +1,5 @@
 -- `binding`: a row of the table. Assumes nothing.
-use Rattle.parser_moves.proofs.FormTable.{binding-at}
+use Rattle.parser_goals.proofs.FormTable.{binding-at}
 use borrow.Author.Needs.{needs}
 use Rattle.parser_moves.proofs.forms.binding.Statement.{statement}
 use Rattle.parser_moves.proofs.forms.binding.Tie as tie

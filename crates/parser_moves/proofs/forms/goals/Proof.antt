@@ -1,5 +1,5 @@
 -- `goals`: a row of the table. Assumes nothing.
-use Rattle.parser_moves.proofs.FormTable.{goals-at}
+use Rattle.parser_goals.proofs.FormTable.{goals-at}
 use borrow.Author.Needs.{needs}
 use Rattle.parser_moves.proofs.forms.goals.Statement.{statement}
 use Rattle.parser_moves.proofs.forms.goals.Tie as tie

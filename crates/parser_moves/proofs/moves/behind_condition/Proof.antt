@@ -1,5 +1,5 @@
 -- `behind_condition` meets its contract. Assumes nothing.
-use Rattle.parser_moves.proofs.MoveLaws.{and-none, and-tight, and-goes}
+use Rattle.parser_goals.proofs.MoveLaws.{and-none, and-tight, and-goes}
 use borrow.Author.Needs.{needs}
 use Rattle.parser_moves.proofs.moves.behind_condition.Statement.{statement}
 use Rattle.parser_moves.proofs.moves.behind_condition.Tie as tie

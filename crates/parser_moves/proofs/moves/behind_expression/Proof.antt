@@ -1,5 +1,5 @@
 -- `behind_expression` meets its contract. Assumes nothing.
-use Rattle.parser_moves.proofs.MoveLaws.{equal-none, equal-tight, equal-sort, equal-goes}
+use Rattle.parser_goals.proofs.MoveLaws.{equal-none, equal-tight, equal-sort, equal-goes}
 use borrow.Author.Needs.{needs}
 use Rattle.parser_moves.proofs.moves.behind_expression.Statement.{statement}
 use Rattle.parser_moves.proofs.moves.behind_expression.Tie as tie

@@ -1,5 +1,5 @@
 -- `dot` meets its contract. Assumes nothing.
-use Rattle.parser_moves.proofs.MoveLaws.{dot-zero, dot-high, dot-tight, dot-writes, dot-reads}
+use Rattle.parser_goals.proofs.MoveLaws.{dot-zero, dot-high, dot-tight, dot-writes, dot-reads}
 use borrow.Author.Needs.{needs}
 use Rattle.parser_moves.proofs.moves.dot.Statement.{statement}
 use Rattle.parser_moves.proofs.moves.dot.Tie as tie

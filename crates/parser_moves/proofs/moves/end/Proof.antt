@@ -1,5 +1,5 @@
 -- `end` meets its contract. Assumes nothing.
-use Rattle.parser_moves.proofs.MoveLaws.{end-either, end-same, end-other}
+use Rattle.parser_goals.proofs.MoveLaws.{end-either, end-same, end-other}
 use borrow.Author.Needs.{needs}
 use Rattle.parser_moves.proofs.moves.end.Statement.{statement}
 use Rattle.parser_moves.proofs.moves.end.Tie as tie

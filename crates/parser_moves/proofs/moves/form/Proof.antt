@@ -1,5 +1,5 @@
 -- `form` meets its contract. Assumes nothing.
-use Rattle.parser_moves.proofs.MoveLaws.{form-loose, form-refused, form-taken, form-term}
+use Rattle.parser_goals.proofs.MoveLaws.{form-loose, form-refused, form-taken, form-term}
 use borrow.Author.Needs.{needs}
 use Rattle.parser_moves.proofs.moves.form.Statement.{statement}
 use Rattle.parser_moves.proofs.moves.form.Tie as tie

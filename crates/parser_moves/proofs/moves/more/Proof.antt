@@ -1,5 +1,5 @@
 -- `more` meets its contract. Assumes nothing.
-use Rattle.parser_moves.proofs.MoveLaws.{more-stops}
+use Rattle.parser_goals.proofs.MoveLaws.{more-stops}
 use borrow.Author.Needs.{needs}
 use Rattle.parser_moves.proofs.moves.more.Statement.{statement}
 use Rattle.parser_moves.proofs.moves.more.Tie as tie

@@ -1,5 +1,5 @@
 -- `operand` meets its contract. Assumes nothing.
-use Rattle.parser_moves.proofs.MoveLaws.{operand-low, operand-variable, operand-other, operand-high, operand-group, operand-either}
+use Rattle.parser_goals.proofs.MoveLaws.{operand-low, operand-variable, operand-other, operand-high, operand-group, operand-either}
 use borrow.Author.Needs.{needs}
 use Rattle.parser_moves.proofs.moves.operand.Statement.{statement}
 use Rattle.parser_moves.proofs.moves.operand.Tie as tie

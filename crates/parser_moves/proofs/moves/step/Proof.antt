@@ -1,6 +1,6 @@
 -- `step` meets its contract. Assumes nothing.
-use Rattle.parser_moves.proofs.MoveLaws.{make-is, moved}
-use Rattle.parser_moves.proofs.Numbers.{expect-goal, make-goal, operand-goal, more-goal, fields-goal, further-goal}
+use Rattle.parser_goals.proofs.MoveLaws.{make-is, moved}
+use Rattle.parser_goals.proofs.Numbers.{expect-goal, make-goal, operand-goal, more-goal, fields-goal, further-goal}
 use mathlib.Core.Path.{refl}
 use borrow.Author.Needs.{needs}
 use Rattle.parser_moves.proofs.moves.step.Statement.{statement}

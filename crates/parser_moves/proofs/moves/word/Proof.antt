@@ -1,5 +1,5 @@
 -- `word` meets its contract. Assumes nothing.
-use Rattle.parser_moves.proofs.MoveLaws.{word-new, word-other, word-all, word-notify}
+use Rattle.parser_goals.proofs.MoveLaws.{word-new, word-other, word-all, word-notify}
 use borrow.Author.Needs.{needs}
 use Rattle.parser_moves.proofs.moves.word.Statement.{statement}
 use Rattle.parser_moves.proofs.moves.word.Tie as tie

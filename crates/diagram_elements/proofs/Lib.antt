@@ -1,0 +1,3 @@
+pub mod Together
+pub mod NextRecord
+pub mod Races

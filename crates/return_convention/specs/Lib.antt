@@ -1,0 +1,2 @@
+pub mod Convention
+pub mod Small

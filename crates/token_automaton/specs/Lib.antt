@@ -1,0 +1,4 @@
+pub mod Classes
+pub mod Names
+pub mod Begun
+pub mod Ended
