@@ -225,8 +225,8 @@ module _ (plan schedule : List ℕ) (pick : ℕ) (ws area : List ℕ) (given : G
   unfolding answered logged
   found x t same (STOPPED h) =
       let few : r .outcome .picks < n = omega (arith, short h, picks-are _ same) in
-      found-as _ _ (early (r .outcome) (r .before .moves) (r .before .records) n pick after few) (ap (λ (e : run.Stop). preview.Previewed.shows (Preview.stopped e)) (stop-is _ same)) tt
-      (λ q e. absurd (omega arith))
+      found-as _ _ (early (r .outcome) (r .before .moves) (r .before .records) n pick after few)
+      (ap (λ (e : run.Stop). preview.Previewed.shows (Preview.stopped e)) (stop-is _ same)) tt (λ q e. absurd (omega arith))
   found x t same (PASSED {a} h p) =
       let e : r .outcome .stop ≡ stop.End = ended _ (stop-is _ same) in
       let m : r .outcome .moves ≡ r .before .moves = moves-are _ same ∙ ap length (append-nil (shorter .instances)) ∙ sym (moves-before _ same (one-more h)) in
@@ -252,7 +252,8 @@ module _ (plan schedule : List ℕ) (pick : ℕ) (ws area : List ℕ) (given : G
       (ap (λ (z : Record). preview.Previewed.shows (Preview.moved (some z))) (last-is _ same e refl))
       (last-bytes _ same e refl) (ended-once q)
   found x t same (RACE {e} h l) =
-      found-as _ _ (raced (r .outcome) (r .before .moves) (r .before .records) n pick after (omega (arith, picks-are _ same, all-dealt h)) (lacked _ (stop-is _ same)))
+      found-as _ _ (raced (r .outcome) (r .before .moves) (r .before .records) n pick after
+      (omega (arith, picks-are _ same, all-dealt h)) (lacked _ (stop-is _ same)))
       (ap (λ (z : Record). preview.Previewed.shows (Preview.race z)) (last-is _ same e refl))
       (last-bytes _ same e refl) (λ q y. omega (arith, last-index _ same e refl))
   found x t same (NO-ROOM {k = k} h m q) =

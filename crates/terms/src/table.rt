@@ -1,6 +1,8 @@
 // Check 4: a single term against the table; the terms' 40 bits are loaded, and their names noted, for the checks after it.
 use crate::term;
 use naming::notes;
+use operand_tests::outside;
+use operand_tests::wrong_other;
 use operands::rows;
 use operands::rows::FIRST;
 use operands::rows::OTHER;
@@ -10,66 +12,16 @@ use operands::rows::SPARE;
 use operands::rows::TAGS;
 use operands::rows::THIRD;
 ghost use mathlib.Core.Path.{_≡_};
-ghost use mathlib.Core.Bool.{false, _&&_, not};
+ghost use mathlib.Core.Bool.{false};
 ghost use mathlib.Core.List.{[], _∷_};
 ghost use Prim.Native.Nat.{_<_, _≤_};
-ghost use lib.Dec.{ltb, eqb};
 ghost use lib.ListN.{replicate};
 ghost use Rattle.format.specs.Lowest.{Lowest};
-ghost use Rattle.packed.specs.Format.{mask, tagCount};
-ghost use Rattle.packed.specs.Refusals.{wrongOperand, breaksTable, wrongTerm};
-ghost use Rattle.packed.specs.Rows.{layoutRows, bitsTo, wrongOther, wrongTerms, childrenByRow};
+ghost use Rattle.packed.specs.Format.{tagCount};
+ghost use Rattle.packed.specs.Refusals.{breaksTable, wrongTerm};
+ghost use Rattle.packed.specs.Rows.{layoutRows, wrongTerms, childrenByRow};
 ghost use Rattle.packed.specs.Steps.{Headed, Loaded, outside, termIn, childOf, childrenOf, noteAll, RootsNoted, TermsNoted};
 ghost use Rattle.packed.specs.Trees.{nodeOf};
-
-// A child index not above its parent's, or not below the count.
-fn outside(child: usize, term: usize, count: usize) -> bool
-    ensures { λ r. ⌜ r ≡ outside count term child ⌝ }
-{
-    child <= term || child >= count
-}
-
-// A `new` that names the monitor, or over eight fields.
-fn wrong_mask(fields: usize) -> bool
-    requires { ⌜ fields < 4294967296 ⌝ }
-    ensures { λ r. ⌜ r ≡ wrongOperand 0 0 0 mask fields ⌝ }
-{
-    if fields >= 2147483648 {
-        return true;
-    }
-    usize::count_ones(fields) > 8
-}
-
-// A let's slot: 0 to 7, or 15.
-fn wrong_binder(slot: usize) -> bool
-    ensures { λ r. ⌜ r ≡ (ltb 7 slot && not (eqb slot 15)) ⌝ }
-{
-    slot > 7 && slot != 15
-}
-
-// The operand that is no term, by what it is and its place. By comparisons and not by a match, whose jump would follow no pattern.
-fn wrong_other(kind: u8, word: usize, place: u8, procedures: usize) -> bool
-    requires { ⌜ kind < 6 ⌝ }
-    ensures { λ r. ⌜ r ≡ wrongOther procedures kind (bitsTo place word) ⌝ }
-{
-    if kind == 0 {
-        return false;
-    }
-    let bits = rows::bits_to(word, place);
-    if kind == rows::SLOT {
-        return bits % 16 > 7;
-    }
-    if kind < rows::MASK {
-        return wrong_binder(bits % 16);
-    }
-    if kind > rows::FIELD {
-        return bits % 32 >= procedures;
-    }
-    if kind > rows::MASK {
-        return bits % 32 == 0;
-    }
-    wrong_mask(bits % 4294967296)
-}
 
 // The operand that is a term of this sort: it is named, unless it is wrong.
 fn wrong_child(notes: &mut [u8; 1024], sort: u8, child: usize, term: usize, count: usize) -> bool

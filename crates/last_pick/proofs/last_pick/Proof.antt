@@ -39,14 +39,16 @@ returns-2 c =
     let k = c .before .before .before .before in
     let l = k .before .before in
     let a = start l .args in
-    sym (passed (a .outcome) (a .moves) (a .records) (a .before) (a .pick) (a .log .now) (l .if1 .left) (k .enum-told2 .given .1) (c .before .before .if2 .taken))
+    sym (passed (a .outcome) (a .moves) (a .records) (a .before) (a .pick) (a .log .now) (l .if1 .left)
+    (k .enum-told2 .given .1) (c .before .before .if2 .taken))
 
 returns-3 : tie.Need-returns-3
 returns-3 c =
     let k = c .before .before .before .before in
     let l = k .before .before in
     let a = start l .args in
-    sym (moved (a .outcome) (a .moves) (a .records) (a .before) (a .pick) (a .log .now) (l .if1 .left) (k .enum-told2 .given .1) (c .before .before .if2 .left) (c .if3 .taken))
+    sym (moved (a .outcome) (a .moves) (a .records) (a .before) (a .pick) (a .log .now) (l .if1 .left)
+    (k .enum-told2 .given .1) (c .before .before .if2 .left) (c .if3 .taken))
 
 last-record-requires-2 : tie.Need-last-record-requires-2
 last-record-requires-2 c κs = search needs
@@ -70,8 +72,8 @@ returns-6 c =
     let l = k .before .before in
     let a = start l .args in
     ap (λ (x : RecordBytes). previewed.Recorded x) (c .last-record2 .ensures)
-    ∙ sym (recorded (a .outcome) (a .moves) (a .records) (a .before) (a .pick) (a .log .now) (l .if1 .left) (k .enum-told2 .given .1) (c .before .before .before .if2 .left)
-    (c .before .if3 .left))
+    ∙ sym (recorded (a .outcome) (a .moves) (a .records) (a .before) (a .pick) (a .log .now) (l .if1 .left)
+    (k .enum-told2 .given .1) (c .before .before .before .if2 .left) (c .before .if3 .left))
 
 pub last-pick-spec : {M : Type 1} → statement M
 last-pick-spec =

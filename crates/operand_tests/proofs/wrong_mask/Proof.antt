@@ -1,7 +1,7 @@
 -- `wrong_mask`: the top bit is field 0, and the count of ones is the count of fields.
 use Rattle.packed.proofs.Reading.{fields-are, no-monitor-bit, monitor-bit}
-use Rattle.terms.proofs.table.wrong_mask.Statement.{statement}
-use Rattle.terms.proofs.table.wrong_mask.Tie as tie
+use Rattle.operand_tests.proofs.wrong_mask.Statement.{statement}
+use Rattle.operand_tests.proofs.wrong_mask.Tie as tie
 
 returns : tie.Need-returns
 returns c = let v = c .before .args .fields in simp (monitor-bit v (c .if1 .taken) (c .before .pre))

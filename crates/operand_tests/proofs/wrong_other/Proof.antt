@@ -5,8 +5,8 @@ use Prim.Native.Nat.{ℕ}
 use native.Mathlib.Omega.{arith}
 use borrow.Author.Needs.{needs}
 use Rattle.packed.specs.Rows.{bitsTo, wrongOther}
-use Rattle.terms.proofs.table.wrong_other.Statement.{statement}
-use Rattle.terms.proofs.table.wrong_other.Tie as tie
+use Rattle.operand_tests.proofs.wrong_other.Statement.{statement}
+use Rattle.operand_tests.proofs.wrong_other.Tie as tie
 
 bits-to-requires : tie.Need-bits-to-requires
 bits-to-requires c κs = search needs

@@ -1,7 +1,7 @@
 -- `wrong_binder`: by the two comparisons.
 use borrow.Author.Tests.{lt-ltb, le-ltb}
-use Rattle.terms.proofs.table.wrong_binder.Statement.{statement}
-use Rattle.terms.proofs.table.wrong_binder.Tie as tie
+use Rattle.operand_tests.proofs.wrong_binder.Statement.{statement}
+use Rattle.operand_tests.proofs.wrong_binder.Tie as tie
 
 returns : tie.Need-returns
 returns c = simp (lt-ltb _ _ (c .if1 .taken))

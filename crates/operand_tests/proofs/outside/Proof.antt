@@ -1,7 +1,7 @@
 -- `outside`: by the two comparisons.
 use borrow.Author.Tests.{le-leb, lt-leb}
-use Rattle.terms.proofs.table.outside.Statement.{statement}
-use Rattle.terms.proofs.table.outside.Tie as tie
+use Rattle.operand_tests.proofs.outside.Statement.{statement}
+use Rattle.operand_tests.proofs.outside.Tie as tie
 
 returns : tie.Need-returns
 returns c = simp (le-leb _ _ (c .if1 .taken))
