@@ -6,7 +6,7 @@ use native.Mathlib.Numerals.{add-one}
 use mathlib.Core.Path.{_≡_, refl, sym, ap, subst, _∙_}
 use mathlib.Core.Bool.{Bool, true, false, cond, true≢false}
 use mathlib.Core.List.{List, _∷_}
-use mathlib.Core.Logic.{_⊎_, inl, inr, _↔_}
+use mathlib.Core.Logic.{_⊎_, inl, inr}
 use mathlib.Core.Option.{some, none}
 use lib.Dec.{T, eqb}
 use lib.ListN.{length, getD}
@@ -14,14 +14,14 @@ use Rattle.format.specs.Version.{Version}
 use Rattle.records.specs.Record.{Record, isPlain}
 use Rattle.records.specs.Packed.{recordAt, logOf}
 use Rattle.order.specs.Accesses.{isWrite}
-use Rattle.order.proofs.Ports.{Port, ofThread, ofMonitor, ofVolatile, ofAccesses, ofWrites}
+use Rattle.order.proofs.Ports.{Port, ofThread, ofMonitor, ofVolatile, ofAccesses}
 use Rattle.conflicts.specs.Conflicts.{Conflicting}
 use Rattle.conflicts.specs.Judge.{Names}
 use Rattle.conflicts.proofs.FirstConflict.{conflicting↔}
 use Rattle.clocks.specs.Rows.{Row}
 use Rattle.decoding.specs.declared.Columns.{Columns}
 use Rattle.effects.specs.Rows.{placeRow, isAccess, keptRow}
-use Rattle.effects.specs.Table.{Wide, Stored, Keeps, Hears, Told, Accessed, late, kept, Stepped, accesses, hears, tells, forks, joins, rests}
+use Rattle.effects.specs.Table.{Wide, Stored, Keeps, Hears, Told, late, kept, Stepped, accesses, hears, tells, forks, joins, rests}
 use Rattle.judge.proofs.PlaceNumbers.{Placed}
 use Rattle.judge.proofs.PortRows.{rowOf, Valid, HasRow}
 use Rattle.judge.proofs.RecordPorts.{Moves, AtPlace, monitor, volatile, hearing, telling, resting, forking, joining, is-fork, is-join, write-kind, numbered}

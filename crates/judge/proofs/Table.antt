@@ -1,12 +1,12 @@
 -- The table of rows shows the clocks of every port; what a record does to it shows those of the log with that record. Assumes nothing.
-use Prim.Native.Nat.{ℕ, suc, _+_, _*_, _%_, _<_, _≤_, max, min}
+use Prim.Native.Nat.{ℕ, suc, _+_, _*_, _<_, _≤_, max, min}
 use native.Mathlib.Omega.{arith}
 use native.Mathlib.Decide.{ℕ-discrete}
 use mathlib.Core.Path.{_≡_, refl, sym, ap, subst, _∙_}
 use mathlib.Core.Bool.{Bool, true, false, cond, true≢false}
-use mathlib.Core.List.{List, [], _∷_}
+use mathlib.Core.List.{List, _∷_}
 use mathlib.Core.Logic.{_⊎_, inl, inr}
-use mathlib.Core.Option.{Option, some, none}
+use mathlib.Core.Option.{some, none}
 use lib.Dec.{T, eqb}
 use lib.ListN.{length, getD, set}
 use Rattle.format.specs.Version.{Version}
@@ -16,13 +16,13 @@ use Rattle.order.proofs.Ports.{Port, ofThread, ofMonitor, ofVolatile, ofAccesse
 use Rattle.conflicts.proofs.Clock.{second, feeds, feeds→, feeds←, draws→, second-draws}
 use Rattle.conflicts.proofs.Conflicts.{Eight}
 use Rattle.conflicts.proofs.RowClocks.{Heard, Kept, heard-same, kept-same, heard-unfed, kept-unfed, heard-told, kept-fed}
-use Rattle.clocks.specs.Rows.{Row, clockOf, rowAt}
+use Rattle.clocks.specs.Rows.{Row, clockOf}
 use Rattle.effects.specs.Places.{Numbered, known, next, full}
-use Rattle.effects.specs.Rows.{placeRow, keptRow}
+use Rattle.effects.specs.Rows.{placeRow}
 use Rattle.effects.specs.Table.{clockAt, Stored, Keeps, Hears, Told}
-use Rattle.judge.proofs.PlaceNumbers.{Places, Placed, numbered-own, numbered-other}
+use Rattle.judge.proofs.PlaceNumbers.{Places, numbered-own, numbered-other}
 use Rattle.judge.proofs.PortRows.{rowOf, Valid, HasRow, row-once}
-use Rattle.judge.proofs.RecordPorts.{fedPort, fed-feeds, fed-one-of, accesses-fed, plain-second, AtPlace, Moves, numbered, place-row, place-valid, place-has}
+use Rattle.judge.proofs.RecordPorts.{fedPort, fed-feeds, fed-one-of, accesses-fed, plain-second, Moves}
 
 -- what the clocks of a port are
 abbrev pub Shown : Version → List Record → Port → (ℕ → ℕ) → Type 0

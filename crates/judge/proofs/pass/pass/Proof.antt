@@ -6,7 +6,7 @@ use Rattle.judge.proofs.Here.{Here, short, ready, none-left}
 use Rattle.judge.proofs.Next.{names, next-by}
 use lib.ListN.{length}
 use native.Mathlib.Omega.{arith}
-use mathlib.Core.Path.{_≡_, refl, sym, _∙_}
+use mathlib.Core.Path.{_≡_, refl, _∙_}
 use Prim.Native.Nat.{_-_, _/_, _≤_}
 use borrow.Author.Needs.{needs}
 use Rattle.judge.proofs.pass.pass.Statement.{statement}
