@@ -41,7 +41,8 @@ module _ (rows : List Row) (q : ℕ) (wide : Wide rows) (inside : q < length row
       }
     where
       clock : (u : ℕ) → Dec (t ≡ u) → clockOf (set (rowAt rows q) t time) u ≡ cond (eqb t u) time (clockOf (rowAt rows q) u)
-      clock u (yes e) = rw (eq-eqb t u e) (ap (clockOf (set (rowAt rows q) t time)) (sym e) ∙ getD-set-same (rowAt rows q) t time 0 (omega (arith, wide q inside)))
+      clock u (yes e) =
+          rw (eq-eqb t u e) (ap (clockOf (set (rowAt rows q) t time)) (sym e) ∙ getD-set-same (rowAt rows q) t time 0 (omega (arith, wide q inside)))
       clock u (no n) = rw (ne-eqb t u n) (getD-set-other (rowAt rows q) t u time 0 (λ e. n (sym e)))
 
 -- ---- the threads' own clocks

@@ -191,7 +191,8 @@ module _ {v : Version} {b : List ℕ} {places i : ℕ} {N : List ℕ} {given : �
         go (full k l) = (omega arith, omega arith)
 
     pub shows-here : Shows v (before b i) N′ rows
-    shows-here = shows-placed v (before b i) eight N N′ given (c .object * 32 + c .field) n places (G .numbers) place-below rows (G .blank) (G .shows) (W .numbered)
+    shows-here =
+        shows-placed v (before b i) eight N N′ given (c .object * 32 + c .field) n places (G .numbers) place-below rows (G .blank) (G .shows) (W .numbered)
 
     pub blank-here : Blank (max given n) rows
     blank-here = blank-more given given′ rows (omega arith) (G .blank)

@@ -136,7 +136,8 @@ blank-more given more rows h B k q a b d = B k q a b (which d)
     which (inr e) = inr (omega arith)
 
 -- a store to the row of a thread, or of a place with a number, leaves the clear rows
-pub blank-stored : (given q : ℕ) (rows after : List Row) → (q < 8) ⊎ ((n : ℕ) × ((0 < n) × (n ≤ given) × (placeRow n ≤ q) × (q ≤ placeRow n + 2))) → Stored q rows after
+pub blank-stored : (given q : ℕ) (rows after : List Row) → (q < 8) ⊎ ((n : ℕ) × ((0 < n) × (n ≤ given) × (placeRow n ≤ q) × (q ≤ placeRow n + 2))) → Stored q
+    rows after
     → Blank given rows → Blank given after
 unfolding Blank
 blank-stored given q rows after spot T B k p a b d u h = ap (λ (x : Row). clockOf x u) (T .others p (λ e. away spot d e)) ∙ B k p a b d u h
@@ -327,7 +328,8 @@ module _ (v : Version) (r : Record) (H : List Record) (N : List ℕ) (given : �
           go : (p ≡ accesses) ⊎ (p ≡ accesses → ⊥) → (p ≡ writes) ⊎ (p ≡ writes → ⊥) → Shown v (r ∷ H) p (clocks N after p)
           go (inl e) x =
               subst (λ (q : Port). Shown v (r ∷ H) q (clocks N after q)) (sym e)
-              (kept-fed r H thread-below (clocks N after accesses) (plain, refl, refl) eight (λ u h. late accesses (object-below, field-below) apart u ∙ K .clocks-are u h)
+              (kept-fed r H thread-below (clocks N after accesses) (plain, refl, refl) eight
+              (λ u h. late accesses (object-below, field-below) apart u ∙ K .clocks-are u h)
               (S accesses (object-below, field-below)))
           go (inr n) (inl e) =
               subst (λ (q : Port). Shown v (r ∷ H) q (clocks N after q)) (sym e)
