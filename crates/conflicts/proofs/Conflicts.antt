@@ -1,6 +1,6 @@
 -- Conflicting accesses, by the clocks: whether the next record of a log conflicts with an earlier one that has no chain to it. Logs newest first.
 -- Assumes nothing.
-use Prim.Native.Nat.{ℕ, zero, suc, _<_, _≤_}
+use Prim.Native.Nat.{ℕ, zero, suc, _<_}
 use mathlib.Core.Path.{_≡_, refl, ap, subst}
 use mathlib.Core.Bool.{Bool, true, false, _||_}
 use mathlib.Core.List.{List}
@@ -40,13 +40,6 @@ any← (suc n) g u b h = go (ℕ-discrete u n) (any← n g u)
     go : Dec (u ≡ n) → (u < n → T (g u) → T (any n g)) → T (any n g || g n)
     go (yes e) ih = or← (any n g) (g n) (inr (rw e at h))
     go (no e) ih = or← (any n g) (g n) (inl (ih (omega arith) h))
-
-pub any-none : (n : ℕ) (g : ℕ → Bool) → any n g ≡ false → (u : ℕ) → u < n → g u ≡ false
-any-none n g e u b = go (g u) refl
-  where
-    go : (d : Bool) → g u ≡ d → g u ≡ false
-    go true q = absurd (subst T e (any← n g u b (rw q tt)))
-    go false q = q
 
 -- ---- the port that a record is held against
 

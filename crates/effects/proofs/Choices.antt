@@ -3,7 +3,7 @@ use Prim.Native.Nat.{ℕ}
 use mathlib.Core.Path.{_≡_, refl}
 use mathlib.Core.Bool.{Bool, true, false, _&&_, _||_, cond}
 use lib.Dec.{eqb}
-use Rattle.format.specs.Version.{Version, v0, v1, versionOf}
+use Rattle.format.specs.Version.{v0, v1, versionOf}
 use Rattle.effects.specs.Rows.{volatilesOrder, passes}
 
 pub passes-is : (monitor volatile n k : ℕ) → (eqb k monitor || (eqb k volatile && eqb n 1)) ≡ passes (versionOf n) monitor volatile k

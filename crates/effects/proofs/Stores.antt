@@ -1,12 +1,12 @@
 -- Stores to the table of rows: what they make of it. Assumes nothing.
-use Prim.Native.Nat.{ℕ, _+_, _<_, max, min}
+use Prim.Native.Nat.{ℕ, _+_, _<_}
 use native.Mathlib.Omega.{arith}
 use native.Mathlib.Decide.{ℕ-discrete}
 use mathlib.Core.Path.{_≡_, refl, sym, ap, _∙_}
-use mathlib.Core.Bool.{Bool, cond}
+use mathlib.Core.Bool.{cond}
 use mathlib.Core.List.{List}
 use lib.Dec.{eqb}
-use lib.ListN.{length, getD, set, length-set}
+use lib.ListN.{length, set, length-set}
 use lib.Seq.{getD-set-same, getD-set-other}
 use borrow.Author.Tests.{ne-eqb, eq-eqb}
 use Rattle.clocks.specs.Rows.{Row, clockOf, noRow, rowAt, Raised, RaisedTo}
@@ -41,7 +41,8 @@ module _ (rows : List Row) (q : ℕ) (wide : Wide rows) (inside : q < length row
       }
     where
       clock : (u : ℕ) → Dec (t ≡ u) → clockOf (set (rowAt rows q) t time) u ≡ cond (eqb t u) time (clockOf (rowAt rows q) u)
-      clock u (yes e) = rw (eq-eqb t u e) (ap (clockOf (set (rowAt rows q) t time)) (sym e) ∙ getD-set-same (rowAt rows q) t time 0 (omega (arith, wide q inside)))
+      clock u (yes e) =
+          rw (eq-eqb t u e) (ap (clockOf (set (rowAt rows q) t time)) (sym e) ∙ getD-set-same (rowAt rows q) t time 0 (omega (arith, wide q inside)))
       clock u (no n) = rw (ne-eqb t u n) (getD-set-other (rowAt rows q) t u time 0 (λ e. n (sym e)))
 
 -- ---- the threads' own clocks

@@ -5,7 +5,7 @@ use native.Mathlib.Decide.{ℕ-discrete, decLt}
 use mathlib.Core.Path.{_≡_, refl, sym, ap, subst, _∙_}
 use mathlib.Core.Bool.{Bool, true, false, _||_, not, true≢false}
 use mathlib.Core.List.{List, _∷_}
-use mathlib.Core.Logic.{_⊎_, inl, inr, _↔_}
+use mathlib.Core.Logic.{_⊎_, inl, inr}
 use mathlib.Core.Option.{some, none}
 use lib.Dec.{T, eqb, ltb, eqb→eq}
 use lib.ListN.{length, getD}
@@ -24,7 +24,7 @@ use Rattle.order.proofs.Past.{past-suc, past-length, at→getD}
 use Rattle.order.proofs.Ports.{ofThread, ofAccesses, ofWrites}
 use Rattle.conflicts.specs.Conflicts.{Conflicting}
 use Rattle.conflicts.specs.Judge.{Names, names-first}
-use Rattle.conflicts.proofs.Conflicts.{Eight, Clash, held, heldBy}
+use Rattle.conflicts.proofs.Conflicts.{Eight, held, heldBy}
 use Rattle.conflicts.proofs.FirstConflict.{conflicting↔, at-past}
 use Rattle.conflicts.proofs.RowClocks.{Kept, lower→clash, clash→lower}
 use Rattle.decoding.specs.Columns.{ReadAt}
@@ -34,7 +34,7 @@ use Rattle.clocks.specs.Rows.{Row, clockOf, rowAt, lowerOf}
 use Rattle.effects.specs.Places.{Numbered, known, next, full}
 use Rattle.effects.specs.Rows.{placeRow, isAccess, heldRow}
 use Rattle.effects.specs.Table.{clockAt, Ready}
-use Rattle.judge.proofs.PlaceNumbers.{Placed, placed, given-most, given-below}
+use Rattle.judge.proofs.PlaceNumbers.{Placed, placed, given-below}
 use Rattle.judge.proofs.PortRows.{rowOf}
 use Rattle.judge.proofs.RecordPorts.{Fits, is-fork, is-join, access-plain, write-kind}
 use Rattle.judge.proofs.Table.{Shows, Blank, shows-placed, blank-more, clocks}
@@ -191,7 +191,8 @@ module _ {v : Version} {b : List ℕ} {places i : ℕ} {N : List ℕ} {given : �
         go (full k l) = (omega arith, omega arith)
 
     pub shows-here : Shows v (before b i) N′ rows
-    shows-here = shows-placed v (before b i) eight N N′ given (c .object * 32 + c .field) n places (G .numbers) place-below rows (G .blank) (G .shows) (W .numbered)
+    shows-here =
+        shows-placed v (before b i) eight N N′ given (c .object * 32 + c .field) n places (G .numbers) place-below rows (G .blank) (G .shows) (W .numbered)
 
     pub blank-here : Blank (max given n) rows
     blank-here = blank-more given given′ rows (omega arith) (G .blank)

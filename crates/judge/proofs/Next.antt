@@ -6,7 +6,7 @@ use native.Mathlib.Numerals.{add-one}
 use mathlib.Core.Path.{_≡_, refl, sym, ap, subst, _∙_}
 use mathlib.Core.Bool.{Bool, true, false, cond, true≢false}
 use mathlib.Core.List.{List, _∷_}
-use mathlib.Core.Logic.{_⊎_, inl, inr, _↔_}
+use mathlib.Core.Logic.{_⊎_, inl, inr}
 use mathlib.Core.Option.{some, none}
 use lib.Dec.{T, eqb}
 use lib.ListN.{length, getD}
@@ -14,17 +14,18 @@ use Rattle.format.specs.Version.{Version}
 use Rattle.records.specs.Record.{Record, isPlain}
 use Rattle.records.specs.Packed.{recordAt, logOf}
 use Rattle.order.specs.Accesses.{isWrite}
-use Rattle.order.proofs.Ports.{Port, ofThread, ofMonitor, ofVolatile, ofAccesses, ofWrites}
+use Rattle.order.proofs.Ports.{Port, ofThread, ofMonitor, ofVolatile, ofAccesses}
 use Rattle.conflicts.specs.Conflicts.{Conflicting}
 use Rattle.conflicts.specs.Judge.{Names}
 use Rattle.conflicts.proofs.FirstConflict.{conflicting↔}
 use Rattle.clocks.specs.Rows.{Row}
 use Rattle.decoding.specs.declared.Columns.{Columns}
 use Rattle.effects.specs.Rows.{placeRow, isAccess, keptRow}
-use Rattle.effects.specs.Table.{Wide, Stored, Keeps, Hears, Told, Accessed, late, kept, Stepped, accesses, hears, tells, forks, joins, rests}
+use Rattle.effects.specs.Table.{Wide, Stored, Keeps, Hears, Told, late, kept, Stepped, accesses, hears, tells, forks, joins, rests}
 use Rattle.judge.proofs.PlaceNumbers.{Placed}
 use Rattle.judge.proofs.PortRows.{rowOf, Valid, HasRow}
-use Rattle.judge.proofs.RecordPorts.{Moves, AtPlace, monitor, volatile, hearing, telling, resting, forking, joining, is-fork, is-join, write-kind, numbered}
+use Rattle.judge.proofs.RecordPorts.{Moves, AtPlace, monitor, volatile, hearing, telling, resting, forking}
+use Rattle.judge.proofs.RecordPorts.{joining, is-fork, is-join, write-kind, numbered}
 use Rattle.judge.proofs.RecordPorts.{place-row, place-valid, place-has}
 use Rattle.judge.proofs.Table.{Shows, Blank, Passing, blank-stored, shows-rests, shows-tells, shows-hears, told-heard, shows-write, shows-read}
 use Rattle.judge.proofs.Going.{before, Going}
@@ -154,11 +155,13 @@ module _ {v : Version} {b : List ℕ} {places i : ℕ} {N : List ℕ} {given : �
 
         by : (d : Bool) → isWrite (r .kind) ≡ d → Shows v (r ∷ H) N′ after
         by true e =
-            shows-write v r H N′ (max given n) (P .places) (eight W) (fits W .thread-fits) few-records rows (shows-here W some-number) (plain W some-number a at at-is)
+            shows-write v r H N′ (max given n) (P .places) (eight W) (fits W .thread-fits) few-records rows (shows-here W some-number)
+            (plain W some-number a at at-is)
             (fits W .object-fits) (fits W .field-fits) (numbered (r .object) (r .field) P) between after (rw e tt) first
             (keeps (ap (λ (m : ℕ). m + 2) row ∙ rw (write-is, e)) L)
         by false e =
-            shows-read v r H N′ (max given n) (P .places) (eight W) (fits W .thread-fits) few-records rows (shows-here W some-number) (plain W some-number a at at-is)
+            shows-read v r H N′ (max given n) (P .places) (eight W) (fits W .thread-fits) few-records rows (shows-here W some-number)
+            (plain W some-number a at at-is)
             (fits W .object-fits) (fits W .field-fits) (numbered (r .object) (r .field) P) between after e first
             (keeps (ap (λ (m : ℕ). m + 1) row ∙ rw (write-is, e)) L)
 

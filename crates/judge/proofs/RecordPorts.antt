@@ -1,8 +1,7 @@
 -- The ports that a record feeds and draws from, by the number of its kind. Assumes nothing.
-use Prim.Native.Nat.{ℕ, suc, _+_, _*_, _%_, _<_, _≤_}
-use native.Mathlib.Omega.{arith}
+use Prim.Native.Nat.{ℕ, _+_, _*_, _%_, _<_, _≤_}
 use mathlib.Core.Path.{_≡_, refl, sym, ap, subst, _∙_}
-use mathlib.Core.Bool.{Bool, true, false, cond, true≢false}
+use mathlib.Core.Bool.{true, false, true≢false}
 use mathlib.Core.List.{List}
 use mathlib.Core.Logic.{_⊎_, inl, inr}
 use mathlib.Core.Option.{Option, some, none}
@@ -134,7 +133,8 @@ pub record Telling (v : Version) (r : Record) : Type 0 where
   pub at-place : AtPlace (r .object) (r .field) port
   pub moves : Moves v r (some port) none
 
-moves : {v : Version} {κ : Kind} {t o f x : ℕ} {fed drawn : Option Port} → fedPort v κ o f ≡ fed → secondPort v κ o f ≡ drawn → isPlain κ ≡ false → isWrite κ ≡ false
+moves : {v : Version} {κ : Kind} {t o f x : ℕ} {fed drawn : Option Port} → fedPort v κ o f ≡ fed → secondPort v κ o f ≡ drawn → isPlain κ ≡ false → isWrite κ
+    ≡ false
     → Moves v (entry κ t o f x) fed drawn
 moves a b c d = record { fed-is = a; drawn-is = b; no-access = c; no-write = d }
 
@@ -183,7 +183,8 @@ module _ (t o f x : ℕ) where
   rests-by : (v : Version) (k : ℕ) → 0 < k → k ≤ 11 → Rests v k
   unfolding kindOf
   rests-by v0 = by-kind (Rests v0) (λ a h g m n. moves refl refl refl refl) (λ a h g m n. absurd (true≢false a)) (λ a h g m n. absurd (true≢false a))
-      (λ a h g m n. moves refl refl refl refl) (λ a h g m n. moves refl refl refl refl) (λ a h g m n. absurd (true≢false h)) (λ a h g m n. absurd (true≢false g))
+      (λ a h g m n. moves refl refl refl refl) (λ a h g m n. moves refl refl refl refl) (λ a h g m n. absurd (true≢false h))
+      (λ a h g m n. absurd (true≢false g))
       (λ a h g m n. absurd (m refl)) (λ a h g m n. absurd (n refl)) (λ a h g m n. absurd (true≢false a)) (λ a h g m n. absurd (true≢false a))
   rests-by v1 = by-kind (Rests v1) (λ a h g m n. moves refl refl refl refl) (λ a h g m n. absurd (true≢false a)) (λ a h g m n. absurd (true≢false a))
       (λ a h g m n. absurd (true≢false h)) (λ a h g m n. absurd (true≢false g)) (λ a h g m n. absurd (true≢false h)) (λ a h g m n. absurd (true≢false g))

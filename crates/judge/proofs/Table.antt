@@ -1,12 +1,12 @@
 -- The table of rows shows the clocks of every port; what a record does to it shows those of the log with that record. Assumes nothing.
-use Prim.Native.Nat.{ℕ, suc, _+_, _*_, _%_, _<_, _≤_, max, min}
+use Prim.Native.Nat.{ℕ, suc, _+_, _*_, _<_, _≤_, max, min}
 use native.Mathlib.Omega.{arith}
 use native.Mathlib.Decide.{ℕ-discrete}
 use mathlib.Core.Path.{_≡_, refl, sym, ap, subst, _∙_}
 use mathlib.Core.Bool.{Bool, true, false, cond, true≢false}
-use mathlib.Core.List.{List, [], _∷_}
+use mathlib.Core.List.{List, _∷_}
 use mathlib.Core.Logic.{_⊎_, inl, inr}
-use mathlib.Core.Option.{Option, some, none}
+use mathlib.Core.Option.{some, none}
 use lib.Dec.{T, eqb}
 use lib.ListN.{length, getD, set}
 use Rattle.format.specs.Version.{Version}
@@ -16,13 +16,13 @@ use Rattle.order.proofs.Ports.{Port, ofThread, ofMonitor, ofVolatile, ofAccesse
 use Rattle.conflicts.proofs.Clock.{second, feeds, feeds→, feeds←, draws→, second-draws}
 use Rattle.conflicts.proofs.Conflicts.{Eight}
 use Rattle.conflicts.proofs.RowClocks.{Heard, Kept, heard-same, kept-same, heard-unfed, kept-unfed, heard-told, kept-fed}
-use Rattle.clocks.specs.Rows.{Row, clockOf, rowAt}
+use Rattle.clocks.specs.Rows.{Row, clockOf}
 use Rattle.effects.specs.Places.{Numbered, known, next, full}
-use Rattle.effects.specs.Rows.{placeRow, keptRow}
+use Rattle.effects.specs.Rows.{placeRow}
 use Rattle.effects.specs.Table.{clockAt, Stored, Keeps, Hears, Told}
-use Rattle.judge.proofs.PlaceNumbers.{Places, Placed, numbered-own, numbered-other}
+use Rattle.judge.proofs.PlaceNumbers.{Places, numbered-own, numbered-other}
 use Rattle.judge.proofs.PortRows.{rowOf, Valid, HasRow, row-once}
-use Rattle.judge.proofs.RecordPorts.{fedPort, fed-feeds, fed-one-of, accesses-fed, plain-second, AtPlace, Moves, numbered, place-row, place-valid, place-has}
+use Rattle.judge.proofs.RecordPorts.{fedPort, fed-feeds, fed-one-of, accesses-fed, plain-second, Moves}
 
 -- what the clocks of a port are
 abbrev pub Shown : Version → List Record → Port → (ℕ → ℕ) → Type 0
@@ -136,7 +136,8 @@ blank-more given more rows h B k q a b d = B k q a b (which d)
     which (inr e) = inr (omega arith)
 
 -- a store to the row of a thread, or of a place with a number, leaves the clear rows
-pub blank-stored : (given q : ℕ) (rows after : List Row) → (q < 8) ⊎ ((n : ℕ) × ((0 < n) × (n ≤ given) × (placeRow n ≤ q) × (q ≤ placeRow n + 2))) → Stored q rows after
+pub blank-stored : (given q : ℕ) (rows after : List Row) → (q < 8) ⊎ ((n : ℕ) × ((0 < n) × (n ≤ given) × (placeRow n ≤ q) × (q ≤ placeRow n + 2))) → Stored q
+    rows after
     → Blank given rows → Blank given after
 unfolding Blank
 blank-stored given q rows after spot T B k p a b d u h = ap (λ (x : Row). clockOf x u) (T .others p (λ e. away spot d e)) ∙ B k p a b d u h
@@ -327,7 +328,8 @@ module _ (v : Version) (r : Record) (H : List Record) (N : List ℕ) (given : �
           go : (p ≡ accesses) ⊎ (p ≡ accesses → ⊥) → (p ≡ writes) ⊎ (p ≡ writes → ⊥) → Shown v (r ∷ H) p (clocks N after p)
           go (inl e) x =
               subst (λ (q : Port). Shown v (r ∷ H) q (clocks N after q)) (sym e)
-              (kept-fed r H thread-below (clocks N after accesses) (plain, refl, refl) eight (λ u h. late accesses (object-below, field-below) apart u ∙ K .clocks-are u h)
+              (kept-fed r H thread-below (clocks N after accesses) (plain, refl, refl) eight
+              (λ u h. late accesses (object-below, field-below) apart u ∙ K .clocks-are u h)
               (S accesses (object-below, field-below)))
           go (inr n) (inl e) =
               subst (λ (q : Port). Shown v (r ∷ H) q (clocks N after q)) (sym e)

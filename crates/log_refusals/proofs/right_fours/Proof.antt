@@ -37,7 +37,8 @@ loop-less : tie.Need-loop-less Inv-loop μ-loop
 loop-less c = search needs
 
 loop-again : tie.Need-loop-again Inv-loop μ-loop
-loop-again c = let l = c .before .before .before .loop in (omega arith, l .inv .1, four-more _ _ (l .inv .2) (sym (c .before .four-wrong .ensures) ∙ c .if1 .left))
+loop-again c =
+    let l = c .before .before .before .loop in (omega arith, l .inv .1, four-more _ _ (l .inv .2) (sym (c .before .four-wrong .ensures) ∙ c .if1 .left))
 
 returns-2 : tie.Need-returns-2 Inv-loop μ-loop
 unfolding recordCount

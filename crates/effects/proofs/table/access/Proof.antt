@@ -48,7 +48,9 @@ same-length c = search needs
 
 returns-2 : tie.Need-returns-2
 returns-2 c =
-    kept-in _ _ _ _ _ _ (c .before .before .before .before .before .before .before .before .before .before .held .ensures) _ (c .before .before .before .before .before .before .before .before .lower .ensures) (sym (c .before .before .before .before .before .before .before .if1 .left)) (c .before .before .before .before .before .keep .ensures) _
+    kept-in _ _ _ _ _ _ (c .before .before .before .before .before .before .before .before .before .before .held .ensures) _
+    (c .before .before .before .before .before .before .before .before .lower .ensures)
+    (sym (c .before .before .before .before .before .before .before .if1 .left)) (c .before .before .before .before .before .keep .ensures) _
     (c .before .before .before .kept .ensures) (c .before .keep2 .ensures)
 
 pub access-spec : {M : Type 1} → statement M

@@ -3,7 +3,6 @@ use Rattle.effects.proofs.Stores.{started-none, started-eight, started-
 use Rattle.effects.specs.Table.{Started}
 use Prim.Native.Nat.{_-_, _≤_}
 use lib.ListN.{length}
-use mathlib.Core.Path.{_≡_}
 use native.Mathlib.Omega.{arith}
 use borrow.Author.Needs.{needs}
 use Rattle.effects.proofs.table.start.Statement.{statement}

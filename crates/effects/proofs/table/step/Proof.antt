@@ -44,7 +44,9 @@ returns-3 : tie.Need-returns-3
 returns-3 c = tells (sym (c .before .before .before .before .tells .ensures) ∙ c .before .before .before .if3 .taken) (c .before .tell .ensures)
 
 tell-requires-2 : tie.Need-tell-requires-2
-tell-requires-2 c κs = let p = c .before .before .before .before .before .before .before .before .pre in (omega (arith, p .field-below (inl (c .before .if4 .taken))), (omega arith, p .wide))
+tell-requires-2 c κs =
+    let p = c .before .before .before .before .before .before .before .before .pre in
+    (omega (arith, p .field-below (inl (c .before .if4 .taken))), (omega arith, p .wide))
 
 same-length-4 : tie.Need-same-length-4
 same-length-4 c = search needs
@@ -53,7 +55,9 @@ returns-4 : tie.Need-returns-4
 returns-4 c = forks (c .before .before .before .if4 .taken) (c .before .tell2 .ensures)
 
 tell-requires-3 : tie.Need-tell-requires-3
-tell-requires-3 c κs = let p = c .before .before .before .before .before .before .before .before .before .pre in (omega arith, (omega (arith, p .field-below (inr (c .before .if5 .taken))), p .wide))
+tell-requires-3 c κs =
+    let p = c .before .before .before .before .before .before .before .before .before .pre in
+    (omega arith, (omega (arith, p .field-below (inr (c .before .if5 .taken))), p .wide))
 
 same-length-5 : tie.Need-same-length-5
 same-length-5 c = search needs
@@ -63,7 +67,8 @@ returns-5 c = joins (c .before .before .before .if5 .taken) (c .before .tell3 .e
 
 returns-6 : tie.Need-returns-6
 returns-6 c =
-    rests (sym (c .before .before .before .before .before .before .before .access .ensures) ∙ c .before .before .before .before .before .before .if1 .left) (sym (c .before .before .before .before .before .hears .ensures) ∙ c .before .before .before .before .if2 .left)
+    rests (sym (c .before .before .before .before .before .before .before .access .ensures) ∙ c .before .before .before .before .before .before .if1 .left)
+    (sym (c .before .before .before .before .before .hears .ensures) ∙ c .before .before .before .before .if2 .left)
     (sym (c .before .before .before .tells .ensures) ∙ c .before .before .if3 .left) (c .before .if4 .left) (c .if5 .left)
 
 pub step-spec : {M : Type 1} → statement M

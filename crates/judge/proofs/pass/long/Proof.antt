@@ -28,7 +28,9 @@ judgement-requires-2 : tie.Need-judgement-requires-2
 judgement-requires-2 c κs = search needs
 
 returns-2 : tie.Need-returns-2
-returns-2 c = answers-found (c .before .before .before .before .before .pre) (c .before .before .before .by-some .ensures) (sym (c .before .before .full .ensures) ∙ c .before .if1 .left) _ (c .judgement2 .ensures)
+returns-2 c =
+    answers-found (c .before .before .before .before .before .pre) (c .before .before .before .by-some .ensures)
+    (sym (c .before .before .full .ensures) ∙ c .before .if1 .left) _ (c .judgement2 .ensures)
 
 pub long-spec : {M : Type 1} → statement M
 long-spec =

@@ -6,7 +6,7 @@ use Rattle.judge.proofs.Here.{Here, short, ready, none-left}
 use Rattle.judge.proofs.Next.{names, next-by}
 use lib.ListN.{length}
 use native.Mathlib.Omega.{arith}
-use mathlib.Core.Path.{_≡_, refl, sym, _∙_}
+use mathlib.Core.Path.{_≡_, refl, _∙_}
 use Prim.Native.Nat.{_-_, _/_, _≤_}
 use borrow.Author.Needs.{needs}
 use Rattle.judge.proofs.pass.pass.Statement.{statement}
@@ -21,8 +21,11 @@ abbrev μ-loop : tie.MeasureT-loop
 
 -- what is known of a record once its place has been looked up
 here : (p : tie.After-numbers2 Inv-loop μ-loop)
-    → Here (versionOf (p .before .before .before .before .before .before .before .before .before .before .before .before .args .version)) (p .before .before .before .before .before .before .before .before .before .before .before .before .args .log .now) (p .before .before .before .before .before .before .before .before .before .before .before .before .args .places)
-    (p .before .before .before .before .before .before .before .loop .index) (p .before .before .before .before .before .before .before .loop .numbers) (p .before .before .before .before .before .before .before .loop .given) (p .before .before .before .before .before .before .before .loop .table)
+    → Here (versionOf (p .before .before .before .before .before .before .before .before .before .before .before .before .args .version))
+    (p .before .before .before .before .before .before .before .before .before .before .before .before .args .log .now)
+    (p .before .before .before .before .before .before .before .before .before .before .before .before .args .places)
+    (p .before .before .before .before .before .before .before .loop .index) (p .before .before .before .before .before .before .before .loop .numbers)
+    (p .before .before .before .before .before .before .before .loop .given) (p .before .before .before .before .before .before .before .loop .table)
     (p .before .before .before .before .before .columns-at .result) (p .before .number .last .0) (p .before .number .result)
 here p =
     record {
@@ -41,7 +44,8 @@ loop-holds c = (
   omega arith,
   refl,
   refl,
-  going-start (versionOf (c .before .before .before .before .args .version)) (c .before .before .before .before .args .places) _ _ (c .before .before .before .before .pre .1) (c .before .start .ensures) (c .before .before .before .before .args .log .now),
+  going-start (versionOf (c .before .before .before .before .args .version)) (c .before .before .before .before .args .places) _ _
+      (c .before .before .before .before .pre .1) (c .before .start .ensures) (c .before .before .before .before .args .log .now),
 )
 
 columns-at-requires : tie.Need-columns-at-requires Inv-loop μ-loop
@@ -85,7 +89,8 @@ same-length-2 c = search needs
 
 returns-2 : tie.Need-returns-2 Inv-loop μ-loop
 returns-2 c =
-    finds-access (names (here (c .before .before .before .before .before .before .before)) (c .before .before .before .before .before .before .if1 .left) _ _ (c .before .before .before .before .first .ensures) refl _ _ (c .if2 .taken) (c .before .before .step .ensures))
+    finds-access (names (here (c .before .before .before .before .before .before .before)) (c .before .before .before .before .before .before .if1 .left) _ _
+    (c .before .before .before .before .first .ensures) refl _ _ (c .if2 .taken) (c .before .before .step .ensures))
 
 add-index : tie.Need-add-index Inv-loop μ-loop
 add-index c = omega (arith, short (here (c .before .before .before .before .before .before .before)))
@@ -97,8 +102,11 @@ loop-again : tie.Need-loop-again Inv-loop μ-loop
 loop-again c = (
   omega (arith, c .before .before .before .before .before .before .before .before .before .before .before .before .before .loop-test .taken),
   c .before .before .before .before .before .before .before .before .before .before .before .before .before .before .loop .inv .1,
-  c .before .before .step .kept .1 .1 .1 .1 .0 ∙ c .before .before .before .before .before .before .before .before .before .before .before .before .before .before .loop .inv .2,
-  next-by (here (c .before .before .before .before .before .before .before)) (c .before .before .before .before .before .before .if1 .left) _ _ (c .before .before .before .before .first .ensures) refl _ (c .before .before .before .before .before .higher .ensures) _ _ (c .if2 .left) (c .before .before .step .ensures),
+  c .before .before .step .kept .1 .1 .1 .1 .0 ∙ c .before .before .before .before .before .before .before .before .before .before .before .before .before
+      .before .loop .inv .2,
+  next-by (here (c .before .before .before .before .before .before .before)) (c .before .before .before .before .before .before .if1 .left) _ _
+      (c .before .before .before .before .first .ensures) refl _ (c .before .before .before .before .before .higher .ensures) _ _ (c .if2 .left)
+      (c .before .before .step .ensures),
 )
 
 same-length-3 : tie.Need-same-length-3 Inv-loop μ-loop
