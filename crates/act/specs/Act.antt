@@ -1,7 +1,7 @@
 -- Act: what a move does, by value. The machine that the code runs; no reader of the entries' promises needs it. Assumes nothing.
 use Prim.Native.Nat.{ℕ}
-use mathlib.Core.Bool.{Bool, true, cond}
-use lib.Dec.{leb}
+use mathlib.Core.Bool.{Bool, true, false, cond}
+use lib.Dec.{leb, ltb}
 use Rattle.frames.specs.declared.frame.Kind.the-variants as kind
 use Rattle.frames.specs.Parts.{Part as part, numberOf, isPart}
 use Rattle.frames.specs.declared.go.Ready.{Ready}
@@ -18,6 +18,10 @@ use Rattle.state.specs.Acted.{goOn}
 use Rattle.accesses.specs.Accesses.{actRead, actWrite}
 use Rattle.objects.specs.Objects.{actNew, actFork, actJoin}
 use Rattle.monitors.specs.Monitors.{actSynch, actHold, actSignal, actWake}
+
+-- whether a move of part p only goes on elsewhere
+unfoldable pub goesOnBy : ℕ → Bool
+goesOnBy p = cond (ltb p (numberOf part.Run)) false (leb p (numberOf part.Again))
 
 -- where a move that leaves no record goes on, by its part p
 unfoldable pub pureBy : ℕ → Ready → Go

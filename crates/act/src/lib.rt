@@ -1,6 +1,6 @@
 // Act: what a move does, by value.
 ghost use mathlib.Core.Path.{_≡_};
-ghost use Rattle.act.specs.Act.{actPure, changesBy, actOf};
+ghost use Rattle.act.specs.Act.{goesOnBy, actPure, changesBy, actOf};
 use frames::frame;
 use frames::frame::Kind;
 use frames::go;
@@ -14,8 +14,18 @@ use state::Setting;
 use state::acted;
 use state::acted::Act;
 
+// Whether a move of the part only goes on elsewhere: it leaves no record, and nothing but its own thread has to do with it.
+pub fn goes_on(part: usize) -> bool
+    ensures { λ r. ⌜ r ≡ goesOnBy part ⌝ }
+{
+    if part < part::RUN {
+        return false;
+    }
+    part <= part::AGAIN
+}
+
 // Where a move that leaves no record goes on.
-fn act_pure(head: Head) -> Go
+pub fn act_pure(head: Head) -> Go
     ensures { λ r. ⌜ r ≡ actPure head ⌝ }
 {
     let ready = head.ready;

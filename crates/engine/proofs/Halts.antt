@@ -16,9 +16,7 @@ use Rattle.state.specs.declared.acted.Acted.{Acted}
 use Rattle.look.specs.declared.Sight.{Sight}
 use Rattle.look.specs.declared.Sight.the-variants as sight
 use Rattle.pick.specs.declared.Met.{Met}
-use Rattle.pick.specs.declared.Move.{Move}
-use Rattle.pick.specs.declared.Answer.{Answer}
-use Rattle.pick.specs.declared.Answer.the-variants as answer
+use Rattle.pick.specs.Answer.{Move, Answer, Answer as answer}
 use Rattle.pick.specs.Pick.{picked, noRoom, fullOf, forksOf, landYoung, startBy, landBy, makeBy, actMet, pickBy, lookMet, pickOf}
 use Rattle.engine.specs.Machine.{Machine, pickedBy}
 use Rattle.open_threads.specs.Open.{openAt, unstopped, openAfter}

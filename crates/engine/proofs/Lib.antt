@@ -7,3 +7,4 @@ pub mod AllPicks
 pub mod Standing
 pub mod Rounds
 pub mod Halts
+pub mod Begins

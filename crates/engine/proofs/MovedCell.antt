@@ -17,9 +17,7 @@ use Rattle.look.specs.declared.Sight.the-variants as sight
 use Rattle.act.specs.Act.{changesBy}
 use Rattle.act.proofs.Unchanged.{cellAfter, leaves}
 use Rattle.pick.specs.declared.Met.{Met}
-use Rattle.pick.specs.declared.Move.{Move}
-use Rattle.pick.specs.declared.Answer.{Answer}
-use Rattle.pick.specs.declared.Answer.the-variants as answer
+use Rattle.pick.specs.Answer.{Move, Answer, Answer as answer}
 use Rattle.pick.specs.Pick.{picked, noRoom, fullOf, forksOf, landYoung, startBy, landBy, makeBy, actMet, pickBy, lookMet, pickOf}
 use Rattle.engine.specs.Machine.{Machine, headAt, cellNumber, noCell, metBy, pickedBy}
 

@@ -16,20 +16,20 @@ use Rattle.state.specs.declared.Object.{Object}
 use Rattle.state.specs.declared.Entry.{Entry}
 use Rattle.tally.specs.declared.Tally.{Tally}
 use Rattle.tally.specs.Tally.{shownEntry, tallyFirst, tallyPut, tallyMoved, logPut}
-use Rattle.pick.proofs.Answer as answer-type
-use Rattle.pick.specs.declared.Move.{Move}
-use Rattle.pick.specs.declared.Answer.{Answer}
-use Rattle.pick.specs.declared.Answer.the-variants as answer
+use Rattle.pick.proofs.Reached as reached-type
+use Rattle.pick.specs.declared.Reached.{Reached}
+use Rattle.pick.specs.declared.Reached.the-variants as reached
+use Rattle.pick.specs.Answer.{Move, Answer, Answer as answer}
 use Rattle.pick.specs.Pick.{noHead, Picked}
 use Rattle.queue.specs.Queue.{afterOf}
 use Rattle.engine.specs.Machine.{Machine, Played, headAt, cellNumber, headOf, cellFirst, noThing, endOf, stopped, withYoung, stayed, after, pickedBy}
 use Rattle.engine.specs.Machine.{turnBy, onAnswer, startOf, playOf}
 
--- an answer that neither moves nor stops
-pub neither : (z : Answer) → OneOf (0 ∷ 2 ∷ []) (tagOf answer-type.the-type z) → OneOf (0 ∷ 1 ∷ []) (tagOf answer-type.the-type z) → z ≡ answer.Passed
-neither answer.Passed h k = refl
-neither (answer.Moved v) h k = absurd (miss (0 ∷ 2 ∷ []) 1 tt h)
-neither (answer.Stopped e y) h k = absurd (miss (0 ∷ 1 ∷ []) 2 tt k)
+-- a pick that neither lands nor stops
+pub neither : (z : Reached) → OneOf (0 ∷ 1 ∷ []) (tagOf reached-type.the-type z) → OneOf (0 ∷ 2 ∷ []) (tagOf reached-type.the-type z) → z ≡ reached.Passed
+neither reached.Passed h k = refl
+neither (reached.Stopped e y) h k = absurd (miss (0 ∷ 2 ∷ []) 1 tt k)
+neither (reached.Landed l) h k = absurd (miss (0 ∷ 1 ∷ []) 2 tt h)
 
 module _ (ws rs : List ℕ) (setting : Setting) where
   abbrev begun : Bool → Head → Head → List Cell → Object → Tally → List ℕ → Machine
@@ -73,27 +73,19 @@ module _ (ws rs : List ℕ) (setting : Setting) where
       unfolding playOf turnBy
       goes z e = rw (lt-leb _ _ here, ← came, e)
 
-      pub passed : OneOf (0 ∷ 2 ∷ []) (tagOf answer-type.the-type (x .answer)) → OneOf (0 ∷ 1 ∷ []) (tagOf answer-type.the-type (x .answer))
-          → playOf ws rs setting (stayed m (x .stack)) ps (i + 1) ≡ playOf ws rs setting m (p ∷ ps) i
-      passed h k = goes answer.Passed (neither (x .answer) h k)
+      pub passed : x .answer ≡ answer.Passed → playOf ws rs setting (stayed m (x .stack)) ps (i + 1) ≡ playOf ws rs setting m (p ∷ ps) i
+      passed h = goes answer.Passed h
 
-      pub moved : {v : Move} → x .answer ≡ answer.Moved v → (cs : List Cell) (hs : List Head) (qs : List ℕ) (s s′ : Tally) (l : List ℕ)
+      pub moved : {v : Move} → x .answer ≡ answer.Moved v → (cs : List Cell) (hs : List Head) (ts : List Object) (qs : List ℕ) (s s′ : Tally) (l : List ℕ)
           → cs ≡ set (m .cells) (cellNumber (headAt (m .heads) (p % 8) .ready)) (v .cell)
-          → hs ≡ withYoung (v .forks) (m .heads) (m .tally .counts .threads % 9) (v .young)
+          → hs ≡ set (withYoung (v .forks) (m .heads) (m .tally .counts .threads % 9) (v .young)) (p % 8) (v .mover)
+          → ts ≡ set (m .objects) (m .tally .counts .objects % 33) (v .thing)
           → qs ≡ afterOf (m .places) (headAt (m .heads) (p % 8) .ready) (p % 8)
           → s ≡ tallyPut (m .tally) (shownEntry (m .every) (v .entry)) → s′ ≡ tallyMoved s (v .counts)
           → l ≡ logPut (m .log) (m .tally .records) (p % 8) (shownEntry (m .every) (v .entry))
-          → playOf ws rs setting (record {
-            heads = set hs (p % 8) (v .mover);
-            cells = cs;
-            objects = set (m .objects) (m .tally .counts .objects % 33) (v .thing);
-            places = qs;
-            stack = x .stack;
-            every = m .every;
-            tally = s′;
-            log = l;
-          }) ps (i + 1) ≡ playOf ws rs setting m (p ∷ ps) i
-      moved {v} e cs hs qs s s′ l ec eh eq es es′ el = rw (ec, eh, eq, es′, es, el) (goes (answer.Moved v) e)
+          → playOf ws rs setting (record { heads = hs; cells = cs; objects = ts; places = qs; stack = x .stack; every = m .every; tally = s′; log = l }) ps (i + 1)
+          ≡ playOf ws rs setting m (p ∷ ps) i
+      moved {v} e cs hs ts qs s s′ l ec eh et eq es es′ el = rw (ec, eh, et, eq, es′, es, el) (goes (answer.Moved v) e)
 
       pub stops : {e : Stop} {y : Entry} → x .answer ≡ answer.Stopped e y → (e′ : Stop) (j : ℕ) (s : Tally) (l : List ℕ) → e′ ≡ e → j ≡ i
           → s ≡ tallyPut (m .tally) y
@@ -101,12 +93,13 @@ module _ (ws rs : List ℕ) (setting : Setting) where
           → record { outcome = endOf e′ j setting s (m .heads) (m .cells) (m .objects) (m .places); area = l } ≡ playOf ws rs setting m (p ∷ ps) i
       stops {e} {y} h e′ j s l qe qj qs ql = rw (qe, qj, qs, ql) (goes (answer.Stopped e y) h)
 
--- the heads, where a thread was made and where none was
-pub young-made : (forks : Bool) (hs hs′ : List Head) (q : ℕ) (y : Head) → forks ≡ true → hs′ ≡ set hs q y → hs′ ≡ withYoung forks hs q y
-young-made forks hs hs′ q y k h = h ∙ ap (λ (x : Bool). withYoung x hs q y) (sym k)
+-- the heads with the mover's, where a thread was made and where none was
+module _ {forks : Bool} (hs hs′ : List Head) (q p : ℕ) {h h′ : Head} (e : h ≡ h′) where
+  pub heads-forked : {y y′ : Head} → forks ≡ true → y ≡ y′ → hs′ ≡ set (set hs q y) p h → hs′ ≡ set (withYoung forks hs q y′) p h′
+  heads-forked {y} {y′} k j r = r ∙ rw (k, j, e)
 
-pub young-none : (forks : Bool) (hs hs′ : List Head) (q : ℕ) (y : Head) → forks ≡ false → hs′ ≡ hs → hs′ ≡ withYoung forks hs q y
-young-none forks hs hs′ q y k h = h ∙ ap (λ (x : Bool). withYoung x hs q y) (sym k)
+  pub heads-alone : (y : Head) → forks ≡ false → hs′ ≡ set hs p h → hs′ ≡ set (withYoung forks hs q y) p h′
+  heads-alone y k r = r ∙ rw (k, e)
 
 -- an end by the same numbers is the same end
 pub ends-as : (setting : Setting) (hs : List Head) (cs : List Cell) (ts : List Object) (qs : List ℕ) (e e′ : Stop) (i i′ : ℕ) (s s′ : Tally) (l l′ : List ℕ)

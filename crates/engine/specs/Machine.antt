@@ -24,9 +24,7 @@ use Rattle.state.specs.declared.Entry.{Entry}
 use Rattle.state.specs.Acted.{cellOf}
 use Rattle.look.specs.Look.{objectOf, fieldOf, lookOf, stateOf}
 use Rattle.pick.specs.declared.Met.{Met}
-use Rattle.pick.specs.declared.Move.{Move}
-use Rattle.pick.specs.declared.Answer.{Answer}
-use Rattle.pick.specs.declared.Answer.the-variants as answer
+use Rattle.pick.specs.Answer.{Move, Answer, Answer as answer}
 use Rattle.pick.specs.Pick.{noHead, Picked, picked, pickOf}
 use Rattle.queue.specs.Queue.{afterOf}
 use Rattle.open_threads.specs.Open.{absent}

@@ -4,12 +4,14 @@
 ghost use mathlib.Core.Path.{_≡_};
 ghost use Prim.Native.Nat.{_≤_};
 ghost use Rattle.engine.specs.Machine.{Placed, headOf, noThing, threadBy, startOf};
+ghost use Rattle.state.specs.Acted.{nothing};
 ghost use Rattle.engine.specs.Exploring.{pickAt, Unseen, Explorable, ExploredOn};
 use frames::go;
 use frames::part;
 use keys::KeySet;
-use pick::Answer;
+use pick::Begun;
 use pick::Met;
+use pick::Reached;
 use run_outcome::Outcome;
 use run_outcome::Stop;
 use run_outcome::Thread;
@@ -41,6 +43,13 @@ pub fn first_object() -> Object
     ensures { λ r. ⌜ r ≡ noThing ⌝ }
 {
     Object { mask: 0, thread: 0 }
+}
+
+// No object is made.
+pub fn no_object() -> Object
+    ensures { λ r. ⌜ r ≡ nothing ⌝ }
+{
+    Object { mask: 0, thread: 8 }
 }
 
 // The cell that the thread's part is about, 32 to an object.
@@ -155,26 +164,33 @@ pub fn explore(
                 continue;
             }
             let head = heads[thread];
-            let number = cell_of(head);
-            let stored = cells[number];
-            let cell = kept::restore(stored);
-            let thing = objects[number / 32];
-            let other = heads[thing.thread % 16];
-            let met = Met {
-                counts: counts,
-                head: head,
-                cell: cell,
-                thing: thing,
-                other: other,
-                thread: thread,
-                place: places[thread],
-            };
-            let answer = pick::pick(words, roots, &mut stack, setting, met);
-            let Answer::Moved(left) = answer else {
-                let Answer::Stopped {
+            let ready = head.ready;
+            let mut begun = Begun::Passed;
+            if act::goes_on(ready.part) {
+                begun = pick::went(head);
+            } else {
+                let number = cell_of(head);
+                let stored = cells[number];
+                let cell = kept::restore(stored);
+                let thing = objects[number / 32];
+                let other = heads[thing.thread % 16];
+                let met = Met {
+                    counts: counts,
+                    head: head,
+                    cell: cell,
+                    thing: thing,
+                    other: other,
+                    thread: thread,
+                    place: places[thread],
+                };
+                begun = pick::begin(setting, met);
+            }
+            let reached = pick::land(words, roots, &mut stack, counts, head, thread, begun);
+            let Reached::Landed(landings) = reached else {
+                let Reached::Stopped {
                     stop: reason,
                     entry,
-                } = answer
+                } = reached
                 else {
                     passed[thread] = true;
                     continue;
@@ -185,22 +201,33 @@ pub fn explore(
                 break;
             };
             passed = [false; 8];
-            let ready = head.ready;
+            let last = landings.last;
+            let mover = heads[thread];
+            let Begun::Acted(acted) = begun else {
+                let none = pick::no_entry();
+                tally = tally::put_move(&mut *log, tally, every, thread, none);
+                heads[thread] = pick::gone(mover, last);
+                objects[counts.objects % 33] = no_object();
+                tally = tally::moved(tally, counts);
+                continue;
+            };
             queue::after(&mut places, ready, thread);
-            let entry = left.entry;
+            let entry = acted.entry;
             tally = tally::put_move(&mut *log, tally, every, thread, entry);
-            if left.forks {
-                let young = left.young;
-                heads[counts.threads % 9] = young;
+            if ready.part == part::FORK {
+                let landed = landings.before;
+                heads[counts.threads % 9] = pick::born(mover, counts.objects, last);
+                heads[thread] = pick::moved(mover, acted, landed);
+            } else {
+                heads[thread] = pick::moved(mover, acted, last);
             }
-            let mover = left.mover;
-            let changed = left.cell;
-            let made = left.thing;
-            let counted = left.counts;
-            heads[thread] = mover;
             if act::changes(ready.part) {
+                let number = cell_of(head);
+                let changed = acted.cell;
                 cells[number] = kept::keep(changed);
             }
+            let made = acted.thing;
+            let counted = acted.counts;
             objects[counts.objects % 33] = made;
             tally = tally::moved(tally, counted);
         }

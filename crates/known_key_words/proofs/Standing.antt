@@ -16,8 +16,7 @@ use Rattle.machine.proofs.Plays.{move-reached}
 use Rattle.landing.specs.Landing.{Stack}
 use Rattle.run_outcome.specs.declared.Stop.the-variants as stop
 use Rattle.state.specs.declared.Setting.{Setting}
-use Rattle.pick.specs.declared.Answer.{Answer}
-use Rattle.pick.specs.declared.Answer.the-variants as answer
+use Rattle.pick.specs.Answer.{Answer, Answer as answer}
 use Rattle.pick.specs.Pick.{Picked}
 use Rattle.engine.specs.Machine.{Machine, stopped, stayed, after, turnBy, onAnswer, playOf}
 use Rattle.refinement.proofs.Meant.{Loaded}

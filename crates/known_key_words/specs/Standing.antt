@@ -5,9 +5,7 @@ use mathlib.Core.List.{List, [], _∷_}
 use Rattle.run_outcome.specs.declared.Stop.{Stop}
 use Rattle.state.specs.declared.Setting.{Setting}
 use Rattle.state.specs.declared.Entry.{Entry}
-use Rattle.pick.specs.declared.Move.{Move}
-use Rattle.pick.specs.declared.Answer.{Answer}
-use Rattle.pick.specs.declared.Answer.the-variants as answer
+use Rattle.pick.specs.Answer.{Move, Answer, Answer as answer}
 use Rattle.engine.specs.Machine.{Machine, Played, stopped, stayed, after, turnBy, playOf}
 
 -- the play goes on from a state; or it stopped in one, "unmoved" (document 01), and this is what it comes to

@@ -33,21 +33,21 @@ pub enum Sight {
     Blocked(Block),
 }
 
-// The object that the part is about; 0 where it is about none.
+// The object that the part is about; 0 where it is about none. Of the parts from a read on, a fork alone is about none: three tests are faster than a match.
 pub fn object_of(ready: Ready) -> usize
     ensures { λ x. ⌜ (x ≡ objectOf ready) × (x < 32) ⌝ }
 {
     let part = ready.part;
-    match part {
-        part::READ => ready.first % 32,
-        part::WRITE => ready.first % 32,
-        part::JOIN => ready.first % 32,
-        part::SYNCH => ready.first % 32,
-        part::HOLD => ready.first % 32,
-        part::SIGNAL => ready.first % 32,
-        part::WAITING => ready.first % 32,
-        _ => 0,
+    if part < part::READ {
+        return 0;
     }
+    if part::WAITING < part {
+        return 0;
+    }
+    if part == part::FORK {
+        return 0;
+    }
+    ready.first % 32
 }
 
 // The field that the part is about; 0, the monitor, where it is about none.

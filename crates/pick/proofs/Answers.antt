@@ -10,8 +10,7 @@ use Rattle.run_outcome.specs.declared.NoRoom.the-variants as room
 use Rattle.state.specs.declared.Head.{Head}
 use Rattle.state.specs.declared.acted.Acted.{Acted}
 use Rattle.pick.specs.declared.Met.{Met}
-use Rattle.pick.specs.declared.Answer.{Answer}
-use Rattle.pick.specs.declared.Answer.the-variants as answer
+use Rattle.pick.specs.Answer.{Answer, Answer as answer}
 use Rattle.pick.specs.Pick.{picked, noRoom, noHead, fullOf, forksOf, bornOf, moveOf, landYoung, youngWay, startBy, landBy}
 
 module _ (x : Met) (a : Acted) (ws rs : List ℕ) (m : Ended) where
@@ -36,7 +35,7 @@ module _ (x : Met) (a : Acted) (ws rs : List ℕ) (m : Ended) where
   unfolding landBy
   by-mover d f = rw (d, f)
 
-  module _ (b : Landed) (z : Answer) {e : Ends} (q : e ≡ afterOf ws rs (forksOf (x .head)) (youngWay x) b m) where
+  module _ (b : Landed) (z : Answer) {e : Ends} (q : e ≡ afterOf ws rs (forksOf (x .head)) (youngWay (x .counts) (x .head)) b m) where
     lasts : {e′ : Ends} → e ≡ e′ → {c : Bool} → fullOf (e .landings .last) ≡ c → fullOf (e′ .landings .last) ≡ c
     lasts s h = ap (λ (e : Ends). fullOf (e .landings .last)) (sym s) ∙ h
 
@@ -46,12 +45,12 @@ module _ (x : Met) (a : Acted) (ws rs : List ℕ) (m : Ended) where
       where
         by : (d f : Bool) → fullOf (m .landed) ≡ d → forksOf (x .head) ≡ f → picked (e .stack) z ≡ landBy ws rs x a m
         by true f ed ef =
-            let s = q ∙ last-full ws rs (youngWay x) b m (forksOf (x .head)) ed in
+            let s = q ∙ last-full ws rs (youngWay (x .counts) (x .head)) b m (forksOf (x .head)) ed in
             ap (picked (e .stack)) k ∙ ap (λ (e : Ends). picked (e .stack) (noRoom room.Depth)) s ∙ sym (by-full ed)
         by false true ed ef =
-            let s = q ∙ both ws rs (youngWay x) b m (forksOf (x .head)) ef ed in
+            let s = q ∙ both ws rs (youngWay (x .counts) (x .head)) b m (forksOf (x .head)) ef ed in
             ap (picked (e .stack)) k ∙ ap (λ (e : Ends). picked (e .stack) (noRoom room.Depth)) s ∙ sym (by-young-full ed ef (lasts s h))
-        by false false ed ef = let r = lasts (q ∙ last ws rs (youngWay x) b m (forksOf (x .head)) ef) h in cc (r, ed)
+        by false false ed ef = let r = lasts (q ∙ last ws rs (youngWay (x .counts) (x .head)) b m (forksOf (x .head)) ef) h in cc (r, ed)
 
     -- a fork whose young has landed
     pub land-forked : (h : Head) → fullOf (e .landings .last) ≡ false → forksOf (x .head) ≡ true
@@ -59,9 +58,9 @@ module _ (x : Met) (a : Acted) (ws rs : List ℕ) (m : Ended) where
     land-forked h n f k j = by (fullOf (m .landed)) refl
       where
         by : (d : Bool) → fullOf (m .landed) ≡ d → picked (e .stack) z ≡ landBy ws rs x a m
-        by true ed = let r = lasts (q ∙ last-full ws rs (youngWay x) b m (forksOf (x .head)) ed) n in cc (r, ed)
+        by true ed = let r = lasts (q ∙ last-full ws rs (youngWay (x .counts) (x .head)) b m (forksOf (x .head)) ed) n in cc (r, ed)
         by false ed =
-            let s = q ∙ both ws rs (youngWay x) b m (forksOf (x .head)) f ed in
+            let s = q ∙ both ws rs (youngWay (x .counts) (x .head)) b m (forksOf (x .head)) f ed in
             ap (picked (e .stack)) (k ∙ ap (λ (h : Head). answer.Moved (moveOf x a (e .landings .before) h true)) j)
             ∙ ap (λ (e : Ends). picked (e .stack) (answer.Moved (moveOf x a (e .landings .before) (bornOf x (e .landings .last)) true))) s
             ∙ sym (by-young ed f (lasts s n))
@@ -70,7 +69,7 @@ module _ (x : Met) (a : Acted) (ws rs : List ℕ) (m : Ended) where
     pub land-moved : (h : Head) → fullOf (e .landings .last) ≡ false → forksOf (x .head) ≡ false
         → z ≡ answer.Moved (moveOf x a (e .landings .last) h false) → h ≡ noHead → picked (e .stack) z ≡ landBy ws rs x a m
     land-moved h n f k j =
-        let s = q ∙ last ws rs (youngWay x) b m (forksOf (x .head)) f in
+        let s = q ∙ last ws rs (youngWay (x .counts) (x .head)) b m (forksOf (x .head)) f in
         ap (picked (e .stack)) (k ∙ ap (λ (h : Head). answer.Moved (moveOf x a (e .landings .last) h false)) j)
         ∙ ap (λ (e : Ends). picked (e .stack) (answer.Moved (moveOf x a (e .landings .last) noHead false))) s
         ∙ sym (by-mover (lasts s n) f)

@@ -1,1 +1,4 @@
+pub mod Reach
+pub mod GoesOn
 pub mod Answers
+pub mod Steps

@@ -8,16 +8,17 @@ use Rattle.records.specs.Record.{Kind, kindNumber}
 use Rattle.frames.specs.Parts.{Part as part, isPart}
 use Rattle.frames.specs.declared.go.Ready.{Ready}
 use Rattle.frames.specs.declared.go.Go.{Go}
-use Rattle.frames.specs.Going.{readyOf, goRun}
+use Rattle.frames.specs.Going.{readyOf, goRun, goFull}
 use Rattle.landing.specs.declared.Landed.{Landed}
 use Rattle.landing.specs.declared.Way.{Way}
-use Rattle.landing.specs.Landing.{Stack, Ended, landOf}
+use Rattle.landing.specs.Landing.{Stack, Ended, Ends, landOf, landedOf, landFrom, afterOf}
 pub use Rattle.landing.specs.Landing.{fullBy, fullOf}
 use Rattle.run_outcome.specs.declared.NoRoom.{NoRoom}
 use Rattle.run_outcome.specs.declared.NoRoom.the-variants as room
 use Rattle.run_outcome.specs.declared.Stop.the-variants as stop
 use Rattle.state.specs.declared.Setting.{Setting}
 use Rattle.state.specs.declared.Head.{Head}
+use Rattle.state.specs.declared.Counts.{Counts}
 use Rattle.state.specs.declared.Entry.{Entry}
 use Rattle.state.specs.declared.acted.Act.{Act}
 use Rattle.state.specs.declared.acted.Act.the-variants as act
@@ -26,11 +27,13 @@ use Rattle.state.specs.Acted.{entryOf, noEntry}
 use Rattle.look.specs.declared.Sight.{Sight}
 use Rattle.look.specs.declared.Sight.the-variants as sight
 use Rattle.look.specs.Look.{lookOf}
-use Rattle.act.specs.Act.{actOf}
+use Rattle.act.specs.Act.{goesOnBy, actPure, actOf}
 use Rattle.pick.specs.declared.Met.{Met}
-use Rattle.pick.specs.declared.Move.{Move}
-use Rattle.pick.specs.declared.Answer.{Answer}
-use Rattle.pick.specs.declared.Answer.the-variants as answer
+use Rattle.pick.specs.declared.Begun.{Begun}
+use Rattle.pick.specs.declared.Begun.the-variants as begun
+use Rattle.pick.specs.declared.Reached.{Reached}
+use Rattle.pick.specs.declared.Reached.the-variants as reached
+use Rattle.pick.specs.Answer.{Move, Answer, Answer as answer}
 
 -- a pick's answer, with the frames that it leaves
 pub record Picked : Type 0 where
@@ -87,11 +90,11 @@ abbrev pub landYoung : List ℕ → List ℕ → Met → Stack → Ended
 landYoung ws rs x k = landOf 2100 ws rs (x .counts .threads % 9 * 33) k (youngGo (x .head)) 0
 
 -- from where the two land
-abbrev pub moverWay : Met → Acted → Way
-moverWay x a = record { base = x .thread * 33; depth = x .head .depth % 33; go = a .go }
+abbrev pub moverWay : ℕ → Head → Go → Way
+moverWay p h g = record { base = p * 33; depth = h .depth % 33; go = g }
 
-abbrev pub youngWay : Met → Way
-youngWay x = record { base = x .counts .threads % 9 * 33; depth = 0; go = youngGo (x .head) }
+abbrev pub youngWay : Counts → Head → Way
+youngWay n h = record { base = n .threads % 9 * 33; depth = 0; go = youngGo h }
 
 -- ---- the answer
 
@@ -125,3 +128,52 @@ lookMet g x = lookOf g (x .head) (x .cell) (x .thing) (x .other .ready .part) (x
 
 unfoldable pub pickOf : List ℕ → List ℕ → Setting → Met → Stack → Picked
 pickOf ws rs g x k = pickBy ws rs g x (lookMet g x) k
+
+-- ---- the same in the code's steps
+
+-- how a pick begins: a stop for want of room; the move of a ready thread, by what it does; by what it meets
+abbrev pub stoppedFor : NoRoom → Begun
+stoppedFor r = begun.Stopped (stop.NoRoom r) noEntry
+
+abbrev pub begunBy : Act → Begun
+begunBy (act.Done a) = begun.Acted a
+begunBy (act.NoRoom r) = stoppedFor r
+
+abbrev pub beginBy : Setting → Met → Sight → Begun
+beginBy g x sight.Ready = begunBy (actMet g x)
+beginBy g x sight.Lacking = begun.Stopped stop.Race (lackEntry (x .head .ready))
+beginBy g x (sight.Blocked b) = begun.Passed
+
+unfoldable pub beginOf : Setting → Met → Begun
+beginOf g x = cond (goesOnBy (x .head .ready .part)) (begun.Went (actPure (x .head))) (beginBy g x (lookMet g x))
+
+-- from where it lands
+abbrev pub goOf : Begun → Go
+goOf begun.Passed = goFull
+goOf (begun.Stopped e y) = goFull
+goOf (begun.Went g) = g
+goOf (begun.Acted a) = a .go
+
+-- how far it comes, with the frames that it leaves
+pub record Came : Type 0 where
+  pub stack : Stack
+  pub reached : Reached
+
+abbrev pub came : Stack → Reached → Came
+came k z = record { stack = k; reached = z }
+
+-- the landings of a move of thread p, whose head is h, and what they come to
+abbrev pub landingsFrom : List ℕ → List ℕ → Counts → Head → ℕ → Go → Stack → Ends
+landingsFrom ws rs n h p g k = afterOf ws rs (forksOf h) (youngWay n h) (landedOf g (h .depth % 33)) (landFrom ws rs (moverWay p h g) k)
+
+unfoldable pub reachedAt : Ends → Came
+reachedAt e = cond (fullOf (e .landings .last)) (came (e .stack) (reached.Stopped (stop.NoRoom room.Depth) noEntry)) (came (e .stack) (reached.Landed (e .landings)))
+
+abbrev pub reachBy : Begun → Stack → Came → Came
+reachBy begun.Passed k c = came k reached.Passed
+reachBy (begun.Stopped e y) k c = came k (reached.Stopped e y)
+reachBy (begun.Went g) k c = c
+reachBy (begun.Acted a) k c = c
+
+abbrev pub reachOf : List ℕ → List ℕ → Counts → Head → ℕ → Begun → Stack → Came
+reachOf ws rs n h p b k = reachBy b k (reachedAt (landingsFrom ws rs n h p (goOf b) k))

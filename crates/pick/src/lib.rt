@@ -1,14 +1,20 @@
-// One pick: what it meets, and what it leaves. The frames alone are lent; all else goes by value.
+// One pick, in three steps: how it begins, by what it meets; its landings; what it leaves of a head. The frames alone are lent; all else goes by value. A move
+// that only goes on elsewhere is a case of its own, in which nothing but the thread's head is looked at.
 ghost use mathlib.Core.Path.{_≡_};
-ghost use Prim.Native.Nat.{_<_};
-ghost use Rattle.pick.specs.Pick.{noRoom, lackEntry, landedHead, noHead, moveOf, landMover, moverWay, youngWay, landBy, makeBy, actMet, pickOf};
+ghost use Prim.Native.Nat.{_<_, _+_, _%_};
+ghost use mathlib.Core.Bool.{false};
+ghost use Rattle.act.specs.Act.{goesOnBy, actPure};
+ghost use Rattle.state.specs.Acted.{noEntry};
+ghost use Rattle.pick.specs.Pick.{stoppedFor, lackEntry, landedHead, noHead, moverWay, youngWay, begunBy, beginOf, goOf, landingsFrom, reachedAt, reachOf, actMet};
 ghost use Rattle.run_outcome.specs.declared.Stop.the-variants as stop;
-ghost use Rattle.pick.specs.declared.Answer.the-variants as answer;
+ghost use Rattle.pick.specs.declared.Begun.the-variants as begun;
 use frames::go;
+use frames::go::Go;
 use frames::go::Ready;
 use frames::part;
 use keys::KeySet;
 use landing::Landed;
+use landing::Landings;
 use landing::Way;
 use look::Sight;
 use records::kind;
@@ -36,32 +42,35 @@ pub struct Met {
     pub place: u16,
 }
 
-// What a move leaves: the mover, the thread that it makes if it forks, the cell, the object that it makes, the counts, the record.
-pub struct Move {
-    pub mover: Head,
-    pub young: Head,
-    pub cell: Cell,
-    pub thing: Object,
-    pub counts: Counts,
-    pub entry: Entry,
-    pub forks: bool,
-}
-
-// A pick is passed over, moves its thread, or stops the run with a last record.
-pub enum Answer {
+// How a pick begins: it is passed over, stops the run with a last record, is a move that only goes on elsewhere, or another move.
+pub enum Begun {
     Passed,
-    Moved(Move),
     Stopped { stop: Stop, entry: Entry },
+    Went(Go),
+    Acted(Acted),
 }
 
-// A stop that leaves no record.
-fn no_room(room: NoRoom) -> Answer
-    ensures { λ r. ⌜ r ≡ noRoom room ⌝ }
+// How far a pick comes: it is passed over, stops the run with a last record, or has landed.
+pub enum Reached {
+    Passed,
+    Stopped { stop: Stop, entry: Entry },
+    Landed(Landings),
+}
+
+// No record.
+pub fn no_entry() -> Entry
+    ensures { λ r. ⌜ r ≡ noEntry ⌝ }
 {
-    let none = acted::entry(kind::NONE, 0, 0, 0);
-    Answer::Stopped {
+    acted::entry(kind::NONE, 0, 0, 0)
+}
+
+// A stop for want of room, which leaves no record.
+fn no_room(room: NoRoom) -> Begun
+    ensures { λ r. ⌜ r ≡ stoppedFor room ⌝ }
+{
+    Begun::Stopped {
         stop: Stop::NoRoom(room),
-        entry: none,
+        entry: no_entry(),
     }
 }
 
@@ -76,10 +85,10 @@ fn lack(ready: Ready) -> Entry
 }
 
 // A stop for want of a key, with that record.
-fn race(ready: Ready) -> Answer
-    ensures { λ r. ⌜ r ≡ answer.Stopped stop.Race (lackEntry ready) ⌝ }
+fn race(ready: Ready) -> Begun
+    ensures { λ r. ⌜ r ≡ begun.Stopped stop.Race (lackEntry ready) ⌝ }
 {
-    Answer::Stopped {
+    Begun::Stopped {
         stop: Stop::Race,
         entry: lack(ready),
     }
@@ -114,100 +123,41 @@ pub fn no_head() -> Head
     }
 }
 
-// What a move leaves, once its landings are known.
-fn leave(met: Met, acted: Acted, landed: Landed, young: Head, forks: bool) -> Answer
-    ensures { λ r. ⌜ r ≡ answer.Moved (moveOf met acted landed young forks) ⌝ }
+// The mover of a move that only goes on elsewhere, where it landed.
+pub fn gone(head: Head, landed: Landed) -> Head
+    ensures { λ r. ⌜ r ≡ landedHead landed (head .object) (head .keys) (head .learnt % 256) ⌝ }
 {
-    let head = met.head;
+    let keys = head.keys;
+    head_at(landed, head.object, keys, head.learnt % 256)
+}
+
+// The mover of another move, where it landed.
+pub fn moved(head: Head, acted: Acted, landed: Landed) -> Head
+    ensures { λ r. ⌜ r ≡ landedHead landed (head .object) (acted .keys) (head .learnt % 256 + acted .new) ⌝ }
+{
     let keys = acted.keys;
-    let cell = acted.cell;
-    let thing = acted.thing;
-    let counts = acted.counts;
-    let entry = acted.entry;
     let learnt = head.learnt % 256 + acted.new as usize;
-    let mover = head_at(landed, head.object, keys, learnt);
-    Answer::Moved(Move {
-        mover: mover,
-        young: young,
-        cell: cell,
-        thing: thing,
-        counts: counts,
-        entry: entry,
-        forks: forks,
-    })
+    head_at(landed, head.object, keys, learnt)
 }
 
-// From where the mover lands.
-fn mover_way(met: Met, acted: Acted) -> Way
-    requires { ⌜ met .thread < 8 ⌝ }
-    ensures { λ r. ⌜ r ≡ moverWay met acted ⌝ }
+// The thread that a fork makes, where it landed: its object is the next one, its keys are its maker's, and it has learnt none of them.
+pub fn born(head: Head, object: usize, landed: Landed) -> Head
+    ensures { λ r. ⌜ r ≡ landedHead landed object (head .keys) 0 ⌝ }
 {
-    let head = met.head;
-    let from = acted.go;
-    Way {
-        base: met.thread * 33,
-        depth: head.depth % 33,
-        go: from,
-    }
+    let keys = head.keys;
+    head_at(landed, object, keys, 0)
 }
 
-// From where the thread lands that a fork makes.
-fn young_way(met: Met) -> Way
-    ensures { λ r. ⌜ r ≡ youngWay met ⌝ }
+// How a move begins that only goes on elsewhere.
+pub fn went(head: Head) -> Begun
+    ensures { λ r. ⌜ r ≡ begun.Went (actPure head) ⌝ }
 {
-    let counts = met.counts;
-    let head = met.head;
-    let ready = head.ready;
-    let from = go::run(ready.first, ready.environment);
-    Way {
-        base: counts.threads % 9 * 33,
-        depth: 0,
-        go: from,
-    }
+    Begun::Went(act::act_pure(head))
 }
 
-// Lands the mover and, of a fork, the thread that it makes: its object is the next one, its keys are its maker's, and it has learnt none of them. One call of
-// `landing` for both, so that it is compiled into its caller.
-fn land(
-    words: &[usize; 1024],
-    roots: &[usize; 32],
-    stack: &mut [usize; 891],
-    met: Met,
-    acted: Acted,
-) -> Answer
-    requires { ⌜ met .thread < 8 ⌝ }
-    ensures { λ r. ⌜ (record { stack = now (stack .exit); answer = r }) ≡ landBy (now (words .entry)) (now (roots .entry)) met acted (landMover (now (words .entry)) (now (roots .entry)) met acted (now (stack .entry))) ⌝ }
-{
-    let counts = met.counts;
-    let head = met.head;
-    let ready = head.ready;
-    let forks = ready.part == part::FORK;
-    let mover = mover_way(met, acted);
-    let young = young_way(met);
-    let landings = landing::land(words, roots, stack, mover, young, forks);
-    let last = landings.last;
-    if landing::full(last) {
-        return no_room(NoRoom::Depth);
-    }
-    if forks {
-        let landed = landings.before;
-        let keys = head.keys;
-        let born = head_at(last, counts.objects, keys, 0);
-        return leave(met, acted, landed, born, true);
-    }
-    leave(met, acted, last, no_head(), false)
-}
-
-// The move of a thread that is ready, where there is room for it.
-fn make(
-    words: &[usize; 1024],
-    roots: &[usize; 32],
-    stack: &mut [usize; 891],
-    setting: Setting,
-    met: Met,
-) -> Answer
-    requires { ⌜ met .thread < 8 ⌝ }
-    ensures { λ r. ⌜ (record { stack = now (stack .exit); answer = r }) ≡ makeBy (now (words .entry)) (now (roots .entry)) met (actMet setting met) (now (stack .entry)) ⌝ }
+// How the move of a thread that is ready begins, where there is room for it.
+fn make(setting: Setting, met: Met) -> Begun
+    ensures { λ r. ⌜ r ≡ begunBy (actMet setting met) ⌝ }
 {
     let counts = met.counts;
     let head = met.head;
@@ -216,21 +166,15 @@ fn make(
     let other = met.other;
     let act = act::act(setting, counts, head, cell, thing, other);
     match act {
-        Act::Done(acted) => land(words, roots, stack, met, acted),
+        Act::Done(acted) => Begun::Acted(acted),
         Act::NoRoom(room) => no_room(room),
     }
 }
 
-// The answer to a pick of a thread that is there.
-pub fn pick(
-    words: &[usize; 1024],
-    roots: &[usize; 32],
-    stack: &mut [usize; 891],
-    setting: Setting,
-    met: Met,
-) -> Answer
-    requires { ⌜ met .thread < 8 ⌝ }
-    ensures { λ r. ⌜ (record { stack = now (stack .exit); answer = r }) ≡ pickOf (now (words .entry)) (now (roots .entry)) setting met (now (stack .entry)) ⌝ }
+// How a pick of a thread that is there begins, where its move would not only go on elsewhere.
+pub fn begin(setting: Setting, met: Met) -> Begun
+    requires { ⌜ goesOnBy (met .head .ready .part) ≡ false ⌝ }
+    ensures { λ r. ⌜ r ≡ beginOf setting met ⌝ }
 {
     let head = met.head;
     let cell = met.cell;
@@ -240,8 +184,96 @@ pub fn pick(
     let joined = other.ready;
     let sight = look::look(setting, head, cell, thing, joined.part, met.place);
     match sight {
-        Sight::Ready => make(words, roots, stack, setting, met),
+        Sight::Ready => make(setting, met),
         Sight::Lacking => race(ready),
-        Sight::Blocked(_) => Answer::Passed,
+        Sight::Blocked(_) => Begun::Passed,
+    }
+}
+
+// From where the mover lands.
+fn mover_way(thread: usize, head: Head, from: Go) -> Way
+    requires { ⌜ thread < 8 ⌝ }
+    ensures { λ r. ⌜ r ≡ moverWay thread head from ⌝ }
+{
+    Way {
+        base: thread * 33,
+        depth: head.depth % 33,
+        go: from,
+    }
+}
+
+// From where the thread lands that a fork makes.
+fn young_way(counts: Counts, head: Head) -> Way
+    ensures { λ r. ⌜ r ≡ youngWay counts head ⌝ }
+{
+    let ready = head.ready;
+    let from = go::run(ready.first, ready.environment);
+    Way {
+        base: counts.threads % 9 * 33,
+        depth: 0,
+        go: from,
+    }
+}
+
+// Lands the mover from here and, of a fork, the thread that it makes. One call of `landing` for both, so that it is compiled into its caller.
+fn land_from(
+    words: &[usize; 1024],
+    roots: &[usize; 32],
+    stack: &mut [usize; 891],
+    counts: Counts,
+    head: Head,
+    thread: usize,
+    from: Go,
+) -> Reached
+    requires { ⌜ thread < 8 ⌝ }
+    ensures { λ r. ⌜ (record { stack = now (stack .exit); reached = r }) ≡ reachedAt (landingsFrom (now (words .entry)) (now (roots .entry)) counts head thread from (now (stack .entry))) ⌝ }
+{
+    let ready = head.ready;
+    let forks = ready.part == part::FORK;
+    let mover = mover_way(thread, head, from);
+    let young = young_way(counts, head);
+    let landings = landing::land(words, roots, stack, mover, young, forks);
+    let last = landings.last;
+    if landing::full(last) {
+        return Reached::Stopped {
+            stop: Stop::NoRoom(NoRoom::Depth),
+            entry: no_entry(),
+        };
+    }
+    Reached::Landed(landings)
+}
+
+// From where a move lands that begins so.
+fn go_of(begun: Begun) -> Go
+    ensures { λ r. ⌜ r ≡ goOf begun ⌝ }
+{
+    match begun {
+        Begun::Passed => go::full(),
+        Begun::Stopped { stop: _, entry: _ } => go::full(),
+        Begun::Went(go) => go,
+        Begun::Acted(acted) => acted.go,
+    }
+}
+
+// Lands a move of the thread that begins so. All moves go through one call, so that landing is compiled into the caller.
+pub fn land(
+    words: &[usize; 1024],
+    roots: &[usize; 32],
+    stack: &mut [usize; 891],
+    counts: Counts,
+    head: Head,
+    thread: usize,
+    begun: Begun,
+) -> Reached
+    requires { ⌜ thread < 8 ⌝ }
+    ensures { λ r. ⌜ (record { stack = now (stack .exit); reached = r }) ≡ reachOf (now (words .entry)) (now (roots .entry)) counts head thread begun (now (stack .entry)) ⌝ }
+{
+    match begun {
+        Begun::Passed => Reached::Passed,
+        Begun::Stopped { stop, entry } => Reached::Stopped {
+            stop: stop,
+            entry: entry,
+        },
+        _ => land_from(words, roots, stack, counts, head, thread, go_of(begun)),
     }
 }

@@ -27,7 +27,7 @@ use Rattle.state.specs.declared.Head.{Head}
 use Rattle.state.specs.declared.Counts.{Counts}
 use Rattle.state.specs.declared.acted.Acted.{Acted}
 use Rattle.pick.specs.declared.Met.{Met}
-use Rattle.pick.specs.declared.Move.{Move}
+use Rattle.pick.specs.Answer.{Move}
 use Rattle.pick.specs.Pick.{noHead, forksOf, fullOf, moverOf, bornOf, moveOf, landMover, youngGo, landYoung}
 use Rattle.queue.specs.Queue.{afterOf}
 use Rattle.engine.specs.Machine as engine

@@ -30,8 +30,7 @@ use Rattle.look.specs.declared.Block.the-variants as block
 use Rattle.look.specs.declared.Sight.{Sight}
 use Rattle.look.specs.declared.Sight.the-variants as sight
 use Rattle.pick.specs.declared.Met.{Met}
-use Rattle.pick.specs.declared.Answer.{Answer}
-use Rattle.pick.specs.declared.Answer.the-variants as answer
+use Rattle.pick.specs.Answer.{Answer, Answer as answer}
 use Rattle.pick.specs.Pick.{Picked, picked, noRoom, noHead, forksOf, fullOf, moveOf, landMover, startBy, landBy, makeBy, actMet, pickBy, lookMet, pickOf}
 use Rattle.engine.specs.Machine as engine
 use Rattle.engine.specs.Machine.{headAt, cellNumber, metBy, after, turnBy}

@@ -43,9 +43,7 @@ use Rattle.look.specs.declared.Block.the-variants as block
 use Rattle.look.specs.declared.Sight.{Sight}
 use Rattle.look.specs.declared.Sight.the-variants as sight
 use Rattle.look.specs.Look.{blockedOf, stateOf}
-use Rattle.pick.specs.declared.Move.{Move}
-use Rattle.pick.specs.declared.Answer.{Answer}
-use Rattle.pick.specs.declared.Answer.the-variants as answer
+use Rattle.pick.specs.Answer.{Move, Answer, Answer as answer}
 use Rattle.pick.specs.Pick.{Picked, lookMet}
 use Rattle.tally.specs.Tally.{shownEntry}
 use Rattle.engine.specs.Machine as engine

@@ -1,7 +1,7 @@
 -- `explore` meets its contract. Where a round begins, the run stands at its first place and all places before its end are noted; in a round, the rest of the
 -- run from here is the run of the round's picks; in the look at all threads, what is left to see makes up all that is seen. Assumes nothing.
 use mathlib.Core.Path.{_≡_, refl, sym, ap, _∙_, subst as along}
-use mathlib.Core.Bool.{Bool, false, _&&_}
+use mathlib.Core.Bool.{Bool, true, false, _&&_}
 use mathlib.Core.List.{List, [], _∷_, _++_, map, append-nil, append-assoc}
 use mathlib.Core.Logic.{⊎-elim}
 use Prim.Native.Nat.{ℕ, _≤_, _<_, _+_, _-_, _*_, _/_, _%_, min}
@@ -10,28 +10,39 @@ use native.Mathlib.Numerals.{add-one}
 use native.Mathlib.Omega.{arith}
 use lib.Dec.{ltb}
 use lib.ListN.{length, getD, set, take, drop, length-set, take-append-drop, replicate}
-use lib.Seq.{length-take-le, take-suc, take-take}
-use borrow.Author.Tests.{le-ltb, ltb-false}
+use lib.Seq.{length-take-le, take-suc, take-take, set-getD}
+use borrow.Author.Tests.{le-ltb, ltb-false, eq-eqb, ne-eqb}
 use Rattle.format.proofs.Turns.{turns, one-turn, no-turn}
 use Rattle.run_outcome.specs.declared.Stop.{Stop}
 use Rattle.run_outcome.specs.declared.Stop.the-variants as stop
 use Rattle.run_outcome.specs.declared.Thread.{Thread}
 use Rattle.run_outcome.specs.declared.Outcome.{Outcome}
 use Rattle.state.specs.declared.Setting.{Setting}
+use Rattle.state.specs.declared.Head.{Head}
 use Rattle.state.specs.declared.Cell.{Cell}
-use Rattle.act.specs.Act.{changesBy}
+use Rattle.state.specs.declared.Entry.{Entry}
+use Rattle.state.specs.declared.acted.Acted.{Acted}
+use Rattle.landing.specs.declared.Landings.{Landings}
+use Rattle.act.specs.Act.{goesOnBy, changesBy}
 use Rattle.tally.specs.declared.Tally.{Tally}
-use Rattle.pick.specs.declared.Met.{Met}
-use Rattle.pick.specs.declared.Move.{Move}
-use Rattle.pick.specs.declared.Answer.the-variants as answer
-use Rattle.pick.specs.Pick.{Picked, pickOf}
+use Rattle.tally.specs.Tally.{shownEntry, tallyPut, logPut}
+use types.Run.{OneOf}
+use denote.Enum.Declared.{tagOf}
+use Rattle.pick.proofs.Begun as begun-type
+use Rattle.pick.specs.declared.Begun.{Begun}
+use Rattle.pick.specs.declared.Begun.the-variants as how
+use Rattle.pick.specs.declared.Reached.the-variants as reached
+use Rattle.pick.specs.Answer.{Move, Answer as answer}
+use Rattle.pick.specs.Pick.{Picked, picked, landedHead, noHead, forksOf, beginOf, Came}
 use Rattle.engine.specs.declared.kept.Kept.{Kept}
 use Rattle.engine.specs.Kept.{restoreOf, keptFirst}
-use Rattle.engine.specs.Machine.{noCell, Machine, Played, headAt, cellNumber, Placed, threadBy, threadsOf, endOf, pickedBy, startOf, playOf}
+use Rattle.engine.specs.Machine.{noCell, Machine, Played, headAt, cellNumber, metBy, threadBy, threadsOf, endOf, pickedBy, startOf, playOf}
 use Rattle.open_threads.specs.Open.{openAt, unstopped, openAfter, LowestFrom}
 use Rattle.engine.specs.Exploring.{allPicks, pickAt}
-use Rattle.engine.proofs.Looks.{metWith, met, putThread, absent-at, all-threads, eight-threads}
-use Rattle.engine.proofs.Plays.{neither, begins, absent-passed, passed, moved, stops, young-made, young-none, ends-as}
+use Rattle.engine.proofs.Looks.{met, putThread, absent-at, all-threads, eight-threads}
+use Rattle.engine.proofs.Plays.{neither, begins, absent-passed, passed, moved, stops, heads-forked, heads-alone, ends-as}
+use Rattle.engine.proofs.Begins as steps
+use Rattle.engine.proofs.Begins.{leftBy, goneBy, queues-left, begins-on}
 use Rattle.engine.proofs.PassedOver.{none-marked, marked-too, passed-again}
 use Rattle.engine.proofs.Restored.{machineOf, all-restored, restored-at, cell-put, cell-left}
 use Rattle.engine.proofs.MovedCell.{cell-unchanged}
@@ -207,16 +218,6 @@ module _ (c : Drawn) (log : List ℕ) (v : At (turn c) log) where
     unfolding playOf
     records-before = ap (λ (x : Played). x .outcome .records) before
 
--- a thread's pick, whose cell c is at k, is answered as the machine's is
-answered : (l : Turn) (p k : ℕ) (c : Cell) (x : Picked) → Placed (headAt (l .loop2 .heads) (p % 8) .ready) k
-    → c ≡ restoreOf (getD (l .loop2 .cells) k keptFirst)
-    → x ≡ pickOf (words (opened l)) (roots (opened l)) (setting (opened l))
-    (metWith (l .loop2 .tally .counts) (l .loop2 .heads) (cells l) (l .loop2 .objects) (l .loop2 .places) (p % 8) c (k / 32)) (l .loop2 .stack)
-    → x ≡ pickedBy (words (opened l)) (roots (opened l)) (setting (opened l)) (machine l) (p % 8)
-answered l p k c x h ec e =
-    e ∙ ap (λ (y : Met). pickOf (words (opened l)) (roots (opened l)) (setting (opened l)) y (l .loop2 .stack))
-    (met (l .loop2 .tally .counts) (l .loop2 .heads) (cells l) (l .loop2 .objects) (l .loop2 .places) (p % 8) k c h (ec ∙ restored-at (l .loop2 .cells) k))
-
 loop-holds : tie.Need-loop-holds Inv-loop2 μ-loop2 Inv-loop3 μ-loop3 Inv-loop μ-loop
 loop-holds c =
     let a = c .before .before .before .before .before .before .before .before .before .before .before .args in
@@ -300,29 +301,46 @@ loop2-again-2 c =
 -- ---- a pick that is passed over
 
 abbrev Answered : Type 0
-Answered = tie.After-pick Inv-loop2 μ-loop2 Inv-loop3 μ-loop3 Inv-loop μ-loop
+Answered = tie.After-land Inv-loop2 μ-loop2 Inv-loop3 μ-loop3 Inv-loop μ-loop
 
 abbrev asked : Answered → Drawn
-asked c = c .before .before .before .before .before .before .before .before .before .before .before .before .before
+asked c = c .before .before .before .before .before .before .before .before .before .before
 
 abbrev at : Answered → Turn
 at c = turn (asked c)
 
-abbrev given : Answered → Picked
-given c = record { stack = c .pick .last .1 .1 .0; answer = c .pick .result }
+-- whose it is
+abbrev mover : Answered → ℕ
+mover c = pick (asked c) % 8
 
-abbrev placed : Answered → tie.After-cell-of Inv-loop2 μ-loop2 Inv-loop3 μ-loop3 Inv-loop μ-loop
-placed c = c .before .before .before .before .before .before .before
+abbrev head : Answered → Head
+head c = headAt (at c .loop2 .heads) (pick (asked c) % 8)
 
-came : (c : Answered)
-    → given c ≡ pickedBy (words (opened (at c))) (roots (opened (at c))) (setting (opened (at c))) (machine (at c)) (pick (asked c) % 8)
-came c =
-    let restored = c .before .before .before .before .before .restore .ensures in
-    answered (at c) (pick (asked c)) (placed c .cell-of .result) _ (given c) (placed c .cell-of .ensures) restored (c .pick .ensures)
+abbrev begun-so : Answered → Begun
+begun-so c = c .before .before .if3 .begun
+
+-- what it comes to
+abbrev comes : Answered → Came
+comes c = record { stack = c .land .last .1 .1 .0; reached = c .land .result }
+
+-- whether it only goes on elsewhere
+goes-on : (c : Answered) {t : Bool} → c .before .before .before .goes-on .result ≡ t → goesOnBy (head c .ready .part) ≡ t
+goes-on c e = sym (c .before .before .before .goes-on .ensures) ∙ e
+
+begins-so : (c : Answered)
+    → begun-so c ≡ beginOf (setting (opened (at c))) (metBy (machine (at c) .tally .counts) (machine (at c) .heads) (machine (at c) .cells) (machine (at c) .objects)
+    (machine (at c) .places) (mover c))
+begins-so c =
+    let l = at c in
+    let r = opened l in
+    ⊎-elim (λ w. w .2 ∙ begins-on (words r) (roots r) (setting r) (machine l) (mover c) (goes-on c (w .0 .taken)) (w .1 .ensures))
+    (λ w. w .8 ∙ w .7 .ensures
+    ∙ ap (beginOf (setting r)) (met (l .loop2 .tally .counts) (l .loop2 .heads) (cells l) (l .loop2 .objects) (l .loop2 .places) (mover c) (w .1 .result) _
+    (w .1 .ensures) (w .3 .ensures ∙ restored-at (l .loop2 .cells) (w .1 .result)))) (c .before .before .if3 .came)
 
 -- its thread is there
 present : (c : Answered) → pick (asked c) % 8 < at c .loop2 .tally .counts .threads
-present c = c .before .before .before .before .before .before .before .before .before .before .if1 .left
+present c = c .before .before .before .before .before .before .before .if1 .left
 
 begun : (c : Answered) → at c .loop2 .i < end (opened (at c))
 begun c = started (asked c .before) .0
@@ -335,6 +353,18 @@ fits : (c : Answered) → (at c .loop2 .tally .records * 3 + 3 ≤ length (at c 
 fits c =
     let v = here (at c) in
     (omega (arith, v .few-records, v .kept, begun c, round (opened (at c)) .room), omega (arith, v .few-records, few c))
+
+passed-over : (c : Answered) → c .land .result ≡ reached.Passed
+    → picked (comes c .stack) answer.Passed ≡ pickedBy (words (opened (at c))) (roots (opened (at c))) (setting (opened (at c))) (machine (at c)) (mover c)
+passed-over c z =
+    let r = opened (at c) in
+    steps.passes (words r) (roots r) (setting r) (machine (at c)) (mover c) (begun-so c) (begins-so c) (comes c) (c .land .ensures) z
+
+stops-so : (c : Answered) {e : Stop} {y : Entry} → c .land .result ≡ reached.Stopped e y
+    → picked (comes c .stack) (answer.Stopped e y) ≡ pickedBy (words (opened (at c))) (roots (opened (at c))) (setting (opened (at c))) (machine (at c)) (mover c)
+stops-so c z =
+    let r = opened (at c) in
+    steps.stops (words r) (roots r) (setting r) (machine (at c)) (mover c) (begun-so c) (begins-so c) (comes c) (c .land .ensures) z
 
 loop2-again-3 : tie.Need-loop2-again-3 Inv-loop2 μ-loop2 Inv-loop3 μ-loop3 Inv-loop μ-loop
 loop2-again-3 c =
@@ -353,62 +383,50 @@ loop2-again-3 c =
             few-records = omega (arith, v .few-records);
             kept = v .kept;
             goes = λ qs.
-                passed (words r) (roots r) (setting r) (machine l) (pick d) qs (l .loop2 .i) (given x) (present x) (came x)
-                (c .before .match .keys2) (c .match2 .keys2) ∙ next d first v qs;
+                passed (words r) (roots r) (setting r) (machine l) (pick d) qs (l .loop2 .i) (picked (comes x .stack) answer.Passed) (present x)
+                (passed-over x (neither (x .land .result) (c .before .match .keys2) (c .match2 .keys2))) refl ∙ next d first v qs;
             unstopped = v .unstopped;
             eight = v .eight;
             moves = moves-before d first v (l .loop2 .i + 1 - 1) (omega arith);
             records = records-before d first v (l .loop2 .i + 1 - 1) (omega arith);
-            marked = marked-too (words r) (roots r) (setting r) (machine l) (l .loop2 .passed) (pick d % 8) (given x) (present x) (came x)
-                (neither (x .pick .result) (c .before .match .keys2) (c .match2 .keys2)) (v .marked);
+            marked = marked-too (words r) (roots r) (setting r) (machine l) (l .loop2 .passed) (pick d % 8) (picked (comes x .stack) answer.Passed) (present x)
+                (passed-over x (neither (x .land .result) (c .before .match .keys2) (c .match2 .keys2))) refl (v .marked);
           },
     )
 
--- ---- a pick that moves, or stops the run
+-- ---- a pick of a move that only goes on elsewhere
 
--- the pick whose record was put
-abbrev recorded : tie.After-put-move Inv-loop2 μ-loop2 Inv-loop3 μ-loop3 Inv-loop μ-loop → Answered
-recorded c = c .before .before .before .before .before .before .before .before .before .before
+on : (c : Answered) → OneOf (0 ∷ 1 ∷ 2 ∷ []) (tagOf begun-type.the-type (begun-so c)) → {l : Landings} → c .land .result ≡ reached.Landed l
+    → goesOnBy (head c .ready .part) ≡ true
+on c other z =
+    let r = opened (at c) in
+    steps.on (words r) (roots r) (setting r) (machine (at c)) (mover c) (begun-so c) (begins-so c) (comes c) (c .land .ensures) other z
 
-slice-aggregate-after : tie.Need-slice-aggregate-after Inv-loop2 μ-loop2 Inv-loop3 μ-loop3 Inv-loop μ-loop
-slice-aggregate-after c = sym (here (at (c .before .before .before .before .before)) .eight)
-
-after-requires : tie.Need-after-requires Inv-loop2 μ-loop2 Inv-loop3 μ-loop3 Inv-loop μ-loop
-after-requires c κs = (here (at (c .before .before .before .before .before)) .eight, omega arith)
+gone-on : (c : Answered) → OneOf (0 ∷ 1 ∷ 2 ∷ []) (tagOf begun-type.the-type (begun-so c)) → {l : Landings} → c .land .result ≡ reached.Landed l
+    → picked (comes c .stack) (answer.Moved (goneBy (at c .loop2 .tally .counts) (head c) (getD (cells (at c)) (cellNumber (head c .ready)) noCell) (l .last)))
+    ≡ pickedBy (words (opened (at c))) (roots (opened (at c))) (setting (opened (at c))) (machine (at c)) (mover c)
+gone-on c other z =
+    let r = opened (at c) in
+    steps.goes-on (words r) (roots r) (setting r) (machine (at c)) (mover c) (begun-so c) (begins-so c) (comes c) (c .land .ensures) other z
 
 moved-requires : tie.Need-moved-requires Inv-loop2 μ-loop2 Inv-loop3 μ-loop3 Inv-loop μ-loop
 moved-requires c κs =
-    let put = c .before .before .before .before .before .before .before .before .before .before in
-    let x = recorded put in
-    let e : put .put-move .result .moves ≡ at x .loop2 .tally .moves = ap (λ (s : Tally). s .moves) (put .put-move .ensures .0 .0) in
+    let x = c .before .before .before .before .before .before .before .before .before .before .before .before .before .before in
+    let e : c .before .before .before .before .before .put-move .result .moves ≡ at x .loop2 .tally .moves = ap (λ (s : Tally). s .moves) (c .before .before .before .before .before .put-move .ensures .0 .0) in
     omega (arith, e, here (at x) .few-moves, few x)
-
--- its cell, where its part changes none
-unchanged : (c : Answered) {v : Move} → c .pick .result ≡ answer.Moved v
-    → changesBy (headAt (at c .loop2 .heads) (pick (asked c) % 8) .ready .part) ≡ false
-    → v .cell ≡ getD (cells (at c)) (cellNumber (headAt (at c .loop2 .heads) (pick (asked c) % 8) .ready)) noCell
-unchanged c {v} e h =
-    let r = opened (at c) in
-    cell-unchanged (words r) (roots r) (setting r) v (machine (at c)) (pick (asked c) % 8) h (ap (λ (y : Picked). y .answer) (sym (came c)) ∙ e)
 
 loop2-again-4 : tie.Need-loop2-again-4 Inv-loop2 μ-loop2 Inv-loop3 μ-loop3 Inv-loop μ-loop
 loop2-again-4 c =
-    let p = c .before .before .before .before .before .before .before .before .before .before .before in
-    let x = recorded p in
+    let x = c .before .before .before .before .before .before .before .before .before .before .before .before .before .before .before in
     let d = asked x in
     let l = at x in
     let r = opened l in
     let i = l .loop2 .inv in
     let t = begun x in
-    let put = p .put-move in
-    let queue = p .before .before .before .before .after in
-    let j = c .before .before .before .before .before .before .before .before .if3 in
-    let k = c .before .before .if4 in
-    let a = p .before .before .before .before .before .before .before .before .answer .given .1 in
-    let same = c .before .before .before .changes .ensures in
-    let at-cell : (y : Kept) → set (l .loop2 .cells) (placed x .cell-of .result) y
-    ≡ set (l .loop2 .cells) (cellNumber (headAt (l .loop2 .heads) (pick d % 8) .ready)) y =
-    λ y. ap (λ (n : ℕ). set (l .loop2 .cells) n y) (placed x .cell-of .ensures .cell) in
+    let put = c .before .before .before .before .before .before .put-move in
+    let none = c .before .before .before .before .before .before .before .before .no-entry .ensures in
+    let other = c .before .before .before .before .before .before .before .before .before .match3 .keys2 in
+    let landed = c .before .before .before .before .before .before .before .before .before .before .before .before .before .reached .given .1 in
     let before : put .result .moves ≡ l .loop2 .tally .moves = ap (λ (s : Tally). s .moves) (put .ensures .0 .0) in
     let moves : c .moved .result .moves ≡ put .result .moves + 1 = ap (λ (s : Tally). s .moves) (c .moved .ensures .0) in
     let records : c .moved .result .records ≡ put .result .records = ap (λ (s : Tally). s .records) (c .moved .ensures .0) in (
@@ -420,14 +438,104 @@ loop2-again-4 c =
             few-moves = omega (arith, before, moves, v .few-moves);
             few-records = omega (arith, records, put .ensures .0 .1, v .few-records);
             kept = put .kept .0 ∙ v .kept;
-            goes = λ qs. moved (words r) (roots r) (setting r) (machine l) (pick d) qs (l .loop2 .i) (given x) (present x) (came x) a
-                (map restoreOf (k .cells)) (j .heads) (queue .last .0) (put .result) (c .moved .result) (put .last .0)
-                (⊎-elim (λ w. cell-put (l .loop2 .cells) (k .cells) _ _ _ (w .1 .ensures) (w .2 ∙ at-cell (w .1 .result)))
-                (λ w. cell-left (l .loop2 .cells) (k .cells) _ _ (w .1) (unchanged x a (sym same ∙ w .0 .left))) (k .came))
-                (⊎-elim (λ w. young-made _ (l .loop2 .heads) _ (l .loop2 .tally .counts .threads % 9) _ (w .0 .taken) (w .3))
-                (λ w. young-none _ (l .loop2 .heads) _ (l .loop2 .tally .counts .threads % 9) _ (w .0 .left) (w .1)) (j .came))
-                (queue .ensures) (put .ensures .0 .0) (c .moved .ensures .0) (put .ensures .1)
+            goes = λ qs.
+                moved (words r) (roots r) (setting r) (machine l) (pick d) qs (l .loop2 .i)
+                _ (present x) (gone-on x other landed) refl
+                (cells l) _ _ (l .loop2 .places) (put .result) (c .moved .result) (put .last .0)
+                (sym (set-getD (cells l) (cellNumber (head x .ready)) noCell)) (ap (set (l .loop2 .heads) (mover x)) (c .before .before .before .gone .ensures))
+                (ap (set (l .loop2 .objects) (l .loop2 .tally .counts .objects % 33)) (c .before .before .no-object .ensures))
+                (queues-left (l .loop2 .places) (head x .ready) (mover x) (on x other landed))
+                (put .ensures .0 .0 ∙ ap (λ (y : Entry). tallyPut (l .loop2 .tally) (shownEntry (every r) y)) none) (c .moved .ensures .0)
+                (put .ensures .1 ∙ ap (λ (y : Entry). logPut (l .loop2 .log) (l .loop2 .tally .records) (mover x) (shownEntry (every r) y)) none)
                 ∙ next d first v qs;
+            unstopped = v .unstopped;
+            eight = v .eight;
+            moves = moves-before d first v (l .loop2 .i + 1 - 1) (omega arith);
+            records = records-before d first v (l .loop2 .i + 1 - 1) (omega arith);
+            marked = none-marked (words r) (roots r) (setting r) _;
+          },
+    )
+
+-- ---- a pick of another move, or one that stops the run
+
+slice-aggregate-after : tie.Need-slice-aggregate-after Inv-loop2 μ-loop2 Inv-loop3 μ-loop3 Inv-loop μ-loop
+slice-aggregate-after c = sym (here (at (c .before .before .before .before .before .before .before .before .before)) .eight)
+
+after-requires : tie.Need-after-requires Inv-loop2 μ-loop2 Inv-loop3 μ-loop3 Inv-loop μ-loop
+after-requires c κs = (here (at (c .before .before .before .before .before .before .before .before .before)) .eight, omega arith)
+
+moved-requires-4 : tie.Need-moved-requires-4 Inv-loop2 μ-loop2 Inv-loop3 μ-loop3 Inv-loop μ-loop
+moved-requires-4 c κs =
+    let x = c .before .before .before .before .before .before .before .before .before .before .before .before .before .before .before .before .before .before .before .before .before .before .before in
+    let e : c .before .before .before .before .before .before .before .before .before .put-move2 .result .moves ≡ at x .loop2 .tally .moves = ap (λ (s : Tally). s .moves) (c .before .before .before .before .before .before .before .before .before .put-move2 .ensures .0 .0) in
+    omega (arith, e, here (at x) .few-moves, few x)
+
+-- its cell, where its part changes none
+unchanged : (c : Answered) {v : Move} → (z : Picked) → z .answer ≡ answer.Moved v
+    → z ≡ pickedBy (words (opened (at c))) (roots (opened (at c))) (setting (opened (at c))) (machine (at c)) (mover c) → changesBy (head c .ready .part) ≡ false
+    → v .cell ≡ getD (cells (at c)) (cellNumber (head c .ready)) noCell
+unchanged c {v} z e q h =
+    let r = opened (at c) in
+    cell-unchanged (words r) (roots r) (setting r) v (machine (at c)) (mover c) h (ap (λ (y : Picked). y .answer) (sym q) ∙ e)
+
+-- what it leaves: of a fork; of another
+forked : (c : Answered) {a : Acted} → begun-so c ≡ how.Acted a → {l : Landings} → c .land .result ≡ reached.Landed l → forksOf (head c) ≡ true
+    → picked (comes c .stack) (answer.Moved (leftBy (head c) a (l .before) (landedHead (l .last) (at c .loop2 .tally .counts .objects) (head c .keys) 0)))
+    ≡ pickedBy (words (opened (at c))) (roots (opened (at c))) (setting (opened (at c))) (machine (at c)) (mover c)
+forked c acts z n =
+    let r = opened (at c) in
+    steps.forks (words r) (roots r) (setting r) (machine (at c)) (mover c) (begun-so c) (begins-so c) (comes c) (c .land .ensures) acts z n
+
+alone : (c : Answered) {a : Acted} → begun-so c ≡ how.Acted a → {l : Landings} → c .land .result ≡ reached.Landed l → forksOf (head c) ≡ false
+    → picked (comes c .stack) (answer.Moved (leftBy (head c) a (l .last) noHead))
+    ≡ pickedBy (words (opened (at c))) (roots (opened (at c))) (setting (opened (at c))) (machine (at c)) (mover c)
+alone c acts z n =
+    let r = opened (at c) in
+    steps.moves (words r) (roots r) (setting r) (machine (at c)) (mover c) (begun-so c) (begins-so c) (comes c) (c .land .ensures) acts z n
+
+loop2-again-5 : tie.Need-loop2-again-5 Inv-loop2 μ-loop2 Inv-loop3 μ-loop3 Inv-loop μ-loop
+loop2-again-5 c =
+    let x = c .before .before .before .before .before .before .before .before .before .before .before .before .before .before .before .before .before .before .before .before .before .before .before .before in
+    let d = asked x in
+    let l = at x in
+    let r = opened l in
+    let i = l .loop2 .inv in
+    let t = begun x in
+    let put = c .before .before .before .before .before .before .before .before .before .before .put-move2 in
+    let queue = c .before .before .before .before .before .before .before .before .before .before .before .before .before .before .after in
+    let j = c .before .before .before .before .before .before .if4 in
+    let k = c .before .before .before .before .if5 in
+    let acts = c .before .before .before .before .before .before .before .before .before .before .before .before .before .before .before .before .before .begun .given .1 in
+    let landed = c .before .before .before .before .before .before .before .before .before .before .before .before .before .before .before .before .before .before .before .before .before .before .reached .given .1 in
+    let same = c .before .before .before .before .before .changes .ensures in
+    let before : put .result .moves ≡ l .loop2 .tally .moves = ap (λ (s : Tally). s .moves) (put .ensures .0 .0) in
+    let moves : c .moved4 .result .moves ≡ put .result .moves + 1 = ap (λ (s : Tally). s .moves) (c .moved4 .ensures .0) in
+    let records : c .moved4 .result .records ≡ put .result .records = ap (λ (s : Tally). s .records) (c .moved4 .ensures .0) in (
+      omega (arith, i .0),
+      omega (arith, t),
+      i .2,
+      λ first s. let v = i .3 first s in
+          record {
+            few-moves = omega (arith, before, moves, v .few-moves);
+            few-records = omega (arith, records, put .ensures .0 .1, v .few-records);
+            kept = put .kept .0 ∙ v .kept;
+            goes = λ qs. ⊎-elim (λ w.
+                let came = forked x acts landed (eq-eqb _ _ (w .0 .taken)) in
+                moved (words r) (roots r) (setting r) (machine l) (pick d) qs (l .loop2 .i) _ (present x) came refl
+                (map restoreOf (k .cells)) (j .heads) _ (queue .last .0) (put .result) (c .moved4 .result) (put .last .0)
+                (⊎-elim (λ u. cell-put (l .loop2 .cells) (k .cells) _ _ _ (u .3 .ensures)
+                (u .4 ∙ ap (λ (n : ℕ). set (l .loop2 .cells) n (u .3 .result)) (u .1 .ensures .cell)))
+                (λ u. cell-left (l .loop2 .cells) (k .cells) _ _ (u .1) (unchanged x _ refl came (sym same ∙ u .0 .left))) (k .came))
+                (heads-forked (l .loop2 .heads) (j .heads) (l .loop2 .tally .counts .threads % 9) (mover x) (w .4 .ensures) (eq-eqb _ _ (w .0 .taken))
+                (w .2 .ensures) (w .5)) refl (queue .ensures) (put .ensures .0 .0) (c .moved4 .ensures .0) (put .ensures .1)) (λ w.
+                let came = alone x acts landed (ne-eqb _ _ (w .0 .left)) in
+                moved (words r) (roots r) (setting r) (machine l) (pick d) qs (l .loop2 .i) _ (present x) came refl
+                (map restoreOf (k .cells)) (j .heads) _ (queue .last .0) (put .result) (c .moved4 .result) (put .last .0)
+                (⊎-elim (λ u. cell-put (l .loop2 .cells) (k .cells) _ _ _ (u .3 .ensures)
+                (u .4 ∙ ap (λ (n : ℕ). set (l .loop2 .cells) n (u .3 .result)) (u .1 .ensures .cell)))
+                (λ u. cell-left (l .loop2 .cells) (k .cells) _ _ (u .1) (unchanged x _ refl came (sym same ∙ u .0 .left))) (k .came))
+                (heads-alone (l .loop2 .heads) (j .heads) (l .loop2 .tally .counts .threads % 9) (mover x) (w .1 .ensures) noHead (ne-eqb _ _ (w .0 .left))
+                (w .2)) refl (queue .ensures) (put .ensures .0 .0) (c .moved4 .ensures .0) (put .ensures .1)) (j .came) ∙ next d first v qs;
             unstopped = v .unstopped;
             eight = queue .kept .0 ∙ v .eight;
             moves = moves-before d first v (l .loop2 .i + 1 - 1) (omega arith);
@@ -469,10 +577,37 @@ ended c =
     let t : l .loop2 .i + 1 ≤ end r = omega (arith, w .0 .taken) in
     let e : take (l .loop2 .i + 1) (list r) ++ later ≡ take (end r) (list r) =
     ap (λ (ps : List ℕ). ps ++ later) (sym (take-take (l .loop2 .i + 1) (end r) (list r) t)) ∙ take-append-drop (l .loop2 .i + 1) (take (end r) (list r)) in
-    stops (words r) (roots r) (setting r) (machine l) (pick d) later (l .loop2 .i)
-    (record { stack = w .14 .last .1 .1 .0; answer = w .14 .result }) (w .4 .left)
-    (answered l (pick d) (w .7 .result) _ _ (w .7 .ensures) (w .9 .ensures) (w .14 .ensures)) (w .17 .given .1) _ _ _ _ (w .26) (w .27)
-    (w .25 ∙ w .20 .ensures .0 .0) (w .23 ∙ w .20 .ensures .1)
+    let x : Answered = (record {
+      before = record {
+        before = record {
+          before = record {
+            before = record {
+              before = record {
+                before = record {
+                  before = record {
+                    before = record {
+                      before
+                          = record { before = d; counts = w .2 };
+                      struct-known = w .3;
+                    };
+                    if1 = w .4;
+                  };
+                  if2 = w .5;
+                };
+                head = w .6;
+              };
+              ready = w .7;
+            };
+            goes-on = w .8;
+          };
+          if3 = w .9;
+        };
+        stack = w .10;
+      };
+      land = w .11;
+    }) in
+    stops (words r) (roots r) (setting r) (machine l) (pick d) later (l .loop2 .i) _ (w .4 .left) (stops-so x (w .14 .given .1)) refl _ _ _ _ (w .23) (w .24)
+    (w .22 ∙ w .17 .ensures .0 .0) (w .20 ∙ w .17 .ensures .1)
     ∙ next d (first r) v later ∙ ap (played r) e) (c .loop2-test .came)
 
 -- by a stop, no thread can be picked any more
@@ -481,10 +616,38 @@ halted c h =
     let l = c .before in
     let r = opened l in
     ⊎-elim (λ w. absurd (omega (arith, h, w .5, l .loop2 .inv .2))) (λ w.
-    let e = answered l (w .1 .result) (w .7 .result) _ (record { stack = w .14 .last .1 .1 .0; answer = w .14 .result }) (w .7 .ensures) (w .9 .ensures)
-    (w .14 .ensures) in
-    ap unstopped (w .26) ∙ stop-halts (words r) (roots r) (setting r) (machine l) (w .1 .result % 8) _ _
-    (ap (λ (y : Picked). y .answer) (sym e) ∙ w .17 .given .1)) (c .loop2-test .came)
+    let d : Drawn = record { before = record { before = l; loop2-test = w .0 }; pick-at = w .1 } in
+    let x : Answered = (record {
+      before = record {
+        before = record {
+          before = record {
+            before = record {
+              before = record {
+                before = record {
+                  before = record {
+                    before = record {
+                      before
+                          = record { before = d; counts = w .2 };
+                      struct-known = w .3;
+                    };
+                    if1 = w .4;
+                  };
+                  if2 = w .5;
+                };
+                head = w .6;
+              };
+              ready = w .7;
+            };
+            goes-on = w .8;
+          };
+          if3 = w .9;
+        };
+        stack = w .10;
+      };
+      land = w .11;
+    }) in
+    ap unstopped (w .23) ∙ stop-halts (words r) (roots r) (setting r) (machine l) (w .1 .result % 8) _ _
+    (ap (λ (y : Picked). y .answer) (sym (stops-so x (w .14 .given .1))))) (c .loop2-test .came)
 
 -- without one, the run stands at the round's end
 stood : (c : Left) → end (closed c) ≤ c .loop2-test .dealt
@@ -497,7 +660,7 @@ stood c h =
     ⊎-elim (λ w.
     let t : end r ≡ l .loop2 .i = omega (arith, w .0 .left, l .loop2 .inv .1) in
     standing-as (words r) (roots r) (setting r) (every r) (first r) t (w .1) (w .2) (w .3) (w .4) (w .6) (w .7) (here l)) (λ w.
-    absurd (omega (arith, h, w .27, w .0 .taken))) (c .loop2-test .came)
+    absurd (omega (arith, h, w .24, w .0 .taken))) (c .loop2-test .came)
 
 -- the counts before the last pick that was met
 module _ (c : Left) where
@@ -532,16 +695,16 @@ module _ (c : Left) where
   counted-moves =
       ⊎-elim (λ w. w .6 ∙ here (c .before) .moves
       ∙ ap (λ (n : ℕ). played (closed c) (take n (list (closed c))) .outcome .moves) (at-end (w .0 .left) (w .5)))
-      (λ w. w .28 ∙ moves-before (record { before = record { before = c .before; loop2-test = w .0 }; pick-at = w .1 }) (first (closed c)) (here (c .before)) k
-      (at-stop (w .0 .taken) (w .27))) (c .loop2-test .came)
+      (λ w. w .25 ∙ moves-before (record { before = record { before = c .before; loop2-test = w .0 }; pick-at = w .1 }) (first (closed c)) (here (c .before)) k
+      (at-stop (w .0 .taken) (w .24))) (c .loop2-test .came)
       ∙ ap (λ (ps : List ℕ). played (closed c) ps .outcome .moves) same
 
   counted-records : c .loop2-test .records-before ≡ played (closed c) (take k (take (end (closed c)) (list (closed c)))) .outcome .records
   counted-records =
       ⊎-elim (λ w. w .7 ∙ here (c .before) .records
       ∙ ap (λ (n : ℕ). played (closed c) (take n (list (closed c))) .outcome .records) (at-end (w .0 .left) (w .5)))
-      (λ w. w .29 ∙ records-before (record { before = record { before = c .before; loop2-test = w .0 }; pick-at = w .1 }) (first (closed c)) (here (c .before))
-      k (at-stop (w .0 .taken) (w .27))) (c .loop2-test .came)
+      (λ w. w .26 ∙ records-before (record { before = record { before = c .before; loop2-test = w .0 }; pick-at = w .1 }) (first (closed c)) (here (c .before))
+      k (at-stop (w .0 .taken) (w .24))) (c .loop2-test .came)
       ∙ ap (λ (ps : List ℕ). played (closed c) ps .outcome .records) same
 
 -- ---- the look at all threads
@@ -584,7 +747,7 @@ loop3-again c =
     let h : p < 8 = c .before .before .before .loop3-test .taken in
     let e = c .no-thread2 .ensures
     ∙ sym (absent-at (l .loop2-test .tally .counts) (m .loop2 .heads) (cells m) (m .loop2 .objects) (m .loop2 .places) (setting (opened m)) p
-    (c .before .if5 .taken)) in (
+    (c .before .if6 .taken)) in (
       omega arith,
       ap (λ (x : Thread). turns (put l) (8 - (p + 1)) (p + 1) (set (a .loop3 .threads) p x)) e
           ∙ sym (one-turn (put l) 8 p (a .loop3 .threads) h) ∙ a .loop3 .inv .1,
@@ -597,7 +760,7 @@ loop3-again-2 c =
     let l = left a in
     let m = l .before in
     let p = a .loop3 .thread in
-    let k = c .before .before .before .before .before .before .cell-of2 in
+    let k = c .before .before .before .before .before .before .cell-of3 in
     let r = c .before .before .before .before .restore2 in
     let h : p < 8 = c .before .before .before .before .before .before .before .before .before .before .loop3-test .taken in
     let e = c .thread-of .ensures
@@ -663,7 +826,7 @@ module _ (c : Noted) where
   lowest = answer-of c .goes-on-by .result
 
   by-this : answer-of c .goes-on-by .result < 8
-  by-this = omega (arith, answer-of c .goes-on-by .ensures .within, c .before .before .if6 .left)
+  by-this = omega (arith, answer-of c .goes-on-by .ensures .within, c .before .before .if7 .left)
 
   going : (ltb (left (answer-of c .before .before) .loop2-test .dealt) (end o) ≡ false) × (end o < length (o .loop .notes))
       × LowestFrom (openAt (answer-of c .before .before .loop3 .threads)) 0 (answer-of c .goes-on-by .result)
@@ -730,10 +893,10 @@ same-length-2 : tie.Need-same-length-2 Inv-loop2 μ-loop2 Inv-loop3 μ-loop3 Inv
 same-length-2 c =
     let l = left (c .before .before .before) in
     let v = here (l .before) in
-    ⊎-elim (λ w. ap length (w .1) ∙ v .kept) (λ w. ap length (w .23) ∙ w .20 .kept .0 ∙ v .kept) (l .loop2-test .came)
+    ⊎-elim (λ w. ap length (w .1) ∙ v .kept) (λ w. ap length (w .20) ∙ w .17 .kept .0 ∙ v .kept) (l .loop2-test .came)
 
 -- short of the last place, it has stopped or no thread can be picked
-shut-off : (c : tie.Then6 Inv-loop2 μ-loop2 Inv-loop3 μ-loop3 Inv-loop μ-loop)
+shut-off : (c : tie.Then7 Inv-loop2 μ-loop2 Inv-loop3 μ-loop3 Inv-loop μ-loop)
     → end (closed (left (c .before .before .before))) < length (closed (left (c .before .before .before)) .loop .notes) → (k : ℕ)
     → k < 8 → Dec (left (c .before .before .before) .loop2-test .dealt < end (closed (left (c .before .before .before))))
     → openAfter (whole (closed (left (c .before .before .before))) .outcome) k ≡ false
@@ -746,7 +909,7 @@ shut-off c b k h (no d) =
     let l = left (a .before) in
     ap (λ (x : Outcome). openAfter x k) (sym (outcome-is a))
     ∙ ap (λ (x : Stop). unstopped x && openAt (a .before .loop3 .threads) k) (stood l (omega (arith, d)) .unstopped)
-    ∙ c .before .goes-on-by .ensures .none (c .if6 .taken) (le-ltb (l .loop2-test .dealt) (end (closed l)) (omega (arith, d))) b k h
+    ∙ c .before .goes-on-by .ensures .none (c .if7 .taken) (le-ltb (l .loop2-test .dealt) (end (closed l)) (omega (arith, d))) b k h
 
 returns : tie.Need-returns Inv-loop2 μ-loop2 Inv-loop3 μ-loop3 Inv-loop μ-loop
 returns c =
@@ -767,6 +930,107 @@ returns c =
           ∙ shut-off c (omega (arith, b, round r .kept)) k h (decLt (l .loop2-test .dealt) (end r));
     }
 
+-- ---- what a turn asks
+
+one-less : (n : ℕ) → n < 8 → 8 - (n + 1) < 8 - n
+one-less n h = omega arith
+
+add-thread-2 : tie.Need-add-thread-2 Inv-loop2 μ-loop2 Inv-loop3 μ-loop3 Inv-loop μ-loop
+add-thread-2 c = search needs
+
+loop3-less-2 : tie.Need-loop3-less-2 Inv-loop2 μ-loop2 Inv-loop3 μ-loop3 Inv-loop μ-loop
+loop3-less-2 c = one-less _ (c .before .before .before .before .before .before .before .before .before .before .loop3-test .taken)
+
+mul-mover : tie.Need-mul-mover Inv-loop2 μ-loop2 Inv-loop3 μ-loop3 Inv-loop μ-loop
+mul-mover c = search needs
+
+array-copy-out-mover : tie.Need-array-copy-out-mover Inv-loop2 μ-loop2 Inv-loop3 μ-loop3 Inv-loop μ-loop
+array-copy-out-mover c = search needs
+
+enum-known-begun : tie.Need-enum-known-begun Inv-loop2 μ-loop2 Inv-loop3 μ-loop3 Inv-loop μ-loop
+enum-known-begun c = search needs
+
+no-entry-requires : tie.Need-no-entry-requires Inv-loop2 μ-loop2 Inv-loop3 μ-loop3 Inv-loop μ-loop
+no-entry-requires c κs = search needs
+
+gone-requires : tie.Need-gone-requires Inv-loop2 μ-loop2 Inv-loop3 μ-loop3 Inv-loop μ-loop
+gone-requires c κs = search needs
+
+mul-heads : tie.Need-mul-heads Inv-loop2 μ-loop2 Inv-loop3 μ-loop3 Inv-loop μ-loop
+mul-heads c = search needs
+
+array-set-from-heads-2 : tie.Need-array-set-from-heads-2 Inv-loop2 μ-loop2 Inv-loop3 μ-loop3 Inv-loop μ-loop
+array-set-from-heads-2 c = search needs
+
+no-object-requires : tie.Need-no-object-requires Inv-loop2 μ-loop2 Inv-loop3 μ-loop3 Inv-loop μ-loop
+no-object-requires c κs = search needs
+
+mul-objects : tie.Need-mul-objects Inv-loop2 μ-loop2 Inv-loop3 μ-loop3 Inv-loop μ-loop
+mul-objects c = search needs
+
+array-set-from-objects : tie.Need-array-set-from-objects Inv-loop2 μ-loop2 Inv-loop3 μ-loop3 Inv-loop μ-loop
+array-set-from-objects c = search needs
+
+add-i-4 : tie.Need-add-i-4 Inv-loop2 μ-loop2 Inv-loop3 μ-loop3 Inv-loop μ-loop
+add-i-4 c = record { fits = omega (arith, few (c .before .before .before .before .before .before .before .before .before .before .before .before .before .before .before)) }
+
+loop2-less-4 : tie.Need-loop2-less-4 Inv-loop2 μ-loop2 Inv-loop3 μ-loop3 Inv-loop μ-loop
+loop2-less-4 c = omega (arith, begun (c .before .before .before .before .before .before .before .before .before .before .before .before .before .before .before))
+
+born-requires : tie.Need-born-requires Inv-loop2 μ-loop2 Inv-loop3 μ-loop3 Inv-loop μ-loop
+born-requires c κs = search needs
+
+mul-heads-2 : tie.Need-mul-heads-2 Inv-loop2 μ-loop2 Inv-loop3 μ-loop3 Inv-loop μ-loop
+mul-heads-2 c = search needs
+
+array-set-from-heads-3 : tie.Need-array-set-from-heads-3 Inv-loop2 μ-loop2 Inv-loop3 μ-loop3 Inv-loop μ-loop
+array-set-from-heads-3 c = search needs
+
+moved-requires-2 : tie.Need-moved-requires-2 Inv-loop2 μ-loop2 Inv-loop3 μ-loop3 Inv-loop μ-loop
+moved-requires-2 c κs = search needs
+
+mul-heads-3 : tie.Need-mul-heads-3 Inv-loop2 μ-loop2 Inv-loop3 μ-loop3 Inv-loop μ-loop
+mul-heads-3 c = search needs
+
+array-set-from-heads-4 : tie.Need-array-set-from-heads-4 Inv-loop2 μ-loop2 Inv-loop3 μ-loop3 Inv-loop μ-loop
+array-set-from-heads-4 c = search needs
+
+moved-requires-3 : tie.Need-moved-requires-3 Inv-loop2 μ-loop2 Inv-loop3 μ-loop3 Inv-loop μ-loop
+moved-requires-3 c κs = search needs
+
+mul-heads-4 : tie.Need-mul-heads-4 Inv-loop2 μ-loop2 Inv-loop3 μ-loop3 Inv-loop μ-loop
+mul-heads-4 c = search needs
+
+array-set-from-heads-5 : tie.Need-array-set-from-heads-5 Inv-loop2 μ-loop2 Inv-loop3 μ-loop3 Inv-loop μ-loop
+array-set-from-heads-5 c = search needs
+
+changes-requires : tie.Need-changes-requires Inv-loop2 μ-loop2 Inv-loop3 μ-loop3 Inv-loop μ-loop
+changes-requires c κs = search needs
+
+cell-of-requires-2 : tie.Need-cell-of-requires-2 Inv-loop2 μ-loop2 Inv-loop3 μ-loop3 Inv-loop μ-loop
+cell-of-requires-2 c κs = search needs
+
+keep-requires : tie.Need-keep-requires Inv-loop2 μ-loop2 Inv-loop3 μ-loop3 Inv-loop μ-loop
+keep-requires c κs = search needs
+
+mul-cells : tie.Need-mul-cells Inv-loop2 μ-loop2 Inv-loop3 μ-loop3 Inv-loop μ-loop
+mul-cells c = record { fits = omega (arith, c .before .before .cell-of2 .ensures .inside) }
+
+array-set-from-cells : tie.Need-array-set-from-cells Inv-loop2 μ-loop2 Inv-loop3 μ-loop3 Inv-loop μ-loop
+array-set-from-cells c = c .before .before .cell-of2 .ensures .inside
+
+mul-objects-2 : tie.Need-mul-objects-2 Inv-loop2 μ-loop2 Inv-loop3 μ-loop3 Inv-loop μ-loop
+mul-objects-2 c = search needs
+
+array-set-from-objects-2 : tie.Need-array-set-from-objects-2 Inv-loop2 μ-loop2 Inv-loop3 μ-loop3 Inv-loop μ-loop
+array-set-from-objects-2 c = search needs
+
+add-i-5 : tie.Need-add-i-5 Inv-loop2 μ-loop2 Inv-loop3 μ-loop3 Inv-loop μ-loop
+add-i-5 c = record { fits = omega (arith, few (c .before .before .before .before .before .before .before .before .before .before .before .before .before .before .before .before .before .before .before .before .before .before .before .before)) }
+
+loop2-less-5 : tie.Need-loop2-less-5 Inv-loop2 μ-loop2 Inv-loop3 μ-loop3 Inv-loop μ-loop
+loop2-less-5 c = omega (arith, begun (c .before .before .before .before .before .before .before .before .before .before .before .before .before .before .before .before .before .before .before .before .before .before .before .before))
+
 pub explore-spec : {M : Type 1} → statement M
 explore-spec =
     tie.close
@@ -786,33 +1050,35 @@ explore-spec =
     -- which was passed over since the last move
     (λ c. search needs) (λ c. record { fits = omega (arith, started (c .before .before .before .before .before)) })
     (λ c. omega (arith, started (c .before .before .before .before .before))) loop2-again-2
-    -- what the pick meets
-    (λ c. search needs) (λ c. search needs) (λ c κs. search needs) (λ c. search needs) (λ c. search needs) (λ c κs. search needs) (λ c. search needs)
-    (λ c. search needs) (λ c. search needs) (λ c. search needs) (λ c. search needs) (λ c. search needs)
-    -- its answer
+    -- how the pick begins
+    (λ c. search needs) (λ c. search needs) (λ c κs. search needs) (λ c κs. search needs) (λ c κs. search needs) (λ c. search needs) (λ c. search needs) (λ c κs. search needs) (λ c. search needs) (λ c. search needs) (λ c. search needs) (λ c. search needs)
+    (λ c. search needs) (λ c. search needs) (λ c κs. sym (c .before .before .before .before .before .before .before .goes-on .ensures) ∙ c .before .before .before .before .before .before .if3 .left)
+    -- what it comes to
     (λ c κs. search needs) (λ c. search needs) (λ c. search needs)
     -- it is passed over
     (λ c. search needs) (λ c. record { fits = omega (arith, few (c .before .before)) }) (λ c. omega (arith, begun (c .before .before))) loop2-again-3
-    -- it stops, or the queues are changed and its record is put
-    (λ c κs. fits (c .before .before .before .before .before)) slice-aggregate-after after-requires
-    (λ c κs. fits (c .before .before .before .before .before .before .before .before .before))
-    -- a new thread, the mover, the cell, the object
-    (λ c. search needs) (λ c. search needs) (λ c. search needs) (λ c. search needs)
-    (λ c κs. search needs) (λ c κs. search needs)
-    (λ c. record {
-      fits = omega (arith, placed (recorded (c .before .before .before .before .before .before .before .before .before .before)) .cell-of .ensures .inside);
-    })
-    (λ c. omega (arith, placed (recorded (c .before .before .before .before .before .before .before .before .before .before)) .cell-of .ensures .inside))
-    (λ c. search needs) (λ c. search needs)
+    -- it stops
+    (λ c κs. fits (c .before .before .before .before .before))
+    -- it only goes on elsewhere
+    mul-mover array-copy-out-mover enum-known-begun no-entry-requires (λ c κs. fits (c .before .before .before .before .before .before .before .before)) gone-requires
+    mul-heads array-set-from-heads-2 no-object-requires mul-objects array-set-from-objects moved-requires
+    add-i-4 loop2-less-4 loop2-again-4
+    -- the queues, and its record
+    slice-aggregate-after after-requires (λ c κs. fits (c .before .before .before .before .before .before .before .before .before .before .before .before .before))
+    -- a new thread and the mover, or the mover alone
+    born-requires mul-heads-2 array-set-from-heads-3 moved-requires-2 mul-heads-3 array-set-from-heads-4
+    moved-requires-3 mul-heads-4 array-set-from-heads-5
+    -- the cell, the object
+    changes-requires cell-of-requires-2 keep-requires
+    mul-cells array-set-from-cells
+    mul-objects-2 array-set-from-objects-2
     -- the counts, and the next pick
-    moved-requires
-    (λ c. record { fits = omega (arith, few (recorded (c .before .before .before .before .before .before .before .before .before .before .before))) })
-    (λ c. omega (arith, begun (recorded (c .before .before .before .before .before .before .before .before .before .before .before)))) loop2-again-4
+    moved-requires-4 add-i-5 loop2-less-5 loop2-again-5
     -- the threads at the end of a round
     loop3-holds (λ c κs. search needs) (λ c. search needs) (λ c. search needs) (λ c. search needs) (λ c. search needs) loop3-again
     (λ c. search needs) (λ c. search needs) (λ c κs. search needs) (λ c. search needs) (λ c. search needs) (λ c κs. search needs)
     (λ c. search needs) (λ c. search needs) (λ c. search needs) (λ c. search needs) (λ c. search needs) (λ c. search needs)
-    (λ c κs. search needs) (λ c. search needs) (λ c. search needs) (λ c. search needs) (λ c. search needs) loop3-again-2
+    (λ c κs. search needs) (λ c. search needs) (λ c. search needs) add-thread-2 loop3-less-2 loop3-again-2
     -- the note, and the next round
     (λ c κs. search needs) (λ c κs. search needs)
     note-requires slice-write-notes add-to loop-less loop-again

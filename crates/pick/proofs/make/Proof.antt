@@ -1,7 +1,7 @@
 -- `make` meets its contract. Assumes nothing.
 use mathlib.Core.Path.{sym, ap, _∙_}
+use Rattle.pick.specs.Pick.{begunBy}
 use Rattle.state.specs.declared.acted.Act.{Act}
-use Rattle.pick.specs.Pick.{picked, makeBy}
 use borrow.Author.Needs.{needs}
 use Rattle.pick.proofs.make.Statement.{statement}
 use Rattle.pick.proofs.make.Tie as tie
@@ -12,9 +12,6 @@ act-requires c κs = search needs
 enum-known-act : tie.Need-enum-known-act
 enum-known-act c = search needs
 
-land-requires : tie.Need-land-requires
-land-requires c κs = search needs
-
 enum-known-act-2 : tie.Need-enum-known-act-2
 enum-known-act-2 c = search needs
 
@@ -22,25 +19,12 @@ no-room-requires : tie.Need-no-room-requires
 no-room-requires c κs = search needs
 
 returns : tie.Need-returns
-returns c =
-    let s = c .before .before .before .before .before .before .before .before .before .before .before in
-    c .land .ensures ∙ ap (λ (z : Act). makeBy (s .args .words .now) (s .args .roots .now) (s .args .met) z (s .args .stack .now))
-    (sym (c .before .before .before .act2 .given .1) ∙ c .before .before .before .before .before .act .ensures)
+returns c = ap (λ (z : Act). begunBy z) (sym (c .before .act2 .given .1) ∙ c .before .before .before .act .ensures)
 
 returns-2 : tie.Need-returns-2
-returns-2 c =
-    let s = c .before .before .before .before .before .before .before .before .before .before in
-    ap (picked _) (c .no-room .ensures) ∙ ap (λ (z : Act). makeBy (s .args .words .now) (s .args .roots .now) (s .args .met) z (s .args .stack .now))
-    (sym (c .before .before .act3 .given .1) ∙ c .before .before .before .before .act .ensures)
+returns-2 c = c .no-room .ensures ∙ ap (λ (z : Act). begunBy z) (sym (c .before .before .act3 .given .1) ∙ c .before .before .before .before .act .ensures)
 
 pub make-spec : {M : Type 1} → statement M
 make-spec =
     tie.close
-    (tie.spec
-    act-requires
-    enum-known-act
-    land-requires
-    enum-known-act-2
-    no-room-requires
-    returns
-    returns-2)
+    (tie.spec act-requires enum-known-act enum-known-act-2 no-room-requires returns returns-2)

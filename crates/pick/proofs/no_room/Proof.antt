@@ -3,11 +3,11 @@ use borrow.Author.Needs.{needs}
 use Rattle.pick.proofs.no_room.Statement.{statement}
 use Rattle.pick.proofs.no_room.Tie as tie
 
-entry-requires : tie.Need-entry-requires
-entry-requires c κs = search needs
+no-entry-requires : tie.Need-no-entry-requires
+no-entry-requires c κs = search needs
 
 returns : tie.Need-returns
-returns c = simp (c .entry .ensures)
+returns c = simp (c .no-entry .ensures)
 
 pub no-room-spec : {M : Type 1} → statement M
-no-room-spec = tie.close (tie.spec entry-requires returns)
+no-room-spec = tie.close (tie.spec no-entry-requires returns)

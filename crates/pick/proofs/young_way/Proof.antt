@@ -6,11 +6,11 @@ use Rattle.pick.proofs.young_way.Tie as tie
 run-requires : tie.Need-run-requires
 run-requires c κs = search needs
 
-mul-t7 : tie.Need-mul-t7
-mul-t7 c = search needs
+mul-t6 : tie.Need-mul-t6
+mul-t6 c = search needs
 
 returns : tie.Need-returns
 returns c = simp (c .before .run .ensures)
 
 pub young-way-spec : {M : Type 1} → statement M
-young-way-spec = tie.close (tie.spec run-requires mul-t7 returns)
+young-way-spec = tie.close (tie.spec run-requires mul-t6 returns)
