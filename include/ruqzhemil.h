@@ -28,8 +28,8 @@
  *       printf("refused %u %u: %s\n", RUQZHEMIL_NUMBER(answer), RUQZHEMIL_PLACE(answer), ruqzhemil_refusal_text(RUQZHEMIL_NUMBER(answer)));
  *   }
  *
- * WHAT IS PROMISED: for all bytes, however malformed, each function returns the number that crates/return_convention and crates/numbers define, with the bytes of
- * crates/outcome_bytes/specs/Bytes and crates/preview_bytes/specs/Bytes; the proofs of crates/ruqzhemil show it. Functions keep nothing between calls, have
+ * WHAT IS PROMISED: for all bytes, however malformed, each function returns the number that crates/abi_convention and crates/abi_numbers define, with the bytes of
+ * crates/abi_outcome/specs/Bytes and crates/abi_preview/specs/Bytes; the proofs of crates/ruqzhemil show it. Functions keep nothing between calls, have
  * no global state and allocate nothing, so threads may call them at the same time on areas of their own.
  *
  * WHAT IS ASKED of the caller: each pointer leads to as many bytes as its length says (out of play to RUQZHEMIL_OUT_BYTES, of preview to

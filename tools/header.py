@@ -3,7 +3,7 @@
 
   header.py
 
-The answers of the stored cases are written with the header's numbers (tools/vectors.py), which crates/vectors/data/header lists, and the test program
+The answers of the stored cases are written with the header's numbers (tools/vectors.py), which crates/test_vectors/data/header lists, and the test program
 `vectors` holds them to the library's. This program fails where the header says something else than that list, another size of a text's area than the
 printing program's definition, or another sentence of a refusal than plancheck's.
 """
@@ -13,7 +13,7 @@ import re
 import sys
 
 ROOT = os.path.dirname(os.path.dirname(os.path.abspath(__file__)))
-LISTED = "vectors/data/header"  # below the crates
+LISTED = "test_vectors/data/header"  # below the crates
 
 
 def numbers():
@@ -32,7 +32,7 @@ def sentences():
     """The sentence of each refusal in the header, and in the definition of what plancheck says."""
     with open(ROOT + "/include/ruqzhemil.h") as header:
         texts = dict(re.findall(r'case RUQZHEMIL_(REFUSAL_\w+): return "([^"]*)"', header.read()))
-    with open(ROOT + "/crates/refusal_lines/specs/Lines.antt") as lines:
+    with open(ROOT + "/crates/text_refusal_lines/specs/Lines.antt") as lines:
         said = {int(number): text for text, number in re.findall(r'ascii "([^"]*)"  -- ([0-9]+)', lines.read())}
     return {numbers()[name]: text for name, text in texts.items()}, said
 
@@ -41,12 +41,12 @@ def main():
     with open(ROOT + "/crates/" + LISTED) as stored:
         if stored.read() != listing():
             sys.exit("include/ruqzhemil.h has other numbers than the stored cases were made with: run tools/vectors.py, then rt check vectors")
-    with open(ROOT + "/crates/printing/specs/Printed.antt") as printed:
+    with open(ROOT + "/crates/text_shot_list/specs/Printed.antt") as printed:
         if "(%d ≤ length before →" % numbers()["MOST_TEXT_BYTES"] not in printed.read():
-            sys.exit("include/ruqzhemil.h has another size of a text's area than crates/printing/specs/Printed.antt")
+            sys.exit("include/ruqzhemil.h has another size of a text's area than crates/text_shot_list/specs/Printed.antt")
     texts, said = sentences()
     if not texts or texts != said:
-        sys.exit("include/ruqzhemil.h has other sentences of refusals than crates/refusal_lines/specs/Lines.antt")
+        sys.exit("include/ruqzhemil.h has other sentences of refusals than crates/text_refusal_lines/specs/Lines.antt")
     print("%d numbers of the header are those of the stored cases" % len(numbers()))
 
 

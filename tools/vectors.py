@@ -6,7 +6,7 @@
 
 ORACLE is the folder of the second interpreter, SEED and COUNT go to its `oracle.py vectors`, the list after --landed names the requests of document 02
 that count as landed (those that the product has, where it is left out), CASES are the interpreter's JSON lines, made before, and CRATES is the folder of
-the crates. CRATES/vectors/data gets the files below, and CRATES/vectors/stdout what the test program must print; CRATES/longest_input/stdin and stdout are
+the crates. CRATES/test_vectors/data gets the files below, and CRATES/test_vectors/stdout what the test program must print; CRATES/test_longest_input/stdin and stdout are
 an input of 9,291 bytes of the printing program and its text. The same words give the same files. Every case stands behind its length in two bytes; numbers have the high byte first.
 
   header                         the numbers of include/ruqzhemil.h, with which the answers are written, a name and a number to a line
@@ -568,15 +568,15 @@ def main(argv):
     files["version"] = [eight(NUMBERS["VERSION"])]
     files["changed_version"] = flips(files["version"][0]) + [files["version"][0] + bytes(1)]
     for name, cases in files.items():
-        with open("%s/vectors/data/%s" % (crates, name), "wb") as out:
+        with open("%s/test_vectors/data/%s" % (crates, name), "wb") as out:
             out.write(b"".join(two(len(stored(case))) + stored(case) for case in cases))
     with open("%s/%s" % (crates, header.LISTED), "w") as out:
         out.write(header.listing())
-    with open(crates + "/vectors/stdout", "w") as out:
+    with open(crates + "/test_vectors/stdout", "w") as out:
         out.writelines(lines(files))
-    with open(crates + "/longest_input/stdin", "wb") as out:
+    with open(crates + "/test_longest_input/stdin", "wb") as out:
         out.write(rows.longest_input())
-    with open(crates + "/longest_input/stdout", "w") as out:
+    with open(crates + "/test_longest_input/stdout", "w") as out:
         out.write(run.report(rows.longest_input()))
 
 

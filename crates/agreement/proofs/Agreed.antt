@@ -9,25 +9,25 @@ use mathlib.Core.Option.{Option, some, none}
 use lib.Dec.{T}
 use lib.ListN.{length}
 use Rattle.format.specs.Version.{Version, versionOf}
-use Rattle.order.specs.Chains.{At, Unordered}
-use Rattle.conflicts.specs.Judge.{Judged, named, Names, names-first, names-none, Answers, refuses, judges, AnswersTold, right-version}
-use Rattle.conflicts.proofs.Told.{told-known}
-use Rattle.order.proofs.Agree.{agree, lacking-plain}
-use Rattle.order.proofs.Past.{at-within}
-use Rattle.conflicts.proofs.FirstConflict.{unordered→conflicting}
-use Rattle.packed.specs.Syntax.{Program}
-use Rattle.packed.specs.Format.{version}
-use Rattle.packed.specs.Trees.{programOf}
-use Rattle.packed.specs.Check.{refusal}
-use Rattle.packed.proofs.WellFormed.{WellFormedProgram}
-use Rattle.packed.proofs.Accepted.{accepted}
-use Rattle.packed.proofs.Decoded.{well-formed}
-use Rattle.records.specs.Record.{Record, isPlain, lacksKey}
-use Rattle.records.specs.Packed.{bytesOf, logOf}
-use Rattle.records.specs.Refusals.{logRefusal}
-use Rattle.records.proofs.Tidy.{LacksLast}
-use Rattle.records.proofs.RoundTrip.{logOf-bytesOf}
-use Rattle.records.proofs.Accepted.{well-formed-log}
+use Rattle.log_order.specs.Chains.{At, Unordered}
+use Rattle.log_conflicts.specs.Judge.{Judged, named, Names, names-first, names-none, Answers, refuses, judges, AnswersTold, right-version}
+use Rattle.log_conflicts.proofs.Told.{told-known}
+use Rattle.log_order.proofs.Agree.{agree, lacking-plain}
+use Rattle.log_order.proofs.Past.{at-within}
+use Rattle.log_conflicts.proofs.FirstConflict.{unordered→conflicting}
+use Rattle.plan_packed.specs.Syntax.{Program}
+use Rattle.plan_packed.specs.Format.{version}
+use Rattle.plan_packed.specs.Trees.{programOf}
+use Rattle.plan_packed.specs.Check.{refusal}
+use Rattle.plan_packed.proofs.WellFormed.{WellFormedProgram}
+use Rattle.plan_packed.proofs.Accepted.{accepted}
+use Rattle.plan_packed.proofs.Decoded.{well-formed}
+use Rattle.log_records.specs.Record.{Record, isPlain, lacksKey}
+use Rattle.log_records.specs.Packed.{bytesOf, logOf}
+use Rattle.log_records.specs.Refusals.{logRefusal}
+use Rattle.log_records.proofs.Tidy.{LacksLast}
+use Rattle.log_records.proofs.RoundTrip.{logOf-bytesOf}
+use Rattle.log_records.proofs.Accepted.{well-formed-log}
 use Rattle.rules.specs.Run.{Stop, end, race, noRoom, Run, play}
 use Rattle.rules.specs.Play.{runOf}
 use Rattle.rules.proofs.Executed.{play-executes}

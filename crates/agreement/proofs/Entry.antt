@@ -6,16 +6,16 @@ use mathlib.Core.Path.{_≡_, sym, ap, _∙_, subst as along}
 use mathlib.Core.List.{List}
 use mathlib.Core.Option.{Option}
 use lib.ListN.{take}
-use Rattle.conflicts.specs.Judge.{named, Answers, AnswersTold}
-use Rattle.packed.specs.Format.{version}
-use Rattle.packed.specs.Trees.{programOf}
-use Rattle.refusals.specs.declared.Checked.the-variants as checked
-use Rattle.records.specs.Packed.{bytesOf}
+use Rattle.log_conflicts.specs.Judge.{named, Answers, AnswersTold}
+use Rattle.plan_packed.specs.Format.{version}
+use Rattle.plan_packed.specs.Trees.{programOf}
+use Rattle.plan_refusals.specs.declared.Checked.the-variants as checked
+use Rattle.log_records.specs.Packed.{bytesOf}
 use Rattle.rules.specs.Play.{played, areaAfter, runOf}
-use Rattle.player.specs.declared.outcome.Played.{Played}
-use Rattle.player.specs.Answer.{stopOf, answered}
-use Rattle.refusals.proofs.Stages.{passed-refused}
-use Rattle.player.proofs.Ran.{passes, stop-is, records-are, begins}
+use Rattle.play.specs.declared.outcome.Played.{Played}
+use Rattle.play.specs.Answer.{stopOf, answered}
+use Rattle.plan_refusals.proofs.Stages.{passed-refused}
+use Rattle.play.proofs.Ran.{passes, stop-is, records-are, begins}
 use Rattle.judge.specs.declared.Judgement.{Judgement}
 use Rattle.judge.specs.declared.Judgement.the-variants as judgement
 use Rattle.judge.specs.Answer as judge

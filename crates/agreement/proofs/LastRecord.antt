@@ -8,9 +8,9 @@ use mathlib.Core.Logic.{_↔_}
 use mathlib.Core.Option.{Option, some, none}
 use lib.Dec.{T, T-not}
 use lib.ListN.{length, getElem?}
-use Rattle.order.specs.Chains.{At}
-use Rattle.packed.specs.Syntax.{Expression, Program}
-use Rattle.records.specs.Record.{Record, lacksKey}
+use Rattle.log_order.specs.Chains.{At}
+use Rattle.plan_packed.specs.Syntax.{Expression, Program}
+use Rattle.log_records.specs.Record.{Record, lacksKey}
 use Rattle.rules.specs.State.{Thread, State}
 use Rattle.rules.specs.Rules.{Rule, Converts, E-CALL, E-LET, E-IF, E-WHILE, E-NEW, E-READ, E-WRITE, E-READV, E-WRITEV, E-FORK, E-JOIN, E-RE-ENTER, E-ACQUIRE}
 use Rattle.rules.specs.Rules.{E-RELEASE, E-WAIT, E-WAKE, E-NOTIFY, E-NOTIFYALL, Moves, EVAL, EVALᶜ, LACKS-READ, LACKS-WRITE, Lacks, LACKS}

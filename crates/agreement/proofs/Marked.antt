@@ -2,7 +2,7 @@
 use mathlib.Core.Path.{_≡_, refl}
 use mathlib.Core.List.{map}
 use Rattle.format.specs.Version.{v1}
-use Rattle.conflicts.proofs.FirstConflict.{firstConflict}
+use Rattle.log_conflicts.proofs.FirstConflict.{firstConflict}
 use Rattle.rules.specs.ShotList.{Shot, shots}
 use Rattle.agreement.specs.ShotsJudged.{judgedBy, judgements}
 

@@ -5,10 +5,10 @@ use mathlib.Core.Path.{_≡_, refl}
 use mathlib.Core.List.{List, [], _∷_}
 use mathlib.Core.Option.{Option, some, none}
 use Rattle.format.specs.Version.{Version, v0, v1}
-use Rattle.packed.specs.Syntax.{literal, variable, new, read, write, letIn, fork, Program}
+use Rattle.plan_packed.specs.Syntax.{literal, variable, new, read, write, letIn, fork, Program}
 use Rattle.rules.specs.State.{Cell, lookup}
 use Rattle.rules.specs.Run.{Stop, end, race, play}
-use Rattle.conflicts.proofs.FirstConflict.{firstConflict}
+use Rattle.log_conflicts.proofs.FirstConflict.{firstConflict}
 
 -- main is `let 0 = new(1, 2) in let - = fork (let - = v0.1 := null in v0.2 := v0) in let - = v0.2 in v0.1`, field 1 plain, field 2 volatile
 abbrev handOver : Version → Program

@@ -3,12 +3,12 @@ use Prim.Native.Nat.{ℕ}
 use mathlib.Core.Path.{_≡_}
 use mathlib.Core.List.{List}
 use mathlib.Core.Option.{Option}
-use Rattle.conflicts.specs.Judge.{named, Answers}
-use Rattle.records.specs.Packed.{bytesOf}
-use Rattle.packed.specs.Trees.{programOf}
-use Rattle.refusals.specs.declared.Checked.the-variants as checked
+use Rattle.log_conflicts.specs.Judge.{named, Answers}
+use Rattle.log_records.specs.Packed.{bytesOf}
+use Rattle.plan_packed.specs.Trees.{programOf}
+use Rattle.plan_refusals.specs.declared.Checked.the-variants as checked
 use Rattle.rules.specs.Play.{runOf}
-use Rattle.player.specs.Answer.{stopOf}
+use Rattle.play.specs.Answer.{stopOf}
 use Rattle.judge.specs.declared.Judgement.the-variants as judgement
 use Rattle.judge.specs.Answer.{answered}
 use Rattle.agreement.specs.Agreement.{NamedBy, Agreement}

@@ -7,12 +7,12 @@ use mathlib.Core.Logic.{_↔_}
 use mathlib.Core.Option.{Option, some, none}
 use lib.Dec.{T}
 use lib.ListN.{length, getElem?}
-use Rattle.order.specs.Chains.{At, Unordered}
-use Rattle.conflicts.specs.Judge.{Judged, named, Answers}
-use Rattle.packed.specs.Syntax.{Program}
-use Rattle.records.specs.Record.{Record, isPlain, lacksKey}
-use Rattle.records.specs.Packed.{bytesOf, logOf}
-use Rattle.records.specs.Refusals.{logRefusal}
+use Rattle.log_order.specs.Chains.{At, Unordered}
+use Rattle.log_conflicts.specs.Judge.{Judged, named, Answers}
+use Rattle.plan_packed.specs.Syntax.{Program}
+use Rattle.log_records.specs.Record.{Record, isPlain, lacksKey}
+use Rattle.log_records.specs.Packed.{bytesOf, logOf}
+use Rattle.log_records.specs.Refusals.{logRefusal}
 use Rattle.rules.specs.Rules.{Lacks}
 use Rattle.rules.specs.Run.{Stop, end, race, noRoom, Run}
 

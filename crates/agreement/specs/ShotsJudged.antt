@@ -2,9 +2,9 @@
 use Prim.Native.Nat.{ℕ}
 use mathlib.Core.List.{List, [], _∷_}
 use mathlib.Core.Option.{Option, some, none}
-use Rattle.conflicts.specs.Judge.{Judged, refused, named}
-use Rattle.records.specs.Record.{Record}
-use Rattle.records.specs.Packed.{logOf}
+use Rattle.log_conflicts.specs.Judge.{Judged, refused, named}
+use Rattle.log_records.specs.Record.{Record}
+use Rattle.log_records.specs.Packed.{logOf}
 use Rattle.rules.specs.ShotList.{Expected}
 
 -- the judgement of what comes of a case, for any judge of logs: of a run, the judge's of the bytes that it wrote; a refused play has its own refusal

@@ -3,15 +3,15 @@
 ghost use mathlib.Core.Path.{_≡_};
 ghost use Prim.Native.Nat.{_≤_};
 ghost use lib.ListN.{length, take};
-ghost use Rattle.conflicts.specs.Judge.{AnswersTold};
+ghost use Rattle.log_conflicts.specs.Judge.{AnswersTold};
 ghost use Rattle.rules.specs.Play.{played, areaAfter};
-ghost use Rattle.player.specs.Answer.{answered, NoRunIfRefused};
+ghost use Rattle.play.specs.Answer.{answered, NoRunIfRefused};
 ghost use Rattle.judge.specs.Answer as judge;
 ghost use Rattle.agreement.specs.AgreedOn.{AgreedOn};
-use header::layout;
 use judge::Judgement;
-use player::outcome::Played;
-use refusals::Checked;
+use plan_header::layout;
+use plan_refusals::Checked;
+use play::outcome::Played;
 
 // What a play answers, and what the judge says of the records that it wrote, or the refusal of the play.
 pub struct PlayedAndJudged {
@@ -35,7 +35,7 @@ pub fn play_and_judge(plan: &[u8], schedule: &[u8], log: &mut [u8]) -> PlayedAnd
     ensures agreed { λ r. ⌜ AgreedOn (now (plan .entry)) (now (schedule .entry)) r ⌝ }
     ensures refused { λ r. ⌜ NoRunIfRefused (r .played) ⌝ }
 {
-    let played = player::play(plan, schedule, log);
+    let played = play::play(plan, schedule, log);
     let checked = played.checked;
     let outcome = played.outcome;
     match checked {
@@ -47,7 +47,7 @@ pub fn play_and_judge(plan: &[u8], schedule: &[u8], log: &mut [u8]) -> PlayedAnd
             },
         },
         Checked::Passed => {
-            let bytes = player::outcome::record_bytes(outcome.records);
+            let bytes = play::outcome::record_bytes(outcome.records);
             let version = layout::version(plan);
             let judgement = judge_first(version, log, bytes);
             PlayedAndJudged {

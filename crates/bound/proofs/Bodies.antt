@@ -8,18 +8,18 @@ use mathlib.Core.Option.{Option, some, none}
 use lib.Dec.{eqb, ltb}
 use lib.ListN.{length, getElem?}
 use borrow.Author.Tests.{eqb-true}
-use Rattle.packed.specs.Syntax.{Expression, Condition, Arguments, Procedure, Program}
-use Rattle.packed.specs.Format.{procedures, terms, root}
-use Rattle.packed.specs.Trees.{treeAt, procedureAt, programOf}
-use Rattle.packed.specs.Check.{refusal}
-use Rattle.packed.specs.Slots.{bound}
-use Rattle.packed.specs.Steps.{Right, Loaded, Ordered, treeIn}
-use Rattle.packed.proofs.Accepted.{accepted}
-use Rattle.packed.proofs.Decoded.{procedures-are, procedures-inside, well-formed}
-use Rattle.packed.proofs.NodeOrder.{ordered, tree-is}
-use Rattle.packed.proofs.Passing.{header-of, all-right}
-use Rattle.packed.proofs.Shown.{make-sized}
-use Rattle.packed.proofs.WellFormed.{WellFormed, WellFormedᶜ, WellFormedᵃ}
+use Rattle.plan_packed.specs.Syntax.{Expression, Condition, Arguments, Procedure, Program}
+use Rattle.plan_packed.specs.Format.{procedures, terms, root}
+use Rattle.plan_packed.specs.Trees.{treeAt, procedureAt, programOf}
+use Rattle.plan_packed.specs.Check.{refusal}
+use Rattle.plan_packed.specs.Slots.{bound}
+use Rattle.plan_packed.specs.Steps.{Right, Loaded, Ordered, treeIn}
+use Rattle.plan_packed.proofs.Accepted.{accepted}
+use Rattle.plan_packed.proofs.Decoded.{procedures-are, procedures-inside, well-formed}
+use Rattle.plan_packed.proofs.NodeOrder.{ordered, tree-is}
+use Rattle.plan_packed.proofs.Passing.{header-of, all-right}
+use Rattle.plan_packed.proofs.Shown.{make-sized}
+use Rattle.plan_packed.proofs.WellFormed.{WellFormed, WellFormedᶜ, WellFormedᵃ}
 use Rattle.rules.proofs.StateLaws.{inside, there}
 use Rattle.costs.specs.Cost.{cost, costOfBody, bodyCost}
 use Rattle.costs.specs.Calls.{calls, callsᶜ, callsᵃ, callsBy, called}

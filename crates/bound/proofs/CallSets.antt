@@ -4,11 +4,11 @@ use mathlib.Core.Path.{_≡_, refl, ap, ap₂, sym, _∙_}
 use mathlib.Core.Bool.{Bool, true, false, _||_, or-assoc}
 use lib.Bits.{bitOr, or-lt}
 use lib.Dec.{eqb}
-use Rattle.keys.specs.Keys.{holds, union}
-use Rattle.keys.proofs.KeyLaws.{holds-union}
-use Rattle.packed.specs.Syntax.{Signal, Expression, Condition, Arguments}
+use Rattle.run_keys.specs.Keys.{holds, union}
+use Rattle.run_keys.proofs.KeyLaws.{holds-union}
+use Rattle.plan_packed.specs.Syntax.{Signal, Expression, Condition, Arguments}
 use Rattle.costs.specs.Calls.{calls, callsᶜ, callsᵃ}
-use Rattle.cost_walk.specs.Walked.{signalled, walked, walkedᶜ, walkedᵃ}
+use Rattle.plan_cost_walk.specs.Walked.{signalled, walked, walkedᶜ, walkedᵃ}
 
 -- an element of either set
 either : (n m q : ℕ) → holds (bitOr n m) q ≡ (holds n q || holds m q)

@@ -5,10 +5,10 @@ use mathlib.Core.Path.{_≡_, refl, ap, _∙_}
 use mathlib.Core.Bool.{Bool, true, false, _||_}
 use lib.Dec.{eqb}
 use borrow.Author.Tests.{eq-eqb}
-use Rattle.packed.specs.Syntax.{Signal, Expression, Condition, Arguments}
+use Rattle.plan_packed.specs.Syntax.{Signal, Expression, Condition, Arguments}
 use Rattle.costs.specs.Cost.{oneMore, cost, costᶜ, costᵃ}
 use Rattle.costs.specs.Calls.{calls, callsᶜ, callsᵃ}
-use Rattle.cost_walk.specs.Walked.{capped, signalled, walked, walkedᶜ, walkedᵃ}
+use Rattle.plan_cost_walk.specs.Walked.{capped, signalled, walked, walkedᶜ, walkedᵃ}
 
 -- ---- sums, no further than 65,536
 

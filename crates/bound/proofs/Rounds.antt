@@ -12,18 +12,18 @@ use lib.ListN.{length, getD, set, List·getD-eq-default, length-set, replicate}
 use lib.Pow.{pow-lt}
 use lib.Seq.{getD-set-same, getD-set-other}
 use borrow.Author.Tests.{eq-eqb, ne-eqb}
-use Rattle.keys.specs.Keys.{singleton, holds, subset}
-use Rattle.keys.proofs.KeyLaws.{holds-empty, holds-singleton}
-use Rattle.packed.specs.Format.{procedures, root}
-use Rattle.packed.specs.Trees.{programOf}
-use Rattle.packed.specs.Steps.{treeIn}
+use Rattle.run_keys.specs.Keys.{singleton, holds, subset}
+use Rattle.run_keys.proofs.KeyLaws.{holds-empty, holds-singleton}
+use Rattle.plan_packed.specs.Format.{procedures, root}
+use Rattle.plan_packed.specs.Trees.{programOf}
+use Rattle.plan_packed.specs.Steps.{treeIn}
 use Rattle.costs.specs.Cost.{cost, bodyCost}
 use Rattle.costs.specs.Calls.{calls, called}
 use Rattle.costs.specs.Leading.{leadsOn}
 use Rattle.costs.proofs.Below.{by-true}
 use Rattle.costs.proofs.Chains.{goes, one-less}
 use Rattle.costs.proofs.Fixed.{stable}
-use Rattle.cost_walk.specs.Walked.{capped, entryOf, walked}
+use Rattle.plan_cost_walk.specs.Walked.{capped, entryOf, walked}
 use Rattle.bound.specs.Settling.{Loads, Bits, Called, SettledBy, Settled, Stuck}
 use Rattle.bound.proofs.Counting.{counted}
 use Rattle.bound.proofs.CallSets.{found, within}

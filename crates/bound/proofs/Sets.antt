@@ -8,8 +8,8 @@ use mathlib.Core.Logic.{_⊎_, inl, inr}
 use lib.Bits.{bitOr, bitAnd, or-step, or-add-and, and-le-r, or-zero-l}
 use lib.Dec.{eqb}
 use borrow.Author.Tests.{eqb-true, eq-eqb, ne-eqb}
-use Rattle.keys.specs.Keys.{singleton, holds, union, subset}
-use Rattle.keys.proofs.KeyLaws.{holds-zero, holds-suc, holds-singleton, holds-union}
+use Rattle.run_keys.specs.Keys.{singleton, holds, union, subset}
+use Rattle.run_keys.proofs.KeyLaws.{holds-zero, holds-suc, holds-singleton, holds-union}
 use Rattle.costs.proofs.Below.{either}
 
 -- one more element

@@ -6,15 +6,15 @@ use mathlib.Core.Bool.{Bool, true, false}
 use mathlib.Core.List.{List}
 use mathlib.Core.Option.{none}
 use lib.ListN.{length, getD}
-use Rattle.keys.specs.Keys.{singleton, holds, subset}
-use Rattle.packed.specs.Format.{procedures, terms}
-use Rattle.packed.specs.Trees.{programOf}
-use Rattle.packed.specs.Check.{refusal}
-use Rattle.packed.specs.Steps.{Loaded}
+use Rattle.run_keys.specs.Keys.{singleton, holds, subset}
+use Rattle.plan_packed.specs.Format.{procedures, terms}
+use Rattle.plan_packed.specs.Trees.{programOf}
+use Rattle.plan_packed.specs.Check.{refusal}
+use Rattle.plan_packed.specs.Steps.{Loaded}
 use Rattle.costs.specs.Cost.{bodyCost}
 use Rattle.costs.specs.Calls.{called}
 use Rattle.costs.specs.Leading.{leadsOn}
-use Rattle.cost_walk.specs.Walked.{capped}
+use Rattle.plan_cost_walk.specs.Walked.{capped}
 
 -- an accepted plan with so many procedures, its terms' 40 bits in an array
 pub record Loads (b : List ℕ) (n : ℕ) (words : List ℕ) : Type 0 where

@@ -2,15 +2,15 @@
 pub mod settling; // settling.rt: whom each procedure calls, and what bodies cost, callees first
 
 ghost use mathlib.Core.Path.{_≡_};
-ghost use Rattle.packed.specs.Format.{terms};
+ghost use Rattle.plan_packed.specs.Format.{terms};
 ghost use Rattle.costs.specs.Bound.{bounded};
 ghost use Rattle.answers.specs.Answer.{answered};
 ghost use Rattle.bound.specs.NoMoreMoves.{NoMoreMoves};
 ghost use Rattle.bound.specs.Settling.{Loads};
 use answers::Answered;
-use header::layout;
-use operands::tags;
-use refusals::Checked;
+use plan_header::layout;
+use plan_operands::tags;
+use plan_refusals::Checked;
 
 // Refusals 21 to 23 of a plan that passes the others and is in `words`, else the total.
 fn total_of(plan: &[u8], procedures: usize, count: usize, words: &[usize; 1024]) -> Answered
@@ -27,7 +27,7 @@ fn total_of(plan: &[u8], procedures: usize, count: usize, words: &[usize; 1024])
             place: 0,
         };
     }
-    if tag_search::occurs(words, count, tags::WHILE) {
+    if plan_tag_search::occurs(words, count, tags::WHILE) {
         return Answered::Refused {
             number: 22,
             place: 0,

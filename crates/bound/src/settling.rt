@@ -5,9 +5,9 @@ ghost use mathlib.Core.Bool.{_&&_, not};
 ghost use Prim.Native.Nat.{_<_, _≤_};
 ghost use lib.ListN.{length, replicate};
 ghost use Rattle.format.specs.Lowest.{Lowest};
-ghost use Rattle.keys.specs.Keys.{holds, subset};
+ghost use Rattle.run_keys.specs.Keys.{holds, subset};
 ghost use Rattle.bound.specs.Settling.{Loads, Bits, Called, Settled, Stuck};
-use header::layout;
+use plan_header::layout;
 
 // The set of each procedure alone.
 fn bits() -> [usize; 32]
@@ -32,7 +32,7 @@ pub fn calls(plan: &[u8], procedures: usize, words: &[usize; 1024]) -> [usize; 3
     let mut procedure = 0;
     while procedure < procedures {
         let root = layout::root(plan, procedure);
-        all[procedure] = cost_walk::walk_expression(words, root, &bits, false, 0);
+        all[procedure] = plan_cost_walk::walk_expression(words, root, &bits, false, 0);
         procedure += 1;
     }
     all
@@ -71,7 +71,7 @@ fn round(
         procedure -= 1;
         if is_next(calls[procedure], done, procedure) {
             let root = layout::root(plan, procedure);
-            let cost = cost_walk::walk_expression(words, root, costs, true, 0);
+            let cost = plan_cost_walk::walk_expression(words, root, costs, true, 0);
             costs[procedure] = cost;
             done = done | (1usize << procedure);
         }

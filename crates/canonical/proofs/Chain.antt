@@ -9,11 +9,11 @@ use borrow.Author.Tests.{lt-ltb, le-ltb, ltb-false}
 use Rattle.format.specs.Refusal.{Refusal, Check, checkWhole, orElse, lowest, refuse, firstRefusal}
 use Rattle.format.proofs.LowestLaws.{whole, whole-none}
 use Rattle.format.proofs.RefusalLaws.{refusal-append, both-none, head-pass, none-is-pass}
-use Rattle.packed.specs.Check.{checks, refusal}
-use Rattle.refusals.specs.Answer.{answered}
-use Rattle.refusals.proofs.Stages.{refused-first, passed-first}
-use Rattle.refusals.specs.declared.Checked.{Checked}
-use Rattle.refusals.specs.declared.Checked.the-variants.{Passed, Refused}
+use Rattle.plan_packed.specs.Check.{checks, refusal}
+use Rattle.plan_refusals.specs.Answer.{answered}
+use Rattle.plan_refusals.proofs.Stages.{refused-first, passed-first}
+use Rattle.plan_refusals.specs.declared.Checked.{Checked}
+use Rattle.plan_refusals.specs.declared.Checked.the-variants.{Passed, Refused}
 use Rattle.canonical.specs.Canonical.{shortOutput, canonicalChecks, canonicalRefusal}
 
 -- check 13

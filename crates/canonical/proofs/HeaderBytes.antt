@@ -8,14 +8,14 @@ use lib.ListN.{length, take, drop, getD}
 use lib.Seq.{drop-cons, take-add}
 use Rattle.format.specs.Bits.{bitsAt}
 use Rattle.format.proofs.BitLaws.{bits-add, byte-at, field-of}
-use Rattle.packed.specs.Format
-use Rattle.packed.specs.Format.{version, terms, headerSpare, volatiles}
-use Rattle.packed.specs.Trees.{programOf}
-use Rattle.packed.specs.Check.{refusal}
-use Rattle.packed.proofs.Accepted.{Accepted, accepted}
-use Rattle.written.specs.Written.{bytesOf, versionNumber, headerOf}
-use Rattle.written.proofs.Passes.{count-is, total-is, version-of, version-back, mask-is, plan-length}
-use Rattle.written.proofs.ReadBack.{heads, header-is}
+use Rattle.plan_packed.specs.Format
+use Rattle.plan_packed.specs.Format.{version, terms, headerSpare, volatiles}
+use Rattle.plan_packed.specs.Trees.{programOf}
+use Rattle.plan_packed.specs.Check.{refusal}
+use Rattle.plan_packed.proofs.Accepted.{Accepted, accepted}
+use Rattle.plan_written.specs.Written.{bytesOf, versionNumber, headerOf}
+use Rattle.plan_written.proofs.Passes.{count-is, total-is, version-of, version-back, mask-is, plan-length}
+use Rattle.plan_written.proofs.ReadBack.{heads, header-is}
 
 -- the last n bytes of the number in M bytes
 bytes-of-bits : (l : List ℕ) (i M n : ℕ) → ((j : ℕ) → getD l j 0 < 256) → n ≤ M → i + M ≤ length l

@@ -6,11 +6,11 @@ use mathlib.Core.Option.{Option, some, none}
 use lib.ListN.{length}
 use Rattle.format.specs.Refusal.{Refusal, Check, check, checkWhole, orElse, firstRefusal}
 use Rattle.format.proofs.RefusalLaws.{refusal-append}
-use Rattle.packed.specs.Syntax.{Program}
-use Rattle.packed.specs.Trees.{programOf}
-use Rattle.packed.specs.Check.{checks, refusal}
-use Rattle.written.specs.Written.{writtenPlan}
-use Rattle.written.proofs.OneWay.{passes, same-program}
+use Rattle.plan_packed.specs.Syntax.{Program}
+use Rattle.plan_packed.specs.Trees.{programOf}
+use Rattle.plan_packed.specs.Check.{checks, refusal}
+use Rattle.plan_written.specs.Written.{writtenPlan}
+use Rattle.plan_written.proofs.OneWay.{passes, same-program}
 use Rattle.rules.specs.Play.{tooManyPicks, wrongPick, shortArea, scheduleChecks, playChecks, playRefusal, runOf, playedBy, played, areaBy, areaAfter}
 
 -- ---- a play asks nothing of a plan but its refusal and its program

@@ -6,21 +6,21 @@ use mathlib.Core.List.{List, [], _∷_}
 use mathlib.Core.Option.{none}
 use lib.ListN.{length}
 use lib.Seq.{sets}
-use Rattle.packed.specs.Syntax.{Procedure}
-use Rattle.packed.specs.Format
-use Rattle.packed.specs.Format.{terms, parameters, root}
-use Rattle.packed.specs.Steps.{Right, Ordered, treeIn}
-use Rattle.packed.specs.Trees.{treeAt, procedureAt, proceduresFrom, programOf}
-use Rattle.packed.specs.Check.{refusal}
-use Rattle.packed.proofs.Accepted.{Accepted, accepted}
-use Rattle.packed.proofs.Passing.{all-right}
-use Rattle.packed.proofs.NodeOrder.{ordered, tree-is}
-use Rattle.written.specs.Terms.{TermTree, termsOf, size}
-use Rattle.written.specs.Written.{bytesOf, sizeOfAll}
-use Rattle.written.proofs.Named.{size-pos}
-use Rattle.written.proofs.Passes.{total-is, plan-length, body-is, parameters-are}
-use Rattle.written.proofs.Sizes.{program-procedures}
-use Rattle.tree_writer.specs.Left.{Room, Wrote, expressionsIn}
+use Rattle.plan_packed.specs.Syntax.{Procedure}
+use Rattle.plan_packed.specs.Format
+use Rattle.plan_packed.specs.Format.{terms, parameters, root}
+use Rattle.plan_packed.specs.Steps.{Right, Ordered, treeIn}
+use Rattle.plan_packed.specs.Trees.{treeAt, procedureAt, proceduresFrom, programOf}
+use Rattle.plan_packed.specs.Check.{refusal}
+use Rattle.plan_packed.proofs.Accepted.{Accepted, accepted}
+use Rattle.plan_packed.proofs.Passing.{all-right}
+use Rattle.plan_packed.proofs.NodeOrder.{ordered, tree-is}
+use Rattle.plan_written.specs.Terms.{TermTree, termsOf, size}
+use Rattle.plan_written.specs.Written.{bytesOf, sizeOfAll}
+use Rattle.plan_written.proofs.Named.{size-pos}
+use Rattle.plan_written.proofs.Passes.{total-is, plan-length, body-is, parameters-are}
+use Rattle.plan_written.proofs.Sizes.{program-procedures}
+use Rattle.plan_tree_writer.specs.Left.{Room, Wrote, expressionsIn}
 use Rattle.plan_writer.proofs.Plans.{sizes-more, both, both-length, none-more, step-more}
 use Rattle.canonical.specs.Begun.{Ready, restFrom, treesWritten}
 

@@ -5,7 +5,7 @@ use mathlib.Core.Path.{_≡_, sym, ap, _∙_}
 use mathlib.Core.List.{List, [], _∷_, _++_}
 use lib.ListN.{length, take, getD, set}
 use lib.Seq.{sets, length-sets, length-take-le, take-suc}
-use Rattle.tree_writer.proofs.Areas.{sets-append}
+use Rattle.plan_tree_writer.proofs.Areas.{sets-append}
 
 pub record Copied (plan area₀ : List ℕ) (i : ℕ) (area : List ℕ) : Type 0 where
   pub within : i ≤ 8

@@ -8,17 +8,17 @@ use lib.ListN.{length, take, getD}
 use lib.Seq.{sets}
 use Rattle.format.specs.Area.{overwrite}
 use Rattle.format.specs.Refusal.{Refusal}
-use Rattle.packed.specs.Syntax.{Procedure}
-use Rattle.packed.specs.Format
-use Rattle.packed.specs.Trees.{programOf}
-use Rattle.packed.specs.Check.{refusal}
-use Rattle.refusals.specs.Answer as refusals
-use Rattle.refusals.specs.declared.Checked.{Checked}
-use Rattle.refusals.specs.declared.Checked.the-variants as checked
-use Rattle.written.specs.Written.{writtenPlan}
-use Rattle.written.proofs.Passes.{count-is}
-use Rattle.written.proofs.OneWay.{same-length}
-use Rattle.written.proofs.ReadBack.{heads, whole-length}
+use Rattle.plan_packed.specs.Syntax.{Procedure}
+use Rattle.plan_packed.specs.Format
+use Rattle.plan_packed.specs.Trees.{programOf}
+use Rattle.plan_packed.specs.Check.{refusal}
+use Rattle.plan_refusals.specs.Answer as refusals
+use Rattle.plan_refusals.specs.declared.Checked.{Checked}
+use Rattle.plan_refusals.specs.declared.Checked.the-variants as checked
+use Rattle.plan_written.specs.Written.{writtenPlan}
+use Rattle.plan_written.proofs.Passes.{count-is}
+use Rattle.plan_written.proofs.OneWay.{same-length}
+use Rattle.plan_written.proofs.ReadBack.{heads, whole-length}
 use Rattle.plan_writer.proofs.Plans.{both, plan-whole}
 use Rattle.answers.specs.Answer.{answered, value, answerBy}
 use Rattle.answers.specs.declared.Answered.the-variants.{Value, Refused}

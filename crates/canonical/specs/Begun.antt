@@ -6,13 +6,13 @@ use mathlib.Core.Option.{Option, none}
 use lib.ListN.{length}
 use lib.Seq.{sets}
 use Rattle.format.specs.Refusal.{Refusal}
-use Rattle.packed.specs.Syntax.{Procedure}
-use Rattle.packed.specs.Format
-use Rattle.packed.specs.Format.{terms}
-use Rattle.packed.specs.Steps.{Loaded}
-use Rattle.packed.specs.Trees.{proceduresFrom}
-use Rattle.packed.specs.Check.{refusal}
-use Rattle.written.specs.Written.{procedureBytes, termWords, wordBytes}
+use Rattle.plan_packed.specs.Syntax.{Procedure}
+use Rattle.plan_packed.specs.Format
+use Rattle.plan_packed.specs.Format.{terms}
+use Rattle.plan_packed.specs.Steps.{Loaded}
+use Rattle.plan_packed.specs.Trees.{proceduresFrom}
+use Rattle.plan_packed.specs.Check.{refusal}
+use Rattle.plan_written.specs.Written.{procedureBytes, termWords, wordBytes}
 use Rattle.canonical.specs.Canonical.{canonicalRefusal}
 
 -- of any area of n bytes

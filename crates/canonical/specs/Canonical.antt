@@ -7,9 +7,9 @@ use lib.Dec.{ltb}
 use lib.ListN.{length}
 use Rattle.format.specs.Area.{overwrite}
 use Rattle.format.specs.Refusal.{Refusal, Check, checkWhole, firstRefusal}
-use Rattle.packed.specs.Check.{checks}
+use Rattle.plan_packed.specs.Check.{checks}
 use Rattle.answers.specs.Answer.{Answer, answerBy}
-use Rattle.written.specs.Written.{writtenPlan}
+use Rattle.plan_written.specs.Written.{writtenPlan}
 
 -- ---- 13: "output area shorter than the plan"
 

@@ -1,18 +1,18 @@
 // The entry `canonical`: a plan, written in the one way that document 02, E5, names, into an output area.
 use answers::Answered;
-use header::layout;
+use plan_header::layout;
+use plan_refusals::Checked;
+use plan_refusals::refused;
 use plan_writer::put_procedure;
-use refusals::Checked;
-use refusals::refused;
 ghost use Prim.Native.Nat.{_≤_};
 ghost use mathlib.Core.Path.{_≡_};
 ghost use lib.ListN.{length, take, replicate};
 ghost use lib.Seq.{sets};
 ghost use Rattle.format.specs.Area.{overwrite};
-ghost use Rattle.packed.specs.Format.{terms, procedures};
-ghost use Rattle.packed.specs.Steps.{Loaded};
-ghost use Rattle.refusals.specs.Answer as refusals;
-ghost use Rattle.written.specs.Written.{writtenPlan};
+ghost use Rattle.plan_packed.specs.Format.{terms, procedures};
+ghost use Rattle.plan_packed.specs.Steps.{Loaded};
+ghost use Rattle.plan_refusals.specs.Answer as refusals;
+ghost use Rattle.plan_written.specs.Written.{writtenPlan};
 ghost use Rattle.canonical.specs.Canonical.{canonicalAnswer, canonicalArea};
 ghost use Rattle.answers.specs.Answer.{answered};
 ghost use Rattle.canonical.specs.Begun.{RefusedAs, Ready, treesWritten};
@@ -59,7 +59,7 @@ fn write_trees(plan: &[u8], words: &[usize; 1024], area: &mut [u8], count: usize
         let parameters = layout::parameters(plan, procedure);
         put_procedure(area, 8 + 2 * procedure, parameters, number);
         let root = layout::root(plan, procedure);
-        number = tree_writer::write_expression(words, root, area, base, number);
+        number = plan_tree_writer::write_expression(words, root, area, base, number);
         procedure += 1;
     }
 }

@@ -9,17 +9,17 @@ use lib.ListN.{length}
 use borrow.Author.Tests.{le-ltb}
 use Rattle.format.specs.Refusal.{Refusal, lowest, refuse, orElse, firstRefusal}
 use Rattle.format.proofs.LowestLaws.{whole-none}
-use Rattle.packed.specs.Trees.{programOf}
-use Rattle.refusals.specs.declared.Checked.{Checked}
-use Rattle.refusals.specs.declared.Checked.the-variants as checked
+use Rattle.plan_packed.specs.Trees.{programOf}
+use Rattle.plan_refusals.specs.declared.Checked.{Checked}
+use Rattle.plan_refusals.specs.declared.Checked.the-variants as checked
 use Rattle.rules.specs.Run as run
 use Rattle.rules.specs.Play as play
 use Rattle.rules.specs.Play.{shortArea, scheduleRefusal, playRefusal, played, playedBy, runOf}
-use Rattle.play_refusals.proofs.RefusalChain.{areaChecks, play-stages}
-use Rattle.play_refusals.proofs.Passed.{scheduled}
-use Rattle.player.specs.declared.outcome.Played.{Played}
-use Rattle.player.specs.Answer.{stopOf, outcomeOf, answeredBy, answered}
-use Rattle.player.proofs.Ran.{not-refused, ran-is, outcome-is}
+use Rattle.run_refusals.proofs.RefusalChain.{areaChecks, play-stages}
+use Rattle.run_refusals.proofs.Passed.{scheduled}
+use Rattle.play.specs.declared.outcome.Played.{Played}
+use Rattle.play.specs.Answer.{stopOf, outcomeOf, answeredBy, answered}
+use Rattle.play.proofs.Ran.{not-refused, ran-is, outcome-is}
 use Rattle.answers.specs.Answer.{Answer, value, refused, answerBy}
 use Rattle.charge.specs.Charge.{priceBy, chargeOf, charged}
 

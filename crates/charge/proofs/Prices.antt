@@ -6,9 +6,9 @@ use mathlib.Core.Bool.{Bool, true, false}
 use mathlib.Core.List.{map}
 use Rattle.rules.specs.Room.{Room}
 use Rattle.rules.specs.Run.{Stop}
-use Rattle.prices.proofs.Roundings.{hundreds-few}
+use Rattle.run_prices.proofs.Roundings.{hundreds-few}
 use Rattle.charge.specs.Figures.{Figure, figures}
-use Rattle.prices.specs.Price.{runCost, risen, price}
+use Rattle.run_prices.specs.Price.{runCost, risen, price}
 use Rattle.charge.specs.Charge.{priceBy}
 
 pub figures-plain : map (λ (x : Figure). priceBy false Stop.end (x .moves)) figures ≡ map (λ (x : Figure). x .plain) figures

@@ -3,11 +3,11 @@
 use Prim.Native.Nat.{ℕ}
 use mathlib.Core.Bool.{Bool}
 use mathlib.Core.List.{List}
-use Rattle.packed.specs.Trees.{programOf}
+use Rattle.plan_packed.specs.Trees.{programOf}
 use Rattle.rules.specs.Run.{Stop, Outcome, outcomeOf}
 use Rattle.rules.specs.Play.{scheduleRefusal, runOf}
 use Rattle.answers.specs.Answer.{Answer, answerBy}
-use Rattle.prices.specs.Price.{price}
+use Rattle.run_prices.specs.Price.{price}
 
 -- "Runs that stop for room are free."; a run that ends, or stops for a missing key, costs its price
 unfoldable pub priceBy : Bool → Stop → ℕ → ℕ

@@ -2,12 +2,12 @@
 ghost use mathlib.Core.Path.{_≡_};
 ghost use Prim.Native.Nat.{_≤_};
 ghost use Rattle.answers.specs.Answer.{answered};
-ghost use Rattle.player.specs.Answer.{stopOf};
+ghost use Rattle.play.specs.Answer.{stopOf};
 ghost use Rattle.charge.specs.Charge.{priceBy, charged};
 use answers::Answered;
-use prices::price;
-use refusals::Checked;
+use plan_refusals::Checked;
 use run_outcome::Stop;
+use run_prices::price;
 
 // A run that stops for room is free.
 fn price_by(option: bool, stop: Stop, moves: usize) -> usize
@@ -26,7 +26,7 @@ pub fn charge(plan: &[u8], schedule: &[u8], option: bool) -> Answered
     ensures answer { λ r. ⌜ answered r ≡ charged (now (plan .entry)) (now (schedule .entry)) option ⌝ }
 {
     let mut log = [0u8; 12288];
-    let played = player::play(plan, schedule, &mut log);
+    let played = play::play(plan, schedule, &mut log);
     let checked = played.checked;
     let outcome = played.outcome;
     match checked {

@@ -32,14 +32,14 @@ fn write_configuration(name: &[u8], samples: usize)
     requires { ⌜ samples ≤ 4096 ⌝ }
 {
     let mut area = [0u8; 1024];
-    let length = configuration::put_configuration(&mut area, samples);
+    let length = text_configuration::put_configuration(&mut area, samples);
     write_file(name, &area[..length]);
 }
 
 // The lines of a refusal, on standard output.
 fn say_refusal(number: usize, place: usize) {
     let mut area = [0u8; 200];
-    let length = refusal_lines::put_refusal_lines(&mut area, 0, number, place);
+    let length = text_refusal_lines::put_refusal_lines(&mut area, 0, number, place);
     io::write_all(STDOUT_FILENO, &area[..length]);
 }
 

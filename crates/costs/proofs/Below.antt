@@ -7,7 +7,7 @@ use mathlib.Core.Bool.{Bool, true, false, cond, _&&_, _||_, true≢false}
 use mathlib.Core.Logic.{_⊎_, inl, inr}
 use lib.Dec.{eqb}
 use borrow.Author.Tests.{eq-eqb, ne-eqb}
-use Rattle.packed.specs.Refusals.{anyBelow, sumBelow, oneIf}
+use Rattle.plan_packed.specs.Refusals.{anyBelow, sumBelow, oneIf}
 
 -- ---- bools
 

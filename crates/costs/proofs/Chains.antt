@@ -9,8 +9,8 @@ use mathlib.Core.List.{List, [], _∷_}
 use mathlib.Core.Logic.{_⊎_, inl, inr}
 use mathlib.Core.Option.{Option, some, none}
 use lib.ListN.{length, getElem?}
-use Rattle.packed.specs.Syntax.{Procedure, Program}
-use Rattle.packed.specs.Refusals.{anyBelow}
+use Rattle.plan_packed.specs.Syntax.{Procedure, Program}
+use Rattle.plan_packed.specs.Refusals.{anyBelow}
 use Rattle.rules.proofs.StateLaws.{inside}
 use Rattle.costs.specs.Calls.{callsBy, called, chain, cyclic}
 use Rattle.costs.specs.Leading.{leadsOn}

@@ -7,8 +7,8 @@ use mathlib.Core.List.{List, [], _∷_, _++_, map}
 use mathlib.Core.Logic.{_⊎_, inl, inr}
 use mathlib.Core.Option.{Option, some, none}
 use lib.ListN.{length, getElem?}
-use Rattle.packed.specs.Syntax.{Expression, Condition, Arguments, literal, bool, bind, bindParameters, Procedure, Program}
-use Rattle.records.specs.Record.{Record}
+use Rattle.plan_packed.specs.Syntax.{Expression, Condition, Arguments, literal, bool, bind, bindParameters, Procedure, Program}
+use Rattle.log_records.specs.Record.{Record}
 use Rattle.rules.specs.Context.{plug, plugᶜ, literals, isTruth}
 use Rattle.rules.specs.Queue.{awake}
 use Rattle.rules.specs.State.{Thread, State, freshObject, changeAt, store, storeMonitor, addObject, gain, become, addThread, useKey, enqueue, signalled}

@@ -8,7 +8,7 @@ use mathlib.Core.Option.{Option, some, none}
 use lib.Dec.{eqb}
 use lib.ListN.{length, getElem?}
 use borrow.Author.Tests.{eq-eqb}
-use Rattle.packed.specs.Syntax.{Expression, Condition, Arguments, Procedure, Program}
+use Rattle.plan_packed.specs.Syntax.{Expression, Condition, Arguments, Procedure, Program}
 use Rattle.rules.proofs.StateLaws.{outside}
 use Rattle.costs.specs.Cost.{oneMore, cost, costᶜ, costᵃ, costOfBody, Costs, bodyCost, total}
 use Rattle.costs.specs.Calls.{calls, callsᶜ, callsᵃ, callsBy, called, cyclic}

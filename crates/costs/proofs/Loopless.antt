@@ -2,7 +2,7 @@
 use Prim.Native.Nat.{ℕ}
 use mathlib.Core.List.{List, [], _∷_}
 use mathlib.Core.Option.{Option, some, none}
-use Rattle.packed.specs.Syntax.{Expression, Condition, Arguments, literal, argument, Environment, without, valueOr, substitute, substituteᶜ, substituteᵃ}
+use Rattle.plan_packed.specs.Syntax.{Expression, Condition, Arguments, literal, argument, Environment, without, valueOr, substitute, substituteᶜ, substituteᵃ}
 use Rattle.rules.specs.Context.{Context, Contextᶜ, plug, plugᶜ, literals}
 
 -- no while occurs in it

@@ -7,8 +7,8 @@ use mathlib.Core.Bool.{Bool, true, false, cond}
 use mathlib.Core.List.{List, [], _∷_}
 use mathlib.Core.Option.{Option, some, none}
 use lib.Dec.{eqb}
-use Rattle.packed.specs.Syntax.{Signal, Expression, Condition, Arguments, literal, end, argument, Environment, without, valueOr, substitute, substituteᶜ}
-use Rattle.packed.specs.Syntax.{substituteᵃ, bool}
+use Rattle.plan_packed.specs.Syntax.{Signal, Expression, Condition, Arguments, literal, end, argument, Environment, without, valueOr, substitute, substituteᶜ}
+use Rattle.plan_packed.specs.Syntax.{substituteᵃ, bool}
 use Rattle.rules.specs.Context.{Context, Contextᶜ, plug, plugᶜ, literals, isTruth}
 use Rattle.costs.specs.Cost.{oneMore, cost, costᶜ, costᵃ}
 

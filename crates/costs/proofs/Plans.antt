@@ -9,10 +9,10 @@ use lib.ListN.{length, getElem?}
 use borrow.Author.Tests.{ltb-false}
 use Rattle.format.specs.Refusal.{Refusal, Check, checkWhole, firstRefusal, orElse}
 use Rattle.format.proofs.RefusalLaws.{both-none, head-pass, tail-pass, none-is-pass, refusal-append}
-use Rattle.keys.specs.Keys.{singleton}
-use Rattle.packed.specs.Syntax.{Expression, Arguments}
-use Rattle.packed.specs.Trees.{programOf}
-use Rattle.packed.specs.Check.{checks, refusal}
+use Rattle.run_keys.specs.Keys.{singleton}
+use Rattle.plan_packed.specs.Syntax.{Expression, Arguments}
+use Rattle.plan_packed.specs.Trees.{programOf}
+use Rattle.plan_packed.specs.Check.{checks, refusal}
 use Rattle.rules.specs.Queue.{awake}
 use Rattle.rules.specs.State.{Thread, start}
 use Rattle.rules.specs.Run.{outcomeOf}

@@ -6,8 +6,8 @@ use mathlib.Core.List.{List, [], _∷_, map}
 use mathlib.Core.Option.{none}
 use lib.ListN.{length}
 use Rattle.format.specs.Version.{v1}
-use Rattle.packed.specs.Syntax.{letIn, call, new, end, Procedure, Program}
-use Rattle.keys.specs.Keys.{holds, countNew}
+use Rattle.plan_packed.specs.Syntax.{letIn, call, new, end, Procedure, Program}
+use Rattle.run_keys.specs.Keys.{holds, countNew}
 use Rattle.rules.specs.Play.{runOf}
 use Rattle.rules.specs.ShotList.{planP}
 use Rattle.costs.specs.Cost.{total}

@@ -5,10 +5,10 @@ use mathlib.Core.List.{List, [], _∷_, _++_}
 use mathlib.Core.Option.{Option}
 use lib.Dec.{eqb, ltb}
 use Rattle.format.specs.Refusal.{Refusal, Check, checkWhole, firstRefusal}
-use Rattle.packed.specs.Format.{terms, tagAt}
-use Rattle.packed.specs.Trees.{programOf}
-use Rattle.packed.specs.Refusals.{anyBelow}
-use Rattle.packed.specs.Check.{checks}
+use Rattle.plan_packed.specs.Format.{terms, tagAt}
+use Rattle.plan_packed.specs.Trees.{programOf}
+use Rattle.plan_packed.specs.Refusals.{anyBelow}
+use Rattle.plan_packed.specs.Check.{checks}
 use Rattle.answers.specs.Answer.{Answer, answerBy}
 use Rattle.costs.specs.Cost.{total}
 use Rattle.costs.specs.Calls.{cyclic}

@@ -4,8 +4,8 @@ use mathlib.Core.Bool.{Bool, true, false, _&&_, _||_}
 use mathlib.Core.Option.{Option, some, none}
 use lib.Dec.{eqb}
 use lib.ListN.{length, getElem?}
-use Rattle.packed.specs.Syntax.{Expression, Condition, Arguments, Procedure, Program}
-use Rattle.packed.specs.Refusals.{anyBelow}
+use Rattle.plan_packed.specs.Syntax.{Expression, Condition, Arguments, Procedure, Program}
+use Rattle.plan_packed.specs.Refusals.{anyBelow}
 
 -- procedure q is called somewhere in it
 unfoldable mutual

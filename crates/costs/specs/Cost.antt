@@ -3,7 +3,7 @@ use Prim.Native.Nat.{ℕ, zero, suc, _+_, max}
 use mathlib.Core.Path.{_≡_}
 use mathlib.Core.Option.{Option, some, none}
 use lib.ListN.{length, getElem?}
-use Rattle.packed.specs.Syntax.{Signal, Expression, Condition, Arguments, Procedure, Program}
+use Rattle.plan_packed.specs.Syntax.{Signal, Expression, Condition, Arguments, Procedure, Program}
 
 -- "wait cost[s] one more": one move gives the monitor up, another takes it again
 abbrev pub oneMore : Signal → ℕ

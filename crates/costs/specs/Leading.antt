@@ -2,8 +2,8 @@
 use Prim.Native.Nat.{ℕ, zero, suc}
 use mathlib.Core.Bool.{Bool, true, _&&_}
 use lib.ListN.{length}
-use Rattle.packed.specs.Syntax.{Program}
-use Rattle.packed.specs.Refusals.{anyBelow}
+use Rattle.plan_packed.specs.Syntax.{Program}
+use Rattle.plan_packed.specs.Refusals.{anyBelow}
 use Rattle.costs.specs.Calls.{called}
 
 -- k calls lead on from procedure p

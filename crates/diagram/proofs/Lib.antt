@@ -1,2 +1,2 @@
-pub mod Whole
-pub mod Samples
+pub mod Pictures
+pub mod OnePicture

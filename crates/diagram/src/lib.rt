@@ -1,36 +1,63 @@
-// The picture of a log as SVG text: a lane for each thread, a row for each record, arrows between records, and a race in red.
-mod head; // head.rt: what stands before the lanes
-mod lanes; // lanes.rt: the lanes of threads
-
-ghost use Prim.Native.Nat.{_+_, _*_, _/_, _≤_};
+// The picture of a log as the judge sees it: the arrows that are needed, and in red the access that the judge names and the last earlier one that conflicts
+// with it and from which no chain leads to it.
 ghost use lib.ListN.{length};
-ghost use Rattle.records.specs.Packed.{logOf};
-ghost use Rattle.text.specs.Wrote.{Wrote};
-ghost use Rattle.diagram_elements.specs.Diagram.{diagramText, arrowsOf, raceOf};
-ghost use Rattle.diagram_elements.specs.Drawn.{Room};
-use diagram_elements::Race;
+ghost use Rattle.format.specs.Version.{versionOf};
+ghost use Rattle.answers.specs.Answer.{answered};
+ghost use Rattle.diagram.specs.Picture.{Pictured};
+ghost use Rattle.diagram.specs.Drawing.{Judged, NamedBy, Roomy, WroteArrows};
+use answers::Answered;
+use judge::Judgement;
+use text_diagram_elements::Race;
 
-// The whole picture of a log, the first `count` arrows from records with the indices in `starts` to those in `ends`.
-pub fn put_diagram(
-    area: &mut [u8],
-    at: usize,
-    log: &[u8],
-    starts: &[u16],
-    ends: &[u16],
-    count: usize,
-    race: Race,
-) -> usize
-    requires { ⌜ Room (now log) (now starts) (now ends) count race at (length (now area)) ⌝ }
-    ensures { λ r. ⌜ Wrote (now (area .entry)) at
-        (diagramText (logOf (now (log .entry))) (arrowsOf (now (starts .entry)) (now (ends .entry)) count) (raceOf race)) (now (area .exit)) r ⌝
-        ∗ ⌜ r ≤ at + (1792 + 192 * (length (now (log .entry)) / 3) + 66 * count) ⌝ }
+// Writes the text of a log's picture at the area's start, and returns its length. A record has at most seven arrows.
+fn put_picture(version: usize, log: &[u8], race: Race, area: &mut [u8]) -> usize
+    requires { ⌜ Roomy version (now log) race (length (now area)) ⌝ }
+    ensures { λ r. ⌜ WroteArrows (versionOf version) (now (log .entry)) race (now (area .entry)) (now (area .exit)) r ⌝ }
 {
-    let records = log.len() / 3;
-    let lanes = lanes::lane_count(log);
-    let at = head::put_head(area, at, lanes, records);
-    let at = lanes::put_lanes(area, at, lanes, records);
-    let at = diagram_rows::put_rows(area, at, log, lanes, race);
-    let at = diagram_links::put_arrows(area, at, log, starts, ends, count);
-    let at = diagram_links::put_race(area, at, log, race);
-    text::put_word(area, at, b"</svg>\n")
+    let mut from = [0u16; 28672];
+    let mut to = [0u16; 28672];
+    let count = log_arrows::needed(version, log, &mut from, &mut to);
+    text_diagram::put_diagram(area, 0, log, &from, &to, count, race)
+}
+
+// The answer to a log that is not refused: refusal 27 for an area that has no room for every picture of so many records.
+fn draw(version: usize, log: &[u8], race: Race, area: &mut [u8]) -> Answered
+    requires { ⌜ Judged version (now log) race ⌝ }
+    ensures { λ r. ⌜ Pictured version (now (log .entry)) (now (area .entry)) (answered r) (now (area .exit)) ⌝ }
+{
+    if area.len() < 1792 + 654 * (log.len() / 3) {
+        return Answered::Refused {
+            number: 27,
+            place: 0,
+        };
+    }
+    Answered::Value(put_picture(version, log, race, area))
+}
+
+// The answer to a log in which the judge names an access.
+fn draw_race(version: usize, log: &[u8], access: usize, area: &mut [u8]) -> Answered
+    requires { ⌜ NamedBy version (now log) access ⌝ }
+    ensures { λ r. ⌜ Pictured version (now (log .entry)) (now (area .entry)) (answered r) (now (area .exit)) ⌝ }
+{
+    let earlier = text_judge_lines::search::last_conflict(version, log, access);
+    let race = Race::Between {
+        write: earlier,
+        access: access,
+    };
+    draw(version, log, race, area)
+}
+
+// Every log of a version gets its picture at the start of the area, and the text's length; or refusal 14, 11 or 12 as the judge gives it, or 27.
+pub fn diagram(version: usize, log: &[u8], area: &mut [u8]) -> Answered
+    ensures { λ r. ⌜ Pictured version (now (log .entry)) (now (area .entry)) (answered r) (now (area .exit)) ⌝ }
+{
+    let judgement = judge::judge(version, log);
+    match judgement {
+        Judgement::Refused { number, place } => Answered::Refused {
+            number: number,
+            place: place,
+        },
+        Judgement::Ordered => draw(version, log, Race::Nowhere, area),
+        Judgement::Unordered(index) => draw_race(version, log, index, area),
+    }
 }

@@ -14,14 +14,14 @@ use Rattle.format.specs.Area.{overwrite}
 use Rattle.format.proofs.AreaLaws.{overwrite-only}
 use Rattle.format.proofs.LowestLaws.{whole, whole-none}
 use Rattle.format.proofs.RefusalLaws.{refusal-append}
-use Rattle.packed.specs.Syntax.{Program}
-use Rattle.packed.specs.Format.{terms}
-use Rattle.packed.specs.Trees.{programOf}
-use Rattle.packed.specs.Check.{checks, refusal}
-use Rattle.packed.specs.Steps.{Loaded}
-use Rattle.refusals.specs.Answer as check
-use Rattle.refusals.specs.declared.Checked.{Checked}
-use Rattle.refusals.specs.declared.Checked.the-variants as checked
+use Rattle.plan_packed.specs.Syntax.{Program}
+use Rattle.plan_packed.specs.Format.{terms}
+use Rattle.plan_packed.specs.Trees.{programOf}
+use Rattle.plan_packed.specs.Check.{checks, refusal}
+use Rattle.plan_packed.specs.Steps.{Loaded}
+use Rattle.plan_refusals.specs.Answer as check
+use Rattle.plan_refusals.specs.declared.Checked.{Checked}
+use Rattle.plan_refusals.specs.declared.Checked.the-variants as checked
 use Rattle.rules.specs.Play.{scheduleChecks, scheduleRefusal}
 use Rattle.text.specs.Wrote.{Wrote}
 use Rattle.answers.specs.Answer as answer
@@ -31,8 +31,8 @@ use Rattle.listing.specs.CanFollow.{canFollow}
 use Rattle.listing.specs.Ways.{Way}
 use Rattle.listing.proofs.Order.{empty-lowest}
 use Rattle.listing.proofs.Ways.{no-picks}
-use Rattle.replays.specs.Replay.{Accepted, OfEight}
-use Rattle.play_refusals.proofs.Passed.{scheduled-by-code}
+use Rattle.run_replays.specs.Replay.{Accepted, OfEight}
+use Rattle.run_refusals.proofs.Passed.{scheduled-by-code}
 use Rattle.interleavings.specs.declared.Next.{Next}
 use Rattle.interleavings.specs.declared.Next.the-variants as next
 use Rattle.interleavings.specs.Interleavings as papers

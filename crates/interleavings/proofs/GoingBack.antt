@@ -5,8 +5,8 @@ use mathlib.Core.Path.{_≡_, sym, subst as along}
 use mathlib.Core.List.{List, [], _∷_, _++_}
 use lib.ListN.{length, getD, take, drop, take-append-drop}
 use lib.Seq.{take-all, take-suc, split-at, append-snoc}
-use Rattle.packed.specs.Syntax.{Program}
-use Rattle.open_threads.specs.Open.{LowestFrom}
+use Rattle.plan_packed.specs.Syntax.{Program}
+use Rattle.run_open_threads.specs.Open.{LowestFrom}
 use Rattle.listing.specs.Order.{Before, AtMost}
 use Rattle.listing.specs.Listed.{Listed, Over}
 use Rattle.listing.specs.CanFollow.{canFollow}
@@ -14,8 +14,8 @@ use Rattle.listing.specs.Ways.{Way}
 use Rattle.listing.proofs.Order.{Higher, none-higher, higher-before, higher-here}
 use Rattle.listing.proofs.Ways.{one-more, first-picks, back-start, go-back, turn}
 use Rattle.listing.proofs.Listed.{complete-of}
-use Rattle.replays.specs.Told.{Noted}
-use Rattle.place_notes.specs.Notes.{LastAt}
+use Rattle.run_replays.specs.Told.{Noted}
+use Rattle.run_place_notes.specs.Notes.{LastAt}
 use Rattle.interleavings.specs.Steps.{NoneHigher, TurnsAt}
 
 -- ---- what the notes tell

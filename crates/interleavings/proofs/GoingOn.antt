@@ -10,20 +10,20 @@ use mathlib.Core.Logic.{_⊎_, inl, inr}
 use lib.ListN.{length, length-append, length-set, getD, set, take, drop, List·getD-append}
 use lib.Seq.{length-take-le, take-all, take-append-le, take-take, take-suc, take-set-le, drop-set-lt, drop-drop}
 use lib.Seq.{getD-take, getD-set-same, getD-set-other, ext-getD}
-use Rattle.packed.specs.Syntax.{Program}
-use Rattle.packed.specs.Trees.{programOf}
-use Rattle.engine.specs.declared.Explored.{Explored}
-use Rattle.engine.specs.Exploring.{allPicks}
-use Rattle.engine.proofs.AllPicks.{length-all, given-at, noted-at}
+use Rattle.plan_packed.specs.Syntax.{Program}
+use Rattle.plan_packed.specs.Trees.{programOf}
+use Rattle.run_engine.specs.declared.Explored.{Explored}
+use Rattle.run_engine.specs.Exploring.{allPicks}
+use Rattle.run_engine.proofs.AllPicks.{length-all, given-at, noted-at}
 use Rattle.listing.specs.Order.{AtMost}
 use Rattle.listing.specs.Listed.{Listed}
 use Rattle.listing.specs.CanFollow.{canFollow}
 use Rattle.listing.specs.Ways.{Way}
 use Rattle.listing.proofs.Ways.{go-on}
 use Rattle.listing.proofs.Listed.{complete-of, listed-by}
-use Rattle.place_notes.specs.Notes.{Puts, PutNoted}
-use Rattle.replays.specs.Replay.{Explorable, Explores}
-use Rattle.replays.proofs.Told.{goes-past}
+use Rattle.run_place_notes.specs.Notes.{Puts, PutNoted}
+use Rattle.run_replays.specs.Replay.{Explorable, Explores}
+use Rattle.run_replays.proofs.Told.{goes-past}
 use Rattle.interleavings.specs.Steps.{Begins, Reached}
 
 -- the picks that are written

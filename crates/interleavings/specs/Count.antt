@@ -5,8 +5,8 @@ use mathlib.Core.List.{List, [], _∷_, _++_}
 use mathlib.Core.Option.{Option, some, none}
 use lib.ListN.{length}
 use Rattle.format.specs.Refusal.{Refusal, checkWhole, firstRefusal}
-use Rattle.packed.specs.Trees.{programOf}
-use Rattle.packed.specs.Check.{checks}
+use Rattle.plan_packed.specs.Trees.{programOf}
+use Rattle.plan_packed.specs.Check.{checks}
 use Rattle.listing.specs.WholeList.{WholeList}
 use Rattle.interleavings.specs.Interleavings.{overBound}
 use Rattle.interleavings.specs.declared.Counted.{Counted}

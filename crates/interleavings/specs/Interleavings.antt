@@ -8,8 +8,8 @@ use lib.Dec.{ltb}
 use lib.ListN.{length}
 use Rattle.format.specs.Refusal.{Refusal, checkWhole, firstRefusal}
 use Rattle.format.specs.Area.{overwrite}
-use Rattle.packed.specs.Trees.{programOf}
-use Rattle.packed.specs.Check.{checks}
+use Rattle.plan_packed.specs.Trees.{programOf}
+use Rattle.plan_packed.specs.Check.{checks}
 use Rattle.rules.specs.Play.{scheduleChecks}
 use Rattle.answers.specs.Answer as answer
 use Rattle.listing.specs.Listed.{Listed, First, Following, Over}

@@ -6,16 +6,16 @@ use mathlib.Core.List.{List}
 use mathlib.Core.Option.{some}
 use lib.ListN.{length, getD, getElem?, take, drop}
 use Rattle.format.specs.Area.{overwrite}
-use Rattle.packed.specs.Syntax.{Program}
-use Rattle.packed.specs.Trees.{programOf}
+use Rattle.plan_packed.specs.Syntax.{Program}
+use Rattle.plan_packed.specs.Trees.{programOf}
 use Rattle.listing.specs.Order.{AtMost}
 use Rattle.listing.specs.Listed as listing
 use Rattle.listing.specs.Listed.{Listed, Following}
 use Rattle.listing.specs.WholeList.{WholeList}
 use Rattle.listing.specs.CanFollow.{canFollow}
 use Rattle.listing.specs.Ways.{Way}
-use Rattle.replays.specs.Replay.{Accepted}
-use Rattle.replays.specs.Told.{Noted}
+use Rattle.run_replays.specs.Replay.{Accepted}
+use Rattle.run_replays.specs.Told.{Noted}
 use Rattle.interleavings.specs.declared.Next.{Next}
 use Rattle.interleavings.specs.declared.Next.the-variants as next
 use Rattle.interleavings.specs.declared.Counted.{Counted}

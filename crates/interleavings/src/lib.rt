@@ -1,14 +1,14 @@
 // The entries `first_interleaving` and `next_interleaving`: all interleavings of a short plan, one after the other (document 02, E11); and `count`, how many
 // there are.
-ghost use Rattle.packed.specs.Trees.{programOf};
+ghost use Rattle.plan_packed.specs.Trees.{programOf};
 ghost use Rattle.answers.specs.Answer as answer;
 ghost use Rattle.interleavings.specs.Interleavings.{FirstAnswer, NextAnswer};
 ghost use Rattle.interleavings.specs.Answer.{answered};
 ghost use Rattle.interleavings.specs.Count.{CountAnswer};
 ghost use Rattle.interleavings.specs.Steps.{Begins, Reached, Listing, Followed, Stands, Advanced, CountsOn};
 use answers::Answered;
-use place_notes::Turn;
-use refusals::Checked;
+use plan_refusals::Checked;
+use run_place_notes::Turn;
 
 // What `next_interleaving` answers.
 pub enum Next {
@@ -36,9 +36,9 @@ fn go_on(plan: &[u8], words: &[usize; 1024], n: usize, area: &mut [u8], from: us
     ensures { λ r. ⌜ Reached (programOf (now (plan .entry))) n from (now (area .entry)) (now (area .exit)) r ⌝ }
 {
     let mut notes = [0u8; 64];
-    let explored = replays::explore(plan, words, &area[0..from], &mut notes[0..n]);
+    let explored = run_replays::explore(plan, words, &area[0..from], &mut notes[0..n]);
     let made = explored.made;
-    place_notes::put_noted(&notes, made, area, from);
+    run_place_notes::put_noted(&notes, made, area, from);
     made
 }
 
@@ -55,7 +55,7 @@ fn following(
     requires { ⌜ Listing (now plan) (now words) n (now schedule) (now notes) (now area) ⌝ }
     ensures { λ r. ⌜ Followed (programOf (now (plan .entry))) n (now (schedule .entry)) (now (area .entry)) (now (area .exit)) r ⌝ }
 {
-    let turn = place_notes::last_turn(notes, schedule.len());
+    let turn = run_place_notes::last_turn(notes, schedule.len());
     match turn {
         Turn::Over => Next::Over,
         Turn::At { place, pick } => {
@@ -100,7 +100,7 @@ pub fn next_interleaving(plan: &[u8], n: usize, schedule: &[u8], area: &mut [u8]
     ensures { λ r. ⌜ NextAnswer (now (plan .entry)) n (now (schedule .entry)) (now (area .entry)) (answered r) (now (area .exit)) ⌝ }
 {
     let mut words = [0usize; 1024];
-    let checked = play_refusals::schedule_refusal(plan, schedule, &mut words);
+    let checked = run_refusals::schedule_refusal(plan, schedule, &mut words);
     match checked {
         Checked::Refused { number, place } => Next::Refused { number, place },
         Checked::Passed => {
@@ -111,7 +111,7 @@ pub fn next_interleaving(plan: &[u8], n: usize, schedule: &[u8], area: &mut [u8]
                 };
             }
             let mut notes = [0u8; 64];
-            if !replays::listed(plan, &words, n, schedule, &mut notes) {
+            if !run_replays::listed(plan, &words, n, schedule, &mut notes) {
                 return Next::Refused {
                     number: 19,
                     place: 0,
@@ -141,7 +141,7 @@ fn advance(
     ensures { λ r. ⌜ Advanced (now (plan .entry)) (now (words .entry)) n (now (area .exit)) place r ⌝ }
 {
     let mut notes = [0u8; 64];
-    replays::listed(plan, words, n, &area[0..picks], &mut notes);
+    run_replays::listed(plan, words, n, &area[0..picks], &mut notes);
     let mut after = [0u8; 64];
     let next = following(plan, words, n, &area[0..picks], &notes, &mut after);
     match next {

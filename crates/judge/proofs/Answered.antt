@@ -8,9 +8,9 @@ use mathlib.Core.Logic.{_⊎_, inl, inr}
 use mathlib.Core.Option.{none}
 use lib.ListN.{length}
 use Rattle.format.specs.Version.{Version}
-use Rattle.records.specs.Packed.{recordCount}
-use Rattle.records.specs.Refusals.{logRefusal}
-use Rattle.conflicts.specs.Judge.{Answers, judges}
+use Rattle.log_records.specs.Packed.{recordCount}
+use Rattle.log_records.specs.Refusals.{logRefusal}
+use Rattle.log_conflicts.specs.Judge.{Answers, judges}
 use Rattle.judge.specs.Answer.{answered}
 use Rattle.judge.specs.Found.{Finds, finds-access, finds-nothing, finds-full, judgementOf, isFull}
 use Rattle.judge.specs.declared.Judgement.{Judgement}

@@ -10,21 +10,21 @@ use mathlib.Core.Option.{none}
 use lib.ListN.{length, replicate, length-replicate, getD-replicate}
 use Rattle.format.specs.Version.{Version}
 use Rattle.format.proofs.Filled.{repeated, zeros}
-use Rattle.records.specs.Record.{Record}
-use Rattle.records.specs.Packed.{recordCount, logOf}
-use Rattle.records.specs.Refusals.{logRefusal}
-use Rattle.records.proofs.RoundTrip.{count-log}
-use Rattle.records.proofs.Tidy.{tidy-at}
-use Rattle.records.proofs.Accepted.{accepted-tidy}
-use Rattle.order.proofs.Past.{past, past-zero, at-within}
-use Rattle.order.proofs.Ports.{Port, ofThread, ofMonitor, ofVolatile, ofAccesses, ofWrites}
-use Rattle.conflicts.specs.Conflicts.{Conflicting}
-use Rattle.conflicts.specs.Judge.{Names, names-none}
-use Rattle.conflicts.proofs.FirstConflict.{Threads}
-use Rattle.conflicts.proofs.RowClocks.{heard-start, kept-start}
-use Rattle.clocks.specs.Rows.{Row, clockOf, noRow}
-use Rattle.effects.specs.Rows.{placeRow}
-use Rattle.effects.specs.Table.{Wide, clockAt, Started}
+use Rattle.log_records.specs.Record.{Record}
+use Rattle.log_records.specs.Packed.{recordCount, logOf}
+use Rattle.log_records.specs.Refusals.{logRefusal}
+use Rattle.log_records.proofs.RoundTrip.{count-log}
+use Rattle.log_records.proofs.Tidy.{tidy-at}
+use Rattle.log_records.proofs.Accepted.{accepted-tidy}
+use Rattle.log_order.proofs.Past.{past, past-zero, at-within}
+use Rattle.log_order.proofs.Ports.{Port, ofThread, ofMonitor, ofVolatile, ofAccesses, ofWrites}
+use Rattle.log_conflicts.specs.Conflicts.{Conflicting}
+use Rattle.log_conflicts.specs.Judge.{Names, names-none}
+use Rattle.log_conflicts.proofs.FirstConflict.{Threads}
+use Rattle.log_conflicts.proofs.RowClocks.{heard-start, kept-start}
+use Rattle.log_clocks.specs.Rows.{Row, clockOf, noRow}
+use Rattle.log_effects.specs.Rows.{placeRow}
+use Rattle.log_effects.specs.Table.{Wide, clockAt, Started}
 use Rattle.judge.specs.Clear.{Clear}
 use Rattle.judge.proofs.PlaceNumbers.{Places, places-start}
 use Rattle.judge.proofs.PortRows.{rowOf, Valid}

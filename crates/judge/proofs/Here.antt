@@ -12,28 +12,28 @@ use lib.ListN.{length, getD}
 use borrow.Author.Tests.{ltb-true, ltb-false}
 use Rattle.format.specs.Version.{Version}
 use Rattle.format.proofs.RefusalLaws.{neither}
-use Rattle.records.specs.Record.{Kind, readv, writev, acquire, release, fork, join, Record, isPlain}
-use Rattle.records.specs.Packed.{kindOf, recordAt, recordCount, logOf}
-use Rattle.records.specs.Refusals.{wrongColumns, logRefusal}
-use Rattle.records.proofs.RoundTrip.{count-log, log-element}
-use Rattle.records.proofs.Accepted.{RightRecord, accepted}
-use Rattle.order.specs.Accesses.{isWrite}
-use Rattle.order.specs.Chains.{At}
-use Rattle.order.proofs.Newest.{at-below}
-use Rattle.order.proofs.Past.{past-suc, past-length, at→getD}
-use Rattle.order.proofs.Ports.{ofThread, ofAccesses, ofWrites}
-use Rattle.conflicts.specs.Conflicts.{Conflicting}
-use Rattle.conflicts.specs.Judge.{Names, names-first}
-use Rattle.conflicts.proofs.Conflicts.{Eight, held, heldBy}
-use Rattle.conflicts.proofs.FirstConflict.{conflicting↔, at-past}
-use Rattle.conflicts.proofs.RowClocks.{Kept, lower→clash, clash→lower}
-use Rattle.decoding.specs.Columns.{ReadAt}
-use Rattle.decoding.specs.declared.Columns.{Columns}
-use Rattle.decoding.proofs.Decoded.{kind-is-kind}
-use Rattle.clocks.specs.Rows.{Row, clockOf, rowAt, lowerOf}
-use Rattle.effects.specs.Places.{Numbered, known, next, full}
-use Rattle.effects.specs.Rows.{placeRow, isAccess, heldRow}
-use Rattle.effects.specs.Table.{clockAt, Ready}
+use Rattle.log_records.specs.Record.{Kind, readv, writev, acquire, release, fork, join, Record, isPlain}
+use Rattle.log_records.specs.Packed.{kindOf, recordAt, recordCount, logOf}
+use Rattle.log_records.specs.Refusals.{wrongColumns, logRefusal}
+use Rattle.log_records.proofs.RoundTrip.{count-log, log-element}
+use Rattle.log_records.proofs.Accepted.{RightRecord, accepted}
+use Rattle.log_order.specs.Accesses.{isWrite}
+use Rattle.log_order.specs.Chains.{At}
+use Rattle.log_order.proofs.Newest.{at-below}
+use Rattle.log_order.proofs.Past.{past-suc, past-length, at→getD}
+use Rattle.log_order.proofs.Ports.{ofThread, ofAccesses, ofWrites}
+use Rattle.log_conflicts.specs.Conflicts.{Conflicting}
+use Rattle.log_conflicts.specs.Judge.{Names, names-first}
+use Rattle.log_conflicts.proofs.Conflicts.{Eight, held, heldBy}
+use Rattle.log_conflicts.proofs.FirstConflict.{conflicting↔, at-past}
+use Rattle.log_conflicts.proofs.RowClocks.{Kept, lower→clash, clash→lower}
+use Rattle.log_decoding.specs.Columns.{ReadAt}
+use Rattle.log_decoding.specs.declared.Columns.{Columns}
+use Rattle.log_decoding.proofs.Decoded.{kind-is-kind}
+use Rattle.log_clocks.specs.Rows.{Row, clockOf, rowAt, lowerOf}
+use Rattle.log_effects.specs.Places.{Numbered, known, next, full}
+use Rattle.log_effects.specs.Rows.{placeRow, isAccess, heldRow}
+use Rattle.log_effects.specs.Table.{clockAt, Ready}
 use Rattle.judge.proofs.PlaceNumbers.{Placed, placed, given-below}
 use Rattle.judge.proofs.PortRows.{rowOf}
 use Rattle.judge.proofs.RecordPorts.{Fits, is-fork, is-join, access-plain, write-kind}

@@ -11,17 +11,17 @@ use mathlib.Core.Option.{some, none}
 use lib.Dec.{T, eqb}
 use lib.ListN.{length, getD}
 use Rattle.format.specs.Version.{Version}
-use Rattle.records.specs.Record.{Record, isPlain}
-use Rattle.records.specs.Packed.{recordAt, logOf}
-use Rattle.order.specs.Accesses.{isWrite}
-use Rattle.order.proofs.Ports.{Port, ofThread, ofMonitor, ofVolatile, ofAccesses}
-use Rattle.conflicts.specs.Conflicts.{Conflicting}
-use Rattle.conflicts.specs.Judge.{Names}
-use Rattle.conflicts.proofs.FirstConflict.{conflicting↔}
-use Rattle.clocks.specs.Rows.{Row}
-use Rattle.decoding.specs.declared.Columns.{Columns}
-use Rattle.effects.specs.Rows.{placeRow, isAccess, keptRow}
-use Rattle.effects.specs.Table.{Wide, Stored, Keeps, Hears, Told, late, kept, Stepped, accesses, hears, tells, forks, joins, rests}
+use Rattle.log_records.specs.Record.{Record, isPlain}
+use Rattle.log_records.specs.Packed.{recordAt, logOf}
+use Rattle.log_order.specs.Accesses.{isWrite}
+use Rattle.log_order.proofs.Ports.{Port, ofThread, ofMonitor, ofVolatile, ofAccesses}
+use Rattle.log_conflicts.specs.Conflicts.{Conflicting}
+use Rattle.log_conflicts.specs.Judge.{Names}
+use Rattle.log_conflicts.proofs.FirstConflict.{conflicting↔}
+use Rattle.log_clocks.specs.Rows.{Row}
+use Rattle.log_decoding.specs.declared.Columns.{Columns}
+use Rattle.log_effects.specs.Rows.{placeRow, isAccess, keptRow}
+use Rattle.log_effects.specs.Table.{Wide, Stored, Keeps, Hears, Told, late, kept, Stepped, accesses, hears, tells, forks, joins, rests}
 use Rattle.judge.proofs.PlaceNumbers.{Placed}
 use Rattle.judge.proofs.PortRows.{rowOf, Valid, HasRow}
 use Rattle.judge.proofs.RecordPorts.{Moves, AtPlace, monitor, volatile, hearing, telling, resting, forking}

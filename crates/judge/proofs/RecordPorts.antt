@@ -8,13 +8,13 @@ use mathlib.Core.Option.{Option, some, none}
 use lib.Dec.{T, eqb}
 use lib.ListN.{getD}
 use Rattle.format.specs.Version.{Version, v0, v1}
-use Rattle.records.specs.Record.{Kind, new, read, write, readv, writev, acquire, release, fork, join, lacksRead, lacksWrite, Record, entry, isPlain}
-use Rattle.records.specs.Packed.{kindOf}
-use Rattle.records.proofs.KindNumbers.{by-kind}
-use Rattle.order.specs.Accesses.{isWrite}
-use Rattle.order.proofs.Ports.{Port, ofThread, ofMonitor, ofVolatile, ofAccesses, ofWrites, Feeds}
-use Rattle.conflicts.proofs.Clock.{second, secondPort}
-use Rattle.effects.specs.Rows.{placeRow, isAccess, passes}
+use Rattle.log_records.specs.Record.{Kind, new, read, write, readv, writev, acquire, release, fork, join, lacksRead, lacksWrite, Record, entry, isPlain}
+use Rattle.log_records.specs.Packed.{kindOf}
+use Rattle.log_records.proofs.KindNumbers.{by-kind}
+use Rattle.log_order.specs.Accesses.{isWrite}
+use Rattle.log_order.proofs.Ports.{Port, ofThread, ofMonitor, ofVolatile, ofAccesses, ofWrites, Feeds}
+use Rattle.log_conflicts.proofs.Clock.{second, secondPort}
+use Rattle.log_effects.specs.Rows.{placeRow, isAccess, passes}
 use Rattle.judge.proofs.PlaceNumbers.{Placed}
 use Rattle.judge.proofs.PortRows.{rowOf, Valid, HasRow}
 

@@ -10,16 +10,16 @@ use mathlib.Core.Option.{some, none}
 use lib.Dec.{T, eqb}
 use lib.ListN.{length, getD, set}
 use Rattle.format.specs.Version.{Version}
-use Rattle.records.specs.Record.{Record, isPlain}
-use Rattle.order.specs.Accesses.{isWrite}
-use Rattle.order.proofs.Ports.{Port, ofThread, ofMonitor, ofVolatile, ofAccesses, ofWrites, Feeds, Draws}
-use Rattle.conflicts.proofs.Clock.{second, feeds, feeds→, feeds←, draws→, second-draws}
-use Rattle.conflicts.proofs.Conflicts.{Eight}
-use Rattle.conflicts.proofs.RowClocks.{Heard, Kept, heard-same, kept-same, heard-unfed, kept-unfed, heard-told, kept-fed}
-use Rattle.clocks.specs.Rows.{Row, clockOf}
-use Rattle.effects.specs.Places.{Numbered, known, next, full}
-use Rattle.effects.specs.Rows.{placeRow}
-use Rattle.effects.specs.Table.{clockAt, Stored, Keeps, Hears, Told}
+use Rattle.log_records.specs.Record.{Record, isPlain}
+use Rattle.log_order.specs.Accesses.{isWrite}
+use Rattle.log_order.proofs.Ports.{Port, ofThread, ofMonitor, ofVolatile, ofAccesses, ofWrites, Feeds, Draws}
+use Rattle.log_conflicts.proofs.Clock.{second, feeds, feeds→, feeds←, draws→, second-draws}
+use Rattle.log_conflicts.proofs.Conflicts.{Eight}
+use Rattle.log_conflicts.proofs.RowClocks.{Heard, Kept, heard-same, kept-same, heard-unfed, kept-unfed, heard-told, kept-fed}
+use Rattle.log_clocks.specs.Rows.{Row, clockOf}
+use Rattle.log_effects.specs.Places.{Numbered, known, next, full}
+use Rattle.log_effects.specs.Rows.{placeRow}
+use Rattle.log_effects.specs.Table.{clockAt, Stored, Keeps, Hears, Told}
 use Rattle.judge.proofs.PlaceNumbers.{Places, numbered-own, numbered-other}
 use Rattle.judge.proofs.PortRows.{rowOf, Valid, HasRow, row-once}
 use Rattle.judge.proofs.RecordPorts.{fedPort, fed-feeds, fed-one-of, accesses-fed, plain-second, Moves}

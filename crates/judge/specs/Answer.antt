@@ -1,6 +1,6 @@
 -- The answer of the entry in the papers' words. Assumes nothing.
 use mathlib.Core.Option.{some, none}
-use Rattle.conflicts.specs.Judge.{Judged, refused, named}
+use Rattle.log_conflicts.specs.Judge.{Judged, refused, named}
 use Rattle.judge.specs.declared.Judgement.{Judgement}
 use Rattle.judge.specs.declared.Judgement.the-variants.{Refused, Unordered, Ordered}
 

@@ -3,9 +3,9 @@ use Prim.Native.Nat.{ℕ, _+_, _<_, _≤_}
 use mathlib.Core.Path.{_≡_}
 use mathlib.Core.List.{List}
 use lib.ListN.{length}
-use Rattle.clocks.specs.Rows.{Row}
-use Rattle.effects.specs.Rows.{placeRow}
-use Rattle.effects.specs.Table.{Wide, clockAt}
+use Rattle.log_clocks.specs.Rows.{Row}
+use Rattle.log_effects.specs.Rows.{placeRow}
+use Rattle.log_effects.specs.Table.{Wide, clockAt}
 
 -- rows for so many places, of the 1,024 that there are, all clocks 0
 pub record Clear (places : ℕ) (rows : List Row) : Type 0 where

@@ -4,8 +4,8 @@ use mathlib.Core.Bool.{Bool, true, false}
 use mathlib.Core.List.{List}
 use mathlib.Core.Option.{some, none}
 use Rattle.format.specs.Version.{Version}
-use Rattle.records.specs.Packed.{recordCount, logOf}
-use Rattle.conflicts.specs.Judge.{Names}
+use Rattle.log_records.specs.Packed.{recordCount, logOf}
+use Rattle.log_conflicts.specs.Judge.{Names}
 use Rattle.judge.specs.declared.Judgement.{Judgement}
 use Rattle.judge.specs.declared.Judgement.the-variants.{Unordered, Ordered}
 use Rattle.judge.specs.declared.pass.Found.{Found}

@@ -3,7 +3,7 @@ mod pass; // pass.rt: the pass by clocks
 
 ghost use Prim.Native.Nat.{_<_};
 ghost use Rattle.format.specs.Version.{versionOf};
-ghost use Rattle.conflicts.specs.Judge.{Answers, AnswersTold};
+ghost use Rattle.log_conflicts.specs.Judge.{Answers, AnswersTold};
 ghost use Rattle.judge.specs.Answer.{answered};
 
 // What the judge answers to a log.

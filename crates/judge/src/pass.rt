@@ -4,13 +4,13 @@ ghost use mathlib.Core.Option.{none};
 ghost use Prim.Native.Nat.{_/_, _≤_};
 ghost use lib.ListN.{length};
 ghost use Rattle.format.specs.Version.{versionOf};
-ghost use Rattle.records.specs.Refusals.{logRefusal};
-ghost use Rattle.conflicts.specs.Judge.{Answers};
+ghost use Rattle.log_records.specs.Refusals.{logRefusal};
+ghost use Rattle.log_conflicts.specs.Judge.{Answers};
 ghost use Rattle.judge.specs.Answer.{answered};
 ghost use Rattle.judge.specs.Found.{Finds, judgementOf, isFull};
 ghost use Rattle.judge.specs.Clear.{Clear};
 use crate::Judgement;
-use clocks::Row;
+use log_clocks::Row;
 
 // What a pass finds.
 pub enum Found {
@@ -28,20 +28,20 @@ fn pass(log: &[u8], version: usize, places: u16, table: &mut [Row]) -> Found
     ensures { λ r. ⌜ Finds (versionOf version) (now (log .entry)) places r ⌝ }
 {
     let count = log.len() / 3;
-    effects::table::start(table);
+    log_effects::table::start(table);
     let mut numbers = [0u16; 1024];
     let mut given = 0;
     let mut index = 0;
     while index < count {
-        let columns = decoding::columns_at(log, index);
+        let columns = log_decoding::columns_at(log, index);
         let place = columns.object * 32 + columns.field;
-        let number = effects::places::number(&mut numbers, place, given, places);
+        let number = log_effects::places::number(&mut numbers, place, given, places);
         if number == 0 {
             return Found::Full;
         }
-        given = clocks::higher(given, number);
-        let at = effects::rows::first(number);
-        if effects::table::step(version, columns, at, index as u16 + 1, table) {
+        given = log_clocks::higher(given, number);
+        let at = log_effects::rows::first(number);
+        if log_effects::table::step(version, columns, at, index as u16 + 1, table) {
             return Found::Access(index);
         }
         index += 1;

@@ -8,13 +8,13 @@ use mathlib.Core.Option.{Option, some, none, Option·map}
 use lib.ListN.{length, getD, getElem?, take, length-take, length-map}
 use lib.Seq.{getD-take}
 use Rattle.format.specs.Area.{overwrite}
-use Rattle.keys.specs.KeySet.{keysOf}
-use Rattle.packed.specs.Format.{procedures, terms, root}
-use Rattle.packed.specs.Trees.{programOf}
-use Rattle.packed.specs.Check.{refusal}
-use Rattle.packed.specs.Steps as steps
-use Rattle.packed.proofs.Decoded.{well-formed}
-use Rattle.records.specs.Packed.{bytesOf}
+use Rattle.run_keys.specs.KeySet.{keysOf}
+use Rattle.plan_packed.specs.Format.{procedures, terms, root}
+use Rattle.plan_packed.specs.Trees.{programOf}
+use Rattle.plan_packed.specs.Check.{refusal}
+use Rattle.plan_packed.specs.Steps as steps
+use Rattle.plan_packed.proofs.Decoded.{well-formed}
+use Rattle.log_records.specs.Packed.{bytesOf}
 use Rattle.rules.specs.State.{Thread}
 use Rattle.rules.specs.Run.{Run, play}
 use Rattle.rules.specs.Play.{playRefusal, runOf}
@@ -24,13 +24,13 @@ use Rattle.machine.specs.Playing as playing
 use Rattle.machine.specs.Playing.{tableOf}
 use Rattle.machine.proofs.StateMeaning.{threadMeant, get-map}
 use Rattle.machine.proofs.Plays.{start-reached, plays}
-use Rattle.state.specs.declared.Setting.{Setting}
-use Rattle.engine.specs.Machine.{Played, headAt, playOf, startOf}
+use Rattle.run_state.specs.declared.Setting.{Setting}
+use Rattle.run_engine.specs.Machine.{Played, headAt, playOf, startOf}
 use Rattle.refinement.proofs.Meant.{Loaded}
 use Rattle.refinement.proofs.States.{settingOf, Related}
 use Rattle.refinement.proofs.Starts.{start-related}
 use Rattle.refinement.proofs.Plays.{plays-defined}
-use Rattle.play_refusals.proofs.Passed.{Passed, passed}
+use Rattle.run_refusals.proofs.Passed.{Passed, passed}
 use Rattle.known_keys.specs.KnownKeys.{HoldsJust}
 use Rattle.known_keys.proofs.EverySet.{every-set-played}
 use Rattle.known_key_words.specs.Standing.{Standing, going, halted, machineOf, areaOf, standing, goOn}

@@ -6,19 +6,19 @@ use mathlib.Core.Path.{_≡_, refl, sym, ap, _∙_, subst as along}
 use mathlib.Core.List.{List, [], _∷_, _++_}
 use mathlib.Core.Option.{none}
 use lib.ListN.{length, getD}
-use Rattle.packed.specs.Trees.{programOf}
-use Rattle.packed.specs.Check.{refusal}
+use Rattle.plan_packed.specs.Trees.{programOf}
+use Rattle.plan_packed.specs.Check.{refusal}
 use Rattle.machine.specs.Machine as machine
 use Rattle.machine.specs.Playing as playing
 use Rattle.machine.specs.Playing.{tableOf}
 use Rattle.machine.proofs.Runs.{Reached}
 use Rattle.machine.proofs.Plays.{move-reached}
-use Rattle.landing.specs.Landing.{Stack}
+use Rattle.run_refocusing.specs.Landing.{Stack}
 use Rattle.run_outcome.specs.declared.Stop.the-variants as stop
-use Rattle.state.specs.declared.Setting.{Setting}
-use Rattle.pick.specs.Answer.{Answer, Answer as answer}
-use Rattle.pick.specs.Pick.{Picked}
-use Rattle.engine.specs.Machine.{Machine, stopped, stayed, after, turnBy, onAnswer, playOf}
+use Rattle.run_state.specs.declared.Setting.{Setting}
+use Rattle.run_pick.specs.Answer.{Answer, Answer as answer}
+use Rattle.run_pick.specs.Pick.{Picked}
+use Rattle.run_engine.specs.Machine.{Machine, stopped, stayed, after, turnBy, onAnswer, playOf}
 use Rattle.refinement.proofs.Meant.{Loaded}
 use Rattle.refinement.proofs.States.{settingOf, Related}
 use Rattle.refinement.proofs.Picks.{AnsweredBy, picks}

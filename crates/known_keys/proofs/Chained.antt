@@ -8,14 +8,14 @@ use mathlib.Core.Logic.{_↔_, Iff·symm, Iff·trans}
 use lib.Dec.{eqb}
 use lib.ListN.{length, take, length-reverse}
 use Rattle.format.specs.Version.{Version}
-use Rattle.records.specs.Record.{new, write, kindNumber, Record, entry}
-use Rattle.order.specs.Chains.{At, Chain}
-use Rattle.order.proofs.Newest as N
-use Rattle.order.proofs.Tests.{differ}
-use Rattle.order.proofs.Ports.{ofThread, draws-own}
-use Rattle.order.proofs.Flow.{Reach, own-chain}
-use Rattle.order.proofs.Turned.{chain→, chain←}
-use Rattle.order.proofs.EverySet.{WouldReach}
+use Rattle.log_records.specs.Record.{new, write, kindNumber, Record, entry}
+use Rattle.log_order.specs.Chains.{At, Chain}
+use Rattle.log_order.proofs.Newest as N
+use Rattle.log_order.proofs.Tests.{differ}
+use Rattle.log_order.proofs.Ports.{ofThread, draws-own}
+use Rattle.log_order.proofs.Flow.{Reach, own-chain}
+use Rattle.log_order.proofs.Turned.{chain→, chain←}
+use Rattle.log_order.proofs.EverySet.{WouldReach}
 use Rattle.known_keys.specs.WriteKeys.{plainWrites, keyAt}
 use Rattle.known_keys.specs.KnownKeys.{NewOf, WouldChain, KeyOfChained}
 

@@ -11,16 +11,16 @@ use lib.Dec.{T, leb, leb→le, le→leb, eqb, eqb→eq}
 use lib.ListN.{length, getElem?, drop}
 use mir.Facts.{and-yes, yes-and, or-yes, yes-eqb}
 use Rattle.format.specs.Version.{Version}
-use Rattle.keys.specs.Keys.{Keys, singleton, holds, union}
-use Rattle.keys.proofs.KeyLaws.{holds-singleton, holds-union}
-use Rattle.records.specs.Record.{write, Record}
-use Rattle.order.specs.Chains.{At}
-use Rattle.order.proofs.Tests.{or←, or-iff, sameKind, sameKind→, sameKind←}
-use Rattle.order.proofs.Past.{past, past-length, at-within, turned-at}
-use Rattle.order.proofs.Ports.{ofThread}
-use Rattle.order.proofs.Flow.{Reach}
-use Rattle.conflicts.proofs.Clock.{count, clock}
-use Rattle.conflicts.proofs.ClockReach.{Nth, newest, older, reach→clock, clock→reach}
+use Rattle.run_keys.specs.Keys.{Keys, singleton, holds, union}
+use Rattle.run_keys.proofs.KeyLaws.{holds-singleton, holds-union}
+use Rattle.log_records.specs.Record.{write, Record}
+use Rattle.log_order.specs.Chains.{At}
+use Rattle.log_order.proofs.Tests.{or←, or-iff, sameKind, sameKind→, sameKind←}
+use Rattle.log_order.proofs.Past.{past, past-length, at-within, turned-at}
+use Rattle.log_order.proofs.Ports.{ofThread}
+use Rattle.log_order.proofs.Flow.{Reach}
+use Rattle.log_conflicts.proofs.Clock.{count, clock}
+use Rattle.log_conflicts.proofs.ClockReach.{Nth, newest, older, reach→clock, clock→reach}
 use Rattle.known_keys.specs.WriteKeys.{PlainWrite, keyAt}
 use Rattle.known_keys.specs.KnownKeys.{NewOf, WouldChain, KeyOfChained, HoldsJust}
 use Rattle.known_keys.proofs.Chained.{chained-thread}

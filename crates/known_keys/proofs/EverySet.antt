@@ -5,12 +5,12 @@ use mathlib.Core.List.{List}
 use mathlib.Core.Logic.{Iff·trans}
 use mathlib.Core.Option.{none}
 use lib.ListN.{take, drop, take-append-drop}
-use Rattle.packed.specs.Syntax.{Program}
-use Rattle.packed.specs.Trees.{programOf}
-use Rattle.packed.specs.Check.{refusal}
-use Rattle.packed.proofs.WellFormed.{WellFormedProgram}
-use Rattle.packed.proofs.Decoded.{well-formed}
-use Rattle.order.proofs.Tests.{or-iff}
+use Rattle.plan_packed.specs.Syntax.{Program}
+use Rattle.plan_packed.specs.Trees.{programOf}
+use Rattle.plan_packed.specs.Check.{refusal}
+use Rattle.plan_packed.proofs.WellFormed.{WellFormedProgram}
+use Rattle.plan_packed.proofs.Decoded.{well-formed}
+use Rattle.log_order.proofs.Tests.{or-iff}
 use Rattle.rules.specs.State.{start}
 use Rattle.rules.specs.Run.{Stop, run, play}
 use Rattle.rules.specs.Play.{runOf}

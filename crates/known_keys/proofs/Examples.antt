@@ -5,10 +5,10 @@ use mathlib.Core.List.{List, [], _∷_, map}
 use mathlib.Core.Option.{Option, none}
 use Rattle.format.specs.Version.{Version}
 use Rattle.format.specs.Refusal.{Refusal}
-use Rattle.keys.specs.Keys.{Keys, holds, countNew}
-use Rattle.packed.specs.Trees.{programOf}
-use Rattle.packed.specs.Check.{refusal}
-use Rattle.records.specs.Record.{Record}
+use Rattle.run_keys.specs.Keys.{Keys, holds, countNew}
+use Rattle.plan_packed.specs.Trees.{programOf}
+use Rattle.plan_packed.specs.Check.{refusal}
+use Rattle.log_records.specs.Record.{Record}
 use Rattle.rules.specs.State.{Thread}
 use Rattle.rules.specs.Play.{runOf}
 use Rattle.known_keys.specs.Examples.{Example, examples}

@@ -9,10 +9,10 @@ use mathlib.Core.Option.{some}
 use lib.Dec.{T}
 use lib.ListN.{length, getElem?, take}
 use Rattle.format.specs.Version.{Version}
-use Rattle.keys.specs.Keys.{Keys, holds}
-use Rattle.packed.specs.Trees.{programOf}
-use Rattle.records.specs.Record.{new, Record}
-use Rattle.order.specs.Chains.{Chain}
+use Rattle.run_keys.specs.Keys.{Keys, holds}
+use Rattle.plan_packed.specs.Trees.{programOf}
+use Rattle.log_records.specs.Record.{new, Record}
+use Rattle.log_order.specs.Chains.{Chain}
 use Rattle.rules.specs.State.{Thread}
 use Rattle.rules.specs.Run.{Run}
 use Rattle.rules.specs.Play.{runOf}

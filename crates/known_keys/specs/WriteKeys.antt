@@ -5,8 +5,8 @@ use mathlib.Core.Bool.{cond}
 use mathlib.Core.List.{List, [], _∷_}
 use lib.Dec.{eqb}
 use lib.ListN.{take}
-use Rattle.records.specs.Record.{kindNumber, write, Record}
-use Rattle.order.specs.Chains.{At}
+use Rattle.log_records.specs.Record.{kindNumber, write, Record}
+use Rattle.log_order.specs.Chains.{At}
 
 -- "A plain write in the log is a record of kind 3." (document 01): record i of the log L is one
 pub record PlainWrite (L : List Record) (i : ℕ) : Type 0 where

@@ -6,7 +6,7 @@ use mathlib.Core.Path.{_≡_, refl}
 use mathlib.Core.Bool.{true≢false}
 use mathlib.Core.List.{List, [], _∷_}
 use lib.ListN.{length, getD, take}
-use Rattle.packed.specs.Syntax.{Program}
+use Rattle.plan_packed.specs.Syntax.{Program}
 use Rattle.rules.specs.State.{State, start}
 use Rattle.rules.specs.Room.{AnswerOf, Answer, step}
 use Rattle.rules.specs.Run.{Stop, Run, afterPass, afterMove, stopped, resume, run, play}

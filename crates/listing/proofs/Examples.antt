@@ -5,7 +5,7 @@ use mathlib.Core.Bool.{true≢false}
 use mathlib.Core.List.{List, [], _∷_, map}
 use mathlib.Core.Option.{some}
 use lib.ListN.{getElem?}
-use Rattle.packed.specs.Trees.{programOf}
+use Rattle.plan_packed.specs.Trees.{programOf}
 use Rattle.listing.specs.WholeList.{WholeList}
 use Rattle.listing.specs.CanFollow.{canFollow}
 use Rattle.listing.specs.Examples.{Example, examples}

@@ -6,7 +6,7 @@ use mathlib.Core.Bool.{Bool, true, false, _&&_, true≢false}
 use mathlib.Core.List.{List, [], _∷_, _++_}
 use mathlib.Core.Logic.{_⊎_, inl, inr, _↔_}
 use lib.ListN.{length, getD, take}
-use Rattle.packed.specs.Syntax.{Program}
+use Rattle.plan_packed.specs.Syntax.{Program}
 use Rattle.rules.specs.Room.{AnswerOf, Answer, step}
 use Rattle.rules.specs.Run.{Stop, play}
 use Rattle.listing.specs.Listed.{Whole, HAS-N, STOPS, NONE-CAN, Listed}

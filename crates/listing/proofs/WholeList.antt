@@ -9,7 +9,7 @@ use mathlib.Core.Logic.{_⊎_, inl, inr}
 use mathlib.Core.Option.{Option, some}
 use native.Mathlib.Decide.{decLt}
 use lib.ListN.{length, getElem?}
-use Rattle.packed.specs.Syntax.{Program}
+use Rattle.plan_packed.specs.Syntax.{Program}
 use Rattle.listing.specs.Order.{Before, AtMost}
 use Rattle.listing.specs.Listed.{Listed, First, Following, Over}
 use Rattle.listing.specs.WholeList.{GoesOn, OVER, NEXT, Begins, FIRST, WholeList}

@@ -3,7 +3,7 @@ use Prim.Native.Nat.{ℕ, _≤_, _<_}
 use mathlib.Core.Path.{_≡_}
 use mathlib.Core.List.{List}
 use lib.ListN.{length, getD, take}
-use Rattle.packed.specs.Syntax.{Program}
+use Rattle.plan_packed.specs.Syntax.{Program}
 use Rattle.rules.specs.Room.{AnswerOf, step}
 use Rattle.rules.specs.Run.{Stop, play}
 use Rattle.listing.specs.Order.{Least, LeastAbove, NoneAbove}

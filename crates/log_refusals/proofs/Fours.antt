@@ -6,7 +6,7 @@ use mathlib.Core.Path.{_≡_, ap, _∙_}
 use mathlib.Core.Bool.{false, _||_}
 use mathlib.Core.List.{List}
 use Rattle.format.proofs.RefusalLaws.{neither}
-use Rattle.records.specs.Refusals.{wrongRecord}
+use Rattle.log_records.specs.Refusals.{wrongRecord}
 use Rattle.log_refusals.specs.Limits.{fourWrong}
 
 pub four-more : (b : List ℕ) (n : ℕ) → ((k : ℕ) → k < n → wrongRecord b k ≡ false) → fourWrong b n ≡ false → (k : ℕ) → k < n + 4 → wrongRecord b k ≡ false

@@ -8,8 +8,8 @@ use mathlib.Core.Option.{some, none}
 use lib.ListN.{length}
 use Rattle.format.specs.Lowest.{Lowest}
 use Rattle.format.proofs.RefusalLaws.{here, later, and-then, none-left, some-is-first, none-is-pass}
-use Rattle.records.specs.Packed.{recordCount}
-use Rattle.records.specs.Refusals.{wrongLogLength, wrongRecord, logChecks, logRefusal}
+use Rattle.log_records.specs.Packed.{recordCount}
+use Rattle.log_records.specs.Refusals.{wrongLogLength, wrongRecord, logChecks, logRefusal}
 
 pub refused-length : (b : List ℕ) → true ≡ wrongLogLength b → logRefusal b ≡ some (record { number = 11; place = 0 })
 unfolding logRefusal logChecks

@@ -13,13 +13,13 @@ use lib.ListN.{length, getD}
 use borrow.Author.Tests.{eq-eqb, ne-eqb, lt-ltb, le-ltb, eqb-true, not-false}
 use Rattle.format.specs.Refusal.{lowest}
 use Rattle.format.proofs.RefusalLaws.{lowest-none}
-use Rattle.records.specs.Record.{Kind, new, read, write, readv, writev, acquire, release, fork, join, lacksRead, lacksWrite}
-use Rattle.records.specs.Packed.{kindOf, recordCount}
-use Rattle.records.specs.Refusals.{wrongColumns, wrongRecord}
-use Rattle.records.proofs.Accepted.{wrong-record}
-use Rattle.decoding.specs.Columns.{ReadAt}
-use Rattle.decoding.specs.declared.Columns.{Columns}
-use Rattle.decoding.proofs.Decoded.{kind-is-kind, spare-of-word}
+use Rattle.log_records.specs.Record.{Kind, new, read, write, readv, writev, acquire, release, fork, join, lacksRead, lacksWrite}
+use Rattle.log_records.specs.Packed.{kindOf, recordCount}
+use Rattle.log_records.specs.Refusals.{wrongColumns, wrongRecord}
+use Rattle.log_records.proofs.Accepted.{wrong-record}
+use Rattle.log_decoding.specs.Columns.{ReadAt}
+use Rattle.log_decoding.specs.declared.Columns.{Columns}
+use Rattle.log_decoding.proofs.Decoded.{kind-is-kind, spare-of-word}
 use Rattle.log_refusals.specs.Limits.{leastBits, zeroBits}
 
 -- ---- the tables

@@ -3,8 +3,8 @@ use Prim.Native.Nat.{ℕ, _+_, _<_, _≤_}
 use mathlib.Core.Path.{_≡_}
 use mathlib.Core.Bool.{Bool, true, false, _||_}
 use mathlib.Core.List.{List, [], _∷_}
-use Rattle.records.specs.Packed.{recordCount}
-use Rattle.records.specs.Refusals.{wrongRecord}
+use Rattle.log_records.specs.Packed.{recordCount}
+use Rattle.log_records.specs.Refusals.{wrongRecord}
 
 -- for each kind, the least number that it allows there in the last record, and before it; 4096 allows none
 unfoldable pub leastBits : Bool → List ℕ

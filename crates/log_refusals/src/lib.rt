@@ -4,8 +4,8 @@ ghost use lib.Dec.{eqb};
 ghost use Prim.Native.Nat.{_+_, _/_, _<_};
 ghost use lib.ListN.{length};
 ghost use Rattle.format.specs.Lowest.{Lowest};
-ghost use Rattle.records.specs.Packed.{recordCount};
-ghost use Rattle.records.specs.Refusals.{wrongLogLength, wrongRecord};
+ghost use Rattle.log_records.specs.Packed.{recordCount};
+ghost use Rattle.log_records.specs.Refusals.{wrongLogLength, wrongRecord};
 ghost use Rattle.log_refusals.specs.Limits.{leastBits, zeroBits, fourWrong, RightTo};
 ghost use mathlib.Core.Bool.{false};
 
@@ -83,7 +83,7 @@ fn wrong_record<'a>(log: &[u8], index: usize, least: &'a [usize; 16], zero: &'a 
     requires { ⌜ index < length (now log) / 3 ⌝ ∗ ⌜ now least ≡ leastBits (eqb (index + 1) (length (now log) / 3)) ⌝ ∗ ⌜ now zero ≡ zeroBits ⌝ }
     ensures { λ r. ⌜ r ≡ wrongRecord (now (log .entry)) index ⌝ }
 {
-    let columns = decoding::columns_at(log, index);
+    let columns = log_decoding::columns_at(log, index);
     let bits = (columns.field * 32 + columns.value) * 4 + columns.spare;
     let kind = columns.kind;
     let low = bits < least[kind];

@@ -7,7 +7,7 @@ use mathlib.Core.List.{List}
 use mathlib.Core.Option.{Option, some, none, Option·map}
 use lib.Dec.{eqb}
 use lib.ListN.{getElem?}
-use Rattle.packed.specs.Syntax.{Program}
+use Rattle.plan_packed.specs.Syntax.{Program}
 use Rattle.rules.specs.Context.{Context, plug, plugᶜ}
 use Rattle.rules.specs.State.{Thread, State}
 use Rattle.rules.specs.Rules.{Rule}

@@ -6,15 +6,15 @@ use mathlib.Core.Bool.{Bool, true, false, cond}
 use mathlib.Core.List.{List}
 use lib.Dec.{eqb}
 use borrow.Author.Tests.{eqb-true, eqb-false}
-use Rattle.packed.specs.Format.{procedures, terms, list, table, layout, tagAt, termAt}
-use Rattle.packed.specs.Trees.{ArgumentsNode, Node, nodes, nodeAt, argumentsOf, expressionAt, argumentsAt}
-use Rattle.packed.specs.Refusals.{listLength}
-use Rattle.packed.specs.Steps.{Descending}
-use Rattle.packed.proofs.WellFormed.{count}
-use Rattle.packed.proofs.Accepted.{Accepted}
-use Rattle.packed.proofs.Decoded.{node-is}
-use Rattle.packed.proofs.Children.{list-ends}
-use Rattle.packed.proofs.TreeLaws.{treeᵃ, tree-lawᵃ, arguments-fuel}
+use Rattle.plan_packed.specs.Format.{procedures, terms, list, table, layout, tagAt, termAt}
+use Rattle.plan_packed.specs.Trees.{ArgumentsNode, Node, nodes, nodeAt, argumentsOf, expressionAt, argumentsAt}
+use Rattle.plan_packed.specs.Refusals.{listLength}
+use Rattle.plan_packed.specs.Steps.{Descending}
+use Rattle.plan_packed.proofs.WellFormed.{count}
+use Rattle.plan_packed.proofs.Accepted.{Accepted}
+use Rattle.plan_packed.proofs.Decoded.{node-is}
+use Rattle.plan_packed.proofs.Children.{list-ends}
+use Rattle.plan_packed.proofs.TreeLaws.{treeᵃ, tree-lawᵃ, arguments-fuel}
 use Rattle.machine.proofs.PlanTable.{ordered}
 
 -- ---- one term of a list

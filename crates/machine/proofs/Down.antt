@@ -5,11 +5,11 @@ use mathlib.Core.Path.{_≡_, refl, sym, ap, _∙_}
 use mathlib.Core.Bool.{Bool, true, false}
 use mathlib.Core.List.{List}
 use mathlib.Core.Option.{Option, some, none}
-use Rattle.packed.specs.Syntax.{Expression, Condition, Arguments, substitute, substituteᶜ, substituteᵃ}
-use Rattle.packed.specs.Trees.{null, variable, new, read, write, letIn, if, while, call, fork, join, synch, signal, truth, not, and, equal, list, listEnd}
-use Rattle.packed.specs.Trees.{Node, expression, condition, arguments, unknown, expressionOf, conditionOf, argumentsOf}
-use Rattle.packed.specs.Steps.{Below, Descending}
-use Rattle.packed.proofs.TreeLaws.{tree, treeᶜ, treeᵃ, tree-law, tree-lawᶜ, tree-lawᵃ}
+use Rattle.plan_packed.specs.Syntax.{Expression, Condition, Arguments, substitute, substituteᶜ, substituteᵃ}
+use Rattle.plan_packed.specs.Trees.{null, variable, new, read, write, letIn, if, while, call, fork, join, synch, signal, truth, not, and, equal, list, listEnd}
+use Rattle.plan_packed.specs.Trees.{Node, expression, condition, arguments, unknown, expressionOf, conditionOf, argumentsOf}
+use Rattle.plan_packed.specs.Steps.{Below, Descending}
+use Rattle.plan_packed.proofs.TreeLaws.{tree, treeᶜ, treeᵃ, tree-law, tree-lawᶜ, tree-lawᵃ}
 use Rattle.rules.specs.Context.{asLiteral, asBool, isTruth, falseWhen, Focus, focus, focusᶜ, focusᵃ, onLiteral, onBool, onNot}
 use Rattle.machine.specs.Frames.{Slots, noSlots, put, Closure, closure, Frame, Found}
 use Rattle.machine.specs.Landing.{given, valueOf, isTrue, boolOf, valueIn, boolIn, foundNot, downBy, downByᶜ, downByᵃ, down, downᶜ, downᵃ}

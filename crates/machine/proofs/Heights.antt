@@ -7,9 +7,9 @@ use mathlib.Core.Bool.{Bool, true, false}
 use mathlib.Core.List.{List, [], _∷_}
 use mathlib.Core.Option.{Option, some, none, Option·some-ne-none}
 use lib.ListN.{length}
-use Rattle.packed.specs.Trees.{null, variable, new, read, write, letIn, if, while, call, fork, join, synch, signal, truth, not, and, equal, list, listEnd}
-use Rattle.packed.specs.Trees.{Node, expression, condition, arguments, unknown}
-use Rattle.packed.specs.Steps.{Below, Descending}
+use Rattle.plan_packed.specs.Trees.{null, variable, new, read, write, letIn, if, while, call, fork, join, synch, signal, truth, not, and, equal, list, listEnd}
+use Rattle.plan_packed.specs.Trees.{Node, expression, condition, arguments, unknown}
+use Rattle.plan_packed.specs.Steps.{Below, Descending}
 use Rattle.rules.specs.Context.{falseWhen}
 use Rattle.machine.specs.Frames.{Slots, noSlots, put, Closure, closure, Frame, Found, height}
 use Rattle.machine.specs.Landing.{given, valueOf, isTrue, boolOf, valueIn, boolIn, foundNot, downBy, downByᶜ, downByᵃ, down, downᶜ, downᵃ}

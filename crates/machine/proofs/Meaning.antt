@@ -2,9 +2,9 @@
 use Prim.Native.Nat.{ℕ}
 use mathlib.Core.List.{List, [], _∷_}
 use mathlib.Core.Option.{Option, none}
-use Rattle.packed.specs.Syntax.{Expression, Condition, Arguments, literal, without, substitute, substituteᶜ, substituteᵃ}
-use Rattle.packed.specs.Trees.{Node}
-use Rattle.packed.proofs.TreeLaws.{tree, treeᶜ, treeᵃ}
+use Rattle.plan_packed.specs.Syntax.{Expression, Condition, Arguments, literal, without, substitute, substituteᶜ, substituteᵃ}
+use Rattle.plan_packed.specs.Trees.{Node}
+use Rattle.plan_packed.proofs.TreeLaws.{tree, treeᶜ, treeᵃ}
 use Rattle.rules.specs.Context.{Context, Contextᶜ, Redex, Redexᶜ, Focus}
 use Rattle.machine.specs.Frames.{Closure, Branches, firstOf, secondOf, Frame, read, write₁, write₂, call, letIn, synch, hold, join, signal, equal₁}
 use Rattle.machine.specs.Frames.{equal₂, if, and, not, whileTest, whileBody, Ready, Readyᶜ, Found, Result}

@@ -7,10 +7,10 @@ use mathlib.Core.Option.{Option, some, none}
 use lib.Dec.{T, eqb, ltb}
 use lib.ListN.{length, getElem?, length-map}
 use borrow.Author.Tests.{eqb-true}
-use Rattle.keys.specs.Keys.{Keys, subset, isEmpty}
-use Rattle.packed.specs.Syntax.{Signal, Expression, Procedure, Program, bindParameters, substitute}
-use Rattle.packed.specs.Slots.{closed}
-use Rattle.packed.proofs.TreeLaws.{tree}
+use Rattle.run_keys.specs.Keys.{Keys, subset, isEmpty}
+use Rattle.plan_packed.specs.Syntax.{Signal, Expression, Procedure, Program, bindParameters, substitute}
+use Rattle.plan_packed.specs.Slots.{closed}
+use Rattle.plan_packed.proofs.TreeLaws.{tree}
 use Rattle.rules.specs.Context.{plug}
 use Rattle.rules.specs.Queue.{awake}
 use Rattle.rules.specs.State.{Cell, Thread, State, monitorOf, fieldOf, threadOf}

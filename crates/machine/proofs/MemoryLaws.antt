@@ -10,7 +10,7 @@ use mathlib.Core.Option.{some, none}
 use lib.Dec.{eqb}
 use lib.ListN.{getElem?}
 use borrow.Author.Tests.{eq-eqb, ne-eqb}
-use Rattle.packed.specs.Format.{maskBit, fieldsFrom}
+use Rattle.plan_packed.specs.Format.{maskBit, fieldsFrom}
 use Rattle.rules.specs.State.{Cell, Field, Object, fresh, freshFields, freshObject, changeAt, findField, storeField, fieldOf, monitorOf}
 use Rattle.machine.specs.Memory.{Memory, fieldsAt, objectAt, objectsFrom, objectsOf, storeCell, addMask}
 

@@ -6,10 +6,10 @@ use mathlib.Core.Path.{_≡_, refl, sym, ap, _∙_}
 use mathlib.Core.Bool.{Bool, true, false}
 use mathlib.Core.List.{List, [], _∷_, _++_, append-nil, append-assoc}
 use mathlib.Core.Option.{Option, some, none}
-use Rattle.packed.specs.Syntax.{Expression, Condition, Arguments, literal, argument, bool, substitute}
-use Rattle.packed.specs.Trees.{Node, expressionOf}
-use Rattle.packed.specs.Steps.{Descending}
-use Rattle.packed.proofs.TreeLaws.{tree-law}
+use Rattle.plan_packed.specs.Syntax.{Expression, Condition, Arguments, literal, argument, bool, substitute}
+use Rattle.plan_packed.specs.Trees.{Node, expressionOf}
+use Rattle.plan_packed.specs.Steps.{Descending}
+use Rattle.plan_packed.proofs.TreeLaws.{tree-law}
 use Rattle.rules.specs.Context.{Context, top, literals, plug, plugᶜ, asLiteral, asBool, Redex, Redexᶜ, redexExpression, redexCondition, focus, focusᵃ}
 use Rattle.rules.proofs.Decompose.{whole, whole-focus}
 use Rattle.rules.proofs.FocusPlug.{found, foundᶜ, focus-plug, focus-plugᶜ}

@@ -5,17 +5,17 @@ use mathlib.Core.Path.{_≡_, refl, sym, ap, _∙_, subst as along}
 use mathlib.Core.Bool.{false≢true}
 use mathlib.Core.List.{List}
 use lib.Dec.{T, ltb}
-use Rattle.packed.specs.Syntax.{Procedure}
-use Rattle.packed.specs.Format.{procedures, terms, parameters, root, Operand, absent, slot, binder, mask, fieldName, procedure, expression, condition, list}
-use Rattle.packed.specs.Format.{layout, tagAt}
-use Rattle.packed.specs.Trees.{nodeAt, treeAt, procedureAt, programOf}
-use Rattle.packed.specs.Slots.{closed}
-use Rattle.packed.specs.Steps.{Descending}
-use Rattle.packed.proofs.Accepted.{Fits, Accepted}
-use Rattle.packed.proofs.Decoded.{procedures-inside}
-use Rattle.packed.proofs.SingleTerm.{IfChild}
-use Rattle.packed.proofs.NodeOrder.{descending}
-use Rattle.packed.proofs.TreeLaws.{tree}
+use Rattle.plan_packed.specs.Syntax.{Procedure}
+use Rattle.plan_packed.specs.Format.{procedures, terms, parameters, root, Operand, absent, slot, binder, mask, fieldName, procedure, expression, condition, list}
+use Rattle.plan_packed.specs.Format.{layout, tagAt}
+use Rattle.plan_packed.specs.Trees.{nodeAt, treeAt, procedureAt, programOf}
+use Rattle.plan_packed.specs.Slots.{closed}
+use Rattle.plan_packed.specs.Steps.{Descending}
+use Rattle.plan_packed.proofs.Accepted.{Fits, Accepted}
+use Rattle.plan_packed.proofs.Decoded.{procedures-inside}
+use Rattle.plan_packed.proofs.SingleTerm.{IfChild}
+use Rattle.plan_packed.proofs.NodeOrder.{descending}
+use Rattle.plan_packed.proofs.TreeLaws.{tree}
 use Rattle.rules.specs.Rules.{isVolatile}
 use Rattle.machine.specs.Playing.{tableOf}
 use Rattle.machine.proofs.StateMeaning.{Tabulates}

@@ -4,10 +4,10 @@ use native.Mathlib.Omega.{arith}
 use mathlib.Core.Path.{_≡_, refl, ap, _∙_, subst as along}
 use mathlib.Core.List.{List}
 use mathlib.Core.Option.{none}
-use Rattle.packed.specs.Trees.{programOf}
-use Rattle.packed.specs.Check.{refusal}
-use Rattle.packed.proofs.Accepted.{accepted}
-use Rattle.packed.proofs.Decoded.{well-formed}
+use Rattle.plan_packed.specs.Trees.{programOf}
+use Rattle.plan_packed.specs.Check.{refusal}
+use Rattle.plan_packed.proofs.Accepted.{accepted}
+use Rattle.plan_packed.proofs.Decoded.{well-formed}
 use Rattle.rules.specs.Context.{literals, plug, redexExpression}
 use Rattle.rules.specs.State.{State, start}
 use Rattle.rules.specs.Room.{AnswerOf}

@@ -7,9 +7,9 @@ use mathlib.Core.List.{List, [], _∷_, map}
 use mathlib.Core.Option.{Option, some, none, Option·map, orElse}
 use lib.Dec.{ltb}
 use lib.ListN.{length, getElem?, drop, length-map}
-use Rattle.keys.proofs.CountLaws.{size-le}
-use Rattle.packed.specs.Syntax.{Program}
-use Rattle.packed.proofs.WellFormed.{WellFormedProgram}
+use Rattle.run_keys.proofs.CountLaws.{size-le}
+use Rattle.plan_packed.specs.Syntax.{Program}
+use Rattle.plan_packed.proofs.WellFormed.{WellFormedProgram}
 use Rattle.rules.specs.Context.{Focus, depthOf, expressionDepth}
 use Rattle.rules.specs.State.{Thread, State}
 use Rattle.rules.specs.Rules.{Rule}

@@ -5,8 +5,8 @@ use mathlib.Core.Bool.{Bool, true, false}
 use mathlib.Core.List.{List, [], _∷_}
 use mathlib.Core.Option.{Option, some, none}
 use lib.ListN.{length}
-use Rattle.packed.specs.Trees.{null, variable, new, read, write, letIn, if, while, call, fork, join, synch, signal, truth, not, and, equal, list, listEnd}
-use Rattle.packed.specs.Trees.{Node, expression, condition, arguments, unknown}
+use Rattle.plan_packed.specs.Trees.{null, variable, new, read, write, letIn, if, while, call, fork, join, synch, signal, truth, not, and, equal, list, listEnd}
+use Rattle.plan_packed.specs.Trees.{Node, expression, condition, arguments, unknown}
 use Rattle.rules.specs.Context.{depth, depthᶜ, depthOf}
 use Rattle.machine.specs.Frames.{Slots, noSlots, put, Closure, closure, firstOf, secondOf, Frame, Found, height, Result}
 use Rattle.machine.specs.Landing.{given, valueIn, boolIn, foundNot, downBy, downByᶜ, downByᵃ, down, downᶜ, downᵃ, up, upᶜ, enter, enterᶜ, go}

@@ -3,7 +3,7 @@ use Prim.Native.Nat.{ℕ, _<_}
 use mathlib.Core.Path.{_≡_, ap, _∙_}
 use mathlib.Core.Option.{some, Option·map}
 use lib.ListN.{length, getElem?}
-use Rattle.packed.specs.Syntax.{Program}
+use Rattle.plan_packed.specs.Syntax.{Program}
 use Rattle.rules.specs.State.{Cell, Thread, monitorOf, lookup, monitor}
 use Rattle.rules.proofs.Decompose.{focus-whole}
 use Rattle.rules.proofs.Placed.{Good, holds, GivenUp}

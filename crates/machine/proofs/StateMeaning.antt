@@ -6,11 +6,11 @@ use mathlib.Core.List.{List, [], _∷_, _++_, map}
 use mathlib.Core.Option.{Option, some, none, Option·map}
 use lib.Dec.{T, eqb, ltb}
 use lib.ListN.{getElem?}
-use Rattle.keys.specs.Keys.{Keys}
-use Rattle.packed.specs.Syntax.{Expression, Condition, Procedure, Program, bind, substitute}
-use Rattle.packed.specs.Slots.{closed}
-use Rattle.packed.specs.Steps.{Descending}
-use Rattle.packed.proofs.TreeLaws.{tree, treeᶜ}
+use Rattle.run_keys.specs.Keys.{Keys}
+use Rattle.plan_packed.specs.Syntax.{Expression, Condition, Procedure, Program, bind, substitute}
+use Rattle.plan_packed.specs.Slots.{closed}
+use Rattle.plan_packed.specs.Steps.{Descending}
+use Rattle.plan_packed.proofs.TreeLaws.{tree, treeᶜ}
 use Rattle.rules.specs.Context.{asLiteral}
 use Rattle.rules.specs.Queue.{Place, lastPlace, movedUp}
 use Rattle.rules.specs.State.{Thread, State, Numbered, changeAt, gain, become, inPlace, enqueue, signalled, threadOf}

@@ -6,8 +6,8 @@ use mathlib.Core.Path.{_≡_, refl, _∙_}
 use mathlib.Core.Bool.{Bool, true, false}
 use mathlib.Core.List.{List, [], _∷_}
 use mathlib.Core.Option.{Option, some, none}
-use Rattle.packed.specs.Trees.{Node}
-use Rattle.packed.specs.Steps.{Descending}
+use Rattle.plan_packed.specs.Trees.{Node}
+use Rattle.plan_packed.specs.Steps.{Descending}
 use Rattle.machine.specs.Frames.{Slots, Closure, Frame, Found}
 use Rattle.machine.specs.Landing.{given, valueIn, boolIn, downBy, down, downᶜ, downᵃ, up, upᶜ, enter, enterᶜ}
 use Rattle.machine.specs.Turns.{Going, Turn, ends, goes, goDown, goDownᶜ, goList, land, truthTurn, turn, landTurn}

@@ -5,8 +5,8 @@ use mathlib.Core.List.{List, [], _∷_, _++_, map}
 use mathlib.Core.Option.{Option, some, none}
 use lib.Dec.{eqb}
 use lib.ListN.{getElem?, drop}
-use Rattle.keys.specs.Keys.{Keys, empty, singleton, subset, isEmpty}
-use Rattle.packed.specs.Syntax.{Signal}
+use Rattle.run_keys.specs.Keys.{Keys, empty, singleton, subset, isEmpty}
+use Rattle.plan_packed.specs.Syntax.{Signal}
 use Rattle.rules.specs.Queue.{movedUp}
 use Rattle.rules.specs.Rules.{passedOn}
 use Rattle.rules.specs.State.{Cell, cell, changeAt, fieldOf}

@@ -6,7 +6,7 @@ use mathlib.Core.List.{List}
 use mathlib.Core.Option.{Option, some, none}
 use lib.Dec.{eqb}
 use lib.ListN.{length}
-use Rattle.packed.specs.Syntax.{Signal}
+use Rattle.plan_packed.specs.Syntax.{Signal}
 
 -- a value for every slot: a slot that nothing binds has one too, which no accepted plan asks for
 abbrev pub Slots : Type 0

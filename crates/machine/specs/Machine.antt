@@ -7,10 +7,10 @@ use mathlib.Core.Option.{Option, some, none}
 use lib.Dec.{eqb}
 use lib.ListN.{length, getElem?}
 use Rattle.format.specs.Version.{Version}
-use Rattle.keys.specs.Keys.{empty, singleton, union, subset, isEmpty}
-use Rattle.packed.specs.Syntax.{Signal}
-use Rattle.packed.specs.Trees.{Node}
-use Rattle.records.specs.Record.{Kind, entry}
+use Rattle.run_keys.specs.Keys.{empty, singleton, union, subset, isEmpty}
+use Rattle.plan_packed.specs.Syntax.{Signal}
+use Rattle.plan_packed.specs.Trees.{Node}
+use Rattle.log_records.specs.Record.{Kind, entry}
 use Rattle.rules.specs.State.{Form, ThreadOf, StateOf, NumberedOf, Cell, cell, fresh, freshObject, monitorOf, forked}
 use Rattle.rules.specs.Rules.{Rule, passedOn, e-call, e-let, e-if, e-while, e-notnottrue, e-andtrue, e-andfalse, e-new, e-read, e-write, e-readv, e-writev}
 use Rattle.rules.specs.Rules.{e-fork, e-join, e-re-enter, e-acquire, e-release, e-wait, e-wake, e-notify, e-notifyall}

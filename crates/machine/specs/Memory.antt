@@ -4,7 +4,7 @@ use Prim.Native.Nat.{ℕ, zero, suc}
 use mathlib.Core.Bool.{cond, _&&_}
 use mathlib.Core.List.{List, [], _∷_}
 use lib.Dec.{eqb}
-use Rattle.packed.specs.Format.{fieldsFrom}
+use Rattle.plan_packed.specs.Format.{fieldsFrom}
 use Rattle.rules.specs.State.{Cell, Field, Object}
 
 pub record Memory : Type 0 where

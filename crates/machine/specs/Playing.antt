@@ -4,8 +4,8 @@ use Prim.Native.Nat.{ℕ}
 use mathlib.Core.List.{List, []}
 use lib.Dec.{eqb}
 use Rattle.format.specs.Version.{versionOf}
-use Rattle.packed.specs.Format.{version, terms, root, volatiles, maskBit}
-use Rattle.packed.specs.Trees.{nodeAt}
+use Rattle.plan_packed.specs.Format.{version, terms, root, volatiles, maskBit}
+use Rattle.plan_packed.specs.Trees.{nodeAt}
 use Rattle.rules.specs.State.{startAt}
 use Rattle.rules.specs.Room.{AnswerOf}
 use Rattle.rules.specs.Run.{RunOf, Status, Outcome, runBy, statusesBy, outcomeBy}

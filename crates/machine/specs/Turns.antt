@@ -3,7 +3,7 @@
 use Prim.Native.Nat.{ℕ}
 use mathlib.Core.Bool.{Bool, true, false}
 use mathlib.Core.List.{List, [], _∷_}
-use Rattle.packed.specs.Trees.{Node}
+use Rattle.plan_packed.specs.Trees.{Node}
 use Rattle.machine.specs.Frames.{Slots, Closure, Frame, Ready, Readyᶜ, Found}
 use Rattle.machine.specs.Landing
 use Rattle.machine.specs.Landing.{given, valueIn, boolIn, downBy, downByᶜ, downByᵃ, upBy, downᵃ, nowhere, up, upᶜ}

@@ -6,14 +6,14 @@ use mathlib.Core.Option.{some, none}
 use lib.ListN.{take, drop}
 use Rattle.format.specs.Refusal.{orElse, lowest, refuse, firstRefusal}
 use Rattle.format.proofs.RefusalLaws.{refusal-append}
-use Rattle.packed.specs.Format.{terms}
-use Rattle.packed.specs.Refusals.{wrongTerm}
-use Rattle.packed.specs.Check.{checks, refusal}
-use Rattle.packed.specs.Steps.{Loaded}
-use Rattle.refusals.specs.Answer.{answered}
-use Rattle.refusals.proofs.Stages.{refused-first, passed-first, passed-none}
-use Rattle.refusals.specs.declared.Checked.{Checked}
-use Rattle.refusals.specs.declared.Checked.the-variants.{Passed, Refused}
+use Rattle.plan_packed.specs.Format.{terms}
+use Rattle.plan_packed.specs.Refusals.{wrongTerm}
+use Rattle.plan_packed.specs.Check.{checks, refusal}
+use Rattle.plan_packed.specs.Steps.{Loaded}
+use Rattle.plan_refusals.specs.Answer.{answered}
+use Rattle.plan_refusals.proofs.Stages.{refused-first, passed-first, passed-none}
+use Rattle.plan_refusals.specs.declared.Checked.{Checked}
+use Rattle.plan_refusals.specs.declared.Checked.the-variants.{Passed, Refused}
 
 module _ (b : List ℕ) where
   stages : refusal b ≡ orElse (firstRefusal (take 3 (checks b))) (refuse 4 (lowest (wrongTerm b) (terms b)) (firstRefusal (drop 4 (checks b))))

@@ -1,33 +1,33 @@
 // The packed plan: is it one that can be played, and if not, what is wrong with it, and where (document 01, refusals 1 to 7).
-use header::layout;
-use naming::notes;
-use operands::rows;
-use operands::rows::Rows;
-use refusals::Checked;
-use refusals::refused;
-use terms::table;
+use plan_header::layout;
+use plan_naming::notes;
+use plan_operands::rows;
+use plan_operands::rows::Rows;
+use plan_refusals::Checked;
+use plan_refusals::refused;
+use plan_terms::table;
 ghost use mathlib.Core.Path.{_≡_};
 ghost use lib.ListN.{take, drop, replicate};
 ghost use Rattle.format.specs.Refusal.{firstRefusal};
-ghost use Rattle.packed.specs.Check.{checks, refusal};
-ghost use Rattle.packed.specs.Format.{terms};
-ghost use Rattle.packed.specs.Rows.{layoutRows};
-ghost use Rattle.packed.specs.Steps.{Right, Loaded, TermsNoted};
-ghost use Rattle.refusals.specs.Answer.{answered};
+ghost use Rattle.plan_packed.specs.Check.{checks, refusal};
+ghost use Rattle.plan_packed.specs.Format.{terms};
+ghost use Rattle.plan_packed.specs.Rows.{layoutRows};
+ghost use Rattle.plan_packed.specs.Steps.{Right, Loaded, TermsNoted};
+ghost use Rattle.plan_refusals.specs.Answer.{answered};
 
 // Refusals 1 to 3: the length, the header and the mask, the procedures.
 fn check_header(plan: &[u8]) -> Checked
     ensures { λ r. ⌜ answered r ≡ firstRefusal (take 3 (checks (now (plan .entry)))) ⌝ }
 {
-    if header::wrong_length(plan) {
+    if plan_header::wrong_length(plan) {
         return refused(1, 0);
     }
-    if header::wrong_header(plan) {
+    if plan_header::wrong_header(plan) {
         return refused(2, 0);
     }
     let procedures = layout::procedures(plan);
     let count = layout::terms(plan);
-    let procedure = header::lowest_wrong_procedure(plan, procedures, count);
+    let procedure = plan_header::lowest_wrong_procedure(plan, procedures, count);
     if procedure < procedures {
         return refused(3, procedure);
     }
@@ -53,8 +53,8 @@ fn check_names(
         return Checked::Passed;
     }
     let mut times = [0u8; 1024];
-    let misplaced = naming::name_all(rows, plan, procedures, count, words, &mut times);
-    let miscounted = naming::lowest_miscounted(&times, count);
+    let misplaced = plan_naming::name_all(rows, plan, procedures, count, words, &mut times);
+    let miscounted = plan_naming::lowest_miscounted(&times, count);
     if misplaced < count {
         return refused(5, misplaced);
     }
@@ -83,7 +83,7 @@ fn check_trees(
     let Checked::Passed = checked else {
         return checked;
     };
-    let open = bound_slots::lowest_open(plan, procedures, count, words);
+    let open = plan_bound_slots::lowest_open(plan, procedures, count, words);
     if open < procedures {
         return refused(7, open);
     }

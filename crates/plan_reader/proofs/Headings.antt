@@ -9,9 +9,9 @@ use lib.Dec.{eqb, ltb}
 use lib.ListN.{length, getD, drop}
 use lib.Seq.{getD-drop, drop-drop}
 use borrow.Author.Tests.{eq-eqb, ne-eqb, lt-ltb, le-ltb}
-use Rattle.notation.specs.Tokens.{versionWord, volatileWord, textEnd}
-use Rattle.parsing.specs.Parser.{ahead}
-use Rattle.parsing.specs.Plan.{Reading, fault, Fault, countsOf, proceduresBy, maskFrom, behindFields, withVolatiles, readPlan}
+use Rattle.plan_notation.specs.Tokens.{versionWord, volatileWord, textEnd}
+use Rattle.plan_parsing.specs.Parser.{ahead}
+use Rattle.plan_parsing.specs.Plan.{Reading, fault, Fault, countsOf, proceduresBy, maskFrom, behindFields, withVolatiles, readPlan}
 use Rattle.plan_reader.specs.declared.Heading.{Heading}
 use Rattle.plan_reader.specs.Reading.{none, Fielded, Marked, Headed}
 use Rattle.plan_reader.proofs.VolatileFields.{beyond}

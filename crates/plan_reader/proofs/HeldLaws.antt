@@ -5,12 +5,12 @@ use mathlib.Core.Path.{_≡_, refl, sym, ap, ap₂, _∙_}
 use mathlib.Core.List.{List, [], _∷_, _++_}
 use lib.ListN.{length, getD, set}
 use lib.Seq.{getD-set-same, getD-set-other}
-use Rattle.packed.specs.Syntax.{Expression, Condition, Arguments, Procedure}
-use Rattle.packed.specs.Trees.{Node, nodeOf, expressionOf, conditionOf, argumentsOf, expressionAt, conditionAt, argumentsAt}
-use Rattle.packed.specs.Steps.{Ordered, Below, termIn, nodeIn, treeIn}
-use Rattle.packed.proofs.TreeLaws.{expression-cong, condition-cong, arguments-cong}
-use Rattle.written.specs.Terms.{termsOf, size}
-use Rattle.written.specs.Written.{sizeOfAll}
+use Rattle.plan_packed.specs.Syntax.{Expression, Condition, Arguments, Procedure}
+use Rattle.plan_packed.specs.Trees.{Node, nodeOf, expressionOf, conditionOf, argumentsOf, expressionAt, conditionAt, argumentsAt}
+use Rattle.plan_packed.specs.Steps.{Ordered, Below, termIn, nodeIn, treeIn}
+use Rattle.plan_packed.proofs.TreeLaws.{expression-cong, condition-cong, arguments-cong}
+use Rattle.plan_written.specs.Terms.{termsOf, size}
+use Rattle.plan_written.specs.Written.{sizeOfAll}
 use Rattle.plan_writer.specs.Held.{heldProcedure, heldFrom}
 
 -- ---- trees above a term stay where the terms from it on do

@@ -10,16 +10,16 @@ use lib.ListN.{length, getD, drop, set, length-set}
 use lib.Seq.{getD-set-same, getD-set-other}
 use borrow.Author.Tests.{eq-eqb, ne-eqb}
 use Rattle.format.specs.Version.{versionOf}
-use Rattle.packed.specs.Syntax.{Expression, Procedure, Program}
-use Rattle.packed.specs.Slots.{closed}
-use Rattle.packed.specs.Steps.{Ordered, treeIn}
-use Rattle.written.specs.Terms.{termsOf, size}
-use Rattle.written.specs.Written.{sizeOfAll}
-use Rattle.notation.specs.Tokens.{textEnd}
-use Rattle.parsing.specs.Goals.{Value, number, numberIn, expressionIn, valueAt}
-use Rattle.parsing.specs.Parser.{ahead, Reason, parse, Parsed, parsed, stopped}
-use Rattle.parsing.specs.Plan.{Reading, plan, fault, Fault, countsOf, procedureGoals, Before, programBy, withProcedure, afterProcedure, proceduresBy, readPlan}
-use Rattle.parsing.proofs.ReadRight.{ReadProcedure, main-read, procedure-read}
+use Rattle.plan_packed.specs.Syntax.{Expression, Procedure, Program}
+use Rattle.plan_packed.specs.Slots.{closed}
+use Rattle.plan_packed.specs.Steps.{Ordered, treeIn}
+use Rattle.plan_written.specs.Terms.{termsOf, size}
+use Rattle.plan_written.specs.Written.{sizeOfAll}
+use Rattle.plan_notation.specs.Tokens.{textEnd}
+use Rattle.plan_parsing.specs.Goals.{Value, number, numberIn, expressionIn, valueAt}
+use Rattle.plan_parsing.specs.Parser.{ahead, Reason, parse, Parsed, parsed, stopped}
+use Rattle.plan_parsing.specs.Plan.{Reading, plan, fault, Fault, countsOf, procedureGoals, Before, programBy, withProcedure, afterProcedure, proceduresBy, readPlan}
+use Rattle.plan_parsing.proofs.ReadRight.{ReadProcedure, main-read, procedure-read}
 use Rattle.plan_writer.specs.Held.{heldProcedure, heldFrom, heldProgram}
 use Rattle.plan_reader.specs.Reading.{Going}
 use Rattle.plan_reader.proofs.HeldLaws.{tree-stays, held-more, held-stay, sizes-append}

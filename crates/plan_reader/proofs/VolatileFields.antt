@@ -10,9 +10,9 @@ use lib.ListN.{length, getD, drop, drop-of-length-le}
 use lib.Seq.{drop-cons}
 use lib.Pow.{pow-mono}
 use borrow.Author.Tests.{lt-ltb, le-ltb, ltb-true}
-use Rattle.notation.specs.Tokens.{textEnd}
-use Rattle.parsing.specs.Parser.{ahead}
-use Rattle.parsing.specs.Plan.{maskFrom, behindFields}
+use Rattle.plan_notation.specs.Tokens.{textEnd}
+use Rattle.plan_parsing.specs.Parser.{ahead}
+use Rattle.plan_parsing.specs.Plan.{maskFrom, behindFields}
 use Rattle.plan_reader.specs.Reading.{isNext}
 
 -- beyond the tokens is the text's end

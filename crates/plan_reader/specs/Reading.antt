@@ -5,14 +5,14 @@ use mathlib.Core.Bool.{Bool, true, false, cond, _&&_}
 use mathlib.Core.List.{List, [], _∷_}
 use lib.Dec.{eqb, ltb}
 use lib.ListN.{length, getD, drop, set}
-use Rattle.notation.specs.Tokens.{procedureWord, textEnd}
-use Rattle.parsing.specs.Parser.{ahead}
-use Rattle.parsing.specs.Plan.{Reading, plan, fault, Fault, countsFrom, countsOf, Before, proceduresBy, maskFrom, behindFields, withVolatiles, readPlan}
-use Rattle.packed.specs.Slots.{closed}
-use Rattle.packed.specs.Steps.{Ordered, treeIn}
-use Rattle.written.specs.Written.{sizeOfAll}
+use Rattle.plan_notation.specs.Tokens.{procedureWord, textEnd}
+use Rattle.plan_parsing.specs.Parser.{ahead}
+use Rattle.plan_parsing.specs.Plan.{Reading, plan, fault, Fault, countsFrom, countsOf, Before, proceduresBy, maskFrom, behindFields, withVolatiles, readPlan}
+use Rattle.plan_packed.specs.Slots.{closed}
+use Rattle.plan_packed.specs.Steps.{Ordered, treeIn}
+use Rattle.plan_written.specs.Written.{sizeOfAll}
 use Rattle.plan_writer.specs.Held.{heldFrom, heldProgram}
-use Rattle.parser_goals.specs.Encoded.{reasonOf}
+use Rattle.plan_parser_goals.specs.Encoded.{reasonOf}
 use Rattle.plan_reader.specs.declared.Heading.{Heading}
 use Rattle.plan_reader.specs.declared.Outcome.{Outcome}
 use Rattle.plan_reader.specs.declared.Outcome.the-variants.{Plan, Refused}

@@ -1,14 +1,14 @@
 // A plan's tokens, read into arrays: its terms, and the root and the parameter count of each procedure.
 use byte_numbers::wide;
-use notation::tokens;
-use parser::Parsed;
+use plan_notation::tokens;
+use plan_parser::Parsed;
 ghost use Prim.Native.Nat.{_+_, _≤_, _<_};
 ghost use mathlib.Core.Path.{_≡_};
 ghost use lib.ListN.{length};
-ghost use Rattle.packed.specs.Steps.{Ordered};
+ghost use Rattle.plan_packed.specs.Steps.{Ordered};
 ghost use Rattle.text.specs.Wrote.{Wrote};
-ghost use Rattle.parsing.specs.Parser.{ahead};
-ghost use Rattle.parsing.specs.Plan.{countsFrom, countsOf};
+ghost use Rattle.plan_parsing.specs.Parser.{ahead};
+ghost use Rattle.plan_parsing.specs.Plan.{countsFrom, countsOf};
 ghost use Rattle.plan_reader.specs.Reading.{countAt, isNext, Fielded, Marked, Headed, Going, Keeps, Goes, ReadAs};
 
 // The version, the mask of volatile fields, and the token behind both.
@@ -180,7 +180,7 @@ fn keep(
     ensures { λ r. ⌜ Keeps (now (tokens .entry)) procedure at (now (words .entry)) (now (roots .entry)) (now (parameters .entry))
         (now (roots .exit)) (now (parameters .exit)) root count left next r ⌝ }
 {
-    if !bound_slots::closed_with(words, root, count) {
+    if !plan_bound_slots::closed_with(words, root, count) {
         return Next::Stop {
             kind: SLOTS,
             reason: 0,
@@ -215,7 +215,7 @@ fn step(
     requires { ⌜ Going (now tokens) version mask (now words) (now roots) (now parameters) procedure at left ⌝ }
     ensures { λ r. ⌜ Goes (now (tokens .entry)) version mask (now (words .exit)) (now (roots .exit)) (now (parameters .exit)) procedure r ⌝ }
 {
-    let parsed = parser::procedure(tokens, at, procedure, counts, words, left);
+    let parsed = plan_parser::procedure(tokens, at, procedure, counts, words, left);
     match parsed {
         Parsed::Stopped { reason, at: stop } => Next::Stop {
             kind: READING,

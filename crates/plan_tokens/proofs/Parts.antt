@@ -6,24 +6,24 @@ use mathlib.Core.List.{List, [], _∷_, _++_, append-nil, append-assoc}
 use mathlib.Core.Option.{none}
 use lib.ListN.{length, length-append}
 use Rattle.format.specs.Version.{versionOf}
-use Rattle.packed.specs.Syntax.{Procedure}
-use Rattle.packed.specs.Format
-use Rattle.packed.specs.Format.{version, terms, volatiles, parameters, root, fieldsFrom}
-use Rattle.packed.specs.Steps.{Right, Ordered, treeIn}
-use Rattle.packed.specs.Trees.{treeAt, procedureAt, proceduresFrom, programOf}
-use Rattle.packed.specs.Check.{refusal}
-use Rattle.packed.proofs.Accepted.{Accepted, accepted}
-use Rattle.packed.proofs.Passing.{all-right}
-use Rattle.packed.proofs.NodeOrder.{ordered, tree-is}
-use Rattle.written.specs.Written.{versionNumber}
-use Rattle.written.proofs.Passes.{plan-length, body-is, parameters-are, version-back, version-of, mask-is}
-use Rattle.written.proofs.Sizes.{program-procedures}
-use Rattle.written.proofs.RightPlans.{right-program}
+use Rattle.plan_packed.specs.Syntax.{Procedure}
+use Rattle.plan_packed.specs.Format
+use Rattle.plan_packed.specs.Format.{version, terms, volatiles, parameters, root, fieldsFrom}
+use Rattle.plan_packed.specs.Steps.{Right, Ordered, treeIn}
+use Rattle.plan_packed.specs.Trees.{treeAt, procedureAt, proceduresFrom, programOf}
+use Rattle.plan_packed.specs.Check.{refusal}
+use Rattle.plan_packed.proofs.Accepted.{Accepted, accepted}
+use Rattle.plan_packed.proofs.Passing.{all-right}
+use Rattle.plan_packed.proofs.NodeOrder.{ordered, tree-is}
+use Rattle.plan_written.specs.Written.{versionNumber}
+use Rattle.plan_written.proofs.Passes.{plan-length, body-is, parameters-are, version-back, version-of, mask-is}
+use Rattle.plan_written.proofs.Sizes.{program-procedures}
+use Rattle.plan_written.proofs.RightPlans.{right-program}
 use Rattle.text.specs.Wrote.{Wrote}
 use Rattle.text.proofs.Added.{added-none, added-more, added-as}
-use Rattle.notation.specs.Tokens.{versionWord}
-use Rattle.notation.specs.Shown.{loose, shown, volatileTokens, procedureTokens, mainFirst, shownPlan}
-use Rattle.notation.proofs.ShownCodes.{plan-fit}
+use Rattle.plan_notation.specs.Tokens.{versionWord}
+use Rattle.plan_notation.specs.Shown.{loose, shown, volatileTokens, procedureTokens, mainFirst, shownPlan}
+use Rattle.plan_notation.proofs.ShownCodes.{plan-fit}
 use Rattle.plan_tokens.specs.Begun.{Given, procedureHead, procedureAlone, headerTokens, restFrom, proceduresBehind}
 
 -- ---- procedures one by one

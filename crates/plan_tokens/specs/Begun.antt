@@ -4,14 +4,14 @@ use mathlib.Core.Path.{_≡_}
 use mathlib.Core.List.{List, [], _∷_, _++_}
 use mathlib.Core.Option.{none}
 use lib.ListN.{length}
-use Rattle.packed.specs.Syntax.{Procedure}
-use Rattle.packed.specs.Format
-use Rattle.packed.specs.Format.{version, terms, volatiles, parameters, root, maskBit, fieldsFrom}
-use Rattle.packed.specs.Steps.{Loaded}
-use Rattle.packed.specs.Trees.{treeAt, proceduresFrom}
-use Rattle.packed.specs.Check.{refusal}
-use Rattle.notation.specs.Tokens.{versionWord, procedureWord, opening, closing, equals}
-use Rattle.notation.specs.Shown.{loose, shown, volatileTokens, procedureTokens}
+use Rattle.plan_packed.specs.Syntax.{Procedure}
+use Rattle.plan_packed.specs.Format
+use Rattle.plan_packed.specs.Format.{version, terms, volatiles, parameters, root, maskBit, fieldsFrom}
+use Rattle.plan_packed.specs.Steps.{Loaded}
+use Rattle.plan_packed.specs.Trees.{treeAt, proceduresFrom}
+use Rattle.plan_packed.specs.Check.{refusal}
+use Rattle.plan_notation.specs.Tokens.{versionWord, procedureWord, opening, closing, equals}
+use Rattle.plan_notation.specs.Shown.{loose, shown, volatileTokens, procedureTokens}
 
 -- an accepted plan with its terms in an array
 pub record Given (plan words : List ℕ) : Type 0 where

@@ -1,18 +1,18 @@
 // The tokens of a plan: its version, its volatile fields, main, and the other procedures.
-use header::layout;
-use notation::tokens;
-use token_writer::put_fields;
-use token_writer::rows;
-use token_writer::rows::Rows;
-use token_writer::write_expression;
+use plan_header::layout;
+use plan_notation::tokens;
+use plan_token_writer::put_fields;
+use plan_token_writer::rows;
+use plan_token_writer::rows::Rows;
+use plan_token_writer::write_expression;
 ghost use Prim.Native.Nat.{_+_, _-_, _≤_, _<_};
 ghost use mathlib.Core.Path.{_≡_};
 ghost use lib.ListN.{length};
-ghost use Rattle.packed.specs.Format.{version, fieldsFrom, procedures};
-ghost use Rattle.packed.specs.Trees.{programOf};
-ghost use Rattle.notation.specs.Shown.{volatileTokens, shownPlan};
+ghost use Rattle.plan_packed.specs.Format.{version, fieldsFrom, procedures};
+ghost use Rattle.plan_packed.specs.Trees.{programOf};
+ghost use Rattle.plan_notation.specs.Shown.{volatileTokens, shownPlan};
 ghost use Rattle.text.specs.Wrote.{Wrote};
-ghost use Rattle.token_writer.specs.Items.{itemRows};
+ghost use Rattle.plan_token_writer.specs.Items.{itemRows};
 ghost use Rattle.plan_tokens.specs.Begun.{Given, procedureHead, procedureAlone, headerTokens, proceduresBehind, FirstField};
 
 // The first field from field 1 on that the mask has, or 32.
@@ -21,7 +21,7 @@ fn first_field(mask: usize) -> usize
 {
     let mut field = 1;
     while field < 32 {
-        if token_writer::bit(mask, field) == 1 {
+        if plan_token_writer::bit(mask, field) == 1 {
             return field;
         }
         field += 1;

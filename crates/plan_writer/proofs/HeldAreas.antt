@@ -7,13 +7,13 @@ use lib.ListN.{length, getD}
 use lib.Seq.{sets}
 use Rattle.format.specs.Area.{overwrite}
 use Rattle.format.specs.Version.{versionOf}
-use Rattle.packed.specs.Syntax.{Procedure, Program}
-use Rattle.written.specs.Terms.{TermTree, termsOf, size}
-use Rattle.written.specs.Written.{bytesOf, sizeOfAll, versionNumber, headerOf, written}
-use Rattle.written.proofs.Named.{size-pos}
-use Rattle.written.proofs.Passes.{version-back}
-use Rattle.written.proofs.ReadBack.{heads, header-is}
-use Rattle.tree_writer.specs.Left.{Room, Wrote, expressionsIn}
+use Rattle.plan_packed.specs.Syntax.{Procedure, Program}
+use Rattle.plan_written.specs.Terms.{TermTree, termsOf, size}
+use Rattle.plan_written.specs.Written.{bytesOf, sizeOfAll, versionNumber, headerOf, written}
+use Rattle.plan_written.proofs.Named.{size-pos}
+use Rattle.plan_written.proofs.Passes.{version-back}
+use Rattle.plan_written.proofs.ReadBack.{heads, header-is}
+use Rattle.plan_tree_writer.specs.Left.{Room, Wrote, expressionsIn}
 use Rattle.plan_writer.specs.Held.{heldProcedure, heldFrom, heldProgram, Writable}
 use Rattle.plan_writer.proofs.Plans.{sizes-more, both, both-length, none-more, step-more, plan-whole}
 

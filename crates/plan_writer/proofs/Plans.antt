@@ -6,13 +6,13 @@ use mathlib.Core.List.{List, [], _∷_, _++_}
 use lib.ListN.{length, drop}
 use lib.Seq.{sets, sets-eq, length-sets}
 use Rattle.format.specs.Area.{overwrite}
-use Rattle.packed.specs.Syntax.{Procedure, Program}
-use Rattle.written.specs.Terms.{termsOf, size, wordsFrom}
-use Rattle.written.specs.Written.{bytesOf, sizeOfAll, procedureBytes, termWords, wordBytes, written}
-use Rattle.written.proofs.Bytes.{bytes-length, words-length, words-append}
-use Rattle.written.proofs.ReadBack.{tree-length, procedures-length, heads, from-terms, heads-length, front-length, whole-length}
-use Rattle.tree_writer.specs.Left.{Wrote}
-use Rattle.tree_writer.proofs.Areas.{sets-append, sets-apart}
+use Rattle.plan_packed.specs.Syntax.{Procedure, Program}
+use Rattle.plan_written.specs.Terms.{termsOf, size, wordsFrom}
+use Rattle.plan_written.specs.Written.{bytesOf, sizeOfAll, procedureBytes, termWords, wordBytes, written}
+use Rattle.plan_written.proofs.Bytes.{bytes-length, words-length, words-append}
+use Rattle.plan_written.proofs.ReadBack.{tree-length, procedures-length, heads, from-terms, heads-length, front-length, whole-length}
+use Rattle.plan_tree_writer.specs.Left.{Wrote}
+use Rattle.plan_tree_writer.proofs.Areas.{sets-append, sets-apart}
 
 -- ---- one procedure more
 

@@ -5,9 +5,9 @@ use mathlib.Core.Path.{_≡_, sym, ap, _∙_}
 use mathlib.Core.List.{List, _++_}
 use lib.ListN.{length, set}
 use lib.Seq.{sets, length-sets}
-use Rattle.written.specs.Written.{bytesOf}
-use Rattle.written.proofs.Bytes.{bytes-length}
-use Rattle.tree_writer.proofs.Areas.{sets-append}
+use Rattle.plan_written.specs.Written.{bytesOf}
+use Rattle.plan_written.proofs.Bytes.{bytes-length}
+use Rattle.plan_tree_writer.proofs.Areas.{sets-append}
 
 -- an area keeps its length
 sets-keeps : (area bytes : List ℕ) (i : ℕ) {area₁ : List ℕ} → area₁ ≡ sets area i bytes → length area₁ ≡ length area

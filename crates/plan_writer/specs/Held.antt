@@ -4,9 +4,9 @@ use mathlib.Core.Path.{_≡_}
 use mathlib.Core.List.{List, [], _∷_}
 use lib.ListN.{length, getD}
 use Rattle.format.specs.Version.{versionOf}
-use Rattle.packed.specs.Syntax.{Procedure, Program}
-use Rattle.packed.specs.Steps.{Ordered, treeIn}
-use Rattle.written.specs.Written.{sizeOfAll}
+use Rattle.plan_packed.specs.Syntax.{Procedure, Program}
+use Rattle.plan_packed.specs.Steps.{Ordered, treeIn}
+use Rattle.plan_written.specs.Written.{sizeOfAll}
 
 -- procedure p
 unfoldable pub heldProcedure : List ℕ → List ℕ → List ℕ → ℕ → Procedure

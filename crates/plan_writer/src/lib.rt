@@ -5,7 +5,7 @@ ghost use mathlib.Core.List.{_++_};
 ghost use lib.ListN.{length};
 ghost use lib.Seq.{sets};
 ghost use Rattle.format.specs.Area.{overwrite};
-ghost use Rattle.written.specs.Written.{bytesOf, written};
+ghost use Rattle.plan_written.specs.Written.{bytesOf, written};
 ghost use Rattle.plan_writer.specs.Held.{heldProgram, Writable};
 
 // A number's last four bytes.
@@ -65,7 +65,7 @@ pub fn write(
         let parameters = counts[procedure];
         let root = roots[procedure];
         put_procedure(area, 8 + 2 * procedure, parameters, number);
-        number = tree_writer::write_expression(words, root, area, base, number);
+        number = plan_tree_writer::write_expression(words, root, area, base, number);
         procedure += 1;
     }
 }

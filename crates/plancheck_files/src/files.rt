@@ -1,7 +1,7 @@
 // Files and standard input, areas, and schedules.
-use inputs::schedules;
 use libc::STDERR_FILENO;
 use libc::STDIN_FILENO;
+use text_inputs::schedules;
 ghost use Rattle.io.specs.Counts.{Counts};
 
 // The file of this name, or standard input where the name is `-`. What fails is said on standard error.

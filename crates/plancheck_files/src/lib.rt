@@ -2,11 +2,11 @@
 mod files; // files.rt: files and schedules
 mod names; // names.rt: the words, and the uses
 
-use inputs::numerals;
 use libc::STDOUT_FILENO;
-use log_words::LogWord;
 use names::Found;
 use plancheck_words::Word;
+use text_inputs::numerals;
+use text_log_words::LogWord;
 
 // A word about a plan and a schedule, as they are given.
 fn print_answer(word: Word, plan: &[u8], schedule: &[u8]) {
@@ -56,7 +56,7 @@ fn with_plan(word: Word, name: &[u8], schedule: &[u8]) {
 // A word about a log.
 fn print_log(word: LogWord, log: &[u8]) {
     let mut area = files::picture_area();
-    let length = log_words::answer(word, log, &mut area);
+    let length = text_log_words::answer(word, log, &mut area);
     io::write_all(STDOUT_FILENO, &area[..length]);
 }
 

@@ -1,8 +1,8 @@
 // The words of the program, and its uses.
-use inputs::numerals;
 use libc::STDOUT_FILENO;
-use log_words::LogWord;
 use plancheck_words::Word;
+use text_inputs::numerals;
+use text_log_words::LogWord;
 
 // A word about a plan or about a log, the one that writes two files, or none.
 pub enum Found {

@@ -8,19 +8,19 @@ use lib.ListN.{length, take}
 use borrow.Author.Tests.{ltb-true, ltb-false}
 use Rattle.format.specs.Area.{overwrite}
 use Rattle.format.proofs.AreaLaws.{overwrite-first}
-use Rattle.packed.specs.Syntax.{Program}
-use Rattle.written.specs.Written as bytes
-use Rattle.notation.specs.Lexing.{codesOf}
-use Rattle.lexer.specs.Place.{placeOf}
-use Rattle.parsing.specs.Plan as reading
-use Rattle.parsing.specs.Plan.{Reading, readPlan}
-use Rattle.parsing.proofs.PlanRight.{text-passes}
+use Rattle.plan_packed.specs.Syntax.{Program}
+use Rattle.plan_written.specs.Written as bytes
+use Rattle.plan_notation.specs.Lexing.{codesOf}
+use Rattle.plan_lexer.specs.Place.{placeOf}
+use Rattle.plan_parsing.specs.Plan as reading
+use Rattle.plan_parsing.specs.Plan.{Reading, readPlan}
+use Rattle.plan_parsing.proofs.PlanRight.{text-passes}
 use Rattle.read.specs.Read as texts
 use Rattle.read.specs.Read.{Failure, tooMany, shortForPlan, failedAt, answerBy, areaBy, readAnswer, readArea}
 use Rattle.read.specs.Answer.{failureOf, answered}
 use Rattle.read.specs.declared.Answer.{Answer}
 use Rattle.read.specs.declared.Answer.the-variants.{Written, Short, Failed}
-use Rattle.plan_words.proofs.Areas.{plan-few}
+use Rattle.text_plan_words.proofs.Areas.{plan-few}
 use Rattle.plancheck_words.specs.Given.{Given, plan, noPlan, noPlanAt, planBy, textPlan}
 
 -- no plan of a text is longer than 5,192 bytes

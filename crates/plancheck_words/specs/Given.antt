@@ -3,13 +3,13 @@ use Prim.Native.Nat.{ℕ, _-_}
 use mathlib.Core.Bool.{cond}
 use mathlib.Core.List.{List}
 use lib.ListN.{length}
-use Rattle.written.specs.Written.{written}
-use Rattle.notation.specs.Lexing.{codesOf}
-use Rattle.lexer.specs.Place.{placeOf}
-use Rattle.parsing.specs.Plan as reading
-use Rattle.parsing.specs.Plan.{Reading, readPlan}
+use Rattle.plan_written.specs.Written.{written}
+use Rattle.plan_notation.specs.Lexing.{codesOf}
+use Rattle.plan_lexer.specs.Place.{placeOf}
+use Rattle.plan_parsing.specs.Plan as reading
+use Rattle.plan_parsing.specs.Plan.{Reading, readPlan}
 use Rattle.read.specs.Read.{Failure, tokens, ofFault, tooMany}
-use Rattle.inputs.specs.Plans.{isText}
+use Rattle.text_inputs.specs.Plans.{isText}
 
 -- a packed plan, or the line and the column where reading stops, and why
 pub data Given : Type 0 where

@@ -3,11 +3,11 @@ use Prim.Native.Nat.{ℕ}
 use mathlib.Core.Path.{_≡_}
 use mathlib.Core.List.{List}
 use Rattle.read.specs.Read.{Failure}
-use Rattle.read_lines.specs.Reasons.{failureLine}
-use Rattle.plan_words.specs.Texts.{checkText, planText, showText, canonicalText, boundText}
-use Rattle.run_words.specs.Texts.{chargeText, WitnessText}
-use Rattle.run_words.specs.Runs.{PlayText, threadsText, previewText, logText}
-use Rattle.interleaving_lines.specs.Lines.{InterleavingsText}
+use Rattle.text_read_lines.specs.Reasons.{failureLine}
+use Rattle.text_plan_words.specs.Texts.{checkText, planText, showText, canonicalText, boundText}
+use Rattle.text_run_words.specs.Texts.{chargeText, WitnessText}
+use Rattle.text_run_words.specs.Runs.{PlayText, threadsText, previewText, logText}
+use Rattle.text_interleaving_lines.specs.Lines.{InterleavingsText}
 use Rattle.plancheck_words.specs.Given.{Given, plan, noPlan}
 use Rattle.plancheck_words.specs.declared.Word.{Word}
 use Rattle.plancheck_words.specs.declared.Word.the-variants as word

@@ -1,11 +1,11 @@
 // What the program plancheck answers to a word, a plan as it is given and a schedule: the whole text.
-use inputs::plans;
 use read::Answer;
-use run_words::told;
+use text_inputs::plans;
+use text_run_words::told;
 ghost use Prim.Native.Nat.{_≤_};
 ghost use mathlib.Core.Path.{_≡_};
 ghost use lib.ListN.{length, take};
-ghost use Rattle.answer_lines.specs.Told.{Told};
+ghost use Rattle.text_answer_lines.specs.Told.{Told};
 ghost use Rattle.plancheck_words.specs.Words.{Says, Answers};
 ghost use Rattle.plancheck_words.specs.Given.{textPlan};
 ghost use Rattle.plancheck_words.specs.Area.{Answered};
@@ -32,18 +32,18 @@ fn packed_text(word: Word, plan: &[u8], schedule: &[u8], area: &mut [u8]) -> usi
     ensures { λ r. ⌜ Told (Says word (now (plan .entry)) (now (schedule .entry))) (now (area .entry)) (now (area .exit)) r ⌝ }
 {
     match word {
-        Word::Check => plan_words::check_text(plan, area),
-        Word::Show => plan_words::show_text(plan, area),
-        Word::Read => plan_words::plan_text(plan, area),
-        Word::Canonical => plan_words::canonical_text(plan, area),
-        Word::Bound => plan_words::bound_text(plan, area),
+        Word::Check => text_plan_words::check_text(plan, area),
+        Word::Show => text_plan_words::show_text(plan, area),
+        Word::Read => text_plan_words::plan_text(plan, area),
+        Word::Canonical => text_plan_words::canonical_text(plan, area),
+        Word::Bound => text_plan_words::bound_text(plan, area),
         Word::Play => told::play_text(plan, schedule, area),
         Word::States => told::states_text(plan, schedule, area),
         Word::Preview(pick) => told::preview_text(plan, schedule, pick, area),
         Word::Log => told::log_text(plan, schedule, area),
-        Word::Witness => run_words::witness_text(plan, schedule, area),
-        Word::Charge => run_words::charge_text(plan, schedule, area),
-        Word::Interleavings(n) => interleaving_lines::interleavings_text(plan, n, area),
+        Word::Witness => text_run_words::witness_text(plan, schedule, area),
+        Word::Charge => text_run_words::charge_text(plan, schedule, area),
+        Word::Interleavings(n) => text_interleaving_lines::interleavings_text(plan, n, area),
     }
 }
 
@@ -56,13 +56,13 @@ fn read_text(word: Word, text: &[u8], schedule: &[u8], area: &mut [u8]) -> usize
     let answer = read::read(text, &mut plan);
     match answer {
         Answer::Written(length) => packed_text(word, &plan[0..length], schedule, area),
-        Answer::Short => refusal_lines::put_refusal_lines(area, 0, 26, 0),
+        Answer::Short => text_refusal_lines::put_refusal_lines(area, 0, 26, 0),
         Answer::Failed {
             line,
             column,
             kind,
             reason,
-        } => read_lines::put_failure(area, 0, line, column, kind, reason),
+        } => text_read_lines::put_failure(area, 0, line, column, kind, reason),
     }
 }
 

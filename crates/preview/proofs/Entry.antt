@@ -5,16 +5,16 @@ use mathlib.Core.Path.{_≡_, sym, ap, _∙_}
 use mathlib.Core.List.{List}
 use mathlib.Core.Option.{some, none}
 use lib.ListN.{length, length-replicate}
-use Rattle.packed.specs.Format.{terms}
-use Rattle.packed.specs.Steps.{Loaded}
-use Rattle.refusals.specs.Answer as check
-use Rattle.refusals.specs.declared.Checked.{Checked}
-use Rattle.refusals.specs.declared.Checked.the-variants as checked
+use Rattle.plan_packed.specs.Format.{terms}
+use Rattle.plan_packed.specs.Steps.{Loaded}
+use Rattle.plan_refusals.specs.Answer as check
+use Rattle.plan_refusals.specs.declared.Checked.{Checked}
+use Rattle.plan_refusals.specs.declared.Checked.the-variants as checked
 use Rattle.rules.specs.Play.{scheduleRefusal}
-use Rattle.play_refusals.proofs.Passed.{scheduled-by-code}
-use Rattle.player.specs.RunOn.{Given}
-use Rattle.last_pick.specs.declared.Previewed.{Previewed}
-use Rattle.last_pick.specs.declared.Previewed.the-variants as shows
+use Rattle.run_refusals.proofs.Passed.{scheduled-by-code}
+use Rattle.play.specs.RunOn.{Given}
+use Rattle.run_last_pick.specs.declared.Previewed.{Previewed}
+use Rattle.run_last_pick.specs.declared.Previewed.the-variants as shows
 use Rattle.preview.specs.Preview.{withPick, previewRefusal, previewedBy, previewed}
 use Rattle.preview.specs.PlaysAs.{PlaysIfShown}
 use Rattle.preview.specs.Answer.{answered, AsLogged}

@@ -1,7 +1,7 @@
 -- The worked examples of previews, by computation: one theorem over all rows. Assumes nothing.
 use mathlib.Core.Path.{_≡_, refl}
 use mathlib.Core.List.{map}
-use Rattle.keys.specs.Keys.{holds, countNew}
+use Rattle.run_keys.specs.Keys.{holds, countNew}
 use Rattle.preview.specs.Preview.{previewed}
 use Rattle.preview.specs.Examples.{Example, examples}
 

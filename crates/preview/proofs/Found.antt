@@ -10,12 +10,12 @@ use lib.ListN.{length, getD, getElem?, take, drop, length-append, take-append-dr
 use lib.Seq.{getD-take, take-at, getD-append-seam}
 use Rattle.format.specs.Area.{overwrite}
 use Rattle.format.proofs.AreaLaws.{overwrite-first, overwrite-covers}
-use Rattle.packed.specs.Trees.{programOf}
-use Rattle.packed.proofs.Decoded.{well-formed}
-use Rattle.records.specs.Record.{Record}
-use Rattle.records.specs.Packed.{packed, threeBytes, bytesOf, recordAt}
-use Rattle.records.proofs.Tidy.{Tidy, tidy-at}
-use Rattle.records.proofs.RoundTrip.{length-bytes, Placed, bytes-placed, packed-back}
+use Rattle.plan_packed.specs.Trees.{programOf}
+use Rattle.plan_packed.proofs.Decoded.{well-formed}
+use Rattle.log_records.specs.Record.{Record}
+use Rattle.log_records.specs.Packed.{packed, threeBytes, bytesOf, recordAt}
+use Rattle.log_records.proofs.Tidy.{Tidy, tidy-at}
+use Rattle.log_records.proofs.RoundTrip.{length-bytes, Placed, bytes-placed, packed-back}
 use Rattle.rules.specs.State.{State, start}
 use Rattle.rules.specs.Step.{attempt}
 use Rattle.rules.specs.Room.{Room}
@@ -29,21 +29,21 @@ use Rattle.run_outcome.specs.declared.NoRoom.{NoRoom}
 use Rattle.run_outcome.specs.declared.NoRoom.the-variants as room
 use Rattle.run_outcome.specs.declared.Stop.{Stop}
 use Rattle.run_outcome.specs.declared.Stop.the-variants as stop
-use Rattle.open_threads.specs.Open.{absent}
-use Rattle.engine.specs.Machine.{picksBefore}
-use Rattle.engine.specs.declared.Ran.{Ran}
-use Rattle.player.specs.Answer.{roomOf, stopOf, statusOf, outcomeOf}
-use Rattle.player.specs.RunOn.{Given, RunOn}
-use Rattle.player.proofs.Threads.{status-of}
+use Rattle.run_open_threads.specs.Open.{absent}
+use Rattle.run_engine.specs.Machine.{picksBefore}
+use Rattle.run_engine.specs.declared.Ran.{Ran}
+use Rattle.play.specs.Answer.{roomOf, stopOf, statusOf, outcomeOf}
+use Rattle.play.specs.RunOn.{Given, RunOn}
+use Rattle.play.proofs.Threads.{status-of}
 use Rattle.text.specs.Wrote.{Wrote}
-use Rattle.last_pick.specs.declared.Previewed.{Previewed}
+use Rattle.run_last_pick.specs.declared.Previewed.{Previewed}
 use Rattle.preview.specs.Preview as preview
 use Rattle.preview.specs.Preview.{Preview, shownAfter, withPick}
 use Rattle.preview.specs.PlaysAs.{onePickMore, stoppedNext, PlaysAs, STOPPED, PASSED, MOVED, RACE, NO-ROOM}
 use Rattle.preview.specs.Answer.{bytesIn, recordOf, answered, BytesAsLogged, AsLogged}
-use Rattle.last_pick.specs.LastPick.{recordIn, lastRecord, lastPick, LastGiven}
+use Rattle.run_last_pick.specs.LastPick.{recordIn, lastRecord, lastPick, LastGiven}
 use Rattle.preview.proofs.PlaysAs.{preview-plays}
-use Rattle.last_pick.proofs.LastPick.{early, full, raced, passed, moved, recorded}
+use Rattle.run_last_pick.proofs.LastPick.{early, full, raced, passed, moved, recorded}
 
 -- ---- the code's stop, by what it means
 

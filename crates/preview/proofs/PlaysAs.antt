@@ -6,11 +6,11 @@ use mathlib.Core.Bool.{true≢false}
 use mathlib.Core.List.{List, [], _∷_, _++_, append-nil}
 use mathlib.Core.Option.{Option, some, none}
 use Rattle.format.specs.Refusal.{Refusal}
-use Rattle.packed.specs.Syntax.{Program}
-use Rattle.packed.specs.Trees.{programOf}
-use Rattle.packed.proofs.WellFormed.{WellFormedProgram}
-use Rattle.packed.proofs.Decoded.{well-formed}
-use Rattle.records.specs.Record.{Record}
+use Rattle.plan_packed.specs.Syntax.{Program}
+use Rattle.plan_packed.specs.Trees.{programOf}
+use Rattle.plan_packed.proofs.WellFormed.{WellFormedProgram}
+use Rattle.plan_packed.proofs.Decoded.{well-formed}
+use Rattle.log_records.specs.Record.{Record}
 use Rattle.rules.specs.State.{State, start}
 use Rattle.rules.specs.Rules.{Moves}
 use Rattle.rules.specs.Step.{Move, AttemptOf, Attempt, attempt}
@@ -21,7 +21,7 @@ use Rattle.rules.proofs.Equivalence.{Described, described, complete, complete-l
 use Rattle.rules.proofs.Progress.{Ruled, unless-ruled, ruled}
 use Rattle.rules.proofs.Executed.{Reachable, reachable-start, reachable-run, over-passed}
 use Rattle.rules.proofs.RunAppend.{andThen, run-stopped, pick-meets}
-use Rattle.play_refusals.proofs.Passed.{Scheduled, scheduled}
+use Rattle.run_refusals.proofs.Passed.{Scheduled, scheduled}
 use Rattle.preview.specs.Preview.{Preview, shownBy, shown, shownAt, shownAfter, withPick, previewRefusal, Previewed, previewedBy, previewed}
 use Rattle.preview.specs.PlaysAs.{onePickMore, stoppedNext, PlaysAs, STOPPED, PASSED, MOVED, RACE, NO-ROOM, PlaysIfShown}
 

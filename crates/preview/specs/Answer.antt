@@ -3,12 +3,12 @@ use Prim.Native.Nat.{ℕ}
 use mathlib.Core.Path.{_≡_}
 use mathlib.Core.List.{List, [], _∷_}
 use mathlib.Core.Option.{some, none}
-use Rattle.records.specs.Record.{Record}
-use Rattle.records.specs.Packed.{recordAt, bytesOf}
-use Rattle.player.specs.Answer.{roomOf, stopOf, statusOf}
-use Rattle.last_pick.specs.declared.RecordBytes.{RecordBytes}
-use Rattle.last_pick.specs.declared.Previewed.{Previewed}
-use Rattle.last_pick.specs.declared.Previewed.the-variants as previewed
+use Rattle.log_records.specs.Record.{Record}
+use Rattle.log_records.specs.Packed.{recordAt, bytesOf}
+use Rattle.play.specs.Answer.{roomOf, stopOf, statusOf}
+use Rattle.run_last_pick.specs.declared.RecordBytes.{RecordBytes}
+use Rattle.run_last_pick.specs.declared.Previewed.{Previewed}
+use Rattle.run_last_pick.specs.declared.Previewed.the-variants as previewed
 use Rattle.preview.specs.Preview as preview
 
 -- "A record has 24 bits" (document 01): its three bytes, in their order

@@ -3,7 +3,7 @@ use Prim.Native.Nat.{ℕ}
 use mathlib.Core.List.{List, [], _∷_, _++_}
 use mathlib.Core.Option.{some, none}
 use lib.ListN.{replicate}
-use Rattle.records.specs.Record.{new, write, lacksRead, entry}
+use Rattle.log_records.specs.Record.{new, write, lacksRead, entry}
 use Rattle.rules.specs.Step.{forJoin, missingField}
 use Rattle.rules.specs.Room.{Room}
 use Rattle.rules.specs.Run.{Stop, Status}

@@ -3,9 +3,9 @@ use Prim.Native.Nat.{ℕ}
 use mathlib.Core.Path.{_≡_}
 use mathlib.Core.List.{List}
 use lib.ListN.{replicate}
-use Rattle.packed.specs.Trees.{programOf}
+use Rattle.plan_packed.specs.Trees.{programOf}
 use Rattle.rules.specs.Play.{runOf}
-use Rattle.last_pick.specs.declared.Previewed.{Previewed}
+use Rattle.run_last_pick.specs.declared.Previewed.{Previewed}
 use Rattle.preview.specs.Preview as preview
 use Rattle.preview.specs.Answer.{answered, AsLogged}
 

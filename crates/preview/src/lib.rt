@@ -4,14 +4,14 @@ ghost use mathlib.Core.Path.{_≡_};
 ghost use mathlib.Core.List.{[], _∷_, _++_};
 ghost use lib.ListN.{length};
 ghost use Rattle.text.specs.Wrote.{Wrote};
-ghost use Rattle.player.specs.RunOn.{Given};
+ghost use Rattle.play.specs.RunOn.{Given};
 ghost use Rattle.preview.specs.Preview.{withPick, previewed};
 ghost use Rattle.preview.specs.PlaysAs.{PlaysIfShown};
 ghost use Rattle.preview.specs.Answer.{answered, AsLogged};
 ghost use Rattle.preview.specs.Shown.{innerLog, Shown};
-use last_pick::Previewed;
-use last_pick::last_pick;
-use refusals::Checked;
+use plan_refusals::Checked;
+use run_last_pick::Previewed;
+use run_last_pick::last_pick;
 
 // The schedule and this pick behind it, at the start of an area; how many picks that makes.
 fn add_pick(picks: &mut [u8], schedule: &[u8], pick: u8) -> usize
@@ -30,7 +30,7 @@ fn shown(plan: &[u8], words: &[usize; 1024], schedule: &[u8], pick: usize) -> Pr
     let mut picks = [0u8; 4096];
     let mut log = [0u8; 12288];
     let end = add_pick(&mut picks, schedule, pick as u8);
-    let ran = player::run(plan, words, false, &picks[0..end], &mut log);
+    let ran = play::run(plan, words, false, &picks[0..end], &mut log);
     let counted = ran.before;
     last_pick(
         ran.outcome,
@@ -50,7 +50,7 @@ pub fn preview(plan: &[u8], schedule: &[u8], pick: usize) -> Previewed
     ensures logged { λ r. ⌜ AsLogged r ⌝ }
 {
     let mut words = [0usize; 1024];
-    let checked = play_refusals::refusal_with(plan, schedule, pick, &mut words);
+    let checked = run_refusals::refusal_with(plan, schedule, pick, &mut words);
     match checked {
         Checked::Refused { number, place } => Previewed::Refused { number, place },
         Checked::Passed => shown(plan, &words, schedule, pick),

@@ -13,21 +13,21 @@ use borrow.Author.Tests.{lt-ltb, le-ltb, ne-eqb}
 use Rattle.format.specs.Area.{overwrite}
 use Rattle.format.proofs.Filled.{zeros}
 use Rattle.format.proofs.AreaLaws.{overwrite-length}
-use Rattle.packed.specs.Syntax.{Program}
-use Rattle.packed.specs.Format.{table, layout}
-use Rattle.packed.specs.Trees.{ExpressionNode, Node, nodes, nodeOf}
-use Rattle.packed.specs.Steps.{Ordered, Below, inWord, termIn, nodeIn}
-use Rattle.written.specs.Written as bytes
-use Rattle.written.specs.Written.{sizeOfAll}
-use Rattle.written.proofs.ReadBack.{whole-length}
-use Rattle.written.proofs.RightWritten.{fitted}
-use Rattle.notation.specs.Tokens.{textEnd}
-use Rattle.notation.specs.Lexing.{Token, token, Begun, nothing, begunAfter, endedBy, endedAtEnd, tokensFrom, tokensOf, Place, placeAfter, codesOf}
-use Rattle.notation.proofs.TextEnd.{codes-ended}
-use Rattle.lexer.specs.Kept.{Kept}
-use Rattle.lexer.specs.Place.{placeIn, placeOf}
-use Rattle.parsing.specs.Plan.{Reading, plan, fault, Fault, readPlan}
-use Rattle.parsing.proofs.PlanRight.{program-right}
+use Rattle.plan_packed.specs.Syntax.{Program}
+use Rattle.plan_packed.specs.Format.{table, layout}
+use Rattle.plan_packed.specs.Trees.{ExpressionNode, Node, nodes, nodeOf}
+use Rattle.plan_packed.specs.Steps.{Ordered, Below, inWord, termIn, nodeIn}
+use Rattle.plan_written.specs.Written as bytes
+use Rattle.plan_written.specs.Written.{sizeOfAll}
+use Rattle.plan_written.proofs.ReadBack.{whole-length}
+use Rattle.plan_written.proofs.RightWritten.{fitted}
+use Rattle.plan_notation.specs.Tokens.{textEnd}
+use Rattle.plan_notation.specs.Lexing.{Token, token, Begun, nothing, begunAfter, endedBy, endedAtEnd, tokensFrom, tokensOf, Place, placeAfter, codesOf}
+use Rattle.plan_notation.proofs.TextEnd.{codes-ended}
+use Rattle.plan_lexer.specs.Kept.{Kept}
+use Rattle.plan_lexer.specs.Place.{placeIn, placeOf}
+use Rattle.plan_parsing.specs.Plan.{Reading, plan, fault, Fault, readPlan}
+use Rattle.plan_parsing.proofs.PlanRight.{program-right}
 use Rattle.plan_writer.specs.Held.{heldFrom, heldProgram, Writable}
 use Rattle.plan_reader.specs.Reading.{faultOf, Faulty, PlanHeld, ReadBy, ReadAs}
 use Rattle.plan_reader.specs.declared.Outcome.{Outcome}

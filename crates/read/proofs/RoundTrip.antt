@@ -9,20 +9,20 @@ use lib.Dec.{ltb}
 use lib.ListN.{length, length-append}
 use borrow.Author.Tests.{le-ltb}
 use Rattle.format.specs.Area.{overwrite}
-use Rattle.packed.specs.Syntax.{Program}
-use Rattle.packed.specs.Trees.{programOf}
-use Rattle.packed.specs.Check.{refusal}
-use Rattle.written.specs.Written.{written, writtenPlan}
-use Rattle.written.proofs.RightPlans.{right-program}
-use Rattle.notation.specs.Tokens.{textEnd}
-use Rattle.notation.specs.Lexing.{codesOf}
-use Rattle.notation.specs.Shown.{shownPlan}
-use Rattle.notation.specs.Text.{textOfProgram, shownText}
-use Rattle.notation.proofs.Found.{found-again}
-use Rattle.notation.proofs.ShownCodes.{Fit, plan-fit, known}
-use Rattle.parsing.specs.Plan.{plan, readPlan}
-use Rattle.parsing.proofs.PlanBack.{plan-back}
-use Rattle.parsing.proofs.PlanRight.{text-passes}
+use Rattle.plan_packed.specs.Syntax.{Program}
+use Rattle.plan_packed.specs.Trees.{programOf}
+use Rattle.plan_packed.specs.Check.{refusal}
+use Rattle.plan_written.specs.Written.{written, writtenPlan}
+use Rattle.plan_written.proofs.RightPlans.{right-program}
+use Rattle.plan_notation.specs.Tokens.{textEnd}
+use Rattle.plan_notation.specs.Lexing.{codesOf}
+use Rattle.plan_notation.specs.Shown.{shownPlan}
+use Rattle.plan_notation.specs.Text.{textOfProgram, shownText}
+use Rattle.plan_notation.proofs.Found.{found-again}
+use Rattle.plan_notation.proofs.ShownCodes.{Fit, plan-fit, known}
+use Rattle.plan_parsing.specs.Plan.{plan, readPlan}
+use Rattle.plan_parsing.proofs.PlanBack.{plan-back}
+use Rattle.plan_parsing.proofs.PlanRight.{text-passes}
 use Rattle.read.specs.Read as texts
 use Rattle.read.specs.Read.{tooMany, shortForPlan, answerBy, areaBy, readAnswer, readArea}
 

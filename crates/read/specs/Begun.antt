@@ -5,9 +5,9 @@ use mathlib.Core.List.{List}
 use mathlib.Core.Logic.{_⊎_}
 use lib.ListN.{length, getD}
 use Rattle.format.specs.Area.{overwrite}
-use Rattle.packed.specs.Syntax.{Program}
-use Rattle.packed.specs.Steps.{Ordered}
-use Rattle.written.specs.Written.{sizeOfAll, written}
+use Rattle.plan_packed.specs.Syntax.{Program}
+use Rattle.plan_packed.specs.Steps.{Ordered}
+use Rattle.plan_written.specs.Written.{sizeOfAll, written}
 use Rattle.plan_writer.specs.Held.{heldFrom, heldProgram}
 use Rattle.read.specs.declared.Answer.{Answer}
 use Rattle.read.specs.declared.Answer.the-variants.{Written, Short}

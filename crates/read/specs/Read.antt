@@ -5,11 +5,11 @@ use mathlib.Core.List.{List}
 use lib.Dec.{ltb}
 use lib.ListN.{length}
 use Rattle.format.specs.Area.{overwrite}
-use Rattle.packed.specs.Syntax.{Program}
-use Rattle.written.specs.Written as bytes
-use Rattle.notation.specs.Lexing.{Place, codesOf}
-use Rattle.lexer.specs.Place.{placeOf}
-use Rattle.parsing.specs.Plan.{Reading, plan, fault, Fault, readPlan}
+use Rattle.plan_packed.specs.Syntax.{Program}
+use Rattle.plan_written.specs.Written as bytes
+use Rattle.plan_notation.specs.Lexing.{Place, codesOf}
+use Rattle.plan_lexer.specs.Place.{placeOf}
+use Rattle.plan_parsing.specs.Plan.{Reading, plan, fault, Fault, readPlan}
 
 -- why a text is no plan: it has over 16,384 tokens, its end included, or a fault
 pub data Failure : Type 0 where

@@ -1,13 +1,13 @@
 // The entry `read`: a text, in document 01's own notation, as a packed plan in the one way that document 02, E5, names.
-use lexer::places;
+use plan_lexer::places;
 use plan_reader::Outcome;
 ghost use Prim.Native.Nat.{_≤_};
 ghost use mathlib.Core.Path.{_≡_};
 ghost use lib.ListN.{length};
-ghost use Rattle.notation.specs.Lexing.{codesOf};
+ghost use Rattle.plan_notation.specs.Lexing.{codesOf};
 ghost use Rattle.plan_writer.specs.Held.{heldProgram};
 ghost use Rattle.read.specs.Read.{failedAt, answerBy, areaBy, readAnswer, readArea};
-ghost use Rattle.parsing.specs.Plan.{readPlan};
+ghost use Rattle.plan_parsing.specs.Plan.{readPlan};
 ghost use Rattle.read.specs.Answer.{failureOf, knownKind, answered};
 ghost use Rattle.read.specs.Begun.{Held, PlanWritten};
 
@@ -122,7 +122,7 @@ pub fn read(text: &[u8], area: &mut [u8]) -> Answer
     ensures area { λ r. ⌜ now (area .exit) ≡ readArea (now (text .entry)) (now (area .entry)) ⌝ }
 {
     let mut tokens = [0u8; MOST];
-    let count = lexer::lex(text, &mut tokens);
+    let count = plan_lexer::lex(text, &mut tokens);
     if count > MOST {
         return failed(text, MOST, TOKENS, 0);
     }

@@ -7,9 +7,9 @@ use mathlib.Core.Bool.{true}
 use mathlib.Core.List.{List}
 use mathlib.Core.Option.{none}
 use lib.ListN.{getD}
-use Rattle.packed.specs.Format.{terms}
-use Rattle.packed.specs.Trees.{nodeAt, programOf}
-use Rattle.packed.specs.Check.{refusal}
+use Rattle.plan_packed.specs.Format.{terms}
+use Rattle.plan_packed.specs.Trees.{nodeAt, programOf}
+use Rattle.plan_packed.specs.Check.{refusal}
 use Rattle.rules.proofs.StateLaws.{there as present}
 use Rattle.machine.specs.Frames as frames
 use Rattle.machine.specs.Landing.{up}
@@ -18,19 +18,19 @@ use Rattle.machine.specs.Machine as machine
 use Rattle.machine.specs.Playing.{tableOf}
 use Rattle.machine.specs.Playing as playing
 use Rattle.machine.proofs.Runs.{Reached}
-use Rattle.frames.specs.Parts.{Part, Part as part}
-use Rattle.frames.specs.declared.go.Ready.{Ready}
-use Rattle.frames.specs.Going.{readyAt, readyOf, goAt, goRun, goRunCondition, goValue, goTruth}
-use Rattle.state.specs.declared.Setting.{Setting}
-use Rattle.state.specs.declared.Head.{Head}
-use Rattle.look.specs.declared.Sight.{Sight}
-use Rattle.look.specs.declared.Sight.the-variants as sight
-use Rattle.state.specs.declared.acted.Act.{Act}
-use Rattle.look.specs.Look.{objectBy, objectOf, fieldBy, aboutField, lookBy, lookOf}
-use Rattle.act.specs.Act.{pureBy, actBy, actOf}
-use Rattle.engine.specs.Machine as engine
-use Rattle.pick.specs.Pick.{noHead, lookMet}
-use Rattle.engine.specs.Machine.{noCell, noThing, headAt, cellNumber}
+use Rattle.run_frames.specs.Parts.{Part, Part as part}
+use Rattle.run_frames.specs.declared.go.Ready.{Ready}
+use Rattle.run_frames.specs.Going.{readyAt, readyOf, goAt, goRun, goRunCondition, goValue, goTruth}
+use Rattle.run_state.specs.declared.Setting.{Setting}
+use Rattle.run_state.specs.declared.Head.{Head}
+use Rattle.run_look.specs.declared.Sight.{Sight}
+use Rattle.run_look.specs.declared.Sight.the-variants as sight
+use Rattle.run_state.specs.declared.acted.Act.{Act}
+use Rattle.run_look.specs.Look.{objectBy, objectOf, fieldBy, aboutField, lookBy, lookOf}
+use Rattle.run_act.specs.Act.{pureBy, actBy, actOf}
+use Rattle.run_engine.specs.Machine as engine
+use Rattle.run_pick.specs.Pick.{noHead, lookMet}
+use Rattle.run_engine.specs.Machine.{noCell, noThing, headAt, cellNumber}
 use Rattle.refinement.proofs.Meant.{closed, StandsBy}
 use Rattle.refinement.proofs.States.{settingOf, Headed, Related}
 use Rattle.refinement.proofs.Looks.{MeetsBy, attempt-value}

@@ -4,9 +4,9 @@ use native.Mathlib.Omega.{arith}
 use mathlib.Core.Path.{_≡_, refl, sym, ap, _∙_, subst}
 use mathlib.Core.List.{List}
 use lib.ListN.{length}
-use Rattle.packed.specs.Format.{procedures, terms, root, expression, tagAt}
-use Rattle.packed.specs.Trees.{nodeAt}
-use Rattle.packed.proofs.Accepted.{OfSort, Accepted}
+use Rattle.plan_packed.specs.Format.{procedures, terms, root, expression, tagAt}
+use Rattle.plan_packed.specs.Trees.{nodeAt}
+use Rattle.plan_packed.proofs.Accepted.{OfSort, Accepted}
 use Rattle.machine.specs.Frames.{closure}
 use Rattle.machine.specs.Frames as frames
 use Rattle.machine.specs.Playing as playing
@@ -14,14 +14,14 @@ use Rattle.machine.specs.Landing.{downᵃ}
 use Rattle.machine.proofs.PlanTable.{ordered}
 use Rattle.machine.proofs.CallLists.{list-left}
 use Rattle.machine.proofs.Sorted.{Well}
-use Rattle.frames.specs.declared.frame.Frame.{Frame}
-use Rattle.frames.specs.Parts.{Part as part}
-use Rattle.packed.specs.Operands.{firstOf, secondOf}
-use Rattle.term_words.specs.Words.{wordAt}
-use Rattle.frames.specs.Frames.{restOf}
-use Rattle.frames.specs.Going.{readyOf, goAt}
-use Rattle.landing_step.specs.Down.{rootAt, listBy, listOf, wantedOf}
-use Rattle.landing.specs.Landing.{Stack}
+use Rattle.run_frames.specs.declared.frame.Frame.{Frame}
+use Rattle.run_frames.specs.Parts.{Part as part}
+use Rattle.plan_packed.specs.Operands.{firstOf, secondOf}
+use Rattle.run_term_words.specs.Words.{wordAt}
+use Rattle.run_frames.specs.Frames.{restOf}
+use Rattle.run_frames.specs.Going.{readyOf, goAt}
+use Rattle.run_refocusing_step.specs.Down.{rootAt, listBy, listOf, wantedOf}
+use Rattle.run_refocusing.specs.Landing.{Stack}
 use Rattle.refinement.proofs.Meant.{Loaded, slots, closed, IsRest, IsExpression}
 use Rattle.refinement.proofs.Words.{Rest, rest-at}
 use Rattle.refinement.proofs.Descent.{list-more, list-end}

@@ -6,20 +6,20 @@ use mathlib.Core.Bool.{Bool, true, false, false≢true}
 use mathlib.Core.List.{List, _∷_}
 use mathlib.Core.Option.{some, Option·none-ne-some, Option·some-injective}
 use lib.ListN.{length}
-use Rattle.packed.specs.Format.{terms}
-use Rattle.packed.specs.Trees.{ConditionNode, Node, nodeAt}
+use Rattle.plan_packed.specs.Format.{terms}
+use Rattle.plan_packed.specs.Trees.{ConditionNode, Node, nodeAt}
 use Rattle.rules.specs.Context.{falseWhen}
 use Rattle.machine.specs.Frames as frames
 use Rattle.machine.specs.Landing.{isTrue, boolOf, boolIn, enterᶜ}
 use Rattle.machine.proofs.PlanTable.{ordered}
 use Rattle.machine.proofs.Sorted.{Wellᶜ}
-use Rattle.frames.specs.declared.frame.Kind.the-variants as kind
-use Rattle.packed.specs.Operands.{firstOf, secondOf}
-use Rattle.term_words.specs.Words.{wordAt}
-use Rattle.frames.specs.Frames.{framed}
-use Rattle.frames.specs.Going.{goTruth}
-use Rattle.landing_step.specs.Down.{runConditionBy, runConditionOf, listedOf, wantedOf}
-use Rattle.landing.specs.Landing.{Stack}
+use Rattle.run_frames.specs.declared.frame.Kind.the-variants as kind
+use Rattle.plan_packed.specs.Operands.{firstOf, secondOf}
+use Rattle.run_term_words.specs.Words.{wordAt}
+use Rattle.run_frames.specs.Frames.{framed}
+use Rattle.run_frames.specs.Going.{goTruth}
+use Rattle.run_refocusing_step.specs.Down.{runConditionBy, runConditionOf, listedOf, wantedOf}
+use Rattle.run_refocusing.specs.Landing.{Stack}
 use Rattle.refinement.proofs.Meant.{slots, closed, IsCondition}
 use Rattle.refinement.proofs.Words.{Condition, condition-at}
 use Rattle.refinement.proofs.Descent.{enter-truth, enter-not-true, enter-not, enter-and, enter-equal}

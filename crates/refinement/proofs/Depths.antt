@@ -9,12 +9,12 @@ use lib.ListN.{length}
 use borrow.Author.Tests.{lt-ltb, le-ltb}
 use Rattle.machine.specs.Frames.{height}
 use Rattle.machine.specs.Frames as frames
-use Rattle.frames.specs.Parts.{Part, Part as part}
-use Rattle.frames.specs.declared.go.Ready.{Ready}
-use Rattle.frames.specs.declared.go.Stage.{Stage}
-use Rattle.frames.specs.declared.go.Stage.the-variants as stage
-use Rattle.landing.specs.Landing.{Ended}
-use Rattle.pick.specs.Pick.{fullBy}
+use Rattle.run_frames.specs.Parts.{Part, Part as part}
+use Rattle.run_frames.specs.declared.go.Ready.{Ready}
+use Rattle.run_frames.specs.declared.go.Stage.{Stage}
+use Rattle.run_frames.specs.declared.go.Stage.the-variants as stage
+use Rattle.run_refocusing.specs.Landing.{Ended}
+use Rattle.run_pick.specs.Pick.{fullBy}
 use Rattle.refinement.proofs.Meant.{StandsBy, FoundBy}
 
 stands-height : (b : List ℕ) (P : Part) (r : Ready) (S : List frames.Frame) (X : frames.Found) → StandsBy b P r S X → height X ≡ length S

@@ -5,10 +5,10 @@ use mathlib.Core.Bool.{Bool, true, false}
 use mathlib.Core.List.{List, _∷_}
 use mathlib.Core.Option.{Option, some, none}
 use lib.ListN.{length}
-use Rattle.packed.specs.Syntax.{Signal}
-use Rattle.packed.specs.Trees.{new, read, write, letIn, if, while, call, fork, join, synch, signal, truth, not, and, equal, list, listEnd}
-use Rattle.packed.specs.Trees.{Node, expression, condition, arguments}
-use Rattle.packed.specs.Steps.{Descending}
+use Rattle.plan_packed.specs.Syntax.{Signal}
+use Rattle.plan_packed.specs.Trees.{new, read, write, letIn, if, while, call, fork, join, synch, signal, truth, not, and, equal, list, listEnd}
+use Rattle.plan_packed.specs.Trees.{Node, expression, condition, arguments}
+use Rattle.plan_packed.specs.Steps.{Descending}
 use Rattle.rules.specs.Context.{falseWhen}
 use Rattle.machine.specs.Frames.{Slots, noSlots, Closure, closure, branches, Frame, Ready, Found, height}
 use Rattle.machine.specs.Landing.{given, valueOf, isTrue, boolOf, valueIn, boolIn, foundNot, upBy, downBy, downByᶜ, downByᵃ, down, downᶜ, downᵃ, up, upᶜ}

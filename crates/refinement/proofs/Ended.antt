@@ -7,11 +7,11 @@ use mathlib.Core.Option.{some, none}
 use mathlib.Core.Logic.{_⊎_, inl, inr}
 use Rattle.machine.specs.Frames as frames
 use Rattle.machine.specs.Machine as machine
-use Rattle.frames.specs.Parts.{Part, Part as part, numberOf as partNumber, isPart}
-use Rattle.frames.specs.declared.go.Ready.{Ready}
-use Rattle.look.specs.declared.Block.the-variants as block
-use Rattle.look.specs.declared.Sight.{Sight}
-use Rattle.look.specs.declared.Sight.the-variants as sight
+use Rattle.run_frames.specs.Parts.{Part, Part as part, numberOf as partNumber, isPart}
+use Rattle.run_frames.specs.declared.go.Ready.{Ready}
+use Rattle.run_look.specs.declared.Block.the-variants as block
+use Rattle.run_look.specs.declared.Sight.{Sight}
+use Rattle.run_look.specs.declared.Sight.the-variants as sight
 use Rattle.refinement.proofs.Meant.{Stands, StandsBy}
 
 -- what a join of a thread at part q meets

@@ -4,23 +4,23 @@ use native.Mathlib.Omega.{arith}
 use mathlib.Core.Path.{_≡_, refl, sym, ap, _∙_}
 use mathlib.Core.List.{List}
 use lib.ListN.{length}
-use Rattle.packed.specs.Format.{terms, expression}
-use Rattle.packed.specs.Trees.{ExpressionNode, Node, nodeAt}
-use Rattle.packed.proofs.Accepted.{Child}
+use Rattle.plan_packed.specs.Format.{terms, expression}
+use Rattle.plan_packed.specs.Trees.{ExpressionNode, Node, nodeAt}
+use Rattle.plan_packed.proofs.Accepted.{Child}
 use Rattle.machine.specs.Frames.{Slots}
 use Rattle.machine.specs.Frames as frames
 use Rattle.machine.specs.Landing.{downᵃ, up, enter}
 use Rattle.machine.proofs.PlanTable.{ordered}
 use Rattle.machine.proofs.Sorted.{Well}
-use Rattle.frames.specs.declared.frame.Kind.the-variants as kind
-use Rattle.frames.specs.Parts.{Part as part}
-use Rattle.term_words.specs.Slots.{slotOf}
-use Rattle.packed.specs.Operands.{tagOf, firstOf, secondOf, thirdOf, slotBits, fieldBits, writeSecond, letFirst, letSecond, procedureBits, listBits, maskBits}
-use Rattle.term_words.specs.Words.{wordAt, valueBy, valueOf}
-use Rattle.frames.specs.Frames.{framed, letFrame}
-use Rattle.frames.specs.Going.{readyOf, goAt, goValue}
-use Rattle.landing_step.specs.Down.{signalBy, signalOf, simpleBy, simpleOf, runBy, runOf, listedOf, wantOf, wantedOf}
-use Rattle.landing.specs.Landing.{Stack}
+use Rattle.run_frames.specs.declared.frame.Kind.the-variants as kind
+use Rattle.run_frames.specs.Parts.{Part as part}
+use Rattle.run_term_words.specs.Slots.{slotOf}
+use Rattle.plan_packed.specs.Operands.{tagOf, firstOf, secondOf, thirdOf, slotBits, fieldBits, writeSecond, letFirst, letSecond, procedureBits, listBits, maskBits}
+use Rattle.run_term_words.specs.Words.{wordAt, valueBy, valueOf}
+use Rattle.run_frames.specs.Frames.{framed, letFrame}
+use Rattle.run_frames.specs.Going.{readyOf, goAt, goValue}
+use Rattle.run_refocusing_step.specs.Down.{signalBy, signalOf, simpleBy, simpleOf, runBy, runOf, listedOf, wantOf, wantedOf}
+use Rattle.run_refocusing.specs.Landing.{Stack}
 use Rattle.refinement.proofs.Meant.{signalMeant, slots, closed, IsExpression}
 use Rattle.refinement.proofs.SlotLaws.{none-bound, slot-below}
 use Rattle.refinement.proofs.Words.{Expression, expression-at}

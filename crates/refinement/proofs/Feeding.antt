@@ -6,8 +6,8 @@ use mathlib.Core.Bool.{Bool, true, false, cond}
 use mathlib.Core.List.{List, _∷_}
 use mathlib.Core.Option.{Option, none}
 use lib.Dec.{eqb}
-use Rattle.packed.specs.Format.{terms}
-use Rattle.packed.specs.Trees.{binderOf, nodeAt}
+use Rattle.plan_packed.specs.Format.{terms}
+use Rattle.plan_packed.specs.Trees.{binderOf, nodeAt}
 use Rattle.rules.specs.Rules.{e-call, e-let, e-if}
 use Rattle.rules.specs.Step.{equalAct}
 use Rattle.machine.specs.Frames.{Slots, putBound, Closure, closure, branches}
@@ -16,14 +16,14 @@ use Rattle.machine.specs.Machine as machine
 use Rattle.machine.specs.Playing as playing
 use Rattle.machine.specs.Landing.{upBy, up, upᶜ, enter}
 use Rattle.machine.proofs.Sorted.{Well, Wellᶜ}
-use Rattle.frames.specs.declared.frame.Kind.{Kind}
-use Rattle.frames.specs.declared.frame.Kind.the-variants as kind
-use Rattle.frames.specs.declared.frame.Frame.{Frame}
-use Rattle.frames.specs.Parts.{Part as part}
-use Rattle.frames.specs.declared.go.Go.{Go}
-use Rattle.term_words.specs.Slots.{bindOf}
-use Rattle.frames.specs.Frames.{secondFrame}
-use Rattle.frames.specs.Going.{readyOf, goAt, goTruth, sameOf, feedBy, feedOf, feedIfBy, feedIfOf, feedConditionBy, feedConditionOf}
+use Rattle.run_frames.specs.declared.frame.Kind.{Kind}
+use Rattle.run_frames.specs.declared.frame.Kind.the-variants as kind
+use Rattle.run_frames.specs.declared.frame.Frame.{Frame}
+use Rattle.run_frames.specs.Parts.{Part as part}
+use Rattle.run_frames.specs.declared.go.Go.{Go}
+use Rattle.run_term_words.specs.Slots.{bindOf}
+use Rattle.run_frames.specs.Frames.{secondFrame}
+use Rattle.run_frames.specs.Going.{readyOf, goAt, goTruth, sameOf, feedBy, feedOf, feedIfBy, feedIfOf, feedConditionBy, feedConditionOf}
 use Rattle.refinement.proofs.Meant.{slots, closed, frameBy, frameOf, SortedBy, Fine, Unlogged, Unloggedᶜ, Goes}
 use Rattle.refinement.proofs.SlotLaws.{bound, let-bound}
 

@@ -10,14 +10,14 @@ use lib.Dec.{eqb, leb}
 use lib.ListN.{getD, set}
 use borrow.Author.Tests.{leb-false}
 use Rattle.format.specs.Version.{v0, v1, versionOf}
-use Rattle.keys.specs.declared.KeySet.{KeySet}
-use Rattle.keys.specs.Keys.{Keys, singleton, union, subset, countNew}
-use Rattle.keys.specs.KeySet.{keysOf, emptySet, holdsOf, learnOf, joinOf, newOf, joinedOf}
-use Rattle.keys.proofs.KeySetLaws.{Fits, keys-empty, keys-join, keys-learn, fits-empty, fits-join, fits-learn}
-use Rattle.packed.specs.Format.{version, terms}
-use Rattle.packed.specs.Trees.{nodeAt, programOf}
-use Rattle.records.specs.Record.{entry}
-use Rattle.records.specs.Record as records
+use Rattle.run_keys.specs.declared.KeySet.{KeySet}
+use Rattle.run_keys.specs.Keys.{Keys, singleton, union, subset, countNew}
+use Rattle.run_keys.specs.KeySet.{keysOf, emptySet, holdsOf, learnOf, joinOf, newOf, joinedOf}
+use Rattle.run_keys.proofs.KeySetLaws.{Fits, keys-empty, keys-join, keys-learn, fits-empty, fits-join, fits-learn}
+use Rattle.plan_packed.specs.Format.{version, terms}
+use Rattle.plan_packed.specs.Trees.{nodeAt, programOf}
+use Rattle.log_records.specs.Record.{entry}
+use Rattle.log_records.specs.Record as records
 use Rattle.rules.specs.State as rules
 use Rattle.rules.specs.Rules.{passedOn, e-read, e-write, e-readv, e-writev}
 use Rattle.rules.specs.Step.{missingField}
@@ -29,20 +29,20 @@ use Rattle.machine.specs.Playing.{tableOf}
 use Rattle.machine.specs.Playing as playing
 use Rattle.machine.proofs.Sorted.{Well}
 use Rattle.machine.proofs.Standing.{cell-there}
-use Rattle.frames.specs.Parts.{Part as part}
-use Rattle.frames.specs.Going.{readyOf, goValue}
-use Rattle.state.specs.declared.Cell.{Cell}
-use Rattle.state.specs.declared.Counts.{Counts}
+use Rattle.run_frames.specs.Parts.{Part as part}
+use Rattle.run_frames.specs.Going.{readyOf, goValue}
+use Rattle.run_state.specs.declared.Cell.{Cell}
+use Rattle.run_state.specs.declared.Counts.{Counts}
 use Rattle.run_outcome.specs.declared.NoRoom.the-variants as room
-use Rattle.state.specs.declared.acted.Act.the-variants as act
-use Rattle.look.specs.declared.Block.the-variants as block
-use Rattle.look.specs.declared.Sight.the-variants as sight
-use Rattle.look.specs.Look.{objectBy, fieldBy, hasOf, lookField}
-use Rattle.state.specs.Acted.{entryOf, nothing, cellOf, countsOf, actedOf, heardOf}
-use Rattle.accesses.specs.Accesses.{passedOf, actRead, actWrite}
-use Rattle.pick.specs.Pick.{lackBy}
-use Rattle.engine.specs.Machine as engine
-use Rattle.engine.specs.Machine.{noCell, noThing, headAt}
+use Rattle.run_state.specs.declared.acted.Act.the-variants as act
+use Rattle.run_look.specs.declared.Block.the-variants as block
+use Rattle.run_look.specs.declared.Sight.the-variants as sight
+use Rattle.run_look.specs.Look.{objectBy, fieldBy, hasOf, lookField}
+use Rattle.run_state.specs.Acted.{entryOf, nothing, cellOf, countsOf, actedOf, heardOf}
+use Rattle.run_accesses.specs.Accesses.{passedOf, actRead, actWrite}
+use Rattle.run_pick.specs.Pick.{lackBy}
+use Rattle.run_engine.specs.Machine as engine
+use Rattle.run_engine.specs.Machine.{noCell, noThing, headAt}
 use Rattle.refinement.proofs.States.{settingOf, cellMeant, CellFits, Kept, Headed, Related}
 use Rattle.refinement.proofs.Tests.{test-true, test-false}
 use Rattle.refinement.proofs.KeptLaws.{kept-changed, kept-past, kept-key, kept-store, kept-same}

@@ -6,15 +6,15 @@ use mathlib.Core.Bool.{Bool, true, false, cond}
 use mathlib.Core.List.{List}
 use lib.Dec.{eqb}
 use borrow.Author.Tests.{eqb-true}
-use Rattle.frames.specs.declared.frame.Kind.{Kind}
-use Rattle.frames.specs.declared.frame.Kind.the-variants as kind
-use Rattle.frames.specs.declared.frame.Frame.{Frame}
-use Rattle.frames.specs.Parts.{Part as part}
-use Rattle.frames.specs.declared.go.Stage.{Stage}
-use Rattle.frames.specs.declared.go.Stage.the-variants as stage
-use Rattle.frames.specs.declared.go.Go.{Go}
-use Rattle.term_words.specs.Words.{valueOf}
-use Rattle.frames.specs.Going.{readyOf, goAt, goTruth, feedBy, feedOf, feedIfBy, feedIfOf, feedConditionBy, feedConditionOf}
+use Rattle.run_frames.specs.declared.frame.Kind.{Kind}
+use Rattle.run_frames.specs.declared.frame.Kind.the-variants as kind
+use Rattle.run_frames.specs.declared.frame.Frame.{Frame}
+use Rattle.run_frames.specs.Parts.{Part as part}
+use Rattle.run_frames.specs.declared.go.Stage.{Stage}
+use Rattle.run_frames.specs.declared.go.Stage.the-variants as stage
+use Rattle.run_frames.specs.declared.go.Go.{Go}
+use Rattle.run_term_words.specs.Words.{valueOf}
+use Rattle.run_frames.specs.Going.{readyOf, goAt, goTruth, feedBy, feedOf, feedIfBy, feedIfOf, feedConditionBy, feedConditionOf}
 
 -- down from term i
 abbrev pub left : ℕ → ℕ

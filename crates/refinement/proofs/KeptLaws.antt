@@ -9,19 +9,19 @@ use lib.Dec.{eqb, ltb}
 use lib.ListN.{length, getD, set, length-set, length-map}
 use lib.Seq.{getD-set-same, getD-set-other, set-getD}
 use borrow.Author.Tests.{ltb-true}
-use Rattle.packed.specs.Format.{maskBit, fieldsFrom}
+use Rattle.plan_packed.specs.Format.{maskBit, fieldsFrom}
 use Rattle.rules.specs.State.{fresh, freshObject, changeAt, storeField}
 use Rattle.rules.specs.State as rules
 use Rattle.rules.proofs.StateLaws.{change-length, length-added}
 use Rattle.machine.specs.Memory.{objectsOf, storeCell}
 use Rattle.machine.specs.Machine as machine
 use Rattle.machine.proofs.MemoryLaws.{store-of, store-monitor-of, add-of, FreshPast}
-use Rattle.state.specs.declared.Setting.{Setting}
-use Rattle.state.specs.declared.Cell.{Cell}
-use Rattle.state.specs.declared.Object.{Object}
-use Rattle.state.specs.declared.Counts.{Counts}
-use Rattle.look.specs.Look.{hasOf}
-use Rattle.engine.specs.Machine.{noCell, noThing}
+use Rattle.run_state.specs.declared.Setting.{Setting}
+use Rattle.run_state.specs.declared.Cell.{Cell}
+use Rattle.run_state.specs.declared.Object.{Object}
+use Rattle.run_state.specs.declared.Counts.{Counts}
+use Rattle.run_look.specs.Look.{hasOf}
+use Rattle.run_engine.specs.Machine.{noCell, noThing}
 use Rattle.refinement.proofs.States.{cellMeant, CellFits, memoryOf, numberOf, Kept}
 use Rattle.refinement.proofs.MemoryOf.{fresh-meant, memory-store, memory-past, memory-more}
 use Rattle.refinement.proofs.ThreadNumbers.{numbers-change, numbers-map}

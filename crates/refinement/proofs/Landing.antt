@@ -8,16 +8,16 @@ use mathlib.Core.List.{List}
 use mathlib.Core.Option.{none}
 use mathlib.Core.Logic.{_⊎_, inl, inr}
 use lib.ListN.{length}
-use Rattle.packed.specs.Check.{refusal}
-use Rattle.packed.proofs.Accepted.{Accepted, accepted}
+use Rattle.plan_packed.specs.Check.{refusal}
+use Rattle.plan_packed.proofs.Accepted.{Accepted, accepted}
 use Rattle.machine.specs.Frames as frames
-use Rattle.frames.specs.declared.go.Stage.{Stage}
-use Rattle.frames.specs.declared.go.Stage.the-variants as stage
-use Rattle.frames.specs.declared.go.Go.{Go}
-use Rattle.landing_step.specs.Down.{frameAt}
-use Rattle.landing.specs.Landing.{Stack, ended, liveBy, stored, turnAt, topOf, landOf}
-use Rattle.landing.proofs.Turns
-use Rattle.landing_step.proofs.Depths.{step-in}
+use Rattle.run_frames.specs.declared.go.Stage.{Stage}
+use Rattle.run_frames.specs.declared.go.Stage.the-variants as stage
+use Rattle.run_frames.specs.declared.go.Go.{Go}
+use Rattle.run_refocusing_step.specs.Down.{frameAt}
+use Rattle.run_refocusing.specs.Landing.{Stack, ended, liveBy, stored, turnAt, topOf, landOf}
+use Rattle.run_refocusing.proofs.Turns
+use Rattle.run_refocusing_step.proofs.Depths.{step-in}
 use Rattle.refinement.proofs.Meant.{Loaded, Holds, Goes, GoesBy, Sized, FoundBy, Lands}
 use Rattle.refinement.proofs.FrameLaws.{stored-sized, stored-other}
 use Rattle.refinement.proofs.Fuel.{Enough, EnoughBy, needs-most}

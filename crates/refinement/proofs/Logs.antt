@@ -10,12 +10,12 @@ use lib.Dec.{eqb}
 use lib.ListN.{length, set, take, drop, length-append, length-set, take-append-drop}
 use lib.Seq.{length-take-le, take-at, drop-append-add, drop-drop, sets-eq}
 use borrow.Author.Tests.{eq-eqb, ne-eqb}
-use Rattle.records.specs.Record.{kindNumber, Record}
-use Rattle.records.specs.Packed.{packed, threeBytes, bytesOf}
-use Rattle.records.proofs.KindNumbers.{kind-number}
+use Rattle.log_records.specs.Record.{kindNumber, Record}
+use Rattle.log_records.specs.Packed.{packed, threeBytes, bytesOf}
+use Rattle.log_records.proofs.KindNumbers.{kind-number}
 use Rattle.rules.specs.Run.{logged}
-use Rattle.state.specs.declared.Entry.{Entry}
-use Rattle.tally.specs.Tally.{wordOf, logPut, recordsAfter}
+use Rattle.run_state.specs.declared.Entry.{Entry}
+use Rattle.run_tally.specs.Tally.{wordOf, logPut, recordsAfter}
 use Rattle.refinement.proofs.Tests.{test-true, test-false}
 use Rattle.refinement.proofs.Looks.{Written, Entered}
 

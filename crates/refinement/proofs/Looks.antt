@@ -8,16 +8,16 @@ use mathlib.Core.List.{List}
 use mathlib.Core.Option.{Option, some, none}
 use lib.Dec.{eqb}
 use lib.ListN.{length, getD, getElem?}
-use Rattle.keys.specs.declared.KeySet.{KeySet}
-use Rattle.keys.specs.Keys.{Keys, holds, subset}
-use Rattle.keys.specs.KeySet.{keysOf, holdsOf}
-use Rattle.keys.proofs.KeyLaws.{subset-singleton}
-use Rattle.keys.proofs.KeySetLaws.{Fits, keys-holds}
-use Rattle.packed.specs.Format.{maskBit, volatiles}
-use Rattle.packed.specs.Trees.{programOf}
-use Rattle.packed.specs.Check.{refusal}
-use Rattle.packed.proofs.Accepted.{accepted}
-use Rattle.records.specs.Record.{Record, kindNumber}
+use Rattle.run_keys.specs.declared.KeySet.{KeySet}
+use Rattle.run_keys.specs.Keys.{Keys, holds, subset}
+use Rattle.run_keys.specs.KeySet.{keysOf, holdsOf}
+use Rattle.run_keys.proofs.KeyLaws.{subset-singleton}
+use Rattle.run_keys.proofs.KeySetLaws.{Fits, keys-holds}
+use Rattle.plan_packed.specs.Format.{maskBit, volatiles}
+use Rattle.plan_packed.specs.Trees.{programOf}
+use Rattle.plan_packed.specs.Check.{refusal}
+use Rattle.plan_packed.proofs.Accepted.{accepted}
+use Rattle.log_records.specs.Record.{Record, kindNumber}
 use Rattle.rules.specs.State.{fieldOf, monitorOf}
 use Rattle.rules.specs.State as rules
 use Rattle.rules.specs.Step.{forMonitor, forJoin, forNotify, missingField, notThread, notHeld}
@@ -30,20 +30,20 @@ use Rattle.machine.proofs.MemoryLaws.{lookup-of, monitor-of}
 use Rattle.machine.proofs.Meaning.{redex, mean}
 use Rattle.machine.proofs.Runs.{Reached}
 use Rattle.machine.proofs.Standing.{standing}
-use Rattle.frames.specs.declared.go.Ready.{Ready}
-use Rattle.state.specs.declared.Setting.{Setting}
-use Rattle.state.specs.declared.Cell.{Cell}
-use Rattle.state.specs.declared.Object.{Object}
-use Rattle.state.specs.declared.Counts.{Counts}
-use Rattle.state.specs.declared.Entry.{Entry}
-use Rattle.look.specs.declared.Block.{Block}
-use Rattle.look.specs.declared.Block.the-variants as block
-use Rattle.look.specs.declared.Sight.{Sight}
-use Rattle.look.specs.declared.Sight.the-variants as sight
-use Rattle.look.specs.Look.{hasOf, objectOf}
-use Rattle.look.specs.Look as look
-use Rattle.pick.specs.Pick.{lackEntry}
-use Rattle.engine.specs.Machine.{noCell, noThing}
+use Rattle.run_frames.specs.declared.go.Ready.{Ready}
+use Rattle.run_state.specs.declared.Setting.{Setting}
+use Rattle.run_state.specs.declared.Cell.{Cell}
+use Rattle.run_state.specs.declared.Object.{Object}
+use Rattle.run_state.specs.declared.Counts.{Counts}
+use Rattle.run_state.specs.declared.Entry.{Entry}
+use Rattle.run_look.specs.declared.Block.{Block}
+use Rattle.run_look.specs.declared.Block.the-variants as block
+use Rattle.run_look.specs.declared.Sight.{Sight}
+use Rattle.run_look.specs.declared.Sight.the-variants as sight
+use Rattle.run_look.specs.Look.{hasOf, objectOf}
+use Rattle.run_look.specs.Look as look
+use Rattle.run_pick.specs.Pick.{lackEntry}
+use Rattle.run_engine.specs.Machine.{noCell, noThing}
 use Rattle.refinement.proofs.States.{cellMeant, CellFits, memoryOf, Kept}
 use Rattle.refinement.proofs.MemoryOf.{memory-cell, memory-mask}
 

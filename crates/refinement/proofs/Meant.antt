@@ -9,12 +9,12 @@ use mathlib.Core.Logic.{_⊎_}
 use lib.Dec.{eqb}
 use lib.ListN.{length, getD}
 use Rattle.format.specs.Bits.{bitsAt}
-use Rattle.packed.specs.Syntax.{Signal}
-use Rattle.packed.specs.Format.{procedures, terms, root, expression, condition, list, fieldsFrom, maskBit, termBit, tagAt}
-use Rattle.packed.specs.Trees.{binderOf, nodeAt}
-use Rattle.packed.proofs.Accepted.{OfSort}
-use Rattle.packed.proofs.WellFormed.{count}
-use Rattle.packed.proofs.TreeLaws.{treeᵃ}
+use Rattle.plan_packed.specs.Syntax.{Signal}
+use Rattle.plan_packed.specs.Format.{procedures, terms, root, expression, condition, list, fieldsFrom, maskBit, termBit, tagAt}
+use Rattle.plan_packed.specs.Trees.{binderOf, nodeAt}
+use Rattle.plan_packed.proofs.Accepted.{OfSort}
+use Rattle.plan_packed.proofs.WellFormed.{count}
+use Rattle.plan_packed.proofs.TreeLaws.{treeᵃ}
 use Rattle.rules.specs.Rules.{Rule}
 use Rattle.machine.specs.Frames.{Slots, Closure, closure, branches}
 use Rattle.machine.specs.Frames as frames
@@ -22,18 +22,18 @@ use Rattle.machine.specs.Machine as machine
 use Rattle.machine.specs.Playing as playing
 use Rattle.machine.specs.Landing.{downᵃ, up, upᶜ, enter, enterᶜ}
 use Rattle.machine.proofs.Sorted.{Well, Wellᶜ}
-use Rattle.frames.specs.declared.frame.Kind.{Kind}
-use Rattle.frames.specs.declared.frame.Kind.the-variants as kind
-use Rattle.frames.specs.declared.frame.Frame.{Frame}
-use Rattle.frames.specs.Parts.{Part, Part as part, numberOf}
-use Rattle.frames.specs.declared.go.Ready.{Ready}
-use Rattle.frames.specs.declared.go.Stage.{Stage}
-use Rattle.frames.specs.declared.go.Stage.the-variants as stage
-use Rattle.frames.specs.declared.go.Go.{Go}
-use Rattle.term_words.specs.Slots.{slotOf}
-use Rattle.frames.specs.Going.{readyIn}
-use Rattle.landing_step.specs.Down.{frameAt}
-use Rattle.landing.specs.Landing.{Stack, Ended}
+use Rattle.run_frames.specs.declared.frame.Kind.{Kind}
+use Rattle.run_frames.specs.declared.frame.Kind.the-variants as kind
+use Rattle.run_frames.specs.declared.frame.Frame.{Frame}
+use Rattle.run_frames.specs.Parts.{Part, Part as part, numberOf}
+use Rattle.run_frames.specs.declared.go.Ready.{Ready}
+use Rattle.run_frames.specs.declared.go.Stage.{Stage}
+use Rattle.run_frames.specs.declared.go.Stage.the-variants as stage
+use Rattle.run_frames.specs.declared.go.Go.{Go}
+use Rattle.run_term_words.specs.Slots.{slotOf}
+use Rattle.run_frames.specs.Going.{readyIn}
+use Rattle.run_refocusing_step.specs.Down.{frameAt}
+use Rattle.run_refocusing.specs.Landing.{Stack, Ended}
 
 -- ---- the plan as numbers
 

@@ -9,16 +9,16 @@ use lib.Dec.{eqb, ltb}
 use lib.ListN.{length, getD, set}
 use lib.Seq.{getD-set-same, getD-set-other}
 use borrow.Author.Tests.{eq-eqb, ne-eqb, lt-ltb, le-ltb, ltb-true}
-use Rattle.keys.specs.Keys.{Keys}
-use Rattle.keys.proofs.KeySetLaws.{keys-zero}
+use Rattle.run_keys.specs.Keys.{Keys}
+use Rattle.run_keys.proofs.KeySetLaws.{keys-zero}
 use Rattle.rules.specs.State.{fresh}
 use Rattle.rules.specs.State as rules
 use Rattle.machine.specs.Memory.{storeCell, addMask}
-use Rattle.state.specs.declared.Setting.{Setting}
-use Rattle.state.specs.declared.Cell.{Cell}
-use Rattle.state.specs.declared.Object.{Object}
-use Rattle.look.specs.Look.{hasOf}
-use Rattle.engine.specs.Machine.{noCell, noThing, cellFirst}
+use Rattle.run_state.specs.declared.Setting.{Setting}
+use Rattle.run_state.specs.declared.Cell.{Cell}
+use Rattle.run_state.specs.declared.Object.{Object}
+use Rattle.run_look.specs.Look.{hasOf}
+use Rattle.run_engine.specs.Machine.{noCell, noThing, cellFirst}
 use Rattle.refinement.proofs.States.{cellMeant, memoryOf}
 use Rattle.refinement.proofs.Tests.{test-true, test-false}
 

@@ -8,14 +8,14 @@ use mathlib.Core.List.{List, _∷_}
 use mathlib.Core.Option.{some}
 use lib.Dec.{eqb}
 use lib.ListN.{getD, set}
-use Rattle.keys.specs.declared.KeySet.{KeySet}
-use Rattle.keys.specs.Keys.{Keys, empty, isEmpty, countNew}
-use Rattle.keys.specs.KeySet.{keysOf, emptySet, joinOf, newOf, joinedOf, isEmptyOf}
-use Rattle.keys.proofs.KeySetLaws.{keys-empty, keys-is-empty, fits-empty, fits-join}
-use Rattle.packed.specs.Format.{terms}
-use Rattle.packed.specs.Trees.{nodeAt, programOf}
-use Rattle.records.specs.Record.{entry}
-use Rattle.records.specs.Record as records
+use Rattle.run_keys.specs.declared.KeySet.{KeySet}
+use Rattle.run_keys.specs.Keys.{Keys, empty, isEmpty, countNew}
+use Rattle.run_keys.specs.KeySet.{keysOf, emptySet, joinOf, newOf, joinedOf, isEmptyOf}
+use Rattle.run_keys.proofs.KeySetLaws.{keys-empty, keys-is-empty, fits-empty, fits-join}
+use Rattle.plan_packed.specs.Format.{terms}
+use Rattle.plan_packed.specs.Trees.{nodeAt, programOf}
+use Rattle.log_records.specs.Record.{entry}
+use Rattle.log_records.specs.Record as records
 use Rattle.rules.specs.State as rules
 use Rattle.rules.specs.Rules.{e-re-enter, e-acquire, e-release}
 use Rattle.rules.specs.Step.{forMonitor}
@@ -27,17 +27,17 @@ use Rattle.machine.specs.Playing.{tableOf}
 use Rattle.machine.specs.Playing as playing
 use Rattle.machine.proofs.Standing.{standing}
 use Rattle.machine.proofs.Sorted.{Well}
-use Rattle.frames.specs.Parts.{Part as part}
-use Rattle.frames.specs.Going.{readyOf, goRun, goWant, goValue}
-use Rattle.state.specs.declared.Cell.{Cell}
-use Rattle.state.specs.declared.Counts.{Counts}
-use Rattle.look.specs.declared.Block.the-variants as block
-use Rattle.look.specs.declared.Sight.the-variants as sight
-use Rattle.look.specs.Look.{objectBy, fieldBy, lookSynch}
-use Rattle.state.specs.Acted.{entryOf, noEntry, nothing, cellOf, actedOf, heardOf}
-use Rattle.monitors.specs.Monitors.{holdFrame, actSynch, actHold}
-use Rattle.engine.specs.Machine as engine
-use Rattle.engine.specs.Machine.{noCell, headAt}
+use Rattle.run_frames.specs.Parts.{Part as part}
+use Rattle.run_frames.specs.Going.{readyOf, goRun, goWant, goValue}
+use Rattle.run_state.specs.declared.Cell.{Cell}
+use Rattle.run_state.specs.declared.Counts.{Counts}
+use Rattle.run_look.specs.declared.Block.the-variants as block
+use Rattle.run_look.specs.declared.Sight.the-variants as sight
+use Rattle.run_look.specs.Look.{objectBy, fieldBy, lookSynch}
+use Rattle.run_state.specs.Acted.{entryOf, noEntry, nothing, cellOf, actedOf, heardOf}
+use Rattle.run_monitors.specs.Monitors.{holdFrame, actSynch, actHold}
+use Rattle.run_engine.specs.Machine as engine
+use Rattle.run_engine.specs.Machine.{noCell, headAt}
 use Rattle.refinement.proofs.Meant.{closed, IsExpression}
 use Rattle.refinement.proofs.States.{settingOf, cellMeant, CellFits, Kept, Headed, Related}
 use Rattle.refinement.proofs.Tests.{test-true, test-false}

@@ -11,7 +11,7 @@ use mathlib.Core.Logic.{_⊎_, inl, inr}
 use lib.Dec.{ltb}
 use lib.ListN.{length, getD, set, getElem?, drop, length-set}
 use lib.Seq.{getD-set-same, getD-set-other}
-use Rattle.keys.specs.KeySet.{keysOf}
+use Rattle.run_keys.specs.KeySet.{keysOf}
 use Rattle.rules.specs.Queue.{Place}
 use Rattle.rules.specs.State.{changeAt}
 use Rattle.rules.specs.Room as rooms
@@ -20,18 +20,18 @@ use Rattle.rules.proofs.Relocated.{relocated-length, was-there}
 use Rattle.machine.specs.Frames.{height}
 use Rattle.machine.specs.Machine as machine
 use Rattle.machine.specs.Playing as playing
-use Rattle.frames.specs.Going.{goFull}
-use Rattle.landing_step.specs.Down.{frameAt}
-use Rattle.landing.specs.Landing.{Stack, Ended, ended, landOf}
-use Rattle.state.specs.declared.Head.{Head}
-use Rattle.state.specs.declared.Counts.{Counts}
-use Rattle.state.specs.declared.acted.Acted.{Acted}
-use Rattle.pick.specs.declared.Met.{Met}
-use Rattle.pick.specs.Answer.{Move}
-use Rattle.pick.specs.Pick.{noHead, forksOf, fullOf, moverOf, bornOf, moveOf, landMover, youngGo, landYoung}
-use Rattle.queue.specs.Queue.{afterOf}
-use Rattle.engine.specs.Machine as engine
-use Rattle.engine.specs.Machine.{headAt, cellNumber, after}
+use Rattle.run_frames.specs.Going.{goFull}
+use Rattle.run_refocusing_step.specs.Down.{frameAt}
+use Rattle.run_refocusing.specs.Landing.{Stack, Ended, ended, landOf}
+use Rattle.run_state.specs.declared.Head.{Head}
+use Rattle.run_state.specs.declared.Counts.{Counts}
+use Rattle.run_state.specs.declared.acted.Acted.{Acted}
+use Rattle.run_pick.specs.declared.Met.{Met}
+use Rattle.run_pick.specs.Answer.{Move}
+use Rattle.run_pick.specs.Pick.{noHead, forksOf, fullOf, moverOf, bornOf, moveOf, landMover, youngGo, landYoung}
+use Rattle.run_queue.specs.Queue.{afterOf}
+use Rattle.run_engine.specs.Machine as engine
+use Rattle.run_engine.specs.Machine.{headAt, cellNumber, after}
 use Rattle.refinement.proofs.Meant.{Loaded, Sized, Lands}
 use Rattle.refinement.proofs.FrameLaws.{holds-same}
 use Rattle.refinement.proofs.Landing.{landed}

@@ -5,11 +5,11 @@ use mathlib.Core.Bool.{true, false}
 use mathlib.Core.List.{List, [], _∷_, _++_}
 use mathlib.Core.Option.{Option, some, none}
 use lib.ListN.{set, getElem?}
-use Rattle.keys.specs.Keys.{Keys}
-use Rattle.keys.specs.KeySet.{keysOf}
-use Rattle.keys.proofs.KeySetLaws.{Fits}
-use Rattle.packed.specs.Trees.{programOf}
-use Rattle.packed.specs.Check.{refusal}
+use Rattle.run_keys.specs.Keys.{Keys}
+use Rattle.run_keys.specs.KeySet.{keysOf}
+use Rattle.run_keys.proofs.KeySetLaws.{Fits}
+use Rattle.plan_packed.specs.Trees.{programOf}
+use Rattle.plan_packed.specs.Check.{refusal}
 use Rattle.rules.specs.Queue.{awake}
 use Rattle.rules.specs.State.{changeAt}
 use Rattle.rules.specs.Room as rooms
@@ -19,20 +19,20 @@ use Rattle.machine.specs.Machine as machine
 use Rattle.machine.specs.Playing.{tableOf}
 use Rattle.machine.specs.Playing as playing
 use Rattle.machine.proofs.Runs.{Reached}
-use Rattle.frames.specs.Parts.{Part as part, isPart}
-use Rattle.frames.specs.declared.go.Ready.{Ready}
-use Rattle.frames.specs.Going.{goRun}
+use Rattle.run_frames.specs.Parts.{Part as part, isPart}
+use Rattle.run_frames.specs.declared.go.Ready.{Ready}
+use Rattle.run_frames.specs.Going.{goRun}
 use Rattle.run_outcome.specs.declared.NoRoom.{NoRoom}
 use Rattle.run_outcome.specs.declared.NoRoom.the-variants as room
-use Rattle.state.specs.declared.acted.Act.{Act}
-use Rattle.state.specs.declared.acted.Act.the-variants as act
-use Rattle.state.specs.declared.acted.Acted.{Acted}
-use Rattle.look.specs.Look.{objectOf}
-use Rattle.pick.specs.declared.Met.{Met}
-use Rattle.pick.specs.Pick.{actMet}
-use Rattle.queue.specs.Queue.{afterOf}
-use Rattle.engine.specs.Machine as engine
-use Rattle.engine.specs.Machine.{headAt, cellNumber, metAt}
+use Rattle.run_state.specs.declared.acted.Act.{Act}
+use Rattle.run_state.specs.declared.acted.Act.the-variants as act
+use Rattle.run_state.specs.declared.acted.Acted.{Acted}
+use Rattle.run_look.specs.Look.{objectOf}
+use Rattle.run_pick.specs.declared.Met.{Met}
+use Rattle.run_pick.specs.Pick.{actMet}
+use Rattle.run_queue.specs.Queue.{afterOf}
+use Rattle.run_engine.specs.Machine as engine
+use Rattle.run_engine.specs.Machine.{headAt, cellNumber, metAt}
 use Rattle.refinement.proofs.Meant.{Goes}
 use Rattle.refinement.proofs.Queues.{placesOf, Places}
 use Rattle.refinement.proofs.States.{settingOf, Kept, Headed, Related}

@@ -8,12 +8,12 @@ use mathlib.Core.List.{List}
 use mathlib.Core.Option.{Option, none}
 use lib.Bits.{or-comm}
 use lib.ListN.{length, getD, set}
-use Rattle.keys.specs.declared.KeySet.{KeySet}
-use Rattle.keys.specs.Keys.{Keys, union, countNew}
-use Rattle.keys.specs.KeySet.{keysOf, joinOf, newOf}
-use Rattle.keys.proofs.KeySetLaws.{Fits, keys-join, keys-new}
-use Rattle.records.specs.Record.{Record, entry}
-use Rattle.records.specs.Record as records
+use Rattle.run_keys.specs.declared.KeySet.{KeySet}
+use Rattle.run_keys.specs.Keys.{Keys, union, countNew}
+use Rattle.run_keys.specs.KeySet.{keysOf, joinOf, newOf}
+use Rattle.run_keys.proofs.KeySetLaws.{Fits, keys-join, keys-new}
+use Rattle.log_records.specs.Record.{Record, entry}
+use Rattle.log_records.specs.Record as records
 use Rattle.rules.specs.State.{changeAt}
 use Rattle.rules.specs.Rules.{Rule}
 use Rattle.rules.proofs.StateLaws.{inside, there as present}
@@ -23,18 +23,18 @@ use Rattle.machine.specs.Machine as machine
 use Rattle.machine.specs.Playing.{tableOf}
 use Rattle.machine.specs.Playing as playing
 use Rattle.machine.proofs.Runs.{reached-threads, reached-total}
-use Rattle.frames.specs.Parts.{Part as part, isPart}
-use Rattle.frames.specs.declared.go.Ready.{Ready}
-use Rattle.frames.specs.declared.go.Go.{Go}
-use Rattle.state.specs.declared.Head.{Head}
-use Rattle.state.specs.declared.Cell.{Cell}
-use Rattle.state.specs.declared.Object.{Object}
-use Rattle.state.specs.declared.Counts.{Counts}
-use Rattle.state.specs.declared.Entry.{Entry}
-use Rattle.state.specs.Acted.{entryOf, noEntry, nothing, actedOf}
-use Rattle.queue.specs.Queue.{afterOf}
-use Rattle.engine.specs.Machine as engine
-use Rattle.engine.specs.Machine.{noCell, headAt}
+use Rattle.run_frames.specs.Parts.{Part as part, isPart}
+use Rattle.run_frames.specs.declared.go.Ready.{Ready}
+use Rattle.run_frames.specs.declared.go.Go.{Go}
+use Rattle.run_state.specs.declared.Head.{Head}
+use Rattle.run_state.specs.declared.Cell.{Cell}
+use Rattle.run_state.specs.declared.Object.{Object}
+use Rattle.run_state.specs.declared.Counts.{Counts}
+use Rattle.run_state.specs.declared.Entry.{Entry}
+use Rattle.run_state.specs.Acted.{entryOf, noEntry, nothing, actedOf}
+use Rattle.run_queue.specs.Queue.{afterOf}
+use Rattle.run_engine.specs.Machine as engine
+use Rattle.run_engine.specs.Machine.{noCell, headAt}
 use Rattle.refinement.proofs.Meant.{Goes}
 use Rattle.refinement.proofs.Queues.{placesOf, Places, after-quiet}
 use Rattle.refinement.proofs.States.{settingOf, Kept, Headed, Related}

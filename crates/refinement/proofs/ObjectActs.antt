@@ -10,14 +10,14 @@ use mathlib.Core.Logic.{inl, inr}
 use lib.Dec.{eqb, leb}
 use lib.ListN.{length, getD, set, getElem?}
 use borrow.Author.Tests.{leb-false, lt-leb}
-use Rattle.keys.specs.declared.KeySet.{KeySet}
-use Rattle.keys.specs.Keys.{Keys, union, countNew}
-use Rattle.keys.specs.KeySet.{keysOf, joinOf, newOf, joinedOf}
-use Rattle.keys.proofs.KeySetLaws.{Fits, fits-join}
-use Rattle.packed.specs.Format.{terms, maskBit, fieldsFrom}
-use Rattle.packed.specs.Trees.{nodeAt, programOf}
-use Rattle.records.specs.Record.{entry}
-use Rattle.records.specs.Record as records
+use Rattle.run_keys.specs.declared.KeySet.{KeySet}
+use Rattle.run_keys.specs.Keys.{Keys, union, countNew}
+use Rattle.run_keys.specs.KeySet.{keysOf, joinOf, newOf, joinedOf}
+use Rattle.run_keys.proofs.KeySetLaws.{Fits, fits-join}
+use Rattle.plan_packed.specs.Format.{terms, maskBit, fieldsFrom}
+use Rattle.plan_packed.specs.Trees.{nodeAt, programOf}
+use Rattle.log_records.specs.Record.{entry}
+use Rattle.log_records.specs.Record as records
 use Rattle.rules.specs.Queue.{awake}
 use Rattle.rules.specs.State.{freshObject, changeAt}
 use Rattle.rules.specs.Rules.{e-new, e-join}
@@ -32,23 +32,23 @@ use Rattle.machine.specs.Playing.{tableOf}
 use Rattle.machine.specs.Playing as playing
 use Rattle.machine.proofs.Sorted.{Well}
 use Rattle.machine.proofs.Standing.{standing}
-use Rattle.frames.specs.Parts.{Part as part}
-use Rattle.frames.specs.Going.{readyOf, goValue}
-use Rattle.state.specs.declared.Head.{Head}
-use Rattle.state.specs.declared.Object.{Object}
-use Rattle.state.specs.declared.Counts.{Counts}
+use Rattle.run_frames.specs.Parts.{Part as part}
+use Rattle.run_frames.specs.Going.{readyOf, goValue}
+use Rattle.run_state.specs.declared.Head.{Head}
+use Rattle.run_state.specs.declared.Object.{Object}
+use Rattle.run_state.specs.declared.Counts.{Counts}
 use Rattle.run_outcome.specs.declared.NoRoom.the-variants as room
-use Rattle.state.specs.declared.acted.Act.the-variants as act
-use Rattle.look.specs.declared.Block.the-variants as block
-use Rattle.look.specs.declared.Sight.{Sight}
-use Rattle.look.specs.declared.Sight.the-variants as sight
-use Rattle.look.specs.Look.{objectBy, fieldBy, lookJoin}
-use Rattle.state.specs.Acted.{entryOf, nothing, countsOf, heardOf}
-use Rattle.objects.specs.Objects.{actNew, actFork, actJoin}
-use Rattle.queue.specs.Queue.{afterOf}
-use Rattle.engine.specs.Machine as engine
-use Rattle.pick.specs.Pick.{noHead}
-use Rattle.engine.specs.Machine.{noCell, noThing, headAt}
+use Rattle.run_state.specs.declared.acted.Act.the-variants as act
+use Rattle.run_look.specs.declared.Block.the-variants as block
+use Rattle.run_look.specs.declared.Sight.{Sight}
+use Rattle.run_look.specs.declared.Sight.the-variants as sight
+use Rattle.run_look.specs.Look.{objectBy, fieldBy, lookJoin}
+use Rattle.run_state.specs.Acted.{entryOf, nothing, countsOf, heardOf}
+use Rattle.run_objects.specs.Objects.{actNew, actFork, actJoin}
+use Rattle.run_queue.specs.Queue.{afterOf}
+use Rattle.run_engine.specs.Machine as engine
+use Rattle.run_pick.specs.Pick.{noHead}
+use Rattle.run_engine.specs.Machine.{noCell, noThing, headAt}
 use Rattle.refinement.proofs.Meant.{closed, IsExpression}
 use Rattle.refinement.proofs.States.{settingOf, numberOf, Kept, Headed, Related}
 use Rattle.refinement.proofs.Tests.{test-true, test-false}

@@ -8,22 +8,22 @@ use mathlib.Core.List.{List, _∷_}
 use lib.Dec.{eqb}
 use lib.ListN.{length}
 use borrow.Author.Tests.{lt-ltb, le-ltb}
-use Rattle.packed.specs.Format.{terms, expression, condition, Operand}
-use Rattle.packed.specs.Trees.{nodeAt}
-use Rattle.packed.proofs.Accepted.{Child, Accepted}
+use Rattle.plan_packed.specs.Format.{terms, expression, condition, Operand}
+use Rattle.plan_packed.specs.Trees.{nodeAt}
+use Rattle.plan_packed.proofs.Accepted.{Child, Accepted}
 use Rattle.machine.specs.Frames as frames
 use Rattle.machine.specs.Landing.{enter, enterᶜ}
 use Rattle.machine.proofs.PlanTable.{ordered}
 use Rattle.machine.proofs.Sorted.{Well, Wellᶜ}
-use Rattle.frames.specs.declared.frame.Kind.{Kind}
-use Rattle.frames.specs.declared.frame.Frame.{Frame}
-use Rattle.frames.specs.declared.go.Go.{Go}
-use Rattle.landing_step.specs.declared.Turn.{Turn}
-use Rattle.term_words.specs.Words.{valueOf, truthOf}
-use Rattle.frames.specs.Frames.{framed}
-use Rattle.frames.specs.Going.{goRun, goRunCondition, goFull, feedOf, feedConditionOf}
-use Rattle.landing_step.specs.Down.{stayOf, pushOf, wantBy, wantOf, wantConditionBy, wantConditionOf}
-use Rattle.landing.specs.Landing.{Stack, stored}
+use Rattle.run_frames.specs.declared.frame.Kind.{Kind}
+use Rattle.run_frames.specs.declared.frame.Frame.{Frame}
+use Rattle.run_frames.specs.declared.go.Go.{Go}
+use Rattle.run_refocusing_step.specs.declared.Turn.{Turn}
+use Rattle.run_term_words.specs.Words.{valueOf, truthOf}
+use Rattle.run_frames.specs.Frames.{framed}
+use Rattle.run_frames.specs.Going.{goRun, goRunCondition, goFull, feedOf, feedConditionOf}
+use Rattle.run_refocusing_step.specs.Down.{stayOf, pushOf, wantBy, wantOf, wantConditionBy, wantConditionOf}
+use Rattle.run_refocusing.specs.Landing.{Stack, stored}
 use Rattle.refinement.proofs.Meant.{Loaded, closed, frameOf, IsExpression, IsCondition, SortedBy, Fine, Holds, Goes, Sized}
 use Rattle.refinement.proofs.FrameLaws.{holds-more, stored-stay, stored-push}
 use Rattle.refinement.proofs.Values.{Valued, Tested, valued, tested}

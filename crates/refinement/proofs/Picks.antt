@@ -8,32 +8,32 @@ use mathlib.Core.Option.{some, none}
 use lib.Dec.{leb}
 use borrow.Author.Tests.{leb-false, leb-true}
 use Rattle.format.specs.Refusal.{orElse}
-use Rattle.packed.specs.Trees.{programOf}
-use Rattle.packed.specs.Check.{refusal}
-use Rattle.records.specs.Record.{Record}
+use Rattle.plan_packed.specs.Trees.{programOf}
+use Rattle.plan_packed.specs.Check.{refusal}
+use Rattle.log_records.specs.Record.{Record}
 use Rattle.rules.specs.Room as rooms
 use Rattle.machine.specs.Machine as machine
 use Rattle.machine.specs.Playing.{tableOf}
 use Rattle.machine.specs.Playing as playing
 use Rattle.machine.proofs.Runs.{Reached}
-use Rattle.frames.specs.declared.go.Ready.{Ready}
-use Rattle.landing.specs.Landing.{Stack, Ended}
+use Rattle.run_frames.specs.declared.go.Ready.{Ready}
+use Rattle.run_refocusing.specs.Landing.{Stack, Ended}
 use Rattle.run_outcome.specs.declared.NoRoom.the-variants as room
 use Rattle.run_outcome.specs.declared.Stop.{Stop}
 use Rattle.run_outcome.specs.declared.Stop.the-variants as stop
-use Rattle.state.specs.declared.Entry.{Entry}
-use Rattle.state.specs.declared.acted.Act.{Act}
-use Rattle.state.specs.declared.acted.Act.the-variants as act
-use Rattle.state.specs.declared.acted.Acted.{Acted}
-use Rattle.look.specs.declared.Block.{Block}
-use Rattle.look.specs.declared.Block.the-variants as block
-use Rattle.look.specs.declared.Sight.{Sight}
-use Rattle.look.specs.declared.Sight.the-variants as sight
-use Rattle.pick.specs.declared.Met.{Met}
-use Rattle.pick.specs.Answer.{Answer, Answer as answer}
-use Rattle.pick.specs.Pick.{Picked, picked, noRoom, noHead, forksOf, fullOf, moveOf, landMover, startBy, landBy, makeBy, actMet, pickBy, lookMet, pickOf}
-use Rattle.engine.specs.Machine as engine
-use Rattle.engine.specs.Machine.{headAt, cellNumber, metBy, after, turnBy}
+use Rattle.run_state.specs.declared.Entry.{Entry}
+use Rattle.run_state.specs.declared.acted.Act.{Act}
+use Rattle.run_state.specs.declared.acted.Act.the-variants as act
+use Rattle.run_state.specs.declared.acted.Acted.{Acted}
+use Rattle.run_look.specs.declared.Block.{Block}
+use Rattle.run_look.specs.declared.Block.the-variants as block
+use Rattle.run_look.specs.declared.Sight.{Sight}
+use Rattle.run_look.specs.declared.Sight.the-variants as sight
+use Rattle.run_pick.specs.declared.Met.{Met}
+use Rattle.run_pick.specs.Answer.{Answer, Answer as answer}
+use Rattle.run_pick.specs.Pick.{Picked, picked, noRoom, noHead, forksOf, fullOf, moveOf, landMover, startBy, landBy, makeBy, actMet, pickBy, lookMet, pickOf}
+use Rattle.run_engine.specs.Machine as engine
+use Rattle.run_engine.specs.Machine.{headAt, cellNumber, metBy, after, turnBy}
 use Rattle.refinement.proofs.Meant.{Loaded}
 use Rattle.refinement.proofs.States.{settingOf, Related}
 use Rattle.refinement.proofs.Looks.{Written, Entered, BlockedBy, MeetsBy, attempt-absent}

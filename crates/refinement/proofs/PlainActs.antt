@@ -6,10 +6,10 @@ use mathlib.Core.Bool.{true, false}
 use mathlib.Core.List.{List, _∷_}
 use mathlib.Core.Option.{none}
 use lib.ListN.{getD}
-use Rattle.keys.specs.declared.KeySet.{KeySet}
-use Rattle.packed.specs.Format.{terms}
-use Rattle.packed.specs.Trees.{nodeAt}
-use Rattle.packed.proofs.Accepted.{accepted}
+use Rattle.run_keys.specs.declared.KeySet.{KeySet}
+use Rattle.plan_packed.specs.Format.{terms}
+use Rattle.plan_packed.specs.Trees.{nodeAt}
+use Rattle.plan_packed.proofs.Accepted.{accepted}
 use Rattle.rules.specs.Rules.{e-while, e-if}
 use Rattle.machine.specs.Frames.{branches}
 use Rattle.machine.specs.Frames as frames
@@ -19,17 +19,17 @@ use Rattle.machine.specs.Machine as machine
 use Rattle.machine.specs.Playing.{tableOf}
 use Rattle.machine.specs.Playing as playing
 use Rattle.machine.proofs.Sorted.{Well}
-use Rattle.frames.specs.declared.frame.Kind.the-variants as kind
-use Rattle.frames.specs.Parts.{Part as part, isPart}
-use Rattle.frames.specs.declared.go.Ready.{Ready}
-use Rattle.frames.specs.declared.go.Go.{Go}
-use Rattle.frames.specs.Frames.{framed}
-use Rattle.frames.specs.Going.{readyOf, goWant, goWantCondition}
-use Rattle.state.specs.declared.Counts.{Counts}
-use Rattle.look.specs.declared.Sight.the-variants as sight
-use Rattle.state.specs.Acted.{noEntry, actedOf}
-use Rattle.engine.specs.Machine as engine
-use Rattle.engine.specs.Machine.{noCell, headAt}
+use Rattle.run_frames.specs.declared.frame.Kind.the-variants as kind
+use Rattle.run_frames.specs.Parts.{Part as part, isPart}
+use Rattle.run_frames.specs.declared.go.Ready.{Ready}
+use Rattle.run_frames.specs.declared.go.Go.{Go}
+use Rattle.run_frames.specs.Frames.{framed}
+use Rattle.run_frames.specs.Going.{readyOf, goWant, goWantCondition}
+use Rattle.run_state.specs.declared.Counts.{Counts}
+use Rattle.run_look.specs.declared.Sight.the-variants as sight
+use Rattle.run_state.specs.Acted.{noEntry, actedOf}
+use Rattle.run_engine.specs.Machine as engine
+use Rattle.run_engine.specs.Machine.{noCell, headAt}
 use Rattle.refinement.proofs.Meant.{slots, closed, IsExpression, IsCondition, Goes, Unlogged}
 use Rattle.refinement.proofs.States.{Headed}
 use Rattle.refinement.proofs.Looks.{MeetsBy, attempt-condition}

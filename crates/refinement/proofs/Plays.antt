@@ -10,10 +10,10 @@ use mathlib.Core.Option.{Option, none}
 use lib.Dec.{leb}
 use lib.ListN.{length, getD, getElem?, drop}
 use borrow.Author.Tests.{leb-false, leb-true}
-use Rattle.packed.specs.Trees.{programOf}
-use Rattle.packed.specs.Check.{refusal}
-use Rattle.records.specs.Record.{Record}
-use Rattle.records.specs.Packed.{bytesOf}
+use Rattle.plan_packed.specs.Trees.{programOf}
+use Rattle.plan_packed.specs.Check.{refusal}
+use Rattle.log_records.specs.Record.{Record}
+use Rattle.log_records.specs.Packed.{bytesOf}
 use Rattle.rules.specs.Step as step
 use Rattle.rules.specs.Step.{forMonitor, forJoin, forNotify, missingField, notThread, notHeld}
 use Rattle.rules.specs.Run.{Stop, Status, Outcome, play, outcomeOf}
@@ -24,8 +24,8 @@ use Rattle.machine.specs.Playing.{tableOf}
 use Rattle.machine.specs.Playing as playing
 use Rattle.machine.proofs.Runs.{Reached, reached-total}
 use Rattle.machine.proofs.Plays.{start-reached, move-reached, plays-outcome, plays-log}
-use Rattle.frames.specs.declared.go.Ready.{Ready}
-use Rattle.landing.specs.Landing.{Stack}
+use Rattle.run_frames.specs.declared.go.Ready.{Ready}
+use Rattle.run_refocusing.specs.Landing.{Stack}
 use Rattle.run_outcome.specs.declared.NoRoom.{NoRoom}
 use Rattle.run_outcome.specs.declared.Stop as code-stop
 use Rattle.run_outcome.specs.declared.Stop.the-variants as stop
@@ -37,18 +37,18 @@ use Rattle.run_outcome.specs.declared.ThreadState.{ThreadState}
 use Rattle.run_outcome.specs.declared.ThreadState.the-variants as state
 use Rattle.run_outcome.specs.declared.Thread.{Thread}
 use Rattle.run_outcome.specs.declared.Outcome as code-outcome
-use Rattle.state.specs.declared.Entry.{Entry}
-use Rattle.look.specs.declared.Block.{Block}
-use Rattle.look.specs.declared.Block.the-variants as block
-use Rattle.look.specs.declared.Sight.{Sight}
-use Rattle.look.specs.declared.Sight.the-variants as sight
-use Rattle.look.specs.Look.{blockedOf, stateOf}
-use Rattle.pick.specs.Answer.{Move, Answer, Answer as answer}
-use Rattle.pick.specs.Pick.{Picked, lookMet}
-use Rattle.tally.specs.Tally.{shownEntry}
-use Rattle.engine.specs.Machine as engine
-use Rattle.open_threads.specs.Open.{absent}
-use Rattle.engine.specs.Machine.{headAt, metBy, stateBy, threadBy, threadAt, threadsOf, stopped, stayed, after, turnBy, onAnswer, playOf, startOf}
+use Rattle.run_state.specs.declared.Entry.{Entry}
+use Rattle.run_look.specs.declared.Block.{Block}
+use Rattle.run_look.specs.declared.Block.the-variants as block
+use Rattle.run_look.specs.declared.Sight.{Sight}
+use Rattle.run_look.specs.declared.Sight.the-variants as sight
+use Rattle.run_look.specs.Look.{blockedOf, stateOf}
+use Rattle.run_pick.specs.Answer.{Move, Answer, Answer as answer}
+use Rattle.run_pick.specs.Pick.{Picked, lookMet}
+use Rattle.run_tally.specs.Tally.{shownEntry}
+use Rattle.run_engine.specs.Machine as engine
+use Rattle.run_open_threads.specs.Open.{absent}
+use Rattle.run_engine.specs.Machine.{headAt, metBy, stateBy, threadBy, threadAt, threadsOf, stopped, stayed, after, turnBy, onAnswer, playOf, startOf}
 use Rattle.refinement.proofs.Meant.{Loaded}
 use Rattle.refinement.proofs.States.{settingOf, Related}
 use Rattle.refinement.proofs.Looks.{Written, Entered, BlockedBy, MeetsBy, attempt-absent}

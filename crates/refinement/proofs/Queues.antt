@@ -15,9 +15,9 @@ use borrow.Author.Tests.{eqb-true, ltb-true, ltb-false}
 use Rattle.rules.specs.Queue.{Place, awake, queued, queueLength, lastPlace, movedUp}
 use Rattle.rules.specs.State.{changeAt}
 use Rattle.machine.specs.Machine as machine
-use Rattle.frames.specs.Parts.{Part as part, isPart}
-use Rattle.frames.specs.declared.go.Ready.{Ready}
-use Rattle.queue.specs.Queue.{queuedOn, countOf, lastOf, waitedOf, nearer, notifiedOf, freed, allNotifiedOf, signalledOf, afterOf}
+use Rattle.run_frames.specs.Parts.{Part as part, isPart}
+use Rattle.run_frames.specs.declared.go.Ready.{Ready}
+use Rattle.run_queue.specs.Queue.{queuedOn, countOf, lastOf, waitedOf, nearer, notifiedOf, freed, allNotifiedOf, signalledOf, afterOf}
 
 -- the place that a number stands for
 abbrev pub placeMeant : ℕ → Place

@@ -7,13 +7,13 @@ use mathlib.Core.List.{List, [], _∷_}
 use mathlib.Core.Option.{Option, some, none}
 use lib.Dec.{eqb}
 use borrow.Author.Tests.{eq-eqb, ne-eqb}
-use Rattle.records.specs.Record.{Kind, Record, entry}
-use Rattle.records.proofs.KindNumbers.{kind-number}
+use Rattle.log_records.specs.Record.{Kind, Record, entry}
+use Rattle.log_records.proofs.KindNumbers.{kind-number}
 use Rattle.rules.specs.Run.{logged}
 use Rattle.machine.specs.Machine as machine
 use Rattle.machine.specs.Playing as playing
-use Rattle.state.specs.declared.Entry.{Entry}
-use Rattle.tally.specs.Tally.{shownEntry}
+use Rattle.run_state.specs.declared.Entry.{Entry}
+use Rattle.run_tally.specs.Tally.{shownEntry}
 use Rattle.refinement.proofs.Looks.{Written, Entered}
 
 -- the record of a move of thread p; where every move is to have one, that of a move without is a `new` record of object 0

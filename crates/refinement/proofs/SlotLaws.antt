@@ -9,11 +9,11 @@ use mathlib.Core.Logic.{_⊎_, inl, inr}
 use lib.Dec.{eqb, ltb}
 use lib.Pow.{field, mod-mod-pow}
 use borrow.Author.Tests.{lt-ltb, le-ltb, eq-eqb, ne-eqb}
-use Rattle.packed.specs.Trees.{binderOf}
+use Rattle.plan_packed.specs.Trees.{binderOf}
 use Rattle.machine.specs.Frames.{noSlots, put, putBound}
 use Rattle.machine.specs.PackedSlots.{slotsIn, putIn}
 use Rattle.machine.proofs.PackedSlots.{put-in}
-use Rattle.term_words.specs.Slots.{slotOf, bindOf}
+use Rattle.run_term_words.specs.Slots.{slotOf, bindOf}
 
 slot-in : (e y : ℕ) → y < 8 → slotOf e y ≡ slotsIn e y
 unfolding slotOf slotsIn

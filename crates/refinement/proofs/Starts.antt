@@ -8,11 +8,11 @@ use mathlib.Core.List.{List, [], _∷_}
 use mathlib.Core.Option.{some, none, Option·none-ne-some}
 use lib.ListN.{length, getD, set, getElem?, replicate, length-replicate, getD-replicate, List·getD-eq-default}
 use lib.Seq.{set-getD}
-use Rattle.keys.specs.Keys.{singleton}
-use Rattle.keys.proofs.KeySetLaws.{fits-zero, keys-zero}
-use Rattle.packed.specs.Format.{procedures, root}
-use Rattle.packed.specs.Check.{refusal}
-use Rattle.packed.proofs.Accepted.{accepted}
+use Rattle.run_keys.specs.Keys.{singleton}
+use Rattle.run_keys.proofs.KeySetLaws.{fits-zero, keys-zero}
+use Rattle.plan_packed.specs.Format.{procedures, root}
+use Rattle.plan_packed.specs.Check.{refusal}
+use Rattle.plan_packed.proofs.Accepted.{accepted}
 use Rattle.rules.specs.Queue.{awake}
 use Rattle.rules.specs.State.{freshObject}
 use Rattle.rules.specs.Rules.{e-call}
@@ -21,14 +21,14 @@ use Rattle.machine.specs.Frames as frames
 use Rattle.machine.specs.Memory.{objectsOf}
 use Rattle.machine.specs.Machine as machine
 use Rattle.machine.specs.Playing as playing
-use Rattle.frames.specs.Parts.{Part as part}
-use Rattle.frames.specs.Going.{readyOf}
-use Rattle.landing.specs.Landing.{Stack}
-use Rattle.state.specs.declared.Setting.{Setting}
-use Rattle.state.specs.declared.Cell.{Cell}
-use Rattle.state.specs.declared.Object.{Object}
-use Rattle.state.specs.Acted.{countsOf}
-use Rattle.engine.specs.Machine.{noCell, noThing, headAt, headOf, cellFirst, startOf}
+use Rattle.run_frames.specs.Parts.{Part as part}
+use Rattle.run_frames.specs.Going.{readyOf}
+use Rattle.run_refocusing.specs.Landing.{Stack}
+use Rattle.run_state.specs.declared.Setting.{Setting}
+use Rattle.run_state.specs.declared.Cell.{Cell}
+use Rattle.run_state.specs.declared.Object.{Object}
+use Rattle.run_state.specs.Acted.{countsOf}
+use Rattle.run_engine.specs.Machine.{noCell, noThing, headAt, headOf, cellFirst, startOf}
 use Rattle.refinement.proofs.Meant.{Loaded, IsExpression, Stands}
 use Rattle.refinement.proofs.SlotLaws.{none-bound}
 use Rattle.refinement.proofs.Queues.{placeMeant, placesOf, Places}

@@ -6,19 +6,19 @@ use mathlib.Core.Bool.{true, false≢true}
 use mathlib.Core.List.{List, [], _∷_}
 use lib.Dec.{eqb, eqb·suc-zero}
 use lib.ListN.{length}
-use Rattle.packed.specs.Format.{terms}
-use Rattle.packed.specs.Trees.{nodeAt}
+use Rattle.plan_packed.specs.Format.{terms}
+use Rattle.plan_packed.specs.Trees.{nodeAt}
 use Rattle.machine.specs.Frames as frames
 use Rattle.machine.specs.Landing.{upBy, up, upᶜ}
 use Rattle.machine.proofs.Sorted.{Well, Wellᶜ}
-use Rattle.frames.specs.declared.frame.Frame.{Frame}
-use Rattle.frames.specs.Parts.{Part as part}
-use Rattle.frames.specs.declared.go.Stage.{Stage}
-use Rattle.frames.specs.declared.go.Stage.the-variants as stage
-use Rattle.frames.specs.declared.go.Go.{Go}
-use Rattle.frames.specs.Going.{readyOf, goAt, feedOf, feedConditionOf}
-use Rattle.landing_step.specs.Down.{stayOf, backOf, backConditionOf, stepBy, stepOf, frameAt}
-use Rattle.landing.specs.Landing.{Stack, liveBy, topOf}
+use Rattle.run_frames.specs.declared.frame.Frame.{Frame}
+use Rattle.run_frames.specs.Parts.{Part as part}
+use Rattle.run_frames.specs.declared.go.Stage.{Stage}
+use Rattle.run_frames.specs.declared.go.Stage.the-variants as stage
+use Rattle.run_frames.specs.declared.go.Go.{Go}
+use Rattle.run_frames.specs.Going.{readyOf, goAt, feedOf, feedConditionOf}
+use Rattle.run_refocusing_step.specs.Down.{stayOf, backOf, backConditionOf, stepBy, stepOf, frameAt}
+use Rattle.run_refocusing.specs.Landing.{Stack, liveBy, topOf}
 use Rattle.refinement.proofs.Meant.{Goes, GoesBy}
 use Rattle.refinement.proofs.Fuel.{needs-most, Enough, EnoughBy, feed-enough, feed-condition-enough}
 use Rattle.refinement.proofs.Feeding.{feed-goes, feed-condition-goes}

@@ -5,14 +5,14 @@ use mathlib.Core.Path.{_≡_, refl, sym, ap, _∙_}
 use mathlib.Core.List.{List}
 use mathlib.Core.Option.{some, none}
 use lib.Dec.{eqb}
-use Rattle.packed.specs.Trees.{ExpressionNode, ConditionNode, Node, nodeAt}
-use Rattle.packed.proofs.Accepted.{Accepted}
+use Rattle.plan_packed.specs.Trees.{ExpressionNode, ConditionNode, Node, nodeAt}
+use Rattle.plan_packed.proofs.Accepted.{Accepted}
 use Rattle.rules.specs.Context.{falseWhen}
 use Rattle.machine.specs.Landing.{valueIn, boolIn, boolOf, isTrue}
 use Rattle.machine.specs.Landing as machine
-use Rattle.term_words.specs.Slots.{slotOf}
-use Rattle.packed.specs.Operands.{tagOf, firstOf, slotBits}
-use Rattle.term_words.specs.Words.{wordAt, valueBy, valueOf, truthBy, truthOf}
+use Rattle.run_term_words.specs.Slots.{slotOf}
+use Rattle.plan_packed.specs.Operands.{tagOf, firstOf, slotBits}
+use Rattle.run_term_words.specs.Words.{wordAt, valueBy, valueOf, truthBy, truthOf}
 use Rattle.refinement.proofs.Meant.{Loaded, closed, IsExpression, IsCondition}
 use Rattle.refinement.proofs.SlotLaws.{slot-below}
 use Rattle.refinement.proofs.Words.{Expression, Condition, expression-at, condition-at}

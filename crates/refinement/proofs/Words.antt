@@ -7,20 +7,20 @@ use mathlib.Core.Bool.{false}
 use mathlib.Core.List.{List}
 use mathlib.Core.Logic.{_⊎_, inl, inr}
 use lib.Dec.{eqb}
-use Rattle.packed.specs.Syntax.{Signal}
-use Rattle.packed.specs.Format.{procedures, terms, maskBit, fieldsFrom, expression, condition, list, width, table, layout, tagAt, termAt}
-use Rattle.packed.specs.Trees.{ExpressionNode, ConditionNode, ArgumentsNode, Node, binderOf, nodes, nodeAt}
-use Rattle.packed.specs.Steps as packed
-use Rattle.packed.proofs.WellFormed.{count}
-use Rattle.packed.proofs.Accepted.{OfSort, Child, Fits, RightTerm, Accepted}
-use Rattle.packed.proofs.Reading.{tag-in, first-was, second-was, third-was}
-use Rattle.packed.proofs.Children.{nodeOfTag}
-use Rattle.packed.proofs.Decoded.{node-is}
-use Rattle.packed.proofs.TreeLaws.{treeᵃ}
+use Rattle.plan_packed.specs.Syntax.{Signal}
+use Rattle.plan_packed.specs.Format.{procedures, terms, maskBit, fieldsFrom, expression, condition, list, width, table, layout, tagAt, termAt}
+use Rattle.plan_packed.specs.Trees.{ExpressionNode, ConditionNode, ArgumentsNode, Node, binderOf, nodes, nodeAt}
+use Rattle.plan_packed.specs.Steps as packed
+use Rattle.plan_packed.proofs.WellFormed.{count}
+use Rattle.plan_packed.proofs.Accepted.{OfSort, Child, Fits, RightTerm, Accepted}
+use Rattle.plan_packed.proofs.Reading.{tag-in, first-was, second-was, third-was}
+use Rattle.plan_packed.proofs.Children.{nodeOfTag}
+use Rattle.plan_packed.proofs.Decoded.{node-is}
+use Rattle.plan_packed.proofs.TreeLaws.{treeᵃ}
 use Rattle.machine.proofs.CallLists.{call-fits}
-use Rattle.packed.specs.Operands.{tagOf, operandIn, firstOf, secondOf, thirdOf, slotBits, fieldBits, writeSecond, letFirst, letSecond, procedureBits}
-use Rattle.packed.specs.Operands.{listBits, maskBits}
-use Rattle.term_words.specs.Words.{wordAt}
+use Rattle.plan_packed.specs.Operands.{tagOf, operandIn, firstOf, secondOf, thirdOf, slotBits, fieldBits, writeSecond, letFirst, letSecond, procedureBits}
+use Rattle.plan_packed.specs.Operands.{listBits, maskBits}
+use Rattle.run_term_words.specs.Words.{wordAt}
 use Rattle.refinement.proofs.Meant.{Loaded}
 
 -- ---- what a term is, by its word

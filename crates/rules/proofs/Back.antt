@@ -5,7 +5,7 @@ use mathlib.Core.Bool.{Bool, true, false}
 use mathlib.Core.List.{List, [], _∷_, _++_}
 use mathlib.Core.Option.{some}
 use lib.Dec.{T}
-use Rattle.packed.specs.Syntax.{Expression, Condition, Arguments, literal, end, argument, bool}
+use Rattle.plan_packed.specs.Syntax.{Expression, Condition, Arguments, literal, end, argument, bool}
 use Rattle.rules.specs.Context.{Context, Contextᶜ, read, write₁, write₂, call, letIn, synch, hold, join, signal, equal₁, equal₂, literals, plug, plugᶜ}
 use Rattle.rules.specs.Context.{Focus, value, here, hereᶜ, focus, focusᶜ, focusᵃ, asLiteral, asBool, isTruth, falseWhen, redexExpression}
 use Rattle.rules.specs.Context.{redexCondition, onLiteral, onBool, onNot}

@@ -8,19 +8,19 @@ use mathlib.Core.Logic.{_⊎_, inl, inr}
 use mathlib.Core.Option.{Option, some, none}
 use lib.ListN.{length, getElem?}
 use lib.Dec.{T, eqb}
-use Rattle.keys.specs.Keys.{Keys, empty, singleton, union, holds, isEmpty}
-use Rattle.keys.proofs.KeyLaws.{holds-union, union-empty, holds-singleton, singleton-injective, some-key, no-key}
-use Rattle.packed.specs.Syntax.{Expression, Program}
+use Rattle.run_keys.specs.Keys.{Keys, empty, singleton, union, holds, isEmpty}
+use Rattle.run_keys.proofs.KeyLaws.{holds-union, union-empty, holds-singleton, singleton-injective, some-key, no-key}
+use Rattle.plan_packed.specs.Syntax.{Expression, Program}
 use Rattle.rules.specs.Context.{plug, plugᶜ}
 use Rattle.rules.specs.State.{Cell, cell, Thread, State, fresh, freshObject, lookup, monitor, store, storeMonitor, addObject, gain, become, addThread}
 use Rattle.rules.specs.State.{forked, useKey, enqueue, signalled, threadOf, Numbered}
-use Rattle.records.specs.Record.{Kind, Record, entry}
+use Rattle.log_records.specs.Record.{Kind, Record, entry}
 use Rattle.format.specs.Version.{Version, v0, v1}
-use Rattle.order.proofs.Ports.{ofThread}
-use Rattle.order.proofs.KeySets.{KeySet, union as unionSet, learn as learnKey}
-use Rattle.order.proofs.KeyMachine.{KeyState, act, after, Legal, monitorTaken, plainKeyed}
-use Rattle.order.proofs.Known.{known-zero}
-use Rattle.order.proofs.Invariant.{invariant}
+use Rattle.log_order.proofs.Ports.{ofThread}
+use Rattle.log_order.proofs.KeySets.{KeySet, union as unionSet, learn as learnKey}
+use Rattle.log_order.proofs.KeyMachine.{KeyState, act, after, Legal, monitorTaken, plainKeyed}
+use Rattle.log_order.proofs.Known.{known-zero}
+use Rattle.log_order.proofs.Invariant.{invariant}
 use Rattle.rules.specs.Rules.{Rule, isVolatile, passedOn, Converts, E-CALL, E-LET, E-IF, E-WHILE, E-NEW, E-READ, E-WRITE, E-READV, E-WRITEV, E-FORK}
 use Rattle.rules.specs.Rules.{E-JOIN, E-RE-ENTER, E-ACQUIRE, E-RELEASE, E-WAIT, E-WAKE, E-NOTIFY, E-NOTIFYALL, Moves, EVAL, EVALᶜ}
 use Rattle.rules.specs.Run.{logged}

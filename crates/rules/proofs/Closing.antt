@@ -7,10 +7,10 @@ use mathlib.Core.List.{List, [], _∷_}
 use mathlib.Core.Option.{Option, some, none}
 use lib.Dec.{T, ltb, eqb, ltb→lt}
 use lib.ListN.{getElem?, length}
-use Rattle.packed.specs.Syntax.{Expression, Condition, Arguments, Environment, bind, bindParameters, without, valueOr, substitute, substituteᶜ, substituteᵃ}
-use Rattle.packed.specs.Syntax.{Program}
-use Rattle.packed.specs.Slots.{bound}
-use Rattle.packed.proofs.WellFormed.{WellFormed, WellFormedᶜ, WellFormedᵃ, count, unbound}
+use Rattle.plan_packed.specs.Syntax.{Expression, Condition, Arguments, Environment, bind, bindParameters, without, valueOr, substitute, substituteᶜ, substituteᵃ}
+use Rattle.plan_packed.specs.Syntax.{Program}
+use Rattle.plan_packed.specs.Slots.{bound}
+use Rattle.plan_packed.proofs.WellFormed.{WellFormed, WellFormedᶜ, WellFormedᵃ, count, unbound}
 
 module _ (g : Program) (n m : ℕ) (le : n ≤ m) where
   mutual

@@ -4,7 +4,7 @@ use mathlib.Core.Path.{_≡_, refl, sym, ap, _∙_, subst as along}
 use mathlib.Core.Bool.{Bool, true, false}
 use mathlib.Core.List.{List, [], _∷_, _++_}
 use mathlib.Core.Option.{Option, some, none, Option·some-ne-none}
-use Rattle.packed.specs.Syntax.{Expression, Condition, Arguments, literal, end, argument, bool}
+use Rattle.plan_packed.specs.Syntax.{Expression, Condition, Arguments, literal, end, argument, bool}
 use Rattle.rules.specs.Context.{Context, Contextᶜ, top, read, write₁, write₂, call, letIn, synch, hold, join, signal, equal₁, equal₂, plug, plugᶜ}
 use Rattle.rules.specs.Context.{Focus, value, here, hereᶜ, focus, focusᶜ, focusᵃ, asLiteral, asBool, redexExpression, redexCondition, onLiteral, onBool}
 use Rattle.rules.specs.Context.{onNot}

@@ -3,7 +3,7 @@ use Prim.Native.Nat.{ℕ}
 use mathlib.Core.Path.{_≡_, refl}
 use mathlib.Core.List.{List, [], _∷_, map}
 use mathlib.Core.Option.{none}
-use Rattle.packed.specs.Syntax.{Expression, Condition, Signal, literal, end, argument}
+use Rattle.plan_packed.specs.Syntax.{Expression, Condition, Signal, literal, end, argument}
 use Rattle.rules.specs.Context.{expressionDepth}
 use Rattle.rules.specs.State.{expressions}
 

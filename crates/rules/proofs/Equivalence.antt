@@ -8,12 +8,12 @@ use mathlib.Core.Option.{Option, some, none, Option·some-ne-none}
 use lib.Dec.{eqb}
 use lib.ListN.{length, getElem?}
 use borrow.Author.Tests.{eq-eqb, ne-eqb, eqb-true, eqb-false}
-use Rattle.keys.specs.Keys.{Keys, empty, singleton, holds, subset, isEmpty}
-use Rattle.packed.specs.Syntax.{Signal, Expression, Condition, literal, end, Program, Procedure}
+use Rattle.run_keys.specs.Keys.{Keys, empty, singleton, holds, subset, isEmpty}
+use Rattle.plan_packed.specs.Syntax.{Signal, Expression, Condition, literal, end, Program, Procedure}
 use Rattle.rules.specs.Context.{Context, top, plug, plugᶜ, literals, asLiteral, Redex, Redexᶜ, redexExpression, redexCondition, Focus, value, here}
 use Rattle.rules.specs.Context.{hereᶜ, focus}
 use Rattle.rules.specs.State.{Cell, cell, Thread, State, lookup, monitor, become, threadOf, Numbered}
-use Rattle.records.specs.Record.{Record}
+use Rattle.log_records.specs.Record.{Record}
 use Rattle.rules.specs.Rules.{Rule, isVolatile, LacksHere, LACKS-READ, LACKS-WRITE, Lacks, LACKS, Converts, E-CALL, E-LET, E-IF, E-WHILE, E-NEW, E-READ}
 use Rattle.rules.specs.Rules.{E-WRITE, E-READV, E-WRITEV, E-FORK, E-JOIN, E-RE-ENTER, E-ACQUIRE, E-RELEASE, E-WAIT, E-WAKE, E-NOTIFY, E-NOTIFYALL}
 use Rattle.rules.specs.Rules.{Convertsᶜ, E-NOTNOTTRUE, E-ANDTRUE, E-ANDFALSE, E-EQUALTRUE, E-EQUALFALSE, Moves, EVAL, EVALᶜ}
@@ -22,7 +22,7 @@ use Rattle.rules.specs.Step.{Move, AttemptOf, Attempt, moves, attempt, a
 use Rattle.rules.specs.Step.{synchAct, holdAct, signalMove, signalAct, wakeAct}
 use Rattle.rules.specs.Room.{Blocked, MONITOR-HELD, UNFINISHED, NO-FIELD-TO-READ, NO-FIELD-TO-WRITE, NO-THREAD, NOT-NOTIFIED, NOT-FREE, NOT-HELD}
 use Rattle.rules.specs.Room.{PassedOver, ABSENT, FINISHED, BLOCKED, AnswerOf, answer, withinRoom, noRoomFor, step}
-use Rattle.keys.proofs.KeyLaws.{subset-singleton}
+use Rattle.run_keys.proofs.KeyLaws.{subset-singleton}
 use Rattle.rules.proofs.OneKey.{OneKey, its-cell}
 use Rattle.rules.proofs.RoomLaws.{answer-moved}
 use Rattle.rules.proofs.Decompose.{whole, whole-focus}

@@ -5,12 +5,12 @@ use mathlib.Core.Path.{_≡_, refl, ap, subst as along}
 use mathlib.Core.List.{List, [], _∷_}
 use mathlib.Core.Option.{Option, some, none}
 use lib.ListN.{length, getElem?}
-use Rattle.packed.specs.Syntax.{Expression, Program}
-use Rattle.packed.specs.Trees.{programOf}
-use Rattle.packed.specs.Check.{refusal}
-use Rattle.packed.proofs.WellFormed.{WellFormedProgram}
-use Rattle.packed.proofs.Decoded.{well-formed}
-use Rattle.records.specs.Record.{Record}
+use Rattle.plan_packed.specs.Syntax.{Expression, Program}
+use Rattle.plan_packed.specs.Trees.{programOf}
+use Rattle.plan_packed.specs.Check.{refusal}
+use Rattle.plan_packed.proofs.WellFormed.{WellFormedProgram}
+use Rattle.plan_packed.proofs.Decoded.{well-formed}
+use Rattle.log_records.specs.Record.{Record}
 use Rattle.rules.specs.State.{Thread, State, start}
 use Rattle.rules.specs.Rules.{Rule, Moves}
 use Rattle.rules.specs.Step.{noRule, Move, AttemptOf, Attempt, attempt}

@@ -4,7 +4,7 @@ use mathlib.Core.Path.{_≡_, refl, ap, _∙_}
 use mathlib.Core.Bool.{true, false}
 use mathlib.Core.List.{List, [], _∷_, _++_, append-nil, append-assoc}
 use mathlib.Core.Option.{none, Option·some-ne-none}
-use Rattle.packed.specs.Syntax.{Expression, Condition, Arguments, literal, end, argument}
+use Rattle.plan_packed.specs.Syntax.{Expression, Condition, Arguments, literal, end, argument}
 use Rattle.rules.specs.Context.{Context, Contextᶜ, top, read, write₁, write₂, call, letIn, synch, hold, join, signal, equal₁, equal₂, literals, plug}
 use Rattle.rules.specs.Context.{plugᶜ, Redex, Redexᶜ, here, hereᶜ, focus, focusᶜ, focusᵃ, asLiteral, asBool, redexExpression, redexCondition}
 

@@ -10,10 +10,10 @@ use mathlib.Core.Option.{Option, some, none}
 use lib.Dec.{eqb}
 use lib.ListN.{length, getElem?}
 use borrow.Author.Tests.{eq-eqb, ne-eqb}
-use Rattle.keys.specs.Keys.{Keys, singleton, holds, union, size, countNew}
-use Rattle.keys.proofs.CountLaws.{size-le, size-union, new-again}
-use Rattle.packed.specs.Syntax.{Expression, Condition, Arguments, Program}
-use Rattle.records.specs.Record.{Record}
+use Rattle.run_keys.specs.Keys.{Keys, singleton, holds, union, size, countNew}
+use Rattle.run_keys.proofs.CountLaws.{size-le, size-union, new-again}
+use Rattle.plan_packed.specs.Syntax.{Expression, Condition, Arguments, Program}
+use Rattle.log_records.specs.Record.{Record}
 use Rattle.rules.specs.Queue.{awake}
 use Rattle.rules.specs.State.{cell, Thread, State, start, changeAt, gain, hear, learn, become, addObject, addThread, store, storeMonitor, useKey}
 use Rattle.rules.specs.State.{enqueue, signalled}

@@ -8,10 +8,10 @@ use mathlib.Core.List.{List, [], _∷_, _++_}
 use mathlib.Core.Logic.{_⊎_, inl, inr}
 use mathlib.Core.Option.{Option, some, none}
 use lib.ListN.{length, getElem?}
-use Rattle.keys.specs.Keys.{Keys, singleton, isEmpty}
-use Rattle.packed.specs.Syntax.{Signal, Expression, Condition, Arguments, Program, literal, argument, bool}
-use Rattle.packed.proofs.WellFormed.{WellFormedProgram}
-use Rattle.records.specs.Record.{Record}
+use Rattle.run_keys.specs.Keys.{Keys, singleton, isEmpty}
+use Rattle.plan_packed.specs.Syntax.{Signal, Expression, Condition, Arguments, Program, literal, argument, bool}
+use Rattle.plan_packed.proofs.WellFormed.{WellFormedProgram}
+use Rattle.log_records.specs.Record.{Record}
 use Rattle.rules.specs.Context.{Context, Contextᶜ, top, read, write₁, write₂, call, letIn, synch, hold, join, signal, equal₁, equal₂, plug, plugᶜ}
 use Rattle.rules.specs.Context.{Redex, Redexᶜ, Focus, value, here, hereᶜ, focus, literals, redexExpression, redexCondition}
 use Rattle.rules.specs.Queue.{awake}

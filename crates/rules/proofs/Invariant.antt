@@ -8,8 +8,8 @@ use mathlib.Core.List.{List, [], _∷_}
 use mathlib.Core.Logic.{_⊎_, inl, inr}
 use mathlib.Core.Option.{some, none}
 use lib.ListN.{length, getElem?}
-use Rattle.keys.specs.Keys.{Keys, empty}
-use Rattle.packed.specs.Syntax.{Expression, Program}
+use Rattle.run_keys.specs.Keys.{Keys, empty}
+use Rattle.plan_packed.specs.Syntax.{Expression, Program}
 use Rattle.rules.specs.Context.{focus, top}
 use Rattle.rules.specs.State.{Cell, Thread, State, fresh, freshObject, lookup, monitor, store, storeMonitor, addObject, changeAt, gain, become}
 use Rattle.rules.specs.State.{addThread, useKey, inPlace}

@@ -9,17 +9,17 @@ use mathlib.Core.Logic.{_⊎_, inl, inr}
 use mathlib.Core.Option.{Option, some, none}
 use lib.ListN.{length, getElem?}
 use lib.Dec.{T}
-use Rattle.keys.specs.Keys.{Keys, empty, singleton, union, holds, isEmpty}
-use Rattle.packed.specs.Syntax.{Expression, Program}
+use Rattle.run_keys.specs.Keys.{Keys, empty, singleton, union, holds, isEmpty}
+use Rattle.plan_packed.specs.Syntax.{Expression, Program}
 use Rattle.rules.specs.State.{Cell, Thread, State, fresh, freshObject, lookup, monitor, store, storeMonitor, addObject, changeAt, gain, become}
 use Rattle.rules.specs.State.{addThread, useKey}
-use Rattle.order.proofs.KeySets.{KeySet, noKeys, put, put-same, put-other, put₂, put₂-same, put₂-other}
-use Rattle.order.proofs.KeyMachine.{KeyState, monitorTaken, threadKnows, plainKeyed, volatileKnows, monitorFreed, threadForked}
+use Rattle.log_order.proofs.KeySets.{KeySet, noKeys, put, put-same, put-other, put₂, put₂-same, put₂-other}
+use Rattle.log_order.proofs.KeyMachine.{KeyState, monitorTaken, threadKnows, plainKeyed, volatileKnows, monitorFreed, threadForked}
 use Rattle.rules.specs.Rules.{isVolatile}
 use Rattle.rules.proofs.Relocated.{Relocated, withThreads, relocated-length, was-there}
 use Rattle.rules.proofs.StateLaws.{added, length-added, change-length, store-same, store-other, store-monitor, lock-same, lock-other, lock-lookup}
 use Rattle.rules.proofs.StateLaws.{new-lookup, new-monitors, who, whose}
-use Rattle.keys.proofs.KeyLaws.{holds-empty, empty-union}
+use Rattle.run_keys.proofs.KeyLaws.{holds-empty, empty-union}
 
 -- the keys of a place: a place that is not there is as good as fresh
 abbrev pub keysOf : Option Cell → Keys

@@ -2,7 +2,7 @@
 -- `agreement`. Assumes nothing.
 use mathlib.Core.Path.{_≡_, refl}
 use mathlib.Core.List.{map}
-use Rattle.keys.specs.Keys.{holds, countNew}
+use Rattle.run_keys.specs.Keys.{holds, countNew}
 use Rattle.rules.specs.ShotList.{Shot, shots}
 use Rattle.rules.specs.Observed.{observed}
 

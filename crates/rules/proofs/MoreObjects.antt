@@ -2,11 +2,11 @@
 use Prim.Native.Nat.{ℕ, _≤_}
 use native.Mathlib.Omega.{arith}
 use mathlib.Core.List.{List, [], _∷_}
-use Rattle.packed.specs.Syntax.{Program}
-use Rattle.packed.specs.Slots.{bound}
+use Rattle.plan_packed.specs.Syntax.{Program}
+use Rattle.plan_packed.specs.Slots.{bound}
 use Rattle.rules.specs.Context.{Context, Contextᶜ, top, read, write₁, write₂, call, letIn, synch, hold, join, signal, equal₁, equal₂, Redex, Redexᶜ}
 use Rattle.rules.specs.Context.{Focus, value, here, hereᶜ}
-use Rattle.packed.proofs.WellFormed.{unbound}
+use Rattle.plan_packed.proofs.WellFormed.{unbound}
 use Rattle.rules.proofs.Closing.{more, moreᶜ, moreᵃ, Below}
 use Rattle.rules.proofs.Placed.{Around, Aroundᶜ, Ready, Readyᶜ, Good}
 

@@ -10,10 +10,10 @@ use mathlib.Core.Option.{Option, some, none}
 use lib.Dec.{T, eqb→eq}
 use lib.ListN.{length, getElem?}
 use Rattle.format.specs.Version.{Version, v0, v1}
-use Rattle.keys.specs.Keys.{Keys, empty, singleton, holds, union, isEmpty}
-use Rattle.keys.proofs.KeyLaws.{holds-empty, holds-singleton, holds-union, no-key}
-use Rattle.packed.specs.Syntax.{Expression, Condition, Arguments, Program}
-use Rattle.records.specs.Record.{Kind, Record, entry}
+use Rattle.run_keys.specs.Keys.{Keys, empty, singleton, holds, union, isEmpty}
+use Rattle.run_keys.proofs.KeyLaws.{holds-empty, holds-singleton, holds-union, no-key}
+use Rattle.plan_packed.specs.Syntax.{Expression, Condition, Arguments, Program}
+use Rattle.log_records.specs.Record.{Kind, Record, entry}
 use Rattle.rules.specs.Queue.{awake}
 use Rattle.rules.specs.State.{Cell, cell, Thread, State, fresh, freshObject, lookup, monitor, store, storeMonitor, addObject, gain, become, addThread}
 use Rattle.rules.specs.State.{forked, useKey, enqueue, signalled, start, changeAt}

@@ -1,7 +1,7 @@
 -- The cases of wait and notify, by computation: one theorem over all rows. Assumes nothing.
 use mathlib.Core.Path.{_≡_, refl}
 use mathlib.Core.List.{map}
-use Rattle.keys.specs.Keys.{holds, countNew}
+use Rattle.run_keys.specs.Keys.{holds, countNew}
 use Rattle.rules.specs.ShotList.{Shot}
 use Rattle.rules.specs.WaitShots.{waitShots}
 use Rattle.rules.specs.Observed.{observed}

@@ -7,9 +7,9 @@ use mathlib.Core.List.{List, []}
 use mathlib.Core.Logic.{_⊎_, inl, inr}
 use mathlib.Core.Option.{Option, some, none}
 use lib.ListN.{length}
-use Rattle.keys.specs.Keys.{singleton, union}
-use Rattle.packed.specs.Syntax.{Expression, Program}
-use Rattle.records.specs.Record.{Record}
+use Rattle.run_keys.specs.Keys.{singleton, union}
+use Rattle.plan_packed.specs.Syntax.{Expression, Program}
+use Rattle.log_records.specs.Record.{Record}
 use Rattle.rules.specs.State.{Cell, cell, Thread, State, fresh, freshObject, lookup, store, storeMonitor, addObject, gain, become, addThread, useKey}
 use Rattle.rules.specs.State.{enqueue, signalled, start}
 use Rattle.rules.specs.Rules.{Rule, isVolatile, passedOn, Converts, E-CALL, E-LET, E-IF, E-WHILE, E-NEW, E-READ, E-WRITE, E-READV, E-WRITEV, E-FORK}

@@ -7,12 +7,12 @@ use mathlib.Core.Bool.{Bool, true, false, true≢false}
 use mathlib.Core.List.{List, [], _∷_, _++_}
 use mathlib.Core.Option.{Option, some, none}
 use lib.ListN.{length, length-append}
-use Rattle.packed.specs.Syntax.{Expression, Condition, Arguments, literal, end, argument, Program, bool}
-use Rattle.packed.specs.Slots.{bound}
+use Rattle.plan_packed.specs.Syntax.{Expression, Condition, Arguments, literal, end, argument, Program, bool}
+use Rattle.plan_packed.specs.Slots.{bound}
 use Rattle.rules.specs.Context.{Context, Contextᶜ, top, read, write₁, write₂, call, letIn, synch, hold, join, signal, equal₁, equal₂, literals, plug}
 use Rattle.rules.specs.Context.{plugᶜ, Redex, Redexᶜ, Focus, value, here, hereᶜ, focus, focusᶜ, focusᵃ, asLiteral, asBool, redexExpression, onLiteral}
 use Rattle.rules.specs.Context.{onBool, onNot}
-use Rattle.packed.proofs.WellFormed.{WellFormed, WellFormedᶜ, WellFormedᵃ, count, Callable, unbound}
+use Rattle.plan_packed.proofs.WellFormed.{WellFormed, WellFormedᶜ, WellFormedᵃ, count, Callable, unbound}
 use Rattle.rules.proofs.Closing.{Below}
 use Rattle.rules.proofs.FocusPlug.{focus-plug, focus-plugᶜ, found}
 use Rattle.rules.proofs.Back.{as-literal, as-bool}

@@ -9,17 +9,17 @@ use mathlib.Core.Logic.{inl, inr}
 use mathlib.Core.Option.{Option, some}
 use lib.ListN.{length, getElem?}
 use lib.Dec.{eqb}
-use Rattle.keys.specs.Keys.{Keys, empty, singleton, union, isEmpty}
-use Rattle.packed.specs.Syntax.{Signal, Expression, Condition, Arguments, literal, bind, bindParameters, substitute, Program, Procedure, bool, sequence}
-use Rattle.packed.specs.Slots.{bound}
+use Rattle.run_keys.specs.Keys.{Keys, empty, singleton, union, isEmpty}
+use Rattle.plan_packed.specs.Syntax.{Signal, Expression, Condition, Arguments, literal, bind, bindParameters, substitute, Program, Procedure, bool, sequence}
+use Rattle.plan_packed.specs.Slots.{bound}
 use Rattle.rules.specs.Context.{Context, Contextᶜ, Focus, focus, top, here, hold, plug, plugᶜ, Redex, Redexᶜ, redexExpression, redexCondition, literals}
 use Rattle.rules.specs.State.{Cell, cell, Thread, State, freshObject, lookup, monitor, store, storeMonitor, addObject, gain, become, addThread, forked}
 use Rattle.rules.specs.State.{useKey, enqueue, signalled, threadOf, Numbered}
-use Rattle.records.specs.Record.{Record}
+use Rattle.log_records.specs.Record.{Record}
 use Rattle.rules.specs.Rules.{Rule, Converts, E-CALL, E-LET, E-IF, E-WHILE, E-NEW, E-READ, E-WRITE, E-READV, E-WRITEV, E-FORK, E-JOIN, E-RE-ENTER}
 use Rattle.rules.specs.Rules.{E-ACQUIRE, E-RELEASE, E-WAIT, E-WAKE, E-NOTIFY, E-NOTIFYALL, Convertsᶜ, E-NOTNOTTRUE, E-ANDTRUE, E-ANDFALSE, E-EQUALTRUE}
 use Rattle.rules.specs.Rules.{E-EQUALFALSE, Moves, EVAL, EVALᶜ}
-use Rattle.packed.proofs.WellFormed.{WellFormedProgram, unbound}
+use Rattle.plan_packed.proofs.WellFormed.{WellFormedProgram, unbound}
 use Rattle.rules.proofs.Closing.{more, filled, covers-one, covers-params}
 use Rattle.rules.proofs.Placed.{Landed, Text, Textᶜ, Around, Ready, Readyᶜ, Good, held, holds, pending, pendingᶜ, GivesUp, GivenUp, rise, riseᶜ}
 use Rattle.rules.proofs.StateLaws.{inside, added-old, change-same, lock-same, lock-other, found-thread}

@@ -9,15 +9,15 @@ use mathlib.Core.Option.{Option, some, none}
 use lib.ListN.{length, getElem?}
 use lib.Dec.{eqb}
 use borrow.Author.Tests.{eq-eqb}
-use Rattle.keys.specs.Keys.{singleton, isEmpty, subset}
-use Rattle.packed.specs.Syntax.{Signal, Expression, Arguments, Program}
+use Rattle.run_keys.specs.Keys.{singleton, isEmpty, subset}
+use Rattle.plan_packed.specs.Syntax.{Signal, Expression, Arguments, Program}
 use Rattle.rules.specs.Context.{Context, Focus, focus, top, value, here, hereᶜ, asLiteral, Redex}
 use Rattle.rules.specs.Queue.{awake}
 use Rattle.rules.specs.State.{Cell, Thread, State, start, fresh, freshObject, lookup, monitor, threadOf, Numbered}
 use Rattle.rules.specs.Rules.{isVolatile}
 use Rattle.rules.specs.Step.{Stuck, notThread, missingField, notHeld, noRule, Act, waits, sticks, lacks, does, callAct, readAct, writeAct, joinAct}
 use Rattle.rules.specs.Step.{joinValue, synchAct, holdAct, signalMove, signalAct, wakeAct, act, AttemptOf, Attempt, around, attemptAt, attemptBy, attempt}
-use Rattle.packed.proofs.WellFormed.{WellFormedProgram, Callable}
+use Rattle.plan_packed.proofs.WellFormed.{WellFormedProgram, Callable}
 use Rattle.rules.proofs.Placed.{Good, Ready, holds, held, pending, GivesUp, GivenUp}
 use Rattle.rules.proofs.StateLaws.{monitor-there}
 use Rattle.rules.proofs.Invariant.{In, heldBy, Sound, Inv}

@@ -11,13 +11,13 @@ use mathlib.Core.Logic.{_↔_}
 use mathlib.Core.Option.{Option, some, none}
 use lib.Dec.{eqb}
 use lib.ListN.{length, getElem?}
-use Rattle.keys.specs.Keys.{isEmpty}
-use Rattle.packed.specs.Syntax.{Signal, Expression, Program, literal}
-use Rattle.packed.specs.Check.{refusal}
-use Rattle.packed.specs.Trees.{programOf}
-use Rattle.packed.proofs.WellFormed.{WellFormedProgram}
-use Rattle.packed.proofs.Decoded.{well-formed}
-use Rattle.records.specs.Record.{Record}
+use Rattle.run_keys.specs.Keys.{isEmpty}
+use Rattle.plan_packed.specs.Syntax.{Signal, Expression, Program, literal}
+use Rattle.plan_packed.specs.Check.{refusal}
+use Rattle.plan_packed.specs.Trees.{programOf}
+use Rattle.plan_packed.proofs.WellFormed.{WellFormedProgram}
+use Rattle.plan_packed.proofs.Decoded.{well-formed}
+use Rattle.log_records.specs.Record.{Record}
 use Rattle.rules.specs.Context.{Context, plug, focus, top, here, Redex, redexExpression}
 use Rattle.rules.specs.Queue.{Place, awake, queueLength, lastPlace, movedUp}
 use Rattle.rules.specs.State.{Cell, cell, Thread, State, start, monitor, changeAt, become, storeMonitor, enqueue, signalled, placesOf}

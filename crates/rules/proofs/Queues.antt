@@ -10,9 +10,9 @@ use mathlib.Core.Logic.{_⊎_, inl, inr}
 use mathlib.Core.Option.{Option, some, none}
 use lib.ListN.{length, getElem?}
 use borrow.Author.Tests.{eq-eqb, ne-eqb}
-use Rattle.keys.specs.Keys.{empty, singleton}
-use Rattle.packed.specs.Syntax.{Expression, Condition, Arguments, Program, literal}
-use Rattle.records.specs.Record.{Record}
+use Rattle.run_keys.specs.Keys.{empty, singleton}
+use Rattle.plan_packed.specs.Syntax.{Expression, Condition, Arguments, Program, literal}
+use Rattle.log_records.specs.Record.{Record}
 use Rattle.rules.specs.Context.{Context, plug, focus, top, Redex, redexExpression}
 use Rattle.rules.specs.Queue.{Place, awake, queueLength, lastPlace, movedUp}
 use Rattle.rules.specs.State.{Cell, cell, Thread, State, start, monitor, changeAt, gain, become, addObject, addThread, store, storeMonitor, useKey}

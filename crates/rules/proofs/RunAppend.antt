@@ -7,8 +7,8 @@ use mathlib.Core.Bool.{true≢false}
 use mathlib.Core.List.{List, [], _∷_, _++_}
 use mathlib.Core.Option.{Option, some, none}
 use lib.ListN.{length, length-append}
-use Rattle.packed.specs.Syntax.{Program}
-use Rattle.records.specs.Record.{Record}
+use Rattle.plan_packed.specs.Syntax.{Program}
+use Rattle.log_records.specs.Record.{Record}
 use Rattle.rules.specs.State.{State}
 use Rattle.rules.specs.Step.{Move}
 use Rattle.rules.specs.Room.{AnswerOf, Answer, step}

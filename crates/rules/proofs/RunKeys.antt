@@ -9,14 +9,14 @@ use mathlib.Core.Logic.{_⊎_, _↔_}
 use mathlib.Core.Option.{Option, some, none}
 use lib.Dec.{T, eqb, eqb·zero-suc}
 use lib.ListN.{getElem?}
-use Rattle.keys.specs.Keys.{singleton, holds, isEmpty}
-use Rattle.keys.proofs.KeyLaws.{holds-singleton}
-use Rattle.order.proofs.KeySets.{onlyZero}
-use Rattle.order.proofs.KeyMachine.{start as startKeys}
-use Rattle.order.proofs.EverySet.{WouldReach, every-set}
-use Rattle.packed.specs.Syntax.{Expression, Arguments, Program}
-use Rattle.packed.proofs.WellFormed.{WellFormedProgram}
-use Rattle.records.specs.Record.{Record}
+use Rattle.run_keys.specs.Keys.{singleton, holds, isEmpty}
+use Rattle.run_keys.proofs.KeyLaws.{holds-singleton}
+use Rattle.log_order.proofs.KeySets.{onlyZero}
+use Rattle.log_order.proofs.KeyMachine.{start as startKeys}
+use Rattle.log_order.proofs.EverySet.{WouldReach, every-set}
+use Rattle.plan_packed.specs.Syntax.{Expression, Arguments, Program}
+use Rattle.plan_packed.proofs.WellFormed.{WellFormedProgram}
+use Rattle.log_records.specs.Record.{Record}
 use Rattle.rules.specs.Queue.{awake}
 use Rattle.rules.specs.State.{Cell, Thread, State, start, fresh, freshObject, lookup, monitor}
 use Rattle.rules.specs.Rules.{LACKS-READ, LACKS-WRITE, Lacks, LACKS}

@@ -5,7 +5,7 @@ use mathlib.Core.Path.{_≡_, refl, ap, _∙_, subst as along}
 use mathlib.Core.Logic.{_↔_}
 use mathlib.Core.Option.{Option, some}
 use lib.ListN.{length, getElem?}
-use Rattle.packed.specs.Syntax.{Program}
+use Rattle.plan_packed.specs.Syntax.{Program}
 use Rattle.rules.specs.State.{State}
 use Rattle.rules.specs.Step.{AttemptOf, Attempt, attempt}
 use Rattle.rules.specs.Run.{Status, absent, finished, ready, waiting, stuck, lacking, status, statusesFrom}

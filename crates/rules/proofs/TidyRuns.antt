@@ -8,19 +8,19 @@ use mathlib.Core.Option.{Option, some, none}
 use lib.ListN.{length, getElem?}
 use lib.Dec.{eqb}
 use borrow.Author.Tests.{ne-eqb, le-ltb}
-use Rattle.keys.specs.Keys.{Keys, singleton, empty}
-use Rattle.packed.specs.Syntax.{Signal, Program, Expression}
+use Rattle.run_keys.specs.Keys.{Keys, singleton, empty}
+use Rattle.plan_packed.specs.Syntax.{Signal, Program, Expression}
 use Rattle.rules.specs.Context.{Context, focus, top, plug, redexExpression, Redex}
 use Rattle.rules.specs.State.{Cell, Thread, State, start, freshObject, store, storeMonitor, addObject, gain, become, addThread, forked, useKey, enqueue}
 use Rattle.rules.specs.State.{signalled}
-use Rattle.records.specs.Record.{Record}
+use Rattle.log_records.specs.Record.{Record}
 use Rattle.rules.specs.Rules.{Rule, passedOn, LacksHere, LACKS-READ, LACKS-WRITE, Lacks, LACKS, Converts, E-CALL, E-LET, E-IF, E-WHILE, E-NEW, E-READ}
 use Rattle.rules.specs.Rules.{E-WRITE, E-READV, E-WRITEV, E-FORK, E-JOIN, E-RE-ENTER, E-ACQUIRE, E-RELEASE, E-WAIT, E-WAKE, E-NOTIFY, E-NOTIFYALL}
 use Rattle.rules.specs.Rules.{Moves, EVAL, EVALᶜ}
 use Rattle.rules.specs.Room.{Room, noRoomBefore, noRoomAfter, noRoomFor}
 use Rattle.rules.specs.Run.{Run, logged, stopped, afterPass, afterMove, play}
-use Rattle.packed.proofs.WellFormed.{WellFormedProgram}
-use Rattle.records.proofs.Tidy.{Tidy, AllTidy}
+use Rattle.plan_packed.proofs.WellFormed.{WellFormedProgram}
+use Rattle.log_records.proofs.Tidy.{Tidy, AllTidy}
 use Rattle.rules.proofs.Placed.{Good}
 use Rattle.rules.proofs.Relocated.{Relocated, withThreads, relocated-length, enqueue-relocated, signalled-relocated}
 use Rattle.rules.proofs.StateLaws.{inside, length-added, change-length, found-thread}

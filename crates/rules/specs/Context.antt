@@ -4,7 +4,7 @@ use Prim.Native.Nat.{ℕ, suc}
 use mathlib.Core.Bool.{Bool, true, false}
 use mathlib.Core.List.{List, [], _∷_, _++_}
 use mathlib.Core.Option.{Option, some, none}
-use Rattle.packed.specs.Syntax.{Signal, Expression, Condition, Arguments, literal, end, argument, bool}
+use Rattle.plan_packed.specs.Syntax.{Signal, Expression, Condition, Arguments, literal, end, argument, bool}
 
 -- T[•], from the hole outwards: `read K f` is the context T[•.f] where K is T[•]. "Operands are evaluated left to right."; "The source's list of
 -- contexts leaves out the operand of `join`; it is evaluated first, as elsewhere."

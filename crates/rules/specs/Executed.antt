@@ -6,8 +6,8 @@ use mathlib.Core.List.{List, []}
 use mathlib.Core.Logic.{_↔_}
 use mathlib.Core.Option.{some}
 use lib.ListN.{length, getElem?}
-use Rattle.packed.specs.Syntax.{Program}
-use Rattle.records.specs.Record.{Record}
+use Rattle.plan_packed.specs.Syntax.{Program}
+use Rattle.log_records.specs.Record.{Record}
 use Rattle.rules.specs.State.{start}
 use Rattle.rules.specs.Run.{Run, Outcome, Status}
 use Rattle.rules.specs.Execution.{Execution, moveCount}

@@ -5,8 +5,8 @@ use Prim.Native.Nat.{ℕ, suc}
 use mathlib.Core.Path.{_≡_}
 use mathlib.Core.List.{List, [], _∷_}
 use mathlib.Core.Option.{Option, some, none}
-use Rattle.packed.specs.Syntax.{Program}
-use Rattle.records.specs.Record.{Record}
+use Rattle.plan_packed.specs.Syntax.{Program}
+use Rattle.log_records.specs.Record.{Record}
 use Rattle.rules.specs.State.{State}
 use Rattle.rules.specs.Rules.{Rule, Moves, Lacks}
 use Rattle.rules.specs.Step.{Attempt}

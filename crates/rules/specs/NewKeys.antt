@@ -6,9 +6,9 @@ use mathlib.Core.List.{List, [], _∷_}
 use mathlib.Core.Option.{Option, some}
 use lib.Dec.{T}
 use lib.ListN.{getElem?}
-use Rattle.keys.specs.Keys.{Keys, singleton, holds}
-use Rattle.packed.specs.Syntax.{Program}
-use Rattle.records.specs.Record.{Record}
+use Rattle.run_keys.specs.Keys.{Keys, singleton, holds}
+use Rattle.plan_packed.specs.Syntax.{Program}
+use Rattle.log_records.specs.Record.{Record}
 use Rattle.rules.specs.State.{Cell, cell, Thread, State, lookup, monitor}
 use Rattle.rules.specs.Rules.{e-write}
 use Rattle.rules.specs.Run.{Run}

@@ -7,9 +7,9 @@ use lib.Dec.{ltb}
 use lib.ListN.{length, getD}
 use Rattle.format.specs.Refusal.{Refusal, Check, check, checkWhole, firstRefusal}
 use Rattle.format.specs.Area.{overwrite}
-use Rattle.packed.specs.Trees.{programOf}
-use Rattle.packed.specs.Check.{checks}
-use Rattle.records.specs.Packed.{bytesOf}
+use Rattle.plan_packed.specs.Trees.{programOf}
+use Rattle.plan_packed.specs.Check.{checks}
+use Rattle.log_records.specs.Packed.{bytesOf}
 use Rattle.rules.specs.Run.{Run, play, Outcome, outcomeOf}
 
 -- ---- 8: "over 4,096 picks"

@@ -6,9 +6,9 @@ use mathlib.Core.List.{List, [], _∷_}
 use mathlib.Core.Option.{Option, some, none, orElse}
 use lib.Dec.{ltb, leb}
 use lib.ListN.{length, getElem?, drop}
-use Rattle.keys.specs.Keys.{Keys, empty, isEmpty}
-use Rattle.packed.specs.Syntax.{Signal, Expression, Program, literal}
-use Rattle.records.specs.Record.{Record}
+use Rattle.run_keys.specs.Keys.{Keys, empty, isEmpty}
+use Rattle.plan_packed.specs.Syntax.{Signal, Expression, Program, literal}
+use Rattle.log_records.specs.Record.{Record}
 use Rattle.rules.specs.Context.{Context, plug, expressionDepth}
 use Rattle.rules.specs.State.{Form, expressions, ThreadOf, StateOf, cell, Thread, State, Numbered, lookup, monitor, threadOf}
 use Rattle.rules.specs.Rules.{Rule, e-call, e-let, e-if, e-while, e-notnottrue, e-andtrue, e-andfalse, e-equaltrue, e-equalfalse, e-new, e-read}

@@ -7,10 +7,10 @@ use mathlib.Core.Option.{Option, some, none}
 use lib.Dec.{eqb}
 use lib.ListN.{length, getElem?}
 use Rattle.format.specs.Version.{Version, v0, v1}
-use Rattle.keys.specs.Keys.{Keys, empty, singleton, holds, union, isEmpty}
-use Rattle.packed.specs.Syntax.{Signal, Expression, Condition, Procedure, Program, literal, end, sequence, bool, bind, bindParameters, substitute}
-use Rattle.packed.specs.Format.{maskBit}
-use Rattle.records.specs.Record.{Kind, Record, entry}
+use Rattle.run_keys.specs.Keys.{Keys, empty, singleton, holds, union, isEmpty}
+use Rattle.plan_packed.specs.Syntax.{Signal, Expression, Condition, Procedure, Program, literal, end, sequence, bool, bind, bindParameters, substitute}
+use Rattle.plan_packed.specs.Format.{maskBit}
+use Rattle.log_records.specs.Record.{Kind, Record, entry}
 use Rattle.rules.specs.Context.{Context, Contextᶜ, plug, plugᶜ, literals}
 use Rattle.rules.specs.State.{cell, Thread, State, Numbered, freshObject, lookup, monitor, store, storeMonitor, addObject, learn, hear, become}
 use Rattle.rules.specs.State.{addThread, forked, useKey, enqueue, signalled, threadOf}

@@ -3,8 +3,8 @@ use Prim.Native.Nat.{ℕ, zero, suc}
 use mathlib.Core.List.{List, [], _∷_}
 use mathlib.Core.Option.{Option, some, none}
 use lib.ListN.{length, getElem?}
-use Rattle.packed.specs.Syntax.{Program}
-use Rattle.records.specs.Record.{Record}
+use Rattle.plan_packed.specs.Syntax.{Program}
+use Rattle.log_records.specs.Record.{Record}
 use Rattle.rules.specs.State.{Form, expressions, ThreadOf, StateOf, State, start}
 use Rattle.rules.specs.Rules.{Rule}
 use Rattle.rules.specs.Step.{Wait, Stuck, MoveOf, AttemptOf, attempt}

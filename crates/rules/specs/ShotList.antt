@@ -2,7 +2,7 @@
 use Prim.Native.Nat.{ℕ}
 use mathlib.Core.List.{List, [], _∷_}
 use lib.ListN.{take, replicate}
-use Rattle.records.specs.Record.{new, read, write, acquire, release, fork, join, lacksRead, Record, entry}
+use Rattle.log_records.specs.Record.{new, read, write, acquire, release, fork, join, lacksRead, Record, entry}
 use Rattle.rules.specs.Step.{forJoin}
 use Rattle.rules.specs.Run.{Stop, end, race, Status, absent, finished, ready, waiting, lacking, Outcome}
 

@@ -5,8 +5,8 @@ use mathlib.Core.List.{List, [], _∷_, _++_, map}
 use mathlib.Core.Option.{Option, some, none}
 use lib.Dec.{eqb}
 use lib.ListN.{length, getElem?}
-use Rattle.keys.specs.Keys.{Keys, singleton, union, countNew}
-use Rattle.packed.specs.Syntax.{Expression, Arguments}
+use Rattle.run_keys.specs.Keys.{Keys, singleton, union, countNew}
+use Rattle.plan_packed.specs.Syntax.{Expression, Arguments}
 use Rattle.rules.specs.Context.{expressionDepth}
 use Rattle.rules.specs.Queue.{Place, awake, lastPlace, movedUp}
 

@@ -5,9 +5,9 @@ use mathlib.Core.List.{List, []}
 use mathlib.Core.Option.{Option, some, none}
 use lib.Dec.{eqb}
 use lib.ListN.{length, getElem?}
-use Rattle.keys.specs.Keys.{empty, singleton, union, subset, isEmpty}
-use Rattle.packed.specs.Syntax.{Signal, Expression, Condition, Procedure, Program, literal, sequence, bool, bind, bindParameters, substitute}
-use Rattle.records.specs.Record.{Kind, Record, entry}
+use Rattle.run_keys.specs.Keys.{empty, singleton, union, subset, isEmpty}
+use Rattle.plan_packed.specs.Syntax.{Signal, Expression, Condition, Procedure, Program, literal, sequence, bool, bind, bindParameters, substitute}
+use Rattle.log_records.specs.Record.{Kind, Record, entry}
 use Rattle.rules.specs.Context.{Context, top, plug, plugᶜ, Redex, Redexᶜ, Focus, value, here, hereᶜ, focus, asLiteral}
 use Rattle.rules.specs.State.{Form, expressions, StateOf, Cell, cell, Thread, State, Numbered, freshObject, lookup, monitor, store, storeMonitor}
 use Rattle.rules.specs.State.{addObject, gain, learn, hear, become, addThread, forked, useKey, enqueue, signalled, threadOf}

@@ -2,8 +2,8 @@
 use Prim.Native.Nat.{ℕ}
 use mathlib.Core.Path.{_≡_}
 use mathlib.Core.Option.{Option}
-use Rattle.packed.specs.Syntax.{Program}
-use Rattle.records.specs.Record.{Record}
+use Rattle.plan_packed.specs.Syntax.{Program}
+use Rattle.log_records.specs.Record.{Record}
 use Rattle.rules.specs.State.{State}
 use Rattle.rules.specs.Rules.{Rule, Moves, Lacks}
 use Rattle.rules.specs.Step.{AttemptOf}

@@ -7,8 +7,8 @@ use mathlib.Core.Logic.{_↔_}
 use mathlib.Core.Option.{Option, some, none}
 use lib.Dec.{eqb}
 use lib.ListN.{getElem?}
-use Rattle.packed.specs.Syntax.{Signal, Expression, Program, literal}
-use Rattle.records.specs.Record.{Record}
+use Rattle.plan_packed.specs.Syntax.{Signal, Expression, Program, literal}
+use Rattle.log_records.specs.Record.{Record}
 use Rattle.rules.specs.Context.{Context, plug}
 use Rattle.rules.specs.Queue.{Place, queueLength}
 use Rattle.rules.specs.State.{Thread, State, placesOf, start}

@@ -5,13 +5,13 @@ use mathlib.Core.Path.{subst}
 use mathlib.Core.List.{List}
 use mathlib.Core.Option.{some, none}
 use Rattle.format.specs.Version.{Version}
-use Rattle.conflicts.specs.Judge.{Judged, refused, named, names-first, Answers, refuses, judges, AnswersTold, wrong-version, right-version}
-use Rattle.records.specs.Packed.{logOf}
-use Rattle.records.proofs.Accepted.{accepted}
-use Rattle.records.proofs.RoundTrip.{count-log}
+use Rattle.log_conflicts.specs.Judge.{Judged, refused, named, names-first, Answers, refuses, judges, AnswersTold, wrong-version, right-version}
+use Rattle.log_records.specs.Packed.{logOf}
+use Rattle.log_records.proofs.Accepted.{accepted}
+use Rattle.log_records.proofs.RoundTrip.{count-log}
 use Rattle.rules.proofs.StateLaws.{inside}
-use Rattle.refusals.specs.Small.{SmallCheck}
-use Rattle.numbers.specs.Small.{SmallJudged}
+use Rattle.plan_refusals.specs.Small.{SmallCheck}
+use Rattle.abi_numbers.specs.Small.{SmallJudged}
 use Rattle.ruqzhemil.proofs.Refusals.{small-log}
 
 small-index : {v : Version} (b : List ℕ) (j : ℕ) → Answers v b (named (some j)) → j ≤ 4096

@@ -5,16 +5,16 @@ use mathlib.Core.Path.{_≡_}
 use mathlib.Core.List.{List}
 use mathlib.Core.Option.{none}
 use lib.ListN.{length}
-use Rattle.packed.specs.Check.{refusal}
-use Rattle.packed.specs.Trees.{programOf}
-use Rattle.packed.proofs.Decoded.{well-formed}
+use Rattle.plan_packed.specs.Check.{refusal}
+use Rattle.plan_packed.specs.Trees.{programOf}
+use Rattle.plan_packed.proofs.Decoded.{well-formed}
 use Rattle.rules.specs.State.{start}
 use Rattle.rules.specs.Run.{run, play, outcomeOf}
 use Rattle.rules.proofs.Executed.{reachable-start, reachable-run, play-executes}
 use Rattle.rules.proofs.ThreadStates.{eight-statuses}
 use Rattle.rules.proofs.TidyRuns.{tidy-play}
-use Rattle.player.proofs.Moves.{few}
-use Rattle.outcome_bytes.specs.Small.{SmallOutcome}
+use Rattle.play.proofs.Moves.{few}
+use Rattle.abi_outcome.specs.Small.{SmallOutcome}
 use Rattle.ruqzhemil.proofs.Statuses.{small-threads}
 
 pub small-outcome : (plan ps : List ℕ) → refusal plan ≡ none → length ps ≤ 4096 → SmallOutcome (outcomeOf (programOf plan) (play (programOf plan) ps))

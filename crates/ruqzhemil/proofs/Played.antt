@@ -5,16 +5,16 @@ use mathlib.Core.Bool.{true≢false}
 use mathlib.Core.List.{List}
 use mathlib.Core.Option.{Option, some, none}
 use Rattle.format.specs.Refusal.{Refusal}
-use Rattle.refusals.specs.declared.Checked.{Checked}
-use Rattle.refusals.specs.declared.Checked.the-variants as checked
+use Rattle.plan_refusals.specs.declared.Checked.{Checked}
+use Rattle.plan_refusals.specs.declared.Checked.the-variants as checked
 use Rattle.rules.specs.Run as run
 use Rattle.rules.specs.Play as play
 use Rattle.rules.specs.Play.{playRefusal, played, playedBy, runOf}
-use Rattle.player.specs.declared.outcome.Played.{Played}
-use Rattle.player.specs.Answer.{outcomeOf, answeredBy, answered}
-use Rattle.player.proofs.Ran.{passes, outcome-is}
-use Rattle.refusals.specs.Small.{SmallRefusal, SmallCheck}
-use Rattle.outcome_bytes.specs.Small.{SmallOutcome, SmallPlayed}
+use Rattle.play.specs.declared.outcome.Played.{Played}
+use Rattle.play.specs.Answer.{outcomeOf, answeredBy, answered}
+use Rattle.play.proofs.Ran.{passes, outcome-is}
+use Rattle.plan_refusals.specs.Small.{SmallRefusal, SmallCheck}
+use Rattle.abi_outcome.specs.Small.{SmallOutcome, SmallPlayed}
 use Rattle.ruqzhemil.proofs.Refusals.{small-play}
 use Rattle.ruqzhemil.proofs.Outcomes.{small-outcome}
 

@@ -4,10 +4,10 @@ use mathlib.Core.Path.{_≡_, refl, subst}
 use mathlib.Core.List.{List}
 use mathlib.Core.Option.{Option, some, none}
 use Rattle.format.specs.Refusal.{Refusal}
-use Rattle.refusals.specs.Small.{SmallCheck}
-use Rattle.packed.specs.Syntax.{Program}
-use Rattle.packed.specs.Trees.{programOf}
-use Rattle.packed.proofs.Decoded.{well-formed}
+use Rattle.plan_refusals.specs.Small.{SmallCheck}
+use Rattle.plan_packed.specs.Syntax.{Program}
+use Rattle.plan_packed.specs.Trees.{programOf}
+use Rattle.plan_packed.proofs.Decoded.{well-formed}
 use Rattle.rules.specs.State.{State, start}
 use Rattle.rules.specs.Step.{attempt}
 use Rattle.rules.specs.Room.{AnswerOf, Answer, step}
@@ -16,9 +16,9 @@ use Rattle.rules.specs.Play.{scheduleRefusal, runOf}
 use Rattle.rules.proofs.Invariant.{Inv}
 use Rattle.rules.proofs.Executed.{reachable-start, reachable-run}
 use Rattle.rules.proofs.TidyRuns.{Roomy, tidy-play}
-use Rattle.play_refusals.proofs.Passed.{scheduled}
+use Rattle.run_refusals.proofs.Passed.{scheduled}
 use Rattle.preview.specs.Preview.{shownBy, shown, shownAt, shownAfter, withPick, previewRefusal, previewedBy, previewed}
-use Rattle.preview_bytes.specs.Small.{SmallPreview, SmallPreviewed}
+use Rattle.abi_preview.specs.Small.{SmallPreview, SmallPreviewed}
 use Rattle.ruqzhemil.proofs.Refusals.{small-schedule}
 use Rattle.ruqzhemil.proofs.Statuses.{small-thread}
 

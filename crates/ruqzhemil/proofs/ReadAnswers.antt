@@ -4,12 +4,12 @@ use mathlib.Core.Path.{_≡_, refl}
 use mathlib.Core.Bool.{Bool, true, false, cond}
 use mathlib.Core.List.{List}
 use lib.ListN.{length}
-use Rattle.written.specs.Written.{written}
-use Rattle.notation.specs.Lexing.{codesOf}
-use Rattle.parsing.specs.Plan.{Reading, plan, fault, readPlan}
-use Rattle.parsing.proofs.PlanRight.{text-passes}
+use Rattle.plan_written.specs.Written.{written}
+use Rattle.plan_notation.specs.Lexing.{codesOf}
+use Rattle.plan_parsing.specs.Plan.{Reading, plan, fault, readPlan}
+use Rattle.plan_parsing.proofs.PlanRight.{text-passes}
 use Rattle.read.specs.Read.{Read, tokens, shortForPlan, failedAt, tooMany, answerBy, readAnswer}
-use Rattle.numbers.specs.Small.{SmallRead}
+use Rattle.abi_numbers.specs.Small.{SmallRead}
 use Rattle.ruqzhemil.proofs.Tools.{few-bytes}
 
 either-small : (b : Bool) (x y : Read) → SmallRead x → SmallRead y → SmallRead (cond b x y)

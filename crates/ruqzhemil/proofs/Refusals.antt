@@ -8,15 +8,15 @@ use borrow.Author.Tests.{ltb-false}
 use Rattle.format.specs.Refusal.{Refusal, check, checkWhole}
 use Rattle.format.proofs.BitLaws.{bits-below}
 use Rattle.format.proofs.RefusalLaws.{First, here, later}
-use Rattle.refusals.specs.Small.{Small, SmallRefusal, SmallCheck}
-use Rattle.refusals.proofs.Bounds.{small-by, small-checks, small-stages}
-use Rattle.packed.specs.Format.{procedures, terms}
-use Rattle.packed.specs.Check.{checks, refusal}
-use Rattle.records.specs.Packed.{recordCount}
-use Rattle.records.specs.Refusals.{wrongLogLength, wrongRecord, logChecks, logRefusal}
-use Rattle.records.proofs.Accepted.{right-length}
+use Rattle.plan_refusals.specs.Small.{Small, SmallRefusal, SmallCheck}
+use Rattle.plan_refusals.proofs.Bounds.{small-by, small-checks, small-stages}
+use Rattle.plan_packed.specs.Format.{procedures, terms}
+use Rattle.plan_packed.specs.Check.{checks, refusal}
+use Rattle.log_records.specs.Packed.{recordCount}
+use Rattle.log_records.specs.Refusals.{wrongLogLength, wrongRecord, logChecks, logRefusal}
+use Rattle.log_records.proofs.Accepted.{right-length}
 use Rattle.rules.specs.Play.{tooManyPicks, scheduleRefusal, playRefusal}
-use Rattle.play_refusals.proofs.RefusalChain.{pickChecks, schedule-stages, areaChecks, play-stages}
+use Rattle.run_refusals.proofs.RefusalChain.{pickChecks, schedule-stages, areaChecks, play-stages}
 
 -- a check with the one place 0
 pub whole : (k : ℕ) → k ≤ 24 → Small k 1

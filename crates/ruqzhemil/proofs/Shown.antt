@@ -7,15 +7,15 @@ use mathlib.Core.List.{List, [], _∷_}
 use mathlib.Core.Option.{Option, some, none}
 use lib.ListN.{length}
 use Rattle.format.specs.Refusal.{Refusal, checkWhole, orElse, lowest, refuse, firstRefusal}
-use Rattle.packed.specs.Check.{refusal}
-use Rattle.refusals.specs.Small.{SmallCheck}
+use Rattle.plan_packed.specs.Check.{refusal}
+use Rattle.plan_refusals.specs.Small.{SmallCheck}
 use Rattle.answers.specs.Answer.{answerBy}
-use Rattle.notation.specs.Text.{shownText}
+use Rattle.plan_notation.specs.Text.{shownText}
 use Rattle.show.specs.Show.{shortForText, showAnswer}
 use Rattle.show.proofs.Answers.{stages}
 use Rattle.show.proofs.Lengths.{text-few}
-use Rattle.return_convention.specs.Small.{SmallAnswer}
-use Rattle.return_convention.proofs.Wider.{wider}
+use Rattle.abi_convention.specs.Small.{SmallAnswer}
+use Rattle.abi_convention.proofs.Wider.{wider}
 use Rattle.ruqzhemil.proofs.Refusals.{small-plan}
 
 few-text : (plan : List ℕ) → refusal plan ≡ none → length (shownText plan) < 2 ^ 32

@@ -7,8 +7,8 @@ use mathlib.Core.List.{List}
 use mathlib.Core.Option.{Option, some, none}
 use lib.Dec.{eqb}
 use lib.ListN.{length, getElem?}
-use Rattle.keys.specs.Keys.{subset, isEmpty}
-use Rattle.packed.specs.Syntax.{Signal, Program, Procedure, Expression}
+use Rattle.run_keys.specs.Keys.{subset, isEmpty}
+use Rattle.plan_packed.specs.Syntax.{Signal, Program, Procedure, Expression}
 use Rattle.rules.specs.Context.{Context, Redex, Focus, value, here, hereᶜ, focus, top, asLiteral}
 use Rattle.rules.specs.State.{Cell, Thread, State, Numbered, lookup, monitor, threadOf}
 use Rattle.rules.specs.Rules.{isVolatile}
@@ -18,7 +18,7 @@ use Rattle.rules.specs.Run.{status, statusesFrom}
 use Rattle.rules.proofs.Placed.{Ready, Good}
 use Rattle.rules.proofs.Invariant.{Inv}
 use Rattle.rules.proofs.TidyRuns.{Roomy}
-use Rattle.outcome_bytes.specs.Small.{SmallWait, SmallStuck, SmallStatus, AllSmall}
+use Rattle.abi_outcome.specs.Small.{SmallWait, SmallStuck, SmallStatus, AllSmall}
 
 abbrev SmallAct : Act → Type 0
 SmallAct (waits w) = SmallWait w

@@ -8,30 +8,30 @@ use mathlib.Core.Option.{Option, some, none}
 use lib.ListN.{length}
 use Rattle.format.specs.Refusal.{Refusal, checkWhole, firstRefusal}
 use Rattle.format.proofs.RefusalLaws.{both-none}
-use Rattle.records.specs.Refusals.{logRefusal}
-use Rattle.records.proofs.Accepted.{accepted}
-use Rattle.refusals.specs.Small.{SmallCheck}
-use Rattle.refusals.proofs.Bounds.{small-checks, small-stages}
+use Rattle.log_records.specs.Refusals.{logRefusal}
+use Rattle.log_records.proofs.Accepted.{accepted}
+use Rattle.plan_refusals.specs.Small.{SmallCheck}
+use Rattle.plan_refusals.proofs.Bounds.{small-checks, small-stages}
 use Rattle.answers.specs.Answer.{answerBy}
-use Rattle.return_convention.specs.Small.{SmallAnswer}
-use Rattle.return_convention.proofs.Wider.{wider}
+use Rattle.abi_convention.specs.Small.{SmallAnswer}
+use Rattle.abi_convention.proofs.Wider.{wider}
 use Rattle.waveform.specs.Comtrade.{fileOf, shortOutput, comtradeRefusal, comtradeAnswer}
 use Rattle.waveform.proofs.Answers.{last, stages}
 use Rattle.waveform.proofs.FileLength.{file-most}
-use Rattle.packed.specs.Trees.{programOf}
-use Rattle.packed.proofs.Decoded.{well-formed}
+use Rattle.plan_packed.specs.Trees.{programOf}
+use Rattle.plan_packed.proofs.Decoded.{well-formed}
 use Rattle.rules.specs.Run.{outcomeOf}
 use Rattle.rules.specs.Play.{scheduleRefusal, runOf}
 use Rattle.rules.proofs.Executed.{play-executes}
-use Rattle.play_refusals.proofs.Passed.{scheduled}
-use Rattle.player.proofs.Moves.{few}
+use Rattle.run_refusals.proofs.Passed.{scheduled}
+use Rattle.play.proofs.Moves.{few}
 use Rattle.charge.specs.Charge.{priceBy, chargeOf, charged}
 use Rattle.charge.proofs.Prices.{price-small}
-use Rattle.packed.specs.Format.{planLength}
-use Rattle.packed.specs.Check.{refusal}
-use Rattle.packed.proofs.Passing.{length-of, all-right}
-use Rattle.written.specs.Written.{writtenPlan}
-use Rattle.written.proofs.OneWay.{same-length}
+use Rattle.plan_packed.specs.Format.{planLength}
+use Rattle.plan_packed.specs.Check.{refusal}
+use Rattle.plan_packed.proofs.Passing.{length-of, all-right}
+use Rattle.plan_written.specs.Written.{writtenPlan}
+use Rattle.plan_written.proofs.OneWay.{same-length}
 use Rattle.canonical.specs.Canonical.{canonicalRefusal, canonicalAnswer}
 use Rattle.canonical.proofs.Chain.{outputChecks, passes-both}
 use Rattle.canonical.proofs.Chain as chain

@@ -5,15 +5,15 @@ use mathlib.Core.Path.{subst}
 use mathlib.Core.List.{List}
 use lib.ListN.{length}
 use Rattle.format.specs.Refusal.{firstRefusal}
-use Rattle.refusals.specs.Small.{SmallCheck}
-use Rattle.refusals.proofs.Bounds.{small-checks, small-stages}
+use Rattle.plan_refusals.specs.Small.{SmallCheck}
+use Rattle.plan_refusals.proofs.Bounds.{small-checks, small-stages}
 use Rattle.rules.specs.Play.{scheduleRefusal}
-use Rattle.play_refusals.proofs.Passed.{scheduled}
+use Rattle.run_refusals.proofs.Passed.{scheduled}
 use Rattle.answers.specs.Answer.{Answer}
 use Rattle.witness.specs.Witness.{raceRefusal, Witnesses}
 use Rattle.witness.proofs.Refusals.{laterChecks, stages, no-earlier}
-use Rattle.return_convention.specs.Small.{SmallAnswer}
-use Rattle.return_convention.proofs.Wider.{wider}
+use Rattle.abi_convention.specs.Small.{SmallAnswer}
+use Rattle.abi_convention.proofs.Wider.{wider}
 use Rattle.ruqzhemil.proofs.Refusals.{whole, small-schedule}
 
 few-picks : (n k : ℕ) → n ≤ 4096 → k < n → k < 2 ^ 32

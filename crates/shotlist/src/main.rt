@@ -1,4 +1,4 @@
 // The printing program.
 fn main() {
-    printer::print_shot_list();
+    shotlist_files::print_shot_list();
 }

@@ -10,17 +10,17 @@ use Rattle.format.specs.Area.{overwrite}
 use Rattle.format.specs.Refusal.{Refusal, Check, checkWhole, orElse, lowest, refuse, firstRefusal}
 use Rattle.format.proofs.LowestLaws.{whole, whole-none}
 use Rattle.format.proofs.RefusalLaws.{refusal-append}
-use Rattle.packed.specs.Trees.{programOf}
-use Rattle.packed.specs.Check.{checks, refusal}
-use Rattle.refusals.specs.Answer as refusals
-use Rattle.refusals.specs.declared.Checked.{Checked}
-use Rattle.refusals.specs.declared.Checked.the-variants as checked
+use Rattle.plan_packed.specs.Trees.{programOf}
+use Rattle.plan_packed.specs.Check.{checks, refusal}
+use Rattle.plan_refusals.specs.Answer as refusals
+use Rattle.plan_refusals.specs.declared.Checked.{Checked}
+use Rattle.plan_refusals.specs.declared.Checked.the-variants as checked
 use Rattle.answers.specs.Answer.{answered, answerBy, value, refused}
 use Rattle.answers.specs.declared.Answered.{Answered}
 use Rattle.answers.specs.declared.Answered.the-variants.{Value, Refused}
-use Rattle.notation.specs.Shown.{shownPlan}
-use Rattle.notation.specs.Layout.{laidOut}
-use Rattle.notation.specs.Text.{textOfProgram, shownText}
+use Rattle.plan_notation.specs.Shown.{shownPlan}
+use Rattle.plan_notation.specs.Layout.{laidOut}
+use Rattle.plan_notation.specs.Text.{textOfProgram, shownText}
 use Rattle.show.specs.Show.{shortForText, showChecks, showRefusal, showAnswer, shownBy, showArea}
 use Rattle.show.specs.Begun.{TooShort, LaidOut, TextWritten}
 

@@ -6,16 +6,16 @@ use mathlib.Core.Bool.{Bool, true, false, cond}
 use mathlib.Core.List.{List, [], _∷_, _++_}
 use mathlib.Core.Option.{none}
 use lib.ListN.{length, length-append, replicate, length-replicate}
-use Rattle.packed.specs.Trees.{programOf}
-use Rattle.packed.specs.Check.{refusal}
-use Rattle.written.proofs.RightPlans.{right-program}
-use Rattle.notation.specs.Tokens.{textOf}
-use Rattle.notation.specs.Known.{Known}
-use Rattle.notation.specs.Shown.{shownPlan}
-use Rattle.notation.specs.Layout.{Pen, start, apart, onNewLine, indentation, gap, penAfter, laidFrom, laidOut}
-use Rattle.notation.specs.Text.{textOfProgram, shownText}
-use Rattle.notation.proofs.Widths.{few-bytes, indented}
-use Rattle.notation.proofs.ShownCodes.{Fit, plan-fit, known}
+use Rattle.plan_packed.specs.Trees.{programOf}
+use Rattle.plan_packed.specs.Check.{refusal}
+use Rattle.plan_written.proofs.RightPlans.{right-program}
+use Rattle.plan_notation.specs.Tokens.{textOf}
+use Rattle.plan_notation.specs.Known.{Known}
+use Rattle.plan_notation.specs.Shown.{shownPlan}
+use Rattle.plan_notation.specs.Layout.{Pen, start, apart, onNewLine, indentation, gap, penAfter, laidFrom, laidOut}
+use Rattle.plan_notation.specs.Text.{textOfProgram, shownText}
+use Rattle.plan_notation.proofs.Widths.{few-bytes, indented}
+use Rattle.plan_notation.proofs.ShownCodes.{Fit, plan-fit, known}
 
 gap-few : (p : Pen) (t : ℕ) → length (gap p t) ≤ 41
 unfolding gap

@@ -5,19 +5,19 @@ use mathlib.Core.Path.{_≡_, sym, ap, subst, _∙_}
 use mathlib.Core.List.{List}
 use mathlib.Core.Option.{none}
 use lib.ListN.{length, take}
-use Rattle.packed.specs.Format.{terms}
-use Rattle.packed.specs.Steps.{Loaded}
-use Rattle.packed.specs.Trees.{programOf}
-use Rattle.packed.specs.Check.{refusal}
-use Rattle.refusals.specs.Answer.{answered}
-use Rattle.refusals.specs.declared.Checked.{Checked}
-use Rattle.refusals.specs.declared.Checked.the-variants.{Passed}
-use Rattle.refusals.proofs.Stages.{passed-none}
-use Rattle.written.proofs.RightPlans.{right-program}
+use Rattle.plan_packed.specs.Format.{terms}
+use Rattle.plan_packed.specs.Steps.{Loaded}
+use Rattle.plan_packed.specs.Trees.{programOf}
+use Rattle.plan_packed.specs.Check.{refusal}
+use Rattle.plan_refusals.specs.Answer.{answered}
+use Rattle.plan_refusals.specs.declared.Checked.{Checked}
+use Rattle.plan_refusals.specs.declared.Checked.the-variants.{Passed}
+use Rattle.plan_refusals.proofs.Stages.{passed-none}
+use Rattle.plan_written.proofs.RightPlans.{right-program}
 use Rattle.text.specs.Wrote.{Wrote}
-use Rattle.notation.specs.Known.{Known}
-use Rattle.notation.specs.Shown.{shownPlan}
-use Rattle.notation.proofs.ShownCodes.{plan-fit, known}
+use Rattle.plan_notation.specs.Known.{Known}
+use Rattle.plan_notation.specs.Shown.{shownPlan}
+use Rattle.plan_notation.proofs.ShownCodes.{plan-fit, known}
 use Rattle.plan_tokens.specs.Begun.{Given}
 
 pub given : {plan words : List ℕ} {r : Checked} → answered r ≡ refusal plan → (r ≡ Passed → Loaded plan (terms plan) words) → r ≡ Passed → Given plan words

@@ -5,7 +5,7 @@ use mathlib.Core.List.{List}
 use mathlib.Core.Logic.{_⊎_}
 use lib.ListN.{length}
 use Rattle.format.specs.Area.{overwrite}
-use Rattle.notation.specs.Layout.{laidOut}
+use Rattle.plan_notation.specs.Layout.{laidOut}
 use Rattle.answers.specs.declared.Answered.{Answered}
 use Rattle.answers.specs.declared.Answered.the-variants.{Value, Refused}
 

@@ -1,10 +1,10 @@
 // The entry `show`: an accepted plan as text, in document 01's own notation, into an area.
 use answers::Answered;
-use refusals::Checked;
+use plan_refusals::Checked;
 ghost use Prim.Native.Nat.{_≤_};
 ghost use mathlib.Core.Path.{_≡_};
 ghost use lib.ListN.{length};
-ghost use Rattle.notation.specs.Known.{Known};
+ghost use Rattle.plan_notation.specs.Known.{Known};
 ghost use Rattle.answers.specs.Answer.{answered};
 ghost use Rattle.show.specs.Show.{showAnswer, showArea};
 ghost use Rattle.show.specs.Begun.{TextWritten};
@@ -14,14 +14,14 @@ fn write(tokens: &[u8], area: &mut [u8]) -> Answered
     requires { ⌜ Known (now tokens) × (length (now tokens) ≤ 16384) ⌝ }
     ensures { λ r. ⌜ TextWritten (now (tokens .entry)) (now (area .entry)) (now (area .exit)) r ⌝ }
 {
-    let length = layout::length(tokens);
+    let length = plan_layout::length(tokens);
     if area.len() < length {
         return Answered::Refused {
             number: 25,
             place: 0,
         };
     }
-    layout::lay_out(tokens, area);
+    plan_layout::lay_out(tokens, area);
     Answered::Value(length)
 }
 

@@ -11,15 +11,15 @@ use lib.Dec.{T}
 use borrow.Author.Tests.{eqb-true}
 use lib.ListN.{length, take, drop, take-append-drop}
 use lib.Seq.{take-append-seam, take-all}
-use Rattle.keys.specs.Keys.{Keys, empty, holds, isEmpty}
-use Rattle.keys.proofs.KeyLaws.{some-key, no-key}
-use Rattle.packed.specs.Syntax.{Program}
-use Rattle.packed.specs.Trees.{programOf}
-use Rattle.packed.specs.Check.{refusal}
-use Rattle.packed.proofs.WellFormed.{WellFormedProgram}
-use Rattle.packed.proofs.Decoded.{well-formed}
-use Rattle.records.specs.Record.{Record}
-use Rattle.order.proofs.KeySets.{KeySet}
+use Rattle.run_keys.specs.Keys.{Keys, empty, holds, isEmpty}
+use Rattle.run_keys.proofs.KeyLaws.{some-key, no-key}
+use Rattle.plan_packed.specs.Syntax.{Program}
+use Rattle.plan_packed.specs.Trees.{programOf}
+use Rattle.plan_packed.specs.Check.{refusal}
+use Rattle.plan_packed.proofs.WellFormed.{WellFormedProgram}
+use Rattle.plan_packed.proofs.Decoded.{well-formed}
+use Rattle.log_records.specs.Record.{Record}
+use Rattle.log_order.proofs.KeySets.{KeySet}
 use Rattle.rules.specs.State.{Cell, cell, State, start, monitor}
 use Rattle.rules.specs.Room.{AnswerOf, Answer, step}
 use Rattle.rules.specs.Run.{Stop, Run, logged, stopped, afterPass, afterMove, resume, run, play}
@@ -29,7 +29,7 @@ use Rattle.rules.proofs.Bridge.{Kept}
 use Rattle.rules.proofs.RunKeys.{kept-play}
 use Rattle.rules.proofs.Holders.{Holders, holders-play, holding}
 use Rattle.rules.proofs.RunAppend.{run-append, run-stopped}
-use Rattle.sample_lines.specs.DataFile.{digital}
+use Rattle.text_sample_lines.specs.DataFile.{digital}
 use Rattle.shown_monitors.specs.Held.{Held}
 use Rattle.shown_monitors.proofs.Taken.{Shows, shows}
 

@@ -7,14 +7,14 @@ use mathlib.Core.List.{List, [], _∷_, _++_, reverse, reverse-cons}
 use mathlib.Core.Logic.{_⊎_, inl, inr}
 use lib.Dec.{T}
 use Rattle.format.specs.Version.{Version, v0, v1}
-use Rattle.records.specs.Record.{Kind, new, read, write, readv, writev, acquire, release, fork, join, lacksRead, lacksWrite, Record}
-use Rattle.order.proofs.Ports.{ofThread}
-use Rattle.order.proofs.KeySets.{KeySet, noKeys, noKeys→, onlyZero, put-same, put-other}
-use Rattle.order.proofs.KeyMachine.{KeyState, start, act, after, Legal}
-use Rattle.order.proofs.Known.{known-zero}
-use Rattle.order.proofs.Invariant.{invariant}
-use Rattle.sample_lines.specs.DataFile.{ofMonitor, lastOf, digital}
-use Rattle.sample_lines.proofs.Digital.{taken-one, freed-zero, other-object, other-kind}
+use Rattle.log_records.specs.Record.{Kind, new, read, write, readv, writev, acquire, release, fork, join, lacksRead, lacksWrite, Record}
+use Rattle.log_order.proofs.Ports.{ofThread}
+use Rattle.log_order.proofs.KeySets.{KeySet, noKeys, noKeys→, onlyZero, put-same, put-other}
+use Rattle.log_order.proofs.KeyMachine.{KeyState, start, act, after, Legal}
+use Rattle.log_order.proofs.Known.{known-zero}
+use Rattle.log_order.proofs.Invariant.{invariant}
+use Rattle.text_sample_lines.specs.DataFile.{ofMonitor, lastOf, digital}
+use Rattle.text_sample_lines.proofs.Digital.{taken-one, freed-zero, other-object, other-kind}
 
 -- the set of a monitor beside its digital value: without a key, and 1; or with one, and 0
 abbrev pub Shows : KeySet → ℕ → Type 0

@@ -3,8 +3,8 @@ use Prim.Native.Nat.{ℕ}
 use mathlib.Core.Path.{_≡_}
 use mathlib.Core.Option.{some}
 use lib.ListN.{getElem?}
-use Rattle.keys.specs.Keys.{empty}
-use Rattle.packed.specs.Syntax.{Expression}
+use Rattle.run_keys.specs.Keys.{empty}
+use Rattle.plan_packed.specs.Syntax.{Expression}
 use Rattle.rules.specs.Context.{Context, plug}
 use Rattle.rules.specs.State.{cell, Thread, State, monitor}
 

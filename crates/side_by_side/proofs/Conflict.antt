@@ -8,11 +8,11 @@ use mathlib.Core.List.{List, [], _∷_, _++_}
 use mathlib.Core.Logic.{_⊎_, inl, inr}
 use mathlib.Core.Option.{Option, some, none}
 use lib.ListN.{getElem?}
-use Rattle.keys.specs.Keys.{singleton, union, holds, subset}
-use Rattle.keys.proofs.KeyLaws.{subset-singleton}
-use Rattle.packed.specs.Syntax.{Program, literal}
-use Rattle.packed.proofs.WellFormed.{WellFormedProgram}
-use Rattle.records.specs.Record.{Kind, Record, entry}
+use Rattle.run_keys.specs.Keys.{singleton, union, holds, subset}
+use Rattle.run_keys.proofs.KeyLaws.{subset-singleton}
+use Rattle.plan_packed.specs.Syntax.{Program, literal}
+use Rattle.plan_packed.proofs.WellFormed.{WellFormedProgram}
+use Rattle.log_records.specs.Record.{Kind, Record, entry}
 use Rattle.rules.specs.Context.{Context, Redex, plug}
 use Rattle.rules.specs.State.{Cell, cell, Thread, State, start, lookup, changeAt, gain, learn, become, store, useKey}
 use Rattle.rules.specs.Rules.{Rule}

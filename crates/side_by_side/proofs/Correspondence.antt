@@ -8,12 +8,12 @@ use mathlib.Core.Option.{some}
 use lib.Dec.{T}
 use lib.ListN.{length, getElem?}
 use Rattle.format.specs.Version.{v1}
-use Rattle.keys.specs.Keys.{Keys, empty, singleton, holds, isEmpty}
-use Rattle.packed.specs.Syntax.{Program}
-use Rattle.records.specs.Record.{Record}
-use Rattle.order.specs.Pairs.{Pair}
-use Rattle.order.proofs.Newest.{At}
-use Rattle.order.proofs.Ports.{Port, ofThread, ofMonitor, ofVolatile, Feeds}
+use Rattle.run_keys.specs.Keys.{Keys, empty, singleton, holds, isEmpty}
+use Rattle.plan_packed.specs.Syntax.{Program}
+use Rattle.log_records.specs.Record.{Record}
+use Rattle.log_order.specs.Pairs.{Pair}
+use Rattle.log_order.proofs.Newest.{At}
+use Rattle.log_order.proofs.Ports.{Port, ofThread, ofMonitor, ofVolatile, Feeds}
 use Rattle.rules.specs.State.{Cell, Thread, State, lookup, monitor}
 use Rattle.rules.specs.Rules.{isVolatile}
 use Rattle.side_by_side.proofs.Like.{Naming, Like}

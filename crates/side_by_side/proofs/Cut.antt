@@ -9,15 +9,15 @@ use mathlib.Core.Option.{Option, some, none}
 use lib.Dec.{T, eqb, eqb→eq}
 use lib.ListN.{length, getElem?}
 use Rattle.format.specs.Version.{v1}
-use Rattle.keys.specs.Keys.{empty, singleton, holds, isEmpty}
-use Rattle.keys.proofs.KeyLaws.{holds-singleton}
-use Rattle.packed.specs.Syntax.{Expression, Condition, Arguments, Program}
-use Rattle.packed.proofs.WellFormed.{WellFormedProgram}
-use Rattle.records.specs.Record.{Record, entry}
-use Rattle.order.specs.Pairs.{sameThread}
-use Rattle.order.proofs.Newest.{At, here, back, at-below}
-use Rattle.order.proofs.Ports.{Port, ofThread, Draws}
-use Rattle.order.proofs.KeySets.{put}
+use Rattle.run_keys.specs.Keys.{empty, singleton, holds, isEmpty}
+use Rattle.run_keys.proofs.KeyLaws.{holds-singleton}
+use Rattle.plan_packed.specs.Syntax.{Expression, Condition, Arguments, Program}
+use Rattle.plan_packed.proofs.WellFormed.{WellFormedProgram}
+use Rattle.log_records.specs.Record.{Record, entry}
+use Rattle.log_order.specs.Pairs.{sameThread}
+use Rattle.log_order.proofs.Newest.{At, here, back, at-below}
+use Rattle.log_order.proofs.Ports.{Port, ofThread, Draws}
+use Rattle.log_order.proofs.KeySets.{put}
 use Rattle.rules.specs.Context.{plug, plugᶜ}
 use Rattle.rules.specs.Queue.{Place, awake}
 use Rattle.rules.specs.State.{Cell, Thread, State, start, fresh, freshObject, lookup, monitor, gain, become, forked, inPlace, enqueue, signalled, store}

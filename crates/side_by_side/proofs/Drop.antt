@@ -10,11 +10,11 @@ use mathlib.Core.Option.{Option, some, none}
 use lib.Dec.{T, eqb→eq}
 use lib.ListN.{length, getElem?}
 use Rattle.format.specs.Version.{v1}
-use Rattle.keys.specs.Keys.{Keys, empty, singleton, union, holds, isEmpty}
-use Rattle.keys.proofs.KeyLaws.{holds-singleton}
-use Rattle.packed.specs.Syntax.{Expression, Program}
-use Rattle.records.specs.Record.{Record}
-use Rattle.order.proofs.Ports.{ofThread, ofMonitor, ofVolatile, Feeds}
+use Rattle.run_keys.specs.Keys.{Keys, empty, singleton, union, holds, isEmpty}
+use Rattle.run_keys.proofs.KeyLaws.{holds-singleton}
+use Rattle.plan_packed.specs.Syntax.{Expression, Program}
+use Rattle.log_records.specs.Record.{Record}
+use Rattle.log_order.proofs.Ports.{ofThread, ofMonitor, ofVolatile, Feeds}
 use Rattle.rules.specs.State.{Cell, cell, Thread, State, fresh, freshObject, lookup, monitor, changeAt, gain, become, store, storeMonitor, addObject}
 use Rattle.rules.specs.State.{addThread, forked, useKey, inPlace, enqueue, signalled}
 use Rattle.rules.specs.Rules.{Rule, isVolatile, passedOn, Converts, E-CALL, E-LET, E-IF, E-WHILE, E-NEW, E-READ, E-WRITE, E-READV, E-WRITEV, E-FORK, E-JOIN}

@@ -9,11 +9,11 @@ use mathlib.Core.Logic.{_⊎_, inl, inr}
 use mathlib.Core.Option.{Option, some}
 use lib.Dec.{T}
 use lib.ListN.{length, getElem?}
-use Rattle.keys.specs.Keys.{Keys, empty, holds, isEmpty}
-use Rattle.packed.specs.Syntax.{Program}
-use Rattle.records.specs.Record.{Record}
-use Rattle.order.proofs.Ports.{ofThread, ofMonitor}
-use Rattle.order.proofs.KeySets.{put, put-other}
+use Rattle.run_keys.specs.Keys.{Keys, empty, holds, isEmpty}
+use Rattle.plan_packed.specs.Syntax.{Program}
+use Rattle.log_records.specs.Record.{Record}
+use Rattle.log_order.proofs.Ports.{ofThread, ofMonitor}
+use Rattle.log_order.proofs.KeySets.{put, put-other}
 use Rattle.rules.specs.State.{Cell, Thread, State, lookup, monitor, store, storeMonitor, useKey}
 use Rattle.rules.specs.Rules.{isVolatile}
 use Rattle.rules.proofs.StateLaws.{there, change-length, store-same, store-other, store-monitor, lock-same, lock-other, lock-lookup}

@@ -10,14 +10,14 @@ use lib.Dec.{T, eqb, eqb→eq, eqb-refl, ltb, leb, leb→le, nleb→lt}
 use lib.ListN.{length, getElem?, drop, drop-of-length-le}
 use borrow.Author.Tests.{eq-eqb, eqb-true}
 use Rattle.format.specs.Version.{Version, v0, v1}
-use Rattle.keys.specs.Keys.{Keys, empty, singleton, union, holds, isEmpty, subset}
-use Rattle.keys.proofs.KeyLaws.{holds-singleton, subset-singleton, some-key, no-key}
-use Rattle.packed.specs.Syntax.{Signal, Expression, Condition, Procedure, Program, literal, bind, bindParameters, substitute, sequence, bool}
-use Rattle.packed.proofs.WellFormed.{WellFormedProgram}
-use Rattle.records.specs.Record.{Record, entry}
-use Rattle.order.proofs.Ports.{Port, ofThread, ofMonitor, ofVolatile, Draws}
-use Rattle.order.proofs.KeySets.{put, put-same}
-use Rattle.order.proofs.KeyMachine.{after}
+use Rattle.run_keys.specs.Keys.{Keys, empty, singleton, union, holds, isEmpty, subset}
+use Rattle.run_keys.proofs.KeyLaws.{holds-singleton, subset-singleton, some-key, no-key}
+use Rattle.plan_packed.specs.Syntax.{Signal, Expression, Condition, Procedure, Program, literal, bind, bindParameters, substitute, sequence, bool}
+use Rattle.plan_packed.proofs.WellFormed.{WellFormedProgram}
+use Rattle.log_records.specs.Record.{Record, entry}
+use Rattle.log_order.proofs.Ports.{Port, ofThread, ofMonitor, ofVolatile, Draws}
+use Rattle.log_order.proofs.KeySets.{put, put-same}
+use Rattle.log_order.proofs.KeyMachine.{after}
 use Rattle.rules.specs.Context.{Context, Contextᶜ, Redex, Redexᶜ, Focus, focus, expressionDepth, top, plug, plugᶜ, redexExpression, redexCondition}
 use Rattle.rules.specs.State.{cell, Cell, Thread, State, fresh, freshObject, lookup, monitor, changeAt, gain, learn, hear, become, forked, inPlace, signalled}
 use Rattle.rules.specs.State.{store, storeMonitor, addObject, addThread, useKey, threadOf, Numbered}

@@ -7,10 +7,10 @@ use mathlib.Core.List.{List, [], _∷_, _++_}
 use mathlib.Core.Option.{Option, some, none}
 use lib.Dec.{eqb}
 use lib.ListN.{length}
-use Rattle.packed.specs.Syntax.{Signal, Expression, Condition, Arguments, Program, Environment, bind, bindParameters, without, valueOr, substitute}
-use Rattle.packed.specs.Syntax.{substituteᶜ, substituteᵃ, bool}
-use Rattle.packed.specs.Slots.{bound}
-use Rattle.packed.proofs.WellFormed.{WellFormed, WellFormedᶜ, WellFormedᵃ}
+use Rattle.plan_packed.specs.Syntax.{Signal, Expression, Condition, Arguments, Program, Environment, bind, bindParameters, without, valueOr, substitute}
+use Rattle.plan_packed.specs.Syntax.{substituteᶜ, substituteᵃ, bool}
+use Rattle.plan_packed.specs.Slots.{bound}
+use Rattle.plan_packed.proofs.WellFormed.{WellFormed, WellFormedᶜ, WellFormedᵃ}
 use Rattle.rules.specs.Context.{Context, Contextᶜ, Redex, Redexᶜ, Focus, focus, focusᶜ, focusᵃ, onLiteral, onBool, onNot, asLiteral, asBool, isTruth}
 use Rattle.rules.specs.Context.{falseWhen, plug, plugᶜ, literals, depth, depthᶜ, depthOf}
 use Rattle.rules.specs.Step.{around}

@@ -9,12 +9,12 @@ use mathlib.Core.Logic.{_⊎_, inl, inr}
 use mathlib.Core.Option.{Option, some}
 use lib.Dec.{eqb, eqb→eq}
 use lib.ListN.{length, getElem?}
-use Rattle.keys.specs.Keys.{empty, singleton, isEmpty}
-use Rattle.keys.proofs.KeyLaws.{holds-singleton}
-use Rattle.packed.specs.Syntax.{Program}
-use Rattle.records.specs.Record.{Record}
-use Rattle.order.proofs.Ports.{ofThread, ofMonitor}
-use Rattle.order.proofs.KeySets.{put, put-same, put-other}
+use Rattle.run_keys.specs.Keys.{empty, singleton, isEmpty}
+use Rattle.run_keys.proofs.KeyLaws.{holds-singleton}
+use Rattle.plan_packed.specs.Syntax.{Program}
+use Rattle.log_records.specs.Record.{Record}
+use Rattle.log_order.proofs.Ports.{ofThread, ofMonitor}
+use Rattle.log_order.proofs.KeySets.{put, put-same, put-other}
 use Rattle.rules.specs.State.{Cell, Object, Thread, State, fresh, freshFields, freshObject, findField, fieldOf, monitorOf, lookup, monitor, addObject}
 use Rattle.rules.specs.State.{addThread}
 use Rattle.rules.proofs.StateLaws.{inside, added, added-old, added-new, length-added}

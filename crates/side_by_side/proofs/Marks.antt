@@ -10,10 +10,10 @@ use lib.Dec.{T, eqb, eqb→eq, eqb-refl}
 use lib.ListN.{length}
 use borrow.Author.Tests.{eqb-false}
 use Rattle.format.specs.Version.{v1}
-use Rattle.records.specs.Record.{Kind, Record}
-use Rattle.order.proofs.Newest.{At, here, back, Linked, Chain, more, at-below, at-older, at-newest, one}
-use Rattle.order.proofs.Ports.{Port, ofThread, ofMonitor, ofVolatile, ofAccesses, ofWrites, Feeds, Draws, port→pair, pair→port}
-use Rattle.order.proofs.Tests.{sameKind, sameKind→, sameKind←, or←}
+use Rattle.log_records.specs.Record.{Kind, Record}
+use Rattle.log_order.proofs.Newest.{At, here, back, Linked, Chain, more, at-below, at-older, at-newest, one}
+use Rattle.log_order.proofs.Ports.{Port, ofThread, ofMonitor, ofVolatile, ofAccesses, ofWrites, Feeds, Draws, port→pair, pair→port}
+use Rattle.log_order.proofs.Tests.{sameKind, sameKind→, sameKind←, or←}
 use Rattle.side_by_side.proofs.Correspondence.{Marks}
 use mir.Facts.{or-yes, yes-eqb, and-yes, yes-and}
 

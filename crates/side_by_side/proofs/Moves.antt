@@ -9,12 +9,12 @@ use mathlib.Core.Option.{Option, some}
 use lib.Dec.{T}
 use lib.ListN.{length, getElem?}
 use Rattle.format.specs.Version.{v1}
-use Rattle.keys.specs.Keys.{Keys, empty, union, holds}
-use Rattle.keys.proofs.KeyLaws.{holds-union}
-use Rattle.packed.specs.Syntax.{Expression, Program}
-use Rattle.records.specs.Record.{Record}
-use Rattle.order.proofs.Newest.{here, back, at-below}
-use Rattle.order.proofs.Ports.{Port, ofThread, ofMonitor, ofVolatile, Feeds, Draws, port→pair}
+use Rattle.run_keys.specs.Keys.{Keys, empty, union, holds}
+use Rattle.run_keys.proofs.KeyLaws.{holds-union}
+use Rattle.plan_packed.specs.Syntax.{Expression, Program}
+use Rattle.log_records.specs.Record.{Record}
+use Rattle.log_order.proofs.Newest.{here, back, at-below}
+use Rattle.log_order.proofs.Ports.{Port, ofThread, ofMonitor, ofVolatile, Feeds, Draws, port→pair}
 use Rattle.rules.specs.Queue.{Place}
 use Rattle.rules.specs.State.{Thread, State, lookup, monitor, changeAt, gain, become, inPlace, signalled}
 use Rattle.rules.proofs.Relocated.{Relocated, withThreads, relocated-length, was-there, is-there, signalled-relocated}

@@ -6,8 +6,8 @@ use mathlib.Core.Bool.{Bool, true, false, cond, _&&_}
 use mathlib.Core.List.{List, [], _∷_, _++_, reverseAux, append-nil, append-assoc}
 use mathlib.Core.Option.{some}
 use lib.ListN.{length, length-append}
-use Rattle.records.specs.Record.{Record}
-use Rattle.order.proofs.KeySets.{put}
+use Rattle.log_records.specs.Record.{Record}
+use Rattle.log_order.proofs.KeySets.{put}
 use Rattle.side_by_side.specs.Schedule.{isFork, firstNumbers, numbered, orZero, picksFrom, numbersFrom}
 use Rattle.side_by_side.proofs.Like.{Naming}
 use Rattle.side_by_side.proofs.Correspondence.{Marks}

@@ -9,12 +9,12 @@ use lib.Dec.{eqb}
 use lib.ListN.{length}
 use borrow.Author.Tests.{eqb-false}
 use Rattle.format.specs.Version.{v1, versionOf}
-use Rattle.packed.specs.Format.{version}
-use Rattle.packed.specs.Trees.{programOf}
-use Rattle.packed.specs.Check.{refusal}
-use Rattle.packed.proofs.Accepted.{accepted}
-use Rattle.packed.proofs.Decoded.{well-formed}
-use Rattle.order.specs.Chains.{Unordered}
+use Rattle.plan_packed.specs.Format.{version}
+use Rattle.plan_packed.specs.Trees.{programOf}
+use Rattle.plan_packed.specs.Check.{refusal}
+use Rattle.plan_packed.proofs.Accepted.{accepted}
+use Rattle.plan_packed.proofs.Decoded.{well-formed}
+use Rattle.log_order.specs.Chains.{Unordered}
 use Rattle.rules.specs.Run.{Stop}
 use Rattle.rules.specs.Play.{runOf}
 use Rattle.side_by_side.specs.LeftOut.{hasWait, leftOut}

@@ -9,17 +9,17 @@ use mathlib.Core.Option.{Option, some, none}
 use lib.Dec.{T}
 use lib.ListN.{length, getElem?, length-reverse}
 use Rattle.format.specs.Version.{Version, v1}
-use Rattle.keys.specs.Keys.{singleton}
-use Rattle.packed.specs.Syntax.{Program}
-use Rattle.packed.proofs.WellFormed.{WellFormedProgram}
-use Rattle.records.specs.Record.{Kind, Record, entry, isPlain, lacksKey}
-use Rattle.order.specs.Pairs.{sameThread}
-use Rattle.order.proofs.Newest.{At, here, back, Chain, more, LastWrite, Unordered, at-below, at-cases, at-older, at-newest, one}
-use Rattle.order.proofs.Ports.{ofThread}
-use Rattle.order.proofs.Tests.{differ}
-use Rattle.order.proofs.KeySets.{put}
-use Rattle.order.proofs.KeyMachine.{Legal}
-use Rattle.order.proofs.AgreeNewest.{agree-newest}
+use Rattle.run_keys.specs.Keys.{singleton}
+use Rattle.plan_packed.specs.Syntax.{Program}
+use Rattle.plan_packed.proofs.WellFormed.{WellFormedProgram}
+use Rattle.log_records.specs.Record.{Kind, Record, entry, isPlain, lacksKey}
+use Rattle.log_order.specs.Pairs.{sameThread}
+use Rattle.log_order.proofs.Newest.{At, here, back, Chain, more, LastWrite, Unordered, at-below, at-cases, at-older, at-newest, one}
+use Rattle.log_order.proofs.Ports.{ofThread}
+use Rattle.log_order.proofs.Tests.{differ}
+use Rattle.log_order.proofs.KeySets.{put}
+use Rattle.log_order.proofs.KeyMachine.{Legal}
+use Rattle.log_order.proofs.AgreeNewest.{agree-newest}
 use Rattle.rules.specs.Context.{Context, Redex, plug, redexExpression}
 use Rattle.rules.specs.State.{Cell, cell, Thread, State, start, lookup}
 use Rattle.rules.specs.Rules.{Rule, isVolatile, E-CALL, E-LET, E-IF, E-WHILE, E-NEW, E-READ, E-WRITE, E-READV, E-WRITEV, E-FORK, E-JOIN, E-RE-ENTER}
@@ -41,10 +41,10 @@ use Rattle.side_by_side.proofs.Correspondence.{Marks, Closed, Live}
 use Rattle.side_by_side.proofs.Trail.{Trail, begin, move, Later, none-yet, then, Plays, done, pick}
 use Rattle.side_by_side.proofs.Marks.{marksOf, marked}
 use Rattle.side_by_side.proofs.Newest.{made, numbers, schedule, turned-schedule, turned-numbers, schedule-length}
-use Rattle.order.proofs.Turned.{at→, chain→, chain←, last→, unordered→}
+use Rattle.log_order.proofs.Turned.{at→, chain→, chain←, last→, unordered→}
 use Rattle.side_by_side.proofs.Cut.{trail-kept, closed-older, mover, plays-run}
 use Rattle.side_by_side.proofs.Side.{Met, met, met-field, marks-closed, marks-write, marks-feed}
-use Rattle.order.specs.Chains as O
+use Rattle.log_order.specs.Chains as O
 
 -- ---- a run cut in two at a move
 

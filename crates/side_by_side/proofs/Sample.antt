@@ -2,8 +2,8 @@
 use Prim.Native.Nat.{ℕ}
 use mathlib.Core.Path.{_≡_, refl}
 use mathlib.Core.List.{List, [], _∷_, reverse}
-use Rattle.packed.specs.Trees.{programOf}
-use Rattle.records.specs.Record.{Kind, Record, entry}
+use Rattle.plan_packed.specs.Trees.{programOf}
+use Rattle.log_records.specs.Record.{Kind, Record, entry}
 use Rattle.rules.specs.ShotList.{planP}
 use Rattle.side_by_side.specs.Moves.{movesOf}
 use Rattle.side_by_side.specs.Schedule.{picksOf}

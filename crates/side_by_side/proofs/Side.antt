@@ -9,11 +9,11 @@ use mathlib.Core.Option.{Option, some, none}
 use lib.Dec.{T}
 use lib.ListN.{length, getElem?}
 use Rattle.format.specs.Version.{v1}
-use Rattle.packed.specs.Syntax.{Program}
-use Rattle.packed.proofs.WellFormed.{WellFormedProgram}
-use Rattle.records.specs.Record.{Record}
-use Rattle.order.proofs.Newest.{At, here, Linked, Chain, more, one}
-use Rattle.order.proofs.Ports.{Port, ofThread, Feeds, Draws, port→pair}
+use Rattle.plan_packed.specs.Syntax.{Program}
+use Rattle.plan_packed.proofs.WellFormed.{WellFormedProgram}
+use Rattle.log_records.specs.Record.{Record}
+use Rattle.log_order.proofs.Newest.{At, here, Linked, Chain, more, one}
+use Rattle.log_order.proofs.Ports.{Port, ofThread, Feeds, Draws, port→pair}
 use Rattle.rules.specs.Context.{Context, Redex, Focus, focus, top, plug, redexExpression}
 use Rattle.rules.specs.State.{Cell, Thread, State, start, lookup}
 use Rattle.rules.specs.Rules.{Rule, Moves}

@@ -9,8 +9,8 @@ use mathlib.Core.Option.{some}
 use lib.Dec.{T}
 use lib.ListN.{length, getElem?}
 use Rattle.format.specs.Version.{v1}
-use Rattle.records.specs.Record.{Record}
-use Rattle.order.specs.Chains.{At, Chain, one, more, LastWrite, Unordered}
+use Rattle.log_records.specs.Record.{Record}
+use Rattle.log_order.specs.Chains.{At, Chain, one, more, LastWrite, Unordered}
 use Rattle.side_by_side.specs.Schedule.{Numbers, firstNumbers, numbersAfter, nextAfter, orZero, picksFrom, picksOf}
 use Rattle.side_by_side.specs.SideBySide.{Stays, WrittenFrom}
 

@@ -3,8 +3,8 @@ use Prim.Native.Nat.{ℕ}
 use mathlib.Core.Bool.{Bool, _||_}
 use mathlib.Core.List.{List}
 use lib.Dec.{eqb}
-use Rattle.packed.specs.Format.{version, terms, tagAt}
-use Rattle.packed.specs.Refusals.{anyBelow}
+use Rattle.plan_packed.specs.Format.{version, terms, tagAt}
+use Rattle.plan_packed.specs.Refusals.{anyBelow}
 
 -- "a term of tag 18", wherever it stands
 unfoldable pub hasWait : List ℕ → Bool

@@ -8,9 +8,9 @@ use mathlib.Core.Option.{Option, some}
 use lib.Dec.{T}
 use lib.ListN.{length, getElem?}
 use Rattle.format.specs.Version.{v1}
-use Rattle.packed.specs.Syntax.{Program}
-use Rattle.records.specs.Record.{Kind, Record}
-use Rattle.order.specs.Chains.{At, Chain, LastWrite}
+use Rattle.plan_packed.specs.Syntax.{Program}
+use Rattle.log_records.specs.Record.{Kind, Record}
+use Rattle.log_order.specs.Chains.{At, Chain, LastWrite}
 use Rattle.rules.specs.Context.{Context, Redex, Focus, focus, top}
 use Rattle.rules.specs.State.{Cell, Thread, State, lookup}
 use Rattle.rules.specs.Rules.{isVolatile}

@@ -4,7 +4,7 @@ use Prim.Native.Nat.{ℕ}
 use mathlib.Core.Path.{_≡_}
 use mathlib.Core.Option.{some}
 use lib.ListN.{getElem?}
-use Rattle.packed.specs.Syntax.{Signal, Expression, Condition, Arguments, Procedure, Program}
+use Rattle.plan_packed.specs.Syntax.{Signal, Expression, Condition, Arguments, Procedure, Program}
 
 -- it is notify or notify all
 abbrev pub NoWait : Signal → Type 0

@@ -10,14 +10,14 @@ use borrow.Author.Tests.{lt-ltb, le-ltb, ltb-false}
 use Rattle.format.specs.Refusal.{Refusal, checkWhole, firstRefusal, orElse, refuse, lowest}
 use Rattle.format.specs.Area.{overwrite}
 use Rattle.format.proofs.RefusalLaws.{both-none, refusal-append}
-use Rattle.records.specs.Record.{Record}
-use Rattle.records.specs.Packed.{recordCount, logOf}
-use Rattle.records.specs.Refusals.{logChecks, logRefusal}
-use Rattle.records.proofs.RoundTrip.{count-log}
+use Rattle.log_records.specs.Record.{Record}
+use Rattle.log_records.specs.Packed.{recordCount, logOf}
+use Rattle.log_records.specs.Refusals.{logChecks, logRefusal}
+use Rattle.log_records.proofs.RoundTrip.{count-log}
 use Rattle.text.specs.Wrote.{Wrote}
 use Rattle.text.proofs.Added.{added-whole}
 use Rattle.answers.specs.Answer.{Answer, value, refused, answerBy}
-use Rattle.sample_lines.specs.DataFile.{sampleLines, dataFile}
+use Rattle.text_sample_lines.specs.DataFile.{sampleLines, dataFile}
 use Rattle.waveform.specs.Comtrade.{fileOf, shortOutput, comtradeChecks, comtradeRefusal, comtradeAnswer, areaBy, comtradeArea}
 
 module _ (log area : List ℕ) where

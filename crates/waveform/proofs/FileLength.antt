@@ -5,13 +5,13 @@ use native.Mathlib.Decide.{decLt}
 use mathlib.Core.Path.{_≡_, refl, sym, ap, _∙_}
 use mathlib.Core.List.{List, [], _∷_}
 use lib.ListN.{length, length-append}
-use Rattle.records.specs.Record.{Record}
-use Rattle.records.specs.Packed.{recordCount, logOf}
-use Rattle.records.proofs.RoundTrip.{count-log}
+use Rattle.log_records.specs.Record.{Record}
+use Rattle.log_records.specs.Packed.{recordCount, logOf}
+use Rattle.log_records.proofs.RoundTrip.{count-log}
 use Rattle.text.specs.Text.{decimal}
-use Rattle.sample_lines.specs.DataFile.{sampleLine, sampleLines, dataFile}
-use Rattle.sample_lines.proofs.Digits.{one-length, more-length, thousand-length}
-use Rattle.sample_lines.proofs.LineParts.{sample-length}
+use Rattle.text_sample_lines.specs.DataFile.{sampleLine, sampleLines, dataFile}
+use Rattle.text_sample_lines.proofs.Digits.{one-length, more-length, thousand-length}
+use Rattle.text_sample_lines.proofs.LineParts.{sample-length}
 use Rattle.waveform.specs.Comtrade.{fileOf}
 use Rattle.waveform.specs.Lengths.{digitsTo, lengthFor}
 

@@ -7,10 +7,10 @@ use lib.Dec.{ltb}
 use lib.ListN.{length}
 use Rattle.format.specs.Refusal.{Refusal, Check, checkWhole, firstRefusal}
 use Rattle.format.specs.Area.{overwrite}
-use Rattle.records.specs.Packed.{logOf}
-use Rattle.records.specs.Refusals.{logChecks}
+use Rattle.log_records.specs.Packed.{logOf}
+use Rattle.log_records.specs.Refusals.{logChecks}
 use Rattle.answers.specs.Answer.{Answer, answerBy}
-use Rattle.sample_lines.specs.DataFile.{dataFile}
+use Rattle.text_sample_lines.specs.DataFile.{dataFile}
 
 -- the file of a log in bytes
 unfoldable pub fileOf : List ℕ → List ℕ

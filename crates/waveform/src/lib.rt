@@ -4,10 +4,10 @@ mod lengths; // lengths.rt: the length of a file by the count of records
 ghost use Prim.Native.Nat.{_<_, _≤_};
 ghost use mathlib.Core.Path.{_≡_};
 ghost use lib.ListN.{length};
-ghost use Rattle.records.specs.Packed.{logOf, recordCount};
+ghost use Rattle.log_records.specs.Packed.{logOf, recordCount};
 ghost use Rattle.text.specs.Wrote.{Wrote};
 ghost use Rattle.answers.specs.Answer.{answered};
-ghost use Rattle.sample_lines.specs.DataFile.{sampleLines};
+ghost use Rattle.text_sample_lines.specs.DataFile.{sampleLines};
 ghost use Rattle.waveform.specs.Comtrade.{fileOf, comtradeAnswer, comtradeArea};
 use answers::Answered;
 
@@ -20,9 +20,9 @@ fn put_samples(area: &mut [u8], log: &[u8]) -> usize
     let mut shown: u32 = 0;
     let mut index = 0;
     while index < log.len() / 3 {
-        let columns = decoding::columns_at(log, index);
-        shown = sample_lines::after_record(shown, columns);
-        at = sample_lines::put_sample(area, at, index + 1, shown);
+        let columns = log_decoding::columns_at(log, index);
+        shown = text_sample_lines::after_record(shown, columns);
+        at = text_sample_lines::put_sample(area, at, index + 1, shown);
         index += 1;
     }
     at

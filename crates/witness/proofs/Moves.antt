@@ -9,25 +9,25 @@ use lib.ListN.{length, getD, getElem?, take, replicate, length-replicate}
 use Rattle.format.specs.Version.{v1}
 use Rattle.format.specs.Area.{overwrite}
 use Rattle.format.proofs.AreaLaws.{overwrite-first, overwrite-covers}
-use Rattle.packed.specs.Format.{terms}
-use Rattle.packed.specs.Trees.{programOf}
-use Rattle.packed.specs.Check.{refusal}
-use Rattle.packed.proofs.Decoded.{well-formed}
-use Rattle.records.specs.Record.{Record}
-use Rattle.records.specs.Packed.{bytesOf, logOf}
-use Rattle.records.proofs.RoundTrip.{length-bytes, length-log, logOf-bytesOf}
-use Rattle.order.specs.Chains.{Unordered}
+use Rattle.plan_packed.specs.Format.{terms}
+use Rattle.plan_packed.specs.Trees.{programOf}
+use Rattle.plan_packed.specs.Check.{refusal}
+use Rattle.plan_packed.proofs.Decoded.{well-formed}
+use Rattle.log_records.specs.Record.{Record}
+use Rattle.log_records.specs.Packed.{bytesOf, logOf}
+use Rattle.log_records.proofs.RoundTrip.{length-bytes, length-log, logOf-bytesOf}
+use Rattle.log_order.specs.Chains.{Unordered}
 use Rattle.rules.specs.Run.{Stop}
 use Rattle.rules.specs.Play.{scheduleRefusal, runOf}
-use Rattle.play_refusals.proofs.Passed.{Scheduled, scheduled}
+use Rattle.run_refusals.proofs.Passed.{Scheduled, scheduled}
 use types.Run.{OneOf, miss}
 use denote.Enum.Declared.{tagOf}
 use Rattle.run_outcome.proofs.Stop as stop-type
 use Rattle.run_outcome.specs.declared.Stop as code-stop
 use Rattle.run_outcome.specs.declared.Stop.the-variants as stop
-use Rattle.player.specs.Answer.{stopOf}
-use Rattle.player.specs.RunOn.{Given, MovesOn}
-use Rattle.engine.specs.declared.Ran.{Ran}
+use Rattle.play.specs.Answer.{stopOf}
+use Rattle.play.specs.RunOn.{Given, MovesOn}
+use Rattle.run_engine.specs.declared.Ran.{Ran}
 use Rattle.answers.specs.Answer.{Answer}
 use Rattle.side_by_side.specs.Moves.{movesOf}
 use Rattle.side_by_side.specs.LeftOut.{leftOut}
@@ -35,9 +35,9 @@ use Rattle.side_by_side.specs.SideBySide.{WrittenFrom, Written, SideBySide}
 use Rattle.side_by_side.proofs.TidyMoves.{tidy-moves}
 use Rattle.side_by_side.proofs.Written.{written-once}
 use Rattle.side_by_side.proofs.Plans.{plan-from-race, plan-unordered}
-use Rattle.schedule_writer.specs.Kept.{Small}
-use Rattle.schedule_writer.specs.WritesFrom as writes
-use Rattle.schedule_writer.specs.WritesFrom.{RacedIn, WritesFrom}
+use Rattle.log_schedule_writer.specs.Kept.{Small}
+use Rattle.log_schedule_writer.specs.WritesFrom as writes
+use Rattle.log_schedule_writer.specs.WritesFrom.{RacedIn, WritesFrom}
 use Rattle.witness.specs.Witness.{noMissingKey, raceRefusal, Witnesses, refused, too-short, wrote}
 use Rattle.witness.specs.Passing.{Loads, Passing}
 use Rattle.witness.proofs.Refusals.{by-16, by-none}

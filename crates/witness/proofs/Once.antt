@@ -8,7 +8,7 @@ use mathlib.Core.Option.{some, none, Option·none-ne-some}
 use lib.ListN.{length}
 use Rattle.format.specs.Refusal.{Refusal}
 use Rattle.format.specs.Area.{overwrite}
-use Rattle.packed.specs.Trees.{programOf}
+use Rattle.plan_packed.specs.Trees.{programOf}
 use Rattle.answers.specs.Answer.{Answer}
 use Rattle.side_by_side.specs.Moves.{movesOf}
 use Rattle.side_by_side.proofs.Written.{written-once}

@@ -11,25 +11,25 @@ use Rattle.format.specs.Refusal.{Refusal, orElse, firstRefusal}
 use Rattle.format.specs.Area.{overwrite}
 use Rattle.format.proofs.AreaLaws.{overwrite-first}
 use Rattle.format.proofs.RefusalLaws.{both-none, none-is-pass, none-left, and-then}
-use Rattle.packed.specs.Trees.{programOf}
-use Rattle.packed.specs.Check.{refusal}
+use Rattle.plan_packed.specs.Trees.{programOf}
+use Rattle.plan_packed.specs.Check.{refusal}
 use Rattle.rules.specs.State.{start}
 use Rattle.rules.specs.Run as run
 use Rattle.rules.specs.Run.{Stop}
 use Rattle.rules.specs.Play as play
 use Rattle.rules.specs.Play.{tooManyPicks, wrongPick, shortArea, scheduleRefusal, playRefusal, played, playedBy, runOf}
 use Rattle.rules.proofs.RunAppend.{all-dealt-with}
-use Rattle.refusals.specs.declared.Checked.{Checked}
-use Rattle.refusals.specs.declared.Checked.the-variants as checked
+use Rattle.plan_refusals.specs.declared.Checked.{Checked}
+use Rattle.plan_refusals.specs.declared.Checked.the-variants as checked
 use Rattle.run_outcome.specs.declared.Stop as code-stop
 use Rattle.run_outcome.specs.declared.Stop.the-variants as stop
 use Rattle.run_outcome.specs.declared.Outcome.{Outcome}
-use Rattle.play_refusals.proofs.RefusalChain.{pickChecks, schedule-stages, areaChecks, play-stages}
-use Rattle.play_refusals.proofs.Passed.{scheduled}
-use Rattle.player.specs.declared.outcome.Played.{Played}
-use Rattle.player.specs.Answer.{stopOf, outcomeOf, answeredBy, answered}
-use Rattle.player.proofs.Ran.{outcome-is, stop-is}
-use Rattle.player.proofs.Moves.{moves-are}
+use Rattle.run_refusals.proofs.RefusalChain.{pickChecks, schedule-stages, areaChecks, play-stages}
+use Rattle.run_refusals.proofs.Passed.{scheduled}
+use Rattle.play.specs.declared.outcome.Played.{Played}
+use Rattle.play.specs.Answer.{stopOf, outcomeOf, answeredBy, answered}
+use Rattle.play.proofs.Ran.{outcome-is, stop-is}
+use Rattle.play.proofs.Moves.{moves-are}
 use Rattle.side_by_side.specs.SideBySide.{Written, SideBySide}
 use Rattle.side_by_side.specs.Conflict.{Conflict, HasRoom}
 use Rattle.side_by_side.proofs.Plans.{plan-conflict-races}

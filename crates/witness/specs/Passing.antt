@@ -4,9 +4,9 @@ use mathlib.Core.Path.{_≡_}
 use mathlib.Core.Bool.{false}
 use mathlib.Core.List.{List}
 use mathlib.Core.Option.{none}
-use Rattle.packed.specs.Format.{terms}
-use Rattle.packed.specs.Check.{refusal}
-use Rattle.packed.specs.Steps.{Loaded}
+use Rattle.plan_packed.specs.Format.{terms}
+use Rattle.plan_packed.specs.Check.{refusal}
+use Rattle.plan_packed.specs.Steps.{Loaded}
 use Rattle.rules.specs.Play.{scheduleRefusal}
 use Rattle.side_by_side.specs.LeftOut.{leftOut}
 

@@ -1,9 +1,9 @@
 -- What a play of what was written answers (document 02, E10: "Played, every pick moves"). Assumes nothing.
 use Prim.Native.Nat.{ℕ}
 use mathlib.Core.Path.{_≡_}
-use Rattle.refusals.specs.declared.Checked.the-variants as checked
+use Rattle.plan_refusals.specs.declared.Checked.the-variants as checked
 use Rattle.run_outcome.specs.declared.Stop.the-variants as stop
-use Rattle.player.specs.declared.outcome.Played.{Played}
+use Rattle.play.specs.declared.outcome.Played.{Played}
 
 -- nothing refuses it, it comes to its end, and each of its n picks moves
 pub record PlaysThrough (p : Played) (n : ℕ) : Type 0 where

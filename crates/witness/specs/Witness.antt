@@ -7,7 +7,7 @@ use mathlib.Core.Option.{Option, some, none}
 use lib.ListN.{length}
 use Rattle.format.specs.Refusal.{Refusal, Check, checkWhole, firstRefusal}
 use Rattle.format.specs.Area.{overwrite}
-use Rattle.packed.specs.Trees.{programOf}
+use Rattle.plan_packed.specs.Trees.{programOf}
 use Rattle.rules.specs.Run.{Stop}
 use Rattle.rules.specs.Play.{scheduleChecks, runOf}
 use Rattle.side_by_side.specs.LeftOut.{leftOut}

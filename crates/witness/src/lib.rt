@@ -6,9 +6,9 @@ ghost use Rattle.side_by_side.specs.LeftOut.{leftOut};
 ghost use Rattle.witness.specs.Witness.{Witnesses};
 ghost use Rattle.witness.specs.Passing.{Loads, Passing};
 use answers::Answered;
-use header::layout;
-use operands::tags;
-use refusals::Checked;
+use plan_header::layout;
+use plan_operands::tags;
+use plan_refusals::Checked;
 use run_outcome::Stop;
 
 // The plan has version 0, or a wait among its terms.
@@ -18,7 +18,7 @@ fn left_out(plan: &[u8], words: &[usize; 1024]) -> bool
 {
     let count = layout::terms(plan);
     let version = layout::version(plan);
-    let waits = tag_search::occurs(words, count, tags::WAIT);
+    let waits = plan_tag_search::occurs(words, count, tags::WAIT);
     (version == 0) | waits
 }
 
@@ -29,7 +29,7 @@ fn from_run(plan: &[u8], words: &[usize; 1024], schedule: &[u8], area: &mut [u8]
     ensures { λ r. ⌜ Witnesses (now (plan .entry)) (now (schedule .entry)) (now (area .entry)) (answered r) (now (area .exit)) ⌝ }
 {
     let mut log = [0u8; 12288];
-    let ran = player::run(plan, words, true, schedule, &mut log);
+    let ran = play::run(plan, words, true, schedule, &mut log);
     let outcome = ran.outcome;
     let stop = outcome.stop;
     let Stop::Race = stop else {
@@ -38,8 +38,8 @@ fn from_run(plan: &[u8], words: &[usize; 1024], schedule: &[u8], area: &mut [u8]
             place: 0,
         };
     };
-    let end = player::outcome::record_bytes(outcome.records);
-    schedule_writer::write(&log[0..end], area)
+    let end = play::outcome::record_bytes(outcome.records);
+    log_schedule_writer::write(&log[0..end], area)
 }
 
 // Every plan, schedule and area gets E10's answer: a refusal of number 1 to 9, 15, 16 or 17 with its place, and no byte of the area changed; or the length of
@@ -49,7 +49,7 @@ pub fn witness(plan: &[u8], schedule: &[u8], area: &mut [u8]) -> Answered
     ensures { λ r. ⌜ Witnesses (now (plan .entry)) (now (schedule .entry)) (now (area .entry)) (answered r) (now (area .exit)) ⌝ }
 {
     let mut words = [0usize; 1024];
-    let checked = play_refusals::schedule_refusal(plan, schedule, &mut words);
+    let checked = run_refusals::schedule_refusal(plan, schedule, &mut words);
     if let Checked::Refused { number, place } = checked {
         return Answered::Refused { number, place };
     }

@@ -4,7 +4,7 @@ use mathlib.Core.Path.{subst as along}
 use lib.ListN.{take}
 use Prim.Native.Nat.{ℕ}
 use borrow.Author.Needs.{needs}
-use Rattle.conflicts.specs.Judge.{AnswersTold}
+use Rattle.log_conflicts.specs.Judge.{AnswersTold}
 use Rattle.judge.specs.Answer as judge
 use Rattle.agreement.proofs.judge_first.Statement.{statement}
 use Rattle.agreement.proofs.judge_first.Tie as tie

@@ -2,8 +2,8 @@
 -- bytes, which are the run's records. Assumes nothing.
 use native.Mathlib.Omega.{arith}
 use borrow.Author.Needs.{needs}
-use Rattle.play_refusals.proofs.Passed.{inside}
-use Rattle.player.proofs.Ran.{passes, few-records, within}
+use Rattle.run_refusals.proofs.Passed.{inside}
+use Rattle.play.proofs.Ran.{passes, few-records, within}
 use Rattle.agreement.proofs.Entry.{agreed-on, refused-agreed}
 use Rattle.agreement.proofs.play_and_judge.Statement.{statement}
 use Rattle.agreement.proofs.play_and_judge.Tie as tie

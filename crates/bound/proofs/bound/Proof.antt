@@ -2,7 +2,7 @@
 use mathlib.Core.Path.{refl}
 use native.Mathlib.Omega.{arith}
 use borrow.Author.Needs.{needs}
-use Rattle.refusals.proofs.Stages.{passed-none}
+use Rattle.plan_refusals.proofs.Stages.{passed-none}
 use Rattle.bound.specs.NoMoreMoves.{NoMoreMoves}
 use Rattle.bound.proofs.Answers.{by-check, no-more}
 use Rattle.bound.proofs.Bodies.{long-enough}

@@ -5,9 +5,9 @@ use Prim.Native.Nat.{ℕ, _<_}
 use native.Mathlib.Omega.{arith}
 use borrow.Author.Needs.{needs}
 use borrow.Author.Tests.{not-true, not-false}
-use Rattle.keys.specs.Keys.{holds}
-use Rattle.packed.specs.Trees.{programOf}
-use Rattle.packed.proofs.Accepted.{accepted}
+use Rattle.run_keys.specs.Keys.{holds}
+use Rattle.plan_packed.specs.Trees.{programOf}
+use Rattle.plan_packed.proofs.Accepted.{accepted}
 use Rattle.costs.specs.Calls.{cyclic}
 use Rattle.bound.proofs.Bodies.{few-procedures}
 use Rattle.bound.proofs.Answers.{left-cyclic, all-acyclic, total-in, main-cost, while-in, answer-21, answer-22, answer-23, answer-moves}

@@ -1,5 +1,5 @@
 -- `refusal` meets its contract. Assumes nothing.
-use Rattle.refusals.proofs.Stages.{passed-refused}
+use Rattle.plan_refusals.proofs.Stages.{passed-refused}
 use Rattle.canonical.proofs.Chain.{by-plan, by-area, by-none}
 use borrow.Author.Needs.{needs}
 use Rattle.canonical.proofs.refusal.Statement.{statement}

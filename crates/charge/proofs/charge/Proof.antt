@@ -1,6 +1,6 @@
 -- `charge` meets its contract, by what `play` ensures. Assumes nothing.
 use native.Mathlib.Omega.{arith}
-use Rattle.player.proofs.Moves.{few-moves}
+use Rattle.play.proofs.Moves.{few-moves}
 use Rattle.charge.proofs.Charged.{refused-charge, ran-charge}
 use borrow.Author.Needs.{needs}
 use Rattle.charge.proofs.charge.Statement.{statement}

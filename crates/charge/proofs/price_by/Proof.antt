@@ -1,5 +1,5 @@
 -- `price_by` meets its contract. Assumes nothing.
-use Rattle.player.specs.Answer.{stopOf}
+use Rattle.play.specs.Answer.{stopOf}
 use Rattle.charge.specs.Charge.{priceBy}
 use borrow.Author.Needs.{needs}
 use Rattle.charge.proofs.price_by.Statement.{statement}

@@ -2,7 +2,7 @@
 use native.Mathlib.Omega.{arith}
 use mathlib.Core.Path.{sym}
 use lib.Seq.{length-take-le}
-use Rattle.refusal_lines.proofs.SentenceLines.{lines-short}
+use Rattle.text_refusal_lines.proofs.SentenceLines.{lines-short}
 use borrow.Author.Needs.{needs}
 use Rattle.comtrade_files.proofs.say_refusal.Statement.{statement}
 use Rattle.comtrade_files.proofs.say_refusal.Tie as tie

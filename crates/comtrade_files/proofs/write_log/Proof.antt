@@ -2,7 +2,7 @@
 use native.Mathlib.Omega.{arith}
 use mathlib.Core.Path.{sym, ap, _∙_}
 use lib.Seq.{length-take-le}
-use Rattle.records.proofs.Accepted.{accepted}
+use Rattle.log_records.proofs.Accepted.{accepted}
 use Rattle.answers.specs.Answer.{answered}
 use Rattle.waveform.proofs.Answers.{value-means}
 use borrow.Author.Needs.{needs}

@@ -5,7 +5,7 @@ use mathlib.Core.Path.{subst as along}
 use mathlib.Core.List.{List}
 use lib.ListN.{take, replicate}
 use borrow.Author.Needs.{needs}
-use Rattle.packed.specs.Trees.{programOf}
+use Rattle.plan_packed.specs.Trees.{programOf}
 use Rattle.interleavings.specs.declared.Next.the-variants as next
 use Rattle.interleavings.specs.Steps.{Followed}
 use Rattle.interleavings.proofs.Counting.{to-note, to-follow, at-end, written-fits, written-room, stands-next}

@@ -5,11 +5,11 @@ use mathlib.Core.Path.{refl, subst as along}
 use mathlib.Core.List.{[], _∷_, _++_}
 use lib.ListN.{length, take}
 use borrow.Author.Needs.{needs}
-use Rattle.packed.specs.Syntax.{Program}
-use Rattle.packed.specs.Trees.{programOf}
+use Rattle.plan_packed.specs.Syntax.{Program}
+use Rattle.plan_packed.specs.Trees.{programOf}
 use Rattle.text.specs.Wrote.{Wrote}
 use Rattle.text.proofs.Added.{added-more}
-use Rattle.place_notes.specs.Notes.{LastTurn}
+use Rattle.run_place_notes.specs.Notes.{LastTurn}
 use Rattle.interleavings.specs.Steps.{TurnsAt}
 use Rattle.interleavings.proofs.GoingBack.{none-higher-at, turns-at, over}
 use Rattle.interleavings.proofs.Answers.{turn-fits, begins, followed}

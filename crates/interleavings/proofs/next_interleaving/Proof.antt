@@ -1,7 +1,7 @@
 -- `next_interleaving` meets its contract. Assumes nothing.
 use borrow.Author.Needs.{needs}
 use borrow.Author.Tests.{not-true, not-false}
-use Rattle.packed.specs.Trees.{programOf}
+use Rattle.plan_packed.specs.Trees.{programOf}
 use Rattle.listing.specs.Listed.{Listed}
 use Rattle.interleavings.proofs.Answers.{next-refused, given-plan, given-picks, next-over-bound, next-not-listed, next-short, next-followed}
 use Rattle.interleavings.proofs.next_interleaving.Statement.{statement}

@@ -1,6 +1,6 @@
 -- `judge::judge` meets its contract: refusal 14, then `judge_version`. Assumes nothing.
 use native.Mathlib.Omega.{arith}
-use Rattle.conflicts.specs.Judge.{wrong-version, right-version}
+use Rattle.log_conflicts.specs.Judge.{wrong-version, right-version}
 use borrow.Author.Needs.{needs}
 use Rattle.judge.proofs.judge.Statement.{statement}
 use Rattle.judge.proofs.judge.Tie as tie

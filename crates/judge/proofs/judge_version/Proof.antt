@@ -1,7 +1,7 @@
 -- `judge::judge_version` meets its contract: the refusals in the order of their numbers, then the pass. Assumes nothing.
 use Rattle.log_refusals.proofs.Refused.{refused-length, refused-record, not-refused}
-use Rattle.conflicts.specs.Judge.{refuses}
-use Rattle.records.specs.Refusals.{logRefusal}
+use Rattle.log_conflicts.specs.Judge.{refuses}
+use Rattle.log_records.specs.Refusals.{logRefusal}
 use mathlib.Core.Path.{_≡_, sym, _∙_}
 use mathlib.Core.Option.{none}
 use borrow.Author.Needs.{needs}

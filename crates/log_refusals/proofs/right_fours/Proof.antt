@@ -1,6 +1,6 @@
 -- `log_refusals::right_fours` meets its contract. The invariant: no record so far is wrong. The measure is the count of records left. Assumes nothing.
-use Rattle.records.specs.Refusals.{wrongRecord}
-use Rattle.records.specs.Packed.{recordCount}
+use Rattle.log_records.specs.Refusals.{wrongRecord}
+use Rattle.log_records.specs.Packed.{recordCount}
 use Rattle.log_refusals.proofs.Fours.{four-more}
 use lib.ListN.{length}
 use mathlib.Core.Bool.{false}

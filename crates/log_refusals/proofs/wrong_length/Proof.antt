@@ -1,5 +1,5 @@
 -- `log_refusals::wrong_length` meets its contract: its test is the definition's. Assumes nothing.
-use Rattle.records.proofs.Accepted.{wrong-length}
+use Rattle.log_records.proofs.Accepted.{wrong-length}
 use mathlib.Core.Path.{sym}
 use Rattle.log_refusals.proofs.wrong_length.Statement.{statement}
 use Rattle.log_refusals.proofs.wrong_length.Tie as tie

@@ -4,11 +4,11 @@ use mathlib.Core.Option.{some, none}
 use borrow.Author.Needs.{needs}
 use Rattle.format.specs.Refusal.{lowest, refuse, firstRefusal}
 use Rattle.format.proofs.LowestLaws.{whole, whole-none, missed, struck}
-use Rattle.packed.specs.Format.{procedures}
-use Rattle.packed.specs.Refusals.{wrongLength, wrongHeader, wrongProcedure}
-use Rattle.packed.specs.Check.{checks}
-use Rattle.packed.proofs.Shown.{long-enough, make-sized}
-use Rattle.refusals.specs.Answer.{answered}
+use Rattle.plan_packed.specs.Format.{procedures}
+use Rattle.plan_packed.specs.Refusals.{wrongLength, wrongHeader, wrongProcedure}
+use Rattle.plan_packed.specs.Check.{checks}
+use Rattle.plan_packed.proofs.Shown.{long-enough, make-sized}
+use Rattle.plan_refusals.specs.Answer.{answered}
 use Rattle.plan.proofs.check_header.Statement.{statement}
 use Rattle.plan.proofs.check_header.Tie as tie
 

@@ -6,11 +6,11 @@ use borrow.Author.Needs.{needs}
 use Rattle.format.specs.Refusal.{lowest, refuse, firstRefusal}
 use Rattle.format.specs.Lowest.{Lowest}
 use Rattle.format.proofs.LowestLaws.{found-none, missed, struck}
-use Rattle.packed.specs.Format.{terms}
-use Rattle.packed.specs.Refusals.{wronglySorted, notNamedOnce}
-use Rattle.packed.specs.Check.{checks}
-use Rattle.packed.proofs.NameLaws.{all-names}
-use Rattle.refusals.specs.Answer.{answered}
+use Rattle.plan_packed.specs.Format.{terms}
+use Rattle.plan_packed.specs.Refusals.{wronglySorted, notNamedOnce}
+use Rattle.plan_packed.specs.Check.{checks}
+use Rattle.plan_packed.proofs.NameLaws.{all-names}
+use Rattle.plan_refusals.specs.Answer.{answered}
 use Rattle.plan.proofs.check_names.Statement.{statement}
 use Rattle.plan.proofs.check_names.Tie as tie
 

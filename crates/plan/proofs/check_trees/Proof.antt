@@ -4,11 +4,11 @@ use mathlib.Core.Option.{some, none}
 use borrow.Author.Needs.{needs}
 use Rattle.format.specs.Refusal.{lowest, refuse, firstRefusal}
 use Rattle.format.proofs.LowestLaws.{missed, struck}
-use Rattle.packed.specs.Format.{procedures}
-use Rattle.packed.specs.Refusals.{usesUnboundSlot}
-use Rattle.packed.specs.Check.{checks}
-use Rattle.refusals.specs.Answer.{answered}
-use Rattle.refusals.specs.declared.Checked.the-variants.{Passed}
+use Rattle.plan_packed.specs.Format.{procedures}
+use Rattle.plan_packed.specs.Refusals.{usesUnboundSlot}
+use Rattle.plan_packed.specs.Check.{checks}
+use Rattle.plan_refusals.specs.Answer.{answered}
+use Rattle.plan_refusals.specs.declared.Checked.the-variants.{Passed}
 use Rattle.plan.proofs.Stages.{by-names, by-slots}
 use Rattle.plan.proofs.check_trees.Statement.{statement}
 use Rattle.plan.proofs.check_trees.Tie as tie

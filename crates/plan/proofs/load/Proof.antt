@@ -5,11 +5,11 @@ use native.Mathlib.Omega.{arith}
 use borrow.Author.Needs.{needs}
 use Rattle.format.specs.Refusal.{lowest}
 use Rattle.format.proofs.LowestLaws.{missed, struck}
-use Rattle.packed.specs.Format.{terms}
-use Rattle.packed.specs.Refusals.{wrongTerm}
-use Rattle.packed.specs.Steps.{Headed}
-use Rattle.packed.proofs.Shown.{make-headed, make-right}
-use Rattle.refusals.proofs.Stages.{passed-refused}
+use Rattle.plan_packed.specs.Format.{terms}
+use Rattle.plan_packed.specs.Refusals.{wrongTerm}
+use Rattle.plan_packed.specs.Steps.{Headed}
+use Rattle.plan_packed.proofs.Shown.{make-headed, make-right}
+use Rattle.plan_refusals.proofs.Stages.{passed-refused}
 use Rattle.plan.proofs.Stages.{by-header, headed, by-term, by-trees, loaded-as}
 use Rattle.plan.proofs.load.Statement.{statement}
 use Rattle.plan.proofs.load.Tie as tie

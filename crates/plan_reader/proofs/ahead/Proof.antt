@@ -4,7 +4,7 @@ use Prim.Native.Nat.{ℕ, zero, suc, _<_}
 use mathlib.Core.Path.{_≡_, refl, sym, _∙_}
 use mathlib.Core.List.{List, [], _∷_}
 use lib.ListN.{length, getD}
-use Rattle.parsing.specs.Parser.{ahead}
+use Rattle.plan_parsing.specs.Parser.{ahead}
 use Rattle.plan_reader.proofs.VolatileFields.{beyond}
 use borrow.Author.Needs.{needs}
 use Rattle.plan_reader.proofs.ahead.Statement.{statement}

@@ -2,7 +2,7 @@
 use native.Mathlib.Omega.{arith}
 use mathlib.Core.Path.{_∙_}
 use Rattle.text.proofs.Added.{added-more}
-use Rattle.parsing.specs.Plan.{countsOf}
+use Rattle.plan_parsing.specs.Plan.{countsOf}
 use borrow.Author.Needs.{needs}
 use Rattle.plan_reader.proofs.put_counts.Statement.{statement}
 use Rattle.plan_reader.proofs.put_counts.Tie as tie

@@ -2,8 +2,8 @@
 use Prim.Native.Nat.{_-_, _≤_}
 use native.Mathlib.Omega.{arith}
 use mathlib.Core.Path.{_≡_, refl, sym, _∙_}
-use Rattle.packed.specs.Format.{fieldsFrom}
-use Rattle.token_writer.proofs.Fields.{skip-field}
+use Rattle.plan_packed.specs.Format.{fieldsFrom}
+use Rattle.plan_token_writer.proofs.Fields.{skip-field}
 use borrow.Author.Needs.{needs}
 use Rattle.plan_tokens.proofs.first_field.Statement.{statement}
 use Rattle.plan_tokens.proofs.first_field.Tie as tie

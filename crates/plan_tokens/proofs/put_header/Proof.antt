@@ -3,8 +3,8 @@ use Prim.Native.Nat.{ℕ, _≤_, _<_}
 use native.Mathlib.Omega.{arith}
 use mathlib.Core.Path.{_≡_, ap, _∙_}
 use mathlib.Core.List.{[], _∷_}
-use Rattle.packed.specs.Format.{fieldsFrom}
-use Rattle.notation.specs.Shown.{volatileTokens}
+use Rattle.plan_packed.specs.Format.{fieldsFrom}
+use Rattle.plan_notation.specs.Shown.{volatileTokens}
 use Rattle.text.proofs.Added.{added-more, added-as}
 use Rattle.plan_tokens.proofs.Parts.{header-parts, header-length}
 use borrow.Author.Needs.{needs}

@@ -4,7 +4,7 @@ use native.Mathlib.Omega.{arith}
 use mathlib.Core.Path.{_≡_, sym, ap, _∙_}
 use lib.ListN.{length}
 use Rattle.text.proofs.Added.{added-none, added-more, added-as}
-use Rattle.token_writer.proofs.Fields.{volatile-none, volatile-some}
+use Rattle.plan_token_writer.proofs.Fields.{volatile-none, volatile-some}
 use borrow.Author.Needs.{needs}
 use Rattle.plan_tokens.proofs.put_volatiles.Statement.{statement}
 use Rattle.plan_tokens.proofs.put_volatiles.Tie as tie

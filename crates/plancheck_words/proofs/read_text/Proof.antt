@@ -3,8 +3,8 @@ use Prim.Native.Nat.{ℕ, _-_}
 use native.Mathlib.Omega.{arith}
 use lib.ListN.{length-replicate}
 use Rattle.read.specs.Answer.{failureOf}
-use Rattle.refusal_lines.proofs.SentenceLines.{lines-short}
-use Rattle.read_lines.proofs.FailureLines.{failure-short}
+use Rattle.text_refusal_lines.proofs.SentenceLines.{lines-short}
+use Rattle.text_read_lines.proofs.FailureLines.{failure-short}
 use Rattle.plancheck_words.proofs.Texts.{written-means, short-means, failed-means}
 use Rattle.plancheck_words.proofs.Telling.{plan-told, none-told}
 use borrow.Author.Needs.{needs}

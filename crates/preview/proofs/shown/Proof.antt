@@ -5,7 +5,7 @@ use mathlib.Core.Path.{sym, ap, _∙_, subst as along}
 use mathlib.Core.List.{List, [], _∷_}
 use lib.ListN.{length-append}
 use borrow.Author.Needs.{needs}
-use Rattle.player.specs.RunOn.{Given, RunOn}
+use Rattle.play.specs.RunOn.{Given, RunOn}
 use Rattle.preview.specs.Preview.{withPick}
 use Rattle.preview.specs.Answer.{answered, AsLogged}
 use Rattle.preview.specs.Shown.{innerLog}

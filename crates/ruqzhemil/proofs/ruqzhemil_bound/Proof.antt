@@ -1,6 +1,6 @@
 -- `ruqzhemil::ruqzhemil_bound` meets its contract: the number of what `bound::bound` answers. Assumes nothing.
 use Rattle.ruqzhemil.proofs.Tools.{small-bound}
-use Rattle.return_convention.specs.Convention.{answerNumber}
+use Rattle.abi_convention.specs.Convention.{answerNumber}
 use mathlib.Core.Path.{ap, _∙_}
 use borrow.Author.Needs.{needs}
 use Rattle.ruqzhemil.proofs.ruqzhemil_bound.Statement.{statement}

@@ -1,6 +1,6 @@
 -- `ruqzhemil::ruqzhemil_charge` meets its contract: the number of what `charge::charge` answers. Assumes nothing.
 use Rattle.ruqzhemil.proofs.Tools.{small-charge}
-use Rattle.return_convention.specs.Convention.{answerNumber}
+use Rattle.abi_convention.specs.Convention.{answerNumber}
 use mathlib.Core.Path.{ap, _∙_}
 use borrow.Author.Needs.{needs}
 use Rattle.ruqzhemil.proofs.ruqzhemil_charge.Statement.{statement}

@@ -1,6 +1,6 @@
 -- `ruqzhemil::ruqzhemil_check` meets its contract: the number of what `plan::check` answers. Assumes nothing.
 use Rattle.ruqzhemil.proofs.Refusals.{small-plan}
-use Rattle.return_convention.specs.Convention.{checkNumber}
+use Rattle.abi_convention.specs.Convention.{checkNumber}
 use mathlib.Core.Path.{ap, _∙_}
 use borrow.Author.Needs.{needs}
 use Rattle.ruqzhemil.proofs.ruqzhemil_check.Statement.{statement}

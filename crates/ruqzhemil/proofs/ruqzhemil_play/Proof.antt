@@ -1,7 +1,7 @@
--- `ruqzhemil::ruqzhemil_play` meets its contract: the number, the log area and the bytes of what `player::play` answers. Assumes nothing.
+-- `ruqzhemil::ruqzhemil_play` meets its contract: the number, the log area and the bytes of what `play::play` answers. Assumes nothing.
 use mathlib.Core.Path.{ap, _∙_}
 use borrow.Author.Needs.{needs}
-use Rattle.outcome_bytes.specs.Play.{playNumber, outAfter}
+use Rattle.abi_outcome.specs.Play.{playNumber, outAfter}
 use Rattle.ruqzhemil.proofs.Played.{small-played}
 use Rattle.ruqzhemil.proofs.ruqzhemil_play.Statement.{statement}
 use Rattle.ruqzhemil.proofs.ruqzhemil_play.Tie as tie

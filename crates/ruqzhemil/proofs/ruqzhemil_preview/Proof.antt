@@ -1,6 +1,6 @@
 -- `ruqzhemil::ruqzhemil_preview` meets its contract: the number and the bytes of what `preview::preview` answers. Assumes nothing.
 use Rattle.ruqzhemil.proofs.Previewed.{small-previewed}
-use Rattle.preview_bytes.specs.Bytes.{previewNumber, outAfter}
+use Rattle.abi_preview.specs.Bytes.{previewNumber, outAfter}
 use mathlib.Core.Path.{ap, _∙_}
 use borrow.Author.Needs.{needs}
 use Rattle.ruqzhemil.proofs.ruqzhemil_preview.Statement.{statement}

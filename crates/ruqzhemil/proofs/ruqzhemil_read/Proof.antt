@@ -1,6 +1,6 @@
 -- `ruqzhemil::ruqzhemil_read` meets its contract: the number of what `read::read` answers, and its area. Assumes nothing.
 use Rattle.ruqzhemil.proofs.ReadAnswers.{small-read}
-use Rattle.numbers.specs.Numbers.{readNumber}
+use Rattle.abi_numbers.specs.Numbers.{readNumber}
 use mathlib.Core.Path.{ap, _∙_}
 use borrow.Author.Needs.{needs}
 use Rattle.ruqzhemil.proofs.ruqzhemil_read.Statement.{statement}

@@ -1,6 +1,6 @@
 -- `ruqzhemil::ruqzhemil_show` meets its contract: the number of what `show::show` answers, and its area. Assumes nothing.
 use Rattle.ruqzhemil.proofs.Shown.{small-show}
-use Rattle.return_convention.specs.Convention.{answerNumber}
+use Rattle.abi_convention.specs.Convention.{answerNumber}
 use mathlib.Core.Path.{ap, _∙_}
 use borrow.Author.Needs.{needs}
 use Rattle.ruqzhemil.proofs.ruqzhemil_show.Statement.{statement}

@@ -1,6 +1,6 @@
 -- `show` meets its contract. Assumes nothing.
 use native.Mathlib.Omega.{arith}
-use Rattle.refusals.proofs.Stages.{passed-none}
+use Rattle.plan_refusals.proofs.Stages.{passed-none}
 use Rattle.plan_tokens.proofs.Parts.{plan-few}
 use Rattle.show.proofs.Answers.{plan-refused, text-written}
 use Rattle.show.proofs.Tokens.{given, first-tokens, known-tokens}

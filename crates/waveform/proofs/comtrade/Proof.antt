@@ -4,9 +4,9 @@ use mathlib.Core.Path.{_≡_, sym, _∙_}
 use mathlib.Core.Option.{none}
 use Prim.Native.Nat.{_≤_}
 use lib.ListN.{length}
-use Rattle.records.specs.Packed.{recordCount}
-use Rattle.records.specs.Refusals.{logRefusal}
-use Rattle.records.proofs.Accepted.{accepted}
+use Rattle.log_records.specs.Packed.{recordCount}
+use Rattle.log_records.specs.Refusals.{logRefusal}
+use Rattle.log_records.proofs.Accepted.{accepted}
 use Rattle.log_refusals.proofs.Refused.{refused-length, refused-record, not-refused}
 use Rattle.text.proofs.Added.{added-more, added-as}
 use Rattle.waveform.proofs.FileLength.{file-length}

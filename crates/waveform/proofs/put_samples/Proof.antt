@@ -4,13 +4,13 @@ use native.Mathlib.Numerals.{add-one}
 use native.Mathlib.Omega.{arith}
 use mathlib.Core.Path.{_≡_, ap}
 use lib.ListN.{length, length-append, take}
-use Rattle.records.specs.Packed.{recordCount, logOf}
+use Rattle.log_records.specs.Packed.{recordCount, logOf}
 use Rattle.text.specs.Wrote.{Wrote}
 use Rattle.text.proofs.Added.{added-none, added-more, added-as}
-use Rattle.sample_lines.specs.DataFile.{sampleLine, sampleLines}
-use Rattle.sample_lines.specs.Shown.{Shown}
-use Rattle.sample_lines.proofs.ShownBits.{shown-none}
-use Rattle.sample_lines.proofs.LineParts.{line-is}
+use Rattle.text_sample_lines.specs.DataFile.{sampleLine, sampleLines}
+use Rattle.text_sample_lines.specs.Shown.{Shown}
+use Rattle.text_sample_lines.proofs.ShownBits.{shown-none}
+use Rattle.text_sample_lines.proofs.LineParts.{line-is}
 use Rattle.waveform.proofs.FileLength.{lines-within}
 use Rattle.waveform.proofs.Records.{shown-next}
 use Rattle.waveform.proofs.Answers.{lines-length}

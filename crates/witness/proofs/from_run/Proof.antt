@@ -5,7 +5,7 @@ use mathlib.Core.Path.{_≡_, ap, _∙_}
 use borrow.Author.Needs.{needs}
 use Rattle.rules.specs.Run.{Stop}
 use Rattle.run_outcome.specs.declared.Stop as code-stop
-use Rattle.player.specs.Answer.{stopOf}
+use Rattle.play.specs.Answer.{stopOf}
 use Rattle.witness.proofs.Moves.{no-race, given, few-records, within, begins, not-raced, raced-in, witnessed}
 use Rattle.witness.proofs.from_run.Statement.{statement}
 use Rattle.witness.proofs.from_run.Tie as tie

@@ -5,8 +5,8 @@ use mathlib.Core.Bool.{_||_}
 use lib.Dec.{eqb}
 use Prim.Native.Nat.{ℕ}
 use borrow.Author.Needs.{needs}
-use Rattle.play_refusals.proofs.Passed.{inside}
-use Rattle.tag_search.proofs.Tags.{tag-in}
+use Rattle.run_refusals.proofs.Passed.{inside}
+use Rattle.plan_tag_search.proofs.Tags.{tag-in}
 use Rattle.side_by_side.specs.LeftOut.{hasWait, leftOut}
 use Rattle.witness.proofs.left_out.Statement.{statement}
 use Rattle.witness.proofs.left_out.Tie as tie

@@ -2,10 +2,10 @@
 use mathlib.Core.Path.{_≡_, refl, sym, ap, _∙_}
 use mathlib.Core.Option.{none}
 use borrow.Author.Needs.{needs}
-use Rattle.refusals.specs.Answer as check
-use Rattle.refusals.proofs.Stages.{passed-none}
+use Rattle.plan_refusals.specs.Answer as check
+use Rattle.plan_refusals.proofs.Stages.{passed-none}
 use Rattle.rules.specs.Play.{scheduleRefusal}
-use Rattle.play_refusals.proofs.Passed.{scheduled}
+use Rattle.run_refusals.proofs.Passed.{scheduled}
 use Rattle.witness.specs.Witness.{refused}
 use Rattle.witness.specs.Passing.{Loads}
 use Rattle.witness.proofs.Refusals.{by-schedule, by-15}

@@ -6,7 +6,7 @@ use lib.ListN.{length, length-set}
 use borrow.Author.Needs.{needs}
 use Rattle.format.proofs.BitLaws.{shl-one}
 use Rattle.format.proofs.Filled.{filled}
-use Rattle.keys.specs.Keys.{singleton}
+use Rattle.run_keys.specs.Keys.{singleton}
 use Rattle.bound.specs.Settling.{Bits}
 use Rattle.bound.proofs.settling.bits.Statement.{statement}
 use Rattle.bound.proofs.settling.bits.Tie as tie

@@ -5,8 +5,8 @@ use native.Mathlib.Omega.{arith}
 use lib.ListN.{length, length-set}
 use borrow.Author.Needs.{needs}
 use Rattle.format.proofs.Filled.{filled}
-use Rattle.keys.specs.Keys.{holds}
-use Rattle.packed.specs.Trees.{programOf}
+use Rattle.run_keys.specs.Keys.{holds}
+use Rattle.plan_packed.specs.Trees.{programOf}
 use Rattle.costs.specs.Calls.{called}
 use Rattle.bound.specs.Settling.{Called}
 use Rattle.bound.proofs.Bodies.{few-procedures, root-there, root-call}

@@ -4,7 +4,7 @@ use mathlib.Core.Bool.{Bool, true, false, _&&_, not}
 use native.Mathlib.Omega.{arith}
 use borrow.Author.Needs.{needs}
 use borrow.Author.Tests.{eq-eqb, ne-eqb}
-use Rattle.keys.specs.Keys.{holds, union, subset}
+use Rattle.run_keys.specs.Keys.{holds, union, subset}
 use Rattle.bound.proofs.settling.is_next.Statement.{statement}
 use Rattle.bound.proofs.settling.is_next.Tie as tie
 

@@ -7,7 +7,7 @@ use borrow.Author.Count.{below-more}
 use borrow.Author.Needs.{needs}
 use borrow.Author.Tests.{eq-eqb, ne-eqb}
 use Rattle.format.proofs.LowestLaws.{found, found-none}
-use Rattle.keys.specs.Keys.{holds}
+use Rattle.run_keys.specs.Keys.{holds}
 use Rattle.bound.proofs.settling.lowest_left.Statement.{statement}
 use Rattle.bound.proofs.settling.lowest_left.Tie as tie
 

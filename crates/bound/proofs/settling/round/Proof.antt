@@ -6,7 +6,7 @@ use native.Mathlib.Omega.{arith}
 use lib.Bits.{bitOr}
 use borrow.Author.Needs.{needs}
 use Rattle.format.proofs.BitLaws.{shl-one}
-use Rattle.keys.specs.Keys.{singleton}
+use Rattle.run_keys.specs.Keys.{singleton}
 use Rattle.bound.proofs.Bodies.{few-procedures, root-there, root-call}
 use Rattle.bound.proofs.Rounds.{Going, passes-by, takes-in, round-stuck}
 use Rattle.bound.proofs.settling.round.Statement.{statement}

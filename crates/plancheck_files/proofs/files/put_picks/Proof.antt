@@ -1,7 +1,7 @@
 -- `put_picks` meets its contract: what is written lies within its area. Assumes nothing.
 use mathlib.Core.Path.{sym}
 use lib.Seq.{length-take-le}
-use Rattle.answer_lines.proofs.Areas.{wrote-within}
+use Rattle.text_answer_lines.proofs.Areas.{wrote-within}
 use borrow.Author.Needs.{needs}
 use Rattle.plancheck_files.proofs.files.put_picks.Statement.{statement}
 use Rattle.plancheck_files.proofs.files.put_picks.Tie as tie

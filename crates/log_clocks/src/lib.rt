@@ -1,0 +1,60 @@
+// Rows of eight clocks, one to a thread. A record of thread u has reached what a row is of when its index is below the row's clock of u.
+ghost use mathlib.Core.Path.{_≡_};
+ghost use Prim.Native.Nat.{max, min};
+ghost use Rattle.log_clocks.specs.Rows.{Raised, RaisedTo, lowerOf};
+
+pub type Row = [u16; 8];
+
+// The higher of two clocks.
+pub fn higher(one: u16, other: u16) -> u16
+    ensures { λ r. ⌜ r ≡ max one other ⌝ }
+{
+    if one < other { other } else { one }
+}
+
+// The lower of two clocks.
+fn lesser(one: u16, other: u16) -> u16
+    ensures { λ r. ⌜ r ≡ min one other ⌝ }
+{
+    if one < other { one } else { other }
+}
+
+// The row that is told what another row knows.
+pub fn raised(row: Row, told: Row) -> Row
+    ensures { λ r. ⌜ Raised row told r ⌝ }
+{
+    let mut clocks = [0u16; 8];
+    let mut thread = 0;
+    while thread < 8 {
+        clocks[thread] = higher(row[thread], told[thread]);
+        thread += 1;
+    }
+    clocks
+}
+
+// The row that is told what another row knows of the records below `most`.
+pub fn raised_to(row: Row, told: Row, most: u16) -> Row
+    ensures { λ r. ⌜ RaisedTo most row told r ⌝ }
+{
+    let mut clocks = [0u16; 8];
+    let mut thread = 0;
+    while thread < 8 {
+        let known = lesser(told[thread], most);
+        clocks[thread] = higher(row[thread], known);
+        thread += 1;
+    }
+    clocks
+}
+
+// One of the eight clocks of a row is lower than that of another: what the other knows has not all reached it.
+pub fn lower(own: Row, heard: Row) -> bool
+    ensures { λ r. ⌜ r ≡ lowerOf 8 own heard ⌝ }
+{
+    let mut found = false;
+    let mut thread = 0;
+    while thread < 8 {
+        found = found | (own[thread] < heard[thread]);
+        thread += 1;
+    }
+    found
+}

@@ -1,2 +1,0 @@
-pub mod Pictures
-pub mod OnePicture

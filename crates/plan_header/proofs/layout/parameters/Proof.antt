@@ -1,0 +1,21 @@
+-- `parameters`: the first four bits of a procedure's 16.
+use Rattle.plan_packed.specs.Format.{parameters}
+use borrow.Author.Needs.{needs}
+use Rattle.plan_header.proofs.layout.parameters.Statement.{statement}
+use Rattle.plan_header.proofs.layout.parameters.Tie as tie
+
+mul-field : tie.Need-mul-field
+mul-field c = search needs
+
+add-field : tie.Need-add-field
+add-field c = search needs
+
+field-requires : tie.Need-field-requires
+field-requires c κs = search needs
+
+returns : tie.Need-returns
+unfolding parameters
+returns c = c .field .ensures
+
+pub parameters-spec : {M : Type 1} → statement M
+parameters-spec = tie.close (tie.spec mul-field add-field field-requires returns)

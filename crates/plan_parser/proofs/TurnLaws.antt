@@ -1,0 +1,252 @@
+-- A turn does the step of the goal on top, and what is left to do becomes less. Assumes nothing.
+use Prim.Native.Nat.{ℕ, zero, suc, _+_, _-_, _*_, _≤_, _<_}
+use native.Mathlib.Omega.{arith}
+use mathlib.Core.Path.{_≡_, refl, sym, ap, subst, _∙_}
+use mathlib.Core.Bool.{cond}
+use mathlib.Core.List.{List, [], _∷_, _++_}
+use lib.Dec.{eqb}
+use lib.ListN.{length, getD, drop}
+use lib.Seq.{drop-drop}
+use borrow.Author.Tests.{eq-eqb, ne-eqb}
+use Rattle.plan_packed.specs.Steps.{Ordered}
+use Rattle.plan_parsing.specs.Goals.{Goal, make, Value, made}
+use Rattle.plan_parsing.specs.Parser.{Reason, Step, go, stop, step}
+use Rattle.plan_parser_goals.specs.Encoded.{goalOf, reasonOf, goalsOf, valuesOf}
+use Rattle.plan_parser_goals.specs.Moves.{Operands, operandKinds, Fits, onto, done, Small, Calls, Sound}
+use Rattle.plan_parser.specs.Stacks.{Entries, Stacked, Put, Looks}
+use Rattle.plan_parser.specs.Making.{Makeable, Makes}
+use Rattle.plan_parser.specs.Reading.{State, Going, Found, Room, Went, WentWith, shown, Nearer, Kept, Turned}
+use Rattle.plan_parser.specs.declared.turns.Standing.{Standing}
+use Rattle.plan_parser.specs.declared.turns.Turn.the-variants.{On}
+use Rattle.plan_parser.specs.declared.turns.Turn.the-variants as turn
+use Rattle.plan_parser_goals.specs.declared.Move.{Move}
+use Rattle.plan_parser_goals.specs.declared.Move.the-variants.{Go, Make, Stop}
+use Rattle.plan_parser.proofs.FitLaws.{FitsAfter, step-fits, fits-sound}
+
+-- ---- numbers
+
+-- a token that is not past the end
+inside : (l a x : ℕ) → x < 69 → 69 ≤ x + 69 * (l - a) → a < l
+inside l a x h k = omega arith
+
+-- the tokens that are taken are there
+taken-there : (l a t x y z : ℕ) → a ≤ l → t ≤ 3 → t ≤ 3 * (69 - x) → t ≤ 1 + 2 * (69 - y) → t ≤ 2 + (69 - z)
+    → 69 ≤ x + 69 * (l - a) → 69 ≤ y + 69 * (l - (a + 1)) → 69 ≤ z + 69 * (l - (a + 2)) → a + t ≤ l
+taken-there l a zero x y z i f b₀ b₁ b₂ c₀ c₁ c₂ = omega arith
+taken-there l a (suc zero) x y z i f b₀ b₁ b₂ c₀ c₁ c₂ = let p = inside l a x (low x b₀) c₀ in omega arith
+  where
+    low : (x : ℕ) → 1 ≤ 3 * (69 - x) → x < 69
+    low x h = omega arith
+taken-there l a (suc (suc zero)) x y z i f b₀ b₁ b₂ c₀ c₁ c₂ = let p = inside l (a + 1) y (low y b₁) c₁ in omega arith
+  where
+    low : (x : ℕ) → 2 ≤ 1 + 2 * (69 - x) → x < 69
+    low x h = omega arith
+taken-there l a (suc (suc (suc zero))) x y z i f b₀ b₁ b₂ c₀ c₁ c₂ = let p = inside l (a + 2) z (low z b₂) c₂ in omega arith
+  where
+    low : (x : ℕ) → 3 ≤ 2 + (69 - x) → x < 69
+    low x h = omega arith
+taken-there l a (suc (suc (suc (suc t)))) x y z i f b₀ b₁ b₂ c₀ c₁ c₂ = absurd (omega arith)
+
+-- what is left to do becomes less
+bounds : (l a g t k n d a′ g′ : ℕ) → a + t ≤ l → 0 < g → g ≤ 8400 → k ≤ 1024 * t → n ≤ 1024 * t → d ≤ 1152921504606846976 * t → a′ ≡ a + t → g′ ≤ g - 1 + 8
+    → g′ ≤ g - 1 + k + n + 6 * d
+    → (a′ ≤ l) × (g′ ≤ 8407) × (8 * (l - a′) + g′ < 8 * (l - a) + g)
+bounds l a g zero k n d a′ g′ i p q e₀ e₁ e₂ r u v = (omega arith, omega arith, omega arith)
+bounds l a g (suc t) k n d a′ g′ i p q e₀ e₁ e₂ r u v = (omega arith, omega arith, omega arith)
+
+-- ---- the goal on top
+
+goal-fits : (goals : List ℕ) (n : ℕ) (vs : List Value) → 0 < n → Fits (goalsOf goals n) vs → Fits (goalOf (getD goals (n - 1) 0) ∷ goalsOf goals (n - 1)) vs
+unfolding goalsOf
+goal-fits goals zero vs h f = absurd (omega arith)
+goal-fits goals (suc n) vs h f = let e : suc n - 1 ≡ n = omega arith in rw e f
+
+fits-onto : (gs : List Goal) (x : Step) (gs″ : List Goal) (vs″ : List Value) (n : ℕ) (ts″ : List ℕ) → go gs″ vs″ n ts″ ≡ onto gs x → FitsAfter gs x → Fits
+    gs″ vs″
+unfolding onto
+fits-onto gs (go gs′ vs m ts) gs″ vs″ n ts″ e f = let p : gs″ ≡ gs′ ++ gs = cc in let q : vs″ ≡ vs = cc in rw (p, q) f
+fits-onto gs (stop r ts) gs″ vs″ n ts″ e f = let z : _≡_ {A = ℕ} 0 1 = cc in absurd (omega arith)
+
+module _ (tokens counts goals values words : List ℕ) (s : Standing) (st : State tokens goals values words s) (gg : Going s) where
+  abbrev top : ℕ
+  top = s .goals - 1
+
+  abbrev code : ℕ
+  code = getD goals top 0
+
+  abbrev below : List Goal
+  below = goalsOf goals top
+
+  abbrev held : List Value
+  held = valuesOf words values (s .values)
+
+  abbrev ahead : List ℕ
+  ahead = drop (s .at) tokens
+
+  pub fit : Fits (goalOf code ∷ below) held
+  fit = goal-fits goals (s .goals) held (gg .some-goal) (st .fits)
+
+  pub sound : Sound code
+  sound = fits-sound below code held fit
+
+  pub small-entries : Entries 0 values (s .values)
+  small-entries i h = (omega arith, st .entries i h .1)
+
+  -- ---- a move
+
+  module _ (taken kept next digits popped value : ℕ) (f : Found tokens counts goals values words s (Go taken kept next digits popped value)) where
+    pub room : Room goals values s taken kept next popped value
+    room =
+        let m = f .calls .slight in
+        let i = st .inside in
+        let k = st .tokens-few in
+        record {
+          goals-long = st .goals-long;
+          values-long = st .values-long;
+          going = gg;
+          at-small = omega arith;
+          taken-small = let t = m .to-third in omega arith;
+          kept-small = m .kept-small;
+          next-small = m .next-small;
+          popped-small = m .popped-small;
+          value-large = m .value-large;
+          value-small = m .value-small;
+        }
+
+    module _ (goals′ values′ : List ℕ) (s′ : Standing) (w : Went goals values s taken kept next digits popped value goals′ values′ s′) where
+      went-says : shown tokens goals′ values′ words (On s′) ≡ onto below (step counts (goalOf code) held (s .left) ahead)
+      unfolding shown done
+      went-says =
+          rw (w .on-goals .goals-are, w .on-values .values-are words, w .left-is, w .at-is, ← drop-drop taken (s .at) tokens)
+          (f .calls .does below held (s .left) ahead fit (f .looks .seen))
+
+      went-fits : Fits (goalsOf goals′ (s′ .goals)) (valuesOf words values′ (s′ .values))
+      unfolding shown
+      went-fits =
+          fits-onto below (step counts (goalOf code) held (s .left) ahead) (goalsOf goals′ (s′ .goals)) (valuesOf words values′ (s′ .values)) (s′ .left)
+          (drop (s′ .at) tokens) went-says
+          (step-fits below counts (f .counts-small) (s .left) ahead (goalOf code) held fit)
+
+      went-bounds : (s′ .at ≤ length tokens) × (s′ .goals ≤ 8407) × (8 * (length tokens - s′ .at) + s′ .goals < 8 * (length tokens - s .at) + s .goals)
+      went-bounds =
+          let m = f .calls .slight in
+          let k = f .looks in
+          let there = taken-there (length tokens) (s .at) taken (f .sight .first) (f .sight .second) (f .sight .third) (st .inside) (m .taken-few)
+          (m .to-first) (m .to-second) (m .to-third) (k .first-inside) (k .second-inside) (k .third-inside)
+          in
+          bounds (length tokens) (s .at) (s .goals) taken kept next digits (s′ .at) (s′ .goals) there (gg .some-goal) (gg .few-goals)
+          (m .kept-taken) (m .next-taken) (m .goals-taken) (w .at-is) (w .few) (w .fewer)
+
+      pub turned-on : Turned tokens counts goals values words goals′ values′ words s (On s′)
+      turned-on =
+          record {
+            says = went-says;
+            next =
+                record {
+                  state =
+                      record {
+                        goals-long = w .on-goals .long;
+                        values-long = w .on-values .long;
+                        words-long = st .words-long;
+                        tokens-few = st .tokens-few;
+                        ordered = st .ordered;
+                        inside = went-bounds .0;
+                        goals-few = went-bounds .1;
+                        values-few = let a = w .on-values .few in let b = gg .few-values in omega arith;
+                        left-few = rw (w .left-is) (st .left-few);
+                        entries = rw (w .left-is) (w .on-values .entries (s .left) (st .left-few) (st .entries));
+                        fits = went-fits;
+                      };
+                  less = went-bounds .2;
+                  fewer = let e = w .left-is in omega arith;
+                };
+            kept = record { ordered = st .ordered; long = st .words-long; terms-stay = λ i h. refl };
+          }
+
+  -- ---- a term
+
+  module _ (k : ℕ) (f : Found tokens counts goals values words s (Make k)) where
+    make-fit : Fits (make k ∷ below) held
+    make-fit = subst (λ (g : Goal). Fits (g ∷ below) held) (f .calls .slight) fit
+
+    make-does : done (Make k) below held (s .left) ahead ≡ onto below (step counts (goalOf code) held (s .left) ahead)
+    make-does = f .calls .does below held (s .left) ahead fit (f .looks .seen)
+
+    pub turned-none : s .left ≡ 0 → Turned tokens counts goals values words goals values words s (turn.Stop 1000 (s .at))
+    unfolding shown done reasonOf
+    turned-none e =
+        record {
+          says = sym (rw (eq-eqb (s .left) 0 e) at (sym make-does));
+          next = tt;
+          kept = record { ordered = st .ordered; long = st .words-long; terms-stay = λ i h. refl };
+        }
+
+    pub makeable : (s .left ≡ 0 → ⊥) → Makeable words values (s .values) (s .left) k
+    makeable d =
+        record {
+          tag-known = make-fit .0;
+          some-left = omega (arith, d);
+          few-left = st .left-few;
+          few = let b = gg .few-values in omega arith;
+          words-long = st .words-long;
+          values-long = st .values-long;
+          ordered = st .ordered;
+          entries = st .entries;
+          operands = make-fit .1;
+        }
+
+    module _ (d : s .left ≡ 0 → ⊥) (words′ values′ : List ℕ) (s′ : Standing) (w : WentWith words values s k words′ values′ s′) where
+      made-says : shown tokens goals values′ words′ (On s′) ≡ onto below (step counts (goalOf code) held (s .left) ahead)
+      unfolding shown done
+      made-says = rw (w .goals-are, w .makes .values-are, w .left-is, w .at-is) (rw (ne-eqb (s .left) 0 d) at make-does)
+
+      made-fits : Fits (goalsOf goals (s′ .goals)) (valuesOf words′ values′ (s′ .values))
+      unfolding shown
+      made-fits =
+          fits-onto below (step counts (goalOf code) held (s .left) ahead) (goalsOf goals (s′ .goals)) (valuesOf words′ values′ (s′ .values)) (s′ .left)
+          (drop (s′ .at) tokens) made-says
+          (step-fits below counts (f .counts-small) (s .left) ahead (goalOf code) held fit)
+
+      pub turned-made : Turned tokens counts goals values words goals values′ words′ s (On s′)
+      turned-made =
+          let p = st .left-few in
+          let q = w .left-is in
+          let g = w .goals-are in
+          let a = w .at-is in
+          let i = st .inside in
+          let j = gg .some-goal in
+          record {
+            says = made-says;
+            next =
+                record {
+                  state =
+                      record {
+                        goals-long = st .goals-long;
+                        values-long = w .makes .values-long;
+                        words-long = w .makes .words-long;
+                        tokens-few = st .tokens-few;
+                        ordered = w .makes .ordered;
+                        inside = omega arith;
+                        goals-few = let b = st .goals-few in omega arith;
+                        values-few = let b = w .makes .few in let c = gg .few-values in omega arith;
+                        left-few = omega arith;
+                        entries = rw (w .left-is) (w .makes .entries);
+                        fits = made-fits;
+                      };
+                  less = omega arith;
+                  fewer = omega arith;
+                };
+            kept = record { ordered = w .makes .ordered; long = w .makes .words-long; terms-stay = w .makes .terms-stay };
+          }
+
+  -- ---- a stop
+
+  pub turned-stop : (before reason : ℕ) → Found tokens counts goals values words s (Stop before reason) → Turned tokens counts goals values words goals
+      values words s (turn.Stop reason (s .at + before))
+  unfolding shown done
+  turned-stop before reason f =
+      record {
+        says = rw (← drop-drop before (s .at) tokens) (f .calls .does below held (s .left) ahead fit (f .looks .seen));
+        next = tt;
+        kept = record { ordered = st .ordered; long = st .words-long; terms-stay = λ i h. refl };
+      }

@@ -1,0 +1,129 @@
+// An expression's tokens into terms, by a stack of goals.
+mod stacks; // stacks.rt: the arrays of goals and of values
+mod terms; // terms.rt: terms made of values
+pub mod turns; // turns.rt: the goal on top, done
+
+use turns::Standing;
+use turns::Turn;
+ghost use mathlib.Core.Path.{_≡_};
+ghost use Prim.Native.Nat.{_<_, _≤_, _-_};
+ghost use lib.ListN.{length, getD, drop};
+ghost use Rattle.plan_packed.specs.Steps.{Ordered};
+ghost use Rattle.plan_parsing.specs.Goals as value;
+ghost use Rattle.plan_parsing.specs.Parser.{parse};
+ghost use Rattle.plan_parsing.specs.Plan.{procedureGoals};
+ghost use mathlib.Core.List.{[], _∷_};
+ghost use Rattle.plan_parser.specs.Reading.{State, Ran, readFrom};
+
+// An expression: its root, the parameters of its procedure, the terms that are left to be made, and the next token's place. Or why reading stopped, and
+// before which token.
+pub enum Parsed {
+    Read {
+        root: usize,
+        parameters: usize,
+        left: usize,
+        at: usize,
+    },
+    Stopped {
+        reason: usize,
+        at: usize,
+    },
+}
+
+// The stop where goals or values are too many.
+const TOO_DEEP: usize = 1001;
+
+// Every goal is done: the expression is the last value, and the one before it the number of parameters.
+fn ended(values: &[usize; 3108], standing: Standing) -> Parsed
+    requires { ⌜ (2 ≤ standing .values) × (standing .values ≤ 3108) × (1024 ≤ getD (now values) (standing .values - 2) 0) ⌝ }
+    ensures { λ r. ⌜ r ≡ Parsed.Read (getD (now (values .entry)) (standing .values - 1) 0)
+        (getD (now (values .entry)) (standing .values - 2) 0 - 1024) (standing .left) (standing .at) ⌝ }
+{
+    let count = standing.values;
+    let root = values[count - 1];
+    let parameters = values[count - 2] - 1024;
+    Parsed::Read {
+        root: root,
+        parameters: parameters,
+        left: standing.left,
+        at: standing.at,
+    }
+}
+
+// Goal after goal.
+fn run(
+    tokens: &[u8],
+    counts: &[u8],
+    goals: &mut [u16; 8408],
+    values: &mut [usize; 3108],
+    words: &mut [usize; 1024],
+    start: Standing,
+) -> Parsed
+    requires { ⌜ State (now tokens) (now goals) (now values) (now words) start ⌝ }
+    ensures { λ r. ⌜ Ran (now (tokens .entry)) (now (words .entry)) (now (words .exit)) (start .left)
+        (readFrom (now (counts .entry)) (now (tokens .entry)) (now (goals .entry)) (now (values .entry)) (now (words .entry)) start) r ⌝ }
+{
+    let mut standing = start;
+    loop {
+        if standing.goals == 0 {
+            return ended(&*values, standing);
+        }
+        if 8400 < standing.goals {
+            return Parsed::Stopped {
+                reason: TOO_DEEP,
+                at: standing.at,
+            };
+        }
+        if 3100 < standing.values {
+            return Parsed::Stopped {
+                reason: TOO_DEEP,
+                at: standing.at,
+            };
+        }
+        match turns::take(
+            tokens,
+            counts,
+            &mut *goals,
+            &mut *values,
+            &mut *words,
+            standing,
+        ) {
+            Turn::On(next) => {
+                standing = next;
+            }
+            Turn::Stop { reason, at } => {
+                return Parsed::Stopped {
+                    reason: reason,
+                    at: at,
+                };
+            }
+        }
+    }
+}
+
+// The procedure of this number, from a token on: main is an expression, and any other has its heading before it.
+pub fn procedure(
+    tokens: &[u8],
+    at: usize,
+    number: usize,
+    counts: &[u8],
+    words: &mut [usize; 1024],
+    left: usize,
+) -> Parsed
+    requires { ⌜ (length (now tokens) ≤ 16384) × (at ≤ length (now tokens)) × (number < 32) × (left ≤ 1024) × (length (now words) ≡ 1024)
+        × Ordered (now words) ⌝ }
+    ensures { λ r. ⌜ Ran (now (tokens .entry)) (now (words .entry)) (now (words .exit)) left
+        (parse (now (counts .entry)) (procedureGoals number) (value.number 0 ∷ []) left (drop at (now (tokens .entry)))) r ⌝ }
+{
+    let mut goals = [0u16; 8408];
+    let mut values = [0usize; 3108];
+    values[0] = 1024;
+    let top = stacks::begin(&mut goals, number);
+    let start = Standing {
+        at: at,
+        goals: top,
+        values: 1,
+        left: left,
+    };
+    run(tokens, counts, &mut goals, &mut values, &mut *words, start)
+}

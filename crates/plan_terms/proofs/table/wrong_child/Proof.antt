@@ -1,0 +1,34 @@
+-- `wrong_child`: a child that is not outside is named.
+use mathlib.Core.Path.{_≡_, sym, _∙_}
+use mathlib.Core.Bool.{Bool, true, false, _||_, true≢false}
+use Prim.Native.Nat.{_<_}
+use native.Mathlib.Omega.{arith}
+use lib.Dec.{leb}
+use borrow.Author.Needs.{needs}
+use borrow.Author.Tests.{leb-false}
+use Rattle.plan_terms.proofs.table.wrong_child.Statement.{statement}
+use Rattle.plan_terms.proofs.table.wrong_child.Tie as tie
+
+neither : (a b : Bool) → (a || b) ≡ false → b ≡ false
+neither true b h = absurd (true≢false h)
+neither false b h = h
+
+outside-requires : tie.Need-outside-requires
+outside-requires c κs = search needs
+
+returns : tie.Need-returns
+returns c = (sym (c .if1 .taken) ∙ c .before .outside .ensures, λ e. absurd (true≢false e))
+
+name-requires : tie.Need-name-requires
+name-requires c κs =
+    let a = c .before .before .before .args in
+    let h : a .child < a .count =
+    leb-false (a .count) (a .child)
+    (neither (leb (a .child) (a .term)) (leb (a .count) (a .child)) (sym (c .before .before .outside .ensures) ∙ c .before .if1 .left)) in
+    omega arith
+
+returns-2 : tie.Need-returns-2
+returns-2 c = (sym (c .before .before .if1 .left) ∙ c .before .before .before .outside .ensures, λ e. c .name .ensures)
+
+pub wrong-child-spec : {M : Type 1} → statement M
+wrong-child-spec = tie.close (tie.spec outside-requires returns name-requires returns-2)

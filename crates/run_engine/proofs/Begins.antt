@@ -1,0 +1,119 @@
+-- The steps of a pick on the machine: how it begins, and what it comes to. Assumes nothing.
+use mathlib.Core.Path.{_≡_, refl, sym, ap, _∙_}
+use mathlib.Core.Bool.{true, false}
+use mathlib.Core.List.{List, [], _∷_}
+use Prim.Native.Nat.{ℕ, _+_, _%_, _≤_}
+use native.Mathlib.Omega.{arith}
+use lib.ListN.{getD}
+use types.Run.{OneOf}
+use denote.Enum.Declared.{tagOf}
+use Rattle.run_frames.specs.declared.go.Ready.{Ready}
+use Rattle.run_refocusing.specs.declared.Landed.{Landed}
+use Rattle.run_refocusing.specs.declared.Landings.{Landings}
+use Rattle.run_outcome.specs.declared.Stop.{Stop}
+use Rattle.run_state.specs.declared.Setting.{Setting}
+use Rattle.run_state.specs.declared.Head.{Head}
+use Rattle.run_state.specs.declared.Cell.{Cell}
+use Rattle.run_state.specs.declared.Counts.{Counts}
+use Rattle.run_state.specs.declared.Entry.{Entry}
+use Rattle.run_state.specs.declared.acted.Acted.{Acted}
+use Rattle.run_state.specs.Acted.{noEntry, nothing}
+use Rattle.run_act.specs.Act.{goesOnBy, actPure}
+use Rattle.run_pick.proofs.Begun as begun-type
+use Rattle.run_pick.specs.declared.Met.{Met}
+use Rattle.run_pick.specs.declared.Begun.{Begun}
+use Rattle.run_pick.specs.declared.Begun.the-variants as begun
+use Rattle.run_pick.specs.declared.Reached.the-variants as reached
+use Rattle.run_pick.specs.Answer.{Move, Answer as answer}
+use Rattle.run_pick.specs.Pick.{picked, landedHead, noHead, forksOf, beginOf, Came, reachOf}
+use Rattle.run_pick.proofs.GoesOn.{no-signal}
+use Rattle.run_pick.proofs.Steps as steps
+use Rattle.run_queue.specs.Queue.{afterOf}
+use Rattle.run_engine.specs.Machine.{Machine, noCell, headAt, cellNumber, metBy, pickedBy}
+
+-- what a move of thread h leaves that does a and lands at l, with y the thread that it makes
+abbrev pub leftBy : Head → Acted → Landed → Head → Move
+leftBy h a l y =
+    record {
+      mover = landedHead l (h .object) (a .keys) (h .learnt % 256 + a .new);
+      young = y;
+      cell = a .cell;
+      thing = a .thing;
+      counts = a .counts;
+      entry = a .entry;
+      forks = forksOf h;
+    }
+
+-- of one that only goes on elsewhere, whose cell is c
+abbrev pub goneBy : Counts → Head → Cell → Landed → Move
+goneBy n h c l =
+    record {
+      mover = landedHead l (h .object) (h .keys) (h .learnt % 256);
+      young = noHead;
+      cell = c;
+      thing = nothing;
+      counts = n;
+      entry = noEntry;
+      forks = false;
+    }
+
+-- only a signal changes the queues
+pub queues-left : (qs : List ℕ) (r : Ready) (p : ℕ) → goesOnBy (r .part) ≡ true → qs ≡ afterOf qs r p
+unfolding afterOf
+queues-left qs r p e = rw (no-signal (r .part) e)
+
+module _ (ws rs : List ℕ) (g : Setting) (m : Machine) (p : ℕ) where
+  abbrev x : Met
+  x = metBy (m .tally .counts) (m .heads) (m .cells) (m .objects) (m .places) p
+
+  abbrev h : Head
+  h = headAt (m .heads) p
+
+  -- a move that only goes on elsewhere
+  pub begins-on : {b : Begun} → goesOnBy (headAt (m .heads) p .ready .part) ≡ true → b ≡ begun.Went (actPure (headAt (m .heads) p)) → b ≡ beginOf g x
+  unfolding beginOf metBy
+  begins-on {b} e q = q ∙ rw e
+
+  module _ (b : Begun) (begins : b ≡ beginOf g (metBy (m .tally .counts) (m .heads) (m .cells) (m .objects) (m .places) p)) (c : Came)
+      (comes : c ≡ reachOf ws rs (m .tally .counts) (headAt (m .heads) p) p b (m .stack)) where
+    comes-so : c ≡ reachOf ws rs (x .counts) (x .head) (x .thread) b (m .stack)
+    unfolding metBy
+    comes-so = comes
+
+    pub passes : c .reached ≡ reached.Passed → picked (c .stack) answer.Passed ≡ pickedBy ws rs g m p
+    passes z = steps.passes ws rs g x (m .stack) c b begins comes-so z
+
+    pub stops : {s : Stop} {y : Entry} → c .reached ≡ reached.Stopped s y → picked (c .stack) (answer.Stopped s y) ≡ pickedBy ws rs g m p
+    stops z = steps.stops ws rs g x (m .stack) c b begins comes-so z
+
+    module _ {a : Acted} (acts : b ≡ begun.Acted a) {l : Landings} (lands : c .reached ≡ reached.Landed l) where
+      pub moves : forksOf (headAt (m .heads) p) ≡ false → picked (c .stack) (answer.Moved (leftBy (headAt (m .heads) p) a (l .last) noHead)) ≡ pickedBy ws rs g m p
+      unfolding metBy
+      moves n = rw n (steps.moves ws rs g x (m .stack) c b begins comes acts lands n)
+
+      pub forks : forksOf (headAt (m .heads) p) ≡ true
+          → picked (c .stack) (answer.Moved (leftBy (headAt (m .heads) p) a (l .before) (landedHead (l .last) (m .tally .counts .objects) (headAt (m .heads) p .keys) 0)))
+          ≡ pickedBy ws rs g m p
+      unfolding metBy
+      forks n = rw n (steps.forks ws rs g x (m .stack) c b begins comes acts lands n)
+
+    module _ (other : OneOf (0 ∷ 1 ∷ 2 ∷ []) (tagOf begun-type.the-type b)) {l : Landings} (lands : c .reached ≡ reached.Landed l) where
+      pub on : goesOnBy (headAt (m .heads) p .ready .part) ≡ true
+      unfolding metBy
+      on = steps.on ws rs g x (m .stack) c b begins comes other lands
+
+      pub goes-on : picked (c .stack) (answer.Moved (goneBy (m .tally .counts) (headAt (m .heads) p)
+          (getD (m .cells) (cellNumber (headAt (m .heads) p .ready)) noCell) (l .last))) ≡ pickedBy ws rs g m p
+      unfolding metBy
+      goes-on =
+          let e : h .learnt % 256 ≡ h .learnt % 256 + 0 = omega arith in
+          ap (λ (n : ℕ). picked (c .stack) (answer.Moved (record {
+            mover = landedHead (l .last) (h .object) (h .keys) n;
+            young = noHead;
+            cell = getD (m .cells) (cellNumber (h .ready)) noCell;
+            thing = nothing;
+            counts = m .tally .counts;
+            entry = noEntry;
+            forks = false;
+          }))) e
+          ∙ steps.goes-on ws rs g x (m .stack) c b begins comes other lands

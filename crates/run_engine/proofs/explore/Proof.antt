@@ -1,0 +1,1086 @@
+-- `explore` meets its contract. Where a round begins, the run stands at its first place and all places before its end are noted; in a round, the rest of the
+-- run from here is the run of the round's picks; in the look at all threads, what is left to see makes up all that is seen. Assumes nothing.
+use mathlib.Core.Path.{_≡_, refl, sym, ap, _∙_, subst as along}
+use mathlib.Core.Bool.{Bool, true, false, _&&_}
+use mathlib.Core.List.{List, [], _∷_, _++_, map, append-nil, append-assoc}
+use mathlib.Core.Logic.{⊎-elim}
+use Prim.Native.Nat.{ℕ, _≤_, _<_, _+_, _-_, _*_, _/_, _%_, min}
+use native.Mathlib.Decide.{decLt}
+use native.Mathlib.Numerals.{add-one}
+use native.Mathlib.Omega.{arith}
+use lib.Dec.{ltb}
+use lib.ListN.{length, getD, set, take, drop, length-set, take-append-drop, replicate}
+use lib.Seq.{length-take-le, take-suc, take-take, set-getD}
+use borrow.Author.Tests.{le-ltb, ltb-false, eq-eqb, ne-eqb}
+use Rattle.format.proofs.Turns.{turns, one-turn, no-turn}
+use Rattle.run_outcome.specs.declared.Stop.{Stop}
+use Rattle.run_outcome.specs.declared.Stop.the-variants as stop
+use Rattle.run_outcome.specs.declared.Thread.{Thread}
+use Rattle.run_outcome.specs.declared.Outcome.{Outcome}
+use Rattle.run_state.specs.declared.Setting.{Setting}
+use Rattle.run_state.specs.declared.Head.{Head}
+use Rattle.run_state.specs.declared.Cell.{Cell}
+use Rattle.run_state.specs.declared.Entry.{Entry}
+use Rattle.run_state.specs.declared.acted.Acted.{Acted}
+use Rattle.run_refocusing.specs.declared.Landings.{Landings}
+use Rattle.run_act.specs.Act.{goesOnBy, changesBy}
+use Rattle.run_tally.specs.declared.Tally.{Tally}
+use Rattle.run_tally.specs.Tally.{shownEntry, tallyPut, logPut}
+use types.Run.{OneOf}
+use denote.Enum.Declared.{tagOf}
+use Rattle.run_pick.proofs.Begun as begun-type
+use Rattle.run_pick.specs.declared.Begun.{Begun}
+use Rattle.run_pick.specs.declared.Begun.the-variants as how
+use Rattle.run_pick.specs.declared.Reached.the-variants as reached
+use Rattle.run_pick.specs.Answer.{Move, Answer as answer}
+use Rattle.run_pick.specs.Pick.{Picked, picked, landedHead, noHead, forksOf, beginOf, Came}
+use Rattle.run_engine.specs.declared.kept.Kept.{Kept}
+use Rattle.run_engine.specs.Kept.{restoreOf, keptFirst}
+use Rattle.run_engine.specs.Machine.{noCell, Machine, Played, headAt, cellNumber, metBy, threadBy, threadsOf, endOf, pickedBy, startOf, playOf}
+use Rattle.run_open_threads.specs.Open.{openAt, unstopped, openAfter, LowestFrom}
+use Rattle.run_engine.specs.Exploring.{allPicks, pickAt}
+use Rattle.run_engine.proofs.Looks.{met, putThread, absent-at, all-threads, eight-threads}
+use Rattle.run_engine.proofs.Plays.{neither, begins, absent-passed, passed, moved, stops, heads-forked, heads-alone, ends-as}
+use Rattle.run_engine.proofs.Begins as steps
+use Rattle.run_engine.proofs.Begins.{leftBy, goneBy, queues-left, begins-on}
+use Rattle.run_engine.proofs.PassedOver.{none-marked, marked-too, passed-again}
+use Rattle.run_engine.proofs.Restored.{machineOf, all-restored, restored-at, cell-put, cell-left}
+use Rattle.run_engine.proofs.MovedCell.{cell-unchanged}
+use Rattle.run_open_threads.proofs.Lowest.{lowest-ext}
+use Rattle.run_engine.proofs.AllPicks.{kept-before}
+use Rattle.run_engine.proofs.Standing as standing
+use Rattle.run_engine.proofs.Standing.{Standing, in-list, standing-as}
+use Rattle.run_engine.proofs.Rounds.{Round, first-round, next-round}
+use Rattle.run_engine.proofs.Halts.{stop-halts, shut-after}
+use borrow.Author.Needs.{needs}
+use Rattle.run_engine.proofs.explore.Statement.{statement}
+use Rattle.run_engine.proofs.explore.Tie as tie
+
+abbrev Inv-loop2 : tie.InvT-loop2
+Inv-loop2 words roots setting every picks notes log₀ heads₀ cells₀ objects₀ places₀ stack₀ passed₀ tally₀ halt₀ dealt₀ moves-before₀ records-before₀ threads
+    lowest from to i₀ log heads cells objects places stack passed tally halt dealt moves-before records-before i =
+    (from ≤ i) × (i ≤ to) × (dealt ≡ to)
+    × ((first : List ℕ)
+    → Standing words roots setting every first (allPicks picks notes) from log₀ heads₀ cells₀ objects₀ places₀ stack₀ passed₀ tally₀ halt₀ moves-before₀
+    records-before₀
+    → Standing words roots setting every first (allPicks picks notes) i log heads cells objects places stack passed tally halt moves-before records-before)
+
+abbrev μ-loop2 : tie.MeasureT-loop2
+μ-loop2 words roots setting every picks notes log₀ heads₀ cells₀ objects₀ places₀ stack₀ passed₀ tally₀ halt₀ dealt₀ moves-before₀ records-before₀ threads
+    lowest from to i₀ log heads cells objects places stack passed tally halt dealt moves-before records-before i =
+    to - i
+
+abbrev Inv-loop3 : tie.InvT-loop3
+Inv-loop3 words roots setting every picks notes log heads cells objects places stack passed tally halt dealt moves-before records-before threads₀ lowest from
+    to counts thread₀ threads thread =
+    (thread ≤ 8) × (turns (putThread counts heads (map restoreOf cells) objects places setting) (8 - thread) thread threads
+    ≡ threadsOf setting counts heads (map restoreOf cells) objects places)
+
+abbrev μ-loop3 : tie.MeasureT-loop3
+μ-loop3 words roots setting every picks notes log heads cells objects places stack passed tally halt dealt moves-before records-before threads₀ lowest from
+    to counts thread₀ threads thread =
+    8 - thread
+
+abbrev Inv-loop : tie.InvT-loop
+Inv-loop words roots setting every picks notes₀ log₀ heads₀ cells₀ objects₀ places₀ stack₀ passed₀ tally₀ halt₀ moves-before₀ records-before₀ threads₀ lowest₀
+    from₀ to₀ notes log heads cells objects places stack passed tally halt moves-before records-before threads lowest from to =
+    Standing words roots setting every log₀ (allPicks picks notes) from log heads cells objects places stack passed tally halt moves-before records-before
+    × Round words roots setting every log₀ picks notes₀ notes lowest from to × (length threads ≡ 8)
+
+abbrev μ-loop : tie.MeasureT-loop
+μ-loop words roots setting every picks notes₀ log₀ heads₀ cells₀ objects₀ places₀ stack₀ passed₀ tally₀ halt₀ moves-before₀ records-before₀ threads₀ lowest₀
+    from₀ to₀ notes log heads cells objects places stack passed tally halt moves-before records-before threads lowest from to =
+    length notes - to
+
+-- ---- a round, and a pick of it: the plan, the picks, the machine
+
+abbrev Opened : Type 0
+Opened = tie.At-loop Inv-loop2 μ-loop2 Inv-loop3 μ-loop3 Inv-loop μ-loop
+
+abbrev Turn : Type 0
+Turn = tie.At-loop2 Inv-loop2 μ-loop2 Inv-loop3 μ-loop3 Inv-loop μ-loop
+
+-- whose pick is drawn
+abbrev Drawn : Type 0
+Drawn = tie.After-pick-at Inv-loop2 μ-loop2 Inv-loop3 μ-loop3 Inv-loop μ-loop
+
+abbrev start : Opened → tie.Start Inv-loop2 μ-loop2 Inv-loop3 μ-loop3 Inv-loop μ-loop
+start r = r .before .before .before .before .before .before .before .before .before .before .before .before
+
+abbrev words : Opened → List ℕ
+words r = start r .args .words .now
+
+abbrev roots : Opened → List ℕ
+roots r = start r .args .roots .now
+
+abbrev setting : Opened → Setting
+setting r = start r .args .setting
+
+abbrev every : Opened → Bool
+every r = start r .args .every
+
+abbrev first : Opened → List ℕ
+first r = start r .args .log .now
+
+abbrev picks : Opened → List ℕ
+picks r = start r .args .picks .now
+
+-- the picks as far as they are known
+abbrev list : Opened → List ℕ
+list r = allPicks (picks r) (r .loop .notes)
+
+-- how many there are when the round is over
+abbrev end : Opened → ℕ
+end r = r .loop .to
+
+round : (r : Opened) → Round (words r) (roots r) (setting r) (every r) (first r) (picks r) (start r .args .notes .now) (r .loop .notes) (r .loop .lowest)
+    (r .loop .from) (end r)
+round r = r .loop .inv .1
+
+-- the run of these picks from the start
+abbrev played : Opened → List ℕ → Played
+played r = standing.played (words r) (roots r) (setting r) (every r) (first r)
+
+-- the run of the round's picks and of all before
+abbrev whole : Opened → Played
+whole r = played r (take (end r) (list r))
+
+abbrev opened : Turn → Opened
+opened l = l .before
+
+-- the cells, restored
+abbrev cells : Turn → List Cell
+cells l = map restoreOf (l .loop2 .cells)
+
+abbrev machine : Turn → Machine
+machine l =
+    machineOf (l .loop2 .heads) (l .loop2 .cells) (l .loop2 .objects) (l .loop2 .places) (l .loop2 .stack) (every (opened l)) (l .loop2 .tally) (l .loop2 .log)
+
+-- the run stands at a place, by a log that it began with
+abbrev At : Turn → List ℕ → Type 0
+At l log =
+    Standing (words (opened l)) (roots (opened l)) (setting (opened l)) (every (opened l)) log (list (opened l)) (l .loop2 .i) (l .loop2 .log) (l .loop2 .heads)
+    (l .loop2 .cells) (l .loop2 .objects) (l .loop2 .places) (l .loop2 .stack) (l .loop2 .passed) (l .loop2 .tally) (l .loop2 .stop) (l .loop2 .moves-before)
+    (l .loop2 .records-before)
+
+here : (l : Turn) → At l (first (opened l))
+here l = l .loop2 .inv .3 (first (opened l)) (opened l .loop .inv .0)
+
+-- there is such a pick, and it is one of few
+started : (c : tie.In-loop2 Inv-loop2 μ-loop2 Inv-loop3 μ-loop3 Inv-loop μ-loop)
+    → (c .before .loop2 .i < end (opened (c .before))) × (c .before .loop2 .i < 4096)
+started c = let h = c .loop2-test .taken in (h, omega (arith, h, round (opened (c .before)) .few))
+
+abbrev turn : Drawn → Turn
+turn c = c .before .before
+
+-- the pick that is drawn
+abbrev pick : Drawn → ℕ
+pick c = c .pick-at .result
+
+-- it is the list's
+drawn : (c : Drawn) → getD (list (opened (turn c))) (turn c .loop2 .i) 0 ≡ pick c
+drawn c =
+    let l = turn c in
+    round (opened l) .stretch (l .loop2 .i) (l .loop2 .inv .0) (c .before .loop2-test .taken) ∙ sym (c .pick-at .ensures)
+
+-- by any log that the run began with
+module _ (c : Drawn) (log : List ℕ) (v : At (turn c) log) where
+  abbrev l : Turn
+  l = turn c
+
+  abbrev r : Opened
+  r = opened (turn c)
+
+  abbrev run : List ℕ → Played
+  run = standing.played (words r) (roots r) (setting r) (every r) log
+
+  -- this pick and others are met after those before it
+  next : (qs : List ℕ) → playOf (words r) (roots r) (setting r) (machine l) (pick c ∷ qs) (l .loop2 .i) ≡ run (take (l .loop2 .i + 1) (list r) ++ qs)
+  next qs =
+      let h = started (c .before) .0 in
+      let d : l .loop2 .i < length (list r) = omega (arith, h, round r .listed) in
+      let e : take (l .loop2 .i) (list r) ++ (pick c ∷ qs) ≡ take (l .loop2 .i + 1) (list r) ++ qs =
+      ap (λ (p : ℕ). take (l .loop2 .i) (list r) ++ (p ∷ qs)) (sym (drawn c))
+      ∙ rw (add-one, take-suc (list r) (l .loop2 .i) 0 d, append-assoc) in
+      v .goes (pick c ∷ qs) ∙ ap run e
+
+  -- the counts where the turn begins are those of the picks before
+  module _ (k : ℕ) (h : k ≡ l .loop2 .i) where
+    before : playOf (words r) (roots r) (setting r) (machine l) [] (l .loop2 .i) ≡ run (take k (list r))
+    before = v .goes [] ∙ ap run (append-nil (take (l .loop2 .i) (list r)) ∙ ap (λ (n : ℕ). take n (list r)) (sym h))
+
+    moves-before : l .loop2 .tally .moves ≡ run (take k (list r)) .outcome .moves
+    unfolding playOf
+    moves-before = ap (λ (x : Played). x .outcome .moves) before
+
+    records-before : l .loop2 .tally .records ≡ run (take k (list r)) .outcome .records
+    unfolding playOf
+    records-before = ap (λ (x : Played). x .outcome .records) before
+
+loop-holds : tie.Need-loop-holds Inv-loop2 μ-loop2 Inv-loop3 μ-loop3 Inv-loop μ-loop
+loop-holds c =
+    let a = c .before .before .before .before .before .before .before .before .before .before .before .args in
+    let h = c .before .before .before .before .before .before .before .before .before .before .before .pre in (
+      record {
+        few-moves = rw (c .before .before .first .ensures) (omega arith);
+        few-records = rw (c .before .before .first .ensures) (omega arith);
+        kept = refl;
+        goes = λ qs. begins (a .words .now) (a .roots .now) (a .setting) (a .every) qs (a .log .now) _ _ _ _ _
+            (c .before .before .before .before .before .before .before .no-head .ensures) (c .before .before .before .before .before .first-head .ensures)
+            (all-restored 1024 (c .before .before .before .before .zeros .result)
+            ∙ ap (λ (x : Kept). replicate 1024 (restoreOf x)) (c .before .before .before .before .zeros .ensures))
+            (c .before .before .before .first-object .ensures) (c .before .before .first .ensures);
+        unstopped = refl;
+        eight = refl;
+        moves = unfold playOf startOf in refl;
+        records = unfold playOf startOf in refl;
+        marked = none-marked (a .words .now) (a .roots .now) (a .setting) _;
+      },
+      first-round (a .words .now) (a .roots .now) (a .setting) (a .every) (a .log .now) (a .picks .now) (a .notes .now) 0 _ h (c .unseen .ensures),
+      refl,
+    )
+
+loop2-holds : tie.Need-loop2-holds Inv-loop2 μ-loop2 Inv-loop3 μ-loop3 Inv-loop μ-loop
+loop2-holds c = (omega arith, round c .ordered, refl, λ first s. s)
+
+-- ---- the pick of a thread that is not there
+
+loop2-again : tie.Need-loop2-again Inv-loop2 μ-loop2 Inv-loop3 μ-loop3 Inv-loop μ-loop
+loop2-again c =
+    let d = c .before .before .before in
+    let l = turn d in
+    let r = opened l in
+    let i = l .loop2 .inv in
+    let t = started (d .before) .0 in (
+      omega (arith, i .0),
+      omega (arith, t),
+      i .2,
+      λ first s. let v = i .3 first s in
+          record {
+            few-moves = omega (arith, v .few-moves);
+            few-records = omega (arith, v .few-records);
+            kept = v .kept;
+            goes = λ qs.
+                absent-passed (words r) (roots r) (setting r) (machine l) (pick d) qs (l .loop2 .i) (c .if1 .taken) ∙ next d first v qs;
+            unstopped = v .unstopped;
+            eight = v .eight;
+            moves = moves-before d first v (l .loop2 .i + 1 - 1) (omega arith);
+            records = records-before d first v (l .loop2 .i + 1 - 1) (omega arith);
+            marked = v .marked;
+          },
+    )
+
+-- ---- the pick of one that was passed over since the last move
+
+loop2-again-2 : tie.Need-loop2-again-2 Inv-loop2 μ-loop2 Inv-loop3 μ-loop3 Inv-loop μ-loop
+loop2-again-2 c =
+    let d = c .before .before .before .before in
+    let l = turn d in
+    let r = opened l in
+    let i = l .loop2 .inv in
+    let t = started (d .before) .0 in (
+      omega (arith, i .0),
+      omega (arith, t),
+      i .2,
+      λ first s. let v = i .3 first s in
+          record {
+            few-moves = omega (arith, v .few-moves);
+            few-records = omega (arith, v .few-records);
+            kept = v .kept;
+            goes = λ qs.
+                passed-again (words r) (roots r) (setting r) (machine l) (pick d) qs (l .loop2 .i) (v .marked (pick d % 8) (c .if2 .taken)) ∙ next d first v qs;
+            unstopped = v .unstopped;
+            eight = v .eight;
+            moves = moves-before d first v (l .loop2 .i + 1 - 1) (omega arith);
+            records = records-before d first v (l .loop2 .i + 1 - 1) (omega arith);
+            marked = v .marked;
+          },
+    )
+
+-- ---- a pick that is passed over
+
+abbrev Answered : Type 0
+Answered = tie.After-land Inv-loop2 μ-loop2 Inv-loop3 μ-loop3 Inv-loop μ-loop
+
+abbrev asked : Answered → Drawn
+asked c = c .before .before .before .before .before .before .before .before .before .before
+
+abbrev at : Answered → Turn
+at c = turn (asked c)
+
+-- whose it is
+abbrev mover : Answered → ℕ
+mover c = pick (asked c) % 8
+
+abbrev head : Answered → Head
+head c = headAt (at c .loop2 .heads) (pick (asked c) % 8)
+
+abbrev begun-so : Answered → Begun
+begun-so c = c .before .before .if3 .begun
+
+-- what it comes to
+abbrev comes : Answered → Came
+comes c = record { stack = c .land .last .1 .1 .0; reached = c .land .result }
+
+-- whether it only goes on elsewhere
+goes-on : (c : Answered) {t : Bool} → c .before .before .before .goes-on .result ≡ t → goesOnBy (head c .ready .part) ≡ t
+goes-on c e = sym (c .before .before .before .goes-on .ensures) ∙ e
+
+begins-so : (c : Answered)
+    → begun-so c ≡ beginOf (setting (opened (at c))) (metBy (machine (at c) .tally .counts) (machine (at c) .heads) (machine (at c) .cells) (machine (at c) .objects)
+    (machine (at c) .places) (mover c))
+begins-so c =
+    let l = at c in
+    let r = opened l in
+    ⊎-elim (λ w. w .2 ∙ begins-on (words r) (roots r) (setting r) (machine l) (mover c) (goes-on c (w .0 .taken)) (w .1 .ensures))
+    (λ w. w .8 ∙ w .7 .ensures
+    ∙ ap (beginOf (setting r)) (met (l .loop2 .tally .counts) (l .loop2 .heads) (cells l) (l .loop2 .objects) (l .loop2 .places) (mover c) (w .1 .result) _
+    (w .1 .ensures) (w .3 .ensures ∙ restored-at (l .loop2 .cells) (w .1 .result)))) (c .before .before .if3 .came)
+
+-- its thread is there
+present : (c : Answered) → pick (asked c) % 8 < at c .loop2 .tally .counts .threads
+present c = c .before .before .before .before .before .before .before .if1 .left
+
+begun : (c : Answered) → at c .loop2 .i < end (opened (at c))
+begun c = started (asked c .before) .0
+
+few : (c : Answered) → at c .loop2 .i < 4096
+few c = started (asked c .before) .1
+
+-- the log has room for a record
+fits : (c : Answered) → (at c .loop2 .tally .records * 3 + 3 ≤ length (at c .loop2 .log)) × (at c .loop2 .tally .records ≤ 4096)
+fits c =
+    let v = here (at c) in
+    (omega (arith, v .few-records, v .kept, begun c, round (opened (at c)) .room), omega (arith, v .few-records, few c))
+
+passed-over : (c : Answered) → c .land .result ≡ reached.Passed
+    → picked (comes c .stack) answer.Passed ≡ pickedBy (words (opened (at c))) (roots (opened (at c))) (setting (opened (at c))) (machine (at c)) (mover c)
+passed-over c z =
+    let r = opened (at c) in
+    steps.passes (words r) (roots r) (setting r) (machine (at c)) (mover c) (begun-so c) (begins-so c) (comes c) (c .land .ensures) z
+
+stops-so : (c : Answered) {e : Stop} {y : Entry} → c .land .result ≡ reached.Stopped e y
+    → picked (comes c .stack) (answer.Stopped e y) ≡ pickedBy (words (opened (at c))) (roots (opened (at c))) (setting (opened (at c))) (machine (at c)) (mover c)
+stops-so c z =
+    let r = opened (at c) in
+    steps.stops (words r) (roots r) (setting r) (machine (at c)) (mover c) (begun-so c) (begins-so c) (comes c) (c .land .ensures) z
+
+loop2-again-3 : tie.Need-loop2-again-3 Inv-loop2 μ-loop2 Inv-loop3 μ-loop3 Inv-loop μ-loop
+loop2-again-3 c =
+    let x = c .before .before in
+    let d = asked x in
+    let l = at x in
+    let r = opened l in
+    let i = l .loop2 .inv in
+    let t = begun x in (
+      omega (arith, i .0),
+      omega (arith, t),
+      i .2,
+      λ first s. let v = i .3 first s in
+          record {
+            few-moves = omega (arith, v .few-moves);
+            few-records = omega (arith, v .few-records);
+            kept = v .kept;
+            goes = λ qs.
+                passed (words r) (roots r) (setting r) (machine l) (pick d) qs (l .loop2 .i) (picked (comes x .stack) answer.Passed) (present x)
+                (passed-over x (neither (x .land .result) (c .before .match .keys2) (c .match2 .keys2))) refl ∙ next d first v qs;
+            unstopped = v .unstopped;
+            eight = v .eight;
+            moves = moves-before d first v (l .loop2 .i + 1 - 1) (omega arith);
+            records = records-before d first v (l .loop2 .i + 1 - 1) (omega arith);
+            marked = marked-too (words r) (roots r) (setting r) (machine l) (l .loop2 .passed) (pick d % 8) (picked (comes x .stack) answer.Passed) (present x)
+                (passed-over x (neither (x .land .result) (c .before .match .keys2) (c .match2 .keys2))) refl (v .marked);
+          },
+    )
+
+-- ---- a pick of a move that only goes on elsewhere
+
+on : (c : Answered) → OneOf (0 ∷ 1 ∷ 2 ∷ []) (tagOf begun-type.the-type (begun-so c)) → {l : Landings} → c .land .result ≡ reached.Landed l
+    → goesOnBy (head c .ready .part) ≡ true
+on c other z =
+    let r = opened (at c) in
+    steps.on (words r) (roots r) (setting r) (machine (at c)) (mover c) (begun-so c) (begins-so c) (comes c) (c .land .ensures) other z
+
+gone-on : (c : Answered) → OneOf (0 ∷ 1 ∷ 2 ∷ []) (tagOf begun-type.the-type (begun-so c)) → {l : Landings} → c .land .result ≡ reached.Landed l
+    → picked (comes c .stack) (answer.Moved (goneBy (at c .loop2 .tally .counts) (head c) (getD (cells (at c)) (cellNumber (head c .ready)) noCell) (l .last)))
+    ≡ pickedBy (words (opened (at c))) (roots (opened (at c))) (setting (opened (at c))) (machine (at c)) (mover c)
+gone-on c other z =
+    let r = opened (at c) in
+    steps.goes-on (words r) (roots r) (setting r) (machine (at c)) (mover c) (begun-so c) (begins-so c) (comes c) (c .land .ensures) other z
+
+moved-requires : tie.Need-moved-requires Inv-loop2 μ-loop2 Inv-loop3 μ-loop3 Inv-loop μ-loop
+moved-requires c κs =
+    let x = c .before .before .before .before .before .before .before .before .before .before .before .before .before .before in
+    let e : c .before .before .before .before .before .put-move .result .moves ≡ at x .loop2 .tally .moves = ap (λ (s : Tally). s .moves) (c .before .before .before .before .before .put-move .ensures .0 .0) in
+    omega (arith, e, here (at x) .few-moves, few x)
+
+loop2-again-4 : tie.Need-loop2-again-4 Inv-loop2 μ-loop2 Inv-loop3 μ-loop3 Inv-loop μ-loop
+loop2-again-4 c =
+    let x = c .before .before .before .before .before .before .before .before .before .before .before .before .before .before .before in
+    let d = asked x in
+    let l = at x in
+    let r = opened l in
+    let i = l .loop2 .inv in
+    let t = begun x in
+    let put = c .before .before .before .before .before .before .put-move in
+    let none = c .before .before .before .before .before .before .before .before .no-entry .ensures in
+    let other = c .before .before .before .before .before .before .before .before .before .match3 .keys2 in
+    let landed = c .before .before .before .before .before .before .before .before .before .before .before .before .before .reached .given .1 in
+    let before : put .result .moves ≡ l .loop2 .tally .moves = ap (λ (s : Tally). s .moves) (put .ensures .0 .0) in
+    let moves : c .moved .result .moves ≡ put .result .moves + 1 = ap (λ (s : Tally). s .moves) (c .moved .ensures .0) in
+    let records : c .moved .result .records ≡ put .result .records = ap (λ (s : Tally). s .records) (c .moved .ensures .0) in (
+      omega (arith, i .0),
+      omega (arith, t),
+      i .2,
+      λ first s. let v = i .3 first s in
+          record {
+            few-moves = omega (arith, before, moves, v .few-moves);
+            few-records = omega (arith, records, put .ensures .0 .1, v .few-records);
+            kept = put .kept .0 ∙ v .kept;
+            goes = λ qs.
+                moved (words r) (roots r) (setting r) (machine l) (pick d) qs (l .loop2 .i)
+                _ (present x) (gone-on x other landed) refl
+                (cells l) _ _ (l .loop2 .places) (put .result) (c .moved .result) (put .last .0)
+                (sym (set-getD (cells l) (cellNumber (head x .ready)) noCell)) (ap (set (l .loop2 .heads) (mover x)) (c .before .before .before .gone .ensures))
+                (ap (set (l .loop2 .objects) (l .loop2 .tally .counts .objects % 33)) (c .before .before .no-object .ensures))
+                (queues-left (l .loop2 .places) (head x .ready) (mover x) (on x other landed))
+                (put .ensures .0 .0 ∙ ap (λ (y : Entry). tallyPut (l .loop2 .tally) (shownEntry (every r) y)) none) (c .moved .ensures .0)
+                (put .ensures .1 ∙ ap (λ (y : Entry). logPut (l .loop2 .log) (l .loop2 .tally .records) (mover x) (shownEntry (every r) y)) none)
+                ∙ next d first v qs;
+            unstopped = v .unstopped;
+            eight = v .eight;
+            moves = moves-before d first v (l .loop2 .i + 1 - 1) (omega arith);
+            records = records-before d first v (l .loop2 .i + 1 - 1) (omega arith);
+            marked = none-marked (words r) (roots r) (setting r) _;
+          },
+    )
+
+-- ---- a pick of another move, or one that stops the run
+
+slice-aggregate-after : tie.Need-slice-aggregate-after Inv-loop2 μ-loop2 Inv-loop3 μ-loop3 Inv-loop μ-loop
+slice-aggregate-after c = sym (here (at (c .before .before .before .before .before .before .before .before .before)) .eight)
+
+after-requires : tie.Need-after-requires Inv-loop2 μ-loop2 Inv-loop3 μ-loop3 Inv-loop μ-loop
+after-requires c κs = (here (at (c .before .before .before .before .before .before .before .before .before)) .eight, omega arith)
+
+moved-requires-4 : tie.Need-moved-requires-4 Inv-loop2 μ-loop2 Inv-loop3 μ-loop3 Inv-loop μ-loop
+moved-requires-4 c κs =
+    let x = c .before .before .before .before .before .before .before .before .before .before .before .before .before .before .before .before .before .before .before .before .before .before .before in
+    let e : c .before .before .before .before .before .before .before .before .before .put-move2 .result .moves ≡ at x .loop2 .tally .moves = ap (λ (s : Tally). s .moves) (c .before .before .before .before .before .before .before .before .before .put-move2 .ensures .0 .0) in
+    omega (arith, e, here (at x) .few-moves, few x)
+
+-- its cell, where its part changes none
+unchanged : (c : Answered) {v : Move} → (z : Picked) → z .answer ≡ answer.Moved v
+    → z ≡ pickedBy (words (opened (at c))) (roots (opened (at c))) (setting (opened (at c))) (machine (at c)) (mover c) → changesBy (head c .ready .part) ≡ false
+    → v .cell ≡ getD (cells (at c)) (cellNumber (head c .ready)) noCell
+unchanged c {v} z e q h =
+    let r = opened (at c) in
+    cell-unchanged (words r) (roots r) (setting r) v (machine (at c)) (mover c) h (ap (λ (y : Picked). y .answer) (sym q) ∙ e)
+
+-- what it leaves: of a fork; of another
+forked : (c : Answered) {a : Acted} → begun-so c ≡ how.Acted a → {l : Landings} → c .land .result ≡ reached.Landed l → forksOf (head c) ≡ true
+    → picked (comes c .stack) (answer.Moved (leftBy (head c) a (l .before) (landedHead (l .last) (at c .loop2 .tally .counts .objects) (head c .keys) 0)))
+    ≡ pickedBy (words (opened (at c))) (roots (opened (at c))) (setting (opened (at c))) (machine (at c)) (mover c)
+forked c acts z n =
+    let r = opened (at c) in
+    steps.forks (words r) (roots r) (setting r) (machine (at c)) (mover c) (begun-so c) (begins-so c) (comes c) (c .land .ensures) acts z n
+
+alone : (c : Answered) {a : Acted} → begun-so c ≡ how.Acted a → {l : Landings} → c .land .result ≡ reached.Landed l → forksOf (head c) ≡ false
+    → picked (comes c .stack) (answer.Moved (leftBy (head c) a (l .last) noHead))
+    ≡ pickedBy (words (opened (at c))) (roots (opened (at c))) (setting (opened (at c))) (machine (at c)) (mover c)
+alone c acts z n =
+    let r = opened (at c) in
+    steps.moves (words r) (roots r) (setting r) (machine (at c)) (mover c) (begun-so c) (begins-so c) (comes c) (c .land .ensures) acts z n
+
+loop2-again-5 : tie.Need-loop2-again-5 Inv-loop2 μ-loop2 Inv-loop3 μ-loop3 Inv-loop μ-loop
+loop2-again-5 c =
+    let x = c .before .before .before .before .before .before .before .before .before .before .before .before .before .before .before .before .before .before .before .before .before .before .before .before in
+    let d = asked x in
+    let l = at x in
+    let r = opened l in
+    let i = l .loop2 .inv in
+    let t = begun x in
+    let put = c .before .before .before .before .before .before .before .before .before .before .put-move2 in
+    let queue = c .before .before .before .before .before .before .before .before .before .before .before .before .before .before .after in
+    let j = c .before .before .before .before .before .before .if4 in
+    let k = c .before .before .before .before .if5 in
+    let acts = c .before .before .before .before .before .before .before .before .before .before .before .before .before .before .before .before .before .begun .given .1 in
+    let landed = c .before .before .before .before .before .before .before .before .before .before .before .before .before .before .before .before .before .before .before .before .before .before .reached .given .1 in
+    let same = c .before .before .before .before .before .changes .ensures in
+    let before : put .result .moves ≡ l .loop2 .tally .moves = ap (λ (s : Tally). s .moves) (put .ensures .0 .0) in
+    let moves : c .moved4 .result .moves ≡ put .result .moves + 1 = ap (λ (s : Tally). s .moves) (c .moved4 .ensures .0) in
+    let records : c .moved4 .result .records ≡ put .result .records = ap (λ (s : Tally). s .records) (c .moved4 .ensures .0) in (
+      omega (arith, i .0),
+      omega (arith, t),
+      i .2,
+      λ first s. let v = i .3 first s in
+          record {
+            few-moves = omega (arith, before, moves, v .few-moves);
+            few-records = omega (arith, records, put .ensures .0 .1, v .few-records);
+            kept = put .kept .0 ∙ v .kept;
+            goes = λ qs. ⊎-elim (λ w.
+                let came = forked x acts landed (eq-eqb _ _ (w .0 .taken)) in
+                moved (words r) (roots r) (setting r) (machine l) (pick d) qs (l .loop2 .i) _ (present x) came refl
+                (map restoreOf (k .cells)) (j .heads) _ (queue .last .0) (put .result) (c .moved4 .result) (put .last .0)
+                (⊎-elim (λ u. cell-put (l .loop2 .cells) (k .cells) _ _ _ (u .3 .ensures)
+                (u .4 ∙ ap (λ (n : ℕ). set (l .loop2 .cells) n (u .3 .result)) (u .1 .ensures .cell)))
+                (λ u. cell-left (l .loop2 .cells) (k .cells) _ _ (u .1) (unchanged x _ refl came (sym same ∙ u .0 .left))) (k .came))
+                (heads-forked (l .loop2 .heads) (j .heads) (l .loop2 .tally .counts .threads % 9) (mover x) (w .4 .ensures) (eq-eqb _ _ (w .0 .taken))
+                (w .2 .ensures) (w .5)) refl (queue .ensures) (put .ensures .0 .0) (c .moved4 .ensures .0) (put .ensures .1)) (λ w.
+                let came = alone x acts landed (ne-eqb _ _ (w .0 .left)) in
+                moved (words r) (roots r) (setting r) (machine l) (pick d) qs (l .loop2 .i) _ (present x) came refl
+                (map restoreOf (k .cells)) (j .heads) _ (queue .last .0) (put .result) (c .moved4 .result) (put .last .0)
+                (⊎-elim (λ u. cell-put (l .loop2 .cells) (k .cells) _ _ _ (u .3 .ensures)
+                (u .4 ∙ ap (λ (n : ℕ). set (l .loop2 .cells) n (u .3 .result)) (u .1 .ensures .cell)))
+                (λ u. cell-left (l .loop2 .cells) (k .cells) _ _ (u .1) (unchanged x _ refl came (sym same ∙ u .0 .left))) (k .came))
+                (heads-alone (l .loop2 .heads) (j .heads) (l .loop2 .tally .counts .threads % 9) (mover x) (w .1 .ensures) noHead (ne-eqb _ _ (w .0 .left))
+                (w .2)) refl (queue .ensures) (put .ensures .0 .0) (c .moved4 .ensures .0) (put .ensures .1)) (j .came) ∙ next d first v qs;
+            unstopped = v .unstopped;
+            eight = queue .kept .0 ∙ v .eight;
+            moves = moves-before d first v (l .loop2 .i + 1 - 1) (omega arith);
+            records = records-before d first v (l .loop2 .i + 1 - 1) (omega arith);
+            marked = none-marked (words r) (roots r) (setting r) _;
+          },
+    )
+
+-- ---- the end of a round
+
+abbrev Left : Type 0
+Left = tie.Left-loop2 Inv-loop2 μ-loop2 Inv-loop3 μ-loop3 Inv-loop μ-loop
+
+abbrev closed : Left → Opened
+closed c = opened (c .before)
+
+-- it was left at its end, or by a stop
+ended : (c : Left)
+    → _≡_ {A = Played} (record {
+      outcome =
+          endOf (c .loop2-test .stop) (c .loop2-test .dealt) (setting (closed c)) (c .loop2-test .tally) (c .before .loop2 .heads) (cells (c .before))
+          (c .before .loop2 .objects) (c .before .loop2 .places);
+      area = c .loop2-test .log;
+    }) (whole (closed c))
+unfolding playOf
+ended c =
+    let l = c .before in
+    let r = opened l in
+    let i = l .loop2 .inv in
+    let v = here l in
+    ⊎-elim (λ w.
+    let t : l .loop2 .i ≡ end r = omega (arith, w .0 .left, i .1) in
+    let q : playOf (words r) (roots r) (setting r) (machine l) [] (l .loop2 .i) ≡ whole r =
+    v .goes [] ∙ ap (played r) (append-nil (take (l .loop2 .i) (list r)) ∙ ap (λ (n : ℕ). take n (list r)) t) in
+    ends-as (setting r) (l .loop2 .heads) (cells l) (l .loop2 .objects) (l .loop2 .places) _ _ _ _ _ _ _ _ (w .4 ∙ v .unstopped) (w .5 ∙ i .2 ∙ sym t) (w .3)
+    (w .1) ∙ q) (λ w.
+    let d : Drawn = record { before = record { before = l; loop2-test = w .0 }; pick-at = w .1 } in
+    let later = drop (l .loop2 .i + 1) (take (end r) (list r)) in
+    let t : l .loop2 .i + 1 ≤ end r = omega (arith, w .0 .taken) in
+    let e : take (l .loop2 .i + 1) (list r) ++ later ≡ take (end r) (list r) =
+    ap (λ (ps : List ℕ). ps ++ later) (sym (take-take (l .loop2 .i + 1) (end r) (list r) t)) ∙ take-append-drop (l .loop2 .i + 1) (take (end r) (list r)) in
+    let x : Answered = (record {
+      before = record {
+        before = record {
+          before = record {
+            before = record {
+              before = record {
+                before = record {
+                  before = record {
+                    before = record {
+                      before
+                          = record { before = d; counts = w .2 };
+                      struct-known = w .3;
+                    };
+                    if1 = w .4;
+                  };
+                  if2 = w .5;
+                };
+                head = w .6;
+              };
+              ready = w .7;
+            };
+            goes-on = w .8;
+          };
+          if3 = w .9;
+        };
+        stack = w .10;
+      };
+      land = w .11;
+    }) in
+    stops (words r) (roots r) (setting r) (machine l) (pick d) later (l .loop2 .i) _ (w .4 .left) (stops-so x (w .14 .given .1)) refl _ _ _ _ (w .23) (w .24)
+    (w .22 ∙ w .17 .ensures .0 .0) (w .20 ∙ w .17 .ensures .1)
+    ∙ next d (first r) v later ∙ ap (played r) e) (c .loop2-test .came)
+
+-- by a stop, no thread can be picked any more
+halted : (c : Left) → c .loop2-test .dealt < end (closed c) → unstopped (c .loop2-test .stop) ≡ false
+halted c h =
+    let l = c .before in
+    let r = opened l in
+    ⊎-elim (λ w. absurd (omega (arith, h, w .5, l .loop2 .inv .2))) (λ w.
+    let d : Drawn = record { before = record { before = l; loop2-test = w .0 }; pick-at = w .1 } in
+    let x : Answered = (record {
+      before = record {
+        before = record {
+          before = record {
+            before = record {
+              before = record {
+                before = record {
+                  before = record {
+                    before = record {
+                      before
+                          = record { before = d; counts = w .2 };
+                      struct-known = w .3;
+                    };
+                    if1 = w .4;
+                  };
+                  if2 = w .5;
+                };
+                head = w .6;
+              };
+              ready = w .7;
+            };
+            goes-on = w .8;
+          };
+          if3 = w .9;
+        };
+        stack = w .10;
+      };
+      land = w .11;
+    }) in
+    ap unstopped (w .23) ∙ stop-halts (words r) (roots r) (setting r) (machine l) (w .1 .result % 8) _ _
+    (ap (λ (y : Picked). y .answer) (sym (stops-so x (w .14 .given .1))))) (c .loop2-test .came)
+
+-- without one, the run stands at the round's end
+stood : (c : Left) → end (closed c) ≤ c .loop2-test .dealt
+    → Standing (words (closed c)) (roots (closed c)) (setting (closed c)) (every (closed c)) (first (closed c)) (list (closed c)) (end (closed c))
+    (c .loop2-test .log) (c .before .loop2 .heads) (c .before .loop2 .cells) (c .before .loop2 .objects) (c .before .loop2 .places) (c .loop2-test .stack)
+    (c .before .loop2 .passed) (c .loop2-test .tally) (c .loop2-test .stop) (c .loop2-test .moves-before) (c .loop2-test .records-before)
+stood c h =
+    let l = c .before in
+    let r = opened l in
+    ⊎-elim (λ w.
+    let t : end r ≡ l .loop2 .i = omega (arith, w .0 .left, l .loop2 .inv .1) in
+    standing-as (words r) (roots r) (setting r) (every r) (first r) t (w .1) (w .2) (w .3) (w .4) (w .6) (w .7) (here l)) (λ w.
+    absurd (omega (arith, h, w .24, w .0 .taken))) (c .loop2-test .came)
+
+-- the counts before the last pick that was met
+module _ (c : Left) where
+  abbrev back : Opened
+  back = closed c
+
+  abbrev stretch : List ℕ
+  stretch = take (end (closed c)) (list (closed c))
+
+  length-stretch : length (take (end (closed c)) (list (closed c))) ≡ end (closed c)
+  length-stretch = length-take-le (end (closed c)) (list (closed c)) (round (closed c) .listed)
+
+  -- so many picks came before it
+  abbrev k : ℕ
+  k = min (c .loop2-test .dealt) (length (take (end (closed c)) (list (closed c))) - 1)
+
+  -- the loop was left at its end
+  at-end : end (closed c) ≤ c .before .loop2 .i → c .loop2-test .dealt ≡ c .before .loop2 .dealt → c .before .loop2 .i - 1 ≡ k
+  at-end h e = omega (arith, h, e, c .before .loop2 .inv .1, c .before .loop2 .inv .2, length-stretch)
+
+  -- or by a stop
+  at-stop : c .before .loop2 .i < end (closed c) → c .loop2-test .dealt ≡ c .before .loop2 .i → k ≡ c .before .loop2 .i
+  at-stop h e = omega (arith, h, e, length-stretch)
+
+  few-k : k ≤ end (closed c)
+  few-k = omega (arith, length-stretch)
+
+  same : take k (list (closed c)) ≡ take k (take (end (closed c)) (list (closed c)))
+  same = sym (take-take k (end (closed c)) (list (closed c)) few-k)
+
+  counted-moves : c .loop2-test .moves-before ≡ played (closed c) (take k (take (end (closed c)) (list (closed c)))) .outcome .moves
+  counted-moves =
+      ⊎-elim (λ w. w .6 ∙ here (c .before) .moves
+      ∙ ap (λ (n : ℕ). played (closed c) (take n (list (closed c))) .outcome .moves) (at-end (w .0 .left) (w .5)))
+      (λ w. w .25 ∙ moves-before (record { before = record { before = c .before; loop2-test = w .0 }; pick-at = w .1 }) (first (closed c)) (here (c .before)) k
+      (at-stop (w .0 .taken) (w .24))) (c .loop2-test .came)
+      ∙ ap (λ (ps : List ℕ). played (closed c) ps .outcome .moves) same
+
+  counted-records : c .loop2-test .records-before ≡ played (closed c) (take k (take (end (closed c)) (list (closed c)))) .outcome .records
+  counted-records =
+      ⊎-elim (λ w. w .7 ∙ here (c .before) .records
+      ∙ ap (λ (n : ℕ). played (closed c) (take n (list (closed c))) .outcome .records) (at-end (w .0 .left) (w .5)))
+      (λ w. w .26 ∙ records-before (record { before = record { before = c .before; loop2-test = w .0 }; pick-at = w .1 }) (first (closed c)) (here (c .before))
+      k (at-stop (w .0 .taken) (w .24))) (c .loop2-test .came)
+      ∙ ap (λ (ps : List ℕ). played (closed c) ps .outcome .records) same
+
+-- ---- the look at all threads
+
+abbrev Last : Type 0
+Last = tie.At-loop3 Inv-loop2 μ-loop2 Inv-loop3 μ-loop3 Inv-loop μ-loop
+
+-- where a thread is seen: the machine where the round ended
+abbrev left : Last → Left
+left c = c .before .before
+
+-- a thread put at its number
+abbrev put : Left → ℕ → List Thread → List Thread
+put c =
+    putThread (c .loop2-test .tally .counts) (c .before .loop2 .heads) (cells (c .before)) (c .before .loop2 .objects) (c .before .loop2 .places)
+    (setting (closed c))
+
+-- all that is seen
+abbrev seen : Left → List Thread
+seen c =
+    threadsOf (setting (closed c)) (c .loop2-test .tally .counts) (c .before .loop2 .heads) (cells (c .before)) (c .before .loop2 .objects)
+    (c .before .loop2 .places)
+
+loop3-holds : tie.Need-loop3-holds Inv-loop2 μ-loop2 Inv-loop3 μ-loop3 Inv-loop μ-loop
+loop3-holds c =
+    let l = c .before in
+    let m = l .before in (
+      omega arith,
+      all-threads (l .loop2-test .tally .counts) (m .loop2 .heads) (cells m) (m .loop2 .objects) (m .loop2 .places) (setting (opened m))
+          (opened m .loop .threads) (opened m .loop .inv .2),
+    )
+
+-- one that is not there
+loop3-again : tie.Need-loop3-again Inv-loop2 μ-loop2 Inv-loop3 μ-loop3 Inv-loop μ-loop
+loop3-again c =
+    let a = c .before .before .before .before in
+    let l = left a in
+    let m = l .before in
+    let p = a .loop3 .thread in
+    let h : p < 8 = c .before .before .before .loop3-test .taken in
+    let e = c .no-thread2 .ensures
+    ∙ sym (absent-at (l .loop2-test .tally .counts) (m .loop2 .heads) (cells m) (m .loop2 .objects) (m .loop2 .places) (setting (opened m)) p
+    (c .before .if6 .taken)) in (
+      omega arith,
+      ap (λ (x : Thread). turns (put l) (8 - (p + 1)) (p + 1) (set (a .loop3 .threads) p x)) e
+          ∙ sym (one-turn (put l) 8 p (a .loop3 .threads) h) ∙ a .loop3 .inv .1,
+    )
+
+-- one that is
+loop3-again-2 : tie.Need-loop3-again-2 Inv-loop2 μ-loop2 Inv-loop3 μ-loop3 Inv-loop μ-loop
+loop3-again-2 c =
+    let a = c .before .before .before .before .before .before .before .before .before .before .before in
+    let l = left a in
+    let m = l .before in
+    let p = a .loop3 .thread in
+    let k = c .before .before .before .before .before .before .cell-of3 in
+    let r = c .before .before .before .before .restore2 in
+    let h : p < 8 = c .before .before .before .before .before .before .before .before .before .before .loop3-test .taken in
+    let e = c .thread-of .ensures
+    ∙ ap (threadBy (setting (opened m))) (met (l .loop2-test .tally .counts) (m .loop2 .heads) (cells m) (m .loop2 .objects) (m .loop2 .places) p (k .result)
+    (r .result) (k .ensures) (r .ensures ∙ restored-at (m .loop2 .cells) (k .result))) in (
+      omega arith,
+      ap (λ (x : Thread). turns (put l) (8 - (p + 1)) (p + 1) (set (a .loop3 .threads) p x)) e
+          ∙ sym (one-turn (put l) 8 p (a .loop3 .threads) h) ∙ a .loop3 .inv .1,
+    )
+
+-- all threads are seen
+all-seen : (c : tie.After-loop3 Inv-loop2 μ-loop2 Inv-loop3 μ-loop3 Inv-loop μ-loop) → c .before .loop3 .threads ≡ seen (left (c .before))
+all-seen c =
+    let a = c .before in
+    let l = left a in
+    let z : 8 - a .loop3 .thread ≡ 0 = omega (arith, c .loop3-test .left) in
+    sym (no-turn (put l) 8 (a .loop3 .thread) (a .loop3 .threads) z) ∙ a .loop3 .inv .1
+
+-- the outcome as it stands
+abbrev told : tie.After-loop3 Inv-loop2 μ-loop2 Inv-loop3 μ-loop3 Inv-loop μ-loop → Outcome
+told c =
+    record {
+      stop = left (c .before) .loop2-test .stop;
+      picks = left (c .before) .loop2-test .dealt;
+      moves = left (c .before) .loop2-test .tally .moves;
+      records = left (c .before) .loop2-test .tally .records;
+      threads = c .before .loop3 .threads;
+    }
+
+-- is that of the round's picks and of all before
+outcome-is : (c : tie.After-loop3 Inv-loop2 μ-loop2 Inv-loop3 μ-loop3 Inv-loop μ-loop) → told c ≡ whole (closed (left (c .before))) .outcome
+outcome-is c =
+    let l = left (c .before) in
+    ap (λ (x : List Thread). record {
+      stop = l .loop2-test .stop;
+      picks = l .loop2-test .dealt;
+      moves = l .loop2-test .tally .moves;
+      records = l .loop2-test .tally .records;
+      threads = x;
+    }) (all-seen c)
+    ∙ ap (λ (x : Played). x .outcome) (ended l)
+
+-- ---- the run goes on
+
+abbrev Noted : Type 0
+Noted = tie.After-note Inv-loop2 μ-loop2 Inv-loop3 μ-loop3 Inv-loop μ-loop
+
+-- by this answer
+abbrev answer-of : Noted → tie.After-goes-on-by Inv-loop2 μ-loop2 Inv-loop3 μ-loop3 Inv-loop μ-loop
+answer-of c = c .before .before .before
+
+module _ (c : Noted) where
+  abbrev over : tie.After-loop3 Inv-loop2 μ-loop2 Inv-loop3 μ-loop3 Inv-loop μ-loop
+  over = answer-of c .before
+
+  abbrev gone : Left
+  gone = left (over .before)
+
+  abbrev o : Opened
+  o = closed (left (answer-of c .before .before))
+
+  abbrev lowest : ℕ
+  lowest = answer-of c .goes-on-by .result
+
+  by-this : answer-of c .goes-on-by .result < 8
+  by-this = omega (arith, answer-of c .goes-on-by .ensures .within, c .before .before .if7 .left)
+
+  going : (ltb (left (answer-of c .before .before) .loop2-test .dealt) (end o) ≡ false) × (end o < length (o .loop .notes))
+      × LowestFrom (openAt (answer-of c .before .before .loop3 .threads)) 0 (answer-of c .goes-on-by .result)
+  going = answer-of c .goes-on-by .ensures .going by-this
+
+  unhalted : end o ≤ left (answer-of c .before .before) .loop2-test .dealt
+  unhalted = ltb-false _ _ (going .0)
+
+  -- the threads show what can be picked
+  shown : (k : ℕ) → k < 8 → openAt (answer-of c .before .before .loop3 .threads) k ≡ openAfter (whole o .outcome) k
+  unfolding openAfter
+  shown k b =
+      sym (ap (λ (x : Stop). unstopped x && openAt (answer-of c .before .before .loop3 .threads) k) (stood gone unhalted .unstopped))
+      ∙ ap (λ (x : Outcome). openAfter x k) (outcome-is over)
+
+  low : LowestFrom (openAfter (whole o .outcome)) 0 (answer-of c .goes-on-by .result)
+  low = lowest-ext (openAt (answer-of c .before .before .loop3 .threads)) (openAfter (whole o .outcome)) 0 _ shown (going .2)
+
+  -- the next higher thread
+  abbrev higher : ℕ
+  higher = c .note .ensures .higher
+
+  high : LowestFrom (openAfter (whole o .outcome)) (pickAt (picks o) (end o) (answer-of c .goes-on-by .result) % 8 + 1) (c .note .ensures .higher)
+  high =
+      along (λ (p : ℕ). LowestFrom (openAfter (whole o .outcome)) (p % 8 + 1) (c .note .ensures .higher)) (c .before .pick-at2 .ensures)
+      (lowest-ext (openAt (answer-of c .before .before .loop3 .threads)) (openAfter (whole o .outcome)) _ _ shown (c .note .ensures .above))
+
+  inside : end o < length (start o .args .notes .now)
+  inside = omega (arith, going .1, round o .kept)
+
+loop-again : tie.Need-loop-again Inv-loop2 μ-loop2 Inv-loop3 μ-loop3 Inv-loop μ-loop
+loop-again c =
+    let r = o c in
+    let before = start r .args .notes .now in (
+      in-list (words r) (roots r) (setting r) (every r) (first r) _ (kept-before (picks r) (r .loop .notes) (end r) (c .note .result) (end r) (omega arith))
+          (stood (gone c) (unhalted c)),
+      along (λ (x : ℕ). Round (words r) (roots r) (setting r) (every r) (first r) (picks r) before (set (r .loop .notes) (end r) x) (lowest c) (end r)
+          (end r + 1)) (sym (c .note .ensures .is))
+          (next-round (words r) (roots r) (setting r) (every r) (first r) (picks r) before (r .loop .notes) (r .loop .lowest) (r .loop .from) (end r) (round r)
+          (start r .pre) (inside c) (lowest c) (higher c) (by-this c) (low c) (high c)),
+      ap length (all-seen (over c))
+          ∙ eight-threads (gone c .loop2-test .tally .counts) (gone c .before .loop2 .heads) (cells (gone c .before)) (gone c .before .loop2 .objects)
+          (gone c .before .loop2 .places) (setting r),
+    )
+
+note-requires : tie.Need-note-requires Inv-loop2 μ-loop2 Inv-loop3 μ-loop3 Inv-loop μ-loop
+note-requires c κs = c .before .before .goes-on-by .ensures .within
+
+slice-write-notes : tie.Need-slice-write-notes Inv-loop2 μ-loop2 Inv-loop3 μ-loop3 Inv-loop μ-loop
+slice-write-notes c = going c .1
+
+add-to : tie.Need-add-to Inv-loop2 μ-loop2 Inv-loop3 μ-loop3 Inv-loop μ-loop
+add-to c = record { fits = omega (arith, inside c, start (o c) .pre .few-notes) }
+
+loop-less : tie.Need-loop-less Inv-loop2 μ-loop2 Inv-loop3 μ-loop3 Inv-loop μ-loop
+loop-less c = omega (arith, going c .1, length-set (o c .loop .notes) (end (o c)) (c .note .result))
+
+-- ---- it is over
+
+same-length : tie.Need-same-length Inv-loop2 μ-loop2 Inv-loop3 μ-loop3 Inv-loop μ-loop
+same-length c = round (closed (left (c .before .before .before))) .kept
+
+same-length-2 : tie.Need-same-length-2 Inv-loop2 μ-loop2 Inv-loop3 μ-loop3 Inv-loop μ-loop
+same-length-2 c =
+    let l = left (c .before .before .before) in
+    let v = here (l .before) in
+    ⊎-elim (λ w. ap length (w .1) ∙ v .kept) (λ w. ap length (w .20) ∙ w .17 .kept .0 ∙ v .kept) (l .loop2-test .came)
+
+-- short of the last place, it has stopped or no thread can be picked
+shut-off : (c : tie.Then7 Inv-loop2 μ-loop2 Inv-loop3 μ-loop3 Inv-loop μ-loop)
+    → end (closed (left (c .before .before .before))) < length (closed (left (c .before .before .before)) .loop .notes) → (k : ℕ)
+    → k < 8 → Dec (left (c .before .before .before) .loop2-test .dealt < end (closed (left (c .before .before .before))))
+    → openAfter (whole (closed (left (c .before .before .before))) .outcome) k ≡ false
+unfolding openAfter
+shut-off c b k h (yes d) =
+    let a = c .before .before in
+    ap (λ (x : Outcome). openAfter x k) (sym (outcome-is a)) ∙ shut-after (told a) k (halted (left (a .before)) d)
+shut-off c b k h (no d) =
+    let a = c .before .before in
+    let l = left (a .before) in
+    ap (λ (x : Outcome). openAfter x k) (sym (outcome-is a))
+    ∙ ap (λ (x : Stop). unstopped x && openAt (a .before .loop3 .threads) k) (stood l (omega (arith, d)) .unstopped)
+    ∙ c .before .goes-on-by .ensures .none (c .if7 .taken) (le-ltb (l .loop2-test .dealt) (end (closed l)) (omega (arith, d))) b k h
+
+returns : tie.Need-returns Inv-loop2 μ-loop2 Inv-loop3 μ-loop3 Inv-loop μ-loop
+returns c =
+    let a = c .before .before in
+    let l = left (a .before) in
+    let r = closed l in
+    record {
+      kept = round r .kept;
+      within = round r .listed;
+      unnoted = round r .unnoted;
+      places = round r .places;
+      outcome = outcome-is a;
+      area = ap (λ (x : Played). x .area) (ended l);
+      counted = record { moves = counted-moves l; records = counted-records l };
+      noted = round r .noted;
+      shut = λ b k h.
+          ap (λ (x : Outcome). openAfter x k) (outcome-is a)
+          ∙ shut-off c (omega (arith, b, round r .kept)) k h (decLt (l .loop2-test .dealt) (end r));
+    }
+
+-- ---- what a turn asks
+
+one-less : (n : ℕ) → n < 8 → 8 - (n + 1) < 8 - n
+one-less n h = omega arith
+
+add-thread-2 : tie.Need-add-thread-2 Inv-loop2 μ-loop2 Inv-loop3 μ-loop3 Inv-loop μ-loop
+add-thread-2 c = search needs
+
+loop3-less-2 : tie.Need-loop3-less-2 Inv-loop2 μ-loop2 Inv-loop3 μ-loop3 Inv-loop μ-loop
+loop3-less-2 c = one-less _ (c .before .before .before .before .before .before .before .before .before .before .loop3-test .taken)
+
+mul-mover : tie.Need-mul-mover Inv-loop2 μ-loop2 Inv-loop3 μ-loop3 Inv-loop μ-loop
+mul-mover c = search needs
+
+array-copy-out-mover : tie.Need-array-copy-out-mover Inv-loop2 μ-loop2 Inv-loop3 μ-loop3 Inv-loop μ-loop
+array-copy-out-mover c = search needs
+
+enum-known-begun : tie.Need-enum-known-begun Inv-loop2 μ-loop2 Inv-loop3 μ-loop3 Inv-loop μ-loop
+enum-known-begun c = search needs
+
+no-entry-requires : tie.Need-no-entry-requires Inv-loop2 μ-loop2 Inv-loop3 μ-loop3 Inv-loop μ-loop
+no-entry-requires c κs = search needs
+
+gone-requires : tie.Need-gone-requires Inv-loop2 μ-loop2 Inv-loop3 μ-loop3 Inv-loop μ-loop
+gone-requires c κs = search needs
+
+mul-heads : tie.Need-mul-heads Inv-loop2 μ-loop2 Inv-loop3 μ-loop3 Inv-loop μ-loop
+mul-heads c = search needs
+
+array-set-from-heads-2 : tie.Need-array-set-from-heads-2 Inv-loop2 μ-loop2 Inv-loop3 μ-loop3 Inv-loop μ-loop
+array-set-from-heads-2 c = search needs
+
+no-object-requires : tie.Need-no-object-requires Inv-loop2 μ-loop2 Inv-loop3 μ-loop3 Inv-loop μ-loop
+no-object-requires c κs = search needs
+
+mul-objects : tie.Need-mul-objects Inv-loop2 μ-loop2 Inv-loop3 μ-loop3 Inv-loop μ-loop
+mul-objects c = search needs
+
+array-set-from-objects : tie.Need-array-set-from-objects Inv-loop2 μ-loop2 Inv-loop3 μ-loop3 Inv-loop μ-loop
+array-set-from-objects c = search needs
+
+add-i-4 : tie.Need-add-i-4 Inv-loop2 μ-loop2 Inv-loop3 μ-loop3 Inv-loop μ-loop
+add-i-4 c = record { fits = omega (arith, few (c .before .before .before .before .before .before .before .before .before .before .before .before .before .before .before)) }
+
+loop2-less-4 : tie.Need-loop2-less-4 Inv-loop2 μ-loop2 Inv-loop3 μ-loop3 Inv-loop μ-loop
+loop2-less-4 c = omega (arith, begun (c .before .before .before .before .before .before .before .before .before .before .before .before .before .before .before))
+
+born-requires : tie.Need-born-requires Inv-loop2 μ-loop2 Inv-loop3 μ-loop3 Inv-loop μ-loop
+born-requires c κs = search needs
+
+mul-heads-2 : tie.Need-mul-heads-2 Inv-loop2 μ-loop2 Inv-loop3 μ-loop3 Inv-loop μ-loop
+mul-heads-2 c = search needs
+
+array-set-from-heads-3 : tie.Need-array-set-from-heads-3 Inv-loop2 μ-loop2 Inv-loop3 μ-loop3 Inv-loop μ-loop
+array-set-from-heads-3 c = search needs
+
+moved-requires-2 : tie.Need-moved-requires-2 Inv-loop2 μ-loop2 Inv-loop3 μ-loop3 Inv-loop μ-loop
+moved-requires-2 c κs = search needs
+
+mul-heads-3 : tie.Need-mul-heads-3 Inv-loop2 μ-loop2 Inv-loop3 μ-loop3 Inv-loop μ-loop
+mul-heads-3 c = search needs
+
+array-set-from-heads-4 : tie.Need-array-set-from-heads-4 Inv-loop2 μ-loop2 Inv-loop3 μ-loop3 Inv-loop μ-loop
+array-set-from-heads-4 c = search needs
+
+moved-requires-3 : tie.Need-moved-requires-3 Inv-loop2 μ-loop2 Inv-loop3 μ-loop3 Inv-loop μ-loop
+moved-requires-3 c κs = search needs
+
+mul-heads-4 : tie.Need-mul-heads-4 Inv-loop2 μ-loop2 Inv-loop3 μ-loop3 Inv-loop μ-loop
+mul-heads-4 c = search needs
+
+array-set-from-heads-5 : tie.Need-array-set-from-heads-5 Inv-loop2 μ-loop2 Inv-loop3 μ-loop3 Inv-loop μ-loop
+array-set-from-heads-5 c = search needs
+
+changes-requires : tie.Need-changes-requires Inv-loop2 μ-loop2 Inv-loop3 μ-loop3 Inv-loop μ-loop
+changes-requires c κs = search needs
+
+cell-of-requires-2 : tie.Need-cell-of-requires-2 Inv-loop2 μ-loop2 Inv-loop3 μ-loop3 Inv-loop μ-loop
+cell-of-requires-2 c κs = search needs
+
+keep-requires : tie.Need-keep-requires Inv-loop2 μ-loop2 Inv-loop3 μ-loop3 Inv-loop μ-loop
+keep-requires c κs = search needs
+
+mul-cells : tie.Need-mul-cells Inv-loop2 μ-loop2 Inv-loop3 μ-loop3 Inv-loop μ-loop
+mul-cells c = record { fits = omega (arith, c .before .before .cell-of2 .ensures .inside) }
+
+array-set-from-cells : tie.Need-array-set-from-cells Inv-loop2 μ-loop2 Inv-loop3 μ-loop3 Inv-loop μ-loop
+array-set-from-cells c = c .before .before .cell-of2 .ensures .inside
+
+mul-objects-2 : tie.Need-mul-objects-2 Inv-loop2 μ-loop2 Inv-loop3 μ-loop3 Inv-loop μ-loop
+mul-objects-2 c = search needs
+
+array-set-from-objects-2 : tie.Need-array-set-from-objects-2 Inv-loop2 μ-loop2 Inv-loop3 μ-loop3 Inv-loop μ-loop
+array-set-from-objects-2 c = search needs
+
+add-i-5 : tie.Need-add-i-5 Inv-loop2 μ-loop2 Inv-loop3 μ-loop3 Inv-loop μ-loop
+add-i-5 c = record { fits = omega (arith, few (c .before .before .before .before .before .before .before .before .before .before .before .before .before .before .before .before .before .before .before .before .before .before .before .before)) }
+
+loop2-less-5 : tie.Need-loop2-less-5 Inv-loop2 μ-loop2 Inv-loop3 μ-loop3 Inv-loop μ-loop
+loop2-less-5 c = omega (arith, begun (c .before .before .before .before .before .before .before .before .before .before .before .before .before .before .before .before .before .before .before .before .before .before .before .before))
+
+pub explore-spec : {M : Type 1} → statement M
+explore-spec =
+    tie.close
+    (tie.spec
+    Inv-loop2
+    μ-loop2
+    Inv-loop3
+    μ-loop3
+    Inv-loop
+    μ-loop
+    -- the start
+    (λ c κs. search needs) (λ c. search needs) (λ c κs. search needs) (λ c. search needs) (λ c κs. search needs) (λ c κs. search needs) (λ c κs. search needs)
+    (λ c κs. search needs) (λ c κs. search needs) loop-holds loop2-holds
+    -- the thread of a pick, which is absent
+    (λ c κs. search needs) (λ c. record { fits = omega (arith, started (c .before .before .before .before)) })
+    (λ c. omega (arith, started (c .before .before .before .before))) loop2-again
+    -- which was passed over since the last move
+    (λ c. search needs) (λ c. record { fits = omega (arith, started (c .before .before .before .before .before)) })
+    (λ c. omega (arith, started (c .before .before .before .before .before))) loop2-again-2
+    -- how the pick begins
+    (λ c. search needs) (λ c. search needs) (λ c κs. search needs) (λ c κs. search needs) (λ c κs. search needs) (λ c. search needs) (λ c. search needs) (λ c κs. search needs) (λ c. search needs) (λ c. search needs) (λ c. search needs) (λ c. search needs)
+    (λ c. search needs) (λ c. search needs) (λ c κs. sym (c .before .before .before .before .before .before .before .goes-on .ensures) ∙ c .before .before .before .before .before .before .if3 .left)
+    -- what it comes to
+    (λ c κs. search needs) (λ c. search needs) (λ c. search needs)
+    -- it is passed over
+    (λ c. search needs) (λ c. record { fits = omega (arith, few (c .before .before)) }) (λ c. omega (arith, begun (c .before .before))) loop2-again-3
+    -- it stops
+    (λ c κs. fits (c .before .before .before .before .before))
+    -- it only goes on elsewhere
+    mul-mover array-copy-out-mover enum-known-begun no-entry-requires (λ c κs. fits (c .before .before .before .before .before .before .before .before)) gone-requires
+    mul-heads array-set-from-heads-2 no-object-requires mul-objects array-set-from-objects moved-requires
+    add-i-4 loop2-less-4 loop2-again-4
+    -- the queues, and its record
+    slice-aggregate-after after-requires (λ c κs. fits (c .before .before .before .before .before .before .before .before .before .before .before .before .before))
+    -- a new thread and the mover, or the mover alone
+    born-requires mul-heads-2 array-set-from-heads-3 moved-requires-2 mul-heads-3 array-set-from-heads-4
+    moved-requires-3 mul-heads-4 array-set-from-heads-5
+    -- the cell, the object
+    changes-requires cell-of-requires-2 keep-requires
+    mul-cells array-set-from-cells
+    mul-objects-2 array-set-from-objects-2
+    -- the counts, and the next pick
+    moved-requires-4 add-i-5 loop2-less-5 loop2-again-5
+    -- the threads at the end of a round
+    loop3-holds (λ c κs. search needs) (λ c. search needs) (λ c. search needs) (λ c. search needs) (λ c. search needs) loop3-again
+    (λ c. search needs) (λ c. search needs) (λ c κs. search needs) (λ c. search needs) (λ c. search needs) (λ c κs. search needs)
+    (λ c. search needs) (λ c. search needs) (λ c. search needs) (λ c. search needs) (λ c. search needs) (λ c. search needs)
+    (λ c κs. search needs) (λ c. search needs) (λ c. search needs) add-thread-2 loop3-less-2 loop3-again-2
+    -- the note, and the next round
+    (λ c κs. search needs) (λ c κs. search needs)
+    note-requires slice-write-notes add-to loop-less loop-again
+    -- the end
+    same-length same-length-2 returns)

@@ -1,0 +1,373 @@
+// One step of landing, the way down (an operand, a call's list, a term) or up with a value; before it, one for each value that comes next in a call's list.
+ghost use mathlib.Core.Path.{_≡_};
+ghost use Prim.Native.Nat.{_<_, _-_};
+ghost use Rattle.run_refocusing_step.specs.Ahead.{nextOf, gatheredOf, aheadOf, intoOf, steppedOf};
+ghost use Rattle.run_refocusing_step.specs.Down.{stayOf, pushOf, wantOf, wantConditionOf, rootAt, listOf, signalOf, simpleOf, runOf, runConditionOf, openedOf, wantedOf, backOf, backConditionOf, frameAt};
+use plan_operands::tags;
+use run_frames::frame;
+use run_frames::frame::Frame;
+use run_frames::frame::Kind;
+use run_frames::go;
+use run_frames::go::Go;
+use run_frames::go::Stage;
+use run_frames::part;
+use run_term_words::slots;
+use run_term_words::words;
+
+// One step: how deep landing then is, a frame for place `at`, and where landing stands.
+pub struct Turn {
+    pub depth: usize,
+    pub at: usize,
+    pub frame: Frame,
+    pub go: Go,
+}
+
+// A call's frame after the values that came next in its list, and how many steps are left.
+pub struct Gathered {
+    pub left: usize,
+    pub frame: Frame,
+}
+
+// A step, and how many are left with it.
+pub struct Stepped {
+    pub left: usize,
+    pub turn: Turn,
+}
+
+// No frame more.
+fn stay(go: Go, depth: usize) -> Turn
+    ensures { λ r. ⌜ r ≡ stayOf go depth ⌝ }
+{
+    let frame = frame::frame_of(Kind::Read, 0, 0, 0, 0);
+    Turn {
+        go: go,
+        depth: depth,
+        at: depth,
+        frame: frame,
+    }
+}
+
+// A frame more, if there is room for it.
+fn push(go: Go, depth: usize, frame: Frame) -> Turn
+    ensures { λ r. ⌜ r ≡ pushOf go depth frame ⌝ }
+{
+    if depth < 32 {
+        return Turn {
+            go: go,
+            depth: depth + 1,
+            at: depth,
+            frame: frame,
+        };
+    }
+    stay(go::full(), depth)
+}
+
+// A frame that wants the value of an expression: fed at once where that needs no move.
+fn want(words: &[usize; 1024], frame: Frame, term: usize, depth: usize) -> Turn
+    ensures { λ r. ⌜ r ≡ wantOf (now (words .entry)) frame term depth ⌝ }
+{
+    let value = words::value(words, frame.environment, term);
+    if value < 32 {
+        return stay(go::feed(frame, value), depth);
+    }
+    push(go::run(term, frame.environment), depth, frame)
+}
+
+// The same of a condition.
+fn want_condition(words: &[usize; 1024], frame: Frame, term: usize, depth: usize) -> Turn
+    ensures { λ r. ⌜ r ≡ wantConditionOf (now (words .entry)) frame term depth ⌝ }
+{
+    let truth = words::truth(words, term);
+    if truth < 2 {
+        return stay(go::feed_condition(frame, truth), depth);
+    }
+    push(go::run_condition(term, frame.environment), depth, frame)
+}
+
+// The root of a procedure; an index over 31 wraps.
+fn root(roots: &[usize; 32], procedure: usize) -> usize
+    ensures { λ r. ⌜ r ≡ rootAt (now (roots .entry)) procedure ⌝ }
+{
+    roots[procedure % 32]
+}
+
+// The rest of a call's list: the next operand, or the call.
+fn list(words: &[usize; 1024], roots: &[usize; 32], frame: Frame) -> Go
+    ensures { λ r. ⌜ r ≡ listOf (now (words .entry)) (now (roots .entry)) frame ⌝ }
+{
+    let word = words::word(words, frame.first);
+    if plan_operands::tag(word) == tags::LIST {
+        return go::want(
+            frame::rest(frame, plan_operands::second(word)),
+            plan_operands::first(word),
+        );
+    }
+    let term = root(roots, frame.member);
+    go::at(go::ready_of(part::RUN, term, 0, 0, frame.arguments))
+}
+
+// The value that comes next in a call's list whose word this is; 32 where the list is over or its next operand needs a move.
+fn next(words: &[usize; 1024], environment: usize, word: usize) -> usize
+    ensures { λ r. ⌜ r ≡ nextOf (now (words .entry)) environment word ⌝ }
+{
+    if plan_operands::tag(word) == tags::LIST {
+        return words::value(words, environment, plan_operands::first(word));
+    }
+    32
+}
+
+// Takes the values that come next in a call's list into its frame, a step to each, as long as another step is left.
+fn gather(words: &[usize; 1024], frame: Frame, left: usize) -> Gathered
+    requires { ⌜ 0 < left ⌝ }
+    ensures { λ r. ⌜ r ≡ gatheredOf (left - 1) (now (words .entry)) frame ⌝ }
+{
+    let mut frame = frame;
+    let mut left = left;
+    while 1 < left {
+        let word = words::word(words, frame.first);
+        let value = next(words, frame.environment, word);
+        if 32 <= value {
+            return Gathered {
+                frame: frame,
+                left: left,
+            };
+        }
+        frame = frame::collect(frame::rest(frame, plan_operands::second(word)), value);
+        left -= 1;
+    }
+    Gathered {
+        frame: frame,
+        left: left,
+    }
+}
+
+// Down from a wait, a notify or a notify all.
+fn signal(word: usize, environment: usize) -> Go
+    ensures { λ r. ⌜ r ≡ signalOf word environment ⌝ }
+{
+    let tag = plan_operands::tag(word);
+    let first = plan_operands::first(word);
+    match tag {
+        tags::WAIT => go::want(frame::frame_of(Kind::Signal, 0, 0, 0, environment), first),
+        tags::NOTIFY => go::want(frame::frame_of(Kind::Signal, 0, 0, 1, environment), first),
+        tags::NOTIFY_ALL => go::want(frame::frame_of(Kind::Signal, 0, 0, 2, environment), first),
+        _ => go::at(go::ready_of(part::NO_RULE, 0, 0, 0, 0)),
+    }
+}
+
+// Down from an expression whose operands need no look: a value, `new`, `while`, `fork`; or from a signal.
+fn simple(word: usize, environment: usize) -> Go
+    ensures { λ r. ⌜ r ≡ simpleOf word environment ⌝ }
+{
+    let tag = plan_operands::tag(word);
+    match tag {
+        tags::NEW => go::at(go::ready_of(part::NEW, plan_operands::mask_of(word), 0, 0, 0)),
+        tags::WHILE => go::at(go::ready_of(
+            part::WHILE,
+            plan_operands::first(word),
+            plan_operands::second(word),
+            0,
+            environment,
+        )),
+        tags::FORK => go::at(go::ready_of(
+            part::FORK,
+            plan_operands::first(word),
+            0,
+            0,
+            environment,
+        )),
+        tags::NULL => go::value(0),
+        tags::VARIABLE => go::value(slots::slot(environment, plan_operands::slot_of(word))),
+        _ => signal(word, environment),
+    }
+}
+
+// Down from an expression.
+fn run(word: usize, environment: usize) -> Go
+    ensures { λ r. ⌜ r ≡ runOf word environment ⌝ }
+{
+    let tag = plan_operands::tag(word);
+    let first = plan_operands::first(word);
+    let second = plan_operands::second(word);
+    let field = plan_operands::field_of(word);
+    match tag {
+        tags::READ => go::want(frame::frame_of(Kind::Read, 0, 0, field, environment), first),
+        tags::WRITE => {
+            let value = plan_operands::write_second(word);
+            let frame = frame::frame_of(Kind::Write1, value, 0, field, environment);
+            go::want(frame, first)
+        }
+        tags::LET => go::want(
+            frame::let_frame(
+                plan_operands::slot_of(word),
+                plan_operands::let_second(word),
+                environment,
+            ),
+            plan_operands::let_first(word),
+        ),
+        tags::IF => go::want_condition(
+            frame::frame_of(Kind::If, second, plan_operands::third(word), 0, environment),
+            first,
+        ),
+        tags::CALL => go::list(frame::frame_of(
+            Kind::Call,
+            plan_operands::list_of(word),
+            0,
+            plan_operands::procedure_of(word),
+            environment,
+        )),
+        tags::JOIN => go::want(frame::frame_of(Kind::Join, 0, 0, 0, environment), first),
+        tags::SYNCH => go::want(
+            frame::frame_of(Kind::Synch, second, 0, 0, environment),
+            first,
+        ),
+        _ => simple(word, environment),
+    }
+}
+
+// Down from a condition.
+fn run_condition(word: usize, environment: usize) -> Go
+    ensures { λ r. ⌜ r ≡ runConditionOf word environment ⌝ }
+{
+    let tag = plan_operands::tag(word);
+    let first = plan_operands::first(word);
+    let second = plan_operands::second(word);
+    match tag {
+        tags::TRUE => go::truth(1),
+        tags::NOT => go::want_condition(frame::frame_of(Kind::Not, 0, 0, 0, environment), first),
+        tags::AND => go::want_condition(
+            frame::frame_of(Kind::And, second, 0, 0, environment),
+            first,
+        ),
+        tags::EQUAL => go::want(
+            frame::frame_of(Kind::Equal1, second, 0, 0, environment),
+            first,
+        ),
+        _ => go::at(go::ready_of(part::NO_RULE, 0, 0, 0, 0)),
+    }
+}
+
+// A way down is taken: its term is opened.
+fn opened(words: &[usize; 1024], go: Go) -> Go
+    ensures { λ r. ⌜ r ≡ openedOf (now (words .entry)) go ⌝ }
+{
+    let frame = go.frame;
+    let stage = go.stage;
+    match stage {
+        Stage::Run => run(words::word(words, go.operand), frame.environment),
+        Stage::RunCondition => run_condition(words::word(words, go.operand), frame.environment),
+        _ => go,
+    }
+}
+
+// The frame where landing stands; of a call's list, with the values that come next taken into it.
+fn ahead(words: &[usize; 1024], go: Go, left: usize) -> Gathered
+    requires { ⌜ 0 < left ⌝ }
+    ensures { λ r. ⌜ r ≡ aheadOf left (now (words .entry)) go ⌝ }
+{
+    let frame = go.frame;
+    let stage = go.stage;
+    match stage {
+        Stage::List => gather(words, frame, left),
+        _ => Gathered {
+            left: left,
+            frame: frame,
+        },
+    }
+}
+
+// A call's list is gone into, with this frame.
+fn listed(words: &[usize; 1024], roots: &[usize; 32], go: Go, frame: Frame) -> Go
+    ensures { λ r. ⌜ r ≡ intoOf (now (words .entry)) (now (roots .entry)) go frame ⌝ }
+{
+    let stage = go.stage;
+    match stage {
+        Stage::List => list(words, roots, frame),
+        _ => go,
+    }
+}
+
+// A frame that wants an operand is fed, or set down.
+fn wanted(words: &[usize; 1024], go: Go, depth: usize) -> Turn
+    ensures { λ r. ⌜ r ≡ wantedOf (now (words .entry)) go depth ⌝ }
+{
+    let frame = go.frame;
+    let stage = go.stage;
+    match stage {
+        Stage::Want => want(words, frame, go.operand, depth),
+        Stage::WantCondition => want_condition(words, frame, go.operand, depth),
+        _ => stay(go, depth),
+    }
+}
+
+// A value goes up into the top frame.
+fn back(frame: Frame, value: usize, depth: usize) -> Turn
+    ensures { λ r. ⌜ r ≡ backOf frame value depth ⌝ }
+{
+    if depth == 0 {
+        return stay(go::at(go::ready_of(part::DONE, value, 0, 0, 0)), depth);
+    }
+    stay(go::feed(frame, value), depth - 1)
+}
+
+// A condition's value goes up into the top frame.
+fn back_condition(frame: Frame, truth: usize, depth: usize) -> Turn
+    ensures { λ r. ⌜ r ≡ backConditionOf frame truth depth ⌝ }
+{
+    if depth == 0 {
+        return stay(go::at(go::ready_of(part::NO_RULE, 0, 0, 0, 0)), depth);
+    }
+    stay(go::feed_condition(frame, truth), depth - 1)
+}
+
+// The frame at a place, three numbers to a frame.
+fn frame_at(stack: &[usize; 891], place: usize) -> Frame
+    requires { ⌜ place < 297 ⌝ }
+    ensures { λ r. ⌜ r ≡ frameAt (now (stack .entry)) place ⌝ }
+{
+    let at = place * 3;
+    frame::unpack(stack[at], stack[at + 1], stack[at + 2])
+}
+
+// One step of landing and, before it, one for each value that comes next in a call's list, of at most so many, with the top frame at the place, which only a
+// value on its way up takes from there. A way down goes through its functions one after the other, so that each has one caller.
+pub fn step(
+    words: &[usize; 1024],
+    roots: &[usize; 32],
+    stack: &[usize; 891],
+    place: usize,
+    go: Go,
+    depth: usize,
+    left: usize,
+) -> Stepped
+    requires { ⌜ (place < 297) × (0 < left) ⌝ }
+    ensures { λ r. ⌜ r ≡ steppedOf (now (words .entry)) (now (roots .entry)) left go depth (frameAt (now (stack .entry)) place) ⌝ }
+{
+    let stage = go.stage;
+    match stage {
+        Stage::Value => {
+            let turn = back(frame_at(stack, place), go.operand, depth);
+            Stepped {
+                left: left,
+                turn: turn,
+            }
+        }
+        Stage::Truth => {
+            let turn = back_condition(frame_at(stack, place), go.operand, depth);
+            Stepped {
+                left: left,
+                turn: turn,
+            }
+        }
+        _ => {
+            let opened = opened(words, go);
+            let ahead = ahead(words, opened, left);
+            let frame = ahead.frame;
+            let turn = wanted(words, listed(words, roots, opened, frame), depth);
+            Stepped {
+                left: ahead.left,
+                turn: turn,
+            }
+        }
+    }
+}

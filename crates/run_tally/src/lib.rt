@@ -1,0 +1,93 @@
+// What a run counts and records: threads, objects and keys; moves; records, three bytes each in the log, for the moves that have one or for every move.
+ghost use mathlib.Core.Path.{_≡_};
+ghost use Prim.Native.Nat.{_≤_, _+_, _*_};
+ghost use lib.ListN.{length};
+ghost use Rattle.run_tally.specs.Tally.{shownEntry, tallyFirst, tallyPut, tallyMoved, logPut};
+use log_records::kind;
+use run_state::Counts;
+use run_state::Entry;
+use run_state::acted;
+
+// What a run has counted.
+pub struct Tally {
+    pub counts: Counts,
+    pub moves: usize,
+    pub records: usize,
+}
+
+// One thread, one object, one key.
+pub fn first() -> Tally
+    ensures { λ r. ⌜ r ≡ tallyFirst ⌝ }
+{
+    let one = Counts {
+        threads: 1,
+        objects: 1,
+        keys: 1,
+    };
+    Tally {
+        counts: one,
+        moves: 0,
+        records: 0,
+    }
+}
+
+// Writes the thread's record and counts it, unless it is none.
+pub fn put(log: &mut [u8], tally: Tally, thread: usize, entry: Entry) -> Tally
+    requires { ⌜ (tally .records * 3 + 3 ≤ length (now log)) × (tally .records ≤ 4096) ⌝ }
+    ensures { λ r. ⌜ (r ≡ tallyPut tally entry) × (r .records ≤ tally .records + 1) ⌝ }
+    ensures { λ r. ⌜ now (log .exit) ≡ logPut (now (log .entry)) (tally .records) thread entry ⌝ }
+{
+    let number = entry.kind;
+    if number == kind::NONE {
+        return tally;
+    }
+    let word = (((number % 16 * 8 + thread % 8) * 32 + entry.object % 32) * 32 + entry.field % 32)
+        * 128
+        + entry.value % 32 * 4;
+    let at = tally.records * 3;
+    log[at] = (word / 65536 % 256) as u8;
+    log[at + 1] = (word / 256 % 256) as u8;
+    log[at + 2] = (word % 256) as u8;
+    let counts = tally.counts;
+    Tally {
+        counts: counts,
+        moves: tally.moves,
+        records: tally.records + 1,
+    }
+}
+
+// Writes a record of a move that has none of its own, a `new` record of object 0, where every move is to have one.
+fn put_unlogged(log: &mut [u8], tally: Tally, every: bool, thread: usize, entry: Entry) -> Tally
+    requires { ⌜ (tally .records * 3 + 3 ≤ length (now log)) × (tally .records ≤ 4096) × (entry .kind ≡ 0) ⌝ }
+    ensures { λ r. ⌜ (r ≡ tallyPut tally (shownEntry every entry)) × (r .records ≤ tally .records + 1) ⌝ }
+    ensures { λ r. ⌜ now (log .exit) ≡ logPut (now (log .entry)) (tally .records) thread (shownEntry every entry) ⌝ }
+{
+    if every {
+        return put(log, tally, thread, acted::entry(kind::NEW, 0, 0, 0));
+    }
+    tally
+}
+
+// Writes the record of a move of the thread and counts it, unless it has none.
+pub fn put_move(log: &mut [u8], tally: Tally, every: bool, thread: usize, entry: Entry) -> Tally
+    requires { ⌜ (tally .records * 3 + 3 ≤ length (now log)) × (tally .records ≤ 4096) ⌝ }
+    ensures { λ r. ⌜ (r ≡ tallyPut tally (shownEntry every entry)) × (r .records ≤ tally .records + 1) ⌝ }
+    ensures { λ r. ⌜ now (log .exit) ≡ logPut (now (log .entry)) (tally .records) thread (shownEntry every entry) ⌝ }
+{
+    if entry.kind == kind::NONE {
+        return put_unlogged(log, tally, every, thread, entry);
+    }
+    put(log, tally, thread, entry)
+}
+
+// The counts after a move.
+pub fn moved(tally: Tally, counts: Counts) -> Tally
+    requires { ⌜ tally .moves ≤ 4096 ⌝ }
+    ensures { λ r. ⌜ (r ≡ tallyMoved tally counts) × (r .moves ≤ tally .moves + 1) ⌝ }
+{
+    Tally {
+        counts: counts,
+        moves: tally.moves + 1,
+        records: tally.records,
+    }
+}

@@ -1,0 +1,20 @@
+-- `digit_of`: the code is its definition. Assumes nothing.
+use borrow.Author.Tests.{lt-ltb, le-ltb}
+use Rattle.text_inputs.specs.Schedules.{digitOf}
+use borrow.Author.Needs.{needs}
+use Rattle.text_inputs.proofs.schedules.digit_of.Statement.{statement}
+use Rattle.text_inputs.proofs.schedules.digit_of.Tie as tie
+
+add-result : tie.Need-add-result
+add-result c = search needs
+
+returns : tie.Need-returns
+unfolding digitOf
+returns c = simp (lt-ltb _ _ (c .if1 .taken))
+
+returns-2 : tie.Need-returns-2
+unfolding digitOf
+returns-2 c = simp (le-ltb _ _ (c .if1 .left))
+
+pub digit-of-spec : {M : Type 1} → statement M
+digit-of-spec = tie.close (tie.spec add-result returns returns-2)
