@@ -13,7 +13,7 @@ use Rattle.machine.specs.Playing as playing
 use Rattle.machine.specs.Playing.{tableOf}
 use Rattle.machine.proofs.Runs.{Reached}
 use Rattle.machine.proofs.Plays.{move-reached}
-use Rattle.run_refocusing.specs.Landing.{Stack}
+use Rattle.run_refocusing.specs.Refocusing.{Stack}
 use Rattle.run_outcome.specs.declared.Stop.the-variants as stop
 use Rattle.run_state.specs.declared.Setting.{Setting}
 use Rattle.run_pick.specs.Answer.{Answer, Answer as answer}

@@ -15,10 +15,10 @@ use Rattle.rules.specs.Step.{Act, waits, sticks, lacks, does, act, actᶜ, equa
 use Rattle.rules.proofs.Decompose.{focus-whole}
 use Rattle.rules.proofs.Progress.{Ruled}
 use Rattle.machine.specs.Frames.{Frame, Readyᶜ, Found}
-use Rattle.machine.specs.Landing.{upᶜ, go}
+use Rattle.machine.specs.Refocusing.{upᶜ, go}
 use Rattle.machine.specs.Machine as machine
 use Rattle.machine.specs.Machine.{Table}
-use Rattle.machine.proofs.Meaning.{context, contextᶜ, redex, redexᶜ, mean, resultOf}
+use Rattle.machine.proofs.Meaning.{context, contextᶜ, redexOf, redexᶜ, mean, resultOf}
 use Rattle.machine.proofs.Onward.{whole-go, whole-up, whole-enter}
 use Rattle.machine.proofs.StateMeaning.{get-map, Tabulates, meant, threadMeant, stateOf, actOf, attemptOf, become-of}
 use Rattle.machine.proofs.MeantActs.{RuledAct, act-of}
@@ -74,7 +74,7 @@ module _ (table : Table) (g : Program) (law : Tabulates table g) where
       ∙ ap (around (stateOf table s) p (context (table .node) (table .count) S))
       (act-of table g law s p t r
       (around-ruled (stateOf table s) p (context (table .node) (table .count) S)
-      (act g (stateOf table s) p (threadMeant table t) (redex (table .node) (table .count) r)) k))
+      (act g (stateOf table s) p (threadMeant table t) (redexOf (table .node) (table .count) r)) k))
   at-of s p t (Found.hereᶜ S r) k =
       ap₂ (λ (R : Rule) (z : State). AttemptOf.moves (record { rule = R; entry = none; state = z })) (rule-of S r)
       (become-of table s p (machine.actᶜ table S r .expression) _ (code-of S r))

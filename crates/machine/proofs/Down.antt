@@ -12,7 +12,7 @@ use Rattle.plan_packed.specs.Steps.{Below, Descending}
 use Rattle.plan_packed.proofs.TreeLaws.{tree, treeᶜ, treeᵃ, tree-law, tree-lawᶜ, tree-lawᵃ}
 use Rattle.rules.specs.Context.{asLiteral, asBool, isTruth, falseWhen, Focus, focus, focusᶜ, focusᵃ, onLiteral, onBool, onNot}
 use Rattle.machine.specs.Frames.{Slots, noSlots, put, Closure, closure, Frame, Found}
-use Rattle.machine.specs.Landing.{given, valueOf, isTrue, boolOf, valueIn, boolIn, foundNot, downBy, downByᶜ, downByᵃ, down, downᶜ, downᵃ}
+use Rattle.machine.specs.Refocusing.{given, valueOf, isTrue, boolOf, valueIn, boolIn, foundNot, downBy, downByᶜ, downByᵃ, down, downᶜ, downᵃ}
 use Rattle.machine.proofs.Substitution.{every, firstSlots, first-put}
 use Rattle.machine.proofs.Meaning.{expressionIn, conditionIn, argumentsIn, context, contextᶜ, mean}
 

@@ -1,4 +1,4 @@
--- What is no value is found under all the frames that stand around it; so landing that goes on under more than 32 frames ends under more than 32.
+-- What is no value is found under all the frames that stand around it; so refocusing that goes on under more than 32 frames ends under more than 32.
 -- Assumes nothing.
 use Prim.Native.Nat.{ℕ, zero, suc, _+_, _≤_, _<_}
 use native.Mathlib.Omega.{arith}
@@ -12,8 +12,8 @@ use Rattle.plan_packed.specs.Trees.{Node, expression, condition, arguments, unk
 use Rattle.plan_packed.specs.Steps.{Below, Descending}
 use Rattle.rules.specs.Context.{falseWhen}
 use Rattle.machine.specs.Frames.{Slots, noSlots, put, Closure, closure, Frame, Found, height}
-use Rattle.machine.specs.Landing.{given, valueOf, isTrue, boolOf, valueIn, boolIn, foundNot, downBy, downByᶜ, downByᵃ, down, downᶜ, downᵃ}
-use Rattle.machine.specs.Turns.{Going, Turn, ends, goes, goDown, goDownᶜ, goList, land, truthTurn, turn}
+use Rattle.machine.specs.Refocusing.{given, valueOf, isTrue, boolOf, valueIn, boolIn, foundNot, downBy, downByᶜ, downByᵃ, down, downᶜ, downᵃ}
+use Rattle.machine.specs.Turns.{Going, Turn, ends, goes, goDown, goDownᶜ, goList, refocus, truthTurn, turn}
 use Rattle.machine.proofs.Levels.{level, levelᶜ, levelᵃ, up-level}
 
 -- a condition that is true is true at its node
@@ -132,27 +132,27 @@ module _ (h : ℕ → Node) where
 
     -- ---- turns
 
-    -- landing that goes on down from here ends under these frames
+    -- refocusing that goes on down from here ends under these frames
     abbrev pub Under : Turn → Type 0
     Under (ends F) = Unit {0}
     Under (goes S (Going.value v)) = Unit {0}
     Under (goes S (Going.truth b)) = Unit {0}
     Under (goes S (Going.enter x)) = Unit {0}
     Under (goes S (Going.enterᶜ x)) = Unit {0}
-    Under (goes S (Going.down x)) = length S ≤ height (land h N S (Going.down x))
-    Under (goes S (Going.downᶜ x)) = length S ≤ height (land h N S (Going.downᶜ x))
-    Under (goes S (Going.list m n σ x)) = length S ≤ height (land h N S (Going.list m n σ x))
+    Under (goes S (Going.down x)) = length S ≤ height (refocus h N S (Going.down x))
+    Under (goes S (Going.downᶜ x)) = length S ≤ height (refocus h N S (Going.downᶜ x))
+    Under (goes S (Going.list m n σ x)) = length S ≤ height (refocus h N S (Going.list m n σ x))
 
     under-down : (S : List Frame) (x : Closure) → valueIn h x ≡ none → Under (goes S (Going.down x))
-    unfolding land
+    unfolding refocus
     under-down S x e = down-height N S x (omega arith) e
 
     under-downᶜ : (S : List Frame) (x : Closure) → boolIn h x ≡ none → Under (goes S (Going.downᶜ x))
-    unfolding land
+    unfolding refocus
     under-downᶜ S x e = down-heightᶜ N S x (omega arith) e
 
     under-list : (S : List Frame) (m n : ℕ) (σ : Slots) (x : Closure) → Under (goes S (Going.list m n σ x))
-    unfolding land
+    unfolding refocus
     under-list S m n σ x = down-heightᵃ N S m n σ x (omega arith)
 
     truth-under : (S : List Frame) (b : Bool) → Under (truthTurn h N S b)

@@ -1,4 +1,4 @@
--- One level of landing, made in two ways: whatever holds between what the two go on with holds between what they come to. Assumes nothing.
+-- One level of refocusing, made in two ways: whatever holds between what the two go on with holds between what they come to. Assumes nothing.
 use Prim.Native.Nat.{ℕ, suc, _<_}
 use mathlib.Core.Path.{_≡_, refl}
 use mathlib.Core.Bool.{Bool, true, false}
@@ -8,7 +8,7 @@ use Rattle.plan_packed.specs.Trees.{null, variable, new, read, write, letIn, if
 use Rattle.plan_packed.specs.Trees.{Node, expression, condition, arguments, unknown}
 use Rattle.plan_packed.specs.Steps.{Below}
 use Rattle.machine.specs.Frames.{Slots, noSlots, put, Closure, closure, Frame, Found}
-use Rattle.machine.specs.Landing.{given, valueIn, boolIn, foundNot, downBy, downByᶜ, downByᵃ, upBy}
+use Rattle.machine.specs.Refocusing.{given, valueIn, boolIn, foundNot, downBy, downByᶜ, downByᵃ, upBy}
 
 module _ (h : ℕ → Node) {R R′ : Type 0} (Related : R → R′ → Type 0) (found : Found → R) (found′ : Found → R′) (hf : (F : Found) → Related (found F) (found′ F))
     (d c : List Frame → Closure → R) (l : List Frame → ℕ → ℕ → Slots → Closure → R)

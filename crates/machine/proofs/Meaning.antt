@@ -1,4 +1,4 @@
--- What the machine's parts stand for: closures, frames, what is ready, what is found, results. Assumes nothing.
+-- What the machine's redexes stand for: closures, frames, what is ready, what is found, results. Assumes nothing.
 use Prim.Native.Nat.{ℕ}
 use mathlib.Core.List.{List, [], _∷_}
 use mathlib.Core.Option.{Option, none}
@@ -75,22 +75,22 @@ module _ (h : ℕ → Node) (N : ℕ) where
     contextᶜ (equal₂ o ∷ S) = elsewhere
     contextᶜ (whileBody x ∷ S) = elsewhere
 
-  abbrev pub redex : Ready → Redex
-  redex (Ready.new fs) = Redex.new fs
-  redex (Ready.read o f) = Redex.read o f
-  redex (Ready.write o f v) = Redex.write o f v
-  redex (Ready.letIn x o y) = Redex.letIn x o (bodyIn x y)
-  redex (Ready.if b x) = Redex.if b (expressionIn (firstOf x)) (expressionIn (secondOf x))
-  redex (Ready.while x) = Redex.while (conditionIn (firstOf x)) (expressionIn (secondOf x))
-  redex (Ready.call m n σ) = Redex.call m (firstSlots n σ)
-  redex (Ready.fork x) = Redex.fork (expressionIn x)
-  redex (Ready.join o) = Redex.join o
-  redex (Ready.synch o x) = Redex.synch o (expressionIn x)
-  redex (Ready.hold o v) = Redex.hold o v
-  redex (Ready.signal j o) = Redex.signal j o
-  redex (Ready.waiting o) = Redex.waiting o
-  redex (Ready.whileTest b x) = Redex.if b (turnIn x) (literal 0)
-  redex (Ready.whileBody o x) = Redex.letIn none o (whileIn x)
+  abbrev pub redexOf : Ready → Redex
+  redexOf (Ready.new fs) = Redex.new fs
+  redexOf (Ready.read o f) = Redex.read o f
+  redexOf (Ready.write o f v) = Redex.write o f v
+  redexOf (Ready.letIn x o y) = Redex.letIn x o (bodyIn x y)
+  redexOf (Ready.if b x) = Redex.if b (expressionIn (firstOf x)) (expressionIn (secondOf x))
+  redexOf (Ready.while x) = Redex.while (conditionIn (firstOf x)) (expressionIn (secondOf x))
+  redexOf (Ready.call m n σ) = Redex.call m (firstSlots n σ)
+  redexOf (Ready.fork x) = Redex.fork (expressionIn x)
+  redexOf (Ready.join o) = Redex.join o
+  redexOf (Ready.synch o x) = Redex.synch o (expressionIn x)
+  redexOf (Ready.hold o v) = Redex.hold o v
+  redexOf (Ready.signal j o) = Redex.signal j o
+  redexOf (Ready.waiting o) = Redex.waiting o
+  redexOf (Ready.whileTest b x) = Redex.if b (turnIn x) (literal 0)
+  redexOf (Ready.whileBody o x) = Redex.letIn none o (whileIn x)
 
   abbrev pub redexᶜ : Readyᶜ → Redexᶜ
   redexᶜ Readyᶜ.notFalse = Redexᶜ.notFalse
@@ -99,7 +99,7 @@ module _ (h : ℕ → Node) (N : ℕ) where
 
   abbrev pub mean : Found → Focus
   mean (Found.value o) = Focus.value o
-  mean (Found.here S r) = Focus.here (context S) (redex r)
+  mean (Found.here S r) = Focus.here (context S) (redexOf r)
   mean (Found.hereᶜ S r) = Focus.hereᶜ (contextᶜ S) (redexᶜ r)
 
   -- what a rule leaves

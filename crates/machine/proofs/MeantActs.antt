@@ -1,4 +1,4 @@
--- What is ready does what the rules say of the redex that it stands for, unless they say that no rule applies. Assumes nothing.
+-- What is ready does what the rules say of the redexOf that it stands for, unless they say that no rule applies. Assumes nothing.
 use Prim.Native.Nat.{ℕ, zero, suc}
 use mathlib.Core.Path.{_≡_, refl, sym, ap, _∙_, subst as along}
 use mathlib.Core.Bool.{Bool, true, false, cond}
@@ -19,11 +19,11 @@ use Rattle.rules.specs.Step.{Stuck, Act, waits, sticks, lacks, does, callAct, r
 use Rattle.rules.specs.Step.{act, AttemptOf}
 use Rattle.rules.proofs.Progress.{Ruled}
 use Rattle.machine.specs.Frames.{Slots, Closure, closure, Ready, Result}
-use Rattle.machine.specs.Landing.{enter, go}
+use Rattle.machine.specs.Refocusing.{enter, go}
 use Rattle.machine.specs.Machine as machine
 use Rattle.machine.specs.Machine.{Table}
 use Rattle.machine.proofs.Substitution.{every, firstSlots, first-length, let-put, call-slots}
-use Rattle.machine.proofs.Meaning.{expressionIn, redex}
+use Rattle.machine.proofs.Meaning.{expressionIn, redexOf}
 use Rattle.machine.proofs.Onward.{whole-go}
 use Rattle.machine.proofs.StateMeaning.{Tabulates, threadMeant, stateOf, actOf, gain-of, enqueue-of, signalled-of, thread-of, cond-of}
 use Rattle.machine.proofs.StateMeaning.{join-of, choose-of, branch-of, again-of}
@@ -132,8 +132,8 @@ module _ (table : Table) where
         (whole-go (table .node) (table .count) (law .ordered) [] (Result.run x))
 
     pub act-of : (s : machine.State) (p : ℕ) (t : machine.Thread) (r : Ready)
-        → RuledAct (act g (stateOf table s) p (threadMeant table t) (redex (table .node) (table .count) r))
-        → actOf table (machine.act table s p t r) ≡ act g (stateOf table s) p (threadMeant table t) (redex (table .node) (table .count) r)
+        → RuledAct (act g (stateOf table s) p (threadMeant table t) (redexOf (table .node) (table .count) r))
+        → actOf table (machine.act table s p t r) ≡ act g (stateOf table s) p (threadMeant table t) (redexOf (table .node) (table .count) r)
     unfolding machine.act act
     act-of s p t (Ready.new fs) k = refl
     act-of s p t (Ready.read o f) k = read-of s p t o f (fieldOf (getElem? (s .objects) o) f)

@@ -15,9 +15,9 @@ use Rattle.rules.proofs.Decompose.{whole, whole-focus}
 use Rattle.rules.proofs.FocusPlug.{found, foundᶜ, focus-plug, focus-plugᶜ}
 use Rattle.rules.proofs.Back.{as-literal, as-bool}
 use Rattle.machine.specs.Frames.{Slots, put, Closure, closure, firstOf, secondOf, Frame, Ready, Result}
-use Rattle.machine.specs.Landing.{given, valueIn, boolIn, down, downᶜ, up, nowhere, upᶜ, enter, enterᶜ, go}
+use Rattle.machine.specs.Refocusing.{given, valueIn, boolIn, down, downᶜ, up, nowhere, upᶜ, enter, enterᶜ, go}
 use Rattle.machine.proofs.Substitution.{firstSlots, first-put}
-use Rattle.machine.proofs.Meaning.{expressionIn, conditionIn, argumentsIn, bodyIn, whileIn, turnIn, context, contextᶜ, redex, mean, resultOf}
+use Rattle.machine.proofs.Meaning.{expressionIn, conditionIn, argumentsIn, bodyIn, whileIn, turnIn, context, contextᶜ, redexOf, mean, resultOf}
 use Rattle.machine.proofs.Down.{value-in, bool-in, by-literal, down-focus, down-focusᶜ, down-focusᵃ}
 
 focus-after : (K : Context) (m : ℕ) (vs os : List ℕ) (es : Arguments) → focusᵃ K m vs (literals os es) ≡ focusᵃ K m (vs ++ os) es
@@ -115,8 +115,8 @@ module _ (h : ℕ → Node) (N : ℕ) (o : Descending h N) where
   go-focus S (Result.held o x) = enter-focus (Frame.hold o ∷ S) x
   go-focus S (Result.whileTest x) = enter-focusᶜ (Frame.whileTest x ∷ S) (firstOf x)
   go-focus S (Result.whileBody x) = enter-focus (Frame.whileBody x ∷ S) (secondOf x)
-  go-focus S (Result.whileAgain x) = sym (found (context h N S) (redex h N (Ready.while x)))
-  go-focus S (Result.waiting o) = sym (found (context h N S) (redex h N (Ready.waiting o)))
+  go-focus S (Result.whileAgain x) = sym (found (context h N S) (redexOf h N (Ready.while x)))
+  go-focus S (Result.waiting o) = sym (found (context h N S) (redexOf h N (Ready.waiting o)))
 
   -- the thread's expression after a move
   pub whole-go : (S : List Frame) (r : Result) → whole (mean h N (go h N S r)) ≡ plug (context h N S) (resultOf h N r)

@@ -1,4 +1,4 @@
--- Landing in turns finds what landing finds, in a table of nodes in which children come after parents: a turn does not change what is found, and
+-- Refocusing in turns finds what refocusing finds, in a table of nodes in which children come after parents: a turn does not change what is found, and
 -- what is no value is found under all the frames that are there. Assumes nothing.
 use Prim.Native.Nat.{ℕ, zero, suc, _+_, _≤_}
 use native.Mathlib.Omega.{arith}
@@ -9,8 +9,8 @@ use mathlib.Core.Option.{Option, some, none}
 use Rattle.plan_packed.specs.Trees.{Node}
 use Rattle.plan_packed.specs.Steps.{Descending}
 use Rattle.machine.specs.Frames.{Slots, Closure, Frame, Found}
-use Rattle.machine.specs.Landing.{given, valueIn, boolIn, downBy, down, downᶜ, downᵃ, up, upᶜ, enter, enterᶜ}
-use Rattle.machine.specs.Turns.{Going, Turn, ends, goes, goDown, goDownᶜ, goList, land, truthTurn, turn, landTurn}
+use Rattle.machine.specs.Refocusing.{given, valueIn, boolIn, downBy, down, downᶜ, downᵃ, up, upᶜ, enter, enterᶜ}
+use Rattle.machine.specs.Turns.{Going, Turn, ends, goes, goDown, goDownᶜ, goList, refocus, truthTurn, turn, refocusTurn}
 use Rattle.machine.proofs.Levels.{level, levelᶜ, levelᵃ, up-level}
 
 module _ (h : ℕ → Node) (N : ℕ) (o : Descending h N) where
@@ -55,54 +55,54 @@ module _ (h : ℕ → Node) (N : ℕ) (o : Descending h N) where
   -- ---- a turn does not change what is found
 
   abbrev Same : Turn → Found → Type 0
-  Same r F = F ≡ landTurn h N r
+  Same r F = F ≡ refocusTurn h N r
 
-  given-lands : {A : Type 0} (v : Option A) (S : List Frame) (k : A → Going) (g : Going)
-      → given v (λ a. land h N S (k a)) (land h N S g) ≡ landTurn h N (given v (λ a. goes S (k a)) (goes S g))
-  unfolding landTurn
-  given-lands (some a) S k g = refl
-  given-lands none S k g = refl
+  given-refocuses : {A : Type 0} (v : Option A) (S : List Frame) (k : A → Going) (g : Going)
+      → given v (λ a. refocus h N S (k a)) (refocus h N S g) ≡ refocusTurn h N (given v (λ a. goes S (k a)) (goes S g))
+  unfolding refocusTurn
+  given-refocuses (some a) S k g = refl
+  given-refocuses none S k g = refl
 
-  truth-lands : (S : List Frame) (b : Bool) → upᶜ h N S b ≡ landTurn h N (truthTurn h N S b)
-  unfolding upᶜ truthTurn landTurn
-  truth-lands [] b = refl
-  truth-lands (Frame.if x ∷ S) b = refl
-  truth-lands (Frame.and x ∷ S) b = refl
-  truth-lands (Frame.not ∷ S) true = refl
-  truth-lands (Frame.not ∷ S) false = refl
-  truth-lands (Frame.whileTest x ∷ S) b = refl
-  truth-lands (Frame.read f ∷ S) b = refl
-  truth-lands (Frame.write₁ f x ∷ S) b = refl
-  truth-lands (Frame.write₂ a f ∷ S) b = refl
-  truth-lands (Frame.call m n σ x ∷ S) b = refl
-  truth-lands (Frame.letIn x y ∷ S) b = refl
-  truth-lands (Frame.synch x ∷ S) b = refl
-  truth-lands (Frame.hold a ∷ S) b = refl
-  truth-lands (Frame.join ∷ S) b = refl
-  truth-lands (Frame.signal j ∷ S) b = refl
-  truth-lands (Frame.equal₁ x ∷ S) b = refl
-  truth-lands (Frame.equal₂ a ∷ S) b = refl
-  truth-lands (Frame.whileBody x ∷ S) b = refl
+  truth-refocuses : (S : List Frame) (b : Bool) → upᶜ h N S b ≡ refocusTurn h N (truthTurn h N S b)
+  unfolding upᶜ truthTurn refocusTurn
+  truth-refocuses [] b = refl
+  truth-refocuses (Frame.if x ∷ S) b = refl
+  truth-refocuses (Frame.and x ∷ S) b = refl
+  truth-refocuses (Frame.not ∷ S) true = refl
+  truth-refocuses (Frame.not ∷ S) false = refl
+  truth-refocuses (Frame.whileTest x ∷ S) b = refl
+  truth-refocuses (Frame.read f ∷ S) b = refl
+  truth-refocuses (Frame.write₁ f x ∷ S) b = refl
+  truth-refocuses (Frame.write₂ a f ∷ S) b = refl
+  truth-refocuses (Frame.call m n σ x ∷ S) b = refl
+  truth-refocuses (Frame.letIn x y ∷ S) b = refl
+  truth-refocuses (Frame.synch x ∷ S) b = refl
+  truth-refocuses (Frame.hold a ∷ S) b = refl
+  truth-refocuses (Frame.join ∷ S) b = refl
+  truth-refocuses (Frame.signal j ∷ S) b = refl
+  truth-refocuses (Frame.equal₁ x ∷ S) b = refl
+  truth-refocuses (Frame.equal₂ a ∷ S) b = refl
+  truth-refocuses (Frame.whileBody x ∷ S) b = refl
 
-  pub turn-lands : (S : List Frame) (g : Going) → land h N S g ≡ landTurn h N (turn h N S g)
-  unfolding land turn landTurn enter enterᶜ up down
-  turn-lands S (Going.value v) =
+  pub turn-refocuses : (S : List Frame) (g : Going) → refocus h N S g ≡ refocusTurn h N (turn h N S g)
+  unfolding refocus turn refocusTurn enter enterᶜ up down
+  turn-refocuses S (Going.value v) =
       up-level h Same ends (λ F. F) (λ F. refl)
       goDown goDownᶜ goList (λ S y. down h N S y) (λ S y. downᶜ h N S y) (λ S m n σ y. downᵃ h N S m n σ y) (λ S y e. refl) (λ S m n σ y. refl) S v
-  turn-lands S (Going.truth b) = truth-lands S b
-  turn-lands S (Going.enter x) = given-lands (valueIn h x) S Going.value (Going.down x)
-  turn-lands S (Going.enterᶜ x) = given-lands (boolIn h x) S Going.truth (Going.downᶜ x)
-  turn-lands S (Going.down x) =
+  turn-refocuses S (Going.truth b) = truth-refocuses S b
+  turn-refocuses S (Going.enter x) = given-refocuses (valueIn h x) S Going.value (Going.down x)
+  turn-refocuses S (Going.enterᶜ x) = given-refocuses (boolIn h x) S Going.truth (Going.downᶜ x)
+  turn-refocuses S (Going.down x) =
       down-fuel N (suc N) S x (omega arith) (omega arith)
       ∙ level h Same ends (λ F. F) (λ F. refl)
       goDown goDownᶜ goList (λ S y. down h N S y) (λ S y. downᶜ h N S y) (λ S m n σ y. downᵃ h N S m n σ y)
       S (x .at) (λ F y b e. refl) (λ F y b e. refl) (λ m n σ y b. refl) (x .slots) (h (x .at)) (o .below (x .at))
-  turn-lands S (Going.downᶜ x) =
+  turn-refocuses S (Going.downᶜ x) =
       down-fuelᶜ N (suc N) S x (omega arith) (omega arith)
       ∙ levelᶜ h Same ends (λ F. F) (λ F. refl)
       goDown goDownᶜ goList (λ S y. down h N S y) (λ S y. downᶜ h N S y) (λ S m n σ y. downᵃ h N S m n σ y)
       S (x .at) (λ F y b e. refl) (λ F y b e. refl) (λ m n σ y b. refl) (x .slots) (h (x .at)) (o .below (x .at))
-  turn-lands S (Going.list m n σ x) =
+  turn-refocuses S (Going.list m n σ x) =
       down-fuelᵃ N (suc N) S m n σ x (omega arith) (omega arith)
       ∙ levelᵃ h Same ends (λ F. F) (λ F. refl)
       goDown goDownᶜ goList (λ S y. down h N S y) (λ S y. downᶜ h N S y) (λ S m n σ y. downᵃ h N S m n σ y)

@@ -1,4 +1,4 @@
--- The abstract machine; no reader of the entries' promises needs it. Its parts: slots, closures, frames, and what is ready to move.
+-- The abstract machine; no reader of the entries' promises needs it. Its redexes: slots, closures, frames, and what is ready to move.
 -- Assumes nothing.
 use Prim.Native.Nat.{ℕ}
 use mathlib.Core.Bool.{Bool, cond}
@@ -49,7 +49,7 @@ firstOf x = closure (x .first) (x .slots)
 abbrev pub secondOf : Branches → Closure
 secondOf x = closure (x .second) (x .slots)
 
--- one construct around the part that moves next
+-- one construct around the redex that moves next
 pub data Frame : Type 0 where
   read : ℕ → Frame  -- •.f
   write₁ : ℕ → Closure → Frame  -- •.f := e

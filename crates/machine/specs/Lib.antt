@@ -1,7 +1,7 @@
 pub mod Frames
 pub mod Memory
 pub mod PackedSlots
-pub mod Landing
+pub mod Refocusing
 pub mod Turns
 pub mod Machine
 pub mod Playing

@@ -16,7 +16,7 @@ use Rattle.rules.specs.Rules.{Rule, passedOn, e-call, e-let, e-if, e-while, e-n
 use Rattle.rules.specs.Rules.{e-fork, e-join, e-re-enter, e-acquire, e-release, e-wait, e-wake, e-notify, e-notifyall}
 use Rattle.rules.specs.Step.{forMonitor, forJoin, forNotify, missingField, notThread, notHeld, ActOf, MoveOf, AttemptOf, equalAct}
 use Rattle.machine.specs.Frames.{putBound, Closure, closure, Frame, Ready, Readyᶜ, Found, height, Result}
-use Rattle.machine.specs.Landing.{upᶜ, enter, enterᶜ, go}
+use Rattle.machine.specs.Refocusing.{upᶜ, enter, enterᶜ, go}
 pub use Rattle.rules.specs.State.{learn, hear, inPlace}
 unfoldable pub use Rattle.rules.specs.State.{lookup, store, storeMonitor, addObject, addThread, gain, become, useKey, enqueue, signalled, threadOf}
 pub use Rattle.rules.specs.Step.{waits, sticks, lacks, does, absent, finished, waiting, stuck, lacking, moves}

@@ -1,14 +1,14 @@
--- The abstract machine; no reader of the entries' promises needs it. Landing in turns, as the code's loop makes it: where landing stands, and
+-- The abstract machine; no reader of the entries' promises needs it. Refocusing in turns, as the code's loop makes it: where refocusing stands, and
 -- one turn of it. h gives the nodes of a plan of N terms. Assumes nothing.
 use Prim.Native.Nat.{ℕ}
 use mathlib.Core.Bool.{Bool, true, false}
 use mathlib.Core.List.{List, [], _∷_}
 use Rattle.plan_packed.specs.Trees.{Node}
 use Rattle.machine.specs.Frames.{Slots, Closure, Frame, Ready, Readyᶜ, Found}
-use Rattle.machine.specs.Landing
-use Rattle.machine.specs.Landing.{given, valueIn, boolIn, downBy, downByᶜ, downByᵃ, upBy, downᵃ, nowhere, up, upᶜ}
+use Rattle.machine.specs.Refocusing
+use Rattle.machine.specs.Refocusing.{given, valueIn, boolIn, downBy, downByᶜ, downByᵃ, upBy, downᵃ, nowhere, up, upᶜ}
 
--- what landing goes on with, in the hole of its frames
+-- what refocusing goes on with, in the hole of its frames
 pub data Going : Type 0 where
   value : ℕ → Going  -- a value, up into the innermost frame
   truth : Bool → Going  -- a condition's value
@@ -32,16 +32,16 @@ abbrev pub goList : List Frame → ℕ → ℕ → Slots → Closure → Turn
 goList S m n σ x = goes S (list m n σ x)
 
 module _ (h : ℕ → Node) (N : ℕ) where
-  -- what landing finds
-  unfoldable pub land : List Frame → Going → Found
-  unfolding up upᶜ Landing.enter Landing.enterᶜ Landing.down
-  land S (value v) = up h N S v
-  land S (truth b) = upᶜ h N S b
-  land S (enter x) = Landing.enter h N S x
-  land S (enterᶜ x) = Landing.enterᶜ h N S x
-  land S (down x) = Landing.down h N S x
-  land S (downᶜ x) = Landing.downᶜ h N S x
-  land S (list m n σ x) = downᵃ h N S m n σ x
+  -- what refocusing finds
+  unfoldable pub refocus : List Frame → Going → Found
+  unfolding up upᶜ Refocusing.enter Refocusing.enterᶜ Refocusing.down
+  refocus S (value v) = up h N S v
+  refocus S (truth b) = upᶜ h N S b
+  refocus S (enter x) = Refocusing.enter h N S x
+  refocus S (enterᶜ x) = Refocusing.enterᶜ h N S x
+  refocus S (down x) = Refocusing.down h N S x
+  refocus S (downᶜ x) = Refocusing.downᶜ h N S x
+  refocus S (list m n σ x) = downᵃ h N S m n σ x
 
   unfoldable pub truthTurn : List Frame → Bool → Turn
   truthTurn [] b = ends (nowhere h N b)
@@ -74,8 +74,8 @@ module _ (h : ℕ → Node) (N : ℕ) where
   turn S (downᶜ x) = downByᶜ h ends goDown goDownᶜ goList (x .slots) S (h (x .at))
   turn S (list m n σ x) = downByᵃ h ends goDown goDownᶜ goList (x .slots) S m n σ (h (x .at))
 
-  -- what landing finds after a turn
-  unfoldable pub landTurn : Turn → Found
-  unfolding land
-  landTurn (ends F) = F
-  landTurn (goes S g) = land S g
+  -- what refocusing finds after a turn
+  unfoldable pub refocusTurn : Turn → Found
+  unfolding refocus
+  refocusTurn (ends F) = F
+  refocusTurn (goes S g) = refocus S g

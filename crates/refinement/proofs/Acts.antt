@@ -12,14 +12,14 @@ use Rattle.plan_packed.specs.Trees.{nodeAt, programOf}
 use Rattle.plan_packed.specs.Check.{refusal}
 use Rattle.rules.proofs.StateLaws.{there as present}
 use Rattle.machine.specs.Frames as frames
-use Rattle.machine.specs.Landing.{up}
-use Rattle.machine.specs.Landing as land
+use Rattle.machine.specs.Refocusing.{up}
+use Rattle.machine.specs.Refocusing as refocus
 use Rattle.machine.specs.Machine as machine
 use Rattle.machine.specs.Playing.{tableOf}
 use Rattle.machine.specs.Playing as playing
 use Rattle.machine.proofs.Runs.{Reached}
-use Rattle.run_frames.specs.Parts.{Part, Part as part}
-use Rattle.run_frames.specs.declared.go.Ready.{Ready}
+use Rattle.run_frames.specs.RedexKinds.{RedexKind, RedexKind as redex}
+use Rattle.run_frames.specs.declared.refocusing.Ready.{Ready}
 use Rattle.run_frames.specs.Going.{readyAt, readyOf, goAt, goRun, goRunCondition, goValue, goTruth}
 use Rattle.run_state.specs.declared.Setting.{Setting}
 use Rattle.run_state.specs.declared.Head.{Head}
@@ -30,7 +30,7 @@ use Rattle.run_look.specs.Look.{objectBy, objectOf, fieldBy, aboutField, lookBy
 use Rattle.run_act.specs.Act.{pureBy, actBy, actOf}
 use Rattle.run_engine.specs.Machine as engine
 use Rattle.run_pick.specs.Pick.{noHead, lookMet}
-use Rattle.run_engine.specs.Machine.{noCell, noThing, headAt, cellNumber}
+use Rattle.run_engine.specs.Machine.{noCell, noObject, headAt, cellNumber}
 use Rattle.refinement.proofs.Meant.{closed, StandsBy}
 use Rattle.refinement.proofs.States.{settingOf, Headed, Related}
 use Rattle.refinement.proofs.Looks.{MeetsBy, attempt-value}
@@ -42,16 +42,16 @@ use Rattle.refinement.proofs.SignalActs.{signal-meets, wake-meets}
 use Rattle.refinement.proofs.ObjectActs.{new-meets, fork-meets, join-meets}
 use Rattle.refinement.proofs.PlainActs.{pure-meets, condition-meets, while-meets, body-meets}
 
--- what the code would see and do, were r thread p's part
+-- what the code would see and do, were r thread p's redex
 abbrev otherFor : engine.Machine → Ready → Head
-otherFor m r = getD (m .heads) (getD (m .objects) (objectOf r) noThing .thread % 16) noHead
+otherFor m r = getD (m .heads) (getD (m .objects) (objectOf r) noObject .thread % 16) noHead
 
 abbrev sees : Setting → engine.Machine → ℕ → Ready → Sight
-sees setting m p r = lookOf setting (headFor m p r) (getD (m .cells) (cellNumber r) noCell) (getD (m .objects) (objectOf r) noThing)
-    (otherFor m r .ready .part) (getD (m .places) p 0)
+sees setting m p r = lookOf setting (headFor m p r) (getD (m .cells) (cellNumber r) noCell) (getD (m .objects) (objectOf r) noObject)
+    (otherFor m r .ready .redex) (getD (m .places) p 0)
 
 abbrev does : Setting → engine.Machine → ℕ → Ready → Act
-does setting m p r = actOf setting (m .tally .counts) (headFor m p r) (getD (m .cells) (cellNumber r) noCell) (getD (m .objects) (objectOf r) noThing)
+does setting m p r = actOf setting (m .tally .counts) (headFor m p r) (getD (m .cells) (cellNumber r) noCell) (getD (m .objects) (objectOf r) noObject)
     (otherFor m r)
 
 module _ {b : List ℕ} {m : engine.Machine} {s : machine.State} {p : ℕ} (mover : Mover b m s p) where
@@ -61,42 +61,42 @@ module _ {b : List ℕ} {m : engine.Machine} {s : machine.State} {p : ℕ} (move
   abbrev Meets : Ready → Type 0
   Meets r = MeetsBy (sees (settingOf b) m p r) p r (machine.attempt (tableOf b) s p) (Acts mover r (cellNumber r) (does (settingOf b) m p r))
 
-  meets : (P : Part) (a b′ c environment : ℕ) → StandsBy b P (readyOf P a b′ c environment) S (t .expression) → Meets (readyOf P a b′ c environment)
-  unfolding objectBy fieldBy aboutField lookBy pureBy actBy machine.actᶜ land.go playing.noRoomBefore tableOf
-  meets part.Done a b′ c environment h = attempt-value (tableOf b) s p t there a (h .1)
-  meets part.NoRule a b′ c environment h = absurd h
-  meets part.Run a b′ c environment h =
-      pure-meets mover 0 (readyOf part.Run a b′ c environment) refl refl _ (h .2 .0) (goRun a environment) (h .2 .1) (h .2 .2) (h .0, h .1, refl)
-  meets part.RunCondition a b′ c environment h =
-      condition-meets mover 0 (readyOf part.RunCondition a b′ c environment) refl refl (frames.Readyᶜ.and true (closed a environment))
+  meets : (P : RedexKind) (a b′ c environment : ℕ) → StandsBy b P (readyOf P a b′ c environment) S (t .expression) → Meets (readyOf P a b′ c environment)
+  unfolding objectBy fieldBy aboutField lookBy pureBy actBy machine.actᶜ refocus.go playing.noRoomBefore tableOf
+  meets redex.Done a b′ c environment h = attempt-value (tableOf b) s p t there a (h .1)
+  meets redex.NoRule a b′ c environment h = absurd h
+  meets redex.Run a b′ c environment h =
+      pure-meets mover 0 (readyOf redex.Run a b′ c environment) refl refl _ (h .2 .0) (goRun a environment) (h .2 .1) (h .2 .2) (h .0, h .1, refl)
+  meets redex.RunCondition a b′ c environment h =
+      condition-meets mover 0 (readyOf redex.RunCondition a b′ c environment) refl refl (frames.Readyᶜ.and true (closed a environment))
       (goRunCondition a environment) (h .2) refl (h .0, h .1, refl)
-  meets part.Val a b′ c environment h =
-      pure-meets mover 0 (readyOf part.Val a b′ c environment) refl refl _ (h .2 .0) (goValue a) (h .2 .1) (h .2 .2)
+  meets redex.Val a b′ c environment h =
+      pure-meets mover 0 (readyOf redex.Val a b′ c environment) refl refl _ (h .2 .0) (goValue a) (h .2 .1) (h .2 .2)
       (h .0, (let e = h .1 in omega arith), ap (up (nodeAt b) (terms b) S) (sym (h .1)))
-  meets part.Truth a b′ c environment h =
-      condition-meets mover 0 (readyOf part.Truth a b′ c environment) refl refl (h .2 .0) (goTruth a) (h .2 .1) (h .2 .2 .needs-no-room s)
+  meets redex.Truth a b′ c environment h =
+      condition-meets mover 0 (readyOf redex.Truth a b′ c environment) refl refl (h .2 .0) (goTruth a) (h .2 .1) (h .2 .2 .needs-no-room s)
       (h .0, h .1, h .2 .2 .acts)
-  meets part.While a b′ c environment h = while-meets mover a b′ c environment 0 (h .0) (h .1) (h .2) (h .3)
-  meets part.Body a b′ c environment h = body-meets mover a b′ c environment 0 (h .0) (h .1) (h .2) (h .3)
-  meets part.Again a b′ c environment h =
-      pure-meets mover 0 (readyOf part.Again a b′ c environment) refl refl _ (h .3 .0) (goAt (readyOf part.While a b′ 0 environment)) (h .3 .1) (h .3 .2)
-      (part.While, refl, (h .0, h .1, h .2, refl))
-  meets part.New a b′ c environment h = new-meets mover a b′ c environment 0 (h .0) (h .2) (h .3)
-  meets part.Read a b′ c environment h =
+  meets redex.While a b′ c environment h = while-meets mover a b′ c environment 0 (h .0) (h .1) (h .2) (h .3)
+  meets redex.Body a b′ c environment h = body-meets mover a b′ c environment 0 (h .0) (h .1) (h .2) (h .3)
+  meets redex.Again a b′ c environment h =
+      pure-meets mover 0 (readyOf redex.Again a b′ c environment) refl refl _ (h .3 .0) (goAt (readyOf redex.While a b′ 0 environment)) (h .3 .1) (h .3 .2)
+      (redex.While, refl, (h .0, h .1, h .2, refl))
+  meets redex.New a b′ c environment h = new-meets mover a b′ c environment 0 (h .0) (h .2) (h .3)
+  meets redex.Read a b′ c environment h =
       read-meets mover a b′ c environment (a % 32 * 32 + b′ % 32) (a % 32) (ap₂ (λ (x y : ℕ). x * 32 + y) (mod-eq-of-lt (h .1)) (mod-eq-of-lt (h .3)))
       (mod-eq-of-lt (h .1)) (h .0) (h .1) (h .2) (h .3) (h .4)
-  meets part.Write a b′ c environment h =
+  meets redex.Write a b′ c environment h =
       write-meets mover a b′ c environment (a % 32 * 32 + b′ % 32) (a % 32) (ap₂ (λ (x y : ℕ). x * 32 + y) (mod-eq-of-lt (h .1)) (mod-eq-of-lt (h .3)))
       (mod-eq-of-lt (h .1)) (h .0) (h .1) (h .2) (h .3) (h .4) (h .5)
-  meets part.Fork a b′ c environment h = fork-meets mover a b′ c environment 0 (h .0) (h .1) (h .2)
-  meets part.Join a b′ c environment h = join-meets mover a b′ c environment (a % 32 * 32 + 0) (a % 32) (mod-eq-of-lt (h .1)) (h .0) (h .1) (h .2)
-  meets part.Synch a b′ c environment h =
+  meets redex.Fork a b′ c environment h = fork-meets mover a b′ c environment 0 (h .0) (h .1) (h .2)
+  meets redex.Join a b′ c environment h = join-meets mover a b′ c environment (a % 32 * 32 + 0) (a % 32) (mod-eq-of-lt (h .1)) (h .0) (h .1) (h .2)
+  meets redex.Synch a b′ c environment h =
       synch-meets mover a b′ c environment (a % 32 * 32 + 0) (ap (λ (x : ℕ). x * 32 + 0) (mod-eq-of-lt (h .1))) (h .0) (h .1) (h .2) (h .3)
-  meets part.Hold a b′ c environment h =
+  meets redex.Hold a b′ c environment h =
       hold-meets mover a b′ c environment (a % 32 * 32 + 0) (ap (λ (x : ℕ). x * 32 + 0) (mod-eq-of-lt (h .1))) (h .0) (h .1) (h .2) (h .3)
-  meets part.Signal a b′ c environment h =
+  meets redex.Signal a b′ c environment h =
       signal-meets mover a b′ c environment (a % 32 * 32 + 0) (ap (λ (x : ℕ). x * 32 + 0) (mod-eq-of-lt (h .1))) (h .0) (h .1) (h .2)
-  meets part.Waiting a b′ c environment h =
+  meets redex.Waiting a b′ c environment h =
       wake-meets mover a b′ c environment (a % 32 * 32 + 0) (ap (λ (x : ℕ). x * 32 + 0) (mod-eq-of-lt (h .1))) (h .0) (h .1) (h .2)
 
 meets-more : (w : Sight) (p : ℕ) (r : Ready) (A : machine.Attempt) (Z Z′ : machine.Move → Type 0) → ((v : machine.Move) → Z v → Z′ v) → MeetsBy w p r A Z

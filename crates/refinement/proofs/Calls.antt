@@ -10,18 +10,18 @@ use Rattle.plan_packed.proofs.Accepted.{OfSort, Accepted}
 use Rattle.machine.specs.Frames.{closure}
 use Rattle.machine.specs.Frames as frames
 use Rattle.machine.specs.Playing as playing
-use Rattle.machine.specs.Landing.{downᵃ}
+use Rattle.machine.specs.Refocusing.{downᵃ}
 use Rattle.machine.proofs.PlanTable.{ordered}
 use Rattle.machine.proofs.CallLists.{list-left}
 use Rattle.machine.proofs.Sorted.{Well}
 use Rattle.run_frames.specs.declared.frame.Frame.{Frame}
-use Rattle.run_frames.specs.Parts.{Part as part}
+use Rattle.run_frames.specs.RedexKinds.{RedexKind as redex}
 use Rattle.plan_packed.specs.Operands.{firstOf, secondOf}
 use Rattle.run_term_words.specs.Words.{wordAt}
 use Rattle.run_frames.specs.Frames.{restOf}
 use Rattle.run_frames.specs.Going.{readyOf, goAt}
 use Rattle.run_refocusing_step.specs.Down.{rootAt, listBy, listOf, wantedOf}
-use Rattle.run_refocusing.specs.Landing.{Stack}
+use Rattle.run_refocusing.specs.Refocusing.{Stack}
 use Rattle.refinement.proofs.Meant.{Loaded, slots, closed, IsRest, IsExpression}
 use Rattle.refinement.proofs.Words.{Rest, rest-at}
 use Rattle.refinement.proofs.Descent.{list-more, list-end}
@@ -65,8 +65,8 @@ module _ {b ws rs : List ℕ} {k : Stack} {base : ℕ} {S : List frames.Frame} (
       (less-one (c .right) m r) (less-one (c .right) m z))
   list-by f w l s e m (Rest.end p q) =
       rw p
-      (stays c (goAt (readyOf part.Run (rootAt rs (f .member)) 0 0 (f .arguments))) (
-        part.Run,
+      (stays c (goAt (readyOf redex.Run (rootAt rs (f .member)) 0 0 (f .arguments))) (
+        redex.Run,
         refl,
         (
           w,

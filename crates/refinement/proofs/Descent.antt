@@ -11,10 +11,10 @@ use Rattle.plan_packed.specs.Trees.{Node, expression, condition, arguments}
 use Rattle.plan_packed.specs.Steps.{Descending}
 use Rattle.rules.specs.Context.{falseWhen}
 use Rattle.machine.specs.Frames.{Slots, noSlots, Closure, closure, branches, Frame, Ready, Found, height}
-use Rattle.machine.specs.Landing.{given, valueOf, isTrue, boolOf, valueIn, boolIn, foundNot, upBy, downBy, downByᶜ, downByᵃ, down, downᶜ, downᵃ, up, upᶜ}
-use Rattle.machine.specs.Landing.{enter, enterᶜ}
-use Rattle.machine.specs.Turns.{Going, Turn, ends, goDown, goDownᶜ, goList, land, turn, landTurn}
-use Rattle.machine.proofs.Turns.{turn-lands}
+use Rattle.machine.specs.Refocusing.{given, valueOf, isTrue, boolOf, valueIn, boolIn, foundNot, upBy, downBy, downByᶜ, downByᵃ, down, downᶜ, downᵃ, up, upᶜ}
+use Rattle.machine.specs.Refocusing.{enter, enterᶜ}
+use Rattle.machine.specs.Turns.{Going, Turn, ends, goDown, goDownᶜ, goList, refocus, turn, refocusTurn}
+use Rattle.machine.proofs.Turns.{turn-refocuses}
 use Rattle.machine.proofs.Heights.{turn-under}
 
 module _ {h : ℕ → Node} {N : ℕ} (o : Descending h N) where
@@ -39,35 +39,35 @@ module _ {h : ℕ → Node} {N : ℕ} (o : Descending h N) where
   -- ---- what is no value is found under all the frames
 
   pub under : (S : List Frame) (x : Closure) → valueIn h x ≡ none → length S ≤ height (enter h N S x)
-  unfolding turn land
+  unfolding turn refocus
   under S x e = rw (enter-other S x e) (rw e at (turn-under h N o S (Going.enter x)))
 
   pub underᶜ : (S : List Frame) (x : Closure) → boolIn h x ≡ none → length S ≤ height (enterᶜ h N S x)
-  unfolding turn land
+  unfolding turn refocus
   underᶜ S x e = rw (enter-otherᶜ S x e) (rw e at (turn-under h N o S (Going.enterᶜ x)))
 
   -- ---- a turn down
 
-  given-same : {A : Type 0} (v : Option A) (k : A → Turn) (g : Turn) (m : A → Found) (r : Found) → ((a : A) → landTurn h N (k a) ≡ m a) → landTurn h N g ≡ r
-      → landTurn h N (given v k g) ≡ given v m r
+  given-same : {A : Type 0} (v : Option A) (k : A → Turn) (g : Turn) (m : A → Found) (r : Found) → ((a : A) → refocusTurn h N (k a) ≡ m a) → refocusTurn h N g ≡ r
+      → refocusTurn h N (given v k g) ≡ given v m r
   given-same (some a) k g m r p q = p a
   given-same none k g m r p q = q
 
-  opened : (S : List Frame) (x : Closure) → valueIn h x ≡ none → enter h N S x ≡ landTurn h N (turn h N S (Going.down x))
-  unfolding land
-  opened S x e = enter-other S x e ∙ turn-lands h N o S (Going.down x)
+  opened : (S : List Frame) (x : Closure) → valueIn h x ≡ none → enter h N S x ≡ refocusTurn h N (turn h N S (Going.down x))
+  unfolding refocus
+  opened S x e = enter-other S x e ∙ turn-refocuses h N o S (Going.down x)
 
-  openedᶜ : (S : List Frame) (x : Closure) → boolIn h x ≡ none → enterᶜ h N S x ≡ landTurn h N (turn h N S (Going.downᶜ x))
-  unfolding land
-  openedᶜ S x e = enter-otherᶜ S x e ∙ turn-lands h N o S (Going.downᶜ x)
+  openedᶜ : (S : List Frame) (x : Closure) → boolIn h x ≡ none → enterᶜ h N S x ≡ refocusTurn h N (turn h N S (Going.downᶜ x))
+  unfolding refocus
+  openedᶜ S x e = enter-otherᶜ S x e ∙ turn-refocuses h N o S (Going.downᶜ x)
 
-  openedᵃ : (S : List Frame) (m n : ℕ) (σ : Slots) (x : Closure) → downᵃ h N S m n σ x ≡ landTurn h N (turn h N S (Going.list m n σ x))
-  unfolding land
-  openedᵃ S m n σ x = turn-lands h N o S (Going.list m n σ x)
+  openedᵃ : (S : List Frame) (m n : ℕ) (σ : Slots) (x : Closure) → downᵃ h N S m n σ x ≡ refocusTurn h N (turn h N S (Going.list m n σ x))
+  unfolding refocus
+  openedᵃ S m n σ x = turn-refocuses h N o S (Going.list m n σ x)
 
-  upped : (S : List Frame) (v : ℕ) → landTurn h N (turn h N S (Going.value v)) ≡ up h N S v
-  unfolding land
-  upped S v = sym (turn-lands h N o S (Going.value v))
+  upped : (S : List Frame) (v : ℕ) → refocusTurn h N (turn h N S (Going.value v)) ≡ up h N S v
+  unfolding refocus
+  upped S v = sym (turn-refocuses h N o S (Going.value v))
 
   none-at : (t : ℕ) (ρ : Slots) (n : Node) → h t ≡ n → valueOf ρ n ≡ none → valueIn h (closure t ρ) ≡ none
   unfolding valueIn
@@ -78,70 +78,70 @@ module _ {h : ℕ → Node} {N : ℕ} (o : Descending h N) where
   none-atᶜ t ρ n e q = ap (boolOf h) e ∙ q
 
   module _ (S : List Frame) (t : ℕ) (ρ : Slots) where
-    by : (n : Node) → h t ≡ n → valueOf ρ n ≡ none → enter h N S (closure t ρ) ≡ landTurn h N (downBy h ends goDown goDownᶜ goList ρ S n)
+    by : (n : Node) → h t ≡ n → valueOf ρ n ≡ none → enter h N S (closure t ρ) ≡ refocusTurn h N (downBy h ends goDown goDownᶜ goList ρ S n)
     unfolding turn
-    by n e q = opened S (closure t ρ) (none-at t ρ n e q) ∙ ap (λ (n : Node). landTurn h N (downBy h ends goDown goDownᶜ goList ρ S n)) e
+    by n e q = opened S (closure t ρ) (none-at t ρ n e q) ∙ ap (λ (n : Node). refocusTurn h N (downBy h ends goDown goDownᶜ goList ρ S n)) e
 
-    byᶜ : (n : Node) → h t ≡ n → boolOf h n ≡ none → enterᶜ h N S (closure t ρ) ≡ landTurn h N (downByᶜ h ends goDown goDownᶜ goList ρ S n)
+    byᶜ : (n : Node) → h t ≡ n → boolOf h n ≡ none → enterᶜ h N S (closure t ρ) ≡ refocusTurn h N (downByᶜ h ends goDown goDownᶜ goList ρ S n)
     unfolding turn
-    byᶜ n e q = openedᶜ S (closure t ρ) (none-atᶜ t ρ n e q) ∙ ap (λ (n : Node). landTurn h N (downByᶜ h ends goDown goDownᶜ goList ρ S n)) e
+    byᶜ n e q = openedᶜ S (closure t ρ) (none-atᶜ t ρ n e q) ∙ ap (λ (n : Node). refocusTurn h N (downByᶜ h ends goDown goDownᶜ goList ρ S n)) e
 
     -- ---- expressions
 
     pub enter-new : {fs : List ℕ} → h t ≡ expression (new fs) → enter h N S (closure t ρ) ≡ Found.here S (Ready.new fs)
-    unfolding downBy valueOf landTurn
+    unfolding downBy valueOf refocusTurn
     enter-new {fs} e = by (expression (new fs)) e refl
 
     pub enter-while : {i j : ℕ} → h t ≡ expression (while i j) → enter h N S (closure t ρ) ≡ Found.here S (Ready.while (branches i j ρ))
-    unfolding downBy valueOf landTurn
+    unfolding downBy valueOf refocusTurn
     enter-while {i} {j} e = by (expression (while i j)) e refl
 
     pub enter-fork : {i : ℕ} → h t ≡ expression (fork i) → enter h N S (closure t ρ) ≡ Found.here S (Ready.fork (closure i ρ))
-    unfolding downBy valueOf landTurn
+    unfolding downBy valueOf refocusTurn
     enter-fork {i} e = by (expression (fork i)) e refl
 
     pub enter-call : {m i : ℕ} → h t ≡ expression (call m i) → enter h N S (closure t ρ) ≡ downᵃ h N S m 0 noSlots (closure i ρ)
-    unfolding downBy valueOf landTurn land
+    unfolding downBy valueOf refocusTurn refocus
     enter-call {m} {i} e = by (expression (call m i)) e refl
 
     pub enter-read : {i f : ℕ} → h t ≡ expression (read i f) → enter h N S (closure t ρ) ≡ enter h N (Frame.read f ∷ S) (closure i ρ)
-    unfolding downBy valueOf landTurn land enter up
+    unfolding downBy valueOf refocusTurn refocus enter up
     enter-read {i} {f} e = by (expression (read i f)) e refl ∙ given-same (valueIn h (closure i ρ)) _ _ _ _ (λ v. refl) refl
 
     pub enter-write : {i f j : ℕ} → h t ≡ expression (write i f j) → enter h N S (closure t ρ) ≡ enter h N (Frame.write₁ f (closure j ρ) ∷ S) (closure i ρ)
-    unfolding downBy valueOf landTurn land enter turn upBy
+    unfolding downBy valueOf refocusTurn refocus enter turn upBy
     enter-write {i} {f} {j} e =
         by (expression (write i f j)) e refl ∙ given-same (valueIn h (closure i ρ)) _ _ _ _ (λ v. upped (Frame.write₁ f (closure j ρ) ∷ S) v) refl
 
     pub enter-let : {x : Option ℕ} {i j : ℕ} → h t ≡ expression (letIn x i j)
         → enter h N S (closure t ρ) ≡ enter h N (Frame.letIn x (closure j ρ) ∷ S) (closure i ρ)
-    unfolding downBy valueOf landTurn land enter up
+    unfolding downBy valueOf refocusTurn refocus enter up
     enter-let {x} {i} {j} e = by (expression (letIn x i j)) e refl ∙ given-same (valueIn h (closure i ρ)) _ _ _ _ (λ v. refl) refl
 
     pub enter-if : {i j k : ℕ} → h t ≡ expression (if i j k) → enter h N S (closure t ρ) ≡ enterᶜ h N (Frame.if (branches j k ρ) ∷ S) (closure i ρ)
-    unfolding downBy valueOf landTurn land enterᶜ upᶜ
+    unfolding downBy valueOf refocusTurn refocus enterᶜ upᶜ
     enter-if {i} {j} {k} e = by (expression (if i j k)) e refl ∙ given-same (boolIn h (closure i ρ)) _ _ _ _ (λ v. refl) refl
 
     pub enter-join : {i : ℕ} → h t ≡ expression (join i) → enter h N S (closure t ρ) ≡ enter h N (Frame.join ∷ S) (closure i ρ)
-    unfolding downBy valueOf landTurn land enter up
+    unfolding downBy valueOf refocusTurn refocus enter up
     enter-join {i} e = by (expression (join i)) e refl ∙ given-same (valueIn h (closure i ρ)) _ _ _ _ (λ v. refl) refl
 
     pub enter-synch : {i j : ℕ} → h t ≡ expression (synch i j) → enter h N S (closure t ρ) ≡ enter h N (Frame.synch (closure j ρ) ∷ S) (closure i ρ)
-    unfolding downBy valueOf landTurn land enter up
+    unfolding downBy valueOf refocusTurn refocus enter up
     enter-synch {i} {j} e = by (expression (synch i j)) e refl ∙ given-same (valueIn h (closure i ρ)) _ _ _ _ (λ v. refl) refl
 
     pub enter-signal : {k : Signal} {i : ℕ} → h t ≡ expression (signal k i) → enter h N S (closure t ρ) ≡ enter h N (Frame.signal k ∷ S) (closure i ρ)
-    unfolding downBy valueOf landTurn land enter up
+    unfolding downBy valueOf refocusTurn refocus enter up
     enter-signal {k} {i} e = by (expression (signal k i)) e refl ∙ given-same (valueIn h (closure i ρ)) _ _ _ _ (λ v. refl) refl
 
     -- ---- conditions
 
     pub enter-and : {i j : ℕ} → h t ≡ condition (and i j) → enterᶜ h N S (closure t ρ) ≡ enterᶜ h N (Frame.and (closure j ρ) ∷ S) (closure i ρ)
-    unfolding downByᶜ boolOf landTurn land enterᶜ upᶜ
+    unfolding downByᶜ boolOf refocusTurn refocus enterᶜ upᶜ
     enter-and {i} {j} e = byᶜ (condition (and i j)) e refl ∙ given-same (boolIn h (closure i ρ)) _ _ _ _ (λ v. refl) refl
 
     pub enter-equal : {i j : ℕ} → h t ≡ condition (equal i j) → enterᶜ h N S (closure t ρ) ≡ enter h N (Frame.equal₁ (closure j ρ) ∷ S) (closure i ρ)
-    unfolding downByᶜ boolOf landTurn land enter turn upBy
+    unfolding downByᶜ boolOf refocusTurn refocus enter turn upBy
     enter-equal {i} {j} e =
         byᶜ (condition (equal i j)) e refl ∙ given-same (valueIn h (closure i ρ)) _ _ _ _ (λ v. upped (Frame.equal₁ (closure j ρ) ∷ S) v) refl
 
@@ -152,11 +152,11 @@ module _ {h : ℕ → Node} {N : ℕ} (o : Descending h N) where
 
     pub enter-not : {i : ℕ} → h t ≡ condition (not i) → isTrue (h i) ≡ false → (boolOf h (h i) ≡ some true → ⊥)
         → enterᶜ h N S (closure t ρ) ≡ enterᶜ h N (Frame.not ∷ S) (closure i ρ)
-    unfolding downByᶜ boolOf falseWhen landTurn land enterᶜ upᶜ boolIn
+    unfolding downByᶜ boolOf falseWhen refocusTurn refocus enterᶜ upᶜ boolIn
     enter-not {i} e q never = byᶜ (condition (not i)) e (rw q) ∙ at (boolOf h (h i)) never
       where
         at : (v : Option Bool) → (v ≡ some true → ⊥)
-            → landTurn h N (given v (λ b. foundNot h ends S b) (goDownᶜ (Frame.not ∷ S) (closure i ρ))) ≡ given v (λ b. upᶜ h N (Frame.not ∷ S) b)
+            → refocusTurn h N (given v (λ b. foundNot h ends S b) (goDownᶜ (Frame.not ∷ S) (closure i ρ))) ≡ given v (λ b. upᶜ h N (Frame.not ∷ S) b)
             (downᶜ h N (Frame.not ∷ S) (closure i ρ))
         at (some true) n = absurd (n refl)
         at (some false) n = refl
@@ -166,11 +166,11 @@ module _ {h : ℕ → Node} {N : ℕ} (o : Descending h N) where
 
     pub list-more : (m n : ℕ) (σ : Slots) {i j : ℕ} → h t ≡ arguments (list i j)
         → downᵃ h N S m n σ (closure t ρ) ≡ enter h N (Frame.call m n σ (closure j ρ) ∷ S) (closure i ρ)
-    unfolding turn downByᵃ landTurn land enter up
+    unfolding turn downByᵃ refocusTurn refocus enter up
     list-more m n σ {i} {j} e =
-        openedᵃ S m n σ (closure t ρ) ∙ ap (λ (x : Node). landTurn h N (downByᵃ h ends goDown goDownᶜ goList ρ S m n σ x)) e
+        openedᵃ S m n σ (closure t ρ) ∙ ap (λ (x : Node). refocusTurn h N (downByᵃ h ends goDown goDownᶜ goList ρ S m n σ x)) e
         ∙ given-same (valueIn h (closure i ρ)) _ _ _ _ (λ v. refl) refl
 
     pub list-end : (m n : ℕ) (σ : Slots) → h t ≡ arguments listEnd → downᵃ h N S m n σ (closure t ρ) ≡ Found.here S (Ready.call m n σ)
-    unfolding turn downByᵃ landTurn
-    list-end m n σ e = openedᵃ S m n σ (closure t ρ) ∙ ap (λ (x : Node). landTurn h N (downByᵃ h ends goDown goDownᶜ goList ρ S m n σ x)) e
+    unfolding turn downByᵃ refocusTurn
+    list-end m n σ e = openedᵃ S m n σ (closure t ρ) ∙ ap (λ (x : Node). refocusTurn h N (downByᵃ h ends goDown goDownᶜ goList ρ S m n σ x)) e

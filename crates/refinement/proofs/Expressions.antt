@@ -9,18 +9,18 @@ use Rattle.plan_packed.specs.Trees.{ExpressionNode, Node, nodeAt}
 use Rattle.plan_packed.proofs.Accepted.{Child}
 use Rattle.machine.specs.Frames.{Slots}
 use Rattle.machine.specs.Frames as frames
-use Rattle.machine.specs.Landing.{downᵃ, up, enter}
+use Rattle.machine.specs.Refocusing.{downᵃ, up, enter}
 use Rattle.machine.proofs.PlanTable.{ordered}
 use Rattle.machine.proofs.Sorted.{Well}
 use Rattle.run_frames.specs.declared.frame.Kind.the-variants as kind
-use Rattle.run_frames.specs.Parts.{Part as part}
+use Rattle.run_frames.specs.RedexKinds.{RedexKind as redex}
 use Rattle.run_term_words.specs.Slots.{slotOf}
 use Rattle.plan_packed.specs.Operands.{tagOf, firstOf, secondOf, thirdOf, slotBits, fieldBits, writeSecond, letFirst, letSecond, procedureBits, listBits, maskBits}
 use Rattle.run_term_words.specs.Words.{wordAt, valueBy, valueOf}
 use Rattle.run_frames.specs.Frames.{framed, letFrame}
 use Rattle.run_frames.specs.Going.{readyOf, goAt, goValue}
 use Rattle.run_refocusing_step.specs.Down.{signalBy, signalOf, simpleBy, simpleOf, runBy, runOf, listedOf, wantOf, wantedOf}
-use Rattle.run_refocusing.specs.Landing.{Stack}
+use Rattle.run_refocusing.specs.Refocusing.{Stack}
 use Rattle.refinement.proofs.Meant.{signalMeant, slots, closed, IsExpression}
 use Rattle.refinement.proofs.SlotLaws.{none-bound, slot-below}
 use Rattle.refinement.proofs.Words.{Expression, expression-at}
@@ -73,8 +73,8 @@ module _ {b ws rs : List ℕ} {k : Stack} {base : ℕ} {S : List frames.Frame} (
       let r = slot-value ws t e p in
       rw (p, ← slot-is ws t e p) (stays c (goValue (valueOf ws e t)) (w, r, a-value v r) (omega (arith, m r)))
   run-by m v (Expression.new p q r) =
-      rw p (stays c (goAt (readyOf part.New (maskBits word) 0 0 0))
-      (part.New, refl, (w, omega arith, r, x ∙ enter-new (ordered b (c .right)) S t (slots e) q)) one)
+      rw p (stays c (goAt (readyOf redex.New (maskBits word) 0 0 0))
+      (redex.New, refl, (w, omega arith, r, x ∙ enter-new (ordered b (c .right)) S t (slots e) q)) one)
   run-by m v (Expression.read p q i r) =
       rw p
       (want c (framed kind.Read 0 0 (fieldBits word) e) (firstOf word) (plain-fine kind.Read 0 0 (fieldBits word) e (omega arith) (omega arith) (omega arith) r)
@@ -95,8 +95,8 @@ module _ {b ws rs : List ℕ} {k : Stack} {base : ℕ} {S : List frames.Frame} (
       (plain-fine kind.If (secondOf word) (thirdOf word) 0 e (omega arith) (omega arith) (omega arith) (child j, child o))
       w (childᶜ i) (x ∙ enter-if (ordered b (c .right)) S t (slots e) q) (less-one (c .right) l i))
   run-by m v (Expression.while p q i j) =
-      rw p (stays c (goAt (readyOf part.While (firstOf word) (secondOf word) 0 e))
-      (part.While, refl, (w, childᶜ i, child j, x ∙ enter-while (ordered b (c .right)) S t (slots e) q)) one)
+      rw p (stays c (goAt (readyOf redex.While (firstOf word) (secondOf word) 0 e))
+      (redex.While, refl, (w, childᶜ i, child j, x ∙ enter-while (ordered b (c .right)) S t (slots e) q)) one)
   run-by m v (Expression.call p q r i o) =
       rw p
       (list-step c (framed kind.Call (listBits word) 0 (procedureBits word) e) w r (i .below, i .sorted, omega arith)
@@ -104,7 +104,7 @@ module _ {b ws rs : List ℕ} {k : Stack} {base : ℕ} {S : List frames.Frame} (
       ∙ ap (λ (σ : Slots). downᵃ (nodeAt b) (terms b) S (procedureBits word) 0 σ (closed (listBits word) e)) (sym none-bound))
       (omega (arith, less (c .right) l i)))
   run-by m v (Expression.fork p q i) =
-      rw p (stays c (goAt (readyOf part.Fork (firstOf word) 0 0 e)) (part.Fork, refl, (w, child i, x ∙ enter-fork (ordered b (c .right)) S t (slots e) q))
+      rw p (stays c (goAt (readyOf redex.Fork (firstOf word) 0 0 e)) (redex.Fork, refl, (w, child i, x ∙ enter-fork (ordered b (c .right)) S t (slots e) q))
       one)
   run-by m v (Expression.join p q i) =
       rw p

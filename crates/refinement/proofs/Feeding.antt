@@ -14,13 +14,13 @@ use Rattle.machine.specs.Frames.{Slots, putBound, Closure, closure, branches}
 use Rattle.machine.specs.Frames as frames
 use Rattle.machine.specs.Machine as machine
 use Rattle.machine.specs.Playing as playing
-use Rattle.machine.specs.Landing.{upBy, up, upᶜ, enter}
+use Rattle.machine.specs.Refocusing.{upBy, up, upᶜ, enter}
 use Rattle.machine.proofs.Sorted.{Well, Wellᶜ}
 use Rattle.run_frames.specs.declared.frame.Kind.{Kind}
 use Rattle.run_frames.specs.declared.frame.Kind.the-variants as kind
 use Rattle.run_frames.specs.declared.frame.Frame.{Frame}
-use Rattle.run_frames.specs.Parts.{Part as part}
-use Rattle.run_frames.specs.declared.go.Go.{Go}
+use Rattle.run_frames.specs.RedexKinds.{RedexKind as redex}
+use Rattle.run_frames.specs.declared.refocusing.Refocusing.{Refocusing}
 use Rattle.run_term_words.specs.Slots.{bindOf}
 use Rattle.run_frames.specs.Frames.{secondFrame}
 use Rattle.run_frames.specs.Going.{readyOf, goAt, goTruth, sameOf, feedBy, feedOf, feedIfBy, feedIfOf, feedConditionBy, feedConditionOf}
@@ -102,15 +102,15 @@ module _ (b : List ℕ) where
     feed-by : (k : Kind) (f : Frame) (v : ℕ) → f .member < 32 → f .count < 16 → SortedBy b k f → v < 32 → Well (frameBy k f ∷ S)
         → X ≡ up (nodeAt b) (terms b) (frameBy k f ∷ S) v → Goes b (feedBy k f v) S X
     unfolding up upBy enter
-    feed-by kind.Read f v hm hn s l w e = (part.Read, refl, (w, l, s, hm, e))
+    feed-by kind.Read f v hm hn s l w e = (redex.Read, refl, (w, l, s, hm, e))
     feed-by kind.Write1 f v hm hn s l w e = (second-fine kind.Write2 f v hm (s .0, l), w, s .1, e)
-    feed-by kind.Write2 f v hm hn s l w e = (part.Write, refl, (w, s .1, s .0, hm, l, e))
+    feed-by kind.Write2 f v hm hn s l w e = (redex.Write, refl, (w, s .1, s .0, hm, l, e))
     feed-by kind.Call f v hm hn s l w e =
         let q : f .count % 16 + 1 ≡ suc (f .count) = omega arith in
         let r : f .count < 8 = omega (arith, s .1 .2) in
         (w, refl, s .0, rw q (s .1), rw (q, bound (f .arguments) (f .count) v r l) e)
     feed-by kind.Let f v hm hn s l w e = (
-      part.Run,
+      redex.Run,
       refl,
       (
         w,
@@ -123,18 +123,18 @@ module _ (b : List ℕ) where
         ),
       ),
     )
-    feed-by kind.Synch f v hm hn s l w e = (part.Synch, refl, (w, l, s, e))
-    feed-by kind.Hold f v hm hn s l w e = (part.Hold, refl, (w, s, l, e))
-    feed-by kind.Join f v hm hn s l w e = (part.Join, refl, (w, l, e))
+    feed-by kind.Synch f v hm hn s l w e = (redex.Synch, refl, (w, l, s, e))
+    feed-by kind.Hold f v hm hn s l w e = (redex.Hold, refl, (w, s, l, e))
+    feed-by kind.Join f v hm hn s l w e = (redex.Join, refl, (w, l, e))
     feed-by kind.Equal1 f v hm hn s l w e = (second-fine kind.Equal2 f v hm l, w, s, e)
     feed-by kind.Equal2 f v hm hn s l w e =
-        (part.Truth, refl, (w, same-small (f .arguments) v, (frames.Readyᶜ.equal (f .arguments) v, e, equal-unlogged S (f .arguments) v)))
+        (redex.Truth, refl, (w, same-small (f .arguments) v, (frames.Readyᶜ.equal (f .arguments) v, e, equal-unlogged S (f .arguments) v)))
     feed-by kind.If f v hm hn s l w e = absurd w
     feed-by kind.And f v hm hn s l w e = absurd w
     feed-by kind.Not f v hm hn s l w e = absurd w
     feed-by kind.Test f v hm hn s l w e = absurd w
     feed-by kind.Body f v hm hn s l w e = (
-      part.Again,
+      redex.Again,
       refl,
       (
         w,
@@ -147,7 +147,7 @@ module _ (b : List ℕ) where
         ),
       ),
     )
-    feed-by kind.Signal f v hm hn s l w e = (part.Signal, refl, (w, l, e))
+    feed-by kind.Signal f v hm hn s l w e = (redex.Signal, refl, (w, l, e))
 
     -- an expression's value
     pub feed-goes : (f : Frame) (v : ℕ) → Fine b f → v < 32 → Well (frameOf f ∷ S) → X ≡ up (nodeAt b) (terms b) (frameOf f ∷ S) v → Goes b (feedOf f v) S X
@@ -156,7 +156,7 @@ module _ (b : List ℕ) where
 
     -- ---- a condition's value
 
-    choose-goes : (t : Bool) (g g′ : Go) → (t ≡ true → Goes b g S X) → (t ≡ false → Goes b g′ S X) → Goes b (cond t g g′) S X
+    choose-goes : (t : Bool) (g g′ : Refocusing) → (t ≡ true → Goes b g S X) → (t ≡ false → Goes b g′ S X) → Goes b (cond t g g′) S X
     choose-goes true g g′ p q = p refl
     choose-goes false g g′ p q = q refl
 
@@ -180,25 +180,25 @@ module _ (b : List ℕ) where
     feed-condition-by kind.If f x q s l w e =
         let y = branches (f .first) (f .second) (slots (f .environment)) in
         kind-if kind.If f x q
-        (choose-goes (eqb x 1) (goAt (readyOf part.Run (f .first) 0 0 (f .environment))) (goAt (readyOf part.Run (f .second) 0 0 (f .environment)))
-        (λ t. (part.Run, refl, (w, s .0, (frames.Ready.if true y, e ∙ ap (upᶜ (nodeAt b) (terms b) (frames.Frame.if y ∷ S)) t, if-unlogged true y))))
-        (λ t. (part.Run, refl, (w, s .1, (frames.Ready.if false y, e ∙ ap (upᶜ (nodeAt b) (terms b) (frames.Frame.if y ∷ S)) t, if-unlogged false y)))))
+        (choose-goes (eqb x 1) (goAt (readyOf redex.Run (f .first) 0 0 (f .environment))) (goAt (readyOf redex.Run (f .second) 0 0 (f .environment)))
+        (λ t. (redex.Run, refl, (w, s .0, (frames.Ready.if true y, e ∙ ap (upᶜ (nodeAt b) (terms b) (frames.Frame.if y ∷ S)) t, if-unlogged true y))))
+        (λ t. (redex.Run, refl, (w, s .1, (frames.Ready.if false y, e ∙ ap (upᶜ (nodeAt b) (terms b) (frames.Frame.if y ∷ S)) t, if-unlogged false y)))))
     feed-condition-by kind.And f x q s l w e =
         let y = closed (f .first) (f .environment) in
-        choose-goes (eqb x 1) (goAt (readyOf part.RunCondition (f .first) 0 0 (f .environment))) (goAt (readyOf part.Truth 0 0 0 0))
-        (λ t. (part.RunCondition, refl, (w, s, e ∙ ap (upᶜ (nodeAt b) (terms b) (frames.Frame.and y ∷ S)) t)))
-        (λ t. (part.Truth, refl, (w, omega arith, (frames.Readyᶜ.and false y, e ∙ ap (upᶜ (nodeAt b) (terms b) (frames.Frame.and y ∷ S)) t, and-unlogged S y))))
+        choose-goes (eqb x 1) (goAt (readyOf redex.RunCondition (f .first) 0 0 (f .environment))) (goAt (readyOf redex.Truth 0 0 0 0))
+        (λ t. (redex.RunCondition, refl, (w, s, e ∙ ap (upᶜ (nodeAt b) (terms b) (frames.Frame.and y ∷ S)) t)))
+        (λ t. (redex.Truth, refl, (w, omega arith, (frames.Readyᶜ.and false y, e ∙ ap (upᶜ (nodeAt b) (terms b) (frames.Frame.and y ∷ S)) t, and-unlogged S y))))
     feed-condition-by kind.Not f x q s l w e =
-        choose-goes (eqb x 1) (goTruth 0) (goAt (readyOf part.Truth 1 0 0 0))
+        choose-goes (eqb x 1) (goTruth 0) (goAt (readyOf redex.Truth 1 0 0 0))
         (λ t. (w, omega arith, e ∙ ap (upᶜ (nodeAt b) (terms b) (frames.Frame.not ∷ S)) t))
-        (λ t. (part.Truth, refl, (w, omega arith, (frames.Readyᶜ.notFalse, e ∙ ap (upᶜ (nodeAt b) (terms b) (frames.Frame.not ∷ S)) t, not-unlogged S))))
+        (λ t. (redex.Truth, refl, (w, omega arith, (frames.Readyᶜ.notFalse, e ∙ ap (upᶜ (nodeAt b) (terms b) (frames.Frame.not ∷ S)) t, not-unlogged S))))
     feed-condition-by kind.Test f x q s l w e =
         let y = branches (f .first) (f .second) (slots (f .environment)) in
         kind-if kind.Test f x q
-        (choose-goes (eqb x 1) (goAt (readyOf part.Body (f .first) (f .second) 0 (f .environment))) (goAt (readyOf part.Val 0 0 0 0))
-        (λ t. (part.Body, refl, (w, s .0, s .1, e ∙ ap (upᶜ (nodeAt b) (terms b) (frames.Frame.whileTest y ∷ S)) t)))
+        (choose-goes (eqb x 1) (goAt (readyOf redex.Body (f .first) (f .second) 0 (f .environment))) (goAt (readyOf redex.Val 0 0 0 0))
+        (λ t. (redex.Body, refl, (w, s .0, s .1, e ∙ ap (upᶜ (nodeAt b) (terms b) (frames.Frame.whileTest y ∷ S)) t)))
         (λ t. (
-          part.Val,
+          redex.Val,
           refl,
           (w, refl, (frames.Ready.whileTest false y, e ∙ ap (upᶜ (nodeAt b) (terms b) (frames.Frame.whileTest y ∷ S)) t, test-unlogged y)),
         )))

@@ -22,14 +22,14 @@ use Rattle.rules.specs.State as rules
 use Rattle.rules.specs.Rules.{passedOn, e-read, e-write, e-readv, e-writev}
 use Rattle.rules.specs.Step.{missingField}
 use Rattle.machine.specs.Frames as frames
-use Rattle.machine.specs.Landing.{up}
-use Rattle.machine.specs.Landing as land
+use Rattle.machine.specs.Refocusing.{up}
+use Rattle.machine.specs.Refocusing as refocus
 use Rattle.machine.specs.Machine as machine
 use Rattle.machine.specs.Playing.{tableOf}
 use Rattle.machine.specs.Playing as playing
 use Rattle.machine.proofs.Sorted.{Well}
 use Rattle.machine.proofs.Standing.{cell-there}
-use Rattle.run_frames.specs.Parts.{Part as part}
+use Rattle.run_frames.specs.RedexKinds.{RedexKind as redex}
 use Rattle.run_frames.specs.Going.{readyOf, goValue}
 use Rattle.run_state.specs.declared.Cell.{Cell}
 use Rattle.run_state.specs.declared.Counts.{Counts}
@@ -42,7 +42,7 @@ use Rattle.run_state.specs.Acted.{entryOf, nothing, cellOf, countsOf, actedOf, 
 use Rattle.run_accesses.specs.Accesses.{passedOf, actRead, actWrite}
 use Rattle.run_pick.specs.Pick.{lackBy}
 use Rattle.run_engine.specs.Machine as engine
-use Rattle.run_engine.specs.Machine.{noCell, noThing, headAt}
+use Rattle.run_engine.specs.Machine.{noCell, noObject, headAt}
 use Rattle.refinement.proofs.States.{settingOf, cellMeant, CellFits, Kept, Headed, Related}
 use Rattle.refinement.proofs.Tests.{test-true, test-false}
 use Rattle.refinement.proofs.KeptLaws.{kept-changed, kept-past, kept-key, kept-store, kept-same}
@@ -81,20 +81,20 @@ module _ {b : List ℕ} {m : engine.Machine} {s : machine.State} {p : ℕ} (move
 
   -- the cell of a field, at place i, of an object, at place j
   field-found : (o f i j : ℕ) → i ≡ o * 32 + f → j ≡ o → o < n .objects → o < 32 → 0 < f → f < 32
-      → machine.lookup s o f ≡ cond (hasOf (getD ts j noThing .mask) f) (some (cellMeant (hasOf (settingOf b .mask) f) (getD cs i noCell))) none
+      → machine.lookup s o f ≡ cond (hasOf (getD ts j noObject .mask) f) (some (cellMeant (hasOf (settingOf b .mask) f) (getD cs i noCell))) none
   field-found o f i j ei ej o-there ho zf hf =
       lookup-cell k o f o-there ho zf hf
-      ∙ ap₂ (λ (i j : ℕ). cond (hasOf (getD ts j noThing .mask) f) (some (cellMeant (hasOf (settingOf b .mask) f) (getD cs i noCell))) none) (sym ei) (sym ej)
+      ∙ ap₂ (λ (i j : ℕ). cond (hasOf (getD ts j noObject .mask) f) (some (cellMeant (hasOf (settingOf b .mask) f) (getD cs i noCell))) none) (sym ei) (sym ej)
 
   -- E-READ, E-READV
   pub read-meets : (o f w environment i j : ℕ) → i ≡ o * 32 + f → j ≡ o → Well S → o < 32 → 0 < f → f < 32
       → t .expression ≡ frames.Found.here S (frames.Ready.read o f)
-      → MeetsBy (lookField (settingOf b) (headFor m p (readyOf part.Read o f w environment)) (getD cs i noCell) (getD ts j noThing) f) p
-      (readyOf part.Read o f w environment) (machine.attempt (tableOf b) s p)
-      (Acts mover (readyOf part.Read o f w environment) i (actRead (settingOf b) n (headFor m p (readyOf part.Read o f w environment)) (getD cs i noCell) o f))
-  unfolding objectBy fieldBy lackBy lookField actRead machine.act machine.readAct machine.around machine.gain playing.noRoomBefore land.go tableOf
+      → MeetsBy (lookField (settingOf b) (headFor m p (readyOf redex.Read o f w environment)) (getD cs i noCell) (getD ts j noObject) f) p
+      (readyOf redex.Read o f w environment) (machine.attempt (tableOf b) s p)
+      (Acts mover (readyOf redex.Read o f w environment) i (actRead (settingOf b) n (headFor m p (readyOf redex.Read o f w environment)) (getD cs i noCell) o f))
+  unfolding objectBy fieldBy lackBy lookField actRead machine.act machine.readAct machine.around machine.gain playing.noRoomBefore refocus.go tableOf
   read-meets o f w environment i j ei ej well ho zf hf code =
-      by (hasOf (getD ts j noThing .mask) f) (hasOf (settingOf b .mask) f) (holdsOf ks (c .key % 256)) (field-found o f i j ei ej o-there ho zf hf)
+      by (hasOf (getD ts j noObject .mask) f) (hasOf (settingOf b .mask) f) (holdsOf ks (c .key % 256)) (field-found o f i j ei ej o-there ho zf hf)
       (volatile-bit b f hf) (one-key c ks (t .keys) fit fits known)
     where
       c : Cell
@@ -119,9 +119,9 @@ module _ {b : List ℕ} {m : engine.Machine} {s : machine.State} {p : ℕ} (move
 
       by : (x y z : Bool) → machine.lookup s o f ≡ cond x (some (cellMeant y c)) none → tableOf b .isVolatile f ≡ y
           → subset (cellMeant false c .keys) (t .keys) ≡ z
-          → MeetsBy (cond x (cond y sight.Ready (cond z sight.Ready sight.Lacking)) (sight.Blocked block.Field)) p (readyOf part.Read o f w environment)
+          → MeetsBy (cond x (cond y sight.Ready (cond z sight.Ready sight.Lacking)) (sight.Blocked block.Field)) p (readyOf redex.Read o f w environment)
           (machine.attempt (tableOf b) s p)
-          (Acts mover (readyOf part.Read o f w environment) i (cond y
+          (Acts mover (readyOf redex.Read o f w environment) i (cond y
           (heardOf (goValue (c .value)) n (joinedOf ks (passedOf (settingOf b) (c .keys))) c (entryOf (records.kindNumber records.Kind.readv) o f (c .value)))
           (actedOf (goValue (c .value)) n ks c (entryOf (records.kindNumber records.Kind.read) o f (c .value)))))
       by false y z e v q =
@@ -165,14 +165,14 @@ module _ {b : List ℕ} {m : engine.Machine} {s : machine.State} {p : ℕ} (move
   -- E-WRITE, E-WRITEV
   pub write-meets : (o f w environment i j : ℕ) → i ≡ o * 32 + f → j ≡ o → Well S → o < 32 → 0 < f → f < 32 → w < 32
       → t .expression ≡ frames.Found.here S (frames.Ready.write o f w)
-      → MeetsBy (lookField (settingOf b) (headFor m p (readyOf part.Write o f w environment)) (getD cs i noCell) (getD ts j noThing) f) p
-      (readyOf part.Write o f w environment) (machine.attempt (tableOf b) s p)
-      (Acts mover (readyOf part.Write o f w environment) i
-      (actWrite (settingOf b) n (headFor m p (readyOf part.Write o f w environment)) (getD cs i noCell) o f w))
+      → MeetsBy (lookField (settingOf b) (headFor m p (readyOf redex.Write o f w environment)) (getD cs i noCell) (getD ts j noObject) f) p
+      (readyOf redex.Write o f w environment) (machine.attempt (tableOf b) s p)
+      (Acts mover (readyOf redex.Write o f w environment) i
+      (actWrite (settingOf b) n (headFor m p (readyOf redex.Write o f w environment)) (getD cs i noCell) o f w))
   unfolding objectBy fieldBy lackBy lookField actWrite machine.act machine.writeAct machine.around machine.gain machine.store machine.useKey
-      playing.noRoomBefore land.go tableOf
+      playing.noRoomBefore refocus.go tableOf
   write-meets o f w environment i j ei ej well ho zf hf hw code =
-      by (hasOf (getD ts j noThing .mask) f) (hasOf (settingOf b .mask) f) (holdsOf ks (c .key % 256)) (leb 256 (n .keys))
+      by (hasOf (getD ts j noObject .mask) f) (hasOf (settingOf b .mask) f) (holdsOf ks (c .key % 256)) (leb 256 (n .keys))
       (field-found o f i j ei ej o-there ho zf hf) refl (volatile-bit b f hf) (one-key c ks (t .keys) fit fits known) refl
     where
       c : Cell
@@ -198,9 +198,9 @@ module _ {b : List ℕ} {m : engine.Machine} {s : machine.State} {p : ℕ} (move
 
       by : (x y z u : Bool) → machine.lookup s o f ≡ cond x (some (cellMeant y c)) none → hasOf (settingOf b .mask) f ≡ y → tableOf b .isVolatile f ≡ y
           → subset (cellMeant false c .keys) (t .keys) ≡ z → leb 256 (n .keys) ≡ u
-          → MeetsBy (cond x (cond y sight.Ready (cond z sight.Ready sight.Lacking)) (sight.Blocked block.Field)) p (readyOf part.Write o f w environment)
+          → MeetsBy (cond x (cond y sight.Ready (cond z sight.Ready sight.Lacking)) (sight.Blocked block.Field)) p (readyOf redex.Write o f w environment)
           (machine.attempt (tableOf b) s p)
-          (Acts mover (readyOf part.Write o f w environment) i (cond y
+          (Acts mover (readyOf redex.Write o f w environment) i (cond y
           (actedOf (goValue w) n ks (cellOf w 0 (joinOf (c .keys) (passedOf (settingOf b) ks))) (entryOf (records.kindNumber records.Kind.writev) o f w))
           (cond u
           (act.NoRoom room.Key)

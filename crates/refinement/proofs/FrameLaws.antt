@@ -13,10 +13,10 @@ use Rattle.run_frames.specs.declared.frame.Kind.{Kind}
 use Rattle.run_frames.specs.declared.frame.Kind.the-variants as kind
 use Rattle.run_frames.specs.declared.frame.Frame.{Frame}
 use Rattle.run_frames.specs.Frames.{codeOf, kindOf, packOf, unpackOf}
-use Rattle.run_frames.specs.declared.go.Go.{Go}
+use Rattle.run_frames.specs.declared.refocusing.Refocusing.{Refocusing}
 use Rattle.run_refocusing_step.specs.declared.Turn.{Turn}
 use Rattle.run_refocusing_step.specs.Down.{stayOf, frameAt}
-use Rattle.run_refocusing.specs.Landing.{Stack, storeAt, stored}
+use Rattle.run_refocusing.specs.Refocusing.{Stack, storeAt, stored}
 use Rattle.refinement.proofs.Meant.{frameOf, Fine, Holds, Sized}
 
 code-small : (k : Kind) → codeOf k < 16
@@ -160,10 +160,10 @@ module _ (b : List ℕ) where
 
 -- ---- a step stores its frame where it goes deeper, and nothing else
 
-pub stored-stay : (k : Stack) (base : ℕ) (g : Go) (d : ℕ) → stored k base (stayOf g d) ≡ k
+pub stored-stay : (k : Stack) (base : ℕ) (g : Refocusing) (d : ℕ) → stored k base (stayOf g d) ≡ k
 stored-stay k base g d = rw (le-ltb d d (omega arith))
 
-pub stored-push : (k : Stack) (base : ℕ) (g : Go) (d : ℕ) (f : Frame)
+pub stored-push : (k : Stack) (base : ℕ) (g : Refocusing) (d : ℕ) (f : Frame)
     → stored k base (record { go = g; depth = d + 1; at = d; frame = f }) ≡ storeAt k (base + d) f
 stored-push k base g d f = rw (lt-ltb d (d + 1) (omega arith))
 

@@ -1,4 +1,4 @@
--- How many steps are enough: on the way down each step goes on at a later term, and once landing has gone down it carries no value up. Assumes nothing.
+-- How many steps are enough: on the way down each step goes on at a later term, and once refocusing has gone down it carries no value up. Assumes nothing.
 use Prim.Native.Nat.{ℕ, _+_, _-_, _*_, _≤_, _<_}
 use native.Mathlib.Omega.{arith}
 use mathlib.Core.Path.{_≡_, refl}
@@ -9,10 +9,10 @@ use borrow.Author.Tests.{eqb-true}
 use Rattle.run_frames.specs.declared.frame.Kind.{Kind}
 use Rattle.run_frames.specs.declared.frame.Kind.the-variants as kind
 use Rattle.run_frames.specs.declared.frame.Frame.{Frame}
-use Rattle.run_frames.specs.Parts.{Part as part}
-use Rattle.run_frames.specs.declared.go.Stage.{Stage}
-use Rattle.run_frames.specs.declared.go.Stage.the-variants as stage
-use Rattle.run_frames.specs.declared.go.Go.{Go}
+use Rattle.run_frames.specs.RedexKinds.{RedexKind as redex}
+use Rattle.run_frames.specs.declared.refocusing.Stage.{Stage}
+use Rattle.run_frames.specs.declared.refocusing.Stage.the-variants as stage
+use Rattle.run_frames.specs.declared.refocusing.Refocusing.{Refocusing}
 use Rattle.run_term_words.specs.Words.{valueOf}
 use Rattle.run_frames.specs.Going.{readyOf, goAt, goTruth, feedBy, feedOf, feedIfBy, feedIfOf, feedConditionBy, feedConditionOf}
 
@@ -58,8 +58,8 @@ needs-most kind.Body a = omega arith
 needs-most kind.Signal a = omega arith
 
 module _ (ws : List ℕ) (n : ℕ) where
-  -- n steps are enough from here, the last of them to see that landing has ended
-  abbrev pub EnoughBy : Stage → Go → Type 0
+  -- n steps are enough from here, the last of them to see that refocusing has ended
+  abbrev pub EnoughBy : Stage → Refocusing → Type 0
   EnoughBy stage.Full g = 1 ≤ n
   EnoughBy stage.At g = 1 ≤ n
   EnoughBy stage.Run g = (left (g .operand) ≤ n) × (valueOf ws (g .frame .environment) (g .operand) < 32 → 2055 ≤ n)
@@ -70,7 +70,7 @@ module _ (ws : List ℕ) (n : ℕ) where
   EnoughBy stage.Value g = 2054 ≤ n
   EnoughBy stage.Truth g = g .operand + 2 ≤ n
 
-  abbrev pub Enough : Go → Type 0
+  abbrev pub Enough : Refocusing → Type 0
   Enough g = EnoughBy (g .stage) g
 
   -- ---- what a frame does with a value
@@ -97,7 +97,7 @@ module _ (ws : List ℕ) (n : ℕ) where
   unfolding feedOf
   feed-enough f v h = feed-by (f .kind) f v h
 
-  either : (t : Bool) (g g′ : Go) → Enough g → Enough g′ → Enough (cond t g g′)
+  either : (t : Bool) (g g′ : Refocusing) → Enough g → Enough g′ → Enough (cond t g g′)
   either true g g′ p q = p
   either false g g′ p q = q
 
@@ -113,10 +113,10 @@ module _ (ws : List ℕ) (n : ℕ) where
   feed-if-by kind.Equal1 f x h = h
   feed-if-by kind.Equal2 f x h = h
   feed-if-by kind.If f x h =
-      either (eqb x 1) (goAt (readyOf part.Run (f .first) 0 0 (f .environment))) (goAt (readyOf part.Run (f .second) 0 0 (f .environment))) h h
+      either (eqb x 1) (goAt (readyOf redex.Run (f .first) 0 0 (f .environment))) (goAt (readyOf redex.Run (f .second) 0 0 (f .environment))) h h
   feed-if-by kind.And f x h = h
   feed-if-by kind.Not f x h = h
-  feed-if-by kind.Test f x h = either (eqb x 1) (goAt (readyOf part.Body (f .first) (f .second) 0 (f .environment))) (goAt (readyOf part.Val 0 0 0 0)) h h
+  feed-if-by kind.Test f x h = either (eqb x 1) (goAt (readyOf redex.Body (f .first) (f .second) 0 (f .environment))) (goAt (readyOf redex.Val 0 0 0 0)) h h
   feed-if-by kind.Body f x h = h
   feed-if-by kind.Signal f x h = h
 
@@ -137,10 +137,10 @@ module _ (ws : List ℕ) (n : ℕ) where
   feed-condition-by kind.Equal2 f x h l = feed-if f x l
   feed-condition-by kind.If f x h l = feed-if f x l
   feed-condition-by kind.And f x h l =
-      either (eqb x 1) (goAt (readyOf part.RunCondition (f .first) 0 0 (f .environment))) (goAt (readyOf part.Truth 0 0 0 0)) l l
+      either (eqb x 1) (goAt (readyOf redex.RunCondition (f .first) 0 0 (f .environment))) (goAt (readyOf redex.Truth 0 0 0 0)) l l
   feed-condition-by kind.Not f x h l = at (eqb x 1) (λ e. omega (arith, eqb-true x 1 e))
     where
-      at : (t : Bool) → (t ≡ true → 2 ≤ n) → Enough (cond t (goTruth 0) (goAt (readyOf part.Truth 1 0 0 0)))
+      at : (t : Bool) → (t ≡ true → 2 ≤ n) → Enough (cond t (goTruth 0) (goAt (readyOf redex.Truth 1 0 0 0)))
       at true p = p refl
       at false p = l
   feed-condition-by kind.Test f x h l = feed-if f x l

@@ -21,7 +21,7 @@ use Rattle.run_state.specs.declared.Cell.{Cell}
 use Rattle.run_state.specs.declared.Object.{Object}
 use Rattle.run_state.specs.declared.Counts.{Counts}
 use Rattle.run_look.specs.Look.{hasOf}
-use Rattle.run_engine.specs.Machine.{noCell, noThing}
+use Rattle.run_engine.specs.Machine.{noCell, noObject}
 use Rattle.refinement.proofs.States.{cellMeant, CellFits, memoryOf, numberOf, Kept}
 use Rattle.refinement.proofs.MemoryOf.{fresh-meant, memory-store, memory-past, memory-more}
 use Rattle.refinement.proofs.ThreadNumbers.{numbers-change, numbers-map}
@@ -45,7 +45,7 @@ module _ {setting : Setting} {cs : List Cell} {ts : List Object} {n : Counts} {s
       → Kept setting cs ts n (record { objects = s .objects; threads = changeAt (s .threads) p h; nextKey = s .nextKey })
   kept-changed p h same = record {
     cells-size = k .cells-size;
-    things-size = k .things-size;
+    objects-size = k .objects-size;
     threads-count = k .threads-count ∙ sym (change-length (s .threads) p h);
     objects-count = k .objects-count;
     keys-count = k .keys-count;
@@ -60,7 +60,7 @@ module _ {setting : Setting} {cs : List Cell} {ts : List Object} {n : Counts} {s
       → Kept setting cs ts n (record { objects = s .objects; threads = map h (s .threads); nextKey = s .nextKey })
   kept-mapped h same = record {
     cells-size = k .cells-size;
-    things-size = k .things-size;
+    objects-size = k .objects-size;
     threads-count = k .threads-count ∙ sym (length-map (s .threads) h);
     objects-count = k .objects-count;
     keys-count = k .keys-count;
@@ -74,14 +74,14 @@ module _ {setting : Setting} {cs : List Cell} {ts : List Object} {n : Counts} {s
   pub kept-past : (x : Object) → Kept setting cs (set ts (n .objects) x) n s
   kept-past x = record {
     cells-size = k .cells-size;
-    things-size = length-set ts (n .objects) x ∙ k .things-size;
+    objects-size = length-set ts (n .objects) x ∙ k .objects-size;
     threads-count = k .threads-count;
     objects-count = k .objects-count;
     keys-count = k .keys-count;
     objects = k .objects ∙ ap objectsOf (sym (memory-past setting cs ts (n .objects) x));
     cells-fit = k .cells-fit;
     fresh-past = k .fresh-past;
-    numbers = λ o l. ap (λ (t : Object). t .thread) (getD-set-other ts (n .objects) o x noThing (λ e. omega arith)) ∙ k .numbers o l;
+    numbers = λ o l. ap (λ (t : Object). t .thread) (getD-set-other ts (n .objects) o x noObject (λ e. omega arith)) ∙ k .numbers o l;
   }
 
   -- a key is used
@@ -89,7 +89,7 @@ module _ {setting : Setting} {cs : List Cell} {ts : List Object} {n : Counts} {s
   unfolding machine.useKey
   kept-key = record {
     cells-size = k .cells-size;
-    things-size = k .things-size;
+    objects-size = k .objects-size;
     threads-count = k .threads-count;
     objects-count = k .objects-count;
     keys-count = let e = k .keys-count in omega arith;
@@ -105,7 +105,7 @@ module _ {setting : Setting} {cs : List Cell} {ts : List Object} {n : Counts} {s
       → Kept setting (set cs (o * 32 + f) c) ts n (record { objects = l; threads = s .threads; nextKey = s .nextKey })
   kept-cell o f c l i p q z e len = record {
     cells-size = length-set cs (o * 32 + f) c ∙ k .cells-size;
-    things-size = k .things-size;
+    objects-size = k .objects-size;
     threads-count = k .threads-count;
     objects-count = k .objects-count ∙ sym len;
     keys-count = k .keys-count;
@@ -147,14 +147,14 @@ module _ {setting : Setting} {cs : List Cell} {ts : List Object} {n : Counts} {s
       (record { objects = s .objects ++ (freshObject (fieldsFrom (x .mask) 0 32) ∷ []); threads = xs; nextKey = s .nextKey })
   kept-object x xs t room zero-out count old new = record {
     cells-size = k .cells-size;
-    things-size = length-set ts (n .objects) x ∙ k .things-size;
+    objects-size = length-set ts (n .objects) x ∙ k .objects-size;
     threads-count = count;
     objects-count = let e = k .objects-count in let l = length-added (s .objects) (freshObject (fieldsFrom (x .mask) 0 32)) in omega arith;
     keys-count = k .keys-count;
     objects =
         ap (λ (l : List rules.Object). l ++ (freshObject (fieldsFrom (x .mask) 0 32) ∷ [])) (k .objects)
         ∙ sym (add-of (memoryOf setting cs ts (n .objects)) (x .mask) (past-fresh k) zero-out)
-        ∙ ap objectsOf (sym (memory-more setting cs ts (n .objects) x (let e = k .things-size in omega arith)))
+        ∙ ap objectsOf (sym (memory-more setting cs ts (n .objects) x (let e = k .objects-size in omega arith)))
         ∙ ap (λ (a : ℕ). objectsOf (memoryOf setting cs (set ts (n .objects) x) a)) next;
     cells-fit = k .cells-fit;
     fresh-past = λ i p q. k .fresh-past i (omega arith) q;
@@ -164,12 +164,12 @@ module _ {setting : Setting} {cs : List Cell} {ts : List Object} {n : Counts} {s
       next : suc (n .objects) ≡ n .objects + 1
       next = omega arith
 
-      at : (o : ℕ) → o < n .objects + 1 → Dec (o ≡ n .objects) → getD (set ts (n .objects) x) o noThing .thread ≡ numberOf (machine.threadOf 0 xs o)
+      at : (o : ℕ) → o < n .objects + 1 → Dec (o ≡ n .objects) → getD (set ts (n .objects) x) o noObject .thread ≡ numberOf (machine.threadOf 0 xs o)
       at o l (yes e) =
-          rw e (ap (λ (t : Object). t .thread) (getD-set-same ts (n .objects) x noThing (let e = k .things-size in omega arith)) ∙ new)
+          rw e (ap (λ (t : Object). t .thread) (getD-set-same ts (n .objects) x noObject (let e = k .objects-size in omega arith)) ∙ new)
       at o l (no e) =
           let i : o < n .objects = omega (arith, e) in
-          ap (λ (t : Object). t .thread) (getD-set-other ts (n .objects) o x noThing e) ∙ k .numbers o i ∙ sym (old o i)
+          ap (λ (t : Object). t .thread) (getD-set-other ts (n .objects) o x noObject e) ∙ k .numbers o i ∙ sym (old o i)
 
   -- a cell is stored to as it is
   pub kept-same : (i : ℕ) → Kept setting (set cs i (getD cs i noCell)) ts n s

@@ -11,7 +11,7 @@ pub mod Calls
 pub mod Expressions
 pub mod Conditions
 pub mod Steps
-pub mod Landing
+pub mod Refocusing
 pub mod Queues
 pub mod States
 mod Tests

@@ -27,10 +27,10 @@ use Rattle.machine.specs.Frames as frames
 use Rattle.machine.specs.Machine as machine
 use Rattle.machine.specs.Playing.{tableOf}
 use Rattle.machine.proofs.MemoryLaws.{lookup-of, monitor-of}
-use Rattle.machine.proofs.Meaning.{redex, mean}
+use Rattle.machine.proofs.Meaning.{redexOf, mean}
 use Rattle.machine.proofs.Runs.{Reached}
 use Rattle.machine.proofs.Standing.{standing}
-use Rattle.run_frames.specs.declared.go.Ready.{Ready}
+use Rattle.run_frames.specs.declared.refocusing.Ready.{Ready}
 use Rattle.run_state.specs.declared.Setting.{Setting}
 use Rattle.run_state.specs.declared.Cell.{Cell}
 use Rattle.run_state.specs.declared.Object.{Object}
@@ -43,7 +43,7 @@ use Rattle.run_look.specs.declared.Sight.the-variants as sight
 use Rattle.run_look.specs.Look.{hasOf, objectOf}
 use Rattle.run_look.specs.Look as look
 use Rattle.run_pick.specs.Pick.{lackEntry}
-use Rattle.run_engine.specs.Machine.{noCell, noThing}
+use Rattle.run_engine.specs.Machine.{noCell, noObject}
 use Rattle.refinement.proofs.States.{cellMeant, CellFits, memoryOf, Kept}
 use Rattle.refinement.proofs.MemoryOf.{memory-cell, memory-mask}
 
@@ -68,7 +68,7 @@ Entered p e (some r) = Written p e r
 
 -- ---- what a look says
 
--- a thread at part r that is blocked; no accepted plan comes to a part without a rule
+-- a thread at redex r that is blocked; no accepted plan comes to a redex without a rule
 abbrev pub BlockedBy : Block → Ready → machine.Attempt → Type 0
 BlockedBy block.Finished r A = A ≡ machine.finished (r .first)
 BlockedBy block.Monitor r A = A ≡ machine.waiting (forMonitor (objectOf r))
@@ -79,7 +79,7 @@ BlockedBy block.Thread r A = A ≡ machine.stuck (notThread (objectOf r))
 BlockedBy block.NotHeld r A = A ≡ machine.stuck (notHeld (objectOf r))
 BlockedBy block.NoRule r A = ⊥
 
--- thread p, at part r, sees w; where it is ready, Z holds of its move
+-- thread p, at redex r, sees w; where it is ready, Z holds of its move
 abbrev pub MeetsBy : Sight → ℕ → Ready → machine.Attempt → (machine.Move → Type 0) → Type 0
 MeetsBy sight.Ready p r A Z = (v : machine.Move) × (A ≡ machine.moves v) × Z v
 MeetsBy sight.Lacking p r A Z =
@@ -111,13 +111,13 @@ counted setting cs ts n o h = h
 
 module _ {setting : Setting} {cs : List Cell} {ts : List Object} {n : Counts} {s : machine.State} (k : Kept setting cs ts n s) where
   pub lookup-cell : (o f : ℕ) → o < n .objects → o < 32 → 0 < f → f < 32
-      → machine.lookup s o f ≡ cond (hasOf (getD ts o noThing .mask) f) (some (cellMeant (hasOf (setting .mask) f) (getD cs (o * 32 + f) noCell))) none
+      → machine.lookup s o f ≡ cond (hasOf (getD ts o noObject .mask) f) (some (cellMeant (hasOf (setting .mask) f) (getD cs (o * 32 + f) noCell))) none
   unfolding machine.lookup
   lookup-cell o f i p z q =
       ap (λ (l : List rules.Object). fieldOf (getElem? l o) f) (k .objects)
       ∙ lookup-of (memoryOf setting cs ts (n .objects)) o f (counted setting cs ts (n .objects) o i) z q
       ∙ ap₂ (λ (x : Bool) (c : rules.Cell). cond x (some c) none)
-      (ap (λ (a : ℕ). eqb (maskBit a f) 1) (memory-mask setting cs ts (n .objects) o i) ∙ sym (has-bit (getD ts o noThing .mask) f q))
+      (ap (λ (a : ℕ). eqb (maskBit a f) 1) (memory-mask setting cs ts (n .objects) o i) ∙ sym (has-bit (getD ts o noObject .mask) f q))
       (memory-cell setting cs ts (n .objects) o f p q)
 
   pub monitor-cell : (o : ℕ) → hasOf (setting .mask) 0 ≡ true → o < n .objects → o < 32 → machine.monitor s o ≡ cellMeant true (getD cs (o * 32 + 0) noCell)
@@ -160,7 +160,7 @@ module _ (table : machine.Table) (s : machine.State) (p : ℕ) where
 -- what is ready is there
 pub ready-there : (b : List ℕ) (s : machine.State) (p : ℕ) (t : machine.Thread) → Reached (tableOf b) (programOf b) s → getElem? (s .threads) p ≡ some t
     → (S : List frames.Frame) (R : frames.Ready) → t .expression ≡ frames.Found.here S R
-    → placed.Ready (programOf b) (length (s .objects)) (redex (tableOf b .node) (tableOf b .count) R)
+    → placed.Ready (programOf b) (length (s .objects)) (redexOf (tableOf b .node) (tableOf b .count) R)
 ready-there b s p t r there S R e =
     along (λ (F : frames.Found). placed.Good (programOf b) (length (s .objects)) (mean (tableOf b .node) (tableOf b .count) F)) e
     (standing (tableOf b) (programOf b) s p t r there .good) .1

@@ -1,4 +1,4 @@
--- What the code's slots, frames, stacks and parts stand for in the abstract machine, for a plan b whose terms and roots are loaded as numbers.
+-- What the code's slots, frames, stacks and redexes stand for in the abstract machine, for a plan b whose terms and roots are loaded as numbers.
 -- Assumes nothing.
 use Prim.Native.Nat.{ℕ, suc, _+_, _^_, _≤_, _<_}
 use mathlib.Core.Path.{_≡_}
@@ -20,20 +20,20 @@ use Rattle.machine.specs.Frames.{Slots, Closure, closure, branches}
 use Rattle.machine.specs.Frames as frames
 use Rattle.machine.specs.Machine as machine
 use Rattle.machine.specs.Playing as playing
-use Rattle.machine.specs.Landing.{downᵃ, up, upᶜ, enter, enterᶜ}
+use Rattle.machine.specs.Refocusing.{downᵃ, up, upᶜ, enter, enterᶜ}
 use Rattle.machine.proofs.Sorted.{Well, Wellᶜ}
 use Rattle.run_frames.specs.declared.frame.Kind.{Kind}
 use Rattle.run_frames.specs.declared.frame.Kind.the-variants as kind
 use Rattle.run_frames.specs.declared.frame.Frame.{Frame}
-use Rattle.run_frames.specs.Parts.{Part, Part as part, numberOf}
-use Rattle.run_frames.specs.declared.go.Ready.{Ready}
-use Rattle.run_frames.specs.declared.go.Stage.{Stage}
-use Rattle.run_frames.specs.declared.go.Stage.the-variants as stage
-use Rattle.run_frames.specs.declared.go.Go.{Go}
+use Rattle.run_frames.specs.RedexKinds.{RedexKind, RedexKind as redex, numberOf}
+use Rattle.run_frames.specs.declared.refocusing.Ready.{Ready}
+use Rattle.run_frames.specs.declared.refocusing.Stage.{Stage}
+use Rattle.run_frames.specs.declared.refocusing.Stage.the-variants as stage
+use Rattle.run_frames.specs.declared.refocusing.Refocusing.{Refocusing}
 use Rattle.run_term_words.specs.Slots.{slotOf}
 use Rattle.run_frames.specs.Going.{readyIn}
 use Rattle.run_refocusing_step.specs.Down.{frameAt}
-use Rattle.run_refocusing.specs.Landing.{Stack, Ended}
+use Rattle.run_refocusing.specs.Refocusing.{Stack, Ended}
 
 -- ---- the plan as numbers
 
@@ -121,7 +121,7 @@ module _ (b : List ℕ) where
 
   -- ---- what moves next
 
-  -- a part that leaves no record and needs no room: whatever the state, it comes to this result
+  -- a redex that leaves no record and needs no room: whatever the state, it comes to this result
   pub record Unlogged (R : frames.Ready) (x : frames.Result) : Type 0 where
     pub rule : Rule
     pub needs-no-room : (s : machine.State) → playing.noRoomBefore s rule ≡ none
@@ -138,45 +138,45 @@ module _ (b : List ℕ) where
   abbrev Pureᶜ : List frames.Frame → frames.Found → frames.Found → Type 0
   Pureᶜ S code X = (Q : frames.Readyᶜ) × (X ≡ frames.Found.hereᶜ S Q) × Unloggedᶜ S Q code
 
-  -- part r, in the frames S, is what was found
-  abbrev pub StandsBy : Part → Ready → List frames.Frame → frames.Found → Type 0
-  StandsBy part.Done r S X = (S ≡ []) × (X ≡ frames.Found.value (r .first)) × (r .first < 32)
-  StandsBy part.NoRule r S X = ⊥
-  StandsBy part.Run r S X = Well S × IsExpression (r .first) × Pure S (frames.Result.run (closed (r .first) (r .environment))) X
-  StandsBy part.RunCondition r S X = Wellᶜ S × IsCondition (r .first) × (X ≡ frames.Found.hereᶜ S (frames.Readyᶜ.and true (closed (r .first) (r .environment))))
-  StandsBy part.Val r S X = Well S × (r .first ≡ 0) × Pure S (frames.Result.value 0) X
-  StandsBy part.Truth r S X = Wellᶜ S × (r .first < 2) × Pureᶜ S (upᶜ (nodeAt b) (terms b) S (eqb (r .first) 1)) X
-  StandsBy part.While r S X =
+  -- redex r, in the frames S, is what was found
+  abbrev pub StandsBy : RedexKind → Ready → List frames.Frame → frames.Found → Type 0
+  StandsBy redex.Done r S X = (S ≡ []) × (X ≡ frames.Found.value (r .first)) × (r .first < 32)
+  StandsBy redex.NoRule r S X = ⊥
+  StandsBy redex.Run r S X = Well S × IsExpression (r .first) × Pure S (frames.Result.run (closed (r .first) (r .environment))) X
+  StandsBy redex.RunCondition r S X = Wellᶜ S × IsCondition (r .first) × (X ≡ frames.Found.hereᶜ S (frames.Readyᶜ.and true (closed (r .first) (r .environment))))
+  StandsBy redex.Val r S X = Well S × (r .first ≡ 0) × Pure S (frames.Result.value 0) X
+  StandsBy redex.Truth r S X = Wellᶜ S × (r .first < 2) × Pureᶜ S (upᶜ (nodeAt b) (terms b) S (eqb (r .first) 1)) X
+  StandsBy redex.While r S X =
       Well S × IsCondition (r .first) × IsExpression (r .second) ×
       (X ≡ frames.Found.here S (frames.Ready.while (branches (r .first) (r .second) (slots (r .environment)))))
-  StandsBy part.Body r S X =
+  StandsBy redex.Body r S X =
       Well S × IsCondition (r .first) × IsExpression (r .second) ×
       (X ≡ frames.Found.here S (frames.Ready.whileTest true (branches (r .first) (r .second) (slots (r .environment)))))
-  StandsBy part.Again r S X =
+  StandsBy redex.Again r S X =
       Well S × IsCondition (r .first) × IsExpression (r .second) × Pure S
       (frames.Result.whileAgain (branches (r .first) (r .second) (slots (r .environment)))) X
-  StandsBy part.New r S X =
+  StandsBy redex.New r S X =
       Well S × (r .first < 2 ^ 32) × (eqb (maskBit (r .first) 0) 1 ≡ false) × (X ≡ frames.Found.here S (frames.Ready.new (fieldsFrom (r .first) 0 32)))
-  StandsBy part.Read r S X =
+  StandsBy redex.Read r S X =
       Well S × (r .first < 32) × (0 < r .second) × (r .second < 32) × (X ≡ frames.Found.here S (frames.Ready.read (r .first) (r .second)))
-  StandsBy part.Write r S X =
+  StandsBy redex.Write r S X =
       Well S × (r .first < 32) × (0 < r .second) × (r .second < 32) × (r .third < 32) ×
       (X ≡ frames.Found.here S (frames.Ready.write (r .first) (r .second) (r .third)))
-  StandsBy part.Fork r S X = Well S × IsExpression (r .first) × (X ≡ frames.Found.here S (frames.Ready.fork (closed (r .first) (r .environment))))
-  StandsBy part.Join r S X = Well S × (r .first < 32) × (X ≡ frames.Found.here S (frames.Ready.join (r .first)))
-  StandsBy part.Synch r S X =
+  StandsBy redex.Fork r S X = Well S × IsExpression (r .first) × (X ≡ frames.Found.here S (frames.Ready.fork (closed (r .first) (r .environment))))
+  StandsBy redex.Join r S X = Well S × (r .first < 32) × (X ≡ frames.Found.here S (frames.Ready.join (r .first)))
+  StandsBy redex.Synch r S X =
       Well S × (r .first < 32) × IsExpression (r .second) × (X ≡ frames.Found.here S (frames.Ready.synch (r .first) (closed (r .second) (r .environment))))
-  StandsBy part.Hold r S X = Well S × (r .first < 32) × (r .second < 32) × (X ≡ frames.Found.here S (frames.Ready.hold (r .first) (r .second)))
-  StandsBy part.Signal r S X = Well S × (r .first < 32) × (X ≡ frames.Found.here S (frames.Ready.signal (signalMeant (r .second)) (r .first)))
-  StandsBy part.Waiting r S X = Well S × (r .first < 32) × (X ≡ frames.Found.here S (frames.Ready.waiting (r .first)))
+  StandsBy redex.Hold r S X = Well S × (r .first < 32) × (r .second < 32) × (X ≡ frames.Found.here S (frames.Ready.hold (r .first) (r .second)))
+  StandsBy redex.Signal r S X = Well S × (r .first < 32) × (X ≡ frames.Found.here S (frames.Ready.signal (signalMeant (r .second)) (r .first)))
+  StandsBy redex.Waiting r S X = Well S × (r .first < 32) × (X ≡ frames.Found.here S (frames.Ready.waiting (r .first)))
 
   abbrev pub Stands : Ready → List frames.Frame → frames.Found → Type 0
-  Stands r S X = (P : Part) × (r .part ≡ numberOf P) × StandsBy P r S X
+  Stands r S X = (P : RedexKind) × (r .redex ≡ numberOf P) × StandsBy P r S X
 
-  -- ---- where landing stands
+  -- ---- where refocusing stands
 
   -- stage g, in the frames S, comes to X
-  abbrev pub GoesBy : Stage → Go → List frames.Frame → frames.Found → Type 0
+  abbrev pub GoesBy : Stage → Refocusing → List frames.Frame → frames.Found → Type 0
   GoesBy stage.Full g S X = 32 < frames.height X
   GoesBy stage.At g S X = Stands (readyIn g) S X
   GoesBy stage.Run g S X = Well S × IsExpression (g .operand) × (X ≡ enter (nodeAt b) (terms b) S (closed (g .operand) (g .frame .environment)))
@@ -192,17 +192,17 @@ module _ (b : List ℕ) where
   GoesBy stage.Value g S X = Well S × (g .operand < 32) × (X ≡ up (nodeAt b) (terms b) S (g .operand))
   GoesBy stage.Truth g S X = Wellᶜ S × (g .operand < 2) × (X ≡ upᶜ (nodeAt b) (terms b) S (eqb (g .operand) 1))
 
-  abbrev pub Goes : Go → List frames.Frame → frames.Found → Type 0
+  abbrev pub Goes : Refocusing → List frames.Frame → frames.Found → Type 0
   Goes g S X = GoesBy (g .stage) g S X
 
   -- a stack of the code: room for nine threads of 33 frames, of three numbers each
   abbrev pub Sized : Stack → Type 0
   Sized k = length k ≡ 891
 
-  -- where landing ended: the part that moves next is found, in frames that the stack holds; or there is no room for the frames
+  -- where refocusing ended: the redex that moves next is found, in frames that the stack holds; or there is no room for the frames
   abbrev pub FoundBy : Stage → Ended → ℕ → frames.Found → Type 0
   FoundBy stage.At E base X =
-      (S : List frames.Frame) × Holds (E .stack) base S × (E .landed .depth ≡ length S) × (length S ≤ 32) × Stands (E .landed .ready) S X
+      (S : List frames.Frame) × Holds (E .stack) base S × (E .refocused .depth ≡ length S) × (length S ≤ 32) × Stands (E .refocused .ready) S X
   FoundBy stage.Full E base X = 32 < frames.height X
   FoundBy stage.Run E base X = ⊥
   FoundBy stage.RunCondition E base X = ⊥
@@ -212,9 +212,9 @@ module _ (b : List ℕ) where
   FoundBy stage.Value E base X = ⊥
   FoundBy stage.Truth E base X = ⊥
 
-  -- landing from a stack k, in the place of the thread whose frames begin at `base`, found X
-  pub record Lands (k : Stack) (base : ℕ) (X : frames.Found) (E : Ended) : Type 0 where
-    pub found : FoundBy (E .landed .stage) E base X
+  -- refocusing from a stack k, in the place of the thread whose frames begin at `base`, found X
+  pub record Refocuses (k : Stack) (base : ℕ) (X : frames.Found) (E : Ended) : Type 0 where
+    pub found : FoundBy (E .refocused .stage) E base X
     pub sized : Sized (E .stack)
     -- the other threads' frames are as they were
     pub others : (i : ℕ) → (i < base) ⊎ (base + 33 ≤ i) → frameAt (E .stack) i ≡ frameAt k i

@@ -18,7 +18,7 @@ use Rattle.run_state.specs.declared.Setting.{Setting}
 use Rattle.run_state.specs.declared.Cell.{Cell}
 use Rattle.run_state.specs.declared.Object.{Object}
 use Rattle.run_look.specs.Look.{hasOf}
-use Rattle.run_engine.specs.Machine.{noCell, noThing, cellFirst}
+use Rattle.run_engine.specs.Machine.{noCell, noObject, cellFirst}
 use Rattle.refinement.proofs.States.{cellMeant, memoryOf}
 use Rattle.refinement.proofs.Tests.{test-true, test-false}
 
@@ -31,7 +31,7 @@ pub memory-cell : (setting : Setting) (cs : List Cell) (ts : List Object) (n o f
 unfolding memoryOf
 memory-cell setting cs ts n o f p q = test-true (ltb o 32 && ltb f 32) _ _ (inside-32 o f p q)
 
-pub memory-mask : (setting : Setting) (cs : List Cell) (ts : List Object) (n o : ℕ) → o < n → memoryOf setting cs ts n .mask o ≡ getD ts o noThing .mask
+pub memory-mask : (setting : Setting) (cs : List Cell) (ts : List Object) (n o : ℕ) → o < n → memoryOf setting cs ts n .mask o ≡ getD ts o noObject .mask
 unfolding memoryOf
 memory-mask setting cs ts n o p = test-true (ltb o n) _ _ (lt-ltb o n p)
 
@@ -45,7 +45,7 @@ pub memory-store : (setting : Setting) (cs : List Cell) (ts : List Object) (n o 
     → memoryOf setting (set cs (o * 32 + f) c) ts n ≡ storeCell (memoryOf setting cs ts n) o f (cellMeant (hasOf (setting .mask) f) c)
 unfolding memoryOf storeCell
 memory-store setting cs ts n o f c z p q =
-    ap (λ (k : ℕ → ℕ → rules.Cell). record { count = n; mask = λ a. cond (ltb a n) (getD ts a noThing .mask) 0; cells = k })
+    ap (λ (k : ℕ → ℕ → rules.Cell). record { count = n; mask = λ a. cond (ltb a n) (getD ts a noObject .mask) 0; cells = k })
     (fun-ext (λ a. fun-ext (λ g. at a g (ℕ-discrete o a) (ℕ-discrete f g))))
   where
     new : ℕ → ℕ → rules.Cell
@@ -90,8 +90,8 @@ unfolding memoryOf
 memory-past setting cs ts n x =
     ap (λ (k : ℕ → ℕ). record { count = n; mask = k; cells = memoryOf setting cs ts n .cells }) (fun-ext (λ o. at o (decLt o n)))
   where
-    at : (o : ℕ) → Dec (o < n) → cond (ltb o n) (getD (set ts n x) o noThing .mask) 0 ≡ cond (ltb o n) (getD ts o noThing .mask) 0
-    at o (yes h) = ap (λ (t : Object). cond (ltb o n) (t .mask) 0) (getD-set-other ts n o x noThing (λ e. omega arith))
+    at : (o : ℕ) → Dec (o < n) → cond (ltb o n) (getD (set ts n x) o noObject .mask) 0 ≡ cond (ltb o n) (getD ts o noObject .mask) 0
+    at o (yes h) = ap (λ (t : Object). cond (ltb o n) (t .mask) 0) (getD-set-other ts n o x noObject (λ e. omega arith))
     at o (no h) = let e : ltb o n ≡ false = le-ltb o n (omega arith) in test-false (ltb o n) _ 0 e ∙ sym (test-false (ltb o n) _ 0 e)
 
 -- one more object
@@ -102,15 +102,15 @@ memory-more setting cs ts n x h =
     ap (λ (k : ℕ → ℕ). record { count = suc n; mask = k; cells = memoryOf setting cs ts n .cells }) (fun-ext (λ o. at o (ℕ-discrete n o) (decLt o n)))
   where
     at : (o : ℕ) → Dec (n ≡ o) → Dec (o < n)
-        → cond (ltb o (suc n)) (getD (set ts n x) o noThing .mask) 0 ≡ cond (eqb n o) (x .mask) (cond (ltb o n) (getD ts o noThing .mask) 0)
+        → cond (ltb o (suc n)) (getD (set ts n x) o noObject .mask) 0 ≡ cond (eqb n o) (x .mask) (cond (ltb o n) (getD ts o noObject .mask) 0)
     at o (yes e) d =
         test-true (ltb o (suc n)) _ 0 (lt-ltb o (suc n) (omega arith))
-        ∙ ap (λ (a : ℕ). getD (set ts n x) a noThing .mask) (sym e)
-        ∙ ap (λ (t : Object). t .mask) (getD-set-same ts n x noThing h)
+        ∙ ap (λ (a : ℕ). getD (set ts n x) a noObject .mask) (sym e)
+        ∙ ap (λ (t : Object). t .mask) (getD-set-same ts n x noObject h)
         ∙ sym (test-true (eqb n o) (x .mask) _ (eq-eqb n o e))
     at o (no e) (yes d) =
         test-true (ltb o (suc n)) _ 0 (lt-ltb o (suc n) (omega arith))
-        ∙ ap (λ (t : Object). t .mask) (getD-set-other ts n o x noThing (λ q. e (sym q)))
+        ∙ ap (λ (t : Object). t .mask) (getD-set-other ts n o x noObject (λ q. e (sym q)))
         ∙ sym (test-false (eqb n o) (x .mask) _ (ne-eqb n o e) ∙ test-true (ltb o n) _ 0 (lt-ltb o n d))
     at o (no e) (no d) =
         test-false (ltb o (suc n)) _ 0 (le-ltb o (suc n) (omega (arith, e, d)))

@@ -20,14 +20,14 @@ use Rattle.rules.specs.State as rules
 use Rattle.rules.specs.Rules.{e-re-enter, e-acquire, e-release}
 use Rattle.rules.specs.Step.{forMonitor}
 use Rattle.machine.specs.Frames as frames
-use Rattle.machine.specs.Landing.{enter, up}
-use Rattle.machine.specs.Landing as land
+use Rattle.machine.specs.Refocusing.{enter, up}
+use Rattle.machine.specs.Refocusing as refocus
 use Rattle.machine.specs.Machine as machine
 use Rattle.machine.specs.Playing.{tableOf}
 use Rattle.machine.specs.Playing as playing
 use Rattle.machine.proofs.Standing.{standing}
 use Rattle.machine.proofs.Sorted.{Well}
-use Rattle.run_frames.specs.Parts.{Part as part}
+use Rattle.run_frames.specs.RedexKinds.{RedexKind as redex}
 use Rattle.run_frames.specs.Going.{readyOf, goRun, goWant, goValue}
 use Rattle.run_state.specs.declared.Cell.{Cell}
 use Rattle.run_state.specs.declared.Counts.{Counts}
@@ -72,10 +72,10 @@ module _ {b : List ℕ} {m : engine.Machine} {s : machine.State} {p : ℕ} (move
   -- E-RE-ENTER, E-ACQUIRE
   pub synch-meets : (o u w environment i : ℕ) → i ≡ o * 32 + 0 → Well S → o < 32 → IsExpression b u
       → t .expression ≡ frames.Found.here S (frames.Ready.synch o (closed u environment))
-      → MeetsBy (lookSynch (headFor m p (readyOf part.Synch o u w environment)) (getD cs i noCell)) p (readyOf part.Synch o u w environment)
+      → MeetsBy (lookSynch (headFor m p (readyOf redex.Synch o u w environment)) (getD cs i noCell)) p (readyOf redex.Synch o u w environment)
       (machine.attempt (tableOf b) s p)
-      (Acts mover (readyOf part.Synch o u w environment) i (actSynch n (headFor m p (readyOf part.Synch o u w environment)) (getD cs i noCell) o u environment))
-  unfolding objectBy fieldBy lookSynch actSynch machine.act machine.synchAct machine.around machine.gain machine.storeMonitor playing.noRoomBefore land.go
+      (Acts mover (readyOf redex.Synch o u w environment) i (actSynch n (headFor m p (readyOf redex.Synch o u w environment)) (getD cs i noCell) o u environment))
+  unfolding objectBy fieldBy lookSynch actSynch machine.act machine.synchAct machine.around machine.gain machine.storeMonitor playing.noRoomBefore refocus.go
       tableOf
   synch-meets o u w environment i ei well ho hu code =
       by (isEmptyOf (c .keys)) (eqb (c .value) self) (sym (keys-is-empty (c .keys))) (ap (eqb (c .value)) (sym same))
@@ -102,9 +102,9 @@ module _ {b : List ℕ} {m : engine.Machine} {s : machine.State} {p : ℕ} (move
       acted = ap (machine.synchAct s p t o (closed u environment)) found
 
       by : (x y : Bool) → isEmpty (keysOf (c .keys)) ≡ x → eqb (c .value) (t .self) ≡ y
-          → MeetsBy (cond x (cond y sight.Ready (sight.Blocked block.Monitor)) sight.Ready) p (readyOf part.Synch o u w environment)
+          → MeetsBy (cond x (cond y sight.Ready (sight.Blocked block.Monitor)) sight.Ready) p (readyOf redex.Synch o u w environment)
           (machine.attempt (tableOf b) s p)
-          (Acts mover (readyOf part.Synch o u w environment) i (cond x
+          (Acts mover (readyOf redex.Synch o u w environment) i (cond x
           (actedOf (goRun u environment) n ks c noEntry)
           (heardOf (goWant (holdFrame environment o) u) n (joinedOf ks (c .keys)) c′ (entryOf (records.kindNumber records.Kind.acquire) o 0 0))))
       by true true e q = (
@@ -135,9 +135,9 @@ module _ {b : List ℕ} {m : engine.Machine} {s : machine.State} {p : ℕ} (move
 
   -- E-RELEASE
   pub hold-meets : (o v w environment i : ℕ) → i ≡ o * 32 + 0 → Well S → o < 32 → v < 32 → t .expression ≡ frames.Found.here S (frames.Ready.hold o v)
-      → MeetsBy sight.Ready p (readyOf part.Hold o v w environment) (machine.attempt (tableOf b) s p)
-      (Acts mover (readyOf part.Hold o v w environment) i (actHold n (headFor m p (readyOf part.Hold o v w environment)) o v))
-  unfolding machine.act machine.around machine.storeMonitor playing.noRoomBefore land.go tableOf
+      → MeetsBy sight.Ready p (readyOf redex.Hold o v w environment) (machine.attempt (tableOf b) s p)
+      (Acts mover (readyOf redex.Hold o v w environment) i (actHold n (headFor m p (readyOf redex.Hold o v w environment)) o v))
+  unfolding machine.act machine.around machine.storeMonitor playing.noRoomBefore refocus.go tableOf
   hold-meets o v w environment i ei well ho hv code = (
     _,
     attempts mover (frames.Ready.hold o v) code refl,

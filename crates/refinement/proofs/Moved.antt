@@ -22,42 +22,42 @@ use Rattle.machine.specs.Machine as machine
 use Rattle.machine.specs.Playing as playing
 use Rattle.run_frames.specs.Going.{goFull}
 use Rattle.run_refocusing_step.specs.Down.{frameAt}
-use Rattle.run_refocusing.specs.Landing.{Stack, Ended, ended, landOf}
+use Rattle.run_refocusing.specs.Refocusing.{Stack, Ended, ended, refocusOf}
 use Rattle.run_state.specs.declared.Head.{Head}
 use Rattle.run_state.specs.declared.Counts.{Counts}
 use Rattle.run_state.specs.declared.acted.Acted.{Acted}
 use Rattle.run_pick.specs.declared.Met.{Met}
 use Rattle.run_pick.specs.Answer.{Move}
-use Rattle.run_pick.specs.Pick.{noHead, forksOf, fullOf, moverOf, bornOf, moveOf, landMover, youngGo, landYoung}
+use Rattle.run_pick.specs.Pick.{noHead, forksOf, fullOf, moverOf, forkedOf, moveOf, refocusMover, forkedGo, refocusForked}
 use Rattle.run_queue.specs.Queue.{afterOf}
 use Rattle.run_engine.specs.Machine as engine
 use Rattle.run_engine.specs.Machine.{headAt, cellNumber, after}
-use Rattle.refinement.proofs.Meant.{Loaded, Sized, Lands}
+use Rattle.refinement.proofs.Meant.{Loaded, Sized, Refocuses}
 use Rattle.refinement.proofs.FrameLaws.{holds-same}
-use Rattle.refinement.proofs.Landing.{landed}
+use Rattle.refinement.proofs.Refocusing.{refocused}
 use Rattle.refinement.proofs.Queues.{placesOf, Places, places-kept, places-more, after-size}
 use Rattle.refinement.proofs.States.{settingOf, Kept, Headed, headed-elsewhere, Related}
-use Rattle.refinement.proofs.Moves.{withYoung, moverIn, Mover, Born, Does, met}
+use Rattle.refinement.proofs.Moves.{withForked, moverIn, Mover, ForkedBy, Does, met}
 use Rattle.refinement.proofs.Moving.{few-threads}
 use Rattle.refinement.proofs.Depths.{found-full, found-at}
-use Rattle.refinement.proofs.RoomAfter.{youngDeep, room-after}
+use Rattle.refinement.proofs.RoomAfter.{forkedDeep, room-after}
 
--- the landing of the thread that a fork makes, behind that of the mover; another move makes none
-abbrev pub landed-young : List ℕ → List ℕ → Met → Ended → Bool → Ended
-landed-young ws rs x l forks = cond forks (landYoung ws rs x (l .stack)) (ended (l .stack) goFull 0)
+-- the refocusing of the thread that a fork makes, behind that of the mover; another move makes none
+abbrev pub refocused-forked : List ℕ → List ℕ → Met → Ended → Bool → Ended
+refocused-forked ws rs x l forks = cond forks (refocusForked ws rs x (l .stack)) (ended (l .stack) goFull 0)
 
 -- what the move leaves
 abbrev pub left : List ℕ → List ℕ → Met → Acted → Stack → Bool → Move
-left ws rs x a k forks = moveOf x a (landMover ws rs x a k .landed) (bornOf x (landed-young ws rs x (landMover ws rs x a k) forks .landed)) forks
+left ws rs x a k forks = moveOf x a (refocusMover ws rs x a k .refocused) (forkedOf x (refocused-forked ws rs x (refocusMover ws rs x a k) forks .refocused)) forks
 
 -- the heads, where a thread was made and where none was
-young-size : (x : Bool) (l : List Head) (q : ℕ) (y : Head) → length (engine.withYoung x l q y) ≡ length l
-young-size true l q y = length-set l q y
-young-size false l q y = refl
+forked-size : (x : Bool) (l : List Head) (q : ℕ) (y : Head) → length (engine.withForked x l q y) ≡ length l
+forked-size true l q y = length-set l q y
+forked-size false l q y = refl
 
-young-other : (x : Bool) (l : List Head) (i : ℕ) (y : Head) (q : ℕ) → (q ≡ i → ⊥) → headAt (engine.withYoung x l i y) q ≡ headAt l q
-young-other true l i y q e = getD-set-other l i q y noHead e
-young-other false l i y q e = refl
+forked-other : (x : Bool) (l : List Head) (i : ℕ) (y : Head) (q : ℕ) → (q ≡ i → ⊥) → headAt (engine.withForked x l i y) q ≡ headAt l q
+forked-other true l i y q e = getD-set-other l i q y noHead e
+forked-other false l i y q e = refl
 
 module _ {b ws rs : List ℕ} (loaded : Loaded b ws rs) {m : engine.Machine} {s : machine.State} {p : ℕ} (mover : Mover b m s p) {v : machine.Move} (a : Acted)
     (D : Does mover (headAt (m .heads) p .ready) (cellNumber (headAt (m .heads) p .ready)) a v) where
@@ -76,13 +76,13 @@ module _ {b ws rs : List ℕ} (loaded : Loaded b ws rs) {m : engine.Machine} {s 
   forks = forksOf h
 
   abbrev L : Ended
-  L = landMover ws rs X a (m .stack)
+  L = refocusMover ws rs X a (m .stack)
 
   abbrev Y : Ended
-  Y = landed-young ws rs X L forks
+  Y = refocused-forked ws rs X L forks
 
-  abbrev youngFull : Bool
-  youngFull = forks && fullOf (Y .landed)
+  abbrev forkedFull : Bool
+  forkedFull = forks && fullOf (Y .refocused)
 
   -- the mover after its move, and the threads that were there
   abbrev gone : machine.Thread → machine.Thread
@@ -97,47 +97,47 @@ module _ {b ws rs : List ℕ} (loaded : Loaded b ws rs) {m : engine.Machine} {s 
   here : p < n .threads
   here = let x = rel .kept .threads-count in let y = inside (s .threads) p t there in omega arith
 
-  lands : Lands b (m .stack) (p * 33) (D .expression) L
-  lands =
+  refocuses : Refocuses b (m .stack) (p * 33) (D .expression) L
+  refocuses =
       let x = H .depth in
       let y = H .shallow in
       let e : h .depth % 33 ≡ h .depth = mod-eq-of-lt (omega arith) in
-      landed b ws rs ok loaded (p * 33) (m .stack) (rel .sized) (omega arith) (H .stack) (H .held) (a .go) (h .depth % 33)
+      refocused b ws rs ok loaded (p * 33) (m .stack) (rel .sized) (omega arith) (H .stack) (H .held) (a .go) (h .depth % 33)
       (omega arith) (omega arith) (D .expression) (D .goes)
 
-  -- the second landing: nothing, or the new thread's
-  record Second (young : Option machine.Thread) : Type 0 where
+  -- the second refocusing: nothing, or the new thread's
+  record Second (forked : Option machine.Thread) : Type 0 where
     sized : Sized b (Y .stack)
     others : (i : ℕ) → i < n .threads * 33 → frameAt (Y .stack) i ≡ frameAt (L .stack) i
-    full : youngFull ≡ youngDeep young
-    head : (y : machine.Thread) → young ≡ some y → youngFull ≡ false → Headed b (Y .stack) (n .threads * 33) (bornOf X (Y .landed)) y
+    full : forkedFull ≡ forkedDeep forked
+    head : (y : machine.Thread) → forked ≡ some y → forkedFull ≡ false → Headed b (Y .stack) (n .threads * 33) (forkedOf X (Y .refocused)) y
 
-  second : (young : Option machine.Thread) → Born mover (h .ready) young → Second young
+  second : (forked : Option machine.Thread) → ForkedBy mover (h .ready) forked → Second forked
   second none k =
-      let q : Y ≡ ended (L .stack) goFull 0 = ap (landed-young ws rs X L) k in
+      let q : Y ≡ ended (L .stack) goFull 0 = ap (refocused-forked ws rs X L) k in
       record {
-        sized = along (λ (E : Ended). Sized b (E .stack)) (sym q) (lands .sized);
+        sized = along (λ (E : Ended). Sized b (E .stack)) (sym q) (refocuses .sized);
         others = λ i l. ap (λ (E : Ended). frameAt (E .stack) i) q;
-        full = ap (λ (x : Bool). x && fullOf (Y .landed)) k;
+        full = ap (λ (x : Bool). x && fullOf (Y .refocused)) k;
         head = λ y z. absurd (Option·none-ne-some y z);
       }
   second (some y) (k, few, o, known, unlearnt, out, goes) =
       let e : n .threads % 9 ≡ n .threads = mod-eq-of-lt (omega arith) in
-      let q : landOf 2100 ws rs (n .threads % 9 * 33) (L .stack) (youngGo h) 0 ≡ Y =
-      ap (landed-young ws rs X L) (sym k) in
-      let lands′ : Lands b (L .stack) (n .threads * 33) (y .expression) Y =
-      along (λ (E : Ended). Lands b (L .stack) (n .threads * 33) (y .expression) E) q
-      (along (λ (c : ℕ). Lands b (L .stack) (c * 33) (y .expression) (landOf 2100 ws rs (n .threads % 9 * 33) (L .stack) (youngGo h) 0)) e
-      (landed b ws rs ok loaded (n .threads % 9 * 33) (L .stack) (lands .sized) (omega arith) [] tt (youngGo h) 0 refl (omega arith) (y .expression) goes)) in
+      let q : refocusOf 2100 ws rs (n .threads % 9 * 33) (L .stack) (forkedGo h) 0 ≡ Y =
+      ap (refocused-forked ws rs X L) (sym k) in
+      let refocuses′ : Refocuses b (L .stack) (n .threads * 33) (y .expression) Y =
+      along (λ (E : Ended). Refocuses b (L .stack) (n .threads * 33) (y .expression) E) q
+      (along (λ (c : ℕ). Refocuses b (L .stack) (c * 33) (y .expression) (refocusOf 2100 ws rs (n .threads % 9 * 33) (L .stack) (forkedGo h) 0)) e
+      (refocused b ws rs ok loaded (n .threads % 9 * 33) (L .stack) (refocuses .sized) (omega arith) [] tt (forkedGo h) 0 refl (omega arith) (y .expression) goes)) in
       record {
-        sized = lands′ .sized;
-        others = λ i l. lands′ .others i (inl l);
-        full = ap (λ (x : Bool). x && fullOf (Y .landed)) k ∙ found-full b (Y .landed .stage) Y (n .threads * 33) (y .expression) (lands′ .found);
+        sized = refocuses′ .sized;
+        others = λ i l. refocuses′ .others i (inl l);
+        full = ap (λ (x : Bool). x && fullOf (Y .refocused)) k ∙ found-full b (Y .refocused .stage) Y (n .threads * 33) (y .expression) (refocuses′ .found);
         head = λ y′ z f.
             let same : y ≡ y′ = cc in
-            along (λ (y′ : machine.Thread). Headed b (Y .stack) (n .threads * 33) (bornOf X (Y .landed)) y′) same
-            (let F = found-at b (Y .landed .stage) Y (n .threads * 33) (y .expression) (lands′ .found)
-            (ap (λ (x : Bool). x && fullOf (Y .landed)) (sym k) ∙ f) in
+            along (λ (y′ : machine.Thread). Headed b (Y .stack) (n .threads * 33) (forkedOf X (Y .refocused)) y′) same
+            (let F = found-at b (Y .refocused .stage) Y (n .threads * 33) (y .expression) (refocuses′ .found)
+            (ap (λ (x : Bool). x && fullOf (Y .refocused)) (sym k) ∙ f) in
             record {
               stack = F .0;
               held = F .1;
@@ -175,58 +175,58 @@ module _ {b ws rs : List ℕ} (loaded : Loaded b ws rs) {m : engine.Machine} {s 
   unfolding t′
   mover-there = change-same (D .placed) p _ t′ (there′ .1)
 
-  two : Second (D .young)
-  two = second (D .young) (D .born)
+  two : Second (D .forked)
+  two = second (D .forked) (D .forkedBy)
 
-  mover-full : fullOf (L .landed) ≡ ltb 32 (height (D .expression))
-  mover-full = found-full b (L .landed .stage) L (p * 33) (D .expression) (lands .found)
+  mover-full : fullOf (L .refocused) ≡ ltb 32 (height (D .expression))
+  mover-full = found-full b (L .refocused .stage) L (p * 33) (D .expression) (refocuses .found)
 
-  pub deep-after : playing.noRoomAfter s p (v .state) ≡ cond (fullOf (L .landed) || youngFull) (some rooms.Room.depth) none
+  pub deep-after : playing.noRoomAfter s p (v .state) ≡ cond (fullOf (L .refocused) || forkedFull) (some rooms.Room.depth) none
   unfolding playing.noRoomAfter
   deep-after =
       ap (λ (xs : List machine.Thread). cond (playing.deepAt (getElem? xs p) || playing.anyDeep (drop (length (s .threads)) xs)) (some rooms.Room.depth) none)
       (D .threads)
-      ∙ room-after olds (D .young) _ p (length (s .threads)) (change-length (D .placed) p _ ∙ size) mover-there
+      ∙ room-after olds (D .forked) _ p (length (s .threads)) (change-length (D .placed) p _ ∙ size) mover-there
       ∙ ap₂ (λ (x y : Bool). cond (x || y) (some rooms.Room.depth) none) (sym mover-full) (sym (two .full))
 
   -- ---- the state after the move
 
   abbrev heads₁ : List Head
-  heads₁ = engine.withYoung (forks) (m .heads) (n .threads % 9) (bornOf X (Y .landed))
+  heads₁ = engine.withForked (forks) (m .heads) (n .threads % 9) (forkedOf X (Y .refocused))
 
   abbrev heads′ : List Head
-  heads′ = set heads₁ p (moverOf X a (L .landed))
+  heads′ = set heads₁ p (moverOf X a (L .refocused))
 
   mod-threads : n .threads % 9 ≡ n .threads
   mod-threads = let x = few-threads mover in mod-eq-of-lt (omega arith)
 
   -- the mover's head, a new thread's, and any other's
-  head-mover : headAt heads′ p ≡ moverOf X a (L .landed)
-  head-mover = getD-set-same heads₁ p (moverOf X a (L .landed)) noHead (let x = rel .heads-size in let y =
-      young-size (forks) (m .heads) (n .threads % 9) (bornOf X (Y .landed)) in omega arith)
+  head-mover : headAt heads′ p ≡ moverOf X a (L .refocused)
+  head-mover = getD-set-same heads₁ p (moverOf X a (L .refocused)) noHead (let x = rel .heads-size in let y =
+      forked-size (forks) (m .heads) (n .threads % 9) (forkedOf X (Y .refocused)) in omega arith)
 
-  head-young : forks ≡ true → headAt heads′ (n .threads) ≡ bornOf X (Y .landed)
-  head-young k =
+  head-forked : forks ≡ true → headAt heads′ (n .threads) ≡ forkedOf X (Y .refocused)
+  head-forked k =
       let l = here in
       let z = few-threads mover in
       let x = rel .heads-size in
-      getD-set-other heads₁ p (n .threads) (moverOf X a (L .landed)) noHead (λ e. omega arith)
+      getD-set-other heads₁ p (n .threads) (moverOf X a (L .refocused)) noHead (λ e. omega arith)
       ∙ ap (λ (i : ℕ). getD heads₁ i noHead) (sym mod-threads)
-      ∙ ap (λ (x : Bool). getD (engine.withYoung x (m .heads) (n .threads % 9) (bornOf X (Y .landed))) (n .threads % 9) noHead) k
-      ∙ getD-set-same (m .heads) (n .threads % 9) (bornOf X (Y .landed)) noHead (omega (arith, mod-threads))
+      ∙ ap (λ (x : Bool). getD (engine.withForked x (m .heads) (n .threads % 9) (forkedOf X (Y .refocused))) (n .threads % 9) noHead) k
+      ∙ getD-set-same (m .heads) (n .threads % 9) (forkedOf X (Y .refocused)) noHead (omega (arith, mod-threads))
 
   head-other : (q : ℕ) → (q ≡ p → ⊥) → q < n .threads → headAt heads′ q ≡ headAt (m .heads) q
   head-other q e l =
-      getD-set-other heads₁ p q (moverOf X a (L .landed)) noHead e
-      ∙ young-other (forks) (m .heads) (n .threads % 9) (bornOf X (Y .landed)) q (λ x. omega (arith, mod-threads))
+      getD-set-other heads₁ p q (moverOf X a (L .refocused)) noHead e
+      ∙ forked-other (forks) (m .heads) (n .threads % 9) (forkedOf X (Y .refocused)) q (λ x. omega (arith, mod-threads))
 
-  forked : (y : machine.Thread) → D .young ≡ some y → forks ≡ true
-  forked y e = along (λ (young : Option machine.Thread). Born mover (h .ready) young) e (D .born) .0
+  forks-there : (y : machine.Thread) → D .forked ≡ some y → forks ≡ true
+  forks-there y e = along (λ (forked : Option machine.Thread). ForkedBy mover (h .ready) forked) e (D .forkedBy) .0
 
-  -- its frames are as they were, or as the first landing left them
-  mover-headed : fullOf (L .landed) ≡ false → Headed b (Y .stack) (p * 33) (moverOf X a (L .landed)) (gone t′)
+  -- its frames are as they were, or as the first refocusing left them
+  mover-headed : fullOf (L .refocused) ≡ false → Headed b (Y .stack) (p * 33) (moverOf X a (L .refocused)) (gone t′)
   mover-headed f =
-      let F = found-at b (L .landed .stage) L (p * 33) (D .expression) (lands .found) f in
+      let F = found-at b (L .refocused .stage) L (p * 33) (D .expression) (refocuses .found) f in
       let sh = F .3 in
       let l = here in
       record {
@@ -249,7 +249,7 @@ module _ {b ws rs : List ℕ} (loaded : Loaded b ws rs) {m : engine.Machine} {s 
       record {
         stack = G .stack;
         held = holds-same b (m .stack) (Y .stack) (q * 33) (G .stack) (omega arith) (λ j i. two .others (q * 33 + j) (omega arith)
-            ∙ lands .others (q * 33 + j) (apart q j e i)) (G .held);
+            ∙ refocuses .others (q * 33 + j) (apart q j e i)) (G .held);
         depth = G .depth;
         shallow = G .shallow;
         stands = G .stands;
@@ -266,10 +266,10 @@ module _ {b ws rs : List ℕ} (loaded : Loaded b ws rs) {m : engine.Machine} {s 
           by (yes h) = inl (omega arith)
           by (no h) = inr (omega (arith, e, h))
 
-  each-after : (young : Option machine.Thread) → D .young ≡ young → fullOf (L .landed) ≡ false → youngFull ≡ false
-      → (q : ℕ) (u : machine.Thread) → getElem? (withYoung olds young) q ≡ some u
+  each-after : (forked : Option machine.Thread) → D .forked ≡ forked → fullOf (L .refocused) ≡ false → forkedFull ≡ false
+      → (q : ℕ) (u : machine.Thread) → getElem? (withForked olds forked) q ≡ some u
       → Headed b (Y .stack) (q * 33) (headAt heads′ q) u
-  each-after young e fl fy q u g = by young e g
+  each-after forked e fl fy q u g = by forked e g
     where
       old : getElem? olds q ≡ some u → Headed b (Y .stack) (q * 33) (headAt heads′ q) u
       old g = at (ℕ-discrete q p)
@@ -289,7 +289,7 @@ module _ {b ws rs : List ℕ} (loaded : Loaded b ws rs) {m : engine.Machine} {s 
               along (λ (h : Head). Headed b (Y .stack) (q * 33) h u) (sym (head-other q e l)) (along (Headed b (Y .stack) (q * 33) _) same
               (headed-elsewhere _ (other-headed q v e g₂)))
 
-      by : (young : Option machine.Thread) → D .young ≡ young → getElem? (withYoung olds young) q ≡ some u
+      by : (forked : Option machine.Thread) → D .forked ≡ forked → getElem? (withForked olds forked) q ≡ some u
           → Headed b (Y .stack) (q * 33) (headAt heads′ q) u
       by none e g = old g
       by (some y) e g = at (added olds y q u g)
@@ -301,29 +301,29 @@ module _ {b ws rs : List ℕ} (loaded : Loaded b ws rs) {m : engine.Machine} {s 
               let c : n .threads ≡ q = rel .kept .threads-count ∙ sym (l ∙ change-length (D .placed) p _ ∙ size) in
               along (λ (u : machine.Thread). Headed b (Y .stack) (q * 33) (headAt heads′ q) u) z
               (along (λ (q : ℕ). Headed b (Y .stack) (q * 33) (headAt heads′ q) y) c
-              (along (λ (h : Head). Headed b (Y .stack) (n .threads * 33) h y) (sym (head-young (forked y e))) (two .head y e fy)))
+              (along (λ (h : Head). Headed b (Y .stack) (n .threads * 33) h y) (sym (head-forked (forks-there y e))) (two .head y e fy)))
 
   -- ---- the places
 
-  young-awake : (young : Option machine.Thread) → Born mover (h .ready) young → Places (afterOf (m .places) (h .ready) p) (placesOf olds)
-      → Places (afterOf (m .places) (h .ready) p) (placesOf (withYoung olds young))
-  young-awake none born e = e
-  young-awake (some y) born e = places-more (afterOf (m .places) (h .ready) p) olds y (born .5) e
+  forked-awake : (forked : Option machine.Thread) → ForkedBy mover (h .ready) forked → Places (afterOf (m .places) (h .ready) p) (placesOf olds)
+      → Places (afterOf (m .places) (h .ready) p) (placesOf (withForked olds forked))
+  forked-awake none forkedBy e = e
+  forked-awake (some y) forkedBy e = places-more (afterOf (m .places) (h .ready) p) olds y (forkedBy .5) e
 
   places-after : Places (afterOf (m .places) (h .ready) p) (placesOf (v .state .threads))
   places-after =
       along (λ (xs : List machine.Thread). Places (afterOf (m .places) (h .ready) p) (placesOf xs)) (sym (D .threads))
-      (young-awake (D .young) (D .born)
+      (forked-awake (D .forked) (D .forkedBy)
       (along (λ (ws : List Place). Places (afterOf (m .places) (h .ready) p) ws) (sym (places-kept (D .placed) p gone (λ x. refl))) (D .places)))
 
-  pub related-after : fullOf (L .landed) ≡ false → youngFull ≡ false → Related b (after m p (left ws rs X a (m .stack) forks) (Y .stack)) (v .state)
+  pub related-after : fullOf (L .refocused) ≡ false → forkedFull ≡ false → Related b (after m p (left ws rs X a (m .stack) forks) (Y .stack)) (v .state)
   related-after fl fy = record {
-    heads-size = length-set heads₁ p (moverOf X a (L .landed)) ∙ young-size forks (m .heads) (n .threads % 9) (bornOf X (Y .landed)) ∙ rel .heads-size;
+    heads-size = length-set heads₁ p (moverOf X a (L .refocused)) ∙ forked-size forks (m .heads) (n .threads % 9) (forkedOf X (Y .refocused)) ∙ rel .heads-size;
     sized = two .sized;
     kept =
-        along (λ (i : ℕ). Kept (settingOf b) (set (m .cells) (cellNumber (h .ready)) (a .cell)) (set (m .objects) i (a .thing)) (a .counts) (v .state))
+        along (λ (i : ℕ). Kept (settingOf b) (set (m .cells) (cellNumber (h .ready)) (a .cell)) (set (m .objects) i (a .object)) (a .counts) (v .state))
         (sym (mod-eq-of-lt (let x = few-objects in omega arith))) (D .kept);
     places-size = after-size (m .places) (h .ready) p ∙ rel .places-size;
     places = places-after;
-    each = λ q u g. each-after (D .young) refl fl fy q u (ap (λ (xs : List machine.Thread). getElem? xs q) (sym (D .threads)) ∙ g);
+    each = λ q u g. each-after (D .forked) refl fl fy q u (ap (λ (xs : List machine.Thread). getElem? xs q) (sym (D .threads)) ∙ g);
   }

@@ -19,8 +19,8 @@ use Rattle.machine.specs.Machine as machine
 use Rattle.machine.specs.Playing.{tableOf}
 use Rattle.machine.specs.Playing as playing
 use Rattle.machine.proofs.Runs.{Reached}
-use Rattle.run_frames.specs.Parts.{Part as part, isPart}
-use Rattle.run_frames.specs.declared.go.Ready.{Ready}
+use Rattle.run_frames.specs.RedexKinds.{RedexKind as redex, isRedex}
+use Rattle.run_frames.specs.declared.refocusing.Ready.{Ready}
 use Rattle.run_frames.specs.Going.{goRun}
 use Rattle.run_outcome.specs.declared.NoRoom.{NoRoom}
 use Rattle.run_outcome.specs.declared.NoRoom.the-variants as room
@@ -46,9 +46,9 @@ roomMeant room.Key = rooms.Room.key
 roomMeant room.Depth = rooms.Room.depth
 
 -- the threads, with a new one
-abbrev pub withYoung : List machine.Thread → Option machine.Thread → List machine.Thread
-withYoung xs none = xs
-withYoung xs (some y) = xs ++ (y ∷ [])
+abbrev pub withForked : List machine.Thread → Option machine.Thread → List machine.Thread
+withForked xs none = xs
+withForked xs (some y) = xs ++ (y ∷ [])
 
 -- a thread that has come to F, and knows the keys K, of which it has learnt this many
 abbrev pub moverIn : frames.Found → Keys → ℕ → machine.Thread → machine.Thread
@@ -66,27 +66,27 @@ pub record Mover (b : List ℕ) (m : engine.Machine) (s : machine.State) (p : �
 
 module _ {b : List ℕ} {m : engine.Machine} {s : machine.State} {p : ℕ} (mover : Mover b m s p) where
   -- the new thread, if the move is a fork
-  abbrev pub Born : Ready → Option machine.Thread → Type 0
-  Born r none = isPart part.Fork (r .part) ≡ false
-  Born r (some y) =
-      (isPart part.Fork (r .part) ≡ true) × (m .tally .counts .threads < 8) × (m .tally .counts .objects ≡ y .self) ×
+  abbrev pub ForkedBy : Ready → Option machine.Thread → Type 0
+  ForkedBy r none = isRedex redex.Fork (r .redex) ≡ false
+  ForkedBy r (some y) =
+      (isRedex redex.Fork (r .redex) ≡ true) × (m .tally .counts .threads < 8) × (m .tally .counts .objects ≡ y .self) ×
       (keysOf (headAt (m .heads) p .keys) ≡ y .keys) × (0 ≡ y .learnt) × (awake ≡ y .place) × Goes b (goRun (r .first) (r .environment)) [] (y .expression)
 
-  -- the thread, at part r, makes the move v, for which there is room: a is what the code does, with cell i
+  -- the thread, at redex r, makes the move v, for which there is room: a is what the code does, with cell i
   pub record Does (r : Ready) (i : ℕ) (a : Acted) (v : machine.Move) : Type 0 where
     pub lacks : playing.noRoomBefore s (v .rule) ≡ none
     pub entered : Entered p (a .entry) (v .entry)
     pub expression : frames.Found
     pub goes : Goes b (a .go) (mover .headed .stack) expression
-    pub young : Option machine.Thread
-    pub born : Born r young
+    pub forked : Option machine.Thread
+    pub forkedBy : ForkedBy r forked
     -- the threads, with the places that the move leaves them
     pub placed : List machine.Thread
     pub relocated : Relocated (s .threads) placed
     pub places : Places (afterOf (m .places) r p) (placesOf placed)
-    pub threads : v .state .threads ≡ withYoung (changeAt placed p (moverIn expression (keysOf (a .keys)) (headAt (m .heads) p .learnt % 256 + a .new))) young
+    pub threads : v .state .threads ≡ withForked (changeAt placed p (moverIn expression (keysOf (a .keys)) (headAt (m .heads) p .learnt % 256 + a .new))) forked
     pub keys-fit : Fits (a .keys)
-    pub kept : Kept (settingOf b) (set (m .cells) i (a .cell)) (set (m .objects) (m .tally .counts .objects) (a .thing)) (a .counts) (v .state)
+    pub kept : Kept (settingOf b) (set (m .cells) i (a .cell)) (set (m .objects) (m .tally .counts .objects) (a .object)) (a .counts) (v .state)
 
   -- the move, or the room that it lacks
   abbrev pub Acts : Ready → ℕ → Act → machine.Move → Type 0

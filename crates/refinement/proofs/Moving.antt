@@ -23,9 +23,9 @@ use Rattle.machine.specs.Machine as machine
 use Rattle.machine.specs.Playing.{tableOf}
 use Rattle.machine.specs.Playing as playing
 use Rattle.machine.proofs.Runs.{reached-threads, reached-total}
-use Rattle.run_frames.specs.Parts.{Part as part, isPart}
-use Rattle.run_frames.specs.declared.go.Ready.{Ready}
-use Rattle.run_frames.specs.declared.go.Go.{Go}
+use Rattle.run_frames.specs.RedexKinds.{RedexKind as redex, isRedex}
+use Rattle.run_frames.specs.declared.refocusing.Ready.{Ready}
+use Rattle.run_frames.specs.declared.refocusing.Refocusing.{Refocusing}
 use Rattle.run_state.specs.declared.Head.{Head}
 use Rattle.run_state.specs.declared.Cell.{Cell}
 use Rattle.run_state.specs.declared.Object.{Object}
@@ -47,7 +47,7 @@ use Rattle.refinement.proofs.ChangeLaws.{change-agree, change-none, cha
 abbrev knowing : Keys → ℕ → machine.Thread → machine.Thread
 knowing K l x = record { self = x .self; expression = x .expression; keys = K; learnt = l; place = x .place }
 
--- thread p's head, were r its part
+-- thread p's head, were r its redex
 abbrev pub headFor : engine.Machine → ℕ → Ready → Head
 headFor m p r = record {
   ready = r;
@@ -121,12 +121,12 @@ module _ {b : List ℕ} {m : engine.Machine} {s : machine.State} {p : ℕ} (move
   joined c f = ap (union (keysOf c)) (sym known) ∙ or-comm (keysOf c) (keysOf ks) ∙ sym (keys-join fits f)
 
   -- a move that forks no thread, and leaves these places
-  pub moved-among : (xs : List machine.Thread) (r₀ : Ready) (i : ℕ) (R : Rule) (r : Option Record) (s′ : machine.State) (F : frames.Found) (g : Go)
+  pub moved-among : (xs : List machine.Thread) (r₀ : Ready) (i : ℕ) (R : Rule) (r : Option Record) (s′ : machine.State) (F : frames.Found) (g : Refocusing)
       (n′ : Counts) (ks′ : KeySet) (new : ℕ) (c : Cell) (x : Object) (e : Entry)
       → Relocated (s .threads) xs → Places (afterOf (m .places) r₀ p) (placesOf xs)
-      → playing.noRoomBefore s R ≡ none → Entered p e r → isPart part.Fork (r₀ .part) ≡ false → Goes b g S F → Fits ks′
+      → playing.noRoomBefore s R ≡ none → Entered p e r → isRedex redex.Fork (r₀ .redex) ≡ false → Goes b g S F → Fits ks′
       → s′ .threads ≡ changeAt xs p (knowing (keysOf ks′) (total new)) → Kept (settingOf b) (set cs i c) (set ts (n .objects) x) n′ s′
-      → Does mover r₀ i (record { go = g; keys = ks′; cell = c; thing = x; counts = n′; entry = e; new = new })
+      → Does mover r₀ i (record { go = g; keys = ks′; cell = c; object = x; counts = n′; entry = e; new = new })
       (record { rule = R; entry = r; state = machine.become s′ p F })
   unfolding machine.become
   moved-among xs r₀ i R r s′ F g n′ ks′ new c x e relocated places lack ent forks goes fit threads kept = record {
@@ -134,8 +134,8 @@ module _ {b : List ℕ} {m : engine.Machine} {s : machine.State} {p : ℕ} (move
     entered = ent;
     expression = F;
     goes = goes;
-    young = none;
-    born = forks;
+    forked = none;
+    forkedBy = forks;
     placed = xs;
     relocated = relocated;
     places = places;
@@ -149,11 +149,11 @@ module _ {b : List ℕ} {m : engine.Machine} {s : machine.State} {p : ℕ} (move
   }
 
   -- a move that forks no thread and makes no signal
-  pub moved : (r₀ : Ready) (i : ℕ) (R : Rule) (r : Option Record) (s′ : machine.State) (F : frames.Found) (g : Go) (n′ : Counts) (ks′ : KeySet) (new : ℕ)
+  pub moved : (r₀ : Ready) (i : ℕ) (R : Rule) (r : Option Record) (s′ : machine.State) (F : frames.Found) (g : Refocusing) (n′ : Counts) (ks′ : KeySet) (new : ℕ)
       (c : Cell) (x : Object) (e : Entry)
-      → playing.noRoomBefore s R ≡ none → Entered p e r → isPart part.Fork (r₀ .part) ≡ false → isPart part.Signal (r₀ .part) ≡ false → Goes b g S F → Fits ks′
+      → playing.noRoomBefore s R ≡ none → Entered p e r → isRedex redex.Fork (r₀ .redex) ≡ false → isRedex redex.Signal (r₀ .redex) ≡ false → Goes b g S F → Fits ks′
       → s′ .threads ≡ changeAt (s .threads) p (knowing (keysOf ks′) (total new)) → Kept (settingOf b) (set cs i c) (set ts (n .objects) x) n′ s′
-      → Does mover r₀ i (record { go = g; keys = ks′; cell = c; thing = x; counts = n′; entry = e; new = new })
+      → Does mover r₀ i (record { go = g; keys = ks′; cell = c; object = x; counts = n′; entry = e; new = new })
       (record { rule = R; entry = r; state = machine.become s′ p F })
   moved r₀ i R r s′ F g n′ ks′ new c x e lack ent forks signals goes fit threads kept =
       moved-among (s .threads) r₀ i R r s′ F g n′ ks′ new c x e (relocated-same (s .threads))
@@ -161,7 +161,7 @@ module _ {b : List ℕ} {m : engine.Machine} {s : machine.State} {p : ℕ} (move
       fit threads kept
 
   -- a move that leaves the memory, the keys and the places as they are, and no record
-  pub plain : (r₀ : Ready) (i : ℕ) (R : Rule) (F : frames.Found) (g : Go) → isPart part.Fork (r₀ .part) ≡ false → isPart part.Signal (r₀ .part) ≡ false
+  pub plain : (r₀ : Ready) (i : ℕ) (R : Rule) (F : frames.Found) (g : Refocusing) → isRedex redex.Fork (r₀ .redex) ≡ false → isRedex redex.Signal (r₀ .redex) ≡ false
       → playing.noRoomBefore s R ≡ none → Goes b g S F
       → Acts mover r₀ i (actedOf g n ks (getD cs i noCell) noEntry) (record { rule = R; entry = none; state = machine.become s p F })
   plain r₀ i R F g forks signals lack goes =

@@ -25,14 +25,14 @@ use Rattle.rules.specs.Step.{forJoin, notThread}
 use Rattle.rules.proofs.StateLaws.{inside, length-added, found-thread}
 use Rattle.rules.proofs.Relocated.{relocated-same}
 use Rattle.machine.specs.Frames as frames
-use Rattle.machine.specs.Landing.{enter, up}
-use Rattle.machine.specs.Landing as land
+use Rattle.machine.specs.Refocusing.{enter, up}
+use Rattle.machine.specs.Refocusing as refocus
 use Rattle.machine.specs.Machine as machine
 use Rattle.machine.specs.Playing.{tableOf}
 use Rattle.machine.specs.Playing as playing
 use Rattle.machine.proofs.Sorted.{Well}
 use Rattle.machine.proofs.Standing.{standing}
-use Rattle.run_frames.specs.Parts.{Part as part}
+use Rattle.run_frames.specs.RedexKinds.{RedexKind as redex}
 use Rattle.run_frames.specs.Going.{readyOf, goValue}
 use Rattle.run_state.specs.declared.Head.{Head}
 use Rattle.run_state.specs.declared.Object.{Object}
@@ -48,7 +48,7 @@ use Rattle.run_objects.specs.Objects.{actNew, actFork, actJoin}
 use Rattle.run_queue.specs.Queue.{afterOf}
 use Rattle.run_engine.specs.Machine as engine
 use Rattle.run_pick.specs.Pick.{noHead}
-use Rattle.run_engine.specs.Machine.{noCell, noThing, headAt}
+use Rattle.run_engine.specs.Machine.{noCell, noObject, headAt}
 use Rattle.refinement.proofs.Meant.{closed, IsExpression}
 use Rattle.refinement.proofs.States.{settingOf, numberOf, Kept, Headed, Related}
 use Rattle.refinement.proofs.Tests.{test-true, test-false}
@@ -82,9 +82,9 @@ module _ {b : List ℕ} {m : engine.Machine} {s : machine.State} {p : ℕ} (move
 
   -- E-NEW
   pub new-meets : (a b′ w environment i : ℕ) → Well S → eqb (maskBit a 0) 1 ≡ false → t .expression ≡ frames.Found.here S (frames.Ready.new (fieldsFrom a 0 32))
-      → MeetsBy sight.Ready p (readyOf part.New a b′ w environment) (machine.attempt (tableOf b) s p)
-      (Acts mover (readyOf part.New a b′ w environment) i (actNew n (headFor m p (readyOf part.New a b′ w environment)) (getD cs i noCell) a))
-  unfolding actNew machine.act machine.around machine.addObject playing.noRoomBefore land.go tableOf
+      → MeetsBy sight.Ready p (readyOf redex.New a b′ w environment) (machine.attempt (tableOf b) s p)
+      (Acts mover (readyOf redex.New a b′ w environment) i (actNew n (headFor m p (readyOf redex.New a b′ w environment)) (getD cs i noCell) a))
+  unfolding actNew machine.act machine.around machine.addObject playing.noRoomBefore refocus.go tableOf
   new-meets a b′ w environment i well out code = by (leb 32 (n .objects)) refl
     where
       count : n .objects ≡ length (s .objects)
@@ -102,13 +102,13 @@ module _ {b : List ℕ} {m : engine.Machine} {s : machine.State} {p : ℕ} (move
 
       by : (x : Bool) → leb 32 (n .objects) ≡ x
           → (v : machine.Move) × (machine.attempt (tableOf b) s p ≡ machine.moves v)
-          × Acts mover (readyOf part.New a b′ w environment) i (cond x
+          × Acts mover (readyOf redex.New a b′ w environment) i (cond x
           (act.NoRoom room.Object)
           (act.Done (record {
             go = goValue (n .objects);
             keys = ks;
             cell = getD cs i noCell;
-            thing = record { mask = a; thread = 8 };
+            object = record { mask = a; thread = 8 };
             counts = countsOf (n .threads) (n .objects + 1) (n .keys);
             entry = entryOf (records.kindNumber records.Kind.new) (n .objects) 0 0;
             new = 0;
@@ -130,9 +130,9 @@ module _ {b : List ℕ} {m : engine.Machine} {s : machine.State} {p : ℕ} (move
 
   -- E-FORK
   pub fork-meets : (u b′ w environment i : ℕ) → Well S → IsExpression b u → t .expression ≡ frames.Found.here S (frames.Ready.fork (closed u environment))
-      → MeetsBy sight.Ready p (readyOf part.Fork u b′ w environment) (machine.attempt (tableOf b) s p)
-      (Acts mover (readyOf part.Fork u b′ w environment) i (actFork n (headFor m p (readyOf part.Fork u b′ w environment)) (getD cs i noCell)))
-  unfolding afterOf actFork machine.act machine.around machine.addObject machine.addThread machine.become playing.noRoomBefore land.go tableOf
+      → MeetsBy sight.Ready p (readyOf redex.Fork u b′ w environment) (machine.attempt (tableOf b) s p)
+      (Acts mover (readyOf redex.Fork u b′ w environment) i (actFork n (headFor m p (readyOf redex.Fork u b′ w environment)) (getD cs i noCell)))
+  unfolding afterOf actFork machine.act machine.around machine.addObject machine.addThread machine.become playing.noRoomBefore refocus.go tableOf
   fork-meets u b′ w environment i well hu code = by (leb 8 (n .threads)) (leb 32 (n .objects)) refl refl
     where
       count : n .objects ≡ length (s .objects)
@@ -179,7 +179,7 @@ module _ {b : List ℕ} {m : engine.Machine} {s : machine.State} {p : ℕ} (move
 
       by : (x₁ x₂ : Bool) → leb 8 (n .threads) ≡ x₁ → leb 32 (n .objects) ≡ x₂
           → (v : machine.Move) × (machine.attempt (tableOf b) s p ≡ machine.moves v)
-          × Acts mover (readyOf part.Fork u b′ w environment) i (cond x₁
+          × Acts mover (readyOf redex.Fork u b′ w environment) i (cond x₁
           (act.NoRoom room.Thread)
           (cond x₂
           (act.NoRoom room.Object)
@@ -187,7 +187,7 @@ module _ {b : List ℕ} {m : engine.Machine} {s : machine.State} {p : ℕ} (move
             go = goValue (n .objects);
             keys = ks;
             cell = getD cs i noCell;
-            thing = x;
+            object = x;
             counts = n′;
             entry = entryOf (records.kindNumber records.Kind.fork) (n .objects) (n .threads) 0;
             new = 0;
@@ -220,8 +220,8 @@ module _ {b : List ℕ} {m : engine.Machine} {s : machine.State} {p : ℕ} (move
               };
               expression = F;
               goes = (well, h, ap (up (nodeAt b) (terms b) S) (sym count));
-              young = some y;
-              born = (refl, g, count, known, refl, refl, (tt, hu, refl));
+              forked = some y;
+              forkedBy = (refl, g, count, known, refl, refl, (tt, hu, refl));
               placed = s .threads;
               relocated = relocated-same (s .threads);
               places = mover .related .places;
@@ -233,33 +233,33 @@ module _ {b : List ℕ} {m : engine.Machine} {s : machine.State} {p : ℕ} (move
 
   -- E-JOIN
   pub join-meets : (o b′ w environment i j : ℕ) → j ≡ o → Well S → o < 32 → t .expression ≡ frames.Found.here S (frames.Ready.join o)
-      → MeetsBy (lookJoin (getD ts j noThing) (getD l (getD ts j noThing .thread % 16) noHead .ready .part)) p (readyOf part.Join o b′ w environment)
+      → MeetsBy (lookJoin (getD ts j noObject) (getD l (getD ts j noObject .thread % 16) noHead .ready .redex)) p (readyOf redex.Join o b′ w environment)
       (machine.attempt (tableOf b) s p)
-      (Acts mover (readyOf part.Join o b′ w environment) i
-      (actJoin n (headFor m p (readyOf part.Join o b′ w environment)) (getD cs i noCell) (getD ts j noThing)
-      (getD l (getD ts j noThing .thread % 16) noHead) o))
-  unfolding objectBy fieldBy lookJoin machine.act machine.joinAct machine.joinValue machine.around machine.gain playing.noRoomBefore land.go tableOf
+      (Acts mover (readyOf redex.Join o b′ w environment) i
+      (actJoin n (headFor m p (readyOf redex.Join o b′ w environment)) (getD cs i noCell) (getD ts j noObject)
+      (getD l (getD ts j noObject .thread % 16) noHead) o))
+  unfolding objectBy fieldBy lookJoin machine.act machine.joinAct machine.joinValue machine.around machine.gain playing.noRoomBefore refocus.go tableOf
   join-meets o b′ w environment i j ej well ho code =
       by (machine.threadOf 0 (s .threads) o) refl
-      (ap (λ (j : ℕ). getD ts j noThing .thread) ej ∙ k .numbers o (object-there mover o (ready-there b s p t reach there S (frames.Ready.join o) code)))
+      (ap (λ (j : ℕ). getD ts j noObject .thread) ej ∙ k .numbers o (object-there mover o (ready-there b s p t reach there S (frames.Ready.join o) code)))
     where
       -- thread a, whose head is q, is joined: the look says w₁
       Sees : Sight → ℕ → Head → Type 0
       Sees w₁ a q =
-          MeetsBy w₁ p (readyOf part.Join o b′ w environment) (machine.attempt (tableOf b) s p)
-          (Acts mover (readyOf part.Join o b′ w environment) i
+          MeetsBy w₁ p (readyOf redex.Join o b′ w environment) (machine.attempt (tableOf b) s p)
+          (Acts mover (readyOf redex.Join o b′ w environment) i
           (heardOf (goValue (q .ready .first)) n (joinedOf ks (q .keys)) (getD cs i noCell)
           (entryOf (records.kindNumber records.Kind.join) o a (q .ready .first))))
 
       Goal : ℕ → Head → Type 0
-      Goal a q = Sees (cond (leb 8 a) (sight.Blocked block.Thread) (joinBy (q .ready .part))) a q
+      Goal a q = Sees (cond (leb 8 a) (sight.Blocked block.Thread) (joinBy (q .ready .redex))) a q
 
       acted : (x : Option machine.Numbered) → machine.threadOf 0 (s .threads) o ≡ x
           → machine.attempt (tableOf b) s p ≡ machine.around (tableOf b) p S (machine.joinAct s p o x)
       acted x e = attempts mover (frames.Ready.join o) code (ap (machine.joinAct s p o) e)
 
       finish : (q : machine.Numbered) (h : Head) (w₁ : Sight) → machine.threadOf 0 (s .threads) o ≡ some q → q .number < 8
-          → keysOf (h .keys) ≡ q .thread .keys → Fits (h .keys) → Ends (h .ready .part) (h .ready .first) (q .thread .expression) → joinBy (h .ready .part) ≡ w₁
+          → keysOf (h .keys) ≡ q .thread .keys → Fits (h .keys) → Ends (h .ready .redex) (h .ready .first) (q .thread .expression) → joinBy (h .ready .redex) ≡ w₁
           → Sees w₁ (q .number) h
       finish q h w₁ e lt eq fit (inl (j, f, v)) e₁ =
           along (λ (w₁ : Sight). Sees w₁ (q .number) h) (sym j ∙ e₁) (
@@ -282,8 +282,8 @@ module _ {b : List ℕ} {m : engine.Machine} {s : machine.State} {p : ℕ} (move
           ∙ ap (λ (v : Option ℕ). machine.around (tableOf b) p S (machine.joinValue s p o q v)) f
           ∙ ap (λ (o : ℕ). machine.waiting (forJoin o)) (sym (mod-eq-of-lt ho)))
 
-      by : (x : Option machine.Numbered) → machine.threadOf 0 (s .threads) o ≡ x → getD ts j noThing .thread ≡ numberOf x
-          → Goal (getD ts j noThing .thread) (getD l (getD ts j noThing .thread % 16) noHead)
+      by : (x : Option machine.Numbered) → machine.threadOf 0 (s .threads) o ≡ x → getD ts j noObject .thread ≡ numberOf x
+          → Goal (getD ts j noObject .thread) (getD l (getD ts j noObject .thread % 16) noHead)
       by none e num =
           along (λ (a : ℕ). Goal a (getD l (a % 16) noHead)) (sym num)
           (acted none e ∙ ap (λ (o : ℕ). machine.stuck (notThread o)) (sym (mod-eq-of-lt ho)))
@@ -296,7 +296,7 @@ module _ {b : List ℕ} {m : engine.Machine} {s : machine.State} {p : ℕ} (move
           let H = each (q .number) (q .thread) at in
           along (λ (a : ℕ). Goal a (getD l (a % 16) noHead)) (sym num)
           (along (λ (z : ℕ). Goal (q .number) (getD l z noHead)) (sym (mod-eq-of-lt {m = 16} (omega arith)))
-          (along (λ (x : Bool). Sees (cond x (sight.Blocked block.Thread) (joinBy (headAt l (q .number) .ready .part))) (q .number) (headAt l (q .number)))
+          (along (λ (x : Bool). Sees (cond x (sight.Blocked block.Thread) (joinBy (headAt l (q .number) .ready .redex))) (q .number) (headAt l (q .number)))
           (sym (lt-leb 8 (q .number) lt))
           (finish q (headAt l (q .number)) _ e lt (H .keys) (H .keys-fit) (ends b (headAt l (q .number) .ready) (H .stack) (q .thread .expression) (H .stands))
           refl)))

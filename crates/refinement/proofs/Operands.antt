@@ -12,18 +12,18 @@ use Rattle.plan_packed.specs.Format.{terms, expression, condition, Operand}
 use Rattle.plan_packed.specs.Trees.{nodeAt}
 use Rattle.plan_packed.proofs.Accepted.{Child, Accepted}
 use Rattle.machine.specs.Frames as frames
-use Rattle.machine.specs.Landing.{enter, enterᶜ}
+use Rattle.machine.specs.Refocusing.{enter, enterᶜ}
 use Rattle.machine.proofs.PlanTable.{ordered}
 use Rattle.machine.proofs.Sorted.{Well, Wellᶜ}
 use Rattle.run_frames.specs.declared.frame.Kind.{Kind}
 use Rattle.run_frames.specs.declared.frame.Frame.{Frame}
-use Rattle.run_frames.specs.declared.go.Go.{Go}
+use Rattle.run_frames.specs.declared.refocusing.Refocusing.{Refocusing}
 use Rattle.run_refocusing_step.specs.declared.Turn.{Turn}
 use Rattle.run_term_words.specs.Words.{valueOf, truthOf}
 use Rattle.run_frames.specs.Frames.{framed}
 use Rattle.run_frames.specs.Going.{goRun, goRunCondition, goFull, feedOf, feedConditionOf}
 use Rattle.run_refocusing_step.specs.Down.{stayOf, pushOf, wantBy, wantOf, wantConditionBy, wantConditionOf}
-use Rattle.run_refocusing.specs.Landing.{Stack, stored}
+use Rattle.run_refocusing.specs.Refocusing.{Stack, stored}
 use Rattle.refinement.proofs.Meant.{Loaded, closed, frameOf, IsExpression, IsCondition, SortedBy, Fine, Holds, Goes, Sized}
 use Rattle.refinement.proofs.FrameLaws.{holds-more, stored-stay, stored-push}
 use Rattle.refinement.proofs.Values.{Valued, Tested, valued, tested}
@@ -40,7 +40,7 @@ pub record Placed (b ws rs : List ℕ) (k : Stack) (base : ℕ) (S : List frames
   pub held : Holds b k base S
   pub few : length S ≤ 32
 
--- after a step T, with n steps more: in frames that the stack then holds, landing stands at what comes to X
+-- after a step T, with n steps more: in frames that the stack then holds, refocusing stands at what comes to X
 pub record Next (b ws : List ℕ) (k : Stack) (base n : ℕ) (X : frames.Found) (T : Turn) : Type 0 where
   pub around : List frames.Frame
   pub holds : Holds b (stored k base T) base around
@@ -67,14 +67,14 @@ want-otherᶜ : (ws : List ℕ) (f : Frame) (i d : ℕ) → truthOf ws i ≡ 2 �
 unfolding wantConditionOf wantConditionBy
 want-otherᶜ ws f i d e = rw e
 
-abbrev pushed : Go → ℕ → Frame → Turn
+abbrev pushed : Refocusing → ℕ → Frame → Turn
 pushed g d f = record { go = g; depth = d + 1; at = d; frame = f }
 
-push-more : (g : Go) (d : ℕ) (f : Frame) → d < 32 → pushed g d f ≡ pushOf g d f
+push-more : (g : Refocusing) (d : ℕ) (f : Frame) → d < 32 → pushed g d f ≡ pushOf g d f
 unfolding pushOf
 push-more g d f l = rw (lt-ltb d 32 l)
 
-push-full : (g : Go) (d : ℕ) (f : Frame) → 32 ≤ d → stayOf goFull d ≡ pushOf g d f
+push-full : (g : Refocusing) (d : ℕ) (f : Frame) → 32 ≤ d → stayOf goFull d ≡ pushOf g d f
 unfolding pushOf
 push-full g d f l = rw (le-ltb d 32 l)
 
@@ -82,7 +82,7 @@ push-full g d f l = rw (le-ltb d 32 l)
 
 module _ {b ws rs : List ℕ} {k : Stack} {base : ℕ} {S : List frames.Frame} (c : Placed b ws rs k base S) {n : ℕ} {X : frames.Found} where
   -- the frames stay as they are
-  pub stays : (g : Go) → Goes b g S X → Enough ws n g → Next b ws k base n X (stayOf g (length S))
+  pub stays : (g : Refocusing) → Goes b g S X → Enough ws n g → Next b ws k base n X (stayOf g (length S))
   stays g p q = record {
     around = S;
     holds = subst (λ (k : Stack). Holds b k base S) (sym (stored-stay k base g (length S))) (c .held);
@@ -92,7 +92,7 @@ module _ {b ws rs : List ℕ} {k : Stack} {base : ℕ} {S : List frames.Frame} (
     enough = q;
   }
 
-  pushes : (g : Go) (f : Frame) → length S < 32 → Fine b f → Goes b g (frameOf f ∷ S) X → Enough ws n g → Next b ws k base n X (pushed g (length S) f)
+  pushes : (g : Refocusing) (f : Frame) → length S < 32 → Fine b f → Goes b g (frameOf f ∷ S) X → Enough ws n g → Next b ws k base n X (pushed g (length S) f)
   pushes g f l fine p q = record {
     around = frameOf f ∷ S;
     holds = subst (λ (k : Stack). Holds b k base (frameOf f ∷ S)) (sym (stored-push k base g (length S) f))
@@ -104,7 +104,7 @@ module _ {b ws rs : List ℕ} {k : Stack} {base : ℕ} {S : List frames.Frame} (
   }
 
   -- one frame more, or no room for it
-  push : (g : Go) (f : Frame) → Fine b f → Goes b g (frameOf f ∷ S) X → Enough ws n g → length (frameOf f ∷ S) ≤ frames.height X → 1 ≤ n
+  push : (g : Refocusing) (f : Frame) → Fine b f → Goes b g (frameOf f ∷ S) X → Enough ws n g → length (frameOf f ∷ S) ≤ frames.height X → 1 ≤ n
       → Next b ws k base n X (pushOf g (length S) f)
   push g f fine p q deep l = at (decLt (length S) 32)
     where

@@ -16,8 +16,8 @@ use Rattle.machine.specs.Machine as machine
 use Rattle.machine.specs.Playing.{tableOf}
 use Rattle.machine.specs.Playing as playing
 use Rattle.machine.proofs.Runs.{Reached}
-use Rattle.run_frames.specs.declared.go.Ready.{Ready}
-use Rattle.run_refocusing.specs.Landing.{Stack, Ended}
+use Rattle.run_frames.specs.declared.refocusing.Ready.{Ready}
+use Rattle.run_refocusing.specs.Refocusing.{Stack, Ended}
 use Rattle.run_outcome.specs.declared.NoRoom.the-variants as room
 use Rattle.run_outcome.specs.declared.Stop.{Stop}
 use Rattle.run_outcome.specs.declared.Stop.the-variants as stop
@@ -31,7 +31,7 @@ use Rattle.run_look.specs.declared.Sight.{Sight}
 use Rattle.run_look.specs.declared.Sight.the-variants as sight
 use Rattle.run_pick.specs.declared.Met.{Met}
 use Rattle.run_pick.specs.Answer.{Answer, Answer as answer}
-use Rattle.run_pick.specs.Pick.{Picked, picked, noRoom, noHead, forksOf, fullOf, moveOf, landMover, startBy, landBy, makeBy, actMet, pickBy, lookMet, pickOf}
+use Rattle.run_pick.specs.Pick.{Picked, picked, noRoom, noHead, forksOf, fullOf, moveOf, refocusMover, startBy, refocusBy, makeBy, actMet, pickBy, lookMet, pickOf}
 use Rattle.run_engine.specs.Machine as engine
 use Rattle.run_engine.specs.Machine.{headAt, cellNumber, metBy, after, turnBy}
 use Rattle.refinement.proofs.Meant.{Loaded}
@@ -40,7 +40,7 @@ use Rattle.refinement.proofs.Looks.{Written, Entered, BlockedBy, MeetsB
 use Rattle.refinement.proofs.Moves.{roomMeant, Mover, Does, Acts, met, Ahead}
 use Rattle.refinement.proofs.Acts.{looks}
 use Rattle.refinement.proofs.RoomAfter.{step-moves}
-use Rattle.refinement.proofs.Moved.{landed-young, left, deep-after, related-after}
+use Rattle.refinement.proofs.Moved.{refocused-forked, left, deep-after, related-after}
 
 -- ---- the answer
 
@@ -84,41 +84,41 @@ module _ {b ws rs : List ℕ} (loaded : Loaded b ws rs) {m : engine.Machine} {s 
   -- there is room before the move
   module _ (a : Acted) (D : Does mover r (cellNumber r) a v) where
     abbrev L : Ended
-    L = landMover ws rs x a (m .stack)
+    L = refocusMover ws rs x a (m .stack)
 
     abbrev Y : Bool → Ended
-    Y forks = landed-young ws rs x L forks
+    Y forks = refocused-forked ws rs x L forks
 
-    abbrev youngFull : Bool
-    youngFull = forksOf (x .head) && fullOf (Y (forksOf (x .head)) .landed)
+    abbrev forkedFull : Bool
+    forkedFull = forksOf (x .head) && fullOf (Y (forksOf (x .head)) .refocused)
 
-    answered : (d : Bool) → (fullOf (L .landed) || youngFull) ≡ d → playing.step (tableOf b) s p ≡ playing.withinRoom v (cond d (some rooms.Room.depth) none)
+    answered : (d : Bool) → (fullOf (L .refocused) || forkedFull) ≡ d → playing.step (tableOf b) s p ≡ playing.withinRoom v (cond d (some rooms.Room.depth) none)
     unfolding orElse
     answered d e = step-moves b s p v none _ attempts (D .lacks) (deep-after loaded mover a D ∙ ap (λ (d : Bool). cond d (some rooms.Room.depth) none) e)
 
-    -- a move that has landed
-    moved : (f : Bool) → forksOf (x .head) ≡ f → fullOf (L .landed) ≡ false → (f && fullOf (Y f .landed)) ≡ false
+    -- a move that has refocused
+    moved : (f : Bool) → forksOf (x .head) ≡ f → fullOf (L .refocused) ≡ false → (f && fullOf (Y f .refocused)) ≡ false
         → AnsweredBy b m s p (answer.Moved (left ws rs x a (m .stack) f)) (Y f .stack)
     unfolding playing.withinRoom
-    moved f e full young =
-        let none-full : youngFull ≡ false = ap (λ (f : Bool). f && fullOf (Y f .landed)) e ∙ young in (
+    moved f e full forked =
+        let none-full : forkedFull ≡ false = ap (λ (f : Bool). f && fullOf (Y f .refocused)) e ∙ forked in (
           v,
-          answered false (ap (λ (d : Bool). d || youngFull) full ∙ none-full),
+          answered false (ap (λ (d : Bool). d || forkedFull) full ∙ none-full),
           D .entered,
           along (λ (f : Bool). Related b (after m p (left ws rs x a (m .stack) f) (Y f .stack)) (v .state)) e (related-after loaded mover a D full none-full),
         )
 
-    done : By b m s p (landBy ws rs x a L)
-    unfolding landBy startBy playing.withinRoom
-    done = by (fullOf (L .landed)) (forksOf (x .head)) (fullOf (Y true .landed)) refl refl refl
+    done : By b m s p (refocusBy ws rs x a L)
+    unfolding refocusBy startBy playing.withinRoom
+    done = by (fullOf (L .refocused)) (forksOf (x .head)) (fullOf (Y true .refocused)) refl refl refl
       where
-        by : (d f y : Bool) → fullOf (L .landed) ≡ d → forksOf (x .head) ≡ f → fullOf (Y true .landed) ≡ y
+        by : (d f y : Bool) → fullOf (L .refocused) ≡ d → forksOf (x .head) ≡ f → fullOf (Y true .refocused) ≡ y
             → By b m s p (cond d (picked (L .stack) (noRoom room.Depth))
             (cond f
             (cond y (picked (Y true .stack) (noRoom room.Depth)) (picked (Y true .stack) (answer.Moved (left ws rs x a (m .stack) true))))
-            (picked (L .stack) (answer.Moved (moveOf x a (L .landed) noHead false)))))
-        by true f y ed ef ey = (answered true (ap (λ (d : Bool). d || youngFull) ed), refl)
-        by false true true ed ef ey = (answered true (ap₂ (λ (d f : Bool). d || (f && fullOf (Y f .landed))) ed ef ∙ ey), refl)
+            (picked (L .stack) (answer.Moved (moveOf x a (L .refocused) noHead false)))))
+        by true f y ed ef ey = (answered true (ap (λ (d : Bool). d || forkedFull) ed), refl)
+        by false true true ed ef ey = (answered true (ap₂ (λ (d f : Bool). d || (f && fullOf (Y f .refocused))) ed ef ∙ ey), refl)
         by false true false ed ef ey = moved true ef ed ey
         by false false y ed ef ey = moved false ef ed refl
 

@@ -1,4 +1,4 @@
--- What the code does for a part that leaves no record is what the abstract machine's move does. Assumes nothing.
+-- What the code does for a redex that leaves no record is what the abstract machine's move does. Assumes nothing.
 use Prim.Native.Nat.{ℕ, _<_}
 use native.Mathlib.Omega.{arith}
 use mathlib.Core.Path.{_≡_, refl}
@@ -13,16 +13,16 @@ use Rattle.plan_packed.proofs.Accepted.{accepted}
 use Rattle.rules.specs.Rules.{e-while, e-if}
 use Rattle.machine.specs.Frames.{branches}
 use Rattle.machine.specs.Frames as frames
-use Rattle.machine.specs.Landing.{enter, enterᶜ}
-use Rattle.machine.specs.Landing as land
+use Rattle.machine.specs.Refocusing.{enter, enterᶜ}
+use Rattle.machine.specs.Refocusing as refocus
 use Rattle.machine.specs.Machine as machine
 use Rattle.machine.specs.Playing.{tableOf}
 use Rattle.machine.specs.Playing as playing
 use Rattle.machine.proofs.Sorted.{Well}
 use Rattle.run_frames.specs.declared.frame.Kind.the-variants as kind
-use Rattle.run_frames.specs.Parts.{Part as part, isPart}
-use Rattle.run_frames.specs.declared.go.Ready.{Ready}
-use Rattle.run_frames.specs.declared.go.Go.{Go}
+use Rattle.run_frames.specs.RedexKinds.{RedexKind as redex, isRedex}
+use Rattle.run_frames.specs.declared.refocusing.Ready.{Ready}
+use Rattle.run_frames.specs.declared.refocusing.Refocusing.{Refocusing}
 use Rattle.run_frames.specs.Frames.{framed}
 use Rattle.run_frames.specs.Going.{readyOf, goWant, goWantCondition}
 use Rattle.run_state.specs.declared.Counts.{Counts}
@@ -47,16 +47,16 @@ module _ {b : List ℕ} {m : engine.Machine} {s : machine.State} {p : ℕ} (move
   abbrev ks : KeySet
   ks = headAt (m .heads) p .keys
 
-  -- a part that leaves no record and changes nothing but where its thread stands
-  pub pure-meets : (i : ℕ) (r : Ready) → isPart part.Fork (r .part) ≡ false → isPart part.Signal (r .part) ≡ false
-      → (x : frames.Result) (R : frames.Ready) (g : Go) → t .expression ≡ frames.Found.here S R → Unlogged b R x
-      → Goes b g S (land.go (nodeAt b) (terms b) S x)
+  -- a redex that leaves no record and changes nothing but where its thread stands
+  pub pure-meets : (i : ℕ) (r : Ready) → isRedex redex.Fork (r .redex) ≡ false → isRedex redex.Signal (r .redex) ≡ false
+      → (x : frames.Result) (R : frames.Ready) (g : Refocusing) → t .expression ≡ frames.Found.here S R → Unlogged b R x
+      → Goes b g S (refocus.go (nodeAt b) (terms b) S x)
       → MeetsBy sight.Ready p r (machine.attempt (tableOf b) s p) (Acts mover r i (actedOf g n ks (getD cs i noCell) noEntry))
   unfolding machine.around tableOf
   pure-meets i r forks signals x R g code u goes =
-      (_, attempts mover R code (u .acts s p t), plain mover r i (u .rule) (land.go (nodeAt b) (terms b) S x) g forks signals (u .needs-no-room s) goes)
+      (_, attempts mover R code (u .acts s p t), plain mover r i (u .rule) (refocus.go (nodeAt b) (terms b) S x) g forks signals (u .needs-no-room s) goes)
 
-  pub condition-meets : (i : ℕ) (r : Ready) → isPart part.Fork (r .part) ≡ false → isPart part.Signal (r .part) ≡ false → (Q : frames.Readyᶜ) (g : Go)
+  pub condition-meets : (i : ℕ) (r : Ready) → isRedex redex.Fork (r .redex) ≡ false → isRedex redex.Signal (r .redex) ≡ false → (Q : frames.Readyᶜ) (g : Refocusing)
       → t .expression ≡ frames.Found.hereᶜ S Q → playing.noRoomBefore s (machine.actᶜ (tableOf b) S Q .rule) ≡ none
       → Goes b g S (machine.actᶜ (tableOf b) S Q .expression)
       → MeetsBy sight.Ready p r (machine.attempt (tableOf b) s p) (Acts mover r i (actedOf g n ks (getD cs i noCell) noEntry))
@@ -72,9 +72,9 @@ module _ {b : List ℕ} {m : engine.Machine} {s : machine.State} {p : ℕ} (move
 
   pub while-meets : (a b′ w environment i : ℕ) → Well S → IsCondition b a → IsExpression b b′
       → t .expression ≡ frames.Found.here S (frames.Ready.while (branches a b′ (slots environment)))
-      → MeetsBy sight.Ready p (readyOf part.While a b′ w environment) (machine.attempt (tableOf b) s p)
-      (Acts mover (readyOf part.While a b′ w environment) i (actedOf (goWantCondition (framed kind.Test a b′ 0 environment) a) n ks (getD cs i noCell) noEntry))
-  unfolding machine.act machine.around playing.noRoomBefore land.go tableOf
+      → MeetsBy sight.Ready p (readyOf redex.While a b′ w environment) (machine.attempt (tableOf b) s p)
+      (Acts mover (readyOf redex.While a b′ w environment) i (actedOf (goWantCondition (framed kind.Test a b′ 0 environment) a) n ks (getD cs i noCell) noEntry))
+  unfolding machine.act machine.around playing.noRoomBefore refocus.go tableOf
   while-meets a b′ w environment i well hc he code =
       let z = loops hc he in (
         _,
@@ -86,9 +86,9 @@ module _ {b : List ℕ} {m : engine.Machine} {s : machine.State} {p : ℕ} (move
 
   pub body-meets : (a b′ w environment i : ℕ) → Well S → IsCondition b a → IsExpression b b′
       → t .expression ≡ frames.Found.here S (frames.Ready.whileTest true (branches a b′ (slots environment)))
-      → MeetsBy sight.Ready p (readyOf part.Body a b′ w environment) (machine.attempt (tableOf b) s p)
-      (Acts mover (readyOf part.Body a b′ w environment) i (actedOf (goWant (framed kind.Body a b′ 0 environment) b′) n ks (getD cs i noCell) noEntry))
-  unfolding machine.act machine.around playing.noRoomBefore land.go tableOf
+      → MeetsBy sight.Ready p (readyOf redex.Body a b′ w environment) (machine.attempt (tableOf b) s p)
+      (Acts mover (readyOf redex.Body a b′ w environment) i (actedOf (goWant (framed kind.Body a b′ 0 environment) b′) n ks (getD cs i noCell) noEntry))
+  unfolding machine.act machine.around playing.noRoomBefore refocus.go tableOf
   body-meets a b′ w environment i well hc he code =
       let z = loops hc he in (
         _,

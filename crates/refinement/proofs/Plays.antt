@@ -24,8 +24,8 @@ use Rattle.machine.specs.Playing.{tableOf}
 use Rattle.machine.specs.Playing as playing
 use Rattle.machine.proofs.Runs.{Reached, reached-total}
 use Rattle.machine.proofs.Plays.{start-reached, move-reached, plays-outcome, plays-log}
-use Rattle.run_frames.specs.declared.go.Ready.{Ready}
-use Rattle.run_refocusing.specs.Landing.{Stack}
+use Rattle.run_frames.specs.declared.refocusing.Ready.{Ready}
+use Rattle.run_refocusing.specs.Refocusing.{Stack}
 use Rattle.run_outcome.specs.declared.NoRoom.{NoRoom}
 use Rattle.run_outcome.specs.declared.Stop as code-stop
 use Rattle.run_outcome.specs.declared.Stop.the-variants as stop

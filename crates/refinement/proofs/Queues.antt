@@ -15,8 +15,8 @@ use borrow.Author.Tests.{eqb-true, ltb-true, ltb-false}
 use Rattle.rules.specs.Queue.{Place, awake, queued, queueLength, lastPlace, movedUp}
 use Rattle.rules.specs.State.{changeAt}
 use Rattle.machine.specs.Machine as machine
-use Rattle.run_frames.specs.Parts.{Part as part, isPart}
-use Rattle.run_frames.specs.declared.go.Ready.{Ready}
+use Rattle.run_frames.specs.RedexKinds.{RedexKind as redex, isRedex}
+use Rattle.run_frames.specs.declared.refocusing.Ready.{Ready}
 use Rattle.run_queue.specs.Queue.{queuedOn, countOf, lastOf, waitedOf, nearer, notifiedOf, freed, allNotifiedOf, signalledOf, afterOf}
 
 -- the place that a number stands for
@@ -200,14 +200,14 @@ all-notified o ws xs k ho e h = mapped (freed o) (movedUp (λ n. 0) o) ws xs k (
 
 -- ---- after a move
 
--- a part that is no signal leaves the places
-pub after-quiet : (ws : List ℕ) (r : Ready) (p : ℕ) → isPart part.Signal (r .part) ≡ false → afterOf ws r p ≡ ws
+-- a redex that is no signal leaves the places
+pub after-quiet : (ws : List ℕ) (r : Ready) (p : ℕ) → isRedex redex.Signal (r .redex) ≡ false → afterOf ws r p ≡ ws
 unfolding afterOf
 after-quiet ws r p e = rw e
 
 pub after-size : (ws : List ℕ) (r : Ready) (p : ℕ) → length (afterOf ws r p) ≡ length ws
 unfolding afterOf signalledOf waitedOf notifiedOf allNotifiedOf
-after-size ws r p = by (isPart part.Signal (r .part)) (eqb (r .second) 0) (eqb (r .second) 1)
+after-size ws r p = by (isRedex redex.Signal (r .redex)) (eqb (r .second) 0) (eqb (r .second) 1)
   where
     o : ℕ
     o = r .first % 32

@@ -15,7 +15,7 @@ use Rattle.machine.specs.Frames.{height}
 use Rattle.machine.specs.Machine as machine
 use Rattle.machine.specs.Playing.{tableOf}
 use Rattle.machine.specs.Playing as playing
-use Rattle.refinement.proofs.Moves.{withYoung}
+use Rattle.refinement.proofs.Moves.{withForked}
 
 -- the step of a move, by what it lacks
 pub step-moves : (b : List ℕ) (s : machine.State) (p : ℕ) (v : machine.Move) (x y : Option rooms.Room)
@@ -25,14 +25,14 @@ unfolding playing.step playing.answer playing.noRoomFor
 step-moves b s p v x y e h k = ap (playing.answer s p) e ∙ ap₂ (λ (x y : Option rooms.Room). playing.withinRoom v (orElse x y)) h k
 
 -- whether a new thread has too many frames
-abbrev pub youngDeep : Option machine.Thread → Bool
-youngDeep none = false
-youngDeep (some y) = ltb 32 (height (y .expression))
+abbrev pub forkedDeep : Option machine.Thread → Bool
+forkedDeep none = false
+forkedDeep (some y) = ltb 32 (height (y .expression))
 
 -- the room after a move, with n threads before it
-pub room-after : (xs : List machine.Thread) (young : Option machine.Thread) (u : machine.Thread) (p n : ℕ) → length xs ≡ n → getElem? xs p ≡ some u
-    → cond (playing.deepAt (getElem? (withYoung xs young) p) || playing.anyDeep (drop n (withYoung xs young))) (some rooms.Room.depth) none
-    ≡ cond (ltb 32 (height (u .expression)) || youngDeep young) (some rooms.Room.depth) none
+pub room-after : (xs : List machine.Thread) (forked : Option machine.Thread) (u : machine.Thread) (p n : ℕ) → length xs ≡ n → getElem? xs p ≡ some u
+    → cond (playing.deepAt (getElem? (withForked xs forked) p) || playing.anyDeep (drop n (withForked xs forked))) (some rooms.Room.depth) none
+    ≡ cond (ltb 32 (height (u .expression)) || forkedDeep forked) (some rooms.Room.depth) none
 unfolding playing.deepAt playing.deep playing.anyDeep
 room-after xs none u p n l e =
     ap₂ (λ (x : Option machine.Thread) (ys : List machine.Thread). cond (playing.deepAt x || playing.anyDeep ys) (some rooms.Room.depth) none) e

@@ -25,15 +25,15 @@ use Rattle.rules.specs.Step.{forMonitor, forNotify, notHeld}
 use Rattle.rules.proofs.StateLaws.{inside}
 use Rattle.rules.proofs.Relocated.{Relocated, changed-place, mapped-places}
 use Rattle.machine.specs.Frames as frames
-use Rattle.machine.specs.Landing.{up}
-use Rattle.machine.specs.Landing as land
+use Rattle.machine.specs.Refocusing.{up}
+use Rattle.machine.specs.Refocusing as refocus
 use Rattle.machine.specs.Machine as machine
 use Rattle.machine.specs.Playing.{tableOf}
 use Rattle.machine.specs.Playing as playing
 use Rattle.machine.proofs.Standing.{standing}
 use Rattle.machine.proofs.Sorted.{Well}
-use Rattle.run_frames.specs.Parts.{Part as part}
-use Rattle.run_frames.specs.declared.go.Ready.{Ready}
+use Rattle.run_frames.specs.RedexKinds.{RedexKind as redex}
+use Rattle.run_frames.specs.declared.refocusing.Ready.{Ready}
 use Rattle.run_frames.specs.Going.{readyOf, goAt, goValue}
 use Rattle.run_state.specs.declared.Cell.{Cell}
 use Rattle.run_state.specs.declared.Counts.{Counts}
@@ -59,7 +59,7 @@ use Rattle.refinement.proofs.MonitorActs.{monitor-stored}
 
 module _ (ws : List ℕ) (o j w environment p : ℕ) (ho : o < 32) where
   abbrev r : Ready
-  r = readyOf part.Signal o j w environment
+  r = readyOf redex.Signal o j w environment
 
   after-signal : afterOf ws r p ≡ signalledOf j o p ws
   unfolding afterOf
@@ -97,7 +97,7 @@ module _ {b : List ℕ} {m : engine.Machine} {s : machine.State} {p : ℕ} (move
   module _ (o j w environment i : ℕ) (ei : i ≡ o * 32 + 0) (well : Well S) (ho : o < 32)
       (code : t .expression ≡ frames.Found.here S (frames.Ready.signal (signalMeant j) o)) where
     abbrev ready : Ready
-    ready = readyOf part.Signal o j w environment
+    ready = readyOf redex.Signal o j w environment
 
     abbrev c : Cell
     c = getD cs i noCell
@@ -123,17 +123,17 @@ module _ {b : List ℕ} {m : engine.Machine} {s : machine.State} {p : ℕ} (move
     waiters = changeAt (s .threads) p (machine.inPlace (lastPlace o (placesOf (s .threads))))
 
     wait-acts : Held → eqb j 0 ≡ true → MeetsBy sight.Ready p ready (machine.attempt (tableOf b) s p) (Acts mover ready i (actWait n (headFor m p ready) o))
-    unfolding waiters machine.signalMove machine.around machine.enqueue machine.storeMonitor playing.noRoomBefore land.go tableOf
+    unfolding waiters machine.signalMove machine.around machine.enqueue machine.storeMonitor playing.noRoomBefore refocus.go tableOf
     wait-acts h e =
         let relocated : Relocated (s .threads) waiters = changed-place (s .threads) p _ in (
           _,
           attempts mover (frames.Ready.signal (signalMeant j) o) code (held Signal.wait (test-true (eqb j 0) _ _ e) h),
           moved-among mover waiters _ i e-wait (some (entry records.Kind.release p o 0 0))
               (machine.enqueue (machine.storeMonitor s o (rules.cell (t .keys) 0)) p o) (frames.Found.here S (frames.Ready.waiting o))
-              (goAt (readyOf part.Waiting o 0 0 0)) n ks 0 (cellOf 0 0 ks) nothing (entryOf (records.kindNumber records.Kind.release) o 0 0) relocated
+              (goAt (readyOf redex.Waiting o 0 0 0)) n ks 0 (cellOf 0 0 ks) nothing (entryOf (records.kindNumber records.Kind.release) o 0 0) relocated
               (along (λ (ws : List ℕ). Places ws (placesOf waiters)) (after-wait (m .places) o j w environment p ho e)
               (waited o p (m .places) (s .threads) _ ho (let l = places-size in omega (arith, small)) (inside (s .threads) p t there) (λ x. refl) places))
-              refl (written mover records.Kind.release o 0 0 ho (omega arith) (omega arith)) refl (part.Waiting, refl, (well, ho, refl)) fits
+              refl (written mover records.Kind.release o 0 0 ho (omega arith) (omega arith)) refl (redex.Waiting, refl, (well, ho, refl)) fits
               (unlearnt-among mover waiters relocated)
               (kept-changed (monitor-stored mover o i (cellOf 0 0 ks) _ ei (ap (λ (K : Keys). rules.cell K 0) known)
               (record { key = omega arith; keys = fits }) o-there ho) p _ (λ x. refl)),
@@ -155,7 +155,7 @@ module _ {b : List ℕ} {m : engine.Machine} {s : machine.State} {p : ℕ} (move
 
     notify-acts : Held → eqb j 0 ≡ false → (y : Bool) → eqb j 1 ≡ y
         → MeetsBy sight.Ready p ready (machine.attempt (tableOf b) s p) (Acts mover ready i (actedOf (goValue 0) n ks c noEntry))
-    unfolding woken machine.signalMove machine.around playing.noRoomBefore land.go tableOf
+    unfolding woken machine.signalMove machine.around playing.noRoomBefore refocus.go tableOf
     notify-acts h e true q = (
       _,
       attempts mover (frames.Ready.signal (signalMeant j) o) code (held Signal.notify (test-false (eqb j 0) _ _ e ∙ test-true (eqb j 1) _ _ q) h),
@@ -193,15 +193,15 @@ module _ {b : List ℕ} {m : engine.Machine} {s : machine.State} {p : ℕ} (move
   -- ---- E-WAKE
 
   pub wake-meets : (o u w environment i : ℕ) → i ≡ o * 32 + 0 → Well S → o < 32 → t .expression ≡ frames.Found.here S (frames.Ready.waiting o)
-      → MeetsBy (lookWaiting (getD cs i noCell) (getD (m .places) p 0)) p (readyOf part.Waiting o u w environment) (machine.attempt (tableOf b) s p)
-      (Acts mover (readyOf part.Waiting o u w environment) i (actWake n (headFor m p (readyOf part.Waiting o u w environment)) (getD cs i noCell) o))
-  unfolding objectBy fieldBy lookWaiting machine.act machine.wakeAct machine.around machine.gain machine.storeMonitor playing.noRoomBefore land.go tableOf
+      → MeetsBy (lookWaiting (getD cs i noCell) (getD (m .places) p 0)) p (readyOf redex.Waiting o u w environment) (machine.attempt (tableOf b) s p)
+      (Acts mover (readyOf redex.Waiting o u w environment) i (actWake n (headFor m p (readyOf redex.Waiting o u w environment)) (getD cs i noCell) o))
+  unfolding objectBy fieldBy lookWaiting machine.act machine.wakeAct machine.around machine.gain machine.storeMonitor playing.noRoomBefore refocus.go tableOf
   wake-meets o u w environment i ei well ho code =
       by (getD (m .places) p 0 / 32) (isEmptyOf (c .keys)) (ap (λ (w : Place). w .number) (sym (places p ∙ place-there (s .threads) p t there)))
       (sym (keys-is-empty (c .keys)))
     where
       r : Ready
-      r = readyOf part.Waiting o u w environment
+      r = readyOf redex.Waiting o u w environment
 
       c : Cell
       c = getD cs i noCell

@@ -21,14 +21,14 @@ use Rattle.machine.specs.Frames as frames
 use Rattle.machine.specs.Memory.{objectsOf}
 use Rattle.machine.specs.Machine as machine
 use Rattle.machine.specs.Playing as playing
-use Rattle.run_frames.specs.Parts.{Part as part}
+use Rattle.run_frames.specs.RedexKinds.{RedexKind as redex}
 use Rattle.run_frames.specs.Going.{readyOf}
-use Rattle.run_refocusing.specs.Landing.{Stack}
+use Rattle.run_refocusing.specs.Refocusing.{Stack}
 use Rattle.run_state.specs.declared.Setting.{Setting}
 use Rattle.run_state.specs.declared.Cell.{Cell}
 use Rattle.run_state.specs.declared.Object.{Object}
 use Rattle.run_state.specs.Acted.{countsOf}
-use Rattle.run_engine.specs.Machine.{noCell, noThing, headAt, headOf, cellFirst, startOf}
+use Rattle.run_engine.specs.Machine.{noCell, noObject, headAt, headOf, cellFirst, startOf}
 use Rattle.refinement.proofs.Meant.{Loaded, IsExpression, Stands}
 use Rattle.refinement.proofs.SlotLaws.{none-bound}
 use Rattle.refinement.proofs.Queues.{placeMeant, placesOf, Places}
@@ -37,7 +37,7 @@ use Rattle.refinement.proofs.KeptLaws.{kept-object, no-fields, no-bit}
 
 -- fresh cells, and objects of which the first is null, stand for the start's memory
 module _ (setting : Setting) (cs : List Cell) (ts : List Object) (cells-size : length cs ≡ 1024) (new : (i : ℕ) → i < 1024 → getD cs i noCell ≡ cellFirst)
-    (things-size : length ts ≡ 33) (null : getD ts 0 noThing ≡ noThing) where
+    (objects-size : length ts ≡ 33) (null : getD ts 0 noObject ≡ noObject) where
   cell-fits : (i : ℕ) → CellFits (getD cs i noCell)
   cell-fits i = at (decLt i 1024)
     where
@@ -50,7 +50,7 @@ module _ (setting : Setting) (cs : List Cell) (ts : List Object) (cells-size : l
   unfolding objectsOf memoryOf
   empty-kept = record {
     cells-size = cells-size;
-    things-size = things-size;
+    objects-size = objects-size;
     threads-count = refl;
     objects-count = refl;
     keys-count = refl;
@@ -63,10 +63,10 @@ module _ (setting : Setting) (cs : List Cell) (ts : List Object) (cells-size : l
   start-kept : Kept setting cs ts (countsOf 1 1 1) playing.start
   unfolding playing.start machine.threadOf
   start-kept =
-      along (λ (l : List Object). Kept setting cs l (countsOf 1 1 1) playing.start) (ap (set ts 0) (sym null) ∙ set-getD ts 0 noThing)
-      (along (λ (fs : List ℕ). Kept setting cs (set ts 0 noThing) (countsOf 1 1 1)
+      along (λ (l : List Object). Kept setting cs l (countsOf 1 1 1) playing.start) (ap (set ts 0) (sym null) ∙ set-getD ts 0 noObject)
+      (along (λ (fs : List ℕ). Kept setting cs (set ts 0 noObject) (countsOf 1 1 1)
       (record { objects = freshObject fs ∷ []; threads = playing.start .threads; nextKey = 1 })) no-fields
-      (kept-object empty-kept noThing (playing.start .threads) 1 (omega arith) no-bit refl (λ o h. absurd (omega arith)) refl))
+      (kept-object empty-kept noObject (playing.start .threads) 1 (omega arith) no-bit refl (λ o h. absurd (omega arith)) refl))
 
 module _ (b ws rs : List ℕ) (ok : refusal b ≡ none) (loaded : Loaded b ws rs) where
   main-there : 0 < procedures b
@@ -76,10 +76,10 @@ module _ (b ws rs : List ℕ) (ok : refusal b ≡ none) (loaded : Loaded b ws rs
   main-root = sym (loaded .roots 0 main-there)
 
   -- thread 0 is about to call main
-  start-stands : Stands b (readyOf part.Run (getD rs 0 0) 0 0 0) [] (frames.Found.here [] (frames.Ready.call 0 0 noSlots))
+  start-stands : Stands b (readyOf redex.Run (getD rs 0 0) 0 0 0) [] (frames.Found.here [] (frames.Ready.call 0 0 noSlots))
   unfolding playing.noRoomBefore machine.act playing.tableOf
   start-stands = (
-    part.Run,
+    redex.Run,
     refl,
     (
       tt,
@@ -146,8 +146,8 @@ module _ (b ws rs : List ℕ) (ok : refusal b ≡ none) (loaded : Loaded b ws rs
     heads-size = refl;
     sized = length-replicate {A = ℕ} 891 0;
     kept =
-        start-kept (settingOf b) (replicate 1024 cellFirst) (replicate 33 noThing) (length-replicate 1024 cellFirst)
-        (λ i h. getD-replicate 1024 i cellFirst noCell h) (length-replicate 33 noThing) refl;
+        start-kept (settingOf b) (replicate 1024 cellFirst) (replicate 33 noObject) (length-replicate 1024 cellFirst)
+        (λ i h. getD-replicate 1024 i cellFirst noCell h) (length-replicate 33 noObject) refl;
     each = start-each every area;
     places-size = length-replicate {A = ℕ} 8 0;
     places = start-places;

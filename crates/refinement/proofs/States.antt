@@ -16,7 +16,7 @@ use Rattle.rules.specs.State as rules
 use Rattle.machine.specs.Frames as frames
 use Rattle.machine.specs.Memory.{Memory, objectsOf}
 use Rattle.machine.specs.Machine as machine
-use Rattle.run_refocusing.specs.Landing.{Stack}
+use Rattle.run_refocusing.specs.Refocusing.{Stack}
 use Rattle.run_state.specs.declared.Setting.{Setting}
 use Rattle.run_state.specs.declared.Head.{Head}
 use Rattle.run_state.specs.declared.Cell.{Cell}
@@ -24,7 +24,7 @@ use Rattle.run_state.specs.declared.Object.{Object}
 use Rattle.run_state.specs.declared.Counts.{Counts}
 use Rattle.run_look.specs.Look.{hasOf}
 use Rattle.run_engine.specs.Machine as engine
-use Rattle.run_engine.specs.Machine.{noCell, noThing, headAt, cellFirst}
+use Rattle.run_engine.specs.Machine.{noCell, noObject, headAt, cellFirst}
 use Rattle.refinement.proofs.Meant.{Holds, Stands, Sized}
 use Rattle.refinement.proofs.Queues.{placesOf, Places}
 
@@ -46,7 +46,7 @@ unfoldable pub memoryOf : Setting → List Cell → List Object → ℕ → Memo
 memoryOf setting cs ts n =
     record {
       count = n;
-      mask = λ o. cond (ltb o n) (getD ts o noThing .mask) 0;
+      mask = λ o. cond (ltb o n) (getD ts o noObject .mask) 0;
       cells = λ o f. cond (ltb o 32 && ltb f 32) (cellMeant (hasOf (setting .mask) f) (getD cs (o * 32 + f) noCell)) fresh;
     }
 
@@ -58,7 +58,7 @@ numberOf (some q) = q .number
 -- what the cells, the objects and the counts say of a state
 pub record Kept (setting : Setting) (cs : List Cell) (ts : List Object) (n : Counts) (s : machine.State) : Type 0 where
   pub cells-size : length cs ≡ 1024
-  pub things-size : length ts ≡ 33
+  pub objects-size : length ts ≡ 33
   pub threads-count : n .threads ≡ length (s .threads)
   pub objects-count : n .objects ≡ length (s .objects)
   pub keys-count : n .keys ≡ s .nextKey
@@ -66,7 +66,7 @@ pub record Kept (setting : Setting) (cs : List Cell) (ts : List Object) (n : Cou
   pub cells-fit : (i : ℕ) → CellFits (getD cs i noCell)
   -- no cell past the last object has been stored to
   pub fresh-past : (i : ℕ) → n .objects * 32 ≤ i → i < 1024 → getD cs i noCell ≡ cellFirst
-  pub numbers : (o : ℕ) → o < n .objects → getD ts o noThing .thread ≡ numberOf (machine.threadOf 0 (s .threads) o)
+  pub numbers : (o : ℕ) → o < n .objects → getD ts o noObject .thread ≡ numberOf (machine.threadOf 0 (s .threads) o)
 
 -- what a head says of a thread whose frames begin at `base`
 pub record Headed (b : List ℕ) (k : Stack) (base : ℕ) (h : Head) (t : machine.Thread) : Type 0 where

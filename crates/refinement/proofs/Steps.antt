@@ -1,4 +1,4 @@
--- One step of landing, from any stage. Assumes nothing.
+-- One step of refocusing, from any stage. Assumes nothing.
 use Prim.Native.Nat.{ℕ, suc, _+_, _-_, _≤_, _<_}
 use native.Mathlib.Omega.{arith}
 use mathlib.Core.Path.{_≡_, refl, sym, ap, _∙_, subst}
@@ -9,16 +9,16 @@ use lib.ListN.{length}
 use Rattle.plan_packed.specs.Format.{terms}
 use Rattle.plan_packed.specs.Trees.{nodeAt}
 use Rattle.machine.specs.Frames as frames
-use Rattle.machine.specs.Landing.{upBy, up, upᶜ}
+use Rattle.machine.specs.Refocusing.{upBy, up, upᶜ}
 use Rattle.machine.proofs.Sorted.{Well, Wellᶜ}
 use Rattle.run_frames.specs.declared.frame.Frame.{Frame}
-use Rattle.run_frames.specs.Parts.{Part as part}
-use Rattle.run_frames.specs.declared.go.Stage.{Stage}
-use Rattle.run_frames.specs.declared.go.Stage.the-variants as stage
-use Rattle.run_frames.specs.declared.go.Go.{Go}
+use Rattle.run_frames.specs.RedexKinds.{RedexKind as redex}
+use Rattle.run_frames.specs.declared.refocusing.Stage.{Stage}
+use Rattle.run_frames.specs.declared.refocusing.Stage.the-variants as stage
+use Rattle.run_frames.specs.declared.refocusing.Refocusing.{Refocusing}
 use Rattle.run_frames.specs.Going.{readyOf, goAt, feedOf, feedConditionOf}
 use Rattle.run_refocusing_step.specs.Down.{stayOf, backOf, backConditionOf, stepBy, stepOf, frameAt}
-use Rattle.run_refocusing.specs.Landing.{Stack, liveBy, topOf}
+use Rattle.run_refocusing.specs.Refocusing.{Stack, liveBy, topOf}
 use Rattle.refinement.proofs.Meant.{Goes, GoesBy}
 use Rattle.refinement.proofs.Fuel.{needs-most, Enough, EnoughBy, feed-enough, feed-condition-enough}
 use Rattle.refinement.proofs.Feeding.{feed-goes, feed-condition-goes}
@@ -50,7 +50,7 @@ module _ {b ws rs : List ℕ} {k : Stack} {base n : ℕ} {X : frames.Found} wher
   back-step : (S : List frames.Frame) → Placed b ws rs k base S → (v : ℕ) → v < 32 → Well S → X ≡ up (nodeAt b) (terms b) S v → 2054 ≤ suc n
       → Next b ws k base n X (backOf (frameAt k (topOf base (length S))) v (length S))
   unfolding backOf up upBy
-  back-step [] c v l w x m = stays c (goAt (readyOf part.Done v 0 0 0)) (part.Done, refl, (refl, x, l)) (omega arith)
+  back-step [] c v l w x m = stays c (goAt (readyOf redex.Done v 0 0 0)) (redex.Done, refl, (refl, x, l)) (omega arith)
   back-step (F ∷ S) c v l w x m =
       let f = frameAt k (base + length S) in
       let e = c .held .0 in
@@ -76,7 +76,7 @@ module _ {b ws rs : List ℕ} {k : Stack} {base n : ℕ} {X : frames.Found} wher
 
   -- ---- by the stage
 
-  step-by : (s : Stage) (g : Go) (S : List frames.Frame) → g .stage ≡ s → Placed b ws rs k base S → liveBy s ≡ true → GoesBy b s g S X → EnoughBy ws (suc n) s g
+  step-by : (s : Stage) (g : Refocusing) (S : List frames.Frame) → g .stage ≡ s → Placed b ws rs k base S → liveBy s ≡ true → GoesBy b s g S X → EnoughBy ws (suc n) s g
       → Next b ws k base n X (stepBy s ws rs g (length S) (frameAt k (topOf base (length S))))
   step-by stage.Full g S z c live p q = absurd (false≢true live)
   step-by stage.At g S z c live p q = absurd (false≢true live)
@@ -88,7 +88,7 @@ module _ {b ws rs : List ℕ} {k : Stack} {base n : ℕ} {X : frames.Found} wher
   step-by stage.Value g S z c live p q = back-step S c (g .operand) (p .1) (p .0) (p .2) q
   step-by stage.Truth g S z c live p q = back-stepᶜ S c (g .operand) (p .1) (p .0) (p .2) q
 
-  pub step : (g : Go) (S : List frames.Frame) → Placed b ws rs k base S → liveBy (g .stage) ≡ true → Goes b g S X → Enough ws (suc n) g
+  pub step : (g : Refocusing) (S : List frames.Frame) → Placed b ws rs k base S → liveBy (g .stage) ≡ true → Goes b g S X → Enough ws (suc n) g
       → Next b ws k base n X (stepOf ws rs g (length S) (frameAt k (topOf base (length S))))
   unfolding stepOf
   step g S c live p q = step-by (g .stage) g S refl c live p q

@@ -8,8 +8,8 @@ use lib.Dec.{eqb}
 use Rattle.plan_packed.specs.Trees.{ExpressionNode, ConditionNode, Node, nodeAt}
 use Rattle.plan_packed.proofs.Accepted.{Accepted}
 use Rattle.rules.specs.Context.{falseWhen}
-use Rattle.machine.specs.Landing.{valueIn, boolIn, boolOf, isTrue}
-use Rattle.machine.specs.Landing as machine
+use Rattle.machine.specs.Refocusing.{valueIn, boolIn, boolOf, isTrue}
+use Rattle.machine.specs.Refocusing as machine
 use Rattle.run_term_words.specs.Slots.{slotOf}
 use Rattle.plan_packed.specs.Operands.{tagOf, firstOf, slotBits}
 use Rattle.run_term_words.specs.Words.{wordAt, valueBy, valueOf, truthBy, truthOf}

@@ -2,7 +2,7 @@
 ghost use mathlib.Core.Path.{_≡_};
 ghost use Rattle.run_accesses.specs.Accesses.{passedOf, actRead, actWrite};
 use log_records::kind;
-use run_frames::go;
+use run_frames::refocusing;
 use run_keys::KeySet;
 use run_outcome::NoRoom;
 use run_state::Cell;
@@ -37,7 +37,7 @@ pub fn act_read(
 {
     let keys = head.keys;
     let value = cell.value as usize;
-    let go = go::value(value);
+    let go = refocusing::value(value);
     if run_look::has(setting.mask, field) {
         let cell_keys = cell.keys;
         let passed = passed_on(setting, cell_keys);
@@ -62,7 +62,7 @@ pub fn act_write(
 {
     let keys = head.keys;
     let cell_keys = cell.keys;
-    let go = go::value(value);
+    let go = refocusing::value(value);
     if run_look::has(setting.mask, field) {
         let passed = passed_on(setting, keys);
         let joined = cell_keys.join(passed);

@@ -1,4 +1,4 @@
--- A move of a part that changes no cell leaves its cell as it was. Assumes nothing.
+-- A move of a redex that changes no cell leaves its cell as it was. Assumes nothing.
 use Prim.Native.Nat.{ℕ, _<_}
 use native.Mathlib.Omega.{arith}
 use mathlib.Core.Path.{_≡_, refl}

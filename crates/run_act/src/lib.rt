@@ -3,9 +3,9 @@ ghost use mathlib.Core.Path.{_≡_};
 ghost use Rattle.run_act.specs.Act.{goesOnBy, actPure, changesBy, actOf};
 use run_frames::frame;
 use run_frames::frame::Kind;
-use run_frames::go;
-use run_frames::go::Go;
-use run_frames::part;
+use run_frames::redex;
+use run_frames::refocusing;
+use run_frames::refocusing::Refocusing;
 use run_state::Cell;
 use run_state::Counts;
 use run_state::Head;
@@ -14,54 +14,54 @@ use run_state::Setting;
 use run_state::acted;
 use run_state::acted::Act;
 
-// Whether a move of the part only goes on elsewhere: it leaves no record, and nothing but its own thread has to do with it.
-pub fn goes_on(part: usize) -> bool
-    ensures { λ r. ⌜ r ≡ goesOnBy part ⌝ }
+// Whether a move of the redex only goes on elsewhere: it leaves no record, and nothing but its own thread has to do with it.
+pub fn goes_on(redex: usize) -> bool
+    ensures { λ r. ⌜ r ≡ goesOnBy redex ⌝ }
 {
-    if part < part::RUN {
+    if redex < redex::RUN {
         return false;
     }
-    part <= part::AGAIN
+    redex <= redex::AGAIN
 }
 
 // Where a move that leaves no record goes on.
-pub fn act_pure(head: Head) -> Go
+pub fn act_pure(head: Head) -> Refocusing
     ensures { λ r. ⌜ r ≡ actPure head ⌝ }
 {
     let ready = head.ready;
-    let part = ready.part;
-    match part {
-        part::RUN => go::run(ready.first, ready.environment),
-        part::RUN_CONDITION => go::run_condition(ready.first, ready.environment),
-        part::VAL => go::value(ready.first),
-        part::TRUTH => go::truth(ready.first),
-        part::WHILE => go::want_condition(
+    let redex = ready.redex;
+    match redex {
+        redex::RUN => refocusing::run(ready.first, ready.environment),
+        redex::RUN_CONDITION => refocusing::run_condition(ready.first, ready.environment),
+        redex::VAL => refocusing::value(ready.first),
+        redex::TRUTH => refocusing::truth(ready.first),
+        redex::WHILE => refocusing::want_condition(
             frame::frame_of(Kind::Test, ready.first, ready.second, 0, ready.environment),
             ready.first,
         ),
-        part::BODY => go::want(
+        redex::BODY => refocusing::want(
             frame::frame_of(Kind::Body, ready.first, ready.second, 0, ready.environment),
             ready.second,
         ),
-        part::AGAIN => go::at(go::ready_of(
-            part::WHILE,
+        redex::AGAIN => refocusing::at(refocusing::ready_of(
+            redex::WHILE,
             ready.first,
             ready.second,
             0,
             ready.environment,
         )),
-        _ => go::full(),
+        _ => refocusing::full(),
     }
 }
 
-// Whether a move of the part may change its cell.
-pub fn changes(part: usize) -> bool
-    ensures { λ r. ⌜ r ≡ changesBy part ⌝ }
+// Whether a move of the redex may change its cell.
+pub fn changes(redex: usize) -> bool
+    ensures { λ r. ⌜ r ≡ changesBy redex ⌝ }
 {
-    if part == part::WRITE {
+    if redex == redex::WRITE {
         return true;
     }
-    part::SYNCH <= part
+    redex::SYNCH <= redex
 }
 
 // What the move of a thread that can move does.
@@ -70,16 +70,16 @@ pub fn act(
     counts: Counts,
     head: Head,
     cell: Cell,
-    thing: Object,
+    object: Object,
     other: Head,
 ) -> Act
-    ensures { λ r. ⌜ r ≡ actOf setting counts head cell thing other ⌝ }
+    ensures { λ r. ⌜ r ≡ actOf setting counts head cell object other ⌝ }
 {
     let ready = head.ready;
-    let part = ready.part;
-    match part {
-        part::NEW => run_objects::act_new(counts, head, cell, ready.first),
-        part::READ => run_accesses::act_read(
+    let redex = ready.redex;
+    match redex {
+        redex::NEW => run_objects::act_new(counts, head, cell, ready.first),
+        redex::READ => run_accesses::act_read(
             setting,
             counts,
             head,
@@ -87,7 +87,7 @@ pub fn act(
             ready.first,
             ready.second,
         ),
-        part::WRITE => run_accesses::act_write(
+        redex::WRITE => run_accesses::act_write(
             setting,
             counts,
             head,
@@ -96,9 +96,9 @@ pub fn act(
             ready.second,
             ready.third,
         ),
-        part::FORK => run_objects::act_fork(counts, head, cell),
-        part::JOIN => run_objects::act_join(counts, head, cell, thing, other, ready.first),
-        part::SYNCH => run_monitors::act_synch(
+        redex::FORK => run_objects::act_fork(counts, head, cell),
+        redex::JOIN => run_objects::act_join(counts, head, cell, object, other, ready.first),
+        redex::SYNCH => run_monitors::act_synch(
             counts,
             head,
             cell,
@@ -106,9 +106,9 @@ pub fn act(
             ready.second,
             ready.environment,
         ),
-        part::HOLD => run_monitors::act_hold(counts, head, ready.first, ready.second),
-        part::SIGNAL => run_monitors::act_signal(counts, head, cell, ready.first, ready.second),
-        part::WAITING => run_monitors::act_wake(counts, head, cell, ready.first),
+        redex::HOLD => run_monitors::act_hold(counts, head, ready.first, ready.second),
+        redex::SIGNAL => run_monitors::act_signal(counts, head, cell, ready.first, ready.second),
+        redex::WAITING => run_monitors::act_wake(counts, head, cell, ready.first),
         _ => acted::go_on(act_pure(head), counts, head, cell),
     }
 }

@@ -7,9 +7,9 @@ use native.Mathlib.Omega.{arith}
 use lib.ListN.{getD}
 use types.Run.{OneOf}
 use denote.Enum.Declared.{tagOf}
-use Rattle.run_frames.specs.declared.go.Ready.{Ready}
-use Rattle.run_refocusing.specs.declared.Landed.{Landed}
-use Rattle.run_refocusing.specs.declared.Landings.{Landings}
+use Rattle.run_frames.specs.declared.refocusing.Ready.{Ready}
+use Rattle.run_refocusing.specs.declared.Refocused.{Refocused}
+use Rattle.run_refocusing.specs.declared.Refocusings.{Refocusings}
 use Rattle.run_outcome.specs.declared.Stop.{Stop}
 use Rattle.run_state.specs.declared.Setting.{Setting}
 use Rattle.run_state.specs.declared.Head.{Head}
@@ -25,42 +25,42 @@ use Rattle.run_pick.specs.declared.Begun.{Begun}
 use Rattle.run_pick.specs.declared.Begun.the-variants as begun
 use Rattle.run_pick.specs.declared.Reached.the-variants as reached
 use Rattle.run_pick.specs.Answer.{Move, Answer as answer}
-use Rattle.run_pick.specs.Pick.{picked, landedHead, noHead, forksOf, beginOf, Came, reachOf}
+use Rattle.run_pick.specs.Pick.{picked, refocusedHead, noHead, forksOf, beginOf, Came, reachOf}
 use Rattle.run_pick.proofs.GoesOn.{no-signal}
 use Rattle.run_pick.proofs.Steps as steps
 use Rattle.run_queue.specs.Queue.{afterOf}
 use Rattle.run_engine.specs.Machine.{Machine, noCell, headAt, cellNumber, metBy, pickedBy}
 
--- what a move of thread h leaves that does a and lands at l, with y the thread that it makes
-abbrev pub leftBy : Head → Acted → Landed → Head → Move
+-- what a move of thread h leaves that does a and refocuses at l, with y the thread that it makes
+abbrev pub leftBy : Head → Acted → Refocused → Head → Move
 leftBy h a l y =
     record {
-      mover = landedHead l (h .object) (a .keys) (h .learnt % 256 + a .new);
-      young = y;
+      mover = refocusedHead l (h .object) (a .keys) (h .learnt % 256 + a .new);
+      forked = y;
       cell = a .cell;
-      thing = a .thing;
+      object = a .object;
       counts = a .counts;
       entry = a .entry;
       forks = forksOf h;
     }
 
 -- of one that only goes on elsewhere, whose cell is c
-abbrev pub goneBy : Counts → Head → Cell → Landed → Move
+abbrev pub goneBy : Counts → Head → Cell → Refocused → Move
 goneBy n h c l =
     record {
-      mover = landedHead l (h .object) (h .keys) (h .learnt % 256);
-      young = noHead;
+      mover = refocusedHead l (h .object) (h .keys) (h .learnt % 256);
+      forked = noHead;
       cell = c;
-      thing = nothing;
+      object = nothing;
       counts = n;
       entry = noEntry;
       forks = false;
     }
 
 -- only a signal changes the queues
-pub queues-left : (qs : List ℕ) (r : Ready) (p : ℕ) → goesOnBy (r .part) ≡ true → qs ≡ afterOf qs r p
+pub queues-left : (qs : List ℕ) (r : Ready) (p : ℕ) → goesOnBy (r .redex) ≡ true → qs ≡ afterOf qs r p
 unfolding afterOf
-queues-left qs r p e = rw (no-signal (r .part) e)
+queues-left qs r p e = rw (no-signal (r .redex) e)
 
 module _ (ws rs : List ℕ) (g : Setting) (m : Machine) (p : ℕ) where
   abbrev x : Met
@@ -70,7 +70,7 @@ module _ (ws rs : List ℕ) (g : Setting) (m : Machine) (p : ℕ) where
   h = headAt (m .heads) p
 
   -- a move that only goes on elsewhere
-  pub begins-on : {b : Begun} → goesOnBy (headAt (m .heads) p .ready .part) ≡ true → b ≡ begun.Went (actPure (headAt (m .heads) p)) → b ≡ beginOf g x
+  pub begins-on : {b : Begun} → goesOnBy (headAt (m .heads) p .ready .redex) ≡ true → b ≡ begun.Went (actPure (headAt (m .heads) p)) → b ≡ beginOf g x
   unfolding beginOf metBy
   begins-on {b} e q = q ∙ rw e
 
@@ -86,21 +86,21 @@ module _ (ws rs : List ℕ) (g : Setting) (m : Machine) (p : ℕ) where
     pub stops : {s : Stop} {y : Entry} → c .reached ≡ reached.Stopped s y → picked (c .stack) (answer.Stopped s y) ≡ pickedBy ws rs g m p
     stops z = steps.stops ws rs g x (m .stack) c b begins comes-so z
 
-    module _ {a : Acted} (acts : b ≡ begun.Acted a) {l : Landings} (lands : c .reached ≡ reached.Landed l) where
+    module _ {a : Acted} (acts : b ≡ begun.Acted a) {l : Refocusings} (refocuses : c .reached ≡ reached.Refocused l) where
       pub moves : forksOf (headAt (m .heads) p) ≡ false → picked (c .stack) (answer.Moved (leftBy (headAt (m .heads) p) a (l .last) noHead)) ≡ pickedBy ws rs g m p
       unfolding metBy
-      moves n = rw n (steps.moves ws rs g x (m .stack) c b begins comes acts lands n)
+      moves n = rw n (steps.moves ws rs g x (m .stack) c b begins comes acts refocuses n)
 
       pub forks : forksOf (headAt (m .heads) p) ≡ true
-          → picked (c .stack) (answer.Moved (leftBy (headAt (m .heads) p) a (l .before) (landedHead (l .last) (m .tally .counts .objects) (headAt (m .heads) p .keys) 0)))
+          → picked (c .stack) (answer.Moved (leftBy (headAt (m .heads) p) a (l .before) (refocusedHead (l .last) (m .tally .counts .objects) (headAt (m .heads) p .keys) 0)))
           ≡ pickedBy ws rs g m p
       unfolding metBy
-      forks n = rw n (steps.forks ws rs g x (m .stack) c b begins comes acts lands n)
+      forks n = rw n (steps.forks ws rs g x (m .stack) c b begins comes acts refocuses n)
 
-    module _ (other : OneOf (0 ∷ 1 ∷ 2 ∷ []) (tagOf begun-type.the-type b)) {l : Landings} (lands : c .reached ≡ reached.Landed l) where
-      pub on : goesOnBy (headAt (m .heads) p .ready .part) ≡ true
+    module _ (other : OneOf (0 ∷ 1 ∷ 2 ∷ []) (tagOf begun-type.the-type b)) {l : Refocusings} (refocuses : c .reached ≡ reached.Refocused l) where
+      pub on : goesOnBy (headAt (m .heads) p .ready .redex) ≡ true
       unfolding metBy
-      on = steps.on ws rs g x (m .stack) c b begins comes other lands
+      on = steps.on ws rs g x (m .stack) c b begins comes other refocuses
 
       pub goes-on : picked (c .stack) (answer.Moved (goneBy (m .tally .counts) (headAt (m .heads) p)
           (getD (m .cells) (cellNumber (headAt (m .heads) p .ready)) noCell) (l .last))) ≡ pickedBy ws rs g m p
@@ -108,12 +108,12 @@ module _ (ws rs : List ℕ) (g : Setting) (m : Machine) (p : ℕ) where
       goes-on =
           let e : h .learnt % 256 ≡ h .learnt % 256 + 0 = omega arith in
           ap (λ (n : ℕ). picked (c .stack) (answer.Moved (record {
-            mover = landedHead (l .last) (h .object) (h .keys) n;
-            young = noHead;
+            mover = refocusedHead (l .last) (h .object) (h .keys) n;
+            forked = noHead;
             cell = getD (m .cells) (cellNumber (h .ready)) noCell;
-            thing = nothing;
+            object = nothing;
             counts = m .tally .counts;
             entry = noEntry;
             forks = false;
           }))) e
-          ∙ steps.goes-on ws rs g x (m .stack) c b begins comes other lands
+          ∙ steps.goes-on ws rs g x (m .stack) c b begins comes other refocuses

@@ -4,7 +4,7 @@ use mathlib.Core.Bool.{Bool, true, not, false, cond}
 use mathlib.Core.List.{List}
 use Prim.Native.Nat.{ℕ}
 use borrow.Author.Tests.{not-true}
-use Rattle.run_refocusing.specs.Landing.{Stack, Ended}
+use Rattle.run_refocusing.specs.Refocusing.{Stack, Ended}
 use Rattle.run_outcome.specs.declared.NoRoom.{NoRoom}
 use Rattle.run_outcome.specs.declared.Stop.{Stop}
 use Rattle.run_outcome.specs.declared.Outcome.{Outcome}
@@ -17,7 +17,7 @@ use Rattle.run_look.specs.declared.Sight.{Sight}
 use Rattle.run_look.specs.declared.Sight.the-variants as sight
 use Rattle.run_pick.specs.declared.Met.{Met}
 use Rattle.run_pick.specs.Answer.{Move, Answer, Answer as answer}
-use Rattle.run_pick.specs.Pick.{picked, noRoom, fullOf, forksOf, landYoung, startBy, landBy, makeBy, actMet, pickBy, lookMet, pickOf}
+use Rattle.run_pick.specs.Pick.{picked, noRoom, fullOf, forksOf, refocusForked, startBy, refocusBy, makeBy, actMet, pickBy, lookMet, pickOf}
 use Rattle.run_engine.specs.Machine.{Machine, pickedBy}
 use Rattle.run_open_threads.specs.Open.{openAt, unstopped, openAfter}
 
@@ -28,21 +28,21 @@ halts (answer.Moved v) = true
 halts (answer.Stopped e y) = not (unstopped e)
 
 module _ (ws rs : List ℕ) (setting : Setting) (x : Met) where
-  landed-halts : (full forks born : Bool) (k k′ : Stack) (r r′ : NoRoom) (v v′ : Move)
+  refocused-halts : (full forks forked : Bool) (k k′ : Stack) (r r′ : NoRoom) (v v′ : Move)
       → halts (cond full (picked k (noRoom r))
-      (cond forks (cond born (picked k′ (noRoom r′)) (picked k′ (answer.Moved v′))) (picked k (answer.Moved v))) .answer)
+      (cond forks (cond forked (picked k′ (noRoom r′)) (picked k′ (answer.Moved v′))) (picked k (answer.Moved v))) .answer)
       ≡ true
-  landed-halts true forks born k k′ r r′ v v′ = refl
-  landed-halts false true true k k′ r r′ v v′ = refl
-  landed-halts false true false k k′ r r′ v v′ = refl
-  landed-halts false false born k k′ r r′ v v′ = refl
+  refocused-halts true forks forked k k′ r r′ v v′ = refl
+  refocused-halts false true true k k′ r r′ v v′ = refl
+  refocused-halts false true false k k′ r r′ v v′ = refl
+  refocused-halts false false forked k k′ r r′ v v′ = refl
 
-  land-halts : (a : Acted) (l : Ended) → halts (landBy ws rs x a l .answer) ≡ true
-  unfolding landBy startBy
-  land-halts a l = landed-halts (fullOf (l .landed)) (forksOf (x .head)) (fullOf (landYoung ws rs x (l .stack) .landed)) _ _ _ _ _ _
+  refocus-halts : (a : Acted) (l : Ended) → halts (refocusBy ws rs x a l .answer) ≡ true
+  unfolding refocusBy startBy
+  refocus-halts a l = refocused-halts (fullOf (l .refocused)) (forksOf (x .head)) (fullOf (refocusForked ws rs x (l .stack) .refocused)) _ _ _ _ _ _
 
   make-halts : (a : Act) (k : Stack) → halts (makeBy ws rs x a k .answer) ≡ true
-  make-halts (act.Done a) k = land-halts a _
+  make-halts (act.Done a) k = refocus-halts a _
   make-halts (act.NoRoom r) k = refl
 
   sight-halts : (s : Sight) (k : Stack) → halts (pickBy ws rs setting x s k .answer) ≡ true

@@ -15,7 +15,7 @@ use Rattle.run_state.specs.declared.Object.{Object}
 use Rattle.run_state.specs.declared.Counts.{Counts}
 use Rattle.run_pick.specs.declared.Met.{Met}
 use Rattle.run_pick.specs.Pick.{noHead}
-use Rattle.run_engine.specs.Machine.{noCell, noThing, headAt, Placed, metBy, threadBy, threadAt, threadsOf}
+use Rattle.run_engine.specs.Machine.{noCell, noObject, headAt, Placed, metBy, threadBy, threadAt, threadsOf}
 
 module _ (n : Counts) (l : List Head) (cs : List Cell) (ts : List Object) (qs : List ℕ) where
   -- with the cell c, of the object at o
@@ -25,8 +25,8 @@ module _ (n : Counts) (l : List Head) (cs : List Cell) (ts : List Object) (qs : 
         counts = n;
         head = headAt l p;
         cell = c;
-        thing = getD ts o noThing;
-        other = getD l (getD ts o noThing .thread % 16) noHead;
+        object = getD ts o noObject;
+        other = getD l (getD ts o noObject .thread % 16) noHead;
         thread = p;
         place = getD qs p 0;
       }

@@ -1,11 +1,11 @@
--- A move of a part that changes no cell leaves its cell as it was. Assumes nothing.
+-- A move of a redex that changes no cell leaves its cell as it was. Assumes nothing.
 use mathlib.Core.Path.{_≡_, refl, sym, ap, _∙_}
 use mathlib.Core.Bool.{Bool, true, false, cond}
 use mathlib.Core.List.{List}
 use Prim.Native.Nat.{ℕ}
 use native.Mathlib.Omega.{arith}
 use lib.ListN.{getD}
-use Rattle.run_refocusing.specs.Landing.{Stack, Ended}
+use Rattle.run_refocusing.specs.Refocusing.{Stack, Ended}
 use Rattle.run_outcome.specs.declared.NoRoom.{NoRoom}
 use Rattle.run_state.specs.declared.Setting.{Setting}
 use Rattle.run_state.specs.declared.Cell.{Cell}
@@ -18,7 +18,7 @@ use Rattle.run_act.specs.Act.{changesBy}
 use Rattle.run_act.proofs.Unchanged.{cellAfter, leaves}
 use Rattle.run_pick.specs.declared.Met.{Met}
 use Rattle.run_pick.specs.Answer.{Move, Answer, Answer as answer}
-use Rattle.run_pick.specs.Pick.{picked, noRoom, fullOf, forksOf, landYoung, startBy, landBy, makeBy, actMet, pickBy, lookMet, pickOf}
+use Rattle.run_pick.specs.Pick.{picked, noRoom, fullOf, forksOf, refocusForked, startBy, refocusBy, makeBy, actMet, pickBy, lookMet, pickOf}
 use Rattle.run_engine.specs.Machine.{Machine, headAt, cellNumber, noCell, metBy, pickedBy}
 
 module _ (v : Move) (c : Cell) where
@@ -28,32 +28,32 @@ module _ (v : Move) (c : Cell) where
   stopped-is : (r : NoRoom) → noRoom r ≡ answer.Moved v → v .cell ≡ c
   stopped-is r e = absurd (let z : _≡_ {A = ℕ} 0 1 = cc in omega arith)
 
-  landed-is : (full forks born : Bool) (k k′ : Stack) (r r′ : NoRoom) (u u′ : Move) → u .cell ≡ c → u′ .cell ≡ c
-      → cond full (picked k (noRoom r)) (cond forks (cond born (picked k′ (noRoom r′)) (picked k′ (answer.Moved u′))) (picked k (answer.Moved u))) .answer
+  refocused-is : (full forks forked : Bool) (k k′ : Stack) (r r′ : NoRoom) (u u′ : Move) → u .cell ≡ c → u′ .cell ≡ c
+      → cond full (picked k (noRoom r)) (cond forks (cond forked (picked k′ (noRoom r′)) (picked k′ (answer.Moved u′))) (picked k (answer.Moved u))) .answer
       ≡ answer.Moved v → v .cell ≡ c
-  landed-is true forks born k k′ r r′ u u′ q q′ h = stopped-is r h
-  landed-is false true true k k′ r r′ u u′ q q′ h = stopped-is r′ h
-  landed-is false true false k k′ r r′ u u′ q q′ h = moved-is u′ q′ h
-  landed-is false false born k k′ r r′ u u′ q q′ h = moved-is u q h
+  refocused-is true forks forked k k′ r r′ u u′ q q′ h = stopped-is r h
+  refocused-is false true true k k′ r r′ u u′ q q′ h = stopped-is r′ h
+  refocused-is false true false k k′ r r′ u u′ q q′ h = moved-is u′ q′ h
+  refocused-is false false forked k k′ r r′ u u′ q q′ h = moved-is u q h
 
 module _ (ws rs : List ℕ) (setting : Setting) (v : Move) where
-  land-is : (x : Met) (a : Acted) (l : Ended) → landBy ws rs x a l .answer ≡ answer.Moved v → v .cell ≡ a .cell
-  unfolding landBy startBy
-  land-is x a l h = landed-is v (a .cell) (fullOf (l .landed)) (forksOf (x .head)) (fullOf (landYoung ws rs x (l .stack) .landed)) _ _ _ _ _ _ refl refl h
+  refocus-is : (x : Met) (a : Acted) (l : Ended) → refocusBy ws rs x a l .answer ≡ answer.Moved v → v .cell ≡ a .cell
+  unfolding refocusBy startBy
+  refocus-is x a l h = refocused-is v (a .cell) (fullOf (l .refocused)) (forksOf (x .head)) (fullOf (refocusForked ws rs x (l .stack) .refocused)) _ _ _ _ _ _ refl refl h
 
   made-is : (x : Met) (z : Act) (k : Stack) → makeBy ws rs x z k .answer ≡ answer.Moved v → v .cell ≡ cellAfter (x .cell) z
   unfolding cellAfter
-  made-is x (act.Done a) k h = land-is x a _ h
+  made-is x (act.Done a) k h = refocus-is x a _ h
   made-is x (act.NoRoom r) k h = stopped-is v (x .cell) r h
 
-  seen-is : (x : Met) (s : Sight) (k : Stack) → changesBy (x .head .ready .part) ≡ false
+  seen-is : (x : Met) (s : Sight) (k : Stack) → changesBy (x .head .ready .redex) ≡ false
       → pickBy ws rs setting x s k .answer ≡ answer.Moved v → v .cell ≡ x .cell
   seen-is x sight.Ready k n h =
-      made-is x (actMet setting x) k h ∙ leaves (x .head .ready .part) setting (x .counts) (x .head) (x .cell) (x .thing) (x .other) n
+      made-is x (actMet setting x) k h ∙ leaves (x .head .ready .redex) setting (x .counts) (x .head) (x .cell) (x .object) (x .other) n
   seen-is x sight.Lacking k n h = absurd (let z : _≡_ {A = ℕ} 0 1 = cc in omega arith)
   seen-is x (sight.Blocked b) k n h = absurd (let z : _≡_ {A = ℕ} 0 1 = cc in omega arith)
 
-  pub cell-unchanged : (m : Machine) (p : ℕ) → changesBy (headAt (m .heads) p .ready .part) ≡ false → pickedBy ws rs setting m p .answer ≡ answer.Moved v
+  pub cell-unchanged : (m : Machine) (p : ℕ) → changesBy (headAt (m .heads) p .ready .redex) ≡ false → pickedBy ws rs setting m p .answer ≡ answer.Moved v
       → v .cell ≡ getD (m .cells) (cellNumber (headAt (m .heads) p .ready)) noCell
   unfolding pickOf metBy
   cell-unchanged m p n h =

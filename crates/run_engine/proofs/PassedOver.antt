@@ -9,7 +9,7 @@ use borrow.Author.Tests.{lt-leb}
 use lib.ListN.{getD, set, replicate}
 use lib.Seq.{getD-set-other}
 use Rattle.format.proofs.Filled.{repeated}
-use Rattle.run_refocusing.specs.Landing.{Stack, Ended}
+use Rattle.run_refocusing.specs.Refocusing.{Stack, Ended}
 use Rattle.run_outcome.specs.declared.NoRoom.{NoRoom}
 use Rattle.run_state.specs.declared.Setting.{Setting}
 use Rattle.run_state.specs.declared.acted.Act.{Act}
@@ -19,7 +19,7 @@ use Rattle.run_look.specs.declared.Sight.{Sight}
 use Rattle.run_look.specs.declared.Sight.the-variants as sight
 use Rattle.run_pick.specs.declared.Met.{Met}
 use Rattle.run_pick.specs.Answer.{Move, Answer, Answer as answer}
-use Rattle.run_pick.specs.Pick.{Picked, picked, noRoom, fullOf, forksOf, landYoung, startBy, landBy, makeBy, actMet, pickBy, lookMet, pickOf}
+use Rattle.run_pick.specs.Pick.{Picked, picked, noRoom, fullOf, forksOf, refocusForked, startBy, refocusBy, makeBy, actMet, pickBy, lookMet, pickOf}
 use Rattle.run_engine.specs.Machine.{Machine, stayed, pickedBy, turnBy, playOf}
 
 stopped-not : {z : Answer} (r : NoRoom) → z ≡ noRoom r → z ≡ answer.Passed → ⊥
@@ -30,20 +30,20 @@ moved-not v e h = let z : _≡_ {A = ℕ} 0 1 = cc in omega arith
 
 module _ (ws rs : List ℕ) (setting : Setting) where
   -- a thread that is ready moves or stops the run
-  landed-not : (full forks born : Bool) (k k′ : Stack) (r r′ : NoRoom) (v v′ : Move)
-      → cond full (picked k (noRoom r)) (cond forks (cond born (picked k′ (noRoom r′)) (picked k′ (answer.Moved v′))) (picked k (answer.Moved v))) .answer
+  refocused-not : (full forks forked : Bool) (k k′ : Stack) (r r′ : NoRoom) (v v′ : Move)
+      → cond full (picked k (noRoom r)) (cond forks (cond forked (picked k′ (noRoom r′)) (picked k′ (answer.Moved v′))) (picked k (answer.Moved v))) .answer
       ≡ answer.Passed → ⊥
-  landed-not true forks born k k′ r r′ v v′ h = stopped-not r refl h
-  landed-not false true true k k′ r r′ v v′ h = stopped-not r′ refl h
-  landed-not false true false k k′ r r′ v v′ h = moved-not v′ refl h
-  landed-not false false born k k′ r r′ v v′ h = moved-not v refl h
+  refocused-not true forks forked k k′ r r′ v v′ h = stopped-not r refl h
+  refocused-not false true true k k′ r r′ v v′ h = stopped-not r′ refl h
+  refocused-not false true false k k′ r r′ v v′ h = moved-not v′ refl h
+  refocused-not false false forked k k′ r r′ v v′ h = moved-not v refl h
 
-  land-not : (x : Met) (a : Acted) (l : Ended) → landBy ws rs x a l .answer ≡ answer.Passed → ⊥
-  unfolding landBy startBy
-  land-not x a l h = landed-not (fullOf (l .landed)) (forksOf (x .head)) (fullOf (landYoung ws rs x (l .stack) .landed)) _ _ _ _ _ _ h
+  refocus-not : (x : Met) (a : Acted) (l : Ended) → refocusBy ws rs x a l .answer ≡ answer.Passed → ⊥
+  unfolding refocusBy startBy
+  refocus-not x a l h = refocused-not (fullOf (l .refocused)) (forksOf (x .head)) (fullOf (refocusForked ws rs x (l .stack) .refocused)) _ _ _ _ _ _ h
 
   made-not : (x : Met) (a : Act) (k : Stack) → makeBy ws rs x a k .answer ≡ answer.Passed → ⊥
-  made-not x (act.Done a) k h = land-not x a _ h
+  made-not x (act.Done a) k h = refocus-not x a _ h
   made-not x (act.NoRoom r) k h = stopped-not r refl h
 
   -- so a pick that is passed over leaves the frames as they were

@@ -7,7 +7,7 @@ use borrow.Author.Tests.{le-leb, lt-leb}
 use lib.ListN.{getD, set, replicate}
 use types.Run.{OneOf, miss}
 use denote.Enum.Declared.{tagOf}
-use Rattle.run_refocusing.specs.Landing.{Stack}
+use Rattle.run_refocusing.specs.Refocusing.{Stack}
 use Rattle.run_outcome.specs.declared.Stop.{Stop}
 use Rattle.run_state.specs.declared.Setting.{Setting}
 use Rattle.run_state.specs.declared.Head.{Head}
@@ -22,14 +22,14 @@ use Rattle.run_pick.specs.declared.Reached.the-variants as reached
 use Rattle.run_pick.specs.Answer.{Move, Answer, Answer as answer}
 use Rattle.run_pick.specs.Pick.{noHead, Picked}
 use Rattle.run_queue.specs.Queue.{afterOf}
-use Rattle.run_engine.specs.Machine.{Machine, Played, headAt, cellNumber, headOf, cellFirst, noThing, endOf, stopped, withYoung, stayed, after, pickedBy}
+use Rattle.run_engine.specs.Machine.{Machine, Played, headAt, cellNumber, headOf, cellFirst, noObject, endOf, stopped, withForked, stayed, after, pickedBy}
 use Rattle.run_engine.specs.Machine.{turnBy, onAnswer, startOf, playOf}
 
--- a pick that neither lands nor stops
+-- a pick that neither refocuses nor stops
 pub neither : (z : Reached) → OneOf (0 ∷ 1 ∷ []) (tagOf reached-type.the-type z) → OneOf (0 ∷ 2 ∷ []) (tagOf reached-type.the-type z) → z ≡ reached.Passed
 neither reached.Passed h k = refl
 neither (reached.Stopped e y) h k = absurd (miss (0 ∷ 2 ∷ []) 1 tt k)
-neither (reached.Landed l) h k = absurd (miss (0 ∷ 1 ∷ []) 2 tt h)
+neither (reached.Refocused l) h k = absurd (miss (0 ∷ 1 ∷ []) 2 tt h)
 
 module _ (ws rs : List ℕ) (setting : Setting) where
   abbrev begun : Bool → Head → Head → List Cell → Object → Tally → List ℕ → Machine
@@ -46,7 +46,7 @@ module _ (ws rs : List ℕ) (setting : Setting) where
       }
 
   pub begins : (every : Bool) (ps l : List ℕ) (n h : Head) (cs : List Cell) (t : Object) (s : Tally)
-      → n ≡ noHead → h ≡ headOf (getD rs 0 0) → cs ≡ replicate 1024 cellFirst → t ≡ noThing → s ≡ tallyFirst
+      → n ≡ noHead → h ≡ headOf (getD rs 0 0) → cs ≡ replicate 1024 cellFirst → t ≡ noObject → s ≡ tallyFirst
       → playOf ws rs setting (begun every n h cs t s l) ps 0 ≡ playOf ws rs setting (startOf every rs l) ps 0
   unfolding startOf
   begins every ps l n h cs t s qn qh qc qt qs =
@@ -54,7 +54,7 @@ module _ (ws rs : List ℕ) (setting : Setting) where
       ∙ ap (λ (h : Head). playOf ws rs setting (begun every noHead h cs t s l) ps 0) qh
       ∙ ap (λ (cs : List Cell). playOf ws rs setting (begun every noHead (headOf (getD rs 0 0)) cs t s l) ps 0) qc
       ∙ ap (λ (t : Object). playOf ws rs setting (begun every noHead (headOf (getD rs 0 0)) (replicate 1024 cellFirst) t s l) ps 0) qt
-      ∙ ap (λ (s : Tally). playOf ws rs setting (begun every noHead (headOf (getD rs 0 0)) (replicate 1024 cellFirst) noThing s l) ps 0) qs
+      ∙ ap (λ (s : Tally). playOf ws rs setting (begun every noHead (headOf (getD rs 0 0)) (replicate 1024 cellFirst) noObject s l) ps 0) qs
 
   module _ (m : Machine) (p : ℕ) (ps : List ℕ) (i : ℕ) where
     -- the pick of a thread that is not there
@@ -78,8 +78,8 @@ module _ (ws rs : List ℕ) (setting : Setting) where
 
       pub moved : {v : Move} → x .answer ≡ answer.Moved v → (cs : List Cell) (hs : List Head) (ts : List Object) (qs : List ℕ) (s s′ : Tally) (l : List ℕ)
           → cs ≡ set (m .cells) (cellNumber (headAt (m .heads) (p % 8) .ready)) (v .cell)
-          → hs ≡ set (withYoung (v .forks) (m .heads) (m .tally .counts .threads % 9) (v .young)) (p % 8) (v .mover)
-          → ts ≡ set (m .objects) (m .tally .counts .objects % 33) (v .thing)
+          → hs ≡ set (withForked (v .forks) (m .heads) (m .tally .counts .threads % 9) (v .forked)) (p % 8) (v .mover)
+          → ts ≡ set (m .objects) (m .tally .counts .objects % 33) (v .object)
           → qs ≡ afterOf (m .places) (headAt (m .heads) (p % 8) .ready) (p % 8)
           → s ≡ tallyPut (m .tally) (shownEntry (m .every) (v .entry)) → s′ ≡ tallyMoved s (v .counts)
           → l ≡ logPut (m .log) (m .tally .records) (p % 8) (shownEntry (m .every) (v .entry))
@@ -95,10 +95,10 @@ module _ (ws rs : List ℕ) (setting : Setting) where
 
 -- the heads with the mover's, where a thread was made and where none was
 module _ {forks : Bool} (hs hs′ : List Head) (q p : ℕ) {h h′ : Head} (e : h ≡ h′) where
-  pub heads-forked : {y y′ : Head} → forks ≡ true → y ≡ y′ → hs′ ≡ set (set hs q y) p h → hs′ ≡ set (withYoung forks hs q y′) p h′
+  pub heads-forked : {y y′ : Head} → forks ≡ true → y ≡ y′ → hs′ ≡ set (set hs q y) p h → hs′ ≡ set (withForked forks hs q y′) p h′
   heads-forked {y} {y′} k j r = r ∙ rw (k, j, e)
 
-  pub heads-alone : (y : Head) → forks ≡ false → hs′ ≡ set hs p h → hs′ ≡ set (withYoung forks hs q y) p h′
+  pub heads-alone : (y : Head) → forks ≡ false → hs′ ≡ set hs p h → hs′ ≡ set (withForked forks hs q y) p h′
   heads-alone y k r = r ∙ rw (k, e)
 
 -- an end by the same numbers is the same end

@@ -7,7 +7,7 @@ use mathlib.Core.List.{List, [], _∷_, map}
 use lib.Bits.{bitXor, differ, xor-step, xor-zero-r}
 use lib.ListN.{getD, set, replicate, List·getD-map}
 use lib.Seq.{set-getD}
-use Rattle.run_refocusing.specs.Landing.{Stack}
+use Rattle.run_refocusing.specs.Refocusing.{Stack}
 use Rattle.run_state.specs.declared.Head.{Head}
 use Rattle.run_state.specs.declared.Cell.{Cell}
 use Rattle.run_state.specs.declared.Object.{Object}

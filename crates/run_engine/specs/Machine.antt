@@ -6,10 +6,10 @@ use mathlib.Core.List.{List, [], _∷_}
 use lib.Dec.{leb}
 use lib.ListN.{length, getD, set, take, replicate}
 use Rattle.run_keys.specs.KeySet.{zeroSet}
-use Rattle.run_frames.specs.Parts.{Part as part}
-use Rattle.run_frames.specs.declared.go.Ready.{Ready}
+use Rattle.run_frames.specs.RedexKinds.{RedexKind as redex}
+use Rattle.run_frames.specs.declared.refocusing.Ready.{Ready}
 use Rattle.run_frames.specs.Going.{readyOf}
-use Rattle.run_refocusing.specs.Landing.{Stack}
+use Rattle.run_refocusing.specs.Refocusing.{Stack}
 use Rattle.run_outcome.specs.declared.Stop.{Stop}
 use Rattle.run_outcome.specs.declared.Stop.the-variants as stop
 use Rattle.run_outcome.specs.declared.ThreadState.{ThreadState}
@@ -36,8 +36,8 @@ use Rattle.run_tally.specs.Tally.{shownEntry, tallyFirst, tallyPut, tallyMoved,
 abbrev pub noCell : Cell
 noCell = record { value = 0; key = 0; keys = zeroSet }
 
-abbrev pub noThing : Object
-noThing = record { mask = 0; thread = 0 }
+abbrev pub noObject : Object
+noObject = record { mask = 0; thread = 0 }
 
 pub record Machine : Type 0 where
   pub heads : List Head
@@ -70,8 +70,8 @@ metAt n l cs ts qs p k o =
       counts = n;
       head = headAt l p;
       cell = getD cs k noCell;
-      thing = getD ts o noThing;
-      other = getD l (getD ts o noThing .thread % 16) noHead;
+      object = getD ts o noObject;
+      other = getD l (getD ts o noObject .thread % 16) noHead;
       thread = p;
       place = getD qs p 0;
     }
@@ -82,7 +82,7 @@ metBy n l cs ts qs p = metAt n l cs ts qs p (cellNumber (headAt l p .ready)) (ob
 -- ---- the threads at the end
 
 abbrev pub stateBy : Setting → Met → ThreadState
-stateBy g x = stateOf (lookOf g (x .head) (x .cell) (x .thing) (x .other .ready .part) (x .place)) (x .head .ready)
+stateBy g x = stateOf (lookOf g (x .head) (x .cell) (x .object) (x .other .ready .redex) (x .place)) (x .head .ready)
 
 unfoldable pub threadBy : Setting → Met → Thread
 threadBy g x = cond (leb (x .counts .threads) (x .thread)) absent (record { state = stateBy g x; learnt = x .head .learnt % 256 })
@@ -113,8 +113,8 @@ stopped g m p x e i =
     }
 
 -- the heads with a new thread's, which only a fork makes
-abbrev pub withYoung : Bool → List Head → ℕ → Head → List Head
-withYoung forks l q y = cond forks (set l q y) l
+abbrev pub withForked : Bool → List Head → ℕ → Head → List Head
+withForked forks l q y = cond forks (set l q y) l
 
 -- the machine after a pick that was passed over, and after one that moved
 abbrev pub stayed : Machine → Stack → Machine
@@ -124,9 +124,9 @@ stayed m k =
 abbrev pub after : Machine → ℕ → Move → Stack → Machine
 after m p v k =
     record {
-      heads = set (withYoung (v .forks) (m .heads) (m .tally .counts .threads % 9) (v .young)) p (v .mover);
+      heads = set (withForked (v .forks) (m .heads) (m .tally .counts .threads % 9) (v .forked)) p (v .mover);
       cells = set (m .cells) (cellNumber (headAt (m .heads) p .ready)) (v .cell);
-      objects = set (m .objects) (m .tally .counts .objects % 33) (v .thing);
+      objects = set (m .objects) (m .tally .counts .objects % 33) (v .object);
       places = afterOf (m .places) (headAt (m .heads) p .ready) p;
       stack = k;
       every = m .every;
@@ -168,7 +168,7 @@ pub record CountedBefore (ws rs : List ℕ) (g : Setting) (m : Machine) (ps : Li
 -- ---- about to call main
 
 abbrev pub headOf : ℕ → Head
-headOf root = record { ready = readyOf part.Run root 0 0 0; depth = 0; object = 0; keys = zeroSet; learnt = 0 }
+headOf root = record { ready = readyOf redex.Run root 0 0 0; depth = 0; object = 0; keys = zeroSet; learnt = 0 }
 
 abbrev pub cellFirst : Cell
 cellFirst = cellOf 0 0 zeroSet
@@ -179,7 +179,7 @@ startOf every rs l =
     record {
       heads = set (replicate 16 noHead) 0 (headOf (getD rs 0 0));
       cells = replicate 1024 cellFirst;
-      objects = replicate 33 noThing;
+      objects = replicate 33 noObject;
       places = replicate 8 0;
       stack = replicate 891 0;
       every = every;

@@ -1,13 +1,13 @@
 // The run of a schedule over a loaded plan. `run` owns flat arrays of small structs, 32 cells to an object, the monitor at field 0; the frames lie in
-// an array of numbers that only landing touches, the places of threads in queues in one that only a signal changes. What is made is stored past the
+// an array of numbers that only refocusing touches, the places of threads in queues in one that only a signal changes. What is made is stored past the
 // present ones, and counts once it is counted.
 ghost use mathlib.Core.Path.{_≡_};
 ghost use Prim.Native.Nat.{_≤_};
-ghost use Rattle.run_engine.specs.Machine.{Placed, headOf, noThing, threadBy, startOf};
+ghost use Rattle.run_engine.specs.Machine.{Placed, headOf, noObject, threadBy, startOf};
 ghost use Rattle.run_state.specs.Acted.{nothing};
 ghost use Rattle.run_engine.specs.Exploring.{pickAt, Unseen, Explorable, ExploredOn};
-use run_frames::go;
-use run_frames::part;
+use run_frames::redex;
+use run_frames::refocusing;
 use run_keys::KeySet;
 use run_outcome::Outcome;
 use run_outcome::Stop;
@@ -27,7 +27,7 @@ pub mod kept;
 pub fn first_head(root: usize) -> Head
     ensures { λ r. ⌜ r ≡ headOf root ⌝ }
 {
-    let call = go::ready_of(part::RUN, root, 0, 0, 0);
+    let call = refocusing::ready_of(redex::RUN, root, 0, 0, 0);
     let one = KeySet::zero();
     Head {
         ready: call,
@@ -40,7 +40,7 @@ pub fn first_head(root: usize) -> Head
 
 // No fields; the first object stands for thread 0.
 pub fn first_object() -> Object
-    ensures { λ r. ⌜ r ≡ noThing ⌝ }
+    ensures { λ r. ⌜ r ≡ noObject ⌝ }
 {
     Object { mask: 0, thread: 0 }
 }
@@ -52,7 +52,7 @@ pub fn no_object() -> Object
     Object { mask: 0, thread: 8 }
 }
 
-// The cell that the thread's part is about, 32 to an object.
+// The cell that the thread's redex is about, 32 to an object.
 pub fn cell_of(head: Head) -> usize
     ensures { λ r. ⌜ Placed (head .ready) r ⌝ }
 {
@@ -72,10 +72,10 @@ pub fn thread_of(setting: Setting, met: Met) -> Thread
     }
     let head = met.head;
     let cell = met.cell;
-    let thing = met.thing;
+    let object = met.object;
     let other = met.other;
     let joined = other.ready;
-    let state = run_look::status(setting, head, cell, thing, joined.part, met.place);
+    let state = run_look::status(setting, head, cell, object, joined.redex, met.place);
     let learnt = (head.learnt % 256) as u8;
     Thread {
         state: state,
@@ -166,27 +166,27 @@ pub fn explore(
             let head = heads[thread];
             let ready = head.ready;
             let mut begun = Begun::Passed;
-            if run_act::goes_on(ready.part) {
+            if run_act::goes_on(ready.redex) {
                 begun = run_pick::went(head);
             } else {
                 let number = cell_of(head);
                 let stored = cells[number];
                 let cell = kept::restore(stored);
-                let thing = objects[number / 32];
-                let other = heads[thing.thread % 16];
+                let object = objects[number / 32];
+                let other = heads[object.thread % 16];
                 let met = Met {
                     counts: counts,
                     head: head,
                     cell: cell,
-                    thing: thing,
+                    object: object,
                     other: other,
                     thread: thread,
                     place: places[thread],
                 };
                 begun = run_pick::begin(setting, met);
             }
-            let reached = run_pick::land(words, roots, &mut stack, counts, head, thread, begun);
-            let Reached::Landed(landings) = reached else {
+            let reached = run_pick::refocus(words, roots, &mut stack, counts, head, thread, begun);
+            let Reached::Refocused(refocusings) = reached else {
                 let Reached::Stopped {
                     stop: reason,
                     entry,
@@ -201,7 +201,7 @@ pub fn explore(
                 break;
             };
             passed = [false; 8];
-            let last = landings.last;
+            let last = refocusings.last;
             let mover = heads[thread];
             let Begun::Acted(acted) = begun else {
                 let none = run_pick::no_entry();
@@ -214,19 +214,19 @@ pub fn explore(
             run_queue::after(&mut places, ready, thread);
             let entry = acted.entry;
             tally = run_tally::put_move(&mut *log, tally, every, thread, entry);
-            if ready.part == part::FORK {
-                let landed = landings.before;
-                heads[counts.threads % 9] = run_pick::born(mover, counts.objects, last);
-                heads[thread] = run_pick::moved(mover, acted, landed);
+            if ready.redex == redex::FORK {
+                let refocused = refocusings.before;
+                heads[counts.threads % 9] = run_pick::forked(mover, counts.objects, last);
+                heads[thread] = run_pick::moved(mover, acted, refocused);
             } else {
                 heads[thread] = run_pick::moved(mover, acted, last);
             }
-            if run_act::changes(ready.part) {
+            if run_act::changes(ready.redex) {
                 let number = cell_of(head);
                 let changed = acted.cell;
                 cells[number] = kept::keep(changed);
             }
-            let made = acted.thing;
+            let made = acted.object;
             let counted = acted.counts;
             objects[counts.objects % 33] = made;
             tally = run_tally::moved(tally, counted);
@@ -241,13 +241,13 @@ pub fn explore(
             let number = cell_of(head);
             let stored = cells[number];
             let cell = kept::restore(stored);
-            let thing = objects[number / 32];
-            let other = heads[thing.thread % 16];
+            let object = objects[number / 32];
+            let other = heads[object.thread % 16];
             let met = Met {
                 counts: counts,
                 head: head,
                 cell: cell,
-                thing: thing,
+                object: object,
                 other: other,
                 thread: thread,
                 place: places[thread],

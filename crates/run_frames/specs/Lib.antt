@@ -1,3 +1,3 @@
 pub mod Frames
-pub mod Parts
+pub mod RedexKinds
 pub mod Going

@@ -1,4 +1,4 @@
-// Frames: the constructs around the part that moves.
+// Frames: the constructs around the redex that moves.
 ghost use mathlib.Core.Path.{_≡_};
 ghost use Prim.Native.Nat.{_<_};
 ghost use Rattle.run_frames.specs.Frames.{codeOf, kindOf, framed, letFrame, secondFrame, collected, restOf, packOf, unpackOf};

@@ -1,4 +1,4 @@
-// What landing goes over: frames, the parts that move next, where landing stands, and what a frame does with the value of its operand.
+// What refocusing goes over: frames, the redexes that move next, where refocusing stands, and what a frame does with the value of its operand.
 pub mod frame;
-pub mod go;
-pub mod part;
+pub mod redex;
+pub mod refocusing;

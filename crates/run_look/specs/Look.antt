@@ -4,8 +4,8 @@ use Prim.Native.Nat.{ℕ, _-_, _/_, _%_, _^_}
 use mathlib.Core.Bool.{Bool, true, cond}
 use lib.Dec.{eqb, leb}
 use Rattle.run_keys.specs.KeySet.{holdsOf, isEmptyOf}
-use Rattle.run_frames.specs.Parts.{Part as part, isPart}
-use Rattle.run_frames.specs.declared.go.Ready.{Ready}
+use Rattle.run_frames.specs.RedexKinds.{RedexKind as redex, isRedex}
+use Rattle.run_frames.specs.declared.refocusing.Ready.{Ready}
 use Rattle.run_state.specs.declared.Head.{Head}
 use Rattle.run_state.specs.declared.Cell.{Cell}
 use Rattle.run_state.specs.declared.Object.{Object}
@@ -19,23 +19,23 @@ use Rattle.run_look.specs.declared.Block.the-variants as block
 use Rattle.run_look.specs.declared.Sight.{Sight}
 use Rattle.run_look.specs.declared.Sight.the-variants as sight
 
--- the object and the field that a part is about
+-- the object and the field that a redex is about
 unfoldable pub objectBy : ℕ → ℕ → ℕ
 objectBy p a =
-    cond (isPart part.Read p) (a % 32)
-    (cond (isPart part.Write p) (a % 32)
-    (cond (isPart part.Join p) (a % 32)
-    (cond (isPart part.Synch p) (a % 32)
-    (cond (isPart part.Hold p) (a % 32) (cond (isPart part.Signal p) (a % 32) (cond (isPart part.Waiting p) (a % 32) 0))))))
+    cond (isRedex redex.Read p) (a % 32)
+    (cond (isRedex redex.Write p) (a % 32)
+    (cond (isRedex redex.Join p) (a % 32)
+    (cond (isRedex redex.Synch p) (a % 32)
+    (cond (isRedex redex.Hold p) (a % 32) (cond (isRedex redex.Signal p) (a % 32) (cond (isRedex redex.Waiting p) (a % 32) 0))))))
 
 abbrev pub objectOf : Ready → ℕ
-objectOf r = objectBy (r .part) (r .first)
+objectOf r = objectBy (r .redex) (r .first)
 
 unfoldable pub fieldBy : ℕ → ℕ → ℕ
-fieldBy p b = cond (isPart part.Read p) (b % 32) (cond (isPart part.Write p) (b % 32) 0)
+fieldBy p b = cond (isRedex redex.Read p) (b % 32) (cond (isRedex redex.Write p) (b % 32) 0)
 
 abbrev pub fieldOf : Ready → ℕ
-fieldOf r = fieldBy (r .part) (r .second)
+fieldOf r = fieldBy (r .redex) (r .second)
 
 -- the mask's top bit, of 32, is field 0
 unfoldable pub hasOf : ℕ → ℕ → Bool
@@ -47,7 +47,7 @@ lookField g h c t f =
     (sight.Blocked block.Field)
 
 unfoldable pub lookJoin : Object → ℕ → Sight
-lookJoin t q = cond (leb 8 (t .thread)) (sight.Blocked block.Thread) (cond (isPart part.Done q) sight.Ready (sight.Blocked block.Join))
+lookJoin t q = cond (leb 8 (t .thread)) (sight.Blocked block.Thread) (cond (isRedex redex.Done q) sight.Ready (sight.Blocked block.Join))
 
 unfoldable pub lookSynch : Head → Cell → Sight
 lookSynch h c = cond (isEmptyOf (c .keys)) (cond (eqb (c .value) (h .object)) sight.Ready (sight.Blocked block.Monitor)) sight.Ready
@@ -61,19 +61,19 @@ unfoldable pub lookWaiting : Cell → ℕ → Sight
 lookWaiting c w = cond (eqb (w / 32) 0) (cond (isEmptyOf (c .keys)) (sight.Blocked block.Monitor) sight.Ready) (sight.Blocked block.Notify)
 
 unfoldable pub aboutField : ℕ → Bool
-aboutField p = cond (isPart part.Read p) true (isPart part.Write p)
+aboutField p = cond (isRedex redex.Read p) true (isRedex redex.Write p)
 
--- what the pick of a thread with part p meets, in the place w of a queue
+-- what the pick of a thread with redex p meets, in the place w of a queue
 unfoldable pub lookBy : ℕ → Setting → Head → Cell → Object → ℕ → ℕ → Sight
 lookBy p g h c t q w =
     cond (aboutField p) (lookField g h c t (h .ready .second))
-    (cond (isPart part.Done p) (sight.Blocked block.Finished)
-    (cond (isPart part.NoRule p) (sight.Blocked block.NoRule)
-    (cond (isPart part.Join p) (lookJoin t q)
-    (cond (isPart part.Synch p) (lookSynch h c) (cond (isPart part.Signal p) (lookSignal h c) (cond (isPart part.Waiting p) (lookWaiting c w) sight.Ready))))))
+    (cond (isRedex redex.Done p) (sight.Blocked block.Finished)
+    (cond (isRedex redex.NoRule p) (sight.Blocked block.NoRule)
+    (cond (isRedex redex.Join p) (lookJoin t q)
+    (cond (isRedex redex.Synch p) (lookSynch h c) (cond (isRedex redex.Signal p) (lookSignal h c) (cond (isRedex redex.Waiting p) (lookWaiting c w) sight.Ready))))))
 
 abbrev pub lookOf : Setting → Head → Cell → Object → ℕ → ℕ → Sight
-lookOf g h c t q w = lookBy (h .ready .part) g h c t q w
+lookOf g h c t q w = lookBy (h .ready .redex) g h c t q w
 
 -- the state of a thread whose next pick meets this
 abbrev pub blockedOf : Block → Ready → ThreadState

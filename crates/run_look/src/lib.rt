@@ -2,8 +2,8 @@
 ghost use mathlib.Core.Path.{_≡_};
 ghost use Prim.Native.Nat.{_<_};
 ghost use Rattle.run_look.specs.Look.{objectOf, fieldOf, hasOf, lookField, lookJoin, lookSynch, lookSignal, lookWaiting, aboutField, lookOf, blockedOf, stateOf};
-use run_frames::go::Ready;
-use run_frames::part;
+use run_frames::redex;
+use run_frames::refocusing::Ready;
 use run_outcome::Stuck;
 use run_outcome::ThreadState;
 use run_outcome::Wait;
@@ -33,31 +33,31 @@ pub enum Sight {
     Blocked(Block),
 }
 
-// The object that the part is about; 0 where it is about none. Of the parts from a read on, a fork alone is about none: three tests are faster than a match.
+// The object that the redex is about; 0 where it is about none. Of the redexes from a read on, a fork alone is about none: three tests are faster than a match.
 pub fn object_of(ready: Ready) -> usize
     ensures { λ x. ⌜ (x ≡ objectOf ready) × (x < 32) ⌝ }
 {
-    let part = ready.part;
-    if part < part::READ {
+    let redex = ready.redex;
+    if redex < redex::READ {
         return 0;
     }
-    if part::WAITING < part {
+    if redex::WAITING < redex {
         return 0;
     }
-    if part == part::FORK {
+    if redex == redex::FORK {
         return 0;
     }
     ready.first % 32
 }
 
-// The field that the part is about; 0, the monitor, where it is about none.
+// The field that the redex is about; 0, the monitor, where it is about none.
 pub fn field_of(ready: Ready) -> usize
     ensures { λ x. ⌜ (x ≡ fieldOf ready) × (x < 32) ⌝ }
 {
-    let part = ready.part;
-    match part {
-        part::READ => ready.second % 32,
-        part::WRITE => ready.second % 32,
+    let redex = ready.redex;
+    match redex {
+        redex::READ => ready.second % 32,
+        redex::WRITE => ready.second % 32,
         _ => 0,
     }
 }
@@ -70,10 +70,10 @@ pub fn has(mask: usize, field: usize) -> bool
 }
 
 // What an access to a field meets.
-fn look_field(setting: Setting, head: Head, cell: Cell, thing: Object, field: usize) -> Sight
-    ensures { λ r. ⌜ r ≡ lookField setting head cell thing field ⌝ }
+fn look_field(setting: Setting, head: Head, cell: Cell, object: Object, field: usize) -> Sight
+    ensures { λ r. ⌜ r ≡ lookField setting head cell object field ⌝ }
 {
-    if !has(thing.mask, field) {
+    if !has(object.mask, field) {
         return Sight::Blocked(Block::Field);
     }
     if has(setting.mask, field) {
@@ -87,13 +87,13 @@ fn look_field(setting: Setting, head: Head, cell: Cell, thing: Object, field: us
 }
 
 // What a join meets, by the part of the thread that its object stands for.
-fn look_join(thing: Object, other: usize) -> Sight
-    ensures { λ r. ⌜ r ≡ lookJoin thing other ⌝ }
+fn look_join(object: Object, other: usize) -> Sight
+    ensures { λ r. ⌜ r ≡ lookJoin object other ⌝ }
 {
-    if 8 <= thing.thread {
+    if 8 <= object.thread {
         return Sight::Blocked(Block::Thread);
     }
-    if other == part::DONE {
+    if other == redex::DONE {
         Sight::Ready
     } else {
         Sight::Blocked(Block::Join)
@@ -140,40 +140,40 @@ fn look_waiting(cell: Cell, place: u16) -> Sight
     }
 }
 
-// Whether the part reads or writes a field.
-fn about_field(part: usize) -> bool
-    ensures { λ r. ⌜ r ≡ aboutField part ⌝ }
+// Whether the redex reads or writes a field.
+fn about_field(redex: usize) -> bool
+    ensures { λ r. ⌜ r ≡ aboutField redex ⌝ }
 {
-    if part == part::READ {
+    if redex == redex::READ {
         return true;
     }
-    part == part::WRITE
+    redex == redex::WRITE
 }
 
-// What a present thread's next pick meets, by its head, the cell and the object that its part is about, the part of the thread that the object
+// What a present thread's next pick meets, by its head, the cell and the object that its redex is about, the part of the thread that the object
 // stands for, and its place in a queue.
 pub fn look(
     setting: Setting,
     head: Head,
     cell: Cell,
-    thing: Object,
+    object: Object,
     other: usize,
     place: u16,
 ) -> Sight
-    ensures { λ r. ⌜ r ≡ lookOf setting head cell thing other place ⌝ }
+    ensures { λ r. ⌜ r ≡ lookOf setting head cell object other place ⌝ }
 {
     let ready = head.ready;
-    let part = ready.part;
-    if about_field(part) {
-        return look_field(setting, head, cell, thing, ready.second);
+    let redex = ready.redex;
+    if about_field(redex) {
+        return look_field(setting, head, cell, object, ready.second);
     }
-    match part {
-        part::DONE => Sight::Blocked(Block::Finished),
-        part::NO_RULE => Sight::Blocked(Block::NoRule),
-        part::JOIN => look_join(thing, other),
-        part::SYNCH => look_synch(head, cell),
-        part::SIGNAL => look_signal(head, cell),
-        part::WAITING => look_waiting(cell, place),
+    match redex {
+        redex::DONE => Sight::Blocked(Block::Finished),
+        redex::NO_RULE => Sight::Blocked(Block::NoRule),
+        redex::JOIN => look_join(object, other),
+        redex::SYNCH => look_synch(head, cell),
+        redex::SIGNAL => look_signal(head, cell),
+        redex::WAITING => look_waiting(cell, place),
         _ => Sight::Ready,
     }
 }
@@ -198,7 +198,7 @@ fn blocked(block: Block, ready: Ready) -> ThreadState
     }
 }
 
-// The state of a thread whose next pick meets this, with the numbers of its part.
+// The state of a thread whose next pick meets this, with the numbers of its redex.
 pub fn state_of(sight: Sight, ready: Ready) -> ThreadState
     ensures { λ r. ⌜ r ≡ stateOf sight ready ⌝ }
 {
@@ -217,24 +217,24 @@ pub fn status(
     setting: Setting,
     head: Head,
     cell: Cell,
-    thing: Object,
+    object: Object,
     other: usize,
     place: u16,
 ) -> ThreadState
-    ensures { λ r. ⌜ r ≡ stateOf (lookOf setting head cell thing other place) (head .ready) ⌝ }
+    ensures { λ r. ⌜ r ≡ stateOf (lookOf setting head cell object other place) (head .ready) ⌝ }
 {
     let ready = head.ready;
-    let part = ready.part;
-    if about_field(part) {
-        return state_of(look_field(setting, head, cell, thing, ready.second), ready);
+    let redex = ready.redex;
+    if about_field(redex) {
+        return state_of(look_field(setting, head, cell, object, ready.second), ready);
     }
-    match part {
-        part::DONE => state_of(Sight::Blocked(Block::Finished), ready),
-        part::NO_RULE => state_of(Sight::Blocked(Block::NoRule), ready),
-        part::JOIN => state_of(look_join(thing, other), ready),
-        part::SYNCH => state_of(look_synch(head, cell), ready),
-        part::SIGNAL => state_of(look_signal(head, cell), ready),
-        part::WAITING => state_of(look_waiting(cell, place), ready),
+    match redex {
+        redex::DONE => state_of(Sight::Blocked(Block::Finished), ready),
+        redex::NO_RULE => state_of(Sight::Blocked(Block::NoRule), ready),
+        redex::JOIN => state_of(look_join(object, other), ready),
+        redex::SYNCH => state_of(look_synch(head, cell), ready),
+        redex::SIGNAL => state_of(look_signal(head, cell), ready),
+        redex::WAITING => state_of(look_waiting(cell, place), ready),
         _ => ThreadState::Ready,
     }
 }

@@ -6,7 +6,7 @@ use lib.Dec.{eqb}
 use Rattle.run_keys.specs.KeySet.{emptySet, joinedOf, isEmptyOf}
 use Rattle.run_frames.specs.declared.frame.Kind.the-variants as kind
 use Rattle.run_frames.specs.declared.frame.Frame.{Frame}
-use Rattle.run_frames.specs.Parts.{Part as part}
+use Rattle.run_frames.specs.RedexKinds.{RedexKind as redex}
 use Rattle.run_frames.specs.Going.{readyOf, goAt, goRun, goWant, goValue}
 use Rattle.run_state.specs.declared.Head.{Head}
 use Rattle.run_state.specs.declared.Cell.{Cell}
@@ -29,7 +29,7 @@ actHold n h o v = actedOf (goValue v) n (h .keys) (cellOf 0 0 (h .keys)) (entryO
 
 -- a wait gives up the monitor with the thread's keys, and goes on in the queue
 abbrev pub actWait : Counts → Head → ℕ → Act
-actWait n h o = actedOf (goAt (readyOf part.Waiting o 0 0 0)) n (h .keys) (cellOf 0 0 (h .keys)) (entryOf (kindNumber Kind.release) o 0 0)
+actWait n h o = actedOf (goAt (readyOf redex.Waiting o 0 0 0)) n (h .keys) (cellOf 0 0 (h .keys)) (entryOf (kindNumber Kind.release) o 0 0)
 
 -- signal k: 0 wait, 1 notify, 2 notify all, which change the queue alone
 unfoldable pub actSignal : Counts → Head → Cell → ℕ → ℕ → Act

@@ -4,8 +4,8 @@ ghost use Rattle.run_monitors.specs.Monitors.{actSynch, actHold, actWait
 use log_records::kind;
 use run_frames::frame::Frame;
 use run_frames::frame::Kind;
-use run_frames::go;
-use run_frames::part;
+use run_frames::redex;
+use run_frames::refocusing;
 use run_keys::KeySet;
 use run_state::Cell;
 use run_state::Counts;
@@ -30,7 +30,7 @@ pub fn act_synch(
     let keys = head.keys;
     let cell_keys = cell.keys;
     if cell_keys.is_empty() {
-        return go_on(go::run(term, environment), counts, head, cell);
+        return go_on(refocusing::run(term, environment), counts, head, cell);
     }
     let joined = keys.join(cell_keys);
     let none = KeySet::new();
@@ -44,7 +44,7 @@ pub fn act_synch(
         environment: environment,
         arguments: object,
     };
-    let go = go::want(frame, term);
+    let go = refocusing::want(frame, term);
     let entry = entry(kind::ACQUIRE, object, 0, 0);
     heard(go, counts, joined, changed, entry)
 }
@@ -54,7 +54,7 @@ pub fn act_hold(counts: Counts, head: Head, object: usize, value: usize) -> Act
 {
     let keys = head.keys;
     let changed = cell_with(0, 0, keys);
-    let go = go::value(value);
+    let go = refocusing::value(value);
     let entry = entry(kind::RELEASE, object, 0, 0);
     acted_of(go, counts, keys, changed, entry)
 }
@@ -65,7 +65,7 @@ fn act_wait(counts: Counts, head: Head, object: usize) -> Act
 {
     let keys = head.keys;
     let changed = cell_with(0, 0, keys);
-    let go = go::at(go::ready_of(part::WAITING, object, 0, 0, 0));
+    let go = refocusing::at(refocusing::ready_of(redex::WAITING, object, 0, 0, 0));
     let entry = entry(kind::RELEASE, object, 0, 0);
     acted_of(go, counts, keys, changed, entry)
 }
@@ -77,7 +77,7 @@ pub fn act_signal(counts: Counts, head: Head, cell: Cell, object: usize, signal:
     if signal == 0 {
         return act_wait(counts, head, object);
     }
-    go_on(go::value(0), counts, head, cell)
+    go_on(refocusing::value(0), counts, head, cell)
 }
 
 // A thread that was notified takes the monitor again.
@@ -89,7 +89,7 @@ pub fn act_wake(counts: Counts, head: Head, cell: Cell, object: usize) -> Act
     let joined = keys.join(given);
     let none = KeySet::new();
     let changed = cell_with(head.object, 0, none);
-    let go = go::value(0);
+    let go = refocusing::value(0);
     let entry = entry(kind::ACQUIRE, object, 0, 0);
     heard(go, counts, joined, changed, entry)
 }

@@ -2,7 +2,7 @@
 ghost use mathlib.Core.Path.{_≡_};
 ghost use Rattle.run_objects.specs.Objects.{actNew, actFork, actJoin};
 use log_records::kind;
-use run_frames::go;
+use run_frames::refocusing;
 use run_outcome::NoRoom;
 use run_state::Cell;
 use run_state::Counts;
@@ -28,7 +28,7 @@ pub fn act_new(counts: Counts, head: Head, cell: Cell, mask: usize) -> Act
         objects: objects,
         keys: counts.keys,
     };
-    let go = go::value(object);
+    let go = refocusing::value(object);
     acted_with(go, counted, keys, cell, entry, mask, 8)
 }
 
@@ -52,7 +52,7 @@ pub fn act_fork(counts: Counts, head: Head, cell: Cell) -> Act
         objects: objects,
         keys: counts.keys,
     };
-    let go = go::value(object);
+    let go = refocusing::value(object);
     acted_with(go, counted, keys, cell, entry, 0, thread)
 }
 
@@ -60,18 +60,18 @@ pub fn act_join(
     counts: Counts,
     head: Head,
     cell: Cell,
-    thing: Object,
+    object: Object,
     other: Head,
-    object: usize,
+    number: usize,
 ) -> Act
-    ensures { λ r. ⌜ r ≡ actJoin counts head cell thing other object ⌝ }
+    ensures { λ r. ⌜ r ≡ actJoin counts head cell object other number ⌝ }
 {
     let keys = head.keys;
     let other_keys = other.keys;
     let joined = keys.join(other_keys);
     let ready = other.ready;
     let value = ready.first;
-    let go = go::value(value);
-    let entry = entry(kind::JOIN, object, thing.thread, value);
+    let go = refocusing::value(value);
+    let entry = entry(kind::JOIN, number, object.thread, value);
     heard(go, counts, joined, cell, entry)
 }

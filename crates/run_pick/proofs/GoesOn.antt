@@ -5,8 +5,8 @@ use mathlib.Core.Path.{_≡_, refl}
 use mathlib.Core.Bool.{Bool, true, false, cond}
 use lib.Dec.{ltb, leb}
 use borrow.Author.Tests.{ltb-false, leb-true, ne-eqb}
-use Rattle.run_frames.specs.Parts.{Part as part, isPart}
-use Rattle.run_frames.specs.declared.go.Go.{Go}
+use Rattle.run_frames.specs.RedexKinds.{RedexKind as redex, isRedex}
+use Rattle.run_frames.specs.declared.refocusing.Refocusing.{Refocusing}
 use Rattle.run_state.specs.declared.Setting.{Setting}
 use Rattle.run_state.specs.declared.Head.{Head}
 use Rattle.run_state.specs.declared.Cell.{Cell}
@@ -34,10 +34,10 @@ module _ (p : ℕ) (e : goesOnBy p ≡ true) where
   unfolding goesOnBy
   high = leb-true p 8 (no-higher (ltb p 2) (leb p 8) e)
 
-  pub no-fork : isPart part.Fork p ≡ false
+  pub no-fork : isRedex redex.Fork p ≡ false
   no-fork = ne-eqb p 12 (λ x. omega (arith, high))
 
-  pub no-signal : isPart part.Signal p ≡ false
+  pub no-signal : isRedex redex.Signal p ≡ false
   no-signal = ne-eqb p 16 (λ x. omega (arith, high))
 
   pub is-ready : (g : Setting) (h : Head) (c : Cell) (t : Object) (q w : ℕ) → lookBy p g h c t q w ≡ sight.Ready

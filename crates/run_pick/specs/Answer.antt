@@ -10,9 +10,9 @@ use Rattle.run_state.specs.declared.Entry.{Entry}
 -- what a move leaves: the mover, the thread that it makes if it forks, the cell, the object that it makes, the counts, the record
 pub record Move : Type 0 where
   pub mover : Head
-  pub young : Head
+  pub forked : Head
   pub cell : Cell
-  pub thing : Object
+  pub object : Object
   pub counts : Counts
   pub entry : Entry
   pub forks : Bool

@@ -5,14 +5,14 @@ use mathlib.Core.List.{List}
 use Rattle.run_keys.specs.declared.KeySet.{KeySet}
 use Rattle.run_keys.specs.KeySet.{emptySet}
 use Rattle.log_records.specs.Record.{Kind, kindNumber}
-use Rattle.run_frames.specs.Parts.{Part as part, isPart}
-use Rattle.run_frames.specs.declared.go.Ready.{Ready}
-use Rattle.run_frames.specs.declared.go.Go.{Go}
+use Rattle.run_frames.specs.RedexKinds.{RedexKind as redex, isRedex}
+use Rattle.run_frames.specs.declared.refocusing.Ready.{Ready}
+use Rattle.run_frames.specs.declared.refocusing.Refocusing.{Refocusing}
 use Rattle.run_frames.specs.Going.{readyOf, goRun, goFull}
-use Rattle.run_refocusing.specs.declared.Landed.{Landed}
+use Rattle.run_refocusing.specs.declared.Refocused.{Refocused}
 use Rattle.run_refocusing.specs.declared.Way.{Way}
-use Rattle.run_refocusing.specs.Landing.{Stack, Ended, Ends, landOf, landedOf, landFrom, afterOf}
-pub use Rattle.run_refocusing.specs.Landing.{fullBy, fullOf}
+use Rattle.run_refocusing.specs.Refocusing.{Stack, Ended, Ends, refocusOf, refocusedOf, refocusFrom, afterOf}
+pub use Rattle.run_refocusing.specs.Refocusing.{fullBy, fullOf}
 use Rattle.run_outcome.specs.declared.NoRoom.{NoRoom}
 use Rattle.run_outcome.specs.declared.NoRoom.the-variants as room
 use Rattle.run_outcome.specs.declared.Stop.the-variants as stop
@@ -48,74 +48,74 @@ picked k z = record { stack = k; answer = z }
 abbrev pub noRoom : NoRoom → Answer
 noRoom r = answer.Stopped (stop.NoRoom r) noEntry
 
--- the record of an access that lacks its key, by its part p
+-- the record of an access that lacks its key, by its redex p
 unfoldable pub lackBy : ℕ → Ready → Entry
-lackBy p r = cond (isPart part.Write p) (entryOf (kindNumber Kind.lacksWrite) (r .first) (r .second) (r .third))
+lackBy p r = cond (isRedex redex.Write p) (entryOf (kindNumber Kind.lacksWrite) (r .first) (r .second) (r .third))
     (entryOf (kindNumber Kind.lacksRead) (r .first) (r .second) 0)
 
 abbrev pub lackEntry : Ready → Entry
-lackEntry r = lackBy (r .part) r
+lackEntry r = lackBy (r .redex) r
 
 abbrev pub forksOf : Head → Bool
-forksOf h = isPart part.Fork (h .ready .part)
+forksOf h = isRedex redex.Fork (h .ready .redex)
 
--- a thread where its landing ended
-abbrev pub landedHead : Landed → ℕ → KeySet → ℕ → Head
-landedHead l o ks n = record { ready = l .ready; depth = l .depth; object = o; keys = ks; learnt = n }
+-- a thread where its refocusing ended
+abbrev pub refocusedHead : Refocused → ℕ → KeySet → ℕ → Head
+refocusedHead l o ks n = record { ready = l .ready; depth = l .depth; object = o; keys = ks; learnt = n }
 
 abbrev pub noHead : Head
-noHead = record { ready = readyOf part.Done 0 0 0 0; depth = 0; object = 0; keys = emptySet; learnt = 0 }
+noHead = record { ready = readyOf redex.Done 0 0 0 0; depth = 0; object = 0; keys = emptySet; learnt = 0 }
 
 -- the mover after its move, its total below 256 before it; the thread that a fork makes, whose object is the next one and whose keys are its maker's
-abbrev pub moverOf : Met → Acted → Landed → Head
-moverOf x a l = landedHead l (x .head .object) (a .keys) (x .head .learnt % 256 + a .new)
+abbrev pub moverOf : Met → Acted → Refocused → Head
+moverOf x a l = refocusedHead l (x .head .object) (a .keys) (x .head .learnt % 256 + a .new)
 
-abbrev pub bornOf : Met → Landed → Head
-bornOf x l = landedHead l (x .counts .objects) (x .head .keys) 0
+abbrev pub forkedOf : Met → Refocused → Head
+forkedOf x l = refocusedHead l (x .counts .objects) (x .head .keys) 0
 
-abbrev pub moveOf : Met → Acted → Landed → Head → Bool → Move
-moveOf x a l y forks = record { mover = moverOf x a l; young = y; cell = a .cell; thing = a .thing; counts = a .counts; entry = a .entry; forks = forks }
+abbrev pub moveOf : Met → Acted → Refocused → Head → Bool → Move
+moveOf x a l y forks = record { mover = moverOf x a l; forked = y; cell = a .cell; object = a .object; counts = a .counts; entry = a .entry; forks = forks }
 
--- ---- the landings
+-- ---- the refocusings
 
 -- of the mover
-abbrev pub landMover : List ℕ → List ℕ → Met → Acted → Stack → Ended
-landMover ws rs x a k = landOf 2100 ws rs (x .thread * 33) k (a .go) (x .head .depth % 33)
+abbrev pub refocusMover : List ℕ → List ℕ → Met → Acted → Stack → Ended
+refocusMover ws rs x a k = refocusOf 2100 ws rs (x .thread * 33) k (a .go) (x .head .depth % 33)
 
 -- of a forked thread
-abbrev pub youngGo : Head → Go
-youngGo h = goRun (h .ready .first) (h .ready .environment)
+abbrev pub forkedGo : Head → Refocusing
+forkedGo h = goRun (h .ready .first) (h .ready .environment)
 
-abbrev pub landYoung : List ℕ → List ℕ → Met → Stack → Ended
-landYoung ws rs x k = landOf 2100 ws rs (x .counts .threads % 9 * 33) k (youngGo (x .head)) 0
+abbrev pub refocusForked : List ℕ → List ℕ → Met → Stack → Ended
+refocusForked ws rs x k = refocusOf 2100 ws rs (x .counts .threads % 9 * 33) k (forkedGo (x .head)) 0
 
--- from where the two land
-abbrev pub moverWay : ℕ → Head → Go → Way
+-- from where the two refocus
+abbrev pub moverWay : ℕ → Head → Refocusing → Way
 moverWay p h g = record { base = p * 33; depth = h .depth % 33; go = g }
 
-abbrev pub youngWay : Counts → Head → Way
-youngWay n h = record { base = n .threads % 9 * 33; depth = 0; go = youngGo h }
+abbrev pub forkedWay : Counts → Head → Way
+forkedWay n h = record { base = n .threads % 9 * 33; depth = 0; go = forkedGo h }
 
 -- ---- the answer
 
--- to a fork whose mover has landed at l, where its young landed
-unfoldable pub startBy : Met → Acted → Landed → Ended → Picked
-startBy x a l y = cond (fullOf (y .landed)) (picked (y .stack) (noRoom room.Depth))
-    (picked (y .stack) (answer.Moved (moveOf x a l (bornOf x (y .landed)) true)))
+-- to a fork whose mover has refocused at l, where its forked thread refocused
+unfoldable pub startBy : Met → Acted → Refocused → Ended → Picked
+startBy x a l y = cond (fullOf (y .refocused)) (picked (y .stack) (noRoom room.Depth))
+    (picked (y .stack) (answer.Moved (moveOf x a l (forkedOf x (y .refocused)) true)))
 
--- to a move that has room for what it makes, where its mover landed
-unfoldable pub landBy : List ℕ → List ℕ → Met → Acted → Ended → Picked
-landBy ws rs x a l =
-    cond (fullOf (l .landed)) (picked (l .stack) (noRoom room.Depth))
-    (cond (forksOf (x .head)) (startBy x a (l .landed) (landYoung ws rs x (l .stack))) (picked (l .stack) (answer.Moved (moveOf x a (l .landed) noHead false))))
+-- to a move that has room for what it makes, where its mover refocused
+unfoldable pub refocusBy : List ℕ → List ℕ → Met → Acted → Ended → Picked
+refocusBy ws rs x a l =
+    cond (fullOf (l .refocused)) (picked (l .stack) (noRoom room.Depth))
+    (cond (forksOf (x .head)) (startBy x a (l .refocused) (refocusForked ws rs x (l .stack))) (picked (l .stack) (answer.Moved (moveOf x a (l .refocused) noHead false))))
 
 abbrev pub makeBy : List ℕ → List ℕ → Met → Act → Stack → Picked
-makeBy ws rs x (act.Done a) k = landBy ws rs x a (landMover ws rs x a k)
+makeBy ws rs x (act.Done a) k = refocusBy ws rs x a (refocusMover ws rs x a k)
 makeBy ws rs x (act.NoRoom r) k = picked k (noRoom r)
 
 -- what the move of a ready thread does
 abbrev pub actMet : Setting → Met → Act
-actMet g x = actOf g (x .counts) (x .head) (x .cell) (x .thing) (x .other)
+actMet g x = actOf g (x .counts) (x .head) (x .cell) (x .object) (x .other)
 
 abbrev pub pickBy : List ℕ → List ℕ → Setting → Met → Sight → Stack → Picked
 pickBy ws rs g x sight.Ready k = makeBy ws rs x (actMet g x) k
@@ -124,7 +124,7 @@ pickBy ws rs g x (sight.Blocked b) k = picked k answer.Passed
 
 -- what a pick meets
 abbrev pub lookMet : Setting → Met → Sight
-lookMet g x = lookOf g (x .head) (x .cell) (x .thing) (x .other .ready .part) (x .place)
+lookMet g x = lookOf g (x .head) (x .cell) (x .object) (x .other .ready .redex) (x .place)
 
 unfoldable pub pickOf : List ℕ → List ℕ → Setting → Met → Stack → Picked
 pickOf ws rs g x k = pickBy ws rs g x (lookMet g x) k
@@ -145,10 +145,10 @@ beginBy g x sight.Lacking = begun.Stopped stop.Race (lackEntry (x .head .ready))
 beginBy g x (sight.Blocked b) = begun.Passed
 
 unfoldable pub beginOf : Setting → Met → Begun
-beginOf g x = cond (goesOnBy (x .head .ready .part)) (begun.Went (actPure (x .head))) (beginBy g x (lookMet g x))
+beginOf g x = cond (goesOnBy (x .head .ready .redex)) (begun.Went (actPure (x .head))) (beginBy g x (lookMet g x))
 
--- from where it lands
-abbrev pub goOf : Begun → Go
+-- from where it refocuses
+abbrev pub goOf : Begun → Refocusing
 goOf begun.Passed = goFull
 goOf (begun.Stopped e y) = goFull
 goOf (begun.Went g) = g
@@ -162,12 +162,12 @@ pub record Came : Type 0 where
 abbrev pub came : Stack → Reached → Came
 came k z = record { stack = k; reached = z }
 
--- the landings of a move of thread p, whose head is h, and what they come to
-abbrev pub landingsFrom : List ℕ → List ℕ → Counts → Head → ℕ → Go → Stack → Ends
-landingsFrom ws rs n h p g k = afterOf ws rs (forksOf h) (youngWay n h) (landedOf g (h .depth % 33)) (landFrom ws rs (moverWay p h g) k)
+-- the refocusings of a move of thread p, whose head is h, and what they come to
+abbrev pub refocusingsFrom : List ℕ → List ℕ → Counts → Head → ℕ → Refocusing → Stack → Ends
+refocusingsFrom ws rs n h p g k = afterOf ws rs (forksOf h) (forkedWay n h) (refocusedOf g (h .depth % 33)) (refocusFrom ws rs (moverWay p h g) k)
 
 unfoldable pub reachedAt : Ends → Came
-reachedAt e = cond (fullOf (e .landings .last)) (came (e .stack) (reached.Stopped (stop.NoRoom room.Depth) noEntry)) (came (e .stack) (reached.Landed (e .landings)))
+reachedAt e = cond (fullOf (e .refocusings .last)) (came (e .stack) (reached.Stopped (stop.NoRoom room.Depth) noEntry)) (came (e .stack) (reached.Refocused (e .refocusings)))
 
 abbrev pub reachBy : Begun → Stack → Came → Came
 reachBy begun.Passed k c = came k reached.Passed
@@ -176,4 +176,4 @@ reachBy (begun.Went g) k c = c
 reachBy (begun.Acted a) k c = c
 
 abbrev pub reachOf : List ℕ → List ℕ → Counts → Head → ℕ → Begun → Stack → Came
-reachOf ws rs n h p b k = reachBy b k (reachedAt (landingsFrom ws rs n h p (goOf b) k))
+reachOf ws rs n h p b k = reachBy b k (reachedAt (refocusingsFrom ws rs n h p (goOf b) k))

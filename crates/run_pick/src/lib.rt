@@ -1,24 +1,24 @@
-// One pick, in three steps: how it begins, by what it meets; its landings; what it leaves of a head. The frames alone are lent; all else goes by value. A move
+// One pick, in three steps: how it begins, by what it meets; its refocusings; what it leaves of a head. The frames alone are lent; all else goes by value. A move
 // that only goes on elsewhere is a case of its own, in which nothing but the thread's head is looked at.
 ghost use mathlib.Core.Path.{_≡_};
 ghost use Prim.Native.Nat.{_<_, _+_, _%_};
 ghost use mathlib.Core.Bool.{false};
 ghost use Rattle.run_act.specs.Act.{goesOnBy, actPure};
 ghost use Rattle.run_state.specs.Acted.{noEntry};
-ghost use Rattle.run_pick.specs.Pick.{stoppedFor, lackEntry, landedHead, noHead, moverWay, youngWay, begunBy, beginOf, goOf, landingsFrom, reachedAt, reachOf, actMet};
+ghost use Rattle.run_pick.specs.Pick.{stoppedFor, lackEntry, refocusedHead, noHead, moverWay, forkedWay, begunBy, beginOf, goOf, refocusingsFrom, reachedAt, reachOf, actMet};
 ghost use Rattle.run_outcome.specs.declared.Stop.the-variants as stop;
 ghost use Rattle.run_pick.specs.declared.Begun.the-variants as begun;
 use log_records::kind;
-use run_frames::go;
-use run_frames::go::Go;
-use run_frames::go::Ready;
-use run_frames::part;
+use run_frames::redex;
+use run_frames::refocusing;
+use run_frames::refocusing::Ready;
+use run_frames::refocusing::Refocusing;
 use run_keys::KeySet;
 use run_look::Sight;
 use run_outcome::NoRoom;
 use run_outcome::Stop;
-use run_refocusing::Landed;
-use run_refocusing::Landings;
+use run_refocusing::Refocused;
+use run_refocusing::Refocusings;
 use run_refocusing::Way;
 use run_state::Cell;
 use run_state::Counts;
@@ -30,13 +30,13 @@ use run_state::acted;
 use run_state::acted::Act;
 use run_state::acted::Acted;
 
-// What a pick meets: the counts, the thread's head, the cell and the object that its part is about, the head of the thread that the object stands for,
+// What a pick meets: the counts, the thread's head, the cell and the object that its redex is about, the head of the thread that the object stands for,
 // the thread's number, and its place in a queue.
 pub struct Met {
     pub counts: Counts,
     pub head: Head,
     pub cell: Cell,
-    pub thing: Object,
+    pub object: Object,
     pub other: Head,
     pub thread: usize,
     pub place: u16,
@@ -46,15 +46,15 @@ pub struct Met {
 pub enum Begun {
     Passed,
     Stopped { stop: Stop, entry: Entry },
-    Went(Go),
+    Went(Refocusing),
     Acted(Acted),
 }
 
-// How far a pick comes: it is passed over, stops the run with a last record, or has landed.
+// How far a pick comes: it is passed over, stops the run with a last record, or has refocused.
 pub enum Reached {
     Passed,
     Stopped { stop: Stop, entry: Entry },
-    Landed(Landings),
+    Refocused(Refocusings),
 }
 
 // No record.
@@ -78,7 +78,7 @@ fn no_room(room: NoRoom) -> Begun
 fn lack(ready: Ready) -> Entry
     ensures { λ r. ⌜ r ≡ lackEntry ready ⌝ }
 {
-    if ready.part == part::WRITE {
+    if ready.redex == redex::WRITE {
         return acted::entry(kind::LACKS_WRITE, ready.first, ready.second, ready.third);
     }
     acted::entry(kind::LACKS_READ, ready.first, ready.second, 0)
@@ -94,14 +94,14 @@ fn race(ready: Ready) -> Begun
     }
 }
 
-// A thread where its landing ended.
-fn head_at(landed: Landed, object: usize, keys: KeySet, learnt: usize) -> Head
-    ensures { λ r. ⌜ r ≡ landedHead landed object keys learnt ⌝ }
+// A thread where its refocusing ended.
+fn head_at(refocused: Refocused, object: usize, keys: KeySet, learnt: usize) -> Head
+    ensures { λ r. ⌜ r ≡ refocusedHead refocused object keys learnt ⌝ }
 {
-    let ready = landed.ready;
+    let ready = refocused.ready;
     Head {
         ready: ready,
-        depth: landed.depth,
+        depth: refocused.depth,
         object: object,
         keys: keys,
         learnt: learnt,
@@ -112,7 +112,7 @@ fn head_at(landed: Landed, object: usize, keys: KeySet, learnt: usize) -> Head
 pub fn no_head() -> Head
     ensures { λ r. ⌜ r ≡ noHead ⌝ }
 {
-    let none = go::ready_of(part::DONE, 0, 0, 0, 0);
+    let none = refocusing::ready_of(redex::DONE, 0, 0, 0, 0);
     let keys = KeySet::new();
     Head {
         ready: none,
@@ -123,29 +123,29 @@ pub fn no_head() -> Head
     }
 }
 
-// The mover of a move that only goes on elsewhere, where it landed.
-pub fn gone(head: Head, landed: Landed) -> Head
-    ensures { λ r. ⌜ r ≡ landedHead landed (head .object) (head .keys) (head .learnt % 256) ⌝ }
+// The mover of a move that only goes on elsewhere, where it refocused.
+pub fn gone(head: Head, refocused: Refocused) -> Head
+    ensures { λ r. ⌜ r ≡ refocusedHead refocused (head .object) (head .keys) (head .learnt % 256) ⌝ }
 {
     let keys = head.keys;
-    head_at(landed, head.object, keys, head.learnt % 256)
+    head_at(refocused, head.object, keys, head.learnt % 256)
 }
 
-// The mover of another move, where it landed.
-pub fn moved(head: Head, acted: Acted, landed: Landed) -> Head
-    ensures { λ r. ⌜ r ≡ landedHead landed (head .object) (acted .keys) (head .learnt % 256 + acted .new) ⌝ }
+// The mover of another move, where it refocused.
+pub fn moved(head: Head, acted: Acted, refocused: Refocused) -> Head
+    ensures { λ r. ⌜ r ≡ refocusedHead refocused (head .object) (acted .keys) (head .learnt % 256 + acted .new) ⌝ }
 {
     let keys = acted.keys;
     let learnt = head.learnt % 256 + acted.new as usize;
-    head_at(landed, head.object, keys, learnt)
+    head_at(refocused, head.object, keys, learnt)
 }
 
-// The thread that a fork makes, where it landed: its object is the next one, its keys are its maker's, and it has learnt none of them.
-pub fn born(head: Head, object: usize, landed: Landed) -> Head
-    ensures { λ r. ⌜ r ≡ landedHead landed object (head .keys) 0 ⌝ }
+// The thread that a fork makes, where it refocused: its object is the next one, its keys are its maker's, and it has learnt none of them.
+pub fn forked(head: Head, object: usize, refocused: Refocused) -> Head
+    ensures { λ r. ⌜ r ≡ refocusedHead refocused object (head .keys) 0 ⌝ }
 {
     let keys = head.keys;
-    head_at(landed, object, keys, 0)
+    head_at(refocused, object, keys, 0)
 }
 
 // How a move begins that only goes on elsewhere.
@@ -162,9 +162,9 @@ fn make(setting: Setting, met: Met) -> Begun
     let counts = met.counts;
     let head = met.head;
     let cell = met.cell;
-    let thing = met.thing;
+    let object = met.object;
     let other = met.other;
-    let act = run_act::act(setting, counts, head, cell, thing, other);
+    let act = run_act::act(setting, counts, head, cell, object, other);
     match act {
         Act::Done(acted) => Begun::Acted(acted),
         Act::NoRoom(room) => no_room(room),
@@ -173,16 +173,16 @@ fn make(setting: Setting, met: Met) -> Begun
 
 // How a pick of a thread that is there begins, where its move would not only go on elsewhere.
 pub fn begin(setting: Setting, met: Met) -> Begun
-    requires { ⌜ goesOnBy (met .head .ready .part) ≡ false ⌝ }
+    requires { ⌜ goesOnBy (met .head .ready .redex) ≡ false ⌝ }
     ensures { λ r. ⌜ r ≡ beginOf setting met ⌝ }
 {
     let head = met.head;
     let cell = met.cell;
-    let thing = met.thing;
+    let object = met.object;
     let other = met.other;
     let ready = head.ready;
     let joined = other.ready;
-    let sight = run_look::look(setting, head, cell, thing, joined.part, met.place);
+    let sight = run_look::look(setting, head, cell, object, joined.redex, met.place);
     match sight {
         Sight::Ready => make(setting, met),
         Sight::Lacking => race(ready),
@@ -190,8 +190,8 @@ pub fn begin(setting: Setting, met: Met) -> Begun
     }
 }
 
-// From where the mover lands.
-fn mover_way(thread: usize, head: Head, from: Go) -> Way
+// From where the mover refocuses.
+fn mover_way(thread: usize, head: Head, from: Refocusing) -> Way
     requires { ⌜ thread < 8 ⌝ }
     ensures { λ r. ⌜ r ≡ moverWay thread head from ⌝ }
 {
@@ -202,12 +202,12 @@ fn mover_way(thread: usize, head: Head, from: Go) -> Way
     }
 }
 
-// From where the thread lands that a fork makes.
-fn young_way(counts: Counts, head: Head) -> Way
-    ensures { λ r. ⌜ r ≡ youngWay counts head ⌝ }
+// From where the thread refocuses that a fork makes.
+fn forked_way(counts: Counts, head: Head) -> Way
+    ensures { λ r. ⌜ r ≡ forkedWay counts head ⌝ }
 {
     let ready = head.ready;
-    let from = go::run(ready.first, ready.environment);
+    let from = refocusing::run(ready.first, ready.environment);
     Way {
         base: counts.threads % 9 * 33,
         depth: 0,
@@ -215,48 +215,48 @@ fn young_way(counts: Counts, head: Head) -> Way
     }
 }
 
-// Lands the mover from here and, of a fork, the thread that it makes. One call of `landing` for both, so that it is compiled into its caller.
-fn land_from(
+// Lands the mover from here and, of a fork, the thread that it makes. One call of `refocusing` for both, so that it is compiled into its caller.
+fn refocus_from(
     words: &[usize; 1024],
     roots: &[usize; 32],
     stack: &mut [usize; 891],
     counts: Counts,
     head: Head,
     thread: usize,
-    from: Go,
+    from: Refocusing,
 ) -> Reached
     requires { ⌜ thread < 8 ⌝ }
-    ensures { λ r. ⌜ (record { stack = now (stack .exit); reached = r }) ≡ reachedAt (landingsFrom (now (words .entry)) (now (roots .entry)) counts head thread from (now (stack .entry))) ⌝ }
+    ensures { λ r. ⌜ (record { stack = now (stack .exit); reached = r }) ≡ reachedAt (refocusingsFrom (now (words .entry)) (now (roots .entry)) counts head thread from (now (stack .entry))) ⌝ }
 {
     let ready = head.ready;
-    let forks = ready.part == part::FORK;
+    let forks = ready.redex == redex::FORK;
     let mover = mover_way(thread, head, from);
-    let young = young_way(counts, head);
-    let landings = run_refocusing::land(words, roots, stack, mover, young, forks);
-    let last = landings.last;
+    let forked = forked_way(counts, head);
+    let refocusings = run_refocusing::refocus(words, roots, stack, mover, forked, forks);
+    let last = refocusings.last;
     if run_refocusing::full(last) {
         return Reached::Stopped {
             stop: Stop::NoRoom(NoRoom::Depth),
             entry: no_entry(),
         };
     }
-    Reached::Landed(landings)
+    Reached::Refocused(refocusings)
 }
 
-// From where a move lands that begins so.
-fn go_of(begun: Begun) -> Go
+// From where a move refocuses that begins so.
+fn go_of(begun: Begun) -> Refocusing
     ensures { λ r. ⌜ r ≡ goOf begun ⌝ }
 {
     match begun {
-        Begun::Passed => go::full(),
-        Begun::Stopped { stop: _, entry: _ } => go::full(),
+        Begun::Passed => refocusing::full(),
+        Begun::Stopped { stop: _, entry: _ } => refocusing::full(),
         Begun::Went(go) => go,
         Begun::Acted(acted) => acted.go,
     }
 }
 
-// Lands a move of the thread that begins so. All moves go through one call, so that landing is compiled into the caller.
-pub fn land(
+// Lands a move of the thread that begins so. All moves go through one call, so that refocusing is compiled into the caller.
+pub fn refocus(
     words: &[usize; 1024],
     roots: &[usize; 32],
     stack: &mut [usize; 891],
@@ -274,6 +274,6 @@ pub fn land(
             stop: stop,
             entry: entry,
         },
-        _ => land_from(words, roots, stack, counts, head, thread, go_of(begun)),
+        _ => refocus_from(words, roots, stack, counts, head, thread, go_of(begun)),
     }
 }

@@ -5,8 +5,8 @@ use mathlib.Core.Bool.{Bool, _&&_, cond}
 use mathlib.Core.List.{List, [], _∷_, map}
 use lib.Dec.{eqb, ltb}
 use lib.ListN.{set}
-use Rattle.run_frames.specs.Parts.{Part as part, isPart}
-use Rattle.run_frames.specs.declared.go.Ready.{Ready}
+use Rattle.run_frames.specs.RedexKinds.{RedexKind as redex, isRedex}
+use Rattle.run_frames.specs.declared.refocusing.Ready.{Ready}
 
 -- w is a place in the queue of object o
 unfoldable pub queuedOn : ℕ → ℕ → Bool
@@ -50,7 +50,7 @@ unfoldable pub signalledOf : ℕ → ℕ → ℕ → List ℕ → List ℕ
 unfolding waitedOf notifiedOf allNotifiedOf
 signalledOf k o p ws = cond (eqb k 0) (waitedOf o p ws) (cond (eqb k 1) (notifiedOf o ws) (allNotifiedOf o ws))
 
--- the places after thread p has moved from part r: only a signal changes them
+-- the places after thread p has moved from redex r: only a signal changes them
 unfoldable pub afterOf : List ℕ → Ready → ℕ → List ℕ
 unfolding signalledOf
-afterOf ws r p = cond (isPart part.Signal (r .part)) (signalledOf (r .second) (r .first % 32) p ws) ws
+afterOf ws r p = cond (isRedex redex.Signal (r .redex)) (signalledOf (r .second) (r .first % 32) p ws) ws

@@ -4,8 +4,8 @@ ghost use mathlib.Core.Path.{_≡_};
 ghost use Prim.Native.Nat.{_≤_, _<_};
 ghost use lib.ListN.{length};
 ghost use Rattle.run_queue.specs.Queue.{queuedOn, countOf, lastOf, waitedOf, nearer, notifiedOf, freed, allNotifiedOf, signalledOf, afterOf};
-use run_frames::go::Ready;
-use run_frames::part;
+use run_frames::redex;
+use run_frames::refocusing::Ready;
 
 // Whether it is a place in the object's queue.
 fn queued(object: u16, place: u16) -> bool
@@ -89,12 +89,12 @@ fn signalled(places: &mut [u16], signal: usize, object: u16, thread: usize)
     notify_all(&mut *places, object)
 }
 
-// The places after the thread has moved from this part: only a signal changes them.
+// The places after the thread has moved from this redex: only a signal changes them.
 pub fn after(places: &mut [u16], ready: Ready, thread: usize)
     requires { ⌜ (length (now places) ≡ 8) × (thread < 8) ⌝ }
     ensures { λ r. ⌜ now (places .exit) ≡ afterOf (now (places .entry)) ready thread ⌝ }
 {
-    if ready.part == part::SIGNAL {
+    if ready.redex == redex::SIGNAL {
         signalled(
             &mut *places,
             ready.second,

@@ -1,59 +1,59 @@
-// Landing: steps until the part that moves next is found. The frames of all threads lie in one lent array, three numbers to a frame, 33 places to a
+// Refocusing: steps until the redex that moves next is found. The frames of all threads lie in one lent array, three numbers to a frame, 33 places to a
 // thread, of which the last is never part of the stack.
 ghost use mathlib.Core.Path.{_≡_};
 ghost use mathlib.Core.Bool.{true, false};
 ghost use Prim.Native.Nat.{_<_, _≤_};
-ghost use Rattle.run_refocusing.specs.Landing.{liveOf, fullOf, landedOf, landingsOf, topOf, storeAt, landFrom, afterOf};
+ghost use Rattle.run_refocusing.specs.Refocusing.{liveOf, fullOf, refocusedOf, refocusingsOf, topOf, storeAt, refocusFrom, afterOf};
 use run_frames::frame;
 use run_frames::frame::Frame;
-use run_frames::go;
-use run_frames::go::Go;
-use run_frames::go::Ready;
-use run_frames::go::Stage;
+use run_frames::refocusing;
+use run_frames::refocusing::Ready;
+use run_frames::refocusing::Refocusing;
+use run_frames::refocusing::Stage;
 
-// The part if landing found one, how deep it ended, and at which stage.
-pub struct Landed {
+// The redex if refocusing found one, how deep it ended, and at which stage.
+pub struct Refocused {
     pub ready: Ready,
     pub depth: usize,
     pub stage: Stage,
 }
 
-// Where a landing starts: the place of the thread's first frame, how deep it stands, and its stage.
+// Where a refocusing starts: the place of the thread's first frame, how deep it stands, and its stage.
 pub struct Way {
     pub base: usize,
     pub depth: usize,
-    pub go: Go,
+    pub go: Refocusing,
 }
 
-// The last of one or two landings, and the one before it; of one alone, where it started.
-pub struct Landings {
-    pub before: Landed,
-    pub last: Landed,
+// The last of one or two refocusings, and the one before it; of one alone, where it started.
+pub struct Refocusings {
+    pub before: Refocused,
+    pub last: Refocused,
 }
 
-fn ends(before: Landed, last: Landed) -> Landings
-    ensures { λ r. ⌜ r ≡ landingsOf before last ⌝ }
+fn ends(before: Refocused, last: Refocused) -> Refocusings
+    ensures { λ r. ⌜ r ≡ refocusingsOf before last ⌝ }
 {
-    Landings {
+    Refocusings {
         before: before,
         last: last,
     }
 }
 
-pub fn end_at(go: Go, depth: usize) -> Landed
-    ensures { λ r. ⌜ r ≡ landedOf go depth ⌝ }
+pub fn end_at(go: Refocusing, depth: usize) -> Refocused
+    ensures { λ r. ⌜ r ≡ refocusedOf go depth ⌝ }
 {
     let stage = go.stage;
-    let ready = go::ready_in(go);
-    Landed {
+    let ready = refocusing::ready_in(go);
+    Refocused {
         ready: ready,
         depth: depth,
         stage: stage,
     }
 }
 
-// Whether landing goes on.
-fn live(go: Go) -> bool
+// Whether refocusing goes on.
+fn live(go: Refocusing) -> bool
     ensures { λ r. ⌜ r ≡ liveOf go ⌝ }
 {
     let stage = go.stage;
@@ -71,10 +71,10 @@ fn live(go: Go) -> bool
 }
 
 // Whether there was no room.
-pub fn full(landed: Landed) -> bool
-    ensures { λ r. ⌜ r ≡ fullOf landed ⌝ }
+pub fn full(refocused: Refocused) -> bool
+    ensures { λ r. ⌜ r ≡ fullOf refocused ⌝ }
 {
-    let stage = landed.stage;
+    let stage = refocused.stage;
     match stage {
         Stage::Full => true,
         _ => false,
@@ -104,18 +104,18 @@ fn store(stack: &mut [usize; 891], place: usize, frame: Frame)
     stack[at + 2] = packed.arguments;
 }
 
-// Steps until the part that moves next is found, or there is no room; then, of a fork whose mover has room, the same from the second way. A landing has fewer
-// than 2,100 steps. Both go through one loop, so that a step has one caller, and the loop with it. Where a landing ends, two tests are faster than one of both.
-pub fn land(
+// Steps until the redex that moves next is found, or there is no room; then, of a fork whose mover has room, the same from the second way. A refocusing has fewer
+// than 2,100 steps. Both go through one loop, so that a step has one caller, and the loop with it. Where a refocusing ends, two tests are faster than one of both.
+pub fn refocus(
     words: &[usize; 1024],
     roots: &[usize; 32],
     stack: &mut [usize; 891],
     first: Way,
     second: Way,
     forks: bool,
-) -> Landings
+) -> Refocusings
     requires { ⌜ (first .base ≤ 264) × (first .depth ≤ 32) × (second .base ≤ 264) × (second .depth ≤ 32) ⌝ }
-    ensures { λ r. ⌜ (record { stack = now (stack .exit); landings = r }) ≡ afterOf (now (words .entry)) (now (roots .entry)) forks second (landedOf (first .go) (first .depth)) (landFrom (now (words .entry)) (now (roots .entry)) first (now (stack .entry))) ⌝ }
+    ensures { λ r. ⌜ (record { stack = now (stack .exit); refocusings = r }) ≡ afterOf (now (words .entry)) (now (roots .entry)) forks second (refocusedOf (first .go) (first .depth)) (refocusFrom (now (words .entry)) (now (roots .entry)) first (now (stack .entry))) ⌝ }
     ensures { λ r. ⌜ (r .before .depth ≤ 32) × (r .last .depth ≤ 32) ⌝ }
 {
     let mut base = first.base;
@@ -152,5 +152,5 @@ pub fn land(
         depth = turn.depth;
         left = stepped.left - 1;
     }
-    ends(before, end_at(go::full(), depth))
+    ends(before, end_at(refocusing::full(), depth))
 }

@@ -7,16 +7,16 @@ use native.Mathlib.Omega.{arith}
 use borrow.Author.Tests.{lt-ltb}
 use lib.Dec.{eqb}
 use Rattle.run_frames.specs.declared.frame.Frame.{Frame}
-use Rattle.run_frames.specs.declared.go.Stage.{Stage}
-use Rattle.run_frames.specs.declared.go.Stage.the-variants as stage
-use Rattle.run_frames.specs.declared.go.Go.{Go}
+use Rattle.run_frames.specs.declared.refocusing.Stage.{Stage}
+use Rattle.run_frames.specs.declared.refocusing.Stage.the-variants as stage
+use Rattle.run_frames.specs.declared.refocusing.Refocusing.{Refocusing}
 use Rattle.run_frames.specs.Going.{goList, feedOf}
 use Rattle.plan_packed.specs.Operands.{tagOf, firstOf}
 use Rattle.run_term_words.specs.Words.{wordAt, valueOf}
 use Rattle.run_refocusing_step.specs.Ahead.{nextOf, nextIn, takenOf, intoBy, alongBy}
 use Rattle.run_refocusing_step.specs.Down.{stayOf, wantBy, wantOf, listBy, listOf, openedBy, openedOf, listedBy, listedOf, wantedOf, downOf, stepBy, stepOf}
 
-module _ (ws rs : List ℕ) (g o : Go) (f : Frame) (d : ℕ) (x : Frame) (h : stepOf ws rs g d x ≡ wantedOf ws (listedOf ws rs o) d) where
+module _ (ws rs : List ℕ) (g o : Refocusing) (f : Frame) (d : ℕ) (x : Frame) (h : stepOf ws rs g d x ≡ wantedOf ws (listedOf ws rs o) d) where
   -- of a term that is opened at stage s
   pub along-step : (s : Stage) → o .stage ≡ s → wantedOf ws (intoBy s ws rs o f) d ≡ stepOf ws rs (alongBy s g f) d x
   unfolding stepOf
@@ -42,7 +42,7 @@ step-takes ws rs f d x l = by (eqb (tagOf (wordAt ws (f .first))) 16) refl
     by false e = let p : nextIn ws f ≡ 32 = rw e in absurd (omega (arith, l, p))
 
 -- a step from a call is the step from its list
-module _ (ws rs : List ℕ) (g : Go) (d : ℕ) (x : Frame) (e : openedOf ws g .stage ≡ stage.List) where
+module _ (ws rs : List ℕ) (g : Refocusing) (d : ℕ) (x : Frame) (e : openedOf ws g .stage ≡ stage.List) where
   by-list : downOf ws rs g d ≡ downOf ws rs (goList (openedOf ws g .frame)) d
   by-list = ap (λ (z : Stage). wantedOf ws (listedBy z ws rs (openedOf ws g)) d) e
 

@@ -7,9 +7,9 @@ use native.Mathlib.Decide.{decLt}
 use borrow.Author.Tests.{lt-ltb, le-ltb}
 use lib.Dec.{eqb, ltb}
 use Rattle.run_frames.specs.declared.frame.Frame.{Frame}
-use Rattle.run_frames.specs.declared.go.Stage.{Stage}
-use Rattle.run_frames.specs.declared.go.Stage.the-variants as stage
-use Rattle.run_frames.specs.declared.go.Go.{Go}
+use Rattle.run_frames.specs.declared.refocusing.Stage.{Stage}
+use Rattle.run_frames.specs.declared.refocusing.Stage.the-variants as stage
+use Rattle.run_frames.specs.declared.refocusing.Refocusing.{Refocusing}
 use Rattle.run_refocusing_step.specs.declared.Turn.{Turn}
 use Rattle.run_term_words.specs.Words.{valueOf, truthOf}
 use Rattle.run_frames.specs.Going.{goRun, goRunCondition}
@@ -23,7 +23,7 @@ either-in : (b : Bool) (x y : Turn) → Within x → Within y → Within (cond b
 either-in true x y h k = h
 either-in false x y h k = k
 
-push-in : (g : Go) (d : ℕ) (f : Frame) → d ≤ 32 → Within (pushOf g d f)
+push-in : (g : Refocusing) (d : ℕ) (f : Frame) → d ≤ 32 → Within (pushOf g d f)
 unfolding pushOf
 push-in g d f h = by (decLt d 32)
   where
@@ -39,7 +39,7 @@ want-condition-in : (ws : List ℕ) (f : Frame) (i d : ℕ) → d ≤ 32 → Wit
 unfolding wantConditionOf wantConditionBy
 want-condition-in ws f i d h = either-in (ltb (truthOf ws i) 2) _ _ (h, h) (push-in (goRunCondition i (f .environment)) d f h)
 
-wanted-in : (s : Stage) (ws : List ℕ) (g : Go) (d : ℕ) → d ≤ 32 → Within (wantedBy s ws g d)
+wanted-in : (s : Stage) (ws : List ℕ) (g : Refocusing) (d : ℕ) → d ≤ 32 → Within (wantedBy s ws g d)
 wanted-in stage.Full ws g d h = (h, h)
 wanted-in stage.At ws g d h = (h, h)
 wanted-in stage.Run ws g d h = (h, h)
@@ -50,7 +50,7 @@ wanted-in stage.List ws g d h = (h, h)
 wanted-in stage.Value ws g d h = (h, h)
 wanted-in stage.Truth ws g d h = (h, h)
 
-down-in : (ws rs : List ℕ) (g : Go) (d : ℕ) → d ≤ 32 → Within (downOf ws rs g d)
+down-in : (ws rs : List ℕ) (g : Refocusing) (d : ℕ) → d ≤ 32 → Within (downOf ws rs g d)
 down-in ws rs g d h = wanted-in (listedOf ws rs (openedOf ws g) .stage) ws (listedOf ws rs (openedOf ws g)) d h
 
 less : (d : ℕ) → d ≤ 32 → d - 1 ≤ 32
@@ -64,7 +64,7 @@ back-condition-in : (f : Frame) (b d : ℕ) → d ≤ 32 → Within (backConditi
 unfolding backConditionOf
 back-condition-in f b d h = either-in (eqb d 0) _ _ (h, h) (less d h, less d h)
 
-step-by-in : (s : Stage) (ws rs : List ℕ) (g : Go) (d : ℕ) (f : Frame) → d ≤ 32 → Within (stepBy s ws rs g d f)
+step-by-in : (s : Stage) (ws rs : List ℕ) (g : Refocusing) (d : ℕ) (f : Frame) → d ≤ 32 → Within (stepBy s ws rs g d f)
 step-by-in stage.Full ws rs g d f h = down-in ws rs g d h
 step-by-in stage.At ws rs g d f h = down-in ws rs g d h
 step-by-in stage.Run ws rs g d f h = down-in ws rs g d h
@@ -75,6 +75,6 @@ step-by-in stage.List ws rs g d f h = down-in ws rs g d h
 step-by-in stage.Value ws rs g d f h = back-in f (g .operand) d h
 step-by-in stage.Truth ws rs g d f h = back-condition-in f (g .operand) d h
 
-pub step-in : (ws rs : List ℕ) (g : Go) (d : ℕ) (f : Frame) → d ≤ 32 → Within (stepOf ws rs g d f)
+pub step-in : (ws rs : List ℕ) (g : Refocusing) (d : ℕ) (f : Frame) → d ≤ 32 → Within (stepOf ws rs g d f)
 unfolding stepOf
 step-in ws rs g d f h = step-by-in (g .stage) ws rs g d f h

@@ -4,15 +4,15 @@ use mathlib.Core.List.{List, [], _∷_}
 use Prim.Native.Nat.{ℕ}
 use types.Run.{OneOf, miss}
 use denote.Enum.Declared.{tagOf}
-use Rattle.run_frames.proofs.go.Stage as stage-type
+use Rattle.run_frames.proofs.refocusing.Stage as stage-type
 use Rattle.run_frames.specs.declared.frame.Frame.{Frame}
-use Rattle.run_frames.specs.declared.go.Stage.{Stage}
-use Rattle.run_frames.specs.declared.go.Stage.the-variants as stage
-use Rattle.run_frames.specs.declared.go.Go.{Go}
+use Rattle.run_frames.specs.declared.refocusing.Stage.{Stage}
+use Rattle.run_frames.specs.declared.refocusing.Stage.the-variants as stage
+use Rattle.run_frames.specs.declared.refocusing.Refocusing.{Refocusing}
 use Rattle.run_refocusing_step.specs.Ahead.{aheadBy, intoBy}
 use Rattle.run_refocusing_step.specs.Down.{stayOf, openedBy, wantedBy, downOf, stepBy}
 
-pub opened-other : (x : Stage) (ws : List ℕ) (g : Go) → OneOf (0 ∷ 1 ∷ 4 ∷ 5 ∷ 6 ∷ 7 ∷ 8 ∷ []) (tagOf stage-type.the-type x) → openedBy x ws g ≡ g
+pub opened-other : (x : Stage) (ws : List ℕ) (g : Refocusing) → OneOf (0 ∷ 1 ∷ 4 ∷ 5 ∷ 6 ∷ 7 ∷ 8 ∷ []) (tagOf stage-type.the-type x) → openedBy x ws g ≡ g
 opened-other stage.Full ws g h = refl
 opened-other stage.At ws g h = refl
 opened-other stage.Run ws g h = absurd (miss (0 ∷ 1 ∷ 4 ∷ 5 ∷ 6 ∷ 7 ∷ 8 ∷ []) 2 tt h)
@@ -23,7 +23,7 @@ opened-other stage.List ws g h = refl
 opened-other stage.Value ws g h = refl
 opened-other stage.Truth ws g h = refl
 
-pub ahead-other : (x : Stage) (n : ℕ) (ws : List ℕ) (g : Go) → OneOf (0 ∷ 1 ∷ 2 ∷ 3 ∷ 4 ∷ 5 ∷ 7 ∷ 8 ∷ []) (tagOf stage-type.the-type x)
+pub ahead-other : (x : Stage) (n : ℕ) (ws : List ℕ) (g : Refocusing) → OneOf (0 ∷ 1 ∷ 2 ∷ 3 ∷ 4 ∷ 5 ∷ 7 ∷ 8 ∷ []) (tagOf stage-type.the-type x)
     → aheadBy x n ws g ≡ record { left = n; frame = g .frame }
 ahead-other stage.Full n ws g h = refl
 ahead-other stage.At n ws g h = refl
@@ -35,7 +35,7 @@ ahead-other stage.List n ws g h = absurd (miss (0 ∷ 1 ∷ 2 ∷ 3 ∷ 4 ∷ 5 
 ahead-other stage.Value n ws g h = refl
 ahead-other stage.Truth n ws g h = refl
 
-pub into-other : (x : Stage) (ws rs : List ℕ) (g : Go) (f : Frame) → OneOf (0 ∷ 1 ∷ 2 ∷ 3 ∷ 4 ∷ 5 ∷ 7 ∷ 8 ∷ []) (tagOf stage-type.the-type x)
+pub into-other : (x : Stage) (ws rs : List ℕ) (g : Refocusing) (f : Frame) → OneOf (0 ∷ 1 ∷ 2 ∷ 3 ∷ 4 ∷ 5 ∷ 7 ∷ 8 ∷ []) (tagOf stage-type.the-type x)
     → intoBy x ws rs g f ≡ g
 into-other stage.Full ws rs g f h = refl
 into-other stage.At ws rs g f h = refl
@@ -47,7 +47,7 @@ into-other stage.List ws rs g f h = absurd (miss (0 ∷ 1 ∷ 2 ∷ 3 ∷ 4 ∷ 
 into-other stage.Value ws rs g f h = refl
 into-other stage.Truth ws rs g f h = refl
 
-pub wanted-other : (x : Stage) (ws : List ℕ) (g : Go) (d : ℕ) → OneOf (0 ∷ 1 ∷ 2 ∷ 3 ∷ 6 ∷ 7 ∷ 8 ∷ []) (tagOf stage-type.the-type x)
+pub wanted-other : (x : Stage) (ws : List ℕ) (g : Refocusing) (d : ℕ) → OneOf (0 ∷ 1 ∷ 2 ∷ 3 ∷ 6 ∷ 7 ∷ 8 ∷ []) (tagOf stage-type.the-type x)
     → wantedBy x ws g d ≡ stayOf g d
 wanted-other stage.Full ws g d h = refl
 wanted-other stage.At ws g d h = refl
@@ -59,7 +59,7 @@ wanted-other stage.List ws g d h = refl
 wanted-other stage.Value ws g d h = refl
 wanted-other stage.Truth ws g d h = refl
 
-pub step-other : (x : Stage) (ws rs : List ℕ) (g : Go) (d : ℕ) (f : Frame) → OneOf (0 ∷ 1 ∷ 2 ∷ 3 ∷ 4 ∷ 5 ∷ 6 ∷ []) (tagOf stage-type.the-type x)
+pub step-other : (x : Stage) (ws rs : List ℕ) (g : Refocusing) (d : ℕ) (f : Frame) → OneOf (0 ∷ 1 ∷ 2 ∷ 3 ∷ 4 ∷ 5 ∷ 6 ∷ []) (tagOf stage-type.the-type x)
     → stepBy x ws rs g d f ≡ downOf ws rs g d
 step-other stage.Full ws rs g d f h = refl
 step-other stage.At ws rs g d f h = refl

@@ -1,13 +1,13 @@
--- The values that come next in a call's list, a step of landing to each: the machine that the code runs; no reader of the entries' promises needs it. Assumes
+-- The values that come next in a call's list, a step of refocusing to each: the machine that the code runs; no reader of the entries' promises needs it. Assumes
 -- nothing.
 use Prim.Native.Nat.{ℕ, zero, suc, _+_, _-_}
 use mathlib.Core.Bool.{cond}
 use mathlib.Core.List.{List}
 use lib.Dec.{eqb, ltb}
 use Rattle.run_frames.specs.declared.frame.Frame.{Frame}
-use Rattle.run_frames.specs.declared.go.Stage.{Stage}
-use Rattle.run_frames.specs.declared.go.Stage.the-variants as stage
-use Rattle.run_frames.specs.declared.go.Go.{Go}
+use Rattle.run_frames.specs.declared.refocusing.Stage.{Stage}
+use Rattle.run_frames.specs.declared.refocusing.Stage.the-variants as stage
+use Rattle.run_frames.specs.declared.refocusing.Refocusing.{Refocusing}
 use Rattle.run_frames.specs.Frames.{collected, restOf}
 use Rattle.run_frames.specs.Going.{goList}
 use Rattle.plan_packed.specs.Operands.{tagOf, firstOf, secondOf}
@@ -32,8 +32,8 @@ unfoldable pub gatheredOf : ℕ → List ℕ → Frame → Gathered
 gatheredOf zero ws f = record { left = 1; frame = f }
 gatheredOf (suc n) ws f = cond (ltb (nextIn ws f) 32) (gatheredOf n ws (takenOf ws f)) (record { left = suc n + 1; frame = f })
 
--- the frame where landing stands at a stage, with n steps left; of a call's list, with the values that come next
-abbrev pub aheadBy : Stage → ℕ → List ℕ → Go → Gathered
+-- the frame where refocusing stands at a stage, with n steps left; of a call's list, with the values that come next
+abbrev pub aheadBy : Stage → ℕ → List ℕ → Refocusing → Gathered
 aheadBy stage.Full n ws g = record { left = n; frame = g .frame }
 aheadBy stage.At n ws g = record { left = n; frame = g .frame }
 aheadBy stage.Run n ws g = record { left = n; frame = g .frame }
@@ -44,11 +44,11 @@ aheadBy stage.List n ws g = gatheredOf (n - 1) ws (g .frame)
 aheadBy stage.Value n ws g = record { left = n; frame = g .frame }
 aheadBy stage.Truth n ws g = record { left = n; frame = g .frame }
 
-abbrev pub aheadOf : ℕ → List ℕ → Go → Gathered
+abbrev pub aheadOf : ℕ → List ℕ → Refocusing → Gathered
 aheadOf n ws g = aheadBy (g .stage) n ws g
 
 -- a call's list is gone into with the frame f
-abbrev pub intoBy : Stage → List ℕ → List ℕ → Go → Frame → Go
+abbrev pub intoBy : Stage → List ℕ → List ℕ → Refocusing → Frame → Refocusing
 intoBy stage.Full ws rs g f = g
 intoBy stage.At ws rs g f = g
 intoBy stage.Run ws rs g f = g
@@ -59,11 +59,11 @@ intoBy stage.List ws rs g f = listOf ws rs f
 intoBy stage.Value ws rs g f = g
 intoBy stage.Truth ws rs g f = g
 
-abbrev pub intoOf : List ℕ → List ℕ → Go → Frame → Go
+abbrev pub intoOf : List ℕ → List ℕ → Refocusing → Frame → Refocusing
 intoOf ws rs g f = intoBy (g .stage) ws rs g f
 
--- where landing stands once those values are taken, by the stage of its opened term, with the frame f that has them
-abbrev pub alongBy : Stage → Go → Frame → Go
+-- where refocusing stands once those values are taken, by the stage of its opened term, with the frame f that has them
+abbrev pub alongBy : Stage → Refocusing → Frame → Refocusing
 alongBy stage.Full g f = g
 alongBy stage.At g f = g
 alongBy stage.Run g f = g
@@ -74,9 +74,9 @@ alongBy stage.List g f = goList f
 alongBy stage.Value g f = g
 alongBy stage.Truth g f = g
 
-abbrev pub alongOf : ℕ → List ℕ → Go → Go
+abbrev pub alongOf : ℕ → List ℕ → Refocusing → Refocusing
 alongOf n ws g = alongBy (openedOf ws g .stage) g (aheadOf n ws (openedOf ws g) .frame)
 
 -- those values, and one step from there
-abbrev pub steppedOf : List ℕ → List ℕ → ℕ → Go → ℕ → Frame → Stepped
+abbrev pub steppedOf : List ℕ → List ℕ → ℕ → Refocusing → ℕ → Frame → Stepped
 steppedOf ws rs n g d f = record { left = aheadOf n ws (openedOf ws g) .left; turn = stepOf ws rs (alongOf n ws g) d f }

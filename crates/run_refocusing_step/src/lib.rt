@@ -1,4 +1,4 @@
-// One step of landing, the way down (an operand, a call's list, a term) or up with a value; before it, one for each value that comes next in a call's list.
+// One step of refocusing, the way down (an operand, a call's list, a term) or up with a value; before it, one for each value that comes next in a call's list.
 ghost use mathlib.Core.Path.{_≡_};
 ghost use Prim.Native.Nat.{_<_, _-_};
 ghost use Rattle.run_refocusing_step.specs.Ahead.{nextOf, gatheredOf, aheadOf, intoOf, steppedOf};
@@ -7,19 +7,19 @@ use plan_operands::tags;
 use run_frames::frame;
 use run_frames::frame::Frame;
 use run_frames::frame::Kind;
-use run_frames::go;
-use run_frames::go::Go;
-use run_frames::go::Stage;
-use run_frames::part;
+use run_frames::redex;
+use run_frames::refocusing;
+use run_frames::refocusing::Refocusing;
+use run_frames::refocusing::Stage;
 use run_term_words::slots;
 use run_term_words::words;
 
-// One step: how deep landing then is, a frame for place `at`, and where landing stands.
+// One step: how deep refocusing then is, a frame for place `at`, and where refocusing stands.
 pub struct Turn {
     pub depth: usize,
     pub at: usize,
     pub frame: Frame,
-    pub go: Go,
+    pub go: Refocusing,
 }
 
 // A call's frame after the values that came next in its list, and how many steps are left.
@@ -35,7 +35,7 @@ pub struct Stepped {
 }
 
 // No frame more.
-fn stay(go: Go, depth: usize) -> Turn
+fn stay(go: Refocusing, depth: usize) -> Turn
     ensures { λ r. ⌜ r ≡ stayOf go depth ⌝ }
 {
     let frame = frame::frame_of(Kind::Read, 0, 0, 0, 0);
@@ -48,7 +48,7 @@ fn stay(go: Go, depth: usize) -> Turn
 }
 
 // A frame more, if there is room for it.
-fn push(go: Go, depth: usize, frame: Frame) -> Turn
+fn push(go: Refocusing, depth: usize, frame: Frame) -> Turn
     ensures { λ r. ⌜ r ≡ pushOf go depth frame ⌝ }
 {
     if depth < 32 {
@@ -59,7 +59,7 @@ fn push(go: Go, depth: usize, frame: Frame) -> Turn
             frame: frame,
         };
     }
-    stay(go::full(), depth)
+    stay(refocusing::full(), depth)
 }
 
 // A frame that wants the value of an expression: fed at once where that needs no move.
@@ -68,9 +68,9 @@ fn want(words: &[usize; 1024], frame: Frame, term: usize, depth: usize) -> Turn
 {
     let value = words::value(words, frame.environment, term);
     if value < 32 {
-        return stay(go::feed(frame, value), depth);
+        return stay(refocusing::feed(frame, value), depth);
     }
-    push(go::run(term, frame.environment), depth, frame)
+    push(refocusing::run(term, frame.environment), depth, frame)
 }
 
 // The same of a condition.
@@ -79,9 +79,13 @@ fn want_condition(words: &[usize; 1024], frame: Frame, term: usize, depth: usize
 {
     let truth = words::truth(words, term);
     if truth < 2 {
-        return stay(go::feed_condition(frame, truth), depth);
+        return stay(refocusing::feed_condition(frame, truth), depth);
     }
-    push(go::run_condition(term, frame.environment), depth, frame)
+    push(
+        refocusing::run_condition(term, frame.environment),
+        depth,
+        frame,
+    )
 }
 
 // The root of a procedure; an index over 31 wraps.
@@ -92,18 +96,18 @@ fn root(roots: &[usize; 32], procedure: usize) -> usize
 }
 
 // The rest of a call's list: the next operand, or the call.
-fn list(words: &[usize; 1024], roots: &[usize; 32], frame: Frame) -> Go
+fn list(words: &[usize; 1024], roots: &[usize; 32], frame: Frame) -> Refocusing
     ensures { λ r. ⌜ r ≡ listOf (now (words .entry)) (now (roots .entry)) frame ⌝ }
 {
     let word = words::word(words, frame.first);
     if plan_operands::tag(word) == tags::LIST {
-        return go::want(
+        return refocusing::want(
             frame::rest(frame, plan_operands::second(word)),
             plan_operands::first(word),
         );
     }
     let term = root(roots, frame.member);
-    go::at(go::ready_of(part::RUN, term, 0, 0, frame.arguments))
+    refocusing::at(refocusing::ready_of(redex::RUN, term, 0, 0, frame.arguments))
 }
 
 // The value that comes next in a call's list whose word this is; 32 where the list is over or its next operand needs a move.
@@ -142,48 +146,60 @@ fn gather(words: &[usize; 1024], frame: Frame, left: usize) -> Gathered
 }
 
 // Down from a wait, a notify or a notify all.
-fn signal(word: usize, environment: usize) -> Go
+fn signal(word: usize, environment: usize) -> Refocusing
     ensures { λ r. ⌜ r ≡ signalOf word environment ⌝ }
 {
     let tag = plan_operands::tag(word);
     let first = plan_operands::first(word);
     match tag {
-        tags::WAIT => go::want(frame::frame_of(Kind::Signal, 0, 0, 0, environment), first),
-        tags::NOTIFY => go::want(frame::frame_of(Kind::Signal, 0, 0, 1, environment), first),
-        tags::NOTIFY_ALL => go::want(frame::frame_of(Kind::Signal, 0, 0, 2, environment), first),
-        _ => go::at(go::ready_of(part::NO_RULE, 0, 0, 0, 0)),
+        tags::WAIT => refocusing::want(frame::frame_of(Kind::Signal, 0, 0, 0, environment), first),
+        tags::NOTIFY => refocusing::want(
+            frame::frame_of(Kind::Signal, 0, 0, 1, environment),
+            first,
+        ),
+        tags::NOTIFY_ALL => refocusing::want(
+            frame::frame_of(Kind::Signal, 0, 0, 2, environment),
+            first,
+        ),
+        _ => refocusing::at(refocusing::ready_of(redex::NO_RULE, 0, 0, 0, 0)),
     }
 }
 
 // Down from an expression whose operands need no look: a value, `new`, `while`, `fork`; or from a signal.
-fn simple(word: usize, environment: usize) -> Go
+fn simple(word: usize, environment: usize) -> Refocusing
     ensures { λ r. ⌜ r ≡ simpleOf word environment ⌝ }
 {
     let tag = plan_operands::tag(word);
     match tag {
-        tags::NEW => go::at(go::ready_of(part::NEW, plan_operands::mask_of(word), 0, 0, 0)),
-        tags::WHILE => go::at(go::ready_of(
-            part::WHILE,
+        tags::NEW => refocusing::at(refocusing::ready_of(
+            redex::NEW,
+            plan_operands::mask_of(word),
+            0,
+            0,
+            0,
+        )),
+        tags::WHILE => refocusing::at(refocusing::ready_of(
+            redex::WHILE,
             plan_operands::first(word),
             plan_operands::second(word),
             0,
             environment,
         )),
-        tags::FORK => go::at(go::ready_of(
-            part::FORK,
+        tags::FORK => refocusing::at(refocusing::ready_of(
+            redex::FORK,
             plan_operands::first(word),
             0,
             0,
             environment,
         )),
-        tags::NULL => go::value(0),
-        tags::VARIABLE => go::value(slots::slot(environment, plan_operands::slot_of(word))),
+        tags::NULL => refocusing::value(0),
+        tags::VARIABLE => refocusing::value(slots::slot(environment, plan_operands::slot_of(word))),
         _ => signal(word, environment),
     }
 }
 
 // Down from an expression.
-fn run(word: usize, environment: usize) -> Go
+fn run(word: usize, environment: usize) -> Refocusing
     ensures { λ r. ⌜ r ≡ runOf word environment ⌝ }
 {
     let tag = plan_operands::tag(word);
@@ -191,13 +207,16 @@ fn run(word: usize, environment: usize) -> Go
     let second = plan_operands::second(word);
     let field = plan_operands::field_of(word);
     match tag {
-        tags::READ => go::want(frame::frame_of(Kind::Read, 0, 0, field, environment), first),
+        tags::READ => refocusing::want(
+            frame::frame_of(Kind::Read, 0, 0, field, environment),
+            first,
+        ),
         tags::WRITE => {
             let value = plan_operands::write_second(word);
             let frame = frame::frame_of(Kind::Write1, value, 0, field, environment);
-            go::want(frame, first)
+            refocusing::want(frame, first)
         }
-        tags::LET => go::want(
+        tags::LET => refocusing::want(
             frame::let_frame(
                 plan_operands::slot_of(word),
                 plan_operands::let_second(word),
@@ -205,19 +224,19 @@ fn run(word: usize, environment: usize) -> Go
             ),
             plan_operands::let_first(word),
         ),
-        tags::IF => go::want_condition(
+        tags::IF => refocusing::want_condition(
             frame::frame_of(Kind::If, second, plan_operands::third(word), 0, environment),
             first,
         ),
-        tags::CALL => go::list(frame::frame_of(
+        tags::CALL => refocusing::list(frame::frame_of(
             Kind::Call,
             plan_operands::list_of(word),
             0,
             plan_operands::procedure_of(word),
             environment,
         )),
-        tags::JOIN => go::want(frame::frame_of(Kind::Join, 0, 0, 0, environment), first),
-        tags::SYNCH => go::want(
+        tags::JOIN => refocusing::want(frame::frame_of(Kind::Join, 0, 0, 0, environment), first),
+        tags::SYNCH => refocusing::want(
             frame::frame_of(Kind::Synch, second, 0, 0, environment),
             first,
         ),
@@ -226,29 +245,32 @@ fn run(word: usize, environment: usize) -> Go
 }
 
 // Down from a condition.
-fn run_condition(word: usize, environment: usize) -> Go
+fn run_condition(word: usize, environment: usize) -> Refocusing
     ensures { λ r. ⌜ r ≡ runConditionOf word environment ⌝ }
 {
     let tag = plan_operands::tag(word);
     let first = plan_operands::first(word);
     let second = plan_operands::second(word);
     match tag {
-        tags::TRUE => go::truth(1),
-        tags::NOT => go::want_condition(frame::frame_of(Kind::Not, 0, 0, 0, environment), first),
-        tags::AND => go::want_condition(
+        tags::TRUE => refocusing::truth(1),
+        tags::NOT => refocusing::want_condition(
+            frame::frame_of(Kind::Not, 0, 0, 0, environment),
+            first,
+        ),
+        tags::AND => refocusing::want_condition(
             frame::frame_of(Kind::And, second, 0, 0, environment),
             first,
         ),
-        tags::EQUAL => go::want(
+        tags::EQUAL => refocusing::want(
             frame::frame_of(Kind::Equal1, second, 0, 0, environment),
             first,
         ),
-        _ => go::at(go::ready_of(part::NO_RULE, 0, 0, 0, 0)),
+        _ => refocusing::at(refocusing::ready_of(redex::NO_RULE, 0, 0, 0, 0)),
     }
 }
 
 // A way down is taken: its term is opened.
-fn opened(words: &[usize; 1024], go: Go) -> Go
+fn opened(words: &[usize; 1024], go: Refocusing) -> Refocusing
     ensures { λ r. ⌜ r ≡ openedOf (now (words .entry)) go ⌝ }
 {
     let frame = go.frame;
@@ -260,8 +282,8 @@ fn opened(words: &[usize; 1024], go: Go) -> Go
     }
 }
 
-// The frame where landing stands; of a call's list, with the values that come next taken into it.
-fn ahead(words: &[usize; 1024], go: Go, left: usize) -> Gathered
+// The frame where refocusing stands; of a call's list, with the values that come next taken into it.
+fn ahead(words: &[usize; 1024], go: Refocusing, left: usize) -> Gathered
     requires { ⌜ 0 < left ⌝ }
     ensures { λ r. ⌜ r ≡ aheadOf left (now (words .entry)) go ⌝ }
 {
@@ -277,7 +299,7 @@ fn ahead(words: &[usize; 1024], go: Go, left: usize) -> Gathered
 }
 
 // A call's list is gone into, with this frame.
-fn listed(words: &[usize; 1024], roots: &[usize; 32], go: Go, frame: Frame) -> Go
+fn listed(words: &[usize; 1024], roots: &[usize; 32], go: Refocusing, frame: Frame) -> Refocusing
     ensures { λ r. ⌜ r ≡ intoOf (now (words .entry)) (now (roots .entry)) go frame ⌝ }
 {
     let stage = go.stage;
@@ -288,7 +310,7 @@ fn listed(words: &[usize; 1024], roots: &[usize; 32], go: Go, frame: Frame) -> G
 }
 
 // A frame that wants an operand is fed, or set down.
-fn wanted(words: &[usize; 1024], go: Go, depth: usize) -> Turn
+fn wanted(words: &[usize; 1024], go: Refocusing, depth: usize) -> Turn
     ensures { λ r. ⌜ r ≡ wantedOf (now (words .entry)) go depth ⌝ }
 {
     let frame = go.frame;
@@ -305,9 +327,12 @@ fn back(frame: Frame, value: usize, depth: usize) -> Turn
     ensures { λ r. ⌜ r ≡ backOf frame value depth ⌝ }
 {
     if depth == 0 {
-        return stay(go::at(go::ready_of(part::DONE, value, 0, 0, 0)), depth);
+        return stay(
+            refocusing::at(refocusing::ready_of(redex::DONE, value, 0, 0, 0)),
+            depth,
+        );
     }
-    stay(go::feed(frame, value), depth - 1)
+    stay(refocusing::feed(frame, value), depth - 1)
 }
 
 // A condition's value goes up into the top frame.
@@ -315,9 +340,12 @@ fn back_condition(frame: Frame, truth: usize, depth: usize) -> Turn
     ensures { λ r. ⌜ r ≡ backConditionOf frame truth depth ⌝ }
 {
     if depth == 0 {
-        return stay(go::at(go::ready_of(part::NO_RULE, 0, 0, 0, 0)), depth);
+        return stay(
+            refocusing::at(refocusing::ready_of(redex::NO_RULE, 0, 0, 0, 0)),
+            depth,
+        );
     }
-    stay(go::feed_condition(frame, truth), depth - 1)
+    stay(refocusing::feed_condition(frame, truth), depth - 1)
 }
 
 // The frame at a place, three numbers to a frame.
@@ -329,14 +357,14 @@ fn frame_at(stack: &[usize; 891], place: usize) -> Frame
     frame::unpack(stack[at], stack[at + 1], stack[at + 2])
 }
 
-// One step of landing and, before it, one for each value that comes next in a call's list, of at most so many, with the top frame at the place, which only a
+// One step of refocusing and, before it, one for each value that comes next in a call's list, of at most so many, with the top frame at the place, which only a
 // value on its way up takes from there. A way down goes through its functions one after the other, so that each has one caller.
 pub fn step(
     words: &[usize; 1024],
     roots: &[usize; 32],
     stack: &[usize; 891],
     place: usize,
-    go: Go,
+    go: Refocusing,
     depth: usize,
     left: usize,
 ) -> Stepped

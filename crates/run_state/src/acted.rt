@@ -7,7 +7,7 @@ use crate::Entry;
 use crate::Head;
 use crate::Object;
 use log_records::kind;
-use run_frames::go::Go;
+use run_frames::refocusing::Refocusing;
 use run_keys::Joined;
 use run_keys::KeySet;
 use run_outcome::NoRoom;
@@ -16,10 +16,10 @@ use run_outcome::NoRoom;
 pub struct Acted {
     pub keys: KeySet,
     pub cell: Cell,
-    pub thing: Object,
+    pub object: Object,
     pub counts: Counts,
     pub entry: Entry,
-    pub go: Go,
+    pub go: Refocusing,
     pub new: u32,
 }
 
@@ -52,7 +52,7 @@ pub fn cell_with(value: usize, key: u8, keys: KeySet) -> Cell
 
 // A move, with the fields and the thread of the object that it makes.
 pub fn acted_with(
-    go: Go,
+    go: Refocusing,
     counts: Counts,
     keys: KeySet,
     cell: Cell,
@@ -62,7 +62,7 @@ pub fn acted_with(
 ) -> Act
     ensures { λ r. ⌜ r ≡ actedWith go counts keys cell entry mask thread ⌝ }
 {
-    let thing = Object {
+    let object = Object {
         mask: mask,
         thread: thread,
     };
@@ -70,7 +70,7 @@ pub fn acted_with(
         go: go,
         keys: keys,
         cell: cell,
-        thing: thing,
+        object: object,
         counts: counts,
         entry: entry,
         new: 0,
@@ -78,23 +78,23 @@ pub fn acted_with(
 }
 
 // A move that makes nothing.
-pub fn acted_of(go: Go, counts: Counts, keys: KeySet, cell: Cell, entry: Entry) -> Act
+pub fn acted_of(go: Refocusing, counts: Counts, keys: KeySet, cell: Cell, entry: Entry) -> Act
     ensures { λ r. ⌜ r ≡ actedOf go counts keys cell entry ⌝ }
 {
     acted_with(go, counts, keys, cell, entry, 0, 8)
 }
 
 // A move that joins a set into the mover's, and counts the new keys.
-pub fn heard(go: Go, counts: Counts, joined: Joined, cell: Cell, entry: Entry) -> Act
+pub fn heard(go: Refocusing, counts: Counts, joined: Joined, cell: Cell, entry: Entry) -> Act
     ensures { λ r. ⌜ r ≡ heardOf go counts joined cell entry ⌝ }
 {
     let keys = joined.keys;
-    let thing = Object { mask: 0, thread: 8 };
+    let object = Object { mask: 0, thread: 8 };
     Act::Done(Acted {
         go: go,
         keys: keys,
         cell: cell,
-        thing: thing,
+        object: object,
         counts: counts,
         entry: entry,
         new: joined.new,
@@ -102,7 +102,7 @@ pub fn heard(go: Go, counts: Counts, joined: Joined, cell: Cell, entry: Entry) -
 }
 
 // A move that only goes on elsewhere.
-pub fn go_on(go: Go, counts: Counts, head: Head, cell: Cell) -> Act
+pub fn go_on(go: Refocusing, counts: Counts, head: Head, cell: Cell) -> Act
     ensures { λ r. ⌜ r ≡ goOn go counts head cell ⌝ }
 {
     let keys = head.keys;

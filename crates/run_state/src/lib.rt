@@ -1,5 +1,5 @@
 // What a pick is about: the thread's head, a cell, an object, the counts; and what a move does to them.
-use run_frames::go::Ready;
+use run_frames::refocusing::Ready;
 use run_keys::KeySet;
 
 pub mod acted;
@@ -10,7 +10,7 @@ pub struct Setting {
     pub version: usize,
 }
 
-// A thread: the part that moves next, its depth, the object that stands for it, its keys, how many of them it has learnt from others.
+// A thread: the redex that moves next, its depth, the object that stands for it, its keys, how many of them it has learnt from others.
 pub struct Head {
     pub ready: Ready,
     pub depth: usize,

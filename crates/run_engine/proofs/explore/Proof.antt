@@ -22,7 +22,7 @@ use Rattle.run_state.specs.declared.Head.{Head}
 use Rattle.run_state.specs.declared.Cell.{Cell}
 use Rattle.run_state.specs.declared.Entry.{Entry}
 use Rattle.run_state.specs.declared.acted.Acted.{Acted}
-use Rattle.run_refocusing.specs.declared.Landings.{Landings}
+use Rattle.run_refocusing.specs.declared.Refocusings.{Refocusings}
 use Rattle.run_act.specs.Act.{goesOnBy, changesBy}
 use Rattle.run_tally.specs.declared.Tally.{Tally}
 use Rattle.run_tally.specs.Tally.{shownEntry, tallyPut, logPut}
@@ -33,7 +33,7 @@ use Rattle.run_pick.specs.declared.Begun.{Begun}
 use Rattle.run_pick.specs.declared.Begun.the-variants as how
 use Rattle.run_pick.specs.declared.Reached.the-variants as reached
 use Rattle.run_pick.specs.Answer.{Move, Answer as answer}
-use Rattle.run_pick.specs.Pick.{Picked, picked, landedHead, noHead, forksOf, beginOf, Came}
+use Rattle.run_pick.specs.Pick.{Picked, picked, refocusedHead, noHead, forksOf, beginOf, Came}
 use Rattle.run_engine.specs.declared.kept.Kept.{Kept}
 use Rattle.run_engine.specs.Kept.{restoreOf, keptFirst}
 use Rattle.run_engine.specs.Machine.{noCell, Machine, Played, headAt, cellNumber, metBy, threadBy, threadsOf, endOf, pickedBy, startOf, playOf}
@@ -301,7 +301,7 @@ loop2-again-2 c =
 -- ---- a pick that is passed over
 
 abbrev Answered : Type 0
-Answered = tie.After-land Inv-loop2 μ-loop2 Inv-loop3 μ-loop3 Inv-loop μ-loop
+Answered = tie.After-refocus Inv-loop2 μ-loop2 Inv-loop3 μ-loop3 Inv-loop μ-loop
 
 abbrev asked : Answered → Drawn
 asked c = c .before .before .before .before .before .before .before .before .before .before
@@ -321,10 +321,10 @@ begun-so c = c .before .before .if3 .begun
 
 -- what it comes to
 abbrev comes : Answered → Came
-comes c = record { stack = c .land .last .1 .1 .0; reached = c .land .result }
+comes c = record { stack = c .refocus .last .1 .1 .0; reached = c .refocus .result }
 
 -- whether it only goes on elsewhere
-goes-on : (c : Answered) {t : Bool} → c .before .before .before .goes-on .result ≡ t → goesOnBy (head c .ready .part) ≡ t
+goes-on : (c : Answered) {t : Bool} → c .before .before .before .goes-on .result ≡ t → goesOnBy (head c .ready .redex) ≡ t
 goes-on c e = sym (c .before .before .before .goes-on .ensures) ∙ e
 
 begins-so : (c : Answered)
@@ -354,17 +354,17 @@ fits c =
     let v = here (at c) in
     (omega (arith, v .few-records, v .kept, begun c, round (opened (at c)) .room), omega (arith, v .few-records, few c))
 
-passed-over : (c : Answered) → c .land .result ≡ reached.Passed
+passed-over : (c : Answered) → c .refocus .result ≡ reached.Passed
     → picked (comes c .stack) answer.Passed ≡ pickedBy (words (opened (at c))) (roots (opened (at c))) (setting (opened (at c))) (machine (at c)) (mover c)
 passed-over c z =
     let r = opened (at c) in
-    steps.passes (words r) (roots r) (setting r) (machine (at c)) (mover c) (begun-so c) (begins-so c) (comes c) (c .land .ensures) z
+    steps.passes (words r) (roots r) (setting r) (machine (at c)) (mover c) (begun-so c) (begins-so c) (comes c) (c .refocus .ensures) z
 
-stops-so : (c : Answered) {e : Stop} {y : Entry} → c .land .result ≡ reached.Stopped e y
+stops-so : (c : Answered) {e : Stop} {y : Entry} → c .refocus .result ≡ reached.Stopped e y
     → picked (comes c .stack) (answer.Stopped e y) ≡ pickedBy (words (opened (at c))) (roots (opened (at c))) (setting (opened (at c))) (machine (at c)) (mover c)
 stops-so c z =
     let r = opened (at c) in
-    steps.stops (words r) (roots r) (setting r) (machine (at c)) (mover c) (begun-so c) (begins-so c) (comes c) (c .land .ensures) z
+    steps.stops (words r) (roots r) (setting r) (machine (at c)) (mover c) (begun-so c) (begins-so c) (comes c) (c .refocus .ensures) z
 
 loop2-again-3 : tie.Need-loop2-again-3 Inv-loop2 μ-loop2 Inv-loop3 μ-loop3 Inv-loop μ-loop
 loop2-again-3 c =
@@ -384,30 +384,30 @@ loop2-again-3 c =
             kept = v .kept;
             goes = λ qs.
                 passed (words r) (roots r) (setting r) (machine l) (pick d) qs (l .loop2 .i) (picked (comes x .stack) answer.Passed) (present x)
-                (passed-over x (neither (x .land .result) (c .before .match .keys2) (c .match2 .keys2))) refl ∙ next d first v qs;
+                (passed-over x (neither (x .refocus .result) (c .before .match .keys2) (c .match2 .keys2))) refl ∙ next d first v qs;
             unstopped = v .unstopped;
             eight = v .eight;
             moves = moves-before d first v (l .loop2 .i + 1 - 1) (omega arith);
             records = records-before d first v (l .loop2 .i + 1 - 1) (omega arith);
             marked = marked-too (words r) (roots r) (setting r) (machine l) (l .loop2 .passed) (pick d % 8) (picked (comes x .stack) answer.Passed) (present x)
-                (passed-over x (neither (x .land .result) (c .before .match .keys2) (c .match2 .keys2))) refl (v .marked);
+                (passed-over x (neither (x .refocus .result) (c .before .match .keys2) (c .match2 .keys2))) refl (v .marked);
           },
     )
 
 -- ---- a pick of a move that only goes on elsewhere
 
-on : (c : Answered) → OneOf (0 ∷ 1 ∷ 2 ∷ []) (tagOf begun-type.the-type (begun-so c)) → {l : Landings} → c .land .result ≡ reached.Landed l
-    → goesOnBy (head c .ready .part) ≡ true
+on : (c : Answered) → OneOf (0 ∷ 1 ∷ 2 ∷ []) (tagOf begun-type.the-type (begun-so c)) → {l : Refocusings} → c .refocus .result ≡ reached.Refocused l
+    → goesOnBy (head c .ready .redex) ≡ true
 on c other z =
     let r = opened (at c) in
-    steps.on (words r) (roots r) (setting r) (machine (at c)) (mover c) (begun-so c) (begins-so c) (comes c) (c .land .ensures) other z
+    steps.on (words r) (roots r) (setting r) (machine (at c)) (mover c) (begun-so c) (begins-so c) (comes c) (c .refocus .ensures) other z
 
-gone-on : (c : Answered) → OneOf (0 ∷ 1 ∷ 2 ∷ []) (tagOf begun-type.the-type (begun-so c)) → {l : Landings} → c .land .result ≡ reached.Landed l
+gone-on : (c : Answered) → OneOf (0 ∷ 1 ∷ 2 ∷ []) (tagOf begun-type.the-type (begun-so c)) → {l : Refocusings} → c .refocus .result ≡ reached.Refocused l
     → picked (comes c .stack) (answer.Moved (goneBy (at c .loop2 .tally .counts) (head c) (getD (cells (at c)) (cellNumber (head c .ready)) noCell) (l .last)))
     ≡ pickedBy (words (opened (at c))) (roots (opened (at c))) (setting (opened (at c))) (machine (at c)) (mover c)
 gone-on c other z =
     let r = opened (at c) in
-    steps.goes-on (words r) (roots r) (setting r) (machine (at c)) (mover c) (begun-so c) (begins-so c) (comes c) (c .land .ensures) other z
+    steps.goes-on (words r) (roots r) (setting r) (machine (at c)) (mover c) (begun-so c) (begins-so c) (comes c) (c .refocus .ensures) other z
 
 moved-requires : tie.Need-moved-requires Inv-loop2 μ-loop2 Inv-loop3 μ-loop3 Inv-loop μ-loop
 moved-requires c κs =
@@ -426,7 +426,7 @@ loop2-again-4 c =
     let put = c .before .before .before .before .before .before .put-move in
     let none = c .before .before .before .before .before .before .before .before .no-entry .ensures in
     let other = c .before .before .before .before .before .before .before .before .before .match3 .keys2 in
-    let landed = c .before .before .before .before .before .before .before .before .before .before .before .before .before .reached .given .1 in
+    let refocused = c .before .before .before .before .before .before .before .before .before .before .before .before .before .reached .given .1 in
     let before : put .result .moves ≡ l .loop2 .tally .moves = ap (λ (s : Tally). s .moves) (put .ensures .0 .0) in
     let moves : c .moved .result .moves ≡ put .result .moves + 1 = ap (λ (s : Tally). s .moves) (c .moved .ensures .0) in
     let records : c .moved .result .records ≡ put .result .records = ap (λ (s : Tally). s .records) (c .moved .ensures .0) in (
@@ -440,11 +440,11 @@ loop2-again-4 c =
             kept = put .kept .0 ∙ v .kept;
             goes = λ qs.
                 moved (words r) (roots r) (setting r) (machine l) (pick d) qs (l .loop2 .i)
-                _ (present x) (gone-on x other landed) refl
+                _ (present x) (gone-on x other refocused) refl
                 (cells l) _ _ (l .loop2 .places) (put .result) (c .moved .result) (put .last .0)
                 (sym (set-getD (cells l) (cellNumber (head x .ready)) noCell)) (ap (set (l .loop2 .heads) (mover x)) (c .before .before .before .gone .ensures))
                 (ap (set (l .loop2 .objects) (l .loop2 .tally .counts .objects % 33)) (c .before .before .no-object .ensures))
-                (queues-left (l .loop2 .places) (head x .ready) (mover x) (on x other landed))
+                (queues-left (l .loop2 .places) (head x .ready) (mover x) (on x other refocused))
                 (put .ensures .0 .0 ∙ ap (λ (y : Entry). tallyPut (l .loop2 .tally) (shownEntry (every r) y)) none) (c .moved .ensures .0)
                 (put .ensures .1 ∙ ap (λ (y : Entry). logPut (l .loop2 .log) (l .loop2 .tally .records) (mover x) (shownEntry (every r) y)) none)
                 ∙ next d first v qs;
@@ -470,28 +470,28 @@ moved-requires-4 c κs =
     let e : c .before .before .before .before .before .before .before .before .before .put-move2 .result .moves ≡ at x .loop2 .tally .moves = ap (λ (s : Tally). s .moves) (c .before .before .before .before .before .before .before .before .before .put-move2 .ensures .0 .0) in
     omega (arith, e, here (at x) .few-moves, few x)
 
--- its cell, where its part changes none
+-- its cell, where its redex changes none
 unchanged : (c : Answered) {v : Move} → (z : Picked) → z .answer ≡ answer.Moved v
-    → z ≡ pickedBy (words (opened (at c))) (roots (opened (at c))) (setting (opened (at c))) (machine (at c)) (mover c) → changesBy (head c .ready .part) ≡ false
+    → z ≡ pickedBy (words (opened (at c))) (roots (opened (at c))) (setting (opened (at c))) (machine (at c)) (mover c) → changesBy (head c .ready .redex) ≡ false
     → v .cell ≡ getD (cells (at c)) (cellNumber (head c .ready)) noCell
 unchanged c {v} z e q h =
     let r = opened (at c) in
     cell-unchanged (words r) (roots r) (setting r) v (machine (at c)) (mover c) h (ap (λ (y : Picked). y .answer) (sym q) ∙ e)
 
 -- what it leaves: of a fork; of another
-forked : (c : Answered) {a : Acted} → begun-so c ≡ how.Acted a → {l : Landings} → c .land .result ≡ reached.Landed l → forksOf (head c) ≡ true
-    → picked (comes c .stack) (answer.Moved (leftBy (head c) a (l .before) (landedHead (l .last) (at c .loop2 .tally .counts .objects) (head c .keys) 0)))
+forked : (c : Answered) {a : Acted} → begun-so c ≡ how.Acted a → {l : Refocusings} → c .refocus .result ≡ reached.Refocused l → forksOf (head c) ≡ true
+    → picked (comes c .stack) (answer.Moved (leftBy (head c) a (l .before) (refocusedHead (l .last) (at c .loop2 .tally .counts .objects) (head c .keys) 0)))
     ≡ pickedBy (words (opened (at c))) (roots (opened (at c))) (setting (opened (at c))) (machine (at c)) (mover c)
 forked c acts z n =
     let r = opened (at c) in
-    steps.forks (words r) (roots r) (setting r) (machine (at c)) (mover c) (begun-so c) (begins-so c) (comes c) (c .land .ensures) acts z n
+    steps.forks (words r) (roots r) (setting r) (machine (at c)) (mover c) (begun-so c) (begins-so c) (comes c) (c .refocus .ensures) acts z n
 
-alone : (c : Answered) {a : Acted} → begun-so c ≡ how.Acted a → {l : Landings} → c .land .result ≡ reached.Landed l → forksOf (head c) ≡ false
+alone : (c : Answered) {a : Acted} → begun-so c ≡ how.Acted a → {l : Refocusings} → c .refocus .result ≡ reached.Refocused l → forksOf (head c) ≡ false
     → picked (comes c .stack) (answer.Moved (leftBy (head c) a (l .last) noHead))
     ≡ pickedBy (words (opened (at c))) (roots (opened (at c))) (setting (opened (at c))) (machine (at c)) (mover c)
 alone c acts z n =
     let r = opened (at c) in
-    steps.moves (words r) (roots r) (setting r) (machine (at c)) (mover c) (begun-so c) (begins-so c) (comes c) (c .land .ensures) acts z n
+    steps.moves (words r) (roots r) (setting r) (machine (at c)) (mover c) (begun-so c) (begins-so c) (comes c) (c .refocus .ensures) acts z n
 
 loop2-again-5 : tie.Need-loop2-again-5 Inv-loop2 μ-loop2 Inv-loop3 μ-loop3 Inv-loop μ-loop
 loop2-again-5 c =
@@ -506,7 +506,7 @@ loop2-again-5 c =
     let j = c .before .before .before .before .before .before .if4 in
     let k = c .before .before .before .before .if5 in
     let acts = c .before .before .before .before .before .before .before .before .before .before .before .before .before .before .before .before .before .begun .given .1 in
-    let landed = c .before .before .before .before .before .before .before .before .before .before .before .before .before .before .before .before .before .before .before .before .before .before .reached .given .1 in
+    let refocused = c .before .before .before .before .before .before .before .before .before .before .before .before .before .before .before .before .before .before .before .before .before .before .reached .given .1 in
     let same = c .before .before .before .before .before .changes .ensures in
     let before : put .result .moves ≡ l .loop2 .tally .moves = ap (λ (s : Tally). s .moves) (put .ensures .0 .0) in
     let moves : c .moved4 .result .moves ≡ put .result .moves + 1 = ap (λ (s : Tally). s .moves) (c .moved4 .ensures .0) in
@@ -520,7 +520,7 @@ loop2-again-5 c =
             few-records = omega (arith, records, put .ensures .0 .1, v .few-records);
             kept = put .kept .0 ∙ v .kept;
             goes = λ qs. ⊎-elim (λ w.
-                let came = forked x acts landed (eq-eqb _ _ (w .0 .taken)) in
+                let came = forked x acts refocused (eq-eqb _ _ (w .0 .taken)) in
                 moved (words r) (roots r) (setting r) (machine l) (pick d) qs (l .loop2 .i) _ (present x) came refl
                 (map restoreOf (k .cells)) (j .heads) _ (queue .last .0) (put .result) (c .moved4 .result) (put .last .0)
                 (⊎-elim (λ u. cell-put (l .loop2 .cells) (k .cells) _ _ _ (u .3 .ensures)
@@ -528,7 +528,7 @@ loop2-again-5 c =
                 (λ u. cell-left (l .loop2 .cells) (k .cells) _ _ (u .1) (unchanged x _ refl came (sym same ∙ u .0 .left))) (k .came))
                 (heads-forked (l .loop2 .heads) (j .heads) (l .loop2 .tally .counts .threads % 9) (mover x) (w .4 .ensures) (eq-eqb _ _ (w .0 .taken))
                 (w .2 .ensures) (w .5)) refl (queue .ensures) (put .ensures .0 .0) (c .moved4 .ensures .0) (put .ensures .1)) (λ w.
-                let came = alone x acts landed (ne-eqb _ _ (w .0 .left)) in
+                let came = alone x acts refocused (ne-eqb _ _ (w .0 .left)) in
                 moved (words r) (roots r) (setting r) (machine l) (pick d) qs (l .loop2 .i) _ (present x) came refl
                 (map restoreOf (k .cells)) (j .heads) _ (queue .last .0) (put .result) (c .moved4 .result) (put .last .0)
                 (⊎-elim (λ u. cell-put (l .loop2 .cells) (k .cells) _ _ _ (u .3 .ensures)
@@ -604,7 +604,7 @@ ended c =
         };
         stack = w .10;
       };
-      land = w .11;
+      refocus = w .11;
     }) in
     stops (words r) (roots r) (setting r) (machine l) (pick d) later (l .loop2 .i) _ (w .4 .left) (stops-so x (w .14 .given .1)) refl _ _ _ _ (w .23) (w .24)
     (w .22 ∙ w .17 .ensures .0 .0) (w .20 ∙ w .17 .ensures .1)
@@ -644,7 +644,7 @@ halted c h =
         };
         stack = w .10;
       };
-      land = w .11;
+      refocus = w .11;
     }) in
     ap unstopped (w .23) ∙ stop-halts (words r) (roots r) (setting r) (machine l) (w .1 .result % 8) _ _
     (ap (λ (y : Picked). y .answer) (sym (stops-so x (w .14 .given .1))))) (c .loop2-test .came)
@@ -977,8 +977,8 @@ add-i-4 c = record { fits = omega (arith, few (c .before .before .before .before
 loop2-less-4 : tie.Need-loop2-less-4 Inv-loop2 μ-loop2 Inv-loop3 μ-loop3 Inv-loop μ-loop
 loop2-less-4 c = omega (arith, begun (c .before .before .before .before .before .before .before .before .before .before .before .before .before .before .before))
 
-born-requires : tie.Need-born-requires Inv-loop2 μ-loop2 Inv-loop3 μ-loop3 Inv-loop μ-loop
-born-requires c κs = search needs
+forked-requires : tie.Need-forked-requires Inv-loop2 μ-loop2 Inv-loop3 μ-loop3 Inv-loop μ-loop
+forked-requires c κs = search needs
 
 mul-heads-2 : tie.Need-mul-heads-2 Inv-loop2 μ-loop2 Inv-loop3 μ-loop3 Inv-loop μ-loop
 mul-heads-2 c = search needs
@@ -1066,7 +1066,7 @@ explore-spec =
     -- the queues, and its record
     slice-aggregate-after after-requires (λ c κs. fits (c .before .before .before .before .before .before .before .before .before .before .before .before .before))
     -- a new thread and the mover, or the mover alone
-    born-requires mul-heads-2 array-set-from-heads-3 moved-requires-2 mul-heads-3 array-set-from-heads-4
+    forked-requires mul-heads-2 array-set-from-heads-3 moved-requires-2 mul-heads-3 array-set-from-heads-4
     moved-requires-3 mul-heads-4 array-set-from-heads-5
     -- the cell, the object
     changes-requires cell-of-requires-2 keep-requires

@@ -12,7 +12,7 @@ returns : tie.Need-returns
 returns c = simp (c .enum-told .given .1)
 
 returns-2 : tie.Need-returns-2
-returns-2 c = sym (full-other ((c .before .args .landed) .stage) (c .match .keys2))
+returns-2 c = sym (full-other ((c .before .args .refocused) .stage) (c .match .keys2))
 
 pub full-spec : {M : Type 1} → statement M
 full-spec = tie.close (tie.spec enum-told returns returns-2)
