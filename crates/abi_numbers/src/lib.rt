@@ -10,7 +10,7 @@ use abi_convention::place;
 use abi_convention::refusal;
 use interleavings::Next;
 use judge::Judgement;
-use read::Answer;
+use read::ReadAnswer;
 
 // Of a judge's answer.
 pub fn of_judge(judgement: Judgement) -> u64
@@ -37,14 +37,14 @@ pub fn of_next(next: Next) -> u64
 }
 
 // Of the answer of read.
-pub fn of_read(answer: Answer) -> u64
+pub fn of_read(answer: ReadAnswer) -> u64
     requires { ⌜ SmallRead (texts.answered answer) ⌝ }
     ensures { λ r. ⌜ r ≡ readNumber (texts.answered answer) ⌝ }
 {
     match answer {
-        Answer::Written(length) => length as u64,
-        Answer::Short => refusal(26, 0),
-        Answer::Failed {
+        ReadAnswer::Written(length) => length as u64,
+        ReadAnswer::Short => refusal(26, 0),
+        ReadAnswer::Failed {
             line,
             column,
             kind: _,

@@ -22,7 +22,7 @@ use Rattle.listing.specs.Ways.{Way}
 use Rattle.listing.proofs.Ways.{go-on}
 use Rattle.listing.proofs.Listed.{complete-of, listed-by}
 use Rattle.run_place_notes.specs.Notes.{Puts, PutNoted}
-use Rattle.run_replays.specs.Replay.{Explorable, Explores}
+use Rattle.run_replays.specs.Replay.{Replayable, Explores}
 use Rattle.run_replays.proofs.Told.{goes-past}
 use Rattle.interleavings.specs.Steps.{Begins, Reached}
 
@@ -36,9 +36,9 @@ module _ {plan words : List ℕ} {n : ℕ} {before : List ℕ} {from : ℕ} (b :
   pub first-is : take (from - 0) before ≡ take from before
   first-is = ap (λ (k : ℕ). take k before) (sub-zero from)
 
-  pub can-explore : (empty : List ℕ) → length empty ≡ n → Explorable plan words (take (from - 0) before) empty
+  pub can-explore : (empty : List ℕ) → length empty ≡ n → Replayable plan words (take (from - 0) before) empty
   can-explore empty long =
-      along (λ (l : List ℕ). Explorable plan words l empty) (sym first-is)
+      along (λ (l : List ℕ). Replayable plan words l empty) (sym first-is)
       (record {
         accepted = b .accepted;
         of-eight = b .way .of-eight;

@@ -8,7 +8,7 @@ ghost use Rattle.interleavings.specs.Count.{CountAnswer};
 ghost use Rattle.interleavings.specs.Steps.{Begins, Reached, Listing, Followed, Stands, Advanced, CountsOn};
 use answers::Answered;
 use plan_refusals::Checked;
-use run_place_notes::Turn;
+use run_place_notes::Departure;
 
 // What `next_interleaving` answers.
 pub enum Next {
@@ -55,10 +55,10 @@ fn following(
     requires { ⌜ Listing (now plan) (now words) n (now schedule) (now notes) (now area) ⌝ }
     ensures { λ r. ⌜ Followed (programOf (now (plan .entry))) n (now (schedule .entry)) (now (area .entry)) (now (area .exit)) r ⌝ }
 {
-    let turn = run_place_notes::last_turn(notes, schedule.len());
+    let turn = run_place_notes::last_departure(notes, schedule.len());
     match turn {
-        Turn::Over => Next::Over,
-        Turn::At { place, pick } => {
+        Departure::Over => Next::Over,
+        Departure::At { place, pick } => {
             let end = text::put_word(area, 0, &schedule[0..place]);
             let from = text::put_byte(area, end, pick as u8);
             Next::Written(go_on(plan, words, n, area, from))

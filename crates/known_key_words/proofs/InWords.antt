@@ -26,7 +26,7 @@ use Rattle.machine.proofs.StateMeaning.{threadMeant, get-map}
 use Rattle.machine.proofs.Plays.{start-reached, plays}
 use Rattle.run_state.specs.declared.Setting.{Setting}
 use Rattle.run_engine.specs.Machine.{Played, headAt, playOf, startOf}
-use Rattle.refinement.proofs.Meant.{Loaded}
+use Rattle.refinement.proofs.Meant.{WordsAndRoots}
 use Rattle.refinement.proofs.States.{settingOf, Related}
 use Rattle.refinement.proofs.Starts.{start-related}
 use Rattle.refinement.proofs.Plays.{plays-defined}
@@ -43,16 +43,16 @@ unfolding playOf
 area-here ws rs g i (going m) = refl
 area-here ws rs g i (halted m r) = refl
 
-module _ (plan area ws rs : List ℕ) (ok : refusal plan ≡ none) (loaded : Loaded plan ws rs)
+module _ (plan area ws rs : List ℕ) (ok : refusal plan ≡ none) (loaded : WordsAndRoots plan ws rs)
     (ps : List ℕ) (small : (j : ℕ) → j < length ps → getD ps j 0 ≤ 7) (wide : 3 * length ps ≤ length area) where
   abbrev here : Standing
   here = standing ws rs (settingOf plan) (startOf false rs area) ps 0
 
   abbrev final : machine.State
-  final = playing.runOf plan ps .final
+  final = playing.machineRun plan ps .final
 
   related : Related plan (machineOf here) final
-  unfolding playing.runOf
+  unfolding playing.machineRun
   related = stands-for plan ws rs ok loaded ps 0 small (startOf false rs area) playing.start (start-related plan ws rs ok loaded false area)
       (start-reached plan ok)
 

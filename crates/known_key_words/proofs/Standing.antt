@@ -16,10 +16,10 @@ use Rattle.machine.proofs.Plays.{move-reached}
 use Rattle.run_refocusing.specs.Refocusing.{Stack}
 use Rattle.run_outcome.specs.declared.Stop.the-variants as stop
 use Rattle.run_state.specs.declared.Setting.{Setting}
-use Rattle.run_pick.specs.Answer.{Answer, Answer as answer}
+use Rattle.run_pick.specs.Answer.{PickAnswer, PickAnswer as answer}
 use Rattle.run_pick.specs.Pick.{Picked}
 use Rattle.run_engine.specs.Machine.{Machine, stopped, stayed, after, turnBy, onAnswer, playOf}
-use Rattle.refinement.proofs.Meant.{Loaded}
+use Rattle.refinement.proofs.Meant.{WordsAndRoots}
 use Rattle.refinement.proofs.States.{settingOf, Related}
 use Rattle.refinement.proofs.Picks.{AnsweredBy, picks}
 use Rattle.known_key_words.specs.Standing.{Standing, halted, machineOf, byAnswer, standing, goOn}
@@ -38,7 +38,7 @@ module _ (ws rs : List ℕ) (g : Setting) where
       one-later : (i : ℕ) → i + 1 + length ps ≡ i + suc (length ps)
       one-later i = omega arith
 
-      go : (a : Answer) (k : Stack)
+      go : (a : PickAnswer) (k : Stack)
           → ((m : Machine) → playOf ws rs g m (ps ++ qs) (i + 1) ≡ goOn ws rs g qs (i + suc (length ps)) (standing ws rs g m ps (i + 1)))
           → onAnswer a (playOf ws rs g (stayed m k) (ps ++ qs) (i + 1))
           (λ v. playOf ws rs g (after m (p % 8) v k) (ps ++ qs) (i + 1)) (λ e x. stopped g m (p % 8) x e i)
@@ -51,7 +51,7 @@ module _ (ws rs : List ℕ) (g : Setting) where
 
 -- ---- a state of the abstract machine's run
 
-module _ (b ws rs : List ℕ) (ok : refusal b ≡ none) (loaded : Loaded b ws rs) where
+module _ (b ws rs : List ℕ) (ok : refusal b ≡ none) (loaded : WordsAndRoots b ws rs) where
   abbrev after-picks : Machine → List ℕ → ℕ → Standing
   after-picks m ps i = standing ws rs (settingOf b) m ps i
 
@@ -62,14 +62,14 @@ module _ (b ws rs : List ℕ) (ok : refusal b ≡ none) (loaded : Loaded b ws rs
       (rest : (m : Machine) (s : machine.State) → Related b m s → Reached (tableOf b) (programOf b) s
       → Related b (machineOf (after-picks m ps (i + 1))) (run-from ps s .final)) where
     -- where the run on numbers and the abstract machine stand after the pick and the rest, by its answer
-    abbrev Stands : Answer → Stack → playing.Answer → Type 0
+    abbrev Stands : PickAnswer → Stack → playing.PickAnswer → Type 0
     Stands z k a =
         Related b
         (machineOf (byAnswer z (after-picks (stayed m k) ps (i + 1)) (λ v. after-picks (after m p v k) ps (i + 1))
         (λ e x. halted m (stopped (settingOf b) m p x e i))))
         (playing.resume s (run-from ps) a .final)
 
-    answered-stands : (z : Answer) (k : Stack) → AnsweredBy b m s p z k → Stands z k (playing.step (tableOf b) s p)
+    answered-stands : (z : PickAnswer) (k : Stack) → AnsweredBy b m s p z k → Stands z k (playing.step (tableOf b) s p)
     unfolding playing.resume playing.afterPass playing.afterMove playing.stopped
     answered-stands answer.Passed k (e, same) =
         along (Stands answer.Passed k) (sym e) (rest (stayed m k) s (along (λ (k : Stack). Related b (stayed m k) s) (sym same) rel) reach)

@@ -5,7 +5,7 @@ use mathlib.Core.List.{List, [], _∷_}
 use Rattle.run_outcome.specs.declared.Stop.{Stop}
 use Rattle.run_state.specs.declared.Setting.{Setting}
 use Rattle.run_state.specs.declared.Entry.{Entry}
-use Rattle.run_pick.specs.Answer.{Move, Answer, Answer as answer}
+use Rattle.run_pick.specs.Answer.{Move, PickAnswer, PickAnswer as answer}
 use Rattle.run_engine.specs.Machine.{Machine, Played, stopped, stayed, after, turnBy, playOf}
 
 -- the play goes on from a state; or it stopped in one, "unmoved" (document 01), and this is what it comes to
@@ -24,7 +24,7 @@ areaOf (going m) = m .log
 areaOf (halted m r) = r .area
 
 -- after a pick, by its answer
-abbrev pub byAnswer : Answer → Standing → (Move → Standing) → (Stop → Entry → Standing) → Standing
+abbrev pub byAnswer : PickAnswer → Standing → (Move → Standing) → (Stop → Entry → Standing) → Standing
 byAnswer answer.Passed pass move halt = pass
 byAnswer (answer.Moved v) pass move halt = move v
 byAnswer (answer.Stopped e x) pass move halt = halt e x

@@ -8,7 +8,7 @@ use mathlib.Core.List.{List, [], _∷_}
 use lib.ListN.{length, getD, take}
 use Rattle.plan_packed.specs.Syntax.{Program}
 use Rattle.rules.specs.State.{State, start}
-use Rattle.rules.specs.Room.{AnswerOf, Answer, step}
+use Rattle.rules.specs.Room.{PickAnswerOf, PickAnswer, step}
 use Rattle.rules.specs.Run.{Stop, Run, afterPass, afterMove, stopped, resume, run, play}
 use Rattle.listing.specs.Listed.{Whole, Listed}
 use Rattle.listing.specs.CanFollow.{stops}
@@ -20,7 +20,7 @@ counted r = length (r .instances) + stops (r .stop)
 module _ (g : Program) where
   -- thread p's pick in the state where a run stands: the run has not stopped, and the pick is not passed over
   abbrev Taken : Run → ℕ → Type 0
-  Taken r p = (r .stop ≡ Stop.end) × (step g (r .final) p ≡ AnswerOf.passed → ⊥)
+  Taken r p = (r .stop ≡ Stop.end) × (step g (r .final) p ≡ PickAnswerOf.passed → ⊥)
 
   -- of every pick of a schedule, from state s
   abbrev AllTaken : State → List ℕ → Type 0
@@ -32,17 +32,17 @@ module _ (g : Program) where
   few s [] = omega arith
   few s (p ∷ ps) = go (step g s p) (λ z. few z ps)
     where
-      go : (a : Answer) → ((z : State) → counted (run g z ps) ≤ length ps) → counted (resume s (λ z. run g z ps) a) ≤ suc (length ps)
-      go AnswerOf.passed ih = let h = ih s in omega arith
-      go (AnswerOf.race r) ih = omega arith
-      go (AnswerOf.noRoom k) ih = omega arith
-      go (AnswerOf.moved m) ih = let h = ih (m .state) in omega arith
+      go : (a : PickAnswer) → ((z : State) → counted (run g z ps) ≤ length ps) → counted (resume s (λ z. run g z ps) a) ≤ suc (length ps)
+      go PickAnswerOf.passed ih = let h = ih s in omega arith
+      go (PickAnswerOf.race r) ih = omega arith
+      go (PickAnswerOf.noRoom k) ih = omega arith
+      go (PickAnswerOf.moved m) ih = let h = ih (m .state) in omega arith
 
   -- a pick behind others, by the first pick's answer
-  abbrev Later : State → List ℕ → Answer → Type 0
+  abbrev Later : State → List ℕ → PickAnswer → Type 0
   Later s ps a = (i : ℕ) → i < length ps → Taken (resume s (λ z. run g z (take i ps)) a) (getD ps i 0)
 
-  no-more : (s : State) (ps : List ℕ) (a : Answer) → ((k : State → Run) → resume s k a .stop ≡ Stop.end → ⊥) → Later s ps a → length ps ≡ 0
+  no-more : (s : State) (ps : List ℕ) (a : PickAnswer) → ((k : State → Run) → resume s k a .stop ≡ Stop.end → ⊥) → Later s ps a → length ps ≡ 0
   no-more s [] a n h = refl
   no-more s (p ∷ ps) a n h = absurd (n _ (h 0 (omega arith) .0))
 
@@ -51,28 +51,28 @@ module _ (g : Program) where
   taken-counted s [] h = refl
   taken-counted s (p ∷ ps) h = go (step g s p) (h 0 (omega arith) .1) (λ i b. h (suc i) (omega arith)) (λ z k. taken-counted z ps k)
     where
-      go : (a : Answer) → (a ≡ AnswerOf.passed → ⊥) → Later s ps a
+      go : (a : PickAnswer) → (a ≡ PickAnswerOf.passed → ⊥) → Later s ps a
           → ((z : State) → AllTaken z ps → counted (run g z ps) ≡ length ps) → counted (resume s (λ z. run g z ps) a) ≡ suc (length ps)
-      go AnswerOf.passed n h ih = absurd (n refl)
-      go (AnswerOf.race r) n h ih = let e = no-more s ps (AnswerOf.race r) (λ k q. true≢false cc) h in omega arith
-      go (AnswerOf.noRoom k) n h ih = let e = no-more s ps (AnswerOf.noRoom k) (λ k q. true≢false cc) h in omega arith
-      go (AnswerOf.moved m) n h ih = let e = ih (m .state) h in omega arith
+      go PickAnswerOf.passed n h ih = absurd (n refl)
+      go (PickAnswerOf.race r) n h ih = let e = no-more s ps (PickAnswerOf.race r) (λ k q. true≢false cc) h in omega arith
+      go (PickAnswerOf.noRoom k) n h ih = let e = no-more s ps (PickAnswerOf.noRoom k) (λ k q. true≢false cc) h in omega arith
+      go (PickAnswerOf.moved m) n h ih = let e = ih (m .state) h in omega arith
 
   pub counted-taken : (s : State) (ps : List ℕ) → counted (run g s ps) ≡ length ps → AllTaken s ps
   unfolding run resume afterPass afterMove stopped stops
   counted-taken s [] e i b = absurd (omega arith)
   counted-taken s (p ∷ ps) e i b = at i b (go (step g s p) e (λ z k. counted-taken z ps k))
     where
-      at : (i : ℕ) → i < suc (length ps) → (step g s p ≡ AnswerOf.passed → ⊥) × Later s ps (step g s p) → Taken (run g s (take i (p ∷ ps))) (getD (p ∷ ps) i 0)
+      at : (i : ℕ) → i < suc (length ps) → (step g s p ≡ PickAnswerOf.passed → ⊥) × Later s ps (step g s p) → Taken (run g s (take i (p ∷ ps))) (getD (p ∷ ps) i 0)
       at zero b (n, h) = (refl, n)
       at (suc i) b (n, h) = h i (omega arith)
 
-      go : (a : Answer) → counted (resume s (λ z. run g z ps) a) ≡ suc (length ps)
-          → ((z : State) → counted (run g z ps) ≡ length ps → AllTaken z ps) → (a ≡ AnswerOf.passed → ⊥) × Later s ps a
-      go AnswerOf.passed e ih = absurd (omega (arith, few s ps))
-      go (AnswerOf.race r) e ih = (λ q. true≢false cc, λ i b. absurd (omega arith))
-      go (AnswerOf.noRoom k) e ih = (λ q. true≢false cc, λ i b. absurd (omega arith))
-      go (AnswerOf.moved m) e ih = (λ q. true≢false cc, ih (m .state) (omega arith))
+      go : (a : PickAnswer) → counted (resume s (λ z. run g z ps) a) ≡ suc (length ps)
+          → ((z : State) → counted (run g z ps) ≡ length ps → AllTaken z ps) → (a ≡ PickAnswerOf.passed → ⊥) × Later s ps a
+      go PickAnswerOf.passed e ih = absurd (omega (arith, few s ps))
+      go (PickAnswerOf.race r) e ih = (λ q. true≢false cc, λ i b. absurd (omega arith))
+      go (PickAnswerOf.noRoom k) e ih = (λ q. true≢false cc, λ i b. absurd (omega arith))
+      go (PickAnswerOf.moved m) e ih = (λ q. true≢false cc, ih (m .state) (omega arith))
 
 -- ---- of a listed schedule
 

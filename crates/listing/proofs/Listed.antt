@@ -7,7 +7,7 @@ use mathlib.Core.List.{List, [], _∷_, _++_}
 use mathlib.Core.Logic.{_⊎_, inl, inr, _↔_}
 use lib.ListN.{length, getD, take}
 use Rattle.plan_packed.specs.Syntax.{Program}
-use Rattle.rules.specs.Room.{AnswerOf, Answer, step}
+use Rattle.rules.specs.Room.{PickAnswerOf, PickAnswer, step}
 use Rattle.rules.specs.Run.{Stop, play}
 use Rattle.listing.specs.Listed.{Whole, HAS-N, STOPS, NONE-CAN, Listed}
 use Rattle.listing.specs.CanFollow.{goesOn, movesOrStops, canFollow}
@@ -30,22 +30,22 @@ halted Stop.end h = absurd (h refl)
 halted Stop.race h = refl
 halted (Stop.noRoom k) h = refl
 
-taken : (a : Answer) → (a ≡ AnswerOf.passed → ⊥) → movesOrStops a ≡ true
+taken : (a : PickAnswer) → (a ≡ PickAnswerOf.passed → ⊥) → movesOrStops a ≡ true
 unfolding movesOrStops
-taken AnswerOf.passed h = absurd (h refl)
-taken (AnswerOf.race r) h = refl
-taken (AnswerOf.noRoom k) h = refl
-taken (AnswerOf.moved m) h = refl
+taken PickAnswerOf.passed h = absurd (h refl)
+taken (PickAnswerOf.race r) h = refl
+taken (PickAnswerOf.noRoom k) h = refl
+taken (PickAnswerOf.moved m) h = refl
 
-passed-by : (a : Answer) → movesOrStops a ≡ false → a ≡ AnswerOf.passed
+passed-by : (a : PickAnswer) → movesOrStops a ≡ false → a ≡ PickAnswerOf.passed
 unfolding movesOrStops
-passed-by AnswerOf.passed h = refl
-passed-by (AnswerOf.race r) h = absurd (true≢false h)
-passed-by (AnswerOf.noRoom k) h = absurd (true≢false h)
-passed-by (AnswerOf.moved m) h = absurd (true≢false h)
+passed-by PickAnswerOf.passed h = refl
+passed-by (PickAnswerOf.race r) h = absurd (true≢false h)
+passed-by (PickAnswerOf.noRoom k) h = absurd (true≢false h)
+passed-by (PickAnswerOf.moved m) h = absurd (true≢false h)
 
 module _ (g : Program) (ps : List ℕ) (p : ℕ) where
-  pub can-follow : play g ps .stop ≡ Stop.end → (step g (play g ps .final) p ≡ AnswerOf.passed → ⊥) → canFollow g ps p ≡ true
+  pub can-follow : play g ps .stop ≡ Stop.end → (step g (play g ps .final) p ≡ PickAnswerOf.passed → ⊥) → canFollow g ps p ≡ true
   unfolding canFollow goesOn
   can-follow e h = rw (e, taken (step g (play g ps .final) p) h)
 
@@ -53,7 +53,7 @@ module _ (g : Program) (ps : List ℕ) (p : ℕ) where
   unfolding canFollow
   follows-end h = ended (play g ps .stop) (both (goesOn (play g ps .stop)) (movesOrStops (step g (play g ps .final) p)) h .0)
 
-  pub follows-moves : canFollow g ps p ≡ true → step g (play g ps .final) p ≡ AnswerOf.passed → ⊥
+  pub follows-moves : canFollow g ps p ≡ true → step g (play g ps .final) p ≡ PickAnswerOf.passed → ⊥
   unfolding canFollow movesOrStops
   follows-moves h e = true≢false (sym (both (goesOn (play g ps .stop)) (movesOrStops (step g (play g ps .final) p)) h .1) ∙ ap movesOrStops e)
 
@@ -61,11 +61,11 @@ module _ (g : Program) (ps : List ℕ) (p : ℕ) where
   unfolding canFollow
   after-stop h = rw (halted (play g ps .stop) h)
 
-  pub passes-by : play g ps .stop ≡ Stop.end → canFollow g ps p ≡ false → step g (play g ps .final) p ≡ AnswerOf.passed
+  pub passes-by : play g ps .stop ≡ Stop.end → canFollow g ps p ≡ false → step g (play g ps .final) p ≡ PickAnswerOf.passed
   unfolding canFollow goesOn
   passes-by e h = passed-by (step g (play g ps .final) p) (sym (ap (λ (x : Stop). goesOn x && movesOrStops (step g (play g ps .final) p)) e) ∙ h)
 
-  pub cannot-follow : play g ps .stop ≡ Stop.end → step g (play g ps .final) p ≡ AnswerOf.passed → canFollow g ps p ≡ false
+  pub cannot-follow : play g ps .stop ≡ Stop.end → step g (play g ps .final) p ≡ PickAnswerOf.passed → canFollow g ps p ≡ false
   unfolding canFollow goesOn movesOrStops
   cannot-follow e h = rw (e, h)
 

@@ -3,7 +3,7 @@ use Prim.Native.Nat.{ℕ}
 use mathlib.Core.Bool.{Bool, true, false, _&&_}
 use mathlib.Core.List.{List}
 use Rattle.plan_packed.specs.Syntax.{Program}
-use Rattle.rules.specs.Room.{AnswerOf, Answer, step}
+use Rattle.rules.specs.Room.{PickAnswerOf, PickAnswer, step}
 use Rattle.rules.specs.Run.{Stop, play}
 
 -- a run that has not stopped
@@ -13,11 +13,11 @@ goesOn Stop.race = false
 goesOn (Stop.noRoom k) = false
 
 -- a pick that moves or stops the run
-unfoldable pub movesOrStops : Answer → Bool
-movesOrStops AnswerOf.passed = false
-movesOrStops (AnswerOf.race r) = true
-movesOrStops (AnswerOf.noRoom k) = true
-movesOrStops (AnswerOf.moved m) = true
+unfoldable pub movesOrStops : PickAnswer → Bool
+movesOrStops PickAnswerOf.passed = false
+movesOrStops (PickAnswerOf.race r) = true
+movesOrStops (PickAnswerOf.noRoom k) = true
+movesOrStops (PickAnswerOf.moved m) = true
 
 -- thread p's pick can follow these picks
 unfoldable pub canFollow : Program → List ℕ → ℕ → Bool

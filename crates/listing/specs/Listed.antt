@@ -4,7 +4,7 @@ use mathlib.Core.Path.{_≡_}
 use mathlib.Core.List.{List}
 use lib.ListN.{length, getD, take}
 use Rattle.plan_packed.specs.Syntax.{Program}
-use Rattle.rules.specs.Room.{AnswerOf, step}
+use Rattle.rules.specs.Room.{PickAnswerOf, step}
 use Rattle.rules.specs.Run.{Stop, play}
 use Rattle.listing.specs.Order.{Least, LeastAbove, NoneAbove}
 
@@ -16,7 +16,7 @@ module _ (g : Program) (n : ℕ) (ps : List ℕ) where
     -- "or its last pick stops the run"
     STOPS : (play g ps .stop ≡ Stop.end → ⊥) → Whole
     -- "or no thread can move or stop after it": every pick would be passed over
-    NONE-CAN : ((p : ℕ) → p < 8 → step g (play g ps .final) p ≡ AnswerOf.passed) → Whole
+    NONE-CAN : ((p : ℕ) → p < 8 → step g (play g ps .final) p ≡ PickAnswerOf.passed) → Whole
 
   -- "For a bound n list each schedule"
   pub record Listed : Type 0 where
@@ -25,7 +25,7 @@ module _ (g : Program) (n : ℕ) (ps : List ℕ) where
     -- each of one of eight threads
     pub of-eight : (i : ℕ) → i < length ps → getD ps i 0 < 8
     -- "none passed over": pick i, in the state where the run of the picks before it stands
-    pub none-passed : (i : ℕ) → i < length ps → step g (play g (take i ps) .final) (getD ps i 0) ≡ AnswerOf.passed → ⊥
+    pub none-passed : (i : ℕ) → i < length ps → step g (play g (take i ps) .final) (getD ps i 0) ≡ PickAnswerOf.passed → ⊥
     -- "and none after a stop": the run of the picks before pick i has not stopped
     pub none-after : (i : ℕ) → i < length ps → play g (take i ps) .stop ≡ Stop.end
     pub whole : Whole

@@ -8,7 +8,7 @@ use mathlib.Core.Option.{Option, some, none}
 use Rattle.plan_packed.specs.Syntax.{Expression, Condition, Arguments, substitute, substituteᶜ, substituteᵃ}
 use Rattle.plan_packed.specs.Trees.{null, variable, new, read, write, letIn, if, while, call, fork, join, synch, signal, truth, not, and, equal, list, listEnd}
 use Rattle.plan_packed.specs.Trees.{Node, expression, condition, arguments, unknown, expressionOf, conditionOf, argumentsOf}
-use Rattle.plan_packed.specs.Steps.{Below, Descending}
+use Rattle.plan_packed.specs.Steps.{NamesLater, Descending}
 use Rattle.plan_packed.proofs.TreeLaws.{tree, treeᶜ, treeᵃ, tree-law, tree-lawᶜ, tree-lawᵃ}
 use Rattle.rules.specs.Context.{asLiteral, asBool, isTruth, falseWhen, Focus, focus, focusᶜ, focusᵃ, onLiteral, onBool, onNot}
 use Rattle.machine.specs.Frames.{Slots, noSlots, put, Closure, closure, Frame, Found}
@@ -87,7 +87,7 @@ module _ (h : ℕ → Node) (N : ℕ) (o : Descending h N) where
       (hc : (S : List Frame) (x : Closure) → t < x .at → mean h N (c S x) ≡ focusᶜ (contextᶜ h N S) (conditionIn h N x))
       (hl : (S : List Frame) (m n : ℕ) (σ : Slots) (x : Closure) → t < x .at
       → mean h N (l S m n σ x) ≡ focusᵃ (context h N S) m (firstSlots n σ) (argumentsIn h N x)) where
-    level : (S : List Frame) (x : Node) → Below t x
+    level : (S : List Frame) (x : Node) → NamesLater t x
         → mean h N (downBy h (λ F. F) d c l ρ S x) ≡ focus (context h N S) (substitute (every ρ) (expressionOf (tree h N) (treeᶜ h N) (treeᵃ h N) x))
     unfolding downBy substitute expressionOf focus firstSlots
     level S (expression null) b = refl
@@ -109,7 +109,7 @@ module _ (h : ℕ → Node) (N : ℕ) (o : Descending h N) where
     level S (arguments x) b = refl
     level S unknown b = refl
 
-    levelᶜ : (S : List Frame) (x : Node) → Below t x
+    levelᶜ : (S : List Frame) (x : Node) → NamesLater t x
         → mean h N (downByᶜ h (λ F. F) d c l ρ S x) ≡ focusᶜ (contextᶜ h N S) (substituteᶜ (every ρ) (conditionOf (tree h N) (treeᶜ h N) x))
     unfolding downByᶜ substitute conditionOf focus
     levelᶜ S (expression x) b = refl
@@ -122,7 +122,7 @@ module _ (h : ℕ → Node) (N : ℕ) (o : Descending h N) where
     levelᶜ S (arguments x) b = refl
     levelᶜ S unknown b = refl
 
-    levelᵃ : (S : List Frame) (m n : ℕ) (σ : Slots) (x : Node) → Below t x
+    levelᵃ : (S : List Frame) (m n : ℕ) (σ : Slots) (x : Node) → NamesLater t x
         → mean h N (downByᵃ h (λ F. F) d c l ρ S m n σ x) ≡ focusᵃ (context h N S) m (firstSlots n σ)
         (substituteᵃ (every ρ) (argumentsOf (tree h N) (treeᵃ h N) x))
     unfolding downByᵃ substitute argumentsOf focus

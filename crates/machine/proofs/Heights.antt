@@ -9,7 +9,7 @@ use mathlib.Core.Option.{Option, some, none, Option·some-ne-none}
 use lib.ListN.{length}
 use Rattle.plan_packed.specs.Trees.{null, variable, new, read, write, letIn, if, while, call, fork, join, synch, signal, truth, not, and, equal, list, listEnd}
 use Rattle.plan_packed.specs.Trees.{Node, expression, condition, arguments, unknown}
-use Rattle.plan_packed.specs.Steps.{Below, Descending}
+use Rattle.plan_packed.specs.Steps.{NamesLater, Descending}
 use Rattle.rules.specs.Context.{falseWhen}
 use Rattle.machine.specs.Frames.{Slots, noSlots, put, Closure, closure, Frame, Found, height}
 use Rattle.machine.specs.Refocusing.{given, valueOf, isTrue, boolOf, valueIn, boolIn, foundNot, downBy, downByᶜ, downByᵃ, down, downᶜ, downᵃ}
@@ -41,7 +41,7 @@ module _ (h : ℕ → Node) where
       (hd : (F : Frame) (x : Closure) → t < x .at → valueIn h x ≡ none → length S ≤ height (d (F ∷ S) x))
       (hc : (F : Frame) (x : Closure) → t < x .at → boolIn h x ≡ none → length S ≤ height (c (F ∷ S) x))
       (hl : (m n : ℕ) (σ : Slots) (x : Closure) → t < x .at → length S ≤ height (l S m n σ x)) where
-    at-least : (ρ : Slots) (x : Node) → Below t x → valueOf ρ x ≡ none → length S ≤ height (downBy h (λ F. F) d c l ρ S x)
+    at-least : (ρ : Slots) (x : Node) → NamesLater t x → valueOf ρ x ≡ none → length S ≤ height (downBy h (λ F. F) d c l ρ S x)
     unfolding downBy valueOf height
     at-least ρ (expression null) b e = absurd (Option·some-ne-none 0 e)
     at-least ρ (expression (variable x)) b e = absurd (Option·some-ne-none (ρ x) e)
@@ -67,7 +67,7 @@ module _ (h : ℕ → Node) where
     not-least i true e q = absurd (Option·some-ne-none false (rw (true-node h (h i) e) at q))
     not-least i false e q = omega arith
 
-    at-leastᶜ : (ρ : Slots) (x : Node) → Below t x → boolOf h x ≡ none → length S ≤ height (downByᶜ h (λ F. F) d c l ρ S x)
+    at-leastᶜ : (ρ : Slots) (x : Node) → NamesLater t x → boolOf h x ≡ none → length S ≤ height (downByᶜ h (λ F. F) d c l ρ S x)
     unfolding downByᶜ boolOf boolIn height
     at-leastᶜ ρ (expression x) b e = absurd (Option·some-ne-none true e)
     at-leastᶜ ρ (condition truth) b e = absurd (Option·some-ne-none true e)
@@ -79,7 +79,7 @@ module _ (h : ℕ → Node) where
     at-leastᶜ ρ (arguments x) b e = absurd (Option·some-ne-none true e)
     at-leastᶜ ρ unknown b e = absurd (Option·some-ne-none true e)
 
-    at-leastᵃ : (ρ : Slots) (m n : ℕ) (σ : Slots) (x : Node) → Below t x → length S ≤ height (downByᵃ h (λ F. F) d c l ρ S m n σ x)
+    at-leastᵃ : (ρ : Slots) (m n : ℕ) (σ : Slots) (x : Node) → NamesLater t x → length S ≤ height (downByᵃ h (λ F. F) d c l ρ S m n σ x)
     unfolding downByᵃ height
     at-leastᵃ ρ m n σ (expression x) b = omega arith
     at-leastᵃ ρ m n σ (condition x) b = omega arith

@@ -6,7 +6,7 @@ use mathlib.Core.List.{List, [], _∷_}
 use mathlib.Core.Option.{Option, some, none}
 use Rattle.plan_packed.specs.Trees.{null, variable, new, read, write, letIn, if, while, call, fork, join, synch, signal, truth, not, and, equal, list, listEnd}
 use Rattle.plan_packed.specs.Trees.{Node, expression, condition, arguments, unknown}
-use Rattle.plan_packed.specs.Steps.{Below}
+use Rattle.plan_packed.specs.Steps.{NamesLater}
 use Rattle.machine.specs.Frames.{Slots, noSlots, put, Closure, closure, Frame, Found}
 use Rattle.machine.specs.Refocusing.{given, valueIn, boolIn, foundNot, downBy, downByᶜ, downByᵃ, upBy}
 
@@ -26,7 +26,7 @@ module _ (h : ℕ → Node) {R R′ : Type 0} (Related : R → R′ → Type 0) 
   module _ (S : List Frame) (t : ℕ) (hd : (F : Frame) (x : Closure) → t < x .at → valueIn h x ≡ none → Related (d (F ∷ S) x) (d′ (F ∷ S) x))
       (hc : (F : Frame) (x : Closure) → t < x .at → boolIn h x ≡ none → Related (c (F ∷ S) x) (c′ (F ∷ S) x))
       (hl : (m n : ℕ) (σ : Slots) (x : Closure) → t < x .at → Related (l S m n σ x) (l′ S m n σ x)) where
-    pub level : (ρ : Slots) (x : Node) → Below t x → Related (downBy h found d c l ρ S x) (downBy h found′ d′ c′ l′ ρ S x)
+    pub level : (ρ : Slots) (x : Node) → NamesLater t x → Related (downBy h found d c l ρ S x) (downBy h found′ d′ c′ l′ ρ S x)
     unfolding downBy
     level ρ (expression null) b = hf _
     level ρ (expression (variable x)) b = hf _
@@ -47,7 +47,7 @@ module _ (h : ℕ → Node) {R R′ : Type 0} (Related : R → R′ → Type 0) 
     level ρ (arguments x) b = hf _
     level ρ unknown b = hf _
 
-    pub levelᶜ : (ρ : Slots) (x : Node) → Below t x → Related (downByᶜ h found d c l ρ S x) (downByᶜ h found′ d′ c′ l′ ρ S x)
+    pub levelᶜ : (ρ : Slots) (x : Node) → NamesLater t x → Related (downByᶜ h found d c l ρ S x) (downByᶜ h found′ d′ c′ l′ ρ S x)
     unfolding downByᶜ
     levelᶜ ρ (expression x) b = hf _
     levelᶜ ρ (condition truth) b = hf _
@@ -59,7 +59,7 @@ module _ (h : ℕ → Node) {R R′ : Type 0} (Related : R → R′ → Type 0) 
     levelᶜ ρ (arguments x) b = hf _
     levelᶜ ρ unknown b = hf _
 
-    pub levelᵃ : (ρ : Slots) (m n : ℕ) (σ : Slots) (x : Node) → Below t x → Related (downByᵃ h found d c l ρ S m n σ x) (downByᵃ h found′ d′ c′ l′ ρ S m n σ x)
+    pub levelᵃ : (ρ : Slots) (m n : ℕ) (σ : Slots) (x : Node) → NamesLater t x → Related (downByᵃ h found d c l ρ S m n σ x) (downByᵃ h found′ d′ c′ l′ ρ S m n σ x)
     unfolding downByᵃ
     levelᵃ ρ m n σ (expression x) b = hf _
     levelᵃ ρ m n σ (condition x) b = hf _

@@ -10,7 +10,7 @@ use Rattle.plan_packed.proofs.Accepted.{accepted}
 use Rattle.plan_packed.proofs.Decoded.{well-formed}
 use Rattle.rules.specs.Context.{literals, plug, redexExpression}
 use Rattle.rules.specs.State.{State, start}
-use Rattle.rules.specs.Room.{AnswerOf}
+use Rattle.rules.specs.Room.{PickAnswerOf}
 use Rattle.rules.specs.Run.{Run, run, play, statusesFrom, outcomeOf}
 use Rattle.rules.proofs.Decompose.{whole}
 use Rattle.rules.proofs.Executed.{Reachable, reachable-start}
@@ -37,37 +37,37 @@ module _ (b : List ℕ) (h : refusal b ≡ none) where
         along (Reachable (programOf b)) (start-of (tableOf b)) (reachable-start (programOf b) (well-formed b h));
   }
 
-  pub plays-reached : (ps : List ℕ) → Reached (tableOf b) (programOf b) (playing.runOf b ps .final)
-  unfolding playing.runOf
+  pub plays-reached : (ps : List ℕ) → Reached (tableOf b) (programOf b) (playing.machineRun b ps .final)
+  unfolding playing.machineRun
   plays-reached ps = run-reached (tableOf b) (programOf b) (well-formed b h) (tabulates b (accepted b h)) ps playing.start start-reached
 
   pub move-reached : (s : machine.State) (p : ℕ) (m : machine.Move) → Reached (tableOf b) (programOf b) s
-      → playing.step (tableOf b) s p ≡ AnswerOf.moved m
+      → playing.step (tableOf b) s p ≡ PickAnswerOf.moved m
       → Reached (tableOf b) (programOf b) (m .state)
   move-reached = step-reached (tableOf b) (programOf b) (well-formed b h) (tabulates b (accepted b h))
 
   -- THE MACHINE'S RUN IS THE DEFINED RUN
-  pub plays : (ps : List ℕ) → play (programOf b) ps ≡ runMeant (tableOf b) (playing.runOf b ps)
-  unfolding play playing.runOf
+  pub plays : (ps : List ℕ) → play (programOf b) ps ≡ runMeant (tableOf b) (playing.machineRun b ps)
+  unfolding play playing.machineRun
   plays ps =
       ap (λ (s : State). run (programOf b) s ps) (start-of (tableOf b))
       ∙ run-of (tableOf b) (programOf b) (well-formed b h) (tabulates b (accepted b h)) ps playing.start start-reached
 
   pub plays-statuses : (ps : List ℕ) (p n : ℕ)
-      → statusesFrom (programOf b) (play (programOf b) ps .final) p n ≡ playing.statusesFrom (tableOf b) (playing.runOf b ps .final) p n
+      → statusesFrom (programOf b) (play (programOf b) ps .final) p n ≡ playing.statusesFrom (tableOf b) (playing.machineRun b ps .final) p n
   plays-statuses ps p n =
       ap (λ (r : Run). statusesFrom (programOf b) (r .final) p n) (plays ps)
-      ∙ statuses-of (tableOf b) (programOf b) (well-formed b h) (tabulates b (accepted b h)) (playing.runOf b ps .final) (plays-reached ps) p n
+      ∙ statuses-of (tableOf b) (programOf b) (well-formed b h) (tabulates b (accepted b h)) (playing.machineRun b ps .final) (plays-reached ps) p n
 
-  pub plays-log : (ps : List ℕ) → play (programOf b) ps .log ≡ playing.runOf b ps .log
+  pub plays-log : (ps : List ℕ) → play (programOf b) ps .log ≡ playing.machineRun b ps .log
   plays-log ps = ap (λ (r : Run). r .log) (plays ps)
 
   -- so the outcome is read off the machine's run
-  pub plays-outcome : (ps : List ℕ) → outcomeOf (programOf b) (play (programOf b) ps) ≡ playing.outcomeOf (tableOf b) (playing.runOf b ps)
+  pub plays-outcome : (ps : List ℕ) → outcomeOf (programOf b) (play (programOf b) ps) ≡ playing.outcomeOf (tableOf b) (playing.machineRun b ps)
   unfolding outcomeOf playing.outcomeOf
   plays-outcome ps =
       ap (outcomeOf (programOf b)) (plays ps)
       ∙ rw (
-        statuses-of (tableOf b) (programOf b) (well-formed b h) (tabulates b (accepted b h)) (playing.runOf b ps .final) (plays-reached ps) 0 8,
-        totals-of (tableOf b) (playing.runOf b ps .final) 0 8,
+        statuses-of (tableOf b) (programOf b) (well-formed b h) (tabulates b (accepted b h)) (playing.machineRun b ps .final) (plays-reached ps) 0 8,
+        totals-of (tableOf b) (playing.machineRun b ps .final) 0 8,
       )

@@ -14,7 +14,7 @@ use Rattle.rules.specs.Context.{Focus, depthOf, expressionDepth}
 use Rattle.rules.specs.State.{Thread, State}
 use Rattle.rules.specs.Rules.{Rule}
 use Rattle.rules.specs.Step.{AttemptOf, Move, attempt}
-use Rattle.rules.specs.Room.{Room, noRoomAmong, noRoomBefore, deep, deepAt, anyDeep, noRoomAfter, noRoomFor, AnswerOf, Answer, withinRoom, answer, step}
+use Rattle.rules.specs.Room.{Room, noRoomAmong, noRoomBefore, deep, deepAt, anyDeep, noRoomAfter, noRoomFor, PickAnswerOf, PickAnswer, withinRoom, answer, step}
 use Rattle.rules.specs.Run.{Run, afterPass, afterMove, resume, run, Status, status, statusesFrom, totalOf, totalsFrom}
 use Rattle.rules.proofs.Decompose.{focus-whole}
 use Rattle.rules.proofs.Progress.{ruled}
@@ -94,11 +94,11 @@ module _ (table : Table) where
   abbrev moveOf : machine.Move → Move
   moveOf m = record { rule = m .rule; entry = m .entry; state = stateOf table (m .state) }
 
-  abbrev pub answerOf : playing.Answer → Answer
-  answerOf AnswerOf.passed = AnswerOf.passed
-  answerOf (AnswerOf.race r) = AnswerOf.race r
-  answerOf (AnswerOf.noRoom k) = AnswerOf.noRoom k
-  answerOf (AnswerOf.moved m) = AnswerOf.moved (moveOf m)
+  abbrev pub answerOf : playing.PickAnswer → PickAnswer
+  answerOf PickAnswerOf.passed = PickAnswerOf.passed
+  answerOf (PickAnswerOf.race r) = PickAnswerOf.race r
+  answerOf (PickAnswerOf.noRoom k) = PickAnswerOf.noRoom k
+  answerOf (PickAnswerOf.moved m) = PickAnswerOf.moved (moveOf m)
 
   admit-of : (m : machine.Move) (k : Option Room) → withinRoom (moveOf m) k ≡ answerOf (withinRoom m k)
   unfolding withinRoom
@@ -148,7 +148,7 @@ module _ (table : Table) where
         ap (answer (stateOf table s) p) (sym (attempt-reached s p r)) ∙ answer-of s p (machine.attempt table s p) (attempt-well table s p (r .sorted))
 
     -- a move keeps what holds of a run's states
-    pub step-reached : (s : machine.State) (p : ℕ) (m : machine.Move) → Reached g s → playing.step table s p ≡ AnswerOf.moved m → Reached g (m .state)
+    pub step-reached : (s : machine.State) (p : ℕ) (m : machine.Move) → Reached g s → playing.step table s p ≡ PickAnswerOf.moved m → Reached g (m .state)
     unfolding playing.step
     step-reached s p m r e =
         let a = answer-moved s p (machine.attempt table s p) m e in
@@ -161,14 +161,14 @@ module _ (table : Table) where
 
     -- ---- runs
 
-    resume-of : (s : machine.State) (p : ℕ) (k : State → Run) (k′ : machine.State → playing.Run) (a : playing.Answer) → Reached g s → playing.step table s p ≡ a
+    resume-of : (s : machine.State) (p : ℕ) (k : State → Run) (k′ : machine.State → playing.Run) (a : playing.PickAnswer) → Reached g s → playing.step table s p ≡ a
         → ((z : machine.State) → Reached g z → k (stateOf table z) ≡ runMeant (k′ z))
         → resume (stateOf table s) k (answerOf a) ≡ runMeant (resume s k′ a)
     unfolding resume
-    resume-of s p k k′ AnswerOf.passed r e q = ap afterPass (q s r)
-    resume-of s p k k′ (AnswerOf.race x) r e q = refl
-    resume-of s p k k′ (AnswerOf.noRoom x) r e q = refl
-    resume-of s p k k′ (AnswerOf.moved m) r e q = ap (afterMove (moveOf m)) (q (m .state) (step-reached s p m r e))
+    resume-of s p k k′ PickAnswerOf.passed r e q = ap afterPass (q s r)
+    resume-of s p k k′ (PickAnswerOf.race x) r e q = refl
+    resume-of s p k k′ (PickAnswerOf.noRoom x) r e q = refl
+    resume-of s p k k′ (PickAnswerOf.moved m) r e q = ap (afterMove (moveOf m)) (q (m .state) (step-reached s p m r e))
 
     -- the machine's run stands for the defined run
     pub run-of : (ps : List ℕ) (s : machine.State) → Reached g s → run g (stateOf table s) ps ≡ runMeant (playing.run table s ps)
@@ -178,13 +178,13 @@ module _ (table : Table) where
         ap (resume (stateOf table s) (λ z. run g z ps)) (step-of s p r)
         ∙ resume-of s p (λ z. run g z ps) (λ z. playing.run table z ps) (playing.step table s p) r refl (λ z u. run-of ps z u)
 
-    resume-reached : (s : machine.State) (p : ℕ) (k : machine.State → playing.Run) (a : playing.Answer) → Reached g s → playing.step table s p ≡ a
+    resume-reached : (s : machine.State) (p : ℕ) (k : machine.State → playing.Run) (a : playing.PickAnswer) → Reached g s → playing.step table s p ≡ a
         → ((z : machine.State) → Reached g z → Reached g (k z .final)) → Reached g (resume s k a .final)
     unfolding resume
-    resume-reached s p k AnswerOf.passed r e q = q s r
-    resume-reached s p k (AnswerOf.race x) r e q = r
-    resume-reached s p k (AnswerOf.noRoom x) r e q = r
-    resume-reached s p k (AnswerOf.moved m) r e q = q (m .state) (step-reached s p m r e)
+    resume-reached s p k PickAnswerOf.passed r e q = q s r
+    resume-reached s p k (PickAnswerOf.race x) r e q = r
+    resume-reached s p k (PickAnswerOf.noRoom x) r e q = r
+    resume-reached s p k (PickAnswerOf.moved m) r e q = q (m .state) (step-reached s p m r e)
 
     -- and ends in such a state
     pub run-reached : (ps : List ℕ) (s : machine.State) → Reached g s → Reached g (playing.run table s ps .final)

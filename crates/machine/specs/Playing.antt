@@ -7,7 +7,7 @@ use Rattle.format.specs.Version.{versionOf}
 use Rattle.plan_packed.specs.Format.{version, terms, root, volatiles, maskBit}
 use Rattle.plan_packed.specs.Trees.{nodeAt}
 use Rattle.rules.specs.State.{startAt}
-use Rattle.rules.specs.Room.{AnswerOf}
+use Rattle.rules.specs.Room.{PickAnswerOf}
 use Rattle.rules.specs.Run.{RunOf, Status, Outcome, runBy, statusesBy, outcomeBy}
 use Rattle.machine.specs.Frames.{noSlots, Ready, Found, height}
 use Rattle.machine.specs.Machine.{frames, State, Table, attempt}
@@ -15,8 +15,8 @@ pub use Rattle.rules.specs.Room.{passed, race, noRoom, moved}
 unfoldable pub use Rattle.rules.specs.Room.{noRoomBefore, deep, deepAt, anyDeep, noRoomAfter, noRoomFor, withinRoom, answer}
 unfoldable pub use Rattle.rules.specs.Run.{afterPass, afterMove, stopped, resume, status, totalOf, totalsFrom}
 
-abbrev pub Answer : Type 0
-Answer = AnswerOf frames
+abbrev pub PickAnswer : Type 0
+PickAnswer = PickAnswerOf frames
 
 abbrev pub Run : Type 0
 Run = RunOf frames
@@ -27,7 +27,7 @@ unfolding startAt noSlots
 start = startAt (Found.here [] (Ready.call 0 0 noSlots))
 
 module _ (table : Table) where
-  unfoldable pub step : State → ℕ → Answer
+  unfoldable pub step : State → ℕ → PickAnswer
   unfolding attempt answer height
   step s p = answer s p (attempt table s p)
 
@@ -50,6 +50,6 @@ unfolding version versionOf nodeAt terms root volatiles maskBit
 tableOf b = record { version = versionOf (version b); node = nodeAt b; count = terms b; isVolatile = λ f. eqb (maskBit (volatiles b) f) 1; root = root b }
 
 -- the run of a list of picks on a plan
-unfoldable pub runOf : List ℕ → List ℕ → Run
+unfoldable pub machineRun : List ℕ → List ℕ → Run
 unfolding run start tableOf
-runOf b ps = run (tableOf b) start ps
+machineRun b ps = run (tableOf b) start ps

@@ -14,7 +14,7 @@ use Rattle.format.proofs.BitLaws.{bits-past}
 use Rattle.plan_packed.specs.Format
 use Rattle.plan_packed.specs.Format.{terms, planLength, table, layout, termBit, termAt, tagAt}
 use Rattle.plan_packed.specs.Trees.{ExpressionNode, Node, nodes, nodeOf, nodeAt, treeAt}
-use Rattle.plan_packed.specs.Steps.{Right, Loaded, Ordered, Descending, Below, inWord, termIn, nodeIn, treeIn}
+use Rattle.plan_packed.specs.Steps.{Right, Loaded, Ordered, Descending, NamesLater, inWord, termIn, nodeIn, treeIn}
 use Rattle.plan_packed.specs.Refusals.{anyBelow}
 use Rattle.plan_packed.specs.Check.{refusal}
 use Rattle.plan_packed.proofs.Tags.{by-tag}
@@ -28,11 +28,11 @@ use Rattle.plan_packed.proofs.Children.{nodeOfTag, nodes-are}
 -- ---- children come after their parents
 
 rows-below : (t x y z k : ℕ) → IfChild (λ v. t < v) (layout k .first) x → IfChild (λ v. t < v) (layout k .second) y → IfChild (λ v. t < v) (layout k .third) z
-    → Below t (nodeOfTag k x y z)
+    → NamesLater t (nodeOfTag k x y z)
 unfolding layout table nodes
 rows-below t x y z k =
     by-tag (λ k. IfChild (λ v. t < v) (layout k .first) x → IfChild (λ v. t < v) (layout k .second) y → IfChild (λ v. t < v) (layout k .third) z
-    → Below t (nodeOfTag k x y z))
+    → NamesLater t (nodeOfTag k x y z))
     (λ a b c. tt)
     (λ a b c. tt)
     (λ a b c. tt)
@@ -86,7 +86,7 @@ descending b whole each = record { past = past; below = λ t. below t (decLt t (
     past : (t : ℕ) → terms b ≤ t → nodeAt b t ≡ Node.expression ExpressionNode.null
     past t h = node-is b t 0 (past-tag b whole t h)
 
-    below : (t : ℕ) → Dec (t < terms b) → Below t (nodeAt b t)
+    below : (t : ℕ) → Dec (t < terms b) → NamesLater t (nodeAt b t)
     below t (yes h) = let d = each t h in rw (node-is b t (tagAt b t) refl) (rows-below t _ _ _ (tagAt b t) (d .0) (d .1) (d .2))
     below t (no h) = rw (past t (omega (arith, h))) tt
 

@@ -4,7 +4,7 @@ use Prim.Native.Nat.{ℕ, zero, suc, _+_, _-_, _≤_, _<_}
 use native.Mathlib.Omega.{arith}
 use mathlib.Core.Path.{_≡_, refl, _∙_}
 use Rattle.plan_packed.specs.Syntax.{Expression, Condition, Arguments}
-use Rattle.plan_packed.specs.Steps.{Below, Descending}
+use Rattle.plan_packed.specs.Steps.{NamesLater, Descending}
 use Rattle.plan_packed.specs.Trees.{null, variable, new, read, write, letIn, if, while, call, fork, join, synch, signal, truth, not, and, equal, list, listEnd}
 use Rattle.plan_packed.specs.Trees.{Node, expression, condition, arguments, unknown}
 use Rattle.plan_packed.specs.Trees.{expressionOf, conditionOf, argumentsOf, expressionAt, conditionAt, argumentsAt}
@@ -28,7 +28,7 @@ module _ (h : ℕ → Node) (N : ℕ) where
 
 module _ (t : ℕ) (e e′ : ℕ → Expression) (c c′ : ℕ → Condition) (l l′ : ℕ → Arguments)
     (he : (i : ℕ) → t < i → e i ≡ e′ i) (hc : (i : ℕ) → t < i → c i ≡ c′ i) (hl : (i : ℕ) → t < i → l i ≡ l′ i) where
-  pub expression-cong : (x : Node) → Below t x → expressionOf e c l x ≡ expressionOf e′ c′ l′ x
+  pub expression-cong : (x : Node) → NamesLater t x → expressionOf e c l x ≡ expressionOf e′ c′ l′ x
   unfolding expressionOf
   expression-cong (expression null) b = refl
   expression-cong (expression (variable x)) b = refl
@@ -47,7 +47,7 @@ module _ (t : ℕ) (e e′ : ℕ → Expression) (c c′ : ℕ → Condition) (l
   expression-cong (arguments x) b = refl
   expression-cong unknown b = refl
 
-  pub condition-cong : (x : Node) → Below t x → conditionOf e c x ≡ conditionOf e′ c′ x
+  pub condition-cong : (x : Node) → NamesLater t x → conditionOf e c x ≡ conditionOf e′ c′ x
   unfolding conditionOf
   condition-cong (expression x) b = refl
   condition-cong (condition truth) b = refl
@@ -57,7 +57,7 @@ module _ (t : ℕ) (e e′ : ℕ → Expression) (c c′ : ℕ → Condition) (l
   condition-cong (arguments x) b = refl
   condition-cong unknown b = refl
 
-  pub arguments-cong : (x : Node) → Below t x → argumentsOf e l x ≡ argumentsOf e′ l′ x
+  pub arguments-cong : (x : Node) → NamesLater t x → argumentsOf e l x ≡ argumentsOf e′ l′ x
   unfolding argumentsOf
   arguments-cong (expression x) b = refl
   arguments-cong (condition x) b = refl

@@ -11,7 +11,7 @@ use Rattle.plan_packed.specs.Format.{table, layout}
 use Rattle.plan_packed.specs.Operands.{tagOf, slotBits}
 use Rattle.plan_packed.specs.Trees.{nodes, nodeOf, expressionOf, conditionOf, argumentsOf}
 use Rattle.plan_packed.specs.Slots.{closed, closedᶜ, closedᵃ}
-use Rattle.plan_packed.specs.Steps.{Ordered, Below, inWord, nodeIn, treeIn, conditionIn, listIn, leafIn}
+use Rattle.plan_packed.specs.Steps.{Ordered, NamesLater, inWord, nodeIn, treeIn, conditionIn, listIn, leafIn}
 use Rattle.plan_packed.proofs.Tags.{except}
 use Rattle.plan_packed.proofs.TreeLaws.{tree, treeᶜ, treeᵃ, tree-law, tree-lawᶜ, tree-lawᵃ}
 use Rattle.plan_packed.proofs.SingleTerm.{rowOf, row-is, node-in}
@@ -34,8 +34,8 @@ module _ (ws : List ℕ) (o : Ordered ws) where
     list-is = tree-lawᵃ (nodeIn ws) 1024 o t ∙ ap (argumentsOf (treeIn ws) (listIn ws)) (node-in ws t k e)
 
     -- the children come after
-    pub row-below : Below t (rowOf k (getD ws t 0))
-    row-below = subst (Below t) (node-in ws t k e) (o .below t)
+    pub row-below : NamesLater t (rowOf k (getD ws t 0))
+    row-below = subst (NamesLater t) (node-in ws t k e) (o .below t)
 
 -- a term without children
 module _ (e e′ : ℕ → Expression) (c c′ : ℕ → Condition) (l l′ : ℕ → Arguments) (w : ℕ) where

@@ -76,32 +76,32 @@ unfolding nodeOf termIn
 nodeIn words t = nodeOf (termIn (getD words t 0))
 
 -- the children of a node come after term t
-abbrev pub Below : ℕ → Node → Type 0
-Below t (Node.expression ExpressionNode.null) = Unit {0}
-Below t (Node.expression (ExpressionNode.variable x)) = Unit {0}
-Below t (Node.expression (ExpressionNode.new fs)) = Unit {0}
-Below t (Node.expression (ExpressionNode.read i f)) = t < i
-Below t (Node.expression (ExpressionNode.write i f j)) = (t < i) × (t < j)
-Below t (Node.expression (ExpressionNode.letIn x i j)) = (t < i) × (t < j)
-Below t (Node.expression (ExpressionNode.if i j k)) = (t < i) × (t < j) × (t < k)
-Below t (Node.expression (ExpressionNode.while i j)) = (t < i) × (t < j)
-Below t (Node.expression (ExpressionNode.call m i)) = t < i
-Below t (Node.expression (ExpressionNode.fork i)) = t < i
-Below t (Node.expression (ExpressionNode.join i)) = t < i
-Below t (Node.expression (ExpressionNode.synch i j)) = (t < i) × (t < j)
-Below t (Node.expression (ExpressionNode.signal k i)) = t < i
-Below t (Node.condition ConditionNode.truth) = Unit {0}
-Below t (Node.condition (ConditionNode.not i)) = t < i
-Below t (Node.condition (ConditionNode.and i j)) = (t < i) × (t < j)
-Below t (Node.condition (ConditionNode.equal i j)) = (t < i) × (t < j)
-Below t (Node.arguments (ArgumentsNode.list i j)) = (t < i) × (t < j)
-Below t (Node.arguments ArgumentsNode.listEnd) = Unit {0}
-Below t Node.unknown = Unit {0}
+abbrev pub NamesLater : ℕ → Node → Type 0
+NamesLater t (Node.expression ExpressionNode.null) = Unit {0}
+NamesLater t (Node.expression (ExpressionNode.variable x)) = Unit {0}
+NamesLater t (Node.expression (ExpressionNode.new fs)) = Unit {0}
+NamesLater t (Node.expression (ExpressionNode.read i f)) = t < i
+NamesLater t (Node.expression (ExpressionNode.write i f j)) = (t < i) × (t < j)
+NamesLater t (Node.expression (ExpressionNode.letIn x i j)) = (t < i) × (t < j)
+NamesLater t (Node.expression (ExpressionNode.if i j k)) = (t < i) × (t < j) × (t < k)
+NamesLater t (Node.expression (ExpressionNode.while i j)) = (t < i) × (t < j)
+NamesLater t (Node.expression (ExpressionNode.call m i)) = t < i
+NamesLater t (Node.expression (ExpressionNode.fork i)) = t < i
+NamesLater t (Node.expression (ExpressionNode.join i)) = t < i
+NamesLater t (Node.expression (ExpressionNode.synch i j)) = (t < i) × (t < j)
+NamesLater t (Node.expression (ExpressionNode.signal k i)) = t < i
+NamesLater t (Node.condition ConditionNode.truth) = Unit {0}
+NamesLater t (Node.condition (ConditionNode.not i)) = t < i
+NamesLater t (Node.condition (ConditionNode.and i j)) = (t < i) × (t < j)
+NamesLater t (Node.condition (ConditionNode.equal i j)) = (t < i) × (t < j)
+NamesLater t (Node.arguments (ArgumentsNode.list i j)) = (t < i) × (t < j)
+NamesLater t (Node.arguments ArgumentsNode.listEnd) = Unit {0}
+NamesLater t Node.unknown = Unit {0}
 
 -- N nodes, in which every child comes after its parent, and nulls past them
 pub record Descending (h : ℕ → Node) (N : ℕ) : Type 0 where
   pub past : (t : ℕ) → N ≤ t → h t ≡ Node.expression ExpressionNode.null
-  pub below : (t : ℕ) → Below t (h t)
+  pub below : (t : ℕ) → NamesLater t (h t)
 
 -- the nodes of the array
 abbrev pub Ordered : List ℕ → Type 0

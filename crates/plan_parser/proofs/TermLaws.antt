@@ -14,7 +14,7 @@ use Rattle.plan_packed.specs.Syntax.{Expression, Condition, Arguments}
 use Rattle.plan_packed.specs.Format.{width, table, layout, fieldsFrom, Term}
 use Rattle.plan_packed.specs.Operands.{tagOf}
 use Rattle.plan_packed.specs.Trees.{Node, nodes, nodeOf, expressionOf, conditionOf, argumentsOf, expressionAt, conditionAt, argumentsAt}
-use Rattle.plan_packed.specs.Steps.{Ordered, Descending, Below, inWord, termIn, nodeIn, tagIn, treeIn, listIn}
+use Rattle.plan_packed.specs.Steps.{Ordered, Descending, NamesLater, inWord, termIn, nodeIn, tagIn, treeIn, listIn}
 use Rattle.plan_packed.specs.Steps as array
 use Rattle.plan_packed.proofs.Tags.{past, by-tag}
 use Rattle.plan_packed.proofs.SingleTerm.{rowOf}
@@ -32,7 +32,7 @@ use Rattle.plan_parser.proofs.StackLaws.{values-set}
 
 -- ---- trees above m are the same in tables that are the same there
 
-module _ (h h′ : ℕ → Node) (below : (t : ℕ) → Below t (h t)) (m : ℕ) (same : (t : ℕ) → m < t → h′ t ≡ h t) where
+module _ (h h′ : ℕ → Node) (below : (t : ℕ) → NamesLater t (h t)) (m : ℕ) (same : (t : ℕ) → m < t → h′ t ≡ h t) where
   mutual
     unfolding expressionAt
 
@@ -97,10 +97,10 @@ module _ (words : List ℕ) (m w : ℕ) where
         rw (value-other (getD values n 0) (omega arith), values-other values n left h (λ i b. e i (omega arith)))
 
     -- children still come after their parents
-    pub ordered-more : m < 1024 → Below m (nodeIn (set words m w) m) → Ordered (set words m w)
+    pub ordered-more : m < 1024 → NamesLater m (nodeIn (set words m w) m) → Ordered (set words m w)
     ordered-more h b = record { past = λ t k. node-other t (λ e. omega arith) ∙ o .past t k; below = λ t. each t (ℕ-discrete t m) }
       where
-        each : (t : ℕ) → Dec (t ≡ m) → Below t (nodeIn (set words m w) t)
+        each : (t : ℕ) → Dec (t ≡ m) → NamesLater t (nodeIn (set words m w) t)
         each t (yes e) = rw e b
         each t (no d) = rw (node-other t d) (o .below t)
 
@@ -127,7 +127,7 @@ module _ (E : ℕ → Expression) (C : ℕ → Condition) (L : ℕ → Arguments
     -- they fit, the term's children come after it, and it is the value that is made of theirs
     record Fine (k : ℕ) : Type 0 where
       pub fitting : Fitting (layout k) x y z
-      pub below : Below m (nodeOfTag k x y z)
+      pub below : NamesLater m (nodeOfTag k x y z)
       pub value :
           valueFor k (expressionOf E C L (nodeOfTag k x y z)) (conditionOf E C (nodeOfTag k x y z)) (argumentsOf E L (nodeOfTag k x y z)) ≡ getD terms k
           (λ x y z. number 0) u v w

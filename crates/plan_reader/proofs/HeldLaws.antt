@@ -7,7 +7,7 @@ use lib.ListN.{length, getD, set}
 use lib.Seq.{getD-set-same, getD-set-other}
 use Rattle.plan_packed.specs.Syntax.{Expression, Condition, Arguments, Procedure}
 use Rattle.plan_packed.specs.Trees.{Node, nodeOf, expressionOf, conditionOf, argumentsOf, expressionAt, conditionAt, argumentsAt}
-use Rattle.plan_packed.specs.Steps.{Ordered, Below, termIn, nodeIn, treeIn}
+use Rattle.plan_packed.specs.Steps.{Ordered, NamesLater, termIn, nodeIn, treeIn}
 use Rattle.plan_packed.proofs.TreeLaws.{expression-cong, condition-cong, arguments-cong}
 use Rattle.plan_written.specs.Terms.{termsOf, size}
 use Rattle.plan_written.specs.Written.{sizeOfAll}

@@ -18,8 +18,8 @@ use Rattle.plan_parsing.proofs.PlanRight.{text-passes}
 use Rattle.read.specs.Read as texts
 use Rattle.read.specs.Read.{Failure, tooMany, shortForPlan, failedAt, answerBy, areaBy, readAnswer, readArea}
 use Rattle.read.specs.Answer.{failureOf, answered}
-use Rattle.read.specs.declared.Answer.{Answer}
-use Rattle.read.specs.declared.Answer.the-variants.{Written, Short, Failed}
+use Rattle.read.specs.declared.ReadAnswer.{ReadAnswer}
+use Rattle.read.specs.declared.ReadAnswer.the-variants.{Written, Short, Failed}
 use Rattle.text_plan_words.proofs.Areas.{plan-few}
 use Rattle.plancheck_words.specs.Given.{Given, plan, noPlan, noPlanAt, planBy, textPlan}
 
@@ -58,18 +58,18 @@ module _ (text area : List ℕ) (size : length area ≡ 5192) where
   means = by-count (tooMany text) refl
 
   -- by the answer of the code
-  module _ (x : Answer) (after : List ℕ) (h : answered x ≡ readAnswer text area) (k : after ≡ readArea text area) where
+  module _ (x : ReadAnswer) (after : List ℕ) (h : answered x ≡ readAnswer text area) (k : after ≡ readArea text area) where
     so : Means (answered x) after
     so = rw (h, k) means
 
     pub written-means : (n : ℕ) → x ≡ Written n → (n ≤ 5192) × (textPlan text ≡ plan (take (n - 0) after))
     written-means n e =
-        let m = subst (λ (y : Answer). Means (answered y) after) e so in
+        let m = subst (λ (y : ReadAnswer). Means (answered y) after) e so in
         let z : n - 0 ≡ n = omega arith in
         (m .0, rw z (m .1))
 
     pub short-means : x ≡ Short → ⊥
-    short-means e = subst (λ (y : Answer). Means (answered y) after) e so
+    short-means e = subst (λ (y : ReadAnswer). Means (answered y) after) e so
 
     pub failed-means : (l c kind reason : ℕ) → x ≡ Failed l c kind reason → textPlan text ≡ noPlan l c (failureOf kind reason)
-    failed-means l c kind reason e = subst (λ (y : Answer). Means (answered y) after) e so
+    failed-means l c kind reason e = subst (λ (y : ReadAnswer). Means (answered y) after) e so

@@ -1,5 +1,5 @@
 // What the program plancheck answers to a word, a plan as it is given and a schedule: the whole text.
-use read::Answer;
+use read::ReadAnswer;
 use text_inputs::plans;
 use text_run_words::told;
 ghost use Prim.Native.Nat.{_≤_};
@@ -55,9 +55,9 @@ fn read_text(word: Word, text: &[u8], schedule: &[u8], area: &mut [u8]) -> usize
     let mut plan = [0u8; 5192];
     let answer = read::read(text, &mut plan);
     match answer {
-        Answer::Written(length) => packed_text(word, &plan[0..length], schedule, area),
-        Answer::Short => text_refusal_lines::put_refusal_lines(area, 0, 26, 0),
-        Answer::Failed {
+        ReadAnswer::Written(length) => packed_text(word, &plan[0..length], schedule, area),
+        ReadAnswer::Short => text_refusal_lines::put_refusal_lines(area, 0, 26, 0),
+        ReadAnswer::Failed {
             line,
             column,
             kind,

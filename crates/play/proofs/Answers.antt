@@ -80,7 +80,7 @@ outcome-same o = λ i. record {
 -- ---- the run
 
 module _ (plan ws rs area : List ℕ) (passes : refusal plan ≡ none) (words : Loaded plan (terms plan) ws) (roots : Roots plan (procedures plan) rs) where
-  loaded : meant.Loaded plan ws rs
+  loaded : meant.WordsAndRoots plan ws rs
   unfolding wordAt
   loaded = record { words = words .each; roots = roots }
 

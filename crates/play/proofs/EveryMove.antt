@@ -32,7 +32,7 @@ module _ (table : machine.Table) (g : Program) (good : WellFormedProgram g) (law
       by (playing.step table s p) refl (λ z u. records-moves ps z u)
       ∙ sym (ap (movesBy (stateOf table s) (λ z. movesFrom g z ps) p) (step-of table g good law s p r))
     where
-      by : (a : playing.Answer) → playing.step table s p ≡ a
+      by : (a : playing.PickAnswer) → playing.step table s p ≡ a
           → ((z : machine.State) → Reached table g z → recordsFrom true table z ps ≡ movesFrom g (stateOf table z) ps)
           → recordsBy true s (λ z. recordsFrom true table z ps) p a ≡ movesBy (stateOf table s) (λ z. movesFrom g z ps) p (answerOf table a)
       by playing.passed e ih = ih s r
@@ -52,6 +52,6 @@ module _ (b : List ℕ) (ok : refusal b ≡ none) (ps : List ℕ) where
       records-moves (tableOf b) (programOf b) (well-formed b ok) (tabulates b (accepted b ok)) ps playing.start (start-reached b ok)
       ∙ ap (λ (z : State). movesFrom (programOf b) z ps) (sym (start-of (tableOf b)))
 
-  pub machine-stop : playing.runOf b ps .stop ≡ runOf b ps .stop
+  pub machine-stop : playing.machineRun b ps .stop ≡ runOf b ps .stop
   unfolding runOf
   machine-stop = sym (ap (λ (r : Run). r .stop) (plays b ok ps))

@@ -14,7 +14,7 @@ use Rattle.log_records.specs.Record.{Record}
 use Rattle.rules.specs.State.{State, start}
 use Rattle.rules.specs.Rules.{Moves}
 use Rattle.rules.specs.Step.{Move, AttemptOf, Attempt, attempt}
-use Rattle.rules.specs.Room.{PassedOver, Room, noRoomFor, AnswerOf, Answer, withinRoom, answer, step}
+use Rattle.rules.specs.Room.{PassedOver, Room, noRoomFor, PickAnswerOf, PickAnswer, withinRoom, answer, step}
 use Rattle.rules.specs.Run.{Stop, Run, Status, status, afterPass, afterMove, stopped, resume, run, play}
 use Rattle.rules.specs.Play.{runOf}
 use Rattle.rules.proofs.Equivalence.{Described, described, complete, complete-lacks, complete-passed}
@@ -33,7 +33,7 @@ nothingMore s = stopped Stop.end [] s
 
 module _ (g : Program) (p : ℕ) (r : Run) (ended : r .stop ≡ Stop.end) where
   -- the run after thread p's pick with this answer
-  abbrev onAnswer : Answer → Run
+  abbrev onAnswer : PickAnswer → Run
   onAnswer a = andThen r (resume (r .final) nothingMore a)
 
   stopped-next : (e : Stop) (L : List Record) → stoppedNext r e L ≡ andThen r (stopped e L (r .final))
@@ -43,7 +43,7 @@ module _ (g : Program) (p : ℕ) (r : Run) (ended : r .stop ≡ Stop.end) where
       no-more : r .picks ≡ r .picks + 0
       no-more = omega arith
 
-  passed-as : {a : Attempt} → PassedOver (r .final) p a → PlaysAs g p r (Preview.passed (status a)) (onAnswer AnswerOf.passed)
+  passed-as : {a : Attempt} → PassedOver (r .final) p a → PlaysAs g p r (Preview.passed (status a)) (onAnswer PickAnswerOf.passed)
   unfolding resume afterPass stopped
   passed-as h = PASSED ended h
 

@@ -8,7 +8,7 @@ use Rattle.plan_packed.specs.Trees.{programOf}
 use Rattle.log_records.specs.Record.{Record}
 use Rattle.rules.specs.State.{State}
 use Rattle.rules.specs.Step.{attempt}
-use Rattle.rules.specs.Room.{Room, AnswerOf, Answer, step}
+use Rattle.rules.specs.Room.{Room, PickAnswerOf, PickAnswer, step}
 use Rattle.rules.specs.Run.{Stop, Run, Status, status}
 use Rattle.rules.specs.Play.{scheduleRefusal, runOf}
 
@@ -21,11 +21,11 @@ pub data Preview : Type 0 where
   stopped : Stop → Preview
 
 -- what the answer to a pick of a thread in this state shows
-unfoldable pub shownBy : Status → Answer → Preview
-shownBy x AnswerOf.passed = passed x
-shownBy x (AnswerOf.moved m) = moved (m .entry)
-shownBy x (AnswerOf.race r) = race r
-shownBy x (AnswerOf.noRoom k) = noRoom k
+unfoldable pub shownBy : Status → PickAnswer → Preview
+shownBy x PickAnswerOf.passed = passed x
+shownBy x (PickAnswerOf.moved m) = moved (m .entry)
+shownBy x (PickAnswerOf.race r) = race r
+shownBy x (PickAnswerOf.noRoom k) = noRoom k
 
 -- "what a pick would do": document 01's step of thread p in state s
 unfoldable pub shown : Program → State → ℕ → Preview

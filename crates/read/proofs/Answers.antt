@@ -16,7 +16,7 @@ use Rattle.format.proofs.AreaLaws.{overwrite-length}
 use Rattle.plan_packed.specs.Syntax.{Program}
 use Rattle.plan_packed.specs.Format.{table, layout}
 use Rattle.plan_packed.specs.Trees.{ExpressionNode, Node, nodes, nodeOf}
-use Rattle.plan_packed.specs.Steps.{Ordered, Below, inWord, termIn, nodeIn}
+use Rattle.plan_packed.specs.Steps.{Ordered, NamesLater, inWord, termIn, nodeIn}
 use Rattle.plan_written.specs.Written as bytes
 use Rattle.plan_written.specs.Written.{sizeOfAll}
 use Rattle.plan_written.proofs.ReadBack.{whole-length}
@@ -36,8 +36,8 @@ use Rattle.read.specs.Read as texts
 use Rattle.read.specs.Read.{Failure, ofFault, tooMany, shortForPlan, failedAt, answerBy, areaBy, readAnswer, readArea}
 use Rattle.read.specs.Answer.{failureOf, knownKind, answered}
 use Rattle.read.specs.Begun.{Held, TooShort, Wrote, PlanWritten}
-use Rattle.read.specs.declared.Answer.{Answer}
-use Rattle.read.specs.declared.Answer.the-variants.{Written, Short, Failed}
+use Rattle.read.specs.declared.ReadAnswer.{ReadAnswer}
+use Rattle.read.specs.declared.ReadAnswer.the-variants.{Written, Short, Failed}
 
 -- ---- a plan in arrays
 
@@ -84,7 +84,7 @@ unfolding nodeIn
 null-in t = null-node (getD (replicate 1024 0) t 0) (zeros 1024 t)
 
 pub zeros-ordered : Ordered (replicate 1024 0)
-zeros-ordered = record { past = λ t h. null-in t; below = λ t. subst (Below t) (sym (null-in t)) tt }
+zeros-ordered = record { past = λ t h. null-in t; below = λ t. subst (NamesLater t) (sym (null-in t)) tt }
 
 -- every text has a token, its end
 from-some : (cs : List ℕ) (b : Begun) (i : ℕ) → 0 < length (tokensFrom b i cs)
@@ -154,7 +154,7 @@ by-fault : (text area : List ℕ) (f : Fault) (rest : List ℕ) → readPlan (co
 unfolding answerBy areaBy
 by-fault text area f rest e = (sym (ap (answerBy text area) e), sym (ap (areaBy area) e))
 
-pub fault-answer : (text area : List ℕ) {ts words roots counts : List ℕ} {kind reason at k : ℕ} {r : Outcome} (a : Answer) → ts ≡ codesOf text
+pub fault-answer : (text area : List ℕ) {ts words roots counts : List ℕ} {kind reason at k : ℕ} {r : Outcome} (a : ReadAnswer) → ts ≡ codesOf text
     → ReadAs ts words roots counts r
     → r ≡ Refused kind reason at → k ≡ knownKind kind → answered a ≡ failedAt text at (failureOf k reason)
     → (answered a ≡ answerBy text area (readPlan (codesOf text))) × (area ≡ areaBy area (readPlan (codesOf text)))
@@ -189,7 +189,7 @@ plan-in-arrays text {ts} {words} {roots} {counts} {v} {m} {n} {left} e x f =
       sized = h .0 .sized;
     }
 
-by-plan : (text area : List ℕ) (g : Program) → readPlan (codesOf text) ≡ plan g → (area′ : List ℕ) (a : Answer) → PlanWritten g area area′ a
+by-plan : (text area : List ℕ) (g : Program) → readPlan (codesOf text) ≡ plan g → (area′ : List ℕ) (a : ReadAnswer) → PlanWritten g area area′ a
     → (answered a ≡ answerBy text area (readPlan (codesOf text))) × (area′ ≡ areaBy area (readPlan (codesOf text)))
 unfolding answerBy areaBy shortForPlan
 by-plan text area g e area′ a (inl w) =
@@ -199,7 +199,7 @@ by-plan text area g e area′ a (inr w) =
     let s = le-ltb (length area) (length (bytes.written g)) (w .long) in
     (ap answered (w .answer) ∙ sym (ap (answerBy text area) e ∙ rw s refl), w .bytes ∙ sym (ap (areaBy area) e ∙ rw s refl))
 
-pub plan-answer : (text area : List ℕ) {ts words roots counts area′ : List ℕ} {v m n left : ℕ} {r : Outcome} {a : Answer} → ts ≡ codesOf text
+pub plan-answer : (text area : List ℕ) {ts words roots counts area′ : List ℕ} {v m n left : ℕ} {r : Outcome} {a : ReadAnswer} → ts ≡ codesOf text
     → ReadAs ts words roots counts r
     → r ≡ Plan v m n left → PlanWritten (heldProgram v m n words roots counts) area area′ a
     → (answered a ≡ answerBy text area (readPlan (codesOf text))) × (area′ ≡ areaBy area (readPlan (codesOf text)))
@@ -211,7 +211,7 @@ plan-answer text area {ts} {words} {roots} {counts} {area′} {v} {m} {n} {left}
 -- ---- too many tokens, or not
 
 module _ (text area : List ℕ) {tokens after : List ℕ} {r : ℕ} (k : Kept tokens (codesOf text) after r) (n : length tokens ≡ 16384) where
-  pub many-answer : (a : Answer) → 16384 < r → answered a ≡ failedAt text 16384 (failureOf 4 0) → (answered a ≡ readAnswer text area)
+  pub many-answer : (a : ReadAnswer) → 16384 < r → answered a ≡ failedAt text 16384 (failureOf 4 0) → (answered a ≡ readAnswer text area)
       × (area ≡ readArea text area)
   unfolding readAnswer readArea tooMany failureOf
   many-answer a h e = let s = lt-ltb 16384 (length (codesOf text)) many in (e ∙ sym (rw s refl), sym (rw s refl))
@@ -241,7 +241,7 @@ module _ (text area : List ℕ) {tokens after : List ℕ} {r : ℕ} (k : Kept to
       whole : (n : ℕ) → n - 0 ≡ n
       whole n = omega arith
 
-  pub few-answer : (a : Answer) {area′ : List ℕ} → r ≤ 16384 → answered a ≡ answerBy text area (readPlan (codesOf text))
+  pub few-answer : (a : ReadAnswer) {area′ : List ℕ} → r ≤ 16384 → answered a ≡ answerBy text area (readPlan (codesOf text))
       → area′ ≡ areaBy area (readPlan (codesOf text))
       → (answered a ≡ readAnswer text area) × (area′ ≡ readArea text area)
   unfolding readAnswer readArea tooMany
@@ -249,7 +249,7 @@ module _ (text area : List ℕ) {tokens after : List ℕ} {r : ℕ} (k : Kept to
 
 -- ---- lengths
 
-pub written-length : {g : Program} {area area′ : List ℕ} {a : Answer} → PlanWritten g area area′ a → length area′ ≡ length area
+pub written-length : {g : Program} {area area′ : List ℕ} {a : ReadAnswer} → PlanWritten g area area′ a → length area′ ≡ length area
 written-length (inl w) = ap length (w .kept)
 written-length {g} {area} (inr w) = ap length (w .bytes) ∙ overwrite-length (bytes.written g) area (w .long)
 

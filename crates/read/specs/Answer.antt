@@ -5,8 +5,8 @@ use lib.Dec.{eqb, ltb}
 use Rattle.plan_reader.specs.Reading.{faultOf}
 use Rattle.read.specs.Read as texts
 use Rattle.read.specs.Read.{Failure, ofFault}
-use Rattle.read.specs.declared.Answer.{Answer}
-use Rattle.read.specs.declared.Answer.the-variants.{Written, Short, Failed}
+use Rattle.read.specs.declared.ReadAnswer.{ReadAnswer}
+use Rattle.read.specs.declared.ReadAnswer.the-variants.{Written, Short, Failed}
 
 -- why, by the kind of the fault, 4 for too many tokens, and the parser's reason
 unfoldable pub failureOf : ℕ → ℕ → Failure
@@ -17,7 +17,7 @@ failureOf kind reason = cond (eqb kind 4) Failure.tokens (ofFault (faultOf kind 
 unfoldable pub knownKind : ℕ → ℕ
 knownKind kind = cond (ltb kind 3) kind 3
 
-abbrev pub answered : Answer → texts.Read
+abbrev pub answered : ReadAnswer → texts.Read
 answered (Written n) = texts.Read.written n
 answered Short = texts.Read.short
 answered (Failed line column kind reason) = texts.Read.failed line column (failureOf kind reason)

@@ -9,8 +9,8 @@ use Rattle.plan_packed.specs.Syntax.{Program}
 use Rattle.plan_packed.specs.Steps.{Ordered}
 use Rattle.plan_written.specs.Written.{sizeOfAll, written}
 use Rattle.plan_writer.specs.Held.{heldFrom, heldProgram}
-use Rattle.read.specs.declared.Answer.{Answer}
-use Rattle.read.specs.declared.Answer.the-variants.{Written, Short}
+use Rattle.read.specs.declared.ReadAnswer.{ReadAnswer}
+use Rattle.read.specs.declared.ReadAnswer.the-variants.{Written, Short}
 
 -- a plan in arrays
 pub record Held (v m n left : ℕ) (words roots counts : List ℕ) : Type 0 where
@@ -22,16 +22,16 @@ pub record Held (v m n left : ℕ) (words roots counts : List ℕ) : Type 0 wher
   pub sized : sizeOfAll (heldFrom words roots counts 0 n) + left ≡ 1024
 
 -- the area is too short for it
-pub record TooShort (g : Program) (area area′ : List ℕ) (r : Answer) : Type 0 where
+pub record TooShort (g : Program) (area area′ : List ℕ) (r : ReadAnswer) : Type 0 where
   pub short : length area < length (written g)
   pub kept : area′ ≡ area
   pub answer : r ≡ Short
 
 -- or it is written
-pub record Wrote (g : Program) (area area′ : List ℕ) (r : Answer) : Type 0 where
+pub record Wrote (g : Program) (area area′ : List ℕ) (r : ReadAnswer) : Type 0 where
   pub long : length (written g) ≤ length area
   pub bytes : area′ ≡ overwrite (written g) area
   pub answer : r ≡ Written (length (written g))
 
-abbrev pub PlanWritten : Program → List ℕ → List ℕ → Answer → Type 0
+abbrev pub PlanWritten : Program → List ℕ → List ℕ → ReadAnswer → Type 0
 PlanWritten g area area′ r = TooShort g area area′ r ⊎ Wrote g area area′ r

@@ -12,7 +12,7 @@ ghost use Rattle.read.specs.Answer.{failureOf, knownKind, answered};
 ghost use Rattle.read.specs.Begun.{Held, PlanWritten};
 
 // What `read` answers.
-pub enum Answer {
+pub enum ReadAnswer {
     // The plan is written; its length.
     Written(usize),
     // The area is too short for it.
@@ -33,11 +33,11 @@ const MOST: usize = 16384;
 pub const TOKENS: usize = 4;
 
 // Reading stops at a token.
-fn failed(text: &[u8], token: usize, kind: usize, reason: usize) -> Answer
+fn failed(text: &[u8], token: usize, kind: usize, reason: usize) -> ReadAnswer
     ensures { λ r. ⌜ answered r ≡ failedAt (now (text .entry)) token (failureOf kind reason) ⌝ }
 {
     let spot = places::place(text, token);
-    Answer::Failed {
+    ReadAnswer::Failed {
         line: spot.line,
         column: spot.column,
         kind: kind,
@@ -62,7 +62,7 @@ fn write(
     roots: &[usize; 32],
     parameters: &[usize; 32],
     area: &mut [u8],
-) -> Answer
+) -> ReadAnswer
     requires { ⌜ Held version mask procedures left (now words) (now roots) (now parameters) ⌝ }
     ensures { λ r. ⌜ PlanWritten (heldProgram version mask procedures (now (words .entry)) (now (roots .entry)) (now (parameters .entry)))
         (now (area .entry)) (now (area .exit)) r ⌝ }
@@ -70,7 +70,7 @@ fn write(
     let terms = 1024 - left;
     let length = 8 + 2 * procedures + 5 * terms;
     if area.len() < length {
-        return Answer::Short;
+        return ReadAnswer::Short;
     }
     plan_writer::write(
         version,
@@ -82,11 +82,11 @@ fn write(
         parameters,
         area,
     );
-    Answer::Written(length)
+    ReadAnswer::Written(length)
 }
 
 // The tokens of a text.
-fn read_tokens(text: &[u8], tokens: &[u8], area: &mut [u8]) -> Answer
+fn read_tokens(text: &[u8], tokens: &[u8], area: &mut [u8]) -> ReadAnswer
     requires { ⌜ (now tokens ≡ codesOf (now text)) × (length (now tokens) ≤ 16384) ⌝ }
     ensures answer { λ r. ⌜ answered r ≡ answerBy (now (text .entry)) (now (area .entry)) (readPlan (codesOf (now (text .entry)))) ⌝ }
     ensures area { λ r. ⌜ now (area .exit) ≡ areaBy (now (area .entry)) (readPlan (codesOf (now (text .entry)))) ⌝ }
@@ -117,7 +117,7 @@ fn read_tokens(text: &[u8], tokens: &[u8], area: &mut [u8]) -> Answer
 
 // Every text and every area gets an answer: the length of the plan, with which the area then begins, and otherwise is as it was; or that the area is too short
 // for it; or the place where reading stops and why; and then no byte of the area changed.
-pub fn read(text: &[u8], area: &mut [u8]) -> Answer
+pub fn read(text: &[u8], area: &mut [u8]) -> ReadAnswer
     ensures answer { λ r. ⌜ answered r ≡ readAnswer (now (text .entry)) (now (area .entry)) ⌝ }
     ensures area { λ r. ⌜ now (area .exit) ≡ readArea (now (text .entry)) (now (area .entry)) ⌝ }
 {

@@ -22,7 +22,7 @@ use Rattle.run_frames.specs.Frames.{restOf}
 use Rattle.run_frames.specs.Going.{readyOf, goAt}
 use Rattle.run_refocusing_step.specs.Down.{rootAt, listBy, listOf, wantedOf}
 use Rattle.run_refocusing.specs.Refocusing.{Stack}
-use Rattle.refinement.proofs.Meant.{Loaded, slots, closed, IsRest, IsExpression}
+use Rattle.refinement.proofs.Meant.{WordsAndRoots, slots, closed, IsRest, IsExpression}
 use Rattle.refinement.proofs.Words.{Rest, rest-at}
 use Rattle.refinement.proofs.Descent.{list-more, list-end}
 use Rattle.refinement.proofs.Fuel.{left}
@@ -31,7 +31,7 @@ use Rattle.refinement.proofs.Operands.{Placed, Next, stays, want, child
 
 -- ---- the root of a procedure
 
-root-is : {b ws rs : List ℕ} → Accepted b → Loaded b ws rs → (m : ℕ) → m < procedures b → rootAt rs m ≡ root b m
+root-is : {b ws rs : List ℕ} → Accepted b → WordsAndRoots b ws rs → (m : ℕ) → m < procedures b → rootAt rs m ≡ root b m
 unfolding rootAt
 root-is a loaded m l = let q : m % 32 ≡ m = omega (arith, a .few-procedures) in rw q (loaded .roots m l)
 
@@ -39,7 +39,7 @@ root-table : (b : List ℕ) (m : ℕ) → playing.tableOf b .root m ≡ root b m
 unfolding playing.tableOf
 root-table b m = refl
 
-root-fits : {b ws rs : List ℕ} → Accepted b → Loaded b ws rs → (m : ℕ) → m < procedures b → IsExpression b (rootAt rs m)
+root-fits : {b ws rs : List ℕ} → Accepted b → WordsAndRoots b ws rs → (m : ℕ) → m < procedures b → IsExpression b (rootAt rs m)
 root-fits {b} a loaded m l =
     let e = root-is a loaded m l in
     let u = a .each-procedure m l in

@@ -38,7 +38,7 @@ use Rattle.run_refocusing.specs.Refocusing.{Stack, Ended}
 -- ---- the plan as numbers
 
 -- each term's 40 bits, and each root
-pub record Loaded (b ws rs : List ℕ) : Type 0 where
+pub record WordsAndRoots (b ws rs : List ℕ) : Type 0 where
   pub words : (t : ℕ) → t < terms b → getD ws t 0 ≡ bitsAt b (termBit b t) 40
   pub roots : (m : ℕ) → m < procedures b → getD rs m 0 ≡ root b m
 

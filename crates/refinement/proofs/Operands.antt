@@ -24,7 +24,7 @@ use Rattle.run_frames.specs.Frames.{framed}
 use Rattle.run_frames.specs.Going.{goRun, goRunCondition, goFull, feedOf, feedConditionOf}
 use Rattle.run_refocusing_step.specs.Down.{stayOf, pushOf, wantBy, wantOf, wantConditionBy, wantConditionOf}
 use Rattle.run_refocusing.specs.Refocusing.{Stack, stored}
-use Rattle.refinement.proofs.Meant.{Loaded, closed, frameOf, IsExpression, IsCondition, SortedBy, Fine, Holds, Goes, Sized}
+use Rattle.refinement.proofs.Meant.{WordsAndRoots, closed, frameOf, IsExpression, IsCondition, SortedBy, Fine, Holds, Goes, Sized}
 use Rattle.refinement.proofs.FrameLaws.{holds-more, stored-stay, stored-push}
 use Rattle.refinement.proofs.Values.{Valued, Tested, valued, tested}
 use Rattle.refinement.proofs.Descent.{enter-value, enter-truth, under, underᶜ}
@@ -34,7 +34,7 @@ use Rattle.refinement.proofs.Feeding.{feed-goes, feed-condition-goes}
 -- an accepted plan is loaded, and the frames S stand in the stack from place `base` on, with room for 33
 pub record Placed (b ws rs : List ℕ) (k : Stack) (base : ℕ) (S : List frames.Frame) : Type 0 where
   pub right : Accepted b
-  pub loaded : Loaded b ws rs
+  pub loaded : WordsAndRoots b ws rs
   pub sized : Sized b k
   pub room : base + 33 ≤ 297
   pub held : Holds b k base S

@@ -30,11 +30,11 @@ use Rattle.run_look.specs.declared.Block.the-variants as block
 use Rattle.run_look.specs.declared.Sight.{Sight}
 use Rattle.run_look.specs.declared.Sight.the-variants as sight
 use Rattle.run_pick.specs.declared.Met.{Met}
-use Rattle.run_pick.specs.Answer.{Answer, Answer as answer}
+use Rattle.run_pick.specs.Answer.{PickAnswer, PickAnswer as answer}
 use Rattle.run_pick.specs.Pick.{Picked, picked, noRoom, noHead, forksOf, fullOf, moveOf, refocusMover, startBy, refocusBy, makeBy, actMet, pickBy, lookMet, pickOf}
 use Rattle.run_engine.specs.Machine as engine
 use Rattle.run_engine.specs.Machine.{headAt, cellNumber, metBy, after, turnBy}
-use Rattle.refinement.proofs.Meant.{Loaded}
+use Rattle.refinement.proofs.Meant.{WordsAndRoots}
 use Rattle.refinement.proofs.States.{settingOf, Related}
 use Rattle.refinement.proofs.Looks.{Written, Entered, BlockedBy, MeetsBy, attempt-absent}
 use Rattle.refinement.proofs.Moves.{roomMeant, Mover, Does, Acts, met, Ahead}
@@ -51,7 +51,7 @@ StoppedBy b s p stop.Race x = (y : Record) × (playing.step (tableOf b) s p ≡ 
 StoppedBy b s p (stop.NoRoom R) x = (playing.step (tableOf b) s p ≡ playing.noRoom (roomMeant R)) × (x .kind ≡ 0)
 
 -- what the code answers to a pick of thread p, leaving the frames k, is what the abstract machine answers
-abbrev pub AnsweredBy : List ℕ → engine.Machine → machine.State → ℕ → Answer → Stack → Type 0
+abbrev pub AnsweredBy : List ℕ → engine.Machine → machine.State → ℕ → PickAnswer → Stack → Type 0
 AnsweredBy b m s p answer.Passed k = (playing.step (tableOf b) s p ≡ playing.passed) × (k ≡ m .stack)
 AnsweredBy b m s p (answer.Moved v) k =
     (u : machine.Move) × (playing.step (tableOf b) s p ≡ playing.moved u) × Entered p (v .entry) (u .entry) × Related b (after m p v k) (u .state)
@@ -73,7 +73,7 @@ passed-by b s p block.Thread r h = ap (playing.answer s p) h
 passed-by b s p block.NotHeld r h = ap (playing.answer s p) h
 passed-by b s p block.NoRule r h = absurd h
 
-module _ {b ws rs : List ℕ} (loaded : Loaded b ws rs) {m : engine.Machine} {s : machine.State} {p : ℕ} (mover : Mover b m s p) {v : machine.Move}
+module _ {b ws rs : List ℕ} (loaded : WordsAndRoots b ws rs) {m : engine.Machine} {s : machine.State} {p : ℕ} (mover : Mover b m s p) {v : machine.Move}
     (attempts : machine.attempt (tableOf b) s p ≡ machine.moves v) where
   abbrev r : Ready
   r = headAt (m .heads) p .ready
@@ -130,7 +130,7 @@ module _ {b ws rs : List ℕ} (loaded : Loaded b ws rs) {m : engine.Machine} {s 
 
 -- ---- a pick
 
-module _ (b ws rs : List ℕ) (ok : refusal b ≡ none) (loaded : Loaded b ws rs) (m : engine.Machine) (s : machine.State) (rel : Related b m s)
+module _ (b ws rs : List ℕ) (ok : refusal b ≡ none) (loaded : WordsAndRoots b ws rs) (m : engine.Machine) (s : machine.State) (rel : Related b m s)
     (reach : Reached (tableOf b) (programOf b) s) (p : ℕ) (small : p < 8) where
   -- of a thread that is there
   met-by : (w : Sight) → MeetsBy w p (headAt (m .heads) p .ready) (machine.attempt (tableOf b) s p) (Ahead b m s p)

@@ -43,13 +43,13 @@ use Rattle.run_look.specs.declared.Block.the-variants as block
 use Rattle.run_look.specs.declared.Sight.{Sight}
 use Rattle.run_look.specs.declared.Sight.the-variants as sight
 use Rattle.run_look.specs.Look.{blockedOf, stateOf}
-use Rattle.run_pick.specs.Answer.{Move, Answer, Answer as answer}
+use Rattle.run_pick.specs.Answer.{Move, PickAnswer, PickAnswer as answer}
 use Rattle.run_pick.specs.Pick.{Picked, lookMet}
 use Rattle.run_tally.specs.Tally.{shownEntry}
 use Rattle.run_engine.specs.Machine as engine
 use Rattle.run_open_threads.specs.Open.{absent}
 use Rattle.run_engine.specs.Machine.{headAt, metBy, stateBy, threadBy, threadAt, threadsOf, stopped, stayed, after, turnBy, onAnswer, playOf, startOf}
-use Rattle.refinement.proofs.Meant.{Loaded}
+use Rattle.refinement.proofs.Meant.{WordsAndRoots}
 use Rattle.refinement.proofs.States.{settingOf, Related}
 use Rattle.refinement.proofs.Looks.{Written, Entered, BlockedBy, MeetsBy, attempt-absent}
 use Rattle.refinement.proofs.Moves.{roomMeant, met, Ahead}
@@ -188,7 +188,7 @@ outcome-same : {a a′ : Stop} {c c′ d d′ e e′ : ℕ} {l l′ : List Statu
     (record { stop = a′; picks = c′; moves = d′; records = e′; threads = l′; totals = k′ })
 outcome-same a c d e l k = λ i. record { stop = a i; picks = c i; moves = d i; records = e i; threads = l i; totals = k i }
 
-module _ (b ws rs : List ℕ) (ok : refusal b ≡ none) (loaded : Loaded b ws rs) where
+module _ (b ws rs : List ℕ) (ok : refusal b ≡ none) (loaded : WordsAndRoots b ws rs) where
   -- the rest of a play
   abbrev Rest : List ℕ → ℕ → Type 0
   Rest ps i =
@@ -206,11 +206,11 @@ module _ (b ws rs : List ℕ) (ok : refusal b ≡ none) (loaded : Loaded b ws rs
     abbrev goOnWith : machine.State → List Record
     goOnWith s = recordsFrom (m .every) (tableOf b) s ps
 
-    abbrev recorded : playing.Answer → List Record
+    abbrev recorded : playing.PickAnswer → List Record
     recorded a = recordsBy (m .every) s goOnWith p a
 
     -- the play and the run after the pick, by its answer
-    abbrev Plays : Answer → Stack → playing.Run → List Record → Type 0
+    abbrev Plays : PickAnswer → Stack → playing.Run → List Record → Type 0
     Plays z k R L =
         PlaysAs b i (m .tally .moves) (m .tally .records) (m .log)
         (onAnswer z (playOf ws rs (settingOf b) (stayed m k) ps (i + 1)) (λ v. playOf ws rs (settingOf b) (after m p v k) ps (i + 1))
@@ -293,17 +293,17 @@ module _ (b ws rs : List ℕ) (ok : refusal b ≡ none) (loaded : Loaded b ws rs
         }
 
     -- one pick, and the rest
-    answered-plays : (z : Answer) (k : Stack) → AnsweredBy b m s p z k
+    answered-plays : (z : PickAnswer) (k : Stack) → AnsweredBy b m s p z k
         → Plays z k (playing.resume s goOn (playing.step (tableOf b) s p)) (recorded (playing.step (tableOf b) s p))
     answered-plays answer.Passed k (e, same) =
-        along (λ (a : playing.Answer). Plays answer.Passed k (playing.resume s goOn a) (recorded a)) (sym e) (passed-plays k same)
+        along (λ (a : playing.PickAnswer). Plays answer.Passed k (playing.resume s goOn a) (recorded a)) (sym e) (passed-plays k same)
     answered-plays (answer.Moved v) k (u, e, entered, rel′) =
-        along (λ (a : playing.Answer). Plays (answer.Moved v) k (playing.resume s goOn a) (recorded a)) (sym e) (moved-plays v k u e entered rel′)
+        along (λ (a : playing.PickAnswer). Plays (answer.Moved v) k (playing.resume s goOn a) (recorded a)) (sym e) (moved-plays v k u e entered rel′)
     answered-plays (answer.Stopped stop.End x) k h = absurd h
     answered-plays (answer.Stopped stop.Race x) k (y, e, written) =
-        along (λ (a : playing.Answer). Plays (answer.Stopped stop.Race x) k (playing.resume s goOn a) (recorded a)) (sym e) (race-plays x y k written)
+        along (λ (a : playing.PickAnswer). Plays (answer.Stopped stop.Race x) k (playing.resume s goOn a) (recorded a)) (sym e) (race-plays x y k written)
     answered-plays (answer.Stopped (stop.NoRoom R) x) k (e, none-written) =
-        along (λ (a : playing.Answer). Plays (answer.Stopped (stop.NoRoom R) x) k (playing.resume s goOn a) (recorded a)) (sym e)
+        along (λ (a : playing.PickAnswer). Plays (answer.Stopped (stop.NoRoom R) x) k (playing.resume s goOn a) (recorded a)) (sym e)
         (full-plays x R k none-written)
 
     abbrev turn : Picked
@@ -343,8 +343,8 @@ module _ (b ws rs : List ℕ) (ok : refusal b ≡ none) (loaded : Loaded b ws rs
 
   module _ (ps area : List ℕ) (small : Small ps) (wide : 3 * length ps ≤ length area) where
     from-start : (every : Bool)
-        → PlaysAs b 0 0 0 area (playOf ws rs (settingOf b) (startOf every rs area) ps 0) (playing.runOf b ps) (recordsFrom every (tableOf b) playing.start ps)
-    unfolding startOf playing.runOf
+        → PlaysAs b 0 0 0 area (playOf ws rs (settingOf b) (startOf every rs area) ps 0) (playing.machineRun b ps) (recordsFrom every (tableOf b) playing.start ps)
+    unfolding startOf playing.machineRun
     from-start every = plays ps 0 small (startOf every rs area) playing.start (start-related b ws rs ok loaded every area) (start-reached b ok) (let e =
         zero-add (length ps) in omega arith)
 
@@ -353,7 +353,7 @@ module _ (b ws rs : List ℕ) (ok : refusal b ≡ none) (loaded : Loaded b ws rs
     overlay-start bs = ap (λ (k : ℕ). bs ++ drop k area) (zero-add (length bs))
 
     -- with records for every move or for those that have one: its stop, and the records
-    pub plays-recorded : (every : Bool) → (stopMeant (playOf ws rs (settingOf b) (startOf every rs area) ps 0 .outcome .stop) ≡ playing.runOf b ps .stop)
+    pub plays-recorded : (every : Bool) → (stopMeant (playOf ws rs (settingOf b) (startOf every rs area) ps 0 .outcome .stop) ≡ playing.machineRun b ps .stop)
         × (playOf ws rs (settingOf b) (startOf every rs area) ps 0 .outcome .records ≡ length (recordsFrom every (tableOf b) playing.start ps))
         × (playOf ws rs (settingOf b) (startOf every rs area) ps 0 .area ≡ overwrite (bytesOf (recordsFrom every (tableOf b) playing.start ps)) area)
     plays-recorded every =
@@ -361,18 +361,18 @@ module _ (b ws rs : List ℕ) (ok : refusal b ≡ none) (loaded : Loaded b ws rs
         let L = recordsFrom every (tableOf b) playing.start ps in
         (r .stop, r .records ∙ zero-add (length L), r .area ∙ overlay-start (bytesOf L))
 
-    its-log : recordsFrom false (tableOf b) playing.start ps ≡ playing.runOf b ps .log
-    unfolding playing.runOf
+    its-log : recordsFrom false (tableOf b) playing.start ps ≡ playing.machineRun b ps .log
+    unfolding playing.machineRun
     its-log = records-log (tableOf b) ps playing.start
 
     -- THE CODE'S PLAY IS THE ABSTRACT MACHINE'S RUN
-    plays-machine : (outcomeMeant (playOf ws rs (settingOf b) (startOf false rs area) ps 0 .outcome) ≡ playing.outcomeOf (tableOf b) (playing.runOf b ps))
-        × (playOf ws rs (settingOf b) (startOf false rs area) ps 0 .area ≡ overwrite (bytesOf (playing.runOf b ps .log)) area)
+    plays-machine : (outcomeMeant (playOf ws rs (settingOf b) (startOf false rs area) ps 0 .outcome) ≡ playing.outcomeOf (tableOf b) (playing.machineRun b ps))
+        × (playOf ws rs (settingOf b) (startOf false rs area) ps 0 .area ≡ overwrite (bytesOf (playing.machineRun b ps .log)) area)
     unfolding playing.outcomeOf
     plays-machine =
         let r = from-start false in
         let x = plays-recorded false in
-        let R = playing.runOf b ps in (
+        let R = playing.machineRun b ps in (
           outcome-same (r .stop) (r .picks ∙ zero-add (R .picks)) (r .moves ∙ zero-add (length (R .instances))) (x .1 ∙ ap length its-log) (r .threads)
               (r .totals),
           x .2 ∙ ap (λ (L : List Record). overwrite (bytesOf L) area) its-log,

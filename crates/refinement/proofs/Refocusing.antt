@@ -18,7 +18,7 @@ use Rattle.run_refocusing_step.specs.Down.{frameAt}
 use Rattle.run_refocusing.specs.Refocusing.{Stack, ended, liveBy, stored, turnAt, topOf, refocusOf}
 use Rattle.run_refocusing.proofs.Turns
 use Rattle.run_refocusing_step.proofs.Depths.{step-in}
-use Rattle.refinement.proofs.Meant.{Loaded, Holds, Goes, GoesBy, Sized, FoundBy, Refocuses}
+use Rattle.refinement.proofs.Meant.{WordsAndRoots, Holds, Goes, GoesBy, Sized, FoundBy, Refocuses}
 use Rattle.refinement.proofs.FrameLaws.{stored-sized, stored-other}
 use Rattle.refinement.proofs.Fuel.{Enough, EnoughBy, needs-most}
 use Rattle.refinement.proofs.Operands.{Next}
@@ -64,7 +64,7 @@ ended-by b k base X S g stage.Truth held few live p = true≢false live
 
 -- ---- and on
 
-module _ (b ws rs : List ℕ) (a : Accepted b) (loaded : Loaded b ws rs) (base : ℕ) (room : base + 33 ≤ 297) (X : frames.Found) where
+module _ (b ws rs : List ℕ) (a : Accepted b) (loaded : WordsAndRoots b ws rs) (base : ℕ) (room : base + 33 ≤ 297) (X : frames.Found) where
   apart : (i d : ℕ) → (i < base) ⊎ (base + 33 ≤ i) → d ≤ 32 → i ≡ base + d → ⊥
   apart i d (inl p) l e = omega arith
   apart i d (inr p) l e = omega arith
@@ -102,7 +102,7 @@ module _ (b ws rs : List ℕ) (a : Accepted b) (loaded : Loaded b ws rs) (base :
   refocuses (suc n) k sized S held few g p q = refocuses-by n (refocuses n) k sized S held few g p q (liveBy (g .stage)) refl
 
 -- refocusing, from any stage of an accepted plan
-pub refocused : (b ws rs : List ℕ) → refusal b ≡ none → Loaded b ws rs → (base : ℕ) (k : Stack) → Sized b k → base + 33 ≤ 297
+pub refocused : (b ws rs : List ℕ) → refusal b ≡ none → WordsAndRoots b ws rs → (base : ℕ) (k : Stack) → Sized b k → base + 33 ≤ 297
     → (S : List frames.Frame) → Holds b k base S → (g : Refocusing) (d : ℕ) → d ≡ length S → d ≤ 32 → (X : frames.Found) → Goes b g S X
     → Refocuses b k base X (refocusOf 2100 ws rs base k g d)
 refocused b ws rs right loaded base k sized room S held g d e few X p =

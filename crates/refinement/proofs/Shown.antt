@@ -41,7 +41,7 @@ entered-shown true p e none b w =
 entered-shown true p e (some r) b w = rw (ne-eqb (e .kind) 0 (λ z. let k = kind-number (r .kind) in let q = w .kind in omega arith)) w
 
 -- the records from a pick's answer on, where k are those after it
-unfoldable pub recordsBy : Bool → machine.State → (machine.State → List Record) → ℕ → playing.Answer → List Record
+unfoldable pub recordsBy : Bool → machine.State → (machine.State → List Record) → ℕ → playing.PickAnswer → List Record
 recordsBy every s k p playing.passed = k s
 recordsBy every s k p (playing.race r) = r ∷ []
 recordsBy every s k p (playing.noRoom w) = []
@@ -58,7 +58,7 @@ unfolding recordsFrom recordsBy playing.run playing.resume
 records-log table [] s = refl
 records-log table (p ∷ ps) s = by (playing.step table s p) (λ s′. records-log table ps s′)
   where
-    by : (a : playing.Answer) → ((s′ : machine.State) → recordsFrom false table s′ ps ≡ playing.run table s′ ps .log)
+    by : (a : playing.PickAnswer) → ((s′ : machine.State) → recordsFrom false table s′ ps ≡ playing.run table s′ ps .log)
         → recordsBy false s (λ s′. recordsFrom false table s′ ps) p a ≡ playing.resume s (λ s′. playing.run table s′ ps) a .log
     by playing.passed ih = ih s
     by (playing.race r) ih = refl

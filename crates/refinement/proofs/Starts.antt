@@ -29,7 +29,7 @@ use Rattle.run_state.specs.declared.Cell.{Cell}
 use Rattle.run_state.specs.declared.Object.{Object}
 use Rattle.run_state.specs.Acted.{countsOf}
 use Rattle.run_engine.specs.Machine.{noCell, noObject, headAt, headOf, cellFirst, startOf}
-use Rattle.refinement.proofs.Meant.{Loaded, IsExpression, Stands}
+use Rattle.refinement.proofs.Meant.{WordsAndRoots, IsExpression, Stands}
 use Rattle.refinement.proofs.SlotLaws.{none-bound}
 use Rattle.refinement.proofs.Queues.{placeMeant, placesOf, Places}
 use Rattle.refinement.proofs.States.{settingOf, CellFits, memoryOf, Kept, Headed, Related}
@@ -68,7 +68,7 @@ module _ (setting : Setting) (cs : List Cell) (ts : List Object) (cells-size : l
       (record { objects = freshObject fs ∷ []; threads = playing.start .threads; nextKey = 1 })) no-fields
       (kept-object empty-kept noObject (playing.start .threads) 1 (omega arith) no-bit refl (λ o h. absurd (omega arith)) refl))
 
-module _ (b ws rs : List ℕ) (ok : refusal b ≡ none) (loaded : Loaded b ws rs) where
+module _ (b ws rs : List ℕ) (ok : refusal b ≡ none) (loaded : WordsAndRoots b ws rs) where
   main-there : 0 < procedures b
   main-there = let x = accepted b ok .some-procedure in omega arith
 

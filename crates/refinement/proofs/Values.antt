@@ -13,7 +13,7 @@ use Rattle.machine.specs.Refocusing as machine
 use Rattle.run_term_words.specs.Slots.{slotOf}
 use Rattle.plan_packed.specs.Operands.{tagOf, firstOf, slotBits}
 use Rattle.run_term_words.specs.Words.{wordAt, valueBy, valueOf, truthBy, truthOf}
-use Rattle.refinement.proofs.Meant.{Loaded, closed, IsExpression, IsCondition}
+use Rattle.refinement.proofs.Meant.{WordsAndRoots, closed, IsExpression, IsCondition}
 use Rattle.refinement.proofs.SlotLaws.{slot-below}
 use Rattle.refinement.proofs.Words.{Expression, Condition, expression-at, condition-at}
 
@@ -77,7 +77,7 @@ module _ (b ws : List ℕ) (t e : ℕ) where
   at-not i f p q (Condition.and r s _ _) = Tested.other (rw (p, ← f, r)) (rw (q, s))
   at-not i f p q (Condition.equal r s _ _) = Tested.other (rw (p, ← f, r)) (rw (q, s))
 
-module _ (b ws rs : List ℕ) (a : Accepted b) (loaded : Loaded b ws rs) where
+module _ (b ws rs : List ℕ) (a : Accepted b) (loaded : WordsAndRoots b ws rs) where
   pub valued : (t e : ℕ) → IsExpression b t → Valued b ws t e
   valued t e s = at-any b ws t e (expression-at b ws rs a loaded t (s .0) (s .1))
 

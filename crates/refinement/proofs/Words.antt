@@ -21,7 +21,7 @@ use Rattle.machine.proofs.CallLists.{call-fits}
 use Rattle.plan_packed.specs.Operands.{tagOf, operandIn, firstOf, secondOf, thirdOf, slotBits, fieldBits, writeSecond, letFirst, letSecond, procedureBits}
 use Rattle.plan_packed.specs.Operands.{listBits, maskBits}
 use Rattle.run_term_words.specs.Words.{wordAt}
-use Rattle.refinement.proofs.Meant.{Loaded}
+use Rattle.refinement.proofs.Meant.{WordsAndRoots}
 
 -- ---- what a term is, by its word
 
@@ -103,7 +103,7 @@ slot-sort x f = at (ℕ-discrete x 15)
     at (yes e) = inr e
     at (no n) = let l = f n in inl (omega arith)
 
-module _ (b ws rs : List ℕ) (a : Accepted b) (loaded : Loaded b ws rs) (t : ℕ) (h : t < terms b) where
+module _ (b ws rs : List ℕ) (a : Accepted b) (loaded : WordsAndRoots b ws rs) (t : ℕ) (h : t < terms b) where
   abbrev w : ℕ
   w = wordAt ws t
 

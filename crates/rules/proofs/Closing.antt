@@ -106,9 +106,9 @@ module _ (g : Program) (n : ℕ) where
     filledᵃ σ ρ ρ′ k (Arguments.argument e es) h = (filled σ ρ ρ′ k e (h .0), filledᵃ σ ρ ρ′ k es (h .1))
 
 -- every object of a list is there
-abbrev pub Below : ℕ → List ℕ → Type 0
-Below n [] = Unit {0}
-Below n (o ∷ os) = (o < n) × Below n os
+abbrev pub SlotsBelow : ℕ → List ℕ → Type 0
+SlotsBelow n [] = Unit {0}
+SlotsBelow n (o ∷ os) = (o < n) × SlotsBelow n os
 
 -- a let's value and a call's values
 pub covers-one : (n : ℕ) (x : Option ℕ) (o : ℕ) → o < n → Covers n (bound x unbound) (bind x o) unbound
@@ -120,7 +120,7 @@ covers-one n (some x) o h y t = at (eqb x y) t
     at true t = h
     at false t = absurd t
 
-params-there : (n : ℕ) (os : List ℕ) (x : ℕ) → Below n os → x < length os → Given n unbound x (getElem? os x)
+params-there : (n : ℕ) (os : List ℕ) (x : ℕ) → SlotsBelow n os → x < length os → Given n unbound x (getElem? os x)
 params-there n [] x b h = absurd (omega arith)
 params-there n (o ∷ os) zero b h = b .0
 params-there n (o ∷ os) (suc x) b h = shift (getElem? os x) (params-there n os x (b .1) (omega arith))
@@ -129,6 +129,6 @@ params-there n (o ∷ os) (suc x) b h = shift (getElem? os x) (params-there n os
     shift none h = h
     shift (some o) h = h
 
-pub covers-params : (n k : ℕ) (os : List ℕ) → Below n os → k ≡ length os → Covers n (λ x. ltb x k) (bindParameters os) unbound
+pub covers-params : (n k : ℕ) (os : List ℕ) → SlotsBelow n os → k ≡ length os → Covers n (λ x. ltb x k) (bindParameters os) unbound
 unfolding bindParameters
 covers-params n k os b e x t = let l = ltb→lt x k t in params-there n os x b (omega arith)

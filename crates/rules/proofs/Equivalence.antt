@@ -21,7 +21,7 @@ use Rattle.rules.specs.Step.{Stuck, missingField, notThread, notHeld, no
 use Rattle.rules.specs.Step.{Move, AttemptOf, Attempt, moves, attempt, attemptBy, attemptAt, around, callAct, readAct, writeAct, joinAct, joinValue}
 use Rattle.rules.specs.Step.{synchAct, holdAct, signalMove, signalAct, wakeAct}
 use Rattle.rules.specs.Room.{Blocked, MONITOR-HELD, UNFINISHED, NO-FIELD-TO-READ, NO-FIELD-TO-WRITE, NO-THREAD, NOT-NOTIFIED, NOT-FREE, NOT-HELD}
-use Rattle.rules.specs.Room.{PassedOver, ABSENT, FINISHED, BLOCKED, AnswerOf, answer, withinRoom, noRoomFor, step}
+use Rattle.rules.specs.Room.{PassedOver, ABSENT, FINISHED, BLOCKED, PickAnswerOf, answer, withinRoom, noRoomFor, step}
 use Rattle.run_keys.proofs.KeyLaws.{subset-singleton}
 use Rattle.rules.proofs.OneKey.{OneKey, its-cell}
 use Rattle.rules.proofs.RoomLaws.{answer-moved}
@@ -327,11 +327,11 @@ module _ (g : Program) (s : State) (I : OneKey g s) (p : ℕ) where
 -- ---- a pick moves exactly where a rule applies and there is room after it
 
 module _ (g : Program) (s : State) (I : OneKey g s) (p : ℕ) where
-  pub step-sound : (m : Move) → step g s p ≡ AnswerOf.moved m → Moves g s p (m .rule) (m .entry) (m .state) × (noRoomFor (m .rule) s p (m .state) ≡ none)
+  pub step-sound : (m : Move) → step g s p ≡ PickAnswerOf.moved m → Moves g s p (m .rule) (m .entry) (m .state) × (noRoomFor (m .rule) s p (m .state) ≡ none)
   unfolding step
   step-sound m h = let a = answer-moved s p (attempt g s p) m h in (sound g s I p m (a .0), a .1)
 
 pub step-complete : (g : Program) (s : State) (p : ℕ) {R : Rule} {r : Option Record} {s′ : State} → Moves g s p R r s′ → noRoomFor R s p s′ ≡ none
-    → step g s p ≡ AnswerOf.moved (record { rule = R; entry = r; state = s′ })
+    → step g s p ≡ PickAnswerOf.moved (record { rule = R; entry = r; state = s′ })
 unfolding step answer withinRoom
 step-complete g s p m q = rw (complete g s p m, q)

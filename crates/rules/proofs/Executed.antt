@@ -15,7 +15,7 @@ use Rattle.rules.specs.State.{Thread, State, start}
 use Rattle.rules.specs.Rules.{Rule, Moves}
 use Rattle.rules.specs.Step.{noRule, Move, AttemptOf, Attempt, attempt}
 use Rattle.rules.specs.Room.{Blocked, MONITOR-HELD, UNFINISHED, NO-FIELD-TO-READ, NO-FIELD-TO-WRITE, NO-THREAD, NOT-NOTIFIED, NOT-FREE, NOT-HELD}
-use Rattle.rules.specs.Room.{PassedOver, ABSENT, FINISHED, BLOCKED, Room, noRoomFor, AnswerOf, withinRoom, answer, step}
+use Rattle.rules.specs.Room.{PassedOver, ABSENT, FINISHED, BLOCKED, Room, noRoomFor, PickAnswerOf, withinRoom, answer, step}
 use Rattle.rules.specs.Run.{Run, resume, run, play, stopped, afterPass, afterMove, outcomeOf}
 use Rattle.rules.specs.Execution.{Execution, ends, passes, lacks-key, no-room, moves, moveCount}
 use Rattle.rules.specs.NewKeys.{Unused}
@@ -74,7 +74,7 @@ module _ (g : Program) (P : WellFormedProgram g) where
 
 -- ---- an execution is the run
 
-blocked-passed : (p : ℕ) {s : State} {t : Thread} {e : Expression} {a : Attempt} → Blocked s t e a → answer s p a ≡ AnswerOf.passed
+blocked-passed : (p : ℕ) {s : State} {t : Thread} {e : Expression} {a : Attempt} → Blocked s t e a → answer s p a ≡ PickAnswerOf.passed
 unfolding answer
 blocked-passed p (MONITOR-HELD h n) = refl
 blocked-passed p (UNFINISHED h n) = refl
@@ -85,7 +85,7 @@ blocked-passed p (NOT-NOTIFIED n h) = refl
 blocked-passed p (NOT-FREE z h) = refl
 blocked-passed p (NOT-HELD h n) = refl
 
-pub over-passed : {s : State} {p : ℕ} {a : Attempt} → PassedOver s p a → answer s p a ≡ AnswerOf.passed
+pub over-passed : {s : State} {p : ℕ} {a : Attempt} → PassedOver s p a → answer s p a ≡ PickAnswerOf.passed
 unfolding answer
 over-passed (ABSENT h) = refl
 over-passed (FINISHED h e) = refl

@@ -7,11 +7,11 @@ use Rattle.plan_packed.specs.Slots.{bound}
 use Rattle.rules.specs.Context.{Context, Contextᶜ, top, read, write₁, write₂, call, letIn, synch, hold, join, signal, equal₁, equal₂, Redex, Redexᶜ}
 use Rattle.rules.specs.Context.{Focus, value, here, hereᶜ}
 use Rattle.plan_packed.proofs.WellFormed.{unbound}
-use Rattle.rules.proofs.Closing.{more, moreᶜ, moreᵃ, Below}
+use Rattle.rules.proofs.Closing.{more, moreᶜ, moreᵃ, SlotsBelow}
 use Rattle.rules.proofs.Placed.{Around, Aroundᶜ, Ready, Readyᶜ, Good}
 
 module _ (g : Program) (n m : ℕ) (le : n ≤ m) where
-  below-more : (os : List ℕ) → Below n os → Below m os
+  below-more : (os : List ℕ) → SlotsBelow n os → SlotsBelow m os
   below-more [] h = tt
   below-more (o ∷ os) h = (let b = h .0 in omega arith, below-more os (h .1))
 

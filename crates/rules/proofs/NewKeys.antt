@@ -22,32 +22,32 @@ use Rattle.rules.specs.Rules.{E-JOIN, E-RE-ENTER, E-ACQUIRE, E-RELEASE, 
 use Rattle.rules.specs.Rules.{E-ANDFALSE, E-EQUALTRUE, E-EQUALFALSE, Moves, EVAL, EVALᶜ}
 use Rattle.rules.specs.Run.{Run}
 use Rattle.rules.specs.Execution.{Execution, ends, passes, lacks-key, no-room, moves}
-use Rattle.rules.specs.NewKeys.{Below, Unused, Held, BY-THREAD, BY-FIELD, BY-MONITOR, NeverHeld, StoresNew, WritesNew}
+use Rattle.rules.specs.NewKeys.{KeysBelow, Unused, Held, BY-THREAD, BY-FIELD, BY-MONITOR, NeverHeld, StoresNew, WritesNew}
 use Rattle.rules.proofs.Relocated.{Relocated, withThreads, was-there, enqueue-relocated, signalled-relocated}
 use Rattle.rules.proofs.StateLaws.{added, changed, store-same, store-other, store-monitor, lock-same, lock-other, lock-lookup, new-lookup}
 use Rattle.rules.proofs.StateLaws.{new-monitors, found-thread}
 
-below-singleton : (w n : ℕ) → w < n → Below (singleton w) n
+below-singleton : (w n : ℕ) → w < n → KeysBelow (singleton w) n
 below-singleton w n h k t = let e : k ≡ w = eqb→eq k w (rw (holds-singleton w k) at t) in omega arith
 
-below-empty : (n : ℕ) → Below empty n
+below-empty : (n : ℕ) → KeysBelow empty n
 below-empty n k t = absurd (rw (holds-empty k) at t)
 
-below-union : (K L : Keys) (n : ℕ) → Below K n → Below L n → Below (union K L) n
+below-union : (K L : Keys) (n : ℕ) → KeysBelow K n → KeysBelow L n → KeysBelow (union K L) n
 below-union K L n f g k t = go (holds K k) (holds L k) refl refl (rw (holds-union K L k) at t)
   where
     go : (x y : Bool) → holds K k ≡ x → holds L k ≡ y → T (x || y) → k < n
     go true y e d h = f k (rw e tt)
     go false y e d h = g k (rw d h)
 
-below-passed : (v : Version) (K : Keys) (n : ℕ) → Below K n → Below (passedOn v K) n
+below-passed : (v : Version) (K : Keys) (n : ℕ) → KeysBelow K n → KeysBelow (passedOn v K) n
 unfolding passedOn isEmpty
 below-passed v0 K n f k t = absurd (no-key (passedOn v0 K) k refl t)
 below-passed v1 K n f k t = f k t
 
-below-fresh : (c : Cell) (n : ℕ) → fresh ≡ c → 0 < n → Below (c .keys) n
+below-fresh : (c : Cell) (n : ℕ) → fresh ≡ c → 0 < n → KeysBelow (c .keys) n
 unfolding fresh
-below-fresh c n e h = along (λ (z : Cell). Below (z .keys) n) e (below-singleton 0 n h)
+below-fresh c n e h = along (λ (z : Cell). KeysBelow (z .keys) n) e (below-singleton 0 n h)
 
 -- ---- the parts of a move
 
@@ -60,7 +60,7 @@ unused-key s U = record {
   positive = omega arith;
 }
 
-unused-store : (s : State) (o f : ℕ) (c d : Cell) → lookup s o f ≡ some d → Below (c .keys) (s .nextKey) → Unused s → Unused (store s o f c)
+unused-store : (s : State) (o f : ℕ) (c d : Cell) → lookup s o f ≡ some d → KeysBelow (c .keys) (s .nextKey) → Unused s → Unused (store s o f c)
 unfolding store
 unused-store s o f c d h b U = record {
   threads = U .threads;
@@ -69,16 +69,16 @@ unused-store s o f c d h b U = record {
   positive = U .positive;
 }
   where
-    go : (o′ f′ : ℕ) (c′ : Cell) → lookup (store s o f c) o′ f′ ≡ some c′ → Dec (o ≡ o′) → Dec (f ≡ f′) → Below (c′ .keys) (s .nextKey)
+    go : (o′ f′ : ℕ) (c′ : Cell) → lookup (store s o f c) o′ f′ ≡ some c′ → Dec (o ≡ o′) → Dec (f ≡ f′) → KeysBelow (c′ .keys) (s .nextKey)
     go o′ f′ c′ h′ (yes x) (yes y) =
         let q : some c ≡ some c′ = sym (store-same s o f c d h) ∙ ap (λ (z : ℕ). lookup (store s o f c) o z) y ∙ ap (λ (z : ℕ). lookup (store s o f c) z f′) x
         ∙ h′ in
         let r : c ≡ c′ = cc in
-        along (λ (z : Cell). Below (z .keys) (s .nextKey)) r b
+        along (λ (z : Cell). KeysBelow (z .keys) (s .nextKey)) r b
     go o′ f′ c′ h′ (yes x) (no y) = U .fields o′ f′ c′ (sym (store-other s o f c o′ f′ (λ p q. y q)) ∙ h′)
     go o′ f′ c′ h′ (no x) y = U .fields o′ f′ c′ (sym (store-other s o f c o′ f′ (λ p q. x p)) ∙ h′)
 
-unused-lock : (s : State) (o : ℕ) (c d : Cell) → monitor s o ≡ some d → Below (c .keys) (s .nextKey) → Unused s → Unused (storeMonitor s o c)
+unused-lock : (s : State) (o : ℕ) (c d : Cell) → monitor s o ≡ some d → KeysBelow (c .keys) (s .nextKey) → Unused s → Unused (storeMonitor s o c)
 unfolding storeMonitor
 unused-lock s o c d h b U = record {
   threads = U .threads;
@@ -87,11 +87,11 @@ unused-lock s o c d h b U = record {
   positive = U .positive;
 }
   where
-    go : (o′ : ℕ) (c′ : Cell) → monitor (storeMonitor s o c) o′ ≡ some c′ → Dec (o ≡ o′) → Below (c′ .keys) (s .nextKey)
+    go : (o′ : ℕ) (c′ : Cell) → monitor (storeMonitor s o c) o′ ≡ some c′ → Dec (o ≡ o′) → KeysBelow (c′ .keys) (s .nextKey)
     go o′ c′ h′ (yes x) =
         let q : some c ≡ some c′ = sym (lock-same s o c d h) ∙ ap (λ (z : ℕ). monitor (storeMonitor s o c) z) x ∙ h′ in
         let r : c ≡ c′ = cc in
-        along (λ (z : Cell). Below (z .keys) (s .nextKey)) r b
+        along (λ (z : Cell). KeysBelow (z .keys) (s .nextKey)) r b
     go o′ c′ h′ (no x) = U .monitors o′ c′ (sym (lock-other s o c o′ x) ∙ h′)
 
 unused-new : (s : State) (fs : List ℕ) → Unused s → Unused (addObject s (freshObject fs))
@@ -107,17 +107,17 @@ unused-new s fs U = record {
     s₁ = addObject s (freshObject fs)
 
     field-of : (o f : ℕ) (c : Cell) → lookup s₁ o f ≡ some c
-        → (lookup s₁ o f ≡ lookup s o f) ⊎ ((length (s .objects) ≡ o) × (lookup s o f ≡ none) × (lookup s₁ o f ≡ some fresh)) → Below (c .keys) (s .nextKey)
+        → (lookup s₁ o f ≡ lookup s o f) ⊎ ((length (s .objects) ≡ o) × (lookup s o f ≡ none) × (lookup s₁ o f ≡ some fresh)) → KeysBelow (c .keys) (s .nextKey)
     field-of o f c h (inl e) = U .fields o f c (sym e ∙ h)
     field-of o f c h (inr (_, _, e)) = let q : some fresh ≡ some c = sym e ∙ h in below-fresh c (s .nextKey) (cc) (U .positive)
 
     monitor-of : (o : ℕ) (c : Cell) → monitor s₁ o ≡ some c
-        → (monitor s₁ o ≡ monitor s o) ⊎ ((length (s .objects) ≡ o) × (monitor s o ≡ none) × (monitor s₁ o ≡ some fresh)) → Below (c .keys) (s .nextKey)
+        → (monitor s₁ o ≡ monitor s o) ⊎ ((length (s .objects) ≡ o) × (monitor s o ≡ none) × (monitor s₁ o ≡ some fresh)) → KeysBelow (c .keys) (s .nextKey)
     monitor-of o c h (inl e) = U .monitors o c (sym e ∙ h)
     monitor-of o c h (inr (_, _, e)) = let q : some fresh ≡ some c = sym e ∙ h in below-fresh c (s .nextKey) (cc) (U .positive)
 
 -- one thread changes, and its keys stay below the next
-unused-change : (s : State) (p : ℕ) (h : Thread → Thread) → ((t : Thread) → Below (t .keys) (s .nextKey) → Below (h t .keys) (s .nextKey)) → Unused s
+unused-change : (s : State) (p : ℕ) (h : Thread → Thread) → ((t : Thread) → KeysBelow (t .keys) (s .nextKey) → KeysBelow (h t .keys) (s .nextKey)) → Unused s
     → Unused (record { objects = s .objects; threads = changeAt (s .threads) p h; nextKey = s .nextKey })
 unfolding lookup monitor
 unused-change s p h b U = record {
@@ -127,11 +127,11 @@ unused-change s p h b U = record {
   positive = U .positive;
 }
   where
-    go : (q : ℕ) (u : Thread) → (t : Thread) × (getElem? (s .threads) q ≡ some t) × ((t ≡ u) ⊎ (h t ≡ u)) → Below (u .keys) (s .nextKey)
-    go q u (t, e, inl x) = along (λ (z : Thread). Below (z .keys) (s .nextKey)) x (U .threads q t e)
-    go q u (t, e, inr x) = along (λ (z : Thread). Below (z .keys) (s .nextKey)) x (b t (U .threads q t e))
+    go : (q : ℕ) (u : Thread) → (t : Thread) × (getElem? (s .threads) q ≡ some t) × ((t ≡ u) ⊎ (h t ≡ u)) → KeysBelow (u .keys) (s .nextKey)
+    go q u (t, e, inl x) = along (λ (z : Thread). KeysBelow (z .keys) (s .nextKey)) x (U .threads q t e)
+    go q u (t, e, inr x) = along (λ (z : Thread). KeysBelow (z .keys) (s .nextKey)) x (b t (U .threads q t e))
 
-unused-gain : (s : State) (p : ℕ) (W : Keys) (n : Keys → ℕ) → Below W (s .nextKey) → Unused s → Unused (gain s p W n)
+unused-gain : (s : State) (p : ℕ) (W : Keys) (n : Keys → ℕ) → KeysBelow W (s .nextKey) → Unused s → Unused (gain s p W n)
 unfolding gain
 unused-gain s p W n b U = unused-change s p _ (λ t c. below-union W (t .keys) (s .nextKey) b c) U
 
@@ -139,7 +139,7 @@ unused-become : (s : State) (p : ℕ) (e : Expression) → Unused s → Unused (
 unfolding become
 unused-become s p e U = unused-change s p _ (λ t c. c) U
 
-unused-thread : (s : State) (u : Thread) → Below (u .keys) (s .nextKey) → Unused s → Unused (addThread s u)
+unused-thread : (s : State) (u : Thread) → KeysBelow (u .keys) (s .nextKey) → Unused s → Unused (addThread s u)
 unfolding addThread lookup monitor
 unused-thread s u b U = record {
   threads = λ q w e. go q w (added (s .threads) u q w e);
@@ -149,15 +149,15 @@ unused-thread s u b U = record {
 }
   where
     go : (q : ℕ) (w : Thread) → ((q < length (s .threads)) × (getElem? (s .threads) q ≡ some w)) ⊎ ((q ≡ length (s .threads)) × (u ≡ w))
-        → Below (w .keys) (s .nextKey)
+        → KeysBelow (w .keys) (s .nextKey)
     go q w (inl (_, e)) = U .threads q w e
-    go q w (inr (_, e)) = along (λ (z : Thread). Below (z .keys) (s .nextKey)) e b
+    go q w (inr (_, e)) = along (λ (z : Thread). KeysBelow (z .keys) (s .nextKey)) e b
 
 -- places alone change
 unused-relocated : (s : State) (us : List Thread) → Relocated (s .threads) us → Unused s → Unused (withThreads s us)
 unfolding lookup monitor
 unused-relocated s us r U = record {
-  threads = λ q u e. let w = was-there (s .threads) us r q u e in along (λ (z : Thread). Below (z .keys) (s .nextKey)) (w .2) (U .threads q (w .0) (w .1));
+  threads = λ q u e. let w = was-there (s .threads) us r q u e in along (λ (z : Thread). KeysBelow (z .keys) (s .nextKey)) (w .2) (U .threads q (w .0) (w .1));
   fields = λ o f c e. U .fields o f c e;
   monitors = λ o c e. U .monitors o c e;
   positive = U .positive;
@@ -176,7 +176,7 @@ module _ (g : Program) (s : State) (p : ℕ) (t : Thread) (ht : getElem? (s .thr
   kept (E-READ w h k v) = U
   kept (E-WRITE w {o} {f} {u} {v} h k vol) =
       let c : Cell = cell (singleton (s .nextKey)) v in
-      let b : Below (singleton (s .nextKey)) (suc (s .nextKey)) = below-singleton (s .nextKey) (suc (s .nextKey)) (omega arith) in
+      let b : KeysBelow (singleton (s .nextKey)) (suc (s .nextKey)) = below-singleton (s .nextKey) (suc (s .nextKey)) (omega arith) in
       unused-gain (store (useKey s) o f c) p (singleton (s .nextKey)) _ b (unused-store (useKey s) o f c (cell (singleton w) u) h b (unused-key s U))
   kept (E-READV {o} {f} {v} {W} h vol) = unused-gain s p (passedOn (g .version) W) _ (below-passed (g .version) W (s .nextKey) (U .fields o f (cell W v) h)) U
   kept (E-WRITEV {o} {f} {u} {v} {W} h vol) =
@@ -215,17 +215,17 @@ unused-start = record {
   positive = omega arith;
 }
   where
-    one : (p : ℕ) (t : Thread) → getElem? (start .threads) p ≡ some t → Below (t .keys) 1
+    one : (p : ℕ) (t : Thread) → getElem? (start .threads) p ≡ some t → KeysBelow (t .keys) 1
     one zero t h =
         let e : record { self = 0; expression = Expression.call 0 Arguments.end; keys = singleton 0; learnt = 0; place = awake } ≡ t = cc in
-        along (λ (z : Thread). Below (z .keys) 1) e (below-singleton 0 1 (omega arith))
+        along (λ (z : Thread). KeysBelow (z .keys) 1) e (below-singleton 0 1 (omega arith))
     one (suc p) t h = absurd (true≢false cc)
 
     nowhere : (o f : ℕ) (c : Cell) → lookup start o f ≡ some c → ⊥
     nowhere zero f c h = true≢false cc
     nowhere (suc o) f c h = true≢false cc
 
-    free : (o : ℕ) (c : Cell) → monitor start o ≡ some c → Below (c .keys) 1
+    free : (o : ℕ) (c : Cell) → monitor start o ≡ some c → KeysBelow (c .keys) 1
     free zero c h = below-fresh c 1 (cc) (omega arith)
     free (suc o) c h = absurd (true≢false cc)
 

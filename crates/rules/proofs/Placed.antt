@@ -13,7 +13,7 @@ use Rattle.rules.specs.Context.{Context, Contextᶜ, top, read, write₁
 use Rattle.rules.specs.Context.{plugᶜ, Redex, Redexᶜ, Focus, value, here, hereᶜ, focus, focusᶜ, focusᵃ, asLiteral, asBool, redexExpression, onLiteral}
 use Rattle.rules.specs.Context.{onBool, onNot}
 use Rattle.plan_packed.proofs.WellFormed.{WellFormed, WellFormedᶜ, WellFormedᵃ, count, Callable, unbound}
-use Rattle.rules.proofs.Closing.{Below}
+use Rattle.rules.proofs.Closing.{SlotsBelow}
 use Rattle.rules.proofs.FocusPlug.{focus-plug, focus-plugᶜ, found}
 use Rattle.rules.proofs.Back.{as-literal, as-bool}
 
@@ -33,7 +33,7 @@ abbrev mutual
   Around g n (read K f) = (0 < f) × (f < 32) × Around g n K
   Around g n (write₁ K f e′) = (0 < f) × (f < 32) × Text g n e′ × Around g n K
   Around g n (write₂ K o f) = (0 < f) × (f < 32) × (o < n) × Around g n K
-  Around g n (call K m os es) = Callable g m (length os + suc (count es)) × Below n os × Textᵃ g n es × Around g n K
+  Around g n (call K m os es) = Callable g m (length os + suc (count es)) × SlotsBelow n os × Textᵃ g n es × Around g n K
   Around g n (letIn K x e′) = WellFormed g n (bound x unbound) e′ × Around g n K
   Around g n (synch K e′) = Text g n e′ × Around g n K
   Around g n (hold K o) = (o < n) × Around g n K
@@ -56,7 +56,7 @@ Ready g n (Redex.write o f v) = (0 < f) × (f < 32) × (o < n) × (v < n)
 Ready g n (Redex.letIn x o e) = (o < n) × WellFormed g n (bound x unbound) e
 Ready g n (Redex.if b e e′) = Text g n e × Text g n e′
 Ready g n (Redex.while c e) = Textᶜ g n c × Text g n e
-Ready g n (Redex.call m os) = Callable g m (length os) × Below n os
+Ready g n (Redex.call m os) = Callable g m (length os) × SlotsBelow n os
 Ready g n (Redex.fork e) = Text g n e
 Ready g n (Redex.join o) = o < n
 Ready g n (Redex.synch o e) = (o < n) × Text g n e
@@ -157,7 +157,7 @@ module _ (g : Program) (n : ℕ) where
   text-lit : (e : Expression) (o : ℕ) → asLiteral e ≡ some o → Text g n e → o < n
   text-lit e o q h = rw (as-literal e o q) at h
 
-  below-more : (os : List ℕ) (o : ℕ) → Below n os → o < n → Below n (os ++ (o ∷ []))
+  below-more : (os : List ℕ) (o : ℕ) → SlotsBelow n os → o < n → SlotsBelow n (os ++ (o ∷ []))
   below-more [] o b h = (h, tt)
   below-more (a ∷ os) o b h = (b .0, below-more os o (b .1) h)
 
@@ -222,7 +222,7 @@ module _ (g : Program) (n : ℕ) where
         (λ q′. land (equal₂ K o) e′ q′ (text-lit e o q (c .0), k) (c .1)))
         (λ q. land (equal₁ K e′) e q (c .1, k) (c .0))
 
-    landᵃ : (K : Context) (m : ℕ) (os : List ℕ) (es : Arguments) → Around g n K → Callable g m (length os + count es) → Below n os → Textᵃ g n es
+    landᵃ : (K : Context) (m : ℕ) (os : List ℕ) (es : Arguments) → Around g n K → Callable g m (length os + count es) → SlotsBelow n os → Textᵃ g n es
         → Lands (pending K) (focusᵃ K m os es)
     landᵃ K m os Arguments.end k d b c = record { good = (k, (counted m (length os + 0) (length os) (omega arith) d, b)); theirs = refl; awake = λ o z. z }
     landᵃ K m os (Arguments.argument e es) k d b c =
@@ -239,7 +239,7 @@ module _ (g : Program) (n : ℕ) where
   lits-count [] es = omega arith
   lits-count (o ∷ os) es = omega (arith, lits-count os es)
 
-  lits-text : (os : List ℕ) (es : Arguments) → Below n os → Textᵃ g n es → Textᵃ g n (literals os es)
+  lits-text : (os : List ℕ) (es : Arguments) → SlotsBelow n os → Textᵃ g n es → Textᵃ g n (literals os es)
   unfolding literals
   lits-text [] es b c = c
   lits-text (o ∷ os) es b c = (b .0, lits-text os es (b .1) c)

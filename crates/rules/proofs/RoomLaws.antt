@@ -7,7 +7,7 @@ use lib.Dec.{leb}
 use borrow.Author.Tests.{leb-false}
 use Rattle.rules.specs.State.{Form, StateOf}
 use Rattle.rules.specs.Step.{MoveOf, AttemptOf}
-use Rattle.rules.specs.Room.{Room, noRoomFor, AnswerOf, withinRoom, answer}
+use Rattle.rules.specs.Room.{Room, noRoomFor, PickAnswerOf, withinRoom, answer}
 
 -- there is room where the test says so
 pub room-for : (k n : ℕ) (w : Room) (r : Option Room) → cond (leb k n) (some w) r ≡ none → (n < k) × (r ≡ none)
@@ -18,13 +18,13 @@ room-for k n w r e = at (leb k n) refl e
     at false q e = (leb-false k n q, e)
 
 module _ {F : Form} where
-  within-moved : (m m′ : MoveOf F) (k : Option Room) → withinRoom m k ≡ AnswerOf.moved m′ → (m ≡ m′) × (k ≡ none)
+  within-moved : (m m′ : MoveOf F) (k : Option Room) → withinRoom m k ≡ PickAnswerOf.moved m′ → (m ≡ m′) × (k ≡ none)
   unfolding withinRoom
   within-moved m m′ none h = (cc, refl)
   within-moved m m′ (some k) h = absurd (true≢false cc)
 
   -- a pick that moves its thread: what the thread can do is that move, and there is room for it
-  pub answer-moved : (s : StateOf F) (p : ℕ) (a : AttemptOf F) (m : MoveOf F) → answer s p a ≡ AnswerOf.moved m
+  pub answer-moved : (s : StateOf F) (p : ℕ) (a : AttemptOf F) (m : MoveOf F) → answer s p a ≡ PickAnswerOf.moved m
       → (a ≡ AttemptOf.moves m) × (noRoomFor (m .rule) s p (m .state) ≡ none)
   unfolding answer
   answer-moved s p AttemptOf.absent m h = absurd (true≢false cc)

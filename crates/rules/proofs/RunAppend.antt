@@ -11,7 +11,7 @@ use Rattle.plan_packed.specs.Syntax.{Program}
 use Rattle.log_records.specs.Record.{Record}
 use Rattle.rules.specs.State.{State}
 use Rattle.rules.specs.Step.{Move}
-use Rattle.rules.specs.Room.{AnswerOf, Answer, step}
+use Rattle.rules.specs.Room.{PickAnswerOf, PickAnswer, step}
 use Rattle.rules.specs.Run.{Stop, Run, logged, afterPass, afterMove, stopped, resume, run}
 
 -- a run, and then another from the state where it stands
@@ -62,13 +62,13 @@ module _ (g : Program) where
   run-append s [] qs h = none-and-then s (run g s qs)
   run-append s (p ∷ ps) qs h = go (step g s p) h (λ z k. run-append z ps qs k)
     where
-      go : (a : Answer) → resume s (λ z. run g z ps) a .stop ≡ Stop.end
+      go : (a : PickAnswer) → resume s (λ z. run g z ps) a .stop ≡ Stop.end
           → ((z : State) → run g z ps .stop ≡ Stop.end → run g z (ps ++ qs) ≡ andThen (run g z ps) (run g (run g z ps .final) qs))
           → resume s (λ z. run g z (ps ++ qs)) a ≡ andThen (resume s (λ z. run g z ps) a) (run g (resume s (λ z. run g z ps) a .final) qs)
-      go AnswerOf.passed h ih = ap afterPass (ih s h) ∙ pass-and-then (run g s ps) (run g (run g s ps .final) qs)
-      go (AnswerOf.race r) h ih = absurd (true≢false cc)
-      go (AnswerOf.noRoom k) h ih = absurd (true≢false cc)
-      go (AnswerOf.moved m) h ih = ap (afterMove m) (ih (m .state) h) ∙ move-and-then m (run g (m .state) ps) (run g (run g (m .state) ps .final) qs)
+      go PickAnswerOf.passed h ih = ap afterPass (ih s h) ∙ pass-and-then (run g s ps) (run g (run g s ps .final) qs)
+      go (PickAnswerOf.race r) h ih = absurd (true≢false cc)
+      go (PickAnswerOf.noRoom k) h ih = absurd (true≢false cc)
+      go (PickAnswerOf.moved m) h ih = ap (afterMove m) (ih (m .state) h) ∙ move-and-then m (run g (m .state) ps) (run g (run g (m .state) ps .final) qs)
 
   -- the first run stopped
   pub run-stopped : (s : State) (ps qs : List ℕ) → (run g s ps .stop ≡ Stop.end → ⊥) → run g s (ps ++ qs) ≡ run g s ps
@@ -76,13 +76,13 @@ module _ (g : Program) where
   run-stopped s [] qs h = absurd (h refl)
   run-stopped s (p ∷ ps) qs h = go (step g s p) h (λ z k. run-stopped z ps qs k)
     where
-      go : (a : Answer) → (resume s (λ z. run g z ps) a .stop ≡ Stop.end → ⊥)
+      go : (a : PickAnswer) → (resume s (λ z. run g z ps) a .stop ≡ Stop.end → ⊥)
           → ((z : State) → (run g z ps .stop ≡ Stop.end → ⊥) → run g z (ps ++ qs) ≡ run g z ps)
           → resume s (λ z. run g z (ps ++ qs)) a ≡ resume s (λ z. run g z ps) a
-      go AnswerOf.passed h ih = ap afterPass (ih s h)
-      go (AnswerOf.race r) h ih = refl
-      go (AnswerOf.noRoom k) h ih = refl
-      go (AnswerOf.moved m) h ih = ap (afterMove m) (ih (m .state) h)
+      go PickAnswerOf.passed h ih = ap afterPass (ih s h)
+      go (PickAnswerOf.race r) h ih = refl
+      go (PickAnswerOf.noRoom k) h ih = refl
+      go (PickAnswerOf.moved m) h ih = ap (afterMove m) (ih (m .state) h)
 
   -- a run that did not stop has dealt with every pick
   pub all-dealt-with : (s : State) (ps : List ℕ) → run g s ps .stop ≡ Stop.end → run g s ps .picks ≡ length ps
@@ -90,12 +90,12 @@ module _ (g : Program) where
   all-dealt-with s [] h = refl
   all-dealt-with s (p ∷ ps) h = go (step g s p) h (λ z k. all-dealt-with z ps k)
     where
-      go : (a : Answer) → resume s (λ z. run g z ps) a .stop ≡ Stop.end → ((z : State) → run g z ps .stop ≡ Stop.end → run g z ps .picks ≡ length ps)
+      go : (a : PickAnswer) → resume s (λ z. run g z ps) a .stop ≡ Stop.end → ((z : State) → run g z ps .stop ≡ Stop.end → run g z ps .picks ≡ length ps)
           → resume s (λ z. run g z ps) a .picks ≡ suc (length ps)
-      go AnswerOf.passed h ih = ap suc (ih s h)
-      go (AnswerOf.race r) h ih = absurd (true≢false cc)
-      go (AnswerOf.noRoom k) h ih = absurd (true≢false cc)
-      go (AnswerOf.moved m) h ih = ap suc (ih (m .state) h)
+      go PickAnswerOf.passed h ih = ap suc (ih s h)
+      go (PickAnswerOf.race r) h ih = absurd (true≢false cc)
+      go (PickAnswerOf.noRoom k) h ih = absurd (true≢false cc)
+      go (PickAnswerOf.moved m) h ih = ap suc (ih (m .state) h)
 
   -- a run that stopped has not
   pub stopped-short : (s : State) (ps : List ℕ) → (run g s ps .stop ≡ Stop.end → ⊥) → run g s ps .picks < length ps
@@ -103,13 +103,13 @@ module _ (g : Program) where
   stopped-short s [] n = absurd (n refl)
   stopped-short s (p ∷ ps) n = go (step g s p) n (λ z k. stopped-short z ps k)
     where
-      go : (a : Answer) → (resume s (λ z. run g z ps) a .stop ≡ Stop.end → ⊥)
+      go : (a : PickAnswer) → (resume s (λ z. run g z ps) a .stop ≡ Stop.end → ⊥)
           → ((z : State) → (run g z ps .stop ≡ Stop.end → ⊥) → run g z ps .picks < length ps)
           → resume s (λ z. run g z ps) a .picks < suc (length ps)
-      go AnswerOf.passed n ih = let h = ih s n in omega arith
-      go (AnswerOf.race r) n ih = omega arith
-      go (AnswerOf.noRoom k) n ih = omega arith
-      go (AnswerOf.moved m) n ih = let h = ih (m .state) n in omega arith
+      go PickAnswerOf.passed n ih = let h = ih s n in omega arith
+      go (PickAnswerOf.race r) n ih = omega arith
+      go (PickAnswerOf.noRoom k) n ih = omega arith
+      go (PickAnswerOf.moved m) n ih = let h = ih (m .state) n in omega arith
 
   -- more picks make no fewer records
   pub records-grow : (s : State) (ps qs : List ℕ) → length (run g s ps .log) ≤ length (run g s (ps ++ qs) .log)

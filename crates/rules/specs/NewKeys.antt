@@ -15,14 +15,14 @@ use Rattle.rules.specs.Run.{Run}
 use Rattle.rules.specs.Execution.{Execution, ends, passes, lacks-key, no-room, moves}
 
 -- every key of the set is below n
-abbrev pub Below : Keys → ℕ → Type 0
-Below K n = (k : ℕ) → T (holds K k) → k < n
+abbrev pub KeysBelow : Keys → ℕ → Type 0
+KeysBelow K n = (k : ℕ) → T (holds K k) → k < n
 
 -- the next key is in no set
 pub record Unused (s : State) : Type 0 where
-  pub threads : (p : ℕ) (t : Thread) → getElem? (s .threads) p ≡ some t → Below (t .keys) (s .nextKey)
-  pub fields : (o f : ℕ) (c : Cell) → lookup s o f ≡ some c → Below (c .keys) (s .nextKey)
-  pub monitors : (o : ℕ) (c : Cell) → monitor s o ≡ some c → Below (c .keys) (s .nextKey)
+  pub threads : (p : ℕ) (t : Thread) → getElem? (s .threads) p ≡ some t → KeysBelow (t .keys) (s .nextKey)
+  pub fields : (o f : ℕ) (c : Cell) → lookup s o f ≡ some c → KeysBelow (c .keys) (s .nextKey)
+  pub monitors : (o : ℕ) (c : Cell) → monitor s o ≡ some c → KeysBelow (c .keys) (s .nextKey)
   pub positive : 0 < s .nextKey
 
 -- ---- the keys of an execution's plain writes

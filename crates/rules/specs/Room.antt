@@ -129,24 +129,24 @@ module _ {F : Form} where
 -- ---- the answer to a pick
 
 -- it is passed over, stops the run or moves its thread
-pub data AnswerOf (F : Form) : Type 0 where
-  passed : AnswerOf F  -- "A pick is passed over, changing nothing"
-  race : Record → AnswerOf F  -- the run stops: key missing
-  noRoom : Room → AnswerOf F  -- the run stops: no room
-  moved : MoveOf F → AnswerOf F
+pub data PickAnswerOf (F : Form) : Type 0 where
+  passed : PickAnswerOf F  -- "A pick is passed over, changing nothing"
+  race : Record → PickAnswerOf F  -- the run stops: key missing
+  noRoom : Room → PickAnswerOf F  -- the run stops: no room
+  moved : MoveOf F → PickAnswerOf F
 
-abbrev pub Answer : Type 0
-Answer = AnswerOf expressions
+abbrev pub PickAnswer : Type 0
+PickAnswer = PickAnswerOf expressions
 
 module _ {F : Form} where
   -- a move is made, or "the run stops at this pick, unmoved", for the room that it lacks
-  unfoldable pub withinRoom : MoveOf F → Option Room → AnswerOf F
+  unfoldable pub withinRoom : MoveOf F → Option Room → PickAnswerOf F
   withinRoom m none = moved m
   withinRoom m (some k) = noRoom k
 
   -- "A pick is passed over [..] if that thread is absent, finished, waiting [..] or stuck [..]. Otherwise the run stops at this pick, unmoved, for the
   -- first of: key missing; [..]"
-  unfoldable pub answer : StateOf F → ℕ → AttemptOf F → AnswerOf F
+  unfoldable pub answer : StateOf F → ℕ → AttemptOf F → PickAnswerOf F
   unfolding noRoomFor withinRoom
   answer s p absent = passed
   answer s p (finished v) = passed
@@ -156,6 +156,6 @@ module _ {F : Form} where
   answer s p (moves m) = withinRoom m (noRoomFor (m .rule) s p (m .state))
 
 -- the answer to a pick of thread p in state s
-unfoldable pub step : Program → State → ℕ → Answer
+unfoldable pub step : Program → State → ℕ → PickAnswer
 unfolding attempt answer expressionDepth
 step g s p = answer s p (attempt g s p)

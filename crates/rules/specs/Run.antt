@@ -8,7 +8,7 @@ use Rattle.log_records.specs.Record.{Record}
 use Rattle.rules.specs.State.{Form, expressions, ThreadOf, StateOf, State, start}
 use Rattle.rules.specs.Rules.{Rule}
 use Rattle.rules.specs.Step.{Wait, Stuck, MoveOf, AttemptOf, attempt}
-use Rattle.rules.specs.Room.{Room, AnswerOf, step}
+use Rattle.rules.specs.Room.{Room, PickAnswerOf, step}
 
 -- "end, race, or no room (thread, object, key, depth)"
 pub data Stop : Type 0 where
@@ -48,15 +48,15 @@ module _ {F : Form} where
 
   -- the run from a pick's answer in state s on, where k is the rest of the run: "each pick up to the stop, passed over or not, meets the state that the
   -- pick before it left"; "Kinds 10 and 11 come only last."
-  unfoldable pub resume : StateOf F → (StateOf F → RunOf F) → AnswerOf F → RunOf F
+  unfoldable pub resume : StateOf F → (StateOf F → RunOf F) → PickAnswerOf F → RunOf F
   unfolding afterPass afterMove stopped
-  resume s k AnswerOf.passed = afterPass (k s)
-  resume s k (AnswerOf.race r) = stopped race (r ∷ []) s
-  resume s k (AnswerOf.noRoom w) = stopped (noRoom w) [] s
-  resume s k (AnswerOf.moved m) = afterMove m (k (m .state))
+  resume s k PickAnswerOf.passed = afterPass (k s)
+  resume s k (PickAnswerOf.race r) = stopped race (r ∷ []) s
+  resume s k (PickAnswerOf.noRoom w) = stopped (noRoom w) [] s
+  resume s k (PickAnswerOf.moved m) = afterMove m (k (m .state))
 
   -- the run of a list of picks from state s, where `step` answers a pick: "A schedule is one byte per pick, 0 to 7."
-  unfoldable pub runBy : (StateOf F → ℕ → AnswerOf F) → StateOf F → List ℕ → RunOf F
+  unfoldable pub runBy : (StateOf F → ℕ → PickAnswerOf F) → StateOf F → List ℕ → RunOf F
   unfolding resume stopped
   runBy step s [] = stopped end [] s
   runBy step s (p ∷ ps) = resume s (λ s′. runBy step s′ ps) (step s p)

@@ -24,7 +24,7 @@ use Rattle.run_pick.specs.declared.Met.{Met}
 use Rattle.run_pick.specs.declared.Begun.{Begun}
 use Rattle.run_pick.specs.declared.Begun.the-variants as begun
 use Rattle.run_pick.specs.declared.Reached.the-variants as reached
-use Rattle.run_pick.specs.Answer.{Move, Answer as answer}
+use Rattle.run_pick.specs.Answer.{Move, PickAnswer as answer}
 use Rattle.run_pick.specs.Pick.{picked, refocusedHead, noHead, forksOf, beginOf, Came, reachOf}
 use Rattle.run_pick.proofs.GoesOn.{no-signal}
 use Rattle.run_pick.proofs.Steps as steps

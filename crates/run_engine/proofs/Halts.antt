@@ -16,13 +16,13 @@ use Rattle.run_state.specs.declared.acted.Acted.{Acted}
 use Rattle.run_look.specs.declared.Sight.{Sight}
 use Rattle.run_look.specs.declared.Sight.the-variants as sight
 use Rattle.run_pick.specs.declared.Met.{Met}
-use Rattle.run_pick.specs.Answer.{Move, Answer, Answer as answer}
+use Rattle.run_pick.specs.Answer.{Move, PickAnswer, PickAnswer as answer}
 use Rattle.run_pick.specs.Pick.{picked, noRoom, fullOf, forksOf, refocusForked, startBy, refocusBy, makeBy, actMet, pickBy, lookMet, pickOf}
 use Rattle.run_engine.specs.Machine.{Machine, pickedBy}
 use Rattle.run_open_threads.specs.Open.{openAt, unstopped, openAfter}
 
 -- an answer that stops the run does not end it
-abbrev halts : Answer → Bool
+abbrev halts : PickAnswer → Bool
 halts answer.Passed = true
 halts (answer.Moved v) = true
 halts (answer.Stopped e y) = not (unstopped e)

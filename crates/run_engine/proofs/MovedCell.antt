@@ -17,7 +17,7 @@ use Rattle.run_look.specs.declared.Sight.the-variants as sight
 use Rattle.run_act.specs.Act.{changesBy}
 use Rattle.run_act.proofs.Unchanged.{cellAfter, leaves}
 use Rattle.run_pick.specs.declared.Met.{Met}
-use Rattle.run_pick.specs.Answer.{Move, Answer, Answer as answer}
+use Rattle.run_pick.specs.Answer.{Move, PickAnswer, PickAnswer as answer}
 use Rattle.run_pick.specs.Pick.{picked, noRoom, fullOf, forksOf, refocusForked, startBy, refocusBy, makeBy, actMet, pickBy, lookMet, pickOf}
 use Rattle.run_engine.specs.Machine.{Machine, headAt, cellNumber, noCell, metBy, pickedBy}
 

@@ -18,14 +18,14 @@ use Rattle.run_state.specs.declared.acted.Acted.{Acted}
 use Rattle.run_look.specs.declared.Sight.{Sight}
 use Rattle.run_look.specs.declared.Sight.the-variants as sight
 use Rattle.run_pick.specs.declared.Met.{Met}
-use Rattle.run_pick.specs.Answer.{Move, Answer, Answer as answer}
+use Rattle.run_pick.specs.Answer.{Move, PickAnswer, PickAnswer as answer}
 use Rattle.run_pick.specs.Pick.{Picked, picked, noRoom, fullOf, forksOf, refocusForked, startBy, refocusBy, makeBy, actMet, pickBy, lookMet, pickOf}
 use Rattle.run_engine.specs.Machine.{Machine, stayed, pickedBy, turnBy, playOf}
 
-stopped-not : {z : Answer} (r : NoRoom) → z ≡ noRoom r → z ≡ answer.Passed → ⊥
+stopped-not : {z : PickAnswer} (r : NoRoom) → z ≡ noRoom r → z ≡ answer.Passed → ⊥
 stopped-not r e h = let z : _≡_ {A = ℕ} 0 1 = cc in omega arith
 
-moved-not : {z : Answer} (v : Move) → z ≡ answer.Moved v → z ≡ answer.Passed → ⊥
+moved-not : {z : PickAnswer} (v : Move) → z ≡ answer.Moved v → z ≡ answer.Passed → ⊥
 moved-not v e h = let z : _≡_ {A = ℕ} 0 1 = cc in omega arith
 
 module _ (ws rs : List ℕ) (setting : Setting) where

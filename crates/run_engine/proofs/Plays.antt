@@ -19,7 +19,7 @@ use Rattle.run_tally.specs.Tally.{shownEntry, tallyFirst, tallyPut, tallyMoved,
 use Rattle.run_pick.proofs.Reached as reached-type
 use Rattle.run_pick.specs.declared.Reached.{Reached}
 use Rattle.run_pick.specs.declared.Reached.the-variants as reached
-use Rattle.run_pick.specs.Answer.{Move, Answer, Answer as answer}
+use Rattle.run_pick.specs.Answer.{Move, PickAnswer, PickAnswer as answer}
 use Rattle.run_pick.specs.Pick.{noHead, Picked}
 use Rattle.run_queue.specs.Queue.{afterOf}
 use Rattle.run_engine.specs.Machine.{Machine, Played, headAt, cellNumber, headOf, cellFirst, noObject, endOf, stopped, withForked, stayed, after, pickedBy}
@@ -64,12 +64,12 @@ module _ (ws rs : List ℕ) (setting : Setting) where
 
     -- the pick of one that is, by its answer
     module _ (x : Picked) (here : p % 8 < m .tally .counts .threads) (came : x ≡ pickedBy ws rs setting m (p % 8)) where
-      abbrev rest : Answer → Played
+      abbrev rest : PickAnswer → Played
       rest z =
           onAnswer z (playOf ws rs setting (stayed m (x .stack)) ps (i + 1)) (λ v. playOf ws rs setting (after m (p % 8) v (x .stack)) ps (i + 1))
           (λ e y. stopped setting m (p % 8) y e i)
 
-      goes : (z : Answer) → x .answer ≡ z → rest z ≡ playOf ws rs setting m (p ∷ ps) i
+      goes : (z : PickAnswer) → x .answer ≡ z → rest z ≡ playOf ws rs setting m (p ∷ ps) i
       unfolding playOf turnBy
       goes z e = rw (lt-leb _ _ here, ← came, e)
 

@@ -24,7 +24,7 @@ use Rattle.run_state.specs.declared.Entry.{Entry}
 use Rattle.run_state.specs.Acted.{cellOf}
 use Rattle.run_look.specs.Look.{objectOf, fieldOf, lookOf, stateOf}
 use Rattle.run_pick.specs.declared.Met.{Met}
-use Rattle.run_pick.specs.Answer.{Move, Answer, Answer as answer}
+use Rattle.run_pick.specs.Answer.{Move, PickAnswer, PickAnswer as answer}
 use Rattle.run_pick.specs.Pick.{noHead, Picked, picked, pickOf}
 use Rattle.run_queue.specs.Queue.{afterOf}
 use Rattle.run_open_threads.specs.Open.{absent}
@@ -141,7 +141,7 @@ pickedBy ws rs g m p = pickOf ws rs g (metBy (m .tally .counts) (m .heads) (m .c
 unfoldable pub turnBy : List ℕ → List ℕ → Setting → Machine → ℕ → Picked
 turnBy ws rs g m p = cond (leb (m .tally .counts .threads) p) (picked (m .stack) answer.Passed) (pickedBy ws rs g m p)
 
-abbrev pub onAnswer : Answer → Played → (Move → Played) → (Stop → Entry → Played) → Played
+abbrev pub onAnswer : PickAnswer → Played → (Move → Played) → (Stop → Entry → Played) → Played
 onAnswer answer.Passed pass move halt = pass
 onAnswer (answer.Moved v) pass move halt = move v
 onAnswer (answer.Stopped e x) pass move halt = halt e x

@@ -10,7 +10,7 @@ use Rattle.run_outcome.specs.declared.NoRoom.the-variants as room
 use Rattle.run_state.specs.declared.Head.{Head}
 use Rattle.run_state.specs.declared.acted.Acted.{Acted}
 use Rattle.run_pick.specs.declared.Met.{Met}
-use Rattle.run_pick.specs.Answer.{Answer, Answer as answer}
+use Rattle.run_pick.specs.Answer.{PickAnswer, PickAnswer as answer}
 use Rattle.run_pick.specs.Pick.{picked, noRoom, noHead, fullOf, forksOf, forkedOf, moveOf, refocusForked, forkedWay, startBy, refocusBy}
 
 module _ (x : Met) (a : Acted) (ws rs : List ℕ) (m : Ended) where
@@ -35,7 +35,7 @@ module _ (x : Met) (a : Acted) (ws rs : List ℕ) (m : Ended) where
   unfolding refocusBy
   by-mover d f = rw (d, f)
 
-  module _ (b : Refocused) (z : Answer) {e : Ends} (q : e ≡ afterOf ws rs (forksOf (x .head)) (forkedWay (x .counts) (x .head)) b m) where
+  module _ (b : Refocused) (z : PickAnswer) {e : Ends} (q : e ≡ afterOf ws rs (forksOf (x .head)) (forkedWay (x .counts) (x .head)) b m) where
     lasts : {e′ : Ends} → e ≡ e′ → {c : Bool} → fullOf (e .refocusings .last) ≡ c → fullOf (e′ .refocusings .last) ≡ c
     lasts s h = ap (λ (e : Ends). fullOf (e .refocusings .last)) (sym s) ∙ h
 

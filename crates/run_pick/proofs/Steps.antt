@@ -27,7 +27,7 @@ use Rattle.run_pick.specs.declared.Met.{Met}
 use Rattle.run_pick.specs.declared.Begun.{Begun}
 use Rattle.run_pick.specs.declared.Begun.the-variants as begun
 use Rattle.run_pick.specs.declared.Reached.the-variants as reached
-use Rattle.run_pick.specs.Answer.{Move, Answer, Answer as answer}
+use Rattle.run_pick.specs.Answer.{Move, PickAnswer, PickAnswer as answer}
 use Rattle.run_pick.specs.Pick.{Picked, picked, noRoom, noHead, fullOf, forksOf, forkedOf, moveOf, refocusMover, refocusBy, makeBy, actMet, pickBy, lookMet, pickOf}
 use Rattle.run_pick.specs.Pick.{begunBy, beginBy, beginOf, Came, refocusingsFrom, reachedAt, reachOf}
 use Rattle.run_pick.proofs.Answers.{refocus-full, refocus-forked, refocus-moved}

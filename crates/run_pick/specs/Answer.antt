@@ -18,7 +18,7 @@ pub record Move : Type 0 where
   pub forks : Bool
 
 -- a pick is passed over, moves its thread, or stops the run with a last record
-pub data Answer : Type 0 where
-  Passed : Answer
-  Moved : Move → Answer
-  Stopped : Stop → Entry → Answer
+pub data PickAnswer : Type 0 where
+  Passed : PickAnswer
+  Moved : Move → PickAnswer
+  Stopped : Stop → Entry → PickAnswer

@@ -33,19 +33,19 @@ use Rattle.run_pick.specs.declared.Begun.{Begun}
 use Rattle.run_pick.specs.declared.Begun.the-variants as begun
 use Rattle.run_pick.specs.declared.Reached.{Reached}
 use Rattle.run_pick.specs.declared.Reached.the-variants as reached
-use Rattle.run_pick.specs.Answer.{Move, Answer, Answer as answer}
+use Rattle.run_pick.specs.Answer.{Move, PickAnswer, PickAnswer as answer}
 
 -- a pick's answer, with the frames that it leaves
 pub record Picked : Type 0 where
   pub stack : Stack
-  pub answer : Answer
+  pub answer : PickAnswer
 
-abbrev pub picked : Stack → Answer → Picked
+abbrev pub picked : Stack → PickAnswer → Picked
 picked k z = record { stack = k; answer = z }
 
 -- ---- the parts of an answer
 
-abbrev pub noRoom : NoRoom → Answer
+abbrev pub noRoom : NoRoom → PickAnswer
 noRoom r = answer.Stopped (stop.NoRoom r) noEntry
 
 -- the record of an access that lacks its key, by its redex p

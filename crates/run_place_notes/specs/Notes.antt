@@ -6,8 +6,8 @@ use mathlib.Core.List.{List}
 use lib.ListN.{length, getD, take, drop}
 use Rattle.run_outcome.specs.declared.Thread.{Thread}
 use Rattle.run_open_threads.specs.Open.{openAt, LowestFrom}
-use Rattle.run_place_notes.specs.declared.Turn.{Turn}
-use Rattle.run_place_notes.specs.declared.Turn.the-variants as turn
+use Rattle.run_place_notes.specs.declared.Departure.{Departure}
+use Rattle.run_place_notes.specs.declared.Departure.the-variants as turn
 
 -- ---- one note
 
@@ -42,6 +42,6 @@ pub record LastAt (notes : List ℕ) (count place pick : ℕ) : Type 0 where
   pub last : (i : ℕ) → place < i → i < count → 8 ≤ getD notes i 0 % 16
 
 -- that, or none has
-abbrev pub LastTurn : List ℕ → ℕ → Turn → Type 0
-LastTurn notes count (turn.At place pick) = LastAt notes count place pick
-LastTurn notes count turn.Over = (i : ℕ) → i < count → 8 ≤ getD notes i 0 % 16
+abbrev pub LastDeparture : List ℕ → ℕ → Departure → Type 0
+LastDeparture notes count (turn.At place pick) = LastAt notes count place pick
+LastDeparture notes count turn.Over = (i : ℕ) → i < count → 8 ≤ getD notes i 0 % 16

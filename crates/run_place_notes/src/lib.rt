@@ -1,11 +1,11 @@
 // Notes, a byte to each place of a run: 16 times the lowest thread that can be picked there, and the lowest above the pick, or 8.
 ghost use Prim.Native.Nat.{_≤_};
 ghost use lib.ListN.{length};
-ghost use Rattle.run_place_notes.specs.Notes.{NoteOf, Puts, PutNoted, LastTurn};
+ghost use Rattle.run_place_notes.specs.Notes.{NoteOf, Puts, PutNoted, LastDeparture};
 use run_outcome::Thread;
 
 // Where the following schedule leaves a given one, and its pick there.
-pub enum Turn {
+pub enum Departure {
     At { place: usize, pick: usize },
     Over,
 }
@@ -20,19 +20,19 @@ pub fn note(threads: [Thread; 8], lowest: usize, pick: usize) -> u8
 }
 
 // The last of the first notes that has a higher thread, and that thread.
-pub fn last_turn(notes: &[u8], count: usize) -> Turn
+pub fn last_departure(notes: &[u8], count: usize) -> Departure
     requires { ⌜ count ≤ length (now notes) ⌝ }
-    ensures { λ r. ⌜ LastTurn (now (notes .entry)) count r ⌝ }
+    ensures { λ r. ⌜ LastDeparture (now (notes .entry)) count r ⌝ }
 {
     let mut place = count;
     while place > 0 {
         place -= 1;
         let pick = byte_numbers::wide(notes[place]) % 16;
         if pick < 8 {
-            return Turn::At { place, pick };
+            return Departure::At { place, pick };
         }
     }
-    Turn::Over
+    Departure::Over
 }
 
 // The picks that are noted from `from` on, up to `made`, into the area.

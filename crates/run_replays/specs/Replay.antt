@@ -33,7 +33,7 @@ stopCount stop.Race = 1
 stopCount (stop.NoRoom k) = 1
 
 -- a plan, picks, and room for a note to each and more, few enough for a bound
-pub record Explorable (plan words picks notes : List ℕ) : Type 0 where
+pub record Replayable (plan words picks notes : List ℕ) : Type 0 where
   pub accepted : Accepted plan words
   pub of-eight : OfEight picks
   pub room : length picks ≤ length notes

@@ -2,7 +2,7 @@
 // (document 02, E11).
 ghost use mathlib.Core.Path.{_≡_};
 ghost use Rattle.plan_packed.specs.Trees.{programOf};
-ghost use Rattle.run_replays.specs.Replay.{Explorable, Explores, stopCount};
+ghost use Rattle.run_replays.specs.Replay.{Replayable, Explores, stopCount};
 ghost use Rattle.run_replays.specs.Told.{Listable, ListedBy};
 use run_engine::Explored;
 use run_outcome::Stop;
@@ -20,7 +20,7 @@ fn stop_count(stop: Stop) -> usize
 
 // The run of some picks, and on behind them by the lowest thread that can be picked, of as many places as there are notes; on a log that nobody else sees.
 pub fn explore(plan: &[u8], words: &[usize; 1024], picks: &[u8], notes: &mut [u8]) -> Explored
-    requires { ⌜ Explorable (now plan) (now words) (now picks) (now notes) ⌝ }
+    requires { ⌜ Replayable (now plan) (now words) (now picks) (now notes) ⌝ }
     ensures { λ r. ⌜ Explores (now (plan .entry)) (now (picks .entry)) (now (notes .entry)) (now (notes .exit)) r ⌝ }
 {
     let mut log = [0u8; 192];

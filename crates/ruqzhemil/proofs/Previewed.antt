@@ -10,7 +10,7 @@ use Rattle.plan_packed.specs.Trees.{programOf}
 use Rattle.plan_packed.proofs.Decoded.{well-formed}
 use Rattle.rules.specs.State.{State, start}
 use Rattle.rules.specs.Step.{attempt}
-use Rattle.rules.specs.Room.{AnswerOf, Answer, step}
+use Rattle.rules.specs.Room.{PickAnswerOf, PickAnswer, step}
 use Rattle.rules.specs.Run.{Stop, status, run, play}
 use Rattle.rules.specs.Play.{scheduleRefusal, runOf}
 use Rattle.rules.proofs.Invariant.{Inv}
@@ -23,12 +23,12 @@ use Rattle.ruqzhemil.proofs.Refusals.{small-schedule}
 use Rattle.ruqzhemil.proofs.Statuses.{small-thread}
 
 module _ (g : Program) (s : State) (I : Inv g s) (z : Roomy s) (p : ℕ) where
-  small-by : (a : Answer) → SmallPreview (shownBy (status (attempt g s p)) a)
+  small-by : (a : PickAnswer) → SmallPreview (shownBy (status (attempt g s p)) a)
   unfolding shownBy
-  small-by AnswerOf.passed = small-thread g s I z p
-  small-by (AnswerOf.moved m) = tt
-  small-by (AnswerOf.race r) = tt
-  small-by (AnswerOf.noRoom k) = tt
+  small-by PickAnswerOf.passed = small-thread g s I z p
+  small-by (PickAnswerOf.moved m) = tt
+  small-by (PickAnswerOf.race r) = tt
+  small-by (PickAnswerOf.noRoom k) = tt
 
   small-at : (e : Stop) → SmallPreview (shownAt g s p e)
   unfolding shownAt shown

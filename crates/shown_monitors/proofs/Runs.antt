@@ -21,7 +21,7 @@ use Rattle.plan_packed.proofs.Decoded.{well-formed}
 use Rattle.log_records.specs.Record.{Record}
 use Rattle.log_order.proofs.KeySets.{KeySet}
 use Rattle.rules.specs.State.{Cell, cell, State, start, monitor}
-use Rattle.rules.specs.Room.{AnswerOf, Answer, step}
+use Rattle.rules.specs.Room.{PickAnswerOf, PickAnswer, step}
 use Rattle.rules.specs.Run.{Stop, Run, logged, stopped, afterPass, afterMove, resume, run, play}
 use Rattle.rules.specs.Play.{runOf}
 use Rattle.rules.proofs.KeyBridge.{keysOf}
@@ -106,13 +106,13 @@ module _ (g : Program) where
       After : ℕ → Type 0
       After n = (k : ℕ) × (length (run g s (take k (p ∷ ps)) .log) ≡ n)
 
-      go : (n : ℕ) (a : Answer) → step g s p ≡ a → n ≤ length (resume s (λ z. run g z ps) a .log)
+      go : (n : ℕ) (a : PickAnswer) → step g s p ≡ a → n ≤ length (resume s (λ z. run g z ps) a .log)
           → ((z : State) (m : ℕ) → m ≤ length (run g z ps .log) → (k : ℕ) × (length (run g z (take k ps) .log) ≡ m)) → After n
       go zero a e l ih = (0, refl)
-      go (suc n) AnswerOf.passed e l ih = let x = ih s (suc n) l in (suc (x .0), rw e (x .1))
-      go (suc n) (AnswerOf.race r) e l ih = (1, rw e (let z : 1 ≡ suc n = omega arith in z))
-      go (suc n) (AnswerOf.noRoom w) e l ih = absurd (omega arith)
-      go (suc n) (AnswerOf.moved m) e l ih = moved (m .entry) refl l
+      go (suc n) PickAnswerOf.passed e l ih = let x = ih s (suc n) l in (suc (x .0), rw e (x .1))
+      go (suc n) (PickAnswerOf.race r) e l ih = (1, rw e (let z : 1 ≡ suc n = omega arith in z))
+      go (suc n) (PickAnswerOf.noRoom w) e l ih = absurd (omega arith)
+      go (suc n) (PickAnswerOf.moved m) e l ih = moved (m .entry) refl l
         where
           one-more : (r : Record) → m .entry ≡ some r → (k : ℕ) × (length (run g (m .state) (take k ps) .log) ≡ n) → After (suc n)
           one-more r q (k, x) = (suc k, rw (e, q) (ap suc x))

@@ -17,7 +17,7 @@ use Rattle.rules.specs.Context.{Context, Redex, plug}
 use Rattle.rules.specs.State.{Cell, cell, Thread, State, start, lookup, changeAt, gain, learn, become, store, useKey}
 use Rattle.rules.specs.Rules.{Rule}
 use Rattle.rules.specs.Step.{Move, act, readAct, writeAct, around, AttemptOf, attemptAt, attemptBy, attempt}
-use Rattle.rules.specs.Room.{Room, noRoomFor, AnswerOf, answer, step, withinRoom}
+use Rattle.rules.specs.Room.{Room, noRoomFor, PickAnswerOf, answer, step, withinRoom}
 use Rattle.rules.specs.Run.{Stop, Run, run, resume, afterMove, afterPass, stopped, play}
 use Rattle.rules.proofs.RunAppend.{run-append}
 use Rattle.rules.proofs.StateLaws.{change-other, store-same}
@@ -80,8 +80,8 @@ module _ (g : Program) (s : State) (I : Reachable g s) (p q : ℕ) (C : Conflict
   second-act y (writes {v}) = (entry Kind.lacksWrite q o f v, rw (cell-now, C .plain, lacks-it))
 
   pub conflicts : HasRoom g s p
-      → ((r : Record) × (step g s p ≡ AnswerOf.race r))
-      ⊎ ((m : Move) × (r : Record) × (step g s p ≡ AnswerOf.moved m) × (step g (m .state) q ≡ AnswerOf.race r))
+      → ((r : Record) × (step g s p ≡ PickAnswerOf.race r))
+      ⊎ ((m : Move) × (r : Record) × (step g s p ≡ PickAnswerOf.moved m) × (step g (m .state) q ≡ PickAnswerOf.race r))
   unfolding act writeAct around step answer withinRoom about-still
   conflicts room = go (subset (C .cell .keys) (t .keys)) refl
     where
@@ -92,13 +92,13 @@ module _ (g : Program) (s : State) (I : Reachable g s) (p q : ℕ) (C : Conflict
       M = record { rule = Rule.e-write; entry = some (entry Kind.write p o f (C .value)); state = s₁ }
 
       within : (k : Option Room) → noRoomFor Rule.e-write s p s₁ ≡ k
-          → answer s p (AttemptOf.moves M) ≡ AnswerOf.moved M ⊎ ((k : Room) × (answer s p (AttemptOf.moves M) ≡ AnswerOf.noRoom k))
+          → answer s p (AttemptOf.moves M) ≡ PickAnswerOf.moved M ⊎ ((k : Room) × (answer s p (AttemptOf.moves M) ≡ PickAnswerOf.noRoom k))
       within none e = inl (rw e)
       within (some k) e = inr (k, rw e)
 
       go : (b : Bool) → subset (C .cell .keys) (t .keys) ≡ b
-          → ((r : Record) × (step g s p ≡ AnswerOf.race r)) ⊎
-          ((m : Move) × (r : Record) × (step g s p ≡ AnswerOf.moved m) × (step g (m .state) q ≡ AnswerOf.race r))
+          → ((r : Record) × (step g s p ≡ PickAnswerOf.race r)) ⊎
+          ((m : Move) × (r : Record) × (step g s p ≡ PickAnswerOf.moved m) × (step g (m .state) q ≡ PickAnswerOf.race r))
       go false w =
           let lacking : attempt g s p ≡ AttemptOf.lacking (entry Kind.lacksWrite p o f (C .value)) = first ∙ rw (C .field-there, C .plain, w) in
           inl (entry Kind.lacksWrite p o f (C .value), ap (answer s p) lacking)
@@ -110,8 +110,8 @@ module _ (g : Program) (s : State) (I : Reachable g s) (p q : ℕ) (C : Conflict
           l : (r : Record) × (around s₁ q (C .about-access .around) (act g s₁ q u (C .part)) ≡ AttemptOf.lacking r)
           l = second-act (C .part) (C .accesses)
 
-          finish : (answer s p (AttemptOf.moves M) ≡ AnswerOf.moved M) ⊎ ((k : Room) × (answer s p (AttemptOf.moves M) ≡ AnswerOf.noRoom k))
-              → (m : Move) × (r : Record) × (step g s p ≡ AnswerOf.moved m) × (step g (m .state) q ≡ AnswerOf.race r)
+          finish : (answer s p (AttemptOf.moves M) ≡ PickAnswerOf.moved M) ⊎ ((k : Room) × (answer s p (AttemptOf.moves M) ≡ PickAnswerOf.noRoom k))
+              → (m : Move) × (r : Record) × (step g s p ≡ PickAnswerOf.moved m) × (step g (m .state) q ≡ PickAnswerOf.race r)
           finish (inl e) = (M, l .0, ap (answer s p) moved ∙ e, ap (answer s₁ q) (attempt-at g s₁ q (C .part) about-still ∙ l .1))
           finish (inr (k, e)) = absurd (room k (ap (answer s p) moved ∙ e))
 
@@ -120,8 +120,8 @@ module _ (g : Program) (s : State) (I : Reachable g s) (p q : ℕ) (C : Conflict
   unfolding run resume stopped afterMove
   two-picks room = go (conflicts room)
     where
-      go : ((r : Record) × (step g s p ≡ AnswerOf.race r))
-          ⊎ ((m : Move) × (r : Record) × (step g s p ≡ AnswerOf.moved m) × (step g (m .state) q ≡ AnswerOf.race r))
+      go : ((r : Record) × (step g s p ≡ PickAnswerOf.race r))
+          ⊎ ((m : Move) × (r : Record) × (step g s p ≡ PickAnswerOf.moved m) × (step g (m .state) q ≡ PickAnswerOf.race r))
           → run g s (p ∷ q ∷ []) .stop ≡ Stop.race
       go (inl (r, e)) = rw e
       go (inr (m, r, e, e′)) = rw (e, e′)

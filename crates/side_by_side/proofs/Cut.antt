@@ -26,7 +26,7 @@ use Rattle.rules.specs.Rules.{Rule, isVolatile, Converts, E-CALL, E-LET, E-IF, 
 use Rattle.rules.specs.Rules.{E-ACQUIRE, E-RELEASE, E-WAIT, E-WAKE, E-NOTIFY, E-NOTIFYALL, Convertsᶜ, E-NOTNOTTRUE, E-ANDTRUE, E-ANDFALSE, E-EQUALTRUE}
 use Rattle.rules.specs.Rules.{E-EQUALFALSE, Moves, EVAL, EVALᶜ}
 use Rattle.rules.specs.Step.{Move}
-use Rattle.rules.specs.Room.{noRoomFor, AnswerOf, Answer, step}
+use Rattle.rules.specs.Room.{noRoomFor, PickAnswerOf, PickAnswer, step}
 use Rattle.rules.specs.Run.{Stop, run, resume, logged}
 use Rattle.rules.proofs.Relocated.{is-there, signalled-relocated}
 use Rattle.rules.proofs.StateLaws.{inside, added-old, change-other}
@@ -94,7 +94,7 @@ trail-kept g P (move {s} {H = H} tr p mv l) = let d = trail-kept g P tr in (reac
 
 -- ---- lists of picks that all move
 
-snoc : {g : Program} {s s′ : State} {qs : List ℕ} → Plays g s qs s′ → (q : ℕ) (m : Move) → step g s′ q ≡ AnswerOf.moved m
+snoc : {g : Program} {s s′ : State} {qs : List ℕ} → Plays g s qs s′ → (q : ℕ) (m : Move) → step g s′ q ≡ PickAnswerOf.moved m
     → Plays g s (qs ++ (q ∷ [])) (m .state)
 snoc done q m h = pick m h done
 snoc (pick m′ h′ ps) q m h = pick m′ h′ (snoc ps q m h)
@@ -106,7 +106,7 @@ unfolding run
 plays-run done = (refl, refl, refl)
 plays-run {g} {s} {s′} (pick {q = q} {qs = qs} m h ps) =
     let d = plays-run ps in
-    along (λ (a : Answer). (resume s (λ z. run g z qs) a .stop ≡ Stop.end) × (resume s (λ z. run g z qs) a .final ≡ s′) ×
+    along (λ (a : PickAnswer). (resume s (λ z. run g z qs) a .stop ≡ Stop.end) × (resume s (λ z. run g z qs) a .final ≡ s′) ×
     (length (resume s (λ z. run g z qs) a .instances) ≡ suc (length qs))) (sym h) (d .0, d .1, ap suc (d .2))
 
 -- ---- the start

@@ -25,7 +25,7 @@ use Rattle.rules.specs.State.{Cell, cell, Thread, State, start, lookup}
 use Rattle.rules.specs.Rules.{Rule, isVolatile, E-CALL, E-LET, E-IF, E-WHILE, E-NEW, E-READ, E-WRITE, E-READV, E-WRITEV, E-FORK, E-JOIN, E-RE-ENTER}
 use Rattle.rules.specs.Rules.{E-ACQUIRE, E-RELEASE, E-WAIT, E-WAKE, E-NOTIFY, E-NOTIFYALL, Moves, EVAL, EVALᶜ, LACKS-READ, LACKS-WRITE, Lacks, LACKS}
 use Rattle.rules.specs.Step.{around, AttemptOf, Attempt, attempt}
-use Rattle.rules.specs.Room.{Room, noRoomFor, AnswerOf, Answer, answer, step, withinRoom}
+use Rattle.rules.specs.Room.{Room, noRoomFor, PickAnswerOf, PickAnswer, answer, step, withinRoom}
 use Rattle.rules.specs.Run.{Stop, run, resume, afterMove, stopped, play, afterPass}
 use Rattle.rules.proofs.StateLaws.{inside}
 use Rattle.rules.proofs.Equivalence.{step-sound, sound-lacks}
@@ -206,7 +206,7 @@ pub record Raced (g : Program) (s : State) (H : List Record) (ps : List ℕ) : T
   pub are-moves : reverseAux (movesFrom g s ps) H ≡ access ∷ moves
   pub few : length moves < length H + length ps
 
-answer-race : (s : State) (p : ℕ) (a : Attempt) (r : Record) → answer s p a ≡ AnswerOf.race r → a ≡ AttemptOf.lacking r
+answer-race : (s : State) (p : ℕ) (a : Attempt) (r : Record) → answer s p a ≡ PickAnswerOf.race r → a ≡ AttemptOf.lacking r
 unfolding answer withinRoom
 answer-race s p AttemptOf.absent r h = absurd (true≢false cc)
 answer-race s p (AttemptOf.finished v) r h = absurd (true≢false cc)
@@ -215,12 +215,12 @@ answer-race s p (AttemptOf.stuck w) r h = absurd (true≢false cc)
 answer-race s p (AttemptOf.lacking w) r h = cc
 answer-race s p (AttemptOf.moves m) r h = go (noRoomFor (m .rule) s p (m .state)) h
   where
-    go : (k : Option Room) → withinRoom m k ≡ AnswerOf.race r → AttemptOf.moves m ≡ AttemptOf.lacking r
+    go : (k : Option Room) → withinRoom m k ≡ PickAnswerOf.race r → AttemptOf.moves m ≡ AttemptOf.lacking r
     go none h = absurd (true≢false cc)
     go (some k) h = absurd (true≢false cc)
 
 module _ (g : Program) (P : WellFormedProgram g) where
-  pub step-lacks : (s : State) → Reachable g s → (p : ℕ) (r : Record) → step g s p ≡ AnswerOf.race r → Lacks g s p r
+  pub step-lacks : (s : State) → Reachable g s → (p : ℕ) (r : Record) → step g s p ≡ PickAnswerOf.race r → Lacks g s p r
   unfolding step
   step-lacks s I p r h = sound-lacks g s (I .one-key) p r (answer-race s p (attempt g s p) r h)
 
@@ -232,13 +232,13 @@ module _ (g : Program) (P : WellFormedProgram g) where
       I : Reachable g s
       I = trail-kept g P tr .0
 
-      move-list : (s″ : State) (M : List Record) (a : Answer) → step g s p ≡ a
+      move-list : (s″ : State) (M : List Record) (a : PickAnswer) → step g s p ≡ a
           → reverseAux (movesBy s (λ s′. movesFrom g s′ ps) p a) H ≡ reverseAux (movesBy s (λ s′. movesFrom g s′ ps) p (step g s p)) H
-      move-list s″ M a e = ap (λ (b : Answer). reverseAux (movesBy s (λ s′. movesFrom g s′ ps) p b) H) (sym e)
+      move-list s″ M a e = ap (λ (b : PickAnswer). reverseAux (movesBy s (λ s′. movesFrom g s′ ps) p b) H) (sym e)
 
-      go : (a : Answer) → step g s p ≡ a → resume s (λ z. run g z ps) a .stop ≡ Stop.race
+      go : (a : PickAnswer) → step g s p ≡ a → resume s (λ z. run g z ps) a .stop ≡ Stop.race
           → ((s′ : State) (H′ : List Record) → Trail g s′ H′ → run g s′ ps .stop ≡ Stop.race → Raced g s′ H′ ps) → Raced g s H (p ∷ ps)
-      go AnswerOf.passed e h k = let x =
+      go PickAnswerOf.passed e h k = let x =
           k s H tr h in record {
             state = x .state;
             moves = x .moves;
@@ -247,10 +247,10 @@ module _ (g : Program) (P : WellFormedProgram g) where
             access = x .access;
             lacking =
                 x .lacking;
-            are-moves = sym (move-list (x .state) (x .moves) AnswerOf.passed e) ∙ x .are-moves;
+            are-moves = sym (move-list (x .state) (x .moves) PickAnswerOf.passed e) ∙ x .are-moves;
             few = let b = x .few in omega arith;
           }
-      go (AnswerOf.race r) e h k =
+      go (PickAnswerOf.race r) e h k =
           record {
             state = s;
             moves = H;
@@ -259,11 +259,11 @@ module _ (g : Program) (P : WellFormedProgram g) where
             access = r;
             lacking = step-lacks s I p r e;
             are-moves =
-                sym (move-list s H (AnswerOf.race r) e);
+                sym (move-list s H (PickAnswerOf.race r) e);
             few = omega arith;
           }
-      go (AnswerOf.noRoom w) e h k = absurd (true≢false cc)
-      go (AnswerOf.moved m) e h k =
+      go (PickAnswerOf.noRoom w) e h k = absurd (true≢false cc)
+      go (PickAnswerOf.moved m) e h k =
           let y = step-sound g s (I .one-key) p m e in
           let x = k (m .state) (shown p (m .entry) ∷ H) (move tr p (y .0) (y .1)) h in
           record {
@@ -274,7 +274,7 @@ module _ (g : Program) (P : WellFormedProgram g) where
             access = x .access;
             lacking = x .lacking;
             are-moves =
-                sym (move-list (x .state) (x .moves) (AnswerOf.moved m) e) ∙ x .are-moves;
+                sym (move-list (x .state) (x .moves) (PickAnswerOf.moved m) e) ∙ x .are-moves;
             few = let b = x .few in omega arith;
           }
 

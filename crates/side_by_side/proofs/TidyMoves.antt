@@ -12,7 +12,7 @@ use Rattle.log_records.proofs.Tidy.{Tidy, AllTidy}
 use Rattle.rules.specs.State.{Thread, State, start}
 use Rattle.rules.specs.Rules.{Rule, Moves}
 use Rattle.rules.specs.Step.{Move}
-use Rattle.rules.specs.Room.{noRoomFor, AnswerOf, Answer, step}
+use Rattle.rules.specs.Room.{noRoomFor, PickAnswerOf, PickAnswer, step}
 use Rattle.rules.proofs.StateLaws.{inside}
 use Rattle.rules.proofs.Equivalence.{step-sound}
 use Rattle.rules.proofs.Executed.{Reachable, reachable-start, reachable-move}
@@ -41,12 +41,12 @@ module _ (g : Program) (P : WellFormedProgram g) where
   tidy-from [] s I z = (tt, omega arith)
   tidy-from (p ∷ ps) s I z = go (step g s p) refl (λ s′ I′ z′. tidy-from ps s′ I′ z′)
     where
-      go : (a : Answer) → step g s p ≡ a → ((s′ : State) → Reachable g s′ → Roomy s′ → TidyMoves ps (movesFrom g s′ ps))
+      go : (a : PickAnswer) → step g s p ≡ a → ((s′ : State) → Reachable g s′ → Roomy s′ → TidyMoves ps (movesFrom g s′ ps))
           → TidyMoves (p ∷ ps) (movesBy s (λ s′. movesFrom g s′ ps) p a)
-      go AnswerOf.passed e ih = let d = ih s I z in let b = d .1 in (d .0, omega arith)
-      go (AnswerOf.race r) e ih = ((tidy-lacking g s (I .invariant) z p (step-lacks g P s I p r e), tt), omega arith)
-      go (AnswerOf.noRoom k) e ih = (tt, omega arith)
-      go (AnswerOf.moved m) e ih =
+      go PickAnswerOf.passed e ih = let d = ih s I z in let b = d .1 in (d .0, omega arith)
+      go (PickAnswerOf.race r) e ih = ((tidy-lacking g s (I .invariant) z p (step-lacks g P s I p r e), tt), omega arith)
+      go (PickAnswerOf.noRoom k) e ih = (tt, omega arith)
+      go (PickAnswerOf.moved m) e ih =
           let y = step-sound g s (I .one-key) p m e in
           let d = ih (m .state) (reachable-move g P s p I (y .0)) (tidy-move g s (I .invariant) z p (y .0) (y .1) .0) in
           let b = d .1 in

@@ -8,7 +8,7 @@ use Rattle.log_records.specs.Record.{Record}
 use Rattle.rules.specs.State.{State, start}
 use Rattle.rules.specs.Rules.{Rule, Moves}
 use Rattle.rules.specs.Step.{Move}
-use Rattle.rules.specs.Room.{noRoomFor, AnswerOf, step}
+use Rattle.rules.specs.Room.{noRoomFor, PickAnswerOf, step}
 use Rattle.side_by_side.specs.Moves.{shown}
 
 pub data Trail (g : Program) : State → List Record → Type 0 where
@@ -24,4 +24,4 @@ pub data Later (g : Program) (s₀ : State) (H₀ : List Record) : State → Lis
 
 pub data Plays (g : Program) : State → List ℕ → State → Type 0 where
   done : {s : State} → Plays g s [] s
-  pick : {s s′ : State} {q : ℕ} {qs : List ℕ} (m : Move) → step g s q ≡ AnswerOf.moved m → Plays g (m .state) qs s′ → Plays g s (q ∷ qs) s′
+  pick : {s s′ : State} {q : ℕ} {qs : List ℕ} (m : Move) → step g s q ≡ PickAnswerOf.moved m → Plays g (m .state) qs s′ → Plays g s (q ∷ qs) s′

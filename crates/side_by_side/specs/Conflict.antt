@@ -8,7 +8,7 @@ use Rattle.plan_packed.specs.Syntax.{Program}
 use Rattle.rules.specs.Context.{Redex}
 use Rattle.rules.specs.State.{Cell, State, lookup}
 use Rattle.rules.specs.Rules.{isVolatile}
-use Rattle.rules.specs.Room.{Room, AnswerOf, step}
+use Rattle.rules.specs.Room.{Room, PickAnswerOf, step}
 use Rattle.side_by_side.specs.SideBySide.{About}
 
 -- the part is an access to field f of object o
@@ -32,4 +32,4 @@ pub record Conflict (g : Program) (s : State) (p q : ℕ) : Type 0 where
 
 -- "the write would not stop for room"
 abbrev pub HasRoom : Program → State → ℕ → Type 0
-HasRoom g s p = (k : Room) → step g s p ≡ AnswerOf.noRoom k → ⊥
+HasRoom g s p = (k : Room) → step g s p ≡ PickAnswerOf.noRoom k → ⊥

@@ -9,15 +9,15 @@ use Rattle.plan_packed.specs.Syntax.{Program}
 use Rattle.plan_packed.specs.Trees.{programOf}
 use Rattle.text.specs.Wrote.{Wrote}
 use Rattle.text.proofs.Added.{added-more}
-use Rattle.run_place_notes.specs.Notes.{LastTurn}
+use Rattle.run_place_notes.specs.Notes.{LastDeparture}
 use Rattle.interleavings.specs.Steps.{TurnsAt}
 use Rattle.interleavings.proofs.GoingBack.{none-higher-at, turns-at, over}
 use Rattle.interleavings.proofs.Answers.{turn-fits, begins, followed}
 use Rattle.interleavings.proofs.following.Statement.{statement}
 use Rattle.interleavings.proofs.following.Tie as tie
 
-last-turn-requires : tie.Need-last-turn-requires
-last-turn-requires c κs = search needs
+last-departure-requires : tie.Need-last-departure-requires
+last-departure-requires c κs = search needs
 
 enum-told : tie.Need-enum-told
 enum-told c = search needs
@@ -42,8 +42,8 @@ module _ (c : tie.After-known-told) where
   turns : TurnsAt g (began .args .schedule .now) place pick
   turns =
       turns-at g (began .args .schedule .now) (began .args .notes .now) (began .pre .noted) place pick
-      (along (LastTurn (began .args .notes .now) (length (began .args .schedule .now))) (c .before .turn .given .1)
-      (c .before .before .before .last-turn .ensures))
+      (along (LastDeparture (began .args .notes .now) (length (began .args .schedule .now))) (c .before .turn .given .1)
+      (c .before .before .before .last-departure .ensures))
 
   room : length (take (place - 0) (began .args .schedule .now)) + 1 ≤ length (began .args .area .now)
   room = let s = began in turn-fits g (s .args .n) (s .args .schedule .now) (s .pre .listed) (s .args .area .now) (s .pre .long) place pick turns
@@ -93,7 +93,7 @@ returns : tie.Need-returns
 returns c =
     let s = c .before .before .before .before .before .before .before in
     let g = programOf (s .args .plan .now) in
-    let t = along (LastTurn (s .args .notes .now) (length (s .args .schedule .now))) (c .enum-told .given .1) (c .before .before .last-turn .ensures) in (
+    let t = along (LastDeparture (s .args .notes .now) (length (s .args .schedule .now))) (c .enum-told .given .1) (c .before .before .last-departure .ensures) in (
       over g (s .args .n) (s .args .schedule .now) (s .pre .listed)
           (λ i h. none-higher-at g (s .args .schedule .now) (s .args .notes .now) (s .pre .noted) i h (t i h)),
       refl,
@@ -114,7 +114,7 @@ pub following-spec : {M : Type 1} → statement M
 following-spec =
     tie.close
     (tie.spec
-    last-turn-requires
+    last-departure-requires
     enum-told
     enum-known-turn
     sub-put-word

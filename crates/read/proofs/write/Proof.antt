@@ -3,7 +3,7 @@ use mathlib.Core.Path.{refl, sym, ap, _∙_}
 use mathlib.Core.Logic.{inl, inr}
 use lib.ListN.{length}
 use Rattle.format.proofs.AreaLaws.{overwrite-length}
-use Rattle.read.specs.declared.Answer.the-variants.{Written}
+use Rattle.read.specs.declared.ReadAnswer.the-variants.{Written}
 use Rattle.read.proofs.Answers.{left-few, plan-length, writable}
 use borrow.Author.Needs.{needs}
 use Rattle.read.proofs.write.Statement.{statement}

@@ -32,7 +32,7 @@ use Rattle.run_pick.proofs.Begun as begun-type
 use Rattle.run_pick.specs.declared.Begun.{Begun}
 use Rattle.run_pick.specs.declared.Begun.the-variants as how
 use Rattle.run_pick.specs.declared.Reached.the-variants as reached
-use Rattle.run_pick.specs.Answer.{Move, Answer as answer}
+use Rattle.run_pick.specs.Answer.{Move, PickAnswer as answer}
 use Rattle.run_pick.specs.Pick.{Picked, picked, refocusedHead, noHead, forksOf, beginOf, Came}
 use Rattle.run_engine.specs.declared.kept.Kept.{Kept}
 use Rattle.run_engine.specs.Kept.{restoreOf, keptFirst}

@@ -1,4 +1,4 @@
--- `last_turn` meets its contract. Assumes nothing.
+-- `last_departure` meets its contract. Assumes nothing.
 use Prim.Native.Nat.{ℕ, _-_, _%_, _≤_, _<_}
 use native.Mathlib.Decide.{ℕ-discrete}
 use native.Mathlib.Omega.{arith}
@@ -6,8 +6,8 @@ use mathlib.Core.Path.{_≡_, ap, subst as along}
 use mathlib.Core.List.{List}
 use lib.ListN.{getD}
 use borrow.Author.Needs.{needs}
-use Rattle.run_place_notes.proofs.last_turn.Statement.{statement}
-use Rattle.run_place_notes.proofs.last_turn.Tie as tie
+use Rattle.run_place_notes.proofs.last_departure.Statement.{statement}
+use Rattle.run_place_notes.proofs.last_departure.Tie as tie
 
 -- one note more without a higher thread
 from-here : (notes : List ℕ) (count place : ℕ) → ((i : ℕ) → place ≤ i → i < count → 8 ≤ getD notes i 0 % 16) → 8 ≤ getD notes (place - 1) 0 % 16
@@ -59,8 +59,8 @@ loop-again c =
 returns-2 : tie.Need-returns-2 Inv-loop μ-loop
 returns-2 c = λ i b. c .before .loop .inv .1 i (omega (arith, c .loop-test .left)) b
 
-pub last-turn-spec : {M : Type 1} → statement M
-last-turn-spec =
+pub last-departure-spec : {M : Type 1} → statement M
+last-departure-spec =
     tie.close
     (tie.spec
     Inv-loop
