@@ -2,10 +2,10 @@
 ghost use mathlib.Core.Path.{_≡_};
 ghost use Prim.Native.Nat.{_+_, _*_, _^_, _≤_, min};
 ghost use Rattle.plan_refusals.specs.Answer as refusals;
-ghost use Rattle.plan_refusals.specs.Small.{SmallCheck};
+ghost use Rattle.plan_refusals.specs.inner.Small.{SmallCheck};
 ghost use Rattle.answers.specs.Answer as tool;
 ghost use Rattle.abi_convention.specs.Convention.{checkNumber, answerNumber, placeNumber};
-ghost use Rattle.abi_convention.specs.Small.{SmallNumber, SmallAnswer};
+ghost use Rattle.abi_convention.specs.inner.Small.{SmallNumber, SmallAnswer};
 use answers::Answered;
 use plan_refusals::Checked;
 

@@ -4,7 +4,7 @@ ghost use Rattle.judge.specs.Answer as judge;
 ghost use Rattle.interleavings.specs.Answer as listing;
 ghost use Rattle.read.specs.Answer as texts;
 ghost use Rattle.abi_numbers.specs.Numbers.{judgeNumber, nextNumber, readNumber};
-ghost use Rattle.abi_numbers.specs.Small.{SmallJudged, SmallNext, SmallRead};
+ghost use Rattle.abi_numbers.specs.inner.Small.{SmallJudged, SmallNext, SmallRead};
 use abi_convention::index;
 use abi_convention::place;
 use abi_convention::refusal;

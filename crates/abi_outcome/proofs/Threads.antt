@@ -12,8 +12,8 @@ use Rattle.run_outcome.specs.declared.Outcome.{Outcome}
 use Rattle.play.specs.Answer.{stopOf, statusOf, outcomeOf}
 use Rattle.abi_outcome.specs.declared.ThreadBytes.{ThreadBytes}
 use Rattle.abi_outcome.specs.Bytes.{threadBytes, allThreads, outcomeBytes}
-use Rattle.abi_outcome.specs.Small.{SmallStatus, AllSmall, SmallOutcome}
-use Rattle.abi_outcome.specs.Parts.{headBytes}
+use Rattle.abi_outcome.specs.inner.Small.{SmallStatus, AllSmall, SmallOutcome}
+use Rattle.abi_outcome.specs.inner.Parts.{headBytes}
 
 abbrev pub absent : Thread
 absent = record { state = state.Absent; learnt = 0 }

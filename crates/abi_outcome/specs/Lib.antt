@@ -1,4 +1,3 @@
 pub mod Bytes
-pub mod Small
-pub mod Parts
 pub mod Play
+pub mod inner

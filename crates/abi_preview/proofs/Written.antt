@@ -15,7 +15,7 @@ use Rattle.run_last_pick.specs.declared.Previewed.{Previewed}
 use Rattle.run_last_pick.specs.declared.Previewed.the-variants as previewed
 use Rattle.preview.specs.Answer.{answered, BytesAsLogged}
 use Rattle.abi_preview.specs.Bytes.{previewBytes, previewNumber, outAfter}
-use Rattle.abi_preview.specs.Small.{eight, noRecord}
+use Rattle.abi_preview.specs.inner.Small.{eight, noRecord}
 
 -- 0 is the number of the preview, and these are its bytes
 abbrev pub Written : List ℕ → List ℕ → Previewed → Type 0

@@ -4,7 +4,7 @@ ghost use Rattle.play.specs.Answer.{stopOf};
 ghost use Rattle.abi_outcome.specs.Bytes.{three, stopByte};
 ghost use Rattle.preview.specs.Answer.{answered, AsLogged};
 ghost use Rattle.abi_preview.specs.Bytes.{previewNumber, outAfter};
-ghost use Rattle.abi_preview.specs.Small.{SmallPreviewed, eight, noRecord};
+ghost use Rattle.abi_preview.specs.inner.Small.{SmallPreviewed, eight, noRecord};
 use abi_outcome::ThreadBytes;
 use run_last_pick::Previewed;
 use run_last_pick::RecordBytes;

@@ -9,31 +9,31 @@ use lib.Dec.{eqb}
 use lib.ListN.{getD}
 use borrow.Author.Tests.{lt-ltb, le-ltb, not-true, not-false}
 use Rattle.format.specs.Refusal.{Refusal, orElse, lowest, refuse, firstRefusal}
-use Rattle.format.specs.Lowest.{Lowest}
+use Rattle.format.specs.inner.Lowest.{Lowest}
 use Rattle.format.proofs.LowestLaws.{whole, whole-none}
 use Rattle.run_keys.specs.Keys.{holds, subset}
 use Rattle.plan_packed.specs.Format.{procedures, terms}
 use Rattle.plan_packed.specs.Trees.{programOf}
 use Rattle.plan_packed.specs.Check.{refusal}
 use Rattle.plan_packed.specs.Refusals.{anyBelow}
-use Rattle.plan_packed.specs.Steps.{tagIn}
+use Rattle.plan_packed.specs.inner.Steps.{tagIn}
 use Rattle.plan_packed.proofs.Accepted.{accepted}
 use Rattle.plan_refusals.specs.Answer as checked
 use Rattle.plan_refusals.specs.declared.Checked.{Checked}
 use Rattle.plan_refusals.specs.declared.Checked.the-variants.{Refused}
 use Rattle.costs.specs.Cost.{bodyCost, total}
 use Rattle.costs.specs.Calls.{called, cyclic}
-use Rattle.costs.specs.Leading.{leadsOn}
+use Rattle.costs.specs.inner.Leading.{leadsOn}
 use Rattle.costs.specs.Bound.{hasWhile, overMost, boundRefusal, bounded}
 use Rattle.costs.proofs.Below.{both, any-found, any-true}
 use Rattle.costs.proofs.Chains.{procedureCount, one-more, long-cyclic, ends-acyclic}
 use Rattle.costs.proofs.Fixed.{fixed, once}
 use Rattle.costs.proofs.Plans.{laterChecks, bound-stages, no-more-moves}
 use Rattle.plan_tag_search.proofs.Tags.{tag-in}
-use Rattle.plan_cost_walk.specs.Walked.{capped}
+use Rattle.plan_cost_walk.specs.inner.Walked.{capped}
 use Rattle.answers.specs.Answer.{Answer, value, refused, answerBy}
 use Rattle.bound.specs.NoMoreMoves.{NoMoreMoves}
-use Rattle.bound.specs.Settling.{Loads, Called, Settled, Stuck}
+use Rattle.bound.specs.inner.Settling.{Loads, Called, Settled, Stuck}
 use Rattle.bound.proofs.Sets.{make-subset}
 use Rattle.bound.proofs.Bodies.{few-procedures, counted-in, counted-out, callee-inside}
 

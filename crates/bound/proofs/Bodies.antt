@@ -13,7 +13,7 @@ use Rattle.plan_packed.specs.Format.{procedures, terms, root}
 use Rattle.plan_packed.specs.Trees.{treeAt, procedureAt, programOf}
 use Rattle.plan_packed.specs.Check.{refusal}
 use Rattle.plan_packed.specs.Slots.{bound}
-use Rattle.plan_packed.specs.Steps.{Right, Loaded, Ordered, treeIn}
+use Rattle.plan_packed.specs.inner.Steps.{Right, Loaded, Ordered, treeIn}
 use Rattle.plan_packed.proofs.Accepted.{accepted}
 use Rattle.plan_packed.proofs.Decoded.{procedures-are, procedures-inside, well-formed}
 use Rattle.plan_packed.proofs.NodeOrder.{ordered, tree-is}
@@ -24,7 +24,7 @@ use Rattle.rules.proofs.StateLaws.{inside, there}
 use Rattle.costs.specs.Cost.{cost, costOfBody, bodyCost}
 use Rattle.costs.specs.Calls.{calls, callsᶜ, callsᵃ, callsBy, called}
 use Rattle.costs.proofs.Chains.{procedureCount}
-use Rattle.bound.specs.Settling.{Loads}
+use Rattle.bound.specs.inner.Settling.{Loads}
 
 -- ---- a call names a procedure that is there
 

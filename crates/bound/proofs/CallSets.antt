@@ -8,7 +8,7 @@ use Rattle.run_keys.specs.Keys.{holds, union}
 use Rattle.run_keys.proofs.KeyLaws.{holds-union}
 use Rattle.plan_packed.specs.Syntax.{Signal, Expression, Condition, Arguments}
 use Rattle.costs.specs.Calls.{calls, callsᶜ, callsᵃ}
-use Rattle.plan_cost_walk.specs.Walked.{signalled, walked, walkedᶜ, walkedᵃ}
+use Rattle.plan_cost_walk.specs.inner.Walked.{signalled, walked, walkedᶜ, walkedᵃ}
 
 -- an element of either set
 either : (n m q : ℕ) → holds (bitOr n m) q ≡ (holds n q || holds m q)

@@ -8,7 +8,7 @@ use borrow.Author.Tests.{eq-eqb}
 use Rattle.plan_packed.specs.Syntax.{Signal, Expression, Condition, Arguments}
 use Rattle.costs.specs.Cost.{oneMore, cost, costᶜ, costᵃ}
 use Rattle.costs.specs.Calls.{calls, callsᶜ, callsᵃ}
-use Rattle.plan_cost_walk.specs.Walked.{capped, signalled, walked, walkedᶜ, walkedᵃ}
+use Rattle.plan_cost_walk.specs.inner.Walked.{capped, signalled, walked, walkedᶜ, walkedᵃ}
 
 -- ---- sums, no further than 65,536
 

@@ -16,15 +16,15 @@ use Rattle.run_keys.specs.Keys.{singleton, holds, subset}
 use Rattle.run_keys.proofs.KeyLaws.{holds-empty, holds-singleton}
 use Rattle.plan_packed.specs.Format.{procedures, root}
 use Rattle.plan_packed.specs.Trees.{programOf}
-use Rattle.plan_packed.specs.Steps.{treeIn}
+use Rattle.plan_packed.specs.inner.Steps.{treeIn}
 use Rattle.costs.specs.Cost.{cost, bodyCost}
 use Rattle.costs.specs.Calls.{calls, called}
-use Rattle.costs.specs.Leading.{leadsOn}
+use Rattle.costs.specs.inner.Leading.{leadsOn}
 use Rattle.costs.proofs.Below.{by-true}
 use Rattle.costs.proofs.Chains.{goes, one-less}
 use Rattle.costs.proofs.Fixed.{stable}
-use Rattle.plan_cost_walk.specs.Walked.{capped, entryOf, walked}
-use Rattle.bound.specs.Settling.{Loads, Bits, Called, SettledBy, Settled, Stuck}
+use Rattle.plan_cost_walk.specs.inner.Walked.{capped, entryOf, walked}
+use Rattle.bound.specs.inner.Settling.{Loads, Bits, Called, SettledBy, Settled, Stuck}
 use Rattle.bound.proofs.Counting.{counted}
 use Rattle.bound.proofs.CallSets.{found, within}
 use Rattle.bound.proofs.Sets.{which, has-it, grows, of-subset}

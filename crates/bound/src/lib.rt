@@ -6,7 +6,7 @@ ghost use Rattle.plan_packed.specs.Format.{terms};
 ghost use Rattle.costs.specs.Bound.{bounded};
 ghost use Rattle.answers.specs.Answer.{answered};
 ghost use Rattle.bound.specs.NoMoreMoves.{NoMoreMoves};
-ghost use Rattle.bound.specs.Settling.{Loads};
+ghost use Rattle.bound.specs.inner.Settling.{Loads};
 use answers::Answered;
 use plan_header::layout;
 use plan_operands::tags;

@@ -4,9 +4,9 @@ ghost use mathlib.Core.Path.{_≡_};
 ghost use mathlib.Core.Bool.{_&&_, not};
 ghost use Prim.Native.Nat.{_<_, _≤_};
 ghost use lib.ListN.{length, replicate};
-ghost use Rattle.format.specs.Lowest.{Lowest};
+ghost use Rattle.format.specs.inner.Lowest.{Lowest};
 ghost use Rattle.run_keys.specs.Keys.{holds, subset};
-ghost use Rattle.bound.specs.Settling.{Loads, Bits, Called, Settled, Stuck};
+ghost use Rattle.bound.specs.inner.Settling.{Loads, Bits, Called, Settled, Stuck};
 use plan_header::layout;
 
 // The set of each procedure alone.

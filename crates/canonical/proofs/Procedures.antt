@@ -9,7 +9,7 @@ use lib.Seq.{sets}
 use Rattle.plan_packed.specs.Syntax.{Procedure}
 use Rattle.plan_packed.specs.Format
 use Rattle.plan_packed.specs.Format.{terms, parameters, root}
-use Rattle.plan_packed.specs.Steps.{Right, Ordered, treeIn}
+use Rattle.plan_packed.specs.inner.Steps.{Right, Ordered, treeIn}
 use Rattle.plan_packed.specs.Trees.{treeAt, procedureAt, proceduresFrom, programOf}
 use Rattle.plan_packed.specs.Check.{refusal}
 use Rattle.plan_packed.proofs.Accepted.{Accepted, accepted}
@@ -20,9 +20,9 @@ use Rattle.plan_written.specs.Written.{bytesOf, sizeOfAll}
 use Rattle.plan_written.proofs.Named.{size-pos}
 use Rattle.plan_written.proofs.Passes.{total-is, plan-length, body-is, parameters-are}
 use Rattle.plan_written.proofs.Sizes.{program-procedures}
-use Rattle.plan_tree_writer.specs.Left.{Room, Wrote, expressionsIn}
+use Rattle.plan_tree_writer.specs.inner.Left.{Room, Wrote, expressionsIn}
 use Rattle.plan_writer.proofs.Plans.{sizes-more, both, both-length, none-more, step-more}
-use Rattle.canonical.specs.Begun.{Ready, restFrom, treesWritten}
+use Rattle.canonical.specs.inner.Begun.{Ready, restFrom, treesWritten}
 
 -- an accepted plan has its header and its mask
 pub long-plan : {plan words area : List ℕ} → Ready plan words area → 8 ≤ length plan

@@ -23,7 +23,7 @@ use Rattle.plan_writer.proofs.Plans.{both, plan-whole}
 use Rattle.answers.specs.Answer.{answered, value, answerBy}
 use Rattle.answers.specs.declared.Answered.the-variants.{Value, Refused}
 use Rattle.canonical.specs.Canonical.{canonicalRefusal, canonicalAnswer, areaBy, canonicalArea}
-use Rattle.canonical.specs.Begun.{treesWritten}
+use Rattle.canonical.specs.inner.Begun.{treesWritten}
 use Rattle.canonical.proofs.Chain.{passes-both}
 use Rattle.canonical.proofs.HeaderBytes.{first-eight}
 use Rattle.canonical.proofs.Procedures.{rest-all}

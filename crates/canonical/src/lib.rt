@@ -10,12 +10,12 @@ ghost use lib.ListN.{length, take, replicate};
 ghost use lib.Seq.{sets};
 ghost use Rattle.format.specs.Area.{overwrite};
 ghost use Rattle.plan_packed.specs.Format.{terms, procedures};
-ghost use Rattle.plan_packed.specs.Steps.{Loaded};
+ghost use Rattle.plan_packed.specs.inner.Steps.{Loaded};
 ghost use Rattle.plan_refusals.specs.Answer as refusals;
 ghost use Rattle.plan_written.specs.Written.{writtenPlan};
 ghost use Rattle.canonical.specs.Canonical.{canonicalAnswer, canonicalArea};
 ghost use Rattle.answers.specs.Answer.{answered};
-ghost use Rattle.canonical.specs.Begun.{RefusedAs, Ready, treesWritten};
+ghost use Rattle.canonical.specs.inner.Begun.{RefusedAs, Ready, treesWritten};
 
 // What turns away a plan with an output area of this length, if anything does. Where nothing does, every term's 40 bits are then in `words`, which came as
 // zeros.

@@ -13,7 +13,7 @@ use Rattle.plan_packed.specs.Syntax.{Procedure, Program}
 use Rattle.plan_packed.specs.Refusals.{anyBelow}
 use Rattle.rules.proofs.StateLaws.{inside}
 use Rattle.costs.specs.Calls.{callsBy, called, chain, cyclic}
-use Rattle.costs.specs.Leading.{leadsOn}
+use Rattle.costs.specs.inner.Leading.{leadsOn}
 use Rattle.costs.proofs.Below.{both, by-true, any-found, any-true, minus, minus-other, count, count-most, count-minus}
 
 module _ (g : Program) where

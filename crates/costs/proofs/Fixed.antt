@@ -12,7 +12,7 @@ use Rattle.plan_packed.specs.Syntax.{Expression, Condition, Arguments, Procedur
 use Rattle.rules.proofs.StateLaws.{outside}
 use Rattle.costs.specs.Cost.{oneMore, cost, costᶜ, costᵃ, costOfBody, Costs, bodyCost, total}
 use Rattle.costs.specs.Calls.{calls, callsᶜ, callsᵃ, callsBy, called, cyclic}
-use Rattle.costs.specs.Leading.{leadsOn}
+use Rattle.costs.specs.inner.Leading.{leadsOn}
 use Rattle.costs.proofs.Below.{by-true}
 use Rattle.costs.proofs.Chains.{procedureCount, one-more, ends-soon}
 

@@ -16,16 +16,16 @@ use Rattle.log_conflicts.specs.Judge.{refused, named, names-first, names-none, 
 use Rattle.answers.specs.Answer.{Answer}
 use Rattle.log_arrows.specs.Arrows.{AllArrows, pairs}
 use Rattle.log_arrows.proofs.PairLaws.{pair-within}
-use Rattle.text.specs.Wrote.{Wrote}
+use Rattle.text.specs.inner.Wrote.{Wrote}
 use Rattle.text.proofs.Added.{added-as, added-whole}
 use Rattle.text_diagram_elements.specs.declared.Race.{Race}
 use Rattle.text_diagram_elements.specs.declared.Race.the-variants.{Between, Nowhere}
 use Rattle.text_diagram_elements.specs.Diagram.{diagramText, arrowsOf, raceOf}
-use Rattle.text_diagram_elements.specs.Drawn.{ArrowsInside, RaceInside}
-use Rattle.text_judge_lines.specs.Search.{Named, LastOf}
+use Rattle.text_diagram_elements.specs.inner.Drawn.{ArrowsInside, RaceInside}
+use Rattle.text_judge_lines.specs.inner.Search.{Named, LastOf}
 use Rattle.diagram.specs.Picture as picture
 use Rattle.diagram.specs.Picture.{Red, ordered, unordered, Picture, roomFor, Pictured}
-use Rattle.diagram.specs.Drawing.{Judged, NamedBy, WroteArrows}
+use Rattle.diagram.specs.inner.Drawing.{Judged, NamedBy, WroteArrows}
 
 -- ---- the arrows
 

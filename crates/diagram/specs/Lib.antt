@@ -1,2 +1,2 @@
 pub mod Picture
-pub mod Drawing
+pub mod inner

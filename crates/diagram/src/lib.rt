@@ -4,7 +4,7 @@ ghost use lib.ListN.{length};
 ghost use Rattle.format.specs.Version.{versionOf};
 ghost use Rattle.answers.specs.Answer.{answered};
 ghost use Rattle.diagram.specs.Picture.{Pictured};
-ghost use Rattle.diagram.specs.Drawing.{Judged, NamedBy, Roomy, WroteArrows};
+ghost use Rattle.diagram.specs.inner.Drawing.{Judged, NamedBy, Roomy, WroteArrows};
 use answers::Answered;
 use judge::Judgement;
 use text_diagram_elements::Race;

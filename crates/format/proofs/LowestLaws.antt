@@ -5,7 +5,7 @@ use mathlib.Core.Option.{some, none, orElse}
 use Prim.Native.Nat.{ℕ, _≤_, _<_}
 use native.Mathlib.Omega.{arith}
 use Rattle.format.specs.Refusal.{lowest}
-use Rattle.format.specs.Lowest.{Lowest}
+use Rattle.format.specs.inner.Lowest.{Lowest}
 use Rattle.format.proofs.RefusalLaws.{none-below, at-first}
 
 pub found : (f : ℕ → Bool) (n i : ℕ) → i < n → f i ≡ true → ((k : ℕ) → k < i → f k ≡ false) → Lowest f n i

@@ -1,5 +1,5 @@
 pub mod Bits
 pub mod Refusal
 pub mod Area
-pub mod Lowest
 pub mod Version
+pub mod inner

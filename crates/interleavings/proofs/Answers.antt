@@ -18,20 +18,20 @@ use Rattle.plan_packed.specs.Syntax.{Program}
 use Rattle.plan_packed.specs.Format.{terms}
 use Rattle.plan_packed.specs.Trees.{programOf}
 use Rattle.plan_packed.specs.Check.{checks, refusal}
-use Rattle.plan_packed.specs.Steps.{Loaded}
+use Rattle.plan_packed.specs.inner.Steps.{Loaded}
 use Rattle.plan_refusals.specs.Answer as check
 use Rattle.plan_refusals.specs.declared.Checked.{Checked}
 use Rattle.plan_refusals.specs.declared.Checked.the-variants as checked
 use Rattle.rules.specs.Play.{scheduleChecks, scheduleRefusal}
-use Rattle.text.specs.Wrote.{Wrote}
+use Rattle.text.specs.inner.Wrote.{Wrote}
 use Rattle.answers.specs.Answer as answer
 use Rattle.listing.specs.Order.{Before, AtMost}
 use Rattle.listing.specs.Listed.{Listed, First, Over}
-use Rattle.listing.specs.CanFollow.{canFollow}
-use Rattle.listing.specs.Ways.{Way}
+use Rattle.listing.specs.inner.CanFollow.{canFollow}
+use Rattle.listing.specs.inner.Ways.{Way}
 use Rattle.listing.proofs.Order.{empty-lowest}
 use Rattle.listing.proofs.Ways.{no-picks}
-use Rattle.run_replays.specs.Replay.{Accepted, OfEight}
+use Rattle.run_replays.specs.inner.Replay.{Accepted, OfEight}
 use Rattle.run_refusals.proofs.Passed.{scheduled-by-code}
 use Rattle.interleavings.specs.declared.Next.{Next}
 use Rattle.interleavings.specs.declared.Next.the-variants as next
@@ -39,7 +39,7 @@ use Rattle.interleavings.specs.Interleavings as papers
 use Rattle.interleavings.specs.Interleavings.{overBound, shortOutput, firstRefused, FirstAnswer, nextRefused, NextAnswer}
 use Rattle.interleavings.specs.Count.{countRefused}
 use Rattle.interleavings.specs.Answer.{answered}
-use Rattle.interleavings.specs.Steps.{Begins, Reached, TurnsAt, Followed}
+use Rattle.interleavings.specs.inner.Steps.{Begins, Reached, TurnsAt, Followed}
 use Rattle.interleavings.proofs.GoingOn.{taken}
 use Rattle.interleavings.proofs.GoingBack.{turned-way, turned-least, turned-above}
 

@@ -11,17 +11,17 @@ use lib.ListN.{length, getElem?, take}
 use Rattle.format.proofs.AreaLaws.{overwrite-first, overwrite-covers}
 use Rattle.plan_packed.specs.Syntax.{Program}
 use Rattle.plan_packed.specs.Trees.{programOf}
-use Rattle.text.specs.Wrote.{Wrote}
+use Rattle.text.specs.inner.Wrote.{Wrote}
 use Rattle.listing.specs.Listed.{Listed, Following, Over}
 use Rattle.listing.specs.WholeList.{WholeList}
 use Rattle.listing.proofs.Order.{empty-lowest}
 use Rattle.listing.proofs.WholeList.{at-first, at-next, at-last, whole-list}
-use Rattle.run_replays.specs.Replay.{Accepted}
-use Rattle.run_replays.specs.Told.{Tells, Listable, ListedBy}
+use Rattle.run_replays.specs.inner.Replay.{Accepted}
+use Rattle.run_replays.specs.inner.Told.{Tells, Listable, ListedBy}
 use Rattle.interleavings.specs.declared.Next.the-variants as next
 use Rattle.interleavings.specs.declared.Counted.{Counted}
 use Rattle.interleavings.specs.declared.Counted.the-variants as counted
-use Rattle.interleavings.specs.Steps.{Reached, Listing, Followed, Stands, CountsOn}
+use Rattle.interleavings.specs.inner.Steps.{Reached, Listing, Followed, Stands, CountsOn}
 use Rattle.interleavings.specs.Count.{countRefused, CountAnswer}
 
 -- a place of a list

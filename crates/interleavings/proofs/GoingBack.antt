@@ -6,17 +6,17 @@ use mathlib.Core.List.{List, [], _∷_, _++_}
 use lib.ListN.{length, getD, take, drop, take-append-drop}
 use lib.Seq.{take-all, take-suc, split-at, append-snoc}
 use Rattle.plan_packed.specs.Syntax.{Program}
-use Rattle.run_open_threads.specs.Open.{LowestFrom}
+use Rattle.run_open_threads.specs.inner.Open.{LowestFrom}
 use Rattle.listing.specs.Order.{Before, AtMost}
 use Rattle.listing.specs.Listed.{Listed, Over}
-use Rattle.listing.specs.CanFollow.{canFollow}
-use Rattle.listing.specs.Ways.{Way}
+use Rattle.listing.specs.inner.CanFollow.{canFollow}
+use Rattle.listing.specs.inner.Ways.{Way}
 use Rattle.listing.proofs.Order.{Higher, none-higher, higher-before, higher-here}
 use Rattle.listing.proofs.Ways.{one-more, first-picks, back-start, go-back, turn}
 use Rattle.listing.proofs.Listed.{complete-of}
-use Rattle.run_replays.specs.Told.{Noted}
-use Rattle.run_place_notes.specs.Notes.{LastAt}
-use Rattle.interleavings.specs.Steps.{NoneHigher, TurnsAt}
+use Rattle.run_replays.specs.inner.Told.{Noted}
+use Rattle.run_place_notes.specs.inner.Notes.{LastAt}
+use Rattle.interleavings.specs.inner.Steps.{NoneHigher, TurnsAt}
 
 -- ---- what the notes tell
 

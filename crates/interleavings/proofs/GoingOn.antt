@@ -13,18 +13,18 @@ use lib.Seq.{getD-take, getD-set-same, getD-set-other, ext-getD}
 use Rattle.plan_packed.specs.Syntax.{Program}
 use Rattle.plan_packed.specs.Trees.{programOf}
 use Rattle.run_engine.specs.declared.Explored.{Explored}
-use Rattle.run_engine.specs.Exploring.{allPicks}
+use Rattle.run_engine.specs.inner.Exploring.{allPicks}
 use Rattle.run_engine.proofs.AllPicks.{length-all, given-at, noted-at}
 use Rattle.listing.specs.Order.{AtMost}
 use Rattle.listing.specs.Listed.{Listed}
-use Rattle.listing.specs.CanFollow.{canFollow}
-use Rattle.listing.specs.Ways.{Way}
+use Rattle.listing.specs.inner.CanFollow.{canFollow}
+use Rattle.listing.specs.inner.Ways.{Way}
 use Rattle.listing.proofs.Ways.{go-on}
 use Rattle.listing.proofs.Listed.{complete-of, listed-by}
-use Rattle.run_place_notes.specs.Notes.{Puts, PutNoted}
-use Rattle.run_replays.specs.Replay.{Replayable, Explores}
+use Rattle.run_place_notes.specs.inner.Notes.{Puts, PutNoted}
+use Rattle.run_replays.specs.inner.Replay.{Replayable, Explores}
 use Rattle.run_replays.proofs.Told.{goes-past}
-use Rattle.interleavings.specs.Steps.{Begins, Reached}
+use Rattle.interleavings.specs.inner.Steps.{Begins, Reached}
 
 -- the picks that are written
 pub taken : {g : Program} {n from : ℕ} {before after : List ℕ} {at : ℕ} → Reached g n from before after at → n ≤ length before → length (take at after) ≡ at

@@ -1,4 +1,4 @@
 pub mod Interleavings
 pub mod Answer
-pub mod Steps
 pub mod Count
+pub mod inner

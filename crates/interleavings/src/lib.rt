@@ -5,7 +5,7 @@ ghost use Rattle.answers.specs.Answer as answer;
 ghost use Rattle.interleavings.specs.Interleavings.{FirstAnswer, NextAnswer};
 ghost use Rattle.interleavings.specs.Answer.{answered};
 ghost use Rattle.interleavings.specs.Count.{CountAnswer};
-ghost use Rattle.interleavings.specs.Steps.{Begins, Reached, Listing, Followed, Stands, Advanced, CountsOn};
+ghost use Rattle.interleavings.specs.inner.Steps.{Begins, Reached, Listing, Followed, Stands, Advanced, CountsOn};
 use answers::Answered;
 use plan_refusals::Checked;
 use run_place_notes::Departure;

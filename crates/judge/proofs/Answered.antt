@@ -12,7 +12,7 @@ use Rattle.log_records.specs.Packed.{recordCount}
 use Rattle.log_records.specs.Refusals.{logRefusal}
 use Rattle.log_conflicts.specs.Judge.{Answers, judges}
 use Rattle.judge.specs.Answer.{answered}
-use Rattle.judge.specs.Found.{Finds, finds-access, finds-nothing, finds-full, judgementOf, isFull}
+use Rattle.judge.specs.inner.Found.{Finds, finds-access, finds-nothing, finds-full, judgementOf, isFull}
 use Rattle.judge.specs.declared.Judgement.{Judgement}
 use Rattle.judge.specs.declared.pass.Found.{Found}
 

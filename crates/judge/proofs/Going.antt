@@ -22,10 +22,10 @@ use Rattle.log_conflicts.specs.Conflicts.{Conflicting}
 use Rattle.log_conflicts.specs.Judge.{Names, names-none}
 use Rattle.log_conflicts.proofs.FirstConflict.{Threads}
 use Rattle.log_conflicts.proofs.RowClocks.{heard-start, kept-start}
-use Rattle.log_clocks.specs.Rows.{Row, clockOf, noRow}
-use Rattle.log_effects.specs.Rows.{placeRow}
-use Rattle.log_effects.specs.Table.{Wide, clockAt, Started}
-use Rattle.judge.specs.Clear.{Clear}
+use Rattle.log_clocks.specs.inner.Rows.{Row, clockOf, noRow}
+use Rattle.log_effects.specs.inner.Rows.{placeRow}
+use Rattle.log_effects.specs.inner.Table.{Wide, clockAt, Started}
+use Rattle.judge.specs.inner.Clear.{Clear}
 use Rattle.judge.proofs.PlaceNumbers.{Places, places-start}
 use Rattle.judge.proofs.PortRows.{rowOf, Valid}
 use Rattle.judge.proofs.Table.{Shown, Shows, Blank, clocks}

@@ -27,13 +27,13 @@ use Rattle.log_conflicts.specs.Judge.{Names, names-first}
 use Rattle.log_conflicts.proofs.Conflicts.{Eight, held, heldBy}
 use Rattle.log_conflicts.proofs.FirstConflict.{conflicting↔, at-past}
 use Rattle.log_conflicts.proofs.RowClocks.{Kept, lower→clash, clash→lower}
-use Rattle.log_decoding.specs.Columns.{ReadAt}
+use Rattle.log_decoding.specs.inner.Columns.{ReadAt}
 use Rattle.log_decoding.specs.declared.Columns.{Columns}
 use Rattle.log_decoding.proofs.Decoded.{kind-is-kind}
-use Rattle.log_clocks.specs.Rows.{Row, clockOf, rowAt, lowerOf}
-use Rattle.log_effects.specs.Places.{Numbered, known, next, full}
-use Rattle.log_effects.specs.Rows.{placeRow, isAccess, heldRow}
-use Rattle.log_effects.specs.Table.{clockAt, Ready}
+use Rattle.log_clocks.specs.inner.Rows.{Row, clockOf, rowAt, lowerOf}
+use Rattle.log_effects.specs.inner.Places.{Numbered, known, next, full}
+use Rattle.log_effects.specs.inner.Rows.{placeRow, isAccess, heldRow}
+use Rattle.log_effects.specs.inner.Table.{clockAt, Ready}
 use Rattle.judge.proofs.PlaceNumbers.{Placed, placed, given-below}
 use Rattle.judge.proofs.PortRows.{rowOf}
 use Rattle.judge.proofs.RecordPorts.{Fits, is-fork, is-join, access-plain, write-kind}

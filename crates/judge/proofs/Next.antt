@@ -18,10 +18,10 @@ use Rattle.log_order.proofs.Ports.{Port, ofThread, ofMonitor, ofVolatile, ofAcc
 use Rattle.log_conflicts.specs.Conflicts.{Conflicting}
 use Rattle.log_conflicts.specs.Judge.{Names}
 use Rattle.log_conflicts.proofs.FirstConflict.{conflicting↔}
-use Rattle.log_clocks.specs.Rows.{Row}
+use Rattle.log_clocks.specs.inner.Rows.{Row}
 use Rattle.log_decoding.specs.declared.Columns.{Columns}
-use Rattle.log_effects.specs.Rows.{placeRow, isAccess, keptRow}
-use Rattle.log_effects.specs.Table.{Wide, Stored, Keeps, Hears, Told, late, kept, Stepped, accesses, hears, tells, forks, joins, rests}
+use Rattle.log_effects.specs.inner.Rows.{placeRow, isAccess, keptRow}
+use Rattle.log_effects.specs.inner.Table.{Wide, Stored, Keeps, Hears, Told, late, kept, Stepped, accesses, hears, tells, forks, joins, rests}
 use Rattle.judge.proofs.PlaceNumbers.{Placed}
 use Rattle.judge.proofs.PortRows.{rowOf, Valid, HasRow}
 use Rattle.judge.proofs.RecordPorts.{Moves, AtPlace, monitor, volatile, hearing, telling, resting, forking}

@@ -10,7 +10,7 @@ use lib.ListN.{length, getD, set, replicate, length-set, length-replicate}
 use lib.Seq.{getD-set-same, getD-set-other}
 use borrow.Author.Tests.{ne-eqb}
 use Rattle.format.proofs.Filled.{zeros}
-use Rattle.log_effects.specs.Places.{Numbered, known, next, full}
+use Rattle.log_effects.specs.inner.Places.{Numbered, known, next, full}
 
 -- how many places have no number
 abbrev unnumbered : List ℕ → ℕ

@@ -14,7 +14,7 @@ use Rattle.log_records.proofs.KindNumbers.{by-kind}
 use Rattle.log_order.specs.Accesses.{isWrite}
 use Rattle.log_order.proofs.Ports.{Port, ofThread, ofMonitor, ofVolatile, ofAccesses, ofWrites, Feeds}
 use Rattle.log_conflicts.proofs.Clock.{second, secondPort}
-use Rattle.log_effects.specs.Rows.{placeRow, isAccess, passes}
+use Rattle.log_effects.specs.inner.Rows.{placeRow, isAccess, passes}
 use Rattle.judge.proofs.PlaceNumbers.{Placed}
 use Rattle.judge.proofs.PortRows.{rowOf, Valid, HasRow}
 

@@ -16,10 +16,10 @@ use Rattle.log_order.proofs.Ports.{Port, ofThread, ofMonitor, ofVolatile, ofAcc
 use Rattle.log_conflicts.proofs.Clock.{second, feeds, feeds→, feeds←, draws→, second-draws}
 use Rattle.log_conflicts.proofs.Conflicts.{Eight}
 use Rattle.log_conflicts.proofs.RowClocks.{Heard, Kept, heard-same, kept-same, heard-unfed, kept-unfed, heard-told, kept-fed}
-use Rattle.log_clocks.specs.Rows.{Row, clockOf}
-use Rattle.log_effects.specs.Places.{Numbered, known, next, full}
-use Rattle.log_effects.specs.Rows.{placeRow}
-use Rattle.log_effects.specs.Table.{clockAt, Stored, Keeps, Hears, Told}
+use Rattle.log_clocks.specs.inner.Rows.{Row, clockOf}
+use Rattle.log_effects.specs.inner.Places.{Numbered, known, next, full}
+use Rattle.log_effects.specs.inner.Rows.{placeRow}
+use Rattle.log_effects.specs.inner.Table.{clockAt, Stored, Keeps, Hears, Told}
 use Rattle.judge.proofs.PlaceNumbers.{Places, numbered-own, numbered-other}
 use Rattle.judge.proofs.PortRows.{rowOf, Valid, HasRow, row-once}
 use Rattle.judge.proofs.RecordPorts.{fedPort, fed-feeds, fed-one-of, accesses-fed, plain-second, Moves}

@@ -1,3 +1,2 @@
 pub mod Answer
-pub mod Found
-pub mod Clear
+pub mod inner

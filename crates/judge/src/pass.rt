@@ -7,8 +7,8 @@ ghost use Rattle.format.specs.Version.{versionOf};
 ghost use Rattle.log_records.specs.Refusals.{logRefusal};
 ghost use Rattle.log_conflicts.specs.Judge.{Answers};
 ghost use Rattle.judge.specs.Answer.{answered};
-ghost use Rattle.judge.specs.Found.{Finds, judgementOf, isFull};
-ghost use Rattle.judge.specs.Clear.{Clear};
+ghost use Rattle.judge.specs.inner.Found.{Finds, judgementOf, isFull};
+ghost use Rattle.judge.specs.inner.Clear.{Clear};
 use crate::Judgement;
 use log_clocks::Row;
 

@@ -8,24 +8,24 @@ use mathlib.Core.Option.{Option, some, none, Option·map}
 use lib.ListN.{length, getD, getElem?, take, length-take, length-map}
 use lib.Seq.{getD-take}
 use Rattle.format.specs.Area.{overwrite}
-use Rattle.run_keys.specs.KeySet.{keysOf}
+use Rattle.run_keys.specs.inner.KeySet.{keysOf}
 use Rattle.plan_packed.specs.Format.{procedures, terms, root}
 use Rattle.plan_packed.specs.Trees.{programOf}
 use Rattle.plan_packed.specs.Check.{refusal}
-use Rattle.plan_packed.specs.Steps as steps
+use Rattle.plan_packed.specs.inner.Steps as steps
 use Rattle.plan_packed.proofs.Decoded.{well-formed}
 use Rattle.log_records.specs.Packed.{bytesOf}
 use Rattle.rules.specs.State.{Thread}
 use Rattle.rules.specs.Run.{Run, play}
 use Rattle.rules.specs.Play.{playRefusal, runOf}
 use Rattle.rules.proofs.StateLaws.{there as thread-at}
-use Rattle.machine.specs.Machine as machine
-use Rattle.machine.specs.Playing as playing
-use Rattle.machine.specs.Playing.{tableOf}
+use Rattle.machine.specs.inner.Machine as machine
+use Rattle.machine.specs.inner.Playing as playing
+use Rattle.machine.specs.inner.Playing.{tableOf}
 use Rattle.machine.proofs.StateMeaning.{threadMeant, get-map}
 use Rattle.machine.proofs.Plays.{start-reached, plays}
 use Rattle.run_state.specs.declared.Setting.{Setting}
-use Rattle.run_engine.specs.Machine.{Played, headAt, playOf, startOf}
+use Rattle.run_engine.specs.inner.Machine.{Played, headAt, playOf, startOf}
 use Rattle.refinement.proofs.Meant.{WordsAndRoots}
 use Rattle.refinement.proofs.States.{settingOf, Related}
 use Rattle.refinement.proofs.Starts.{start-related}

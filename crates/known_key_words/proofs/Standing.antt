@@ -8,17 +8,17 @@ use mathlib.Core.Option.{none}
 use lib.ListN.{length, getD}
 use Rattle.plan_packed.specs.Trees.{programOf}
 use Rattle.plan_packed.specs.Check.{refusal}
-use Rattle.machine.specs.Machine as machine
-use Rattle.machine.specs.Playing as playing
-use Rattle.machine.specs.Playing.{tableOf}
+use Rattle.machine.specs.inner.Machine as machine
+use Rattle.machine.specs.inner.Playing as playing
+use Rattle.machine.specs.inner.Playing.{tableOf}
 use Rattle.machine.proofs.Runs.{Reached}
 use Rattle.machine.proofs.Plays.{move-reached}
-use Rattle.run_refocusing.specs.Refocusing.{Stack}
+use Rattle.run_refocusing.specs.inner.Refocusing.{Stack}
 use Rattle.run_outcome.specs.declared.Stop.the-variants as stop
 use Rattle.run_state.specs.declared.Setting.{Setting}
-use Rattle.run_pick.specs.Answer.{PickAnswer, PickAnswer as answer}
-use Rattle.run_pick.specs.Pick.{Picked}
-use Rattle.run_engine.specs.Machine.{Machine, stopped, stayed, after, turnBy, onAnswer, playOf}
+use Rattle.run_pick.specs.inner.Answer.{PickAnswer, PickAnswer as answer}
+use Rattle.run_pick.specs.inner.Pick.{Picked}
+use Rattle.run_engine.specs.inner.Machine.{Machine, stopped, stayed, after, turnBy, onAnswer, playOf}
 use Rattle.refinement.proofs.Meant.{WordsAndRoots}
 use Rattle.refinement.proofs.States.{settingOf, Related}
 use Rattle.refinement.proofs.Picks.{AnsweredBy, picks}

@@ -6,12 +6,12 @@ use mathlib.Core.Bool.{false}
 use mathlib.Core.List.{List}
 use lib.ListN.{length, take}
 use Rattle.format.specs.Area.{overwrite}
-use Rattle.run_keys.specs.KeySet.{keysOf}
+use Rattle.run_keys.specs.inner.KeySet.{keysOf}
 use Rattle.plan_packed.specs.Trees.{programOf}
 use Rattle.log_records.specs.Packed.{bytesOf}
 use Rattle.rules.specs.Play.{runOf}
 use Rattle.run_state.specs.declared.Setting.{Setting}
-use Rattle.run_engine.specs.Machine.{headAt, startOf}
+use Rattle.run_engine.specs.inner.Machine.{headAt, startOf}
 use Rattle.known_keys.specs.KnownKeys.{HoldsJust}
 use Rattle.known_key_words.specs.Standing.{Standing, machineOf, areaOf, standing}
 

@@ -5,8 +5,8 @@ use mathlib.Core.List.{List, [], _∷_}
 use Rattle.run_outcome.specs.declared.Stop.{Stop}
 use Rattle.run_state.specs.declared.Setting.{Setting}
 use Rattle.run_state.specs.declared.Entry.{Entry}
-use Rattle.run_pick.specs.Answer.{Move, PickAnswer, PickAnswer as answer}
-use Rattle.run_engine.specs.Machine.{Machine, Played, stopped, stayed, after, turnBy, playOf}
+use Rattle.run_pick.specs.inner.Answer.{Move, PickAnswer, PickAnswer as answer}
+use Rattle.run_engine.specs.inner.Machine.{Machine, Played, stopped, stayed, after, turnBy, playOf}
 
 -- the play goes on from a state; or it stopped in one, "unmoved" (document 01), and this is what it comes to
 pub data Standing : Type 0 where

@@ -10,7 +10,7 @@ use mathlib.Core.Logic.{_⊎_, inl, inr}
 use lib.ListN.{length, length-append}
 use lib.Seq.{append-snoc}
 use Rattle.listing.specs.Order.{Before}
-use Rattle.listing.specs.Ways.{Way, Complete}
+use Rattle.listing.specs.inner.Ways.{Way, Complete}
 use Rattle.listing.proofs.Order.{higher-before, higher-here}
 use Rattle.listing.proofs.Ways.{one-more, pick-of-eight, pick-follows, no-longer}
 

@@ -11,7 +11,7 @@ use Rattle.rules.specs.State.{State, start}
 use Rattle.rules.specs.Room.{PickAnswerOf, PickAnswer, step}
 use Rattle.rules.specs.Run.{Stop, Run, afterPass, afterMove, stopped, resume, run, play}
 use Rattle.listing.specs.Listed.{Whole, Listed}
-use Rattle.listing.specs.CanFollow.{stops}
+use Rattle.listing.specs.inner.CanFollow.{stops}
 
 -- the moves of a run, and one for its stop
 abbrev pub counted : Run → ℕ

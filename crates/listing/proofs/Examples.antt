@@ -7,7 +7,7 @@ use mathlib.Core.Option.{some}
 use lib.ListN.{getElem?}
 use Rattle.plan_packed.specs.Trees.{programOf}
 use Rattle.listing.specs.WholeList.{WholeList}
-use Rattle.listing.specs.CanFollow.{canFollow}
+use Rattle.listing.specs.inner.CanFollow.{canFollow}
 use Rattle.listing.specs.Examples.{Example, examples}
 use Rattle.listing.proofs.All.{all}
 use Rattle.listing.proofs.WholeList.{schedules, schedules-whole}

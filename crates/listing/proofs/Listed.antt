@@ -10,8 +10,8 @@ use Rattle.plan_packed.specs.Syntax.{Program}
 use Rattle.rules.specs.Room.{PickAnswerOf, PickAnswer, step}
 use Rattle.rules.specs.Run.{Stop, play}
 use Rattle.listing.specs.Listed.{Whole, HAS-N, STOPS, NONE-CAN, Listed}
-use Rattle.listing.specs.CanFollow.{goesOn, movesOrStops, canFollow}
-use Rattle.listing.specs.Ways.{Complete}
+use Rattle.listing.specs.inner.CanFollow.{goesOn, movesOrStops, canFollow}
+use Rattle.listing.specs.inner.Ways.{Complete}
 use Rattle.listing.proofs.Ways.{no-picks, no-longer}
 
 both : (x y : Bool) → (x && y) ≡ true → (x ≡ true) × (y ≡ true)

@@ -10,7 +10,7 @@ use mathlib.Core.Logic.{_⊎_, inl, inr}
 use lib.ListN.{length, length-append, getD, take, List·getD-append}
 use lib.Seq.{take-append-seam, take-append-le, getD-append-seam}
 use Rattle.listing.specs.Order.{Before, AtMost}
-use Rattle.listing.specs.Ways.{Way, Complete}
+use Rattle.listing.specs.inner.Ways.{Way, Complete}
 use Rattle.listing.proofs.Order.{Longer, Higher, higher-before, higher-or-longer, higher-here, higher-than-more, higher-at-last, at-most-more}
 
 module _ (can : List ℕ → ℕ → Bool) where

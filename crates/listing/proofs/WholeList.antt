@@ -13,7 +13,7 @@ use Rattle.plan_packed.specs.Syntax.{Program}
 use Rattle.listing.specs.Order.{Before, AtMost}
 use Rattle.listing.specs.Listed.{Listed, First, Following, Over}
 use Rattle.listing.specs.WholeList.{GoesOn, OVER, NEXT, Begins, FIRST, WholeList}
-use Rattle.listing.specs.CanFollow.{canFollow}
+use Rattle.listing.specs.inner.CanFollow.{canFollow}
 use Rattle.listing.proofs.Order.{irreflexive, transitive, one-least, one-least-above}
 use Rattle.listing.proofs.Ways.{no-picks}
 use Rattle.listing.proofs.All.{Mem, Sorted, all, AllOf, all-are}

@@ -2,5 +2,4 @@ pub mod Order
 pub mod Listed
 pub mod WholeList
 pub mod Examples
-pub mod CanFollow
-pub mod Ways
+pub mod inner

@@ -9,7 +9,7 @@ use mathlib.Core.List.{List, [], _∷_, _++_, append-assoc, append-nil}
 use lib.ListN.{length, set}
 use lib.Seq.{getD-set-same, getD-set-other}
 use Rattle.log_arrows.specs.Arrows.{pairs}
-use Rattle.log_arrows.specs.Implied.{isNeeded, arrowsTo, arrowsBelow, Added}
+use Rattle.log_arrows.specs.inner.Implied.{isNeeded, arrowsTo, arrowsBelow, Added}
 use Rattle.log_arrows.proofs.NeededArrows.{passes→}
 
 -- what is stored further on makes no difference

@@ -13,8 +13,8 @@ use Rattle.log_records.specs.Record.{Record}
 use Rattle.log_order.specs.Chains.{At}
 use Rattle.log_order.proofs.Past.{at-within}
 use Rattle.log_arrows.specs.Arrows.{Needed, Among, here, further, Before, by-record, by-thread, Ordered, none, next, AllArrows}
-use Rattle.log_arrows.specs.Newest.{Heard}
-use Rattle.log_arrows.specs.Implied.{isNeeded, arrowsTo, arrowsBelow}
+use Rattle.log_arrows.specs.inner.Newest.{Heard}
+use Rattle.log_arrows.specs.inner.Implied.{isNeeded, arrowsTo, arrowsBelow}
 use Rattle.log_arrows.proofs.Chains.{chain-end}
 use Rattle.log_arrows.proofs.NeededArrows.{Passes, passes→, passes←, passes→needed, needed→passes}
 use Rattle.log_arrows.proofs.HeardChains.{Known}

@@ -15,12 +15,12 @@ use Rattle.log_records.proofs.RoundTrip.{count-log, log-element}
 use Rattle.log_records.proofs.Accepted.{RightRecord, accepted}
 use Rattle.log_order.specs.Chains.{At}
 use Rattle.log_order.proofs.Past.{past, past-zero, past-suc, past-length, at→getD}
-use Rattle.log_decoding.specs.Columns.{ReadAt}
+use Rattle.log_decoding.specs.inner.Columns.{ReadAt}
 use Rattle.log_decoding.specs.declared.Columns.{Columns}
 use Rattle.log_decoding.proofs.Decoded.{kind-is-kind}
-use Rattle.log_clocks.specs.Rows.{Row, clockOf, noRow, rowAt, Raised}
-use Rattle.log_arrows.specs.Newest.{Newest, HeardRows}
-use Rattle.log_arrows.specs.Links.{linkRow, sourceRow, targetRow, Marked}
+use Rattle.log_clocks.specs.inner.Rows.{Row, clockOf, noRow, rowAt, Raised}
+use Rattle.log_arrows.specs.inner.Newest.{Newest, HeardRows}
+use Rattle.log_arrows.specs.inner.Links.{linkRow, sourceRow, targetRow, Marked}
 use Rattle.log_arrows.proofs.HeardChains.{newest-heard}
 use Rattle.log_arrows.proofs.Ports.{rowOf, link-below, sourcePort, targetPort, Fits, source-link, target-link, heard-choice, told-choice}
 use Rattle.log_arrows.proofs.Table.{Shows, known-heard, shows-step, next-long}

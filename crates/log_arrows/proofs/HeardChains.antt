@@ -12,7 +12,7 @@ use Rattle.log_order.proofs.Newest as N
 use Rattle.log_order.proofs.Flow.{chain→drawn, drawn→chain}
 use Rattle.log_order.proofs.Past.{past, past-length, at-within}
 use Rattle.log_conflicts.proofs.FirstConflict.{at-past, chain-cut}
-use Rattle.log_arrows.specs.Newest.{Heard, Newest}
+use Rattle.log_arrows.specs.inner.Newest.{Heard, Newest}
 use Rattle.log_arrows.proofs.Chains.{chain-before}
 use Rattle.log_arrows.proofs.Marks.{heard, drawn-heard, heard-source, heard-of, reach→mark, mark→reach}
 

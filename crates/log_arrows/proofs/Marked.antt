@@ -8,8 +8,8 @@ use lib.Dec.{eqb}
 use lib.ListN.{length, set}
 use lib.Seq.{getD-set-same, getD-set-other}
 use borrow.Author.Tests.{eq-eqb, ne-eqb}
-use Rattle.log_clocks.specs.Rows.{Row, clockOf}
-use Rattle.log_arrows.specs.Links.{Marked}
+use Rattle.log_clocks.specs.inner.Rows.{Row, clockOf}
+use Rattle.log_arrows.specs.inner.Links.{Marked}
 
 pub stored-mark : (row : Row) (thread mark : ℕ) → length row ≡ 8 → thread < 8 → Marked row thread mark (set row thread mark)
 stored-mark row thread mark long below = record { clocks-are = λ u h. go u (ℕ-discrete u thread) }

@@ -15,8 +15,8 @@ use Rattle.log_order.specs.Chains.{At, Linked, Chain, one}
 use Rattle.log_order.proofs.Past.{at-within}
 use Rattle.log_order.proofs.Tests.{or←}
 use Rattle.log_arrows.specs.Arrows.{Needed}
-use Rattle.log_arrows.specs.Newest.{Heard}
-use Rattle.log_arrows.specs.Implied.{impliedBy, implied, isNeeded}
+use Rattle.log_arrows.specs.inner.Newest.{Heard}
+use Rattle.log_arrows.specs.inner.Implied.{impliedBy, implied, isNeeded}
 use Rattle.log_arrows.proofs.HeardChains.{Known}
 use Rattle.log_arrows.proofs.Chains.{chain-before, chain-on, chain-start, chain-one, at-once, thread-chain}
 

@@ -14,10 +14,10 @@ use Rattle.log_records.proofs.Tidy.{tidy-at}
 use Rattle.log_records.proofs.Accepted.{accepted, accepted-tidy}
 use Rattle.log_order.specs.Chains.{At}
 use Rattle.log_order.proofs.Past.{at-within}
-use Rattle.log_clocks.specs.Rows.{Row}
+use Rattle.log_clocks.specs.inner.Rows.{Row}
 use Rattle.log_arrows.specs.Arrows.{AllArrows}
-use Rattle.log_arrows.specs.Newest.{Newest, HeardRows}
-use Rattle.log_arrows.specs.Implied.{heardIn, Earlier, arrowsBelow, threadAt}
+use Rattle.log_arrows.specs.inner.Newest.{Newest, HeardRows}
+use Rattle.log_arrows.specs.inner.Implied.{heardIn, Earlier, arrowsBelow, threadAt}
 use Rattle.log_arrows.proofs.Chains.{chain-before, at-once}
 use Rattle.log_arrows.proofs.ArrowLists.{all-arrows}
 

@@ -9,7 +9,7 @@ use Rattle.log_order.specs.Chains.{At}
 use Rattle.log_order.proofs.Samples.{logA, logV}
 use Rattle.log_order.proofs.Past.{past, at→getD}
 use Rattle.log_arrows.specs.Arrows.{AllArrows}
-use Rattle.log_arrows.specs.Implied.{arrowsBelow, arrowsTo, isNeeded, implied}
+use Rattle.log_arrows.specs.inner.Implied.{arrowsBelow, arrowsTo, isNeeded, implied}
 use Rattle.log_arrows.proofs.HeardChains.{heardAt, known}
 use Rattle.log_arrows.proofs.ArrowLists.{all-arrows}
 

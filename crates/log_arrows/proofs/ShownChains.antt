@@ -10,7 +10,7 @@ use Rattle.log_records.specs.Record.{Record}
 use Rattle.log_order.specs.Chains.{At, Chain, one}
 use Rattle.log_order.proofs.Past.{at-within}
 use Rattle.log_arrows.specs.Arrows.{Shown, line, arrow, on}
-use Rattle.log_arrows.specs.Newest.{Heard}
+use Rattle.log_arrows.specs.inner.Newest.{Heard}
 use Rattle.log_arrows.proofs.Chains.{chain-before, chain-on, chain-start, chain-end, thread-chain}
 use Rattle.log_arrows.proofs.HeardChains.{heardAt, Known, known}
 use Rattle.log_arrows.proofs.NeededArrows.{Implies, Passes, passes-or-implied, passes→needed}

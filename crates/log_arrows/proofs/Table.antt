@@ -15,8 +15,8 @@ use Rattle.log_records.specs.Record.{Record}
 use Rattle.log_order.proofs.Tests.{cond-true, cond-false}
 use Rattle.log_order.proofs.Ports.{Port, ofThread, Feeds}
 use Rattle.log_conflicts.proofs.Clock.{feeds, second, reading, gather, feeds→, feeds←}
-use Rattle.log_clocks.specs.Rows.{Row, clockOf, noRow, rowAt, Raised}
-use Rattle.log_arrows.specs.Links.{Marked}
+use Rattle.log_clocks.specs.inner.Rows.{Row, clockOf, noRow, rowAt, Raised}
+use Rattle.log_arrows.specs.inner.Links.{Marked}
 use Rattle.log_arrows.proofs.Marks.{mark, heard, mark-bound}
 use Rattle.log_arrows.proofs.Ports.{rowOf, Link, thread, link-below, row-once, portOr, sourcePort, targetPort, Fits, source-link, target-link}
 use Rattle.log_arrows.proofs.Ports.{target-feeds, fed-one-of}

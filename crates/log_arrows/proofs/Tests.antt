@@ -6,7 +6,7 @@ use mathlib.Core.Path.{_≡_, refl, ap, _∙_}
 use mathlib.Core.Bool.{Bool, false, not, _||_}
 use lib.Dec.{leb}
 use borrow.Author.Tests.{eq-eqb, ne-eqb, lt-ltb, le-ltb}
-use Rattle.log_arrows.specs.Implied.{impliedBy, implied, isNeeded}
+use Rattle.log_arrows.specs.inner.Implied.{impliedBy, implied, isNeeded}
 
 -- ---- one thread
 

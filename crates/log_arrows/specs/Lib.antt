@@ -1,4 +1,2 @@
 pub mod Arrows
-pub mod Newest
-pub mod Implied
-pub mod Links
+pub mod inner

@@ -1,7 +1,7 @@
 // Whether an arrow is needed, by what each record has heard.
 ghost use mathlib.Core.Path.{_≡_};
 ghost use Prim.Native.Nat.{_<_};
-ghost use Rattle.log_arrows.specs.Implied.{heardIn, Earlier, impliedBy, implied, isNeeded};
+ghost use Rattle.log_arrows.specs.inner.Implied.{heardIn, Earlier, impliedBy, implied, isNeeded};
 use log_clocks::Row;
 
 // The newest record of another thread that the record at the index has heard of has itself heard of the newest of this thread.

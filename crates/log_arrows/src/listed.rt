@@ -3,7 +3,7 @@ ghost use mathlib.Core.Path.{_≡_};
 ghost use Prim.Native.Nat.{ℕ, _+_, _*_, _/_, _<_, _≤_};
 ghost use lib.ListN.{length};
 ghost use Rattle.log_arrows.specs.Arrows.{Room, pairs};
-ghost use Rattle.log_arrows.specs.Implied.{heardIn, Earlier, threadAt, arrowsBelow, Added};
+ghost use Rattle.log_arrows.specs.inner.Implied.{heardIn, Earlier, threadAt, arrowsBelow, Added};
 use log_clocks::Row;
 
 // Adds those to the record at the index, which is of the thread `own`, after the `count` arrows that the areas hold, and returns how many they then hold.

@@ -1,7 +1,7 @@
 // Rows of eight clocks, one to a thread. A record of thread u has reached what a row is of when its index is below the row's clock of u.
 ghost use mathlib.Core.Path.{_≡_};
 ghost use Prim.Native.Nat.{max, min};
-ghost use Rattle.log_clocks.specs.Rows.{Raised, RaisedTo, lowerOf};
+ghost use Rattle.log_clocks.specs.inner.Rows.{Raised, RaisedTo, lowerOf};
 
 pub type Row = [u16; 8];
 

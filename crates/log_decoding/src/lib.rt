@@ -3,7 +3,7 @@ ghost use mathlib.Core.Path.{_≡_};
 ghost use Prim.Native.Nat.{_*_, _/_, _<_};
 ghost use lib.ListN.{length};
 ghost use Rattle.format.specs.Bits.{bitsAt};
-ghost use Rattle.log_decoding.specs.Columns.{ReadAt};
+ghost use Rattle.log_decoding.specs.inner.Columns.{ReadAt};
 
 pub struct Columns {
     pub kind: usize,

@@ -5,9 +5,9 @@ use mathlib.Core.Path.{_≡_, sym, ap, subst, _∙_}
 use mathlib.Core.Bool.{Bool, true, false, cond}
 use mathlib.Core.List.{List}
 use lib.Dec.{eqb}
-use Rattle.log_clocks.specs.Rows.{Row, rowAt, lowerOf}
-use Rattle.log_effects.specs.Rows.{heldRow, keptRow}
-use Rattle.log_effects.specs.Table.{Keeps, Accessed, late, kept}
+use Rattle.log_clocks.specs.inner.Rows.{Row, rowAt, lowerOf}
+use Rattle.log_effects.specs.inner.Rows.{heldRow, keptRow}
+use Rattle.log_effects.specs.inner.Table.{Keeps, Accessed, late, kept}
 
 -- the rows are of the place
 first-or-second : (d : Bool) (a b most : ℕ) → a ≤ most → b ≤ most → cond d a b ≤ most

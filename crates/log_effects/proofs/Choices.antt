@@ -4,7 +4,7 @@ use mathlib.Core.Path.{_≡_, refl}
 use mathlib.Core.Bool.{Bool, true, false, _&&_, _||_, cond}
 use lib.Dec.{eqb}
 use Rattle.format.specs.Version.{v0, v1, versionOf}
-use Rattle.log_effects.specs.Rows.{volatilesOrder, passes}
+use Rattle.log_effects.specs.inner.Rows.{volatilesOrder, passes}
 
 pub passes-is : (monitor volatile n k : ℕ) → (eqb k monitor || (eqb k volatile && eqb n 1)) ≡ passes (versionOf n) monitor volatile k
 unfolding versionOf

@@ -9,8 +9,8 @@ use lib.Dec.{eqb}
 use lib.ListN.{length, set, length-set}
 use lib.Seq.{getD-set-same, getD-set-other}
 use borrow.Author.Tests.{ne-eqb, eq-eqb}
-use Rattle.log_clocks.specs.Rows.{Row, clockOf, noRow, rowAt, Raised, RaisedTo}
-use Rattle.log_effects.specs.Table.{Wide, clockAt, Stored, Keeps, Hears, Told, Started}
+use Rattle.log_clocks.specs.inner.Rows.{Row, clockOf, noRow, rowAt, Raised, RaisedTo}
+use Rattle.log_effects.specs.inner.Table.{Wide, clockAt, Stored, Keeps, Hears, Told, Started}
 
 module _ (rows : List Row) (q : ℕ) (wide : Wide rows) (inside : q < length rows) where
   stored : (row : Row) → length row ≡ 8 → Stored q rows (set rows q row)

@@ -2,7 +2,7 @@
 // records come to them, so that a log needs rows for its own places alone.
 ghost use Prim.Native.Nat.{_<_, _≤_};
 ghost use lib.ListN.{length};
-ghost use Rattle.log_effects.specs.Places.{Numbered};
+ghost use Rattle.log_effects.specs.inner.Places.{Numbered};
 
 // The number of a place, the next after those given where it has none yet, or 0 where none is left of as many as there are. `numbers` holds the number of
 // each place, or 0.

@@ -4,7 +4,7 @@ ghost use mathlib.Core.Path.{_≡_};
 ghost use mathlib.Core.Bool.{cond};
 ghost use Prim.Native.Nat.{_≤_};
 ghost use Rattle.format.specs.Version.{versionOf};
-ghost use Rattle.log_effects.specs.Rows.{placeRow, isAccess, passes, heldRow, keptRow};
+ghost use Rattle.log_effects.specs.inner.Rows.{placeRow, isAccess, passes, heldRow, keptRow};
 use log_records::kind;
 
 // Chooses without a branch, since a log's kinds follow no pattern.

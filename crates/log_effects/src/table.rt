@@ -3,7 +3,7 @@ ghost use mathlib.Core.Path.{_≡_};
 ghost use Prim.Native.Nat.{_+_, _<_, _≤_};
 ghost use lib.ListN.{length};
 ghost use Rattle.format.specs.Version.{versionOf};
-ghost use Rattle.log_effects.specs.Table.{Wide, Started, Keeps, Hears, Told, Accessed, Ready, Stepped};
+ghost use Rattle.log_effects.specs.inner.Table.{Wide, Started, Keeps, Hears, Told, Accessed, Ready, Stepped};
 use crate::rows;
 use log_clocks::Row;
 use log_decoding::Columns;

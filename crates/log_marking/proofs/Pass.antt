@@ -21,12 +21,12 @@ use Rattle.log_order.proofs.Ports.{Port, ofThread}
 use Rattle.log_order.proofs.Past.{past, past-suc, past-length, at→getD}
 use Rattle.log_order.proofs.Newest as N
 use Rattle.log_order.proofs.Turned.{chain→, chain←}
-use Rattle.log_decoding.specs.Columns.{ReadAt}
+use Rattle.log_decoding.specs.inner.Columns.{ReadAt}
 use Rattle.log_decoding.specs.declared.Columns.{Columns}
 use Rattle.log_decoding.proofs.Decoded.{kind-is-kind}
 use Rattle.side_by_side.proofs.Marks.{Wanted, draws, fed, wantedAfter, marksFrom, marksOf, targets, marked}
-use Rattle.log_marking.specs.Rows.{drawnRow, fedRow}
-use Rattle.log_marking.specs.Marked.{MarkedIn, SameBeyond}
+use Rattle.log_marking.specs.inner.Rows.{drawnRow, fedRow}
+use Rattle.log_marking.specs.inner.Marked.{MarkedIn, SameBeyond}
 use Rattle.log_marking.proofs.PortRows.{Valid, rowOf, row-below, row-once, drawnBy, drawnPort, fedBy, fedPort, drawn-valid, fed-valid, drawn-row, fed-row}
 use Rattle.log_marking.proofs.PortTests.{fed-ports, draws-own, draws-drawn, draws-no}
 

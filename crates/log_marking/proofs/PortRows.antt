@@ -8,7 +8,7 @@ use Rattle.format.proofs.Ranges.{by-range}
 use Rattle.log_records.specs.Record.{Kind, Record}
 use Rattle.log_records.specs.Packed.{kindOf}
 use Rattle.log_order.proofs.Ports.{Port, ofThread, ofMonitor, ofVolatile, ofAccesses, ofWrites}
-use Rattle.log_marking.specs.Rows.{monitorRow, fieldRow}
+use Rattle.log_marking.specs.inner.Rows.{monitorRow, fieldRow}
 
 -- a port that has a flag, and which it is; those of plain accesses have none, since nothing draws from them
 abbrev pub Valid : Port → Type 0

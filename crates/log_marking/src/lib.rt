@@ -5,7 +5,7 @@ mod rows; // rows.rt: the flags of what a move draws from and feeds
 ghost use mathlib.Core.Path.{_≡_};
 ghost use Prim.Native.Nat.{_≤_, _/_};
 ghost use lib.ListN.{length};
-ghost use Rattle.log_marking.specs.Marked.{MarkedIn, SameBeyond};
+ghost use Rattle.log_marking.specs.inner.Marked.{MarkedIn, SameBeyond};
 
 // The marks of the moves of a log in which every move has a record; what is lent past them stays.
 pub fn mark(log: &[u8], failing: usize, last: usize, kept: &mut [bool])

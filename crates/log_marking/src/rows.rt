@@ -2,8 +2,8 @@
 // of object o at 64 + 32 o + f.
 ghost use mathlib.Core.Path.{_≡_};
 ghost use mathlib.Core.Bool.{cond};
-ghost use Rattle.log_decoding.specs.Columns.{Narrow};
-ghost use Rattle.log_marking.specs.Rows.{drawnRow, fedRow};
+ghost use Rattle.log_decoding.specs.inner.Columns.{Narrow};
+ghost use Rattle.log_marking.specs.inner.Rows.{drawnRow, fedRow};
 use log_decoding::Columns;
 use log_records::kind;
 

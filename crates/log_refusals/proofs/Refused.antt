@@ -6,7 +6,7 @@ use mathlib.Core.Bool.{true, false}
 use mathlib.Core.List.{List}
 use mathlib.Core.Option.{some, none}
 use lib.ListN.{length}
-use Rattle.format.specs.Lowest.{Lowest}
+use Rattle.format.specs.inner.Lowest.{Lowest}
 use Rattle.format.proofs.RefusalLaws.{here, later, and-then, none-left, some-is-first, none-is-pass}
 use Rattle.log_records.specs.Packed.{recordCount}
 use Rattle.log_records.specs.Refusals.{wrongLogLength, wrongRecord, logChecks, logRefusal}

@@ -17,10 +17,10 @@ use Rattle.log_records.specs.Record.{Kind, new, read, write, readv, writev, acq
 use Rattle.log_records.specs.Packed.{kindOf, recordCount}
 use Rattle.log_records.specs.Refusals.{wrongColumns, wrongRecord}
 use Rattle.log_records.proofs.Accepted.{wrong-record}
-use Rattle.log_decoding.specs.Columns.{ReadAt}
+use Rattle.log_decoding.specs.inner.Columns.{ReadAt}
 use Rattle.log_decoding.specs.declared.Columns.{Columns}
 use Rattle.log_decoding.proofs.Decoded.{kind-is-kind, spare-of-word}
-use Rattle.log_refusals.specs.Limits.{leastBits, zeroBits}
+use Rattle.log_refusals.specs.inner.Limits.{leastBits, zeroBits}
 
 -- ---- the tables
 

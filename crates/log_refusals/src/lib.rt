@@ -3,10 +3,10 @@ ghost use mathlib.Core.Path.{_≡_};
 ghost use lib.Dec.{eqb};
 ghost use Prim.Native.Nat.{_+_, _/_, _<_};
 ghost use lib.ListN.{length};
-ghost use Rattle.format.specs.Lowest.{Lowest};
+ghost use Rattle.format.specs.inner.Lowest.{Lowest};
 ghost use Rattle.log_records.specs.Packed.{recordCount};
 ghost use Rattle.log_records.specs.Refusals.{wrongLogLength, wrongRecord};
-ghost use Rattle.log_refusals.specs.Limits.{leastBits, zeroBits, fourWrong, RightTo};
+ghost use Rattle.log_refusals.specs.inner.Limits.{leastBits, zeroBits, fourWrong, RightTo};
 ghost use mathlib.Core.Bool.{false};
 
 // Refusal 11: the length is no multiple of 3, or over 12,288.

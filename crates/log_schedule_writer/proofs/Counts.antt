@@ -7,7 +7,7 @@ use mathlib.Core.List.{List, [], _∷_}
 use lib.ListN.{length}
 use Rattle.log_records.specs.Record.{Record}
 use Rattle.side_by_side.specs.Schedule.{Numbers, firstNumbers, orZero, numbersAfter, nextAfter, picksFrom, picksOf}
-use Rattle.log_schedule_writer.specs.Kept.{countKept}
+use Rattle.log_schedule_writer.specs.inner.Kept.{countKept}
 
 module _ (kept : ℕ → Bool) where
   picks-length : (L : List Record) (i : ℕ) (τ : Numbers) (n : ℕ) → length (picksFrom kept i τ n L) ≡ countKept kept i (length L)

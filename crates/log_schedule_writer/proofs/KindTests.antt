@@ -8,7 +8,7 @@ use lib.Dec.{eqb}
 use Rattle.format.proofs.Ranges.{by-range}
 use Rattle.log_records.specs.Record.{Kind, write}
 use Rattle.log_records.specs.Packed.{kindOf, recordAt}
-use Rattle.log_decoding.specs.Columns.{ReadAt}
+use Rattle.log_decoding.specs.inner.Columns.{ReadAt}
 use Rattle.log_decoding.specs.declared.Columns.{Columns}
 use Rattle.log_decoding.proofs.Decoded.{kind-is-kind}
 use Rattle.side_by_side.specs.Schedule.{isFork}

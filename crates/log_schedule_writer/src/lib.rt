@@ -6,8 +6,8 @@ ghost use lib.ListN.{length};
 ghost use Rattle.format.specs.Area.{overwrite};
 ghost use Rattle.log_records.specs.Packed.{logOf};
 ghost use Rattle.answers.specs.Answer.{answered};
-ghost use Rattle.log_schedule_writer.specs.Kept.{flagged, countKept, HasLast, IsLast, Small, picksIn};
-ghost use Rattle.log_schedule_writer.specs.WritesFrom.{RacedIn, WritesFrom};
+ghost use Rattle.log_schedule_writer.specs.inner.Kept.{flagged, countKept, HasLast, IsLast, Small, picksIn};
+ghost use Rattle.log_schedule_writer.specs.inner.WritesFrom.{RacedIn, WritesFrom};
 use answers::Answered;
 use log_records::kind;
 

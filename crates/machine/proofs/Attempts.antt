@@ -14,10 +14,10 @@ use Rattle.rules.specs.Rules.{Rule}
 use Rattle.rules.specs.Step.{Act, waits, sticks, lacks, does, act, actᶜ, equalAct, AttemptOf, around, attemptAt, attemptBy, attempt}
 use Rattle.rules.proofs.Decompose.{focus-whole}
 use Rattle.rules.proofs.Progress.{Ruled}
-use Rattle.machine.specs.Frames.{Frame, Readyᶜ, Found}
-use Rattle.machine.specs.Refocusing.{upᶜ, go}
-use Rattle.machine.specs.Machine as machine
-use Rattle.machine.specs.Machine.{Table}
+use Rattle.machine.specs.inner.Frames.{Frame, Readyᶜ, Found}
+use Rattle.machine.specs.inner.Refocusing.{upᶜ, go}
+use Rattle.machine.specs.inner.Machine as machine
+use Rattle.machine.specs.inner.Machine.{Table}
 use Rattle.machine.proofs.Meaning.{context, contextᶜ, redexOf, redexᶜ, mean, resultOf}
 use Rattle.machine.proofs.Onward.{whole-go, whole-up, whole-enter}
 use Rattle.machine.proofs.StateMeaning.{get-map, Tabulates, meant, threadMeant, stateOf, actOf, attemptOf, become-of}

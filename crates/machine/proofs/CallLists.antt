@@ -9,7 +9,7 @@ use borrow.Author.Tests.{eqb-true, eqb-false}
 use Rattle.plan_packed.specs.Format.{procedures, terms, list, table, layout, tagAt, termAt}
 use Rattle.plan_packed.specs.Trees.{ArgumentsNode, Node, nodes, nodeAt, argumentsOf, expressionAt, argumentsAt}
 use Rattle.plan_packed.specs.Refusals.{listLength}
-use Rattle.plan_packed.specs.Steps.{Descending}
+use Rattle.plan_packed.specs.inner.Steps.{Descending}
 use Rattle.plan_packed.proofs.WellFormed.{count}
 use Rattle.plan_packed.proofs.Accepted.{Accepted}
 use Rattle.plan_packed.proofs.Decoded.{node-is}

@@ -8,11 +8,11 @@ use mathlib.Core.Option.{Option, some, none}
 use Rattle.plan_packed.specs.Syntax.{Expression, Condition, Arguments, substitute, substituteᶜ, substituteᵃ}
 use Rattle.plan_packed.specs.Trees.{null, variable, new, read, write, letIn, if, while, call, fork, join, synch, signal, truth, not, and, equal, list, listEnd}
 use Rattle.plan_packed.specs.Trees.{Node, expression, condition, arguments, unknown, expressionOf, conditionOf, argumentsOf}
-use Rattle.plan_packed.specs.Steps.{NamesLater, Descending}
+use Rattle.plan_packed.specs.inner.Steps.{NamesLater, Descending}
 use Rattle.plan_packed.proofs.TreeLaws.{tree, treeᶜ, treeᵃ, tree-law, tree-lawᶜ, tree-lawᵃ}
 use Rattle.rules.specs.Context.{asLiteral, asBool, isTruth, falseWhen, Focus, focus, focusᶜ, focusᵃ, onLiteral, onBool, onNot}
-use Rattle.machine.specs.Frames.{Slots, noSlots, put, Closure, closure, Frame, Found}
-use Rattle.machine.specs.Refocusing.{given, valueOf, isTrue, boolOf, valueIn, boolIn, foundNot, downBy, downByᶜ, downByᵃ, down, downᶜ, downᵃ}
+use Rattle.machine.specs.inner.Frames.{Slots, noSlots, put, Closure, closure, Frame, Found}
+use Rattle.machine.specs.inner.Refocusing.{given, valueOf, isTrue, boolOf, valueIn, boolIn, foundNot, downBy, downByᶜ, downByᵃ, down, downᶜ, downᵃ}
 use Rattle.machine.proofs.Substitution.{every, firstSlots, first-put}
 use Rattle.machine.proofs.Meaning.{expressionIn, conditionIn, argumentsIn, context, contextᶜ, mean}
 

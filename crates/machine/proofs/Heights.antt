@@ -9,11 +9,11 @@ use mathlib.Core.Option.{Option, some, none, Option·some-ne-none}
 use lib.ListN.{length}
 use Rattle.plan_packed.specs.Trees.{null, variable, new, read, write, letIn, if, while, call, fork, join, synch, signal, truth, not, and, equal, list, listEnd}
 use Rattle.plan_packed.specs.Trees.{Node, expression, condition, arguments, unknown}
-use Rattle.plan_packed.specs.Steps.{NamesLater, Descending}
+use Rattle.plan_packed.specs.inner.Steps.{NamesLater, Descending}
 use Rattle.rules.specs.Context.{falseWhen}
-use Rattle.machine.specs.Frames.{Slots, noSlots, put, Closure, closure, Frame, Found, height}
-use Rattle.machine.specs.Refocusing.{given, valueOf, isTrue, boolOf, valueIn, boolIn, foundNot, downBy, downByᶜ, downByᵃ, down, downᶜ, downᵃ}
-use Rattle.machine.specs.Turns.{Going, Turn, ends, goes, goDown, goDownᶜ, goList, refocus, truthTurn, turn}
+use Rattle.machine.specs.inner.Frames.{Slots, noSlots, put, Closure, closure, Frame, Found, height}
+use Rattle.machine.specs.inner.Refocusing.{given, valueOf, isTrue, boolOf, valueIn, boolIn, foundNot, downBy, downByᶜ, downByᵃ, down, downᶜ, downᵃ}
+use Rattle.machine.specs.inner.Turns.{Going, Turn, ends, goes, goDown, goDownᶜ, goList, refocus, truthTurn, turn}
 use Rattle.machine.proofs.Levels.{level, levelᶜ, levelᵃ, up-level}
 
 -- a condition that is true is true at its node

@@ -6,9 +6,9 @@ use mathlib.Core.List.{List, [], _∷_}
 use mathlib.Core.Option.{Option, some, none}
 use Rattle.plan_packed.specs.Trees.{null, variable, new, read, write, letIn, if, while, call, fork, join, synch, signal, truth, not, and, equal, list, listEnd}
 use Rattle.plan_packed.specs.Trees.{Node, expression, condition, arguments, unknown}
-use Rattle.plan_packed.specs.Steps.{NamesLater}
-use Rattle.machine.specs.Frames.{Slots, noSlots, put, Closure, closure, Frame, Found}
-use Rattle.machine.specs.Refocusing.{given, valueIn, boolIn, foundNot, downBy, downByᶜ, downByᵃ, upBy}
+use Rattle.plan_packed.specs.inner.Steps.{NamesLater}
+use Rattle.machine.specs.inner.Frames.{Slots, noSlots, put, Closure, closure, Frame, Found}
+use Rattle.machine.specs.inner.Refocusing.{given, valueIn, boolIn, foundNot, downBy, downByᶜ, downByᵃ, upBy}
 
 module _ (h : ℕ → Node) {R R′ : Type 0} (Related : R → R′ → Type 0) (found : Found → R) (found′ : Found → R′) (hf : (F : Found) → Related (found F) (found′ F))
     (d c : List Frame → Closure → R) (l : List Frame → ℕ → ℕ → Slots → Closure → R)

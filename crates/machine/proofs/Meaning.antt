@@ -6,8 +6,8 @@ use Rattle.plan_packed.specs.Syntax.{Expression, Condition, Arguments, literal,
 use Rattle.plan_packed.specs.Trees.{Node}
 use Rattle.plan_packed.proofs.TreeLaws.{tree, treeᶜ, treeᵃ}
 use Rattle.rules.specs.Context.{Context, Contextᶜ, Redex, Redexᶜ, Focus}
-use Rattle.machine.specs.Frames.{Closure, Branches, firstOf, secondOf, Frame, read, write₁, write₂, call, letIn, synch, hold, join, signal, equal₁}
-use Rattle.machine.specs.Frames.{equal₂, if, and, not, whileTest, whileBody, Ready, Readyᶜ, Found, Result}
+use Rattle.machine.specs.inner.Frames.{Closure, Branches, firstOf, secondOf, Frame, read, write₁, write₂, call, letIn, synch, hold, join, signal, equal₁}
+use Rattle.machine.specs.inner.Frames.{equal₂, if, and, not, whileTest, whileBody, Ready, Readyᶜ, Found, Result}
 use Rattle.machine.proofs.Substitution.{every, firstSlots}
 
 module _ (h : ℕ → Node) (N : ℕ) where

@@ -18,10 +18,10 @@ use Rattle.rules.specs.Rules.{isVolatile, e-call, e-let, e-if}
 use Rattle.rules.specs.Step.{Stuck, Act, waits, sticks, lacks, does, callAct, readAct, writeAct, joinAct, synchAct, holdAct, signalMove, signalAct, wakeAct}
 use Rattle.rules.specs.Step.{act, AttemptOf}
 use Rattle.rules.proofs.Progress.{Ruled}
-use Rattle.machine.specs.Frames.{Slots, Closure, closure, Ready, Result}
-use Rattle.machine.specs.Refocusing.{enter, go}
-use Rattle.machine.specs.Machine as machine
-use Rattle.machine.specs.Machine.{Table}
+use Rattle.machine.specs.inner.Frames.{Slots, Closure, closure, Ready, Result}
+use Rattle.machine.specs.inner.Refocusing.{enter, go}
+use Rattle.machine.specs.inner.Machine as machine
+use Rattle.machine.specs.inner.Machine.{Table}
 use Rattle.machine.proofs.Substitution.{every, firstSlots, first-length, let-put, call-slots}
 use Rattle.machine.proofs.Meaning.{expressionIn, redexOf}
 use Rattle.machine.proofs.Onward.{whole-go}

@@ -12,7 +12,7 @@ use lib.ListN.{getElem?}
 use borrow.Author.Tests.{eq-eqb, ne-eqb}
 use Rattle.plan_packed.specs.Format.{maskBit, fieldsFrom}
 use Rattle.rules.specs.State.{Cell, Field, Object, fresh, freshFields, freshObject, changeAt, findField, storeField, fieldOf, monitorOf}
-use Rattle.machine.specs.Memory.{Memory, fieldsAt, objectAt, objectsFrom, objectsOf, storeCell, addMask}
+use Rattle.machine.specs.inner.Memory.{Memory, fieldsAt, objectAt, objectsFrom, objectsOf, storeCell, addMask}
 
 -- ---- the fields of an object
 

@@ -8,14 +8,14 @@ use mathlib.Core.List.{List, [], _∷_, _++_, append-nil, append-assoc}
 use mathlib.Core.Option.{Option, some, none}
 use Rattle.plan_packed.specs.Syntax.{Expression, Condition, Arguments, literal, argument, bool, substitute}
 use Rattle.plan_packed.specs.Trees.{Node, expressionOf}
-use Rattle.plan_packed.specs.Steps.{Descending}
+use Rattle.plan_packed.specs.inner.Steps.{Descending}
 use Rattle.plan_packed.proofs.TreeLaws.{tree-law}
 use Rattle.rules.specs.Context.{Context, top, literals, plug, plugᶜ, asLiteral, asBool, Redex, Redexᶜ, redexExpression, redexCondition, focus, focusᵃ}
 use Rattle.rules.proofs.Decompose.{whole, whole-focus}
 use Rattle.rules.proofs.FocusPlug.{found, foundᶜ, focus-plug, focus-plugᶜ}
 use Rattle.rules.proofs.Back.{as-literal, as-bool}
-use Rattle.machine.specs.Frames.{Slots, put, Closure, closure, firstOf, secondOf, Frame, Ready, Result}
-use Rattle.machine.specs.Refocusing.{given, valueIn, boolIn, down, downᶜ, up, nowhere, upᶜ, enter, enterᶜ, go}
+use Rattle.machine.specs.inner.Frames.{Slots, put, Closure, closure, firstOf, secondOf, Frame, Ready, Result}
+use Rattle.machine.specs.inner.Refocusing.{given, valueIn, boolIn, down, downᶜ, up, nowhere, upᶜ, enter, enterᶜ, go}
 use Rattle.machine.proofs.Substitution.{firstSlots, first-put}
 use Rattle.machine.proofs.Meaning.{expressionIn, conditionIn, argumentsIn, bodyIn, whileIn, turnIn, context, contextᶜ, redexOf, mean, resultOf}
 use Rattle.machine.proofs.Down.{value-in, bool-in, by-literal, down-focus, down-focusᶜ, down-focusᵃ}

@@ -8,8 +8,8 @@ use mathlib.Core.Bool.{cond}
 use lib.Dec.{eqb}
 use lib.Pow.{pow-add}
 use borrow.Author.Tests.{eq-eqb, ne-eqb}
-use Rattle.machine.specs.Frames.{put}
-use Rattle.machine.specs.PackedSlots.{slotsIn, putIn}
+use Rattle.machine.specs.inner.Frames.{put}
+use Rattle.machine.specs.inner.PackedSlots.{slotsIn, putIn}
 
 -- a slot's unit, one slot up
 unit-up : (x : ℕ) → 2 ^ (5 * suc x) ≡ 2 ^ (5 * x) * 32

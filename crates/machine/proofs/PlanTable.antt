@@ -10,14 +10,14 @@ use Rattle.plan_packed.specs.Format.{procedures, terms, parameters, root, Opera
 use Rattle.plan_packed.specs.Format.{layout, tagAt}
 use Rattle.plan_packed.specs.Trees.{nodeAt, treeAt, procedureAt, programOf}
 use Rattle.plan_packed.specs.Slots.{closed}
-use Rattle.plan_packed.specs.Steps.{Descending}
+use Rattle.plan_packed.specs.inner.Steps.{Descending}
 use Rattle.plan_packed.proofs.Accepted.{Fits, Accepted}
 use Rattle.plan_packed.proofs.Decoded.{procedures-inside}
 use Rattle.plan_packed.proofs.SingleTerm.{IfChild}
 use Rattle.plan_packed.proofs.NodeOrder.{descending}
 use Rattle.plan_packed.proofs.TreeLaws.{tree}
 use Rattle.rules.specs.Rules.{isVolatile}
-use Rattle.machine.specs.Playing.{tableOf}
+use Rattle.machine.specs.inner.Playing.{tableOf}
 use Rattle.machine.proofs.StateMeaning.{Tabulates}
 
 -- ---- a term's children come after it

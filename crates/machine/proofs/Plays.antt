@@ -14,9 +14,9 @@ use Rattle.rules.specs.Room.{PickAnswerOf}
 use Rattle.rules.specs.Run.{Run, run, play, statusesFrom, outcomeOf}
 use Rattle.rules.proofs.Decompose.{whole}
 use Rattle.rules.proofs.Executed.{Reachable, reachable-start}
-use Rattle.machine.specs.Machine as machine
-use Rattle.machine.specs.Playing as playing
-use Rattle.machine.specs.Playing.{tableOf}
+use Rattle.machine.specs.inner.Machine as machine
+use Rattle.machine.specs.inner.Playing as playing
+use Rattle.machine.specs.inner.Playing.{tableOf}
 use Rattle.machine.proofs.Substitution.{firstSlots}
 use Rattle.machine.proofs.Runs.{Reached, step-reached, runMeant, run-of, run-reached, statuses-of, totals-of}
 use Rattle.machine.proofs.PlanTable.{tabulates}

@@ -22,9 +22,9 @@ use Rattle.rules.proofs.RoomLaws.{answer-moved}
 use Rattle.rules.proofs.Equivalence.{step-sound}
 use Rattle.rules.proofs.Executed.{Reachable, reachable-move}
 use Rattle.rules.proofs.TidyRuns.{Roomy, tidy-move}
-use Rattle.machine.specs.Machine as machine
-use Rattle.machine.specs.Machine.{Table}
-use Rattle.machine.specs.Playing as playing
+use Rattle.machine.specs.inner.Machine as machine
+use Rattle.machine.specs.inner.Machine.{Table}
+use Rattle.machine.specs.inner.Playing as playing
 use Rattle.machine.proofs.Meaning.{mean}
 use Rattle.machine.proofs.Sorted.{WellFound, depth-height}
 use Rattle.machine.proofs.Attempts.{attempt-of}

@@ -8,8 +8,8 @@ use lib.ListN.{length}
 use Rattle.plan_packed.specs.Trees.{null, variable, new, read, write, letIn, if, while, call, fork, join, synch, signal, truth, not, and, equal, list, listEnd}
 use Rattle.plan_packed.specs.Trees.{Node, expression, condition, arguments, unknown}
 use Rattle.rules.specs.Context.{depth, depthᶜ, depthOf}
-use Rattle.machine.specs.Frames.{Slots, noSlots, put, Closure, closure, firstOf, secondOf, Frame, Found, height, Result}
-use Rattle.machine.specs.Refocusing.{given, valueIn, boolIn, foundNot, downBy, downByᶜ, downByᵃ, down, downᶜ, downᵃ, up, upᶜ, enter, enterᶜ, go}
+use Rattle.machine.specs.inner.Frames.{Slots, noSlots, put, Closure, closure, firstOf, secondOf, Frame, Found, height, Result}
+use Rattle.machine.specs.inner.Refocusing.{given, valueIn, boolIn, foundNot, downBy, downByᶜ, downByᵃ, down, downᶜ, downᵃ, up, upᶜ, enter, enterᶜ, go}
 use Rattle.machine.proofs.Meaning.{context, contextᶜ, mean}
 
 abbrev mutual

@@ -8,8 +8,8 @@ use Rattle.rules.specs.State.{Cell, Thread, monitorOf, lookup, monitor}
 use Rattle.rules.proofs.Decompose.{focus-whole}
 use Rattle.rules.proofs.Placed.{Good, holds, GivenUp}
 use Rattle.rules.proofs.Invariant.{In, heldBy}
-use Rattle.machine.specs.Machine as machine
-use Rattle.machine.specs.Machine.{Table}
+use Rattle.machine.specs.inner.Machine as machine
+use Rattle.machine.specs.inner.Machine.{Table}
 use Rattle.machine.proofs.Meaning.{mean}
 use Rattle.machine.proofs.Runs.{Reached}
 use Rattle.machine.proofs.StateMeaning.{threadMeant, get-map}

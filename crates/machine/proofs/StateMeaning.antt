@@ -9,7 +9,7 @@ use lib.ListN.{getElem?}
 use Rattle.run_keys.specs.Keys.{Keys}
 use Rattle.plan_packed.specs.Syntax.{Expression, Condition, Procedure, Program, bind, substitute}
 use Rattle.plan_packed.specs.Slots.{closed}
-use Rattle.plan_packed.specs.Steps.{Descending}
+use Rattle.plan_packed.specs.inner.Steps.{Descending}
 use Rattle.plan_packed.proofs.TreeLaws.{tree, treeᶜ}
 use Rattle.rules.specs.Context.{asLiteral}
 use Rattle.rules.specs.Queue.{Place, lastPlace, movedUp}
@@ -17,9 +17,9 @@ use Rattle.rules.specs.State.{Thread, State, Numbered, changeAt, gain, become, 
 use Rattle.rules.specs.Rules.{isVolatile}
 use Rattle.rules.specs.Step.{Act, waits, sticks, lacks, does, joinValue, joinAct, AttemptOf, Attempt}
 use Rattle.rules.proofs.Decompose.{whole, no-literal}
-use Rattle.machine.specs.Frames.{Branches, closure, firstOf, secondOf, Found, Result}
-use Rattle.machine.specs.Machine as machine
-use Rattle.machine.specs.Machine.{Table}
+use Rattle.machine.specs.inner.Frames.{Branches, closure, firstOf, secondOf, Found, Result}
+use Rattle.machine.specs.inner.Machine as machine
+use Rattle.machine.specs.inner.Machine.{Table}
 use Rattle.machine.proofs.Substitution.{let-nothing, let-nothingᶜ}
 use Rattle.machine.proofs.Meaning.{expressionIn, whileIn, mean, resultOf}
 

@@ -14,7 +14,7 @@ use borrow.Author.Tests.{eq-eqb, ne-eqb}
 use Rattle.plan_packed.specs.Syntax.{Expression, Condition, Arguments, Environment, bind, bindParameters, without, valueOr, substitute, substituteᶜ, substituteᵃ}
 use Rattle.plan_packed.specs.Slots.{bound, closed, closedᶜ, closedᵃ}
 use Rattle.rules.proofs.StateLaws.{added-old, added-new, length-added}
-use Rattle.machine.specs.Frames.{Slots, put, putBound}
+use Rattle.machine.specs.inner.Frames.{Slots, put, putBound}
 
 -- ---- substitutions compose
 

@@ -7,10 +7,10 @@ use mathlib.Core.Bool.{Bool, true, false}
 use mathlib.Core.List.{List, [], _∷_}
 use mathlib.Core.Option.{Option, some, none}
 use Rattle.plan_packed.specs.Trees.{Node}
-use Rattle.plan_packed.specs.Steps.{Descending}
-use Rattle.machine.specs.Frames.{Slots, Closure, Frame, Found}
-use Rattle.machine.specs.Refocusing.{given, valueIn, boolIn, downBy, down, downᶜ, downᵃ, up, upᶜ, enter, enterᶜ}
-use Rattle.machine.specs.Turns.{Going, Turn, ends, goes, goDown, goDownᶜ, goList, refocus, truthTurn, turn, refocusTurn}
+use Rattle.plan_packed.specs.inner.Steps.{Descending}
+use Rattle.machine.specs.inner.Frames.{Slots, Closure, Frame, Found}
+use Rattle.machine.specs.inner.Refocusing.{given, valueIn, boolIn, downBy, down, downᶜ, downᵃ, up, upᶜ, enter, enterᶜ}
+use Rattle.machine.specs.inner.Turns.{Going, Turn, ends, goes, goDown, goDownᶜ, goList, refocus, truthTurn, turn, refocusTurn}
 use Rattle.machine.proofs.Levels.{level, levelᶜ, levelᵃ, up-level}
 
 module _ (h : ℕ → Node) (N : ℕ) (o : Descending h N) where

@@ -9,7 +9,7 @@ use Rattle.format.proofs.RefusalLaws.{refusal-append}
 use Rattle.plan_packed.specs.Format.{terms}
 use Rattle.plan_packed.specs.Refusals.{wrongTerm}
 use Rattle.plan_packed.specs.Check.{checks, refusal}
-use Rattle.plan_packed.specs.Steps.{Loaded}
+use Rattle.plan_packed.specs.inner.Steps.{Loaded}
 use Rattle.plan_refusals.specs.Answer.{answered}
 use Rattle.plan_refusals.proofs.Stages.{refused-first, passed-first, passed-none}
 use Rattle.plan_refusals.specs.declared.Checked.{Checked}

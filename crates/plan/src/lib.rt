@@ -11,8 +11,8 @@ ghost use lib.ListN.{take, drop, replicate};
 ghost use Rattle.format.specs.Refusal.{firstRefusal};
 ghost use Rattle.plan_packed.specs.Check.{checks, refusal};
 ghost use Rattle.plan_packed.specs.Format.{terms};
-ghost use Rattle.plan_packed.specs.Rows.{layoutRows};
-ghost use Rattle.plan_packed.specs.Steps.{Right, Loaded, TermsNoted};
+ghost use Rattle.plan_packed.specs.inner.Rows.{layoutRows};
+ghost use Rattle.plan_packed.specs.inner.Steps.{Right, Loaded, TermsNoted};
 ghost use Rattle.plan_refusals.specs.Answer.{answered};
 
 // Refusals 1 to 3: the length, the header and the mask, the procedures.

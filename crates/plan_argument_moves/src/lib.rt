@@ -6,8 +6,8 @@ use plan_parser_goals::go;
 use plan_parser_goals::stop;
 ghost use Prim.Native.Nat.{_<_, _≤_, _-_, _/_, _%_};
 ghost use Rattle.plan_parsing.specs.Goals.{expect, binder, fields, procedure, further, count};
-ghost use Rattle.plan_parser_goals.specs.Encoded.{goalOf};
-ghost use Rattle.plan_parser_goals.specs.Moves.{Moves, Calls};
+ghost use Rattle.plan_parser_goals.specs.inner.Encoded.{goalOf};
+ghost use Rattle.plan_parser_goals.specs.inner.Moves.{Moves, Calls};
 
 // This token.
 pub fn expect(code: usize, sight: Sight) -> Move

@@ -7,15 +7,15 @@ use native.Mathlib.Omega.{arith}
 use lib.ListN.{getD}
 use Rattle.format.proofs.Ranges.{NoneOf}
 use Rattle.plan_packed.specs.Format.{layout, table}
-use Rattle.plan_packed.specs.Operands.{tagOf}
+use Rattle.plan_packed.specs.inner.Operands.{tagOf}
 use Rattle.plan_packed.specs.Trees.{nodes, nodeOf, conditionOf}
 use Rattle.plan_packed.specs.Slots.{closed, closedᶜ}
-use Rattle.plan_packed.specs.Steps.{slots, inWord, treeIn, conditionIn, listIn}
-use Rattle.plan_bound_slots.specs.Left.{seen, After}
+use Rattle.plan_packed.specs.inner.Steps.{slots, inWord, treeIn, conditionIn, listIn}
+use Rattle.plan_bound_slots.specs.inner.Left.{seen, After}
 use Rattle.plan_bound_slots.specs.declared.Rest.{Rest}
 use Rattle.plan_bound_slots.specs.declared.Rest.the-variants.{At}
 use Rattle.plan_packed.proofs.Walk.{cond-is, row-below, cond-rest}
-use Rattle.plan_bound_slots.specs.Left.{seen, After}
+use Rattle.plan_bound_slots.specs.inner.Left.{seen, After}
 use Rattle.plan_bound_slots.specs.declared.Rest.{Rest}
 use Rattle.plan_bound_slots.specs.declared.Rest.the-variants.{At}
 use Rattle.plan_packed.proofs.WalkSteps.{and-true, and-false, and-swap, mod-below, beyond}

@@ -6,14 +6,14 @@ use Prim.Native.Nat.{ℕ, _+_, _-_, _*_, _<_}
 use lib.ListN.{getD}
 use Rattle.format.proofs.Ranges.{NoneOf}
 use Rattle.plan_packed.specs.Format.{layout, table}
-use Rattle.plan_packed.specs.Operands as word
+use Rattle.plan_packed.specs.inner.Operands as word
 use Rattle.plan_packed.specs.Trees.{nodes, nodeOf, binderOf, expressionOf}
 use Rattle.plan_packed.specs.Slots.{closed, closedᶜ, closedᵃ, bound}
-use Rattle.plan_packed.specs.Steps.{Ordered, bitOf, withSlot, slots, inWord, treeIn, conditionIn, listIn, leafIn}
+use Rattle.plan_packed.specs.inner.Steps.{Ordered, bitOf, withSlot, slots, inWord, treeIn, conditionIn, listIn, leafIn}
 use Rattle.plan_packed.proofs.Walk.{expr-is, row-below, expr-rest}
 use Rattle.plan_packed.proofs.SlotMasks.{bound-is}
 use Rattle.plan_packed.proofs.WalkSteps.{and-true, and-false, and-swap, and-no, and-three, and-none, mod-below, apart, inside}
-use Rattle.plan_bound_slots.specs.Left.{told, seen, After}
+use Rattle.plan_bound_slots.specs.inner.Left.{told, seen, After}
 use Rattle.plan_bound_slots.specs.declared.Rest.{Rest}
 use Rattle.plan_bound_slots.specs.declared.Rest.the-variants.{Closed, Open, At}
 use Rattle.plan_bound_slots.proofs.LeftLaws.{seen-told, after-told}

@@ -3,7 +3,7 @@ use Prim.Native.Nat.{ℕ}
 use mathlib.Core.Path.{_≡_, refl}
 use mathlib.Core.Bool.{Bool, true, false}
 use mathlib.Core.List.{List}
-use Rattle.plan_bound_slots.specs.Left.{told, seen, After}
+use Rattle.plan_bound_slots.specs.inner.Left.{told, seen, After}
 
 pub seen-told : (ws : List ℕ) (x : Bool) → seen ws (told x) ≡ x
 unfolding seen told

@@ -6,7 +6,7 @@ use Prim.Native.Nat.{ℕ, _+_, _-_, _*_, _<_}
 use Rattle.plan_packed.specs.Format.{layout, table}
 use Rattle.plan_packed.specs.Trees.{nodes, nodeOf, argumentsOf}
 use Rattle.plan_packed.specs.Slots.{closed, closedᵃ}
-use Rattle.plan_packed.specs.Steps.{inWord, treeIn, conditionIn, listIn}
+use Rattle.plan_packed.specs.inner.Steps.{inWord, treeIn, conditionIn, listIn}
 use Rattle.plan_packed.proofs.Walk.{list-is, row-below, list-rest}
 use Rattle.plan_packed.proofs.WalkSteps.{and-true, and-false, mod-below, beyond}
 use Rattle.plan_bound_slots.proofs.TermParts.{Tagged, firstOf, secondOf, Call}

@@ -10,7 +10,7 @@ use Rattle.format.proofs.BitLaws.{shl-one}
 use Rattle.plan_packed.specs.Format.{parameters, root}
 use Rattle.plan_packed.specs.Slots.{closed}
 use Rattle.plan_packed.specs.Refusals.{usesUnboundSlot}
-use Rattle.plan_packed.specs.Steps.{Right, Loaded, Ordered, slots, treeIn}
+use Rattle.plan_packed.specs.inner.Steps.{Right, Loaded, Ordered, slots, treeIn}
 use Rattle.plan_packed.proofs.Reading.{procedures-lt}
 use Rattle.plan_packed.proofs.Shown.{parameters-small, root-below}
 use Rattle.plan_packed.proofs.NodeOrder.{ordered, tree-is}

@@ -4,9 +4,9 @@ use mathlib.Core.Bool.{Bool}
 use mathlib.Core.List.{List}
 use Prim.Native.Nat.{ℕ, _+_, _-_, _*_, _<_}
 use lib.ListN.{getD}
-use Rattle.plan_packed.specs.Operands as word
+use Rattle.plan_packed.specs.inner.Operands as word
 use Rattle.plan_packed.specs.Slots.{closed}
-use Rattle.plan_packed.specs.Steps.{Ordered, treeIn, leafIn}
+use Rattle.plan_packed.specs.inner.Steps.{Ordered, treeIn, leafIn}
 use Rattle.plan_packed.proofs.Walk.{leaf-is}
 
 -- term t has tag k

@@ -7,12 +7,12 @@ ghost use mathlib.Core.Path.{_≡_};
 ghost use mathlib.Core.Bool.{_&&_};
 ghost use Prim.Native.Nat.{ℕ, _<_};
 ghost use lib.Dec.{ltb};
-ghost use Rattle.format.specs.Lowest.{Lowest};
-ghost use Rattle.plan_packed.specs.Operands.{tagOf};
+ghost use Rattle.format.specs.inner.Lowest.{Lowest};
+ghost use Rattle.plan_packed.specs.inner.Operands.{tagOf};
 ghost use Rattle.plan_packed.specs.Slots.{closed, closedᶜ, closedᵃ};
 ghost use Rattle.plan_packed.specs.Refusals.{usesUnboundSlot};
-ghost use Rattle.plan_packed.specs.Steps.{Right, Loaded, bitOf, withSlot, slots, Ordered, treeIn, conditionIn, listIn, leafIn};
-ghost use Rattle.plan_bound_slots.specs.Left.{told, seen, After};
+ghost use Rattle.plan_packed.specs.inner.Steps.{Right, Loaded, bitOf, withSlot, slots, Ordered, treeIn, conditionIn, listIn, leafIn};
+ghost use Rattle.plan_bound_slots.specs.inner.Left.{told, seen, After};
 
 // What is left to see of an expression: nothing, and all slots are bound, or one is not; or the term of an index, with what is bound there.
 enum Rest {

@@ -5,15 +5,15 @@ use mathlib.Core.List.{List, [], _∷_}
 use Prim.Native.Nat.{ℕ, _-_}
 use Rattle.format.proofs.Ranges.{NoneOf}
 use Rattle.plan_packed.specs.Format.{layout, table}
-use Rattle.plan_packed.specs.Operands as word
+use Rattle.plan_packed.specs.inner.Operands as word
 use Rattle.plan_packed.specs.Trees.{nodes, nodeOf, conditionOf, argumentsOf}
-use Rattle.plan_packed.specs.Steps.{Ordered, inWord, treeIn, conditionIn, listIn}
+use Rattle.plan_packed.specs.inner.Steps.{Ordered, inWord, treeIn, conditionIn, listIn}
 use Rattle.plan_packed.proofs.Children.{list-ends}
 use Rattle.plan_packed.proofs.SingleTerm.{rowOf}
 use Rattle.plan_packed.proofs.Tags.{except}
 use Rattle.plan_packed.proofs.Walk.{cond-is, list-is, row-below}
 use Rattle.plan_packed.proofs.WalkSteps.{mod-below}
-use Rattle.plan_cost_walk.specs.Walked.{more, walked, walkedᶜ, walkedᵃ}
+use Rattle.plan_cost_walk.specs.inner.Walked.{more, walked, walkedᶜ, walkedᵃ}
 use Rattle.plan_cost_walk.proofs.Expressions.{wordOf, Tagged, firstOf, secondOf, Call, child}
 
 -- ---- the calls on the children of term t

@@ -8,14 +8,14 @@ use lib.ListN.{getD}
 use Rattle.format.proofs.Ranges.{NoneOf}
 use Rattle.plan_packed.specs.Syntax.{Expression, Condition, Arguments}
 use Rattle.plan_packed.specs.Format.{layout, table}
-use Rattle.plan_packed.specs.Operands as word
+use Rattle.plan_packed.specs.inner.Operands as word
 use Rattle.plan_packed.specs.Trees.{nodes, nodeOf, expressionOf}
-use Rattle.plan_packed.specs.Steps.{Ordered, inWord, treeIn, conditionIn, listIn}
+use Rattle.plan_packed.specs.inner.Steps.{Ordered, inWord, treeIn, conditionIn, listIn}
 use Rattle.plan_packed.proofs.SingleTerm.{rowOf}
 use Rattle.plan_packed.proofs.Tags.{except}
 use Rattle.plan_packed.proofs.Walk.{expr-is, row-below}
 use Rattle.plan_packed.proofs.WalkSteps.{mod-below}
-use Rattle.plan_cost_walk.specs.Walked.{more, called, branches, walked, walkedᶜ, walkedᵃ}
+use Rattle.plan_cost_walk.specs.inner.Walked.{more, called, branches, walked, walkedᶜ, walkedᵃ}
 
 -- the 40 bits of term t
 abbrev pub wordOf : List ℕ → ℕ → ℕ

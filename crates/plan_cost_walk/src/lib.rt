@@ -4,8 +4,8 @@
 use plan_operands::tags;
 ghost use mathlib.Core.Path.{_≡_};
 ghost use Prim.Native.Nat.{_+_, _<_};
-ghost use Rattle.plan_packed.specs.Steps.{Ordered, treeIn, conditionIn, listIn};
-ghost use Rattle.plan_cost_walk.specs.Walked.{capped, more, called, branches, entryOf, walked, walkedᶜ, walkedᵃ};
+ghost use Rattle.plan_packed.specs.inner.Steps.{Ordered, treeIn, conditionIn, listIn};
+ghost use Rattle.plan_cost_walk.specs.inner.Walked.{capped, more, called, branches, entryOf, walked, walkedᶜ, walkedᵃ};
 
 // Over the most that is answered.
 pub const OVER: usize = 65536;

@@ -4,10 +4,10 @@ pub mod layout; // layout.rt: the numbers of the header, of the mask and of the 
 ghost use mathlib.Core.Path.{_≡_};
 ghost use Prim.Native.Nat.{_+_, _*_, _<_, _≤_};
 ghost use lib.ListN.{length};
-ghost use Rattle.format.specs.Lowest.{Lowest};
+ghost use Rattle.format.specs.inner.Lowest.{Lowest};
 ghost use Rattle.plan_packed.specs.Format.{terms};
 ghost use Rattle.plan_packed.specs.Refusals.{wrongLength, wrongHeader, wrongProcedure};
-ghost use Rattle.plan_packed.specs.Steps.{Sized};
+ghost use Rattle.plan_packed.specs.inner.Steps.{Sized};
 
 pub fn wrong_length(plan: &[u8]) -> bool
     ensures { λ r. ⌜ r ≡ wrongLength (now (plan .entry)) ⌝ }

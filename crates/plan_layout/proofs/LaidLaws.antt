@@ -10,7 +10,7 @@ use lib.Seq.{drop-cons}
 use Rattle.plan_notation.specs.Tokens.{textOf}
 use Rattle.plan_notation.specs.Layout.{Pen, penAfter, laidFrom}
 use Rattle.plan_pen.specs.declared.Gap.{Gap}
-use Rattle.plan_pen.specs.Pens.{gapBytes, Parts}
+use Rattle.plan_pen.specs.inner.Pens.{gapBytes, Parts}
 
 -- a gap is short
 pub gap-short : (g : Gap) → g .spaces ≤ 40 → length (gapBytes g) ≤ 41

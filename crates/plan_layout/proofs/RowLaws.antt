@@ -7,7 +7,7 @@ use mathlib.Core.List.{List, [], _∷_, map}
 use lib.ListN.{length, getD, List·getD-append}
 use Rattle.text.specs.Text.{ascii}
 use Rattle.plan_notation.specs.Tokens.{textEnd, texts, textOf}
-use Rattle.plan_layout.specs.Rows.{textRow, textRows}
+use Rattle.plan_layout.specs.inner.Rows.{textRow, textRows}
 
 -- the place of a list that is made from another
 map-at : {A B : Type 0} (f : A → B) (l : List A) (n : ℕ) (a : A) (b : B) → n < length l → getD (map f l) n b ≡ f (getD l n a)

@@ -7,12 +7,12 @@ ghost use mathlib.Core.Path.{_≡_};
 ghost use Prim.Native.Nat.{_+_, _<_, _≤_};
 ghost use lib.ListN.{length, replicate};
 ghost use Rattle.format.specs.Area.{overwrite};
-ghost use Rattle.text.specs.Wrote.{Wrote};
+ghost use Rattle.text.specs.inner.Wrote.{Wrote};
 ghost use Rattle.plan_notation.specs.Tokens.{textEnd, textOf};
-ghost use Rattle.plan_notation.specs.Known.{Known};
+ghost use Rattle.plan_notation.specs.inner.Known.{Known};
 ghost use Rattle.plan_notation.specs.Layout.{laidOut};
-ghost use Rattle.plan_layout.specs.Rows.{textRows};
-ghost use Rattle.plan_pen.specs.Pens.{gapBytes};
+ghost use Rattle.plan_layout.specs.inner.Rows.{textRows};
+ghost use Rattle.plan_pen.specs.inner.Pens.{gapBytes};
 
 // How many bytes the text of some tokens has.
 pub fn length(tokens: &[u8]) -> usize

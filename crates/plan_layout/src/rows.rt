@@ -4,7 +4,7 @@ ghost use mathlib.Core.Path.{_≡_};
 ghost use Prim.Native.Nat.{_<_};
 ghost use lib.ListN.{length, getD};
 ghost use Rattle.plan_notation.specs.Tokens.{textEnd, textOf};
-ghost use Rattle.plan_layout.specs.Rows.{textRows};
+ghost use Rattle.plan_layout.specs.inner.Rows.{textRows};
 
 // How many tokens there are.
 const TOKENS: usize = 69;

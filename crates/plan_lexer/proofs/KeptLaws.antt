@@ -7,9 +7,9 @@ use mathlib.Core.List.{List, [], _∷_, _++_, append-nil}
 use lib.ListN.{length, length-append, set, length-set}
 use borrow.Author.Tests.{eq-eqb, ne-eqb}
 use Rattle.format.proofs.AreaLaws.{overwrite-none, overwrite-next}
-use Rattle.plan_token_automaton.specs.Ended.{coded}
+use Rattle.plan_token_automaton.specs.inner.Ended.{coded}
 use Rattle.plan_lexer.specs.Kept.{Kept}
-use Rattle.plan_lexer.specs.Adds.{Adds}
+use Rattle.plan_lexer.specs.inner.Adds.{Adds}
 
 pub kept-none : (area : List ℕ) → Kept area [] area 0
 kept-none area = record { fits = λ h. (refl, sym (overwrite-none area)); full = λ h. absurd (omega arith); same = refl }

@@ -13,7 +13,7 @@ use borrow.Author.Tests.{eq-eqb, ne-eqb, le-ltb, ltb-true, ltb-false}
 use Rattle.plan_notation.specs.Tokens.{textEnd}
 use Rattle.plan_notation.specs.Lexing.{Token, token, Begun, begunAfter, endedAtEnd, tokensFrom, placeFrom}
 use Rattle.plan_token_automaton.specs.declared.automaton.Ended.{Ended}
-use Rattle.plan_token_automaton.specs.Ended.{listed, beforeOf, withOf}
+use Rattle.plan_token_automaton.specs.inner.Ended.{listed, beforeOf, withOf}
 use Rattle.plan_lexer.specs.Place.{placeIn}
 use Rattle.plan_lexer.proofs.TurnLaws.{one-byte, no-byte}
 

@@ -10,7 +10,7 @@ use lib.Seq.{drop-cons}
 use Rattle.plan_notation.specs.Tokens.{textEnd}
 use Rattle.plan_notation.specs.Lexing.{Token, token, Begun, begunAfter, endedAtEnd, tokensFrom}
 use Rattle.plan_token_automaton.specs.declared.automaton.Ended.{Ended}
-use Rattle.plan_token_automaton.specs.Ended.{listed, coded, beforeOf, withOf}
+use Rattle.plan_token_automaton.specs.inner.Ended.{listed, coded, beforeOf, withOf}
 use Rattle.plan_token_automaton.proofs.AutomatonLaws.{parted}
 
 module _ (text : List ℕ) (i : ℕ) (b : Begun) where

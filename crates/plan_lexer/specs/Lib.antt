@@ -1,3 +1,3 @@
 pub mod Kept
-pub mod Adds
 pub mod Place
+pub mod inner

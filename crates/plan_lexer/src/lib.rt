@@ -7,9 +7,9 @@ use plan_token_automaton::automaton::NONE;
 use plan_token_automaton::classes;
 use plan_token_automaton::names;
 ghost use Rattle.plan_notation.specs.Lexing.{codesOf};
-ghost use Rattle.plan_token_automaton.specs.Ended.{coded};
+ghost use Rattle.plan_token_automaton.specs.inner.Ended.{coded};
 ghost use Rattle.plan_lexer.specs.Kept.{Kept};
-ghost use Rattle.plan_lexer.specs.Adds.{Adds};
+ghost use Rattle.plan_lexer.specs.inner.Adds.{Adds};
 
 const TEXT_END: u8 = 69;
 

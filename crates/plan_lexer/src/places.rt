@@ -10,7 +10,7 @@ ghost use Prim.Native.Nat.{_-_};
 ghost use lib.Dec.{ltb};
 ghost use lib.ListN.{length};
 ghost use Rattle.plan_notation.specs.Lexing.{tokensOf, placeAfter};
-ghost use Rattle.plan_token_automaton.specs.Ended.{listed};
+ghost use Rattle.plan_token_automaton.specs.inner.Ended.{listed};
 ghost use Rattle.plan_lexer.specs.Place.{placeIn, placeOf};
 
 // Both from 1.

@@ -13,10 +13,10 @@ ghost use mathlib.Core.Bool.{true, false};
 ghost use mathlib.Core.List.{[], _∷_};
 ghost use Prim.Native.Nat.{ℕ, _≤_, _<_};
 ghost use lib.ListN.{replicate};
-ghost use Rattle.format.specs.Lowest.{Lowest};
+ghost use Rattle.format.specs.inner.Lowest.{Lowest};
 ghost use Rattle.plan_packed.specs.Refusals.{wronglySorted};
-ghost use Rattle.plan_packed.specs.Rows.{layoutRows, Tagged};
-ghost use Rattle.plan_packed.specs.Steps.{Right, Loaded, nodeIn, childOf, childrenOf, lowerAll, countAll, moreOf, Counted, rootTimes, allTimes, misplacedRoot, notOnce};
+ghost use Rattle.plan_packed.specs.inner.Rows.{layoutRows, Tagged};
+ghost use Rattle.plan_packed.specs.inner.Steps.{Right, Loaded, nodeIn, childOf, childrenOf, lowerAll, countAll, moreOf, Counted, rootTimes, allTimes, misplacedRoot, notOnce};
 
 // The count of a term that is named once more; two stands for more.
 fn once_more(times: u8) -> u8

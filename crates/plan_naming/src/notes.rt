@@ -9,8 +9,8 @@ ghost use mathlib.Core.Bool.{true};
 ghost use mathlib.Core.List.{[], _∷_};
 ghost use Prim.Native.Nat.{_<_};
 ghost use lib.ListN.{replicate};
-ghost use Rattle.plan_packed.specs.Rows.{layoutRows};
-ghost use Rattle.plan_packed.specs.Steps.{Headed, Right, Loaded, childOf, noteOf, noteAll, RootsNoted, TermsNoted, Fitting};
+ghost use Rattle.plan_packed.specs.inner.Rows.{layoutRows};
+ghost use Rattle.plan_packed.specs.inner.Steps.{Headed, Right, Loaded, childOf, noteOf, noteAll, RootsNoted, TermsNoted, Fitting};
 
 // The note of a term that is named once more.
 fn noted(note: u8, sort: u8) -> u8

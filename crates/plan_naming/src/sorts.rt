@@ -6,8 +6,8 @@ use plan_operands::tags;
 ghost use mathlib.Core.Path.{_≡_};
 ghost use Prim.Native.Nat.{_<_};
 ghost use Rattle.plan_packed.specs.Refusals.{listLength, wrongCall};
-ghost use Rattle.plan_packed.specs.Rows.{layoutRows, Tagged};
-ghost use Rattle.plan_packed.specs.Steps.{Right, Loaded, wrongSort, tagIn, lowerIf};
+ghost use Rattle.plan_packed.specs.inner.Rows.{layoutRows, Tagged};
+ghost use Rattle.plan_packed.specs.inner.Steps.{Right, Loaded, wrongSort, tagIn, lowerIf};
 
 // The lower of `best` and term `index`, if that is of another sort than the table wants. Chosen without a branch, since the sorts of a plan follow no pattern.
 pub fn lower(rows: &Rows, words: &[usize; 1024], sort: u8, index: usize, best: usize) -> usize

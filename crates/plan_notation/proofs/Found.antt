@@ -13,7 +13,7 @@ use Rattle.format.specs.Refusal.{lowest}
 use Rattle.format.proofs.Ranges.{by-range}
 use Rattle.text.specs.Text.{ascii}
 use Rattle.plan_notation.specs.Tokens.{closing, comma, dot, equals, becomes, dash, opening, textEnd, textOf, texts}
-use Rattle.plan_notation.specs.Known.{Known}
+use Rattle.plan_notation.specs.inner.Known.{Known}
 use Rattle.plan_notation.specs.Lexing.{Token, Begun, nothing, name, digitOf, grown, valueFrom, valueOf, nameOf, begins, alone, begunAfter, endedBy}
 use Rattle.plan_notation.specs.Lexing.{endedAtEnd, tokensFrom, codesOf}
 use Rattle.plan_notation.specs.Layout.{Pen, start, apart, onNewLine, indentation, gap, penAfter, laidFrom, laidOut}

@@ -15,7 +15,7 @@ use Rattle.plan_written.proofs.Right.{Ascending, RightFields, RightSlot, Right,
 use Rattle.plan_written.proofs.RightPlans.{fields-ascend}
 use Rattle.format.specs.Version.{Version, v0, v1}
 use Rattle.plan_notation.specs.Tokens.{opening, closing}
-use Rattle.plan_notation.specs.Known.{Known}
+use Rattle.plan_notation.specs.inner.Known.{Known}
 use Rattle.plan_notation.specs.Shown.{grouped, binderToken, signalTokens, shown, shownᶜ, shownᵃ, shownFurther, volatileTokens, procedureTokens, mainFirst}
 use Rattle.plan_notation.specs.Shown.{shownPlan}
 

@@ -12,7 +12,7 @@ use Rattle.format.specs.Refusal.{lowest}
 use Rattle.format.proofs.RefusalLaws.{neither}
 use Rattle.text.specs.Text.{ascii}
 use Rattle.plan_notation.specs.Tokens.{textEnd, textOf, texts}
-use Rattle.plan_notation.specs.Known.{Known}
+use Rattle.plan_notation.specs.inner.Known.{Known}
 use Rattle.plan_notation.specs.Layout.{Pen, start, apart, breaks, onNewLine, indentation, gap, columnAfter, penAfter, laidFrom, laidOut}
 use Rattle.plan_notation.proofs.Tested.{passed}
 

@@ -3,4 +3,4 @@ pub mod Lexing
 pub mod Shown
 pub mod Layout
 pub mod Text
-pub mod Known
+pub mod inner

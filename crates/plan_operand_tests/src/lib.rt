@@ -6,8 +6,8 @@ ghost use Prim.Native.Nat.{_<_};
 ghost use lib.Dec.{ltb, eqb};
 ghost use Rattle.plan_packed.specs.Format.{mask};
 ghost use Rattle.plan_packed.specs.Refusals.{wrongOperand};
-ghost use Rattle.plan_packed.specs.Rows.{bitsTo, wrongOther};
-ghost use Rattle.plan_packed.specs.Steps.{outside};
+ghost use Rattle.plan_packed.specs.inner.Rows.{bitsTo, wrongOther};
+ghost use Rattle.plan_packed.specs.inner.Steps.{outside};
 
 // A child index not above its parent's, or not below the count.
 pub fn outside(child: usize, term: usize, count: usize) -> bool

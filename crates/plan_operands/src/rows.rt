@@ -3,7 +3,7 @@ use byte_numbers::wide;
 ghost use mathlib.Core.Path.{_≡_};
 ghost use Prim.Native.Nat.{_<_};
 ghost use Rattle.plan_packed.specs.Format.{tagCount};
-ghost use Rattle.plan_packed.specs.Rows.{layoutRows, numberAt, bitsTo, bitsAfter, childAt};
+ghost use Rattle.plan_packed.specs.inner.Rows.{layoutRows, numberAt, bitsTo, bitsAfter, childAt};
 
 // How many tags there are.
 pub const TAGS: usize = 21;

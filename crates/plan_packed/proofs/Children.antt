@@ -8,7 +8,7 @@ use Rattle.plan_packed.specs.Syntax.{Expression, Arguments}
 use Rattle.plan_packed.specs.Format.{terms, table, layout, laidOut, Term, termAt, tagAt}
 use Rattle.plan_packed.specs.Trees.{Node, nodes, nodeOf, nodeAt, argumentsOf}
 use Rattle.plan_packed.specs.Refusals.{wrongTerm}
-use Rattle.plan_packed.specs.Steps.{Sized, Loaded, nodeIn, termIn, Child, childrenOf}
+use Rattle.plan_packed.specs.inner.Steps.{Sized, Loaded, nodeIn, termIn, Child, childrenOf}
 use Rattle.plan_packed.proofs.Reading.{term-is}
 use Rattle.plan_packed.proofs.Tags.{by-tag, except}
 use Rattle.plan_packed.proofs.SingleTerm.{IfChild, children-between}

@@ -11,9 +11,9 @@ use lib.Dec.{eqb}
 use borrow.Author.Tests.{eq-eqb, ne-eqb, leb-false}
 use Rattle.plan_packed.specs.Format
 use Rattle.plan_packed.specs.Format.{terms, parameters, Operand, table, layout, termAt, tagAt}
-use Rattle.plan_packed.specs.Operands.{tagOf, secondOf, procedureBits, listBits}
+use Rattle.plan_packed.specs.inner.Operands.{tagOf, secondOf, procedureBits, listBits}
 use Rattle.plan_packed.specs.Refusals.{wrongOperand, isChild, wrongCall, listLength}
-use Rattle.plan_packed.specs.Steps.{Right, wordAt}
+use Rattle.plan_packed.specs.inner.Steps.{Right, wordAt}
 use Rattle.plan_packed.proofs.Reading.{tag-in, tag-was, first-was, second-was}
 use Rattle.plan_packed.proofs.Shown.{parameters-small}
 use Rattle.plan_packed.proofs.SingleTerm.{passes, second-between, first-is, second-is}

@@ -11,15 +11,15 @@ use lib.Dec.{eqb}
 use lib.ListN.{getD, set, length-set, replicate, length-replicate}
 use lib.Seq.{getD-set-same, getD-set-other}
 use borrow.Author.Tests.{eq-eqb, ne-eqb}
-use Rattle.format.specs.Lowest.{Lowest}
+use Rattle.format.specs.inner.Lowest.{Lowest}
 use Rattle.format.proofs.LowestLaws.{lowest-ext}
 use Rattle.plan_packed.specs.Format
 use Rattle.plan_packed.specs.Format.{terms, root, table, layout, laidOut, termAt, tagAt}
-use Rattle.plan_packed.specs.Operands.{tagOf}
+use Rattle.plan_packed.specs.inner.Operands.{tagOf}
 use Rattle.plan_packed.specs.Trees.{nodes, nodeOf, nodeAt}
 use Rattle.plan_packed.specs.Refusals.{sumBelow, oneIf, wrongTerm, timesIn, timesNamed, notNamedOnce}
-use Rattle.plan_packed.specs.Steps.{Headed, Loaded, nodeIn, Child, childOf, childrenOf, moreOf, countAll, cap, rootTimes, allTimes, Counted, notOnce, inWord}
-use Rattle.plan_packed.specs.Steps.{lowerAll}
+use Rattle.plan_packed.specs.inner.Steps.{Headed, Loaded, nodeIn, Child, childOf, childrenOf, moreOf, countAll, cap, rootTimes, allTimes, Counted, notOnce, inWord}
+use Rattle.plan_packed.specs.inner.Steps.{lowerAll}
 use Rattle.plan_packed.proofs.Tags.{by-tag}
 use Rattle.format.proofs.Filled.{zeros}
 use Rattle.plan_packed.proofs.SingleTerm.{rowOf, node-in}

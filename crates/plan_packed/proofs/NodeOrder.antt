@@ -14,7 +14,7 @@ use Rattle.format.proofs.BitLaws.{bits-past}
 use Rattle.plan_packed.specs.Format
 use Rattle.plan_packed.specs.Format.{terms, planLength, table, layout, termBit, termAt, tagAt}
 use Rattle.plan_packed.specs.Trees.{ExpressionNode, Node, nodes, nodeOf, nodeAt, treeAt}
-use Rattle.plan_packed.specs.Steps.{Right, Loaded, Ordered, Descending, NamesLater, inWord, termIn, nodeIn, treeIn}
+use Rattle.plan_packed.specs.inner.Steps.{Right, Loaded, Ordered, Descending, NamesLater, inWord, termIn, nodeIn, treeIn}
 use Rattle.plan_packed.specs.Refusals.{anyBelow}
 use Rattle.plan_packed.specs.Check.{refusal}
 use Rattle.plan_packed.proofs.Tags.{by-tag}

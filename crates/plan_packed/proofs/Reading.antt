@@ -14,9 +14,9 @@ use Rattle.format.proofs.BitLaws.{bits-below, field-of, first-of}
 use Rattle.plan_packed.specs.Format
 use Rattle.plan_packed.specs.Format.{version, terms, parameters, root, headerSpare, volatiles, maskBit, fieldsFrom, absent, width, Row, operands, table}
 use Rattle.plan_packed.specs.Format.{layout, Term, laidOut, termBit, tagAt, termAt}
-use Rattle.plan_packed.specs.Operands.{tagOf, operandIn}
+use Rattle.plan_packed.specs.inner.Operands.{tagOf, operandIn}
 use Rattle.plan_packed.specs.Refusals.{wrongHeader, wrongProcedure}
-use Rattle.plan_packed.specs.Steps.{wordAt, inWord, termIn}
+use Rattle.plan_packed.specs.inner.Steps.{wordAt, inWord, termIn}
 use Rattle.plan_packed.proofs.Fields.{onesOf, fields-count}
 
 -- ---- the header

@@ -10,11 +10,11 @@ use Rattle.format.proofs.Ranges.{by-range}
 use Rattle.plan_packed.specs.Format.{table, layout, laidOut, termAt, tagCount}
 use lib.Dec.{eqb, lit<}
 use lib.ListN.{getD, length}
-use Rattle.plan_packed.specs.Operands.{tagOf, firstOf, fieldBits, writeSecond, spareSet}
+use Rattle.plan_packed.specs.inner.Operands.{tagOf, firstOf, fieldBits, writeSecond, spareSet}
 use Rattle.plan_packed.specs.Trees.{nodes, nodeOf}
 use Rattle.plan_packed.specs.Refusals.{someOperand, breaksTable}
-use Rattle.plan_packed.specs.Steps.{Right, Loaded, inWord, termIn, tagIn, nodeIn, tagSort, Child, childOf, childrenOf, lowerAll, countAll, outside}
-use Rattle.plan_packed.specs.Rows.{numberAt, childAt, wrongByRow, Tagged, childrenByRow}
+use Rattle.plan_packed.specs.inner.Steps.{Right, Loaded, inWord, termIn, tagIn, nodeIn, tagSort, Child, childOf, childrenOf, lowerAll, countAll, outside}
+use Rattle.plan_packed.specs.inner.Rows.{numberAt, childAt, wrongByRow, Tagged, childrenByRow}
 use Rattle.plan_packed.proofs.Reading.{tag-in}
 use Rattle.plan_packed.proofs.SingleTerm.{tested, rowOf, passes}
 use Rattle.plan_packed.proofs.NameLaws.{named}

@@ -9,13 +9,13 @@ use lib.Dec.{eqb, ltb}
 use lib.ListN.{length, take}
 use borrow.Author.Tests.{ltb-false}
 use Rattle.format.specs.Refusal.{firstRefusal}
-use Rattle.format.specs.Lowest.{Lowest}
+use Rattle.format.specs.inner.Lowest.{Lowest}
 use Rattle.format.proofs.RefusalLaws.{neither, head-pass, tail-pass, none-is-pass}
 use Rattle.plan_packed.specs.Format
 use Rattle.plan_packed.specs.Format.{terms, parameters, root, planLength}
 use Rattle.plan_packed.specs.Refusals.{wrongLength, wrongTerm}
 use Rattle.plan_packed.specs.Check.{checks}
-use Rattle.plan_packed.specs.Steps.{Sized, Headed, Right}
+use Rattle.plan_packed.specs.inner.Steps.{Sized, Headed, Right}
 use Rattle.plan_packed.proofs.Passing.{length-of, header-of, procedure-of}
 
 -- ---- what a check that finds nothing gives to the next

@@ -13,10 +13,10 @@ use Rattle.format.proofs.RefusalLaws.{neither}
 use Rattle.plan_packed.specs.Format
 use Rattle.plan_packed.specs.Format.{terms, Operand, absent, slot, binder, mask, fieldName, procedure, expression, condition, list, layout, laidOut, tagAt}
 use Rattle.plan_packed.specs.Format.{termAt, tagCount}
-use Rattle.plan_packed.specs.Operands.{tagOf}
+use Rattle.plan_packed.specs.inner.Operands.{tagOf}
 use Rattle.plan_packed.specs.Trees.{nodeOf, Node}
 use Rattle.plan_packed.specs.Refusals.{wrongOperand, breaksTable, wrongTerm, isChild}
-use Rattle.plan_packed.specs.Steps.{Sized, Loaded, wordAt, inWord, termIn, nodeIn}
+use Rattle.plan_packed.specs.inner.Steps.{Sized, Loaded, wordAt, inWord, termIn, nodeIn}
 use Rattle.plan_packed.proofs.Passing.{PassesTable, table-of}
 use Rattle.plan_packed.proofs.Reading.{term-is}
 

@@ -14,7 +14,7 @@ use Rattle.plan_packed.specs.Format.{parameters, root}
 use Rattle.plan_packed.specs.Trees.{binderOf, treeAt}
 use Rattle.plan_packed.specs.Slots.{closed, bound}
 use Rattle.plan_packed.specs.Refusals.{usesUnboundSlot}
-use Rattle.plan_packed.specs.Steps.{bitOf, slots, withSlot}
+use Rattle.plan_packed.specs.inner.Steps.{bitOf, slots, withSlot}
 use Rattle.format.proofs.BitLaws.{shl-one}
 
 -- ---- the slots of a mask

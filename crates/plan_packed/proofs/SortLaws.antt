@@ -8,15 +8,15 @@ use native.Mathlib.Decide.{decLt, ℕ-discrete}
 use native.Mathlib.Omega.{arith}
 use lib.Dec.{ltb, leb, eqb}
 use borrow.Author.Tests.{lt-ltb, le-ltb, le-leb, lt-leb, eq-eqb, ne-eqb}
-use Rattle.format.specs.Lowest.{Lowest}
+use Rattle.format.specs.inner.Lowest.{Lowest}
 use Rattle.format.proofs.LowestLaws.{lowest-ext}
 use Rattle.plan_packed.specs.Format
 use Rattle.plan_packed.specs.Format.{terms, root, expression, table, layout, laidOut, termAt, tagAt}
-use Rattle.plan_packed.specs.Operands.{tagOf}
+use Rattle.plan_packed.specs.inner.Operands.{tagOf}
 use Rattle.plan_packed.specs.Trees.{nodes, nodeOf, nodeAt}
 use Rattle.plan_packed.specs.Refusals.{anyBelow, someOperand, wrongTerm, misplaced, wronglySorted, wrongCall}
-use Rattle.plan_packed.specs.Steps.{Sized, Loaded, tagIn, nodeIn, Child, childOf, childrenOf, anExpression, aCondition, aList, tagSort, wrongSort, lowerIf}
-use Rattle.plan_packed.specs.Steps.{lowerAll, misplacedRoot, misfits, faults}
+use Rattle.plan_packed.specs.inner.Steps.{Sized, Loaded, tagIn, nodeIn, Child, childOf, childrenOf, anExpression, aCondition, aList, tagSort, wrongSort, lowerIf}
+use Rattle.plan_packed.specs.inner.Steps.{lowerAll, misplacedRoot, misfits, faults}
 use Rattle.plan_packed.proofs.Reading.{tag-in}
 use Rattle.plan_packed.proofs.Tags.{by-tag}
 use Rattle.plan_packed.proofs.Children.{Within, nodes-are, termOf, nodeOfTag, children-within}

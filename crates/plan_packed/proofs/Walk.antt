@@ -8,10 +8,10 @@ use lib.ListN.{getD}
 use Rattle.format.proofs.Ranges.{NoneOf}
 use Rattle.plan_packed.specs.Syntax.{Expression, Condition, Arguments}
 use Rattle.plan_packed.specs.Format.{table, layout}
-use Rattle.plan_packed.specs.Operands.{tagOf, slotBits}
+use Rattle.plan_packed.specs.inner.Operands.{tagOf, slotBits}
 use Rattle.plan_packed.specs.Trees.{nodes, nodeOf, expressionOf, conditionOf, argumentsOf}
 use Rattle.plan_packed.specs.Slots.{closed, closedᶜ, closedᵃ}
-use Rattle.plan_packed.specs.Steps.{Ordered, NamesLater, inWord, nodeIn, treeIn, conditionIn, listIn, leafIn}
+use Rattle.plan_packed.specs.inner.Steps.{Ordered, NamesLater, inWord, nodeIn, treeIn, conditionIn, listIn, leafIn}
 use Rattle.plan_packed.proofs.Tags.{except}
 use Rattle.plan_packed.proofs.TreeLaws.{tree, treeᶜ, treeᵃ, tree-law, tree-lawᶜ, tree-lawᵃ}
 use Rattle.plan_packed.proofs.SingleTerm.{rowOf, row-is, node-in}

@@ -6,10 +6,10 @@ use mathlib.Core.List.{List}
 use lib.ListN.{set}
 use lib.Seq.{sets}
 use borrow.Author.Tests.{eq-eqb, ne-eqb}
-use Rattle.plan_packed.specs.Operands.{tagOf, slotBits, fieldBits, maskBits}
+use Rattle.plan_packed.specs.inner.Operands.{tagOf, slotBits, fieldBits, maskBits}
 use Rattle.plan_written.specs.Terms.{wordOf}
 use Rattle.plan_written.specs.Written.{bytesOf}
-use Rattle.plan_packing.specs.Words.{leafWord, oneWord, twoWord}
+use Rattle.plan_packing.specs.inner.Words.{leafWord, oneWord, twoWord}
 
 variable-word : (x : ℕ) → 34359738368 + x * 2147483648 ≡ wordOf 1 x 0 0
 unfolding wordOf

@@ -4,10 +4,10 @@ ghost use mathlib.Core.Path.{_≡_};
 ghost use Prim.Native.Nat.{_+_, _*_, _^_, _<_, _≤_};
 ghost use lib.ListN.{length};
 ghost use lib.Seq.{sets};
-ghost use Rattle.plan_packed.specs.Operands.{tagOf, procedureBits};
+ghost use Rattle.plan_packed.specs.inner.Operands.{tagOf, procedureBits};
 ghost use Rattle.plan_written.specs.Terms.{wordOf};
 ghost use Rattle.plan_written.specs.Written.{bytesOf};
-ghost use Rattle.plan_packing.specs.Words.{leafWord, oneWord, twoWord};
+ghost use Rattle.plan_packing.specs.inner.Words.{leafWord, oneWord, twoWord};
 
 // A term without children; any but a variable and a new is null.
 pub fn leaf(word: usize) -> usize

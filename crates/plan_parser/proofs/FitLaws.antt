@@ -16,8 +16,8 @@ use Rattle.plan_parsing.specs.Goals.{Sort, either, expression, condition, Goal,
 use Rattle.plan_parsing.specs.Goals.{number, ofExpression, ofCondition, ofArguments, numberIn, operandCounts, terms, valueAt, made, Form, forms, argumentGoals}
 use Rattle.plan_parsing.specs.Parser.{ahead, Step, go, stop, Reason, wanted, takesCondition, inside, begun, wordForm, operandStep, isField, dotStep, moreStep}
 use Rattle.plan_parsing.specs.Parser.{fieldsStep, furtherStep, step, isExpression, isCondition, fits}
-use Rattle.plan_parser_goals.specs.Encoded.{goalOf}
-use Rattle.plan_parser_goals.specs.Moves.{IsTerm, IsBelow, IsOf, operandKinds, Operands, MaskTo, Fits, Sound, onto, formAt}
+use Rattle.plan_parser_goals.specs.inner.Encoded.{goalOf}
+use Rattle.plan_parser_goals.specs.inner.Moves.{IsTerm, IsBelow, IsOf, operandKinds, Operands, MaskTo, Fits, Sound, onto, formAt}
 use Rattle.plan_parser_goals.proofs.Numbers.{expect-goal, further-goal}
 
 -- what a step leaves finds what it takes

@@ -8,8 +8,8 @@ use Rattle.plan_packed.specs.Format.{width, layout}
 use Rattle.plan_written.specs.Terms.{wordOf}
 use Rattle.plan_written.proofs.Words.{Fitting}
 use Rattle.plan_parsing.specs.Goals.{operandCounts}
-use Rattle.plan_parser.specs.Stacks.{operandAt}
-use Rattle.plan_parser.specs.Making.{Makeable, Makes}
+use Rattle.plan_parser.specs.inner.Stacks.{operandAt}
+use Rattle.plan_parser.specs.inner.Making.{Makeable, Makes}
 use Rattle.plan_parser.proofs.TermLaws.{operands-there, made-fits, ordered-made, values-made, entries-made, terms-stay}
 
 module _ (words values : List ℕ) (n left k : ℕ) (q : Makeable words values n left k) (count one two first second third : ℕ)

@@ -7,15 +7,15 @@ use mathlib.Core.Bool.{cond, _||_}
 use mathlib.Core.List.{List, [], _∷_, _++_, append-nil}
 use lib.ListN.{length, getD, drop, length-drop}
 use borrow.Author.Tests.{lt-ltb, le-ltb}
-use Rattle.plan_packed.specs.Steps.{Ordered, treeIn}
+use Rattle.plan_packed.specs.inner.Steps.{Ordered, treeIn}
 use Rattle.plan_parsing.specs.Goals.{Goal, Value, number, numberIn, expressionIn, valueAt}
 use Rattle.plan_parsing.specs.Parser as definition
 use Rattle.plan_parsing.specs.Parser.{Reason, Step, go, stop, step, afterStep, parseBy, parse}
 use Rattle.plan_parsing.specs.Plan.{procedureGoals}
-use Rattle.plan_parser_goals.specs.Encoded.{goalOf, reasonOf, goalsOf, valueOf, valuesOf}
-use Rattle.plan_parser_goals.specs.Moves.{IsTerm, IsBelow, Operands, Fits, onto}
-use Rattle.plan_parser.specs.Stacks.{Stacked, Entries}
-use Rattle.plan_parser.specs.Reading.{State, Going, shown, Kept, Turned, Resumes, Finished, Reads, Ran, readFrom}
+use Rattle.plan_parser_goals.specs.inner.Encoded.{goalOf, reasonOf, goalsOf, valueOf, valuesOf}
+use Rattle.plan_parser_goals.specs.inner.Moves.{IsTerm, IsBelow, Operands, Fits, onto}
+use Rattle.plan_parser.specs.inner.Stacks.{Stacked, Entries}
+use Rattle.plan_parser.specs.inner.Reading.{State, Going, shown, Kept, Turned, Resumes, Finished, Reads, Ran, readFrom}
 use Rattle.plan_parser.specs.declared.turns.Standing.{Standing}
 use Rattle.plan_parser.specs.declared.turns.Turn.{Turn}
 use Rattle.plan_parser.specs.declared.turns.Turn.the-variants.{On, Stop}

@@ -11,14 +11,14 @@ use lib.Dec.{ltb}
 use lib.ListN.{length, getD, set, drop, length-set}
 use lib.Seq.{getD-set-same, getD-set-other, getD-drop}
 use borrow.Author.Tests.{eq-eqb, ne-eqb, lt-ltb, le-ltb}
-use Rattle.plan_packed.specs.Operands.{tagOf}
-use Rattle.plan_packed.specs.Steps.{tagIn, treeIn, listIn}
-use Rattle.plan_packed.specs.Steps as array
+use Rattle.plan_packed.specs.inner.Operands.{tagOf}
+use Rattle.plan_packed.specs.inner.Steps.{tagIn, treeIn, listIn}
+use Rattle.plan_packed.specs.inner.Steps as array
 use Rattle.plan_parsing.specs.Goals.{Goal, expect, Value, number, ofExpression, ofCondition, ofArguments, numberIn, valueAt}
 use Rattle.plan_parsing.specs.Plan.{procedureGoals}
-use Rattle.plan_parser_goals.specs.Encoded.{goalOf, goalsOf, stacked, valueOf, termValue, valuesOf, valueSort}
-use Rattle.plan_parser_goals.specs.Moves.{pushed}
-use Rattle.plan_parser.specs.Stacks.{Stacked, Entries, Put, Looks, lastOf, operandAt}
+use Rattle.plan_parser_goals.specs.inner.Encoded.{goalOf, goalsOf, stacked, valueOf, termValue, valuesOf, valueSort}
+use Rattle.plan_parser_goals.specs.inner.Moves.{pushed}
+use Rattle.plan_parser.specs.inner.Stacks.{Stacked, Entries, Put, Looks, lastOf, operandAt}
 use Rattle.plan_parser_goals.proofs.Numbers.{expect-goal, stacked-some, pushed-some}
 
 -- ---- goals

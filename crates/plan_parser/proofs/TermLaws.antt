@@ -12,10 +12,10 @@ use borrow.Author.Tests.{eq-eqb, ne-eqb, lt-ltb, le-ltb}
 use Rattle.format.proofs.Ranges.{by-range}
 use Rattle.plan_packed.specs.Syntax.{Expression, Condition, Arguments}
 use Rattle.plan_packed.specs.Format.{width, table, layout, fieldsFrom, Term}
-use Rattle.plan_packed.specs.Operands.{tagOf}
+use Rattle.plan_packed.specs.inner.Operands.{tagOf}
 use Rattle.plan_packed.specs.Trees.{Node, nodes, nodeOf, expressionOf, conditionOf, argumentsOf, expressionAt, conditionAt, argumentsAt}
-use Rattle.plan_packed.specs.Steps.{Ordered, Descending, NamesLater, inWord, termIn, nodeIn, tagIn, treeIn, listIn}
-use Rattle.plan_packed.specs.Steps as array
+use Rattle.plan_packed.specs.inner.Steps.{Ordered, Descending, NamesLater, inWord, termIn, nodeIn, tagIn, treeIn, listIn}
+use Rattle.plan_packed.specs.inner.Steps as array
 use Rattle.plan_packed.proofs.Tags.{past, by-tag}
 use Rattle.plan_packed.proofs.SingleTerm.{rowOf}
 use Rattle.plan_packed.proofs.Walk.{expr-is, cond-is, list-is}
@@ -25,9 +25,9 @@ use Rattle.plan_written.specs.Terms.{wordOf}
 use Rattle.plan_written.proofs.Words.{Fitting, term-in-word}
 use Rattle.plan_parsing.specs.Goals.{Value, number, ofExpression, ofCondition, ofArguments, numberIn, expressionIn, conditionIn, argumentsIn, operandCounts}
 use Rattle.plan_parsing.specs.Goals.{terms, valueAt, made}
-use Rattle.plan_parser_goals.specs.Encoded.{termValue, valueOf, valuesOf}
-use Rattle.plan_parser_goals.specs.Moves.{IsTerm, IsBelow, IsOf, operandKinds, Operands}
-use Rattle.plan_parser.specs.Stacks.{Entries, operandAt}
+use Rattle.plan_parser_goals.specs.inner.Encoded.{termValue, valueOf, valuesOf}
+use Rattle.plan_parser_goals.specs.inner.Moves.{IsTerm, IsBelow, IsOf, operandKinds, Operands}
+use Rattle.plan_parser.specs.inner.Stacks.{Entries, operandAt}
 use Rattle.plan_parser.proofs.StackLaws.{values-set}
 
 -- ---- trees above m are the same in tables that are the same there

@@ -8,14 +8,14 @@ use lib.Dec.{eqb}
 use lib.ListN.{length, getD, drop}
 use lib.Seq.{drop-drop}
 use borrow.Author.Tests.{eq-eqb, ne-eqb}
-use Rattle.plan_packed.specs.Steps.{Ordered}
+use Rattle.plan_packed.specs.inner.Steps.{Ordered}
 use Rattle.plan_parsing.specs.Goals.{Goal, make, Value, made}
 use Rattle.plan_parsing.specs.Parser.{Reason, Step, go, stop, step}
-use Rattle.plan_parser_goals.specs.Encoded.{goalOf, reasonOf, goalsOf, valuesOf}
-use Rattle.plan_parser_goals.specs.Moves.{Operands, operandKinds, Fits, onto, done, Small, Calls, Sound}
-use Rattle.plan_parser.specs.Stacks.{Entries, Stacked, Put, Looks}
-use Rattle.plan_parser.specs.Making.{Makeable, Makes}
-use Rattle.plan_parser.specs.Reading.{State, Going, Found, Room, Went, WentWith, shown, Nearer, Kept, Turned}
+use Rattle.plan_parser_goals.specs.inner.Encoded.{goalOf, reasonOf, goalsOf, valuesOf}
+use Rattle.plan_parser_goals.specs.inner.Moves.{Operands, operandKinds, Fits, onto, done, Small, Calls, Sound}
+use Rattle.plan_parser.specs.inner.Stacks.{Entries, Stacked, Put, Looks}
+use Rattle.plan_parser.specs.inner.Making.{Makeable, Makes}
+use Rattle.plan_parser.specs.inner.Reading.{State, Going, Found, Room, Went, WentWith, shown, Nearer, Kept, Turned}
 use Rattle.plan_parser.specs.declared.turns.Standing.{Standing}
 use Rattle.plan_parser.specs.declared.turns.Turn.the-variants.{On}
 use Rattle.plan_parser.specs.declared.turns.Turn.the-variants as turn

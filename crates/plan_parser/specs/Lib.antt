@@ -1,3 +1,1 @@
-pub mod Stacks
-pub mod Making
-pub mod Reading
+pub mod inner

@@ -8,12 +8,12 @@ use turns::Turn;
 ghost use mathlib.Core.Path.{_≡_};
 ghost use Prim.Native.Nat.{_<_, _≤_, _-_};
 ghost use lib.ListN.{length, getD, drop};
-ghost use Rattle.plan_packed.specs.Steps.{Ordered};
+ghost use Rattle.plan_packed.specs.inner.Steps.{Ordered};
 ghost use Rattle.plan_parsing.specs.Goals as value;
 ghost use Rattle.plan_parsing.specs.Parser.{parse};
 ghost use Rattle.plan_parsing.specs.Plan.{procedureGoals};
 ghost use mathlib.Core.List.{[], _∷_};
-ghost use Rattle.plan_parser.specs.Reading.{State, Ran, readFrom};
+ghost use Rattle.plan_parser.specs.inner.Reading.{State, Ran, readFrom};
 
 // An expression: its root, the parameters of its procedure, the terms that are left to be made, and the next token's place. Or why reading stopped, and
 // before which token.

@@ -8,8 +8,8 @@ ghost use lib.Dec.{ltb};
 ghost use lib.ListN.{length, getD};
 ghost use mathlib.Core.List.{_++_};
 ghost use Rattle.plan_parsing.specs.Plan.{procedureGoals};
-ghost use Rattle.plan_parser_goals.specs.Encoded.{valueOf, valueSort, stacked, unpacked};
-ghost use Rattle.plan_parser.specs.Stacks.{Stacked, Entries, Put, Looks, lastOf, operandAt};
+ghost use Rattle.plan_parser_goals.specs.inner.Encoded.{valueOf, valueSort, stacked, unpacked};
+ghost use Rattle.plan_parser.specs.inner.Stacks.{Stacked, Entries, Put, Looks, lastOf, operandAt};
 
 // A goal on the others; 0 is none.
 fn stack(goals: &mut [u16; 8408], top: usize, code: usize) -> usize

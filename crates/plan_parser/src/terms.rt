@@ -4,7 +4,7 @@ ghost use mathlib.Core.Path.{_≡_};
 ghost use Prim.Native.Nat.{_<_, _≤_, _-_};
 ghost use lib.ListN.{getD};
 ghost use Rattle.plan_parsing.specs.Goals.{operandCounts};
-ghost use Rattle.plan_parser.specs.Making.{Makeable, Makes};
+ghost use Rattle.plan_parser.specs.inner.Making.{Makeable, Makes};
 
 // How many operands a term has, by its tag.
 const OPERANDS: [usize; 21] = [

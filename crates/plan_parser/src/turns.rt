@@ -5,8 +5,8 @@ use plan_parser_goals::Move;
 use plan_parser_moves::moves;
 ghost use mathlib.Core.Path.{_≡_};
 ghost use Prim.Native.Nat.{_<_};
-ghost use Rattle.plan_parser.specs.Making.{Makeable};
-ghost use Rattle.plan_parser.specs.Reading.{State, Going, Room, Went, WentWith, Found, Turned};
+ghost use Rattle.plan_parser.specs.inner.Making.{Makeable};
+ghost use Rattle.plan_parser.specs.inner.Reading.{State, Going, Room, Went, WentWith, Found, Turned};
 
 // Where reading stands: the next token's place, how many goals and values there are, how many terms are left to be made.
 pub struct Standing {

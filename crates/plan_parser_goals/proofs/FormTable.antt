@@ -7,8 +7,8 @@ use mathlib.Core.List.{List, [], _∷_}
 use lib.ListN.{getD}
 use Rattle.format.proofs.Ranges.{by-range}
 use Rattle.plan_parsing.specs.Goals.{forms}
-use Rattle.plan_parser_goals.specs.Encoded.{goalOf, unpacked}
-use Rattle.plan_parser_goals.specs.Moves.{PackedForm, formAt}
+use Rattle.plan_parser_goals.specs.inner.Encoded.{goalOf, unpacked}
+use Rattle.plan_parser_goals.specs.inner.Moves.{PackedForm, formAt}
 
 -- the goals of each form, as digits
 abbrev pub formGoals : List ℕ

@@ -14,8 +14,8 @@ use Rattle.plan_parsing.specs.Goals.{Goal, expect, operand, more, make, binder,
 use Rattle.plan_parsing.specs.Goals.{ofArguments, numberIn, valueAt, made, argumentGoals, forms}
 use Rattle.plan_parsing.specs.Parser.{Reason, Step, go, stop, wanted, takesCondition, fits, step, furtherStep, fieldsStep, moreStep, dotStep, isField}
 use Rattle.plan_parsing.specs.Parser.{operandStep, wordForm, begun}
-use Rattle.plan_parser_goals.specs.Encoded.{goalOf, reasonOf, sortOf, stacked, unpacked, valueSort}
-use Rattle.plan_parser_goals.specs.Moves.{IsBelow, MaskTo, Seen, Does, Calls, onto, pushed, done, formAt, PackedForm, Formed, Ends}
+use Rattle.plan_parser_goals.specs.inner.Encoded.{goalOf, reasonOf, sortOf, stacked, unpacked, valueSort}
+use Rattle.plan_parser_goals.specs.inner.Moves.{IsBelow, MaskTo, Seen, Does, Calls, onto, pushed, done, formAt, PackedForm, Formed, Ends}
 use Rattle.plan_parser_goals.specs.declared.Sight.{Sight}
 use Rattle.plan_parser_goals.specs.declared.Move.{Move}
 use Rattle.plan_parser_goals.specs.declared.Move.the-variants.{Go, Make, Stop}

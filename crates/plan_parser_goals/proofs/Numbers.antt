@@ -8,8 +8,8 @@ use borrow.Author.Tests.{lt-ltb, le-ltb, ne-eqb}
 use Rattle.plan_parsing.specs.Goals.{Sort, either, expression, Goal, expect, operand, more, make, binder, fields, procedure, further, count, Value, number}
 use Rattle.plan_parsing.specs.Goals.{ofExpression, ofCondition, ofArguments}
 use Rattle.plan_parsing.specs.Parser.{Reason, wanted, isExpression, isCondition, takesCondition, fits, inside}
-use Rattle.plan_parser_goals.specs.Encoded.{sortOf, goalOf, reasonOf, stacked, valueSort}
-use Rattle.plan_parser_goals.specs.Moves.{pushed}
+use Rattle.plan_parser_goals.specs.inner.Encoded.{sortOf, goalOf, reasonOf, stacked, valueSort}
+use Rattle.plan_parser_goals.specs.inner.Moves.{pushed}
 
 -- ---- goals by the ranges of their numbers
 

@@ -1,7 +1,7 @@
 // The forms that begin with a word.
 ghost use mathlib.Core.Path.{_≡_};
 ghost use Prim.Native.Nat.{_<_};
-ghost use Rattle.plan_parser_goals.specs.Moves.{PackedForm, formAt};
+ghost use Rattle.plan_parser_goals.specs.inner.Moves.{PackedForm, formAt};
 
 // From `true` to `notify` in the order of their tokens, and `notify all`: the goals behind the word, as digits to the base 1024, the last goal first.
 const GOALS: [usize; 14] = [

@@ -11,8 +11,8 @@ use plan_parser_goals::stop;
 ghost use mathlib.Core.Path.{_≡_};
 ghost use Prim.Native.Nat.{_<_, _≤_, _-_, _/_, _%_, _+_, _*_};
 ghost use Rattle.plan_parsing.specs.Goals.{operand, more};
-ghost use Rattle.plan_parser_goals.specs.Encoded.{goalOf, sortOf};
-ghost use Rattle.plan_parser_goals.specs.Moves.{Moves, Calls, Ends, Formed, Sound};
+ghost use Rattle.plan_parser_goals.specs.inner.Encoded.{goalOf, sortOf};
+ghost use Rattle.plan_parser_goals.specs.inner.Moves.{Moves, Calls, Ends, Formed, Sound};
 
 // The stop where there is no field behind `.`.
 const NO_FIELD: usize = 1002;

@@ -11,7 +11,7 @@ use Rattle.plan_notation.specs.Tokens.{closing, inWord, elseWord, opening, letW
 use Rattle.plan_notation.specs.Layout.{Pen, apart, depthBefore, depthAfter, indentation, onNewLine, gap, columnAfter, penAfter}
 use Rattle.plan_notation.proofs.Widths.{indented, column-below}
 use Rattle.plan_pen.specs.declared.Gap.{Gap}
-use Rattle.plan_pen.specs.Pens.{gapBytes, Parts}
+use Rattle.plan_pen.specs.inner.Pens.{gapBytes, Parts}
 
 module _ (p : Pen) (t : ℕ) where
   pub depth-before-below : depthBefore p t ≤ p .depth

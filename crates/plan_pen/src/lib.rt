@@ -4,7 +4,7 @@ ghost use Prim.Native.Nat.{_<_, _≤_};
 ghost use lib.ListN.{length};
 ghost use Rattle.plan_notation.specs.Tokens.{textOf};
 ghost use Rattle.plan_notation.specs.Layout.{start, apart, beginsExpression, breaks, depthBefore, depthAfter, indentation, onNewLine, penAfter};
-ghost use Rattle.plan_pen.specs.Pens.{penOf, gapBytes, Parts};
+ghost use Rattle.plan_pen.specs.inner.Pens.{penOf, gapBytes, Parts};
 
 // The column, from 0; how many parentheses, lets and ifs have begun and not ended; the token before.
 pub struct Pen {

@@ -9,11 +9,11 @@ use lib.ListN.{length, length-append, getD, take, drop, drop-of-length-le}
 use lib.Seq.{drop-cons, getD-drop}
 use borrow.Author.Tests.{eq-eqb, ne-eqb}
 use Rattle.plan_notation.specs.Tokens.{procedureWord, textEnd}
-use Rattle.text.specs.Wrote.{Wrote}
+use Rattle.text.specs.inner.Wrote.{Wrote}
 use Rattle.text.proofs.Added.{added-none, added-more, added-as}
 use Rattle.plan_parsing.specs.Parser.{ahead}
 use Rattle.plan_parsing.specs.Plan.{countsFrom, countsOf}
-use Rattle.plan_reader.specs.Reading.{countAt}
+use Rattle.plan_reader.specs.inner.Reading.{countAt}
 
 pub count-there : (ts : List ℕ) (i : ℕ) → ahead ts i ≡ procedureWord → countAt ts i ≡ ahead ts (i + 3) ∷ []
 unfolding countAt

@@ -13,7 +13,7 @@ use Rattle.plan_notation.specs.Tokens.{versionWord, volatileWord, textEnd}
 use Rattle.plan_parsing.specs.Parser.{ahead}
 use Rattle.plan_parsing.specs.Plan.{Reading, fault, Fault, countsOf, proceduresBy, maskFrom, behindFields, withVolatiles, readPlan}
 use Rattle.plan_reader.specs.declared.Heading.{Heading}
-use Rattle.plan_reader.specs.Reading.{none, Fielded, Marked, Headed}
+use Rattle.plan_reader.specs.inner.Reading.{none, Fielded, Marked, Headed}
 use Rattle.plan_reader.proofs.VolatileFields.{beyond}
 
 -- fields that are not named, and fields that are

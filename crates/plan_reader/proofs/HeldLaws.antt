@@ -7,11 +7,11 @@ use lib.ListN.{length, getD, set}
 use lib.Seq.{getD-set-same, getD-set-other}
 use Rattle.plan_packed.specs.Syntax.{Expression, Condition, Arguments, Procedure}
 use Rattle.plan_packed.specs.Trees.{Node, nodeOf, expressionOf, conditionOf, argumentsOf, expressionAt, conditionAt, argumentsAt}
-use Rattle.plan_packed.specs.Steps.{Ordered, NamesLater, termIn, nodeIn, treeIn}
+use Rattle.plan_packed.specs.inner.Steps.{Ordered, NamesLater, termIn, nodeIn, treeIn}
 use Rattle.plan_packed.proofs.TreeLaws.{expression-cong, condition-cong, arguments-cong}
 use Rattle.plan_written.specs.Terms.{termsOf, size}
 use Rattle.plan_written.specs.Written.{sizeOfAll}
-use Rattle.plan_writer.specs.Held.{heldProcedure, heldFrom}
+use Rattle.plan_writer.specs.inner.Held.{heldProcedure, heldFrom}
 
 -- ---- trees above a term stay where the terms from it on do
 

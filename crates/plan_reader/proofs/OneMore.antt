@@ -12,7 +12,7 @@ use borrow.Author.Tests.{eq-eqb, ne-eqb}
 use Rattle.format.specs.Version.{versionOf}
 use Rattle.plan_packed.specs.Syntax.{Expression, Procedure, Program}
 use Rattle.plan_packed.specs.Slots.{closed}
-use Rattle.plan_packed.specs.Steps.{Ordered, treeIn}
+use Rattle.plan_packed.specs.inner.Steps.{Ordered, treeIn}
 use Rattle.plan_written.specs.Terms.{termsOf, size}
 use Rattle.plan_written.specs.Written.{sizeOfAll}
 use Rattle.plan_notation.specs.Tokens.{textEnd}
@@ -20,8 +20,8 @@ use Rattle.plan_parsing.specs.Goals.{Value, number, numberIn, expressionIn, val
 use Rattle.plan_parsing.specs.Parser.{ahead, Reason, parse, Parsed, parsed, stopped}
 use Rattle.plan_parsing.specs.Plan.{Reading, plan, fault, Fault, countsOf, procedureGoals, Before, programBy, withProcedure, afterProcedure, proceduresBy, readPlan}
 use Rattle.plan_parsing.proofs.ReadRight.{ReadProcedure, main-read, procedure-read}
-use Rattle.plan_writer.specs.Held.{heldProcedure, heldFrom, heldProgram}
-use Rattle.plan_reader.specs.Reading.{Going}
+use Rattle.plan_writer.specs.inner.Held.{heldProcedure, heldFrom, heldProgram}
+use Rattle.plan_reader.specs.inner.Reading.{Going}
 use Rattle.plan_reader.proofs.HeldLaws.{tree-stays, held-more, held-stay, sizes-append}
 
 -- the procedures that have been read

@@ -8,20 +8,20 @@ use lib.Dec.{ltb}
 use lib.ListN.{length, getD, drop, set}
 use Rattle.plan_packed.specs.Syntax.{Expression}
 use Rattle.plan_packed.specs.Slots.{closed}
-use Rattle.plan_packed.specs.Steps.{treeIn}
+use Rattle.plan_packed.specs.inner.Steps.{treeIn}
 use Rattle.plan_notation.specs.Tokens.{textEnd}
 use Rattle.plan_parsing.specs.Goals.{Value, number, numberIn, expressionIn, valueAt}
 use Rattle.plan_parsing.specs.Parser as definition
 use Rattle.plan_parsing.specs.Parser.{ahead, parse}
 use Rattle.plan_parsing.specs.Plan.{fault, Fault, countsOf, procedureGoals, readPlan}
-use Rattle.plan_parser_goals.specs.Encoded.{reasonOf}
-use Rattle.plan_parser.specs.Reading as parser
-use Rattle.plan_parser.specs.Reading.{Finished}
+use Rattle.plan_parser_goals.specs.inner.Encoded.{reasonOf}
+use Rattle.plan_parser.specs.inner.Reading as parser
+use Rattle.plan_parser.specs.inner.Reading.{Finished}
 use Rattle.plan_parser.specs.declared.Parsed.{Parsed}
 use Rattle.plan_parser.specs.declared.Parsed.the-variants.{Read, Stopped}
 use Rattle.plan_reader.specs.declared.Next.{Next}
 use Rattle.plan_reader.specs.declared.Next.the-variants.{On, Last, Stop}
-use Rattle.plan_reader.specs.Reading.{faultOf, Faulty, PlanHeld, Going, GoesAs, Goes, Kept, KeptAs, Keeps}
+use Rattle.plan_reader.specs.inner.Reading.{faultOf, Faulty, PlanHeld, Going, GoesAs, Goes, Kept, KeptAs, Keeps}
 use Rattle.plan_reader.proofs.Headings.{here}
 use Rattle.plan_reader.proofs.OneMore.{OneMore, stops, opens, sized-more, there-more, lasts, goes-on}
 

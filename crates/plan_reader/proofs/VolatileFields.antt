@@ -13,7 +13,7 @@ use borrow.Author.Tests.{lt-ltb, le-ltb, ltb-true}
 use Rattle.plan_notation.specs.Tokens.{textEnd}
 use Rattle.plan_parsing.specs.Parser.{ahead}
 use Rattle.plan_parsing.specs.Plan.{maskFrom, behindFields}
-use Rattle.plan_reader.specs.Reading.{isNext}
+use Rattle.plan_reader.specs.inner.Reading.{isNext}
 
 -- beyond the tokens is the text's end
 pub beyond : (ts : List ℕ) (i : ℕ) → length ts ≤ i → ahead ts i ≡ textEnd

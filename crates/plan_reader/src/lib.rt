@@ -5,11 +5,11 @@ use plan_parser::Parsed;
 ghost use Prim.Native.Nat.{_+_, _≤_, _<_};
 ghost use mathlib.Core.Path.{_≡_};
 ghost use lib.ListN.{length};
-ghost use Rattle.plan_packed.specs.Steps.{Ordered};
-ghost use Rattle.text.specs.Wrote.{Wrote};
+ghost use Rattle.plan_packed.specs.inner.Steps.{Ordered};
+ghost use Rattle.text.specs.inner.Wrote.{Wrote};
 ghost use Rattle.plan_parsing.specs.Parser.{ahead};
 ghost use Rattle.plan_parsing.specs.Plan.{countsFrom, countsOf};
-ghost use Rattle.plan_reader.specs.Reading.{countAt, isNext, Fielded, Marked, Headed, Going, Keeps, Goes, ReadAs};
+ghost use Rattle.plan_reader.specs.inner.Reading.{countAt, isNext, Fielded, Marked, Headed, Going, Keeps, Goes, ReadAs};
 
 // The version, the mask of volatile fields, and the token behind both.
 struct Heading {

@@ -6,7 +6,7 @@ use mathlib.Core.List.{List, [], _∷_}
 use mathlib.Core.Option.{Option, some, none}
 use Rattle.format.specs.Refusal.{Refusal, Check, orElse, firstRefusal}
 use Rattle.format.proofs.RefusalLaws.{First, here, later, some-is-first}
-use Rattle.plan_refusals.specs.Small.{Small, SmallRefusal, SmallCheck}
+use Rattle.plan_refusals.specs.inner.Small.{Small, SmallRefusal, SmallCheck}
 
 -- every check has a small number, and places that are few
 abbrev pub AllSmall : List Check → Type 0

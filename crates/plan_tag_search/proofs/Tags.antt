@@ -5,7 +5,7 @@ use mathlib.Core.List.{List}
 use lib.Dec.{eqb}
 use Rattle.plan_packed.specs.Format.{terms, tagAt}
 use Rattle.plan_packed.specs.Refusals.{anyBelow}
-use Rattle.plan_packed.specs.Steps.{tagIn, Loaded}
+use Rattle.plan_packed.specs.inner.Steps.{tagIn, Loaded}
 use Rattle.plan_packed.proofs.SortLaws.{tags-are}
 use Rattle.costs.proofs.Below.{any-same}
 

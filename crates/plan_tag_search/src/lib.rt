@@ -3,7 +3,7 @@ ghost use mathlib.Core.Path.{_≡_};
 ghost use Prim.Native.Nat.{_<_};
 ghost use lib.Dec.{eqb};
 ghost use Rattle.plan_packed.specs.Refusals.{anyBelow};
-ghost use Rattle.plan_packed.specs.Steps.{tagIn};
+ghost use Rattle.plan_packed.specs.inner.Steps.{tagIn};
 
 // The tag occurs among the first terms.
 pub fn occurs(words: &[usize; 1024], count: usize, tag: usize) -> bool

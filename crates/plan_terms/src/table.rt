@@ -16,11 +16,11 @@ ghost use mathlib.Core.Bool.{false};
 ghost use mathlib.Core.List.{[], _∷_};
 ghost use Prim.Native.Nat.{_<_, _≤_};
 ghost use lib.ListN.{replicate};
-ghost use Rattle.format.specs.Lowest.{Lowest};
+ghost use Rattle.format.specs.inner.Lowest.{Lowest};
 ghost use Rattle.plan_packed.specs.Format.{tagCount};
 ghost use Rattle.plan_packed.specs.Refusals.{breaksTable, wrongTerm};
-ghost use Rattle.plan_packed.specs.Rows.{layoutRows, wrongTerms, childrenByRow};
-ghost use Rattle.plan_packed.specs.Steps.{Headed, Loaded, outside, termIn, childOf, childrenOf, noteAll, RootsNoted, TermsNoted};
+ghost use Rattle.plan_packed.specs.inner.Rows.{layoutRows, wrongTerms, childrenByRow};
+ghost use Rattle.plan_packed.specs.inner.Steps.{Headed, Loaded, outside, termIn, childOf, childrenOf, noteAll, RootsNoted, TermsNoted};
 ghost use Rattle.plan_packed.specs.Trees.{nodeOf};
 
 // The operand that is a term of this sort: it is named, unless it is wrong.

@@ -9,9 +9,9 @@ use borrow.Author.Tests.{lt-ltb, le-ltb, eq-eqb, ne-eqb}
 use Rattle.plan_notation.specs.Tokens.{becomes, unknown}
 use Rattle.plan_notation.specs.Lexing.{token, Begun, nothing, comment, name, colon, digitOf, grown, nameOf, begins, alone, begunAfter, endedBy}
 use Rattle.plan_token_automaton.specs.declared.automaton.Ended.{Ended}
-use Rattle.plan_token_automaton.specs.Classes.{classOf}
-use Rattle.plan_token_automaton.specs.Begun.{beginsBy}
-use Rattle.plan_token_automaton.specs.Ended.{listed, aloneBy, beforeOf, withOf}
+use Rattle.plan_token_automaton.specs.inner.Classes.{classOf}
+use Rattle.plan_token_automaton.specs.inner.Begun.{beginsBy}
+use Rattle.plan_token_automaton.specs.inner.Ended.{listed, aloneBy, beforeOf, withOf}
 use Rattle.plan_token_automaton.proofs.ClassLaws.{is-digit, the-digit, begins-by, alone-by}
 
 -- ---- a token, or none

@@ -9,9 +9,9 @@ use borrow.Author.Tests.{ltb-true}
 use Rattle.format.specs.Refusal.{lowest}
 use Rattle.plan_notation.specs.Lexing.{token, nothing, name, isBlank, digitOf, markOf, begins, alone}
 use Rattle.plan_notation.proofs.Tested.{passed, equated}
-use Rattle.plan_token_automaton.specs.Classes.{classOf}
-use Rattle.plan_token_automaton.specs.Begun.{beginsBy}
-use Rattle.plan_token_automaton.specs.Ended.{aloneBy}
+use Rattle.plan_token_automaton.specs.inner.Classes.{classOf}
+use Rattle.plan_token_automaton.specs.inner.Begun.{beginsBy}
+use Rattle.plan_token_automaton.specs.inner.Ended.{aloneBy}
 
 -- a test as a number
 bit : Bool → ℕ

@@ -9,7 +9,7 @@ use lib.ListN.{getD}
 use borrow.Author.Tests.{eqb-true}
 use Rattle.plan_notation.specs.Tokens.{unknown}
 use Rattle.plan_notation.specs.Lexing.{valueOf, nameFrom, nameOf}
-use Rattle.plan_token_automaton.specs.Names.{Named}
+use Rattle.plan_token_automaton.specs.inner.Names.{Named}
 
 -- a number that is no name's
 missed : (n t v : ℕ) → ((k : ℕ) → k < t + n → valueOf k ≡ v → ⊥) → nameFrom n t v ≡ unknown

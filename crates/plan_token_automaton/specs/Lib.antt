@@ -1,4 +1,1 @@
-pub mod Classes
-pub mod Names
-pub mod Begun
-pub mod Ended
+pub mod inner

@@ -9,10 +9,10 @@ use byte_numbers::wide;
 ghost use mathlib.Core.Path.{_≡_};
 ghost use Prim.Native.Nat.{_<_};
 ghost use Rattle.plan_notation.specs.Lexing.{grown, begunAfter, endedAtEnd};
-ghost use Rattle.plan_token_automaton.specs.Classes.{classOf};
-ghost use Rattle.plan_token_automaton.specs.Names.{Named};
-ghost use Rattle.plan_token_automaton.specs.Begun.{begunOf, beginsBy};
-ghost use Rattle.plan_token_automaton.specs.Ended.{listed, aloneBy, beforeOf, withOf};
+ghost use Rattle.plan_token_automaton.specs.inner.Classes.{classOf};
+ghost use Rattle.plan_token_automaton.specs.inner.Names.{Named};
+ghost use Rattle.plan_token_automaton.specs.inner.Begun.{begunOf, beginsBy};
+ghost use Rattle.plan_token_automaton.specs.inner.Ended.{listed, aloneBy, beforeOf, withOf};
 
 // Nothing; a comment; a name, at a place, with its number so far; or a colon.
 pub enum Begun {

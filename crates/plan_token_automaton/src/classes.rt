@@ -1,7 +1,7 @@
 // What the lexer needs to know of a byte, one number to each: a digit of a name as 1 to 36, `#` as 37, `:` as 38, a blank as 39; else the token that it is.
 use byte_numbers::wide;
 ghost use mathlib.Core.Path.{_≡_};
-ghost use Rattle.plan_token_automaton.specs.Classes.{classOf, Classed};
+ghost use Rattle.plan_token_automaton.specs.inner.Classes.{classOf, Classed};
 
 pub const HASH: u8 = 37;
 

@@ -1,7 +1,7 @@
 // Which token a name is: the numbers of the 62 names have 62 remainders by 246, so that a name is looked for at one place.
 ghost use mathlib.Core.Path.{_≡_};
 ghost use Rattle.plan_notation.specs.Lexing.{nameOf};
-ghost use Rattle.plan_token_automaton.specs.Names.{Named};
+ghost use Rattle.plan_token_automaton.specs.inner.Names.{Named};
 
 // What is no token.
 pub const UNKNOWN: u8 = 70;

@@ -11,7 +11,7 @@ use borrow.Author.Tests.{ne-eqb}
 use Rattle.plan_packed.specs.Format.{maskBit, fieldsFrom}
 use Rattle.plan_notation.specs.Tokens.{volatileWord, newWord, opening, closing}
 use Rattle.plan_notation.specs.Shown.{volatileTokens}
-use Rattle.plan_token_writer.specs.Items.{newTokens}
+use Rattle.plan_token_writer.specs.inner.Items.{newTokens}
 
 -- some fields, and those behind them
 pub fields-append : (m f n k : ℕ) → fieldsFrom m f (n + k) ≡ fieldsFrom m f n ++ fieldsFrom m (f + n) k

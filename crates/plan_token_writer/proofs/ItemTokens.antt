@@ -7,7 +7,7 @@ use mathlib.Core.List.{List, [], _∷_, _++_, append-nil, append-assoc}
 use lib.Dec.{leb}
 use borrow.Author.Tests.{le-leb, lt-leb}
 use Rattle.plan_notation.specs.Tokens.{opening, closing}
-use Rattle.plan_token_writer.specs.Items.{token, child, shownAs, itemTokens, tokensIn}
+use Rattle.plan_token_writer.specs.inner.Items.{token, child, shownAs, itemTokens, tokensIn}
 
 module _ (words : List ℕ) where
   -- a token

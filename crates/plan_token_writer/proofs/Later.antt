@@ -9,15 +9,15 @@ use lib.Dec.{eqb, ltb}
 use lib.ListN.{getD}
 use borrow.Author.Tests.{le-ltb, lt-ltb, eq-eqb, ne-eqb}
 use Rattle.plan_packed.specs.Format.{table, layout}
-use Rattle.plan_packed.specs.Operands.{tagOf, firstOf, secondOf, thirdOf, slotBits, letFirst, letSecond, fieldBits, writeSecond, procedureBits, listBits}
+use Rattle.plan_packed.specs.inner.Operands.{tagOf, firstOf, secondOf, thirdOf, slotBits, letFirst, letSecond, fieldBits, writeSecond, procedureBits, listBits}
 use Rattle.plan_packed.specs.Trees.{nodes, nodeOf}
-use Rattle.plan_packed.specs.Steps.{Ordered, inWord}
+use Rattle.plan_packed.specs.inner.Steps.{Ordered, inWord}
 use Rattle.format.proofs.Ranges.{by-range}
 use Rattle.plan_packed.proofs.Tags.{past, by-tag}
 use Rattle.plan_packed.proofs.Walk.{row-below}
 use Rattle.plan_notation.specs.Tokens.{opening, closing}
-use Rattle.plan_token_writer.specs.Items.{token, child, asArguments, operandBy, binderOn, itemOf, itemRows, conditionRow, rowAs, rowNumber, itemsFrom}
-use Rattle.plan_token_writer.specs.Items.{rowItems}
+use Rattle.plan_token_writer.specs.inner.Items.{token, child, asArguments, operandBy, binderOn, itemOf, itemRows, conditionRow, rowAs, rowNumber, itemsFrom}
+use Rattle.plan_token_writer.specs.inner.Items.{rowItems}
 
 -- an item that is a token, or a tree at a term after t in a context
 abbrev pub LaterItem : ℕ → ℕ → Type 0

@@ -7,7 +7,7 @@ use lib.ListN.{length}
 use Rattle.format.proofs.Ranges.{NoneOf, by-range}
 use Rattle.plan_notation.specs.Tokens.{opening, closing}
 use borrow.Author.Tests.{lt-ltb, le-ltb, ne-eqb}
-use Rattle.plan_token_writer.specs.Items.{token, child, operandBy, itemOf, itemRows, rowNumber, itemsFrom, rowItems}
+use Rattle.plan_token_writer.specs.inner.Items.{token, child, operandBy, itemOf, itemRows, rowNumber, itemsFrom, rowItems}
 
 -- ten bits
 pub below : (x : ℕ) → x % 1024 < 1024

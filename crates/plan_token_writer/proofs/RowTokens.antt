@@ -11,9 +11,9 @@ use lib.ListN.{getD}
 use borrow.Author.Tests.{le-ltb, lt-ltb, eq-eqb, ne-eqb}
 use Rattle.plan_packed.specs.Syntax.{Expression, Condition, Arguments}
 use Rattle.plan_packed.specs.Format.{table, layout, fieldsFrom}
-use Rattle.plan_packed.specs.Operands.{tagOf, firstOf, secondOf, thirdOf, slotBits, letFirst, letSecond, fieldBits, writeSecond, procedureBits, listBits}
+use Rattle.plan_packed.specs.inner.Operands.{tagOf, firstOf, secondOf, thirdOf, slotBits, letFirst, letSecond, fieldBits, writeSecond, procedureBits, listBits}
 use Rattle.plan_packed.specs.Trees.{nodes, nodeOf, expressionOf, conditionOf, argumentsOf, binderOf}
-use Rattle.plan_packed.specs.Steps.{Ordered, inWord, treeIn, conditionIn, listIn}
+use Rattle.plan_packed.specs.inner.Steps.{Ordered, inWord, treeIn, conditionIn, listIn}
 use Rattle.plan_packed.proofs.SingleTerm.{rowOf}
 use Rattle.format.proofs.Ranges.{NoneOf}
 use Rattle.plan_packed.proofs.Tags.{past, by-tag, except}
@@ -23,8 +23,8 @@ use Rattle.plan_notation.specs.Tokens.{thenWord, elseWord, doWord, allWord, and
 use Rattle.plan_notation.specs.Tokens as tokens
 use Rattle.plan_notation.specs.Tokens.{callWord, forkWord, joinWord, synchWord, waitWord, notifyWord, opening, closing, comma, dot, equals, becomes, dash}
 use Rattle.plan_notation.specs.Shown.{loose, testing, prefix, tight, grouped, binderToken, signalTokens, shown, shownᶜ, shownᵃ, shownFurther}
-use Rattle.plan_token_writer.specs.Items.{token, child, asCondition, asArguments, asFurther, shownAs, itemTokens, tokensIn, operandBy, binderOn, itemOf}
-use Rattle.plan_token_writer.specs.Items.{itemRows, conditionRow, rowAs, rowNumber, itemsFrom, rowItems}
+use Rattle.plan_token_writer.specs.inner.Items.{token, child, asCondition, asArguments, asFurther, shownAs, itemTokens, tokensIn, operandBy, binderOn, itemOf}
+use Rattle.plan_token_writer.specs.inner.Items.{itemRows, conditionRow, rowAs, rowNumber, itemsFrom, rowItems}
 use Rattle.plan_token_writer.proofs.ItemTokens.{token-is, child-is, joined, Each, tokens-are, tokens-append, grouped-are}
 
 -- bits are few

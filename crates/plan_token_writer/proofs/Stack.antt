@@ -6,7 +6,7 @@ use mathlib.Core.Path.{_≡_, refl, sym, ap, ap₂, _∙_}
 use mathlib.Core.List.{List, [], _∷_, _++_, append-assoc}
 use lib.ListN.{length, length-append, getD, set, length-set}
 use lib.Seq.{getD-set-same, getD-set-other}
-use Rattle.plan_token_writer.specs.Items.{stackOf, Pushed}
+use Rattle.plan_token_writer.specs.inner.Items.{stackOf, Pushed}
 
 -- a store above a stack leaves it as it is
 below-same : (a : List ℕ) (m n x : ℕ) → n ≤ m → stackOf (set a m x) n ≡ stackOf a n

@@ -9,15 +9,15 @@ use lib.Dec.{eqb, ltb}
 use lib.ListN.{length, length-append, getD}
 use borrow.Author.Tests.{le-leb, lt-leb, le-ltb, lt-ltb, eqb-true, eq-eqb}
 use Rattle.plan_packed.specs.Format.{table, layout, fieldsFrom}
-use Rattle.plan_packed.specs.Operands.{tagOf, maskBits}
+use Rattle.plan_packed.specs.inner.Operands.{tagOf, maskBits}
 use Rattle.plan_packed.specs.Trees.{nodes, nodeOf, expressionOf}
-use Rattle.plan_packed.specs.Steps.{Ordered, inWord, treeIn}
+use Rattle.plan_packed.specs.inner.Steps.{Ordered, inWord, treeIn}
 use Rattle.plan_packed.proofs.Walk.{expr-is}
-use Rattle.text.specs.Wrote.{Wrote}
+use Rattle.text.specs.inner.Wrote.{Wrote}
 use Rattle.text.proofs.Added.{added-none}
 use Rattle.plan_notation.specs.Shown.{shown}
 use Rattle.plan_token_writer.specs.declared.Standing.{Standing}
-use Rattle.plan_token_writer.specs.Items.{shownAs, itemTokens, tokensIn, rowAs, rowItems, newTokens, isNew, stackOf, Low, weight, Pushed, Stepped}
+use Rattle.plan_token_writer.specs.inner.Items.{shownAs, itemTokens, tokensIn, rowAs, rowItems, newTokens, isNew, stackOf, Low, weight, Pushed, Stepped}
 use Rattle.plan_token_writer.proofs.Fields.{new-length}
 use Rattle.plan_token_writer.proofs.Later.{row-later}
 use Rattle.plan_token_writer.proofs.RowTokens.{row-tokens}

@@ -10,7 +10,7 @@ use lib.ListN.{length, length-append, getD}
 use borrow.Author.Tests.{le-leb, lt-leb}
 use Rattle.format.proofs.Ranges.{by-range}
 use Rattle.plan_notation.specs.Tokens.{opening, closing}
-use Rattle.plan_token_writer.specs.Items.{token, itemTokens, tokensIn, itemRows, rowNumber, itemsFrom, rowItems, stackOf, Low, keyOf, weight}
+use Rattle.plan_token_writer.specs.inner.Items.{token, itemTokens, tokensIn, itemRows, rowNumber, itemsFrom, rowItems, stackOf, Low, keyOf, weight}
 use Rattle.plan_token_writer.proofs.ItemTokens.{tokens-append}
 use Rattle.plan_token_writer.proofs.Operands.{items-length, few-items}
 use Rattle.plan_token_writer.proofs.Later.{LaterItem, Later}

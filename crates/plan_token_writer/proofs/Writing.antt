@@ -4,12 +4,12 @@ use native.Mathlib.Omega.{arith}
 use mathlib.Core.Path.{_≡_, refl, sym, ap, subst, _∙_}
 use mathlib.Core.List.{List, [], _∷_, _++_, append-nil, append-assoc}
 use lib.ListN.{length, length-append}
-use Rattle.plan_packed.specs.Steps.{Ordered, treeIn}
-use Rattle.text.specs.Wrote.{Wrote}
+use Rattle.plan_packed.specs.inner.Steps.{Ordered, treeIn}
+use Rattle.text.specs.inner.Wrote.{Wrote}
 use Rattle.text.proofs.Added.{added-none, added-more, added-as}
 use Rattle.plan_notation.specs.Shown.{loose, shown}
 use Rattle.plan_token_writer.specs.declared.Standing.{Standing}
-use Rattle.plan_token_writer.specs.Items.{tokensIn, itemRows, stackOf, Low, Pushed, Running, Stepped}
+use Rattle.plan_token_writer.specs.inner.Items.{tokensIn, itemRows, stackOf, Low, Pushed, Running, Stepped}
 use Rattle.plan_token_writer.proofs.Stepping.{start-low, start-tokens}
 
 -- of these tokens some are written

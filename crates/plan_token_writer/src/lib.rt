@@ -9,12 +9,12 @@ ghost use mathlib.Core.Path.{_≡_};
 ghost use mathlib.Core.List.{_∷_, [], _++_};
 ghost use lib.ListN.{length};
 ghost use Rattle.plan_packed.specs.Format.{maskBit, fieldsFrom};
-ghost use Rattle.plan_packed.specs.Operands.{tagOf, maskBits};
-ghost use Rattle.plan_packed.specs.Steps.{Ordered, treeIn};
+ghost use Rattle.plan_packed.specs.inner.Operands.{tagOf, maskBits};
+ghost use Rattle.plan_packed.specs.inner.Steps.{Ordered, treeIn};
 ghost use Rattle.plan_notation.specs.Tokens.{newWord, opening, closing};
 ghost use Rattle.plan_notation.specs.Shown.{loose, shown};
-ghost use Rattle.text.specs.Wrote.{Wrote};
-ghost use Rattle.plan_token_writer.specs.Items.{operandBy, binderOn, itemOf, itemRows, conditionRow, rowAs, rowNumber, itemsFrom, rowItems, newTokens, isNew, tokensIn, stackOf, Pushed, Running, Stepped};
+ghost use Rattle.text.specs.inner.Wrote.{Wrote};
+ghost use Rattle.plan_token_writer.specs.inner.Items.{operandBy, binderOn, itemOf, itemRows, conditionRow, rowAs, rowNumber, itemsFrom, rowItems, newTokens, isNew, tokensIn, stackOf, Pushed, Running, Stepped};
 
 // An item from here on is a token.
 const TOKEN: usize = 16384;

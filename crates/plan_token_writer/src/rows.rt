@@ -2,7 +2,7 @@
 use byte_numbers::wide;
 ghost use mathlib.Core.Path.{_≡_};
 ghost use Prim.Native.Nat.{_<_};
-ghost use Rattle.plan_token_writer.specs.Items.{itemRows, rowNumber};
+ghost use Rattle.plan_token_writer.specs.inner.Items.{itemRows, rowNumber};
 
 pub type Rows = [[u8; 8]; 28];
 

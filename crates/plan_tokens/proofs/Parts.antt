@@ -9,7 +9,7 @@ use Rattle.format.specs.Version.{versionOf}
 use Rattle.plan_packed.specs.Syntax.{Procedure}
 use Rattle.plan_packed.specs.Format
 use Rattle.plan_packed.specs.Format.{version, terms, volatiles, parameters, root, fieldsFrom}
-use Rattle.plan_packed.specs.Steps.{Right, Ordered, treeIn}
+use Rattle.plan_packed.specs.inner.Steps.{Right, Ordered, treeIn}
 use Rattle.plan_packed.specs.Trees.{treeAt, procedureAt, proceduresFrom, programOf}
 use Rattle.plan_packed.specs.Check.{refusal}
 use Rattle.plan_packed.proofs.Accepted.{Accepted, accepted}
@@ -19,12 +19,12 @@ use Rattle.plan_written.specs.Written.{versionNumber}
 use Rattle.plan_written.proofs.Passes.{plan-length, body-is, parameters-are, version-back, version-of, mask-is}
 use Rattle.plan_written.proofs.Sizes.{program-procedures}
 use Rattle.plan_written.proofs.RightPlans.{right-program}
-use Rattle.text.specs.Wrote.{Wrote}
+use Rattle.text.specs.inner.Wrote.{Wrote}
 use Rattle.text.proofs.Added.{added-none, added-more, added-as}
 use Rattle.plan_notation.specs.Tokens.{versionWord}
 use Rattle.plan_notation.specs.Shown.{loose, shown, volatileTokens, procedureTokens, mainFirst, shownPlan}
 use Rattle.plan_notation.proofs.ShownCodes.{plan-fit}
-use Rattle.plan_tokens.specs.Begun.{Given, procedureHead, procedureAlone, headerTokens, restFrom, proceduresBehind}
+use Rattle.plan_tokens.specs.inner.Begun.{Given, procedureHead, procedureAlone, headerTokens, restFrom, proceduresBehind}
 
 -- ---- procedures one by one
 

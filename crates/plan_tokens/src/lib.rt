@@ -11,9 +11,9 @@ ghost use lib.ListN.{length};
 ghost use Rattle.plan_packed.specs.Format.{version, fieldsFrom, procedures};
 ghost use Rattle.plan_packed.specs.Trees.{programOf};
 ghost use Rattle.plan_notation.specs.Shown.{volatileTokens, shownPlan};
-ghost use Rattle.text.specs.Wrote.{Wrote};
-ghost use Rattle.plan_token_writer.specs.Items.{itemRows};
-ghost use Rattle.plan_tokens.specs.Begun.{Given, procedureHead, procedureAlone, headerTokens, proceduresBehind, FirstField};
+ghost use Rattle.text.specs.inner.Wrote.{Wrote};
+ghost use Rattle.plan_token_writer.specs.inner.Items.{itemRows};
+ghost use Rattle.plan_tokens.specs.inner.Begun.{Given, procedureHead, procedureAlone, headerTokens, proceduresBehind, FirstField};
 
 // The first field from field 1 on that the mask has, or 32.
 fn first_field(mask: usize) -> usize

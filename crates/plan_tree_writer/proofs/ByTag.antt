@@ -13,19 +13,19 @@ use borrow.Author.Tests.{eq-eqb, ne-eqb}
 use Rattle.format.proofs.Ranges.{NoneOf}
 use Rattle.plan_packed.specs.Syntax.{Expression, Condition}
 use Rattle.plan_packed.specs.Format.{table, layout}
-use Rattle.plan_packed.specs.Operands as word
-use Rattle.plan_packed.specs.Operands.{tagOf}
+use Rattle.plan_packed.specs.inner.Operands as word
+use Rattle.plan_packed.specs.inner.Operands.{tagOf}
 use Rattle.plan_packed.specs.Trees.{nodes, nodeOf, expressionOf, conditionOf, argumentsOf}
-use Rattle.plan_packed.specs.Steps.{Ordered, inWord, treeIn, conditionIn, listIn}
+use Rattle.plan_packed.specs.inner.Steps.{Ordered, inWord, treeIn, conditionIn, listIn}
 use Rattle.plan_packed.proofs.Children.{list-ends}
 use Rattle.plan_packed.proofs.SingleTerm.{rowOf}
 use Rattle.plan_packed.proofs.Tags.{except}
 use Rattle.plan_packed.proofs.Walk.{expr-is, cond-is, list-is, row-below}
 use Rattle.plan_written.specs.Terms.{TermTree, term, value, child, nothing, termsOf, termsOfᶜ, termsOfᵃ, wordOf}
 use Rattle.plan_written.proofs.Masks.{mask-back, slot-back}
-use Rattle.plan_packing.specs.Words.{leafWord, oneWord, twoWord}
+use Rattle.plan_packing.specs.inner.Words.{leafWord, oneWord, twoWord}
 use Rattle.plan_packing.proofs.PackedWords.{leaf-variable, leaf-new, leaf-null, one-read, one-other, two-write, two-let, two-other}
-use Rattle.plan_tree_writer.specs.Left.{singles, pairs, pairFirst, pairSecond, expressionsIn, conditionsIn, listsIn}
+use Rattle.plan_tree_writer.specs.inner.Left.{singles, pairs, pairFirst, pairSecond, expressionsIn, conditionsIn, listsIn}
 use Rattle.plan_tree_writer.proofs.Shapes.{Leaf, One, Two, Three, is-leaf, is-first, is-second, is-first-second, is-first-third, is-second-third, is-all}
 use Rattle.plan_tree_writer.proofs.Shapes.{leaf-as, one-as, two-as}
 

@@ -11,7 +11,7 @@ use types.Run.{OneOf, hit}
 use borrow.Author.Tests.{ne-eqb, eqb-false}
 use Rattle.format.proofs.RefusalLaws.{neither}
 use Rattle.format.proofs.Ranges.{NoneOf}
-use Rattle.plan_tree_writer.specs.Left.{singles, pairs}
+use Rattle.plan_tree_writer.specs.inner.Left.{singles, pairs}
 
 pub no-key : (js : List ℕ) (k : ℕ) → NoneOf k js → hasKey js k ≡ false
 no-key [] k n = refl

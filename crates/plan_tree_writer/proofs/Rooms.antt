@@ -8,7 +8,7 @@ use lib.Seq.{sets, length-sets}
 use Rattle.plan_written.specs.Terms.{TermTree, size, wordsFrom}
 use Rattle.plan_written.specs.Written.{bytesOf, wordBytes}
 use Rattle.plan_written.proofs.Named.{size-pos}
-use Rattle.plan_tree_writer.specs.Left.{Room, Wrote}
+use Rattle.plan_tree_writer.specs.inner.Left.{Room, Wrote}
 use Rattle.plan_tree_writer.proofs.Shapes.{One, Two, Three}
 
 -- an area keeps its length

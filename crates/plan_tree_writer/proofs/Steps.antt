@@ -10,7 +10,7 @@ use Rattle.plan_written.specs.Written.{bytesOf, wordBytes}
 use Rattle.plan_written.proofs.Bytes.{bytes-length, words-length, words-append}
 use Rattle.plan_written.proofs.Named.{size-pos}
 use Rattle.plan_written.proofs.ReadBack.{tree-length}
-use Rattle.plan_tree_writer.specs.Left.{Room, after, Wrote, finished, endOf, After, Going}
+use Rattle.plan_tree_writer.specs.inner.Left.{Room, after, Wrote, finished, endOf, After, Going}
 use Rattle.plan_tree_writer.specs.declared.Left.{Left}
 use Rattle.plan_tree_writer.specs.declared.Left.the-variants.{Done, At}
 use Rattle.plan_tree_writer.proofs.Areas.{sets-append, sets-apart}

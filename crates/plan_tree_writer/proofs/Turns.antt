@@ -7,7 +7,7 @@ use lib.ListN.{length}
 use lib.Seq.{length-sets}
 use Rattle.plan_written.specs.Terms.{TermTree, size, wordsFrom}
 use Rattle.plan_written.specs.Written.{wordBytes}
-use Rattle.plan_tree_writer.specs.Left.{Room, after, Wrote, finished, endOf, Going}
+use Rattle.plan_tree_writer.specs.inner.Left.{Room, after, Wrote, finished, endOf, Going}
 use Rattle.plan_tree_writer.specs.declared.Left.{Left}
 use Rattle.plan_tree_writer.specs.declared.Left.the-variants.{Done, At}
 

@@ -3,9 +3,9 @@
 use plan_operands::tags;
 ghost use mathlib.Core.Path.{_≡_};
 ghost use Prim.Native.Nat.{_<_};
-ghost use Rattle.plan_packed.specs.Steps.{Ordered};
+ghost use Rattle.plan_packed.specs.inner.Steps.{Ordered};
 ghost use mir.Val.{hasKey};
-ghost use Rattle.plan_tree_writer.specs.Left.{singles, pairs, pairFirst, pairSecond, expressionsIn, conditionsIn, listsIn, Room, Wrote, Going};
+ghost use Rattle.plan_tree_writer.specs.inner.Left.{singles, pairs, pairFirst, pairSecond, expressionsIn, conditionsIn, listsIn, Room, Wrote, Going};
 
 // What is left to write of a tree: nothing, and the next term has this number; or the tree at a term, whose root has this number.
 enum Left {

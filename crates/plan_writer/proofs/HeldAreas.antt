@@ -13,8 +13,8 @@ use Rattle.plan_written.specs.Written.{bytesOf, sizeOfAll, versionNumber, heade
 use Rattle.plan_written.proofs.Named.{size-pos}
 use Rattle.plan_written.proofs.Passes.{version-back}
 use Rattle.plan_written.proofs.ReadBack.{heads, header-is}
-use Rattle.plan_tree_writer.specs.Left.{Room, Wrote, expressionsIn}
-use Rattle.plan_writer.specs.Held.{heldProcedure, heldFrom, heldProgram, Writable}
+use Rattle.plan_tree_writer.specs.inner.Left.{Room, Wrote, expressionsIn}
+use Rattle.plan_writer.specs.inner.Held.{heldProcedure, heldFrom, heldProgram, Writable}
 use Rattle.plan_writer.proofs.Plans.{sizes-more, both, both-length, none-more, step-more, plan-whole}
 
 module _ (words roots counts : List ℕ) where

@@ -11,7 +11,7 @@ use Rattle.plan_written.specs.Terms.{termsOf, size, wordsFrom}
 use Rattle.plan_written.specs.Written.{bytesOf, sizeOfAll, procedureBytes, termWords, wordBytes, written}
 use Rattle.plan_written.proofs.Bytes.{bytes-length, words-length, words-append}
 use Rattle.plan_written.proofs.ReadBack.{tree-length, procedures-length, heads, from-terms, heads-length, front-length, whole-length}
-use Rattle.plan_tree_writer.specs.Left.{Wrote}
+use Rattle.plan_tree_writer.specs.inner.Left.{Wrote}
 use Rattle.plan_tree_writer.proofs.Areas.{sets-append, sets-apart}
 
 -- ---- one procedure more

@@ -6,7 +6,7 @@ ghost use lib.ListN.{length};
 ghost use lib.Seq.{sets};
 ghost use Rattle.format.specs.Area.{overwrite};
 ghost use Rattle.plan_written.specs.Written.{bytesOf, written};
-ghost use Rattle.plan_writer.specs.Held.{heldProgram, Writable};
+ghost use Rattle.plan_writer.specs.inner.Held.{heldProgram, Writable};
 
 // A number's last four bytes.
 fn put_four(area: &mut [u8], at: usize, number: usize)

@@ -11,7 +11,7 @@ use lib.Seq.{append-snoc, getD-at}
 use Rattle.plan_packed.specs.Format.{procedures, terms, Operand, absent, slot, binder, mask, fieldName, procedure, expression, condition, list, width, layout}
 use Rattle.plan_packed.specs.Format.{Term, termAt, tagAt}
 use Rattle.plan_packed.specs.Refusals.{misplaced, isChild}
-use Rattle.plan_packed.specs.Steps.{wordAt, termIn}
+use Rattle.plan_packed.specs.inner.Steps.{wordAt, termIn}
 use Rattle.plan_packed.proofs.Reading.{term-is}
 use Rattle.plan_packed.proofs.Children.{termOf}
 use Rattle.plan_written.specs.Terms.{TermTree, term, Part, value, child, size, sizeOf, valueAt, wordOf, wordsFrom, wordsBelow}

@@ -13,7 +13,7 @@ use Rattle.format.proofs.BitLaws.{first-of, field-of}
 use Rattle.plan_packed.specs.Syntax.{Procedure, Program}
 use Rattle.plan_packed.specs.Format
 use Rattle.plan_packed.specs.Format.{version, terms, headerSpare, volatiles, parameters, root, planLength, termBit}
-use Rattle.plan_packed.specs.Steps.{wordAt}
+use Rattle.plan_packed.specs.inner.Steps.{wordAt}
 use Rattle.plan_written.specs.Terms.{TermTree, term, Part, value, child, termsOf, size, sizeOf, wordsFrom, wordsBelow}
 use Rattle.plan_written.specs.Written.{bytesOf, sizeOfAll, procedureBytes, termWords, wordBytes, versionNumber, headerOf, written}
 use Rattle.plan_written.proofs.Bytes.{bytes-length, words-length, read-back, word-back}

@@ -11,7 +11,7 @@ use lib.ListN.{length, getD, getElem?, take}
 use Rattle.plan_packed.specs.Syntax.{Procedure}
 use Rattle.plan_packed.specs.Format.{procedures, terms, parameters, termAt}
 use Rattle.plan_packed.specs.Refusals.{sumBelow, oneIf, timesIn}
-use Rattle.plan_packed.specs.Steps.{wordAt}
+use Rattle.plan_packed.specs.inner.Steps.{wordAt}
 use Rattle.plan_written.specs.Terms.{termsOf, size, wordsFrom}
 use Rattle.plan_written.specs.Written.{sizeOfAll, termWords}
 use Rattle.plan_written.proofs.RightTrees.{RightTree}

@@ -6,8 +6,8 @@ use mathlib.Core.Path.{_≡_, refl, sym, ap, _∙_}
 use lib.Arith.{digits-lt}
 use lib.Pow.{pow-add, pow-pos, shl-lt, shl-shr, shr-shr, high, low}
 use Rattle.plan_packed.specs.Format.{width, Row, layout}
-use Rattle.plan_packed.specs.Operands.{tagOf, operandIn, spareIn}
-use Rattle.plan_packed.specs.Steps.{inWord, termIn}
+use Rattle.plan_packed.specs.inner.Operands.{tagOf, operandIn, spareIn}
+use Rattle.plan_packed.specs.inner.Steps.{inWord, termIn}
 use Rattle.plan_packed.proofs.Reading.{total, fits}
 use Rattle.plan_packed.proofs.Children.{termOf}
 use Rattle.plan_written.specs.Terms.{wordBy, wordOf}

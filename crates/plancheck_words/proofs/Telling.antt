@@ -3,11 +3,11 @@ use Prim.Native.Nat.{ℕ}
 use mathlib.Core.Path.{_≡_, sym, subst}
 use mathlib.Core.Bool.{true, false}
 use mathlib.Core.List.{List}
-use Rattle.text.specs.Wrote.{Wrote}
+use Rattle.text.specs.inner.Wrote.{Wrote}
 use Rattle.text_inputs.specs.Plans.{isText}
 use Rattle.read.specs.Read.{Failure}
 use Rattle.text_read_lines.specs.Reasons.{failureLine}
-use Rattle.text_answer_lines.specs.Told.{Told}
+use Rattle.text_answer_lines.specs.inner.Told.{Told}
 use Rattle.plancheck_words.specs.Given.{Given, plan, noPlan, textPlan, givenPlan}
 use Rattle.plancheck_words.specs.Words.{SaysBy, Says, Answers, of-plan, of-none}
 use Rattle.plancheck_words.specs.declared.Word.{Word}

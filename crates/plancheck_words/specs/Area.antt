@@ -3,7 +3,7 @@ use Prim.Native.Nat.{ℕ, _≤_, _<_}
 use mathlib.Core.Path.{_≡_}
 use mathlib.Core.List.{List}
 use lib.ListN.{length}
-use Rattle.text_answer_lines.specs.Told.{Told}
+use Rattle.text_answer_lines.specs.inner.Told.{Told}
 use Rattle.plancheck_words.specs.Given.{givenPlan}
 use Rattle.plancheck_words.specs.Words.{Answers}
 use Rattle.plancheck_words.specs.declared.Word.{Word}

@@ -5,7 +5,7 @@ use text_run_words::told;
 ghost use Prim.Native.Nat.{_≤_};
 ghost use mathlib.Core.Path.{_≡_};
 ghost use lib.ListN.{length, take};
-ghost use Rattle.text_answer_lines.specs.Told.{Told};
+ghost use Rattle.text_answer_lines.specs.inner.Told.{Told};
 ghost use Rattle.plancheck_words.specs.Words.{Says, Answers};
 ghost use Rattle.plancheck_words.specs.Given.{textPlan};
 ghost use Rattle.plancheck_words.specs.Area.{Answered};

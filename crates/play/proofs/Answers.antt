@@ -25,15 +25,15 @@ use Rattle.run_outcome.specs.declared.ThreadState.the-variants as state
 use Rattle.run_outcome.specs.declared.Thread.{Thread}
 use Rattle.run_outcome.specs.declared.Outcome.{Outcome}
 use Rattle.run_state.specs.declared.Setting.{Setting}
-use Rattle.run_engine.specs.Machine.{Played, playOf, startOf, CountedBefore}
+use Rattle.run_engine.specs.inner.Machine.{Played, playOf, startOf, CountedBefore}
 use Rattle.run_engine.specs.declared.Ran.{Ran}
 use Rattle.refinement.proofs.Meant as meant
 use Rattle.refinement.proofs.States.{settingOf}
 use Rattle.refinement.proofs.Plays.{stateMeant, stopMeant, outcomeMeant, plays-recorded, plays-defined}
-use Rattle.plan_packed.specs.Steps.{wordAt, Loaded}
-use Rattle.play.specs.Roots.{Roots}
+use Rattle.plan_packed.specs.inner.Steps.{wordAt, Loaded}
+use Rattle.play.specs.inner.Roots.{Roots}
 use Rattle.play.specs.Answer.{roomOf, stopOf, waitOf, stuckOf, statusOf, outcomeOf}
-use Rattle.play.specs.RunOn.{Given, RunOn, MovesOn, RunBy}
+use Rattle.play.specs.inner.RunOn.{Given, RunOn, MovesOn, RunBy}
 use Rattle.play.proofs.EveryMove.{records-are-moves, machine-stop}
 
 -- ---- the code's words mean what the refinement says

@@ -13,9 +13,9 @@ use Rattle.rules.specs.Play as play
 use Rattle.rules.specs.Play.{playRefusal, played, playedBy, areaAfter, areaBy}
 use Rattle.run_engine.specs.declared.Ran.{Ran}
 use Rattle.play.specs.declared.outcome.Played.{Played}
-use Rattle.run_refusals.specs.Refused.{RefusedAs}
-use Rattle.plan_packed.specs.Steps.{Loaded}
-use Rattle.play.specs.RunOn.{Given, RunOn}
+use Rattle.run_refusals.specs.inner.Refused.{RefusedAs}
+use Rattle.plan_packed.specs.inner.Steps.{Loaded}
+use Rattle.play.specs.inner.RunOn.{Given, RunOn}
 use Rattle.play.specs.Answer.{answeredBy, answered}
 use Rattle.run_refusals.proofs.Passed.{by-code}
 

@@ -15,9 +15,9 @@ use Rattle.rules.specs.State.{State}
 use Rattle.rules.specs.Run.{Run, logged}
 use Rattle.rules.specs.Play.{runOf}
 use Rattle.side_by_side.specs.Moves.{shown, movesBy, movesFrom, movesOf}
-use Rattle.machine.specs.Machine as machine
-use Rattle.machine.specs.Playing as playing
-use Rattle.machine.specs.Playing.{tableOf}
+use Rattle.machine.specs.inner.Machine as machine
+use Rattle.machine.specs.inner.Playing as playing
+use Rattle.machine.specs.inner.Playing.{tableOf}
 use Rattle.machine.proofs.StateMeaning.{Tabulates, stateOf}
 use Rattle.machine.proofs.Runs.{Reached, answerOf, step-of, step-reached}
 use Rattle.machine.proofs.PlanTable.{tabulates}

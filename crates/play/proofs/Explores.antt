@@ -10,13 +10,13 @@ use lib.Seq.{getD-take, take-length}
 use Rattle.plan_packed.specs.Format.{version, procedures, volatiles}
 use Rattle.run_outcome.specs.declared.Outcome.{Outcome}
 use Rattle.run_state.specs.declared.Setting.{Setting}
-use Rattle.run_engine.specs.Machine.{startOf}
+use Rattle.run_engine.specs.inner.Machine.{startOf}
 use Rattle.run_engine.specs.declared.Explored.{Explored}
-use Rattle.run_engine.specs.Exploring.{allPicks, NotedAt, firstRun, ExploredOn}
+use Rattle.run_engine.specs.inner.Exploring.{allPicks, NotedAt, firstRun, ExploredOn}
 use Rattle.run_engine.proofs.AllPicks.{length-all, given-at, noted-at, unnoted}
 use Rattle.refinement.proofs.States.{settingOf}
-use Rattle.play.specs.Roots.{Roots}
-use Rattle.play.specs.RunOn.{Given, RunBy, OutcomeOf, Notable, ExploredBy}
+use Rattle.play.specs.inner.Roots.{Roots}
+use Rattle.play.specs.inner.RunOn.{Given, RunBy, OutcomeOf, Notable, ExploredBy}
 use Rattle.play.proofs.Answers.{RanAs, run-on, outcome-defined}
 
 module _ (plan ws rs picks area notes noted after : List ℕ) (given : Given plan ws picks area) (fits : Notable notes area)

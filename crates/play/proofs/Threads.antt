@@ -13,7 +13,7 @@ use Rattle.rules.specs.Run.{Run, Status, status}
 use Rattle.rules.proofs.ThreadStates.{status-at}
 use Rattle.run_outcome.specs.declared.Thread.{Thread}
 use Rattle.run_outcome.specs.declared.Outcome.{Outcome}
-use Rattle.run_open_threads.specs.Open.{absent}
+use Rattle.run_open_threads.specs.inner.Open.{absent}
 use Rattle.play.specs.Answer.{statusOf, outcomeOf}
 
 -- an element of a list, and what it is mapped to

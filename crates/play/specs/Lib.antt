@@ -1,4 +1,3 @@
 pub mod Answer
 pub mod ExecutedOn
-pub mod Roots
-pub mod RunOn
+pub mod inner

@@ -6,19 +6,19 @@ use mathlib.Core.List.{List}
 use mathlib.Core.Option.{some, none}
 use lib.ListN.{length, length-replicate}
 use Rattle.plan_packed.specs.Format.{terms}
-use Rattle.plan_packed.specs.Steps.{Loaded}
+use Rattle.plan_packed.specs.inner.Steps.{Loaded}
 use Rattle.plan_refusals.specs.Answer as check
 use Rattle.plan_refusals.specs.declared.Checked.{Checked}
 use Rattle.plan_refusals.specs.declared.Checked.the-variants as checked
 use Rattle.rules.specs.Play.{scheduleRefusal}
 use Rattle.run_refusals.proofs.Passed.{scheduled-by-code}
-use Rattle.play.specs.RunOn.{Given}
+use Rattle.play.specs.inner.RunOn.{Given}
 use Rattle.run_last_pick.specs.declared.Previewed.{Previewed}
 use Rattle.run_last_pick.specs.declared.Previewed.the-variants as shows
 use Rattle.preview.specs.Preview.{withPick, previewRefusal, previewedBy, previewed}
 use Rattle.preview.specs.PlaysAs.{PlaysIfShown}
 use Rattle.preview.specs.Answer.{answered, AsLogged}
-use Rattle.preview.specs.Shown.{innerLog, Shown}
+use Rattle.preview.specs.inner.Shown.{innerLog, Shown}
 use Rattle.preview.proofs.PlaysAs.{previewed-plays}
 
 -- the contract of `preview`, where its answer is the defined one

@@ -29,19 +29,19 @@ use Rattle.run_outcome.specs.declared.NoRoom.{NoRoom}
 use Rattle.run_outcome.specs.declared.NoRoom.the-variants as room
 use Rattle.run_outcome.specs.declared.Stop.{Stop}
 use Rattle.run_outcome.specs.declared.Stop.the-variants as stop
-use Rattle.run_open_threads.specs.Open.{absent}
-use Rattle.run_engine.specs.Machine.{picksBefore}
+use Rattle.run_open_threads.specs.inner.Open.{absent}
+use Rattle.run_engine.specs.inner.Machine.{picksBefore}
 use Rattle.run_engine.specs.declared.Ran.{Ran}
 use Rattle.play.specs.Answer.{roomOf, stopOf, statusOf, outcomeOf}
-use Rattle.play.specs.RunOn.{Given, RunOn}
+use Rattle.play.specs.inner.RunOn.{Given, RunOn}
 use Rattle.play.proofs.Threads.{status-of}
-use Rattle.text.specs.Wrote.{Wrote}
+use Rattle.text.specs.inner.Wrote.{Wrote}
 use Rattle.run_last_pick.specs.declared.Previewed.{Previewed}
 use Rattle.preview.specs.Preview as preview
 use Rattle.preview.specs.Preview.{Preview, shownAfter, withPick}
 use Rattle.preview.specs.PlaysAs.{onePickMore, stoppedNext, PlaysAs, STOPPED, PASSED, MOVED, RACE, NO-ROOM}
 use Rattle.preview.specs.Answer.{bytesIn, recordOf, answered, BytesAsLogged, AsLogged}
-use Rattle.run_last_pick.specs.LastPick.{recordIn, lastRecord, lastPick, LastGiven}
+use Rattle.run_last_pick.specs.inner.LastPick.{recordIn, lastRecord, lastPick, LastGiven}
 use Rattle.preview.proofs.PlaysAs.{preview-plays}
 use Rattle.run_last_pick.proofs.LastPick.{early, full, raced, passed, moved, recorded}
 

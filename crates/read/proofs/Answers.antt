@@ -16,7 +16,7 @@ use Rattle.format.proofs.AreaLaws.{overwrite-length}
 use Rattle.plan_packed.specs.Syntax.{Program}
 use Rattle.plan_packed.specs.Format.{table, layout}
 use Rattle.plan_packed.specs.Trees.{ExpressionNode, Node, nodes, nodeOf}
-use Rattle.plan_packed.specs.Steps.{Ordered, NamesLater, inWord, termIn, nodeIn}
+use Rattle.plan_packed.specs.inner.Steps.{Ordered, NamesLater, inWord, termIn, nodeIn}
 use Rattle.plan_written.specs.Written as bytes
 use Rattle.plan_written.specs.Written.{sizeOfAll}
 use Rattle.plan_written.proofs.ReadBack.{whole-length}
@@ -28,14 +28,14 @@ use Rattle.plan_lexer.specs.Kept.{Kept}
 use Rattle.plan_lexer.specs.Place.{placeIn, placeOf}
 use Rattle.plan_parsing.specs.Plan.{Reading, plan, fault, Fault, readPlan}
 use Rattle.plan_parsing.proofs.PlanRight.{program-right}
-use Rattle.plan_writer.specs.Held.{heldFrom, heldProgram, Writable}
-use Rattle.plan_reader.specs.Reading.{faultOf, Faulty, PlanHeld, ReadBy, ReadAs}
+use Rattle.plan_writer.specs.inner.Held.{heldFrom, heldProgram, Writable}
+use Rattle.plan_reader.specs.inner.Reading.{faultOf, Faulty, PlanHeld, ReadBy, ReadAs}
 use Rattle.plan_reader.specs.declared.Outcome.{Outcome}
 use Rattle.plan_reader.specs.declared.Outcome.the-variants.{Plan, Refused}
 use Rattle.read.specs.Read as texts
 use Rattle.read.specs.Read.{Failure, ofFault, tooMany, shortForPlan, failedAt, answerBy, areaBy, readAnswer, readArea}
 use Rattle.read.specs.Answer.{failureOf, knownKind, answered}
-use Rattle.read.specs.Begun.{Held, TooShort, Wrote, PlanWritten}
+use Rattle.read.specs.inner.Begun.{Held, TooShort, Wrote, PlanWritten}
 use Rattle.read.specs.declared.ReadAnswer.{ReadAnswer}
 use Rattle.read.specs.declared.ReadAnswer.the-variants.{Written, Short, Failed}
 

@@ -2,7 +2,7 @@
 use Prim.Native.Nat.{ℕ}
 use mathlib.Core.Bool.{cond}
 use lib.Dec.{eqb, ltb}
-use Rattle.plan_reader.specs.Reading.{faultOf}
+use Rattle.plan_reader.specs.inner.Reading.{faultOf}
 use Rattle.read.specs.Read as texts
 use Rattle.read.specs.Read.{Failure, ofFault}
 use Rattle.read.specs.declared.ReadAnswer.{ReadAnswer}

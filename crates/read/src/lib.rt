@@ -5,11 +5,11 @@ ghost use Prim.Native.Nat.{_≤_};
 ghost use mathlib.Core.Path.{_≡_};
 ghost use lib.ListN.{length};
 ghost use Rattle.plan_notation.specs.Lexing.{codesOf};
-ghost use Rattle.plan_writer.specs.Held.{heldProgram};
+ghost use Rattle.plan_writer.specs.inner.Held.{heldProgram};
 ghost use Rattle.read.specs.Read.{failedAt, answerBy, areaBy, readAnswer, readArea};
 ghost use Rattle.plan_parsing.specs.Plan.{readPlan};
 ghost use Rattle.read.specs.Answer.{failureOf, knownKind, answered};
-ghost use Rattle.read.specs.Begun.{Held, PlanWritten};
+ghost use Rattle.read.specs.inner.Begun.{Held, PlanWritten};
 
 // What `read` answers.
 pub enum ReadAnswer {

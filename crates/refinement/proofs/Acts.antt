@@ -11,26 +11,26 @@ use Rattle.plan_packed.specs.Format.{terms}
 use Rattle.plan_packed.specs.Trees.{nodeAt, programOf}
 use Rattle.plan_packed.specs.Check.{refusal}
 use Rattle.rules.proofs.StateLaws.{there as present}
-use Rattle.machine.specs.Frames as frames
-use Rattle.machine.specs.Refocusing.{up}
-use Rattle.machine.specs.Refocusing as refocus
-use Rattle.machine.specs.Machine as machine
-use Rattle.machine.specs.Playing.{tableOf}
-use Rattle.machine.specs.Playing as playing
+use Rattle.machine.specs.inner.Frames as frames
+use Rattle.machine.specs.inner.Refocusing.{up}
+use Rattle.machine.specs.inner.Refocusing as refocus
+use Rattle.machine.specs.inner.Machine as machine
+use Rattle.machine.specs.inner.Playing.{tableOf}
+use Rattle.machine.specs.inner.Playing as playing
 use Rattle.machine.proofs.Runs.{Reached}
-use Rattle.run_frames.specs.RedexKinds.{RedexKind, RedexKind as redex}
+use Rattle.run_frames.specs.inner.RedexKinds.{RedexKind, RedexKind as redex}
 use Rattle.run_frames.specs.declared.refocusing.Ready.{Ready}
-use Rattle.run_frames.specs.Going.{readyAt, readyOf, goAt, goRun, goRunCondition, goValue, goTruth}
+use Rattle.run_frames.specs.inner.Going.{readyAt, readyOf, goAt, goRun, goRunCondition, goValue, goTruth}
 use Rattle.run_state.specs.declared.Setting.{Setting}
 use Rattle.run_state.specs.declared.Head.{Head}
 use Rattle.run_look.specs.declared.Sight.{Sight}
 use Rattle.run_look.specs.declared.Sight.the-variants as sight
 use Rattle.run_state.specs.declared.acted.Act.{Act}
-use Rattle.run_look.specs.Look.{objectBy, objectOf, fieldBy, aboutField, lookBy, lookOf}
-use Rattle.run_act.specs.Act.{pureBy, actBy, actOf}
-use Rattle.run_engine.specs.Machine as engine
-use Rattle.run_pick.specs.Pick.{noHead, lookMet}
-use Rattle.run_engine.specs.Machine.{noCell, noObject, headAt, cellNumber}
+use Rattle.run_look.specs.inner.Look.{objectBy, objectOf, fieldBy, aboutField, lookBy, lookOf}
+use Rattle.run_act.specs.inner.Act.{pureBy, actBy, actOf}
+use Rattle.run_engine.specs.inner.Machine as engine
+use Rattle.run_pick.specs.inner.Pick.{noHead, lookMet}
+use Rattle.run_engine.specs.inner.Machine.{noCell, noObject, headAt, cellNumber}
 use Rattle.refinement.proofs.Meant.{closed, StandsBy}
 use Rattle.refinement.proofs.States.{settingOf, Headed, Related}
 use Rattle.refinement.proofs.Looks.{MeetsBy, attempt-value}

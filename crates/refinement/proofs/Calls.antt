@@ -7,21 +7,21 @@ use lib.ListN.{length}
 use Rattle.plan_packed.specs.Format.{procedures, terms, root, expression, tagAt}
 use Rattle.plan_packed.specs.Trees.{nodeAt}
 use Rattle.plan_packed.proofs.Accepted.{OfSort, Accepted}
-use Rattle.machine.specs.Frames.{closure}
-use Rattle.machine.specs.Frames as frames
-use Rattle.machine.specs.Playing as playing
-use Rattle.machine.specs.Refocusing.{downᵃ}
+use Rattle.machine.specs.inner.Frames.{closure}
+use Rattle.machine.specs.inner.Frames as frames
+use Rattle.machine.specs.inner.Playing as playing
+use Rattle.machine.specs.inner.Refocusing.{downᵃ}
 use Rattle.machine.proofs.PlanTable.{ordered}
 use Rattle.machine.proofs.CallLists.{list-left}
 use Rattle.machine.proofs.Sorted.{Well}
 use Rattle.run_frames.specs.declared.frame.Frame.{Frame}
-use Rattle.run_frames.specs.RedexKinds.{RedexKind as redex}
-use Rattle.plan_packed.specs.Operands.{firstOf, secondOf}
-use Rattle.run_term_words.specs.Words.{wordAt}
-use Rattle.run_frames.specs.Frames.{restOf}
-use Rattle.run_frames.specs.Going.{readyOf, goAt}
-use Rattle.run_refocusing_step.specs.Down.{rootAt, listBy, listOf, wantedOf}
-use Rattle.run_refocusing.specs.Refocusing.{Stack}
+use Rattle.run_frames.specs.inner.RedexKinds.{RedexKind as redex}
+use Rattle.plan_packed.specs.inner.Operands.{firstOf, secondOf}
+use Rattle.run_term_words.specs.inner.Words.{wordAt}
+use Rattle.run_frames.specs.inner.Frames.{restOf}
+use Rattle.run_frames.specs.inner.Going.{readyOf, goAt}
+use Rattle.run_refocusing_step.specs.inner.Down.{rootAt, listBy, listOf, wantedOf}
+use Rattle.run_refocusing.specs.inner.Refocusing.{Stack}
 use Rattle.refinement.proofs.Meant.{WordsAndRoots, slots, closed, IsRest, IsExpression}
 use Rattle.refinement.proofs.Words.{Rest, rest-at}
 use Rattle.refinement.proofs.Descent.{list-more, list-end}

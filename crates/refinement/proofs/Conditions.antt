@@ -9,17 +9,17 @@ use lib.ListN.{length}
 use Rattle.plan_packed.specs.Format.{terms}
 use Rattle.plan_packed.specs.Trees.{ConditionNode, Node, nodeAt}
 use Rattle.rules.specs.Context.{falseWhen}
-use Rattle.machine.specs.Frames as frames
-use Rattle.machine.specs.Refocusing.{isTrue, boolOf, boolIn, enterᶜ}
+use Rattle.machine.specs.inner.Frames as frames
+use Rattle.machine.specs.inner.Refocusing.{isTrue, boolOf, boolIn, enterᶜ}
 use Rattle.machine.proofs.PlanTable.{ordered}
 use Rattle.machine.proofs.Sorted.{Wellᶜ}
 use Rattle.run_frames.specs.declared.frame.Kind.the-variants as kind
-use Rattle.plan_packed.specs.Operands.{firstOf, secondOf}
-use Rattle.run_term_words.specs.Words.{wordAt}
-use Rattle.run_frames.specs.Frames.{framed}
-use Rattle.run_frames.specs.Going.{goTruth}
-use Rattle.run_refocusing_step.specs.Down.{runConditionBy, runConditionOf, listedOf, wantedOf}
-use Rattle.run_refocusing.specs.Refocusing.{Stack}
+use Rattle.plan_packed.specs.inner.Operands.{firstOf, secondOf}
+use Rattle.run_term_words.specs.inner.Words.{wordAt}
+use Rattle.run_frames.specs.inner.Frames.{framed}
+use Rattle.run_frames.specs.inner.Going.{goTruth}
+use Rattle.run_refocusing_step.specs.inner.Down.{runConditionBy, runConditionOf, listedOf, wantedOf}
+use Rattle.run_refocusing.specs.inner.Refocusing.{Stack}
 use Rattle.refinement.proofs.Meant.{slots, closed, IsCondition}
 use Rattle.refinement.proofs.Words.{Condition, condition-at}
 use Rattle.refinement.proofs.Descent.{enter-truth, enter-not-true, enter-not, enter-and, enter-equal}

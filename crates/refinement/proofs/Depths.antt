@@ -7,14 +7,14 @@ use mathlib.Core.List.{List}
 use lib.Dec.{ltb}
 use lib.ListN.{length}
 use borrow.Author.Tests.{lt-ltb, le-ltb}
-use Rattle.machine.specs.Frames.{height}
-use Rattle.machine.specs.Frames as frames
-use Rattle.run_frames.specs.RedexKinds.{RedexKind, RedexKind as redex}
+use Rattle.machine.specs.inner.Frames.{height}
+use Rattle.machine.specs.inner.Frames as frames
+use Rattle.run_frames.specs.inner.RedexKinds.{RedexKind, RedexKind as redex}
 use Rattle.run_frames.specs.declared.refocusing.Ready.{Ready}
 use Rattle.run_frames.specs.declared.refocusing.Stage.{Stage}
 use Rattle.run_frames.specs.declared.refocusing.Stage.the-variants as stage
-use Rattle.run_refocusing.specs.Refocusing.{Ended}
-use Rattle.run_pick.specs.Pick.{fullBy}
+use Rattle.run_refocusing.specs.inner.Refocusing.{Ended}
+use Rattle.run_pick.specs.inner.Pick.{fullBy}
 use Rattle.refinement.proofs.Meant.{StandsBy, FoundBy}
 
 stands-height : (b : List ℕ) (P : RedexKind) (r : Ready) (S : List frames.Frame) (X : frames.Found) → StandsBy b P r S X → height X ≡ length S

@@ -8,12 +8,12 @@ use lib.ListN.{length}
 use Rattle.plan_packed.specs.Syntax.{Signal}
 use Rattle.plan_packed.specs.Trees.{new, read, write, letIn, if, while, call, fork, join, synch, signal, truth, not, and, equal, list, listEnd}
 use Rattle.plan_packed.specs.Trees.{Node, expression, condition, arguments}
-use Rattle.plan_packed.specs.Steps.{Descending}
+use Rattle.plan_packed.specs.inner.Steps.{Descending}
 use Rattle.rules.specs.Context.{falseWhen}
-use Rattle.machine.specs.Frames.{Slots, noSlots, Closure, closure, branches, Frame, Ready, Found, height}
-use Rattle.machine.specs.Refocusing.{given, valueOf, isTrue, boolOf, valueIn, boolIn, foundNot, upBy, downBy, downByᶜ, downByᵃ, down, downᶜ, downᵃ, up, upᶜ}
-use Rattle.machine.specs.Refocusing.{enter, enterᶜ}
-use Rattle.machine.specs.Turns.{Going, Turn, ends, goDown, goDownᶜ, goList, refocus, turn, refocusTurn}
+use Rattle.machine.specs.inner.Frames.{Slots, noSlots, Closure, closure, branches, Frame, Ready, Found, height}
+use Rattle.machine.specs.inner.Refocusing.{given, valueOf, isTrue, boolOf, valueIn, boolIn, foundNot, upBy, downBy, downByᶜ, downByᵃ, down, downᶜ, downᵃ, up, upᶜ}
+use Rattle.machine.specs.inner.Refocusing.{enter, enterᶜ}
+use Rattle.machine.specs.inner.Turns.{Going, Turn, ends, goDown, goDownᶜ, goList, refocus, turn, refocusTurn}
 use Rattle.machine.proofs.Turns.{turn-refocuses}
 use Rattle.machine.proofs.Heights.{turn-under}
 

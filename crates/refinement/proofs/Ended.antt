@@ -5,9 +5,9 @@ use mathlib.Core.Bool.{cond}
 use mathlib.Core.List.{List}
 use mathlib.Core.Option.{some, none}
 use mathlib.Core.Logic.{_⊎_, inl, inr}
-use Rattle.machine.specs.Frames as frames
-use Rattle.machine.specs.Machine as machine
-use Rattle.run_frames.specs.RedexKinds.{RedexKind, RedexKind as redex, numberOf as redexNumber, isRedex}
+use Rattle.machine.specs.inner.Frames as frames
+use Rattle.machine.specs.inner.Machine as machine
+use Rattle.run_frames.specs.inner.RedexKinds.{RedexKind, RedexKind as redex, numberOf as redexNumber, isRedex}
 use Rattle.run_frames.specs.declared.refocusing.Ready.{Ready}
 use Rattle.run_look.specs.declared.Block.the-variants as block
 use Rattle.run_look.specs.declared.Sight.{Sight}

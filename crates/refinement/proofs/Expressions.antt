@@ -7,20 +7,20 @@ use lib.ListN.{length}
 use Rattle.plan_packed.specs.Format.{terms, expression}
 use Rattle.plan_packed.specs.Trees.{ExpressionNode, Node, nodeAt}
 use Rattle.plan_packed.proofs.Accepted.{Child}
-use Rattle.machine.specs.Frames.{Slots}
-use Rattle.machine.specs.Frames as frames
-use Rattle.machine.specs.Refocusing.{downᵃ, up, enter}
+use Rattle.machine.specs.inner.Frames.{Slots}
+use Rattle.machine.specs.inner.Frames as frames
+use Rattle.machine.specs.inner.Refocusing.{downᵃ, up, enter}
 use Rattle.machine.proofs.PlanTable.{ordered}
 use Rattle.machine.proofs.Sorted.{Well}
 use Rattle.run_frames.specs.declared.frame.Kind.the-variants as kind
-use Rattle.run_frames.specs.RedexKinds.{RedexKind as redex}
-use Rattle.run_term_words.specs.Slots.{slotOf}
-use Rattle.plan_packed.specs.Operands.{tagOf, firstOf, secondOf, thirdOf, slotBits, fieldBits, writeSecond, letFirst, letSecond, procedureBits, listBits, maskBits}
-use Rattle.run_term_words.specs.Words.{wordAt, valueBy, valueOf}
-use Rattle.run_frames.specs.Frames.{framed, letFrame}
-use Rattle.run_frames.specs.Going.{readyOf, goAt, goValue}
-use Rattle.run_refocusing_step.specs.Down.{signalBy, signalOf, simpleBy, simpleOf, runBy, runOf, listedOf, wantOf, wantedOf}
-use Rattle.run_refocusing.specs.Refocusing.{Stack}
+use Rattle.run_frames.specs.inner.RedexKinds.{RedexKind as redex}
+use Rattle.run_term_words.specs.inner.Slots.{slotOf}
+use Rattle.plan_packed.specs.inner.Operands.{tagOf, firstOf, secondOf, thirdOf, slotBits, fieldBits, writeSecond, letFirst, letSecond, procedureBits, listBits, maskBits}
+use Rattle.run_term_words.specs.inner.Words.{wordAt, valueBy, valueOf}
+use Rattle.run_frames.specs.inner.Frames.{framed, letFrame}
+use Rattle.run_frames.specs.inner.Going.{readyOf, goAt, goValue}
+use Rattle.run_refocusing_step.specs.inner.Down.{signalBy, signalOf, simpleBy, simpleOf, runBy, runOf, listedOf, wantOf, wantedOf}
+use Rattle.run_refocusing.specs.inner.Refocusing.{Stack}
 use Rattle.refinement.proofs.Meant.{signalMeant, slots, closed, IsExpression}
 use Rattle.refinement.proofs.SlotLaws.{none-bound, slot-below}
 use Rattle.refinement.proofs.Words.{Expression, expression-at}

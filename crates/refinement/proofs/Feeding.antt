@@ -10,20 +10,20 @@ use Rattle.plan_packed.specs.Format.{terms}
 use Rattle.plan_packed.specs.Trees.{binderOf, nodeAt}
 use Rattle.rules.specs.Rules.{e-call, e-let, e-if}
 use Rattle.rules.specs.Step.{equalAct}
-use Rattle.machine.specs.Frames.{Slots, putBound, Closure, closure, branches}
-use Rattle.machine.specs.Frames as frames
-use Rattle.machine.specs.Machine as machine
-use Rattle.machine.specs.Playing as playing
-use Rattle.machine.specs.Refocusing.{upBy, up, upᶜ, enter}
+use Rattle.machine.specs.inner.Frames.{Slots, putBound, Closure, closure, branches}
+use Rattle.machine.specs.inner.Frames as frames
+use Rattle.machine.specs.inner.Machine as machine
+use Rattle.machine.specs.inner.Playing as playing
+use Rattle.machine.specs.inner.Refocusing.{upBy, up, upᶜ, enter}
 use Rattle.machine.proofs.Sorted.{Well, Wellᶜ}
 use Rattle.run_frames.specs.declared.frame.Kind.{Kind}
 use Rattle.run_frames.specs.declared.frame.Kind.the-variants as kind
 use Rattle.run_frames.specs.declared.frame.Frame.{Frame}
-use Rattle.run_frames.specs.RedexKinds.{RedexKind as redex}
+use Rattle.run_frames.specs.inner.RedexKinds.{RedexKind as redex}
 use Rattle.run_frames.specs.declared.refocusing.Refocusing.{Refocusing}
-use Rattle.run_term_words.specs.Slots.{bindOf}
-use Rattle.run_frames.specs.Frames.{secondFrame}
-use Rattle.run_frames.specs.Going.{readyOf, goAt, goTruth, sameOf, feedBy, feedOf, feedIfBy, feedIfOf, feedConditionBy, feedConditionOf}
+use Rattle.run_term_words.specs.inner.Slots.{bindOf}
+use Rattle.run_frames.specs.inner.Frames.{secondFrame}
+use Rattle.run_frames.specs.inner.Going.{readyOf, goAt, goTruth, sameOf, feedBy, feedOf, feedIfBy, feedIfOf, feedConditionBy, feedConditionOf}
 use Rattle.refinement.proofs.Meant.{slots, closed, frameBy, frameOf, SortedBy, Fine, Unlogged, Unloggedᶜ, Goes}
 use Rattle.refinement.proofs.SlotLaws.{bound, let-bound}
 

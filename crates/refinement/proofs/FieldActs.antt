@@ -12,7 +12,7 @@ use borrow.Author.Tests.{leb-false}
 use Rattle.format.specs.Version.{v0, v1, versionOf}
 use Rattle.run_keys.specs.declared.KeySet.{KeySet}
 use Rattle.run_keys.specs.Keys.{Keys, singleton, union, subset, countNew}
-use Rattle.run_keys.specs.KeySet.{keysOf, emptySet, holdsOf, learnOf, joinOf, newOf, joinedOf}
+use Rattle.run_keys.specs.inner.KeySet.{keysOf, emptySet, holdsOf, learnOf, joinOf, newOf, joinedOf}
 use Rattle.run_keys.proofs.KeySetLaws.{Fits, keys-empty, keys-join, keys-learn, fits-empty, fits-join, fits-learn}
 use Rattle.plan_packed.specs.Format.{version, terms}
 use Rattle.plan_packed.specs.Trees.{nodeAt, programOf}
@@ -21,28 +21,28 @@ use Rattle.log_records.specs.Record as records
 use Rattle.rules.specs.State as rules
 use Rattle.rules.specs.Rules.{passedOn, e-read, e-write, e-readv, e-writev}
 use Rattle.rules.specs.Step.{missingField}
-use Rattle.machine.specs.Frames as frames
-use Rattle.machine.specs.Refocusing.{up}
-use Rattle.machine.specs.Refocusing as refocus
-use Rattle.machine.specs.Machine as machine
-use Rattle.machine.specs.Playing.{tableOf}
-use Rattle.machine.specs.Playing as playing
+use Rattle.machine.specs.inner.Frames as frames
+use Rattle.machine.specs.inner.Refocusing.{up}
+use Rattle.machine.specs.inner.Refocusing as refocus
+use Rattle.machine.specs.inner.Machine as machine
+use Rattle.machine.specs.inner.Playing.{tableOf}
+use Rattle.machine.specs.inner.Playing as playing
 use Rattle.machine.proofs.Sorted.{Well}
 use Rattle.machine.proofs.Standing.{cell-there}
-use Rattle.run_frames.specs.RedexKinds.{RedexKind as redex}
-use Rattle.run_frames.specs.Going.{readyOf, goValue}
+use Rattle.run_frames.specs.inner.RedexKinds.{RedexKind as redex}
+use Rattle.run_frames.specs.inner.Going.{readyOf, goValue}
 use Rattle.run_state.specs.declared.Cell.{Cell}
 use Rattle.run_state.specs.declared.Counts.{Counts}
 use Rattle.run_outcome.specs.declared.NoRoom.the-variants as room
 use Rattle.run_state.specs.declared.acted.Act.the-variants as act
 use Rattle.run_look.specs.declared.Block.the-variants as block
 use Rattle.run_look.specs.declared.Sight.the-variants as sight
-use Rattle.run_look.specs.Look.{objectBy, fieldBy, hasOf, lookField}
-use Rattle.run_state.specs.Acted.{entryOf, nothing, cellOf, countsOf, actedOf, heardOf}
-use Rattle.run_accesses.specs.Accesses.{passedOf, actRead, actWrite}
-use Rattle.run_pick.specs.Pick.{lackBy}
-use Rattle.run_engine.specs.Machine as engine
-use Rattle.run_engine.specs.Machine.{noCell, noObject, headAt}
+use Rattle.run_look.specs.inner.Look.{objectBy, fieldBy, hasOf, lookField}
+use Rattle.run_state.specs.inner.Acted.{entryOf, nothing, cellOf, countsOf, actedOf, heardOf}
+use Rattle.run_accesses.specs.inner.Accesses.{passedOf, actRead, actWrite}
+use Rattle.run_pick.specs.inner.Pick.{lackBy}
+use Rattle.run_engine.specs.inner.Machine as engine
+use Rattle.run_engine.specs.inner.Machine.{noCell, noObject, headAt}
 use Rattle.refinement.proofs.States.{settingOf, cellMeant, CellFits, Kept, Headed, Related}
 use Rattle.refinement.proofs.Tests.{test-true, test-false}
 use Rattle.refinement.proofs.KeptLaws.{kept-changed, kept-past, kept-key, kept-store, kept-same}

@@ -8,15 +8,15 @@ use lib.Dec.{ltb}
 use borrow.Author.Tests.{lt-ltb, le-ltb}
 use lib.ListN.{length, getD, set, length-set}
 use lib.Seq.{getD-set-same, getD-set-other}
-use Rattle.machine.specs.Frames as frames
+use Rattle.machine.specs.inner.Frames as frames
 use Rattle.run_frames.specs.declared.frame.Kind.{Kind}
 use Rattle.run_frames.specs.declared.frame.Kind.the-variants as kind
 use Rattle.run_frames.specs.declared.frame.Frame.{Frame}
-use Rattle.run_frames.specs.Frames.{codeOf, kindOf, packOf, unpackOf}
+use Rattle.run_frames.specs.inner.Frames.{codeOf, kindOf, packOf, unpackOf}
 use Rattle.run_frames.specs.declared.refocusing.Refocusing.{Refocusing}
 use Rattle.run_refocusing_step.specs.declared.Turn.{Turn}
-use Rattle.run_refocusing_step.specs.Down.{stayOf, frameAt}
-use Rattle.run_refocusing.specs.Refocusing.{Stack, storeAt, stored}
+use Rattle.run_refocusing_step.specs.inner.Down.{stayOf, frameAt}
+use Rattle.run_refocusing.specs.inner.Refocusing.{Stack, storeAt, stored}
 use Rattle.refinement.proofs.Meant.{frameOf, Fine, Holds, Sized}
 
 code-small : (k : Kind) → codeOf k < 16

@@ -9,12 +9,12 @@ use borrow.Author.Tests.{eqb-true}
 use Rattle.run_frames.specs.declared.frame.Kind.{Kind}
 use Rattle.run_frames.specs.declared.frame.Kind.the-variants as kind
 use Rattle.run_frames.specs.declared.frame.Frame.{Frame}
-use Rattle.run_frames.specs.RedexKinds.{RedexKind as redex}
+use Rattle.run_frames.specs.inner.RedexKinds.{RedexKind as redex}
 use Rattle.run_frames.specs.declared.refocusing.Stage.{Stage}
 use Rattle.run_frames.specs.declared.refocusing.Stage.the-variants as stage
 use Rattle.run_frames.specs.declared.refocusing.Refocusing.{Refocusing}
-use Rattle.run_term_words.specs.Words.{valueOf}
-use Rattle.run_frames.specs.Going.{readyOf, goAt, goTruth, feedBy, feedOf, feedIfBy, feedIfOf, feedConditionBy, feedConditionOf}
+use Rattle.run_term_words.specs.inner.Words.{valueOf}
+use Rattle.run_frames.specs.inner.Going.{readyOf, goAt, goTruth, feedBy, feedOf, feedIfBy, feedIfOf, feedConditionBy, feedConditionOf}
 
 -- down from term i
 abbrev pub left : ℕ → ℕ

@@ -13,15 +13,15 @@ use Rattle.plan_packed.specs.Format.{maskBit, fieldsFrom}
 use Rattle.rules.specs.State.{fresh, freshObject, changeAt, storeField}
 use Rattle.rules.specs.State as rules
 use Rattle.rules.proofs.StateLaws.{change-length, length-added}
-use Rattle.machine.specs.Memory.{objectsOf, storeCell}
-use Rattle.machine.specs.Machine as machine
+use Rattle.machine.specs.inner.Memory.{objectsOf, storeCell}
+use Rattle.machine.specs.inner.Machine as machine
 use Rattle.machine.proofs.MemoryLaws.{store-of, store-monitor-of, add-of, FreshPast}
 use Rattle.run_state.specs.declared.Setting.{Setting}
 use Rattle.run_state.specs.declared.Cell.{Cell}
 use Rattle.run_state.specs.declared.Object.{Object}
 use Rattle.run_state.specs.declared.Counts.{Counts}
-use Rattle.run_look.specs.Look.{hasOf}
-use Rattle.run_engine.specs.Machine.{noCell, noObject}
+use Rattle.run_look.specs.inner.Look.{hasOf}
+use Rattle.run_engine.specs.inner.Machine.{noCell, noObject}
 use Rattle.refinement.proofs.States.{cellMeant, CellFits, memoryOf, numberOf, Kept}
 use Rattle.refinement.proofs.MemoryOf.{fresh-meant, memory-store, memory-past, memory-more}
 use Rattle.refinement.proofs.ThreadNumbers.{numbers-change, numbers-map}

@@ -15,7 +15,7 @@ use Rattle.log_records.specs.Packed.{packed, threeBytes, bytesOf}
 use Rattle.log_records.proofs.KindNumbers.{kind-number}
 use Rattle.rules.specs.Run.{logged}
 use Rattle.run_state.specs.declared.Entry.{Entry}
-use Rattle.run_tally.specs.Tally.{wordOf, logPut, recordsAfter}
+use Rattle.run_tally.specs.inner.Tally.{wordOf, logPut, recordsAfter}
 use Rattle.refinement.proofs.Tests.{test-true, test-false}
 use Rattle.refinement.proofs.Looks.{Written, Entered}
 

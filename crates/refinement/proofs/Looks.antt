@@ -10,7 +10,7 @@ use lib.Dec.{eqb}
 use lib.ListN.{length, getD, getElem?}
 use Rattle.run_keys.specs.declared.KeySet.{KeySet}
 use Rattle.run_keys.specs.Keys.{Keys, holds, subset}
-use Rattle.run_keys.specs.KeySet.{keysOf, holdsOf}
+use Rattle.run_keys.specs.inner.KeySet.{keysOf, holdsOf}
 use Rattle.run_keys.proofs.KeyLaws.{subset-singleton}
 use Rattle.run_keys.proofs.KeySetLaws.{Fits, keys-holds}
 use Rattle.plan_packed.specs.Format.{maskBit, volatiles}
@@ -23,9 +23,9 @@ use Rattle.rules.specs.State as rules
 use Rattle.rules.specs.Step.{forMonitor, forJoin, forNotify, missingField, notThread, notHeld}
 use Rattle.rules.proofs.Placed as placed
 use Rattle.rules.proofs.StateLaws.{outside}
-use Rattle.machine.specs.Frames as frames
-use Rattle.machine.specs.Machine as machine
-use Rattle.machine.specs.Playing.{tableOf}
+use Rattle.machine.specs.inner.Frames as frames
+use Rattle.machine.specs.inner.Machine as machine
+use Rattle.machine.specs.inner.Playing.{tableOf}
 use Rattle.machine.proofs.MemoryLaws.{lookup-of, monitor-of}
 use Rattle.machine.proofs.Meaning.{redexOf, mean}
 use Rattle.machine.proofs.Runs.{Reached}
@@ -40,10 +40,10 @@ use Rattle.run_look.specs.declared.Block.{Block}
 use Rattle.run_look.specs.declared.Block.the-variants as block
 use Rattle.run_look.specs.declared.Sight.{Sight}
 use Rattle.run_look.specs.declared.Sight.the-variants as sight
-use Rattle.run_look.specs.Look.{hasOf, objectOf}
-use Rattle.run_look.specs.Look as look
-use Rattle.run_pick.specs.Pick.{lackEntry}
-use Rattle.run_engine.specs.Machine.{noCell, noObject}
+use Rattle.run_look.specs.inner.Look.{hasOf, objectOf}
+use Rattle.run_look.specs.inner.Look as look
+use Rattle.run_pick.specs.inner.Pick.{lackEntry}
+use Rattle.run_engine.specs.inner.Machine.{noCell, noObject}
 use Rattle.refinement.proofs.States.{cellMeant, CellFits, memoryOf, Kept}
 use Rattle.refinement.proofs.MemoryOf.{memory-cell, memory-mask}
 

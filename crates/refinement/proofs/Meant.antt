@@ -16,24 +16,24 @@ use Rattle.plan_packed.proofs.Accepted.{OfSort}
 use Rattle.plan_packed.proofs.WellFormed.{count}
 use Rattle.plan_packed.proofs.TreeLaws.{treeᵃ}
 use Rattle.rules.specs.Rules.{Rule}
-use Rattle.machine.specs.Frames.{Slots, Closure, closure, branches}
-use Rattle.machine.specs.Frames as frames
-use Rattle.machine.specs.Machine as machine
-use Rattle.machine.specs.Playing as playing
-use Rattle.machine.specs.Refocusing.{downᵃ, up, upᶜ, enter, enterᶜ}
+use Rattle.machine.specs.inner.Frames.{Slots, Closure, closure, branches}
+use Rattle.machine.specs.inner.Frames as frames
+use Rattle.machine.specs.inner.Machine as machine
+use Rattle.machine.specs.inner.Playing as playing
+use Rattle.machine.specs.inner.Refocusing.{downᵃ, up, upᶜ, enter, enterᶜ}
 use Rattle.machine.proofs.Sorted.{Well, Wellᶜ}
 use Rattle.run_frames.specs.declared.frame.Kind.{Kind}
 use Rattle.run_frames.specs.declared.frame.Kind.the-variants as kind
 use Rattle.run_frames.specs.declared.frame.Frame.{Frame}
-use Rattle.run_frames.specs.RedexKinds.{RedexKind, RedexKind as redex, numberOf}
+use Rattle.run_frames.specs.inner.RedexKinds.{RedexKind, RedexKind as redex, numberOf}
 use Rattle.run_frames.specs.declared.refocusing.Ready.{Ready}
 use Rattle.run_frames.specs.declared.refocusing.Stage.{Stage}
 use Rattle.run_frames.specs.declared.refocusing.Stage.the-variants as stage
 use Rattle.run_frames.specs.declared.refocusing.Refocusing.{Refocusing}
-use Rattle.run_term_words.specs.Slots.{slotOf}
-use Rattle.run_frames.specs.Going.{readyIn}
-use Rattle.run_refocusing_step.specs.Down.{frameAt}
-use Rattle.run_refocusing.specs.Refocusing.{Stack, Ended}
+use Rattle.run_term_words.specs.inner.Slots.{slotOf}
+use Rattle.run_frames.specs.inner.Going.{readyIn}
+use Rattle.run_refocusing_step.specs.inner.Down.{frameAt}
+use Rattle.run_refocusing.specs.inner.Refocusing.{Stack, Ended}
 
 -- ---- the plan as numbers
 

@@ -13,12 +13,12 @@ use Rattle.run_keys.specs.Keys.{Keys}
 use Rattle.run_keys.proofs.KeySetLaws.{keys-zero}
 use Rattle.rules.specs.State.{fresh}
 use Rattle.rules.specs.State as rules
-use Rattle.machine.specs.Memory.{storeCell, addMask}
+use Rattle.machine.specs.inner.Memory.{storeCell, addMask}
 use Rattle.run_state.specs.declared.Setting.{Setting}
 use Rattle.run_state.specs.declared.Cell.{Cell}
 use Rattle.run_state.specs.declared.Object.{Object}
-use Rattle.run_look.specs.Look.{hasOf}
-use Rattle.run_engine.specs.Machine.{noCell, noObject, cellFirst}
+use Rattle.run_look.specs.inner.Look.{hasOf}
+use Rattle.run_engine.specs.inner.Machine.{noCell, noObject, cellFirst}
 use Rattle.refinement.proofs.States.{cellMeant, memoryOf}
 use Rattle.refinement.proofs.Tests.{test-true, test-false}
 

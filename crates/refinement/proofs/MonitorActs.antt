@@ -10,7 +10,7 @@ use lib.Dec.{eqb}
 use lib.ListN.{getD, set}
 use Rattle.run_keys.specs.declared.KeySet.{KeySet}
 use Rattle.run_keys.specs.Keys.{Keys, empty, isEmpty, countNew}
-use Rattle.run_keys.specs.KeySet.{keysOf, emptySet, joinOf, newOf, joinedOf, isEmptyOf}
+use Rattle.run_keys.specs.inner.KeySet.{keysOf, emptySet, joinOf, newOf, joinedOf, isEmptyOf}
 use Rattle.run_keys.proofs.KeySetLaws.{keys-empty, keys-is-empty, fits-empty, fits-join}
 use Rattle.plan_packed.specs.Format.{terms}
 use Rattle.plan_packed.specs.Trees.{nodeAt, programOf}
@@ -19,25 +19,25 @@ use Rattle.log_records.specs.Record as records
 use Rattle.rules.specs.State as rules
 use Rattle.rules.specs.Rules.{e-re-enter, e-acquire, e-release}
 use Rattle.rules.specs.Step.{forMonitor}
-use Rattle.machine.specs.Frames as frames
-use Rattle.machine.specs.Refocusing.{enter, up}
-use Rattle.machine.specs.Refocusing as refocus
-use Rattle.machine.specs.Machine as machine
-use Rattle.machine.specs.Playing.{tableOf}
-use Rattle.machine.specs.Playing as playing
+use Rattle.machine.specs.inner.Frames as frames
+use Rattle.machine.specs.inner.Refocusing.{enter, up}
+use Rattle.machine.specs.inner.Refocusing as refocus
+use Rattle.machine.specs.inner.Machine as machine
+use Rattle.machine.specs.inner.Playing.{tableOf}
+use Rattle.machine.specs.inner.Playing as playing
 use Rattle.machine.proofs.Standing.{standing}
 use Rattle.machine.proofs.Sorted.{Well}
-use Rattle.run_frames.specs.RedexKinds.{RedexKind as redex}
-use Rattle.run_frames.specs.Going.{readyOf, goRun, goWant, goValue}
+use Rattle.run_frames.specs.inner.RedexKinds.{RedexKind as redex}
+use Rattle.run_frames.specs.inner.Going.{readyOf, goRun, goWant, goValue}
 use Rattle.run_state.specs.declared.Cell.{Cell}
 use Rattle.run_state.specs.declared.Counts.{Counts}
 use Rattle.run_look.specs.declared.Block.the-variants as block
 use Rattle.run_look.specs.declared.Sight.the-variants as sight
-use Rattle.run_look.specs.Look.{objectBy, fieldBy, lookSynch}
-use Rattle.run_state.specs.Acted.{entryOf, noEntry, nothing, cellOf, actedOf, heardOf}
-use Rattle.run_monitors.specs.Monitors.{holdFrame, actSynch, actHold}
-use Rattle.run_engine.specs.Machine as engine
-use Rattle.run_engine.specs.Machine.{noCell, headAt}
+use Rattle.run_look.specs.inner.Look.{objectBy, fieldBy, lookSynch}
+use Rattle.run_state.specs.inner.Acted.{entryOf, noEntry, nothing, cellOf, actedOf, heardOf}
+use Rattle.run_monitors.specs.inner.Monitors.{holdFrame, actSynch, actHold}
+use Rattle.run_engine.specs.inner.Machine as engine
+use Rattle.run_engine.specs.inner.Machine.{noCell, headAt}
 use Rattle.refinement.proofs.Meant.{closed, IsExpression}
 use Rattle.refinement.proofs.States.{settingOf, cellMeant, CellFits, Kept, Headed, Related}
 use Rattle.refinement.proofs.Tests.{test-true, test-false}

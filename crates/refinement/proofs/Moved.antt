@@ -11,27 +11,27 @@ use mathlib.Core.Logic.{_⊎_, inl, inr}
 use lib.Dec.{ltb}
 use lib.ListN.{length, getD, set, getElem?, drop, length-set}
 use lib.Seq.{getD-set-same, getD-set-other}
-use Rattle.run_keys.specs.KeySet.{keysOf}
+use Rattle.run_keys.specs.inner.KeySet.{keysOf}
 use Rattle.rules.specs.Queue.{Place}
 use Rattle.rules.specs.State.{changeAt}
 use Rattle.rules.specs.Room as rooms
 use Rattle.rules.proofs.StateLaws.{there as present, inside, added, change-same, change-other, change-length}
 use Rattle.rules.proofs.Relocated.{relocated-length, was-there}
-use Rattle.machine.specs.Frames.{height}
-use Rattle.machine.specs.Machine as machine
-use Rattle.machine.specs.Playing as playing
-use Rattle.run_frames.specs.Going.{goFull}
-use Rattle.run_refocusing_step.specs.Down.{frameAt}
-use Rattle.run_refocusing.specs.Refocusing.{Stack, Ended, ended, refocusOf}
+use Rattle.machine.specs.inner.Frames.{height}
+use Rattle.machine.specs.inner.Machine as machine
+use Rattle.machine.specs.inner.Playing as playing
+use Rattle.run_frames.specs.inner.Going.{goFull}
+use Rattle.run_refocusing_step.specs.inner.Down.{frameAt}
+use Rattle.run_refocusing.specs.inner.Refocusing.{Stack, Ended, ended, refocusOf}
 use Rattle.run_state.specs.declared.Head.{Head}
 use Rattle.run_state.specs.declared.Counts.{Counts}
 use Rattle.run_state.specs.declared.acted.Acted.{Acted}
 use Rattle.run_pick.specs.declared.Met.{Met}
-use Rattle.run_pick.specs.Answer.{Move}
-use Rattle.run_pick.specs.Pick.{noHead, forksOf, fullOf, moverOf, forkedOf, moveOf, refocusMover, forkedGo, refocusForked}
-use Rattle.run_queue.specs.Queue.{afterOf}
-use Rattle.run_engine.specs.Machine as engine
-use Rattle.run_engine.specs.Machine.{headAt, cellNumber, after}
+use Rattle.run_pick.specs.inner.Answer.{Move}
+use Rattle.run_pick.specs.inner.Pick.{noHead, forksOf, fullOf, moverOf, forkedOf, moveOf, refocusMover, forkedGo, refocusForked}
+use Rattle.run_queue.specs.inner.Queue.{afterOf}
+use Rattle.run_engine.specs.inner.Machine as engine
+use Rattle.run_engine.specs.inner.Machine.{headAt, cellNumber, after}
 use Rattle.refinement.proofs.Meant.{WordsAndRoots, Sized, Refocuses}
 use Rattle.refinement.proofs.FrameLaws.{holds-same}
 use Rattle.refinement.proofs.Refocusing.{refocused}

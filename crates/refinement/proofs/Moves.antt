@@ -6,7 +6,7 @@ use mathlib.Core.List.{List, [], _∷_, _++_}
 use mathlib.Core.Option.{Option, some, none}
 use lib.ListN.{set, getElem?}
 use Rattle.run_keys.specs.Keys.{Keys}
-use Rattle.run_keys.specs.KeySet.{keysOf}
+use Rattle.run_keys.specs.inner.KeySet.{keysOf}
 use Rattle.run_keys.proofs.KeySetLaws.{Fits}
 use Rattle.plan_packed.specs.Trees.{programOf}
 use Rattle.plan_packed.specs.Check.{refusal}
@@ -14,25 +14,25 @@ use Rattle.rules.specs.Queue.{awake}
 use Rattle.rules.specs.State.{changeAt}
 use Rattle.rules.specs.Room as rooms
 use Rattle.rules.proofs.Relocated.{Relocated}
-use Rattle.machine.specs.Frames as frames
-use Rattle.machine.specs.Machine as machine
-use Rattle.machine.specs.Playing.{tableOf}
-use Rattle.machine.specs.Playing as playing
+use Rattle.machine.specs.inner.Frames as frames
+use Rattle.machine.specs.inner.Machine as machine
+use Rattle.machine.specs.inner.Playing.{tableOf}
+use Rattle.machine.specs.inner.Playing as playing
 use Rattle.machine.proofs.Runs.{Reached}
-use Rattle.run_frames.specs.RedexKinds.{RedexKind as redex, isRedex}
+use Rattle.run_frames.specs.inner.RedexKinds.{RedexKind as redex, isRedex}
 use Rattle.run_frames.specs.declared.refocusing.Ready.{Ready}
-use Rattle.run_frames.specs.Going.{goRun}
+use Rattle.run_frames.specs.inner.Going.{goRun}
 use Rattle.run_outcome.specs.declared.NoRoom.{NoRoom}
 use Rattle.run_outcome.specs.declared.NoRoom.the-variants as room
 use Rattle.run_state.specs.declared.acted.Act.{Act}
 use Rattle.run_state.specs.declared.acted.Act.the-variants as act
 use Rattle.run_state.specs.declared.acted.Acted.{Acted}
-use Rattle.run_look.specs.Look.{objectOf}
+use Rattle.run_look.specs.inner.Look.{objectOf}
 use Rattle.run_pick.specs.declared.Met.{Met}
-use Rattle.run_pick.specs.Pick.{actMet}
-use Rattle.run_queue.specs.Queue.{afterOf}
-use Rattle.run_engine.specs.Machine as engine
-use Rattle.run_engine.specs.Machine.{headAt, cellNumber, metAt}
+use Rattle.run_pick.specs.inner.Pick.{actMet}
+use Rattle.run_queue.specs.inner.Queue.{afterOf}
+use Rattle.run_engine.specs.inner.Machine as engine
+use Rattle.run_engine.specs.inner.Machine.{headAt, cellNumber, metAt}
 use Rattle.refinement.proofs.Meant.{Goes}
 use Rattle.refinement.proofs.Queues.{placesOf, Places}
 use Rattle.refinement.proofs.States.{settingOf, Kept, Headed, Related}

@@ -10,7 +10,7 @@ use lib.Bits.{or-comm}
 use lib.ListN.{length, getD, set}
 use Rattle.run_keys.specs.declared.KeySet.{KeySet}
 use Rattle.run_keys.specs.Keys.{Keys, union, countNew}
-use Rattle.run_keys.specs.KeySet.{keysOf, joinOf, newOf}
+use Rattle.run_keys.specs.inner.KeySet.{keysOf, joinOf, newOf}
 use Rattle.run_keys.proofs.KeySetLaws.{Fits, keys-join, keys-new}
 use Rattle.log_records.specs.Record.{Record, entry}
 use Rattle.log_records.specs.Record as records
@@ -18,12 +18,12 @@ use Rattle.rules.specs.State.{changeAt}
 use Rattle.rules.specs.Rules.{Rule}
 use Rattle.rules.proofs.StateLaws.{inside, there as present}
 use Rattle.rules.proofs.Relocated.{Relocated, relocated-same, relocated-length, was-there}
-use Rattle.machine.specs.Frames as frames
-use Rattle.machine.specs.Machine as machine
-use Rattle.machine.specs.Playing.{tableOf}
-use Rattle.machine.specs.Playing as playing
+use Rattle.machine.specs.inner.Frames as frames
+use Rattle.machine.specs.inner.Machine as machine
+use Rattle.machine.specs.inner.Playing.{tableOf}
+use Rattle.machine.specs.inner.Playing as playing
 use Rattle.machine.proofs.Runs.{reached-threads, reached-total}
-use Rattle.run_frames.specs.RedexKinds.{RedexKind as redex, isRedex}
+use Rattle.run_frames.specs.inner.RedexKinds.{RedexKind as redex, isRedex}
 use Rattle.run_frames.specs.declared.refocusing.Ready.{Ready}
 use Rattle.run_frames.specs.declared.refocusing.Refocusing.{Refocusing}
 use Rattle.run_state.specs.declared.Head.{Head}
@@ -31,10 +31,10 @@ use Rattle.run_state.specs.declared.Cell.{Cell}
 use Rattle.run_state.specs.declared.Object.{Object}
 use Rattle.run_state.specs.declared.Counts.{Counts}
 use Rattle.run_state.specs.declared.Entry.{Entry}
-use Rattle.run_state.specs.Acted.{entryOf, noEntry, nothing, actedOf}
-use Rattle.run_queue.specs.Queue.{afterOf}
-use Rattle.run_engine.specs.Machine as engine
-use Rattle.run_engine.specs.Machine.{noCell, headAt}
+use Rattle.run_state.specs.inner.Acted.{entryOf, noEntry, nothing, actedOf}
+use Rattle.run_queue.specs.inner.Queue.{afterOf}
+use Rattle.run_engine.specs.inner.Machine as engine
+use Rattle.run_engine.specs.inner.Machine.{noCell, headAt}
 use Rattle.refinement.proofs.Meant.{Goes}
 use Rattle.refinement.proofs.Queues.{placesOf, Places, after-quiet}
 use Rattle.refinement.proofs.States.{settingOf, Kept, Headed, Related}

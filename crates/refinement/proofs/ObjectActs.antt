@@ -12,7 +12,7 @@ use lib.ListN.{length, getD, set, getElem?}
 use borrow.Author.Tests.{leb-false, lt-leb}
 use Rattle.run_keys.specs.declared.KeySet.{KeySet}
 use Rattle.run_keys.specs.Keys.{Keys, union, countNew}
-use Rattle.run_keys.specs.KeySet.{keysOf, joinOf, newOf, joinedOf}
+use Rattle.run_keys.specs.inner.KeySet.{keysOf, joinOf, newOf, joinedOf}
 use Rattle.run_keys.proofs.KeySetLaws.{Fits, fits-join}
 use Rattle.plan_packed.specs.Format.{terms, maskBit, fieldsFrom}
 use Rattle.plan_packed.specs.Trees.{nodeAt, programOf}
@@ -24,16 +24,16 @@ use Rattle.rules.specs.Rules.{e-new, e-join}
 use Rattle.rules.specs.Step.{forJoin, notThread}
 use Rattle.rules.proofs.StateLaws.{inside, length-added, found-thread}
 use Rattle.rules.proofs.Relocated.{relocated-same}
-use Rattle.machine.specs.Frames as frames
-use Rattle.machine.specs.Refocusing.{enter, up}
-use Rattle.machine.specs.Refocusing as refocus
-use Rattle.machine.specs.Machine as machine
-use Rattle.machine.specs.Playing.{tableOf}
-use Rattle.machine.specs.Playing as playing
+use Rattle.machine.specs.inner.Frames as frames
+use Rattle.machine.specs.inner.Refocusing.{enter, up}
+use Rattle.machine.specs.inner.Refocusing as refocus
+use Rattle.machine.specs.inner.Machine as machine
+use Rattle.machine.specs.inner.Playing.{tableOf}
+use Rattle.machine.specs.inner.Playing as playing
 use Rattle.machine.proofs.Sorted.{Well}
 use Rattle.machine.proofs.Standing.{standing}
-use Rattle.run_frames.specs.RedexKinds.{RedexKind as redex}
-use Rattle.run_frames.specs.Going.{readyOf, goValue}
+use Rattle.run_frames.specs.inner.RedexKinds.{RedexKind as redex}
+use Rattle.run_frames.specs.inner.Going.{readyOf, goValue}
 use Rattle.run_state.specs.declared.Head.{Head}
 use Rattle.run_state.specs.declared.Object.{Object}
 use Rattle.run_state.specs.declared.Counts.{Counts}
@@ -42,13 +42,13 @@ use Rattle.run_state.specs.declared.acted.Act.the-variants as act
 use Rattle.run_look.specs.declared.Block.the-variants as block
 use Rattle.run_look.specs.declared.Sight.{Sight}
 use Rattle.run_look.specs.declared.Sight.the-variants as sight
-use Rattle.run_look.specs.Look.{objectBy, fieldBy, lookJoin}
-use Rattle.run_state.specs.Acted.{entryOf, nothing, countsOf, heardOf}
-use Rattle.run_objects.specs.Objects.{actNew, actFork, actJoin}
-use Rattle.run_queue.specs.Queue.{afterOf}
-use Rattle.run_engine.specs.Machine as engine
-use Rattle.run_pick.specs.Pick.{noHead}
-use Rattle.run_engine.specs.Machine.{noCell, noObject, headAt}
+use Rattle.run_look.specs.inner.Look.{objectBy, fieldBy, lookJoin}
+use Rattle.run_state.specs.inner.Acted.{entryOf, nothing, countsOf, heardOf}
+use Rattle.run_objects.specs.inner.Objects.{actNew, actFork, actJoin}
+use Rattle.run_queue.specs.inner.Queue.{afterOf}
+use Rattle.run_engine.specs.inner.Machine as engine
+use Rattle.run_pick.specs.inner.Pick.{noHead}
+use Rattle.run_engine.specs.inner.Machine.{noCell, noObject, headAt}
 use Rattle.refinement.proofs.Meant.{closed, IsExpression}
 use Rattle.refinement.proofs.States.{settingOf, numberOf, Kept, Headed, Related}
 use Rattle.refinement.proofs.Tests.{test-true, test-false}

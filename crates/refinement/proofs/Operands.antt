@@ -11,19 +11,19 @@ use borrow.Author.Tests.{lt-ltb, le-ltb}
 use Rattle.plan_packed.specs.Format.{terms, expression, condition, Operand}
 use Rattle.plan_packed.specs.Trees.{nodeAt}
 use Rattle.plan_packed.proofs.Accepted.{Child, Accepted}
-use Rattle.machine.specs.Frames as frames
-use Rattle.machine.specs.Refocusing.{enter, enterᶜ}
+use Rattle.machine.specs.inner.Frames as frames
+use Rattle.machine.specs.inner.Refocusing.{enter, enterᶜ}
 use Rattle.machine.proofs.PlanTable.{ordered}
 use Rattle.machine.proofs.Sorted.{Well, Wellᶜ}
 use Rattle.run_frames.specs.declared.frame.Kind.{Kind}
 use Rattle.run_frames.specs.declared.frame.Frame.{Frame}
 use Rattle.run_frames.specs.declared.refocusing.Refocusing.{Refocusing}
 use Rattle.run_refocusing_step.specs.declared.Turn.{Turn}
-use Rattle.run_term_words.specs.Words.{valueOf, truthOf}
-use Rattle.run_frames.specs.Frames.{framed}
-use Rattle.run_frames.specs.Going.{goRun, goRunCondition, goFull, feedOf, feedConditionOf}
-use Rattle.run_refocusing_step.specs.Down.{stayOf, pushOf, wantBy, wantOf, wantConditionBy, wantConditionOf}
-use Rattle.run_refocusing.specs.Refocusing.{Stack, stored}
+use Rattle.run_term_words.specs.inner.Words.{valueOf, truthOf}
+use Rattle.run_frames.specs.inner.Frames.{framed}
+use Rattle.run_frames.specs.inner.Going.{goRun, goRunCondition, goFull, feedOf, feedConditionOf}
+use Rattle.run_refocusing_step.specs.inner.Down.{stayOf, pushOf, wantBy, wantOf, wantConditionBy, wantConditionOf}
+use Rattle.run_refocusing.specs.inner.Refocusing.{Stack, stored}
 use Rattle.refinement.proofs.Meant.{WordsAndRoots, closed, frameOf, IsExpression, IsCondition, SortedBy, Fine, Holds, Goes, Sized}
 use Rattle.refinement.proofs.FrameLaws.{holds-more, stored-stay, stored-push}
 use Rattle.refinement.proofs.Values.{Valued, Tested, valued, tested}

@@ -12,12 +12,12 @@ use Rattle.plan_packed.specs.Trees.{programOf}
 use Rattle.plan_packed.specs.Check.{refusal}
 use Rattle.log_records.specs.Record.{Record}
 use Rattle.rules.specs.Room as rooms
-use Rattle.machine.specs.Machine as machine
-use Rattle.machine.specs.Playing.{tableOf}
-use Rattle.machine.specs.Playing as playing
+use Rattle.machine.specs.inner.Machine as machine
+use Rattle.machine.specs.inner.Playing.{tableOf}
+use Rattle.machine.specs.inner.Playing as playing
 use Rattle.machine.proofs.Runs.{Reached}
 use Rattle.run_frames.specs.declared.refocusing.Ready.{Ready}
-use Rattle.run_refocusing.specs.Refocusing.{Stack, Ended}
+use Rattle.run_refocusing.specs.inner.Refocusing.{Stack, Ended}
 use Rattle.run_outcome.specs.declared.NoRoom.the-variants as room
 use Rattle.run_outcome.specs.declared.Stop.{Stop}
 use Rattle.run_outcome.specs.declared.Stop.the-variants as stop
@@ -30,10 +30,10 @@ use Rattle.run_look.specs.declared.Block.the-variants as block
 use Rattle.run_look.specs.declared.Sight.{Sight}
 use Rattle.run_look.specs.declared.Sight.the-variants as sight
 use Rattle.run_pick.specs.declared.Met.{Met}
-use Rattle.run_pick.specs.Answer.{PickAnswer, PickAnswer as answer}
-use Rattle.run_pick.specs.Pick.{Picked, picked, noRoom, noHead, forksOf, fullOf, moveOf, refocusMover, startBy, refocusBy, makeBy, actMet, pickBy, lookMet, pickOf}
-use Rattle.run_engine.specs.Machine as engine
-use Rattle.run_engine.specs.Machine.{headAt, cellNumber, metBy, after, turnBy}
+use Rattle.run_pick.specs.inner.Answer.{PickAnswer, PickAnswer as answer}
+use Rattle.run_pick.specs.inner.Pick.{Picked, picked, noRoom, noHead, forksOf, fullOf, moveOf, refocusMover, startBy, refocusBy, makeBy, actMet, pickBy, lookMet, pickOf}
+use Rattle.run_engine.specs.inner.Machine as engine
+use Rattle.run_engine.specs.inner.Machine.{headAt, cellNumber, metBy, after, turnBy}
 use Rattle.refinement.proofs.Meant.{WordsAndRoots}
 use Rattle.refinement.proofs.States.{settingOf, Related}
 use Rattle.refinement.proofs.Looks.{Written, Entered, BlockedBy, MeetsBy, attempt-absent}

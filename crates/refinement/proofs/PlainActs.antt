@@ -11,25 +11,25 @@ use Rattle.plan_packed.specs.Format.{terms}
 use Rattle.plan_packed.specs.Trees.{nodeAt}
 use Rattle.plan_packed.proofs.Accepted.{accepted}
 use Rattle.rules.specs.Rules.{e-while, e-if}
-use Rattle.machine.specs.Frames.{branches}
-use Rattle.machine.specs.Frames as frames
-use Rattle.machine.specs.Refocusing.{enter, enterᶜ}
-use Rattle.machine.specs.Refocusing as refocus
-use Rattle.machine.specs.Machine as machine
-use Rattle.machine.specs.Playing.{tableOf}
-use Rattle.machine.specs.Playing as playing
+use Rattle.machine.specs.inner.Frames.{branches}
+use Rattle.machine.specs.inner.Frames as frames
+use Rattle.machine.specs.inner.Refocusing.{enter, enterᶜ}
+use Rattle.machine.specs.inner.Refocusing as refocus
+use Rattle.machine.specs.inner.Machine as machine
+use Rattle.machine.specs.inner.Playing.{tableOf}
+use Rattle.machine.specs.inner.Playing as playing
 use Rattle.machine.proofs.Sorted.{Well}
 use Rattle.run_frames.specs.declared.frame.Kind.the-variants as kind
-use Rattle.run_frames.specs.RedexKinds.{RedexKind as redex, isRedex}
+use Rattle.run_frames.specs.inner.RedexKinds.{RedexKind as redex, isRedex}
 use Rattle.run_frames.specs.declared.refocusing.Ready.{Ready}
 use Rattle.run_frames.specs.declared.refocusing.Refocusing.{Refocusing}
-use Rattle.run_frames.specs.Frames.{framed}
-use Rattle.run_frames.specs.Going.{readyOf, goWant, goWantCondition}
+use Rattle.run_frames.specs.inner.Frames.{framed}
+use Rattle.run_frames.specs.inner.Going.{readyOf, goWant, goWantCondition}
 use Rattle.run_state.specs.declared.Counts.{Counts}
 use Rattle.run_look.specs.declared.Sight.the-variants as sight
-use Rattle.run_state.specs.Acted.{noEntry, actedOf}
-use Rattle.run_engine.specs.Machine as engine
-use Rattle.run_engine.specs.Machine.{noCell, headAt}
+use Rattle.run_state.specs.inner.Acted.{noEntry, actedOf}
+use Rattle.run_engine.specs.inner.Machine as engine
+use Rattle.run_engine.specs.inner.Machine.{noCell, headAt}
 use Rattle.refinement.proofs.Meant.{slots, closed, IsExpression, IsCondition, Goes, Unlogged}
 use Rattle.refinement.proofs.States.{Headed}
 use Rattle.refinement.proofs.Looks.{MeetsBy, attempt-condition}

@@ -19,13 +19,13 @@ use Rattle.rules.specs.Step.{forMonitor, forJoin, forNotify, missingField, notT
 use Rattle.rules.specs.Run.{Stop, Status, Outcome, play, outcomeOf}
 use Rattle.rules.proofs.StateLaws.{there as present, outside}
 use Rattle.format.specs.Area.{overwrite}
-use Rattle.machine.specs.Machine as machine
-use Rattle.machine.specs.Playing.{tableOf}
-use Rattle.machine.specs.Playing as playing
+use Rattle.machine.specs.inner.Machine as machine
+use Rattle.machine.specs.inner.Playing.{tableOf}
+use Rattle.machine.specs.inner.Playing as playing
 use Rattle.machine.proofs.Runs.{Reached, reached-total}
 use Rattle.machine.proofs.Plays.{start-reached, move-reached, plays-outcome, plays-log}
 use Rattle.run_frames.specs.declared.refocusing.Ready.{Ready}
-use Rattle.run_refocusing.specs.Refocusing.{Stack}
+use Rattle.run_refocusing.specs.inner.Refocusing.{Stack}
 use Rattle.run_outcome.specs.declared.NoRoom.{NoRoom}
 use Rattle.run_outcome.specs.declared.Stop as code-stop
 use Rattle.run_outcome.specs.declared.Stop.the-variants as stop
@@ -42,13 +42,13 @@ use Rattle.run_look.specs.declared.Block.{Block}
 use Rattle.run_look.specs.declared.Block.the-variants as block
 use Rattle.run_look.specs.declared.Sight.{Sight}
 use Rattle.run_look.specs.declared.Sight.the-variants as sight
-use Rattle.run_look.specs.Look.{blockedOf, stateOf}
-use Rattle.run_pick.specs.Answer.{Move, PickAnswer, PickAnswer as answer}
-use Rattle.run_pick.specs.Pick.{Picked, lookMet}
-use Rattle.run_tally.specs.Tally.{shownEntry}
-use Rattle.run_engine.specs.Machine as engine
-use Rattle.run_open_threads.specs.Open.{absent}
-use Rattle.run_engine.specs.Machine.{headAt, metBy, stateBy, threadBy, threadAt, threadsOf, stopped, stayed, after, turnBy, onAnswer, playOf, startOf}
+use Rattle.run_look.specs.inner.Look.{blockedOf, stateOf}
+use Rattle.run_pick.specs.inner.Answer.{Move, PickAnswer, PickAnswer as answer}
+use Rattle.run_pick.specs.inner.Pick.{Picked, lookMet}
+use Rattle.run_tally.specs.inner.Tally.{shownEntry}
+use Rattle.run_engine.specs.inner.Machine as engine
+use Rattle.run_open_threads.specs.inner.Open.{absent}
+use Rattle.run_engine.specs.inner.Machine.{headAt, metBy, stateBy, threadBy, threadAt, threadsOf, stopped, stayed, after, turnBy, onAnswer, playOf, startOf}
 use Rattle.refinement.proofs.Meant.{WordsAndRoots}
 use Rattle.refinement.proofs.States.{settingOf, Related}
 use Rattle.refinement.proofs.Looks.{Written, Entered, BlockedBy, MeetsBy, attempt-absent}

@@ -14,10 +14,10 @@ use lib.Seq.{getD-set-same, getD-set-other}
 use borrow.Author.Tests.{eqb-true, ltb-true, ltb-false}
 use Rattle.rules.specs.Queue.{Place, awake, queued, queueLength, lastPlace, movedUp}
 use Rattle.rules.specs.State.{changeAt}
-use Rattle.machine.specs.Machine as machine
-use Rattle.run_frames.specs.RedexKinds.{RedexKind as redex, isRedex}
+use Rattle.machine.specs.inner.Machine as machine
+use Rattle.run_frames.specs.inner.RedexKinds.{RedexKind as redex, isRedex}
 use Rattle.run_frames.specs.declared.refocusing.Ready.{Ready}
-use Rattle.run_queue.specs.Queue.{queuedOn, countOf, lastOf, waitedOf, nearer, notifiedOf, freed, allNotifiedOf, signalledOf, afterOf}
+use Rattle.run_queue.specs.inner.Queue.{queuedOn, countOf, lastOf, waitedOf, nearer, notifiedOf, freed, allNotifiedOf, signalledOf, afterOf}
 
 -- the place that a number stands for
 abbrev pub placeMeant : ℕ → Place

@@ -10,12 +10,12 @@ use mathlib.Core.Logic.{_⊎_, inl, inr}
 use lib.ListN.{length}
 use Rattle.plan_packed.specs.Check.{refusal}
 use Rattle.plan_packed.proofs.Accepted.{Accepted, accepted}
-use Rattle.machine.specs.Frames as frames
+use Rattle.machine.specs.inner.Frames as frames
 use Rattle.run_frames.specs.declared.refocusing.Stage.{Stage}
 use Rattle.run_frames.specs.declared.refocusing.Stage.the-variants as stage
 use Rattle.run_frames.specs.declared.refocusing.Refocusing.{Refocusing}
-use Rattle.run_refocusing_step.specs.Down.{frameAt}
-use Rattle.run_refocusing.specs.Refocusing.{Stack, ended, liveBy, stored, turnAt, topOf, refocusOf}
+use Rattle.run_refocusing_step.specs.inner.Down.{frameAt}
+use Rattle.run_refocusing.specs.inner.Refocusing.{Stack, ended, liveBy, stored, turnAt, topOf, refocusOf}
 use Rattle.run_refocusing.proofs.Turns
 use Rattle.run_refocusing_step.proofs.Depths.{step-in}
 use Rattle.refinement.proofs.Meant.{WordsAndRoots, Holds, Goes, GoesBy, Sized, FoundBy, Refocuses}

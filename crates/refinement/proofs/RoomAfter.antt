@@ -11,10 +11,10 @@ use lib.Seq.{drop-append-seam}
 use Rattle.format.specs.Refusal.{orElse}
 use Rattle.rules.specs.Room as rooms
 use Rattle.rules.proofs.StateLaws.{inside, added-old}
-use Rattle.machine.specs.Frames.{height}
-use Rattle.machine.specs.Machine as machine
-use Rattle.machine.specs.Playing.{tableOf}
-use Rattle.machine.specs.Playing as playing
+use Rattle.machine.specs.inner.Frames.{height}
+use Rattle.machine.specs.inner.Machine as machine
+use Rattle.machine.specs.inner.Playing.{tableOf}
+use Rattle.machine.specs.inner.Playing as playing
 use Rattle.refinement.proofs.Moves.{withForked}
 
 -- the step of a move, by what it lacks

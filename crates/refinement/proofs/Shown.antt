@@ -10,10 +10,10 @@ use borrow.Author.Tests.{eq-eqb, ne-eqb}
 use Rattle.log_records.specs.Record.{Kind, Record, entry}
 use Rattle.log_records.proofs.KindNumbers.{kind-number}
 use Rattle.rules.specs.Run.{logged}
-use Rattle.machine.specs.Machine as machine
-use Rattle.machine.specs.Playing as playing
+use Rattle.machine.specs.inner.Machine as machine
+use Rattle.machine.specs.inner.Playing as playing
 use Rattle.run_state.specs.declared.Entry.{Entry}
-use Rattle.run_tally.specs.Tally.{shownEntry}
+use Rattle.run_tally.specs.inner.Tally.{shownEntry}
 use Rattle.refinement.proofs.Looks.{Written, Entered}
 
 -- the record of a move of thread p; where every move is to have one, that of a move without is a `new` record of object 0

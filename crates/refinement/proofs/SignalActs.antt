@@ -10,7 +10,7 @@ use lib.Dec.{eqb, eqb·suc-zero}
 use lib.ListN.{getD}
 use Rattle.run_keys.specs.declared.KeySet.{KeySet}
 use Rattle.run_keys.specs.Keys.{Keys, empty, isEmpty, countNew}
-use Rattle.run_keys.specs.KeySet.{keysOf, emptySet, joinOf, newOf, joinedOf, isEmptyOf}
+use Rattle.run_keys.specs.inner.KeySet.{keysOf, emptySet, joinOf, newOf, joinedOf, isEmptyOf}
 use Rattle.run_keys.proofs.KeySetLaws.{keys-empty, keys-is-empty, fits-empty, fits-join}
 use Rattle.plan_packed.specs.Syntax.{Signal}
 use Rattle.plan_packed.specs.Format.{terms}
@@ -24,27 +24,27 @@ use Rattle.rules.specs.Rules.{Rule, e-wait, e-wake, e-notify, e-notifyall}
 use Rattle.rules.specs.Step.{forMonitor, forNotify, notHeld}
 use Rattle.rules.proofs.StateLaws.{inside}
 use Rattle.rules.proofs.Relocated.{Relocated, changed-place, mapped-places}
-use Rattle.machine.specs.Frames as frames
-use Rattle.machine.specs.Refocusing.{up}
-use Rattle.machine.specs.Refocusing as refocus
-use Rattle.machine.specs.Machine as machine
-use Rattle.machine.specs.Playing.{tableOf}
-use Rattle.machine.specs.Playing as playing
+use Rattle.machine.specs.inner.Frames as frames
+use Rattle.machine.specs.inner.Refocusing.{up}
+use Rattle.machine.specs.inner.Refocusing as refocus
+use Rattle.machine.specs.inner.Machine as machine
+use Rattle.machine.specs.inner.Playing.{tableOf}
+use Rattle.machine.specs.inner.Playing as playing
 use Rattle.machine.proofs.Standing.{standing}
 use Rattle.machine.proofs.Sorted.{Well}
-use Rattle.run_frames.specs.RedexKinds.{RedexKind as redex}
+use Rattle.run_frames.specs.inner.RedexKinds.{RedexKind as redex}
 use Rattle.run_frames.specs.declared.refocusing.Ready.{Ready}
-use Rattle.run_frames.specs.Going.{readyOf, goAt, goValue}
+use Rattle.run_frames.specs.inner.Going.{readyOf, goAt, goValue}
 use Rattle.run_state.specs.declared.Cell.{Cell}
 use Rattle.run_state.specs.declared.Counts.{Counts}
 use Rattle.run_look.specs.declared.Block.the-variants as block
 use Rattle.run_look.specs.declared.Sight.the-variants as sight
-use Rattle.run_look.specs.Look.{objectBy, fieldBy, lookSignal, lookWaiting}
-use Rattle.run_state.specs.Acted.{entryOf, noEntry, nothing, cellOf, actedOf, heardOf}
-use Rattle.run_monitors.specs.Monitors.{actWait, actSignal, actWake}
-use Rattle.run_queue.specs.Queue.{waitedOf, notifiedOf, allNotifiedOf, signalledOf, afterOf}
-use Rattle.run_engine.specs.Machine as engine
-use Rattle.run_engine.specs.Machine.{noCell, headAt}
+use Rattle.run_look.specs.inner.Look.{objectBy, fieldBy, lookSignal, lookWaiting}
+use Rattle.run_state.specs.inner.Acted.{entryOf, noEntry, nothing, cellOf, actedOf, heardOf}
+use Rattle.run_monitors.specs.inner.Monitors.{actWait, actSignal, actWake}
+use Rattle.run_queue.specs.inner.Queue.{waitedOf, notifiedOf, allNotifiedOf, signalledOf, afterOf}
+use Rattle.run_engine.specs.inner.Machine as engine
+use Rattle.run_engine.specs.inner.Machine.{noCell, headAt}
 use Rattle.refinement.proofs.Meant.{signalMeant}
 use Rattle.refinement.proofs.Queues.{placesOf, Places, place-there, waited, notified, all-notified}
 use Rattle.refinement.proofs.States.{cellMeant, CellFits, Headed, Related}

@@ -10,10 +10,10 @@ use lib.Dec.{eqb, ltb}
 use lib.Pow.{field, mod-mod-pow}
 use borrow.Author.Tests.{lt-ltb, le-ltb, eq-eqb, ne-eqb}
 use Rattle.plan_packed.specs.Trees.{binderOf}
-use Rattle.machine.specs.Frames.{noSlots, put, putBound}
-use Rattle.machine.specs.PackedSlots.{slotsIn, putIn}
+use Rattle.machine.specs.inner.Frames.{noSlots, put, putBound}
+use Rattle.machine.specs.inner.PackedSlots.{slotsIn, putIn}
 use Rattle.machine.proofs.PackedSlots.{put-in}
-use Rattle.run_term_words.specs.Slots.{slotOf, bindOf}
+use Rattle.run_term_words.specs.inner.Slots.{slotOf, bindOf}
 
 slot-in : (e y : ℕ) → y < 8 → slotOf e y ≡ slotsIn e y
 unfolding slotOf slotsIn

@@ -16,19 +16,19 @@ use Rattle.plan_packed.proofs.Accepted.{accepted}
 use Rattle.rules.specs.Queue.{awake}
 use Rattle.rules.specs.State.{freshObject}
 use Rattle.rules.specs.Rules.{e-call}
-use Rattle.machine.specs.Frames.{Slots, noSlots, closure}
-use Rattle.machine.specs.Frames as frames
-use Rattle.machine.specs.Memory.{objectsOf}
-use Rattle.machine.specs.Machine as machine
-use Rattle.machine.specs.Playing as playing
-use Rattle.run_frames.specs.RedexKinds.{RedexKind as redex}
-use Rattle.run_frames.specs.Going.{readyOf}
-use Rattle.run_refocusing.specs.Refocusing.{Stack}
+use Rattle.machine.specs.inner.Frames.{Slots, noSlots, closure}
+use Rattle.machine.specs.inner.Frames as frames
+use Rattle.machine.specs.inner.Memory.{objectsOf}
+use Rattle.machine.specs.inner.Machine as machine
+use Rattle.machine.specs.inner.Playing as playing
+use Rattle.run_frames.specs.inner.RedexKinds.{RedexKind as redex}
+use Rattle.run_frames.specs.inner.Going.{readyOf}
+use Rattle.run_refocusing.specs.inner.Refocusing.{Stack}
 use Rattle.run_state.specs.declared.Setting.{Setting}
 use Rattle.run_state.specs.declared.Cell.{Cell}
 use Rattle.run_state.specs.declared.Object.{Object}
-use Rattle.run_state.specs.Acted.{countsOf}
-use Rattle.run_engine.specs.Machine.{noCell, noObject, headAt, headOf, cellFirst, startOf}
+use Rattle.run_state.specs.inner.Acted.{countsOf}
+use Rattle.run_engine.specs.inner.Machine.{noCell, noObject, headAt, headOf, cellFirst, startOf}
 use Rattle.refinement.proofs.Meant.{WordsAndRoots, IsExpression, Stands}
 use Rattle.refinement.proofs.SlotLaws.{none-bound}
 use Rattle.refinement.proofs.Queues.{placeMeant, placesOf, Places}

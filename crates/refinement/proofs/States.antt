@@ -7,24 +7,24 @@ use mathlib.Core.Option.{Option, some, none}
 use lib.Dec.{ltb}
 use lib.ListN.{length, getD, getElem?}
 use Rattle.run_keys.specs.Keys.{singleton}
-use Rattle.run_keys.specs.KeySet.{keysOf}
+use Rattle.run_keys.specs.inner.KeySet.{keysOf}
 use Rattle.run_keys.proofs.KeySetLaws.{Fits}
 use Rattle.plan_packed.specs.Format.{version, volatiles}
 use Rattle.rules.specs.Queue.{Place}
 use Rattle.rules.specs.State.{fresh}
 use Rattle.rules.specs.State as rules
-use Rattle.machine.specs.Frames as frames
-use Rattle.machine.specs.Memory.{Memory, objectsOf}
-use Rattle.machine.specs.Machine as machine
-use Rattle.run_refocusing.specs.Refocusing.{Stack}
+use Rattle.machine.specs.inner.Frames as frames
+use Rattle.machine.specs.inner.Memory.{Memory, objectsOf}
+use Rattle.machine.specs.inner.Machine as machine
+use Rattle.run_refocusing.specs.inner.Refocusing.{Stack}
 use Rattle.run_state.specs.declared.Setting.{Setting}
 use Rattle.run_state.specs.declared.Head.{Head}
 use Rattle.run_state.specs.declared.Cell.{Cell}
 use Rattle.run_state.specs.declared.Object.{Object}
 use Rattle.run_state.specs.declared.Counts.{Counts}
-use Rattle.run_look.specs.Look.{hasOf}
-use Rattle.run_engine.specs.Machine as engine
-use Rattle.run_engine.specs.Machine.{noCell, noObject, headAt, cellFirst}
+use Rattle.run_look.specs.inner.Look.{hasOf}
+use Rattle.run_engine.specs.inner.Machine as engine
+use Rattle.run_engine.specs.inner.Machine.{noCell, noObject, headAt, cellFirst}
 use Rattle.refinement.proofs.Meant.{Holds, Stands, Sized}
 use Rattle.refinement.proofs.Queues.{placesOf, Places}
 

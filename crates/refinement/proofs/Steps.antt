@@ -8,17 +8,17 @@ use lib.Dec.{eqb, eqb·suc-zero}
 use lib.ListN.{length}
 use Rattle.plan_packed.specs.Format.{terms}
 use Rattle.plan_packed.specs.Trees.{nodeAt}
-use Rattle.machine.specs.Frames as frames
-use Rattle.machine.specs.Refocusing.{upBy, up, upᶜ}
+use Rattle.machine.specs.inner.Frames as frames
+use Rattle.machine.specs.inner.Refocusing.{upBy, up, upᶜ}
 use Rattle.machine.proofs.Sorted.{Well, Wellᶜ}
 use Rattle.run_frames.specs.declared.frame.Frame.{Frame}
-use Rattle.run_frames.specs.RedexKinds.{RedexKind as redex}
+use Rattle.run_frames.specs.inner.RedexKinds.{RedexKind as redex}
 use Rattle.run_frames.specs.declared.refocusing.Stage.{Stage}
 use Rattle.run_frames.specs.declared.refocusing.Stage.the-variants as stage
 use Rattle.run_frames.specs.declared.refocusing.Refocusing.{Refocusing}
-use Rattle.run_frames.specs.Going.{readyOf, goAt, feedOf, feedConditionOf}
-use Rattle.run_refocusing_step.specs.Down.{stayOf, backOf, backConditionOf, stepBy, stepOf, frameAt}
-use Rattle.run_refocusing.specs.Refocusing.{Stack, liveBy, topOf}
+use Rattle.run_frames.specs.inner.Going.{readyOf, goAt, feedOf, feedConditionOf}
+use Rattle.run_refocusing_step.specs.inner.Down.{stayOf, backOf, backConditionOf, stepBy, stepOf, frameAt}
+use Rattle.run_refocusing.specs.inner.Refocusing.{Stack, liveBy, topOf}
 use Rattle.refinement.proofs.Meant.{Goes, GoesBy}
 use Rattle.refinement.proofs.Fuel.{needs-most, Enough, EnoughBy, feed-enough, feed-condition-enough}
 use Rattle.refinement.proofs.Feeding.{feed-goes, feed-condition-goes}

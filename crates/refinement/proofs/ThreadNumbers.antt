@@ -9,7 +9,7 @@ use lib.Dec.{eqb}
 use lib.ListN.{length, getElem?}
 use borrow.Author.Tests.{eq-eqb, ne-eqb}
 use Rattle.rules.specs.State.{changeAt}
-use Rattle.machine.specs.Machine as machine
+use Rattle.machine.specs.inner.Machine as machine
 use Rattle.refinement.proofs.States.{numberOf}
 use Rattle.refinement.proofs.Tests.{test-false}
 

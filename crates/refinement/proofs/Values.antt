@@ -8,11 +8,11 @@ use lib.Dec.{eqb}
 use Rattle.plan_packed.specs.Trees.{ExpressionNode, ConditionNode, Node, nodeAt}
 use Rattle.plan_packed.proofs.Accepted.{Accepted}
 use Rattle.rules.specs.Context.{falseWhen}
-use Rattle.machine.specs.Refocusing.{valueIn, boolIn, boolOf, isTrue}
-use Rattle.machine.specs.Refocusing as machine
-use Rattle.run_term_words.specs.Slots.{slotOf}
-use Rattle.plan_packed.specs.Operands.{tagOf, firstOf, slotBits}
-use Rattle.run_term_words.specs.Words.{wordAt, valueBy, valueOf, truthBy, truthOf}
+use Rattle.machine.specs.inner.Refocusing.{valueIn, boolIn, boolOf, isTrue}
+use Rattle.machine.specs.inner.Refocusing as machine
+use Rattle.run_term_words.specs.inner.Slots.{slotOf}
+use Rattle.plan_packed.specs.inner.Operands.{tagOf, firstOf, slotBits}
+use Rattle.run_term_words.specs.inner.Words.{wordAt, valueBy, valueOf, truthBy, truthOf}
 use Rattle.refinement.proofs.Meant.{WordsAndRoots, closed, IsExpression, IsCondition}
 use Rattle.refinement.proofs.SlotLaws.{slot-below}
 use Rattle.refinement.proofs.Words.{Expression, Condition, expression-at, condition-at}

@@ -10,7 +10,7 @@ use lib.Dec.{eqb}
 use Rattle.plan_packed.specs.Syntax.{Signal}
 use Rattle.plan_packed.specs.Format.{procedures, terms, maskBit, fieldsFrom, expression, condition, list, width, table, layout, tagAt, termAt}
 use Rattle.plan_packed.specs.Trees.{ExpressionNode, ConditionNode, ArgumentsNode, Node, binderOf, nodes, nodeAt}
-use Rattle.plan_packed.specs.Steps as packed
+use Rattle.plan_packed.specs.inner.Steps as packed
 use Rattle.plan_packed.proofs.WellFormed.{count}
 use Rattle.plan_packed.proofs.Accepted.{OfSort, Child, Fits, RightTerm, Accepted}
 use Rattle.plan_packed.proofs.Reading.{tag-in, first-was, second-was, third-was}
@@ -18,9 +18,9 @@ use Rattle.plan_packed.proofs.Children.{nodeOfTag}
 use Rattle.plan_packed.proofs.Decoded.{node-is}
 use Rattle.plan_packed.proofs.TreeLaws.{treeᵃ}
 use Rattle.machine.proofs.CallLists.{call-fits}
-use Rattle.plan_packed.specs.Operands.{tagOf, operandIn, firstOf, secondOf, thirdOf, slotBits, fieldBits, writeSecond, letFirst, letSecond, procedureBits}
-use Rattle.plan_packed.specs.Operands.{listBits, maskBits}
-use Rattle.run_term_words.specs.Words.{wordAt}
+use Rattle.plan_packed.specs.inner.Operands.{tagOf, operandIn, firstOf, secondOf, thirdOf, slotBits, fieldBits, writeSecond, letFirst, letSecond, procedureBits}
+use Rattle.plan_packed.specs.inner.Operands.{listBits, maskBits}
+use Rattle.run_term_words.specs.inner.Words.{wordAt}
 use Rattle.refinement.proofs.Meant.{WordsAndRoots}
 
 -- ---- what a term is, by its word

@@ -1,6 +1,6 @@
 // What a read or a write of a field does, by value.
 ghost use mathlib.Core.Path.{_≡_};
-ghost use Rattle.run_accesses.specs.Accesses.{passedOf, actRead, actWrite};
+ghost use Rattle.run_accesses.specs.inner.Accesses.{passedOf, actRead, actWrite};
 use log_records::kind;
 use run_frames::refocusing;
 use run_keys::KeySet;

@@ -14,9 +14,9 @@ use Rattle.run_state.specs.declared.acted.Act.{Act}
 use Rattle.run_state.specs.declared.acted.Act.the-variants as act
 use Rattle.run_state.specs.declared.acted.Acted.{Acted}
 use Rattle.run_outcome.specs.declared.NoRoom.{NoRoom}
-use Rattle.run_accesses.specs.Accesses.{actRead}
-use Rattle.run_objects.specs.Objects.{actNew, actFork}
-use Rattle.run_act.specs.Act.{changesBy, actBy}
+use Rattle.run_accesses.specs.inner.Accesses.{actRead}
+use Rattle.run_objects.specs.inner.Objects.{actNew, actFork}
+use Rattle.run_act.specs.inner.Act.{changesBy, actBy}
 
 -- the cell c after the move, where there is room for it
 unfoldable pub cellAfter : Cell → Act → Cell

@@ -1,1 +1,1 @@
-pub mod Act
+pub mod inner

@@ -1,6 +1,6 @@
 // Act: what a move does, by value.
 ghost use mathlib.Core.Path.{_≡_};
-ghost use Rattle.run_act.specs.Act.{goesOnBy, actPure, changesBy, actOf};
+ghost use Rattle.run_act.specs.inner.Act.{goesOnBy, actPure, changesBy, actOf};
 use run_frames::frame;
 use run_frames::frame::Kind;
 use run_frames::redex;

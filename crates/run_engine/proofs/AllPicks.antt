@@ -7,7 +7,7 @@ use mathlib.Core.List.{List, [], _∷_, _++_, map, append-nil}
 use lib.ListN.{length, getD, set, take, drop, length-append, length-map, length-drop, length-set, drop-of-length-le, List·getD-map}
 use lib.Seq.{take-append-le, take-append-add, take-append-seam, getD-append-add, getD-take, getD-drop, getD-set-same, take-set-le, drop-set-add, take-take}
 use borrow.Author.Tests.{lt-ltb, le-ltb}
-use Rattle.run_engine.specs.Exploring.{allPicks, pickAt}
+use Rattle.run_engine.specs.inner.Exploring.{allPicks, pickAt}
 
 -- the thread that a note goes on by
 abbrev by : ℕ → ℕ

@@ -17,19 +17,19 @@ use Rattle.run_state.specs.declared.Cell.{Cell}
 use Rattle.run_state.specs.declared.Counts.{Counts}
 use Rattle.run_state.specs.declared.Entry.{Entry}
 use Rattle.run_state.specs.declared.acted.Acted.{Acted}
-use Rattle.run_state.specs.Acted.{noEntry, nothing}
-use Rattle.run_act.specs.Act.{goesOnBy, actPure}
+use Rattle.run_state.specs.inner.Acted.{noEntry, nothing}
+use Rattle.run_act.specs.inner.Act.{goesOnBy, actPure}
 use Rattle.run_pick.proofs.Begun as begun-type
 use Rattle.run_pick.specs.declared.Met.{Met}
 use Rattle.run_pick.specs.declared.Begun.{Begun}
 use Rattle.run_pick.specs.declared.Begun.the-variants as begun
 use Rattle.run_pick.specs.declared.Reached.the-variants as reached
-use Rattle.run_pick.specs.Answer.{Move, PickAnswer as answer}
-use Rattle.run_pick.specs.Pick.{picked, refocusedHead, noHead, forksOf, beginOf, Came, reachOf}
+use Rattle.run_pick.specs.inner.Answer.{Move, PickAnswer as answer}
+use Rattle.run_pick.specs.inner.Pick.{picked, refocusedHead, noHead, forksOf, beginOf, Came, reachOf}
 use Rattle.run_pick.proofs.GoesOn.{no-signal}
 use Rattle.run_pick.proofs.Steps as steps
-use Rattle.run_queue.specs.Queue.{afterOf}
-use Rattle.run_engine.specs.Machine.{Machine, noCell, headAt, cellNumber, metBy, pickedBy}
+use Rattle.run_queue.specs.inner.Queue.{afterOf}
+use Rattle.run_engine.specs.inner.Machine.{Machine, noCell, headAt, cellNumber, metBy, pickedBy}
 
 -- what a move of thread h leaves that does a and refocuses at l, with y the thread that it makes
 abbrev pub leftBy : Head → Acted → Refocused → Head → Move

@@ -4,7 +4,7 @@ use mathlib.Core.Bool.{Bool, true, not, false, cond}
 use mathlib.Core.List.{List}
 use Prim.Native.Nat.{ℕ}
 use borrow.Author.Tests.{not-true}
-use Rattle.run_refocusing.specs.Refocusing.{Stack, Ended}
+use Rattle.run_refocusing.specs.inner.Refocusing.{Stack, Ended}
 use Rattle.run_outcome.specs.declared.NoRoom.{NoRoom}
 use Rattle.run_outcome.specs.declared.Stop.{Stop}
 use Rattle.run_outcome.specs.declared.Outcome.{Outcome}
@@ -16,10 +16,10 @@ use Rattle.run_state.specs.declared.acted.Acted.{Acted}
 use Rattle.run_look.specs.declared.Sight.{Sight}
 use Rattle.run_look.specs.declared.Sight.the-variants as sight
 use Rattle.run_pick.specs.declared.Met.{Met}
-use Rattle.run_pick.specs.Answer.{Move, PickAnswer, PickAnswer as answer}
-use Rattle.run_pick.specs.Pick.{picked, noRoom, fullOf, forksOf, refocusForked, startBy, refocusBy, makeBy, actMet, pickBy, lookMet, pickOf}
-use Rattle.run_engine.specs.Machine.{Machine, pickedBy}
-use Rattle.run_open_threads.specs.Open.{openAt, unstopped, openAfter}
+use Rattle.run_pick.specs.inner.Answer.{Move, PickAnswer, PickAnswer as answer}
+use Rattle.run_pick.specs.inner.Pick.{picked, noRoom, fullOf, forksOf, refocusForked, startBy, refocusBy, makeBy, actMet, pickBy, lookMet, pickOf}
+use Rattle.run_engine.specs.inner.Machine.{Machine, pickedBy}
+use Rattle.run_open_threads.specs.inner.Open.{openAt, unstopped, openAfter}
 
 -- an answer that stops the run does not end it
 abbrev halts : PickAnswer → Bool

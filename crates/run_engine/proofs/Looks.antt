@@ -6,7 +6,7 @@ use native.Mathlib.Omega.{arith}
 use lib.ListN.{length, getD, set}
 use borrow.Author.Tests.{le-leb}
 use Rattle.format.proofs.Turns.{turns}
-use Rattle.run_open_threads.specs.Open.{absent}
+use Rattle.run_open_threads.specs.inner.Open.{absent}
 use Rattle.run_outcome.specs.declared.Thread.{Thread}
 use Rattle.run_state.specs.declared.Setting.{Setting}
 use Rattle.run_state.specs.declared.Head.{Head}
@@ -14,8 +14,8 @@ use Rattle.run_state.specs.declared.Cell.{Cell}
 use Rattle.run_state.specs.declared.Object.{Object}
 use Rattle.run_state.specs.declared.Counts.{Counts}
 use Rattle.run_pick.specs.declared.Met.{Met}
-use Rattle.run_pick.specs.Pick.{noHead}
-use Rattle.run_engine.specs.Machine.{noCell, noObject, headAt, Placed, metBy, threadBy, threadAt, threadsOf}
+use Rattle.run_pick.specs.inner.Pick.{noHead}
+use Rattle.run_engine.specs.inner.Machine.{noCell, noObject, headAt, Placed, metBy, threadBy, threadAt, threadsOf}
 
 module _ (n : Counts) (l : List Head) (cs : List Cell) (ts : List Object) (qs : List ℕ) where
   -- with the cell c, of the object at o

@@ -5,7 +5,7 @@ use mathlib.Core.List.{List}
 use Prim.Native.Nat.{ℕ}
 use native.Mathlib.Omega.{arith}
 use lib.ListN.{getD}
-use Rattle.run_refocusing.specs.Refocusing.{Stack, Ended}
+use Rattle.run_refocusing.specs.inner.Refocusing.{Stack, Ended}
 use Rattle.run_outcome.specs.declared.NoRoom.{NoRoom}
 use Rattle.run_state.specs.declared.Setting.{Setting}
 use Rattle.run_state.specs.declared.Cell.{Cell}
@@ -14,12 +14,12 @@ use Rattle.run_state.specs.declared.acted.Act.the-variants as act
 use Rattle.run_state.specs.declared.acted.Acted.{Acted}
 use Rattle.run_look.specs.declared.Sight.{Sight}
 use Rattle.run_look.specs.declared.Sight.the-variants as sight
-use Rattle.run_act.specs.Act.{changesBy}
+use Rattle.run_act.specs.inner.Act.{changesBy}
 use Rattle.run_act.proofs.Unchanged.{cellAfter, leaves}
 use Rattle.run_pick.specs.declared.Met.{Met}
-use Rattle.run_pick.specs.Answer.{Move, PickAnswer, PickAnswer as answer}
-use Rattle.run_pick.specs.Pick.{picked, noRoom, fullOf, forksOf, refocusForked, startBy, refocusBy, makeBy, actMet, pickBy, lookMet, pickOf}
-use Rattle.run_engine.specs.Machine.{Machine, headAt, cellNumber, noCell, metBy, pickedBy}
+use Rattle.run_pick.specs.inner.Answer.{Move, PickAnswer, PickAnswer as answer}
+use Rattle.run_pick.specs.inner.Pick.{picked, noRoom, fullOf, forksOf, refocusForked, startBy, refocusBy, makeBy, actMet, pickBy, lookMet, pickOf}
+use Rattle.run_engine.specs.inner.Machine.{Machine, headAt, cellNumber, noCell, metBy, pickedBy}
 
 module _ (v : Move) (c : Cell) where
   moved-is : (u : Move) → u .cell ≡ c → answer.Moved u ≡ answer.Moved v → v .cell ≡ c

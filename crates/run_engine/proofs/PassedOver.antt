@@ -9,7 +9,7 @@ use borrow.Author.Tests.{lt-leb}
 use lib.ListN.{getD, set, replicate}
 use lib.Seq.{getD-set-other}
 use Rattle.format.proofs.Filled.{repeated}
-use Rattle.run_refocusing.specs.Refocusing.{Stack, Ended}
+use Rattle.run_refocusing.specs.inner.Refocusing.{Stack, Ended}
 use Rattle.run_outcome.specs.declared.NoRoom.{NoRoom}
 use Rattle.run_state.specs.declared.Setting.{Setting}
 use Rattle.run_state.specs.declared.acted.Act.{Act}
@@ -18,9 +18,9 @@ use Rattle.run_state.specs.declared.acted.Acted.{Acted}
 use Rattle.run_look.specs.declared.Sight.{Sight}
 use Rattle.run_look.specs.declared.Sight.the-variants as sight
 use Rattle.run_pick.specs.declared.Met.{Met}
-use Rattle.run_pick.specs.Answer.{Move, PickAnswer, PickAnswer as answer}
-use Rattle.run_pick.specs.Pick.{Picked, picked, noRoom, fullOf, forksOf, refocusForked, startBy, refocusBy, makeBy, actMet, pickBy, lookMet, pickOf}
-use Rattle.run_engine.specs.Machine.{Machine, stayed, pickedBy, turnBy, playOf}
+use Rattle.run_pick.specs.inner.Answer.{Move, PickAnswer, PickAnswer as answer}
+use Rattle.run_pick.specs.inner.Pick.{Picked, picked, noRoom, fullOf, forksOf, refocusForked, startBy, refocusBy, makeBy, actMet, pickBy, lookMet, pickOf}
+use Rattle.run_engine.specs.inner.Machine.{Machine, stayed, pickedBy, turnBy, playOf}
 
 stopped-not : {z : PickAnswer} (r : NoRoom) → z ≡ noRoom r → z ≡ answer.Passed → ⊥
 stopped-not r e h = let z : _≡_ {A = ℕ} 0 1 = cc in omega arith

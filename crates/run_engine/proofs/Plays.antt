@@ -7,7 +7,7 @@ use borrow.Author.Tests.{le-leb, lt-leb}
 use lib.ListN.{getD, set, replicate}
 use types.Run.{OneOf, miss}
 use denote.Enum.Declared.{tagOf}
-use Rattle.run_refocusing.specs.Refocusing.{Stack}
+use Rattle.run_refocusing.specs.inner.Refocusing.{Stack}
 use Rattle.run_outcome.specs.declared.Stop.{Stop}
 use Rattle.run_state.specs.declared.Setting.{Setting}
 use Rattle.run_state.specs.declared.Head.{Head}
@@ -15,15 +15,15 @@ use Rattle.run_state.specs.declared.Cell.{Cell}
 use Rattle.run_state.specs.declared.Object.{Object}
 use Rattle.run_state.specs.declared.Entry.{Entry}
 use Rattle.run_tally.specs.declared.Tally.{Tally}
-use Rattle.run_tally.specs.Tally.{shownEntry, tallyFirst, tallyPut, tallyMoved, logPut}
+use Rattle.run_tally.specs.inner.Tally.{shownEntry, tallyFirst, tallyPut, tallyMoved, logPut}
 use Rattle.run_pick.proofs.Reached as reached-type
 use Rattle.run_pick.specs.declared.Reached.{Reached}
 use Rattle.run_pick.specs.declared.Reached.the-variants as reached
-use Rattle.run_pick.specs.Answer.{Move, PickAnswer, PickAnswer as answer}
-use Rattle.run_pick.specs.Pick.{noHead, Picked}
-use Rattle.run_queue.specs.Queue.{afterOf}
-use Rattle.run_engine.specs.Machine.{Machine, Played, headAt, cellNumber, headOf, cellFirst, noObject, endOf, stopped, withForked, stayed, after, pickedBy}
-use Rattle.run_engine.specs.Machine.{turnBy, onAnswer, startOf, playOf}
+use Rattle.run_pick.specs.inner.Answer.{Move, PickAnswer, PickAnswer as answer}
+use Rattle.run_pick.specs.inner.Pick.{noHead, Picked}
+use Rattle.run_queue.specs.inner.Queue.{afterOf}
+use Rattle.run_engine.specs.inner.Machine.{Machine, Played, headAt, cellNumber, headOf, cellFirst, noObject, endOf, stopped, withForked, stayed, after, pickedBy}
+use Rattle.run_engine.specs.inner.Machine.{turnBy, onAnswer, startOf, playOf}
 
 -- a pick that neither refocuses nor stops
 pub neither : (z : Reached) → OneOf (0 ∷ 1 ∷ []) (tagOf reached-type.the-type z) → OneOf (0 ∷ 2 ∷ []) (tagOf reached-type.the-type z) → z ≡ reached.Passed

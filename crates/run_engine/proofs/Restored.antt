@@ -7,14 +7,14 @@ use mathlib.Core.List.{List, [], _∷_, map}
 use lib.Bits.{bitXor, differ, xor-step, xor-zero-r}
 use lib.ListN.{getD, set, replicate, List·getD-map}
 use lib.Seq.{set-getD}
-use Rattle.run_refocusing.specs.Refocusing.{Stack}
+use Rattle.run_refocusing.specs.inner.Refocusing.{Stack}
 use Rattle.run_state.specs.declared.Head.{Head}
 use Rattle.run_state.specs.declared.Cell.{Cell}
 use Rattle.run_state.specs.declared.Object.{Object}
 use Rattle.run_tally.specs.declared.Tally.{Tally}
 use Rattle.run_engine.specs.declared.kept.Kept.{Kept}
-use Rattle.run_engine.specs.Kept.{keepOf, restoreOf, keptFirst}
-use Rattle.run_engine.specs.Machine.{noCell, Machine}
+use Rattle.run_engine.specs.inner.Kept.{keepOf, restoreOf, keptFirst}
+use Rattle.run_engine.specs.inner.Machine.{noCell, Machine}
 
 -- the machine that keeps these cells
 abbrev pub machineOf : List Head → List Kept → List Object → List ℕ → Stack → Bool → Tally → List ℕ → Machine

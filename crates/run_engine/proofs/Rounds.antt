@@ -11,8 +11,8 @@ use lib.Seq.{getD-set-same, getD-set-other}
 use borrow.Author.Tests.{lt-ltb}
 use Rattle.run_outcome.specs.declared.Outcome.{Outcome}
 use Rattle.run_state.specs.declared.Setting.{Setting}
-use Rattle.run_open_threads.specs.Open.{openAfter, LowestFrom}
-use Rattle.run_engine.specs.Exploring.{allPicks, pickAt, Unseen, Explorable, NotedAt}
+use Rattle.run_open_threads.specs.inner.Open.{openAfter, LowestFrom}
+use Rattle.run_engine.specs.inner.Exploring.{allPicks, pickAt, Unseen, Explorable, NotedAt}
 use Rattle.run_engine.proofs.AllPicks.{length-all, given-at, kept-before, kept-at, added}
 use Rattle.run_engine.proofs.Standing.{played}
 

@@ -6,7 +6,7 @@ use mathlib.Core.Bool.{Bool}
 use mathlib.Core.List.{List, _++_}
 use lib.ListN.{length, take}
 use lib.Seq.{take-take}
-use Rattle.run_refocusing.specs.Refocusing.{Stack}
+use Rattle.run_refocusing.specs.inner.Refocusing.{Stack}
 use Rattle.run_outcome.specs.declared.Stop.{Stop}
 use Rattle.run_outcome.specs.declared.Stop.the-variants as stop
 use Rattle.run_state.specs.declared.Setting.{Setting}
@@ -14,7 +14,7 @@ use Rattle.run_state.specs.declared.Head.{Head}
 use Rattle.run_state.specs.declared.Object.{Object}
 use Rattle.run_tally.specs.declared.Tally.{Tally}
 use Rattle.run_engine.specs.declared.kept.Kept.{Kept}
-use Rattle.run_engine.specs.Machine.{Played, startOf, playOf}
+use Rattle.run_engine.specs.inner.Machine.{Played, startOf, playOf}
 use Rattle.run_engine.proofs.PassedOver.{Marked}
 use Rattle.run_engine.proofs.Restored.{machineOf}
 

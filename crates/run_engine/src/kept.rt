@@ -1,7 +1,7 @@
 // A cell as a run keeps it: with key 0 put into its set where the cell lacks it, and taken out where the cell has it. So the first cell is all zeros, and
 // the 1,024 cells that a run starts with are filled at once.
 ghost use mathlib.Core.Path.{_≡_};
-ghost use Rattle.run_engine.specs.Kept.{turnedOf, keepOf, restoreOf, keptFirst};
+ghost use Rattle.run_engine.specs.inner.Kept.{turnedOf, keepOf, restoreOf, keptFirst};
 use run_keys::KeySet;
 use run_state::Cell;
 

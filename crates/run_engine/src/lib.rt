@@ -3,9 +3,9 @@
 // present ones, and counts once it is counted.
 ghost use mathlib.Core.Path.{_≡_};
 ghost use Prim.Native.Nat.{_≤_};
-ghost use Rattle.run_engine.specs.Machine.{Placed, headOf, noObject, threadBy, startOf};
-ghost use Rattle.run_state.specs.Acted.{nothing};
-ghost use Rattle.run_engine.specs.Exploring.{pickAt, Unseen, Explorable, ExploredOn};
+ghost use Rattle.run_engine.specs.inner.Machine.{Placed, headOf, noObject, threadBy, startOf};
+ghost use Rattle.run_state.specs.inner.Acted.{nothing};
+ghost use Rattle.run_engine.specs.inner.Exploring.{pickAt, Unseen, Explorable, ExploredOn};
 use run_frames::redex;
 use run_frames::refocusing;
 use run_keys::KeySet;

@@ -8,7 +8,7 @@ use Rattle.run_frames.proofs.frame.Kind as kind-type
 use Rattle.run_frames.specs.declared.frame.Kind.{Kind}
 use Rattle.run_frames.specs.declared.frame.Kind.the-variants as kind
 use Rattle.run_frames.specs.declared.frame.Frame.{Frame}
-use Rattle.run_frames.specs.Going.{noRule, goAt, feedIfBy, feedIfOf, feedConditionBy}
+use Rattle.run_frames.specs.inner.Going.{noRule, goAt, feedIfBy, feedIfOf, feedConditionBy}
 
 pub if-other : (x : Kind) (f : Frame) (b : ℕ) → OneOf (0 ∷ 1 ∷ 2 ∷ 3 ∷ 4 ∷ 5 ∷ 6 ∷ 7 ∷ 8 ∷ 9 ∷ 11 ∷ 12 ∷ 14 ∷ 15 ∷ []) (tagOf kind-type.the-type x)
     → feedIfBy x f b ≡ goAt noRule

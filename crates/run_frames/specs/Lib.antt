@@ -1,3 +1,1 @@
-pub mod Frames
-pub mod RedexKinds
-pub mod Going
+pub mod inner

@@ -1,7 +1,7 @@
 // Frames: the constructs around the redex that moves.
 ghost use mathlib.Core.Path.{_≡_};
 ghost use Prim.Native.Nat.{_<_};
-ghost use Rattle.run_frames.specs.Frames.{codeOf, kindOf, framed, letFrame, secondFrame, collected, restOf, packOf, unpackOf};
+ghost use Rattle.run_frames.specs.inner.Frames.{codeOf, kindOf, framed, letFrame, secondFrame, collected, restOf, packOf, unpackOf};
 use run_term_words::slots;
 
 pub enum Kind {

@@ -2,7 +2,7 @@
 ghost use Prim.Native.Nat.{_≤_};
 ghost use mathlib.Core.Path.{_≡_};
 ghost use Rattle.run_keys.specs.Keys.{empty, singleton, holds, union, isEmpty};
-ghost use Rattle.run_keys.specs.KeySet.{keysOf, wordOf, emptySet, zeroSet, holdsOf, learnOf, newIn, isEmptyOf, Made, Joins, Told};
+ghost use Rattle.run_keys.specs.inner.KeySet.{keysOf, wordOf, emptySet, zeroSet, holdsOf, learnOf, newIn, isEmptyOf, Made, Joins, Told};
 
 // Key k is in the set where bit k % 64 of word k / 64 is 1.
 pub struct KeySet {

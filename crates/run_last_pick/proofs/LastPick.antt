@@ -6,10 +6,10 @@ use lib.ListN.{getD}
 use borrow.Author.Tests.{lt-ltb, le-ltb, eq-eqb, ne-eqb}
 use Rattle.run_outcome.specs.declared.NoRoom.{NoRoom}
 use Rattle.run_outcome.specs.declared.Stop.the-variants as stop
-use Rattle.run_open_threads.specs.Open.{absent}
+use Rattle.run_open_threads.specs.inner.Open.{absent}
 use Rattle.run_outcome.specs.declared.Outcome.{Outcome}
 use Rattle.run_last_pick.specs.declared.Previewed.the-variants as previewed
-use Rattle.run_last_pick.specs.LastPick.{lastRecord, lastEnded, lastMet, lastPick}
+use Rattle.run_last_pick.specs.inner.LastPick.{lastRecord, lastEnded, lastMet, lastPick}
 
 module _ (o : Outcome) (moves records before pick : ℕ) (log : List ℕ) where
   pub early : o .picks < before → lastPick o moves records before pick log ≡ previewed.Stopped (o .stop)

@@ -1,1 +1,1 @@
-pub mod LastPick
+pub mod inner

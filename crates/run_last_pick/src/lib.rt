@@ -2,7 +2,7 @@
 ghost use Prim.Native.Nat.{_*_, _-_, _≤_};
 ghost use mathlib.Core.Path.{_≡_};
 ghost use lib.ListN.{length};
-ghost use Rattle.run_last_pick.specs.LastPick.{recordIn, lastPick, LastGiven};
+ghost use Rattle.run_last_pick.specs.inner.LastPick.{recordIn, lastPick, LastGiven};
 use run_outcome::NoRoom;
 use run_outcome::Outcome;
 use run_outcome::Stop;

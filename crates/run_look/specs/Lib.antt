@@ -1,1 +1,1 @@
-pub mod Look
+pub mod inner

@@ -1,1 +1,1 @@
-pub mod Monitors
+pub mod inner

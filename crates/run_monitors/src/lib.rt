@@ -1,6 +1,6 @@
 // What a synch does at its start and at its end, a wait or a notify, and a thread that wakes, by value.
 ghost use mathlib.Core.Path.{_≡_};
-ghost use Rattle.run_monitors.specs.Monitors.{actSynch, actHold, actWait, actSignal, actWake};
+ghost use Rattle.run_monitors.specs.inner.Monitors.{actSynch, actHold, actWait, actSignal, actWake};
 use log_records::kind;
 use run_frames::frame::Frame;
 use run_frames::frame::Kind;

@@ -1,6 +1,6 @@
 // What a new, a fork or a join does, by value.
 ghost use mathlib.Core.Path.{_≡_};
-ghost use Rattle.run_objects.specs.Objects.{actNew, actFork, actJoin};
+ghost use Rattle.run_objects.specs.inner.Objects.{actNew, actFork, actJoin};
 use log_records::kind;
 use run_frames::refocusing;
 use run_outcome::NoRoom;

@@ -4,7 +4,7 @@ use native.Mathlib.Decide.{ℕ-discrete}
 use native.Mathlib.Omega.{arith}
 use mathlib.Core.Path.{_≡_, sym, ap, _∙_}
 use mathlib.Core.Bool.{Bool, false}
-use Rattle.run_open_threads.specs.Open.{LowestFrom}
+use Rattle.run_open_threads.specs.inner.Open.{LowestFrom}
 
 -- of a test that says the same of every thread
 pub lowest-ext : (f h : ℕ → Bool) (from r : ℕ) → ((k : ℕ) → k < 8 → f k ≡ h k) → LowestFrom f from r → LowestFrom h from r

@@ -1,7 +1,7 @@
 // Which threads of a run can be picked: those that can move, or stop the run for a missing key or for room.
 ghost use Prim.Native.Nat.{_≤_};
 ghost use mathlib.Core.Path.{_≡_};
-ghost use Rattle.run_open_threads.specs.Open.{isOpen, absent, openAt, LowestFrom, GoesOnBy};
+ghost use Rattle.run_open_threads.specs.inner.Open.{isOpen, absent, openAt, LowestFrom, GoesOnBy};
 use run_outcome::Thread;
 use run_outcome::ThreadState;
 

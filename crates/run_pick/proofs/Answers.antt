@@ -4,14 +4,14 @@ use mathlib.Core.Bool.{Bool, true, false}
 use mathlib.Core.List.{List}
 use Prim.Native.Nat.{ℕ}
 use Rattle.run_refocusing.specs.declared.Refocused.{Refocused}
-use Rattle.run_refocusing.specs.Refocusing.{Ended, Ends, afterOf}
+use Rattle.run_refocusing.specs.inner.Refocusing.{Ended, Ends, afterOf}
 use Rattle.run_refocusing.proofs.After.{last, last-full, both}
 use Rattle.run_outcome.specs.declared.NoRoom.the-variants as room
 use Rattle.run_state.specs.declared.Head.{Head}
 use Rattle.run_state.specs.declared.acted.Acted.{Acted}
 use Rattle.run_pick.specs.declared.Met.{Met}
-use Rattle.run_pick.specs.Answer.{PickAnswer, PickAnswer as answer}
-use Rattle.run_pick.specs.Pick.{picked, noRoom, noHead, fullOf, forksOf, forkedOf, moveOf, refocusForked, forkedWay, startBy, refocusBy}
+use Rattle.run_pick.specs.inner.Answer.{PickAnswer, PickAnswer as answer}
+use Rattle.run_pick.specs.inner.Pick.{picked, noRoom, noHead, fullOf, forksOf, forkedOf, moveOf, refocusForked, forkedWay, startBy, refocusBy}
 
 module _ (x : Met) (a : Acted) (ws rs : List ℕ) (m : Ended) where
   -- where the mover has refocused at m: without room; of a fork, with a forked that has no room or has refocused; of another move

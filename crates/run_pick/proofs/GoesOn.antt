@@ -5,17 +5,17 @@ use mathlib.Core.Path.{_≡_, refl}
 use mathlib.Core.Bool.{Bool, true, false, cond}
 use lib.Dec.{ltb, leb}
 use borrow.Author.Tests.{ltb-false, leb-true, ne-eqb}
-use Rattle.run_frames.specs.RedexKinds.{RedexKind as redex, isRedex}
+use Rattle.run_frames.specs.inner.RedexKinds.{RedexKind as redex, isRedex}
 use Rattle.run_frames.specs.declared.refocusing.Refocusing.{Refocusing}
 use Rattle.run_state.specs.declared.Setting.{Setting}
 use Rattle.run_state.specs.declared.Head.{Head}
 use Rattle.run_state.specs.declared.Cell.{Cell}
 use Rattle.run_state.specs.declared.Object.{Object}
 use Rattle.run_state.specs.declared.Counts.{Counts}
-use Rattle.run_state.specs.Acted.{goOn}
+use Rattle.run_state.specs.inner.Acted.{goOn}
 use Rattle.run_look.specs.declared.Sight.the-variants as sight
-use Rattle.run_look.specs.Look.{aboutField, lookBy}
-use Rattle.run_act.specs.Act.{goesOnBy, actPure, actBy}
+use Rattle.run_look.specs.inner.Look.{aboutField, lookBy}
+use Rattle.run_act.specs.inner.Act.{goesOnBy, actPure, actBy}
 
 no-lower : (b x : Bool) → cond b false x ≡ true → b ≡ false
 no-lower true x h = absurd (let z : _≡_ {A = ℕ} 0 1 = cc in omega arith)

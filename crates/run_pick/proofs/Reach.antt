@@ -4,16 +4,16 @@ use mathlib.Core.Bool.{true, false}
 use mathlib.Core.List.{[], _∷_}
 use types.Run.{OneOf, miss}
 use denote.Enum.Declared.{tagOf}
-use Rattle.run_refocusing.specs.Refocusing.{Stack, Ends}
+use Rattle.run_refocusing.specs.inner.Refocusing.{Stack, Ends}
 use Rattle.run_outcome.specs.declared.NoRoom.the-variants as room
 use Rattle.run_outcome.specs.declared.Stop.the-variants as stop
 use Rattle.run_state.specs.declared.Entry.{Entry}
-use Rattle.run_state.specs.Acted.{noEntry}
+use Rattle.run_state.specs.inner.Acted.{noEntry}
 use Rattle.run_pick.proofs.Begun as begun-type
 use Rattle.run_pick.specs.declared.Begun.{Begun}
 use Rattle.run_pick.specs.declared.Begun.the-variants as begun
 use Rattle.run_pick.specs.declared.Reached.the-variants as reached
-use Rattle.run_pick.specs.Pick.{Came, came, fullOf, reachedAt, reachBy}
+use Rattle.run_pick.specs.inner.Pick.{Came, came, fullOf, reachedAt, reachBy}
 
 module _ (e : Ends) where
   -- the last refocusing had no room, or had

@@ -7,9 +7,9 @@ use native.Mathlib.Omega.{arith}
 use types.Run.{OneOf, miss}
 use denote.Enum.Declared.{tagOf}
 use Rattle.run_frames.specs.declared.refocusing.Refocusing.{Refocusing}
-use Rattle.run_frames.specs.Going.{goFull}
+use Rattle.run_frames.specs.inner.Going.{goFull}
 use Rattle.run_refocusing.specs.declared.Refocusings.{Refocusings}
-use Rattle.run_refocusing.specs.Refocusing.{Stack, Ends}
+use Rattle.run_refocusing.specs.inner.Refocusing.{Stack, Ends}
 use Rattle.run_outcome.specs.declared.NoRoom.the-variants as room
 use Rattle.run_outcome.specs.declared.Stop.{Stop}
 use Rattle.run_outcome.specs.declared.Stop.the-variants as stop
@@ -18,18 +18,18 @@ use Rattle.run_state.specs.declared.Entry.{Entry}
 use Rattle.run_state.specs.declared.acted.Act.{Act}
 use Rattle.run_state.specs.declared.acted.Act.the-variants as act
 use Rattle.run_state.specs.declared.acted.Acted.{Acted}
-use Rattle.run_state.specs.Acted.{noEntry, nothing}
+use Rattle.run_state.specs.inner.Acted.{noEntry, nothing}
 use Rattle.run_look.specs.declared.Sight.{Sight}
 use Rattle.run_look.specs.declared.Sight.the-variants as sight
-use Rattle.run_act.specs.Act.{goesOnBy, actPure}
+use Rattle.run_act.specs.inner.Act.{goesOnBy, actPure}
 use Rattle.run_pick.proofs.Begun as begun-type
 use Rattle.run_pick.specs.declared.Met.{Met}
 use Rattle.run_pick.specs.declared.Begun.{Begun}
 use Rattle.run_pick.specs.declared.Begun.the-variants as begun
 use Rattle.run_pick.specs.declared.Reached.the-variants as reached
-use Rattle.run_pick.specs.Answer.{Move, PickAnswer, PickAnswer as answer}
-use Rattle.run_pick.specs.Pick.{Picked, picked, noRoom, noHead, fullOf, forksOf, forkedOf, moveOf, refocusMover, refocusBy, makeBy, actMet, pickBy, lookMet, pickOf}
-use Rattle.run_pick.specs.Pick.{begunBy, beginBy, beginOf, Came, refocusingsFrom, reachedAt, reachOf}
+use Rattle.run_pick.specs.inner.Answer.{Move, PickAnswer, PickAnswer as answer}
+use Rattle.run_pick.specs.inner.Pick.{Picked, picked, noRoom, noHead, fullOf, forksOf, forkedOf, moveOf, refocusMover, refocusBy, makeBy, actMet, pickBy, lookMet, pickOf}
+use Rattle.run_pick.specs.inner.Pick.{begunBy, beginBy, beginOf, Came, refocusingsFrom, reachedAt, reachOf}
 use Rattle.run_pick.proofs.Answers.{refocus-full, refocus-forked, refocus-moved}
 use Rattle.run_pick.proofs.Reach.{at-full, at-room}
 use Rattle.run_pick.proofs.GoesOn.{no-fork, is-ready, only-goes}

@@ -3,9 +3,9 @@
 ghost use mathlib.Core.Path.{_≡_};
 ghost use Prim.Native.Nat.{_<_, _+_, _%_};
 ghost use mathlib.Core.Bool.{false};
-ghost use Rattle.run_act.specs.Act.{goesOnBy, actPure};
-ghost use Rattle.run_state.specs.Acted.{noEntry};
-ghost use Rattle.run_pick.specs.Pick.{stoppedFor, lackEntry, refocusedHead, noHead, moverWay, forkedWay, begunBy, beginOf, goOf, refocusingsFrom, reachedAt, reachOf, actMet};
+ghost use Rattle.run_act.specs.inner.Act.{goesOnBy, actPure};
+ghost use Rattle.run_state.specs.inner.Acted.{noEntry};
+ghost use Rattle.run_pick.specs.inner.Pick.{stoppedFor, lackEntry, refocusedHead, noHead, moverWay, forkedWay, begunBy, beginOf, goOf, refocusingsFrom, reachedAt, reachOf, actMet};
 ghost use Rattle.run_outcome.specs.declared.Stop.the-variants as stop;
 ghost use Rattle.run_pick.specs.declared.Begun.the-variants as begun;
 use log_records::kind;

@@ -6,7 +6,7 @@ use mathlib.Core.Path.{_≡_, refl, sym, ap, _∙_}
 use mathlib.Core.List.{List}
 use lib.ListN.{length, length-set, getD, set, take, drop}
 use lib.Seq.{take-set-le, drop-set-lt, drop-drop, getD-set-same, getD-set-other}
-use Rattle.run_place_notes.specs.Notes.{PutNoted}
+use Rattle.run_place_notes.specs.inner.Notes.{PutNoted}
 
 past-one-more : (a b : List ℕ) (n : ℕ) → drop n a ≡ drop n b → drop (n + 1) a ≡ drop (n + 1) b
 past-one-more a b n e = sym (drop-drop 1 n a) ∙ ap (drop 1) e ∙ drop-drop 1 n b

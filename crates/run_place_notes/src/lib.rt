@@ -1,7 +1,7 @@
 // Notes, a byte to each place of a run: 16 times the lowest thread that can be picked there, and the lowest above the pick, or 8.
 ghost use Prim.Native.Nat.{_≤_};
 ghost use lib.ListN.{length};
-ghost use Rattle.run_place_notes.specs.Notes.{NoteOf, Puts, PutNoted, LastDeparture};
+ghost use Rattle.run_place_notes.specs.inner.Notes.{NoteOf, Puts, PutNoted, LastDeparture};
 use run_outcome::Thread;
 
 // Where the following schedule leaves a given one, and its pick there.

@@ -9,7 +9,7 @@ use lib.Dec.{T, eqb, ltb, ltb→lt}
 use mir.Facts.{and-yes}
 use lib.ListN.{length, take, drop, getD, set, drop-of-length-le}
 use lib.Seq.{take-all, drop-cons, take-suc-set, drop-set-lt}
-use Rattle.run_queue.specs.Queue.{queuedOn, countOf}
+use Rattle.run_queue.specs.inner.Queue.{queuedOn, countOf}
 
 -- who has a place in a queue has one past 0
 pub queued-past : (o w : ℕ) → queuedOn o w ≡ true → 32 ≤ w

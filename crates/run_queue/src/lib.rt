@@ -3,7 +3,7 @@
 ghost use mathlib.Core.Path.{_≡_};
 ghost use Prim.Native.Nat.{_≤_, _<_};
 ghost use lib.ListN.{length};
-ghost use Rattle.run_queue.specs.Queue.{queuedOn, countOf, lastOf, waitedOf, nearer, notifiedOf, freed, allNotifiedOf, signalledOf, afterOf};
+ghost use Rattle.run_queue.specs.inner.Queue.{queuedOn, countOf, lastOf, waitedOf, nearer, notifiedOf, freed, allNotifiedOf, signalledOf, afterOf};
 use run_frames::redex;
 use run_frames::refocusing::Ready;
 

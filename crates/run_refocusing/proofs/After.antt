@@ -5,7 +5,7 @@ use mathlib.Core.List.{List}
 use Prim.Native.Nat.{ℕ}
 use Rattle.run_refocusing.specs.declared.Refocused.{Refocused}
 use Rattle.run_refocusing.specs.declared.Way.{Way}
-use Rattle.run_refocusing.specs.Refocusing.{Ended, fullOf, refocusFrom, endsAt, afterOf}
+use Rattle.run_refocusing.specs.inner.Refocusing.{Ended, fullOf, refocusFrom, endsAt, afterOf}
 
 module _ (ws rs : List ℕ) (w : Way) (b : Refocused) (e : Ended) where
   pub last : (more : Bool) → more ≡ false → afterOf ws rs more w b e ≡ endsAt b e

@@ -10,13 +10,13 @@ use Rattle.run_frames.specs.declared.frame.Frame.{Frame}
 use Rattle.run_frames.specs.declared.refocusing.Stage.{Stage}
 use Rattle.run_frames.specs.declared.refocusing.Stage.the-variants as stage
 use Rattle.run_frames.specs.declared.refocusing.Refocusing.{Refocusing}
-use Rattle.run_frames.specs.Going.{goList}
+use Rattle.run_frames.specs.inner.Going.{goList}
 use Rattle.run_refocusing_step.specs.declared.Turn.{Turn}
-use Rattle.run_refocusing_step.specs.Ahead.{nextIn, takenOf, gatheredOf, aheadBy, alongBy}
-use Rattle.run_refocusing_step.specs.Down.{openedOf, frameAt}
+use Rattle.run_refocusing_step.specs.inner.Ahead.{nextIn, takenOf, gatheredOf, aheadBy, alongBy}
+use Rattle.run_refocusing_step.specs.inner.Down.{openedOf, frameAt}
 use Rattle.run_refocusing_step.proofs.Gathers.{within}
 use Rattle.run_refocusing_step.proofs.Along.{step-takes, step-opened}
-use Rattle.run_refocusing.specs.Refocusing.{Stack, liveOf, stored, topOf, turnAt, refocusOf}
+use Rattle.run_refocusing.specs.inner.Refocusing.{Stack, liveOf, stored, topOf, turnAt, refocusOf}
 use Rattle.run_refocusing.proofs.Turns.{goes}
 
 module _ (ws rs : List ℕ) (base : ℕ) (k : Stack) (d : ℕ) where

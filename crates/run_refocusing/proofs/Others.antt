@@ -7,7 +7,7 @@ use denote.Enum.Declared.{tagOf}
 use Rattle.run_frames.proofs.refocusing.Stage as stage-type
 use Rattle.run_frames.specs.declared.refocusing.Stage.{Stage}
 use Rattle.run_frames.specs.declared.refocusing.Stage.the-variants as stage
-use Rattle.run_refocusing.specs.Refocusing.{fullBy}
+use Rattle.run_refocusing.specs.inner.Refocusing.{fullBy}
 
 pub full-other : (x : Stage) → OneOf (1 ∷ 2 ∷ 3 ∷ 4 ∷ 5 ∷ 6 ∷ 7 ∷ 8 ∷ []) (tagOf stage-type.the-type x) → fullBy x ≡ false
 full-other stage.Full h = absurd (miss (1 ∷ 2 ∷ 3 ∷ 4 ∷ 5 ∷ 6 ∷ 7 ∷ 8 ∷ []) 0 tt h)

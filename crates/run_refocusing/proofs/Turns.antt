@@ -5,8 +5,8 @@ use mathlib.Core.List.{List}
 use Prim.Native.Nat.{ℕ, zero, suc, _-_, _<_}
 use native.Mathlib.Omega.{arith}
 use Rattle.run_frames.specs.declared.refocusing.Refocusing.{Refocusing}
-use Rattle.run_frames.specs.Going.{goFull}
-use Rattle.run_refocusing.specs.Refocusing.{liveOf, Stack, ended, stored, turnAt, refocusOf}
+use Rattle.run_frames.specs.inner.Going.{goFull}
+use Rattle.run_refocusing.specs.inner.Refocusing.{liveOf, Stack, ended, stored, turnAt, refocusOf}
 
 pub goes : (n : ℕ) (ws rs : List ℕ) (base : ℕ) (k : Stack) (g : Refocusing) (d : ℕ) → 0 < n → liveOf g ≡ true
     → refocusOf n ws rs base k g d ≡ refocusOf (n - 1) ws rs base (stored k base (turnAt ws rs base k g d)) (turnAt ws rs base k g d .go)

@@ -1,1 +1,1 @@
-pub mod Refocusing
+pub mod inner

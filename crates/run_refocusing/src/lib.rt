@@ -3,7 +3,7 @@
 ghost use mathlib.Core.Path.{_≡_};
 ghost use mathlib.Core.Bool.{true, false};
 ghost use Prim.Native.Nat.{_<_, _≤_};
-ghost use Rattle.run_refocusing.specs.Refocusing.{liveOf, fullOf, refocusedOf, refocusingsOf, topOf, storeAt, refocusFrom, afterOf};
+ghost use Rattle.run_refocusing.specs.inner.Refocusing.{liveOf, fullOf, refocusedOf, refocusingsOf, topOf, storeAt, refocusFrom, afterOf};
 use run_frames::frame;
 use run_frames::frame::Frame;
 use run_frames::refocusing;

@@ -11,10 +11,10 @@ use Rattle.run_frames.specs.declared.refocusing.Stage.{Stage}
 use Rattle.run_frames.specs.declared.refocusing.Stage.the-variants as stage
 use Rattle.run_frames.specs.declared.refocusing.Refocusing.{Refocusing}
 use Rattle.run_refocusing_step.specs.declared.Turn.{Turn}
-use Rattle.run_term_words.specs.Words.{valueOf, truthOf}
-use Rattle.run_frames.specs.Going.{goRun, goRunCondition}
-use Rattle.run_refocusing_step.specs.Down.{pushOf, wantBy, wantOf, wantConditionBy, wantConditionOf, openedOf, listedOf, wantedBy, downOf, backOf}
-use Rattle.run_refocusing_step.specs.Down.{backConditionOf, stepBy, stepOf}
+use Rattle.run_term_words.specs.inner.Words.{valueOf, truthOf}
+use Rattle.run_frames.specs.inner.Going.{goRun, goRunCondition}
+use Rattle.run_refocusing_step.specs.inner.Down.{pushOf, wantBy, wantOf, wantConditionBy, wantConditionOf, openedOf, listedOf, wantedBy, downOf, backOf}
+use Rattle.run_refocusing_step.specs.inner.Down.{backConditionOf, stepBy, stepOf}
 
 abbrev pub Within : Turn → Type 0
 Within m = (m .depth ≤ 32) × (m .at ≤ 32)

@@ -8,7 +8,7 @@ use borrow.Author.Tests.{lt-ltb, le-ltb}
 use lib.Dec.{ltb}
 use Rattle.run_frames.specs.declared.frame.Frame.{Frame}
 use Rattle.run_refocusing_step.specs.declared.Gathered.{Gathered}
-use Rattle.run_refocusing_step.specs.Ahead.{nextIn, takenOf, gatheredOf}
+use Rattle.run_refocusing_step.specs.inner.Ahead.{nextIn, takenOf, gatheredOf}
 
 pub takes : (n : ℕ) (ws : List ℕ) (f : Frame) → 1 < n → nextIn ws f < 32 → gatheredOf (n - 1) ws f ≡ gatheredOf (n - 1 - 1) ws (takenOf ws f)
 unfolding gatheredOf

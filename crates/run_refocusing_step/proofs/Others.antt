@@ -9,8 +9,8 @@ use Rattle.run_frames.specs.declared.frame.Frame.{Frame}
 use Rattle.run_frames.specs.declared.refocusing.Stage.{Stage}
 use Rattle.run_frames.specs.declared.refocusing.Stage.the-variants as stage
 use Rattle.run_frames.specs.declared.refocusing.Refocusing.{Refocusing}
-use Rattle.run_refocusing_step.specs.Ahead.{aheadBy, intoBy}
-use Rattle.run_refocusing_step.specs.Down.{stayOf, openedBy, wantedBy, downOf, stepBy}
+use Rattle.run_refocusing_step.specs.inner.Ahead.{aheadBy, intoBy}
+use Rattle.run_refocusing_step.specs.inner.Down.{stayOf, openedBy, wantedBy, downOf, stepBy}
 
 pub opened-other : (x : Stage) (ws : List ℕ) (g : Refocusing) → OneOf (0 ∷ 1 ∷ 4 ∷ 5 ∷ 6 ∷ 7 ∷ 8 ∷ []) (tagOf stage-type.the-type x) → openedBy x ws g ≡ g
 opened-other stage.Full ws g h = refl

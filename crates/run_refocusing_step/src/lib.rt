@@ -1,8 +1,8 @@
 // One step of refocusing, the way down (an operand, a call's list, a term) or up with a value; before it, one for each value that comes next in a call's list.
 ghost use mathlib.Core.Path.{_≡_};
 ghost use Prim.Native.Nat.{_<_, _-_};
-ghost use Rattle.run_refocusing_step.specs.Ahead.{nextOf, gatheredOf, aheadOf, intoOf, steppedOf};
-ghost use Rattle.run_refocusing_step.specs.Down.{stayOf, pushOf, wantOf, wantConditionOf, rootAt, listOf, signalOf, simpleOf, runOf, runConditionOf, openedOf, wantedOf, backOf, backConditionOf, frameAt};
+ghost use Rattle.run_refocusing_step.specs.inner.Ahead.{nextOf, gatheredOf, aheadOf, intoOf, steppedOf};
+ghost use Rattle.run_refocusing_step.specs.inner.Down.{stayOf, pushOf, wantOf, wantConditionOf, rootAt, listOf, signalOf, simpleOf, runOf, runConditionOf, openedOf, wantedOf, backOf, backConditionOf, frameAt};
 use plan_operands::tags;
 use run_frames::frame;
 use run_frames::frame::Frame;

@@ -9,7 +9,7 @@ use lib.ListN.{length, getD, length-append, List·getD-append}
 use lib.Seq.{getD-append-seam}
 use borrow.Author.Count.{below-more}
 use borrow.Author.Tests.{lt-ltb, le-ltb}
-use Rattle.format.specs.Lowest.{Lowest}
+use Rattle.format.specs.inner.Lowest.{Lowest}
 use Rattle.format.proofs.LowestLaws.{found, found-none}
 use Rattle.rules.specs.Play.{tooManyPicks, wrongPick}
 

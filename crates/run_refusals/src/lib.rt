@@ -3,12 +3,12 @@ ghost use Prim.Native.Nat.{_+_};
 ghost use mathlib.Core.Path.{_≡_};
 ghost use mathlib.Core.List.{[], _∷_, _++_};
 ghost use lib.ListN.{length, replicate};
-ghost use Rattle.format.specs.Lowest.{Lowest};
+ghost use Rattle.format.specs.inner.Lowest.{Lowest};
 ghost use Rattle.plan_packed.specs.Format.{terms};
-ghost use Rattle.plan_packed.specs.Steps.{Loaded};
+ghost use Rattle.plan_packed.specs.inner.Steps.{Loaded};
 ghost use Rattle.plan_refusals.specs.Answer.{answered};
 ghost use Rattle.rules.specs.Play.{wrongPick, scheduleRefusal};
-ghost use Rattle.run_refusals.specs.Refused.{RefusedAs};
+ghost use Rattle.run_refusals.specs.inner.Refused.{RefusedAs};
 use plan_refusals::Checked;
 use plan_refusals::refused;
 

@@ -18,12 +18,12 @@ use Rattle.run_outcome.specs.declared.Stop.the-variants as stop
 use Rattle.run_outcome.specs.declared.ThreadState.{ThreadState}
 use Rattle.run_outcome.specs.declared.ThreadState.the-variants as state
 use Rattle.run_outcome.specs.declared.Outcome.{Outcome}
-use Rattle.run_open_threads.specs.Open.{isOpen, absent, openAt, unstopped, openAfter, LowestFrom}
+use Rattle.run_open_threads.specs.inner.Open.{isOpen, absent, openAt, unstopped, openAfter, LowestFrom}
 use Rattle.run_open_threads.proofs.Lowest.{lowest-ext}
 use Rattle.play.specs.Answer.{stopOf, statusOf, outcomeOf}
-use Rattle.play.specs.RunOn.{OutcomeOf}
+use Rattle.play.specs.inner.RunOn.{OutcomeOf}
 use Rattle.play.proofs.Threads.{status-of}
-use Rattle.listing.specs.CanFollow.{goesOn, movesOrStops, canFollow}
+use Rattle.listing.specs.inner.CanFollow.{goesOn, movesOrStops, canFollow}
 
 -- ---- a thread that can move or stop, by its state
 

@@ -8,13 +8,13 @@ use mathlib.Core.List.{List}
 use lib.ListN.{length, getD, take}
 use Rattle.plan_packed.specs.Syntax.{Program}
 use Rattle.plan_packed.specs.Trees.{programOf}
-use Rattle.run_open_threads.specs.Open.{openAfter, LowestFrom}
+use Rattle.run_open_threads.specs.inner.Open.{openAfter, LowestFrom}
 use Rattle.run_engine.specs.declared.Explored.{Explored}
-use Rattle.run_engine.specs.Exploring.{allPicks}
+use Rattle.run_engine.specs.inner.Exploring.{allPicks}
 use Rattle.run_engine.proofs.AllPicks.{noted-at}
-use Rattle.play.specs.RunOn.{ExploredBy}
-use Rattle.listing.specs.CanFollow.{canFollow}
-use Rattle.run_replays.specs.Replay.{PlaceNoted, Explores}
+use Rattle.play.specs.inner.RunOn.{ExploredBy}
+use Rattle.listing.specs.inner.CanFollow.{canFollow}
+use Rattle.run_replays.specs.inner.Replay.{PlaceNoted, Explores}
 use Rattle.run_replays.proofs.Opens.{can-is, lowest-follows}
 
 module _ {plan picks log log′ before after : List ℕ} {r : Explored} (x : ExploredBy false plan picks log log′ before after r)

@@ -18,19 +18,19 @@ use Rattle.rules.specs.Play.{runOf}
 use Rattle.run_outcome.specs.declared.Stop.{Stop}
 use Rattle.run_outcome.specs.declared.Stop.the-variants as stop
 use Rattle.run_outcome.specs.declared.Outcome.{Outcome}
-use Rattle.run_open_threads.specs.Open.{LowestFrom}
+use Rattle.run_open_threads.specs.inner.Open.{LowestFrom}
 use Rattle.run_engine.specs.declared.Explored.{Explored}
-use Rattle.run_engine.specs.Exploring.{allPicks}
+use Rattle.run_engine.specs.inner.Exploring.{allPicks}
 use Rattle.run_engine.proofs.AllPicks.{given-at}
 use Rattle.play.specs.Answer.{stopOf, outcomeOf}
-use Rattle.play.specs.RunOn.{OutcomeOf}
+use Rattle.play.specs.inner.RunOn.{OutcomeOf}
 use Rattle.listing.specs.Listed.{Listed, Whole, HAS-N}
-use Rattle.listing.specs.CanFollow.{canFollow, stops}
-use Rattle.listing.specs.Ways.{Way, Complete}
+use Rattle.listing.specs.inner.CanFollow.{canFollow, stops}
+use Rattle.listing.specs.inner.Ways.{Way, Complete}
 use Rattle.listing.proofs.Listed.{complete-of, whole-by}
 use Rattle.listing.proofs.Counted.{counted, counts-few, listed-counts, listed-by-count}
-use Rattle.run_replays.specs.Replay.{OfEight, stopCount, Explores}
-use Rattle.run_replays.specs.Told.{Tells, Noted, ListedBy}
+use Rattle.run_replays.specs.inner.Replay.{OfEight, stopCount, Explores}
+use Rattle.run_replays.specs.inner.Told.{Tells, Noted, ListedBy}
 use Rattle.run_replays.proofs.Opens.{stop-is}
 
 -- ---- the counts of an outcome

@@ -2,8 +2,8 @@
 // (document 02, E11).
 ghost use mathlib.Core.Path.{_≡_};
 ghost use Rattle.plan_packed.specs.Trees.{programOf};
-ghost use Rattle.run_replays.specs.Replay.{Replayable, Explores, stopCount};
-ghost use Rattle.run_replays.specs.Told.{Listable, ListedBy};
+ghost use Rattle.run_replays.specs.inner.Replay.{Replayable, Explores, stopCount};
+ghost use Rattle.run_replays.specs.inner.Told.{Listable, ListedBy};
 use run_engine::Explored;
 use run_outcome::Stop;
 

@@ -1,1 +1,1 @@
-pub mod Acted
+pub mod inner

@@ -1,6 +1,6 @@
 // What a move does to the state, by value.
 ghost use mathlib.Core.Path.{_≡_};
-ghost use Rattle.run_state.specs.Acted.{entryOf, cellOf, actedWith, actedOf, heardOf, goOn};
+ghost use Rattle.run_state.specs.inner.Acted.{entryOf, cellOf, actedWith, actedOf, heardOf, goOn};
 use crate::Cell;
 use crate::Counts;
 use crate::Entry;

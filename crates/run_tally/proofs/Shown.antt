@@ -6,9 +6,9 @@ use mathlib.Core.Bool.{Bool, true, false}
 use mathlib.Core.List.{List}
 use borrow.Author.Tests.{eq-eqb, ne-eqb}
 use Rattle.run_state.specs.declared.Entry.{Entry}
-use Rattle.run_state.specs.Acted.{entryOf}
+use Rattle.run_state.specs.inner.Acted.{entryOf}
 use Rattle.run_tally.specs.declared.Tally.{Tally}
-use Rattle.run_tally.specs.Tally.{recordsAfter, shownEntry, tallyPut, logPut}
+use Rattle.run_tally.specs.inner.Tally.{recordsAfter, shownEntry, tallyPut, logPut}
 
 pub made : (every : Bool) (e : Entry) → every ≡ true → e .kind ≡ 0 → shownEntry every e ≡ entryOf 1 0 0 0
 made every e a b = rw (a, eq-eqb (e .kind) 0 b)

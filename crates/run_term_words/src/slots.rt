@@ -1,7 +1,7 @@
 // Eight slots of a value 0 to 31 in one number, slot 0 lowest: the variables of a procedure, and the values collected for a call.
 ghost use mathlib.Core.Path.{_≡_};
 ghost use Prim.Native.Nat.{_<_};
-ghost use Rattle.run_term_words.specs.Slots.{unitOf, slotOf, bindOf};
+ghost use Rattle.run_term_words.specs.inner.Slots.{unitOf, slotOf, bindOf};
 
 // What one in a slot under 8 is worth.
 fn unit(slot: usize) -> usize

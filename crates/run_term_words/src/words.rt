@@ -1,6 +1,6 @@
 // Terms by their 40-bit words: which word a term has, and the values that need no move.
 ghost use mathlib.Core.Path.{_≡_};
-ghost use Rattle.run_term_words.specs.Words.{wordAt, valueOf, truthOf};
+ghost use Rattle.run_term_words.specs.inner.Words.{wordAt, valueOf, truthOf};
 use plan_operands::tags;
 
 // The word of a term; an index over 1,023 wraps.

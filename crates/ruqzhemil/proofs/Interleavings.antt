@@ -11,15 +11,15 @@ use Rattle.format.specs.Refusal.{Check, checkWhole, firstRefusal}
 use Rattle.format.proofs.RefusalLaws.{both-none, head-pass, none-is-pass}
 use Rattle.plan_packed.specs.Trees.{programOf}
 use Rattle.plan_packed.specs.Check.{refusal}
-use Rattle.plan_refusals.specs.Small.{SmallCheck}
+use Rattle.plan_refusals.specs.inner.Small.{SmallCheck}
 use Rattle.plan_refusals.proofs.Bounds.{small-checks, small-stages}
 use Rattle.rules.specs.Play.{scheduleRefusal}
 use Rattle.answers.specs.Answer.{Answer}
 use Rattle.listing.specs.Listed.{Listed}
 use Rattle.interleavings.specs.Interleavings.{overBound, shortOutput, firstRefused, FirstAnswer, Next, nextRefused, NextAnswer}
 use Rattle.interleavings.proofs.Answers.{first-stages, next-stages}
-use Rattle.abi_convention.specs.Small.{SmallAnswer}
-use Rattle.abi_numbers.specs.Small.{SmallNext}
+use Rattle.abi_convention.specs.inner.Small.{SmallAnswer}
+use Rattle.abi_numbers.specs.inner.Small.{SmallNext}
 use Rattle.abi_convention.proofs.Wider.{wider}
 use Rattle.ruqzhemil.proofs.Refusals.{whole, small-plan, small-schedule}
 

@@ -10,8 +10,8 @@ use Rattle.log_records.specs.Packed.{logOf}
 use Rattle.log_records.proofs.Accepted.{accepted}
 use Rattle.log_records.proofs.RoundTrip.{count-log}
 use Rattle.rules.proofs.StateLaws.{inside}
-use Rattle.plan_refusals.specs.Small.{SmallCheck}
-use Rattle.abi_numbers.specs.Small.{SmallJudged}
+use Rattle.plan_refusals.specs.inner.Small.{SmallCheck}
+use Rattle.abi_numbers.specs.inner.Small.{SmallJudged}
 use Rattle.ruqzhemil.proofs.Refusals.{small-log}
 
 small-index : {v : Version} (b : List ℕ) (j : ℕ) → Answers v b (named (some j)) → j ≤ 4096

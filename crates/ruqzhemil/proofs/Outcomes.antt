@@ -14,7 +14,7 @@ use Rattle.rules.proofs.Executed.{reachable-start, reachable-run, play-executes
 use Rattle.rules.proofs.ThreadStates.{eight-statuses}
 use Rattle.rules.proofs.TidyRuns.{tidy-play}
 use Rattle.play.proofs.Moves.{few}
-use Rattle.abi_outcome.specs.Small.{SmallOutcome}
+use Rattle.abi_outcome.specs.inner.Small.{SmallOutcome}
 use Rattle.ruqzhemil.proofs.Statuses.{small-threads}
 
 pub small-outcome : (plan ps : List ℕ) → refusal plan ≡ none → length ps ≤ 4096 → SmallOutcome (outcomeOf (programOf plan) (play (programOf plan) ps))

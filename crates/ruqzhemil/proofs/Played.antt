@@ -13,8 +13,8 @@ use Rattle.rules.specs.Play.{playRefusal, played, playedBy, runOf}
 use Rattle.play.specs.declared.outcome.Played.{Played}
 use Rattle.play.specs.Answer.{outcomeOf, answeredBy, answered}
 use Rattle.play.proofs.Ran.{passes, outcome-is}
-use Rattle.plan_refusals.specs.Small.{SmallRefusal, SmallCheck}
-use Rattle.abi_outcome.specs.Small.{SmallOutcome, SmallPlayed}
+use Rattle.plan_refusals.specs.inner.Small.{SmallRefusal, SmallCheck}
+use Rattle.abi_outcome.specs.inner.Small.{SmallOutcome, SmallPlayed}
 use Rattle.ruqzhemil.proofs.Refusals.{small-play}
 use Rattle.ruqzhemil.proofs.Outcomes.{small-outcome}
 

@@ -4,7 +4,7 @@ use mathlib.Core.Path.{_≡_, refl, subst}
 use mathlib.Core.List.{List}
 use mathlib.Core.Option.{Option, some, none}
 use Rattle.format.specs.Refusal.{Refusal}
-use Rattle.plan_refusals.specs.Small.{SmallCheck}
+use Rattle.plan_refusals.specs.inner.Small.{SmallCheck}
 use Rattle.plan_packed.specs.Syntax.{Program}
 use Rattle.plan_packed.specs.Trees.{programOf}
 use Rattle.plan_packed.proofs.Decoded.{well-formed}
@@ -18,7 +18,7 @@ use Rattle.rules.proofs.Executed.{reachable-start, reachable-run}
 use Rattle.rules.proofs.TidyRuns.{Roomy, tidy-play}
 use Rattle.run_refusals.proofs.Passed.{scheduled}
 use Rattle.preview.specs.Preview.{shownBy, shown, shownAt, shownAfter, withPick, previewRefusal, previewedBy, previewed}
-use Rattle.abi_preview.specs.Small.{SmallPreview, SmallPreviewed}
+use Rattle.abi_preview.specs.inner.Small.{SmallPreview, SmallPreviewed}
 use Rattle.ruqzhemil.proofs.Refusals.{small-schedule}
 use Rattle.ruqzhemil.proofs.Statuses.{small-thread}
 

@@ -9,7 +9,7 @@ use Rattle.plan_notation.specs.Lexing.{codesOf}
 use Rattle.plan_parsing.specs.Plan.{Reading, plan, fault, readPlan}
 use Rattle.plan_parsing.proofs.PlanRight.{text-passes}
 use Rattle.read.specs.Read.{Read, tokens, shortForPlan, failedAt, tooMany, answerBy, readAnswer}
-use Rattle.abi_numbers.specs.Small.{SmallRead}
+use Rattle.abi_numbers.specs.inner.Small.{SmallRead}
 use Rattle.ruqzhemil.proofs.Tools.{few-bytes}
 
 either-small : (b : Bool) (x y : Read) → SmallRead x → SmallRead y → SmallRead (cond b x y)

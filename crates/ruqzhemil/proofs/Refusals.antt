@@ -8,7 +8,7 @@ use borrow.Author.Tests.{ltb-false}
 use Rattle.format.specs.Refusal.{Refusal, check, checkWhole}
 use Rattle.format.proofs.BitLaws.{bits-below}
 use Rattle.format.proofs.RefusalLaws.{First, here, later}
-use Rattle.plan_refusals.specs.Small.{Small, SmallRefusal, SmallCheck}
+use Rattle.plan_refusals.specs.inner.Small.{Small, SmallRefusal, SmallCheck}
 use Rattle.plan_refusals.proofs.Bounds.{small-by, small-checks, small-stages}
 use Rattle.plan_packed.specs.Format.{procedures, terms}
 use Rattle.plan_packed.specs.Check.{checks, refusal}

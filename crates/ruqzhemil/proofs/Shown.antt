@@ -8,13 +8,13 @@ use mathlib.Core.Option.{Option, some, none}
 use lib.ListN.{length}
 use Rattle.format.specs.Refusal.{Refusal, checkWhole, orElse, lowest, refuse, firstRefusal}
 use Rattle.plan_packed.specs.Check.{refusal}
-use Rattle.plan_refusals.specs.Small.{SmallCheck}
+use Rattle.plan_refusals.specs.inner.Small.{SmallCheck}
 use Rattle.answers.specs.Answer.{answerBy}
 use Rattle.plan_notation.specs.Text.{shownText}
 use Rattle.show.specs.Show.{shortForText, showAnswer}
 use Rattle.show.proofs.Answers.{stages}
 use Rattle.show.proofs.Lengths.{text-few}
-use Rattle.abi_convention.specs.Small.{SmallAnswer}
+use Rattle.abi_convention.specs.inner.Small.{SmallAnswer}
 use Rattle.abi_convention.proofs.Wider.{wider}
 use Rattle.ruqzhemil.proofs.Refusals.{small-plan}
 

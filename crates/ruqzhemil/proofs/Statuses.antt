@@ -18,7 +18,7 @@ use Rattle.rules.specs.Run.{status, statusesFrom}
 use Rattle.rules.proofs.Placed.{Ready, Good}
 use Rattle.rules.proofs.Invariant.{Inv}
 use Rattle.rules.proofs.TidyRuns.{Roomy}
-use Rattle.abi_outcome.specs.Small.{SmallWait, SmallStuck, SmallStatus, AllSmall}
+use Rattle.abi_outcome.specs.inner.Small.{SmallWait, SmallStuck, SmallStatus, AllSmall}
 
 abbrev SmallAct : Act → Type 0
 SmallAct (waits w) = SmallWait w

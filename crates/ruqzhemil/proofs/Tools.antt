@@ -10,10 +10,10 @@ use Rattle.format.specs.Refusal.{Refusal, checkWhole, firstRefusal}
 use Rattle.format.proofs.RefusalLaws.{both-none}
 use Rattle.log_records.specs.Refusals.{logRefusal}
 use Rattle.log_records.proofs.Accepted.{accepted}
-use Rattle.plan_refusals.specs.Small.{SmallCheck}
+use Rattle.plan_refusals.specs.inner.Small.{SmallCheck}
 use Rattle.plan_refusals.proofs.Bounds.{small-checks, small-stages}
 use Rattle.answers.specs.Answer.{answerBy}
-use Rattle.abi_convention.specs.Small.{SmallAnswer}
+use Rattle.abi_convention.specs.inner.Small.{SmallAnswer}
 use Rattle.abi_convention.proofs.Wider.{wider}
 use Rattle.waveform.specs.Comtrade.{fileOf, shortOutput, comtradeRefusal, comtradeAnswer}
 use Rattle.waveform.proofs.Answers.{last, stages}

@@ -5,14 +5,14 @@ use mathlib.Core.Path.{subst}
 use mathlib.Core.List.{List}
 use lib.ListN.{length}
 use Rattle.format.specs.Refusal.{firstRefusal}
-use Rattle.plan_refusals.specs.Small.{SmallCheck}
+use Rattle.plan_refusals.specs.inner.Small.{SmallCheck}
 use Rattle.plan_refusals.proofs.Bounds.{small-checks, small-stages}
 use Rattle.rules.specs.Play.{scheduleRefusal}
 use Rattle.run_refusals.proofs.Passed.{scheduled}
 use Rattle.answers.specs.Answer.{Answer}
 use Rattle.witness.specs.Witness.{raceRefusal, Witnesses}
 use Rattle.witness.proofs.Refusals.{laterChecks, stages, no-earlier}
-use Rattle.abi_convention.specs.Small.{SmallAnswer}
+use Rattle.abi_convention.specs.inner.Small.{SmallAnswer}
 use Rattle.abi_convention.proofs.Wider.{wider}
 use Rattle.ruqzhemil.proofs.Refusals.{whole, small-schedule}
 

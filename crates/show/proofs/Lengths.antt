@@ -10,7 +10,7 @@ use Rattle.plan_packed.specs.Trees.{programOf}
 use Rattle.plan_packed.specs.Check.{refusal}
 use Rattle.plan_written.proofs.RightPlans.{right-program}
 use Rattle.plan_notation.specs.Tokens.{textOf}
-use Rattle.plan_notation.specs.Known.{Known}
+use Rattle.plan_notation.specs.inner.Known.{Known}
 use Rattle.plan_notation.specs.Shown.{shownPlan}
 use Rattle.plan_notation.specs.Layout.{Pen, start, apart, onNewLine, indentation, gap, penAfter, laidFrom, laidOut}
 use Rattle.plan_notation.specs.Text.{textOfProgram, shownText}

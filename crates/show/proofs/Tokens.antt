@@ -6,7 +6,7 @@ use mathlib.Core.List.{List}
 use mathlib.Core.Option.{none}
 use lib.ListN.{length, take}
 use Rattle.plan_packed.specs.Format.{terms}
-use Rattle.plan_packed.specs.Steps.{Loaded}
+use Rattle.plan_packed.specs.inner.Steps.{Loaded}
 use Rattle.plan_packed.specs.Trees.{programOf}
 use Rattle.plan_packed.specs.Check.{refusal}
 use Rattle.plan_refusals.specs.Answer.{answered}
@@ -14,11 +14,11 @@ use Rattle.plan_refusals.specs.declared.Checked.{Checked}
 use Rattle.plan_refusals.specs.declared.Checked.the-variants.{Passed}
 use Rattle.plan_refusals.proofs.Stages.{passed-none}
 use Rattle.plan_written.proofs.RightPlans.{right-program}
-use Rattle.text.specs.Wrote.{Wrote}
-use Rattle.plan_notation.specs.Known.{Known}
+use Rattle.text.specs.inner.Wrote.{Wrote}
+use Rattle.plan_notation.specs.inner.Known.{Known}
 use Rattle.plan_notation.specs.Shown.{shownPlan}
 use Rattle.plan_notation.proofs.ShownCodes.{plan-fit, known}
-use Rattle.plan_tokens.specs.Begun.{Given}
+use Rattle.plan_tokens.specs.inner.Begun.{Given}
 
 pub given : {plan words : List ℕ} {r : Checked} → answered r ≡ refusal plan → (r ≡ Passed → Loaded plan (terms plan) words) → r ≡ Passed → Given plan words
 given {plan} {words} {r} e l q = record { passes = passed-none (refusal plan) r e q; loaded = l q }

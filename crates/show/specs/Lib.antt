@@ -1,2 +1,2 @@
 pub mod Show
-pub mod Begun
+pub mod inner

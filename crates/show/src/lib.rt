@@ -4,10 +4,10 @@ use plan_refusals::Checked;
 ghost use Prim.Native.Nat.{_≤_};
 ghost use mathlib.Core.Path.{_≡_};
 ghost use lib.ListN.{length};
-ghost use Rattle.plan_notation.specs.Known.{Known};
+ghost use Rattle.plan_notation.specs.inner.Known.{Known};
 ghost use Rattle.answers.specs.Answer.{answered};
 ghost use Rattle.show.specs.Show.{showAnswer, showArea};
-ghost use Rattle.show.specs.Begun.{TextWritten};
+ghost use Rattle.show.specs.inner.Begun.{TextWritten};
 
 // The text of some tokens, where the area has room for it.
 fn write(tokens: &[u8], area: &mut [u8]) -> Answered

@@ -37,7 +37,7 @@ use Rattle.rules.proofs.Equivalence.{step-complete}
 use Rattle.rules.proofs.Executed.{Reachable, reachable-start, reachable-move}
 use Rattle.rules.proofs.Bridge.{Kept, bridge}
 use Rattle.rules.proofs.RunKeys.{kept-start}
-use Rattle.side_by_side.specs.Waitless.{WaitlessProgram}
+use Rattle.side_by_side.specs.inner.Waitless.{WaitlessProgram}
 use Rattle.side_by_side.specs.Moves.{shown}
 use Rattle.side_by_side.specs.Schedule.{isFork, numbered, orZero}
 use Rattle.side_by_side.proofs.Like.{Naming, Like, e-call, a-end}

@@ -37,7 +37,7 @@ use Rattle.side_by_side.proofs.Like.{Naming, Like, e-lit, e-lets, e-if,
 use Rattle.side_by_side.proofs.Like.{r-new, r-read, r-write, r-lets, r-if, r-while, r-call, r-fork, r-join, r-synch, r-hold, r-signal, LikePartᶜ}
 use Rattle.side_by_side.proofs.Like.{r-notFalse, r-and, r-equal, LikeFocus}
 use Rattle.side_by_side.proofs.Correspondence.{Marks, Live, KeysIn, Mirror, FieldLike, Corresponds}
-use Rattle.side_by_side.specs.Waitless.{NoWait, WaitlessProgram}
+use Rattle.side_by_side.specs.inner.Waitless.{NoWait, WaitlessProgram}
 use Rattle.side_by_side.specs.Moves.{shown}
 use Rattle.side_by_side.proofs.Likeness.{Extends, wider, widerK, filled, itself, bind-like, params-like, length-like, focus-like, same-depth}
 use Rattle.side_by_side.proofs.Likeness.{plug-like, plug-likeᶜ, bool-itself, Next, next, nextᶜ}

@@ -6,7 +6,7 @@ use mathlib.Core.List.{List, [], _∷_}
 use mathlib.Core.Option.{Option, some}
 use Rattle.plan_packed.specs.Syntax.{Signal, Expression, Condition, Arguments}
 use Rattle.rules.specs.Context.{Context, Contextᶜ, Redex, Redexᶜ, Focus}
-use Rattle.side_by_side.specs.Waitless.{NoWait}
+use Rattle.side_by_side.specs.inner.Waitless.{NoWait}
 
 abbrev pub Naming : Type 0
 Naming = ℕ → Option ℕ

@@ -15,7 +15,7 @@ use Rattle.rules.specs.Context.{Context, Contextᶜ, Redex, Redexᶜ, Focus, fo
 use Rattle.rules.specs.Context.{falseWhen, plug, plugᶜ, literals, depth, depthᶜ, depthOf}
 use Rattle.rules.specs.Step.{around}
 use Rattle.rules.proofs.FocusPlug.{found}
-use Rattle.side_by_side.specs.Waitless.{Waitless, Waitlessᶜ, Waitlessᵃ}
+use Rattle.side_by_side.specs.inner.Waitless.{Waitless, Waitlessᶜ, Waitlessᵃ}
 use Rattle.side_by_side.proofs.Like.{Naming, Like, e-lit, e-var, e-new, e-read, e-write, e-lets, e-if, e-while, e-call, e-fork, e-join, e-synch}
 use Rattle.side_by_side.proofs.Like.{e-hold, e-signal, Likeᶜ, c-truth, c-not, c-and, c-equal, Likeᵃ, a-end, a-arg, LikeValues, l-nil, l-cons}
 use Rattle.side_by_side.proofs.Like.{LikeContext, k-top, k-read, k-write₁, k-write₂, k-args, k-lets, k-synch, k-hold, k-join, k-signal, k-equal₁}

@@ -31,7 +31,7 @@ use Rattle.rules.proofs.StateLaws.{inside}
 use Rattle.rules.proofs.Equivalence.{step-sound, sound-lacks}
 use Rattle.rules.proofs.Executed.{Reachable, reachable-start, reachable-move}
 use Rattle.rules.proofs.RunKeys.{kept-lacks}
-use Rattle.side_by_side.specs.Waitless.{WaitlessProgram}
+use Rattle.side_by_side.specs.inner.Waitless.{WaitlessProgram}
 use Rattle.side_by_side.specs.Moves.{shown, movesBy, movesFrom, movesOf}
 use Rattle.side_by_side.specs.Schedule.{Numbers, isFork, firstNumbers, numbersAfter, nextAfter, orZero, picksFrom, picksOf, numbersOf}
 use Rattle.side_by_side.specs.SideBySide.{Stays, Written, About, Renamed, SideBySide, reads, writes}

@@ -20,7 +20,7 @@ use Rattle.rules.specs.Rules.{Rule, Moves}
 use Rattle.rules.specs.Step.{around}
 use Rattle.rules.specs.Room.{noRoomFor}
 use Rattle.rules.proofs.FocusPlug.{found}
-use Rattle.side_by_side.specs.Waitless.{WaitlessProgram}
+use Rattle.side_by_side.specs.inner.Waitless.{WaitlessProgram}
 use Rattle.side_by_side.specs.Moves.{shown}
 use Rattle.side_by_side.specs.SideBySide.{About}
 use Rattle.side_by_side.proofs.Like.{Naming, k-top, LikePart, LikeFocus}

@@ -14,7 +14,7 @@ use Rattle.plan_packed.proofs.Tags.{by-tag}
 use Rattle.plan_packed.proofs.Children.{nodeOfTag}
 use Rattle.plan_packed.proofs.NodeOrder.{no-tag}
 use Rattle.side_by_side.specs.LeftOut.{hasWait}
-use Rattle.side_by_side.specs.Waitless.{Waitless, Waitlessᶜ, Waitlessᵃ, WaitlessProgram}
+use Rattle.side_by_side.specs.inner.Waitless.{Waitless, Waitlessᶜ, Waitlessᵃ, WaitlessProgram}
 
 -- what a term of a table without a wait stands for has none
 module _ (h : ℕ → Node) (w : (t i : ℕ) → h t ≡ Node.expression (ExpressionNode.signal Signal.wait i) → ⊥) where

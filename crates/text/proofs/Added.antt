@@ -7,7 +7,7 @@ use mathlib.Core.Path.{_≡_, refl, sym, ap, _∙_}
 use mathlib.Core.List.{List, [], _∷_, _++_, append-nil, append-assoc}
 use lib.ListN.{length, length-append, take, drop, take-append-drop, set, length-set}
 use lib.Seq.{take-suc-set, drop-set-lt, drop-drop}
-use Rattle.text.specs.Wrote.{Wrote}
+use Rattle.text.specs.inner.Wrote.{Wrote}
 
 pub added-none : (a : List ℕ) (at : ℕ) → Wrote a at [] a at
 added-none a at = record { next = sym (add-zero at); kept = refl; text = sym (append-nil (take at a)); rest = refl }

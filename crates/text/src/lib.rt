@@ -3,7 +3,7 @@ ghost use Prim.Native.Nat.{_+_, _≤_, _<_};
 ghost use mathlib.Core.List.{[], _∷_};
 ghost use lib.ListN.{length};
 ghost use Rattle.text.specs.Text.{decimal};
-ghost use Rattle.text.specs.Wrote.{Wrote};
+ghost use Rattle.text.specs.inner.Wrote.{Wrote};
 
 pub fn put_byte(area: &mut [u8], at: usize, byte: u8) -> usize
     requires { ⌜ at < length (now area) ⌝ }

@@ -6,7 +6,7 @@ use mathlib.Core.List.{List, _++_}
 use lib.ListN.{length, length-append, length-take, length-drop, take, drop}
 use lib.Seq.{take-append-seam, drop-append-seam}
 use Rattle.format.specs.Area.{overwrite}
-use Rattle.text.specs.Wrote.{Wrote}
+use Rattle.text.specs.inner.Wrote.{Wrote}
 
 pub overwritten : {text area after : List ℕ} {n : ℕ} → n ≡ length text → n ≤ length area → after ≡ overwrite text area → Wrote area 0 text after n
 unfolding overwrite

@@ -9,13 +9,13 @@ use lib.Seq.{length-take-le}
 use Rattle.format.specs.Area.{overwrite}
 use Rattle.format.specs.Refusal.{Refusal}
 use Rattle.format.proofs.AreaLaws.{overwrite-covers}
-use Rattle.text.specs.Wrote.{Wrote}
+use Rattle.text.specs.inner.Wrote.{Wrote}
 use Rattle.text_refusal_lines.specs.Lines.{refusalLines}
 use Rattle.answers.specs.Answer.{Answer, value, refused, answerBy, answered}
 use Rattle.answers.specs.declared.Answered.{Answered}
 use Rattle.answers.specs.declared.Answered.the-variants as answer
 use Rattle.text_answer_lines.specs.Texts.{textBy}
-use Rattle.text_answer_lines.specs.Told.{Told, Settled}
+use Rattle.text_answer_lines.specs.inner.Told.{Told, Settled}
 use Rattle.text_answer_lines.proofs.Areas.{overwritten, wrote-within}
 
 -- ---- by the answer of the code

@@ -2,7 +2,7 @@
 ghost use Prim.Native.Nat.{_≤_};
 ghost use lib.ListN.{length};
 ghost use Rattle.answers.specs.Answer as answers;
-ghost use Rattle.text_answer_lines.specs.Told.{Settled};
+ghost use Rattle.text_answer_lines.specs.inner.Told.{Settled};
 use answers::Answered;
 
 // A refusal's lines come in place of the text.

@@ -1,7 +1,7 @@
 // The configuration file that goes with the data file of a log (document 02, E14).
 ghost use Prim.Native.Nat.{_+_, _≤_, _<_};
 ghost use lib.ListN.{length};
-ghost use Rattle.text.specs.Wrote.{Wrote};
+ghost use Rattle.text.specs.inner.Wrote.{Wrote};
 ghost use Rattle.text_configuration.specs.Configuration.{channelLine, channelLines, lastLines, configurationFile};
 
 // The line of an object's channel.

@@ -2,7 +2,7 @@
 ghost use Prim.Native.Nat.{_+_, _≤_};
 ghost use lib.ListN.{length};
 ghost use Rattle.text_diagram_elements.specs.Diagram.{openingText, styleText, columnsText, headText};
-ghost use Rattle.text_diagram_elements.specs.Drawn.{Drawn};
+ghost use Rattle.text_diagram_elements.specs.inner.Drawn.{Drawn};
 
 // The size of the picture.
 fn put_opening(area: &mut [u8], at: usize, lanes: usize, records: usize) -> usize

@@ -4,7 +4,7 @@ ghost use mathlib.Core.Path.{_≡_};
 ghost use lib.ListN.{length};
 ghost use Rattle.log_records.specs.Packed.{logOf};
 ghost use Rattle.text_diagram_elements.specs.Diagram.{laneCount, laneText, laneTexts};
-ghost use Rattle.text_diagram_elements.specs.Drawn.{Drawn};
+ghost use Rattle.text_diagram_elements.specs.inner.Drawn.{Drawn};
 
 // One for each thread from 0 to the highest of the log.
 pub fn lane_count(log: &[u8]) -> usize

@@ -5,9 +5,9 @@ mod lanes; // lanes.rt: the lanes of threads
 ghost use Prim.Native.Nat.{_+_, _*_, _/_, _≤_};
 ghost use lib.ListN.{length};
 ghost use Rattle.log_records.specs.Packed.{logOf};
-ghost use Rattle.text.specs.Wrote.{Wrote};
+ghost use Rattle.text.specs.inner.Wrote.{Wrote};
 ghost use Rattle.text_diagram_elements.specs.Diagram.{diagramText, arrowsOf, raceOf};
-ghost use Rattle.text_diagram_elements.specs.Drawn.{Room};
+ghost use Rattle.text_diagram_elements.specs.inner.Drawn.{Room};
 use text_diagram_elements::Race;
 
 // The whole picture of a log, the first `count` arrows from records with the indices in `starts` to those in `ends`.

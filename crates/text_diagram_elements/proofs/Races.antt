@@ -10,7 +10,7 @@ use borrow.Author.Tests.{eq-eqb, ne-eqb}
 use Rattle.log_records.specs.Record.{Record}
 use Rattle.text.specs.Text.{ascii}
 use Rattle.text_diagram_elements.specs.Diagram.{inRace, colour, between, raceText, raceOf}
-use Rattle.text_diagram_elements.specs.Drawn.{RaceInside}
+use Rattle.text_diagram_elements.specs.inner.Drawn.{RaceInside}
 use Rattle.text_diagram_elements.specs.declared.Race.{Race}
 use Rattle.text_diagram_elements.specs.declared.Race.the-variants.{Between, Nowhere}
 

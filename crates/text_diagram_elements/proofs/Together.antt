@@ -4,7 +4,7 @@ use native.Mathlib.Omega.{arith}
 use mathlib.Core.Path.{_≡_}
 use mathlib.Core.List.{List, [], _++_}
 use Rattle.text.proofs.Added.{added-none, added-more, added-as}
-use Rattle.text_diagram_elements.specs.Drawn.{Drawn}
+use Rattle.text_diagram_elements.specs.inner.Drawn.{Drawn}
 
 pub drawn-none : (most : ℕ) (a : List ℕ) (at : ℕ) → Drawn most a at [] a at
 drawn-none most a at = record { wrote = added-none a at; short = omega arith }

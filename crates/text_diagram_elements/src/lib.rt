@@ -2,7 +2,7 @@
 ghost use Prim.Native.Nat.{_+_, _≤_, _<_};
 ghost use lib.ListN.{length};
 ghost use Rattle.text_diagram_elements.specs.Diagram.{attribute, segment};
-ghost use Rattle.text_diagram_elements.specs.Drawn.{Drawn, Inside};
+ghost use Rattle.text_diagram_elements.specs.inner.Drawn.{Drawn, Inside};
 
 // The race that is drawn.
 pub enum Race {

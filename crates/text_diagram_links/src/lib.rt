@@ -3,7 +3,7 @@ ghost use Prim.Native.Nat.{_+_, _*_, _/_, _≤_, _<_};
 ghost use lib.ListN.{length};
 ghost use Rattle.log_records.specs.Packed.{logOf};
 ghost use Rattle.text_diagram_elements.specs.Diagram.{between, arrowTexts, raceText, arrowsOf, raceOf};
-ghost use Rattle.text_diagram_elements.specs.Drawn.{Drawn, ArrowsInside, RaceInside, Ends};
+ghost use Rattle.text_diagram_elements.specs.inner.Drawn.{Drawn, ArrowsInside, RaceInside, Ends};
 use text_diagram_elements::Race;
 
 // A line of a class from the mark of one record to that of another.

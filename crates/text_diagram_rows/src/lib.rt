@@ -3,10 +3,10 @@ ghost use Prim.Native.Nat.{_+_, _*_, _/_, _≤_, _<_};
 ghost use mathlib.Core.Path.{_≡_};
 ghost use lib.ListN.{length};
 ghost use Rattle.log_records.specs.Packed.{logOf};
-ghost use Rattle.log_decoding.specs.Columns.{Narrow};
-ghost use Rattle.text_record_lines.specs.Columns.{recordOf};
+ghost use Rattle.log_decoding.specs.inner.Columns.{Narrow};
+ghost use Rattle.text_record_lines.specs.inner.Columns.{recordOf};
 ghost use Rattle.text_diagram_elements.specs.Diagram.{inRace, colour, markText, wordsText, rowText, rowTexts, raceOf};
-ghost use Rattle.text_diagram_elements.specs.Drawn.{Drawn};
+ghost use Rattle.text_diagram_elements.specs.inner.Drawn.{Drawn};
 use log_decoding::Columns;
 use text_diagram_elements::Race;
 

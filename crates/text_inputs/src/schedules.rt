@@ -4,7 +4,7 @@ ghost use Prim.Native.Nat.{_+_, _≤_, _<_};
 ghost use mathlib.Core.Path.{_≡_};
 ghost use mathlib.Core.Bool.{_||_};
 ghost use lib.ListN.{length};
-ghost use Rattle.text.specs.Wrote.{Wrote};
+ghost use Rattle.text.specs.inner.Wrote.{Wrote};
 ghost use Rattle.plan_notation.specs.Lexing.{isBlank};
 ghost use Rattle.text_inputs.specs.Schedules.{isDigit, isDigits, pickOf, digitPicks, picksOf, digitOf, digitLine};
 

@@ -11,7 +11,7 @@ use Rattle.format.specs.Area.{overwrite}
 use Rattle.format.specs.Refusal.{Refusal}
 use Rattle.format.proofs.AreaLaws.{overwrite-first, overwrite-covers}
 use Rattle.plan_packed.specs.Trees.{programOf}
-use Rattle.text.specs.Wrote.{Wrote}
+use Rattle.text.specs.inner.Wrote.{Wrote}
 use Rattle.answers.specs.Answer.{value, refused, answered}
 use Rattle.answers.specs.declared.Answered.{Answered}
 use Rattle.answers.specs.declared.Answered.the-variants as answer
@@ -22,7 +22,7 @@ use Rattle.interleavings.specs.Answer as nexts
 use Rattle.interleavings.specs.Count.{countRefused}
 use Rattle.interleavings.specs.declared.Next.{Next}
 use Rattle.interleavings.specs.declared.Next.the-variants as next
-use Rattle.text_interleaving_lines.specs.Steps.{Here, Begun, Advanced}
+use Rattle.text_interleaving_lines.specs.inner.Steps.{Here, Begun, Advanced}
 use Rattle.text_interleaving_lines.proofs.Refusals.{first-as-count, bound-of, next-passes}
 
 either : {A : Type 0} {x : Option Refusal} {r : Refusal} → x ≡ some r → x ≡ none → A

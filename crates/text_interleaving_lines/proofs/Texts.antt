@@ -11,16 +11,16 @@ use lib.ListN.{length, length-append, length-take, getElem?, take}
 use lib.Seq.{take-all}
 use Rattle.plan_packed.specs.Syntax.{Program}
 use Rattle.plan_packed.specs.Trees.{programOf}
-use Rattle.text.specs.Wrote.{Wrote}
+use Rattle.text.specs.inner.Wrote.{Wrote}
 use Rattle.text.proofs.Added.{added-none, added-more, added-as}
 use Rattle.text_inputs.specs.Schedules.{digitLine, digitsOf}
 use Rattle.text_inputs.proofs.Bytes.{length-digits}
-use Rattle.text_answer_lines.specs.Told.{Told}
+use Rattle.text_answer_lines.specs.inner.Told.{Told}
 use Rattle.listing.specs.Listed.{First, Following, Over}
 use Rattle.listing.specs.WholeList.{WholeList}
 use Rattle.listing.proofs.WholeList.{whole-list, at-first, at-next, at-last}
 use Rattle.text_interleaving_lines.specs.Lines.{scheduleLines, countLine, moreLine, InterleavingsText, all, first}
-use Rattle.text_interleaving_lines.specs.Steps.{Here, Begun}
+use Rattle.text_interleaving_lines.specs.inner.Steps.{Here, Begun}
 
 -- ---- one schedule more
 

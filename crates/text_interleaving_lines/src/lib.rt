@@ -1,10 +1,10 @@
 // All interleavings of a short plan as lines of digits, and how many there are (document 02, E11).
 ghost use Prim.Native.Nat.{_+_, _≤_};
 ghost use lib.ListN.{length};
-ghost use Rattle.text.specs.Wrote.{Wrote};
-ghost use Rattle.text_answer_lines.specs.Told.{Told};
+ghost use Rattle.text.specs.inner.Wrote.{Wrote};
+ghost use Rattle.text_answer_lines.specs.inner.Told.{Told};
 ghost use Rattle.text_interleaving_lines.specs.Lines.{countLine, moreLine, InterleavingsText};
-ghost use Rattle.text_interleaving_lines.specs.Steps.{Here, Begun, Advanced};
+ghost use Rattle.text_interleaving_lines.specs.inner.Steps.{Here, Begun, Advanced};
 use answers::Answered;
 use interleavings::Next;
 use text_inputs::schedules;

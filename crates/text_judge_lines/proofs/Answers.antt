@@ -15,15 +15,15 @@ use Rattle.log_conflicts.specs.Conflicts.{Conflicting}
 use Rattle.log_conflicts.specs.Judge.{refused, named, Names, names-first, names-none, Answers, refuses, judges, AnswersTold, wrong-version, right-version}
 use Rattle.answers.specs.Answer.{Answer}
 use Rattle.log_decoding.specs.declared.Columns.{Columns}
-use Rattle.log_decoding.specs.Columns.{ReadAt}
-use Rattle.text_record_lines.specs.Columns.{recordOf}
-use Rattle.text.specs.Wrote.{Wrote}
+use Rattle.log_decoding.specs.inner.Columns.{ReadAt}
+use Rattle.text_record_lines.specs.inner.Columns.{recordOf}
+use Rattle.text.specs.inner.Wrote.{Wrote}
 use Rattle.text.proofs.Added.{added-as, added-whole}
 use Rattle.text_race_lines.specs.Lines.{conflictLines, conflictingLines}
 use Rattle.text_race_lines.proofs.Records.{at-once, columns-are, record-here}
 use Rattle.text_judge_lines.specs.Told as told
 use Rattle.text_judge_lines.specs.Told.{orderedLine, LogTold, JudgeTold}
-use Rattle.text_judge_lines.specs.Search.{Named, LastOf, WroteConflict}
+use Rattle.text_judge_lines.specs.inner.Search.{Named, LastOf, WroteConflict}
 use Rattle.text_judge_lines.proofs.LastConflicts.{inside}
 
 -- ---- the two records that were found

@@ -18,13 +18,13 @@ use Rattle.log_order.proofs.Past.{at-within}
 use Rattle.log_conflicts.specs.Conflicts.{Conflict, Conflicting}
 use Rattle.log_records.proofs.RoundTrip.{length-log}
 use Rattle.log_decoding.specs.declared.Columns.{Columns}
-use Rattle.log_decoding.specs.Columns.{ReadAt}
+use Rattle.log_decoding.specs.inner.Columns.{ReadAt}
 use Rattle.log_decoding.proofs.Decoded.{kind-is-kind}
-use Rattle.log_clocks.specs.Rows.{Row, clockOf}
-use Rattle.log_arrows.specs.Newest.{Heard, Newest}
+use Rattle.log_clocks.specs.inner.Rows.{Row, clockOf}
+use Rattle.log_arrows.specs.inner.Newest.{Heard, Newest}
 use Rattle.log_arrows.proofs.Chains.{chain-before, chain-on, thread-chain}
 use Rattle.text_race_lines.proofs.Records.{at-once, record-here}
-use Rattle.text_judge_lines.specs.Search.{conflictTest, Named, LastOf}
+use Rattle.text_judge_lines.specs.inner.Search.{conflictTest, Named, LastOf}
 
 -- ---- truth values
 

@@ -5,9 +5,9 @@ ghost use Prim.Native.Nat.{_≤_};
 ghost use lib.ListN.{length};
 ghost use Rattle.format.specs.Version.{versionOf};
 ghost use Rattle.answers.specs.Answer.{answered};
-ghost use Rattle.text.specs.Wrote.{Wrote};
+ghost use Rattle.text.specs.inner.Wrote.{Wrote};
 ghost use Rattle.text_judge_lines.specs.Told.{orderedLine, JudgeTold};
-ghost use Rattle.text_judge_lines.specs.Search.{Named, WroteConflict};
+ghost use Rattle.text_judge_lines.specs.inner.Search.{Named, WroteConflict};
 use answers::Answered;
 use judge::Judgement;
 

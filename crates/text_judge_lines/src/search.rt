@@ -6,8 +6,8 @@ ghost use Rattle.format.specs.Version.{versionOf};
 ghost use Rattle.log_records.specs.Packed.{kindOf};
 ghost use Rattle.log_records.specs.Record.{isPlain};
 ghost use Rattle.log_order.specs.Accesses.{isWrite};
-ghost use Rattle.log_decoding.specs.Columns.{Narrow};
-ghost use Rattle.text_judge_lines.specs.Search.{conflictTest, Named, LastOf};
+ghost use Rattle.log_decoding.specs.inner.Columns.{Narrow};
+ghost use Rattle.text_judge_lines.specs.inner.Search.{conflictTest, Named, LastOf};
 use log_decoding::Columns;
 use log_records::kind;
 

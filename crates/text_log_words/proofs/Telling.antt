@@ -15,7 +15,7 @@ use Rattle.text_judge_lines.specs.Told as judge
 use Rattle.text_judge_lines.specs.Told.{LogTold, JudgeTold}
 use Rattle.diagram.specs.Picture as picture
 use Rattle.diagram.specs.Picture.{Picture, Pictured, roomFor}
-use Rattle.text_answer_lines.specs.Told.{Told, Settled}
+use Rattle.text_answer_lines.specs.inner.Told.{Told, Settled}
 use Rattle.text_answer_lines.proofs.Settling.{settled-told, tells-text}
 use Rattle.text_log_words.specs.Words.{LogText, wrong-version, refuses, tells, SaysOf, judges, draws}
 use Rattle.text_log_words.specs.declared.LogWord.{LogWord}

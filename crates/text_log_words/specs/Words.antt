@@ -12,7 +12,7 @@ use Rattle.log_records.specs.Refusals.{logRefusal}
 use Rattle.text_refusal_lines.specs.Lines.{refusalLines}
 use Rattle.text_judge_lines.specs.Told.{LogTold}
 use Rattle.diagram.specs.Picture.{Picture}
-use Rattle.text_answer_lines.specs.Told.{Told}
+use Rattle.text_answer_lines.specs.inner.Told.{Told}
 use Rattle.text_log_words.specs.declared.LogWord.{LogWord}
 use Rattle.text_log_words.specs.declared.LogWord.the-variants as word
 

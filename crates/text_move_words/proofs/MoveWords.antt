@@ -6,7 +6,7 @@ use Rattle.format.proofs.Ranges.{by-range}
 use Rattle.log_records.specs.Record.{Kind, new}
 use Rattle.log_records.specs.Packed.{kindOf}
 use Rattle.log_decoding.specs.declared.Columns.{Columns}
-use Rattle.text_record_lines.specs.Columns.{recordOf}
+use Rattle.text_record_lines.specs.inner.Columns.{recordOf}
 use Rattle.text_move_words.specs.Words.{recordWordsBy, recordWords}
 
 -- the kind has this number

@@ -11,7 +11,7 @@ use Rattle.plan_packed.specs.Check.{refusal}
 use Rattle.plan_packed.proofs.Accepted.{accepted}
 use Rattle.plan_refusals.specs.Answer as refusals
 use Rattle.plan_refusals.specs.declared.Checked.the-variants as checked
-use Rattle.text.specs.Wrote.{Wrote}
+use Rattle.text.specs.inner.Wrote.{Wrote}
 use Rattle.answers.specs.Answer.{Answer, answerBy}
 use Rattle.plan_written.specs.Written.{writtenPlan}
 use Rattle.plan_written.proofs.OneWay.{same-length}
@@ -21,7 +21,7 @@ use Rattle.show.proofs.Answers as shows
 use Rattle.show.proofs.Lengths.{text-few}
 use Rattle.canonical.specs.Canonical.{canonicalRefusal, canonicalAnswer, areaBy, canonicalArea}
 use Rattle.canonical.proofs.Chain as writes
-use Rattle.text_answer_lines.specs.Told.{Settled}
+use Rattle.text_answer_lines.specs.inner.Told.{Settled}
 use Rattle.text_answer_lines.proofs.Settling.{settled-by}
 use Rattle.text_plan_words.specs.Texts.{showText, canonicalText}
 

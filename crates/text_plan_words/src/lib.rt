@@ -1,7 +1,7 @@
 // What the tools answer to a plan alone, in words, each at the start of an area.
 ghost use Prim.Native.Nat.{_≤_};
 ghost use lib.ListN.{length};
-ghost use Rattle.text.specs.Wrote.{Wrote};
+ghost use Rattle.text.specs.inner.Wrote.{Wrote};
 ghost use Rattle.text_plan_words.specs.Texts.{checkText, planText, showText, canonicalText, boundLine, boundText};
 use answers::Answered;
 use plan_refusals::Checked;

@@ -28,15 +28,15 @@ use Rattle.play.proofs.Ran.{not-refused, ran-is, passes, outcome-is, stop-is, r
 use Rattle.agreement.proofs.Agreed.{agreement}
 use Rattle.charge.proofs.Charged.{long-area}
 use Rattle.answers.specs.Answer.{Answer}
-use Rattle.log_schedule_writer.specs.Kept.{HasLast}
-use Rattle.text.specs.Wrote.{Wrote}
+use Rattle.log_schedule_writer.specs.inner.Kept.{HasLast}
+use Rattle.text.specs.inner.Wrote.{Wrote}
 use Rattle.text.proofs.Added.{added-as, added-whole}
 use Rattle.text_record_lines.specs.Lines.{recordLines}
 use Rattle.text_last_lines.specs.Lines.{outcomeLine}
 use Rattle.text_race_lines.specs.Lines.{unorderedLines}
 use Rattle.text_race_lines.proofs.Records.{has-last, unordered-same}
 use Rattle.text_play_lines.specs.Told.{shotLines, RunTold, no-race, races, PlayTold, refuses, tells}
-use Rattle.text_play_lines.specs.Written.{shotsOf, WroteRun}
+use Rattle.text_play_lines.specs.inner.Written.{shotsOf, WroteRun}
 use Rattle.text_play_lines.proofs.Raced.{raced-unordered}
 
 module _ (plan schedule lent area : List ℕ) (p : Played) (h : answered p ≡ played plan schedule lent) (long : 12288 ≤ length lent)

@@ -1,7 +1,7 @@
 // A play in words: the shot list of its run, and of a run that stopped for want of a key the two records between which nothing leads.
 ghost use Rattle.answers.specs.Answer.{answered};
 ghost use Rattle.text_play_lines.specs.Told.{PlayTold};
-ghost use Rattle.text_play_lines.specs.Written.{RunRoom, WroteRun};
+ghost use Rattle.text_play_lines.specs.inner.Written.{RunRoom, WroteRun};
 use answers::Answered;
 use plan_refusals::Checked;
 use run_outcome::Stop;

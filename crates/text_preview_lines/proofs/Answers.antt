@@ -11,7 +11,7 @@ use Rattle.run_last_pick.specs.declared.Previewed.the-variants as variants
 use Rattle.preview.specs.Preview as preview
 use Rattle.preview.specs.Preview.{Preview, previewed}
 use Rattle.preview.specs.Answer.{answered}
-use Rattle.text.specs.Wrote.{Wrote}
+use Rattle.text.specs.inner.Wrote.{Wrote}
 use Rattle.text.proofs.Added.{added-whole}
 use Rattle.text_preview_lines.specs.Lines.{previewLine}
 use Rattle.text_preview_lines.specs.Told.{PreviewTold, refuses, tells}

@@ -4,8 +4,8 @@ use mathlib.Core.Path.{_≡_, refl, sym, ap, _∙_}
 use mathlib.Core.List.{List, [], _∷_, _++_, append-assoc}
 use Rattle.log_records.specs.Record.{Record}
 use Rattle.log_decoding.specs.declared.Columns.{Columns}
-use Rattle.log_decoding.specs.Columns.{ReadAt}
-use Rattle.text_record_lines.specs.Columns as columns
+use Rattle.log_decoding.specs.inner.Columns.{ReadAt}
+use Rattle.text_record_lines.specs.inner.Columns as columns
 use Rattle.text_run_lines.proofs.RecordText.{columns-are}
 use Rattle.rules.specs.Room.{Room}
 use Rattle.rules.specs.Run.{Stop, Status}

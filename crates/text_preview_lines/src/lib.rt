@@ -9,7 +9,7 @@ ghost use Rattle.answers.specs.Answer.{answered};
 ghost use Rattle.play.specs.Answer.{roomOf, stopOf, statusOf};
 ghost use Rattle.preview.specs.Preview as preview;
 ghost use Rattle.preview.specs.Answer.{recordOf};
-ghost use Rattle.text.specs.Wrote.{Wrote};
+ghost use Rattle.text.specs.inner.Wrote.{Wrote};
 ghost use Rattle.text_phrases.specs.Phrase.{phrase};
 ghost use Rattle.text_move_words.specs.Words.{recordWords};
 ghost use Rattle.text_preview_lines.specs.Lines.{previewLine};

@@ -2,7 +2,7 @@
 ghost use Prim.Native.Nat.{_+_, _≤_};
 ghost use lib.ListN.{length};
 ghost use Rattle.play.specs.Answer.{roomOf, stopOf};
-ghost use Rattle.text.specs.Wrote.{Wrote};
+ghost use Rattle.text.specs.inner.Wrote.{Wrote};
 ghost use Rattle.text_preview_lines.specs.Lines.{roomWords, stopWords};
 use run_outcome::NoRoom;
 use run_outcome::Stop;

@@ -2,10 +2,10 @@
 ghost use Prim.Native.Nat.{_+_, _≤_, _<_};
 ghost use lib.ListN.{length};
 ghost use Rattle.log_records.specs.Packed.{kindOf};
-ghost use Rattle.text.specs.Wrote.{Wrote};
-ghost use Rattle.text_record_lines.specs.Columns.{recordOf};
+ghost use Rattle.text.specs.inner.Wrote.{Wrote};
+ghost use Rattle.text_record_lines.specs.inner.Columns.{recordOf};
 ghost use Rattle.text_race_lines.specs.Lines.{does, deed, apartLine, lackLine, accessPart, otherPart, conflictLines};
-ghost use Rattle.text_race_lines.specs.Written.{RaceRoom, WroteUnordered, ConflictRoom};
+ghost use Rattle.text_race_lines.specs.inner.Written.{RaceRoom, WroteUnordered, ConflictRoom};
 use log_decoding::Columns;
 use log_records::kind;
 

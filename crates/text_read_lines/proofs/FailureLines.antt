@@ -8,7 +8,7 @@ use lib.Dec.{eqb, ltb}
 use lib.ListN.{length, length-append, getD}
 use Rattle.text.specs.Text.{ascii, decimal}
 use Rattle.text.proofs.Decimals.{few-digits}
-use Rattle.text_word_table.specs.Table.{joined, startsFrom, Table, wordAt, Room}
+use Rattle.text_word_table.specs.inner.Table.{joined, startsFrom, Table, wordAt, Room}
 use Rattle.text_word_table.proofs.Words.{word-is, room-for, longest, not-longer}
 use Rattle.plan_parsing.specs.Goals as goal
 use Rattle.plan_parsing.specs.Goals.{Sort, either, expression, condition, Goal}

@@ -4,8 +4,8 @@ mod reasons; // reasons.rt: the sentences as one row of bytes
 ghost use Prim.Native.Nat.{_+_, _≤_, _<_};
 ghost use mathlib.Core.Path.{_≡_};
 ghost use lib.ListN.{length};
-ghost use Rattle.text.specs.Wrote.{Wrote};
-ghost use Rattle.plan_parser_goals.specs.Encoded.{goalOf, sortOf, reasonOf};
+ghost use Rattle.text.specs.inner.Wrote.{Wrote};
+ghost use Rattle.plan_parser_goals.specs.inner.Encoded.{goalOf, sortOf, reasonOf};
 ghost use Rattle.read.specs.Answer.{failureOf};
 ghost use Rattle.text_read_lines.specs.Reasons.{tokenRow, sortRow, goalRow, reasonRow, failureRow, placeWords, reasonWords, failureLine};
 

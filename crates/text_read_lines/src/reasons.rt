@@ -1,6 +1,6 @@
 // What is said of a text that is no plan, as one row of bytes, and where each reason begins: one computed test of them all.
 ghost use mathlib.Core.Path.{_≡_};
-ghost use Rattle.text_word_table.specs.Table.{joined, startsFrom};
+ghost use Rattle.text_word_table.specs.inner.Table.{joined, startsFrom};
 ghost use Rattle.text_read_lines.specs.Reasons.{reasons};
 
 // One reason to a line, in the order of the rows.

@@ -11,9 +11,9 @@ use Rattle.log_records.specs.Record.{Record}
 use Rattle.log_records.specs.Packed.{recordAt, recordCount, logOf}
 use Rattle.log_records.proofs.RoundTrip.{length-log, log-element}
 use Rattle.log_decoding.specs.declared.Columns.{Columns}
-use Rattle.log_decoding.specs.Columns.{Narrow, ReadAt}
+use Rattle.log_decoding.specs.inner.Columns.{Narrow, ReadAt}
 use Rattle.text_record_lines.specs.Lines.{recordLine}
-use Rattle.text_record_lines.specs.Columns.{recordOf}
+use Rattle.text_record_lines.specs.inner.Columns.{recordOf}
 use Rattle.text_record_lines.proofs.LineParts.{record-short}
 
 found : (L : List Record) (i : ℕ) (r d : Record) → getElem? L i ≡ some r → getD L i d ≡ r

@@ -2,9 +2,9 @@
 ghost use Prim.Native.Nat.{_+_, _≤_, _<_};
 ghost use lib.ListN.{length};
 ghost use Rattle.log_records.specs.Packed.{kindOf};
-ghost use Rattle.text.specs.Wrote.{Wrote};
+ghost use Rattle.text.specs.inner.Wrote.{Wrote};
 ghost use Rattle.text_record_lines.specs.Lines.{kindWord, recordLine};
-ghost use Rattle.text_record_lines.specs.Columns.{recordOf};
+ghost use Rattle.text_record_lines.specs.inner.Columns.{recordOf};
 use log_decoding::Columns;
 use log_records::kind;
 

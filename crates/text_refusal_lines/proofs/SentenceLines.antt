@@ -9,7 +9,7 @@ use lib.ListN.{length, length-append, getD}
 use borrow.Author.Tests.{ltb-true}
 use Rattle.format.specs.Refusal.{Refusal}
 use Rattle.text.specs.Text.{ascii}
-use Rattle.text_word_table.specs.Table.{joined, startsFrom, Table, wordAt, Room}
+use Rattle.text_word_table.specs.inner.Table.{joined, startsFrom, Table, wordAt, Room}
 use Rattle.text_word_table.proofs.Words.{word-is, room-for, longest, not-longer}
 use Rattle.text_refusal_lines.specs.Lines.{sentences, sentenceRow, sentenceLine, refusalLine, refusalLines}
 use Rattle.text_refusal_lines.proofs.LineParts.{refusal-short}

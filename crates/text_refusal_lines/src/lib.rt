@@ -3,7 +3,7 @@ mod sentences; // sentences.rt: the sentences as one row of bytes
 
 ghost use Prim.Native.Nat.{_+_, _≤_};
 ghost use lib.ListN.{length};
-ghost use Rattle.text.specs.Wrote.{Wrote};
+ghost use Rattle.text.specs.inner.Wrote.{Wrote};
 ghost use Rattle.text_refusal_lines.specs.Lines.{refusalLine, sentenceLine, refusalLines};
 
 // Refused, number, place.

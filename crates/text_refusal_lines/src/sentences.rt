@@ -1,6 +1,6 @@
 // The sentences of the refusals as one row of bytes, and where each begins: one computed test of them all.
 ghost use mathlib.Core.Path.{_≡_};
-ghost use Rattle.text_word_table.specs.Table.{joined, startsFrom};
+ghost use Rattle.text_word_table.specs.inner.Table.{joined, startsFrom};
 ghost use Rattle.text_refusal_lines.specs.Lines.{sentences, sentenceRow};
 
 // How many sentences there are, that of row 0 among them.

@@ -4,7 +4,7 @@ ghost use mathlib.Core.List.{_++_};
 ghost use lib.ListN.{length};
 ghost use Rattle.log_records.specs.Packed.{logOf};
 ghost use Rattle.play.specs.Answer.{stopOf};
-ghost use Rattle.text.specs.Wrote.{Wrote};
+ghost use Rattle.text.specs.inner.Wrote.{Wrote};
 ghost use Rattle.text_record_lines.specs.Lines.{recordLines};
 ghost use Rattle.text_last_lines.specs.Lines.{outcomeLine};
 use run_outcome::Stop;

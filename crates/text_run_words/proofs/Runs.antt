@@ -17,7 +17,7 @@ use Rattle.play.specs.declared.outcome.Played.{Played}
 use Rattle.play.specs.Answer.{outcomeOf, answeredBy, answered}
 use Rattle.play.proofs.Ran.{not-refused, ran-is, ran-area, records-are, few-records}
 use Rattle.charge.proofs.Charged.{long-area}
-use Rattle.text.specs.Wrote.{Wrote}
+use Rattle.text.specs.inner.Wrote.{Wrote}
 use Rattle.text.proofs.Added.{added-as}
 use Rattle.answers.specs.Answer.{Answer, value, refused}
 use Rattle.text_refusal_lines.specs.Lines.{refusalLines}
@@ -29,7 +29,7 @@ use Rattle.text_state_lines.specs.Told.{statesText, StatesTold}
 use Rattle.text_preview_lines.specs.Told as previews
 use Rattle.text_preview_lines.specs.Told.{PreviewTold}
 use Rattle.text_answer_lines.specs.Texts.{textBy}
-use Rattle.text_answer_lines.specs.Told.{Told, Settled}
+use Rattle.text_answer_lines.specs.inner.Told.{Told, Settled}
 use Rattle.text_answer_lines.proofs.Areas.{overwritten}
 use Rattle.text_answer_lines.proofs.Settling.{settled-told, tells-text}
 use Rattle.text_run_words.specs.Runs as runs

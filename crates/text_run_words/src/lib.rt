@@ -3,9 +3,9 @@ pub mod told; // told.rt: plays, their logs and their threads' states, and previ
 
 ghost use Prim.Native.Nat.{_≤_};
 ghost use lib.ListN.{length};
-ghost use Rattle.text.specs.Wrote.{Wrote};
+ghost use Rattle.text.specs.inner.Wrote.{Wrote};
 ghost use Rattle.answers.specs.Answer.{answered};
-ghost use Rattle.text_answer_lines.specs.Told.{Told};
+ghost use Rattle.text_answer_lines.specs.inner.Told.{Told};
 ghost use Rattle.text_run_words.specs.Texts.{centsLines, chargeLines, chargeText, WitnessText};
 use answers::Answered;
 

@@ -1,8 +1,8 @@
 // A play, its log, its threads' states and a preview, in words or in bytes, or the lines of what refuses them, at the start of an area.
 ghost use Prim.Native.Nat.{_≤_};
 ghost use lib.ListN.{length};
-ghost use Rattle.text.specs.Wrote.{Wrote};
-ghost use Rattle.text_answer_lines.specs.Told.{Told};
+ghost use Rattle.text.specs.inner.Wrote.{Wrote};
+ghost use Rattle.text_answer_lines.specs.inner.Told.{Told};
 ghost use Rattle.text_run_words.specs.Runs.{PlayText, threadsText, previewText, logText};
 use plan_refusals::Checked;
 

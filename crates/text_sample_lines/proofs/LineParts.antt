@@ -10,7 +10,7 @@ use Rattle.log_records.specs.Record.{Kind, new, read, write, readv, writev, acq
 use Rattle.text.specs.Text.{decimal}
 use Rattle.text.proofs.Decimals.{decimal-digit}
 use Rattle.text_sample_lines.specs.DataFile.{oneIfAcquire, lastOf, digital, commaLine, digitalsFrom, sampleLine}
-use Rattle.text_sample_lines.specs.Shown.{bitOf, Shown, shownTo, lineOf}
+use Rattle.text_sample_lines.specs.inner.Shown.{bitOf, Shown, shownTo, lineOf}
 use Rattle.text_sample_lines.proofs.Digits.{one-length}
 use Rattle.text_sample_lines.proofs.ShownBits.{bit-below}
 

@@ -14,7 +14,7 @@ use Rattle.run_keys.specs.Keys.{holds}
 use Rattle.run_keys.proofs.KeyLaws.{holds-empty, holds-singleton}
 use Rattle.log_records.specs.Record.{acquire, release, Record}
 use Rattle.text_sample_lines.specs.DataFile.{ofMonitor, lastOf, digital}
-use Rattle.text_sample_lines.specs.Shown.{bitOf, Shown}
+use Rattle.text_sample_lines.specs.inner.Shown.{bitOf, Shown}
 use Rattle.text_sample_lines.proofs.Digital.{taken-one, freed-zero, other-object, other-kind}
 
 -- ---- bits

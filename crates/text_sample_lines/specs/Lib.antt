@@ -1,2 +1,2 @@
 pub mod DataFile
-pub mod Shown
+pub mod inner

@@ -6,10 +6,10 @@ ghost use mathlib.Core.List.{List, [], _∷_, _++_};
 ghost use lib.ListN.{length};
 ghost use Rattle.log_records.specs.Record.{Record};
 ghost use Rattle.text.specs.Text.{decimal};
-ghost use Rattle.text.specs.Wrote.{Wrote};
-ghost use Rattle.log_decoding.specs.Columns.{Narrow};
-ghost use Rattle.text_record_lines.specs.Columns.{recordOf};
-ghost use Rattle.text_sample_lines.specs.Shown.{Shown, shownTo, lineOf};
+ghost use Rattle.text.specs.inner.Wrote.{Wrote};
+ghost use Rattle.log_decoding.specs.inner.Columns.{Narrow};
+ghost use Rattle.text_record_lines.specs.inner.Columns.{recordOf};
+ghost use Rattle.text_sample_lines.specs.inner.Shown.{Shown, shownTo, lineOf};
 use log_decoding::Columns;
 use log_records::kind;
 

@@ -22,11 +22,11 @@ use Rattle.play.specs.Answer.{statusOf, outcomeOf, answeredBy, answered}
 use Rattle.play.proofs.Ran.{not-refused, ran-is, outcome-is}
 use Rattle.charge.proofs.Charged.{long-area}
 use Rattle.answers.specs.Answer.{Answer}
-use Rattle.text.specs.Wrote.{Wrote}
+use Rattle.text.specs.inner.Wrote.{Wrote}
 use Rattle.text.proofs.Added.{added-as, added-whole}
 use Rattle.text_state_lines.specs.Lines.{stateLines}
 use Rattle.text_state_lines.specs.Told.{statesText, StatesTold, refuses, tells}
-use Rattle.text_state_lines.specs.Threads.{threadLines}
+use Rattle.text_state_lines.specs.inner.Threads.{threadLines}
 use Rattle.text_state_lines.proofs.ThreadTexts.{lines-are}
 
 statuses-count : (g : Program) (s : State) (p n : ℕ) → length (run.statusesFrom g s p n) ≡ n

@@ -10,7 +10,7 @@ use Rattle.play.specs.Answer.{statusOf}
 use Rattle.text_phrases.specs.Phrase.{phrase}
 use Rattle.text_status_words.specs.Words.{statusWords}
 use Rattle.text_state_lines.specs.Lines.{isAbsent, presentLine, stateLine}
-use Rattle.text_state_lines.specs.Threads.{notThere}
+use Rattle.text_state_lines.specs.inner.Threads.{notThere}
 
 pub present-parts : (p : ℕ) (s : Status) (total : ℕ)
     → ((phrase "thread " p ++ statusWords s) ++ phrase "; keys learnt: " total) ++ (10 ∷ []) ≡ presentLine p s total

@@ -8,7 +8,7 @@ use lib.ListN.{length, getD, take}
 use Rattle.run_outcome.specs.declared.Thread.{Thread}
 use Rattle.play.specs.Answer.{statusOf}
 use Rattle.text_state_lines.specs.Lines.{stateLine, stateLines}
-use Rattle.text_state_lines.specs.Threads.{threadLines}
+use Rattle.text_state_lines.specs.inner.Threads.{threadLines}
 
 -- the line of one thread
 abbrev pub lineOf : ℕ → Thread → List ℕ

@@ -2,7 +2,7 @@
 ghost use Prim.Native.Nat.{_+_, _≤_};
 ghost use lib.ListN.{length};
 ghost use Rattle.play.specs.Answer.{waitOf, stuckOf, statusOf};
-ghost use Rattle.text.specs.Wrote.{Wrote};
+ghost use Rattle.text.specs.inner.Wrote.{Wrote};
 ghost use Rattle.text_status_words.specs.Words.{waitWords, stuckWords, statusWords};
 use run_outcome::Stuck;
 use run_outcome::ThreadState;

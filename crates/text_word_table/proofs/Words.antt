@@ -6,7 +6,7 @@ use mathlib.Core.Path.{_≡_, refl, sym, ap, _∙_}
 use mathlib.Core.List.{List, [], _∷_, _++_}
 use lib.ListN.{length, length-append, getD, take, drop}
 use lib.Seq.{take-append-seam, drop-append-add}
-use Rattle.text_word_table.specs.Table.{joined, startsFrom, Table, wordAt, Room}
+use Rattle.text_word_table.specs.inner.Table.{joined, startsFrom, Table, wordAt, Room}
 
 -- the next word begins where a word ends
 next-start : (a : ℕ) (ws : List (List ℕ)) (n : ℕ) → n < length ws → getD (startsFrom a ws) (suc n) 0 ≡ getD (startsFrom a ws) n 0 + length (getD ws n [])

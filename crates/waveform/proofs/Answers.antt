@@ -14,7 +14,7 @@ use Rattle.log_records.specs.Record.{Record}
 use Rattle.log_records.specs.Packed.{recordCount, logOf}
 use Rattle.log_records.specs.Refusals.{logChecks, logRefusal}
 use Rattle.log_records.proofs.RoundTrip.{count-log}
-use Rattle.text.specs.Wrote.{Wrote}
+use Rattle.text.specs.inner.Wrote.{Wrote}
 use Rattle.text.proofs.Added.{added-whole}
 use Rattle.answers.specs.Answer.{Answer, value, refused, answerBy}
 use Rattle.text_sample_lines.specs.DataFile.{sampleLines, dataFile}

@@ -13,7 +13,7 @@ use Rattle.text_sample_lines.specs.DataFile.{sampleLine, sampleLines, dataFile}
 use Rattle.text_sample_lines.proofs.Digits.{one-length, more-length, thousand-length}
 use Rattle.text_sample_lines.proofs.LineParts.{sample-length}
 use Rattle.waveform.specs.Comtrade.{fileOf}
-use Rattle.waveform.specs.Lengths.{digitsTo, lengthFor}
+use Rattle.waveform.specs.inner.Lengths.{digitsTo, lengthFor}
 
 -- ---- how many digits a number has
 

@@ -4,10 +4,10 @@ use mathlib.Core.List.{List, [], _∷_, _++_}
 use lib.ListN.{length, take}
 use Rattle.log_records.specs.Packed.{logOf}
 use Rattle.log_decoding.specs.declared.Columns.{Columns}
-use Rattle.log_decoding.specs.Columns.{ReadAt}
-use Rattle.text_record_lines.specs.Columns.{recordOf}
+use Rattle.log_decoding.specs.inner.Columns.{ReadAt}
+use Rattle.text_record_lines.specs.inner.Columns.{recordOf}
 use Rattle.text_record_lines.proofs.FirstRecords.{first-more, columns-are}
-use Rattle.text_sample_lines.specs.Shown.{Shown}
+use Rattle.text_sample_lines.specs.inner.Shown.{Shown}
 
 -- the bits after the record
 pub shown-next : (b : List ℕ) (i : ℕ) → i < length b / 3 → (r : Columns) (x : ℕ) → ReadAt b i r → Shown x (take i (logOf b) ++ (recordOf r ∷ []))

@@ -1,7 +1,7 @@
 // The length of a data file, by the count of records alone.
 ghost use Prim.Native.Nat.{_-_, _≤_};
 ghost use mathlib.Core.Path.{_≡_};
-ghost use Rattle.waveform.specs.Lengths.{digitsTo, lengthFor};
+ghost use Rattle.waveform.specs.inner.Lengths.{digitsTo, lengthFor};
 
 // How far a number is past a limit.
 fn past(number: usize, limit: usize) -> usize

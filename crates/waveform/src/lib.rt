@@ -5,7 +5,7 @@ ghost use Prim.Native.Nat.{_<_, _≤_};
 ghost use mathlib.Core.Path.{_≡_};
 ghost use lib.ListN.{length};
 ghost use Rattle.log_records.specs.Packed.{logOf, recordCount};
-ghost use Rattle.text.specs.Wrote.{Wrote};
+ghost use Rattle.text.specs.inner.Wrote.{Wrote};
 ghost use Rattle.answers.specs.Answer.{answered};
 ghost use Rattle.text_sample_lines.specs.DataFile.{sampleLines};
 ghost use Rattle.waveform.specs.Comtrade.{fileOf, comtradeAnswer, comtradeArea};

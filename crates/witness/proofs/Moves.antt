@@ -26,7 +26,7 @@ use Rattle.run_outcome.proofs.Stop as stop-type
 use Rattle.run_outcome.specs.declared.Stop as code-stop
 use Rattle.run_outcome.specs.declared.Stop.the-variants as stop
 use Rattle.play.specs.Answer.{stopOf}
-use Rattle.play.specs.RunOn.{Given, MovesOn}
+use Rattle.play.specs.inner.RunOn.{Given, MovesOn}
 use Rattle.run_engine.specs.declared.Ran.{Ran}
 use Rattle.answers.specs.Answer.{Answer}
 use Rattle.side_by_side.specs.Moves.{movesOf}
@@ -35,11 +35,11 @@ use Rattle.side_by_side.specs.SideBySide.{WrittenFrom, Written, SideBySide}
 use Rattle.side_by_side.proofs.TidyMoves.{tidy-moves}
 use Rattle.side_by_side.proofs.Written.{written-once}
 use Rattle.side_by_side.proofs.Plans.{plan-from-race, plan-unordered}
-use Rattle.log_schedule_writer.specs.Kept.{Small}
-use Rattle.log_schedule_writer.specs.WritesFrom as writes
-use Rattle.log_schedule_writer.specs.WritesFrom.{RacedIn, WritesFrom}
+use Rattle.log_schedule_writer.specs.inner.Kept.{Small}
+use Rattle.log_schedule_writer.specs.inner.WritesFrom as writes
+use Rattle.log_schedule_writer.specs.inner.WritesFrom.{RacedIn, WritesFrom}
 use Rattle.witness.specs.Witness.{noMissingKey, raceRefusal, Witnesses, refused, too-short, wrote}
-use Rattle.witness.specs.Passing.{Loads, Passing}
+use Rattle.witness.specs.inner.Passing.{Loads, Passing}
 use Rattle.witness.proofs.Refusals.{by-16, by-none}
 
 -- a stop that is no race

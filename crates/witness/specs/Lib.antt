@@ -1,3 +1,3 @@
 pub mod Witness
-pub mod Passing
 pub mod Running
+pub mod inner

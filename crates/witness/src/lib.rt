@@ -4,7 +4,7 @@ ghost use mathlib.Core.Path.{_≡_};
 ghost use Rattle.answers.specs.Answer.{answered};
 ghost use Rattle.side_by_side.specs.LeftOut.{leftOut};
 ghost use Rattle.witness.specs.Witness.{Witnesses};
-ghost use Rattle.witness.specs.Passing.{Loads, Passing};
+ghost use Rattle.witness.specs.inner.Passing.{Loads, Passing};
 use answers::Answered;
 use plan_header::layout;
 use plan_operands::tags;

@@ -1,5 +1,5 @@
 -- `abi_outcome::write_head` meets its contract: what it stores is what its callees ensure. Assumes nothing.
-use Rattle.abi_outcome.specs.Parts.{headBytes}
+use Rattle.abi_outcome.specs.inner.Parts.{headBytes}
 use borrow.Author.Needs.{needs}
 use Rattle.abi_outcome.proofs.write_head.Statement.{statement}
 use Rattle.abi_outcome.proofs.write_head.Tie as tie

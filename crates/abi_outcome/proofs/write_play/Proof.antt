@@ -4,7 +4,7 @@ use borrow.Author.Needs.{needs}
 use Rattle.plan_refusals.specs.declared.Checked.{Checked}
 use Rattle.play.specs.Answer.{answeredBy, answered}
 use Rattle.abi_convention.proofs.Wider.{wider}
-use Rattle.abi_outcome.specs.Small.{SmallPlayed}
+use Rattle.abi_outcome.specs.inner.Small.{SmallPlayed}
 use Rattle.abi_outcome.specs.Play.{playNumber, outAfter}
 use Rattle.abi_outcome.proofs.write_play.Statement.{statement}
 use Rattle.abi_outcome.proofs.write_play.Tie as tie

@@ -1,7 +1,7 @@
 -- `write` meets its contract. Assumes nothing.
 use native.Mathlib.Omega.{arith}
 use mathlib.Core.Path.{ap, _∙_}
-use Rattle.canonical.specs.Begun.{treesWritten}
+use Rattle.canonical.specs.inner.Begun.{treesWritten}
 use Rattle.canonical.proofs.Procedures.{long-plan}
 use Rattle.canonical.proofs.Whole.{area-whole}
 use borrow.Author.Needs.{needs}

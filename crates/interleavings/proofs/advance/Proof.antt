@@ -7,7 +7,7 @@ use lib.ListN.{take, replicate}
 use borrow.Author.Needs.{needs}
 use Rattle.plan_packed.specs.Trees.{programOf}
 use Rattle.interleavings.specs.declared.Next.the-variants as next
-use Rattle.interleavings.specs.Steps.{Followed}
+use Rattle.interleavings.specs.inner.Steps.{Followed}
 use Rattle.interleavings.proofs.Counting.{to-note, to-follow, at-end, written-fits, written-room, stands-next}
 use Rattle.interleavings.proofs.advance.Statement.{statement}
 use Rattle.interleavings.proofs.advance.Tie as tie

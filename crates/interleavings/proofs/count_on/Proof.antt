@@ -4,7 +4,7 @@ use native.Mathlib.Omega.{arith}
 use mathlib.Core.Path.{_≡_, refl, sym, subst as along}
 use lib.ListN.{length}
 use borrow.Author.Needs.{needs}
-use Rattle.interleavings.specs.Steps.{Stands, Advanced}
+use Rattle.interleavings.specs.inner.Steps.{Stands, Advanced}
 use Rattle.interleavings.proofs.Counting.{longer}
 use Rattle.interleavings.proofs.count_on.Statement.{statement}
 use Rattle.interleavings.proofs.count_on.Tie as tie

@@ -7,10 +7,10 @@ use lib.ListN.{length, take}
 use borrow.Author.Needs.{needs}
 use Rattle.plan_packed.specs.Syntax.{Program}
 use Rattle.plan_packed.specs.Trees.{programOf}
-use Rattle.text.specs.Wrote.{Wrote}
+use Rattle.text.specs.inner.Wrote.{Wrote}
 use Rattle.text.proofs.Added.{added-more}
-use Rattle.run_place_notes.specs.Notes.{LastDeparture}
-use Rattle.interleavings.specs.Steps.{TurnsAt}
+use Rattle.run_place_notes.specs.inner.Notes.{LastDeparture}
+use Rattle.interleavings.specs.inner.Steps.{TurnsAt}
 use Rattle.interleavings.proofs.GoingBack.{none-higher-at, turns-at, over}
 use Rattle.interleavings.proofs.Answers.{turn-fits, begins, followed}
 use Rattle.interleavings.proofs.following.Statement.{statement}

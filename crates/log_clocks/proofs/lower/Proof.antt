@@ -1,5 +1,5 @@
 -- `log_clocks::lower` meets its contract. The invariant: whether one of the clocks so far is lower. The measure is the count of clocks left. Assumes nothing.
-use Rattle.log_clocks.specs.Rows.{Row, clockOf, lowerOf}
+use Rattle.log_clocks.specs.inner.Rows.{Row, clockOf, lowerOf}
 use native.Mathlib.Omega.{arith}
 use native.Mathlib.Numerals.{add-one}
 use mathlib.Core.Bool.{Bool, false, _||_}

@@ -1,6 +1,6 @@
 -- `log_clocks::raised` meets its contract. The invariant: the clocks so far are the higher of two. The measure is the count of clocks left. Assumes nothing.
 use Rattle.format.proofs.Filled.{filled}
-use Rattle.log_clocks.specs.Rows.{clockOf}
+use Rattle.log_clocks.specs.inner.Rows.{clockOf}
 use lib.ListN.{length, getD, length-set, length-replicate}
 use native.Mathlib.Omega.{arith}
 use mathlib.Core.Path.{_≡_}

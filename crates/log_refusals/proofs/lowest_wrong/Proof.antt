@@ -1,7 +1,7 @@
 -- `log_refusals::lowest_wrong` meets its contract. The invariant: no record so far is wrong. The measure is the count of records left. Assumes nothing.
 use Rattle.log_records.specs.Refusals.{wrongRecord}
 use Rattle.log_records.specs.Packed.{recordCount}
-use Rattle.log_refusals.specs.Limits.{leastBits, zeroBits}
+use Rattle.log_refusals.specs.inner.Limits.{leastBits, zeroBits}
 use Rattle.log_refusals.proofs.WrongRecords.{early-table, last-table}
 use borrow.Author.Count.{below-more}
 use lib.ListN.{length}

@@ -4,7 +4,7 @@ use native.Mathlib.Omega.{arith}
 use mathlib.Core.Path.{_≡_, refl, sym, ap, _∙_}
 use mathlib.Core.Logic.{⊎-elim}
 use borrow.Author.Needs.{needs}
-use Rattle.log_schedule_writer.specs.Kept.{flagged, countKept}
+use Rattle.log_schedule_writer.specs.inner.Kept.{flagged, countKept}
 use Rattle.log_schedule_writer.proofs.Counts.{counted-one, counted-none, none-left}
 use Rattle.log_schedule_writer.proofs.count.Statement.{statement}
 use Rattle.log_schedule_writer.proofs.count.Tie as tie

@@ -4,7 +4,7 @@ use mathlib.Core.Option.{some, none}
 use native.Mathlib.Omega.{arith}
 use borrow.Author.Needs.{needs}
 use Rattle.format.specs.Refusal.{lowest, refuse, firstRefusal}
-use Rattle.format.specs.Lowest.{Lowest}
+use Rattle.format.specs.inner.Lowest.{Lowest}
 use Rattle.format.proofs.LowestLaws.{found-none, missed, struck}
 use Rattle.plan_packed.specs.Format.{terms}
 use Rattle.plan_packed.specs.Refusals.{wronglySorted, notNamedOnce}

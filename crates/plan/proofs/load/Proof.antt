@@ -7,7 +7,7 @@ use Rattle.format.specs.Refusal.{lowest}
 use Rattle.format.proofs.LowestLaws.{missed, struck}
 use Rattle.plan_packed.specs.Format.{terms}
 use Rattle.plan_packed.specs.Refusals.{wrongTerm}
-use Rattle.plan_packed.specs.Steps.{Headed}
+use Rattle.plan_packed.specs.inner.Steps.{Headed}
 use Rattle.plan_packed.proofs.Shown.{make-headed, make-right}
 use Rattle.plan_refusals.proofs.Stages.{passed-refused}
 use Rattle.plan.proofs.Stages.{by-header, headed, by-term, by-trees, loaded-as}

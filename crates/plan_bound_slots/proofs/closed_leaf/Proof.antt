@@ -1,7 +1,7 @@
 -- `closed_leaf`: null and new use no slot, a variable its own.
 use mathlib.Core.Path.{sym, _∙_}
 use borrow.Author.Needs.{needs}
-use Rattle.plan_packed.specs.Steps.{slots}
+use Rattle.plan_packed.specs.inner.Steps.{slots}
 use Rattle.plan_packed.proofs.Walk.{leaf-closed, leaf-variable}
 use Rattle.plan_bound_slots.proofs.closed_leaf.Statement.{statement}
 use Rattle.plan_bound_slots.proofs.closed_leaf.Tie as tie

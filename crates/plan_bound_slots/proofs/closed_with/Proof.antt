@@ -6,7 +6,7 @@ use mathlib.Core.Bool.{Bool}
 use lib.Pow.{pow-pos}
 use Rattle.format.proofs.BitLaws.{shl-one}
 use Rattle.plan_packed.specs.Slots.{closed}
-use Rattle.plan_packed.specs.Steps.{slots, treeIn}
+use Rattle.plan_packed.specs.inner.Steps.{slots, treeIn}
 use Rattle.plan_packed.proofs.SlotMasks.{parameters-are}
 use borrow.Author.Needs.{needs}
 use Rattle.plan_bound_slots.proofs.closed_with.Statement.{statement}

@@ -1,5 +1,5 @@
 -- `told`: by the bool.
-use Rattle.plan_bound_slots.specs.Left.{told}
+use Rattle.plan_bound_slots.specs.inner.Left.{told}
 use Rattle.plan_bound_slots.proofs.told.Statement.{statement}
 use Rattle.plan_bound_slots.proofs.told.Tie as tie
 

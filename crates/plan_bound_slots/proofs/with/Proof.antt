@@ -1,7 +1,7 @@
 -- `with`: by the slot, 15 or another.
 use borrow.Author.Needs.{needs}
 use borrow.Author.Tests.{eq-eqb, ne-eqb}
-use Rattle.plan_packed.specs.Steps.{withSlot}
+use Rattle.plan_packed.specs.inner.Steps.{withSlot}
 use Rattle.format.proofs.BitLaws.{shl-one}
 use Rattle.plan_bound_slots.proofs.with.Statement.{statement}
 use Rattle.plan_bound_slots.proofs.with.Tie as tie

@@ -6,12 +6,12 @@ use mathlib.Core.Path.{_≡_, sym, ap, _∙_}
 use mathlib.Core.List.{List, [], _++_}
 use lib.ListN.{length, drop, length-append}
 use borrow.Author.Needs.{needs}
-use Rattle.text.specs.Wrote.{Wrote}
+use Rattle.text.specs.inner.Wrote.{Wrote}
 use Rattle.text.proofs.Added.{added-none, added-more, added-as, added-whole}
 use Rattle.format.specs.Area.{overwrite}
 use Rattle.plan_notation.specs.Layout.{Pen, laidFrom, laidOut}
 use Rattle.plan_notation.proofs.Widths.{few-bytes}
-use Rattle.plan_pen.specs.Pens.{penOf}
+use Rattle.plan_pen.specs.inner.Pens.{penOf}
 use Rattle.plan_pen.proofs.PenLaws.{next-column, next-depth}
 use Rattle.plan_layout.proofs.LaidLaws.{laid-on, room, laid-none}
 use Rattle.plan_layout.proofs.lay_out.Statement.{statement}

@@ -7,7 +7,7 @@ use lib.ListN.{length, drop}
 use borrow.Author.Needs.{needs}
 use Rattle.plan_notation.specs.Layout.{Pen, laidFrom, laidOut}
 use Rattle.plan_notation.proofs.Widths.{few-bytes}
-use Rattle.plan_pen.specs.Pens.{penOf}
+use Rattle.plan_pen.specs.inner.Pens.{penOf}
 use Rattle.plan_pen.proofs.PenLaws.{next-column, next-depth}
 use Rattle.plan_layout.proofs.LaidLaws.{gap-short, laid-length, laid-none}
 use Rattle.plan_layout.proofs.length.Statement.{statement}

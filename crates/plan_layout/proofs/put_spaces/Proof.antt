@@ -4,7 +4,7 @@ use native.Mathlib.Omega.{arith}
 use mathlib.Core.Path.{_≡_, ap}
 use lib.ListN.{replicate, length-replicate, replicate-append-replicate}
 use borrow.Author.Needs.{needs}
-use Rattle.text.specs.Wrote.{Wrote}
+use Rattle.text.specs.inner.Wrote.{Wrote}
 use Rattle.text.proofs.Added.{added-none, added-more, added-as}
 use Rattle.plan_layout.proofs.put_spaces.Statement.{statement}
 use Rattle.plan_layout.proofs.put_spaces.Tie as tie

@@ -7,7 +7,7 @@ use mathlib.Core.List.{[], _∷_, _++_}
 use lib.ListN.{length, take}
 use lib.Seq.{take-suc, take-all, length-take-le}
 use borrow.Author.Needs.{needs}
-use Rattle.text.specs.Wrote.{Wrote}
+use Rattle.text.specs.inner.Wrote.{Wrote}
 use Rattle.text.proofs.Added.{added-none, added-more, added-as}
 use Rattle.plan_notation.specs.Tokens.{textOf}
 use Rattle.plan_layout.proofs.put_token.Statement.{statement}

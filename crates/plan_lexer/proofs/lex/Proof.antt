@@ -6,8 +6,8 @@ use mathlib.Core.List.{List, [], _++_}
 use lib.ListN.{length, drop}
 use borrow.Author.Needs.{needs}
 use Rattle.plan_notation.specs.Lexing.{tokensFrom, codesOf}
-use Rattle.plan_token_automaton.specs.Begun.{begunOf}
-use Rattle.plan_token_automaton.specs.Ended.{coded}
+use Rattle.plan_token_automaton.specs.inner.Begun.{begunOf}
+use Rattle.plan_token_automaton.specs.inner.Ended.{coded}
 use Rattle.plan_lexer.specs.Kept.{Kept}
 use Rattle.plan_lexer.proofs.TurnLaws.{codes, one-byte, no-byte, codes-on, codes-last}
 use Rattle.plan_lexer.proofs.KeptLaws.{kept-none, kept-as}

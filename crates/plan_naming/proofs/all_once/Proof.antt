@@ -7,7 +7,7 @@ use lib.Dec.{eqb}
 use lib.ListN.{getD}
 use borrow.Author.Needs.{needs}
 use borrow.Author.Count.{below-more}
-use Rattle.plan_packed.specs.Steps.{notOnce}
+use Rattle.plan_packed.specs.inner.Steps.{notOnce}
 use Rattle.plan_naming.proofs.all_once.Statement.{statement}
 use Rattle.plan_naming.proofs.all_once.Tie as tie
 

@@ -4,7 +4,7 @@ use Prim.Native.Nat.{ℕ, _-_, _<_, _≤_}
 use native.Mathlib.Omega.{arith}
 use borrow.Author.Tests.{eq-eqb, ne-eqb}
 use Rattle.format.proofs.LowestLaws.{found, found-none}
-use Rattle.plan_packed.specs.Steps.{notOnce}
+use Rattle.plan_packed.specs.inner.Steps.{notOnce}
 use borrow.Author.Count.{below-more}
 use mathlib.Core.Bool.{false}
 use borrow.Author.Needs.{needs}

@@ -1,6 +1,6 @@
 -- `name`: the list of one name.
 use borrow.Author.Needs.{needs}
-use Rattle.plan_packed.specs.Steps.{lowerAll, countAll}
+use Rattle.plan_packed.specs.inner.Steps.{lowerAll, countAll}
 use Rattle.plan_naming.proofs.name.Statement.{statement}
 use Rattle.plan_naming.proofs.name.Tie as tie
 

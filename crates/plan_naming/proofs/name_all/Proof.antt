@@ -4,8 +4,8 @@ use borrow.Author.Needs.{needs}
 use native.Mathlib.Omega.{arith}
 use Prim.Native.Nat.{_-_, _≤_}
 use native.Mathlib.Numerals.{add-one}
-use Rattle.format.specs.Lowest.{Lowest}
-use Rattle.plan_packed.specs.Steps.{Counted, faults, allTimes}
+use Rattle.format.specs.inner.Lowest.{Lowest}
+use Rattle.plan_packed.specs.inner.Steps.{Counted, faults, allTimes}
 use Rattle.plan_packed.proofs.SortLaws.{no-faults, one-term, all-faults}
 use Rattle.plan_packed.proofs.NameLaws.{no-terms, term-step}
 use Rattle.plan_packed.proofs.RowLaws.{tagged}

@@ -5,7 +5,7 @@ use native.Mathlib.Omega.{arith}
 use borrow.Author.Needs.{needs}
 use lib.ListN.{getD}
 use Rattle.plan_packed.specs.Format.{tagCount}
-use Rattle.plan_packed.specs.Steps.{tagIn, lowerAll, countAll}
+use Rattle.plan_packed.specs.inner.Steps.{tagIn, lowerAll, countAll}
 use Rattle.plan_packed.proofs.RowLaws.{no-child, one-child, two-children, three-children, lower-more, count-more, named-by-row}
 use Rattle.plan_naming.proofs.name_children.Statement.{statement}
 use Rattle.plan_naming.proofs.name_children.Tie as tie

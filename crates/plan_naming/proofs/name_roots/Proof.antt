@@ -4,8 +4,8 @@ use borrow.Author.Needs.{needs}
 use native.Mathlib.Omega.{arith}
 use Prim.Native.Nat.{_-_, _≤_}
 use native.Mathlib.Numerals.{add-one}
-use Rattle.format.specs.Lowest.{Lowest}
-use Rattle.plan_packed.specs.Steps.{Counted, misplacedRoot, rootTimes}
+use Rattle.format.specs.inner.Lowest.{Lowest}
+use Rattle.plan_packed.specs.inner.Steps.{Counted, misplacedRoot, rootTimes}
 use Rattle.plan_packed.proofs.Reading.{procedures-lt}
 use Rattle.plan_packed.proofs.Shown.{root-below}
 use Rattle.plan_packed.proofs.SortLaws.{no-root, one-root}

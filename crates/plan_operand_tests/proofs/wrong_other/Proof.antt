@@ -4,7 +4,7 @@ use mathlib.Core.Bool.{Bool}
 use Prim.Native.Nat.{ℕ}
 use native.Mathlib.Omega.{arith}
 use borrow.Author.Needs.{needs}
-use Rattle.plan_packed.specs.Rows.{bitsTo, wrongOther}
+use Rattle.plan_packed.specs.inner.Rows.{bitsTo, wrongOther}
 use Rattle.plan_operand_tests.proofs.wrong_other.Statement.{statement}
 use Rattle.plan_operand_tests.proofs.wrong_other.Tie as tie
 

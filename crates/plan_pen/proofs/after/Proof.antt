@@ -1,6 +1,6 @@
 -- `after` meets its contract: on the next line or on the same. Assumes nothing.
 use borrow.Author.Needs.{needs}
-use Rattle.plan_pen.specs.Pens.{penOf}
+use Rattle.plan_pen.specs.inner.Pens.{penOf}
 use Rattle.plan_pen.proofs.PenLaws.{pen-is, on-next, on-same}
 use Rattle.plan_pen.proofs.after.Statement.{statement}
 use Rattle.plan_pen.proofs.after.Tie as tie

@@ -3,7 +3,7 @@ use native.Mathlib.Omega.{arith}
 use native.Mathlib.Numerals.{add-one}
 use borrow.Author.Needs.{needs}
 use Rattle.plan_notation.specs.Layout.{depthAfter}
-use Rattle.plan_pen.specs.Pens.{penOf}
+use Rattle.plan_pen.specs.inner.Pens.{penOf}
 use Rattle.plan_pen.proofs.PenLaws.{depth-before-below}
 use Rattle.plan_pen.proofs.depth_after.Statement.{statement}
 use Rattle.plan_pen.proofs.depth_after.Tie as tie

@@ -2,7 +2,7 @@
 use native.Mathlib.Numerals.{add-one}
 use lib.ListN.{length-replicate}
 use borrow.Author.Needs.{needs}
-use Rattle.plan_pen.specs.Pens.{gapBytes}
+use Rattle.plan_pen.specs.inner.Pens.{gapBytes}
 use Rattle.plan_pen.proofs.length_of.Statement.{statement}
 use Rattle.plan_pen.proofs.length_of.Tie as tie
 

@@ -3,7 +3,7 @@ use mathlib.Core.Path.{_≡_, refl, sym}
 use mathlib.Core.Bool.{Bool, true, false, _&&_}
 use lib.Dec.{ltb}
 use borrow.Author.Tests.{lt-ltb, le-ltb}
-use Rattle.plan_reader.specs.Reading.{isNext}
+use Rattle.plan_reader.specs.inner.Reading.{isNext}
 use borrow.Author.Needs.{needs}
 use Rattle.plan_reader.proofs.is_next.Statement.{statement}
 use Rattle.plan_reader.proofs.is_next.Tie as tie

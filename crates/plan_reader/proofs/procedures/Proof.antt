@@ -1,7 +1,7 @@
 -- `procedures` meets its contract. The invariant: the procedures before this one have been read. Assumes nothing.
 use Prim.Native.Nat.{_-_}
 use native.Mathlib.Numerals.{add-one}
-use Rattle.plan_reader.specs.Reading.{faultOf, Going}
+use Rattle.plan_reader.specs.inner.Reading.{faultOf, Going}
 use Rattle.plan_reader.proofs.OneMore.{too-many}
 use Rattle.plan_reader.proofs.Steps.{on-going, last-plan, stop-fault}
 use borrow.Author.Needs.{needs}

@@ -1,6 +1,6 @@
 -- `read_plan` meets its contract. Assumes nothing.
 use native.Mathlib.Omega.{arith}
-use Rattle.plan_reader.specs.Reading.{faultOf}
+use Rattle.plan_reader.specs.inner.Reading.{faultOf}
 use Rattle.plan_reader.proofs.Counts.{counts-few, first-counts}
 use Rattle.plan_reader.proofs.OneMore.{starts}
 use borrow.Author.Needs.{needs}

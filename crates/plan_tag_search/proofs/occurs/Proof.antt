@@ -8,7 +8,7 @@ use borrow.Author.Count.{below-more}
 use borrow.Author.Needs.{needs}
 use borrow.Author.Tests.{eq-eqb, ne-eqb}
 use Rattle.plan_packed.specs.Refusals.{anyBelow}
-use Rattle.plan_packed.specs.Steps.{tagIn}
+use Rattle.plan_packed.specs.inner.Steps.{tagIn}
 use Rattle.costs.proofs.Below.{any-true, none-any}
 use Rattle.plan_tag_search.proofs.occurs.Statement.{statement}
 use Rattle.plan_tag_search.proofs.occurs.Tie as tie

@@ -1,7 +1,7 @@
 -- `binder` meets its contract. Assumes nothing.
 use native.Mathlib.Omega.{arith}
 use borrow.Author.Tests.{eq-eqb, ne-eqb}
-use Rattle.plan_token_writer.specs.Items.{binderOn}
+use Rattle.plan_token_writer.specs.inner.Items.{binderOn}
 use borrow.Author.Needs.{needs}
 use Rattle.plan_token_writer.proofs.binder.Statement.{statement}
 use Rattle.plan_token_writer.proofs.binder.Tie as tie

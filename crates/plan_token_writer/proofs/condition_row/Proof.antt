@@ -2,7 +2,7 @@
 use Prim.Native.Nat.{ℕ, _≤_, _<_}
 use native.Mathlib.Omega.{arith}
 use borrow.Author.Tests.{lt-ltb, le-ltb}
-use Rattle.plan_token_writer.specs.Items.{conditionRow}
+use Rattle.plan_token_writer.specs.inner.Items.{conditionRow}
 use borrow.Author.Needs.{needs}
 use Rattle.plan_token_writer.proofs.condition_row.Statement.{statement}
 use Rattle.plan_token_writer.proofs.condition_row.Tie as tie

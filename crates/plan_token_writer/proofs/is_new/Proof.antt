@@ -1,6 +1,6 @@
 -- `is_new` meets its contract. Assumes nothing.
 use borrow.Author.Tests.{lt-ltb, le-ltb}
-use Rattle.plan_token_writer.specs.Items.{isNew}
+use Rattle.plan_token_writer.specs.inner.Items.{isNew}
 use borrow.Author.Needs.{needs}
 use Rattle.plan_token_writer.proofs.is_new.Statement.{statement}
 use Rattle.plan_token_writer.proofs.is_new.Tie as tie

@@ -2,7 +2,7 @@
 use Prim.Native.Nat.{ℕ, _+_}
 use native.Mathlib.Omega.{arith}
 use mathlib.Core.Path.{_≡_, sym, ap, _∙_}
-use Rattle.plan_token_writer.specs.Items.{token, child, binderOn, itemOf}
+use Rattle.plan_token_writer.specs.inner.Items.{token, child, binderOn, itemOf}
 use Rattle.plan_token_writer.proofs.Operands.{item-token, item-child}
 use borrow.Author.Needs.{needs}
 use Rattle.plan_token_writer.proofs.item.Statement.{statement}

@@ -2,7 +2,7 @@
 use mathlib.Core.Path.{_≡_, sym, ap, _∙_}
 use Prim.Native.Nat.{ℕ, _%_, _<_}
 use native.Mathlib.Omega.{arith}
-use Rattle.plan_token_writer.specs.Items.{operandBy}
+use Rattle.plan_token_writer.specs.inner.Items.{operandBy}
 use Rattle.plan_token_writer.proofs.Operands.{below, no-operand}
 use borrow.Author.Needs.{needs}
 use Rattle.plan_token_writer.proofs.operand.Statement.{statement}

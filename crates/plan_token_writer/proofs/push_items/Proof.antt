@@ -3,7 +3,7 @@ use Prim.Native.Nat.{ℕ, _+_, _-_, _≤_}
 use native.Mathlib.Omega.{arith}
 use mathlib.Core.Path.{sym, ap, _∙_}
 use mathlib.Core.List.{[], _∷_}
-use Rattle.plan_token_writer.specs.Items.{itemOf, rowNumber, itemsFrom, Pushed}
+use Rattle.plan_token_writer.specs.inner.Items.{itemOf, rowNumber, itemsFrom, Pushed}
 use Rattle.plan_token_writer.proofs.Operands.{few-items, items-back, items-none, items-whole, items-length}
 use Rattle.plan_token_writer.proofs.Stack.{pushed-none, pushed-more, pushed-as}
 use borrow.Author.Needs.{needs}

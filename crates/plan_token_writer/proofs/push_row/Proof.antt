@@ -1,7 +1,7 @@
 -- `push_row` meets its contract. Assumes nothing.
 use native.Mathlib.Omega.{arith}
 use mathlib.Core.Path.{_∙_}
-use Rattle.plan_token_writer.specs.Items.{rowNumber}
+use Rattle.plan_token_writer.specs.inner.Items.{rowNumber}
 use Rattle.plan_token_writer.proofs.Operands.{few-items, items-length, in-parentheses, without}
 use Rattle.plan_token_writer.proofs.Stack.{pushed-more, pushed-as}
 use borrow.Author.Needs.{needs}

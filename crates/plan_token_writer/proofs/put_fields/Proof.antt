@@ -3,7 +3,7 @@ use Prim.Native.Nat.{_-_, _≤_}
 use native.Mathlib.Omega.{arith}
 use mathlib.Core.Path.{_≡_, sym}
 use Rattle.plan_packed.specs.Format.{fieldsFrom}
-use Rattle.text.specs.Wrote.{Wrote}
+use Rattle.text.specs.inner.Wrote.{Wrote}
 use Rattle.text.proofs.Added.{added-none, added-more, added-as}
 use Rattle.plan_token_writer.proofs.Fields.{one-field, fields-within, no-field}
 use borrow.Author.Needs.{needs}

@@ -1,7 +1,7 @@
 -- `row_as` meets its contract, by the context and the tag. Assumes nothing.
 use native.Mathlib.Omega.{arith}
 use borrow.Author.Tests.{lt-ltb, le-ltb, eq-eqb, ne-eqb}
-use Rattle.plan_token_writer.specs.Items.{rowAs}
+use Rattle.plan_token_writer.specs.inner.Items.{rowAs}
 use borrow.Author.Needs.{needs}
 use Rattle.plan_token_writer.proofs.row_as.Statement.{statement}
 use Rattle.plan_token_writer.proofs.row_as.Tie as tie

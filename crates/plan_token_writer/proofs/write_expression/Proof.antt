@@ -1,9 +1,9 @@
 -- `write_expression` meets its contract. The invariant: what is written and what the items on the stack stand for are the tree's tokens. Assumes nothing.
 use native.Mathlib.Omega.{arith}
 use mathlib.Core.Path.{sym, _∙_}
-use Rattle.plan_packed.specs.Steps.{treeIn}
+use Rattle.plan_packed.specs.inner.Steps.{treeIn}
 use Rattle.plan_notation.specs.Shown.{loose, shown}
-use Rattle.plan_token_writer.specs.Items.{stackOf, weight}
+use Rattle.plan_token_writer.specs.inner.Items.{stackOf, weight}
 use Rattle.plan_token_writer.proofs.Writing.{Writing, starts, going, goes-on, ends}
 use borrow.Author.Needs.{needs}
 use Rattle.plan_token_writer.proofs.write_expression.Statement.{statement}

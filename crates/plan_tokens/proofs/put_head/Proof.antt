@@ -1,6 +1,6 @@
 -- `put_head` meets its contract. Assumes nothing.
 use native.Mathlib.Omega.{arith}
-use Rattle.plan_tokens.specs.Begun.{procedureHead}
+use Rattle.plan_tokens.specs.inner.Begun.{procedureHead}
 use borrow.Author.Needs.{needs}
 use Rattle.plan_tokens.proofs.put_head.Statement.{statement}
 use Rattle.plan_tokens.proofs.put_head.Tie as tie

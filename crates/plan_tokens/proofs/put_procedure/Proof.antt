@@ -2,10 +2,10 @@
 use Prim.Native.Nat.{ℕ}
 use native.Mathlib.Omega.{arith}
 use mathlib.Core.Path.{ap, _∙_}
-use Rattle.plan_packed.specs.Steps.{treeIn}
+use Rattle.plan_packed.specs.inner.Steps.{treeIn}
 use Rattle.plan_notation.specs.Shown.{loose, shown}
 use Rattle.text.proofs.Added.{added-more, added-as}
-use Rattle.plan_tokens.specs.Begun.{procedureHead, procedureAlone}
+use Rattle.plan_tokens.specs.inner.Begun.{procedureHead, procedureAlone}
 use Rattle.plan_tokens.proofs.Parts.{few, sized, in-order, tree-same, root-inside, parameters-small, alone-length, head-length}
 use borrow.Author.Needs.{needs}
 use Rattle.plan_tokens.proofs.put_procedure.Statement.{statement}

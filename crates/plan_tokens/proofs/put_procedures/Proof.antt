@@ -3,7 +3,7 @@ use Prim.Native.Nat.{_-_}
 use mathlib.Core.Path.{_≡_, refl, sym, _∙_}
 use lib.ListN.{length}
 use native.Mathlib.Numerals.{add-one}
-use Rattle.plan_tokens.specs.Begun.{Given}
+use Rattle.plan_tokens.specs.inner.Begun.{Given}
 use Rattle.plan_tokens.proofs.Parts.{few, At, at-first, room-for-one, at-next, at-last}
 use borrow.Author.Needs.{needs}
 use Rattle.plan_tokens.proofs.put_procedures.Statement.{statement}

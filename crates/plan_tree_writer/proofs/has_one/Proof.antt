@@ -1,6 +1,6 @@
 -- `has_one` meets its contract. Assumes nothing.
 use mathlib.Core.Path.{sym}
-use Rattle.plan_tree_writer.specs.Left.{singles}
+use Rattle.plan_tree_writer.specs.inner.Left.{singles}
 use Rattle.plan_tree_writer.proofs.Keys.{no-key}
 use Rattle.plan_tree_writer.proofs.has_one.Statement.{statement}
 use Rattle.plan_tree_writer.proofs.has_one.Tie as tie

@@ -1,6 +1,6 @@
 -- `has_two` meets its contract. Assumes nothing.
 use mathlib.Core.Path.{sym}
-use Rattle.plan_tree_writer.specs.Left.{pairs}
+use Rattle.plan_tree_writer.specs.inner.Left.{pairs}
 use Rattle.plan_tree_writer.proofs.Keys.{no-key}
 use Rattle.plan_tree_writer.proofs.has_two.Statement.{statement}
 use Rattle.plan_tree_writer.proofs.has_two.Tie as tie

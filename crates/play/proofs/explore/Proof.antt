@@ -3,7 +3,7 @@ use native.Mathlib.Omega.{arith}
 use borrow.Author.Needs.{needs}
 use Rattle.plan_packed.specs.Format.{procedures}
 use Rattle.run_refusals.proofs.Passed.{Inside, inside}
-use Rattle.play.specs.Roots.{Roots}
+use Rattle.play.specs.inner.Roots.{Roots}
 use Rattle.play.proofs.Explores.{explored-by}
 use Rattle.play.proofs.explore.Statement.{statement}
 use Rattle.play.proofs.explore.Tie as tie

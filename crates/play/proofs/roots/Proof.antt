@@ -5,7 +5,7 @@ use native.Mathlib.Omega.{arith}
 use lib.ListN.{length, length-set}
 use borrow.Author.Needs.{needs}
 use Rattle.plan_packed.specs.Format.{root}
-use Rattle.play.specs.Roots.{Roots}
+use Rattle.play.specs.inner.Roots.{Roots}
 use Rattle.format.proofs.Filled.{filled}
 use Rattle.play.proofs.roots.Statement.{statement}
 use Rattle.play.proofs.roots.Tie as tie

@@ -5,10 +5,10 @@ use mathlib.Core.Path.{sym, ap, _∙_, subst as along}
 use mathlib.Core.List.{List, [], _∷_}
 use lib.ListN.{length-append}
 use borrow.Author.Needs.{needs}
-use Rattle.play.specs.RunOn.{Given, RunOn}
+use Rattle.play.specs.inner.RunOn.{Given, RunOn}
 use Rattle.preview.specs.Preview.{withPick}
 use Rattle.preview.specs.Answer.{answered, AsLogged}
-use Rattle.preview.specs.Shown.{innerLog}
+use Rattle.preview.specs.inner.Shown.{innerLog}
 use Rattle.preview.proofs.Found.{one-of-eight, shown-found, last-given, written}
 use Rattle.preview.proofs.shown.Statement.{statement}
 use Rattle.preview.proofs.shown.Tie as tie

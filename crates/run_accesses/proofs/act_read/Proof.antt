@@ -1,6 +1,6 @@
 -- `act_read` meets its contract. Assumes nothing.
 use mathlib.Core.Path.{sym, _∙_}
-use Rattle.run_accesses.specs.Accesses.{actRead}
+use Rattle.run_accesses.specs.inner.Accesses.{actRead}
 use borrow.Author.Needs.{needs}
 use Rattle.run_accesses.proofs.act_read.Statement.{statement}
 use Rattle.run_accesses.proofs.act_read.Tie as tie

@@ -2,7 +2,7 @@
 use mathlib.Core.Path.{sym, ap, _∙_}
 use borrow.Author.Tests.{le-leb, lt-leb}
 use Rattle.run_keys.specs.declared.Joined.{Joined}
-use Rattle.run_accesses.specs.Accesses.{actWrite}
+use Rattle.run_accesses.specs.inner.Accesses.{actWrite}
 use borrow.Author.Needs.{needs}
 use Rattle.run_accesses.proofs.act_write.Statement.{statement}
 use Rattle.run_accesses.proofs.act_write.Tie as tie

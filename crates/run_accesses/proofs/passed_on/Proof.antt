@@ -3,7 +3,7 @@ use native.Mathlib.Omega.{arith}
 use mathlib.Core.Path.{_∙_}
 use borrow.Author.Tests.{eq-eqb, ne-eqb}
 use borrow.Author.Needs.{needs}
-use Rattle.run_accesses.specs.Accesses.{passedOf}
+use Rattle.run_accesses.specs.inner.Accesses.{passedOf}
 use Rattle.run_accesses.proofs.passed_on.Statement.{statement}
 use Rattle.run_accesses.proofs.passed_on.Tie as tie
 

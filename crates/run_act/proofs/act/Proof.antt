@@ -1,6 +1,6 @@
 -- `act` meets its contract. Assumes nothing.
 use borrow.Author.Tests.{ne-eqb}
-use Rattle.run_act.specs.Act.{actBy}
+use Rattle.run_act.specs.inner.Act.{actBy}
 use borrow.Author.Needs.{needs}
 use Rattle.run_act.proofs.act.Statement.{statement}
 use Rattle.run_act.proofs.act.Tie as tie

@@ -1,6 +1,6 @@
 -- `act_pure` meets its contract. Assumes nothing.
 use borrow.Author.Tests.{ne-eqb}
-use Rattle.run_act.specs.Act.{pureBy}
+use Rattle.run_act.specs.inner.Act.{pureBy}
 use borrow.Author.Needs.{needs}
 use Rattle.run_act.proofs.act_pure.Statement.{statement}
 use Rattle.run_act.proofs.act_pure.Tie as tie

@@ -1,6 +1,6 @@
 -- `changes` meets its contract. Assumes nothing.
 use borrow.Author.Tests.{eq-eqb, ne-eqb}
-use Rattle.run_act.specs.Act.{changesBy}
+use Rattle.run_act.specs.inner.Act.{changesBy}
 use Rattle.run_act.proofs.changes.Statement.{statement}
 use Rattle.run_act.proofs.changes.Tie as tie
 

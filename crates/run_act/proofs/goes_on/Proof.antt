@@ -1,6 +1,6 @@
 -- `goes_on` meets its contract. Assumes nothing.
 use borrow.Author.Tests.{lt-ltb, le-ltb}
-use Rattle.run_act.specs.Act.{goesOnBy}
+use Rattle.run_act.specs.inner.Act.{goesOnBy}
 use Rattle.run_act.proofs.goes_on.Statement.{statement}
 use Rattle.run_act.proofs.goes_on.Tie as tie
 

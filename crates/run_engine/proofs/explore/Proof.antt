@@ -23,22 +23,22 @@ use Rattle.run_state.specs.declared.Cell.{Cell}
 use Rattle.run_state.specs.declared.Entry.{Entry}
 use Rattle.run_state.specs.declared.acted.Acted.{Acted}
 use Rattle.run_refocusing.specs.declared.Refocusings.{Refocusings}
-use Rattle.run_act.specs.Act.{goesOnBy, changesBy}
+use Rattle.run_act.specs.inner.Act.{goesOnBy, changesBy}
 use Rattle.run_tally.specs.declared.Tally.{Tally}
-use Rattle.run_tally.specs.Tally.{shownEntry, tallyPut, logPut}
+use Rattle.run_tally.specs.inner.Tally.{shownEntry, tallyPut, logPut}
 use types.Run.{OneOf}
 use denote.Enum.Declared.{tagOf}
 use Rattle.run_pick.proofs.Begun as begun-type
 use Rattle.run_pick.specs.declared.Begun.{Begun}
 use Rattle.run_pick.specs.declared.Begun.the-variants as how
 use Rattle.run_pick.specs.declared.Reached.the-variants as reached
-use Rattle.run_pick.specs.Answer.{Move, PickAnswer as answer}
-use Rattle.run_pick.specs.Pick.{Picked, picked, refocusedHead, noHead, forksOf, beginOf, Came}
+use Rattle.run_pick.specs.inner.Answer.{Move, PickAnswer as answer}
+use Rattle.run_pick.specs.inner.Pick.{Picked, picked, refocusedHead, noHead, forksOf, beginOf, Came}
 use Rattle.run_engine.specs.declared.kept.Kept.{Kept}
-use Rattle.run_engine.specs.Kept.{restoreOf, keptFirst}
-use Rattle.run_engine.specs.Machine.{noCell, Machine, Played, headAt, cellNumber, metBy, threadBy, threadsOf, endOf, pickedBy, startOf, playOf}
-use Rattle.run_open_threads.specs.Open.{openAt, unstopped, openAfter, LowestFrom}
-use Rattle.run_engine.specs.Exploring.{allPicks, pickAt}
+use Rattle.run_engine.specs.inner.Kept.{restoreOf, keptFirst}
+use Rattle.run_engine.specs.inner.Machine.{noCell, Machine, Played, headAt, cellNumber, metBy, threadBy, threadsOf, endOf, pickedBy, startOf, playOf}
+use Rattle.run_open_threads.specs.inner.Open.{openAt, unstopped, openAfter, LowestFrom}
+use Rattle.run_engine.specs.inner.Exploring.{allPicks, pickAt}
 use Rattle.run_engine.proofs.Looks.{met, putThread, absent-at, all-threads, eight-threads}
 use Rattle.run_engine.proofs.Plays.{neither, begins, absent-passed, passed, moved, stops, heads-forked, heads-alone, ends-as}
 use Rattle.run_engine.proofs.Begins as steps

@@ -1,6 +1,6 @@
 -- `about_field` meets its contract. Assumes nothing.
 use borrow.Author.Tests.{eq-eqb, ne-eqb}
-use Rattle.run_look.specs.Look.{aboutField}
+use Rattle.run_look.specs.inner.Look.{aboutField}
 use Rattle.run_look.proofs.about_field.Statement.{statement}
 use Rattle.run_look.proofs.about_field.Tie as tie
 

@@ -1,7 +1,7 @@
 -- `field_of` meets its contract. Assumes nothing.
 use borrow.Author.Tests.{ne-eqb}
 use native.Mathlib.Omega.{arith}
-use Rattle.run_look.specs.Look.{fieldBy}
+use Rattle.run_look.specs.inner.Look.{fieldBy}
 use Rattle.run_look.proofs.field_of.Statement.{statement}
 use Rattle.run_look.proofs.field_of.Tie as tie
 

@@ -1,6 +1,6 @@
 -- `has` meets its contract. Assumes nothing.
 use mathlib.Core.Path.{refl}
-use Rattle.run_look.specs.Look.{hasOf}
+use Rattle.run_look.specs.inner.Look.{hasOf}
 use borrow.Author.Needs.{needs}
 use Rattle.run_look.proofs.has.Statement.{statement}
 use Rattle.run_look.proofs.has.Tie as tie

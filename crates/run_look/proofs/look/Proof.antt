@@ -1,7 +1,7 @@
 -- `look` meets its contract. Assumes nothing.
 use borrow.Author.Tests.{ne-eqb}
 use mathlib.Core.Path.{sym, _∙_}
-use Rattle.run_look.specs.Look.{aboutField, lookBy}
+use Rattle.run_look.specs.inner.Look.{aboutField, lookBy}
 use borrow.Author.Needs.{needs}
 use Rattle.run_look.proofs.look.Statement.{statement}
 use Rattle.run_look.proofs.look.Tie as tie

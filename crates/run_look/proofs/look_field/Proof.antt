@@ -1,7 +1,7 @@
 -- `look_field` meets its contract. Assumes nothing.
 use mathlib.Core.Path.{sym, _∙_}
 use borrow.Author.Tests.{not-true, not-false}
-use Rattle.run_look.specs.Look.{lookField}
+use Rattle.run_look.specs.inner.Look.{lookField}
 use borrow.Author.Needs.{needs}
 use Rattle.run_look.proofs.look_field.Statement.{statement}
 use Rattle.run_look.proofs.look_field.Tie as tie

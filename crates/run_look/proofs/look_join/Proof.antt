@@ -1,6 +1,6 @@
 -- `look_join` meets its contract. Assumes nothing.
 use borrow.Author.Tests.{eq-eqb, ne-eqb, le-leb, lt-leb}
-use Rattle.run_look.specs.Look.{lookJoin}
+use Rattle.run_look.specs.inner.Look.{lookJoin}
 use Rattle.run_look.proofs.look_join.Statement.{statement}
 use Rattle.run_look.proofs.look_join.Tie as tie
 

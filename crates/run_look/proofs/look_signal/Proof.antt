@@ -1,7 +1,7 @@
 -- `look_signal` meets its contract. Assumes nothing.
 use mathlib.Core.Path.{sym, _∙_}
 use borrow.Author.Tests.{eq-eqb, ne-eqb}
-use Rattle.run_look.specs.Look.{lookSignal}
+use Rattle.run_look.specs.inner.Look.{lookSignal}
 use borrow.Author.Needs.{needs}
 use Rattle.run_look.proofs.look_signal.Statement.{statement}
 use Rattle.run_look.proofs.look_signal.Tie as tie

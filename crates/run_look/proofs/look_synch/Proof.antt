@@ -1,7 +1,7 @@
 -- `look_synch` meets its contract. Assumes nothing.
 use mathlib.Core.Path.{sym, _∙_}
 use borrow.Author.Tests.{eq-eqb, ne-eqb}
-use Rattle.run_look.specs.Look.{lookSynch}
+use Rattle.run_look.specs.inner.Look.{lookSynch}
 use borrow.Author.Needs.{needs}
 use Rattle.run_look.proofs.look_synch.Statement.{statement}
 use Rattle.run_look.proofs.look_synch.Tie as tie

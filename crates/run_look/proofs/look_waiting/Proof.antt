@@ -1,7 +1,7 @@
 -- `look_waiting` meets its contract. Assumes nothing.
 use mathlib.Core.Path.{sym, _∙_}
 use borrow.Author.Tests.{eq-eqb, ne-eqb}
-use Rattle.run_look.specs.Look.{lookWaiting}
+use Rattle.run_look.specs.inner.Look.{lookWaiting}
 use borrow.Author.Needs.{needs}
 use Rattle.run_look.proofs.look_waiting.Statement.{statement}
 use Rattle.run_look.proofs.look_waiting.Tie as tie

@@ -6,7 +6,7 @@ use native.Mathlib.Omega.{arith}
 use native.Mathlib.Decide.{ℕ-discrete}
 use lib.Dec.{eqb}
 use borrow.Author.Tests.{eq-eqb, ne-eqb}
-use Rattle.run_look.specs.Look.{objectBy}
+use Rattle.run_look.specs.inner.Look.{objectBy}
 use Rattle.run_look.proofs.object_of.Statement.{statement}
 use Rattle.run_look.proofs.object_of.Tie as tie
 

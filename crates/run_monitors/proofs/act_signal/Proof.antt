@@ -1,6 +1,6 @@
 -- `act_signal` meets its contract. Assumes nothing.
 use borrow.Author.Tests.{eq-eqb, ne-eqb}
-use Rattle.run_monitors.specs.Monitors.{actSignal}
+use Rattle.run_monitors.specs.inner.Monitors.{actSignal}
 use borrow.Author.Needs.{needs}
 use Rattle.run_monitors.proofs.act_signal.Statement.{statement}
 use Rattle.run_monitors.proofs.act_signal.Tie as tie

@@ -1,6 +1,6 @@
 -- `act_synch` meets its contract. Assumes nothing.
 use mathlib.Core.Path.{sym, _∙_}
-use Rattle.run_monitors.specs.Monitors.{actSynch}
+use Rattle.run_monitors.specs.inner.Monitors.{actSynch}
 use borrow.Author.Needs.{needs}
 use Rattle.run_monitors.proofs.act_synch.Statement.{statement}
 use Rattle.run_monitors.proofs.act_synch.Tie as tie

@@ -1,6 +1,6 @@
 -- `act_fork` meets its contract. Assumes nothing.
 use borrow.Author.Tests.{le-leb, lt-leb}
-use Rattle.run_objects.specs.Objects.{actFork}
+use Rattle.run_objects.specs.inner.Objects.{actFork}
 use borrow.Author.Needs.{needs}
 use Rattle.run_objects.proofs.act_fork.Statement.{statement}
 use Rattle.run_objects.proofs.act_fork.Tie as tie

@@ -1,6 +1,6 @@
 -- `act_new` meets its contract. Assumes nothing.
 use borrow.Author.Tests.{le-leb, lt-leb}
-use Rattle.run_objects.specs.Objects.{actNew}
+use Rattle.run_objects.specs.inner.Objects.{actNew}
 use borrow.Author.Needs.{needs}
 use Rattle.run_objects.proofs.act_new.Statement.{statement}
 use Rattle.run_objects.proofs.act_new.Tie as tie

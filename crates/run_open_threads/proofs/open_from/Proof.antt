@@ -4,7 +4,7 @@ use native.Mathlib.Omega.{arith}
 use mathlib.Core.Path.{_≡_, sym, _∙_}
 use mathlib.Core.Bool.{false}
 use borrow.Author.Needs.{needs}
-use Rattle.run_open_threads.specs.Open.{openAt}
+use Rattle.run_open_threads.specs.inner.Open.{openAt}
 use Rattle.run_open_threads.proofs.Lowest.{none-more}
 use Rattle.run_open_threads.proofs.open_from.Statement.{statement}
 use Rattle.run_open_threads.proofs.open_from.Tie as tie

@@ -1,7 +1,7 @@
 -- `begin` meets its contract. Assumes nothing.
 use mathlib.Core.Path.{sym, ap, _∙_}
 use Rattle.run_look.specs.declared.Sight.{Sight}
-use Rattle.run_pick.specs.Pick.{beginBy, beginOf}
+use Rattle.run_pick.specs.inner.Pick.{beginBy, beginOf}
 use borrow.Author.Needs.{needs}
 use Rattle.run_pick.proofs.begin.Statement.{statement}
 use Rattle.run_pick.proofs.begin.Tie as tie

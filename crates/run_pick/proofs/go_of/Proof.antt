@@ -1,7 +1,7 @@
 -- `go_of` meets its contract. Assumes nothing.
 use mathlib.Core.Path.{sym, ap}
 use Rattle.run_pick.specs.declared.Begun.{Begun}
-use Rattle.run_pick.specs.Pick.{goOf}
+use Rattle.run_pick.specs.inner.Pick.{goOf}
 use borrow.Author.Needs.{needs}
 use Rattle.run_pick.proofs.go_of.Statement.{statement}
 use Rattle.run_pick.proofs.go_of.Tie as tie

@@ -1,6 +1,6 @@
 -- `lack` meets its contract. Assumes nothing.
 use borrow.Author.Tests.{eq-eqb, ne-eqb}
-use Rattle.run_pick.specs.Pick.{lackBy}
+use Rattle.run_pick.specs.inner.Pick.{lackBy}
 use borrow.Author.Needs.{needs}
 use Rattle.run_pick.proofs.lack.Statement.{statement}
 use Rattle.run_pick.proofs.lack.Tie as tie

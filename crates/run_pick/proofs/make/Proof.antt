@@ -1,6 +1,6 @@
 -- `make` meets its contract. Assumes nothing.
 use mathlib.Core.Path.{sym, ap, _∙_}
-use Rattle.run_pick.specs.Pick.{begunBy}
+use Rattle.run_pick.specs.inner.Pick.{begunBy}
 use Rattle.run_state.specs.declared.acted.Act.{Act}
 use borrow.Author.Needs.{needs}
 use Rattle.run_pick.proofs.make.Statement.{statement}

@@ -2,7 +2,7 @@
 use mathlib.Core.Path.{sym, ap, _∙_}
 use Rattle.run_pick.specs.declared.Begun.{Begun}
 use Rattle.run_frames.specs.declared.refocusing.Refocusing.{Refocusing}
-use Rattle.run_pick.specs.Pick.{refocusingsFrom, reachedAt, reachOf}
+use Rattle.run_pick.specs.inner.Pick.{refocusingsFrom, reachedAt, reachOf}
 use Rattle.run_pick.proofs.Reach.{refocuses}
 use borrow.Author.Needs.{needs}
 use Rattle.run_pick.proofs.refocus.Statement.{statement}

@@ -1,7 +1,7 @@
 -- `refocus_from` meets its contract. Assumes nothing.
 use mathlib.Core.Path.{_≡_, sym, ap, _∙_}
-use Rattle.run_refocusing.specs.Refocusing.{Ends}
-use Rattle.run_pick.specs.Pick.{Came, refocusingsFrom, reachedAt}
+use Rattle.run_refocusing.specs.inner.Refocusing.{Ends}
+use Rattle.run_pick.specs.inner.Pick.{Came, refocusingsFrom, reachedAt}
 use Rattle.run_pick.proofs.Reach.{no-room-at, refocused-at}
 use borrow.Author.Needs.{needs}
 use Rattle.run_pick.proofs.refocus_from.Statement.{statement}

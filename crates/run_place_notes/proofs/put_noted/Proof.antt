@@ -3,7 +3,7 @@ use Prim.Native.Nat.{ℕ, _-_, _≤_}
 use native.Mathlib.Omega.{arith}
 use mathlib.Core.Path.{subst as along}
 use borrow.Author.Needs.{needs}
-use Rattle.run_place_notes.specs.Notes.{PutNoted}
+use Rattle.run_place_notes.specs.inner.Notes.{PutNoted}
 use Rattle.run_place_notes.proofs.Put.{put-none, put-one}
 use Rattle.run_place_notes.proofs.put_noted.Statement.{statement}
 use Rattle.run_place_notes.proofs.put_noted.Tie as tie

@@ -1,6 +1,6 @@
 -- `after` meets its contract. Assumes nothing.
 use borrow.Author.Tests.{eq-eqb, ne-eqb}
-use Rattle.run_queue.specs.Queue.{afterOf}
+use Rattle.run_queue.specs.inner.Queue.{afterOf}
 use borrow.Author.Needs.{needs}
 use Rattle.run_queue.proofs.after.Statement.{statement}
 use Rattle.run_queue.proofs.after.Tie as tie

@@ -4,7 +4,7 @@ use mathlib.Core.Logic.{⊎-elim}
 use Prim.Native.Nat.{_+_, _≤_, _-_}
 use native.Mathlib.Omega.{arith}
 use lib.ListN.{length, drop, drop-of-length-le}
-use Rattle.run_queue.specs.Queue.{countOf}
+use Rattle.run_queue.specs.inner.Queue.{countOf}
 use Rattle.run_queue.proofs.Places.{count-next}
 use borrow.Author.Needs.{needs}
 use Rattle.run_queue.proofs.count.Statement.{statement}

@@ -1,6 +1,6 @@
 -- `freed` meets its contract. Assumes nothing.
 use borrow.Author.Tests.{eq-eqb, ne-eqb}
-use Rattle.run_queue.specs.Queue.{freed}
+use Rattle.run_queue.specs.inner.Queue.{freed}
 use Rattle.run_queue.proofs.freed.Statement.{statement}
 use Rattle.run_queue.proofs.freed.Tie as tie
 

@@ -1,6 +1,6 @@
 -- `nearer` meets its contract. Assumes nothing.
 use mathlib.Core.Path.{sym, _∙_}
-use Rattle.run_queue.specs.Queue.{nearer}
+use Rattle.run_queue.specs.inner.Queue.{nearer}
 use Rattle.run_queue.proofs.Places.{queued-past}
 use borrow.Author.Needs.{needs}
 use Rattle.run_queue.proofs.nearer.Statement.{statement}

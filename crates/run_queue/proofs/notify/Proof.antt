@@ -3,7 +3,7 @@ use mathlib.Core.Path.{_≡_, refl, sym, ap, _∙_}
 use Prim.Native.Nat.{_≤_, _-_}
 use native.Mathlib.Omega.{arith}
 use lib.ListN.{length, length-set}
-use Rattle.run_queue.specs.Queue.{nearer, notifiedOf}
+use Rattle.run_queue.specs.inner.Queue.{nearer, notifiedOf}
 use Rattle.run_queue.proofs.Places.{changedFrom, changed-next, changed-all}
 use borrow.Author.Needs.{needs}
 use Rattle.run_queue.proofs.notify.Statement.{statement}

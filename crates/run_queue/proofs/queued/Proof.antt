@@ -1,6 +1,6 @@
 -- `queued` meets its contract. Assumes nothing.
 use borrow.Author.Tests.{eq-eqb, ne-eqb}
-use Rattle.run_queue.specs.Queue.{queuedOn}
+use Rattle.run_queue.specs.inner.Queue.{queuedOn}
 use Rattle.run_queue.proofs.queued.Statement.{statement}
 use Rattle.run_queue.proofs.queued.Tie as tie
 

@@ -1,6 +1,6 @@
 -- `signalled` meets its contract. Assumes nothing.
 use borrow.Author.Tests.{eq-eqb, ne-eqb}
-use Rattle.run_queue.specs.Queue.{signalledOf}
+use Rattle.run_queue.specs.inner.Queue.{signalledOf}
 use borrow.Author.Needs.{needs}
 use Rattle.run_queue.proofs.signalled.Statement.{statement}
 use Rattle.run_queue.proofs.signalled.Tie as tie

@@ -1,5 +1,5 @@
 -- `wait` meets its contract. Assumes nothing.
-use Rattle.run_queue.specs.Queue.{lastOf, waitedOf}
+use Rattle.run_queue.specs.inner.Queue.{lastOf, waitedOf}
 use borrow.Author.Needs.{needs}
 use Rattle.run_queue.proofs.wait.Statement.{statement}
 use Rattle.run_queue.proofs.wait.Tie as tie

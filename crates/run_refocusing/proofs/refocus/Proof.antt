@@ -6,14 +6,14 @@ use Prim.Native.Nat.{ℕ, _<_, _≤_, _+_, _-_}
 use native.Mathlib.Omega.{arith}
 use mathlib.Core.Logic.{⊎-elim}
 use borrow.Author.Tests.{not-true, not-false, lt-ltb, le-ltb}
-use Rattle.run_frames.specs.Going.{goFull}
+use Rattle.run_frames.specs.inner.Going.{goFull}
 use Rattle.run_refocusing_step.specs.declared.Stepped.{Stepped}
-use Rattle.run_refocusing_step.specs.Ahead.{aheadOf, alongOf, steppedOf}
-use Rattle.run_refocusing_step.specs.Down.{openedOf, frameAt}
+use Rattle.run_refocusing_step.specs.inner.Ahead.{aheadOf, alongOf, steppedOf}
+use Rattle.run_refocusing_step.specs.inner.Down.{openedOf, frameAt}
 use Rattle.run_refocusing.specs.declared.Refocused.{Refocused}
 use Rattle.run_refocusing.specs.declared.Way.{Way}
 use Rattle.run_refocusing_step.proofs.Depths.{Within, step-in}
-use Rattle.run_refocusing.specs.Refocusing.{Stack, Ended, liveOf, topOf, refocusedOf, fullOf, ended, stored, refocusOf, refocusFrom, afterOf}
+use Rattle.run_refocusing.specs.inner.Refocusing.{Stack, Ended, liveOf, topOf, refocusedOf, fullOf, ended, stored, refocusOf, refocusFrom, afterOf}
 use Rattle.run_refocusing.proofs.Turns.{goes, halts, spent}
 use Rattle.run_refocusing.proofs.After.{last, last-full, another}
 use Rattle.run_refocusing.proofs.Along.{along-refocuses, along-live, ahead-left}

@@ -1,6 +1,6 @@
 -- `back` meets its contract. Assumes nothing.
 use borrow.Author.Tests.{eq-eqb, ne-eqb}
-use Rattle.run_refocusing_step.specs.Down.{backOf}
+use Rattle.run_refocusing_step.specs.inner.Down.{backOf}
 use borrow.Author.Needs.{needs}
 use Rattle.run_refocusing_step.proofs.back.Statement.{statement}
 use Rattle.run_refocusing_step.proofs.back.Tie as tie

@@ -1,6 +1,6 @@
 -- `back_condition` meets its contract. Assumes nothing.
 use borrow.Author.Tests.{eq-eqb, ne-eqb}
-use Rattle.run_refocusing_step.specs.Down.{backConditionOf}
+use Rattle.run_refocusing_step.specs.inner.Down.{backConditionOf}
 use borrow.Author.Needs.{needs}
 use Rattle.run_refocusing_step.proofs.back_condition.Statement.{statement}
 use Rattle.run_refocusing_step.proofs.back_condition.Tie as tie

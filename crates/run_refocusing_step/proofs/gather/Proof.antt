@@ -2,7 +2,7 @@
 use mathlib.Core.Path.{_≡_, refl, sym, ap, _∙_}
 use Prim.Native.Nat.{_<_, _≤_, _-_}
 use native.Mathlib.Omega.{arith}
-use Rattle.run_refocusing_step.specs.Ahead.{nextIn, takenOf, gatheredOf}
+use Rattle.run_refocusing_step.specs.inner.Ahead.{nextIn, takenOf, gatheredOf}
 use Rattle.run_refocusing_step.proofs.Gathers.{takes, stops, spent}
 use borrow.Author.Needs.{needs}
 use Rattle.run_refocusing_step.proofs.gather.Statement.{statement}

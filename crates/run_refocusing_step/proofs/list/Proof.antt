@@ -1,6 +1,6 @@
 -- `list` meets its contract. Assumes nothing.
 use borrow.Author.Tests.{eq-eqb, ne-eqb}
-use Rattle.run_refocusing_step.specs.Down.{listOf, listBy}
+use Rattle.run_refocusing_step.specs.inner.Down.{listOf, listBy}
 use borrow.Author.Needs.{needs}
 use Rattle.run_refocusing_step.proofs.list.Statement.{statement}
 use Rattle.run_refocusing_step.proofs.list.Tie as tie

@@ -1,6 +1,6 @@
 -- `next` meets its contract. Assumes nothing.
 use borrow.Author.Tests.{eq-eqb, ne-eqb}
-use Rattle.run_refocusing_step.specs.Ahead.{nextOf}
+use Rattle.run_refocusing_step.specs.inner.Ahead.{nextOf}
 use borrow.Author.Needs.{needs}
 use Rattle.run_refocusing_step.proofs.next.Statement.{statement}
 use Rattle.run_refocusing_step.proofs.next.Tie as tie

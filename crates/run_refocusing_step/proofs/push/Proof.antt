@@ -1,6 +1,6 @@
 -- `push` meets its contract. Assumes nothing.
 use borrow.Author.Tests.{lt-ltb, le-ltb}
-use Rattle.run_refocusing_step.specs.Down.{pushOf}
+use Rattle.run_refocusing_step.specs.inner.Down.{pushOf}
 use borrow.Author.Needs.{needs}
 use Rattle.run_refocusing_step.proofs.push.Statement.{statement}
 use Rattle.run_refocusing_step.proofs.push.Tie as tie

@@ -1,6 +1,6 @@
 -- `root` meets its contract. Assumes nothing.
 use mathlib.Core.Path.{refl}
-use Rattle.run_refocusing_step.specs.Down.{rootAt}
+use Rattle.run_refocusing_step.specs.inner.Down.{rootAt}
 use borrow.Author.Needs.{needs}
 use Rattle.run_refocusing_step.proofs.root.Statement.{statement}
 use Rattle.run_refocusing_step.proofs.root.Tie as tie

@@ -1,6 +1,6 @@
 -- `run` meets its contract. Assumes nothing.
 use borrow.Author.Tests.{ne-eqb}
-use Rattle.run_refocusing_step.specs.Down.{runOf, runBy}
+use Rattle.run_refocusing_step.specs.inner.Down.{runOf, runBy}
 use borrow.Author.Needs.{needs}
 use Rattle.run_refocusing_step.proofs.run.Statement.{statement}
 use Rattle.run_refocusing_step.proofs.run.Tie as tie

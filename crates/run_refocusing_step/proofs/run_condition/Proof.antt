@@ -1,6 +1,6 @@
 -- `run_condition` meets its contract. Assumes nothing.
 use borrow.Author.Tests.{ne-eqb}
-use Rattle.run_refocusing_step.specs.Down.{runConditionOf, runConditionBy}
+use Rattle.run_refocusing_step.specs.inner.Down.{runConditionOf, runConditionBy}
 use borrow.Author.Needs.{needs}
 use Rattle.run_refocusing_step.proofs.run_condition.Statement.{statement}
 use Rattle.run_refocusing_step.proofs.run_condition.Tie as tie

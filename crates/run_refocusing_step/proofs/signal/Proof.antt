@@ -1,6 +1,6 @@
 -- `signal` meets its contract. Assumes nothing.
 use borrow.Author.Tests.{ne-eqb}
-use Rattle.run_refocusing_step.specs.Down.{signalOf, signalBy}
+use Rattle.run_refocusing_step.specs.inner.Down.{signalOf, signalBy}
 use borrow.Author.Needs.{needs}
 use Rattle.run_refocusing_step.proofs.signal.Statement.{statement}
 use Rattle.run_refocusing_step.proofs.signal.Tie as tie

@@ -1,6 +1,6 @@
 -- `simple` meets its contract. Assumes nothing.
 use borrow.Author.Tests.{ne-eqb}
-use Rattle.run_refocusing_step.specs.Down.{simpleOf, simpleBy}
+use Rattle.run_refocusing_step.specs.inner.Down.{simpleOf, simpleBy}
 use borrow.Author.Needs.{needs}
 use Rattle.run_refocusing_step.proofs.simple.Statement.{statement}
 use Rattle.run_refocusing_step.proofs.simple.Tie as tie

@@ -3,8 +3,8 @@ use mathlib.Core.Path.{_≡_, refl, ap}
 use Rattle.run_refocusing_step.proofs.Others.{step-other}
 use Rattle.run_refocusing_step.proofs.Along.{along-step}
 use Rattle.run_refocusing_step.specs.declared.Turn.{Turn}
-use Rattle.run_refocusing_step.specs.Ahead.{aheadOf}
-use Rattle.run_refocusing_step.specs.Down.{frameAt, openedOf, downOf, stepOf}
+use Rattle.run_refocusing_step.specs.inner.Ahead.{aheadOf}
+use Rattle.run_refocusing_step.specs.inner.Down.{frameAt, openedOf, downOf, stepOf}
 use borrow.Author.Needs.{needs}
 use Rattle.run_refocusing_step.proofs.step.Statement.{statement}
 use Rattle.run_refocusing_step.proofs.step.Tie as tie

@@ -1,6 +1,6 @@
 -- `want` meets its contract. Assumes nothing.
 use borrow.Author.Tests.{lt-ltb, le-ltb}
-use Rattle.run_refocusing_step.specs.Down.{wantOf, wantBy}
+use Rattle.run_refocusing_step.specs.inner.Down.{wantOf, wantBy}
 use borrow.Author.Needs.{needs}
 use Rattle.run_refocusing_step.proofs.want.Statement.{statement}
 use Rattle.run_refocusing_step.proofs.want.Tie as tie

@@ -1,6 +1,6 @@
 -- `want_condition` meets its contract. Assumes nothing.
 use borrow.Author.Tests.{lt-ltb, le-ltb}
-use Rattle.run_refocusing_step.specs.Down.{wantConditionOf, wantConditionBy}
+use Rattle.run_refocusing_step.specs.inner.Down.{wantConditionOf, wantConditionBy}
 use borrow.Author.Needs.{needs}
 use Rattle.run_refocusing_step.proofs.want_condition.Statement.{statement}
 use Rattle.run_refocusing_step.proofs.want_condition.Tie as tie

@@ -2,7 +2,7 @@
 use borrow.Author.Tests.{eq-eqb, ne-eqb}
 use native.Mathlib.Omega.{arith}
 use lib.ListN.{length-set}
-use Rattle.run_tally.specs.Tally.{recordsAfter, logPut}
+use Rattle.run_tally.specs.inner.Tally.{recordsAfter, logPut}
 use borrow.Author.Needs.{needs}
 use Rattle.run_tally.proofs.put.Statement.{statement}
 use Rattle.run_tally.proofs.put.Tie as tie

@@ -2,7 +2,7 @@
 use mathlib.Core.Path.{_≡_, ap, sym, _∙_}
 use borrow.Author.Needs.{needs}
 use Rattle.run_state.specs.declared.Entry.{Entry}
-use Rattle.run_tally.specs.Tally.{tallyPut, logPut}
+use Rattle.run_tally.specs.inner.Tally.{tallyPut, logPut}
 use Rattle.run_tally.proofs.Shown.{kept}
 use Rattle.run_tally.proofs.put_move.Statement.{statement}
 use Rattle.run_tally.proofs.put_move.Tie as tie

@@ -3,7 +3,7 @@ use native.Mathlib.Omega.{arith}
 use mathlib.Core.Path.{_≡_, ap, sym, _∙_}
 use borrow.Author.Needs.{needs}
 use Rattle.run_state.specs.declared.Entry.{Entry}
-use Rattle.run_tally.specs.Tally.{tallyPut, logPut}
+use Rattle.run_tally.specs.inner.Tally.{tallyPut, logPut}
 use Rattle.run_tally.proofs.Shown.{made, not-counted, not-written}
 use Rattle.run_tally.proofs.put_unlogged.Statement.{statement}
 use Rattle.run_tally.proofs.put_unlogged.Tie as tie

@@ -6,7 +6,7 @@ use mathlib.Core.Path.{sym}
 use lib.ListN.{length, take}
 use lib.Seq.{take-suc, length-take-le, take-all}
 use borrow.Author.Needs.{needs}
-use Rattle.text.specs.Wrote.{Wrote}
+use Rattle.text.specs.inner.Wrote.{Wrote}
 use Rattle.text.proofs.Added.{added-none, added-more, added-as}
 use Rattle.text.proofs.put_word.Statement.{statement}
 use Rattle.text.proofs.put_word.Tie as tie

@@ -7,7 +7,7 @@ use Rattle.log_records.specs.Packed.{logOf}
 use Rattle.text.specs.Text.{ascii}
 use Rattle.text.proofs.Added.{added-as}
 use Rattle.text_diagram_elements.specs.Diagram.{arrowTexts, arrowsOf}
-use Rattle.text_diagram_elements.specs.Drawn.{Drawn}
+use Rattle.text_diagram_elements.specs.inner.Drawn.{Drawn}
 use Rattle.text_diagram_elements.proofs.Together.{drawn-none, drawn-more, drawn-as}
 use Rattle.text_diagram_links.proofs.NextArrow.{arrows-next}
 use borrow.Author.Needs.{needs}

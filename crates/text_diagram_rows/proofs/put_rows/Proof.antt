@@ -9,7 +9,7 @@ use Rattle.log_records.specs.Record.{Record}
 use Rattle.log_records.specs.Packed.{logOf}
 use Rattle.text.proofs.Added.{added-as}
 use Rattle.text_diagram_elements.specs.Diagram.{rowTexts, raceOf}
-use Rattle.text_diagram_elements.specs.Drawn.{Drawn}
+use Rattle.text_diagram_elements.specs.inner.Drawn.{Drawn}
 use Rattle.text_diagram_elements.proofs.Together.{drawn-none, drawn-more, drawn-as}
 use Rattle.text_diagram_elements.proofs.NextRecord.{all-taken, rows-next}
 use borrow.Author.Needs.{needs}

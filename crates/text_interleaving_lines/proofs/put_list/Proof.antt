@@ -4,7 +4,7 @@ use native.Mathlib.Omega.{arith}
 use mathlib.Core.Path.{_≡_, refl, subst as along}
 use lib.ListN.{length, length-take}
 use borrow.Author.Needs.{needs}
-use Rattle.text_interleaving_lines.specs.Steps.{Advanced}
+use Rattle.text_interleaving_lines.specs.inner.Steps.{Advanced}
 use Rattle.text_interleaving_lines.proofs.Texts.{Stands, stands-first, line-room, stands-next, all-told, first-told}
 use Rattle.text_interleaving_lines.proofs.put_list.Statement.{statement}
 use Rattle.text_interleaving_lines.proofs.put_list.Tie as tie

@@ -1,6 +1,6 @@
 -- `text_race_lines::put_conflict` meets its contract. Assumes nothing.
 use native.Mathlib.Omega.{arith}
-use Rattle.text_record_lines.specs.Columns.{recordOf}
+use Rattle.text_record_lines.specs.inner.Columns.{recordOf}
 use Rattle.text.proofs.Added.{added-more, added-as}
 use Rattle.text_race_lines.proofs.LineParts.{apart-short, access-short, other-short, conflict-parts}
 use borrow.Author.Needs.{needs}

@@ -2,7 +2,7 @@
 use Prim.Native.Nat.{_/_, _<_}
 use native.Mathlib.Omega.{arith}
 use lib.ListN.{length}
-use Rattle.text_record_lines.specs.Columns.{recordOf}
+use Rattle.text_record_lines.specs.inner.Columns.{recordOf}
 use Rattle.text.proofs.Added.{added-more, added-as}
 use Rattle.text_race_lines.proofs.LineParts.{apart-short, lack-short}
 use Rattle.text_race_lines.proofs.Records.{unordered-text}

@@ -1,6 +1,6 @@
 -- `failure_row`: the code is its definition, a failure by its numbers. Assumes nothing.
 use borrow.Author.Tests.{eq-eqb, ne-eqb}
-use Rattle.plan_reader.specs.Reading.{faultOf}
+use Rattle.plan_reader.specs.inner.Reading.{faultOf}
 use Rattle.read.specs.Answer.{failureOf}
 use Rattle.text_read_lines.specs.Reasons.{failureRow}
 use borrow.Author.Needs.{needs}

@@ -1,7 +1,7 @@
 -- `goal_row`: the code is its definition, a goal by its number. Assumes nothing.
 use mathlib.Core.Path.{sym, _∙_, ap}
 use borrow.Author.Tests.{lt-ltb, le-ltb, eq-eqb, ne-eqb}
-use Rattle.plan_parser_goals.specs.Encoded.{goalOf}
+use Rattle.plan_parser_goals.specs.inner.Encoded.{goalOf}
 use Rattle.text_read_lines.specs.Reasons.{goalRow}
 use borrow.Author.Needs.{needs}
 use Rattle.text_read_lines.proofs.goal_row.Statement.{statement}

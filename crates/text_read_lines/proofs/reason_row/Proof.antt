@@ -1,6 +1,6 @@
 -- `reason_row`: the code is its definition, a reason by its number. Assumes nothing.
 use borrow.Author.Tests.{eq-eqb, ne-eqb}
-use Rattle.plan_parser_goals.specs.Encoded.{reasonOf}
+use Rattle.plan_parser_goals.specs.inner.Encoded.{reasonOf}
 use Rattle.text_read_lines.specs.Reasons.{reasonRow}
 use borrow.Author.Needs.{needs}
 use Rattle.text_read_lines.proofs.reason_row.Statement.{statement}

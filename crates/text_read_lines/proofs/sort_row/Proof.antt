@@ -2,7 +2,7 @@
 use native.Mathlib.Omega.{arith}
 use Prim.Native.Nat.{ℕ, zero, suc}
 use mathlib.Core.Path.{_≡_, refl, sym, ap}
-use Rattle.plan_parser_goals.specs.Encoded.{sortOf}
+use Rattle.plan_parser_goals.specs.inner.Encoded.{sortOf}
 use Rattle.text_read_lines.specs.Reasons.{sortRow}
 use Rattle.text_read_lines.proofs.sort_row.Statement.{statement}
 use Rattle.text_read_lines.proofs.sort_row.Tie as tie

@@ -1,6 +1,6 @@
 -- `text_record_lines::put_record` meets its contract. Assumes nothing.
 use native.Mathlib.Omega.{arith}
-use Rattle.text_record_lines.specs.Columns.{recordOf}
+use Rattle.text_record_lines.specs.inner.Columns.{recordOf}
 use Rattle.text.proofs.Added.{added-more, added-as}
 use Rattle.text_record_lines.proofs.LineParts.{record-parts, record-length}
 use borrow.Author.Needs.{needs}

@@ -8,7 +8,7 @@ use lib.ListN.{length}
 use Rattle.log_records.specs.Record.{Record}
 use Rattle.log_records.specs.Packed.{recordsFrom, recordCount, logOf}
 use Rattle.text_record_lines.specs.Lines.{recordLine, recordLines}
-use Rattle.text.specs.Wrote.{Wrote}
+use Rattle.text.specs.inner.Wrote.{Wrote}
 use Rattle.text.proofs.Added.{added-none, added-more, added-as}
 use Rattle.text_run_lines.proofs.RecordText.{text-more, columns-are, line-short}
 use borrow.Author.Needs.{needs}

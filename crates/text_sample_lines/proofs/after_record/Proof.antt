@@ -1,5 +1,5 @@
 -- `text_sample_lines::after_record` meets its contract, by the kind. Assumes nothing.
-use Rattle.text_record_lines.specs.Columns.{recordOf}
+use Rattle.text_record_lines.specs.inner.Columns.{recordOf}
 use Rattle.text_sample_lines.proofs.Digital.{no-monitor, acquire-number, release-number}
 use Rattle.text_sample_lines.proofs.ShownBits.{shl-bit, shown-taken, shown-freed, shown-other}
 use borrow.Author.Needs.{needs}

@@ -3,9 +3,9 @@ use Prim.Native.Nat.{_-_, _*_, _+_, _≤_}
 use native.Mathlib.Numerals.{add-one}
 use native.Mathlib.Omega.{arith}
 use mathlib.Core.Path.{_≡_}
-use Rattle.text.specs.Wrote.{Wrote}
+use Rattle.text.specs.inner.Wrote.{Wrote}
 use Rattle.text.proofs.Added.{added-none, added-more}
-use Rattle.text_sample_lines.specs.Shown.{shownTo}
+use Rattle.text_sample_lines.specs.inner.Shown.{shownTo}
 use borrow.Author.Needs.{needs}
 use Rattle.text_sample_lines.proofs.put_digitals.Statement.{statement}
 use Rattle.text_sample_lines.proofs.put_digitals.Tie as tie

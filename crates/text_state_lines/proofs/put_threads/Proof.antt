@@ -5,9 +5,9 @@ use native.Mathlib.Omega.{arith}
 use mathlib.Core.Path.{_≡_, ap, _∙_}
 use lib.ListN.{take}
 use lib.Seq.{take-all}
-use Rattle.text.specs.Wrote.{Wrote}
+use Rattle.text.specs.inner.Wrote.{Wrote}
 use Rattle.text.proofs.Added.{added-none, added-more, added-as}
-use Rattle.text_state_lines.specs.Threads.{threadLines}
+use Rattle.text_state_lines.specs.inner.Threads.{threadLines}
 use Rattle.text_state_lines.proofs.ThreadTexts.{lines-next}
 use borrow.Author.Needs.{needs}
 use Rattle.text_state_lines.proofs.put_threads.Statement.{statement}

@@ -5,10 +5,10 @@ use native.Mathlib.Omega.{arith}
 use mathlib.Core.Path.{_≡_, ap}
 use lib.ListN.{length, length-append, take}
 use Rattle.log_records.specs.Packed.{recordCount, logOf}
-use Rattle.text.specs.Wrote.{Wrote}
+use Rattle.text.specs.inner.Wrote.{Wrote}
 use Rattle.text.proofs.Added.{added-none, added-more, added-as}
 use Rattle.text_sample_lines.specs.DataFile.{sampleLine, sampleLines}
-use Rattle.text_sample_lines.specs.Shown.{Shown}
+use Rattle.text_sample_lines.specs.inner.Shown.{Shown}
 use Rattle.text_sample_lines.proofs.ShownBits.{shown-none}
 use Rattle.text_sample_lines.proofs.LineParts.{line-is}
 use Rattle.waveform.proofs.FileLength.{lines-within}

@@ -7,7 +7,7 @@ use borrow.Author.Needs.{needs}
 use Rattle.format.proofs.BitLaws.{shl-one}
 use Rattle.format.proofs.Filled.{filled}
 use Rattle.run_keys.specs.Keys.{singleton}
-use Rattle.bound.specs.Settling.{Bits}
+use Rattle.bound.specs.inner.Settling.{Bits}
 use Rattle.bound.proofs.settling.bits.Statement.{statement}
 use Rattle.bound.proofs.settling.bits.Tie as tie
 

@@ -8,7 +8,7 @@ use Rattle.format.proofs.Filled.{filled}
 use Rattle.run_keys.specs.Keys.{holds}
 use Rattle.plan_packed.specs.Trees.{programOf}
 use Rattle.costs.specs.Calls.{called}
-use Rattle.bound.specs.Settling.{Called}
+use Rattle.bound.specs.inner.Settling.{Called}
 use Rattle.bound.proofs.Bodies.{few-procedures, root-there, root-call}
 use Rattle.bound.proofs.Rounds.{set-each, set-small}
 use Rattle.bound.proofs.settling.calls.Statement.{statement}

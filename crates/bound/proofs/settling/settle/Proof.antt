@@ -3,7 +3,7 @@ use mathlib.Core.Path.{_≡_, sym, subst}
 use mathlib.Core.List.{List}
 use Prim.Native.Nat.{ℕ, _-_, _^_}
 use native.Mathlib.Omega.{arith}
-use Rattle.bound.specs.Settling.{Settled}
+use Rattle.bound.specs.inner.Settling.{Settled}
 use Rattle.bound.proofs.Rounds.{none-settled, settled-as}
 use Rattle.bound.proofs.settling.settle.Statement.{statement}
 use Rattle.bound.proofs.settling.settle.Tie as tie

@@ -1,6 +1,6 @@
 -- `judge::pass::pass` meets its contract. Assumes nothing.
 use Rattle.format.specs.Version.{versionOf}
-use Rattle.judge.specs.Found.{finds-access, finds-nothing, finds-full}
+use Rattle.judge.specs.inner.Found.{finds-access, finds-nothing, finds-full}
 use Rattle.judge.proofs.Going.{Going, going-start, none-named}
 use Rattle.judge.proofs.Here.{Here, short, ready, none-left}
 use Rattle.judge.proofs.Next.{names, next-by}

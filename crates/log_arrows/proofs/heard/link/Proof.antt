@@ -1,5 +1,5 @@
 -- `log_arrows::heard::link` meets its contract: its tests are the definition's. Assumes nothing.
-use Rattle.log_arrows.specs.Links.{linkRow}
+use Rattle.log_arrows.specs.inner.Links.{linkRow}
 use borrow.Author.Tests.{eq-eqb, ne-eqb}
 use borrow.Author.Needs.{needs}
 use Rattle.log_arrows.proofs.heard.link.Statement.{statement}

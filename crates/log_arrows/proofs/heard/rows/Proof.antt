@@ -1,7 +1,7 @@
 -- `log_arrows::heard::rows` meets its contract. The invariant is `Going`: the rows show the marks, and the rows of the records so far are stored. The measure is
 -- the count of records left. Assumes nothing.
 use Rattle.format.specs.Version.{versionOf}
-use Rattle.log_arrows.specs.Newest.{HeardRows}
+use Rattle.log_arrows.specs.inner.Newest.{HeardRows}
 use Rattle.log_arrows.proofs.Going.{Going, going-start, Here, short, source-below, target-below, next-by}
 use Rattle.log_records.specs.Packed.{logOf}
 use lib.ListN.{length, length-set}

@@ -1,5 +1,5 @@
 -- `log_arrows::implied::by` meets its contract. Assumes nothing.
-use Rattle.log_arrows.specs.Implied.{heardIn}
+use Rattle.log_arrows.specs.inner.Implied.{heardIn}
 use Rattle.log_arrows.proofs.Tests.{by-itself, by-none, by-newest}
 use native.Mathlib.Omega.{arith}
 use borrow.Author.Needs.{needs}

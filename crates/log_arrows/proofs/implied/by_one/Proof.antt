@@ -1,6 +1,6 @@
 -- `log_arrows::implied::by_one` meets its contract. The invariant: whether one of the threads so far has heard. The measure is the count of threads left.
 -- Assumes nothing.
-use Rattle.log_arrows.specs.Implied.{heardIn, implied}
+use Rattle.log_arrows.specs.inner.Implied.{heardIn, implied}
 use Rattle.log_arrows.proofs.Tests.{implied-none, implied-more, implied-eight}
 use native.Mathlib.Omega.{arith}
 use mathlib.Core.Path.{_≡_}

@@ -1,5 +1,5 @@
 -- `log_arrows::implied::needed` meets its contract. Assumes nothing.
-use Rattle.log_arrows.specs.Implied.{heardIn}
+use Rattle.log_arrows.specs.inner.Implied.{heardIn}
 use Rattle.log_arrows.proofs.Tests.{needed-own, needed-none, needed-not-implied}
 use borrow.Author.Needs.{needs}
 use Rattle.log_arrows.proofs.implied.needed.Statement.{statement}

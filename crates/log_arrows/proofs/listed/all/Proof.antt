@@ -1,7 +1,7 @@
 -- `log_arrows::listed::all` meets its contract. The invariant: the arrows to the records so far are held. The measure is the count of records left. Assumes
 -- nothing.
 use Rattle.log_arrows.specs.Arrows.{pairs}
-use Rattle.log_arrows.specs.Implied.{heardIn, threadAt, arrowsBelow}
+use Rattle.log_arrows.specs.inner.Implied.{heardIn, threadAt, arrowsBelow}
 use Rattle.log_arrows.proofs.Adding.{below-start, below-more}
 use lib.ListN.{length}
 use native.Mathlib.Omega.{arith}

@@ -1,5 +1,5 @@
 -- `log_effects::places::number` meets its contract. Assumes nothing.
-use Rattle.log_effects.specs.Places.{known, next, full}
+use Rattle.log_effects.specs.inner.Places.{known, next, full}
 use native.Mathlib.Omega.{arith}
 use borrow.Author.Needs.{needs}
 use Rattle.log_effects.proofs.places.number.Statement.{statement}

@@ -1,6 +1,6 @@
 -- `log_effects::table::start` meets its contract. The invariant: so many rows are as they should be. The measure is the count of rows left. Assumes nothing.
 use Rattle.log_effects.proofs.Stores.{started-none, started-eight, started-one-more}
-use Rattle.log_effects.specs.Table.{Started}
+use Rattle.log_effects.specs.inner.Table.{Started}
 use Prim.Native.Nat.{_-_, _≤_}
 use lib.ListN.{length}
 use native.Mathlib.Omega.{arith}

@@ -1,5 +1,5 @@
 -- `log_effects::table::step` meets its contract. Assumes nothing.
-use Rattle.log_effects.specs.Table.{accesses, hears, tells, forks, joins, rests}
+use Rattle.log_effects.specs.inner.Table.{accesses, hears, tells, forks, joins, rests}
 use mathlib.Core.Logic.{inl, inr}
 use native.Mathlib.Omega.{arith}
 use mathlib.Core.Path.{sym, _∙_}

@@ -1,5 +1,5 @@
 -- `rows::drawn` meets its contract: its choices are the definition's. Assumes nothing.
-use Rattle.log_marking.specs.Rows.{drawnRow}
+use Rattle.log_marking.specs.inner.Rows.{drawnRow}
 use borrow.Author.Needs.{needs}
 use Rattle.log_marking.proofs.rows.drawn.Statement.{statement}
 use Rattle.log_marking.proofs.rows.drawn.Tie as tie

@@ -1,5 +1,5 @@
 -- `rows::fed` meets its contract: its choices are the definition's. Assumes nothing.
-use Rattle.log_marking.specs.Rows.{fedRow}
+use Rattle.log_marking.specs.inner.Rows.{fedRow}
 use borrow.Author.Needs.{needs}
 use Rattle.log_marking.proofs.rows.fed.Statement.{statement}
 use Rattle.log_marking.proofs.rows.fed.Tie as tie

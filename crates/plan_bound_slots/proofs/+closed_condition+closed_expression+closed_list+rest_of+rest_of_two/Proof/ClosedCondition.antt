@@ -6,8 +6,8 @@ use native.Mathlib.Omega.{arith}
 use borrow.Author.Needs.{needs}
 use borrow.Author.Tests.{not-true, not-false}
 use Rattle.format.proofs.Ranges.{NoneOf}
-use Rattle.plan_packed.specs.Steps.{slots}
-use Rattle.plan_bound_slots.specs.Left.{seen}
+use Rattle.plan_packed.specs.inner.Steps.{slots}
+use Rattle.plan_bound_slots.specs.inner.Left.{seen}
 use Rattle.plan_bound_slots.specs.declared.Rest.the-variants.{Closed, Open}
 use Rattle.plan_bound_slots.proofs.Conditions.{conditionsOf, past-not, before-truth, first-closed, first-open, first-call, equal-call, equal-told}
 use Rattle.plan_bound_slots.proofs.Conditions.{equal-next, childless}

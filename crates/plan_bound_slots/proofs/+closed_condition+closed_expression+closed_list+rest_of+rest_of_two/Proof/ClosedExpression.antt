@@ -4,9 +4,9 @@ use Prim.Native.Nat.{ℕ, _-_, _≤_, _<_}
 use native.Mathlib.Omega.{arith}
 use borrow.Author.Needs.{needs}
 use Rattle.plan_packed.specs.Slots.{closed}
-use Rattle.plan_packed.specs.Steps.{slots, treeIn}
+use Rattle.plan_packed.specs.inner.Steps.{slots, treeIn}
 use Rattle.plan_packed.proofs.WalkSteps.{here}
-use Rattle.plan_bound_slots.specs.Left.{seen, After}
+use Rattle.plan_bound_slots.specs.inner.Left.{seen, After}
 use Rattle.plan_bound_slots.proofs.closed_expression.Reads.{Post}
 use Rattle.plan_bound_slots.proofs.rest_of.Reads as rest-of
 use Rattle.plan_bound_slots.proofs.+closed_condition+closed_expression+closed_list+rest_of+rest_of_two.Proof.Measures.{closed-expression-at, rest-of-below}

@@ -3,7 +3,7 @@ use mathlib.Core.Path.{sym, _∙_}
 use Prim.Native.Nat.{ℕ, _-_}
 use native.Mathlib.Omega.{arith}
 use borrow.Author.Tests.{not-true, not-false}
-use Rattle.plan_packed.specs.Steps.{slots}
+use Rattle.plan_packed.specs.inner.Steps.{slots}
 use Rattle.plan_bound_slots.proofs.Lists.{listsOf, ended, first-call, first-open, next}
 use Rattle.plan_bound_slots.proofs.TermParts.{Tagged}
 use Rattle.plan_bound_slots.proofs.Turns.{Left, Next, start}

@@ -3,7 +3,7 @@ use mathlib.Core.Path.{sym, subst, _∙_}
 use Prim.Native.Nat.{ℕ, _<_}
 use native.Mathlib.Omega.{arith}
 use lib.ListN.{getD}
-use Rattle.plan_packed.specs.Operands.{tagOf}
+use Rattle.plan_packed.specs.inner.Operands.{tagOf}
 use Rattle.plan_packed.proofs.WalkSteps.{just}
 use Rattle.plan_bound_slots.proofs.Expressions.{leaf-closed, leaf-open, first-closed, first-open}
 use Rattle.plan_operands.proofs.tag.Reads as tag

@@ -2,7 +2,7 @@
 use mathlib.Core.Path.{refl}
 use Rattle.plan_notation.specs.Tokens.{texts}
 use Rattle.text.specs.Text.{ascii}
-use Rattle.plan_layout.specs.Rows.{textRows}
+use Rattle.plan_layout.specs.inner.Rows.{textRows}
 use Rattle.plan_layout.proofs.rows.rows.Statement.{statement}
 use Rattle.plan_layout.proofs.rows.rows.Tie as tie
 

@@ -5,7 +5,7 @@ use mathlib.Core.Path.{_≡_, refl, sym, _∙_}
 use lib.ListN.{length, drop}
 use borrow.Author.Needs.{needs}
 use Rattle.plan_notation.specs.Lexing.{tokensOf, tokensFrom}
-use Rattle.plan_token_automaton.specs.Begun.{begunOf}
+use Rattle.plan_token_automaton.specs.inner.Begun.{begunOf}
 use Rattle.plan_lexer.specs.Place.{placeIn}
 use Rattle.plan_lexer.proofs.PlaceLaws.{sought-before, sought-with, sought-behind, sought-last, sought-end}
 use Rattle.plan_lexer.proofs.places.first_byte.Statement.{statement}

@@ -9,7 +9,7 @@ use borrow.Author.Count.{below-more}
 use lib.ListN.{getD}
 use Rattle.plan_packed.specs.Format.{tagAt, tagCount}
 use Rattle.plan_packed.specs.Refusals.{wrongCall}
-use Rattle.plan_packed.specs.Steps.{tagIn, tagSort, Fitting}
+use Rattle.plan_packed.specs.inner.Steps.{tagIn, tagSort, Fitting}
 use Rattle.plan_packed.proofs.SortLaws.{tags-are, no-call}
 use Rattle.plan_packed.proofs.NoteLaws.{note-fits}
 use Rattle.plan_packed.proofs.RowLaws.{tagged, sort-is}

@@ -1,6 +1,6 @@
 -- `name`: the list of one name.
 use borrow.Author.Needs.{needs}
-use Rattle.plan_packed.specs.Steps.{noteAll}
+use Rattle.plan_packed.specs.inner.Steps.{noteAll}
 use Rattle.plan_naming.proofs.notes.name.Statement.{statement}
 use Rattle.plan_naming.proofs.notes.name.Tie as tie
 

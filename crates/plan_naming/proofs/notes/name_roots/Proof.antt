@@ -4,7 +4,7 @@ use borrow.Author.Needs.{needs}
 use native.Mathlib.Omega.{arith}
 use Prim.Native.Nat.{_-_, _≤_}
 use native.Mathlib.Numerals.{add-one}
-use Rattle.plan_packed.specs.Steps.{RootsNoted, noteAll}
+use Rattle.plan_packed.specs.inner.Steps.{RootsNoted, noteAll}
 use Rattle.plan_packed.proofs.Reading.{procedures-lt}
 use Rattle.plan_packed.proofs.Shown.{root-below}
 use Rattle.plan_packed.proofs.NoteLaws.{no-notes, root-noted}

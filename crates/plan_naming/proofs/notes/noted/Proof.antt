@@ -1,5 +1,5 @@
 -- `noted`: by the comparison with 0.
-use Rattle.plan_packed.specs.Steps.{noteOf}
+use Rattle.plan_packed.specs.inner.Steps.{noteOf}
 use Rattle.plan_packed.proofs.NoteLaws.{note-again}
 use Rattle.plan_naming.proofs.notes.noted.Statement.{statement}
 use Rattle.plan_naming.proofs.notes.noted.Tie as tie

@@ -5,8 +5,8 @@ use Prim.Native.Nat.{ℕ, _<_}
 use lib.Dec.{eqb, ltb}
 use borrow.Author.Needs.{needs}
 use Rattle.plan_packed.specs.Format.{tagCount}
-use Rattle.plan_packed.specs.Rows.{numberAt}
-use Rattle.plan_packed.specs.Steps.{wrongSort, tagIn, lowerIf}
+use Rattle.plan_packed.specs.inner.Rows.{numberAt}
+use Rattle.plan_packed.specs.inner.Steps.{wrongSort, tagIn, lowerIf}
 use Rattle.plan_packed.proofs.RowLaws.{sort-is}
 use Rattle.plan_naming.proofs.sorts.lower.Statement.{statement}
 use Rattle.plan_naming.proofs.sorts.lower.Tie as tie

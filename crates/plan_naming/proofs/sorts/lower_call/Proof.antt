@@ -6,8 +6,8 @@ use native.Mathlib.Omega.{arith}
 use borrow.Author.Needs.{needs}
 use lib.Dec.{ltb}
 use lib.ListN.{getD}
-use Rattle.plan_packed.specs.Operands.{tagOf}
-use Rattle.plan_packed.specs.Steps.{wordAt, tagIn, lowerIf}
+use Rattle.plan_packed.specs.inner.Operands.{tagOf}
+use Rattle.plan_packed.specs.inner.Steps.{wordAt, tagIn, lowerIf}
 use Rattle.plan_packed.proofs.Reading.{tag-in}
 use Rattle.plan_packed.proofs.SortLaws.{no-call}
 use Rattle.plan_naming.proofs.sorts.lower_call.Statement.{statement}

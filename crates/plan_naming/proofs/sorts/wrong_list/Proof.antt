@@ -4,7 +4,7 @@ use native.Mathlib.Omega.{arith}
 use borrow.Author.Needs.{needs}
 use lib.ListN.{getD}
 use Rattle.plan_packed.specs.Format.{tagAt}
-use Rattle.plan_packed.specs.Steps.{wordAt, tagIn}
+use Rattle.plan_packed.specs.inner.Steps.{wordAt, tagIn}
 use Rattle.plan_packed.proofs.Reading.{tag-was}
 use Rattle.plan_packed.proofs.ListLaws.{list-below, callee-below, called}
 use Rattle.plan_naming.proofs.sorts.wrong_list.Statement.{statement}

@@ -2,7 +2,7 @@
 use mathlib.Core.Path.{ap, _∙_}
 use Prim.Native.Nat.{ℕ, _%_}
 use borrow.Author.Needs.{needs}
-use Rattle.plan_packed.specs.Rows.{childAt}
+use Rattle.plan_packed.specs.inner.Rows.{childAt}
 use Rattle.plan_operands.proofs.rows.child.Statement.{statement}
 use Rattle.plan_operands.proofs.rows.child.Tie as tie
 

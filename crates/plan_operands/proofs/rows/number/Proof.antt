@@ -4,7 +4,7 @@ use mathlib.Core.List.{List, []}
 use Prim.Native.Nat.{ℕ}
 use borrow.Author.Needs.{needs}
 use lib.ListN.{getD}
-use Rattle.plan_packed.specs.Rows.{numberAt}
+use Rattle.plan_packed.specs.inner.Rows.{numberAt}
 use Rattle.plan_operands.proofs.rows.number.Statement.{statement}
 use Rattle.plan_operands.proofs.rows.number.Tie as tie
 

@@ -1,6 +1,6 @@
 -- `stack_digits` meets its contract. Assumes nothing.
 use native.Mathlib.Omega.{arith}
-use Rattle.plan_parser_goals.specs.Encoded.{unpacked}
+use Rattle.plan_parser_goals.specs.inner.Encoded.{unpacked}
 use Rattle.plan_parser.proofs.StackLaws.{stacks-twice, six-few}
 use borrow.Author.Needs.{needs}
 use Rattle.plan_parser.proofs.stacks.stack_digits.Statement.{statement}

@@ -2,7 +2,7 @@
 use Rattle.plan_parser.proofs.TurnLaws.{fit, sound, small-entries}
 use native.Mathlib.Omega.{arith}
 use mathlib.Core.Path.{sym, subst}
-use Rattle.plan_parser_goals.specs.Moves.{Sound, Calls}
+use Rattle.plan_parser_goals.specs.inner.Moves.{Sound, Calls}
 use borrow.Author.Needs.{needs}
 use Rattle.plan_parser.proofs.turns.found.Statement.{statement}
 use Rattle.plan_parser.proofs.turns.found.Tie as tie

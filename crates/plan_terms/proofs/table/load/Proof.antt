@@ -8,7 +8,7 @@ use native.Mathlib.Numerals.{add-one}
 use borrow.Author.Count.{below-more}
 use Rattle.format.proofs.LowestLaws.{found, found-none}
 use Rattle.plan_packed.specs.Refusals.{wrongTerm}
-use Rattle.plan_packed.specs.Steps.{Loaded, TermsNoted}
+use Rattle.plan_packed.specs.inner.Steps.{Loaded, TermsNoted}
 use Rattle.plan_packed.specs.Trees.{nodeAt}
 use Rattle.plan_packed.proofs.Reading.{term-is}
 use Rattle.plan_packed.proofs.SingleTerm.{judged, unloaded, loaded-more}

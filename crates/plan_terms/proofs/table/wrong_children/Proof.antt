@@ -5,8 +5,8 @@ use Prim.Native.Nat.{ℕ}
 use lib.Dec.{eqb}
 use borrow.Author.Needs.{needs}
 use borrow.Author.Tests.{eq-eqb, ne-eqb}
-use Rattle.plan_packed.specs.Rows.{numberAt, childAt, wrongTerms}
-use Rattle.plan_packed.specs.Steps.{outside, noteAll}
+use Rattle.plan_packed.specs.inner.Rows.{numberAt, childAt, wrongTerms}
+use Rattle.plan_packed.specs.inner.Steps.{outside, noteAll}
 use Rattle.plan_packed.proofs.NoteLaws.{note-more}
 use Rattle.plan_packed.proofs.RowLaws.{no-child, one-child, two-children, three-children}
 use Rattle.plan_terms.proofs.table.wrong_children.Statement.{statement}

@@ -4,11 +4,11 @@ use mathlib.Core.Bool.{Bool, true, false, not, true≢false}
 use Prim.Native.Nat.{ℕ, _≤_, _<_}
 use borrow.Author.Needs.{needs}
 use lib.Dec.{eqb}
-use Rattle.plan_packed.specs.Operands.{tagOf}
+use Rattle.plan_packed.specs.inner.Operands.{tagOf}
 use Rattle.plan_packed.specs.Refusals.{breaksTable}
 use Rattle.plan_packed.specs.Format.{tagCount}
-use Rattle.plan_packed.specs.Rows.{numberAt, bitsTo, bitsAfter, wrongOther, wrongTerms, wrongByRow, childrenByRow}
-use Rattle.plan_packed.specs.Steps.{termIn, childrenOf}
+use Rattle.plan_packed.specs.inner.Rows.{numberAt, bitsTo, bitsAfter, wrongOther, wrongTerms, wrongByRow, childrenByRow}
+use Rattle.plan_packed.specs.inner.Steps.{termIn, childrenOf}
 use Rattle.plan_packed.specs.Trees.{nodeOf}
 use Rattle.plan_packed.proofs.RowLaws.{by-row, kind-small, children-are}
 use Rattle.plan_packed.proofs.SingleTerm.{past-table, row-is}

@@ -2,7 +2,7 @@
 use borrow.Author.Tests.{eq-eqb, ne-eqb}
 use borrow.Author.Needs.{needs}
 use Rattle.plan_notation.specs.Lexing.{begunAfter, grown}
-use Rattle.plan_token_automaton.specs.Begun.{begunOf}
+use Rattle.plan_token_automaton.specs.inner.Begun.{begunOf}
 use Rattle.plan_token_automaton.proofs.AutomatonLaws.{from-nothing, longer, from-name, from-colon}
 use Rattle.plan_token_automaton.proofs.automaton.after.Statement.{statement}
 use Rattle.plan_token_automaton.proofs.automaton.after.Tie as tie

@@ -2,7 +2,7 @@
 use mathlib.Core.Path.{_∙_}
 use borrow.Author.Tests.{lt-ltb, le-ltb}
 use borrow.Author.Needs.{needs}
-use Rattle.plan_token_automaton.specs.Ended.{aloneBy}
+use Rattle.plan_token_automaton.specs.inner.Ended.{aloneBy}
 use Rattle.plan_token_automaton.proofs.AutomatonLaws.{listed-none, listed-one}
 use Rattle.plan_token_automaton.proofs.automaton.alone.Statement.{statement}
 use Rattle.plan_token_automaton.proofs.automaton.alone.Tie as tie

@@ -1,7 +1,7 @@
 -- `begins` meets its contract: by the class of the byte. Assumes nothing.
 use borrow.Author.Tests.{eq-eqb, ne-eqb, lt-ltb, le-ltb}
 use borrow.Author.Needs.{needs}
-use Rattle.plan_token_automaton.specs.Begun.{begunOf, beginsBy}
+use Rattle.plan_token_automaton.specs.inner.Begun.{begunOf, beginsBy}
 use Rattle.plan_token_automaton.proofs.automaton.begins.Statement.{statement}
 use Rattle.plan_token_automaton.proofs.automaton.begins.Tie as tie
 

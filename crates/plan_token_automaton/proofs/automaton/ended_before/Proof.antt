@@ -3,8 +3,8 @@ use native.Mathlib.Omega.{arith}
 use mathlib.Core.Path.{_∙_}
 use borrow.Author.Tests.{eq-eqb, ne-eqb}
 use borrow.Author.Needs.{needs}
-use Rattle.plan_token_automaton.specs.Begun.{begunOf}
-use Rattle.plan_token_automaton.specs.Ended.{beforeOf}
+use Rattle.plan_token_automaton.specs.inner.Begun.{begunOf}
+use Rattle.plan_token_automaton.specs.inner.Ended.{beforeOf}
 use Rattle.plan_token_automaton.proofs.NameLaws.{name-below}
 use Rattle.plan_token_automaton.proofs.AutomatonLaws.{listed-none, listed-one, within, name-ends}
 use Rattle.plan_token_automaton.proofs.automaton.ended_before.Statement.{statement}

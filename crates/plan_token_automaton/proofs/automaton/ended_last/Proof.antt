@@ -3,7 +3,7 @@ use native.Mathlib.Omega.{arith}
 use mathlib.Core.Path.{_∙_}
 use borrow.Author.Needs.{needs}
 use Rattle.plan_notation.specs.Lexing.{endedAtEnd}
-use Rattle.plan_token_automaton.specs.Begun.{begunOf}
+use Rattle.plan_token_automaton.specs.inner.Begun.{begunOf}
 use Rattle.plan_token_automaton.proofs.NameLaws.{name-below}
 use Rattle.plan_token_automaton.proofs.AutomatonLaws.{listed-none, listed-one}
 use Rattle.plan_token_automaton.proofs.automaton.ended_last.Statement.{statement}

@@ -3,8 +3,8 @@ use native.Mathlib.Omega.{arith}
 use mathlib.Core.Path.{_∙_}
 use borrow.Author.Tests.{eq-eqb}
 use borrow.Author.Needs.{needs}
-use Rattle.plan_token_automaton.specs.Begun.{begunOf}
-use Rattle.plan_token_automaton.specs.Ended.{withOf}
+use Rattle.plan_token_automaton.specs.inner.Begun.{begunOf}
+use Rattle.plan_token_automaton.specs.inner.Ended.{withOf}
 use Rattle.plan_token_automaton.proofs.ClassLaws.{class-below}
 use Rattle.plan_token_automaton.proofs.AutomatonLaws.{listed-none, listed-one, by-itself, behind-colon}
 use Rattle.plan_token_automaton.proofs.automaton.ended_with.Statement.{statement}

@@ -4,7 +4,7 @@ use mathlib.Core.Path.{ap, _∙_}
 use mathlib.Core.List.{[]}
 use lib.ListN.{getD}
 use borrow.Author.Needs.{needs}
-use Rattle.plan_token_automaton.specs.Classes.{Classed}
+use Rattle.plan_token_automaton.specs.inner.Classes.{Classed}
 use Rattle.plan_token_automaton.proofs.classes.class_of.Statement.{statement}
 use Rattle.plan_token_automaton.proofs.classes.class_of.Tie as tie
 

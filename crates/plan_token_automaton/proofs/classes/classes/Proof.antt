@@ -8,7 +8,7 @@ use lib.Dec.{eqb}
 use lib.ListN.{getD}
 use Rattle.format.specs.Refusal.{lowest}
 use Rattle.plan_notation.proofs.Tested.{equated}
-use Rattle.plan_token_automaton.specs.Classes.{classOf, Classed}
+use Rattle.plan_token_automaton.specs.inner.Classes.{classOf, Classed}
 use Rattle.plan_token_automaton.proofs.classes.classes.Statement.{statement}
 use Rattle.plan_token_automaton.proofs.classes.classes.Tie as tie
 

@@ -3,7 +3,7 @@ use mathlib.Core.Path.{ap, _∙_}
 use mathlib.Core.List.{List, []}
 use Prim.Native.Nat.{ℕ}
 use lib.ListN.{getD}
-use Rattle.plan_token_writer.specs.Items.{rowNumber}
+use Rattle.plan_token_writer.specs.inner.Items.{rowNumber}
 use borrow.Author.Needs.{needs}
 use Rattle.plan_token_writer.proofs.rows.number.Statement.{statement}
 use Rattle.plan_token_writer.proofs.rows.number.Tie as tie

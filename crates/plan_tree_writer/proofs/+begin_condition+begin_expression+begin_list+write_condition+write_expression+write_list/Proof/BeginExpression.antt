@@ -5,7 +5,7 @@ use mathlib.Core.Path.{sym, subst, _∙_}
 use mathlib.Core.List.{[], _∷_}
 use native.Mathlib.Numerals.{add-one}
 use Rattle.format.proofs.Ranges.{NoneOf}
-use Rattle.plan_tree_writer.specs.Left.{singles, pairs}
+use Rattle.plan_tree_writer.specs.inner.Left.{singles, pairs}
 use Rattle.plan_tree_writer.proofs.Keys.{found, missed, single-tag, pair-tag}
 use Rattle.plan_tree_writer.proofs.Steps.{leaf-going, one-going, one-done, two-going, three-going}
 use Rattle.plan_tree_writer.proofs.Rooms.{put-keeps, tree-keeps, put-room, own-number, one-small, one-room, two-first, two-small, three-first, three-second}

@@ -1,7 +1,7 @@
 -- `write_condition`: each turn of the loop writes a term, and goes on with its last child.
 use Prim.Native.Nat.{ℕ, _-_}
 use borrow.Author.Needs.{needs}
-use Rattle.plan_tree_writer.specs.Left.{conditionsIn}
+use Rattle.plan_tree_writer.specs.inner.Left.{conditionsIn}
 use Rattle.plan_tree_writer.proofs.Rooms.{tree-keeps}
 use Rattle.plan_tree_writer.proofs.Turns.{Still, start, still-room, on, done}
 use Rattle.plan_tree_writer.proofs.begin_condition.Reads as begin-condition

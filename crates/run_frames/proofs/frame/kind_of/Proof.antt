@@ -1,7 +1,7 @@
 -- `kind_of` meets its contract. Assumes nothing.
 use mathlib.Core.Path.{sym}
 use lib.ListN.{List·getD-eq-default}
-use Rattle.run_frames.specs.Frames.{kindOf, kinds}
+use Rattle.run_frames.specs.inner.Frames.{kindOf, kinds}
 use Rattle.format.proofs.Ranges.{past-all}
 use Rattle.run_frames.specs.declared.frame.Kind.the-variants as kind
 use Rattle.run_frames.proofs.frame.kind_of.Statement.{statement}

@@ -1,5 +1,5 @@
 -- `pack` meets its contract. Assumes nothing.
-use Rattle.run_frames.specs.Frames.{packOf}
+use Rattle.run_frames.specs.inner.Frames.{packOf}
 use borrow.Author.Needs.{needs}
 use Rattle.run_frames.proofs.frame.pack.Statement.{statement}
 use Rattle.run_frames.proofs.frame.pack.Tie as tie

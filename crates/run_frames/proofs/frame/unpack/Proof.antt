@@ -1,5 +1,5 @@
 -- `unpack` meets its contract. Assumes nothing.
-use Rattle.run_frames.specs.Frames.{unpackOf}
+use Rattle.run_frames.specs.inner.Frames.{unpackOf}
 use borrow.Author.Needs.{needs}
 use Rattle.run_frames.proofs.frame.unpack.Statement.{statement}
 use Rattle.run_frames.proofs.frame.unpack.Tie as tie

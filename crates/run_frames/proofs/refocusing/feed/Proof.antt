@@ -1,5 +1,5 @@
 -- `feed` meets its contract. Assumes nothing.
-use Rattle.run_frames.specs.Going.{feedOf}
+use Rattle.run_frames.specs.inner.Going.{feedOf}
 use borrow.Author.Needs.{needs}
 use Rattle.run_frames.proofs.refocusing.feed.Statement.{statement}
 use Rattle.run_frames.proofs.refocusing.feed.Tie as tie

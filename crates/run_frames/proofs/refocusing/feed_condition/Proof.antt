@@ -1,7 +1,7 @@
 -- `feed_condition` meets its contract. Assumes nothing.
 use mathlib.Core.Path.{sym, _∙_}
 use borrow.Author.Tests.{eq-eqb, ne-eqb}
-use Rattle.run_frames.specs.Going.{feedConditionOf}
+use Rattle.run_frames.specs.inner.Going.{feedConditionOf}
 use Rattle.run_frames.proofs.Others.{feed-condition-other}
 use borrow.Author.Needs.{needs}
 use Rattle.run_frames.proofs.refocusing.feed_condition.Statement.{statement}

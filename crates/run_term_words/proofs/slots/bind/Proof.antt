@@ -2,7 +2,7 @@
 use borrow.Author.Tests.{lt-ltb, le-ltb}
 use Prim.Native.Nat.{_%_}
 use native.Mathlib.Omega.{arith}
-use Rattle.run_term_words.specs.Slots.{bindOf}
+use Rattle.run_term_words.specs.inner.Slots.{bindOf}
 use Rattle.run_term_words.proofs.Units.{held-le, new-le}
 use borrow.Author.Needs.{needs}
 use Rattle.run_term_words.proofs.slots.bind.Statement.{statement}

@@ -1,6 +1,6 @@
 -- `slot` meets its contract. Assumes nothing.
 use borrow.Author.Tests.{lt-ltb, le-ltb}
-use Rattle.run_term_words.specs.Slots.{slotOf}
+use Rattle.run_term_words.specs.inner.Slots.{slotOf}
 use borrow.Author.Needs.{needs}
 use Rattle.run_term_words.proofs.slots.slot.Statement.{statement}
 use Rattle.run_term_words.proofs.slots.slot.Tie as tie

@@ -1,6 +1,6 @@
 -- `truth` meets its contract. Assumes nothing.
 use borrow.Author.Tests.{eq-eqb, ne-eqb}
-use Rattle.run_term_words.specs.Words.{truthOf, truthBy}
+use Rattle.run_term_words.specs.inner.Words.{truthOf, truthBy}
 use borrow.Author.Needs.{needs}
 use Rattle.run_term_words.proofs.words.truth.Statement.{statement}
 use Rattle.run_term_words.proofs.words.truth.Tie as tie

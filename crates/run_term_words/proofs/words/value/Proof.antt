@@ -1,6 +1,6 @@
 -- `value` meets its contract. Assumes nothing.
 use borrow.Author.Tests.{eq-eqb, ne-eqb}
-use Rattle.run_term_words.specs.Words.{valueOf, valueBy}
+use Rattle.run_term_words.specs.inner.Words.{valueOf, valueBy}
 use borrow.Author.Needs.{needs}
 use Rattle.run_term_words.proofs.words.value.Statement.{statement}
 use Rattle.run_term_words.proofs.words.value.Tie as tie

@@ -1,6 +1,6 @@
 -- `word` meets its contract. Assumes nothing.
 use mathlib.Core.Path.{refl}
-use Rattle.run_term_words.specs.Words.{wordAt}
+use Rattle.run_term_words.specs.inner.Words.{wordAt}
 use borrow.Author.Needs.{needs}
 use Rattle.run_term_words.proofs.words.word.Statement.{statement}
 use Rattle.run_term_words.proofs.words.word.Tie as tie

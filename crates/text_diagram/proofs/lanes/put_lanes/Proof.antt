@@ -5,7 +5,7 @@ use native.Mathlib.Omega.{arith}
 use mathlib.Core.Path.{_≡_, ap}
 use Rattle.text.proofs.Added.{added-as}
 use Rattle.text_diagram_elements.specs.Diagram.{laneTexts}
-use Rattle.text_diagram_elements.specs.Drawn.{Drawn}
+use Rattle.text_diagram_elements.specs.inner.Drawn.{Drawn}
 use Rattle.text_diagram_elements.proofs.Together.{drawn-none, drawn-more}
 use borrow.Author.Needs.{needs}
 use Rattle.text_diagram.proofs.lanes.put_lanes.Statement.{statement}

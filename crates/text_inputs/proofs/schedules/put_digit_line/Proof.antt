@@ -6,7 +6,7 @@ use mathlib.Core.Path.{_≡_, sym, ap, _∙_}
 use mathlib.Core.List.{List, [], _∷_, _++_}
 use lib.ListN.{length, take, getD}
 use lib.Seq.{take-all, length-take-le}
-use Rattle.text.specs.Wrote.{Wrote}
+use Rattle.text.specs.inner.Wrote.{Wrote}
 use Rattle.text.proofs.Added.{added-none, added-more, added-as}
 use Rattle.text_inputs.specs.Schedules.{digitOf, digitsOf, digitLine}
 use Rattle.text_inputs.proofs.Bytes.{digits-more, length-digits}

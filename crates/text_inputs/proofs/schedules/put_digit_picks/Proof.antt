@@ -5,7 +5,7 @@ use native.Mathlib.Omega.{arith}
 use mathlib.Core.Path.{ap}
 use lib.ListN.{length, take, getD}
 use lib.Seq.{take-all}
-use Rattle.text.specs.Wrote.{Wrote}
+use Rattle.text.specs.inner.Wrote.{Wrote}
 use Rattle.text.proofs.Added.{added-none, added-more, added-as}
 use Rattle.text_inputs.specs.Schedules.{digitPicks}
 use Rattle.text_inputs.proofs.Bytes.{picks-more, one-pick}

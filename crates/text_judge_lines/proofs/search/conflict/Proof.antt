@@ -1,5 +1,5 @@
 -- `conflict` meets its contract. Assumes nothing.
-use Rattle.text_judge_lines.specs.Search.{conflictTest}
+use Rattle.text_judge_lines.specs.inner.Search.{conflictTest}
 use borrow.Author.Needs.{needs}
 use Rattle.text_judge_lines.proofs.search.conflict.Statement.{statement}
 use Rattle.text_judge_lines.proofs.search.conflict.Tie as tie

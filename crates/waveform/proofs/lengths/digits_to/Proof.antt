@@ -1,5 +1,5 @@
 -- `lengths::digits_to` meets its contract. Assumes nothing.
-use Rattle.waveform.specs.Lengths.{digitsTo}
+use Rattle.waveform.specs.inner.Lengths.{digitsTo}
 use borrow.Author.Needs.{needs}
 use Rattle.waveform.proofs.lengths.digits_to.Statement.{statement}
 use Rattle.waveform.proofs.lengths.digits_to.Tie as tie

@@ -1,7 +1,7 @@
 -- `lengths::file_length` meets its contract. Assumes nothing.
 use native.Mathlib.Omega.{arith}
 use mathlib.Core.Path.{sym, ap}
-use Rattle.waveform.specs.Lengths.{lengthFor}
+use Rattle.waveform.specs.inner.Lengths.{lengthFor}
 use Rattle.waveform.proofs.FileLength.{length-some}
 use borrow.Author.Needs.{needs}
 use Rattle.waveform.proofs.lengths.file_length.Statement.{statement}

@@ -1,0 +1,15 @@
+-- The table that the pass is lent. No reader of the entries' promises needs it. Assumes nothing.
+use Prim.Native.Nat.{ℕ, _+_, _<_, _≤_}
+use mathlib.Core.Path.{_≡_}
+use mathlib.Core.List.{List}
+use lib.ListN.{length}
+use Rattle.log_clocks.specs.inner.Rows.{Row}
+use Rattle.log_effects.specs.inner.Rows.{placeRow}
+use Rattle.log_effects.specs.inner.Table.{Wide, clockAt}
+
+-- rows for so many places, of the 1,024 that there are, all clocks 0
+pub record Clear (places : ℕ) (rows : List Row) : Type 0 where
+  pub most : places ≤ 1024
+  pub room : placeRow places + 2 < length rows
+  pub wide : Wide rows
+  pub zero : (q u : ℕ) → clockAt rows q u ≡ 0

@@ -1,0 +1,33 @@
+-- What a run counts, and its records in the log: the machine that the code runs; no reader of the entries' promises needs it. Assumes nothing.
+use Prim.Native.Nat.{ℕ, _+_, _*_, _/_, _%_}
+use mathlib.Core.Bool.{Bool, cond}
+use mathlib.Core.List.{List}
+use lib.Dec.{eqb}
+use lib.ListN.{set}
+use Rattle.run_state.specs.declared.Counts.{Counts}
+use Rattle.run_state.specs.declared.Entry.{Entry}
+use Rattle.run_state.specs.inner.Acted.{countsOf, entryOf}
+use Rattle.run_tally.specs.declared.Tally.{Tally}
+
+abbrev pub wordOf : ℕ → Entry → ℕ
+wordOf p e = (((e .kind % 16 * 8 + p % 8) * 32 + e .object % 32) * 32 + e .field % 32) * 128 + e .value % 32 * 4
+
+unfoldable pub logPut : List ℕ → ℕ → ℕ → Entry → List ℕ
+logPut l n p e = cond (eqb (e .kind) 0) l
+    (set (set (set l (n * 3) (wordOf p e / 65536 % 256)) (n * 3 + 1) (wordOf p e / 256 % 256)) (n * 3 + 2) (wordOf p e % 256))
+
+unfoldable pub recordsAfter : ℕ → Entry → ℕ
+recordsAfter n e = cond (eqb (e .kind) 0) n (n + 1)
+
+-- the record of a move; where every move is to have one, that of a move without is a `new` record of object 0
+abbrev pub shownEntry : Bool → Entry → Entry
+shownEntry every e = cond every (cond (eqb (e .kind) 0) (entryOf 1 0 0 0) e) e
+
+abbrev pub tallyPut : Tally → Entry → Tally
+tallyPut s e = record { counts = s .counts; moves = s .moves; records = recordsAfter (s .records) e }
+
+abbrev pub tallyMoved : Tally → Counts → Tally
+tallyMoved s n = record { counts = n; moves = s .moves + 1; records = s .records }
+
+abbrev pub tallyFirst : Tally
+tallyFirst = record { counts = countsOf 1 1 1; moves = 0; records = 0 }
