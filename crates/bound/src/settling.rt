@@ -1,4 +1,5 @@
-// Whom each procedure calls, and what bodies cost: a body is walked once its callees' costs are known, so that each is walked once. Where calls form a cycle, its
+// Whom each procedure calls, and what bodies cost: a body is walked once its callees' costs are known, so that each is walked once. Where calls form a cycle,
+// its
 // procedures are left. A set of procedures is a number, bit q for procedure q.
 ghost use mathlib.Core.Path.{_≡_};
 ghost use mathlib.Core.Bool.{_&&_, not};

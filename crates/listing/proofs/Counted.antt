@@ -63,7 +63,8 @@ module _ (g : Program) where
   counted-taken s [] e i b = absurd (omega arith)
   counted-taken s (p ∷ ps) e i b = at i b (go (step g s p) e (λ z k. counted-taken z ps k))
     where
-      at : (i : ℕ) → i < suc (length ps) → (step g s p ≡ PickAnswerOf.passed → ⊥) × Later s ps (step g s p) → Taken (run g s (take i (p ∷ ps))) (getD (p ∷ ps) i 0)
+      at : (i : ℕ) → i < suc (length ps) → (step g s p ≡ PickAnswerOf.passed → ⊥) × Later s ps (step g s p) → Taken (run g s (take i (p ∷ ps)))
+          (getD (p ∷ ps) i 0)
       at zero b (n, h) = (refl, n)
       at (suc i) b (n, h) = h i (omega arith)
 

@@ -27,7 +27,8 @@ use Rattle.log_decoding.proofs.Decoded.{kind-is-kind}
 use Rattle.side_by_side.proofs.Marks.{Wanted, draws, fed, wantedAfter, marksFrom, marksOf, targets, marked}
 use Rattle.log_marking.specs.inner.Rows.{drawnRow, fedRow}
 use Rattle.log_marking.specs.inner.Marked.{MarkedIn, SameBeyond}
-use Rattle.log_marking.proofs.PortRows.{Valid, rowOf, row-below, row-once, drawnBy, drawnPort, fedBy, fedPort, drawn-valid, fed-valid, drawn-row, fed-row}
+use Rattle.log_marking.proofs.PortRows.{Valid, rowOf, row-below, row-once, drawnBy, drawnPort, fedBy, fedPort, drawn-valid, fed-valid, drawn-row}
+use Rattle.log_marking.proofs.PortRows.{fed-row}
 use Rattle.log_marking.proofs.PortTests.{fed-ports, draws-own, draws-drawn, draws-no}
 
 pub record Going (b : List ℕ) (j i left : ℕ) (wanted kept before : List Bool) : Type 0 where

@@ -11,7 +11,8 @@ use Rattle.log_records.specs.Record.{Kind, new, read, write, readv, writev, acq
 use Rattle.log_order.proofs.Tests.{differ, same-place}
 use Rattle.log_order.proofs.Ports.{ofThread, ofMonitor, ofVolatile, Feeds}
 use Rattle.log_order.proofs.WriteKeys.{writeCount}
-use Rattle.log_order.proofs.KeySets.{KeySet, union, union↔, noKeys, noKeys→, put, put-same, put-other, put₂, put₂-same, put₂-other, put-same↔, put-other↔}
+use Rattle.log_order.proofs.KeySets.{KeySet, union, union↔, noKeys, noKeys→, put, put-same, put-other, put₂, put₂-same, put₂-other, put-same↔}
+use Rattle.log_order.proofs.KeySets.{put-other↔}
 use Rattle.log_order.proofs.KeyMachine.{KeyState, act, Needs}
 use Rattle.log_order.proofs.Known.{Known, kept, known-zero, Invariant, Gain, known-split, gain-own, unfed}
 use Rattle.log_order.proofs.KnownThreads.{own, stays, grows}

@@ -50,7 +50,8 @@ pub fn count(kept: &[bool], moves: usize) -> usize
 // The picks of the moves that are kept, renumbered, at the area's start; its other bytes keep their values. Thread 0 is thread 0, and each fork that is
 // kept makes the next thread.
 pub fn put_picks(log: &[u8], kept: &[bool], area: &mut [u8])
-    requires { ⌜ length (now log) / 3 ≤ length (now kept) ⌝ ∗ ⌜ length (picksIn (now log) (now kept)) ≤ length (now area) ⌝ ∗ ⌜ Small (picksIn (now log) (now kept)) ⌝ }
+    requires { ⌜ length (now log) / 3 ≤ length (now kept) ⌝ ∗ ⌜ length (picksIn (now log) (now kept)) ≤ length (now area) ⌝ ∗ ⌜ Small
+        (picksIn (now log) (now kept)) ⌝ }
     ensures { λ r. ⌜ now (area .exit) ≡ overwrite (picksIn (now (log .entry)) (now (kept .entry))) (now (area .entry)) ⌝ }
 {
     let mut numbers = [0usize; 32];

@@ -59,7 +59,8 @@ module _ (h : ℕ → Node) {R R′ : Type 0} (Related : R → R′ → Type 0) 
     levelᶜ ρ (arguments x) b = hf _
     levelᶜ ρ unknown b = hf _
 
-    pub levelᵃ : (ρ : Slots) (m n : ℕ) (σ : Slots) (x : Node) → NamesLater t x → Related (downByᵃ h found d c l ρ S m n σ x) (downByᵃ h found′ d′ c′ l′ ρ S m n σ x)
+    pub levelᵃ : (ρ : Slots) (m n : ℕ) (σ : Slots) (x : Node) → NamesLater t x → Related (downByᵃ h found d c l ρ S m n σ x)
+        (downByᵃ h found′ d′ c′ l′ ρ S m n σ x)
     unfolding downByᵃ
     levelᵃ ρ m n σ (expression x) b = hf _
     levelᵃ ρ m n σ (condition x) b = hf _

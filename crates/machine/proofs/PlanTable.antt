@@ -6,7 +6,8 @@ use mathlib.Core.Bool.{false≢true}
 use mathlib.Core.List.{List}
 use lib.Dec.{T, ltb}
 use Rattle.plan_packed.specs.Syntax.{Procedure}
-use Rattle.plan_packed.specs.Format.{procedures, terms, parameters, root, Operand, absent, slot, binder, mask, fieldName, procedure, expression, condition, list}
+use Rattle.plan_packed.specs.Format.{procedures, terms, parameters, root, Operand, absent, slot, binder, mask, fieldName, procedure, expression, condition}
+use Rattle.plan_packed.specs.Format.{list}
 use Rattle.plan_packed.specs.Format.{layout, tagAt}
 use Rattle.plan_packed.specs.Trees.{nodeAt, treeAt, procedureAt, programOf}
 use Rattle.plan_packed.specs.Slots.{closed}

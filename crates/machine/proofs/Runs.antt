@@ -161,7 +161,8 @@ module _ (table : Table) where
 
     -- ---- runs
 
-    resume-of : (s : machine.State) (p : ℕ) (k : State → Run) (k′ : machine.State → playing.Run) (a : playing.PickAnswer) → Reached g s → playing.step table s p ≡ a
+    resume-of : (s : machine.State) (p : ℕ) (k : State → Run) (k′ : machine.State → playing.Run) (a : playing.PickAnswer) → Reached g s → playing.step table
+        s p ≡ a
         → ((z : machine.State) → Reached g z → k (stateOf table z) ≡ runMeant (k′ z))
         → resume (stateOf table s) k (answerOf a) ≡ runMeant (resume s k′ a)
     unfolding resume

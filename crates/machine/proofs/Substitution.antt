@@ -11,7 +11,8 @@ use lib.Dec.{T, eqb, ltb, ltb→lt}
 use lib.ListN.{length, getElem?}
 use mir.Facts.{and-yes}
 use borrow.Author.Tests.{eq-eqb, ne-eqb}
-use Rattle.plan_packed.specs.Syntax.{Expression, Condition, Arguments, Environment, bind, bindParameters, without, valueOr, substitute, substituteᶜ, substituteᵃ}
+use Rattle.plan_packed.specs.Syntax.{Expression, Condition, Arguments, Environment, bind, bindParameters, without, valueOr, substitute, substituteᶜ}
+use Rattle.plan_packed.specs.Syntax.{substituteᵃ}
 use Rattle.plan_packed.specs.Slots.{bound, closed, closedᶜ, closedᵃ}
 use Rattle.rules.proofs.StateLaws.{added-old, added-new, length-added}
 use Rattle.machine.specs.inner.Frames.{Slots, put, putBound}

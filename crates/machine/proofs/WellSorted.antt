@@ -12,7 +12,8 @@ use Rattle.rules.specs.Rules.{passedOn}
 use Rattle.rules.specs.State.{Cell, cell, changeAt, fieldOf}
 use Rattle.machine.specs.inner.Frames.{Closure, Frame, Ready, Readyᶜ, Found}
 use Rattle.machine.specs.inner.Refocusing.{go}
-use Rattle.machine.specs.inner.Machine.{Thread, State, Numbered, Table, Act, waits, sticks, lacks, does, Attempt, absent, finished, waiting, stuck, lacking}
+use Rattle.machine.specs.inner.Machine.{Thread, State, Numbered, Table, Act, waits, sticks, lacks, does, Attempt, absent, finished, waiting, stuck}
+use Rattle.machine.specs.inner.Machine.{lacking}
 use Rattle.machine.specs.inner.Machine.{moves, store, storeMonitor, useKey, gain, become, inPlace, enqueue, signalled, monitor, threadOf, finishedWith}
 use Rattle.machine.specs.inner.Machine.{joinValue, joinAct, synchAct, signalMove, signalAct, wakeAct, readAct, writeAct, act, actᶜ, around, attemptAt}
 use Rattle.machine.specs.inner.Machine.{attemptBy, attempt}

@@ -34,7 +34,8 @@ fn check_header(plan: &[u8]) -> Checked
     Checked::Passed
 }
 
-// Refusals 5 and 6, of a plan whose terms are right, in `words` and noted in `notes`. Where the notes do not show that it passes, the lowest places are looked for.
+// Refusals 5 and 6, of a plan whose terms are right, in `words` and noted in `notes`. Where the notes do not show that it passes, the lowest places are
+// looked for.
 fn check_names(
     rows: &Rows,
     plan: &[u8],

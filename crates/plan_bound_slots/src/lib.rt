@@ -69,7 +69,8 @@ fn rest_of_two(
 ) -> Rest
     requires { ⌜ Ordered (now words) ⌝ }
     requires { ⌜ (first < 1024) × (second < 1024) ⌝ }
-    ensures { λ r. ⌜ seen (now (words .entry)) r ≡ (closed (slots bound) (treeIn (now (words .entry)) first) && closed (slots inner) (treeIn (now (words .entry)) second)) ⌝ }
+    ensures { λ r. ⌜ seen (now (words .entry)) r ≡
+        (closed (slots bound) (treeIn (now (words .entry)) first) && closed (slots inner) (treeIn (now (words .entry)) second)) ⌝ }
     ensures { λ r. ⌜ ((term : ℕ) → term < first → term < second → After term r) ⌝ }
 {
     let word = words[second];

@@ -16,7 +16,8 @@ ghost use lib.ListN.{replicate};
 ghost use Rattle.format.specs.inner.Lowest.{Lowest};
 ghost use Rattle.plan_packed.specs.Refusals.{wronglySorted};
 ghost use Rattle.plan_packed.specs.inner.Rows.{layoutRows, Tagged};
-ghost use Rattle.plan_packed.specs.inner.Steps.{Right, Loaded, nodeIn, childOf, childrenOf, lowerAll, countAll, moreOf, Counted, rootTimes, allTimes, misplacedRoot, notOnce};
+ghost use Rattle.plan_packed.specs.inner.Steps.{Right, Loaded, nodeIn, childOf, childrenOf, lowerAll, countAll, moreOf, Counted, rootTimes, allTimes};
+ghost use Rattle.plan_packed.specs.inner.Steps.{misplacedRoot, notOnce};
 
 // The count of a term that is named once more; two stands for more.
 fn once_more(times: u8) -> u8

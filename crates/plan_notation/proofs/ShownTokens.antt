@@ -8,7 +8,8 @@ use mathlib.Core.Option.{Option, some, none}
 use lib.Dec.{ltb}
 use Rattle.plan_packed.specs.Syntax.{Signal, Expression, Condition, Arguments}
 use Rattle.plan_notation.specs.Tokens.{variable, volatileWord, procedureWord, inWord, thenWord, elseWord, doWord, allWord, andWord, trueWord, notWord}
-use Rattle.plan_notation.specs.Tokens.{nullWord, newWord, letWord, ifWord, whileWord, callWord, forkWord, joinWord, synchWord, waitWord, notifyWord, opening}
+use Rattle.plan_notation.specs.Tokens.{nullWord, newWord, letWord, ifWord, whileWord, callWord, forkWord, joinWord, synchWord, waitWord, notifyWord}
+use Rattle.plan_notation.specs.Tokens.{opening}
 use Rattle.plan_notation.specs.Tokens.{closing, comma, dot, equals, becomes}
 use Rattle.plan_notation.specs.Shown.{tight, prefix, loose, testing, grouped, binderToken, signalTokens, shown, shownᶜ, shownᵃ, shownFurther}
 use Rattle.plan_written.proofs.Right.{Ascending, RightSlot, RightField, Right, Rightᶜ, Rightᵃ}

@@ -6,7 +6,8 @@ use mathlib.Core.Bool.{Bool, true, false, cond, _||_}
 use mathlib.Core.List.{List, [], _∷_, _++_, map}
 use lib.Dec.{eqb, ltb}
 use Rattle.plan_notation.specs.Tokens.{textEnd}
-use Rattle.plan_notation.specs.Lexing.{Token, isBlank, digitOf, markOf, valueOf, nameFrom, nameOf, Begun, nothing, comment, name, colon, alone, begunAfter}
+use Rattle.plan_notation.specs.Lexing.{Token, isBlank, digitOf, markOf, valueOf, nameFrom, nameOf, Begun, nothing, comment, name, colon, alone}
+use Rattle.plan_notation.specs.Lexing.{begunAfter}
 use Rattle.plan_notation.specs.Lexing.{endedBy, endedAtEnd, tokensFrom, codesOf}
 
 -- behind the end there is nothing

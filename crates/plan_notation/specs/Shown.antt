@@ -8,7 +8,8 @@ use Rattle.plan_packed.specs.Syntax.{Signal, Expression, Condition, Arguments, 
 use Rattle.plan_packed.specs.Format.{fieldsFrom}
 use Rattle.plan_written.specs.Written.{versionNumber}
 use Rattle.plan_notation.specs.Tokens.{number, variable, versionWord, volatileWord, procedureWord, inWord, thenWord, elseWord, doWord, allWord, andWord}
-use Rattle.plan_notation.specs.Tokens.{trueWord, notWord, nullWord, newWord, letWord, ifWord, whileWord, callWord, forkWord, joinWord, synchWord, waitWord}
+use Rattle.plan_notation.specs.Tokens.{trueWord, notWord, nullWord, newWord, letWord, ifWord, whileWord, callWord, forkWord, joinWord, synchWord}
+use Rattle.plan_notation.specs.Tokens.{waitWord}
 use Rattle.plan_notation.specs.Tokens.{notifyWord, opening, closing, comma, dot, equals, becomes, dash}
 
 -- ---- how tightly a form binds, and how tightly its place asks it to

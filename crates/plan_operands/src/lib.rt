@@ -4,7 +4,8 @@ pub mod rows; // rows.rt: the operands of each tag
 pub mod tags; // tags.rt: the tags by name
 
 ghost use mathlib.Core.Path.{_≡_};
-ghost use Rattle.plan_packed.specs.inner.Operands.{tagOf, firstOf, secondOf, thirdOf, slotBits, fieldBits, writeSecond, letFirst, letSecond, procedureBits, listBits, maskBits};
+ghost use Rattle.plan_packed.specs.inner.Operands.{tagOf, firstOf, secondOf, thirdOf, slotBits, fieldBits, writeSecond, letFirst, letSecond, procedureBits};
+ghost use Rattle.plan_packed.specs.inner.Operands.{listBits, maskBits};
 
 // The power of two that is the place of a part's last bit: a part is a quotient by it.
 pub const TAG: usize = 34359738368;

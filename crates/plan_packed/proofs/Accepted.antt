@@ -13,7 +13,8 @@ use lib.ListN.{length}
 use borrow.Author.Tests.{le-leb, lt-ltb, ltb-false, leb-false, eqb-true, eqb-false, ne-eqb, not-false}
 use Rattle.format.proofs.BitLaws.{bits-below}
 use Rattle.format.proofs.RefusalLaws.{neither}
-use Rattle.plan_packed.specs.Format.{version, procedures, terms, headerSpare, volatiles, maskBit, fieldsFrom, parameters, root, planLength, Operand, absent}
+use Rattle.plan_packed.specs.Format.{version, procedures, terms, headerSpare, volatiles, maskBit, fieldsFrom, parameters, root, planLength, Operand}
+use Rattle.plan_packed.specs.Format.{absent}
 use Rattle.plan_packed.specs.Format.{slot, binder, mask, fieldName, procedure, expression, condition, list, width, layout, laidOut, tagAt, termAt}
 use Rattle.plan_packed.specs.Trees.{treeAt}
 use Rattle.plan_packed.specs.Slots.{closed}

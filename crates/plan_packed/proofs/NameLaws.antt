@@ -18,7 +18,8 @@ use Rattle.plan_packed.specs.Format.{terms, root, table, layout, laidOut
 use Rattle.plan_packed.specs.inner.Operands.{tagOf}
 use Rattle.plan_packed.specs.Trees.{nodes, nodeOf, nodeAt}
 use Rattle.plan_packed.specs.Refusals.{sumBelow, oneIf, wrongTerm, timesIn, timesNamed, notNamedOnce}
-use Rattle.plan_packed.specs.inner.Steps.{Headed, Loaded, nodeIn, Child, childOf, childrenOf, moreOf, countAll, cap, rootTimes, allTimes, Counted, notOnce, inWord}
+use Rattle.plan_packed.specs.inner.Steps.{Headed, Loaded, nodeIn, Child, childOf, childrenOf, moreOf, countAll, cap, rootTimes, allTimes, Counted}
+use Rattle.plan_packed.specs.inner.Steps.{notOnce, inWord}
 use Rattle.plan_packed.specs.inner.Steps.{lowerAll}
 use Rattle.plan_packed.proofs.Tags.{by-tag}
 use Rattle.format.proofs.Filled.{zeros}

@@ -15,7 +15,8 @@ use Rattle.plan_packed.specs.Format
 use Rattle.plan_packed.specs.Format.{terms, root, tagAt}
 use Rattle.plan_packed.specs.Trees.{ExpressionNode, ConditionNode, ArgumentsNode, Node, nodeAt}
 use Rattle.plan_packed.specs.Refusals.{anyBelow, sumBelow, oneIf, wrongTerm, wrongCall, wronglySorted, timesNamed, notNamedOnce}
-use Rattle.plan_packed.specs.inner.Steps.{Headed, Child, childrenOf, tagSort, wrongSort, misplacedRoot, misfits, rootTimes, allTimes, noteOf, noteAll, Noted}
+use Rattle.plan_packed.specs.inner.Steps.{Headed, Child, childrenOf, tagSort, wrongSort, misplacedRoot, misfits, rootTimes, allTimes, noteOf, noteAll}
+use Rattle.plan_packed.specs.inner.Steps.{Noted}
 use Rattle.plan_packed.specs.inner.Steps.{RootsNoted, TermsNoted}
 use Rattle.plan_packed.proofs.Children.{Within, children-within}
 use Rattle.plan_packed.proofs.NameLaws.{timesOf, term-times, within-more}

@@ -12,7 +12,8 @@ use borrow.Author.Tests.{ltb-false, leb-false, eqb-true, eq-eqb, not-false}
 use Rattle.format.specs.Refusal.{Check, firstRefusal}
 use Rattle.format.proofs.RefusalLaws.{AllPass, none-left, and-then, head-pass, tail-pass, some-is-first, none-is-pass, other-number, last-refuses, neither}
 use Rattle.plan_packed.specs.Format
-use Rattle.plan_packed.specs.Format.{version, terms, headerSpare, volatiles, maskBit, parameters, root, planLength, Operand, expression, Term, tagAt, termAt}
+use Rattle.plan_packed.specs.Format.{version, terms, headerSpare, volatiles, maskBit, parameters, root, planLength, Operand, expression, Term, tagAt}
+use Rattle.plan_packed.specs.Format.{termAt}
 use Rattle.plan_packed.specs.Refusals.{anyBelow, wrongLength, wrongHeader, wrongProcedure, wrongOperand, someOperand, breaksTable, wrongTerm, misplaced}
 use Rattle.plan_packed.specs.Refusals.{listLength, wrongCall, wronglySorted, notNamedOnce, usesUnboundSlot}
 use Rattle.plan_packed.specs.Check.{checks, refusal}

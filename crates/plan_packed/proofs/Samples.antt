@@ -6,7 +6,8 @@ use mathlib.Core.List.{List, [], _∷_, _++_, map}
 use mathlib.Core.Option.{Option, some, none}
 use Rattle.format.specs.Version.{v1}
 use Rattle.format.specs.Refusal.{Refusal}
-use Rattle.plan_packed.specs.Syntax.{Signal, literal, variable, new, read, write, letIn, if, while, call, fork, join, synch, signal, truth, not, and, equal}
+use Rattle.plan_packed.specs.Syntax.{Signal, literal, variable, new, read, write, letIn, if, while, call, fork, join, synch, signal, truth, not, and}
+use Rattle.plan_packed.specs.Syntax.{equal}
 use Rattle.plan_packed.specs.Syntax.{end, argument, Program}
 use Rattle.plan_packed.specs.Format.{Operand, absent, slot, binder, mask, fieldName, procedure, expression, condition, list, Row, table}
 use Rattle.plan_packed.specs.Trees.{programOf}

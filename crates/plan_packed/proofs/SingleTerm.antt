@@ -11,7 +11,8 @@ use borrow.Author.Tests.{lt-ltb, leb-false}
 use Rattle.format.proofs.Filled.{zeros, filled}
 use Rattle.format.proofs.RefusalLaws.{neither}
 use Rattle.plan_packed.specs.Format
-use Rattle.plan_packed.specs.Format.{terms, Operand, absent, slot, binder, mask, fieldName, procedure, expression, condition, list, layout, laidOut, tagAt}
+use Rattle.plan_packed.specs.Format.{terms, Operand, absent, slot, binder, mask, fieldName, procedure, expression, condition, list, layout, laidOut}
+use Rattle.plan_packed.specs.Format.{tagAt}
 use Rattle.plan_packed.specs.Format.{termAt, tagCount}
 use Rattle.plan_packed.specs.inner.Operands.{tagOf}
 use Rattle.plan_packed.specs.Trees.{nodeOf, Node}

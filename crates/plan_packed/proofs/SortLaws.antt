@@ -15,7 +15,8 @@ use Rattle.plan_packed.specs.Format.{terms, root, expression, table, lay
 use Rattle.plan_packed.specs.inner.Operands.{tagOf}
 use Rattle.plan_packed.specs.Trees.{nodes, nodeOf, nodeAt}
 use Rattle.plan_packed.specs.Refusals.{anyBelow, someOperand, wrongTerm, misplaced, wronglySorted, wrongCall}
-use Rattle.plan_packed.specs.inner.Steps.{Sized, Loaded, tagIn, nodeIn, Child, childOf, childrenOf, anExpression, aCondition, aList, tagSort, wrongSort, lowerIf}
+use Rattle.plan_packed.specs.inner.Steps.{Sized, Loaded, tagIn, nodeIn, Child, childOf, childrenOf, anExpression, aCondition, aList, tagSort, wrongSort}
+use Rattle.plan_packed.specs.inner.Steps.{lowerIf}
 use Rattle.plan_packed.specs.inner.Steps.{lowerAll, misplacedRoot, misfits, faults}
 use Rattle.plan_packed.proofs.Reading.{tag-in}
 use Rattle.plan_packed.proofs.Tags.{by-tag}

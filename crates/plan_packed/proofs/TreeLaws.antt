@@ -5,7 +5,8 @@ use native.Mathlib.Omega.{arith}
 use mathlib.Core.Path.{_≡_, refl, _∙_}
 use Rattle.plan_packed.specs.Syntax.{Expression, Condition, Arguments}
 use Rattle.plan_packed.specs.inner.Steps.{NamesLater, Descending}
-use Rattle.plan_packed.specs.Trees.{null, variable, new, read, write, letIn, if, while, call, fork, join, synch, signal, truth, not, and, equal, list, listEnd}
+use Rattle.plan_packed.specs.Trees.{null, variable, new, read, write, letIn, if, while, call, fork, join, synch, signal, truth, not, and, equal, list}
+use Rattle.plan_packed.specs.Trees.{listEnd}
 use Rattle.plan_packed.specs.Trees.{Node, expression, condition, arguments, unknown}
 use Rattle.plan_packed.specs.Trees.{expressionOf, conditionOf, argumentsOf, expressionAt, conditionAt, argumentsAt}
 

@@ -4,7 +4,8 @@ use mathlib.Core.Bool.{Bool, true, false, cond, _&&_, _||_, not}
 use mathlib.Core.List.{List}
 use lib.Dec.{eqb, ltb, leb}
 use lib.ListN.{length}
-use Rattle.plan_packed.specs.Format.{version, procedures, terms, headerSpare, volatiles, maskBit, fieldsFrom, parameters, root, planLength, Operand, absent}
+use Rattle.plan_packed.specs.Format.{version, procedures, terms, headerSpare, volatiles, maskBit, fieldsFrom, parameters, root, planLength, Operand}
+use Rattle.plan_packed.specs.Format.{absent}
 use Rattle.plan_packed.specs.Format.{slot, binder, mask, fieldName, procedure, expression, condition, list, tagCount, Term, tagAt, termAt}
 use Rattle.plan_packed.specs.Trees.{treeAt}
 use Rattle.plan_packed.specs.Slots.{closed}

@@ -15,7 +15,8 @@ use Rattle.plan_notation.specs.Tokens.{procedureWord, opening, closing, equals,
 use Rattle.plan_notation.proofs.TextEnd.{Ended}
 use Rattle.plan_parsing.specs.Goals.{expression, Goal, expect, operand, Value, number, ofExpression}
 use Rattle.plan_parsing.specs.Goals as goals
-use Rattle.plan_parsing.specs.Parser.{ahead, Step, go, stop, wanted, nesting, step, Parsed, parsed, stopped, afterStep, parseBy, parse, mostGoals, mostValues}
+use Rattle.plan_parsing.specs.Parser.{ahead, Step, go, stop, wanted, nesting, step, Parsed, parsed, stopped, afterStep, parseBy, parse, mostGoals}
+use Rattle.plan_parsing.specs.Parser.{mostValues}
 use Rattle.plan_parsing.specs.Plan.{countsFrom, procedureGoals}
 use Rattle.plan_parsing.proofs.Wanted.{weights, Wants, wants-append, Passed, passed-none, passed-both}
 use Rattle.plan_parsing.proofs.Branches.{either-way}

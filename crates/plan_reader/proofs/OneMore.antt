@@ -18,7 +18,8 @@ use Rattle.plan_written.specs.Written.{sizeOfAll}
 use Rattle.plan_notation.specs.Tokens.{textEnd}
 use Rattle.plan_parsing.specs.Goals.{Value, number, numberIn, expressionIn, valueAt}
 use Rattle.plan_parsing.specs.Parser.{ahead, Reason, parse, Parsed, parsed, stopped}
-use Rattle.plan_parsing.specs.Plan.{Reading, plan, fault, Fault, countsOf, procedureGoals, Before, programBy, withProcedure, afterProcedure, proceduresBy, readPlan}
+use Rattle.plan_parsing.specs.Plan.{Reading, plan, fault, Fault, countsOf, procedureGoals, Before, programBy, withProcedure, afterProcedure, proceduresBy}
+use Rattle.plan_parsing.specs.Plan.{readPlan}
 use Rattle.plan_parsing.proofs.ReadRight.{ReadProcedure, main-read, procedure-read}
 use Rattle.plan_writer.specs.inner.Held.{heldProcedure, heldFrom, heldProgram}
 use Rattle.plan_reader.specs.inner.Reading.{Going}

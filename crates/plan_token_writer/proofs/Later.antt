@@ -16,7 +16,8 @@ use Rattle.format.proofs.Ranges.{by-range}
 use Rattle.plan_packed.proofs.Tags.{past, by-tag}
 use Rattle.plan_packed.proofs.Walk.{row-below}
 use Rattle.plan_notation.specs.Tokens.{opening, closing}
-use Rattle.plan_token_writer.specs.inner.Items.{token, child, asArguments, operandBy, binderOn, itemOf, itemRows, conditionRow, rowAs, rowNumber, itemsFrom}
+use Rattle.plan_token_writer.specs.inner.Items.{token, child, asArguments, operandBy, binderOn, itemOf, itemRows, conditionRow, rowAs, rowNumber}
+use Rattle.plan_token_writer.specs.inner.Items.{itemsFrom}
 use Rattle.plan_token_writer.specs.inner.Items.{rowItems}
 
 -- an item that is a token, or a tree at a term after t in a context

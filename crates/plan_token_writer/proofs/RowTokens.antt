@@ -23,7 +23,8 @@ use Rattle.plan_notation.specs.Tokens.{thenWord, elseWord, doWord, allWord, and
 use Rattle.plan_notation.specs.Tokens as tokens
 use Rattle.plan_notation.specs.Tokens.{callWord, forkWord, joinWord, synchWord, waitWord, notifyWord, opening, closing, comma, dot, equals, becomes, dash}
 use Rattle.plan_notation.specs.Shown.{loose, testing, prefix, tight, grouped, binderToken, signalTokens, shown, shownᶜ, shownᵃ, shownFurther}
-use Rattle.plan_token_writer.specs.inner.Items.{token, child, asCondition, asArguments, asFurther, shownAs, itemTokens, tokensIn, operandBy, binderOn, itemOf}
+use Rattle.plan_token_writer.specs.inner.Items.{token, child, asCondition, asArguments, asFurther, shownAs, itemTokens, tokensIn, operandBy, binderOn}
+use Rattle.plan_token_writer.specs.inner.Items.{itemOf}
 use Rattle.plan_token_writer.specs.inner.Items.{itemRows, conditionRow, rowAs, rowNumber, itemsFrom, rowItems}
 use Rattle.plan_token_writer.proofs.ItemTokens.{token-is, child-is, joined, Each, tokens-are, tokens-append, grouped-are}
 
@@ -180,7 +181,8 @@ module _ (ws : List ℕ) (o : Ordered ws) (t : ℕ) where
     unfolding rowItems itemRows itemOf operandBy nodeOf inWord layout table nodes expressionOf shown shownAs binderOf
     row-11 e n =
         grouped-are ws (ltb 0 d) (itemsFrom w 11 2 4) _
-        (tokens-are ws (itemsFrom w 11 2 4) ((synchWord ∷ []) ∷ shown loose (treeIn ws (firstOf w)) ∷ (doWord ∷ []) ∷ shown loose (treeIn ws (secondOf w)) ∷ []) (
+        (tokens-are ws (itemsFrom w 11 2 4) ((synchWord ∷ []) ∷ shown loose (treeIn ws (firstOf w)) ∷ (doWord ∷ []) ∷ shown loose (treeIn ws (secondOf w)) ∷
+        []) (
           token-is ws synchWord (omega arith),
           (
             child-is ws 0 (firstOf w) (omega arith) (small₁₀ _),

@@ -14,7 +14,8 @@ ghost use Rattle.plan_packed.specs.inner.Steps.{Ordered, treeIn};
 ghost use Rattle.plan_notation.specs.Tokens.{newWord, opening, closing};
 ghost use Rattle.plan_notation.specs.Shown.{loose, shown};
 ghost use Rattle.text.specs.inner.Wrote.{Wrote};
-ghost use Rattle.plan_token_writer.specs.inner.Items.{operandBy, binderOn, itemOf, itemRows, conditionRow, rowAs, rowNumber, itemsFrom, rowItems, newTokens, isNew, tokensIn, stackOf, Pushed, Running, Stepped};
+ghost use Rattle.plan_token_writer.specs.inner.Items.{operandBy, binderOn, itemOf, itemRows, conditionRow, rowAs, rowNumber, itemsFrom, rowItems};
+ghost use Rattle.plan_token_writer.specs.inner.Items.{newTokens, isNew, tokensIn, stackOf, Pushed, Running, Stepped};
 
 // An item from here on is a token.
 const TOKEN: usize = 16384;

@@ -7,7 +7,8 @@ use mathlib.Core.Bool.{Bool, true, false, cond, _&&_, _||_, not, true≢false}
 use mathlib.Core.List.{List}
 use lib.Dec.{eqb, ltb, leb}
 use borrow.Author.Tests.{le-ltb, lt-leb, leb-false, eq-eqb, ne-eqb}
-use Rattle.plan_packed.specs.Format.{procedures, terms, parameters, Operand, absent, slot, binder, mask, fieldName, procedure, expression, condition, list, table}
+use Rattle.plan_packed.specs.Format.{procedures, terms, parameters, Operand, absent, slot, binder, mask, fieldName, procedure, expression, condition, list}
+use Rattle.plan_packed.specs.Format.{table}
 use Rattle.plan_packed.specs.Format.{layout, laidOut, Term, termAt, tagAt}
 use Rattle.plan_packed.specs.Refusals.{wrongOperand, someOperand, breaksTable, wrongTerm, misplaced, isChild, listLength, wrongCall}
 use Rattle.plan_packed.proofs.Children.{termOf}

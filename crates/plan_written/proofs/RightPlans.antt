@@ -11,7 +11,8 @@ use lib.ListN.{length, getD}
 use borrow.Author.Tests.{eqb-false}
 use Rattle.format.proofs.BitLaws.{bits-below}
 use Rattle.plan_packed.specs.Syntax.{Expression, Condition, Arguments, Procedure}
-use Rattle.plan_packed.specs.Format.{procedures, terms, parameters, root, volatiles, maskBit, fieldsFrom, expression, condition, list, table, layout, termAt, tagAt}
+use Rattle.plan_packed.specs.Format.{procedures, terms, parameters, root, volatiles, maskBit, fieldsFrom, expression, condition, list, table, layout, termAt}
+use Rattle.plan_packed.specs.Format.{tagAt}
 use Rattle.plan_packed.specs.Trees.{nodes, nodeAt, binderOf, expressionOf, conditionOf, argumentsOf, expressionAt, conditionAt, argumentsAt, treeAt}
 use Rattle.plan_packed.specs.Trees.{proceduresFrom, programOf}
 use Rattle.plan_packed.specs.Refusals.{listLength}

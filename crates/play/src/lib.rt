@@ -41,7 +41,8 @@ pub fn explore(
     log: &mut [u8],
 ) -> Explored
     requires { ⌜ Given (now plan) (now words) (now picks) (now log) × Notable (now notes) (now log) ⌝ }
-    ensures { λ r. ⌜ ExploredBy every (now (plan .entry)) (now (picks .entry)) (now (log .entry)) (now (log .exit)) (now (notes .entry)) (now (notes .exit)) r ⌝ }
+    ensures { λ r. ⌜ ExploredBy every (now (plan .entry)) (now (picks .entry)) (now (log .entry)) (now (log .exit)) (now (notes .entry))
+        (now (notes .exit)) r ⌝ }
 {
     let procedures = layout::procedures(plan);
     let roots = roots(plan, procedures);

@@ -11,7 +11,8 @@ use Rattle.plan_packed.specs.Trees.{Node, expression, condition, arguments}
 use Rattle.plan_packed.specs.inner.Steps.{Descending}
 use Rattle.rules.specs.Context.{falseWhen}
 use Rattle.machine.specs.inner.Frames.{Slots, noSlots, Closure, closure, branches, Frame, Ready, Found, height}
-use Rattle.machine.specs.inner.Refocusing.{given, valueOf, isTrue, boolOf, valueIn, boolIn, foundNot, upBy, downBy, downByᶜ, downByᵃ, down, downᶜ, downᵃ, up, upᶜ}
+use Rattle.machine.specs.inner.Refocusing.{given, valueOf, isTrue, boolOf, valueIn, boolIn, foundNot, upBy, downBy, downByᶜ, downByᵃ, down, downᶜ, downᵃ, up}
+use Rattle.machine.specs.inner.Refocusing.{upᶜ}
 use Rattle.machine.specs.inner.Refocusing.{enter, enterᶜ}
 use Rattle.machine.specs.inner.Turns.{Going, Turn, ends, goDown, goDownᶜ, goList, refocus, turn, refocusTurn}
 use Rattle.machine.proofs.Turns.{turn-refocuses}
@@ -48,7 +49,8 @@ module _ {h : ℕ → Node} {N : ℕ} (o : Descending h N) where
 
   -- ---- a turn down
 
-  given-same : {A : Type 0} (v : Option A) (k : A → Turn) (g : Turn) (m : A → Found) (r : Found) → ((a : A) → refocusTurn h N (k a) ≡ m a) → refocusTurn h N g ≡ r
+  given-same : {A : Type 0} (v : Option A) (k : A → Turn) (g : Turn) (m : A → Found) (r : Found) → ((a : A) → refocusTurn h N (k a) ≡ m a) → refocusTurn h N
+      g ≡ r
       → refocusTurn h N (given v k g) ≡ given v m r
   given-same (some a) k g m r p q = p a
   given-same none k g m r p q = q

@@ -15,7 +15,8 @@ use Rattle.machine.proofs.Sorted.{Well}
 use Rattle.run_frames.specs.declared.frame.Kind.the-variants as kind
 use Rattle.run_frames.specs.inner.RedexKinds.{RedexKind as redex}
 use Rattle.run_term_words.specs.inner.Slots.{slotOf}
-use Rattle.plan_packed.specs.inner.Operands.{tagOf, firstOf, secondOf, thirdOf, slotBits, fieldBits, writeSecond, letFirst, letSecond, procedureBits, listBits, maskBits}
+use Rattle.plan_packed.specs.inner.Operands.{tagOf, firstOf, secondOf, thirdOf, slotBits, fieldBits, writeSecond, letFirst, letSecond, procedureBits, listBits}
+use Rattle.plan_packed.specs.inner.Operands.{maskBits}
 use Rattle.run_term_words.specs.inner.Words.{wordAt, valueBy, valueOf}
 use Rattle.run_frames.specs.inner.Frames.{framed, letFrame}
 use Rattle.run_frames.specs.inner.Going.{readyOf, goAt, goValue}

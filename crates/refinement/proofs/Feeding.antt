@@ -187,7 +187,20 @@ module _ (b : List ℕ) where
         let y = closed (f .first) (f .environment) in
         choose-goes (eqb x 1) (goAt (readyOf redex.RunCondition (f .first) 0 0 (f .environment))) (goAt (readyOf redex.Truth 0 0 0 0))
         (λ t. (redex.RunCondition, refl, (w, s, e ∙ ap (upᶜ (nodeAt b) (terms b) (frames.Frame.and y ∷ S)) t)))
-        (λ t. (redex.Truth, refl, (w, omega arith, (frames.Readyᶜ.and false y, e ∙ ap (upᶜ (nodeAt b) (terms b) (frames.Frame.and y ∷ S)) t, and-unlogged S y))))
+        (λ t. (
+          redex.Truth,
+          refl,
+          (
+            w,
+            omega arith,
+            (
+              frames.Readyᶜ.and false y,
+              e ∙ ap (upᶜ (nodeAt b) (terms b) (frames.Frame.and y ∷ S)) t,
+              and-unlogged S
+                  y,
+            ),
+          ),
+        ))
     feed-condition-by kind.Not f x q s l w e =
         choose-goes (eqb x 1) (goTruth 0) (goAt (readyOf redex.Truth 1 0 0 0))
         (λ t. (w, omega arith, e ∙ ap (upᶜ (nodeAt b) (terms b) (frames.Frame.not ∷ S)) t))

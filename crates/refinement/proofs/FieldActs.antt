@@ -91,7 +91,8 @@ module _ {b : List ℕ} {m : engine.Machine} {s : machine.State} {p : ℕ} (move
       → t .expression ≡ frames.Found.here S (frames.Ready.read o f)
       → MeetsBy (lookField (settingOf b) (headFor m p (readyOf redex.Read o f w environment)) (getD cs i noCell) (getD ts j noObject) f) p
       (readyOf redex.Read o f w environment) (machine.attempt (tableOf b) s p)
-      (Acts mover (readyOf redex.Read o f w environment) i (actRead (settingOf b) n (headFor m p (readyOf redex.Read o f w environment)) (getD cs i noCell) o f))
+      (Acts mover (readyOf redex.Read o f w environment) i (actRead (settingOf b) n (headFor m p (readyOf redex.Read o f w environment)) (getD cs i noCell) o
+      f))
   unfolding objectBy fieldBy lackBy lookField actRead machine.act machine.readAct machine.around machine.gain playing.noRoomBefore refocus.go tableOf
   read-meets o f w environment i j ei ej well ho zf hf code =
       by (hasOf (getD ts j noObject .mask) f) (hasOf (settingOf b .mask) f) (holdsOf ks (c .key % 256)) (field-found o f i j ei ej o-there ho zf hf)

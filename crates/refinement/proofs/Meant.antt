@@ -143,7 +143,8 @@ module _ (b : List ℕ) where
   StandsBy redex.Done r S X = (S ≡ []) × (X ≡ frames.Found.value (r .first)) × (r .first < 32)
   StandsBy redex.NoRule r S X = ⊥
   StandsBy redex.Run r S X = Well S × IsExpression (r .first) × Pure S (frames.Result.run (closed (r .first) (r .environment))) X
-  StandsBy redex.RunCondition r S X = Wellᶜ S × IsCondition (r .first) × (X ≡ frames.Found.hereᶜ S (frames.Readyᶜ.and true (closed (r .first) (r .environment))))
+  StandsBy redex.RunCondition r S X = Wellᶜ S × IsCondition (r .first) ×
+      (X ≡ frames.Found.hereᶜ S (frames.Readyᶜ.and true (closed (r .first) (r .environment))))
   StandsBy redex.Val r S X = Well S × (r .first ≡ 0) × Pure S (frames.Result.value 0) X
   StandsBy redex.Truth r S X = Wellᶜ S × (r .first < 2) × Pureᶜ S (upᶜ (nodeAt b) (terms b) S (eqb (r .first) 1)) X
   StandsBy redex.While r S X =

@@ -74,7 +74,8 @@ module _ {b : List ℕ} {m : engine.Machine} {s : machine.State} {p : ℕ} (move
       → t .expression ≡ frames.Found.here S (frames.Ready.synch o (closed u environment))
       → MeetsBy (lookSynch (headFor m p (readyOf redex.Synch o u w environment)) (getD cs i noCell)) p (readyOf redex.Synch o u w environment)
       (machine.attempt (tableOf b) s p)
-      (Acts mover (readyOf redex.Synch o u w environment) i (actSynch n (headFor m p (readyOf redex.Synch o u w environment)) (getD cs i noCell) o u environment))
+      (Acts mover (readyOf redex.Synch o u w environment) i (actSynch n (headFor m p (readyOf redex.Synch o u w environment)) (getD cs i noCell) o u
+      environment))
   unfolding objectBy fieldBy lookSynch actSynch machine.act machine.synchAct machine.around machine.gain machine.storeMonitor playing.noRoomBefore refocus.go
       tableOf
   synch-meets o u w environment i ei well ho hu code =

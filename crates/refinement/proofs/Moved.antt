@@ -48,7 +48,8 @@ refocused-forked ws rs x l forks = cond forks (refocusForked ws rs x (l .stack))
 
 -- what the move leaves
 abbrev pub left : List ℕ → List ℕ → Met → Acted → Stack → Bool → Move
-left ws rs x a k forks = moveOf x a (refocusMover ws rs x a k .refocused) (forkedOf x (refocused-forked ws rs x (refocusMover ws rs x a k) forks .refocused)) forks
+left ws rs x a k forks = moveOf x a (refocusMover ws rs x a k .refocused) (forkedOf x (refocused-forked ws rs x (refocusMover ws rs x a k) forks .refocused))
+    forks
 
 -- the heads, where a thread was made and where none was
 forked-size : (x : Bool) (l : List Head) (q : ℕ) (y : Head) → length (engine.withForked x l q y) ≡ length l
@@ -59,7 +60,8 @@ forked-other : (x : Bool) (l : List Head) (i : ℕ) (y : Head) (q : ℕ) → (q 
 forked-other true l i y q e = getD-set-other l i q y noHead e
 forked-other false l i y q e = refl
 
-module _ {b ws rs : List ℕ} (loaded : WordsAndRoots b ws rs) {m : engine.Machine} {s : machine.State} {p : ℕ} (mover : Mover b m s p) {v : machine.Move} (a : Acted)
+module _ {b ws rs : List ℕ} (loaded : WordsAndRoots b ws rs) {m : engine.Machine} {s : machine.State} {p : ℕ} (mover : Mover b m s p) {v : machine.Move}
+    (a : Acted)
     (D : Does mover (headAt (m .heads) p .ready) (cellNumber (headAt (m .heads) p .ready)) a v) where
   open Mover mover using (ok, related as rel, reached as reach, thread as t, there, headed as H)
 
@@ -128,7 +130,8 @@ module _ {b ws rs : List ℕ} (loaded : WordsAndRoots b ws rs) {m : engine.Machi
       let refocuses′ : Refocuses b (L .stack) (n .threads * 33) (y .expression) Y =
       along (λ (E : Ended). Refocuses b (L .stack) (n .threads * 33) (y .expression) E) q
       (along (λ (c : ℕ). Refocuses b (L .stack) (c * 33) (y .expression) (refocusOf 2100 ws rs (n .threads % 9 * 33) (L .stack) (forkedGo h) 0)) e
-      (refocused b ws rs ok loaded (n .threads % 9 * 33) (L .stack) (refocuses .sized) (omega arith) [] tt (forkedGo h) 0 refl (omega arith) (y .expression) goes)) in
+      (refocused b ws rs ok loaded (n .threads % 9 * 33) (L .stack) (refocuses .sized) (omega arith) [] tt (forkedGo h) 0 refl (omega arith) (y .expression)
+      goes)) in
       record {
         sized = refocuses′ .sized;
         others = λ i l. refocuses′ .others i (inl l);

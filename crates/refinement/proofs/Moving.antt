@@ -149,9 +149,11 @@ module _ {b : List ℕ} {m : engine.Machine} {s : machine.State} {p : ℕ} (move
   }
 
   -- a move that forks no thread and makes no signal
-  pub moved : (r₀ : Ready) (i : ℕ) (R : Rule) (r : Option Record) (s′ : machine.State) (F : frames.Found) (g : Refocusing) (n′ : Counts) (ks′ : KeySet) (new : ℕ)
+  pub moved : (r₀ : Ready) (i : ℕ) (R : Rule) (r : Option Record) (s′ : machine.State) (F : frames.Found) (g : Refocusing) (n′ : Counts) (ks′ : KeySet)
+      (new : ℕ)
       (c : Cell) (x : Object) (e : Entry)
-      → playing.noRoomBefore s R ≡ none → Entered p e r → isRedex redex.Fork (r₀ .redex) ≡ false → isRedex redex.Signal (r₀ .redex) ≡ false → Goes b g S F → Fits ks′
+      → playing.noRoomBefore s R ≡ none → Entered p e r → isRedex redex.Fork (r₀ .redex) ≡ false → isRedex redex.Signal (r₀ .redex) ≡ false → Goes b g S F
+      → Fits ks′
       → s′ .threads ≡ changeAt (s .threads) p (knowing (keysOf ks′) (total new)) → Kept (settingOf b) (set cs i c) (set ts (n .objects) x) n′ s′
       → Does mover r₀ i (record { go = g; keys = ks′; cell = c; object = x; counts = n′; entry = e; new = new })
       (record { rule = R; entry = r; state = machine.become s′ p F })
@@ -161,7 +163,8 @@ module _ {b : List ℕ} {m : engine.Machine} {s : machine.State} {p : ℕ} (move
       fit threads kept
 
   -- a move that leaves the memory, the keys and the places as they are, and no record
-  pub plain : (r₀ : Ready) (i : ℕ) (R : Rule) (F : frames.Found) (g : Refocusing) → isRedex redex.Fork (r₀ .redex) ≡ false → isRedex redex.Signal (r₀ .redex) ≡ false
+  pub plain : (r₀ : Ready) (i : ℕ) (R : Rule) (F : frames.Found) (g : Refocusing) → isRedex redex.Fork (r₀ .redex) ≡ false → isRedex redex.Signal (r₀ .redex)
+      ≡ false
       → playing.noRoomBefore s R ≡ none → Goes b g S F
       → Acts mover r₀ i (actedOf g n ks (getD cs i noCell) noEntry) (record { rule = R; entry = none; state = machine.become s p F })
   plain r₀ i R F g forks signals lack goes =

@@ -259,7 +259,8 @@ module _ {b : List ℕ} {m : engine.Machine} {s : machine.State} {p : ℕ} (move
       acted x e = attempts mover (frames.Ready.join o) code (ap (machine.joinAct s p o) e)
 
       finish : (q : machine.Numbered) (h : Head) (w₁ : Sight) → machine.threadOf 0 (s .threads) o ≡ some q → q .number < 8
-          → keysOf (h .keys) ≡ q .thread .keys → Fits (h .keys) → Ends (h .ready .redex) (h .ready .first) (q .thread .expression) → joinBy (h .ready .redex) ≡ w₁
+          → keysOf (h .keys) ≡ q .thread .keys → Fits (h .keys) → Ends (h .ready .redex) (h .ready .first) (q .thread .expression) → joinBy (h .ready .redex)
+          ≡ w₁
           → Sees w₁ (q .number) h
       finish q h w₁ e lt eq fit (inl (j, f, v)) e₁ =
           along (λ (w₁ : Sight). Sees w₁ (q .number) h) (sym j ∙ e₁) (

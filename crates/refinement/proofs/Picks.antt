@@ -31,7 +31,8 @@ use Rattle.run_look.specs.declared.Sight.{Sight}
 use Rattle.run_look.specs.declared.Sight.the-variants as sight
 use Rattle.run_pick.specs.declared.Met.{Met}
 use Rattle.run_pick.specs.inner.Answer.{PickAnswer, PickAnswer as answer}
-use Rattle.run_pick.specs.inner.Pick.{Picked, picked, noRoom, noHead, forksOf, fullOf, moveOf, refocusMover, startBy, refocusBy, makeBy, actMet, pickBy, lookMet, pickOf}
+use Rattle.run_pick.specs.inner.Pick.{Picked, picked, noRoom, noHead, forksOf, fullOf, moveOf, refocusMover, startBy, refocusBy, makeBy, actMet, pickBy}
+use Rattle.run_pick.specs.inner.Pick.{lookMet, pickOf}
 use Rattle.run_engine.specs.inner.Machine as engine
 use Rattle.run_engine.specs.inner.Machine.{headAt, cellNumber, metBy, after, turnBy}
 use Rattle.refinement.proofs.Meant.{WordsAndRoots}
@@ -92,7 +93,8 @@ module _ {b ws rs : List ℕ} (loaded : WordsAndRoots b ws rs) {m : engine.Machi
     abbrev forkedFull : Bool
     forkedFull = forksOf (x .head) && fullOf (Y (forksOf (x .head)) .refocused)
 
-    answered : (d : Bool) → (fullOf (L .refocused) || forkedFull) ≡ d → playing.step (tableOf b) s p ≡ playing.withinRoom v (cond d (some rooms.Room.depth) none)
+    answered : (d : Bool) → (fullOf (L .refocused) || forkedFull) ≡ d → playing.step (tableOf b) s p ≡ playing.withinRoom v
+        (cond d (some rooms.Room.depth) none)
     unfolding orElse
     answered d e = step-moves b s p v none _ attempts (D .lacks) (deep-after loaded mover a D ∙ ap (λ (d : Bool). cond d (some rooms.Room.depth) none) e)
 

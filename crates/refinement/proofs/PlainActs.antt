@@ -56,7 +56,8 @@ module _ {b : List ℕ} {m : engine.Machine} {s : machine.State} {p : ℕ} (move
   pure-meets i r forks signals x R g code u goes =
       (_, attempts mover R code (u .acts s p t), plain mover r i (u .rule) (refocus.go (nodeAt b) (terms b) S x) g forks signals (u .needs-no-room s) goes)
 
-  pub condition-meets : (i : ℕ) (r : Ready) → isRedex redex.Fork (r .redex) ≡ false → isRedex redex.Signal (r .redex) ≡ false → (Q : frames.Readyᶜ) (g : Refocusing)
+  pub condition-meets : (i : ℕ) (r : Ready) → isRedex redex.Fork (r .redex) ≡ false → isRedex redex.Signal (r .redex) ≡ false → (Q : frames.Readyᶜ)
+      (g : Refocusing)
       → t .expression ≡ frames.Found.hereᶜ S Q → playing.noRoomBefore s (machine.actᶜ (tableOf b) S Q .rule) ≡ none
       → Goes b g S (machine.actᶜ (tableOf b) S Q .expression)
       → MeetsBy sight.Ready p r (machine.attempt (tableOf b) s p) (Acts mover r i (actedOf g n ks (getD cs i noCell) noEntry))
@@ -73,7 +74,8 @@ module _ {b : List ℕ} {m : engine.Machine} {s : machine.State} {p : ℕ} (move
   pub while-meets : (a b′ w environment i : ℕ) → Well S → IsCondition b a → IsExpression b b′
       → t .expression ≡ frames.Found.here S (frames.Ready.while (branches a b′ (slots environment)))
       → MeetsBy sight.Ready p (readyOf redex.While a b′ w environment) (machine.attempt (tableOf b) s p)
-      (Acts mover (readyOf redex.While a b′ w environment) i (actedOf (goWantCondition (framed kind.Test a b′ 0 environment) a) n ks (getD cs i noCell) noEntry))
+      (Acts mover (readyOf redex.While a b′ w environment) i (actedOf (goWantCondition (framed kind.Test a b′ 0 environment) a) n ks (getD cs i noCell)
+      noEntry))
   unfolding machine.act machine.around playing.noRoomBefore refocus.go tableOf
   while-meets a b′ w environment i well hc he code =
       let z = loops hc he in (

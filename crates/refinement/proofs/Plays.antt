@@ -343,7 +343,8 @@ module _ (b ws rs : List ℕ) (ok : refusal b ≡ none) (loaded : WordsAndRoots 
 
   module _ (ps area : List ℕ) (small : Small ps) (wide : 3 * length ps ≤ length area) where
     from-start : (every : Bool)
-        → PlaysAs b 0 0 0 area (playOf ws rs (settingOf b) (startOf every rs area) ps 0) (playing.machineRun b ps) (recordsFrom every (tableOf b) playing.start ps)
+        → PlaysAs b 0 0 0 area (playOf ws rs (settingOf b) (startOf every rs area) ps 0) (playing.machineRun b ps)
+        (recordsFrom every (tableOf b) playing.start ps)
     unfolding startOf playing.machineRun
     from-start every = plays ps 0 small (startOf every rs area) playing.start (start-related b ws rs ok loaded every area) (start-reached b ok) (let e =
         zero-add (length ps) in omega arith)

@@ -88,7 +88,8 @@ module _ (b ws rs : List ℕ) (a : Accepted b) (loaded : WordsAndRoots b ws rs) 
       ∙ sym (Turns.goes (suc n) ws rs base k g (length S) (omega arith) live))
       (record { found = r .found; sized = r .sized; others = λ j h. r .others j h ∙ stored-other k base T j (apart j (T .at) h i) })
 
-  refocuses-by : (n : ℕ) → RefocusesIn n → (k : Stack) → Sized b k → (S : List frames.Frame) → Holds b k base S → length S ≤ 32 → (g : Refocusing) → Goes b g S X
+  refocuses-by : (n : ℕ) → RefocusesIn n → (k : Stack) → Sized b k → (S : List frames.Frame) → Holds b k base S → length S ≤ 32 → (g : Refocusing) → Goes b g
+      S X
       → Enough ws (suc n) g
       → (t : Bool) → liveBy (g .stage) ≡ t → Refocuses b k base X (refocusOf (suc n) ws rs base k g (length S))
   refocuses-by n rest k sized S held few g p q true live =

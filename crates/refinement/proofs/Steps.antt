@@ -76,7 +76,8 @@ module _ {b ws rs : List ℕ} {k : Stack} {base n : ℕ} {X : frames.Found} wher
 
   -- ---- by the stage
 
-  step-by : (s : Stage) (g : Refocusing) (S : List frames.Frame) → g .stage ≡ s → Placed b ws rs k base S → liveBy s ≡ true → GoesBy b s g S X → EnoughBy ws (suc n) s g
+  step-by : (s : Stage) (g : Refocusing) (S : List frames.Frame) → g .stage ≡ s → Placed b ws rs k base S → liveBy s ≡ true → GoesBy b s g S X → EnoughBy ws
+      (suc n) s g
       → Next b ws k base n X (stepBy s ws rs g (length S) (frameAt k (topOf base (length S))))
   step-by stage.Full g S z c live p q = absurd (false≢true live)
   step-by stage.At g S z c live p q = absurd (false≢true live)

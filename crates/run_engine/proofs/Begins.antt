@@ -87,12 +87,14 @@ module _ (ws rs : List ℕ) (g : Setting) (m : Machine) (p : ℕ) where
     stops z = steps.stops ws rs g x (m .stack) c b begins comes-so z
 
     module _ {a : Acted} (acts : b ≡ begun.Acted a) {l : Refocusings} (refocuses : c .reached ≡ reached.Refocused l) where
-      pub moves : forksOf (headAt (m .heads) p) ≡ false → picked (c .stack) (answer.Moved (leftBy (headAt (m .heads) p) a (l .last) noHead)) ≡ pickedBy ws rs g m p
+      pub moves : forksOf (headAt (m .heads) p) ≡ false → picked (c .stack) (answer.Moved (leftBy (headAt (m .heads) p) a (l .last) noHead)) ≡ pickedBy ws rs
+          g m p
       unfolding metBy
       moves n = rw n (steps.moves ws rs g x (m .stack) c b begins comes acts refocuses n)
 
       pub forks : forksOf (headAt (m .heads) p) ≡ true
-          → picked (c .stack) (answer.Moved (leftBy (headAt (m .heads) p) a (l .before) (refocusedHead (l .last) (m .tally .counts .objects) (headAt (m .heads) p .keys) 0)))
+          → picked (c .stack) (answer.Moved (leftBy (headAt (m .heads) p) a (l .before)
+          (refocusedHead (l .last) (m .tally .counts .objects) (headAt (m .heads) p .keys) 0)))
           ≡ pickedBy ws rs g m p
       unfolding metBy
       forks n = rw n (steps.forks ws rs g x (m .stack) c b begins comes acts refocuses n)

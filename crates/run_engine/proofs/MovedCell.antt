@@ -39,7 +39,8 @@ module _ (v : Move) (c : Cell) where
 module _ (ws rs : List ℕ) (setting : Setting) (v : Move) where
   refocus-is : (x : Met) (a : Acted) (l : Ended) → refocusBy ws rs x a l .answer ≡ answer.Moved v → v .cell ≡ a .cell
   unfolding refocusBy startBy
-  refocus-is x a l h = refocused-is v (a .cell) (fullOf (l .refocused)) (forksOf (x .head)) (fullOf (refocusForked ws rs x (l .stack) .refocused)) _ _ _ _ _ _ refl refl h
+  refocus-is x a l h = refocused-is v (a .cell) (fullOf (l .refocused)) (forksOf (x .head)) (fullOf (refocusForked ws rs x (l .stack) .refocused)) _ _ _ _ _
+      _ refl refl h
 
   made-is : (x : Met) (z : Act) (k : Stack) → makeBy ws rs x z k .answer ≡ answer.Moved v → v .cell ≡ cellAfter (x .cell) z
   unfolding cellAfter

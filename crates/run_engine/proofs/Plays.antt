@@ -22,7 +22,8 @@ use Rattle.run_pick.specs.declared.Reached.the-variants as reached
 use Rattle.run_pick.specs.inner.Answer.{Move, PickAnswer, PickAnswer as answer}
 use Rattle.run_pick.specs.inner.Pick.{noHead, Picked}
 use Rattle.run_queue.specs.inner.Queue.{afterOf}
-use Rattle.run_engine.specs.inner.Machine.{Machine, Played, headAt, cellNumber, headOf, cellFirst, noObject, endOf, stopped, withForked, stayed, after, pickedBy}
+use Rattle.run_engine.specs.inner.Machine.{Machine, Played, headAt, cellNumber, headOf, cellFirst, noObject, endOf, stopped, withForked, stayed, after}
+use Rattle.run_engine.specs.inner.Machine.{pickedBy}
 use Rattle.run_engine.specs.inner.Machine.{turnBy, onAnswer, startOf, playOf}
 
 -- a pick that neither refocuses nor stops
@@ -83,7 +84,8 @@ module _ (ws rs : List ℕ) (setting : Setting) where
           → qs ≡ afterOf (m .places) (headAt (m .heads) (p % 8) .ready) (p % 8)
           → s ≡ tallyPut (m .tally) (shownEntry (m .every) (v .entry)) → s′ ≡ tallyMoved s (v .counts)
           → l ≡ logPut (m .log) (m .tally .records) (p % 8) (shownEntry (m .every) (v .entry))
-          → playOf ws rs setting (record { heads = hs; cells = cs; objects = ts; places = qs; stack = x .stack; every = m .every; tally = s′; log = l }) ps (i + 1)
+          → playOf ws rs setting (record { heads = hs; cells = cs; objects = ts; places = qs; stack = x .stack; every = m .every; tally = s′; log = l }) ps
+          (i + 1)
           ≡ playOf ws rs setting m (p ∷ ps) i
       moved {v} e cs hs ts qs s s′ l ec eh et eq es es′ el = rw (ec, eh, et, eq, es′, es, el) (goes (answer.Moved v) e)
 

@@ -132,7 +132,8 @@ pub fn explore(
     log: &mut [u8],
 ) -> Explored
     requires { ⌜ Explorable (now picks) (now notes) (now log) ⌝ }
-    ensures { λ r. ⌜ ExploredOn (now (words .entry)) (now (roots .entry)) setting (startOf every (now (roots .entry)) (now (log .entry))) (now (picks .entry)) (now (notes .entry)) (now (notes .exit)) (now (log .exit)) r ⌝ }
+    ensures { λ r. ⌜ ExploredOn (now (words .entry)) (now (roots .entry)) setting (startOf every (now (roots .entry)) (now (log .entry)))
+        (now (picks .entry)) (now (notes .entry)) (now (notes .exit)) (now (log .exit)) r ⌝ }
 {
     let mut heads = [run_pick::no_head(); 16];
     heads[0] = first_head(roots[0]);

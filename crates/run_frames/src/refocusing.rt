@@ -1,6 +1,7 @@
 // Where refocusing stands, and what a frame does with the value of its operand.
 ghost use mathlib.Core.Path.{_≡_};
-ghost use Rattle.run_frames.specs.inner.Going.{readyAt, goOf, goAt, readyIn, goRun, goRunCondition, goWant, goWantCondition, goList, goValue, goTruth, goFull, sameOf, feedOf, feedIfOf, feedConditionOf};
+ghost use Rattle.run_frames.specs.inner.Going.{readyAt, goOf, goAt, readyIn, goRun, goRunCondition, goWant, goWantCondition, goList, goValue, goTruth};
+ghost use Rattle.run_frames.specs.inner.Going.{goFull, sameOf, feedOf, feedIfOf, feedConditionOf};
 use crate::frame;
 use crate::frame::Frame;
 use crate::frame::Kind;

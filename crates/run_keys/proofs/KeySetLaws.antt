@@ -15,7 +15,8 @@ use borrow.Author.Tests.{ne-eqb}
 use Rattle.run_keys.specs.declared.KeySet.{KeySet}
 use Rattle.run_keys.specs.declared.Joined.{Joined}
 use Rattle.run_keys.specs.Keys.{Keys, empty, singleton, holds, union, isEmpty, countBelow, countNew}
-use Rattle.run_keys.specs.inner.KeySet.{keysOf, wordOf, words, ofWords, emptySet, zeroSet, holdsOf, learnOf, joinOf, newIn, newOf, joinedOf, isEmptyOf, Made}
+use Rattle.run_keys.specs.inner.KeySet.{keysOf, wordOf, words, ofWords, emptySet, zeroSet, holdsOf, learnOf, joinOf, newIn, newOf, joinedOf, isEmptyOf}
+use Rattle.run_keys.specs.inner.KeySet.{Made}
 use Rattle.run_keys.specs.inner.KeySet.{Joins, Told}
 use Rattle.run_keys.proofs.CountLaws.{count-same, count-split, count-le, ones-new}
 

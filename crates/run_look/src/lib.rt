@@ -1,7 +1,8 @@
 // Look: what a thread's next pick meets, apart from room, and the state that an outcome gives it.
 ghost use mathlib.Core.Path.{_≡_};
 ghost use Prim.Native.Nat.{_<_};
-ghost use Rattle.run_look.specs.inner.Look.{objectOf, fieldOf, hasOf, lookField, lookJoin, lookSynch, lookSignal, lookWaiting, aboutField, lookOf, blockedOf, stateOf};
+ghost use Rattle.run_look.specs.inner.Look.{objectOf, fieldOf, hasOf, lookField, lookJoin, lookSynch, lookSignal, lookWaiting, aboutField, lookOf};
+ghost use Rattle.run_look.specs.inner.Look.{blockedOf, stateOf};
 use run_frames::redex;
 use run_frames::refocusing::Ready;
 use run_outcome::Stuck;

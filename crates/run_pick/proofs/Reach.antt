@@ -26,7 +26,8 @@ module _ (e : Ends) where
   at-room h = rw h
 
 module _ (e e′ : Ends) (q : e ≡ e′) where
-  pub no-room-at : {x : Entry} → fullOf (e .refocusings .last) ≡ true → x ≡ noEntry → came (e .stack) (reached.Stopped (stop.NoRoom room.Depth) x) ≡ reachedAt e′
+  pub no-room-at : {x : Entry} → fullOf (e .refocusings .last) ≡ true → x ≡ noEntry → came (e .stack) (reached.Stopped (stop.NoRoom room.Depth) x) ≡
+      reachedAt e′
   no-room-at {x} h k = ap (λ (x : Entry). came (e .stack) (reached.Stopped (stop.NoRoom room.Depth) x)) k ∙ sym (at-full e h) ∙ ap reachedAt q
 
   pub refocused-at : fullOf (e .refocusings .last) ≡ false → came (e .stack) (reached.Refocused (e .refocusings)) ≡ reachedAt e′

@@ -28,7 +28,8 @@ use Rattle.run_pick.specs.declared.Begun.{Begun}
 use Rattle.run_pick.specs.declared.Begun.the-variants as begun
 use Rattle.run_pick.specs.declared.Reached.the-variants as reached
 use Rattle.run_pick.specs.inner.Answer.{Move, PickAnswer, PickAnswer as answer}
-use Rattle.run_pick.specs.inner.Pick.{Picked, picked, noRoom, noHead, fullOf, forksOf, forkedOf, moveOf, refocusMover, refocusBy, makeBy, actMet, pickBy, lookMet, pickOf}
+use Rattle.run_pick.specs.inner.Pick.{Picked, picked, noRoom, noHead, fullOf, forksOf, forkedOf, moveOf, refocusMover, refocusBy, makeBy, actMet, pickBy}
+use Rattle.run_pick.specs.inner.Pick.{lookMet, pickOf}
 use Rattle.run_pick.specs.inner.Pick.{begunBy, beginBy, beginOf, Came, refocusingsFrom, reachedAt, reachOf}
 use Rattle.run_pick.proofs.Answers.{refocus-full, refocus-forked, refocus-moved}
 use Rattle.run_pick.proofs.Reach.{at-full, at-room}
@@ -120,7 +121,8 @@ module _ (ws rs : List ℕ) (g : Setting) (x : Met) (k : Stack) where
         let (f, j, r) = refocuses-at (ends (a .go)) _ refl q z in
         ap (λ (k : Stack). picked k (answer.Moved (moveOf x a (l .before) (forkedOf x (l .last)) true))) j
         ∙ refocus-forked x a ws rs _ _ (answer.Moved (moveOf x a (l .before) (forkedOf x (l .last)) true)) refl (forkedOf x (l .last)) f n
-        (ap (λ (m : Refocusings). answer.Moved (moveOf x a (m .before) (forkedOf x (l .last)) true)) (sym r)) (ap (λ (m : Refocusings). forkedOf x (m .last)) (sym r))
+        (ap (λ (m : Refocusings). answer.Moved (moveOf x a (m .before) (forkedOf x (l .last)) true)) (sym r))
+        (ap (λ (m : Refocusings). forkedOf x (m .last)) (sym r))
 
     -- one that only goes on elsewhere
     goes-by : (b : Begun) → Comes b → OneOf (0 ∷ 1 ∷ 2 ∷ []) (tagOf begun-type.the-type b) → {l : Refocusings} → c .reached ≡ reached.Refocused l

@@ -1,11 +1,13 @@
-// One pick, in three steps: how it begins, by what it meets; its refocusings; what it leaves of a head. The frames alone are lent; all else goes by value. A move
+// One pick, in three steps: how it begins, by what it meets; its refocusings; what it leaves of a head. The frames alone are lent; all else goes by value. A
+// move
 // that only goes on elsewhere is a case of its own, in which nothing but the thread's head is looked at.
 ghost use mathlib.Core.Path.{_≡_};
 ghost use Prim.Native.Nat.{_<_, _+_, _%_};
 ghost use mathlib.Core.Bool.{false};
 ghost use Rattle.run_act.specs.inner.Act.{goesOnBy, actPure};
 ghost use Rattle.run_state.specs.inner.Acted.{noEntry};
-ghost use Rattle.run_pick.specs.inner.Pick.{stoppedFor, lackEntry, refocusedHead, noHead, moverWay, forkedWay, begunBy, beginOf, goOf, refocusingsFrom, reachedAt, reachOf, actMet};
+ghost use Rattle.run_pick.specs.inner.Pick.{stoppedFor, lackEntry, refocusedHead, noHead, moverWay, forkedWay, begunBy, beginOf, goOf, refocusingsFrom};
+ghost use Rattle.run_pick.specs.inner.Pick.{reachedAt, reachOf, actMet};
 ghost use Rattle.run_outcome.specs.declared.Stop.the-variants as stop;
 ghost use Rattle.run_pick.specs.declared.Begun.the-variants as begun;
 use log_records::kind;
@@ -226,7 +228,8 @@ fn refocus_from(
     from: Refocusing,
 ) -> Reached
     requires { ⌜ thread < 8 ⌝ }
-    ensures { λ r. ⌜ (record { stack = now (stack .exit); reached = r }) ≡ reachedAt (refocusingsFrom (now (words .entry)) (now (roots .entry)) counts head thread from (now (stack .entry))) ⌝ }
+    ensures { λ r. ⌜ (record { stack = now (stack .exit); reached = r }) ≡ reachedAt
+        (refocusingsFrom (now (words .entry)) (now (roots .entry)) counts head thread from (now (stack .entry))) ⌝ }
 {
     let ready = head.ready;
     let forks = ready.redex == redex::FORK;
@@ -266,7 +269,8 @@ pub fn refocus(
     begun: Begun,
 ) -> Reached
     requires { ⌜ thread < 8 ⌝ }
-    ensures { λ r. ⌜ (record { stack = now (stack .exit); reached = r }) ≡ reachOf (now (words .entry)) (now (roots .entry)) counts head thread begun (now (stack .entry)) ⌝ }
+    ensures { λ r. ⌜ (record { stack = now (stack .exit); reached = r }) ≡ reachOf (now (words .entry)) (now (roots .entry)) counts head thread begun
+        (now (stack .entry)) ⌝ }
 {
     match begun {
         Begun::Passed => Reached::Passed,

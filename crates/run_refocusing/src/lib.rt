@@ -104,8 +104,10 @@ fn store(stack: &mut [usize; 891], place: usize, frame: Frame)
     stack[at + 2] = packed.arguments;
 }
 
-// Steps until the redex that moves next is found, or there is no room; then, of a fork whose mover has room, the same from the second way. A refocusing has fewer
-// than 2,100 steps. Both go through one loop, so that a step has one caller, and the loop with it. Where a refocusing ends, two tests are faster than one of both.
+// Steps until the redex that moves next is found, or there is no room; then, of a fork whose mover has room, the same from the second way. A refocusing has
+// fewer
+// than 2,100 steps. Both go through one loop, so that a step has one caller, and the loop with it. Where a refocusing ends, two tests are faster than one of
+// both.
 pub fn refocus(
     words: &[usize; 1024],
     roots: &[usize; 32],
@@ -115,7 +117,8 @@ pub fn refocus(
     forks: bool,
 ) -> Refocusings
     requires { ⌜ (first .base ≤ 264) × (first .depth ≤ 32) × (second .base ≤ 264) × (second .depth ≤ 32) ⌝ }
-    ensures { λ r. ⌜ (record { stack = now (stack .exit); refocusings = r }) ≡ afterOf (now (words .entry)) (now (roots .entry)) forks second (refocusedOf (first .go) (first .depth)) (refocusFrom (now (words .entry)) (now (roots .entry)) first (now (stack .entry))) ⌝ }
+    ensures { λ r. ⌜ (record { stack = now (stack .exit); refocusings = r }) ≡ afterOf (now (words .entry)) (now (roots .entry)) forks second
+        (refocusedOf (first .go) (first .depth)) (refocusFrom (now (words .entry)) (now (roots .entry)) first (now (stack .entry))) ⌝ }
     ensures { λ r. ⌜ (r .before .depth ≤ 32) × (r .last .depth ≤ 32) ⌝ }
 {
     let mut base = first.base;

@@ -14,7 +14,8 @@ use Rattle.run_frames.specs.inner.Going.{goList, feedOf}
 use Rattle.plan_packed.specs.inner.Operands.{tagOf, firstOf}
 use Rattle.run_term_words.specs.inner.Words.{wordAt, valueOf}
 use Rattle.run_refocusing_step.specs.inner.Ahead.{nextOf, nextIn, takenOf, intoBy, alongBy}
-use Rattle.run_refocusing_step.specs.inner.Down.{stayOf, wantBy, wantOf, listBy, listOf, openedBy, openedOf, listedBy, listedOf, wantedOf, downOf, stepBy, stepOf}
+use Rattle.run_refocusing_step.specs.inner.Down.{stayOf, wantBy, wantOf, listBy, listOf, openedBy, openedOf, listedBy, listedOf, wantedOf, downOf, stepBy}
+use Rattle.run_refocusing_step.specs.inner.Down.{stepOf}
 
 module _ (ws rs : List ℕ) (g o : Refocusing) (f : Frame) (d : ℕ) (x : Frame) (h : stepOf ws rs g d x ≡ wantedOf ws (listedOf ws rs o) d) where
   -- of a term that is opened at stage s

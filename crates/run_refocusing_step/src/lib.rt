@@ -2,7 +2,8 @@
 ghost use mathlib.Core.Path.{_≡_};
 ghost use Prim.Native.Nat.{_<_, _-_};
 ghost use Rattle.run_refocusing_step.specs.inner.Ahead.{nextOf, gatheredOf, aheadOf, intoOf, steppedOf};
-ghost use Rattle.run_refocusing_step.specs.inner.Down.{stayOf, pushOf, wantOf, wantConditionOf, rootAt, listOf, signalOf, simpleOf, runOf, runConditionOf, openedOf, wantedOf, backOf, backConditionOf, frameAt};
+ghost use Rattle.run_refocusing_step.specs.inner.Down.{stayOf, pushOf, wantOf, wantConditionOf, rootAt, listOf, signalOf, simpleOf, runOf};
+ghost use Rattle.run_refocusing_step.specs.inner.Down.{runConditionOf, openedOf, wantedOf, backOf, backConditionOf, frameAt};
 use plan_operands::tags;
 use run_frames::frame;
 use run_frames::frame::Frame;

@@ -34,7 +34,8 @@ pub fn put_run(
     records: usize,
 ) -> usize
     requires { ⌜ (length (now log) ≤ 12288) × (131072 ≤ length (now area)) ⌝ }
-    ensures { λ r. ⌜ Wrote (now (area .entry)) 0 (recordLines 0 (logOf (now (log .entry))) ++ outcomeLine (stopOf stop) picks moves records) (now (area .exit)) r ⌝ }
+    ensures { λ r. ⌜ Wrote (now (area .entry)) 0 (recordLines 0 (logOf (now (log .entry))) ++ outcomeLine (stopOf stop) picks moves records)
+        (now (area .exit)) r ⌝ }
 {
     let at = put_log(area, log);
     text_last_lines::put_outcome(area, at, stop, picks, moves, records)

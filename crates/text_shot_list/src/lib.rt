@@ -56,7 +56,8 @@ pub fn shot_list(input: &[u8], area: &mut [u8]) -> usize
 
 // The same of an input, however long, of which `size` bytes were read into a buffer of 9,291: those decide the text.
 pub fn shot_list_read(buffer: &[u8; 9291], size: usize, area: &mut [u8]) -> usize
-    ensures { λ r. ⌜ ((input : List ℕ) → take 9291 input ≡ take size (now (buffer .entry)) → TextWritten (printed input) (now (area .entry)) (now (area .exit)) r) ⌝ }
+    ensures { λ r. ⌜ ((input : List ℕ) → take 9291 input ≡ take size (now (buffer .entry)) → TextWritten (printed input) (now (area .entry))
+        (now (area .exit)) r) ⌝ }
 {
     let bytes: &[u8] = buffer;
     if size < bytes.len() {

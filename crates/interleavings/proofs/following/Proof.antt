@@ -93,7 +93,8 @@ returns : tie.Need-returns
 returns c =
     let s = c .before .before .before .before .before .before .before in
     let g = programOf (s .args .plan .now) in
-    let t = along (LastDeparture (s .args .notes .now) (length (s .args .schedule .now))) (c .enum-told .given .1) (c .before .before .last-departure .ensures) in (
+    let t = along (LastDeparture (s .args .notes .now) (length (s .args .schedule .now))) (c .enum-told .given .1)
+    (c .before .before .last-departure .ensures) in (
       over g (s .args .n) (s .args .schedule .now) (s .pre .listed)
           (λ i h. none-higher-at g (s .args .schedule .now) (s .args .notes .now) (s .pre .noted) i h (t i h)),
       refl,

@@ -5,7 +5,8 @@ use Rattle.plan_bound_slots.proofs.+closed_condition+closed_expression+
 use Rattle.plan_bound_slots.proofs.+closed_condition+closed_expression+closed_list+rest_of+rest_of_two.Proof.RestOf.{rest-of}
 use Rattle.plan_bound_slots.proofs.+closed_condition+closed_expression+closed_list+rest_of+rest_of_two.Proof.RestOfTwo.{rest-of-two}
 use Rattle.plan_bound_slots.proofs.+closed_condition+closed_expression+closed_list+rest_of+rest_of_two.Proof.Measures.{μ-closed-condition}
-use Rattle.plan_bound_slots.proofs.+closed_condition+closed_expression+closed_list+rest_of+rest_of_two.Proof.Measures.{μ-closed-expression, μ-closed-list}
+use Rattle.plan_bound_slots.proofs.+closed_condition+closed_expression+closed_list+rest_of+rest_of_two.Proof.Measures.{μ-closed-expression}
+use Rattle.plan_bound_slots.proofs.+closed_condition+closed_expression+closed_list+rest_of+rest_of_two.Proof.Measures.{μ-closed-list}
 use Rattle.plan_bound_slots.proofs.+closed_condition+closed_expression+closed_list+rest_of+rest_of_two.Proof.Measures.{μ-rest-of, μ-rest-of-two}
 use Rattle.plan_bound_slots.proofs.+closed_condition+closed_expression+closed_list+rest_of+rest_of_two.{statement}
 use Rattle.plan_bound_slots.proofs.+closed_condition+closed_expression+closed_list+rest_of+rest_of_two.Tie.{close}

@@ -328,7 +328,8 @@ goes-on : (c : Answered) {t : Bool} → c .before .before .before .goes-on .resu
 goes-on c e = sym (c .before .before .before .goes-on .ensures) ∙ e
 
 begins-so : (c : Answered)
-    → begun-so c ≡ beginOf (setting (opened (at c))) (metBy (machine (at c) .tally .counts) (machine (at c) .heads) (machine (at c) .cells) (machine (at c) .objects)
+    → begun-so c ≡ beginOf (setting (opened (at c))) (metBy (machine (at c) .tally .counts) (machine (at c) .heads) (machine (at c) .cells)
+    (machine (at c) .objects)
     (machine (at c) .places) (mover c))
 begins-so c =
     let l = at c in
@@ -361,7 +362,8 @@ passed-over c z =
     steps.passes (words r) (roots r) (setting r) (machine (at c)) (mover c) (begun-so c) (begins-so c) (comes c) (c .refocus .ensures) z
 
 stops-so : (c : Answered) {e : Stop} {y : Entry} → c .refocus .result ≡ reached.Stopped e y
-    → picked (comes c .stack) (answer.Stopped e y) ≡ pickedBy (words (opened (at c))) (roots (opened (at c))) (setting (opened (at c))) (machine (at c)) (mover c)
+    → picked (comes c .stack) (answer.Stopped e y) ≡ pickedBy (words (opened (at c))) (roots (opened (at c))) (setting (opened (at c))) (machine (at c))
+    (mover c)
 stops-so c z =
     let r = opened (at c) in
     steps.stops (words r) (roots r) (setting r) (machine (at c)) (mover c) (begun-so c) (begins-so c) (comes c) (c .refocus .ensures) z
@@ -412,7 +414,8 @@ gone-on c other z =
 moved-requires : tie.Need-moved-requires Inv-loop2 μ-loop2 Inv-loop3 μ-loop3 Inv-loop μ-loop
 moved-requires c κs =
     let x = c .before .before .before .before .before .before .before .before .before .before .before .before .before .before in
-    let e : c .before .before .before .before .before .put-move .result .moves ≡ at x .loop2 .tally .moves = ap (λ (s : Tally). s .moves) (c .before .before .before .before .before .put-move .ensures .0 .0) in
+    let e : c .before .before .before .before .before .put-move .result .moves ≡ at x .loop2 .tally .moves = ap (λ (s : Tally). s .moves)
+    (c .before .before .before .before .before .put-move .ensures .0 .0) in
     omega (arith, e, here (at x) .few-moves, few x)
 
 loop2-again-4 : tie.Need-loop2-again-4 Inv-loop2 μ-loop2 Inv-loop3 μ-loop3 Inv-loop μ-loop
@@ -466,13 +469,16 @@ after-requires c κs = (here (at (c .before .before .before .before .before .bef
 
 moved-requires-4 : tie.Need-moved-requires-4 Inv-loop2 μ-loop2 Inv-loop3 μ-loop3 Inv-loop μ-loop
 moved-requires-4 c κs =
-    let x = c .before .before .before .before .before .before .before .before .before .before .before .before .before .before .before .before .before .before .before .before .before .before .before in
-    let e : c .before .before .before .before .before .before .before .before .before .put-move2 .result .moves ≡ at x .loop2 .tally .moves = ap (λ (s : Tally). s .moves) (c .before .before .before .before .before .before .before .before .before .put-move2 .ensures .0 .0) in
+    let x = c .before .before .before .before .before .before .before .before .before .before .before .before .before .before .before .before .before .before
+    .before .before .before .before .before in
+    let e : c .before .before .before .before .before .before .before .before .before .put-move2 .result .moves ≡ at x .loop2 .tally .moves = ap
+    (λ (s : Tally). s .moves) (c .before .before .before .before .before .before .before .before .before .put-move2 .ensures .0 .0) in
     omega (arith, e, here (at x) .few-moves, few x)
 
 -- its cell, where its redex changes none
 unchanged : (c : Answered) {v : Move} → (z : Picked) → z .answer ≡ answer.Moved v
-    → z ≡ pickedBy (words (opened (at c))) (roots (opened (at c))) (setting (opened (at c))) (machine (at c)) (mover c) → changesBy (head c .ready .redex) ≡ false
+    → z ≡ pickedBy (words (opened (at c))) (roots (opened (at c))) (setting (opened (at c))) (machine (at c)) (mover c) → changesBy (head c .ready .redex) ≡
+    false
     → v .cell ≡ getD (cells (at c)) (cellNumber (head c .ready)) noCell
 unchanged c {v} z e q h =
     let r = opened (at c) in
@@ -495,7 +501,8 @@ alone c acts z n =
 
 loop2-again-5 : tie.Need-loop2-again-5 Inv-loop2 μ-loop2 Inv-loop3 μ-loop3 Inv-loop μ-loop
 loop2-again-5 c =
-    let x = c .before .before .before .before .before .before .before .before .before .before .before .before .before .before .before .before .before .before .before .before .before .before .before .before in
+    let x = c .before .before .before .before .before .before .before .before .before .before .before .before .before .before .before .before .before .before
+    .before .before .before .before .before .before in
     let d = asked x in
     let l = at x in
     let r = opened l in
@@ -505,8 +512,10 @@ loop2-again-5 c =
     let queue = c .before .before .before .before .before .before .before .before .before .before .before .before .before .before .after in
     let j = c .before .before .before .before .before .before .if4 in
     let k = c .before .before .before .before .if5 in
-    let acts = c .before .before .before .before .before .before .before .before .before .before .before .before .before .before .before .before .before .begun .given .1 in
-    let refocused = c .before .before .before .before .before .before .before .before .before .before .before .before .before .before .before .before .before .before .before .before .before .before .reached .given .1 in
+    let acts = c .before .before .before .before .before .before .before .before .before .before .before .before .before .before .before .before .before
+    .begun .given .1 in
+    let refocused = c .before .before .before .before .before .before .before .before .before .before .before .before .before .before .before .before .before
+    .before .before .before .before .before .reached .given .1 in
     let same = c .before .before .before .before .before .changes .ensures in
     let before : put .result .moves ≡ l .loop2 .tally .moves = ap (λ (s : Tally). s .moves) (put .ensures .0 .0) in
     let moves : c .moved4 .result .moves ≡ put .result .moves + 1 = ap (λ (s : Tally). s .moves) (c .moved4 .ensures .0) in
@@ -972,10 +981,20 @@ array-set-from-objects : tie.Need-array-set-from-objects Inv-loop2 μ-loop2 Inv-
 array-set-from-objects c = search needs
 
 add-i-4 : tie.Need-add-i-4 Inv-loop2 μ-loop2 Inv-loop3 μ-loop3 Inv-loop μ-loop
-add-i-4 c = record { fits = omega (arith, few (c .before .before .before .before .before .before .before .before .before .before .before .before .before .before .before)) }
+add-i-4 c = record {
+  fits = omega (
+    arith,
+    few (c .before .before .before .before .before .before .before .before .before .before .before .before .before
+        .before .before),
+  );
+}
 
 loop2-less-4 : tie.Need-loop2-less-4 Inv-loop2 μ-loop2 Inv-loop3 μ-loop3 Inv-loop μ-loop
-loop2-less-4 c = omega (arith, begun (c .before .before .before .before .before .before .before .before .before .before .before .before .before .before .before))
+loop2-less-4 c = omega (
+  arith,
+  begun (c .before .before .before .before .before .before .before .before .before .before .before .before .before .before
+      .before),
+)
 
 forked-requires : tie.Need-forked-requires Inv-loop2 μ-loop2 Inv-loop3 μ-loop3 Inv-loop μ-loop
 forked-requires c κs = search needs
@@ -1026,10 +1045,20 @@ array-set-from-objects-2 : tie.Need-array-set-from-objects-2 Inv-loop2 μ-loop2 
 array-set-from-objects-2 c = search needs
 
 add-i-5 : tie.Need-add-i-5 Inv-loop2 μ-loop2 Inv-loop3 μ-loop3 Inv-loop μ-loop
-add-i-5 c = record { fits = omega (arith, few (c .before .before .before .before .before .before .before .before .before .before .before .before .before .before .before .before .before .before .before .before .before .before .before .before)) }
+add-i-5 c = record {
+  fits = omega (
+    arith,
+    few (c .before .before .before .before .before .before .before .before .before .before .before .before .before
+        .before .before .before .before .before .before .before .before .before .before .before),
+  );
+}
 
 loop2-less-5 : tie.Need-loop2-less-5 Inv-loop2 μ-loop2 Inv-loop3 μ-loop3 Inv-loop μ-loop
-loop2-less-5 c = omega (arith, begun (c .before .before .before .before .before .before .before .before .before .before .before .before .before .before .before .before .before .before .before .before .before .before .before .before))
+loop2-less-5 c = omega (
+  arith,
+  begun (c .before .before .before .before .before .before .before .before .before .before .before .before .before .before
+      .before .before .before .before .before .before .before .before .before .before),
+)
 
 pub explore-spec : {M : Type 1} → statement M
 explore-spec =
@@ -1051,8 +1080,10 @@ explore-spec =
     (λ c. search needs) (λ c. record { fits = omega (arith, started (c .before .before .before .before .before)) })
     (λ c. omega (arith, started (c .before .before .before .before .before))) loop2-again-2
     -- how the pick begins
-    (λ c. search needs) (λ c. search needs) (λ c κs. search needs) (λ c κs. search needs) (λ c κs. search needs) (λ c. search needs) (λ c. search needs) (λ c κs. search needs) (λ c. search needs) (λ c. search needs) (λ c. search needs) (λ c. search needs)
-    (λ c. search needs) (λ c. search needs) (λ c κs. sym (c .before .before .before .before .before .before .before .goes-on .ensures) ∙ c .before .before .before .before .before .before .if3 .left)
+    (λ c. search needs) (λ c. search needs) (λ c κs. search needs) (λ c κs. search needs) (λ c κs. search needs) (λ c. search needs) (λ c. search needs)
+    (λ c κs. search needs) (λ c. search needs) (λ c. search needs) (λ c. search needs) (λ c. search needs)
+    (λ c. search needs) (λ c. search needs) (λ c κs. sym (c .before .before .before .before .before .before .before .goes-on .ensures) ∙ c .before .before
+    .before .before .before .before .if3 .left)
     -- what it comes to
     (λ c κs. search needs) (λ c. search needs) (λ c. search needs)
     -- it is passed over
@@ -1060,11 +1091,13 @@ explore-spec =
     -- it stops
     (λ c κs. fits (c .before .before .before .before .before))
     -- it only goes on elsewhere
-    mul-mover array-copy-out-mover enum-known-begun no-entry-requires (λ c κs. fits (c .before .before .before .before .before .before .before .before)) gone-requires
+    mul-mover array-copy-out-mover enum-known-begun no-entry-requires (λ c κs. fits (c .before .before .before .before .before .before .before .before))
+    gone-requires
     mul-heads array-set-from-heads-2 no-object-requires mul-objects array-set-from-objects moved-requires
     add-i-4 loop2-less-4 loop2-again-4
     -- the queues, and its record
-    slice-aggregate-after after-requires (λ c κs. fits (c .before .before .before .before .before .before .before .before .before .before .before .before .before))
+    slice-aggregate-after after-requires (λ c κs. fits (c .before .before .before .before .before .before .before .before .before .before .before .before
+    .before))
     -- a new thread and the mover, or the mover alone
     forked-requires mul-heads-2 array-set-from-heads-3 moved-requires-2 mul-heads-3 array-set-from-heads-4
     moved-requires-3 mul-heads-4 array-set-from-heads-5

@@ -70,7 +70,8 @@ lookBy p g h c t q w =
     (cond (isRedex redex.Done p) (sight.Blocked block.Finished)
     (cond (isRedex redex.NoRule p) (sight.Blocked block.NoRule)
     (cond (isRedex redex.Join p) (lookJoin t q)
-    (cond (isRedex redex.Synch p) (lookSynch h c) (cond (isRedex redex.Signal p) (lookSignal h c) (cond (isRedex redex.Waiting p) (lookWaiting c w) sight.Ready))))))
+    (cond (isRedex redex.Synch p) (lookSynch h c) (cond (isRedex redex.Signal p) (lookSignal h c)
+    (cond (isRedex redex.Waiting p) (lookWaiting c w) sight.Ready))))))
 
 abbrev pub lookOf : Setting → Head → Cell → Object → ℕ → ℕ → Sight
 lookOf g h c t q w = lookBy (h .ready .redex) g h c t q w

@@ -26,15 +26,24 @@ enum-told-3 c = search needs
 
 returns : tie.Need-returns
 unfolding beginOf
-returns c = rw (c .before .before .before .before .before .before .before .before .before .before .pre) (c .make .ensures ∙ ap (λ (w : Sight). beginBy (c .before .before .before .before .before .before .before .before .before .before .args .setting) (c .before .before .before .before .before .before .before .before .before .before .args .met) w) (sym (c .before .enum-told .given .1) ∙ c .before .before .before .look .ensures))
+returns c = rw (c .before .before .before .before .before .before .before .before .before .before .pre)
+    (c .make .ensures ∙ ap (λ (w : Sight). beginBy (c .before .before .before .before .before .before .before .before .before .before .args .setting)
+    (c .before .before .before .before .before .before .before .before .before .before .args .met) w)
+    (sym (c .before .enum-told .given .1) ∙ c .before .before .before .look .ensures))
 
 returns-2 : tie.Need-returns-2
 unfolding beginOf
-returns-2 c = rw (c .before .before .before .before .before .before .before .before .before .before .pre) (c .race .ensures ∙ ap (λ (w : Sight). beginBy (c .before .before .before .before .before .before .before .before .before .before .args .setting) (c .before .before .before .before .before .before .before .before .before .before .args .met) w) (sym (c .before .enum-told2 .given .1) ∙ c .before .before .before .look .ensures))
+returns-2 c = rw (c .before .before .before .before .before .before .before .before .before .before .pre)
+    (c .race .ensures ∙ ap (λ (w : Sight). beginBy (c .before .before .before .before .before .before .before .before .before .before .args .setting)
+    (c .before .before .before .before .before .before .before .before .before .before .args .met) w)
+    (sym (c .before .enum-told2 .given .1) ∙ c .before .before .before .look .ensures))
 
 returns-3 : tie.Need-returns-3
 unfolding beginOf
-returns-3 c = rw (c .before .before .before .before .before .before .before .before .before .pre) (ap (λ (w : Sight). beginBy (c .before .before .before .before .before .before .before .before .before .args .setting) (c .before .before .before .before .before .before .before .before .before .args .met) w) (sym (c .enum-told3 .given .1) ∙ c .before .before .look .ensures))
+returns-3 c = rw (c .before .before .before .before .before .before .before .before .before .pre)
+    (ap (λ (w : Sight). beginBy (c .before .before .before .before .before .before .before .before .before .args .setting)
+    (c .before .before .before .before .before .before .before .before .before .args .met) w)
+    (sym (c .enum-told3 .given .1) ∙ c .before .before .look .ensures))
 
 pub begin-spec : {M : Type 1} → statement M
 begin-spec =

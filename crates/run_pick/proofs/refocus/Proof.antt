@@ -33,7 +33,8 @@ returns-2 c = let s = c .before .before .before in
 returns-3 : tie.Need-returns-3
 returns-3 c = let s = c .before .before .before .before in
     c .refocus-from .ensures
-    ∙ ap (λ (g : Refocusing). reachedAt (refocusingsFrom (s .args .words .now) (s .args .roots .now) (s .args .counts) (s .args .head) (s .args .thread) g (s .args .stack .now)))
+    ∙ ap (λ (g : Refocusing). reachedAt (refocusingsFrom (s .args .words .now) (s .args .roots .now) (s .args .counts) (s .args .head) (s .args .thread) g
+    (s .args .stack .now)))
     (c .before .go-of .ensures)
     ∙ sym (refocuses (s .args .begun) _ _ (c .before .before .before .match .keys3))
 

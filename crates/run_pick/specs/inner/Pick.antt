@@ -107,7 +107,8 @@ startBy x a l y = cond (fullOf (y .refocused)) (picked (y .stack) (noRoom room.D
 unfoldable pub refocusBy : List ℕ → List ℕ → Met → Acted → Ended → Picked
 refocusBy ws rs x a l =
     cond (fullOf (l .refocused)) (picked (l .stack) (noRoom room.Depth))
-    (cond (forksOf (x .head)) (startBy x a (l .refocused) (refocusForked ws rs x (l .stack))) (picked (l .stack) (answer.Moved (moveOf x a (l .refocused) noHead false))))
+    (cond (forksOf (x .head)) (startBy x a (l .refocused) (refocusForked ws rs x (l .stack)))
+    (picked (l .stack) (answer.Moved (moveOf x a (l .refocused) noHead false))))
 
 abbrev pub makeBy : List ℕ → List ℕ → Met → Act → Stack → Picked
 makeBy ws rs x (act.Done a) k = refocusBy ws rs x a (refocusMover ws rs x a k)
@@ -167,7 +168,8 @@ abbrev pub refocusingsFrom : List ℕ → List ℕ → Counts → Head → ℕ �
 refocusingsFrom ws rs n h p g k = afterOf ws rs (forksOf h) (forkedWay n h) (refocusedOf g (h .depth % 33)) (refocusFrom ws rs (moverWay p h g) k)
 
 unfoldable pub reachedAt : Ends → Came
-reachedAt e = cond (fullOf (e .refocusings .last)) (came (e .stack) (reached.Stopped (stop.NoRoom room.Depth) noEntry)) (came (e .stack) (reached.Refocused (e .refocusings)))
+reachedAt e = cond (fullOf (e .refocusings .last)) (came (e .stack) (reached.Stopped (stop.NoRoom room.Depth) noEntry))
+    (came (e .stack) (reached.Refocused (e .refocusings)))
 
 abbrev pub reachBy : Begun → Stack → Came → Came
 reachBy begun.Passed k c = came k reached.Passed

@@ -1,4 +1,5 @@
--- The values that come next in a call's list, a step of refocusing to each: the machine that the code runs; no reader of the entries' promises needs it. Assumes
+-- The values that come next in a call's list, a step of refocusing to each: the machine that the code runs; no reader of the entries' promises needs it.
+-- Assumes
 -- nothing.
 use Prim.Native.Nat.{ℕ, zero, suc, _+_, _-_}
 use mathlib.Core.Bool.{cond}

@@ -12,10 +12,12 @@ use Rattle.run_frames.specs.declared.refocusing.Stage.the-variants as stage
 use Rattle.run_frames.specs.declared.refocusing.Refocusing.{Refocusing}
 use Rattle.run_refocusing_step.specs.declared.Turn.{Turn}
 use Rattle.run_term_words.specs.inner.Slots.{slotOf}
-use Rattle.plan_packed.specs.inner.Operands.{tagOf, firstOf, secondOf, thirdOf, slotBits, fieldBits, procedureBits, listBits, letFirst, letSecond, writeSecond, maskBits}
+use Rattle.plan_packed.specs.inner.Operands.{tagOf, firstOf, secondOf, thirdOf, slotBits, fieldBits, procedureBits, listBits, letFirst, letSecond, writeSecond}
+use Rattle.plan_packed.specs.inner.Operands.{maskBits}
 use Rattle.run_term_words.specs.inner.Words.{wordAt, valueOf, truthOf}
 use Rattle.run_frames.specs.inner.Frames.{framed, letFrame, restOf, unpackOf}
-use Rattle.run_frames.specs.inner.Going.{readyOf, noRule, goAt, goRun, goRunCondition, goWant, goWantCondition, goList, goValue, goTruth, goFull, feedOf, feedConditionOf}
+use Rattle.run_frames.specs.inner.Going.{readyOf, noRule, goAt, goRun, goRunCondition, goWant, goWantCondition, goList, goValue, goTruth, goFull, feedOf}
+use Rattle.run_frames.specs.inner.Going.{feedConditionOf}
 
 abbrev pub stayOf : Refocusing → ℕ → Turn
 stayOf g d = record { go = g; depth = d; at = d; frame = framed kind.Read 0 0 0 0 }

@@ -1,4 +1,5 @@
--- `log_arrows::heard::rows` meets its contract. The invariant is `Going`: the rows show the marks, and the rows of the records so far are stored. The measure is
+-- `log_arrows::heard::rows` meets its contract. The invariant is `Going`: the rows show the marks, and the rows of the records so far are stored. The measure
+-- is
 -- the count of records left. Assumes nothing.
 use Rattle.format.specs.Version.{versionOf}
 use Rattle.log_arrows.specs.inner.Newest.{HeardRows}

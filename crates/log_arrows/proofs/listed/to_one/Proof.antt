@@ -1,4 +1,5 @@
--- `log_arrows::listed::to_one` meets its contract. The invariant: the arrows from the threads so far are added. The measure is the count of threads left. Assumes
+-- `log_arrows::listed::to_one` meets its contract. The invariant: the arrows from the threads so far are added. The measure is the count of threads left.
+-- Assumes
 -- nothing.
 use Rattle.log_arrows.specs.inner.Implied.{heardIn, isNeeded, Added}
 use Rattle.log_arrows.proofs.Adding.{added-start, needed-some, added-room, added-needed, added-skipped, added-eight}

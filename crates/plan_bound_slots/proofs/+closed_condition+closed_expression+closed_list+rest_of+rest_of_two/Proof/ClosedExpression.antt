@@ -9,7 +9,8 @@ use Rattle.plan_packed.proofs.WalkSteps.{here}
 use Rattle.plan_bound_slots.specs.inner.Left.{seen, After}
 use Rattle.plan_bound_slots.proofs.closed_expression.Reads.{Post}
 use Rattle.plan_bound_slots.proofs.rest_of.Reads as rest-of
-use Rattle.plan_bound_slots.proofs.+closed_condition+closed_expression+closed_list+rest_of+rest_of_two.Proof.Measures.{closed-expression-at, rest-of-below}
+use Rattle.plan_bound_slots.proofs.+closed_condition+closed_expression+closed_list+rest_of+rest_of_two.Proof.Measures.{closed-expression-at}
+use Rattle.plan_bound_slots.proofs.+closed_condition+closed_expression+closed_list+rest_of+rest_of_two.Proof.Measures.{rest-of-below}
 use Rattle.plan_bound_slots.proofs.+closed_condition+closed_expression+closed_list+rest_of+rest_of_two.Lts-closed_expression as lts
 
 abbrev Inv : lts.InvT-loop

@@ -5,7 +5,8 @@ use Prim.Native.Nat.{ℕ}
 use native.Mathlib.Omega.{arith}
 use Rattle.format.proofs.Ranges.{NoneOf}
 use Rattle.plan_bound_slots.proofs.Expressions.{write-call, let-call, if-test, if-call, while-test, call-list, synch-call, variable-left, read-left}
-use Rattle.plan_bound_slots.proofs.Expressions.{write-left, let-left, if-left, if-open, while-left, while-open, call-left, fork-left, join-left, synch-left}
+use Rattle.plan_bound_slots.proofs.Expressions.{write-left, let-left, if-left, if-open, while-left, while-open, call-left, fork-left, join-left}
+use Rattle.plan_bound_slots.proofs.Expressions.{synch-left}
 use Rattle.plan_bound_slots.proofs.Expressions.{wait-left, notify-left, notify-all-left, nothing-left}
 use Rattle.plan_operands.proofs.first.Reads as first
 use Rattle.plan_operands.proofs.second.Reads as second

@@ -4,14 +4,16 @@ use mathlib.Core.List.{[], _∷_}
 use Prim.Native.Nat.{ℕ}
 use native.Mathlib.Omega.{arith}
 use Rattle.format.proofs.Ranges.{NoneOf}
-use Rattle.plan_cost_walk.proofs.Conditions.{not-call, and-first, and-second, equal-first, equal-second, not-walked, and-walked, equal-walked, rest-walkedᶜ}
+use Rattle.plan_cost_walk.proofs.Conditions.{not-call, and-first, and-second, equal-first, equal-second, not-walked, and-walked, equal-walked}
+use Rattle.plan_cost_walk.proofs.Conditions.{rest-walkedᶜ}
 use Rattle.plan_operands.proofs.first.Reads as first-reads
 use Rattle.plan_operands.proofs.second.Reads as second-reads
 use Rattle.plan_operands.proofs.tag.Reads as tag-reads
 use Rattle.plan_cost_walk.proofs.more.Reads as more-reads
 use Rattle.plan_cost_walk.proofs.walk_condition.Reads.{Post}
 use Rattle.plan_cost_walk.proofs.walk_expression.Reads as expression
-use Rattle.plan_cost_walk.proofs.+walk_condition+walk_expression+walk_list.Proof.Measures.{walk-condition-at, walk-condition-below, walk-expression-below}
+use Rattle.plan_cost_walk.proofs.+walk_condition+walk_expression+walk_list.Proof.Measures.{walk-condition-at, walk-condition-below}
+use Rattle.plan_cost_walk.proofs.+walk_condition+walk_expression+walk_list.Proof.Measures.{walk-expression-below}
 use Rattle.plan_cost_walk.proofs.+walk_condition+walk_expression+walk_list.Lts-walk_condition as lts
 
 module _ (span : ℕ) where

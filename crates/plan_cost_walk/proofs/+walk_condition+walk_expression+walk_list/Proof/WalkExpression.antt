@@ -5,7 +5,8 @@ use Prim.Native.Nat.{ℕ}
 use native.Mathlib.Omega.{arith}
 use Rattle.format.proofs.Ranges.{NoneOf}
 use Rattle.plan_cost_walk.proofs.Expressions.{read-call, fork-call, join-call, wait-call, notify-call, notify-all-call, write-first, write-second}
-use Rattle.plan_cost_walk.proofs.Expressions.{let-first, let-second, if-test, if-yes, if-no, while-test, while-body, call-list, synch-first, synch-second}
+use Rattle.plan_cost_walk.proofs.Expressions.{let-first, let-second, if-test, if-yes, if-no, while-test, while-body, call-list, synch-first}
+use Rattle.plan_cost_walk.proofs.Expressions.{synch-second}
 use Rattle.plan_cost_walk.proofs.Expressions.{new-walked, read-walked, fork-walked, join-walked, notify-walked, notify-all-walked, wait-walked}
 use Rattle.plan_cost_walk.proofs.Expressions.{write-walked, let-walked, if-walked, while-walked, call-walked, synch-walked, rest-walked}
 use Rattle.plan_operands.proofs.first.Reads as first-reads
@@ -23,7 +24,8 @@ use Rattle.plan_cost_walk.proofs.called.Reads as called-reads
 use Rattle.plan_cost_walk.proofs.walk_expression.Reads.{Post}
 use Rattle.plan_cost_walk.proofs.walk_condition.Reads as condition
 use Rattle.plan_cost_walk.proofs.walk_list.Reads as list
-use Rattle.plan_cost_walk.proofs.+walk_condition+walk_expression+walk_list.Proof.Measures.{walk-expression-at, walk-expression-below, walk-condition-below}
+use Rattle.plan_cost_walk.proofs.+walk_condition+walk_expression+walk_list.Proof.Measures.{walk-expression-at, walk-expression-below}
+use Rattle.plan_cost_walk.proofs.+walk_condition+walk_expression+walk_list.Proof.Measures.{walk-condition-below}
 use Rattle.plan_cost_walk.proofs.+walk_condition+walk_expression+walk_list.Proof.Measures.{walk-list-below}
 use Rattle.plan_cost_walk.proofs.+walk_condition+walk_expression+walk_list.Lts-walk_expression as lts
 

@@ -8,7 +8,8 @@ use Rattle.format.proofs.Ranges.{NoneOf}
 use Rattle.plan_tree_writer.specs.inner.Left.{singles, pairs}
 use Rattle.plan_tree_writer.proofs.Keys.{found, missed, single-tag, pair-tag}
 use Rattle.plan_tree_writer.proofs.Steps.{leaf-going, one-going, one-done, two-going, three-going}
-use Rattle.plan_tree_writer.proofs.Rooms.{put-keeps, tree-keeps, put-room, own-number, one-small, one-room, two-first, two-small, three-first, three-second}
+use Rattle.plan_tree_writer.proofs.Rooms.{put-keeps, tree-keeps, put-room, own-number, one-small, one-room, two-first, two-small, three-first}
+use Rattle.plan_tree_writer.proofs.Rooms.{three-second}
 use Rattle.plan_tree_writer.proofs.Rooms.{three-small}
 use Rattle.plan_tree_writer.proofs.ByTag.{one-at, two-at, if-at, while-at, call-at, leaf-at}
 use Rattle.plan_packing.proofs.call.Reads as call
