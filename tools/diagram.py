@@ -1,4 +1,4 @@
-"""The picture of a log as SVG text, the independent counterpart of the crate `diagram`.
+"""The picture of a log as SVG text, the independent counterpart of the crates `text_diagram` and below.
 
 A record is (kind, thread, object, field, value), kinds from 1; an arrow is a pair of indices; a race is the pair of its last write and its access, or None.
 """

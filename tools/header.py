@@ -4,7 +4,7 @@
   header.py
 
 The answers of the stored cases are written with the header's numbers (tools/vectors.py), which crates/test_vectors/data/header lists, and the test program
-`vectors` holds them to the library's. This program fails where the header says something else than that list, another size of a text's area than the
+`test_vectors` holds them to the library's. This program fails where the header says something else than that list, another size of a text's area than the
 printing program's definition, or another sentence of a refusal than plancheck's.
 """
 
@@ -40,7 +40,7 @@ def sentences():
 def main():
     with open(ROOT + "/crates/" + LISTED) as stored:
         if stored.read() != listing():
-            sys.exit("include/ruqzhemil.h has other numbers than the stored cases were made with: run tools/vectors.py, then rt check vectors")
+            sys.exit("include/ruqzhemil.h has other numbers than the stored cases were made with: run tools/vectors.py, then rt check test_vectors")
     with open(ROOT + "/crates/text_shot_list/specs/Printed.antt") as printed:
         if "(%d ≤ length before →" % numbers()["MOST_TEXT_BYTES"] not in printed.read():
             sys.exit("include/ruqzhemil.h has another size of a text's area than crates/text_shot_list/specs/Printed.antt")
