@@ -1,4 +1,4 @@
--- What the machine's redexes stand for: closures, frames, what is ready, what is found, results. Assumes nothing.
+-- What the machine's parts stand for: closures, frames, what is ready, what is found, results. Assumes nothing.
 use Prim.Native.Nat.{ℕ}
 use mathlib.Core.List.{List, [], _∷_}
 use mathlib.Core.Option.{Option, none}

@@ -1,4 +1,4 @@
--- What is ready does what the rules say of the redexOf that it stands for, unless they say that no rule applies. Assumes nothing.
+-- What is ready does what the rules say of the redex that it stands for, unless they say that no rule applies. Assumes nothing.
 use Prim.Native.Nat.{ℕ, zero, suc}
 use mathlib.Core.Path.{_≡_, refl, sym, ap, _∙_, subst as along}
 use mathlib.Core.Bool.{Bool, true, false, cond}

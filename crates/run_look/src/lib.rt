@@ -87,7 +87,7 @@ fn look_field(setting: Setting, head: Head, cell: Cell, object: Object, field: u
     Sight::Lacking
 }
 
-// What a join meets, by the part of the thread that its object stands for.
+// What a join meets, by the redex of the thread that its object stands for.
 fn look_join(object: Object, other: usize) -> Sight
     ensures { λ r. ⌜ r ≡ lookJoin object other ⌝ }
 {
@@ -151,7 +151,7 @@ fn about_field(redex: usize) -> bool
     redex == redex::WRITE
 }
 
-// What a present thread's next pick meets, by its head, the cell and the object that its redex is about, the part of the thread that the object
+// What a present thread's next pick meets, by its head, the cell and the object that its redex is about, the redex of the thread that the object
 // stands for, and its place in a queue.
 pub fn look(
     setting: Setting,

@@ -14,7 +14,7 @@ use Rattle.run_pick.specs.inner.Answer.{PickAnswer, PickAnswer as answer
 use Rattle.run_pick.specs.inner.Pick.{picked, noRoom, noHead, fullOf, forksOf, forkedOf, moveOf, refocusForked, forkedWay, startBy, refocusBy}
 
 module _ (x : Met) (a : Acted) (ws rs : List ℕ) (m : Ended) where
-  -- where the mover has refocused at m: without room; of a fork, with a forked that has no room or has refocused; of another move
+  -- where the mover has refocused at m: without room; of a fork, with a forked thread that has no room or has refocused; of another move
   by-full : fullOf (m .refocused) ≡ true → refocusBy ws rs x a m ≡ picked (m .stack) (noRoom room.Depth)
   unfolding refocusBy
   by-full d = rw d
@@ -52,7 +52,7 @@ module _ (x : Met) (a : Acted) (ws rs : List ℕ) (m : Ended) where
             ap (picked (e .stack)) k ∙ ap (λ (e : Ends). picked (e .stack) (noRoom room.Depth)) s ∙ sym (by-forked-full ed ef (lasts s h))
         by false false ed ef = let r = lasts (q ∙ last ws rs (forkedWay (x .counts) (x .head)) b m (forksOf (x .head)) ef) h in cc (r, ed)
 
-    -- a fork whose forked has refocused
+    -- a fork whose forked thread has refocused
     pub refocus-forked : (h : Head) → fullOf (e .refocusings .last) ≡ false → forksOf (x .head) ≡ true
         → z ≡ answer.Moved (moveOf x a (e .refocusings .before) h true) → h ≡ forkedOf x (e .refocusings .last) → picked (e .stack) z ≡ refocusBy ws rs x a m
     refocus-forked h n f k j = by (fullOf (m .refocused)) refl

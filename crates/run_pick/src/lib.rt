@@ -217,7 +217,7 @@ fn forked_way(counts: Counts, head: Head) -> Way
     }
 }
 
-// Lands the mover from here and, of a fork, the thread that it makes. One call of `refocusing` for both, so that it is compiled into its caller.
+// Refocuses the mover from here and, of a fork, the thread that it makes. One call of `run_refocusing` for both, so that it is compiled into its caller.
 fn refocus_from(
     words: &[usize; 1024],
     roots: &[usize; 32],
@@ -258,7 +258,7 @@ fn go_of(begun: Begun) -> Refocusing
     }
 }
 
-// Lands a move of the thread that begins so. All moves go through one call, so that refocusing is compiled into the caller.
+// Refocuses a move of the thread that begins so. All moves go through one call, so that refocusing is compiled into the caller.
 pub fn refocus(
     words: &[usize; 1024],
     roots: &[usize; 32],

@@ -1,4 +1,4 @@
--- The abstract machine; no reader of the entries' promises needs it. Its redexes: slots, closures, frames, and what is ready to move.
+-- The abstract machine; no reader of the entries' promises needs it. Its parts: slots, closures, frames, and what is ready to move.
 -- Assumes nothing.
 use Prim.Native.Nat.{ℕ}
 use mathlib.Core.Bool.{Bool, cond}

@@ -104,7 +104,7 @@ unfoldable pub runConditionOf : ℕ → ℕ → Refocusing
 unfolding runConditionBy
 runConditionOf w environment = runConditionBy (tagOf w) w environment
 
--- ---- a way down, in three redexes
+-- ---- a way down, in three parts
 
 abbrev pub openedBy : Stage → List ℕ → Refocusing → Refocusing
 openedBy stage.Full ws g = g
