@@ -135,6 +135,7 @@ pub data PickAnswerOf (F : Form) : Type 0 where
   noRoom : Room → PickAnswerOf F  -- the run stops: no room
   moved : MoveOf F → PickAnswerOf F
 
+-- the answer by the rules
 abbrev pub PickAnswer : Type 0
 PickAnswer = PickAnswerOf expressions
 

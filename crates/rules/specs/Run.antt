@@ -24,6 +24,7 @@ pub record RunOf (F : Form) : Type 0 where
   pub log : List Record
   pub final : StateOf F
 
+-- a run by the rules
 abbrev pub Run : Type 0
 Run = RunOf expressions
 

@@ -57,13 +57,15 @@ pub record StateOf (F : Form) : Type 0 where
   pub threads : List (ThreadOf F)
   pub nextKey : ℕ
 
--- those of the rules
+-- a thread of the rules
 abbrev pub Thread : Type 0
 Thread = ThreadOf expressions
 
+-- a thread of the rules with its number
 abbrev pub Numbered : Type 0
 Numbered = NumberedOf expressions
 
+-- a state of the rules
 abbrev pub State : Type 0
 State = StateOf expressions
 

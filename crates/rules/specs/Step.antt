@@ -38,6 +38,7 @@ pub data ActOf (F : Form) (E : Type 0) : Type 0 where
   lacks : Record → ActOf F E
   does : Rule → Option Record → StateOf F → E → ActOf F E
 
+-- by the rules an expression replaces it
 abbrev pub Act : Type 0
 Act = ActOf expressions Expression
 
@@ -172,6 +173,7 @@ pub record MoveOf (F : Form) : Type 0 where
   pub entry : Option Record
   pub state : StateOf F
 
+-- a move by the rules
 abbrev pub Move : Type 0
 Move = MoveOf expressions
 
@@ -184,6 +186,7 @@ pub data AttemptOf (F : Form) : Type 0 where
   lacking : Record → AttemptOf F
   moves : MoveOf F → AttemptOf F
 
+-- what it can do by the rules
 abbrev pub Attempt : Type 0
 Attempt = AttemptOf expressions
 
