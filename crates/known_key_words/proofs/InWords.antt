@@ -16,7 +16,7 @@ use Rattle.plan_packed.specs.inner.Steps as steps
 use Rattle.plan_packed.proofs.Decoded.{well-formed}
 use Rattle.log_records.specs.Packed.{bytesOf}
 use Rattle.rules.specs.State.{Thread}
-use Rattle.rules.specs.Run.{Run, play}
+use Rattle.rules.specs.Run.{Run, play, log}
 use Rattle.rules.specs.Play.{playRefusal, runOf}
 use Rattle.rules.proofs.StateLaws.{there as thread-at}
 use Rattle.machine.specs.inner.Machine as machine
@@ -73,13 +73,13 @@ module _ (plan area ws rs : List ℕ) (ok : refusal plan ≡ none) (loaded : Wor
       ∙ sym (ap (λ (l : List Thread). length l) run-threads ∙ length-map (final .threads) (threadMeant (tableOf plan)))
 
   set-of : (t : ℕ) → t < machineOf here .tally .counts .threads
-      → HoldsJust (programOf plan .version) (play (programOf plan) ps .log) t (keysOf (headAt (machineOf here .heads) t .keys))
+      → HoldsJust (programOf plan .version) (log (play (programOf plan) ps)) t (keysOf (headAt (machineOf here .heads) t .keys))
   set-of t h =
       let x = thread-at (final .threads) t (let e = related .kept .threads-count in omega arith) in
-      along (HoldsJust (programOf plan .version) (play (programOf plan) ps .log) t) (sym (related .each t (x .0) (x .1) .keys))
+      along (HoldsJust (programOf plan .version) (log (play (programOf plan) ps)) t) (sym (related .each t (x .0) (x .1) .keys))
       (every-set-played (programOf plan) (well-formed plan ok) ps t (threadMeant (tableOf plan) (x .0)) (thread-of t (x .0) (x .1)))
 
-  log-there : areaOf here ≡ overwrite (bytesOf (play (programOf plan) ps .log)) area
+  log-there : areaOf here ≡ overwrite (bytesOf (log (play (programOf plan) ps))) area
   log-there =
       area-here ws rs (settingOf plan) (0 + length ps) here
       ∙ ap (λ (r : Played). r .area) (sym (plays-on ws rs (settingOf plan) ps [] (startOf false rs area) 0))

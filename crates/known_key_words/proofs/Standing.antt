@@ -67,7 +67,7 @@ module _ (b ws rs : List ℕ) (ok : refusal b ≡ none) (loaded : WordsAndRoots 
         Related b
         (machineOf (byAnswer z (after-picks (stayed m k) ps (i + 1)) (λ v. after-picks (after m p v k) ps (i + 1))
         (λ e x. halted m (stopped (settingOf b) m p x e i))))
-        (playing.resume s (run-from ps) a .final)
+        (playing.resume s p (run-from ps) a .final)
 
     answered-stands : (z : PickAnswer) (k : Stack) → AnsweredBy b m s p z k → Stands z k (playing.step (tableOf b) s p)
     unfolding playing.resume playing.afterPass playing.afterMove playing.stopped
@@ -98,6 +98,6 @@ module _ (b ws rs : List ℕ) (ok : refusal b ≡ none) (loaded : WordsAndRoots 
       Related b
       (machineOf (byAnswer (turnBy ws rs (settingOf b) m q .answer) (after-picks (stayed m (turnBy ws rs (settingOf b) m q .stack)) ps (i + 1))
       (λ v. after-picks (after m q v (turnBy ws rs (settingOf b) m q .stack)) ps (i + 1)) (λ e x. halted m (stopped (settingOf b) m q x e i))))
-      (playing.resume s (run-from ps) (playing.step (tableOf b) s p) .final))
+      (playing.resume s p (run-from ps) (playing.step (tableOf b) s p) .final))
       (sym (mod-eq-of-lt {m = 8} (omega arith)))
       (pick-stands m s rel reach p (omega arith) ps i (stands-for ps (i + 1) (λ j h. small (suc j) (omega arith))))

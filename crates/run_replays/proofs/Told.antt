@@ -13,7 +13,7 @@ use borrow.Author.Tests.{eq-eqb, ne-eqb}
 use Rattle.plan_packed.specs.Syntax.{Program}
 use Rattle.plan_packed.specs.Trees.{programOf}
 use Rattle.rules.specs.Run as run
-use Rattle.rules.specs.Run.{play}
+use Rattle.rules.specs.Run.{play, instances}
 use Rattle.rules.specs.Play.{runOf}
 use Rattle.run_outcome.specs.declared.Stop.{Stop}
 use Rattle.run_outcome.specs.declared.Stop.the-variants as stop
@@ -42,7 +42,7 @@ stop-counts stop.Race = refl
 stop-counts (stop.NoRoom k) = refl
 
 module _ (plan picks : List ℕ) (o : Outcome) (h : OutcomeOf plan picks o) where
-  moves-are : o .moves ≡ length (play (programOf plan) picks .instances)
+  moves-are : o .moves ≡ length (instances (play (programOf plan) picks))
   unfolding outcomeOf run.outcomeOf runOf
   moves-are = ap (λ (x : run.Outcome). x .moves) h
 
