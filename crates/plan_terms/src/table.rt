@@ -59,8 +59,7 @@ fn wrong_children(
     notes: &mut [u8; 1024],
     scopes: &mut [u8; 1024],
 ) -> bool
-    requires { ⌜ now rows ≡ layoutRows ⌝ }
-    requires { ⌜ (tag < tagCount) × (count ≤ 1024) ⌝ }
+    requires { ⌜ (now rows ≡ layoutRows) × (tag < tagCount) × (count ≤ 1024) ⌝ }
     ensures { λ r. ⌜ r ≡ wrongTerms count term word tag ⌝ }
     ensures { λ r. ⌜ (r ≡ false → now (notes .exit) ≡ noteAll (childrenByRow word tag) (now (notes .entry))) ⌝ }
     ensures { λ r. ⌜ (r ≡ false → now (scopes .exit) ≡ handAll (handedByRow scope word tag) (now (scopes .entry))) ⌝ }

@@ -57,7 +57,8 @@ load-requires c κs =
     let s = c .before .before .before .before in
     let r = s .before .before in
     let y = r .before .before in
-    (y .layouts .ensures, (shown (y .before), (y .before .before .before .before .before .before .before .pre, (r .name-roots .ensures, s .hand-to-roots .ensures))))
+    let z = y .before .before .before .before .before .before .before in
+    (y .layouts .ensures, (shown (y .before), (z .pre, (r .name-roots .ensures, s .hand-to-roots .ensures))))
 
 refused-requires : tie.Need-refused-requires
 refused-requires c κs = search needs

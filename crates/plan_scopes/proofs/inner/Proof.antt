@@ -31,7 +31,9 @@ slot-of-requires : tie.Need-slot-of-requires
 slot-of-requires c κs = search needs
 
 returns-2 : tie.Need-returns-2
-returns-2 c = let a = c .before .before .before .args in binds-nothing (a .scope) (a .word) (a .tag) _ (c .before .before .if1 .left) (c .before .slot-of .ensures) (omega arith) (c .if2 .taken)
+returns-2 c =
+    let a = c .before .before .before .args in
+    binds-nothing (a .scope) (a .word) (a .tag) _ (c .before .before .if1 .left) (c .before .slot-of .ensures) (omega arith) (c .if2 .taken)
 
 wide-requires : tie.Need-wide-requires
 wide-requires c κs = search needs
@@ -46,7 +48,8 @@ returns-3 : tie.Need-returns-3
 returns-3 c =
     let s = c .before .before in
     let a = s .before .before .args in
-    binds (a .scope) (a .word) (a .tag) _ (s .before .if1 .left) (s .slot-of .ensures) _ (c .wide .ensures .0) (c .before .if2 .left) (omega (arith, s .slot-of .ensures))
+    binds (a .scope) (a .word) (a .tag) _ (s .before .if1 .left) (s .slot-of .ensures) _ (c .wide .ensures .0) (c .before .if2 .left)
+    (omega (arith, s .slot-of .ensures))
 
 pub inner-spec : {M : Type 1} → statement M
 inner-spec =

@@ -51,7 +51,8 @@ wrong-term-requires c κs = let s = c .before .before .before .before .before .b
 
 -- whether the term is wrong
 verdict : (c : tie.After-wrong-term Inv-loop μ-loop) (x : Bool) → c .wrong-term .result ≡ x
-    → wrongTerm (c .before .before .before .before .before .before .before .before .args .plan .now) (c .before .before .before .before .before .before .loop .term) ≡ x
+    → wrongTerm (c .before .before .before .before .before .before .before .before .args .plan .now)
+    (c .before .before .before .before .before .before .loop .term) ≡ x
 verdict c x h =
     let w = c .before .before .before .before in
     let s = w .before .before .before .before in
@@ -103,8 +104,10 @@ returns-2 : tie.Need-returns-2 Inv-loop μ-loop
 returns-2 c =
     let a = c .before .before .before .args in
     let l = c .before .loop in
-    let e : l .term ≡ a .count = omega arith in
-    (found-none (wrongTerm (a .plan .now)) _ _ (search needs) (search needs) (l .inv .1), ((λ q. rw e at (l .inv .2)), ((λ q. rw e at (l .inv .3)), λ q. rw e at (l .inv .4))))
+    let e : l .term ≡ a .count = omega arith in (
+      found-none (wrongTerm (a .plan .now)) _ _ (search needs) (search needs) (l .inv .1),
+      ((λ q. rw e at (l .inv .2)), ((λ q. rw e at (l .inv .3)), λ q. rw e at (l .inv .4))),
+    )
 
 pub load-spec : {M : Type 1} → statement M
 load-spec =
