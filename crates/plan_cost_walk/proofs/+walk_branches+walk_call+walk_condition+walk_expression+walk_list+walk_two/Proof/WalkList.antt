@@ -9,8 +9,10 @@ use Rattle.plan_operands.proofs.second.Reads as second-reads
 use Rattle.plan_operands.proofs.tag.Reads as tag-reads
 use Rattle.plan_cost_walk.proofs.walk_list.Reads.{Post}
 use Rattle.plan_cost_walk.proofs.walk_expression.Reads as expression
-use Rattle.plan_cost_walk.proofs.+walk_condition+walk_expression+walk_list.Proof.Measures.{walk-list-at, walk-list-below, walk-expression-below}
-use Rattle.plan_cost_walk.proofs.+walk_condition+walk_expression+walk_list.Lts-walk_list as lts
+use Rattle.plan_cost_walk.proofs.+walk_branches+walk_call+walk_condition+walk_expression+walk_list+walk_two.Proof.Measures.{walk-list-at}
+use Rattle.plan_cost_walk.proofs.+walk_branches+walk_call+walk_condition+walk_expression+walk_list+walk_two.Proof.Measures.{walk-list-below}
+use Rattle.plan_cost_walk.proofs.+walk_branches+walk_call+walk_condition+walk_expression+walk_list+walk_two.Proof.Measures.{walk-expression-below}
+use Rattle.plan_cost_walk.proofs.+walk_branches+walk_call+walk_condition+walk_expression+walk_list+walk_two.Lts-walk_list as lts
 
 module _ (span : ℕ) where
   abbrev callees : lts.Claims

@@ -4,17 +4,18 @@ use mathlib.Core.List.{[], _∷_}
 use Prim.Native.Nat.{ℕ}
 use native.Mathlib.Omega.{arith}
 use Rattle.format.proofs.Ranges.{NoneOf}
-use Rattle.plan_cost_walk.proofs.Conditions.{not-call, and-first, and-second, equal-first, equal-second, not-walked, and-walked, equal-walked}
+use Rattle.plan_cost_walk.proofs.Conditions.{not-call, and-first, and-second, equal-call, not-walked, and-walked, equal-walked}
 use Rattle.plan_cost_walk.proofs.Conditions.{rest-walkedᶜ}
 use Rattle.plan_operands.proofs.first.Reads as first-reads
 use Rattle.plan_operands.proofs.second.Reads as second-reads
 use Rattle.plan_operands.proofs.tag.Reads as tag-reads
 use Rattle.plan_cost_walk.proofs.more.Reads as more-reads
 use Rattle.plan_cost_walk.proofs.walk_condition.Reads.{Post}
-use Rattle.plan_cost_walk.proofs.walk_expression.Reads as expression
-use Rattle.plan_cost_walk.proofs.+walk_condition+walk_expression+walk_list.Proof.Measures.{walk-condition-at, walk-condition-below}
-use Rattle.plan_cost_walk.proofs.+walk_condition+walk_expression+walk_list.Proof.Measures.{walk-expression-below}
-use Rattle.plan_cost_walk.proofs.+walk_condition+walk_expression+walk_list.Lts-walk_condition as lts
+use Rattle.plan_cost_walk.proofs.walk_two.Reads as two
+use Rattle.plan_cost_walk.proofs.+walk_branches+walk_call+walk_condition+walk_expression+walk_list+walk_two.Proof.Measures.{walk-condition-at}
+use Rattle.plan_cost_walk.proofs.+walk_branches+walk_call+walk_condition+walk_expression+walk_list+walk_two.Proof.Measures.{walk-condition-below}
+use Rattle.plan_cost_walk.proofs.+walk_branches+walk_call+walk_condition+walk_expression+walk_list+walk_two.Proof.Measures.{walk-two-below}
+use Rattle.plan_cost_walk.proofs.+walk_branches+walk_call+walk_condition+walk_expression+walk_list+walk_two.Lts-walk_condition as lts
 
 module _ (span : ℕ) where
   abbrev callees : lts.Claims
@@ -29,8 +30,8 @@ module _ (span : ℕ) where
     tag-reads.Learnt,
     walk-condition-below span,
     Post,
-    walk-expression-below span,
-    expression.Post,
+    walk-two-below span,
+    two.Post,
   )
 
   mul-word : lts.Need-mul-word callees (walk-condition-at span) Post
@@ -72,19 +73,12 @@ module _ (span : ℕ) where
       (and-second _ (k .before .before .before .before .before .pre .1 .0) _ (k .before .before .before .before .before .pre .0)
       (sym (k .tag .ensures) ∙ c .before .match .keys2))
 
-  walk-expression-requires : lts.Need-walk-expression-requires callees (walk-condition-at span) Post
-  walk-expression-requires c κs =
+  walk-two-requires : lts.Need-walk-two-requires callees (walk-condition-at span) Post
+  walk-two-requires c κs =
       let k = c .before in
-      rw (k .before .before .before .first .ensures)
-      (equal-first _ (k .before .before .before .before .before .pre .1 .0) _ (k .before .before .before .before .before .pre .0)
+      rw (k .before .before .before .first .ensures, k .before .before .second .ensures)
+      (equal-call _ (k .before .before .before .before .before .pre .1 .0) _ (k .before .before .before .before .before .pre .0)
       (sym (k .tag .ensures) ∙ c .match .keys3))
-
-  walk-expression-requires-2 : lts.Need-walk-expression-requires-2 callees (walk-condition-at span) Post
-  walk-expression-requires-2 c κs =
-      let k = c .before .before in
-      rw (k .before .before .second .ensures)
-      (equal-second _ (k .before .before .before .before .before .pre .1 .0) _ (k .before .before .before .before .before .pre .0)
-      (sym (k .tag .ensures) ∙ c .before .match .keys3))
 
   returns : lts.Need-returns callees (walk-condition-at span) Post
   returns c =
@@ -103,11 +97,10 @@ module _ (span : ℕ) where
 
   returns-3 : lts.Need-returns-3 callees (walk-condition-at span) Post
   returns-3 c =
-      let k = c .before .before .before in
+      let k = c .before .before in
       equal-walked _ (k .before .before .before .before .before .pre .1 .0) _ (k .before .before .before .before .before .args .counting) _ _
-      (sym (k .tag .ensures) ∙ c .before .before .match .keys3) (k .before .more .ensures)
-      (rw (k .before .before .before .first .ensures) at (c .before .walk-expression .ensures))
-      (rw (k .before .before .second .ensures) at (c .walk-expression2 .ensures))
+      (sym (k .tag .ensures) ∙ c .before .match .keys3) (k .before .more .ensures)
+      (rw (k .before .before .before .first .ensures, k .before .before .second .ensures) at (c .walk-two .ensures))
 
   returns-4 : lts.Need-returns-4 callees (walk-condition-at span) Post
   returns-4 c =
@@ -118,5 +111,5 @@ module _ (span : ℕ) where
   pub walk-condition : {M : Type 1} → lts.Closed callees (walk-condition-at span) Post M
   walk-condition =
       lts.spec callees (walk-condition-at span) Post mul-word element-copy-out-word first-requires second-requires more-requires tag-requires
-      walk-condition-requires walk-condition-requires-2 walk-condition-requires-3 walk-expression-requires walk-expression-requires-2 returns returns-2
+      walk-condition-requires walk-condition-requires-2 walk-condition-requires-3 walk-two-requires returns returns-2
       returns-3 returns-4
