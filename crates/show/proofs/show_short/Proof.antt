@@ -1,0 +1,48 @@
+-- `show_short` meets its contract. Assumes nothing.
+use native.Mathlib.Omega.{arith}
+use Rattle.plan_tokens.proofs.Parts.{plan-within}
+use Rattle.show.proofs.Tokens.{plan-text, known-tokens}
+use borrow.Author.Needs.{needs}
+use Rattle.show.proofs.show_short.Statement.{statement}
+use Rattle.show.proofs.show_short.Tie as tie
+
+slice-aggregate-put-plan : tie.Need-slice-aggregate-put-plan
+slice-aggregate-put-plan c = search needs
+
+slice-aggregate-put-plan-2 : tie.Need-slice-aggregate-put-plan-2
+slice-aggregate-put-plan-2 c = search needs
+
+put-plan-requires : tie.Need-put-plan-requires
+put-plan-requires c κs = let s = c .before .before .before .before in let g = s .pre .0 in ((g, omega (arith, plan-within _ _ g)), omega arith)
+
+sub-write : tie.Need-sub-write
+sub-write c = search needs
+
+part-write-start : tie.Need-part-write-start
+part-write-start c = search needs
+
+part-write-end : tie.Need-part-write-end
+part-write-end c = let s = c .before .before .before .before .before .before .before .before in let g = s .pre .0 in let p = c .before .before .before .put-plan .ensures in omega (arith, p .next, p .kept, plan-within _ _ g)
+
+write-requires : tie.Need-write-requires
+write-requires c κs = let s = c .before .before .before .before .before .before .before .before .before .before in known-tokens (s .pre .0) (c .before .before .before .before .before .put-plan .ensures)
+
+same-length : tie.Need-same-length
+same-length c = search needs
+
+returns : tie.Need-returns
+returns c = plan-text _ (c .before .before .before .before .before .before .before .before .put-plan .ensures) (c .before .before .write .ensures)
+
+pub show-short-spec : {M : Type 1} → statement M
+show-short-spec =
+    tie.close
+    (tie.spec
+    slice-aggregate-put-plan
+    slice-aggregate-put-plan-2
+    put-plan-requires
+    sub-write
+    part-write-start
+    part-write-end
+    write-requires
+    same-length
+    returns)
