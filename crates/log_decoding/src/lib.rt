@@ -1,9 +1,10 @@
-// A record of the log, taken apart.
+// A record of the log: its columns packed into three bytes, and taken apart again.
 ghost use mathlib.Core.Path.{_≡_};
-ghost use Prim.Native.Nat.{_*_, _/_, _<_};
+ghost use Prim.Native.Nat.{_+_, _*_, _/_, _<_, _≤_};
 ghost use lib.ListN.{length};
 ghost use Rattle.format.specs.Bits.{bitsAt};
 ghost use Rattle.log_decoding.specs.inner.Columns.{ReadAt};
+ghost use Rattle.log_decoding.specs.inner.Packing.{wordOf, putAt};
 
 pub struct Columns {
     pub kind: usize,
@@ -39,4 +40,25 @@ pub fn columns_at(log: &[u8], index: usize) -> Columns
         value: word / 4 % 32,
         spare: word % 4,
     }
+}
+
+// Writes the record at an index, its spare bits 0. Of each number the bits of its column are kept.
+pub fn put_columns(
+    log: &mut [u8],
+    index: usize,
+    kind: usize,
+    thread: usize,
+    object: usize,
+    field: usize,
+    value: usize,
+)
+    requires { ⌜ (index * 3 + 3 ≤ length (now log)) × (index ≤ 4096) ⌝ }
+    ensures { λ r. ⌜ now (log .exit) ≡ putAt (now (log .entry)) index (wordOf kind thread object field value) ⌝ }
+{
+    let word = (((kind % 16 * 8 + thread % 8) * 32 + object % 32) * 32 + field % 32) * 128
+        + value % 32 * 4;
+    let at = index * 3;
+    log[at] = (word / 65536 % 256) as u8;
+    log[at + 1] = (word / 256 % 256) as u8;
+    log[at + 2] = (word % 256) as u8;
 }

@@ -29,7 +29,8 @@ use Rattle.listing.specs.inner.CanFollow.{canFollow, stops}
 use Rattle.listing.specs.inner.Ways.{Way, Complete}
 use Rattle.listing.proofs.Listed.{complete-of, whole-by}
 use Rattle.listing.proofs.Counted.{counted, counts-few, listed-counts, listed-by-count}
-use Rattle.run_replays.specs.inner.Replay.{OfEight, stopCount, Explores}
+use Rattle.run_counted_picks.specs.inner.Counted.{stopCount}
+use Rattle.run_replays.specs.inner.Replay.{OfEight, Explores}
 use Rattle.run_replays.specs.inner.Told.{Tells, Noted, ListedBy}
 use Rattle.run_replays.proofs.Opens.{stop-is}
 

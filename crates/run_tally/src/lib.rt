@@ -3,6 +3,7 @@ ghost use mathlib.Core.Path.{_≡_};
 ghost use Prim.Native.Nat.{_≤_, _+_, _*_};
 ghost use lib.ListN.{length};
 ghost use Rattle.run_tally.specs.inner.Tally.{shownEntry, tallyFirst, tallyPut, tallyMoved, logPut};
+use log_decoding::put_columns;
 use log_records::kind;
 use run_state::Counts;
 use run_state::Entry;
@@ -41,13 +42,15 @@ pub fn put(log: &mut [u8], tally: Tally, thread: usize, entry: Entry) -> Tally
     if number == kind::NONE {
         return tally;
     }
-    let word = (((number % 16 * 8 + thread % 8) * 32 + entry.object % 32) * 32 + entry.field % 32)
-        * 128
-        + entry.value % 32 * 4;
-    let at = tally.records * 3;
-    log[at] = (word / 65536 % 256) as u8;
-    log[at + 1] = (word / 256 % 256) as u8;
-    log[at + 2] = (word % 256) as u8;
+    put_columns(
+        log,
+        tally.records,
+        number,
+        thread,
+        entry.object,
+        entry.field,
+        entry.value,
+    );
     let counts = tally.counts;
     Tally {
         counts: counts,

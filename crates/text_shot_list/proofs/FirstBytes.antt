@@ -15,7 +15,8 @@ use Rattle.plan_packed.specs.Check.{refusal}
 use Rattle.log_records.specs.Record.{Record}
 use Rattle.rules.specs.Run.{log}
 use Rattle.rules.specs.Play.{tooManyPicks, scheduleRefusal, playRefusal, played, playedBy, runOf}
-use Rattle.run_refusals.proofs.RefusalChain.{areaChecks, schedule-stages, play-stages}
+use Rattle.run_schedule_refusals.specs.inner.Checks.{areaChecks}
+use Rattle.run_refusals.proofs.RefusalChain.{schedule-stages, play-stages}
 use Rattle.text_refusal_lines.specs.Lines.{refusalLine}
 use Rattle.text_input_parts.specs.Input.{lengthRead, planRead, scheduleRead}
 use Rattle.text_input_parts.proofs.Parts.{cut-long, not-cut}

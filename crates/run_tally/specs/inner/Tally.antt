@@ -1,20 +1,17 @@
 -- What a run counts, and its records in the log: the machine that the code runs; no reader of the entries' promises needs it. Assumes nothing.
-use Prim.Native.Nat.{ℕ, _+_, _*_, _/_, _%_}
+use Prim.Native.Nat.{ℕ, _+_}
 use mathlib.Core.Bool.{Bool, cond}
 use mathlib.Core.List.{List}
 use lib.Dec.{eqb}
-use lib.ListN.{set}
+use Rattle.log_decoding.specs.inner.Packing.{wordOf, putAt}
 use Rattle.run_state.specs.declared.Counts.{Counts}
 use Rattle.run_state.specs.declared.Entry.{Entry}
 use Rattle.run_state.specs.inner.Acted.{countsOf, entryOf}
 use Rattle.run_tally.specs.declared.Tally.{Tally}
 
-abbrev pub wordOf : ℕ → Entry → ℕ
-wordOf p e = (((e .kind % 16 * 8 + p % 8) * 32 + e .object % 32) * 32 + e .field % 32) * 128 + e .value % 32 * 4
-
+-- the log with the thread's record as record n, unless it has none
 unfoldable pub logPut : List ℕ → ℕ → ℕ → Entry → List ℕ
-logPut l n p e = cond (eqb (e .kind) 0) l
-    (set (set (set l (n * 3) (wordOf p e / 65536 % 256)) (n * 3 + 1) (wordOf p e / 256 % 256)) (n * 3 + 2) (wordOf p e % 256))
+logPut l n p e = cond (eqb (e .kind) 0) l (putAt l n (wordOf (e .kind) p (e .object) (e .field) (e .value)))
 
 unfoldable pub recordsAfter : ℕ → Entry → ℕ
 recordsAfter n e = cond (eqb (e .kind) 0) n (n + 1)
