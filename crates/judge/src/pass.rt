@@ -7,10 +7,12 @@ ghost use Rattle.format.specs.Version.{versionOf};
 ghost use Rattle.log_records.specs.Refusals.{logRefusal};
 ghost use Rattle.log_conflicts.specs.Judge.{Answers};
 ghost use Rattle.judge.specs.Answer.{answered};
-ghost use Rattle.judge.specs.inner.Found.{Finds, judgementOf, isFull};
+ghost use Rattle.judge.specs.inner.Found.{Finds, foundOf, isEnd, judgementOf, isFull};
 ghost use Rattle.judge.specs.inner.Clear.{Clear};
 use crate::Judgement;
 use log_clocks::Row;
+use log_effects::Taking;
+use log_records::kind;
 
 // What a pass finds.
 pub enum Found {
@@ -22,27 +24,53 @@ pub enum Found {
     Full,
 }
 
+// What the pass has found at a record, by what came of it.
+fn finding(taking: Taking, index: usize) -> Found
+    ensures { λ r. ⌜ r ≡ foundOf index taking ⌝ }
+{
+    match taking {
+        Taking::Taken => Found::Nothing,
+        Taking::Unordered => Found::Access(index),
+        Taking::NoneLeft => Found::Full,
+    }
+}
+
+// The pass is at its end with a record that the table has not taken in.
+fn ended(taking: Taking) -> bool
+    ensures { λ r. ⌜ r ≡ isEnd taking ⌝ }
+{
+    match taking {
+        Taking::Taken => false,
+        Taking::Unordered => true,
+        Taking::NoneLeft => true,
+    }
+}
+
 // The pass over a log that is not refused, by its version. The table is lent, clear, with rows for so many places.
 fn pass(log: &[u8], version: usize, places: u16, table: &mut [Row]) -> Found
     requires { ⌜ logRefusal (now log) ≡ none ⌝ ∗ ⌜ Clear places (now table) ⌝ }
     ensures { λ r. ⌜ Finds (versionOf version) (now (log .entry)) places r ⌝ }
 {
     let count = log.len() / 3;
-    log_effects::table::start(table);
+    log_row_stores::start(table);
+    let read = log_rows::ordering(version, kind::VOLATILE_READ);
+    let write = log_rows::ordering(version, kind::VOLATILE_WRITE);
     let mut numbers = [0u16; 1024];
-    let mut given = 0;
+    let mut given = 0u16;
     let mut index = 0;
     while index < count {
-        let columns = log_decoding::columns_at(log, index);
-        let place = columns.object * 32 + columns.field;
-        let number = log_effects::places::number(&mut numbers, place, given, places);
-        if number == 0 {
-            return Found::Full;
-        }
-        given = log_clocks::higher(given, number);
-        let at = log_effects::rows::first(number);
-        if log_effects::table::step(version, columns, at, index as u16 + 1, table) {
-            return Found::Access(index);
+        let taking = log_effects::step(
+            log,
+            index,
+            read,
+            write,
+            places,
+            &mut numbers,
+            &mut given,
+            table,
+        );
+        if ended(taking) {
+            return finding(taking, index);
         }
         index += 1;
     }
