@@ -9,13 +9,13 @@ ghost use Rattle.run_engine.specs.inner.Exploring.{pickAt, Unseen, Explo
 use run_frames::redex;
 use run_frames::refocusing;
 use run_keys::KeySet;
+use run_outcome::NoRoom;
 use run_outcome::Outcome;
 use run_outcome::Stop;
 use run_outcome::Thread;
 use run_outcome::ThreadState;
 use run_pick::Begun;
 use run_pick::Met;
-use run_pick::Reached;
 use run_state::Counts;
 use run_state::Head;
 use run_state::Object;
@@ -186,29 +186,37 @@ pub fn explore(
                 };
                 begun = run_pick::begin(setting, met);
             }
-            let reached = run_pick::refocus(words, roots, &mut stack, counts, head, thread, begun);
-            let Reached::Refocused(refocusings) = reached else {
-                let Reached::Stopped {
-                    stop: reason,
-                    entry,
-                } = reached
-                else {
+            match begun {
+                Begun::Passed => {
                     passed[thread] = true;
                     continue;
-                };
-                tally = run_tally::put(&mut *log, tally, thread, entry);
-                stop = reason;
+                }
+                Begun::Stopped {
+                    stop: reason,
+                    entry,
+                } => {
+                    tally = run_tally::put(&mut *log, tally, thread, entry);
+                    stop = reason;
+                    dealt = i;
+                    break;
+                }
+                _ => {}
+            }
+            let go = run_pick::go_of(begun);
+            let refocusings = run_pick::refocus(words, roots, &mut stack, counts, head, thread, go);
+            let last = refocusings.last;
+            if run_refocusing::full(last) {
+                stop = Stop::NoRoom(NoRoom::Depth);
                 dealt = i;
                 break;
-            };
+            }
             passed = [false; 8];
-            let last = refocusings.last;
             let mover = heads[thread];
             let Begun::Acted(acted) = begun else {
                 let none = run_pick::no_entry();
                 tally = run_tally::put_move(&mut *log, tally, every, thread, none);
                 heads[thread] = run_pick::gone(mover, last);
-                objects[counts.objects % 33] = no_object();
+                objects[run_pick::remainder(counts.objects, 33)] = no_object();
                 tally = run_tally::moved(tally, counts);
                 continue;
             };
@@ -217,7 +225,11 @@ pub fn explore(
             tally = run_tally::put_move(&mut *log, tally, every, thread, entry);
             if ready.redex == redex::FORK {
                 let refocused = refocusings.before;
-                heads[counts.threads % 9] = run_pick::forked(mover, counts.objects, last);
+                heads[run_pick::remainder(counts.threads, 9)] = run_pick::forked(
+                    mover,
+                    counts.objects,
+                    last,
+                );
                 heads[thread] = run_pick::moved(mover, acted, refocused);
             } else {
                 heads[thread] = run_pick::moved(mover, acted, last);
@@ -229,7 +241,7 @@ pub fn explore(
             }
             let made = acted.object;
             let counted = acted.counts;
-            objects[counts.objects % 33] = made;
+            objects[run_pick::remainder(counts.objects, 33)] = made;
             tally = run_tally::moved(tally, counted);
         }
         let counts = tally.counts;

@@ -165,6 +165,10 @@ backConditionOf f b d = cond (eqb d 0) (stayOf (goAt noRule) d) (stayOf (feedCon
 abbrev pub frameAt : List ℕ → ℕ → Frame
 frameAt k i = unpackOf (getD k (i * 3) 0) (getD k (i * 3 + 1) 0) (getD k (i * 3 + 2) 0)
 
+-- the place of the top one, of a thread whose places start at base
+abbrev pub topOf : ℕ → ℕ → ℕ
+topOf base d = cond (eqb d 0) base (base + (d - 1))
+
 abbrev pub stepBy : Stage → List ℕ → List ℕ → Refocusing → ℕ → Frame → Turn
 stepBy stage.Full ws rs g d f = downOf ws rs g d
 stepBy stage.At ws rs g d f = downOf ws rs g d

@@ -1,8 +1,8 @@
 -- `top` meets its contract. Assumes nothing.
 use borrow.Author.Tests.{eq-eqb, ne-eqb}
 use borrow.Author.Needs.{needs}
-use Rattle.run_refocusing.proofs.top.Statement.{statement}
-use Rattle.run_refocusing.proofs.top.Tie as tie
+use Rattle.run_refocusing_step.proofs.top.Statement.{statement}
+use Rattle.run_refocusing_step.proofs.top.Tie as tie
 
 returns : tie.Need-returns
 returns c = (simp (eq-eqb _ _ (c .if1 .taken)), search needs)
