@@ -47,7 +47,7 @@ fn judge_version(log: &[u8], version: usize) -> Judgement
             place: wrong,
         };
     }
-    if log.len() / 3 <= 16 {
+    if log.len() / 3 <= 64 {
         return pass::short(log, version);
     }
     pass::long(log, version)
