@@ -181,19 +181,29 @@ pub fn short(log: &[u8], version: usize) -> Judgement
     judgement(found)
 }
 
-// The answer to any log: most are at few places, so that rows for more are cleared only where those for 64 do not suffice.
+// The answer to a log of at most 256 records: most are at few places, so that rows for as many as it can be at are cleared only where those for 64 do not
+// suffice.
+pub fn middle(log: &[u8], version: usize) -> Judgement
+    requires { ⌜ logRefusal (now log) ≡ none ⌝ ∗ ⌜ length (now log) / 3 ≤ 256 ⌝ }
+    ensures { λ r. ⌜ Answers (versionOf version) (now (log .entry)) (answered r) ⌝ }
+{
+    let found = by_sixty_four(log, version);
+    if full(found) {
+        let again = by_many(log, version);
+        return judgement(again);
+    }
+    judgement(found)
+}
+
+// The answer to any log, in the same way by rows for all places.
 pub fn long(log: &[u8], version: usize) -> Judgement
     requires { ⌜ logRefusal (now log) ≡ none ⌝ }
     ensures { λ r. ⌜ Answers (versionOf version) (now (log .entry)) (answered r) ⌝ }
 {
-    let first = by_sixty_four(log, version);
-    if full(first) {
-        let second = by_many(log, version);
-        if full(second) {
-            let third = by_all(log, version);
-            return judgement(third);
-        }
-        return judgement(second);
+    let found = by_sixty_four(log, version);
+    if full(found) {
+        let again = by_all(log, version);
+        return judgement(again);
     }
-    judgement(first)
+    judgement(found)
 }
