@@ -77,8 +77,18 @@ fn pass(log: &[u8], version: usize, places: u16, table: &mut [Row]) -> Found
     Found::Nothing
 }
 
+// What is found by a table for 8 places.
+fn by_eight(log: &[u8], version: usize) -> Found
+    requires { ⌜ logRefusal (now log) ≡ none ⌝ }
+    ensures { λ r. ⌜ Finds (versionOf version) (now (log .entry)) 8 r ⌝ }
+{
+    let clear = [0u16; 8];
+    let mut table = [clear; 35];
+    pass(log, version, 8, &mut table)
+}
+
 // What is found by a table for 16 places.
-fn by_few(log: &[u8], version: usize) -> Found
+fn by_sixteen(log: &[u8], version: usize) -> Found
     requires { ⌜ logRefusal (now log) ≡ none ⌝ }
     ensures { λ r. ⌜ Finds (versionOf version) (now (log .entry)) 16 r ⌝ }
 {
@@ -87,14 +97,34 @@ fn by_few(log: &[u8], version: usize) -> Found
     pass(log, version, 16, &mut table)
 }
 
+// What is found by a table for 32 places.
+fn by_thirty_two(log: &[u8], version: usize) -> Found
+    requires { ⌜ logRefusal (now log) ≡ none ⌝ }
+    ensures { λ r. ⌜ Finds (versionOf version) (now (log .entry)) 32 r ⌝ }
+{
+    let clear = [0u16; 8];
+    let mut table = [clear; 107];
+    pass(log, version, 32, &mut table)
+}
+
 // What is found by a table for 64 places.
-fn by_some(log: &[u8], version: usize) -> Found
+fn by_sixty_four(log: &[u8], version: usize) -> Found
     requires { ⌜ logRefusal (now log) ≡ none ⌝ }
     ensures { λ r. ⌜ Finds (versionOf version) (now (log .entry)) 64 r ⌝ }
 {
     let clear = [0u16; 8];
     let mut table = [clear; 203];
     pass(log, version, 64, &mut table)
+}
+
+// What is found by a table for 256 places.
+fn by_many(log: &[u8], version: usize) -> Found
+    requires { ⌜ logRefusal (now log) ≡ none ⌝ }
+    ensures { λ r. ⌜ Finds (versionOf version) (now (log .entry)) 256 r ⌝ }
+{
+    let clear = [0u16; 8];
+    let mut table = [clear; 779];
+    pass(log, version, 256, &mut table)
 }
 
 // What is found by a table for all 1,024 places.
@@ -129,21 +159,48 @@ fn full(found: Found) -> bool
     }
 }
 
-// The answer to a log of few records: clearing rows for more places would take longer than judging it.
+// The answer to a log of at most 64 records: rows for as many places as it can be at, since clearing more would take longer than judging it.
 pub fn short(log: &[u8], version: usize) -> Judgement
-    requires { ⌜ logRefusal (now log) ≡ none ⌝ ∗ ⌜ length (now log) / 3 ≤ 16 ⌝ }
+    requires { ⌜ logRefusal (now log) ≡ none ⌝ ∗ ⌜ length (now log) / 3 ≤ 64 ⌝ }
     ensures { λ r. ⌜ Answers (versionOf version) (now (log .entry)) (answered r) ⌝ }
 {
-    let found = by_few(log, version);
+    let count = log.len() / 3;
+    if count <= 8 {
+        let found = by_eight(log, version);
+        return judgement(found);
+    }
+    if count <= 16 {
+        let found = by_sixteen(log, version);
+        return judgement(found);
+    }
+    if count <= 32 {
+        let found = by_thirty_two(log, version);
+        return judgement(found);
+    }
+    let found = by_sixty_four(log, version);
     judgement(found)
 }
 
-// The answer to any log: most are at few places, so that rows for all are cleared only where those for 64 do not suffice.
+// The answer to a log of at most 256 records: most are at few places, so that rows for as many as it can be at are cleared only where those for 64 do not
+// suffice.
+pub fn middle(log: &[u8], version: usize) -> Judgement
+    requires { ⌜ logRefusal (now log) ≡ none ⌝ ∗ ⌜ length (now log) / 3 ≤ 256 ⌝ }
+    ensures { λ r. ⌜ Answers (versionOf version) (now (log .entry)) (answered r) ⌝ }
+{
+    let found = by_sixty_four(log, version);
+    if full(found) {
+        let again = by_many(log, version);
+        return judgement(again);
+    }
+    judgement(found)
+}
+
+// The answer to any log, in the same way by rows for all places.
 pub fn long(log: &[u8], version: usize) -> Judgement
     requires { ⌜ logRefusal (now log) ≡ none ⌝ }
     ensures { λ r. ⌜ Answers (versionOf version) (now (log .entry)) (answered r) ⌝ }
 {
-    let found = by_some(log, version);
+    let found = by_sixty_four(log, version);
     if full(found) {
         let again = by_all(log, version);
         return judgement(again);

@@ -5,7 +5,7 @@ ghost use Rattle.log_limits.specs.inner.Limits.{leastBits, zeroBits};
 
 // For each kind, the least number that it allows in its record's last 12 bits, which are field, value and spare: an access has a field, at 128 and above.
 // 4096, above them all, allows none: so for what is no kind, and for the kinds 10 and 11 before the last record.
-const LEAST_EARLY: [usize; 16] = [
+const LEAST_EARLY: [u16; 16] = [
     4096,
     0,
     128,
@@ -25,7 +25,7 @@ const LEAST_EARLY: [usize; 16] = [
 ];
 
 // The same in the last record.
-const LEAST_LAST: [usize; 16] = [
+const LEAST_LAST: [u16; 16] = [
     4096,
     0,
     128,
@@ -46,7 +46,7 @@ const LEAST_LAST: [usize; 16] = [
 
 // For each kind, those of the 12 bits that must be 0: a column without a use, what is above a thread in the field of fork and join, and the
 // spare bits; of what is no kind, all.
-const ZERO: [usize; 16] = [
+const ZERO: [u16; 16] = [
     4095,
     4095,
     3,
@@ -66,21 +66,21 @@ const ZERO: [usize; 16] = [
 ];
 
 // The least numbers before the last record.
-pub fn least_early() -> [usize; 16]
+pub fn least_early() -> [u16; 16]
     ensures { λ r. ⌜ r ≡ leastBits false ⌝ }
 {
     LEAST_EARLY
 }
 
 // The least numbers in the last record.
-pub fn least_last() -> [usize; 16]
+pub fn least_last() -> [u16; 16]
     ensures { λ r. ⌜ r ≡ leastBits true ⌝ }
 {
     LEAST_LAST
 }
 
 // The bits that must be 0.
-pub fn zero_bits() -> [usize; 16]
+pub fn zero_bits() -> [u16; 16]
     ensures { λ r. ⌜ r ≡ zeroBits ⌝ }
 {
     ZERO

@@ -18,12 +18,12 @@ pub fn wrong_length(log: &[u8]) -> bool
 }
 
 // Refusal 12 at the record of an index, by the tables for its place.
-fn wrong_record<'a>(log: &[u8], index: usize, least: &'a [usize; 16], zero: &'a [usize; 16]) -> bool
+fn wrong_record<'a>(log: &[u8], index: usize, least: &'a [u16; 16], zero: &'a [u16; 16]) -> bool
     requires { ⌜ index < length (now log) / 3 ⌝ ∗ ⌜ now least ≡ leastBits (eqb (index + 1) (length (now log) / 3)) ⌝ ∗ ⌜ now zero ≡ zeroBits ⌝ }
     ensures { λ r. ⌜ r ≡ wrongRecord (now (log .entry)) index ⌝ }
 {
     let columns = log_decoding::columns_at(log, index);
-    let bits = (columns.field * 32 + columns.value) * 4 + columns.spare;
+    let bits = ((columns.field * 32 + columns.value) * 4 + columns.spare) as u16;
     let kind = columns.kind;
     let low = bits < least[kind];
     let set = bits & zero[kind];
@@ -31,7 +31,7 @@ fn wrong_record<'a>(log: &[u8], index: usize, least: &'a [usize; 16], zero: &'a 
 }
 
 // Refusal 12 at one of four records in a row, none of them the last.
-fn four_wrong<'a>(log: &[u8], index: usize, least: &'a [usize; 16], zero: &'a [usize; 16]) -> bool
+fn four_wrong<'a>(log: &[u8], index: usize, least: &'a [u16; 16], zero: &'a [u16; 16]) -> bool
     requires { ⌜ index + 4 < length (now log) / 3 ⌝ ∗ ⌜ now least ≡ leastBits false ⌝ ∗ ⌜ now zero ≡ zeroBits ⌝ }
     ensures { λ r. ⌜ r ≡ fourWrong (now (log .entry)) index ⌝ }
 {
@@ -43,7 +43,7 @@ fn four_wrong<'a>(log: &[u8], index: usize, least: &'a [usize; 16], zero: &'a [u
 }
 
 // A count of records from the first on that are all right: four are tested before a branch.
-fn right_fours<'a>(log: &[u8], least: &'a [usize; 16], zero: &'a [usize; 16]) -> usize
+fn right_fours<'a>(log: &[u8], least: &'a [u16; 16], zero: &'a [u16; 16]) -> usize
     requires { ⌜ now least ≡ leastBits false ⌝ ∗ ⌜ now zero ≡ zeroBits ⌝ }
     ensures { λ r. ⌜ RightTo (now (log .entry)) r ⌝ }
 {

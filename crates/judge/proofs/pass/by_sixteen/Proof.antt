@@ -1,9 +1,9 @@
--- `judge::pass::by_few` meets its contract. Assumes nothing.
+-- `judge::pass::by_sixteen` meets its contract. Assumes nothing.
 use Rattle.judge.proofs.Going.{clear-rows}
 use native.Mathlib.Omega.{arith}
 use borrow.Author.Needs.{needs}
-use Rattle.judge.proofs.pass.by_few.Statement.{statement}
-use Rattle.judge.proofs.pass.by_few.Tie as tie
+use Rattle.judge.proofs.pass.by_sixteen.Statement.{statement}
+use Rattle.judge.proofs.pass.by_sixteen.Tie as tie
 
 slice-aggregate-pass : tie.Need-slice-aggregate-pass
 slice-aggregate-pass c = search needs
@@ -14,5 +14,5 @@ pass-requires c κs = (c .before .before .pre, clear-rows 16 59 (omega arith) (o
 returns : tie.Need-returns
 returns c = search needs
 
-pub by-few-spec : {M : Type 1} → statement M
-by-few-spec = tie.close (tie.spec slice-aggregate-pass pass-requires returns)
+pub by-sixteen-spec : {M : Type 1} → statement M
+by-sixteen-spec = tie.close (tie.spec slice-aggregate-pass pass-requires returns)
