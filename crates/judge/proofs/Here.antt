@@ -27,9 +27,9 @@ use Rattle.log_conflicts.specs.Judge.{Names, names-first}
 use Rattle.log_conflicts.proofs.Conflicts.{Eight, held, heldBy}
 use Rattle.log_conflicts.proofs.FirstConflict.{conflicting↔, at-past}
 use Rattle.log_conflicts.proofs.RowClocks.{Kept, lower→clash, clash→lower}
-use Rattle.log_decoding.specs.inner.Columns.{ReadAt}
-use Rattle.log_decoding.specs.declared.Columns.{Columns}
-use Rattle.log_decoding.proofs.Decoded.{kind-is-kind}
+use Rattle.log_packing.specs.inner.Columns.{ReadAt}
+use Rattle.log_packing.specs.declared.Columns.{Columns}
+use Rattle.log_packing.proofs.Decoded.{kind-is-kind}
 use Rattle.log_clocks.specs.inner.Rows.{Row, clockOf, rowAt, lowerOf}
 use Rattle.log_effects.specs.inner.Places.{Numbered, known, next, full}
 use Rattle.log_effects.specs.inner.Rows.{placeRow, isAccess, heldRow}

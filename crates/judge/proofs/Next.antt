@@ -19,7 +19,7 @@ use Rattle.log_conflicts.specs.Conflicts.{Conflicting}
 use Rattle.log_conflicts.specs.Judge.{Names}
 use Rattle.log_conflicts.proofs.FirstConflict.{conflicting↔}
 use Rattle.log_clocks.specs.inner.Rows.{Row}
-use Rattle.log_decoding.specs.declared.Columns.{Columns}
+use Rattle.log_packing.specs.declared.Columns.{Columns}
 use Rattle.log_effects.specs.inner.Rows.{placeRow, isAccess, keptRow}
 use Rattle.log_effects.specs.inner.Table.{Wide, Stored, Keeps, Hears, Told, late, kept, Stepped, accesses, hears, tells, forks, joins, rests}
 use Rattle.judge.proofs.PlaceNumbers.{Placed}

@@ -33,7 +33,7 @@ fn pass(log: &[u8], version: usize, places: u16, table: &mut [Row]) -> Found
     let mut given = 0;
     let mut index = 0;
     while index < count {
-        let columns = log_decoding::columns_at(log, index);
+        let columns = log_packing::columns_at(log, index);
         let place = columns.object * 32 + columns.field;
         let number = log_effects::places::number(&mut numbers, place, given, places);
         if number == 0 {

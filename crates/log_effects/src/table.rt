@@ -6,7 +6,7 @@ ghost use Rattle.format.specs.Version.{versionOf};
 ghost use Rattle.log_effects.specs.inner.Table.{Wide, Started, Keeps, Hears, Told, Accessed, Ready, Stepped};
 use crate::rows;
 use log_clocks::Row;
-use log_decoding::Columns;
+use log_packing::Columns;
 use log_records::kind;
 
 // Each thread has heard of all its own records.

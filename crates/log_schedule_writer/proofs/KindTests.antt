@@ -8,9 +8,9 @@ use lib.Dec.{eqb}
 use Rattle.format.proofs.Ranges.{by-range}
 use Rattle.log_records.specs.Record.{Kind, write}
 use Rattle.log_records.specs.Packed.{kindOf, recordAt}
-use Rattle.log_decoding.specs.inner.Columns.{ReadAt}
-use Rattle.log_decoding.specs.declared.Columns.{Columns}
-use Rattle.log_decoding.proofs.Decoded.{kind-is-kind}
+use Rattle.log_packing.specs.inner.Columns.{ReadAt}
+use Rattle.log_packing.specs.declared.Columns.{Columns}
+use Rattle.log_packing.proofs.Decoded.{kind-is-kind}
 use Rattle.side_by_side.specs.Schedule.{isFork}
 
 abbrev pub isWrite : Kind → Bool

@@ -13,8 +13,8 @@ use Rattle.log_records.specs.Record.{Record}
 use Rattle.log_records.specs.Packed.{recordAt, recordCount, logOf}
 use Rattle.log_records.proofs.RoundTrip.{log-element}
 use Rattle.log_order.specs.Chains.{At, Writes}
-use Rattle.log_decoding.specs.inner.Columns.{ReadAt}
-use Rattle.log_decoding.specs.declared.Columns.{Columns}
+use Rattle.log_packing.specs.inner.Columns.{ReadAt}
+use Rattle.log_packing.specs.declared.Columns.{Columns}
 use Rattle.log_schedule_writer.specs.inner.Kept.{IsLast, HasLast}
 use Rattle.log_schedule_writer.proofs.KindTests.{isWrite, write→, write-here}
 

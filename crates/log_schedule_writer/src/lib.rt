@@ -16,11 +16,11 @@ pub fn last_write(log: &[u8], failing: usize) -> usize
     requires { ⌜ HasLast (now log) failing ⌝ }
     ensures { λ r. ⌜ IsLast (now (log .entry)) failing r ⌝ }
 {
-    let access = log_decoding::columns_at(log, failing);
+    let access = log_packing::columns_at(log, failing);
     let mut index = failing;
     while 0 < index {
         index -= 1;
-        let columns = log_decoding::columns_at(log, index);
+        let columns = log_packing::columns_at(log, index);
         if (columns.kind == kind::WRITE)
             & (columns.object == access.object)
             & (columns.field == access.field)
@@ -60,7 +60,7 @@ pub fn put_picks(log: &[u8], kept: &[bool], area: &mut [u8])
     let mut index = 0;
     while index < log.len() / 3 {
         if kept[index] {
-            let columns = log_decoding::columns_at(log, index);
+            let columns = log_packing::columns_at(log, index);
             let thread = columns.thread;
             area[at] = (numbers[thread] % 8) as u8;
             at += 1;

@@ -7,10 +7,10 @@ ghost use lib.ListN.{length};
 ghost use Rattle.log_records.specs.Record.{Record};
 ghost use Rattle.text.specs.Text.{decimal};
 ghost use Rattle.text.specs.inner.Wrote.{Wrote};
-ghost use Rattle.log_decoding.specs.inner.Columns.{Narrow};
+ghost use Rattle.log_packing.specs.inner.Columns.{Narrow};
 ghost use Rattle.text_record_lines.specs.inner.Columns.{recordOf};
 ghost use Rattle.text_sample_lines.specs.inner.Shown.{Shown, shownTo, lineOf};
-use log_decoding::Columns;
+use log_packing::Columns;
 use log_records::kind;
 
 // The digital values after one record more, a bit to each object: an acquire sets its object's, a release clears it.

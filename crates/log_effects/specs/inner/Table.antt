@@ -7,7 +7,7 @@ use mathlib.Core.Logic.{_⊎_}
 use lib.Dec.{eqb}
 use lib.ListN.{length}
 use Rattle.format.specs.Version.{Version}
-use Rattle.log_decoding.specs.declared.Columns.{Columns}
+use Rattle.log_packing.specs.declared.Columns.{Columns}
 use Rattle.log_clocks.specs.inner.Rows.{Row, clockOf, rowAt, lowerOf}
 use Rattle.log_effects.specs.inner.Rows.{isAccess, passes, heldRow, keptRow}
 
