@@ -23,7 +23,7 @@ use Rattle.log_packing.specs.inner.Columns.{ReadAt}
 use Rattle.log_packing.specs.declared.Columns.{Columns}
 use Rattle.side_by_side.specs.Schedule.{Numbers, isFork, firstNumbers, numbered, numbersAfter, nextAfter, orZero, picksFrom, picksOf}
 use Rattle.log_schedule_writer.specs.inner.Kept.{flagged, picksIn, Small}
-use Rattle.log_schedule_writer.proofs.KindTests.{fork-here}
+use Rattle.log_schedule_writer.proofs.ForkTests.{fork-here}
 
 pub record Writing (b : List ℕ) (kept : List Bool) (before numbers : List ℕ) (next at index : ℕ) (area : List ℕ) : Type 0 where
   pub within : index ≤ length b / 3

@@ -60,7 +60,7 @@ pub fn put_unordered(area: &mut [u8], at: usize, log: &[u8], failing: usize) -> 
     requires { ⌜ RaceRoom (now log) failing (now area) at ⌝ }
     ensures { λ r. ⌜ WroteUnordered (now (log .entry)) failing (now (area .entry)) at (now (area .exit)) r ⌝ }
 {
-    let last = log_schedule_writer::last_write(log, failing);
+    let last = log_last_write::last_write(log, failing);
     let write = log_packing::columns_at(log, last);
     let access = log_packing::columns_at(log, failing);
     let at = put_lack(area, at, last, write, access);
