@@ -28,7 +28,7 @@ use Rattle.log_conflicts.specs.Judge.{Names, names-first}
 use Rattle.log_conflicts.proofs.Conflicts.{Eight, held, heldBy}
 use Rattle.log_conflicts.proofs.FirstConflict.{conflicting↔, at-past}
 use Rattle.log_conflicts.proofs.RowClocks.{Kept, lower→clash, clash→lower}
-use Rattle.log_decoding.proofs.Decoded.{kind-is-kind, thread-of-word, object-of-word, field-of-word}
+use Rattle.log_packing.proofs.Decoded.{kind-is-kind, thread-of-word, object-of-word, field-of-word}
 use Rattle.log_clocks.specs.inner.Rows.{Row, clockOf, rowAt, lowerOf}
 use Rattle.log_places.specs.inner.Places.{placeAt, Numbered, known, next, full}
 use Rattle.log_rows.specs.inner.Rows.{placeRow, isAccess, heldRow}

@@ -32,12 +32,12 @@ fn elsewhere(log: &[u8], index: usize, kind: usize, thread: usize, time: u16, ta
     ensures { λ r. ⌜ OtherStep kind thread (fieldAt (now (log .entry)) index) time (now (table .entry)) (now (table .exit)) ⌝ }
 {
     if kind == kind::FORK {
-        let columns = log_decoding::columns_at(log, index);
+        let columns = log_packing::columns_at(log, index);
         log_row_stores::tell(table, columns.field, thread, time);
         return;
     }
     if kind == kind::JOIN {
-        let columns = log_decoding::columns_at(log, index);
+        let columns = log_packing::columns_at(log, index);
         log_row_stores::tell(table, thread, columns.field, time);
     }
 }

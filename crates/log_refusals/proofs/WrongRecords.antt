@@ -11,9 +11,9 @@ use lib.ListN.{length, getD}
 use Rattle.log_records.specs.Packed.{recordCount}
 use Rattle.log_records.specs.Refusals.{wrongRecord}
 use Rattle.log_records.proofs.Accepted.{wrong-record}
-use Rattle.log_decoding.specs.inner.Columns.{ReadAt}
-use Rattle.log_decoding.specs.declared.Columns.{Columns}
-use Rattle.log_decoding.proofs.Decoded.{kind-is-kind, spare-of-word}
+use Rattle.log_packing.specs.inner.Columns.{ReadAt}
+use Rattle.log_packing.specs.declared.Columns.{Columns}
+use Rattle.log_packing.proofs.Decoded.{kind-is-kind, spare-of-word}
 use Rattle.log_limits.specs.inner.Limits.{leastBits, zeroBits}
 use Rattle.log_limits.proofs.Tables.{byColumns, by-tables}
 

@@ -22,7 +22,7 @@ fn wrong_record<'a>(log: &[u8], index: usize, least: &'a [u16; 16], zero: &'a [u
     requires { ⌜ index < length (now log) / 3 ⌝ ∗ ⌜ now least ≡ leastBits (eqb (index + 1) (length (now log) / 3)) ⌝ ∗ ⌜ now zero ≡ zeroBits ⌝ }
     ensures { λ r. ⌜ r ≡ wrongRecord (now (log .entry)) index ⌝ }
 {
-    let columns = log_decoding::columns_at(log, index);
+    let columns = log_packing::columns_at(log, index);
     let bits = ((columns.field * 32 + columns.value) * 4 + columns.spare) as u16;
     let kind = columns.kind;
     let low = bits < least[kind];

@@ -15,8 +15,8 @@ use Rattle.log_records.specs.Packed.{packed, threeBytes, bytesOf}
 use Rattle.log_records.proofs.KindNumbers.{kind-number}
 use Rattle.rules.specs.Run.{logged}
 use Rattle.run_state.specs.declared.Entry.{Entry}
-use Rattle.log_decoding.specs.inner.Packing.{wordOf}
-use Rattle.log_decoding.proofs.Packing.{ColumnsOf, word-packed, put-bytes}
+use Rattle.log_packing.specs.inner.Packing.{wordOf}
+use Rattle.log_packing.proofs.Packing.{ColumnsOf, word-packed, put-bytes}
 use Rattle.run_tally.specs.inner.Tally.{logPut, recordsAfter}
 use Rattle.refinement.proofs.Tests.{test-true, test-false}
 use Rattle.refinement.proofs.Looks.{Written, Entered}

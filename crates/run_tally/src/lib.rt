@@ -3,7 +3,7 @@ ghost use mathlib.Core.Path.{_≡_};
 ghost use Prim.Native.Nat.{_≤_, _+_, _*_};
 ghost use lib.ListN.{length};
 ghost use Rattle.run_tally.specs.inner.Tally.{shownEntry, tallyFirst, tallyPut, tallyMoved, logPut};
-use log_decoding::put_columns;
+use log_packing::put_columns;
 use log_records::kind;
 use run_state::Counts;
 use run_state::Entry;

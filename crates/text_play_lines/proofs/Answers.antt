@@ -29,7 +29,7 @@ use Rattle.play.proofs.Ran.{not-refused, ran-is, passes, outcome-is, stop-is, r
 use Rattle.agreement.proofs.Agreed.{agreement}
 use Rattle.charge.proofs.Charged.{long-area}
 use Rattle.answers.specs.Answer.{Answer}
-use Rattle.log_schedule_writer.specs.inner.Kept.{HasLast}
+use Rattle.log_last_write.specs.inner.LastWrite.{HasLast}
 use Rattle.text.specs.inner.Wrote.{Wrote}
 use Rattle.text.proofs.Added.{added-as, added-whole}
 use Rattle.text_record_lines.specs.Lines.{recordLines}

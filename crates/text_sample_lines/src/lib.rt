@@ -7,10 +7,10 @@ ghost use mathlib.Core.List.{List, [], _∷_, _++_};
 ghost use lib.ListN.{length};
 ghost use Rattle.log_records.specs.Record.{Record};
 ghost use Rattle.text.specs.inner.Wrote.{Wrote};
-ghost use Rattle.log_decoding.specs.inner.Columns.{Narrow};
+ghost use Rattle.log_packing.specs.inner.Columns.{Narrow};
 ghost use Rattle.text_record_lines.specs.inner.Columns.{recordOf};
 ghost use Rattle.text_sample_lines.specs.inner.LineEnds.{endOf, lineOf};
-use log_decoding::Columns;
+use log_packing::Columns;
 use log_records::kind;
 
 // The end of a line before the first record: every digital value is 0.

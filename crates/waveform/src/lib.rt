@@ -20,7 +20,7 @@ fn put_samples(area: &mut [u8], log: &[u8]) -> usize
     let mut end = text_sample_lines::no_values();
     let mut index = 0;
     while index < log.len() / 3 {
-        let columns = log_decoding::columns_at(log, index);
+        let columns = log_packing::columns_at(log, index);
         text_sample_lines::after_record(&mut end, columns);
         at = text_sample_lines::put_sample(area, at, index + 1, &end);
         index += 1;

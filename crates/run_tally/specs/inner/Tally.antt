@@ -3,7 +3,7 @@ use Prim.Native.Nat.{ℕ, _+_}
 use mathlib.Core.Bool.{Bool, cond}
 use mathlib.Core.List.{List}
 use lib.Dec.{eqb}
-use Rattle.log_decoding.specs.inner.Packing.{wordOf, putAt}
+use Rattle.log_packing.specs.inner.Packing.{wordOf, putAt}
 use Rattle.run_state.specs.declared.Counts.{Counts}
 use Rattle.run_state.specs.declared.Entry.{Entry}
 use Rattle.run_state.specs.inner.Acted.{countsOf, entryOf}

@@ -1,11 +1,11 @@
--- `log_decoding::word_at` meets its contract: three bytes are 24 bits. Assumes nothing.
+-- `log_packing::word_at` meets its contract: three bytes are 24 bits. Assumes nothing.
 use Rattle.log_records.proofs.RoundTrip.{word24}
 use mathlib.Core.List.{List}
 use native.Mathlib.Omega.{arith}
 use Prim.Native.Nat.{ℕ}
 use borrow.Author.Needs.{needs}
-use Rattle.log_decoding.proofs.word_at.Statement.{statement}
-use Rattle.log_decoding.proofs.word_at.Tie as tie
+use Rattle.log_packing.proofs.word_at.Statement.{statement}
+use Rattle.log_packing.proofs.word_at.Tie as tie
 
 mul-wide : tie.Need-mul-wide
 mul-wide c = search needs

@@ -3,8 +3,8 @@ ghost use mathlib.Core.Path.{_≡_};
 ghost use Prim.Native.Nat.{_+_, _*_, _/_, _<_, _≤_};
 ghost use lib.ListN.{length};
 ghost use Rattle.format.specs.Bits.{bitsAt};
-ghost use Rattle.log_decoding.specs.inner.Columns.{ReadAt};
-ghost use Rattle.log_decoding.specs.inner.Packing.{wordOf, putAt};
+ghost use Rattle.log_packing.specs.inner.Columns.{ReadAt};
+ghost use Rattle.log_packing.specs.inner.Packing.{wordOf, putAt};
 
 pub struct Columns {
     pub kind: usize,

@@ -13,10 +13,10 @@ use Rattle.log_records.specs.Record.{Record}
 use Rattle.log_records.specs.Packed.{recordAt, recordCount, logOf}
 use Rattle.log_records.proofs.RoundTrip.{log-element}
 use Rattle.log_order.specs.Chains.{At, Writes}
-use Rattle.log_decoding.specs.inner.Columns.{ReadAt}
-use Rattle.log_decoding.specs.declared.Columns.{Columns}
-use Rattle.log_schedule_writer.specs.inner.Kept.{IsLast, HasLast}
-use Rattle.log_schedule_writer.proofs.KindTests.{isWrite, write→, write-here}
+use Rattle.log_packing.specs.inner.Columns.{ReadAt}
+use Rattle.log_packing.specs.declared.Columns.{Columns}
+use Rattle.log_last_write.specs.inner.LastWrite.{IsLast, HasLast}
+use Rattle.log_last_write.proofs.WriteTests.{isWrite, write→, write-here}
 
 -- every write of that field before record j comes before `index`
 abbrev pub Earlier : List ℕ → ℕ → ℕ → Type 0

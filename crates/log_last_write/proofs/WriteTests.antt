@@ -1,4 +1,4 @@
--- A write and a fork by the number of their kind. Assumes nothing.
+-- A write by the number of its kind. Assumes nothing.
 use Prim.Native.Nat.{ℕ, _<_}
 use native.Mathlib.Omega.{arith}
 use mathlib.Core.Path.{_≡_, refl, sym, ap, _∙_}
@@ -8,10 +8,9 @@ use lib.Dec.{eqb}
 use Rattle.format.proofs.Ranges.{by-range}
 use Rattle.log_records.specs.Record.{Kind, write}
 use Rattle.log_records.specs.Packed.{kindOf, recordAt}
-use Rattle.log_decoding.specs.inner.Columns.{ReadAt}
-use Rattle.log_decoding.specs.declared.Columns.{Columns}
-use Rattle.log_decoding.proofs.Decoded.{kind-is-kind}
-use Rattle.side_by_side.specs.Schedule.{isFork}
+use Rattle.log_packing.specs.inner.Columns.{ReadAt}
+use Rattle.log_packing.specs.declared.Columns.{Columns}
+use Rattle.log_packing.proofs.Decoded.{kind-is-kind}
 
 abbrev pub isWrite : Kind → Bool
 isWrite Kind.new = false
@@ -45,18 +44,9 @@ write-test =
     by-range (λ k. eqb k 3 ≡ isWrite (kindOf k)) 0 16 ((k : ℕ) → k < 16 → eqb k 3 ≡ isWrite (kindOf k)) (λ all k h. all k (omega arith) h)
     refl refl refl refl refl refl refl refl refl refl refl refl refl refl refl refl
 
-fork-test : (k : ℕ) → k < 16 → eqb k 8 ≡ isFork (kindOf k)
-unfolding kindOf
-fork-test =
-    by-range (λ k. eqb k 8 ≡ isFork (kindOf k)) 0 16 ((k : ℕ) → k < 16 → eqb k 8 ≡ isFork (kindOf k)) (λ all k h. all k (omega arith) h)
-    refl refl refl refl refl refl refl refl refl refl refl refl refl refl refl refl
-
 module _ {b : List ℕ} {i : ℕ} {c : Columns} (R : ReadAt b i c) where
-  kind-here : kindOf (c .kind) ≡ recordAt b i .kind
+  pub kind-here : kindOf (c .kind) ≡ recordAt b i .kind
   kind-here = ap kindOf (R .kind-is) ∙ sym (kind-is-kind b i)
 
   pub write-here : eqb (c .kind) 3 ≡ isWrite (recordAt b i .kind)
   write-here = write-test (c .kind) (R .narrow .kind-below) ∙ ap isWrite kind-here
-
-  pub fork-here : eqb (c .kind) 8 ≡ isFork (recordAt b i .kind)
-  fork-here = fork-test (c .kind) (R .narrow .kind-below) ∙ ap isFork kind-here

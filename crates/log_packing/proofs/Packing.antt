@@ -9,7 +9,7 @@ use lib.Seq.{sets-eq}
 use Rattle.log_records.specs.Record.{kindNumber, Record}
 use Rattle.log_records.specs.Packed.{packed, threeBytes}
 use Rattle.log_records.proofs.KindNumbers.{kind-number}
-use Rattle.log_decoding.specs.inner.Packing.{wordOf, putAt}
+use Rattle.log_packing.specs.inner.Packing.{wordOf, putAt}
 
 -- numbers that are a record's columns
 pub record ColumnsOf (r : Record) (k p o f v : ℕ) : Type 0 where

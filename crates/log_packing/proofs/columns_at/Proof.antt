@@ -1,11 +1,11 @@
--- `log_decoding::columns_at` meets its contract: each column is a quotient and a remainder of the 24 bits. Assumes nothing.
-use Rattle.log_decoding.proofs.Decoded.{kind-of-word, spare-of-word, thread-of-word, object-of-word, field-of-word, value-of-word}
+-- `log_packing::columns_at` meets its contract: each column is a quotient and a remainder of the 24 bits. Assumes nothing.
+use Rattle.log_packing.proofs.Decoded.{kind-of-word, spare-of-word, thread-of-word, object-of-word, field-of-word, value-of-word}
 use mathlib.Core.List.{List}
 use native.Mathlib.Omega.{arith}
 use Prim.Native.Nat.{ℕ}
 use borrow.Author.Needs.{needs}
-use Rattle.log_decoding.proofs.columns_at.Statement.{statement}
-use Rattle.log_decoding.proofs.columns_at.Tie as tie
+use Rattle.log_packing.proofs.columns_at.Statement.{statement}
+use Rattle.log_packing.proofs.columns_at.Tie as tie
 
 word-at-requires : tie.Need-word-at-requires
 word-at-requires c κs = search needs

@@ -3,8 +3,8 @@ use mathlib.Core.Path.{refl}
 use native.Mathlib.Omega.{arith}
 use lib.ListN.{length-set}
 use borrow.Author.Needs.{needs}
-use Rattle.log_decoding.proofs.put_columns.Statement.{statement}
-use Rattle.log_decoding.proofs.put_columns.Tie as tie
+use Rattle.log_packing.proofs.put_columns.Statement.{statement}
+use Rattle.log_packing.proofs.put_columns.Tie as tie
 
 mul-word : tie.Need-mul-word
 mul-word c = search needs

@@ -3,9 +3,9 @@ use Prim.Native.Nat.{ℕ, suc, _-_, _≤_}
 use native.Mathlib.Omega.{arith}
 use mathlib.Core.Path.{_≡_, refl, sym, subst as along}
 use borrow.Author.Needs.{needs}
-use Rattle.log_schedule_writer.proofs.LastWrites.{Earlier, passed, found, not-none}
-use Rattle.log_schedule_writer.proofs.last_write.Statement.{statement}
-use Rattle.log_schedule_writer.proofs.last_write.Tie as tie
+use Rattle.log_last_write.proofs.LastWrites.{Earlier, passed, found, not-none}
+use Rattle.log_last_write.proofs.last_write.Statement.{statement}
+use Rattle.log_last_write.proofs.last_write.Tie as tie
 
 abbrev Inv-loop : tie.InvT-loop
 Inv-loop log failing access index₀ index = (index ≤ failing) × Earlier log failing index

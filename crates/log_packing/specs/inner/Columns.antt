@@ -3,7 +3,7 @@ use Prim.Native.Nat.{ℕ, _<_}
 use mathlib.Core.Path.{_≡_}
 use mathlib.Core.List.{List}
 use Rattle.log_records.specs.Packed.{kindAt, spareAt, recordAt}
-use Rattle.log_decoding.specs.declared.Columns.{Columns}
+use Rattle.log_packing.specs.declared.Columns.{Columns}
 
 -- columns of so many bits: kind 4, thread 3, object 5, field 5, value 5
 pub record Narrow (r : Columns) : Type 0 where
