@@ -209,7 +209,8 @@ module _ {v : Version} {b : List ℕ} {places i : ℕ} {N : List ℕ} {given : �
     ordered-step : {t at time : ℕ} {after : List Row} {d : Bool} → PlacedStep read write k t at time rows after d
         → PlacedStep (orderingKind v 4) (orderingKind v 5) k t at time rows after d
     ordered-step {t} {at} {time} {after} {d} X =
-        subst (λ (x : ℕ). PlacedStep x (orderingKind v 5) k t at time rows after d) read-is (subst (λ (x : ℕ). PlacedStep read x k t at time rows after d) write-is X)
+        subst (λ (x : ℕ). PlacedStep x (orderingKind v 5) k t at time rows after d) read-is
+        (subst (λ (x : ℕ). PlacedStep read x k t at time rows after d) write-is X)
 
     pub next-by : {N′ : List ℕ} {given′ : ℕ} {after : List Row} {x : Taking} → Stepped b i read write places N given rows N′ given′ after x → isEnd x ≡ false
         → Going v b places (i + 1) N′ given′ after

@@ -178,7 +178,8 @@ module _ (t o f x : ℕ) where
       no e = absurd (true≢false (sym e))
 
   abbrev Rests : Version → ℕ → Type 0
-  Rests v k = isAccess k ≡ false → passes 6 (orderingKind v 4) k ≡ false → passes 7 (orderingKind v 5) k ≡ false → (k ≡ 8 → ⊥) → (k ≡ 9 → ⊥) → Moves v (entry (kindOf k) t o f x) none none
+  Rests v k = isAccess k ≡ false → passes 6 (orderingKind v 4) k ≡ false → passes 7 (orderingKind v 5) k ≡ false → (k ≡ 8 → ⊥) → (k ≡ 9 → ⊥)
+      → Moves v (entry (kindOf k) t o f x) none none
 
   rests-by : (v : Version) (k : ℕ) → 0 < k → k ≤ 11 → Rests v k
   unfolding kindOf
@@ -204,7 +205,8 @@ module _ (v : Version) (r : Record) (k : ℕ) (least : 0 < k) (most : k ≤ 11) 
   pub telling : passes 7 (orderingKind v 5) k ≡ true → Telling v r
   telling h = of-kind (Telling v) (tells-by (r .thread) (r .object) (r .field) (r .value) v k least most fits-too h)
 
-  pub resting : isAccess k ≡ false → passes 6 (orderingKind v 4) k ≡ false → passes 7 (orderingKind v 5) k ≡ false → (k ≡ 8 → ⊥) → (k ≡ 9 → ⊥) → Moves v r none none
+  pub resting : isAccess k ≡ false → passes 6 (orderingKind v 4) k ≡ false → passes 7 (orderingKind v 5) k ≡ false → (k ≡ 8 → ⊥) → (k ≡ 9 → ⊥)
+      → Moves v r none none
   resting a h g m n = of-kind (λ (s : Record). Moves v s none none) (rests-by (r .thread) (r .object) (r .field) (r .value) v k least most a h g m n)
 
   pub is-fork : k ≡ 8 → r .kind ≡ fork

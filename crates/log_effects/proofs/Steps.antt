@@ -29,15 +29,17 @@ forks-by {t = t} {time = time} {rows = rows} {after = after} e h K = forks h (su
 pub joins-by : {k t f g time : ℕ} {rows after : List Row} → f ≡ g → k ≡ 9 → Told t f time rows after → OtherStep k t g time rows after
 joins-by {t = t} {time = time} {rows = rows} {after = after} e h K = joins h (subst (λ (x : ℕ). Told t x time rows after) e K)
 
-module _ {b : List ℕ} {i read write most : ℕ} {N : List ℕ} {given : ℕ} {rows : List Row} (k t : ℕ) (kind-is : k ≡ kindAt b i) (thread-is : t ≡ threadAt b i) where
+module _ {b : List ℕ} {i read write most : ℕ} {N : List ℕ} {given : ℕ} {rows : List Row} (k t : ℕ) (kind-is : k ≡ kindAt b i)
+    (thread-is : t ≡ threadAt b i) where
   -- at a place
-  pub placed-by : {N′ : List ℕ} {given′ n at : ℕ} {after : List Row} {c d : Bool} → Numbered N given (placeAt b i) most N′ given′ n → (n ≡ 0 → ⊥) → at ≡ placeRow n
-      → c ≡ d → PlacedStep read write k t at (i + 1) rows after c → Stepped b i read write most N given rows N′ given′ after (takingOf d)
+  pub placed-by : {N′ : List ℕ} {given′ n at : ℕ} {after : List Row} {c d : Bool} → Numbered N given (placeAt b i) most N′ given′ n → (n ≡ 0 → ⊥)
+      → at ≡ placeRow n → c ≡ d → PlacedStep read write k t at (i + 1) rows after c → Stepped b i read write most N given rows N′ given′ after (takingOf d)
   placed-by {n = n} {at = at} {after = after} {c = c} {d = d} P m at-is e S =
       placed P m
       (subst (λ (x : ℕ). PlacedStep read write x (threadAt b i) (placeRow n) (i + 1) rows after d) kind-is
       (subst (λ (x : ℕ). PlacedStep read write k x (placeRow n) (i + 1) rows after d) thread-is
-      (subst (λ (x : ℕ). PlacedStep read write k t x (i + 1) rows after d) at-is (subst (λ (x : Bool). PlacedStep read write k t at (i + 1) rows after x) e S))))
+      (subst (λ (x : ℕ). PlacedStep read write k t x (i + 1) rows after d) at-is
+      (subst (λ (x : Bool). PlacedStep read write k t at (i + 1) rows after x) e S))))
 
   -- at no place
   pub unplaced-by : {after : List Row} → isAccess k ≡ false → passes 6 read k ≡ false → passes 7 write k ≡ false

@@ -20,7 +20,8 @@ pub enum Taking {
 // The number of the place of the record at an index, or 0 where none is left.
 fn number_at(log: &[u8], index: usize, most: u16, numbers: &mut [u16], given: &mut u16) -> u16
     requires { ⌜ Numbers (now log) index most (now numbers) ⌝ }
-    ensures { λ r. ⌜ Numbered (now (numbers .entry)) (now (given .entry)) (placeAt (now (log .entry)) index) most (now (numbers .exit)) (now (given .exit)) r ⌝ }
+    ensures { λ r. ⌜ Numbered (now (numbers .entry)) (now (given .entry)) (placeAt (now (log .entry)) index) most (now (numbers .exit))
+        (now (given .exit)) r ⌝ }
 {
     let place = records::place_at(log, index);
     places::number(numbers, given, place, most)

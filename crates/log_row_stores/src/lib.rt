@@ -1,4 +1,5 @@
-// Stores to the table of rows, whose clocks are below 32,768. A thread's row has the highest of them for the thread itself, which has heard of all its own records.
+// Stores to the table of rows, whose clocks are below 32,768. A thread's row has the highest number for the thread itself, which has heard of all its own
+// records.
 ghost use mathlib.Core.Path.{_≡_};
 ghost use Prim.Native.Nat.{_+_, _<_, _≤_};
 ghost use lib.ListN.{length};

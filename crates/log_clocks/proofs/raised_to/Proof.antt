@@ -1,4 +1,4 @@
--- `log_clocks::raised_to` meets its contract. The invariant: the clocks so far are the greater of two. The measure is the count of clocks left. Assumes nothing.
+-- `log_clocks::raised_to` meets its contract. The invariant: the clocks so far are the higher of two. The measure is the count of clocks left. Assumes nothing.
 use Rattle.format.proofs.Filled.{filled}
 use Rattle.log_clocks.specs.inner.Rows.{clockOf}
 use lib.ListN.{length, getD, length-set, length-replicate}

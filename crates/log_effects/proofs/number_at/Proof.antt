@@ -9,7 +9,10 @@ place-at-requires : tie.Need-place-at-requires
 place-at-requires c κs = search needs
 
 number-requires : tie.Need-number-requires
-number-requires c κs = let p = c .before .before .before .before .before .pre in (omega (arith, p .long, c .before .before .place-at .ensures .1), omega (arith, p .most-below))
+number-requires c κs =
+    let place = c .before .before in
+    let p = place .before .before .before .pre in
+    (omega (arith, p .long, place .place-at .ensures .1), omega (arith, p .most-below))
 
 same-length : tie.Need-same-length
 same-length c = search needs

@@ -52,8 +52,12 @@ same-length-3 c = search needs
 
 returns-2 : tie.Need-returns-2
 returns-2 c =
-    placed-by _ _ (c .before .before .before .before .before .before .before .before .before .before .before .before .before .before .kind-at .ensures) (c .before .before .before .before .before .before .before .before .before .before .before .before .before .thread-at .ensures .0) (c .before .before .before .before .before .before .before .before .number-at .ensures) (c .before .before .before .before .before .if2 .left) (c .before .before .before .before .first .ensures) (c .if3 .taken)
-    (accesses (sym (c .before .before .before .before .before .before .before .before .before .before .before .before .access .ensures) ∙ c .before .before .before .before .before .before .before .before .before .before .before .if1 .taken) (c .before .before .access2 .ensures))
+    let first = c .before .before .before .before in
+    let number = first .before .before .before .before in
+    let access = number .before .before .before .before in
+    placed-by _ _ (access .before .before .kind-at .ensures) (access .before .thread-at .ensures .0) (number .number-at .ensures) (first .before .if2 .left)
+    (first .first .ensures) (c .if3 .taken)
+    (accesses (sym (access .access .ensures) ∙ number .before .before .before .if1 .taken) (c .before .before .access2 .ensures))
 
 same-length-4 : tie.Need-same-length-4
 same-length-4 c = search needs
@@ -63,8 +67,12 @@ same-length-5 c = search needs
 
 returns-3 : tie.Need-returns-3
 returns-3 c =
-    placed-by _ _ (c .before .before .before .before .before .before .before .before .before .before .before .before .before .before .kind-at .ensures) (c .before .before .before .before .before .before .before .before .before .before .before .before .before .thread-at .ensures .0) (c .before .before .before .before .before .before .before .before .number-at .ensures) (c .before .before .before .before .before .if2 .left) (c .before .before .before .before .first .ensures) (c .if3 .left)
-    (accesses (sym (c .before .before .before .before .before .before .before .before .before .before .before .before .access .ensures) ∙ c .before .before .before .before .before .before .before .before .before .before .before .if1 .taken) (c .before .before .access2 .ensures))
+    let first = c .before .before .before .before in
+    let number = first .before .before .before .before in
+    let access = number .before .before .before .before in
+    placed-by _ _ (access .before .before .kind-at .ensures) (access .before .thread-at .ensures .0) (number .number-at .ensures) (first .before .if2 .left)
+    (first .first .ensures) (c .if3 .left)
+    (accesses (sym (access .access .ensures) ∙ number .before .before .before .if1 .taken) (c .before .before .access2 .ensures))
 
 hears-requires : tie.Need-hears-requires
 hears-requires c κs = search needs
@@ -97,8 +105,12 @@ same-length-8 c = search needs
 
 returns-5 : tie.Need-returns-5
 returns-5 c =
-    placed-by _ _ (c .before .before .before .before .before .before .before .before .before .before .before .before .before .before .before .kind-at .ensures) (c .before .before .before .before .before .before .before .before .before .before .before .before .before .before .thread-at .ensures .0) (c .before .before .before .before .before .before .before .number-at2 .ensures) (c .before .before .before .before .if5 .left) (c .before .before .before .first2 .ensures) refl
-    (hears (sym (c .before .before .before .before .before .before .before .before .before .before .before .hears .ensures) ∙ c .before .before .before .before .before .before .before .before .before .before .if4 .taken) (c .before .hear .ensures))
+    let first = c .before .before .before in
+    let number = first .before .before .before .before in
+    let hear = number .before .before .before .before in
+    let thread = hear .before .before .before in
+    placed-by _ _ (thread .before .kind-at .ensures) (thread .thread-at .ensures .0) (number .number-at2 .ensures) (first .before .if5 .left)
+    (first .first2 .ensures) refl (hears (sym (hear .hears .ensures) ∙ number .before .before .before .if4 .taken) (c .before .hear .ensures))
 
 tells-requires : tie.Need-tells-requires
 tells-requires c κs = search needs
@@ -117,10 +129,11 @@ first-requires-3 c κs = search needs
 
 tell-requires : tie.Need-tell-requires
 tell-requires c κs =
-    let p = c .before .before .before .before .before .before .before .before .before .before .before .before .before .before .before .before .before .before .pre in
+    let thread = c .before .before .before .before .before .before .before .before .before .before .before .before .before .before in
+    let p = thread .before .before .before .before .pre in
     let f = c .before .first3 .ensures in
     let n = number-most (c .before .before .before .before .before .number-at3 .ensures) (p .numbered) in
-    let t = c .before .before .before .before .before .before .before .before .before .before .before .before .before .before .thread-at .ensures .1 in
+    let t = thread .thread-at .ensures .1 in
     (omega (arith, p .room), (omega (arith, p .room), (omega (arith, p .short), p .sound)))
 
 same-length-10 : tie.Need-same-length-10
@@ -131,8 +144,12 @@ same-length-11 c = search needs
 
 returns-7 : tie.Need-returns-7
 returns-7 c =
-    placed-by _ _ (c .before .before .before .before .before .before .before .before .before .before .before .before .before .before .before .before .before .kind-at .ensures) (c .before .before .before .before .before .before .before .before .before .before .before .before .before .before .before .before .thread-at .ensures .0) (c .before .before .before .before .before .before .before .number-at3 .ensures) (c .before .before .before .before .if7 .left) (c .before .before .before .first3 .ensures) refl
-    (tells (sym (c .before .before .before .before .before .before .before .before .before .before .before .tells .ensures) ∙ c .before .before .before .before .before .before .before .before .before .before .if6 .taken) (c .before .tell .ensures))
+    let first = c .before .before .before in
+    let number = first .before .before .before .before in
+    let tell = number .before .before .before .before in
+    let thread = tell .before .before .before .before .before in
+    placed-by _ _ (thread .before .kind-at .ensures) (thread .thread-at .ensures .0) (number .number-at3 .ensures) (first .before .if7 .left)
+    (first .first3 .ensures) refl (tells (sym (tell .tells .ensures) ∙ number .before .before .before .if6 .taken) (c .before .tell .ensures))
 
 elsewhere-requires : tie.Need-elsewhere-requires
 elsewhere-requires c κs =
@@ -152,8 +169,11 @@ same-length-12 c = search needs
 
 returns-8 : tie.Need-returns-8
 returns-8 c =
-    unplaced-by _ _ (c .before .before .before .before .before .before .before .before .before .before .kind-at .ensures) (c .before .before .before .before .before .before .before .before .before .thread-at .ensures .0) (sym (c .before .before .before .before .before .before .before .before .access .ensures) ∙ c .before .before .before .before .before .before .before .if1 .left)
-    (sym (c .before .before .before .before .before .before .hears .ensures) ∙ c .before .before .before .before .before .if4 .left) (sym (c .before .before .before .before .tells .ensures) ∙ c .before .before .before .if6 .left) (c .before .elsewhere .ensures)
+    let tell = c .before .before .before .before in
+    let hear = tell .before .before in
+    let access = hear .before .before in
+    unplaced-by _ _ (access .before .before .kind-at .ensures) (access .before .thread-at .ensures .0) (sym (access .access .ensures) ∙ hear .before .if1 .left)
+    (sym (hear .hears .ensures) ∙ tell .before .if4 .left) (sym (tell .tells .ensures) ∙ c .before .before .before .if6 .left) (c .before .elsewhere .ensures)
 
 pub step-spec : {M : Type 1} → statement M
 step-spec =

@@ -22,10 +22,13 @@ abbrev μ-loop : tie.MeasureT-loop
 μ-loop log version places table₀ count read write numbers₀ given₀ index₀ table numbers given index = count - index
 
 -- what is known of a record once the table stands for it
-here : (p : tie.After-step-arg Inv-loop μ-loop)
-    → Here (versionOf (p .before .before .before .before .before .before .before .before .before .before .before .args .version)) (p .before .before .before .before .before .before .before .before .before .before .before .args .log .now)
-    (p .before .before .before .before .before .before .before .before .before .before .before .args .places) (p .before .before .before .before .loop .index) (p .before .before .before .before .loop .numbers) (p .before .before .before .before .loop .given) (p .before .before .before .before .loop .table)
-here p = record { accepted-log = p .before .before .before .before .before .before .before .before .before .before .before .pre .0; below = omega arith; going = p .before .before .before .before .loop .inv .5 }
+module _ (p : tie.After-step-arg Inv-loop μ-loop) where
+  abbrev start : tie.Start Inv-loop μ-loop
+  start = p .before .before .before .before .before .before .before .before .before .before .before
+
+  here : Here (versionOf (start .args .version)) (start .args .log .now) (start .args .places) (p .before .before .before .before .loop .index)
+      (p .before .before .before .before .loop .numbers) (p .before .before .before .before .loop .given) (p .before .before .before .before .loop .table)
+  here = record { accepted-log = start .pre .0; below = omega arith; going = p .before .before .before .before .loop .inv .5 }
 
 start-requires : tie.Need-start-requires Inv-loop μ-loop
 start-requires c κs = search needs
@@ -37,14 +40,16 @@ ordering-requires-2 : tie.Need-ordering-requires-2 Inv-loop μ-loop
 ordering-requires-2 c κs = search needs
 
 loop-holds : tie.Need-loop-holds Inv-loop μ-loop
-loop-holds c = (
-  omega arith,
-  refl,
-  c .before .ordering .ensures,
-  c .ordering2 .ensures,
-  refl,
-  going-start (versionOf (c .before .before .before .before .before .before .args .version)) (c .before .before .before .before .before .before .args .places) _ _ (c .before .before .before .before .before .before .pre .1) (c .before .before .before .start .ensures) (c .before .before .before .before .before .before .args .log .now),
-)
+loop-holds c =
+    let from = c .before .before .before in
+    let s = from .before .before .before in (
+      omega arith,
+      refl,
+      c .before .ordering .ensures,
+      c .ordering2 .ensures,
+      refl,
+      going-start (versionOf (s .args .version)) (s .args .places) _ _ (s .pre .1) (from .start .ensures) (s .args .log .now),
+    )
 
 slice-aggregate-step : tie.Need-slice-aggregate-step Inv-loop μ-loop
 slice-aggregate-step c = search needs
@@ -63,9 +68,11 @@ same-length c = search needs
 
 returns : tie.Need-returns Inv-loop μ-loop
 returns c =
-    let l = c .before .before .before .before .before .before .before .before .before .before .loop in
-    subst (Finds (versionOf (c .before .before .before .before .before .before .before .before .before .before .before .before .before .before .before .before .before .args .version)) (c .before .before .before .before .before .before .before .before .before .before .before .before .before .before .before .before .before .args .log .now) (c .before .before .before .before .before .before .before .before .before .before .before .before .before .before .before .before .before .args .places)) (sym (c .finding .ensures))
-    (found-by (here (c .before .before .before .before .before .before)) (l .inv .2) (l .inv .3) (c .before .before .before .before .before .step .ensures) (sym (c .before .before .ended .ensures) ∙ c .before .if1 .taken))
+    let step = c .before .before .before .before .before in
+    let l = step .before .before .before .before .before .loop in
+    let a = step .before .before .before .before .before .before .before .before .before .before .before .before .args in
+    subst (Finds (versionOf (a .version)) (a .log .now) (a .places)) (sym (c .finding .ensures))
+    (found-by (here (step .before)) (l .inv .2) (l .inv .3) (step .step .ensures) (sym (c .before .before .ended .ensures) ∙ c .before .if1 .taken))
 
 add-index : tie.Need-add-index Inv-loop μ-loop
 add-index c = omega (arith, short (here (c .before .before .before .before .before)))
@@ -75,13 +82,14 @@ loop-less c = search needs
 
 loop-again : tie.Need-loop-again Inv-loop μ-loop
 loop-again c =
-    let l = c .before .before .before .before .before .before .before .before .before .loop in (
-      omega (arith, c .before .before .before .before .before .before .before .before .loop-test .taken),
+    let step = c .before .before .before .before in
+    let l = step .before .before .before .before .before .loop in (
+      omega (arith, step .before .before .before .before .loop-test .taken),
       l .inv .1,
       l .inv .2,
       l .inv .3,
-      c .before .before .before .before .step .kept .1 .1 .1 .1 .1 .1 .1 .0 ∙ l .inv .4,
-      next-by (here (c .before .before .before .before .before)) (l .inv .2) (l .inv .3) (c .before .before .before .before .step .ensures) (sym (c .before .ended .ensures) ∙ c .if1 .left),
+      step .step .kept .1 .1 .1 .1 .1 .1 .1 .0 ∙ l .inv .4,
+      next-by (here (step .before)) (l .inv .2) (l .inv .3) (step .step .ensures) (sym (c .before .ended .ensures) ∙ c .if1 .left),
     )
 
 same-length-2 : tie.Need-same-length-2 Inv-loop μ-loop
