@@ -10,8 +10,8 @@ use Rattle.plan_packed.specs.inner.Operands.{tagOf}
 use Rattle.plan_packed.specs.inner.Steps.{wordAt, tagIn, lowerIf}
 use Rattle.plan_packed.proofs.Reading.{tag-in}
 use Rattle.plan_packed.proofs.SortLaws.{no-call}
-use Rattle.plan_naming.proofs.sorts.lower_call.Statement.{statement}
-use Rattle.plan_naming.proofs.sorts.lower_call.Tie as tie
+use Rattle.plan_name_tests.proofs.lower_call.Statement.{statement}
+use Rattle.plan_name_tests.proofs.lower_call.Tie as tie
 
 -- its 40 bits
 word-is : (s : tie.Start) → getD (s .args .words .now) (s .args .term) 0 ≡ wordAt (s .args .plan .now) (s .args .term)

@@ -7,8 +7,8 @@ use Rattle.plan_packed.specs.Format.{termAt}
 use Rattle.plan_packed.specs.Refusals.{listLength}
 use Rattle.plan_packed.proofs.ListLaws.{list-stop, list-step, rest-between, next-is, no-next}
 use lib.ListN.{getD}
-use Rattle.plan_naming.proofs.sorts.list_length.Statement.{statement}
-use Rattle.plan_naming.proofs.sorts.list_length.Tie as tie
+use Rattle.plan_name_tests.proofs.list_length.Statement.{statement}
+use Rattle.plan_name_tests.proofs.list_length.Tie as tie
 
 abbrev Inv-loop : tie.InvT-loop
 Inv-loop plan procedures count words from length₀ term₀ length term =

@@ -7,8 +7,8 @@ use Rattle.plan_packed.specs.Format.{tagAt}
 use Rattle.plan_packed.specs.inner.Steps.{wordAt, tagIn}
 use Rattle.plan_packed.proofs.Reading.{tag-was}
 use Rattle.plan_packed.proofs.ListLaws.{list-below, callee-below, called}
-use Rattle.plan_naming.proofs.sorts.wrong_list.Statement.{statement}
-use Rattle.plan_naming.proofs.sorts.wrong_list.Tie as tie
+use Rattle.plan_name_tests.proofs.wrong_list.Statement.{statement}
+use Rattle.plan_name_tests.proofs.wrong_list.Tie as tie
 
 -- its 40 bits
 word-is : (s : tie.Start) → getD (s .args .words .now) (s .args .term) 0 ≡ wordAt (s .args .plan .now) (s .args .term)

@@ -1,4 +1,4 @@
-// Check 5: terms of the right sort, and calls with as many arguments as there are parameters.
+// Checks 5 and 6, one name of a term at a time: its sort, the arguments of a call, and what a name more makes of its count and of its note.
 use plan_header::layout;
 use plan_operands::rows;
 use plan_operands::rows::Rows;
@@ -7,7 +7,21 @@ ghost use mathlib.Core.Path.{_≡_};
 ghost use Prim.Native.Nat.{_<_};
 ghost use Rattle.plan_packed.specs.Refusals.{listLength, wrongCall};
 ghost use Rattle.plan_packed.specs.inner.Rows.{layoutRows, Tagged};
-ghost use Rattle.plan_packed.specs.inner.Steps.{Right, Loaded, wrongSort, tagIn, lowerIf};
+ghost use Rattle.plan_packed.specs.inner.Steps.{Right, Loaded, wrongSort, tagIn, lowerIf, moreOf, noteOf};
+
+// The count of a term that is named once more; two stands for more.
+pub fn once_more(times: u8) -> u8
+    ensures { λ r. ⌜ r ≡ moreOf times ⌝ }
+{
+    if times == 0 { 1 } else { 2 }
+}
+
+// The note of a term that is named once more.
+pub fn noted(note: u8, sort: u8) -> u8
+    ensures { λ r. ⌜ r ≡ noteOf note sort ⌝ }
+{
+    if note == 0 { sort } else { 4 }
+}
 
 // The lower of `best` and term `index`, if that is of another sort than the table wants. Chosen without a branch, since the sorts of a plan follow no pattern.
 pub fn lower(rows: &Rows, words: &[usize; 1024], sort: u8, index: usize, best: usize) -> usize

@@ -8,8 +8,8 @@ use Rattle.plan_packed.specs.Format.{tagCount}
 use Rattle.plan_packed.specs.inner.Rows.{numberAt}
 use Rattle.plan_packed.specs.inner.Steps.{wrongSort, tagIn, lowerIf}
 use Rattle.plan_packed.proofs.RowLaws.{sort-is}
-use Rattle.plan_naming.proofs.sorts.lower.Statement.{statement}
-use Rattle.plan_naming.proofs.sorts.lower.Tie as tie
+use Rattle.plan_name_tests.proofs.lower.Statement.{statement}
+use Rattle.plan_name_tests.proofs.lower.Tie as tie
 
 -- the choice, by the sort in the row of the tag
 chosen : (own sort k index best : ℕ) (x : Bool) → k < tagCount → own ≡ numberAt k 0 → (not (eqb own sort) && ltb index best) ≡ x

@@ -1,8 +1,8 @@
 -- `once_more`: by the comparison with 0.
 use Rattle.plan_packed.specs.inner.Steps.{moreOf}
 use Rattle.plan_packed.proofs.NameLaws.{more-suc}
-use Rattle.plan_naming.proofs.once_more.Statement.{statement}
-use Rattle.plan_naming.proofs.once_more.Tie as tie
+use Rattle.plan_name_tests.proofs.once_more.Statement.{statement}
+use Rattle.plan_name_tests.proofs.once_more.Tie as tie
 
 returns : tie.Need-returns
 unfolding moreOf

@@ -1,8 +1,8 @@
 -- `noted`: by the comparison with 0.
 use Rattle.plan_packed.specs.inner.Steps.{noteOf}
 use Rattle.plan_packed.proofs.NoteLaws.{note-again}
-use Rattle.plan_naming.proofs.notes.noted.Statement.{statement}
-use Rattle.plan_naming.proofs.notes.noted.Tie as tie
+use Rattle.plan_name_tests.proofs.noted.Statement.{statement}
+use Rattle.plan_name_tests.proofs.noted.Tie as tie
 
 returns : tie.Need-returns
 unfolding noteOf
