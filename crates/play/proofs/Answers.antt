@@ -26,8 +26,8 @@ use Rattle.run_outcome.specs.declared.ThreadState.the-variants as state
 use Rattle.run_outcome.specs.declared.Thread.{Thread}
 use Rattle.run_outcome.specs.declared.Outcome.{Outcome}
 use Rattle.run_state.specs.declared.Setting.{Setting}
-use Rattle.run_engine.specs.inner.Machine.{Played, playOf, startOf, CountedBefore}
-use Rattle.run_engine.specs.declared.Ran.{Ran}
+use Rattle.run_engine.specs.inner.Engine.{Played, playOf, startOf, CountedBefore}
+use Rattle.run_tally.specs.declared.Ran.{Ran}
 use Rattle.refinement.proofs.Meant as meant
 use Rattle.refinement.proofs.States.{settingOf}
 use Rattle.refinement.proofs.Plays.{stateMeant, stopMeant, outcomeMeant, plays-recorded, plays-defined}

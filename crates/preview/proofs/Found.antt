@@ -30,8 +30,8 @@ use Rattle.run_outcome.specs.declared.NoRoom.the-variants as room
 use Rattle.run_outcome.specs.declared.Stop.{Stop}
 use Rattle.run_outcome.specs.declared.Stop.the-variants as stop
 use Rattle.run_open_threads.specs.inner.Open.{absent}
-use Rattle.run_engine.specs.inner.Machine.{picksBefore}
-use Rattle.run_engine.specs.declared.Ran.{Ran}
+use Rattle.run_engine.specs.inner.Engine.{picksBefore}
+use Rattle.run_tally.specs.declared.Ran.{Ran}
 use Rattle.play.specs.Answer.{roomOf, stopOf, statusOf, outcomeOf}
 use Rattle.play.specs.inner.RunOn.{Given, RunOn}
 use Rattle.play.proofs.Threads.{status-of}

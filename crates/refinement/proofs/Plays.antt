@@ -46,9 +46,9 @@ use Rattle.run_look.specs.inner.Look.{blockedOf, stateOf}
 use Rattle.run_pick.specs.inner.Answer.{Move, PickAnswer, PickAnswer as answer}
 use Rattle.run_pick.specs.inner.Pick.{Picked, lookMet}
 use Rattle.run_tally.specs.inner.Tally.{shownEntry}
-use Rattle.run_engine.specs.inner.Machine as engine
+use Rattle.run_engine.specs.inner.Engine as engine
 use Rattle.run_open_threads.specs.inner.Open.{absent}
-use Rattle.run_engine.specs.inner.Machine.{headAt, metBy, stateBy, threadBy, threadAt, threadsOf, stopped, stayed, after, turnBy, onAnswer, playOf, startOf}
+use Rattle.run_engine.specs.inner.Engine.{headAt, metBy, stateBy, threadBy, threadAt, threadsOf, stopped, stayed, after, turnBy, onAnswer, playOf, startOf}
 use Rattle.refinement.proofs.Meant.{WordsAndRoots}
 use Rattle.refinement.proofs.States.{settingOf, Related}
 use Rattle.refinement.proofs.Looks.{Written, Entered, BlockedBy, MeetsBy, attempt-absent}
@@ -106,7 +106,7 @@ cons-same : {A : Type 0} {x y : A} {xs ys : List A} → x ≡ y → xs ≡ ys �
 cons-same {A} e h = ap₂ {C = List A} (λ x xs. x ∷ xs) e h
 
 -- what the code says of its threads is what they can do
-statuses : (b : List ℕ) → refusal b ≡ none → (m : engine.Machine) (s : machine.State) → Related b m s → Reached (tableOf b) (programOf b) s
+statuses : (b : List ℕ) → refusal b ≡ none → (m : engine.EngineState) (s : machine.State) → Related b m s → Reached (tableOf b) (programOf b) s
     → map statusOf (threadsOf (settingOf b) (m .tally .counts) (m .heads) (m .cells) (m .objects) (m .places)) ≡ playing.statusesFrom (tableOf b) s 0 8
 unfolding threadsOf metBy threadBy playing.statusesFrom playing.status
 statuses b ok m s rel reach =
@@ -127,7 +127,7 @@ statuses b ok m s rel reach =
             (looks b ok m s rel reach p h (leb-false (m .tally .counts .threads) p e))
 
 -- what it says of their totals too
-totals : (b : List ℕ) (m : engine.Machine) (s : machine.State) → Related b m s → Reached (tableOf b) (programOf b) s
+totals : (b : List ℕ) (m : engine.EngineState) (s : machine.State) → Related b m s → Reached (tableOf b) (programOf b) s
     → map (λ (t : Thread). t .learnt) (threadsOf (settingOf b) (m .tally .counts) (m .heads) (m .cells) (m .objects) (m .places)) ≡ playing.totalsFrom s 0 8
 unfolding threadsOf metBy threadBy playing.totalsFrom playing.totalOf
 totals b m s rel reach =
@@ -192,10 +192,10 @@ module _ (b ws rs : List ℕ) (ok : refusal b ≡ none) (loaded : WordsAndRoots 
   -- the rest of a play
   abbrev Rest : List ℕ → ℕ → Type 0
   Rest ps i =
-      (m : engine.Machine) (s : machine.State) → Related b m s → Reached (tableOf b) (programOf b) s → 3 * (m .tally .records + length ps) ≤ length (m .log)
+      (m : engine.EngineState) (s : machine.State) → Related b m s → Reached (tableOf b) (programOf b) s → 3 * (m .tally .records + length ps) ≤ length (m .log)
       → PlaysAs b (m .every) i (m .tally .moves) (m .tally .records) (m .log) (playOf ws rs (settingOf b) m ps i) (playing.run (tableOf b) s ps)
 
-  module _ (m : engine.Machine) (s : machine.State) (rel : Related b m s) (reach : Reached (tableOf b) (programOf b) s) (p : ℕ) (small : p < 8) (ps : List ℕ)
+  module _ (m : engine.EngineState) (s : machine.State) (rel : Related b m s) (reach : Reached (tableOf b) (programOf b) s) (p : ℕ) (small : p < 8) (ps : List ℕ)
       (i : ℕ)
       (wide : 3 * (m .tally .records + suc (length ps)) ≤ length (m .log)) (rest : Rest ps (i + 1)) where
     abbrev goOn : machine.State → playing.Run
@@ -304,7 +304,7 @@ module _ (b ws rs : List ℕ) (ok : refusal b ≡ none) (loaded : WordsAndRoots 
     pick-plays = answered-plays (turn .answer) (turn .stack) (picks b ws rs ok loaded m s rel reach p small)
 
   -- THE CODE'S PLAY FROM A STATE IS THE ABSTRACT MACHINE'S RUN FROM WHAT IT STANDS FOR
-  plays : (ps : List ℕ) (i : ℕ) → Small ps → (m : engine.Machine) (s : machine.State) → Related b m s → Reached (tableOf b) (programOf b) s
+  plays : (ps : List ℕ) (i : ℕ) → Small ps → (m : engine.EngineState) (s : machine.State) → Related b m s → Reached (tableOf b) (programOf b) s
       → 3 * (m .tally .records + length ps) ≤ length (m .log)
       → PlaysAs b (m .every) i (m .tally .moves) (m .tally .records) (m .log) (playOf ws rs (settingOf b) m ps i) (playing.run (tableOf b) s ps)
   unfolding playOf playing.run playing.stopped recordsOf instances

@@ -1,4 +1,4 @@
--- The steps of a pick on the machine: how it begins, and what it comes to. Assumes nothing.
+-- The steps of a pick on the engine's state: how it begins, and what it comes to. Assumes nothing.
 use mathlib.Core.Path.{_≡_, refl, sym, ap, _∙_}
 use mathlib.Core.Bool.{true, false}
 use mathlib.Core.List.{List, [], _∷_}
@@ -29,7 +29,7 @@ use Rattle.run_pick.specs.inner.Pick.{picked, noRoom, fullOf, refocusedHead, no
 use Rattle.run_pick.proofs.GoesOn.{no-signal}
 use Rattle.run_pick.proofs.Steps as steps
 use Rattle.run_queue.specs.inner.Queue.{afterOf}
-use Rattle.run_engine.specs.inner.Machine.{Machine, noCell, headAt, cellNumber, metBy, pickedBy}
+use Rattle.run_engine.specs.inner.Engine.{EngineState, noCell, headAt, cellNumber, metBy, pickedBy}
 
 -- what a move of thread h leaves that does a and refocuses at l, with y the thread that it makes
 abbrev pub leftBy : Head → Acted → Refocused → Head → Move
@@ -62,7 +62,7 @@ pub queues-left : (qs : List ℕ) (r : Ready) (p : ℕ) → goesOnBy (r .redex) 
 unfolding afterOf
 queues-left qs r p e = rw (no-signal (r .redex) e)
 
-module _ (ws rs : List ℕ) (g : Setting) (m : Machine) (p : ℕ) where
+module _ (ws rs : List ℕ) (g : Setting) (m : EngineState) (p : ℕ) where
   abbrev x : Met
   x = metBy (m .tally .counts) (m .heads) (m .cells) (m .objects) (m .places) p
 

@@ -17,12 +17,12 @@ use Rattle.run_tally.specs.inner.Tally.{shownEntry, tallyFirst, tallyPut, tally
 use Rattle.run_pick.specs.inner.Answer.{Move, PickAnswer, PickAnswer as answer}
 use Rattle.run_pick.specs.inner.Pick.{noHead, Picked}
 use Rattle.run_queue.specs.inner.Queue.{afterOf}
-use Rattle.run_engine.specs.inner.Machine.{Machine, Played, headAt, cellNumber, headOf, cellFirst, noObject, endOf, stopped, withForked, stayed, after}
-use Rattle.run_engine.specs.inner.Machine.{pickedBy}
-use Rattle.run_engine.specs.inner.Machine.{turnBy, onAnswer, startOf, playOf}
+use Rattle.run_engine.specs.inner.Engine.{EngineState, Played, headAt, cellNumber, headOf, cellFirst, noObject, endOf, stopped, withForked, stayed, after}
+use Rattle.run_engine.specs.inner.Engine.{pickedBy}
+use Rattle.run_engine.specs.inner.Engine.{turnBy, onAnswer, startOf, playOf}
 
 module _ (ws rs : List ℕ) (setting : Setting) where
-  abbrev begun : Bool → Head → Head → List Cell → Object → Tally → List ℕ → Machine
+  abbrev begun : Bool → Head → Head → List Cell → Object → Tally → List ℕ → EngineState
   begun every n h cs t s l =
       record {
         heads = set (replicate 16 n) 0 h;
@@ -46,7 +46,7 @@ module _ (ws rs : List ℕ) (setting : Setting) where
       ∙ ap (λ (t : Object). playOf ws rs setting (begun every noHead (headOf (getD rs 0 0)) (replicate 1024 cellFirst) t s l) ps 0) qt
       ∙ ap (λ (s : Tally). playOf ws rs setting (begun every noHead (headOf (getD rs 0 0)) (replicate 1024 cellFirst) noObject s l) ps 0) qs
 
-  module _ (m : Machine) (p : ℕ) (ps : List ℕ) (i : ℕ) where
+  module _ (m : EngineState) (p : ℕ) (ps : List ℕ) (i : ℕ) where
     -- the pick of a thread that is not there
     pub absent-passed : m .tally .counts .threads ≤ p % 8 → playOf ws rs setting (stayed m (m .stack)) ps (i + 1) ≡ playOf ws rs setting m (p ∷ ps) i
     unfolding playOf turnBy

@@ -3,14 +3,13 @@
 // present ones, and counts once it is counted.
 ghost use mathlib.Core.Path.{_≡_};
 ghost use Prim.Native.Nat.{_≤_};
-ghost use Rattle.run_engine.specs.inner.Machine.{Placed, headOf, noObject, threadBy, startOf};
+ghost use Rattle.run_engine.specs.inner.Engine.{Placed, headOf, noObject, threadBy, startOf};
 ghost use Rattle.run_state.specs.inner.Acted.{nothing};
 ghost use Rattle.run_engine.specs.inner.Exploring.{pickAt, Unseen, Explorable, ExploredOn};
 use run_frames::redex;
 use run_frames::refocusing;
 use run_keys::KeySet;
 use run_outcome::NoRoom;
-use run_outcome::Outcome;
 use run_outcome::Stop;
 use run_outcome::Thread;
 use run_outcome::ThreadState;
@@ -20,6 +19,7 @@ use run_state::Counts;
 use run_state::Head;
 use run_state::Object;
 use run_state::Setting;
+use run_tally::Ran;
 
 pub mod kept;
 
@@ -83,19 +83,7 @@ pub fn thread_of(setting: Setting, met: Met) -> Thread
     }
 }
 
-// How many moves and records a run had before the last pick that it met; none where it met no pick.
-pub struct Before {
-    pub moves: usize,
-    pub records: usize,
-}
-
-// What a run comes to.
-pub struct Ran {
-    pub outcome: Outcome,
-    pub before: Before,
-}
-
-// The same of a run that may go on behind the given picks, and how many picks it made, one that stopped it among them.
+// What a run comes to that may go on behind the given picks, and how many picks it made, one that stopped it among them.
 pub struct Explored {
     pub ran: Ran,
     pub made: usize,
@@ -276,20 +264,6 @@ pub fn explore(
         from = to;
         to += 1;
     }
-    let outcome = Outcome {
-        stop: stop,
-        picks: dealt,
-        moves: tally.moves,
-        records: tally.records,
-        threads: threads,
-    };
-    let before = Before {
-        moves: moves_before,
-        records: records_before,
-    };
-    let ran = Ran {
-        outcome: outcome,
-        before: before,
-    };
+    let ran = run_tally::result(stop, dealt, tally, moves_before, records_before, threads);
     Explored { ran: ran, made: to }
 }

@@ -27,7 +27,7 @@ use Rattle.run_outcome.specs.declared.Stop as code-stop
 use Rattle.run_outcome.specs.declared.Stop.the-variants as stop
 use Rattle.play.specs.Answer.{stopOf}
 use Rattle.play.specs.inner.RunOn.{Given, MovesOn}
-use Rattle.run_engine.specs.declared.Ran.{Ran}
+use Rattle.run_tally.specs.declared.Ran.{Ran}
 use Rattle.answers.specs.Answer.{Answer}
 use Rattle.side_by_side.specs.Moves.{movesOf}
 use Rattle.side_by_side.specs.LeftOut.{leftOut}

@@ -15,8 +15,8 @@ use Rattle.rules.specs.Run as run
 use Rattle.rules.specs.Run.{instances, log}
 use Rattle.rules.specs.Play.{runOf}
 use Rattle.side_by_side.specs.Moves.{movesOf}
-use Rattle.run_engine.specs.inner.Machine.{picksBefore}
-use Rattle.run_engine.specs.declared.Ran.{Ran}
+use Rattle.run_engine.specs.inner.Engine.{picksBefore}
+use Rattle.run_tally.specs.declared.Ran.{Ran}
 use Rattle.run_engine.specs.declared.Explored.{Explored}
 use Rattle.run_open_threads.specs.inner.Open.{openAfter}
 use Rattle.run_engine.specs.inner.Exploring.{allPicks, NotedAt}

@@ -28,6 +28,7 @@ use Rattle.run_frames.specs.declared.refocusing.Refocusing.{Refocusing}
 use Rattle.run_refocusing.specs.inner.Refocusing.{Stack, Ends}
 use Rattle.run_act.specs.inner.Act.{goesOnBy, changesBy}
 use Rattle.run_tally.specs.declared.Tally.{Tally}
+use Rattle.run_tally.specs.declared.Ran.{Ran}
 use Rattle.run_tally.specs.inner.Tally.{shownEntry, recordsAfter, tallyPut, logPut}
 use types.Run.{OneOf}
 use denote.Enum.Declared.{tagOf}
@@ -38,7 +39,7 @@ use Rattle.run_pick.specs.inner.Answer.{Move, PickAnswer as answer}
 use Rattle.run_pick.specs.inner.Pick.{Picked, picked, noRoom, fullOf, refocusedHead, noHead, forksOf, beginOf, goOf, refocusingsFrom}
 use Rattle.run_engine.specs.declared.kept.Kept.{Kept}
 use Rattle.run_engine.specs.inner.Kept.{restoreOf, keptFirst}
-use Rattle.run_engine.specs.inner.Machine.{noCell, Machine, Played, headAt, cellNumber, metBy, threadBy, threadsOf, endOf, pickedBy, startOf, playOf}
+use Rattle.run_engine.specs.inner.Engine.{noCell, EngineState, Played, headAt, cellNumber, metBy, threadBy, threadsOf, endOf, pickedBy, startOf, playOf, CountedBefore}
 use Rattle.run_open_threads.specs.inner.Open.{openAt, unstopped, openAfter, LowestFrom}
 use Rattle.run_engine.specs.inner.Exploring.{allPicks, pickAt}
 use Rattle.run_engine.proofs.Looks.{met, putThread, absent-at, all-threads, eight-threads}
@@ -46,7 +47,7 @@ use Rattle.run_engine.proofs.Plays.{begins, absent-passed, passed, move
 use Rattle.run_engine.proofs.Begins as steps
 use Rattle.run_engine.proofs.Begins.{leftBy, goneBy, queues-left, begins-on}
 use Rattle.run_engine.proofs.PassedOver.{none-marked, marked-too, passed-again}
-use Rattle.run_engine.proofs.Restored.{machineOf, all-restored, restored-at, cell-put, cell-left}
+use Rattle.run_engine.proofs.Restored.{engineOf, all-restored, restored-at, cell-put, cell-left}
 use Rattle.run_engine.proofs.MovedCell.{cell-unchanged}
 use Rattle.run_open_threads.proofs.Lowest.{lowest-ext}
 use Rattle.run_engine.proofs.AllPicks.{kept-before}
@@ -94,7 +95,7 @@ abbrev μ-loop : tie.MeasureT-loop
     from₀ to₀ notes log heads cells objects places stack passed tally halt moves-before records-before threads lowest from to =
     length notes - to
 
--- ---- a round, and a pick of it: the plan, the picks, the machine
+-- ---- a round, and a pick of it: the plan, the picks, the engine's state
 
 abbrev Opened : Type 0
 Opened = tie.At-loop Inv-loop2 μ-loop2 Inv-loop3 μ-loop3 Inv-loop μ-loop
@@ -154,9 +155,9 @@ opened l = l .before
 abbrev cells : Turn → List Cell
 cells l = map restoreOf (l .loop2 .cells)
 
-abbrev machine : Turn → Machine
-machine l =
-    machineOf (l .loop2 .heads) (l .loop2 .cells) (l .loop2 .objects) (l .loop2 .places) (l .loop2 .stack) (every (opened l)) (l .loop2 .tally) (l .loop2 .log)
+abbrev engine : Turn → EngineState
+engine l =
+    engineOf (l .loop2 .heads) (l .loop2 .cells) (l .loop2 .objects) (l .loop2 .places) (l .loop2 .stack) (every (opened l)) (l .loop2 .tally) (l .loop2 .log)
 
 -- the run stands at a place, by a log that it began with
 abbrev At : Turn → List ℕ → Type 0
@@ -198,7 +199,7 @@ module _ (c : Drawn) (log : List ℕ) (v : At (turn c) log) where
   run = standing.played (words r) (roots r) (setting r) (every r) log
 
   -- this pick and others are met after those before it
-  next : (qs : List ℕ) → playOf (words r) (roots r) (setting r) (machine l) (pick c ∷ qs) (l .loop2 .i) ≡ run (take (l .loop2 .i + 1) (list r) ++ qs)
+  next : (qs : List ℕ) → playOf (words r) (roots r) (setting r) (engine l) (pick c ∷ qs) (l .loop2 .i) ≡ run (take (l .loop2 .i + 1) (list r) ++ qs)
   next qs =
       let h = started (c .before) .0 in
       let d : l .loop2 .i < length (list r) = omega (arith, h, round r .listed) in
@@ -209,7 +210,7 @@ module _ (c : Drawn) (log : List ℕ) (v : At (turn c) log) where
 
   -- the counts where the turn begins are those of the picks before
   module _ (k : ℕ) (h : k ≡ l .loop2 .i) where
-    before : playOf (words r) (roots r) (setting r) (machine l) [] (l .loop2 .i) ≡ run (take k (list r))
+    before : playOf (words r) (roots r) (setting r) (engine l) [] (l .loop2 .i) ≡ run (take k (list r))
     before = v .goes [] ∙ ap run (append-nil (take (l .loop2 .i) (list r)) ∙ ap (λ (n : ℕ). take n (list r)) (sym h))
 
     moves-before : l .loop2 .tally .moves ≡ run (take k (list r)) .outcome .moves
@@ -264,7 +265,7 @@ loop2-again c =
             few-records = omega (arith, v .few-records);
             kept = v .kept;
             goes = λ qs.
-                absent-passed (words r) (roots r) (setting r) (machine l) (pick d) qs (l .loop2 .i) (c .if1 .taken) ∙ next d first v qs;
+                absent-passed (words r) (roots r) (setting r) (engine l) (pick d) qs (l .loop2 .i) (c .if1 .taken) ∙ next d first v qs;
             unstopped = v .unstopped;
             eight = v .eight;
             moves = moves-before d first v (l .loop2 .i + 1 - 1) (omega arith);
@@ -291,7 +292,7 @@ loop2-again-2 c =
             few-records = omega (arith, v .few-records);
             kept = v .kept;
             goes = λ qs.
-                passed-again (words r) (roots r) (setting r) (machine l) (pick d) qs (l .loop2 .i) (v .marked (pick d % 8) (c .if2 .taken)) ∙ next d first v qs;
+                passed-again (words r) (roots r) (setting r) (engine l) (pick d) qs (l .loop2 .i) (v .marked (pick d % 8) (c .if2 .taken)) ∙ next d first v qs;
             unstopped = v .unstopped;
             eight = v .eight;
             moves = moves-before d first v (l .loop2 .i + 1 - 1) (omega arith);
@@ -327,13 +328,13 @@ goes-on : (c : Begins) {t : Bool} → c .before .goes-on .result ≡ t → goesO
 goes-on c e = sym (c .before .goes-on .ensures) ∙ e
 
 begins-so : (c : Begins)
-    → begun-so c ≡ beginOf (setting (opened (at c))) (metBy (machine (at c) .tally .counts) (machine (at c) .heads) (machine (at c) .cells)
-    (machine (at c) .objects)
-    (machine (at c) .places) (mover c))
+    → begun-so c ≡ beginOf (setting (opened (at c))) (metBy (engine (at c) .tally .counts) (engine (at c) .heads) (engine (at c) .cells)
+    (engine (at c) .objects)
+    (engine (at c) .places) (mover c))
 begins-so c =
     let l = at c in
     let r = opened l in
-    ⊎-elim (λ w. w .2 ∙ begins-on (words r) (roots r) (setting r) (machine l) (mover c) (goes-on c (w .0 .taken)) (w .1 .ensures))
+    ⊎-elim (λ w. w .2 ∙ begins-on (words r) (roots r) (setting r) (engine l) (mover c) (goes-on c (w .0 .taken)) (w .1 .ensures))
     (λ w. w .8 ∙ w .7 .ensures
     ∙ ap (beginOf (setting r)) (met (l .loop2 .tally .counts) (l .loop2 .heads) (cells l) (l .loop2 .objects) (l .loop2 .places) (mover c) (w .1 .result) _
     (w .1 .ensures) (w .3 .ensures ∙ restored-at (l .loop2 .cells) (w .1 .result)))) (c .if3 .came)
@@ -354,15 +355,15 @@ fits c =
     let v = here (at c) in
     (omega (arith, v .few-records, v .kept, begun c, round (opened (at c)) .room), omega (arith, v .few-records, few c))
 
--- the machine's answer to it
+-- the engine's answer to it
 abbrev answered : Begins → Picked
-answered c = pickedBy (words (opened (at c))) (roots (opened (at c))) (setting (opened (at c))) (machine (at c)) (mover c)
+answered c = pickedBy (words (opened (at c))) (roots (opened (at c))) (setting (opened (at c))) (engine (at c)) (mover c)
 
 -- ---- a pick that is passed over
 
 passed-over : (c : Begins) → begun-so c ≡ how.Passed → picked (at c .loop2 .stack) answer.Passed ≡ answered c
 passed-over c z =
-    let r = opened (at c) in steps.passes (words r) (roots r) (setting r) (machine (at c)) (mover c) (begun-so c) (begins-so c) z
+    let r = opened (at c) in steps.passes (words r) (roots r) (setting r) (engine (at c)) (mover c) (begun-so c) (begins-so c) z
 
 loop2-again-3 : tie.Need-loop2-again-3 Inv-loop2 μ-loop2 Inv-loop3 μ-loop3 Inv-loop μ-loop
 loop2-again-3 c =
@@ -381,13 +382,13 @@ loop2-again-3 c =
             few-records = omega (arith, v .few-records);
             kept = v .kept;
             goes = λ qs.
-                passed (words r) (roots r) (setting r) (machine l) (pick d) qs (l .loop2 .i) (picked (l .loop2 .stack) answer.Passed) (present x)
+                passed (words r) (roots r) (setting r) (engine l) (pick d) qs (l .loop2 .i) (picked (l .loop2 .stack) answer.Passed) (present x)
                 (passed-over x (c .enum-told .given .1)) refl ∙ next d first v qs;
             unstopped = v .unstopped;
             eight = v .eight;
             moves = moves-before d first v (l .loop2 .i + 1 - 1) (omega arith);
             records = records-before d first v (l .loop2 .i + 1 - 1) (omega arith);
-            marked = marked-too (words r) (roots r) (setting r) (machine l) (l .loop2 .passed) (pick d % 8) (picked (l .loop2 .stack) answer.Passed) (present x)
+            marked = marked-too (words r) (roots r) (setting r) (engine l) (l .loop2 .passed) (pick d % 8) (picked (l .loop2 .stack) answer.Passed) (present x)
                 (passed-over x (c .enum-told .given .1)) refl (v .marked);
           },
     )
@@ -395,7 +396,7 @@ loop2-again-3 c =
 -- ---- a pick that stops as it begins
 
 stops-so : (c : Begins) {e : Stop} {y : Entry} → begun-so c ≡ how.Stopped e y → picked (at c .loop2 .stack) (answer.Stopped e y) ≡ answered c
-stops-so c z = let r = opened (at c) in steps.stops (words r) (roots r) (setting r) (machine (at c)) (mover c) (begun-so c) (begins-so c) z
+stops-so c z = let r = opened (at c) in steps.stops (words r) (roots r) (setting r) (engine (at c)) (mover c) (begun-so c) (begins-so c) z
 
 -- ---- the refocusings of a move
 
@@ -427,13 +428,13 @@ module _ (c : Refocused) where
   -- without room
   full-so : fullOf (c .refocus .result .last) ≡ true → picked (ends c .stack) (noRoom room.Depth) ≡ answered (since c)
   full-so f =
-      steps.full (words there) (roots there) (setting there) (machine (at (since c))) (mover (since c)) (begun-so (since c)) (begins-so (since c)) refocuses moving f
+      steps.full (words there) (roots there) (setting there) (engine (at (since c))) (mover (since c)) (begun-so (since c)) (begins-so (since c)) refocuses moving f
 
   module _ (roomy : fullOf (c .refocus .result .last) ≡ false) where
     -- a move that only goes on elsewhere
     on : OneOf (0 ∷ 1 ∷ 2 ∷ []) (tagOf begun-type.the-type (begun-so (since c))) → goesOnBy (head (since c) .ready .redex) ≡ true
     on other =
-        steps.on (words there) (roots there) (setting there) (machine (at (since c))) (mover (since c)) (begun-so (since c)) (begins-so (since c)) refocuses roomy moving
+        steps.on (words there) (roots there) (setting there) (engine (at (since c))) (mover (since c)) (begun-so (since c)) (begins-so (since c)) refocuses roomy moving
         other
 
     gone-on : OneOf (0 ∷ 1 ∷ 2 ∷ []) (tagOf begun-type.the-type (begun-so (since c)))
@@ -441,7 +442,7 @@ module _ (c : Refocused) where
         (getD (cells (at (since c))) (cellNumber (head (since c) .ready)) noCell) (c .refocus .result .last)))
         ≡ answered (since c)
     gone-on other =
-        steps.goes-on (words there) (roots there) (setting there) (machine (at (since c))) (mover (since c)) (begun-so (since c)) (begins-so (since c)) refocuses roomy
+        steps.goes-on (words there) (roots there) (setting there) (engine (at (since c))) (mover (since c)) (begun-so (since c)) (begins-so (since c)) refocuses roomy
         moving other
 
     -- another: a fork; or not
@@ -450,12 +451,12 @@ module _ (c : Refocused) where
         (refocusedHead (c .refocus .result .last) (at (since c) .loop2 .tally .counts .objects) (head (since c) .keys) 0)))
         ≡ answered (since c)
     forked acts n =
-        steps.forks (words there) (roots there) (setting there) (machine (at (since c))) (mover (since c)) (begun-so (since c)) (begins-so (since c)) refocuses roomy acts n
+        steps.forks (words there) (roots there) (setting there) (engine (at (since c))) (mover (since c)) (begun-so (since c)) (begins-so (since c)) refocuses roomy acts n
 
     alone : {a : Acted} → begun-so (since c) ≡ how.Acted a → forksOf (head (since c)) ≡ false
         → picked (ends c .stack) (answer.Moved (leftBy (head (since c)) a (c .refocus .result .last) noHead)) ≡ answered (since c)
     alone acts n =
-        steps.moves (words there) (roots there) (setting there) (machine (at (since c))) (mover (since c)) (begun-so (since c)) (begins-so (since c)) refocuses roomy acts n
+        steps.moves (words there) (roots there) (setting there) (engine (at (since c))) (mover (since c)) (begun-so (since c)) (begins-so (since c)) refocuses roomy acts n
 
 -- ---- a pick of a move that only goes on elsewhere
 
@@ -491,7 +492,7 @@ loop2-again-4 c =
             few-records = omega (arith, records, put .ensures .0 .1, v .few-records);
             kept = put .kept .0 ∙ v .kept;
             goes = λ qs.
-                moved (words r) (roots r) (setting r) (machine l) (pick d) qs (l .loop2 .i)
+                moved (words r) (roots r) (setting r) (engine l) (pick d) qs (l .loop2 .i)
                 _ (present x) (gone-on f roomy other) refl
                 (cells l) _ _ (l .loop2 .places) (put .result) (c .moved .result) (put .last .0)
                 (sym (set-getD (cells l) (cellNumber (head x .ready)) noCell)) (ap (set (l .loop2 .heads) (mover x)) (c .before .before .before .gone .ensures))
@@ -528,7 +529,7 @@ unchanged : (c : Begins) {v : Move} → (z : Picked) → z .answer ≡ answer.Mo
     → v .cell ≡ getD (cells (at c)) (cellNumber (head c .ready)) noCell
 unchanged c {v} z e q h =
     let r = opened (at c) in
-    cell-unchanged (words r) (roots r) (setting r) v (machine (at c)) (mover c) h (ap (λ (y : Picked). y .answer) (sym q) ∙ e)
+    cell-unchanged (words r) (roots r) (setting r) v (engine (at c)) (mover c) h (ap (λ (y : Picked). y .answer) (sym q) ∙ e)
 
 loop2-again-5 : tie.Need-loop2-again-5 Inv-loop2 μ-loop2 Inv-loop3 μ-loop3 Inv-loop μ-loop
 loop2-again-5 c =
@@ -559,7 +560,7 @@ loop2-again-5 c =
             kept = put .kept .0 ∙ v .kept;
             goes = λ qs. ⊎-elim (λ w.
                 let came = forked f roomy acts (eq-eqb _ _ (w .0 .taken)) in
-                moved (words r) (roots r) (setting r) (machine l) (pick d) qs (l .loop2 .i) _ (present x) came refl
+                moved (words r) (roots r) (setting r) (engine l) (pick d) qs (l .loop2 .i) _ (present x) came refl
                 (map restoreOf (k .cells)) (j .heads) _ (queue .last .0) (put .result) (c .moved4 .result) (put .last .0)
                 (⊎-elim (λ u. cell-put (l .loop2 .cells) (k .cells) _ _ _ (u .3 .ensures)
                 (u .4 ∙ ap (λ (n : ℕ). set (l .loop2 .cells) n (u .3 .result)) (u .1 .ensures .cell)))
@@ -569,7 +570,7 @@ loop2-again-5 c =
                 (w .5 ∙ ap (λ (n : ℕ). set (set (l .loop2 .heads) n (w .2 .result)) (mover x) (w .4 .result)) (w .3 .ensures)))
                 (object-put (l .loop2 .objects) _ _ _ (c .before .remainder3 .ensures)) (queue .ensures) (put .ensures .0 .0) (c .moved4 .ensures .0) (put .ensures .1)) (λ w.
                 let came = alone f roomy acts (ne-eqb _ _ (w .0 .left)) in
-                moved (words r) (roots r) (setting r) (machine l) (pick d) qs (l .loop2 .i) _ (present x) came refl
+                moved (words r) (roots r) (setting r) (engine l) (pick d) qs (l .loop2 .i) _ (present x) came refl
                 (map restoreOf (k .cells)) (j .heads) _ (queue .last .0) (put .result) (c .moved4 .result) (put .last .0)
                 (⊎-elim (λ u. cell-put (l .loop2 .cells) (k .cells) _ _ _ (u .3 .ensures)
                 (u .4 ∙ ap (λ (n : ℕ). set (l .loop2 .cells) n (u .3 .result)) (u .1 .ensures .cell)))
@@ -610,13 +611,13 @@ module _ (x : Begins) {e : Stop} {y : Entry} {k : Stack} (came : picked k (answe
       let t : l .loop2 .i + 1 ≤ end r = omega (arith, begun x) in
       let q : take (l .loop2 .i + 1) (list r) ++ later ≡ take (end r) (list r) =
       ap (λ (ps : List ℕ). ps ++ later) (sym (take-take (l .loop2 .i + 1) (end r) (list r) t)) ∙ take-append-drop (l .loop2 .i + 1) (take (end r) (list r)) in
-      stops (words r) (roots r) (setting r) (machine l) (pick d) later (l .loop2 .i) _ (present x) came refl e′ j s log qe qj qs ql
+      stops (words r) (roots r) (setting r) (engine l) (pick d) later (l .loop2 .i) _ (present x) came refl e′ j s log qe qj qs ql
       ∙ next d (first r) (here l) later ∙ ap (played r) q
 
   halts-there : {e′ : Stop} → e′ ≡ e → unstopped e′ ≡ false
   halts-there q =
       let r = opened (at x) in
-      ap unstopped q ∙ stop-halts (words r) (roots r) (setting r) (machine (at x)) (mover x) e y (ap (λ (z : Picked). z .answer) (sym came))
+      ap unstopped q ∙ stop-halts (words r) (roots r) (setting r) (engine (at x)) (mover x) e y (ap (λ (z : Picked). z .answer) (sym came))
 
 -- without a record, nothing is put
 nothing-put : (s : Tally) → s ≡ tallyPut s noEntry
@@ -643,7 +644,7 @@ left-so c =
     let v = here l in
     ⊎-elim (λ w.
     let t : l .loop2 .i ≡ end r = omega (arith, w .0 .left, i .1) in
-    let q : playOf (words r) (roots r) (setting r) (machine l) [] (l .loop2 .i) ≡ whole r =
+    let q : playOf (words r) (roots r) (setting r) (engine l) [] (l .loop2 .i) ≡ whole r =
     v .goes [] ∙ ap (played r) (append-nil (take (l .loop2 .i) (list r)) ∙ ap (λ (n : ℕ). take n (list r)) t) in (
       ends-as (setting r) (l .loop2 .heads) (cells l) (l .loop2 .objects) (l .loop2 .places) _ _ _ _ _ _ _ _ (w .4 ∙ v .unstopped) (w .5 ∙ i .2 ∙ sym t) (w .3)
           (w .1) ∙ q,
@@ -786,7 +787,7 @@ module _ (c : Left) where
 abbrev Last : Type 0
 Last = tie.At-loop3 Inv-loop2 μ-loop2 Inv-loop3 μ-loop3 Inv-loop μ-loop
 
--- where a thread is seen: the machine where the round ended
+-- where a thread is seen: the engine's state where the round ended
 abbrev left : Last → Left
 left c = c .before .before
 
@@ -961,11 +962,11 @@ loop-less c = omega (arith, going c .1, length-set (o c .loop .notes) (end (o c)
 -- ---- it is over
 
 same-length : tie.Need-same-length Inv-loop2 μ-loop2 Inv-loop3 μ-loop3 Inv-loop μ-loop
-same-length c = round (closed (left (c .before .before .before))) .kept
+same-length c = round (closed (left (c .before .before .before .before))) .kept
 
 same-length-2 : tie.Need-same-length-2 Inv-loop2 μ-loop2 Inv-loop3 μ-loop3 Inv-loop μ-loop
 same-length-2 c =
-    let l = left (c .before .before .before) in
+    let l = left (c .before .before .before .before) in
     let v = here (l .before) in
     ⊎-elim (λ w. ap length (w .1) ∙ v .kept) (⊎-elim (λ w. ap length (w .17) ∙ w .14 .kept .0 ∙ v .kept) (λ w. ap length (w .17) ∙ v .kept))
     (l .loop2-test .came)
@@ -986,23 +987,30 @@ shut-off c b k h (no d) =
     ∙ ap (λ (x : Stop). unstopped x && openAt (a .before .loop3 .threads) k) (stood l (omega (arith, d)) .unstopped)
     ∙ c .before .goes-on-by .ensures .none (c .if8 .taken) (le-ltb (l .loop2-test .dealt) (end (closed l)) (omega (arith, d))) b k h
 
+result-requires : tie.Need-result-requires Inv-loop2 μ-loop2 Inv-loop3 μ-loop3 Inv-loop μ-loop
+result-requires c κs = search needs
+
 returns : tie.Need-returns Inv-loop2 μ-loop2 Inv-loop3 μ-loop3 Inv-loop μ-loop
 returns c =
-    let a = c .before .before in
+    let z = c .before in
+    let a = z .before .before in
     let l = left (a .before) in
     let r = closed l in
+    let e = c .result .ensures in
     record {
       kept = round r .kept;
       within = round r .listed;
       unnoted = round r .unnoted;
       places = round r .places;
-      outcome = outcome-is a;
+      outcome = ap (λ (x : Ran). x .outcome) e ∙ outcome-is a;
       area = ap (λ (x : Played). x .area) (ended l);
-      counted = record { moves = counted-moves l; records = counted-records l };
+      counted = along (CountedBefore (words r) (roots r) (setting r) (startOf (every r) (roots r) (first r)) (take (end r) (list r))) (sym e)
+          (record { moves = counted-moves l; records = counted-records l });
       noted = round r .noted;
       shut = λ b k h.
-          ap (λ (x : Outcome). openAfter x k) (outcome-is a)
-          ∙ shut-off c (omega (arith, b, round r .kept)) k h (decLt (l .loop2-test .dealt) (end r));
+          ap (λ (x : Ran). openAfter (x .outcome) k) e
+          ∙ ap (λ (x : Outcome). openAfter x k) (outcome-is a)
+          ∙ shut-off z (omega (arith, b, round r .kept)) k h (decLt (l .loop2-test .dealt) (end r));
     }
 
 -- ---- what a turn asks
@@ -1172,4 +1180,4 @@ explore-spec =
     (λ c κs. search needs) (λ c κs. search needs)
     note-requires slice-write-notes add-to loop-less loop-again
     -- the end
-    same-length same-length-2 returns)
+    result-requires same-length same-length-2 returns)

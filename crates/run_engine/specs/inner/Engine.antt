@@ -1,4 +1,4 @@
--- The run of a schedule over flat lists of records: the machine that the code runs; no reader of the entries' promises needs it. Assumes nothing.
+-- The run of a schedule over flat lists of records: what the code runs; no reader of the entries' promises needs it. Assumes nothing.
 use Prim.Native.Nat.{ℕ, _+_, _-_, _*_, _/_, _%_, _<_, min}
 use mathlib.Core.Path.{_≡_}
 use mathlib.Core.Bool.{Bool, cond}
@@ -28,9 +28,9 @@ use Rattle.run_pick.specs.inner.Answer.{Move, PickAnswer, PickAnswer as answer}
 use Rattle.run_pick.specs.inner.Pick.{noHead, Picked, picked, pickOf}
 use Rattle.run_queue.specs.inner.Queue.{afterOf}
 use Rattle.run_open_threads.specs.inner.Open.{absent}
-use Rattle.run_engine.specs.declared.Ran.{Ran}
 use Rattle.run_tally.specs.declared.Tally.{Tally}
-use Rattle.run_tally.specs.inner.Tally.{shownEntry, tallyFirst, tallyPut, tallyMoved, logPut}
+use Rattle.run_tally.specs.declared.Ran.{Ran}
+use Rattle.run_tally.specs.inner.Tally.{shownEntry, tallyFirst, tallyPut, tallyMoved, logPut, outcomeOf}
 
 -- past the end of a list: a first cell, zeros
 abbrev pub noCell : Cell
@@ -39,7 +39,8 @@ noCell = record { value = 0; key = 0; keys = zeroSet }
 abbrev pub noObject : Object
 noObject = record { mask = 0; thread = 0 }
 
-pub record Machine : Type 0 where
+-- the engine's state: heads of threads, cells, objects, places in queues, frames; whether every move has a record; what is counted, and the log
+pub record EngineState : Type 0 where
   pub heads : List Head
   pub cells : List Cell
   pub objects : List Object
@@ -96,7 +97,7 @@ threadsOf g n l cs ts qs =
     ∷ threadAt g n l cs ts qs 4 ∷ threadAt g n l cs ts qs 5 ∷ threadAt g n l cs ts qs 6 ∷ threadAt g n l cs ts qs 7 ∷ []
 
 abbrev pub endOf : Stop → ℕ → Setting → Tally → List Head → List Cell → List Object → List ℕ → Outcome
-endOf e i g s l cs ts qs = record { stop = e; picks = i; moves = s .moves; records = s .records; threads = threadsOf g (s .counts) l cs ts qs }
+endOf e i g s l cs ts qs = outcomeOf e i s (threadsOf g (s .counts) l cs ts qs)
 
 -- ---- the run
 
@@ -105,7 +106,7 @@ pub record Played : Type 0 where
   pub area : List ℕ
 
 -- stopped by thread p's pick, with a last record
-abbrev pub stopped : Setting → Machine → ℕ → Entry → Stop → ℕ → Played
+abbrev pub stopped : Setting → EngineState → ℕ → Entry → Stop → ℕ → Played
 stopped g m p x e i =
     record {
       outcome = endOf e i g (tallyPut (m .tally) x) (m .heads) (m .cells) (m .objects) (m .places);
@@ -116,12 +117,12 @@ stopped g m p x e i =
 abbrev pub withForked : Bool → List Head → ℕ → Head → List Head
 withForked forks l q y = cond forks (set l q y) l
 
--- the machine after a pick that was passed over, and after one that moved
-abbrev pub stayed : Machine → Stack → Machine
+-- the state after a pick that was passed over, and after one that moved
+abbrev pub stayed : EngineState → Stack → EngineState
 stayed m k =
     record { heads = m .heads; cells = m .cells; objects = m .objects; places = m .places; stack = k; every = m .every; tally = m .tally; log = m .log }
 
-abbrev pub after : Machine → ℕ → Move → Stack → Machine
+abbrev pub after : EngineState → ℕ → Move → Stack → EngineState
 after m p v k =
     record {
       heads = set (withForked (v .forks) (m .heads) (m .tally .counts .threads % 9) (v .forked)) p (v .mover);
@@ -135,10 +136,10 @@ after m p v k =
     }
 
 -- the pick of thread p; an absent thread's is passed over
-abbrev pub pickedBy : List ℕ → List ℕ → Setting → Machine → ℕ → Picked
+abbrev pub pickedBy : List ℕ → List ℕ → Setting → EngineState → ℕ → Picked
 pickedBy ws rs g m p = pickOf ws rs g (metBy (m .tally .counts) (m .heads) (m .cells) (m .objects) (m .places) p) (m .stack)
 
-unfoldable pub turnBy : List ℕ → List ℕ → Setting → Machine → ℕ → Picked
+unfoldable pub turnBy : List ℕ → List ℕ → Setting → EngineState → ℕ → Picked
 turnBy ws rs g m p = cond (leb (m .tally .counts .threads) p) (picked (m .stack) answer.Passed) (pickedBy ws rs g m p)
 
 abbrev pub onAnswer : PickAnswer → Played → (Move → Played) → (Stop → Entry → Played) → Played
@@ -146,7 +147,7 @@ onAnswer answer.Passed pass move halt = pass
 onAnswer (answer.Moved v) pass move halt = move v
 onAnswer (answer.Stopped e x) pass move halt = halt e x
 
-unfoldable pub playOf : List ℕ → List ℕ → Setting → Machine → List ℕ → ℕ → Played
+unfoldable pub playOf : List ℕ → List ℕ → Setting → EngineState → List ℕ → ℕ → Played
 playOf ws rs g m [] i = record { outcome = endOf stop.End i g (m .tally) (m .heads) (m .cells) (m .objects) (m .places); area = m .log }
 playOf ws rs g m (p ∷ ps) i =
     onAnswer (turnBy ws rs g m (p % 8) .answer)
@@ -161,7 +162,7 @@ abbrev pub picksBefore : ℕ → List ℕ → List ℕ
 picksBefore dealt ps = take (min dealt (length ps - 1)) ps
 
 -- the counts before that pick are those of their run
-pub record CountedBefore (ws rs : List ℕ) (g : Setting) (m : Machine) (ps : List ℕ) (r : Ran) : Type 0 where
+pub record CountedBefore (ws rs : List ℕ) (g : Setting) (m : EngineState) (ps : List ℕ) (r : Ran) : Type 0 where
   pub moves : r .before .moves ≡ playOf ws rs g m (picksBefore (r .outcome .picks) ps) 0 .outcome .moves
   pub records : r .before .records ≡ playOf ws rs g m (picksBefore (r .outcome .picks) ps) 0 .outcome .records
 
@@ -174,7 +175,7 @@ abbrev pub cellFirst : Cell
 cellFirst = cellOf 0 0 zeroSet
 
 -- with a record for every move, or for those that have one
-unfoldable pub startOf : Bool → List ℕ → List ℕ → Machine
+unfoldable pub startOf : Bool → List ℕ → List ℕ → EngineState
 startOf every rs l =
     record {
       heads = set (replicate 16 noHead) 0 (headOf (getD rs 0 0));
