@@ -5,7 +5,7 @@ use mathlib.Core.List.{List, [], _∷_}
 use Prim.Native.Nat.{ℕ, _+_, _%_, _≤_}
 use native.Mathlib.Omega.{arith}
 use lib.ListN.{getD}
-use types.Run.{OneOf}
+use types.Run.{OneOf, miss}
 use denote.Enum.Declared.{tagOf}
 use Rattle.run_frames.specs.declared.refocusing.Ready.{Ready}
 use Rattle.run_refocusing.specs.declared.Refocused.{Refocused}
@@ -56,6 +56,13 @@ goneBy n h c l =
       entry = noEntry;
       forks = false;
     }
+
+-- a pick that neither moves nor stops
+pub neither : (z : Begun) → OneOf (0 ∷ 1 ∷ []) (tagOf begun-type.the-type z) → OneOf (0 ∷ 2 ∷ 3 ∷ []) (tagOf begun-type.the-type z) → z ≡ begun.Passed
+neither begun.Passed h k = refl
+neither (begun.Stopped e y) h k = absurd (miss (0 ∷ 2 ∷ 3 ∷ []) 1 tt k)
+neither (begun.Went g) h k = absurd (miss (0 ∷ 1 ∷ []) 2 tt h)
+neither (begun.Acted a) h k = absurd (miss (0 ∷ 1 ∷ []) 3 tt h)
 
 -- only a signal changes the queues
 pub queues-left : (qs : List ℕ) (r : Ready) (p : ℕ) → goesOnBy (r .redex) ≡ true → qs ≡ afterOf qs r p

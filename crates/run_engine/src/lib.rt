@@ -174,22 +174,20 @@ pub fn explore(
                 };
                 begun = run_pick::begin(setting, met);
             }
-            match begun {
-                Begun::Passed => {
-                    passed[thread] = true;
-                    continue;
-                }
-                Begun::Stopped {
+            let (Begun::Went(_) | Begun::Acted(_)) = begun else {
+                let Begun::Stopped {
                     stop: reason,
                     entry,
-                } => {
-                    tally = run_tally::put(&mut *log, tally, thread, entry);
-                    stop = reason;
-                    dealt = i;
-                    break;
-                }
-                _ => {}
-            }
+                } = begun
+                else {
+                    passed[thread] = true;
+                    continue;
+                };
+                tally = run_tally::put(&mut *log, tally, thread, entry);
+                stop = reason;
+                dealt = i;
+                break;
+            };
             let go = run_pick::go_of(begun);
             let refocusings = run_pick::refocus(words, roots, &mut stack, counts, head, thread, go);
             let last = refocusings.last;

@@ -45,7 +45,7 @@ use Rattle.run_engine.specs.inner.Exploring.{allPicks, pickAt}
 use Rattle.run_engine.proofs.Looks.{met, putThread, absent-at, all-threads, eight-threads}
 use Rattle.run_engine.proofs.Plays.{begins, absent-passed, passed, moved, stops, heads-forked, heads-alone, object-put, ends-as}
 use Rattle.run_engine.proofs.Begins as steps
-use Rattle.run_engine.proofs.Begins.{leftBy, goneBy, queues-left, begins-on}
+use Rattle.run_engine.proofs.Begins.{leftBy, goneBy, neither, queues-left, begins-on}
 use Rattle.run_engine.proofs.PassedOver.{none-marked, marked-too, passed-again}
 use Rattle.run_engine.proofs.Restored.{engineOf, all-restored, restored-at, cell-put, cell-left}
 use Rattle.run_engine.proofs.MovedCell.{cell-unchanged}
@@ -383,13 +383,13 @@ loop2-again-3 c =
             kept = v .kept;
             goes = λ qs.
                 passed (words r) (roots r) (setting r) (engine l) (pick d) qs (l .loop2 .i) (picked (l .loop2 .stack) answer.Passed) (present x)
-                (passed-over x (c .enum-told .given .1)) refl ∙ next d first v qs;
+                (passed-over x (neither (begun-so x) (c .before .match .keys2) (c .match2 .keys2))) refl ∙ next d first v qs;
             unstopped = v .unstopped;
             eight = v .eight;
             moves = moves-before d first v (l .loop2 .i + 1 - 1) (omega arith);
             records = records-before d first v (l .loop2 .i + 1 - 1) (omega arith);
             marked = marked-too (words r) (roots r) (setting r) (engine l) (l .loop2 .passed) (pick d % 8) (picked (l .loop2 .stack) answer.Passed) (present x)
-                (passed-over x (c .enum-told .given .1)) refl (v .marked);
+                (passed-over x (neither (begun-so x) (c .before .match .keys2) (c .match2 .keys2))) refl (v .marked);
           },
     )
 
@@ -423,7 +423,7 @@ module _ (c : Refocused) where
 
   -- it is a move
   moving : OneOf (2 ∷ 3 ∷ []) (tagOf begun-type.the-type (begun-so (since c)))
-  moving = c .before .before .before .match .keys3
+  moving = c .before .before .before .match .keys1
 
   -- without room
   full-so : fullOf (c .refocus .result .last) ≡ true → picked (ends c .stack) (noRoom room.Depth) ≡ answered (since c)
@@ -478,7 +478,7 @@ loop2-again-4 c =
     let t = begun x in
     let put = c .before .before .before .before .before .before .put-move in
     let none = c .before .before .before .before .before .before .before .before .no-entry .ensures in
-    let other = c .before .before .before .before .before .before .before .before .before .match2 .keys2 in
+    let other = c .before .before .before .before .before .before .before .before .before .match3 .keys2 in
     let roomy : fullOf (f .refocus .result .last) ≡ false = sym (c .before .before .before .before .before .before .before .before .before .before .before .before .full .ensures) ∙ c .before .before .before .before .before .before .before .before .before .before .before .if4 .left in
     let before : put .result .moves ≡ l .loop2 .tally .moves = ap (λ (s : Tally). s .moves) (put .ensures .0 .0) in
     let moves : c .moved .result .moves ≡ put .result .moves + 1 = ap (λ (s : Tally). s .moves) (c .moved .ensures .0) in
@@ -672,9 +672,9 @@ left-so c =
       };
       if3 = w .9;
     }) in
-    let came = stops-so x (w .11 .given .1) in (
-      stops-there x came _ _ _ _ (w .20) (w .21) (w .19 ∙ w .14 .ensures .0 .0) (w .17 ∙ w .14 .ensures .1),
-      λ h. halts-there x came (w .20),
+    let came = stops-so x (w .12 .given .1) in (
+      stops-there x came _ _ _ _ (w .21) (w .22) (w .20 ∙ w .15 .ensures .0 .0) (w .18 ∙ w .15 .ensures .1),
+      λ h. halts-there x came (w .21),
     )) (λ w.
     let x : Begins = (record {
       before = record {
@@ -731,7 +731,7 @@ stood c h =
     ⊎-elim (λ w.
     let t : end r ≡ l .loop2 .i = omega (arith, w .0 .left, l .loop2 .inv .1) in
     standing-as (words r) (roots r) (setting r) (every r) (first r) t (w .1) (w .2) (w .3) (w .4) (w .6) (w .7) (here l)) (⊎-elim (λ w.
-    absurd (omega (arith, h, w .21, w .0 .taken))) (λ w. absurd (omega (arith, h, w .21, w .0 .taken)))) (c .loop2-test .came)
+    absurd (omega (arith, h, w .22, w .0 .taken))) (λ w. absurd (omega (arith, h, w .21, w .0 .taken)))) (c .loop2-test .came)
 
 -- the counts before the last pick that was met
 module _ (c : Left) where
@@ -766,8 +766,8 @@ module _ (c : Left) where
   counted-moves =
       ⊎-elim (λ w. w .6 ∙ here (c .before) .moves
       ∙ ap (λ (n : ℕ). played (closed c) (take n (list (closed c))) .outcome .moves) (at-end (w .0 .left) (w .5)))
-      (⊎-elim (λ w. w .22 ∙ moves-before (record { before = record { before = c .before; loop2-test = w .0 }; pick-at = w .1 }) (first (closed c))
-      (here (c .before)) k (at-stop (w .0 .taken) (w .21)))
+      (⊎-elim (λ w. w .23 ∙ moves-before (record { before = record { before = c .before; loop2-test = w .0 }; pick-at = w .1 }) (first (closed c))
+      (here (c .before)) k (at-stop (w .0 .taken) (w .22)))
       (λ w. w .22 ∙ moves-before (record { before = record { before = c .before; loop2-test = w .0 }; pick-at = w .1 }) (first (closed c)) (here (c .before)) k
       (at-stop (w .0 .taken) (w .21)))) (c .loop2-test .came)
       ∙ ap (λ (ps : List ℕ). played (closed c) ps .outcome .moves) same
@@ -776,8 +776,8 @@ module _ (c : Left) where
   counted-records =
       ⊎-elim (λ w. w .7 ∙ here (c .before) .records
       ∙ ap (λ (n : ℕ). played (closed c) (take n (list (closed c))) .outcome .records) (at-end (w .0 .left) (w .5)))
-      (⊎-elim (λ w. w .23 ∙ records-before (record { before = record { before = c .before; loop2-test = w .0 }; pick-at = w .1 }) (first (closed c))
-      (here (c .before)) k (at-stop (w .0 .taken) (w .21)))
+      (⊎-elim (λ w. w .24 ∙ records-before (record { before = record { before = c .before; loop2-test = w .0 }; pick-at = w .1 }) (first (closed c))
+      (here (c .before)) k (at-stop (w .0 .taken) (w .22)))
       (λ w. w .23 ∙ records-before (record { before = record { before = c .before; loop2-test = w .0 }; pick-at = w .1 }) (first (closed c)) (here (c .before))
       k (at-stop (w .0 .taken) (w .21)))) (c .loop2-test .came)
       ∙ ap (λ (ps : List ℕ). played (closed c) ps .outcome .records) same
@@ -968,7 +968,7 @@ same-length-2 : tie.Need-same-length-2 Inv-loop2 μ-loop2 Inv-loop3 μ-loop3 Inv
 same-length-2 c =
     let l = left (c .before .before .before .before) in
     let v = here (l .before) in
-    ⊎-elim (λ w. ap length (w .1) ∙ v .kept) (⊎-elim (λ w. ap length (w .17) ∙ w .14 .kept .0 ∙ v .kept) (λ w. ap length (w .17) ∙ v .kept))
+    ⊎-elim (λ w. ap length (w .1) ∙ v .kept) (⊎-elim (λ w. ap length (w .18) ∙ w .15 .kept .0 ∙ v .kept) (λ w. ap length (w .17) ∙ v .kept))
     (l .loop2-test .came)
 
 -- short of the last place, it has stopped or no thread can be picked
@@ -1151,7 +1151,7 @@ explore-spec =
     (λ c. search needs) (λ c. search needs) (λ c. record { fits = omega (arith, few (c .before .before)) }) (λ c. omega (arith, begun (c .before .before)))
     loop2-again-3
     -- it stops
-    (λ c. search needs) (λ c κs. fits (c .before .before .before .before))
+    (λ c κs. fits (c .before .before .before .before .before))
     -- it refocuses
     (λ c κs. search needs) (λ c κs. search needs) (λ c κs. search needs)
     -- it only goes on elsewhere
