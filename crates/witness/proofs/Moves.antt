@@ -39,7 +39,8 @@ use Rattle.log_schedule_writer.specs.inner.Kept.{Small}
 use Rattle.log_schedule_writer.specs.inner.WritesFrom as writes
 use Rattle.log_schedule_writer.specs.inner.WritesFrom.{RacedIn, WritesFrom}
 use Rattle.witness.specs.Witness.{noMissingKey, raceRefusal, Witnesses, refused, too-short, wrote}
-use Rattle.witness.specs.inner.Passing.{Loads, Passing}
+use Rattle.plan_left_out.specs.inner.Loads.{Loads}
+use Rattle.witness.specs.inner.Passing.{Passing}
 use Rattle.witness.proofs.Refusals.{by-16, by-none}
 
 -- a stop that is no race
