@@ -32,11 +32,11 @@ fn write(tokens: &[u8], marks: &mut [u16], area: &mut [u8]) -> Answered
 
 // The text of a short accepted plan, in arrays for its tokens: filling longer ones would take longer than its text. The stack is lent a second time, for the marks.
 fn show_short(plan: &[u8], words: &[usize; 1024], area: &mut [u8]) -> Answered
-    requires { ⌜ Given (now plan) (now words) × (length (now plan) ≤ 167) ⌝ }
+    requires { ⌜ Given (now plan) (now words) × (length (now plan) ≤ 210) ⌝ }
     ensures { λ r. ⌜ TextWritten (shownPlan (programOf (now (plan .entry)))) (now (area .entry)) (now (area .exit)) r ⌝ }
 {
-    let mut stack = [0u16; 520];
-    let mut tokens = [0u8; 512];
+    let mut stack = [0u16; 648];
+    let mut tokens = [0u8; 640];
     let count = plan_tokens::put_plan(plan, words, &mut stack, &mut tokens);
     write(&tokens[0..count], &mut stack, area)
 }
@@ -74,7 +74,7 @@ pub fn show(plan: &[u8], area: &mut [u8]) -> Answered
     match checked {
         Checked::Refused { number, place } => Answered::Refused { number, place },
         Checked::Passed => {
-            if plan.len() <= 167 {
+            if plan.len() <= 210 {
                 return show_short(plan, &words, area);
             }
             if plan.len() <= 679 {
