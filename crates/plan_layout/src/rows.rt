@@ -4,7 +4,7 @@ ghost use mathlib.Core.Path.{_≡_};
 ghost use Prim.Native.Nat.{_<_};
 ghost use lib.ListN.{length, getD};
 ghost use Rattle.plan_notation.specs.Tokens.{textEnd, textOf};
-ghost use Rattle.plan_layout.specs.inner.Rows.{textRows};
+ghost use Rattle.plan_layout.specs.inner.Rows.{textRow, textRows};
 
 // How many tokens there are.
 const TOKENS: usize = 69;
@@ -107,4 +107,13 @@ pub fn byte_of(rows: &Rows, token: u8, index: usize) -> u8
     ensures { λ r. ⌜ r ≡ getD (textOf token) index 0 ⌝ }
 {
     rows[wide(token)][index + 1]
+}
+
+// The whole row of a token.
+pub fn row(rows: &Rows, token: u8) -> [u8; 10]
+    requires { ⌜ now rows ≡ textRows ⌝ }
+    requires { ⌜ token < textEnd ⌝ }
+    ensures { λ r. ⌜ r ≡ textRow (textOf token) ⌝ }
+{
+    rows[wide(token)]
 }

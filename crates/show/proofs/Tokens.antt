@@ -32,6 +32,10 @@ first-tokens plan {b = b} {n} w = ap (λ (m : ℕ). take m b) (same n) ∙ w .te
     same : (n : ℕ) → n - 0 ≡ n
     same n = omega arith
 
+pub tokens-length : (plan : List ℕ) {a b : List ℕ} {n : ℕ} → Wrote a 0 (shownPlan (programOf plan)) b n
+    → length (take (n - 0) b) ≡ length (shownPlan (programOf plan))
+tokens-length plan w = ap length (first-tokens plan w)
+
 -- what is written of them is written of the plan's tokens
 pub plan-text : (plan : List ℕ) {a b area area′ : List ℕ} {n : ℕ} {r : Answered} → Wrote a 0 (shownPlan (programOf plan)) b n
     → TextWritten (take (n - 0) b) area area′ r → TextWritten (shownPlan (programOf plan)) area area′ r

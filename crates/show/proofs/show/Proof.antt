@@ -28,19 +28,30 @@ returns c =
     let l = c .before .before .before .before .before .before .before .before .load .ensures in
     text-written _ _ (passed-none _ _ (l .0) (c .before .before .before .before .before .before .enum-told .given .1)) _ _ _ refl (c .before .before .show-short .ensures)
 
-show-long-requires : tie.Need-show-long-requires
-show-long-requires c κs = let l = c .before .before .before .before .before .load .ensures in given (l .0) (l .1) (c .before .before .before .enum-told .given .1)
-
-returns-2 : tie.Need-returns-2
-returns-2 c = plan-refused _ _ _ _ _ (c .before .before .before .load .ensures .0) (c .before .checked .given .1)
+show-middle-requires : tie.Need-show-middle-requires
+show-middle-requires c κs = let l = c .before .before .before .before .before .before .load .ensures in (given (l .0) (l .1) (c .before .before .before .before .enum-told .given .1), omega arith)
 
 same-length-2 : tie.Need-same-length-2
 same-length-2 c = search needs
 
+returns-2 : tie.Need-returns-2
+returns-2 c =
+    let l = c .before .before .before .before .before .before .before .before .before .load .ensures in
+    text-written _ _ (passed-none _ _ (l .0) (c .before .before .before .before .before .before .before .enum-told .given .1)) _ _ _ refl (c .before .before .show-middle .ensures)
+
+show-long-requires : tie.Need-show-long-requires
+show-long-requires c κs = let l = c .before .before .before .before .before .before .load .ensures in given (l .0) (l .1) (c .before .before .before .before .enum-told .given .1)
+
 returns-3 : tie.Need-returns-3
-returns-3 c =
-    let l = c .before .before .before .before .before .before .before .before .load .ensures in
-    text-written _ _ (passed-none _ _ (l .0) (c .before .before .before .before .before .before .enum-told .given .1)) _ _ _ refl (c .before .before .show-long .ensures)
+returns-3 c = plan-refused _ _ _ _ _ (c .before .before .before .load .ensures .0) (c .before .checked .given .1)
+
+same-length-3 : tie.Need-same-length-3
+same-length-3 c = search needs
+
+returns-4 : tie.Need-returns-4
+returns-4 c =
+    let l = c .before .before .before .before .before .before .before .before .before .load .ensures in
+    text-written _ _ (passed-none _ _ (l .0) (c .before .before .before .before .before .before .before .enum-told .given .1)) _ _ _ refl (c .before .before .show-long .ensures)
 
 pub show-spec : {M : Type 1} → statement M
 show-spec =
@@ -52,7 +63,10 @@ show-spec =
     show-short-requires
     same-length
     returns
-    show-long-requires
-    returns-2
+    show-middle-requires
     same-length-2
-    returns-3)
+    returns-2
+    show-long-requires
+    returns-3
+    same-length-3
+    returns-4)
