@@ -2,8 +2,8 @@
 ghost use mathlib.Core.Path.{_≡_};
 ghost use Prim.Native.Nat.{_<_, _≤_, _-_};
 ghost use Rattle.run_refocusing_step.specs.inner.Ahead.{nextOf, gatheredOf, aheadOf, intoOf, steppedOf};
-ghost use Rattle.run_refocusing_step.specs.inner.Down.{stayOf, pushOf, wantOf, wantConditionOf, rootAt, listOf, signalOf, simpleOf, runOf};
-ghost use Rattle.run_refocusing_step.specs.inner.Down.{runConditionOf, openedOf, wantedOf, backOf, backConditionOf, frameAt, topOf};
+ghost use Rattle.run_refocusing_step.specs.inner.Down.{stayOf, pushOf, wantOf, wantConditionOf, rootAt, listOf, signalOf, simpleOf, openExpressionOf};
+ghost use Rattle.run_refocusing_step.specs.inner.Down.{openConditionOf, openedOf, wantedOf, backOf, backConditionOf, frameAt, topOf};
 use plan_operands::tags;
 use run_frames::frame;
 use run_frames::frame::Frame;
@@ -200,8 +200,8 @@ fn simple(word: usize, environment: usize) -> Refocusing
 }
 
 // Down from an expression.
-fn run(word: usize, environment: usize) -> Refocusing
-    ensures { λ r. ⌜ r ≡ runOf word environment ⌝ }
+fn open_expression(word: usize, environment: usize) -> Refocusing
+    ensures { λ r. ⌜ r ≡ openExpressionOf word environment ⌝ }
 {
     let tag = plan_operands::tag(word);
     let first = plan_operands::first(word);
@@ -246,8 +246,8 @@ fn run(word: usize, environment: usize) -> Refocusing
 }
 
 // Down from a condition.
-fn run_condition(word: usize, environment: usize) -> Refocusing
-    ensures { λ r. ⌜ r ≡ runConditionOf word environment ⌝ }
+fn open_condition(word: usize, environment: usize) -> Refocusing
+    ensures { λ r. ⌜ r ≡ openConditionOf word environment ⌝ }
 {
     let tag = plan_operands::tag(word);
     let first = plan_operands::first(word);
@@ -277,8 +277,8 @@ fn opened(words: &[usize; 1024], go: Refocusing) -> Refocusing
     let frame = go.frame;
     let stage = go.stage;
     match stage {
-        Stage::Run => run(words::word(words, go.operand), frame.environment),
-        Stage::RunCondition => run_condition(words::word(words, go.operand), frame.environment),
+        Stage::Run => open_expression(words::word(words, go.operand), frame.environment),
+        Stage::RunCondition => open_condition(words::word(words, go.operand), frame.environment),
         _ => go,
     }
 }

@@ -1,9 +1,9 @@
 -- `run_condition` meets its contract. Assumes nothing.
 use borrow.Author.Tests.{ne-eqb}
-use Rattle.run_refocusing_step.specs.inner.Down.{runConditionOf, runConditionBy}
+use Rattle.run_refocusing_step.specs.inner.Down.{openConditionOf, openConditionBy}
 use borrow.Author.Needs.{needs}
-use Rattle.run_refocusing_step.proofs.run_condition.Statement.{statement}
-use Rattle.run_refocusing_step.proofs.run_condition.Tie as tie
+use Rattle.run_refocusing_step.proofs.open_condition.Statement.{statement}
+use Rattle.run_refocusing_step.proofs.open_condition.Tie as tie
 
 tag-requires : tie.Need-tag-requires
 tag-requires c κs = search needs
@@ -42,16 +42,16 @@ at-requires : tie.Need-at-requires
 at-requires c κs = search needs
 
 returns : tie.Need-returns
-unfolding runConditionOf runConditionBy
+unfolding openConditionOf openConditionBy
 returns c = rw (← c .before .before .before .before .tag .ensures) (simp (c .truth .ensures, c .before .match .keys1))
 
 returns-2 : tie.Need-returns-2
-unfolding runConditionOf runConditionBy
+unfolding openConditionOf openConditionBy
 returns-2 c = rw (← c .before .before .before .before .before .tag .ensures)
     (simp (c .want-condition .ensures, c .before .frame-of .ensures, c .before .before .before .before .first .ensures, c .before .before .match .keys2))
 
 returns-3 : tie.Need-returns-3
-unfolding runConditionOf runConditionBy
+unfolding openConditionOf openConditionBy
 returns-3 c = rw (← c .before .before .before .before .before .tag .ensures)
     (simp (
       c .want-condition2 .ensures,
@@ -62,7 +62,7 @@ returns-3 c = rw (← c .before .before .before .before .before .tag .ensures)
     ))
 
 returns-4 : tie.Need-returns-4
-unfolding runConditionOf runConditionBy
+unfolding openConditionOf openConditionBy
 returns-4 c = rw (← c .before .before .before .before .before .tag .ensures)
     (simp (
       c .want .ensures,
@@ -73,7 +73,7 @@ returns-4 c = rw (← c .before .before .before .before .before .tag .ensures)
     ))
 
 returns-5 : tie.Need-returns-5
-unfolding runConditionOf runConditionBy
+unfolding openConditionOf openConditionBy
 returns-5 c = simp (c .at .ensures, c .before .ready-of .ensures)
     (rw (← c .before .before .before .before .before .tag .ensures)
     (simp (
@@ -83,8 +83,8 @@ returns-5 c = simp (c .at .ensures, c .before .ready-of .ensures)
       ne-eqb _ _ (c .before .before .match .rest .1),
     )))
 
-pub run-condition-spec : {M : Type 1} → statement M
-run-condition-spec =
+pub open-condition-spec : {M : Type 1} → statement M
+open-condition-spec =
     tie.close
     (tie.spec
     tag-requires

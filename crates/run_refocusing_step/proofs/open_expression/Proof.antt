@@ -1,9 +1,9 @@
 -- `run` meets its contract. Assumes nothing.
 use borrow.Author.Tests.{ne-eqb}
-use Rattle.run_refocusing_step.specs.inner.Down.{runOf, runBy}
+use Rattle.run_refocusing_step.specs.inner.Down.{openExpressionOf, openExpressionBy}
 use borrow.Author.Needs.{needs}
-use Rattle.run_refocusing_step.proofs.run.Statement.{statement}
-use Rattle.run_refocusing_step.proofs.run.Tie as tie
+use Rattle.run_refocusing_step.proofs.open_expression.Statement.{statement}
+use Rattle.run_refocusing_step.proofs.open_expression.Tie as tie
 
 tag-requires : tie.Need-tag-requires
 tag-requires c κs = search needs
@@ -84,7 +84,7 @@ simple-requires : tie.Need-simple-requires
 simple-requires c κs = search needs
 
 returns : tie.Need-returns
-unfolding runOf runBy
+unfolding openExpressionOf openExpressionBy
 returns c = rw (← c .before .before .before .before .before .before .tag .ensures)
     (simp (
       c .want .ensures,
@@ -95,7 +95,7 @@ returns c = rw (← c .before .before .before .before .before .before .tag .ensu
     ))
 
 returns-2 : tie.Need-returns-2
-unfolding runOf runBy
+unfolding openExpressionOf openExpressionBy
 returns-2 c = rw (← c .before .before .before .before .before .before .before .tag .ensures)
     (simp (
       c .want2 .ensures,
@@ -107,7 +107,7 @@ returns-2 c = rw (← c .before .before .before .before .before .before .before 
     ))
 
 returns-3 : tie.Need-returns-3
-unfolding runOf runBy
+unfolding openExpressionOf openExpressionBy
 returns-3 c = rw (← c .before .before .before .before .before .before .before .before .before .tag .ensures)
     (simp (
       c .want3 .ensures,
@@ -119,7 +119,7 @@ returns-3 c = rw (← c .before .before .before .before .before .before .before 
     ))
 
 returns-4 : tie.Need-returns-4
-unfolding runOf runBy
+unfolding openExpressionOf openExpressionBy
 returns-4 c = rw (← c .before .before .before .before .before .before .before .tag .ensures)
     (simp (
       c .want-condition .ensures,
@@ -131,7 +131,7 @@ returns-4 c = rw (← c .before .before .before .before .before .before .before 
     ))
 
 returns-5 : tie.Need-returns-5
-unfolding runOf runBy
+unfolding openExpressionOf openExpressionBy
 returns-5 c = rw (← c .before .before .before .before .before .before .before .before .tag .ensures)
     (simp (
       c .list .ensures,
@@ -142,12 +142,12 @@ returns-5 c = rw (← c .before .before .before .before .before .before .before 
     ))
 
 returns-6 : tie.Need-returns-6
-unfolding runOf runBy
+unfolding openExpressionOf openExpressionBy
 returns-6 c = rw (← c .before .before .before .before .before .before .tag .ensures)
     (simp (c .want4 .ensures, c .before .frame-of5 .ensures, c .before .before .before .before .before .first .ensures, c .before .before .match .keys6))
 
 returns-7 : tie.Need-returns-7
-unfolding runOf runBy
+unfolding openExpressionOf openExpressionBy
 returns-7 c = rw (← c .before .before .before .before .before .before .tag .ensures)
     (simp (
       c .want5 .ensures,
@@ -158,7 +158,7 @@ returns-7 c = rw (← c .before .before .before .before .before .before .tag .en
     ))
 
 returns-8 : tie.Need-returns-8
-unfolding runOf runBy
+unfolding openExpressionOf openExpressionBy
 returns-8 c = simp (c .simple .ensures)
     (rw (← c .before .before .before .before .before .tag .ensures)
     (simp (
@@ -171,8 +171,8 @@ returns-8 c = simp (c .simple .ensures)
       ne-eqb _ _ (c .before .match .rest .1),
     )))
 
-pub run-spec : {M : Type 1} → statement M
-run-spec =
+pub open-expression-spec : {M : Type 1} → statement M
+open-expression-spec =
     tie.close
     (tie.spec
     tag-requires
