@@ -58,7 +58,8 @@ module _ (b ws rs : List ℕ) (ok : refusal b ≡ none) (loaded : WordsAndRoots 
   abbrev run-from : List ℕ → machine.State → playing.Run
   run-from ps s = playing.run (tableOf b) s ps
 
-  module _ (m : EngineState) (s : machine.State) (rel : Related b m s) (reach : Reached (tableOf b) (programOf b) s) (p : ℕ) (small : p < 8) (ps : List ℕ) (i : ℕ)
+  module _ (m : EngineState) (s : machine.State) (rel : Related b m s) (reach : Reached (tableOf b) (programOf b) s) (p : ℕ) (small : p < 8) (ps : List ℕ)
+      (i : ℕ)
       (rest : (m : EngineState) (s : machine.State) → Related b m s → Reached (tableOf b) (programOf b) s
       → Related b (engineOf (after-picks m ps (i + 1))) (run-from ps s .final)) where
     -- where the run on numbers and the abstract machine stand after the pick and the rest, by its answer

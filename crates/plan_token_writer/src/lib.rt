@@ -234,7 +234,8 @@ fn step(
     Standing { top: next, at: at }
 }
 
-// The tree of an expression, behind the tokens that are there, by the rows and a stack that are lent: each item on it has a token, and a row eight items at most.
+// The tree of an expression, behind the tokens that are there, by the rows and a stack that are lent: each item on it has a token, and a row eight items at
+// most.
 pub fn write_expression(
     words: &[usize; 1024],
     rows: &Rows,

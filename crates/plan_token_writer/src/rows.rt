@@ -7,8 +7,8 @@ ghost use Rattle.plan_token_writer.specs.inner.Items.{itemRows, rowNumbe
 pub type Rows = [[u8; 8]; 28];
 
 // Eight numbers to a row: how tightly the term binds, from 0 to 3, how many items it has, and these: a token; 70 a slot, 71 a binder, 72 a field, 73 a
-// procedure's number; from 128 on a child, 16 to each operand, with its context; then the number of each column. Expressions come by their tags, with null for a
-// term of another sort; then conditions, a call's arguments, those behind one, and the end of both.
+// procedure's number; from 128 on a child, 16 to each operand, with its context; then the number of each column. Expressions come by their tags, with null
+// for a term of another sort; then conditions, a call's arguments, those behind one, and the end of both.
 const ROWS: Rows = [
     [3, 1, 51, 3, 4, 5, 6, 7], // null
     [3, 1, 70, 3, 4, 5, 6, 7], // variable

@@ -106,7 +106,8 @@ meets-more sight.Lacking p r A Z Z′ f h = h
 meets-more (sight.Blocked x) p r A Z Z′ f h = h
 
 -- WHAT A LOOK SAYS IS WHAT THE THREAD CAN DO, AND WHERE IT IS READY WHAT THE CODE DOES IS ITS MOVE
-pub looks : (b : List ℕ) → refusal b ≡ none → (m : engine.EngineState) (s : machine.State) → Related b m s → Reached (tableOf b) (programOf b) s → (p : ℕ) → p < 8
+pub looks : (b : List ℕ) → refusal b ≡ none → (m : engine.EngineState) (s : machine.State) → Related b m s → Reached (tableOf b) (programOf b) s →
+    (p : ℕ) → p < 8
     → p < m .tally .counts .threads
     → MeetsBy (lookMet (settingOf b) (met m p)) p (headAt (m .heads) p .ready) (machine.attempt (tableOf b) s p) (Ahead b m s p)
 looks b ok m s rel reach p small here =

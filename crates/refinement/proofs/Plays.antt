@@ -195,8 +195,8 @@ module _ (b ws rs : List ℕ) (ok : refusal b ≡ none) (loaded : WordsAndRoots 
       (m : engine.EngineState) (s : machine.State) → Related b m s → Reached (tableOf b) (programOf b) s → 3 * (m .tally .records + length ps) ≤ length (m .log)
       → PlaysAs b (m .every) i (m .tally .moves) (m .tally .records) (m .log) (playOf ws rs (settingOf b) m ps i) (playing.run (tableOf b) s ps)
 
-  module _ (m : engine.EngineState) (s : machine.State) (rel : Related b m s) (reach : Reached (tableOf b) (programOf b) s) (p : ℕ) (small : p < 8) (ps : List ℕ)
-      (i : ℕ)
+  module _ (m : engine.EngineState) (s : machine.State) (rel : Related b m s) (reach : Reached (tableOf b) (programOf b) s) (p : ℕ) (small : p < 8)
+      (ps : List ℕ) (i : ℕ)
       (wide : 3 * (m .tally .records + suc (length ps)) ≤ length (m .log)) (rest : Rest ps (i + 1)) where
     abbrev goOn : machine.State → playing.Run
     goOn s = playing.run (tableOf b) s ps

@@ -369,8 +369,8 @@ fn top(base: usize, depth: usize) -> usize
     base + (depth - 1)
 }
 
-// One step of refocusing and, before it, one for each value that comes next in a call's list, of at most so many, with the frames of a thread whose places start
-// at base, of which only a value on its way up takes the top one. A way down goes through its functions one after the other, so that each has one caller.
+// One step of refocusing and, before it, one for each value that comes next in a call's list, of at most so many, with the frames of a thread whose places
+// start at base, of which only a value on its way up takes the top one. A way down goes through its functions one after the other, so that each has one caller.
 pub fn step(
     words: &[usize; 1024],
     roots: &[usize; 32],

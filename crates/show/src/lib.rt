@@ -30,7 +30,8 @@ fn write(tokens: &[u8], marks: &mut [u16], area: &mut [u8]) -> Answered
     Answered::Value(length)
 }
 
-// The text of a short accepted plan, in arrays for its tokens: filling longer ones would take longer than its text. The stack is lent a second time, for the marks.
+// The text of a short accepted plan, in arrays for its tokens: filling longer ones would take longer than its text. The stack is lent a second time, for the
+// marks.
 fn show_short(plan: &[u8], words: &[usize; 1024], area: &mut [u8]) -> Answered
     requires { ⌜ Given (now plan) (now words) × (length (now plan) ≤ 210) ⌝ }
     ensures { λ r. ⌜ TextWritten (shownPlan (programOf (now (plan .entry)))) (now (area .entry)) (now (area .exit)) r ⌝ }

@@ -66,7 +66,8 @@ loop-again c =
     let l = c .before .before .before .before .before .before .before .before .loop in
     let e = c .before .before .before .before .before .gap-of .ensures in (
       omega (arith, c .before .before .before .before .before .before .before .loop-test .taken),
-      within-as (ap (λ (g : Gap). textTo (s .args .tokens .now) (s .args .marks .now) (l .index) ++ (gapBytes g ++ textOf (getD (s .args .tokens .now) (l .index) 0))) e
+      within-as (ap (λ (g : Gap). textTo (s .args .tokens .now) (s .args .marks .now) (l .index) ++
+          (gapBytes g ++ textOf (getD (s .args .tokens .now) (l .index) 0))) e
           ∙ sym (text-next (s .args .tokens .now) (s .args .marks .now) (l .index)))
           (within-more (l .inv .1) (c .before .before .put-next .ensures)),
     )

@@ -1,5 +1,5 @@
--- `measure` meets its contract. The invariant: the total and the length of the rest are the length of the text, which begins with the text of the tokens that are
--- marked; a token has at most 50 bytes. Assumes nothing.
+-- `measure` meets its contract. The invariant: the total and the length of the rest are the length of the text, which begins with the text of the tokens
+-- that are marked; a token has at most 50 bytes. Assumes nothing.
 use Prim.Native.Nat.{ℕ, _+_, _-_, _*_, _%_, _≤_, _<_}
 use native.Mathlib.Nat.{zero-add}
 use native.Mathlib.Omega.{arith}
@@ -44,7 +44,8 @@ few-of c =
       c .length-of .ensures,
       gap-short (c .before .before .gap-before .result) (c .before .before .gap-before .ensures .few),
       c .before .before .before .width .ensures,
-      few-bytes _ (c .before .before .before .before .before .before .before .before .before .before .pre .0 .1 (c .before .before .before .before .before .before .loop .index)),
+      few-bytes _ (c .before .before .before .before .before .before .before .before .before .before .pre .0 .1
+          (c .before .before .before .before .before .before .loop .index)),
     )
 
 start-requires : tie.Need-start-requires Inv-loop μ-loop
@@ -66,21 +67,46 @@ shared-slice-read-token : tie.Need-shared-slice-read-token Inv-loop μ-loop
 shared-slice-read-token c = search needs
 
 width-requires : tie.Need-width-requires Inv-loop μ-loop
-width-requires c κs = (c .before .before .before .before .before .before .pre .0 .0, c .before .before .before .before .before .before .pre .0 .1 (c .before .before .loop .index))
+width-requires c κs = (
+  c .before .before .before .before .before .before .pre .0 .0,
+  c .before .before .before .before .before .before .pre .0 .1
+      (c .before .before .loop .index),
+)
 
 gap-before-requires : tie.Need-gap-before-requires Inv-loop μ-loop
 gap-before-requires c κs =
-    let l = c .before .before .before .loop in
-    (c .width .ensures, omega (arith, c .width .ensures, few-bytes _ (c .before .before .before .before .before .before .before .pre .0 .1 (l .index))), l .inv .2)
+    let l = c .before .before .before .loop in (
+      c .width .ensures,
+      omega (
+        arith,
+        c .width .ensures,
+        few-bytes _ (c .before .before .before .before .before .before .before .pre .0 .1
+            (l .index)),
+      ),
+      l .inv .2,
+    )
 
 mark-requires : tie.Need-mark-requires Inv-loop μ-loop
 mark-requires c κs = c .gap-before .ensures .few
 
 mul-marks : tie.Need-mul-marks Inv-loop μ-loop
-mul-marks c = record { fits = omega (arith, c .before .before .before .before .loop-test .taken, c .before .before .before .before .before .before .before .before .before .pre .1 .0) }
+mul-marks c = record {
+  fits = omega (
+    arith,
+    c .before .before .before .before .loop-test .taken,
+    c .before .before .before .before .before .before .before
+        .before .before .pre .1 .0,
+  );
+}
 
 slice-write-marks : tie.Need-slice-write-marks Inv-loop μ-loop
-slice-write-marks c = let l = c .before .before .before .before .before .loop in omega (arith, c .before .before .before .before .loop-test .taken, l .inv .5 .kept, c .before .before .before .before .before .before .before .before .before .pre .1 .1)
+slice-write-marks c = let l = c .before .before .before .before .before .loop in omega (
+  arith,
+  c .before .before .before .before .loop-test .taken,
+  l .inv .5 .kept,
+  c .before .before .before .before .before .before .before .before .before
+      .pre .1 .1,
+)
 
 length-of-requires : tie.Need-length-of-requires Inv-loop μ-loop
 length-of-requires c κs = c .before .gap-before .ensures .few
@@ -89,7 +115,10 @@ add-total : tie.Need-add-total Inv-loop μ-loop
 add-total c = record { fits = omega (arith, few-of c) }
 
 add-total-2 : tie.Need-add-total-2 Inv-loop μ-loop
-add-total-2 c = let l = c .before .before .before .before .before .before .loop in record { fits = omega (arith, few-of c, l .inv .0, l .inv .1, c .before .before .before .before .before .before .before .before .before .before .pre .1 .0) }
+add-total-2 c = let l = c .before .before .before .before .before .before .loop in record {
+  fits = omega
+      (arith, few-of c, l .inv .0, l .inv .1, c .before .before .before .before .before .before .before .before .before .before .pre .1 .0);
+}
 
 after-requires : tie.Need-after-requires Inv-loop μ-loop
 after-requires c κs =

@@ -24,8 +24,15 @@ put-gap-requires c κs = let s = c .before .before .before .before in omega (ari
 put-token-requires : tie.Need-put-token-requires
 put-token-requires c κs =
     let s = c .before .before .before .before .before .before .before .before in
-    let w = c .before .before .before .put-gap .ensures in
-    (s .pre .0 .0, (s .pre .0 .1, c .before .before .before .before .before .before .width .ensures, omega (arith, s .pre .1 .0, s .pre .1 .1, w .next, w .kept, c .before .before .before .before .before .before .width .ensures)))
+    let w = c .before .before .before .put-gap .ensures in (
+      s .pre .0 .0,
+      (
+        s .pre .0 .1,
+        c .before .before .before .before .before .before .width .ensures,
+        omega
+            (arith, s .pre .1 .0, s .pre .1 .1, w .next, w .kept, c .before .before .before .before .before .before .width .ensures),
+      ),
+    )
 
 same-length : tie.Need-same-length
 same-length c = c .before .before .put-token .ensures .kept ∙ c .before .before .before .before .before .before .put-gap .ensures .kept
@@ -47,7 +54,16 @@ put-wide-token-requires c κs =
       (
         s .pre .0 .1,
         c .before .before .before .before .before .before .width .ensures,
-        omega (arith, s .pre .1 .0, s .pre .1 .1, w .next, w .kept, c .before .before .before .before .before .if1 .left, gap-short (s .args .gap) (s .pre .0 .2)),
+        omega (
+          arith,
+          s .pre .1 .0,
+          s .pre .1 .1,
+          w .next,
+          w .kept,
+          c .before .before .before .before .before .if1 .left,
+          gap-short (s .args .gap)
+              (s .pre .0 .2),
+        ),
       ),
     )
 
@@ -60,7 +76,8 @@ returns-2 c =
     let w = c .before .before .before .before .before .before .put-wide-gap .ensures in
     let n = gap-short (s .args .gap) (s .pre .0 .2) in
     within-more (within-later (s .args .total) (omega (arith, s .pre .1 .0, c .before .before .before .before .before .before .before .before .if1 .left)) w)
-    (within-later (s .args .total) (omega (arith, s .pre .1 .0, c .before .before .before .before .before .before .before .before .if1 .left, w .next, n)) (c .before .before .put-wide-token .ensures))
+    (within-later (s .args .total) (omega (arith, s .pre .1 .0, c .before .before .before .before .before .before .before .before .if1 .left, w .next, n))
+    (c .before .before .put-wide-token .ensures))
 
 pub put-next-spec : {M : Type 1} → statement M
 put-next-spec =

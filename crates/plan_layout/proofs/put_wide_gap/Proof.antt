@@ -10,7 +10,8 @@ put-byte-requires : tie.Need-put-byte-requires
 put-byte-requires c κs = omega (arith, c .before .before .before .pre .1)
 
 put-spaces-requires : tie.Need-put-spaces-requires
-put-spaces-requires c κs = let w = c .before .before .before .put-byte .ensures in omega (arith, c .before .before .before .before .before .before .before .pre .1, w .next, w .kept)
+put-spaces-requires c κs = let w = c .before .before .before .put-byte .ensures in omega
+    (arith, c .before .before .before .before .before .before .before .pre .1, w .next, w .kept)
 
 add-result : tie.Need-add-result
 add-result c = search needs
@@ -21,7 +22,8 @@ same-length c = c .before .before .before .put-spaces .ensures .kept ∙ c .befo
 returns : tie.Need-returns
 returns c =
     let s = c .before .before .before .before .before .before .before .before .before .before .before in
-    wide-feed (s .args .gap) (c .before .before .before .before .before .before .before .before .before .if1 .taken) (s .pre .0) (omega (arith, s .pre .1)) (c .before .before .before .before .before .before .before .put-byte .ensures) (c .before .before .before .put-spaces .ensures)
+    wide-feed (s .args .gap) (c .before .before .before .before .before .before .before .before .before .if1 .taken) (s .pre .0) (omega (arith, s .pre .1))
+    (c .before .before .before .before .before .before .before .put-byte .ensures) (c .before .before .before .put-spaces .ensures)
 
 put-spaces-requires-2 : tie.Need-put-spaces-requires-2
 put-spaces-requires-2 c κs = omega (arith, c .before .before .before .pre .1)
@@ -33,7 +35,8 @@ same-length-2 : tie.Need-same-length-2
 same-length-2 c = c .before .before .before .put-spaces2 .ensures .kept
 
 returns-2 : tie.Need-returns-2
-returns-2 c = let s = c .before .before .before .before .before .before .before in wide-plain (s .args .gap) (c .before .before .before .before .before .if1 .left) (s .pre .0) (omega (arith, s .pre .1)) (c .before .before .before .put-spaces2 .ensures)
+returns-2 c = let s = c .before .before .before .before .before .before .before in wide-plain (s .args .gap)
+    (c .before .before .before .before .before .if1 .left) (s .pre .0) (omega (arith, s .pre .1)) (c .before .before .before .put-spaces2 .ensures)
 
 pub put-wide-gap-spec : {M : Type 1} → statement M
 put-wide-gap-spec =

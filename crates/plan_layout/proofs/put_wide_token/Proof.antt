@@ -23,7 +23,10 @@ put-word-requires : tie.Need-put-word-requires
 put-word-requires c κs = search needs
 
 add-result : tie.Need-add-result
-add-result c = let s = c .before .before .before .before .before .before .before .before in record { fits = omega (arith, s .pre .1 .1, s .pre .1 .2, few-bytes _ (s .pre .1 .0)) }
+add-result c = let s = c .before .before .before .before .before .before .before .before in record {
+  fits = omega
+      (arith, s .pre .1 .1, s .pre .1 .2, few-bytes _ (s .pre .1 .0));
+}
 
 same-length : tie.Need-same-length
 same-length c = search needs
@@ -31,7 +34,8 @@ same-length c = search needs
 returns : tie.Need-returns
 returns c =
     let s = c .before .before .before .before .before .before .before .before in
-    wide-token (textOf (s .args .token)) _ (c .before .before .before .before .before .before .row .ensures) (few-bytes _ (s .pre .1 .0)) (s .pre .1 .1) (omega (arith, s .pre .1 .2))
+    wide-token (textOf (s .args .token)) _ (c .before .before .before .before .before .before .row .ensures) (few-bytes _ (s .pre .1 .0)) (s .pre .1 .1)
+    (omega (arith, s .pre .1 .2))
     (c .before .before .put-word .ensures)
 
 pub put-wide-token-spec : {M : Type 1} → statement M

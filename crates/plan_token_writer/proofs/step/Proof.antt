@@ -16,7 +16,13 @@ mul-item : tie.Need-mul-item
 mul-item c = let p = c .before .before .pre in search (needs, within _ (p .ordered) [] _ _ _ (p .some) (p .contexts) _ (p .room), p .size)
 
 slice-read-item : tie.Need-slice-read-item
-slice-read-item c = let p = c .before .before .before .pre in omega (arith, p .some, within _ (p .ordered) [] _ _ _ (p .some) (p .contexts) _ (p .room), p .size)
+slice-read-item c = let p = c .before .before .before .pre in omega (
+  arith,
+  p .some,
+  within _ (p .ordered) [] _ _ _ (p .some) (p .contexts) _
+      (p .room),
+  p .size,
+)
 
 cast-item : tie.Need-cast-item
 cast-item c = omega (arith, c .slice-known3 .given (c .before .before .before .args .top - 1))

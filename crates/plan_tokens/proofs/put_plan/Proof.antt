@@ -38,25 +38,43 @@ write-expression-requires c κs =
 
 put-procedures-requires : tie.Need-put-procedures-requires
 put-procedures-requires c κs =
-    let s = c .before .before .before .before .before .before .before .before .before .before .before .before .before .before .before .before .before .before .before .before .before in
+    let s = c .before .before .before .before .before .before .before .before .before .before .before .before .before .before .before .before .before
+    .before .before .before .before in
     let g = s .pre .0 .0 in
     let p = c .before .before .before .before .before .before .before .before .before .before .before .before .before .put-header .ensures in
-    let q = main-wrote _ _ g (c .before .before .before .before .before .before .before .before .before .before .before .before .before .before .before .before .root .ensures) (c .before .before .before .before .before .before .before .write-expression .ensures) in (
-      (g, c .before .before .before .before .before .before .before .before .before .before .before .before .before .before .before .all .ensures, omega (arith, s .pre .1, p .kept, q .kept)),
-      (c .before .before .before .before .before .before .before .before .before .before .before .before .before .before .before .before .before .procedures .ensures, rw (q .kept ∙ p .kept) (room-for-others _ _ g _ (s .pre .0 .1) _ _ (p .next) (q .next))),
+    let q = main-wrote _ _ g (c .before .before .before .before .before .before .before .before .before .before .before .before .before .before .before
+    .before .root .ensures) (c .before .before .before .before .before .before .before .write-expression .ensures) in (
+      (
+        g,
+        c .before .before .before .before .before .before .before .before .before .before .before .before .before .before .before .all .ensures,
+        omega
+            (arith, s .pre .1, p .kept, q .kept),
+      ),
+      (
+        c .before .before .before .before .before .before .before .before .before .before .before .before .before .before .before .before .before .procedures
+            .ensures,
+        rw (q .kept ∙ p .kept) (room-for-others _ _ g _ (s .pre .0 .1) _ _ (p .next) (q .next)),
+      ),
     )
 
 same-length : tie.Need-same-length
 same-length c = search needs
 
 same-length-2 : tie.Need-same-length-2
-same-length-2 c = c .before .before .before .before .put-procedures .ensures .kept ∙ c .before .before .before .before .before .before .before .before .before .before .before .before .write-expression .ensures .kept ∙ c .before .before .before .before .before .before .before .before .before .before .before .before .before .before .before .before .before .before .put-header .ensures .kept
+same-length-2 c = c .before .before .before .before .put-procedures .ensures .kept
+    ∙ c .before .before .before .before .before .before .before .before .before .before .before .before .write-expression .ensures .kept
+    ∙ c .before .before .before .before .before .before .before .before .before .before .before .before .before .before .before .before .before .before
+    .put-header .ensures .kept
 
 returns : tie.Need-returns
 returns c =
-    let g = c .before .before .before .before .before .before .before .before .before .before .before .before .before .before .before .before .before .before .before .before .before .before .before .before .before .before .pre .0 .0 in
-    let q = main-wrote _ _ g (c .before .before .before .before .before .before .before .before .before .before .before .before .before .before .before .before .before .before .before .before .before .root .ensures) (c .before .before .before .before .before .before .before .before .before .before .before .before .write-expression .ensures) in
-    added-as (whole-is _ _ g) (added-more (c .before .before .before .before .before .before .before .before .before .before .before .before .before .before .before .before .before .before .put-header .ensures) (added-more q (c .before .before .before .before .put-procedures .ensures)))
+    let g = c .before .before .before .before .before .before .before .before .before .before .before .before .before .before .before .before .before
+    .before .before .before .before .before .before .before .before .before .pre .0 .0 in
+    let q = main-wrote _ _ g (c .before .before .before .before .before .before .before .before .before .before .before .before .before .before .before
+    .before .before .before .before .before .before .root .ensures) (c .before .before .before .before .before .before .before .before .before .before
+    .before .before .write-expression .ensures) in
+    added-as (whole-is _ _ g) (added-more (c .before .before .before .before .before .before .before .before .before .before .before .before .before .before
+    .before .before .before .before .put-header .ensures) (added-more q (c .before .before .before .before .put-procedures .ensures)))
 
 pub put-plan-spec : {M : Type 1} → statement M
 put-plan-spec =

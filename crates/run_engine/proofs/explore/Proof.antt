@@ -428,13 +428,15 @@ module _ (c : Refocused) where
   -- without room
   full-so : fullOf (c .refocus .result .last) ≡ true → picked (ends c .stack) (noRoom room.Depth) ≡ answered (since c)
   full-so f =
-      steps.full (words there) (roots there) (setting there) (engine (at (since c))) (mover (since c)) (begun-so (since c)) (begins-so (since c)) refocuses moving f
+      steps.full (words there) (roots there) (setting there) (engine (at (since c))) (mover (since c)) (begun-so (since c))
+      (begins-so (since c)) refocuses moving f
 
   module _ (roomy : fullOf (c .refocus .result .last) ≡ false) where
     -- a move that only goes on elsewhere
     on : OneOf (0 ∷ 1 ∷ 2 ∷ []) (tagOf begun-type.the-type (begun-so (since c))) → goesOnBy (head (since c) .ready .redex) ≡ true
     on other =
-        steps.on (words there) (roots there) (setting there) (engine (at (since c))) (mover (since c)) (begun-so (since c)) (begins-so (since c)) refocuses roomy moving
+        steps.on (words there) (roots there) (setting there) (engine (at (since c))) (mover (since c)) (begun-so (since c))
+        (begins-so (since c)) refocuses roomy moving
         other
 
     gone-on : OneOf (0 ∷ 1 ∷ 2 ∷ []) (tagOf begun-type.the-type (begun-so (since c)))
@@ -442,7 +444,8 @@ module _ (c : Refocused) where
         (getD (cells (at (since c))) (cellNumber (head (since c) .ready)) noCell) (c .refocus .result .last)))
         ≡ answered (since c)
     gone-on other =
-        steps.goes-on (words there) (roots there) (setting there) (engine (at (since c))) (mover (since c)) (begun-so (since c)) (begins-so (since c)) refocuses roomy
+        steps.goes-on (words there) (roots there) (setting there) (engine (at (since c))) (mover (since c)) (begun-so (since c))
+        (begins-so (since c)) refocuses roomy
         moving other
 
     -- another: a fork; or not
@@ -451,12 +454,14 @@ module _ (c : Refocused) where
         (refocusedHead (c .refocus .result .last) (at (since c) .loop2 .tally .counts .objects) (head (since c) .keys) 0)))
         ≡ answered (since c)
     forked acts n =
-        steps.forks (words there) (roots there) (setting there) (engine (at (since c))) (mover (since c)) (begun-so (since c)) (begins-so (since c)) refocuses roomy acts n
+        steps.forks (words there) (roots there) (setting there) (engine (at (since c))) (mover (since c)) (begun-so (since c))
+        (begins-so (since c)) refocuses roomy acts n
 
     alone : {a : Acted} → begun-so (since c) ≡ how.Acted a → forksOf (head (since c)) ≡ false
         → picked (ends c .stack) (answer.Moved (leftBy (head (since c)) a (c .refocus .result .last) noHead)) ≡ answered (since c)
     alone acts n =
-        steps.moves (words there) (roots there) (setting there) (engine (at (since c))) (mover (since c)) (begun-so (since c)) (begins-so (since c)) refocuses roomy acts n
+        steps.moves (words there) (roots there) (setting there) (engine (at (since c))) (mover (since c)) (begun-so (since c))
+        (begins-so (since c)) refocuses roomy acts n
 
 -- ---- a pick of a move that only goes on elsewhere
 
@@ -479,7 +484,8 @@ loop2-again-4 c =
     let put = c .before .before .before .before .before .before .put-move in
     let none = c .before .before .before .before .before .before .before .before .no-entry .ensures in
     let other = c .before .before .before .before .before .before .before .before .before .match3 .keys2 in
-    let roomy : fullOf (f .refocus .result .last) ≡ false = sym (c .before .before .before .before .before .before .before .before .before .before .before .before .full .ensures) ∙ c .before .before .before .before .before .before .before .before .before .before .before .if4 .left in
+    let roomy : fullOf (f .refocus .result .last) ≡ false = sym (c .before .before .before .before .before .before .before .before .before .before .before
+    .before .full .ensures) ∙ c .before .before .before .before .before .before .before .before .before .before .before .if4 .left in
     let before : put .result .moves ≡ l .loop2 .tally .moves = ap (λ (s : Tally). s .moves) (put .ensures .0 .0) in
     let moves : c .moved .result .moves ≡ put .result .moves + 1 = ap (λ (s : Tally). s .moves) (c .moved .ensures .0) in
     let records : c .moved .result .records ≡ put .result .records = ap (λ (s : Tally). s .records) (c .moved .ensures .0) in (
@@ -520,8 +526,10 @@ after-requires c κs = (here (at (since (c .before .before .before .before .befo
 
 moved-requires-4 : tie.Need-moved-requires-4 Inv-loop2 μ-loop2 Inv-loop3 μ-loop3 Inv-loop μ-loop
 moved-requires-4 c κs =
-    let x = since (c .before .before .before .before .before .before .before .before .before .before .before .before .before .before .before .before .before .before .before .before .before .before) in
-    let e : c .before .before .before .before .before .before .before .before .before .put-move2 .result .moves ≡ at x .loop2 .tally .moves = ap (λ (s : Tally). s .moves) (c .before .before .before .before .before .before .before .before .before .put-move2 .ensures .0 .0) in
+    let x = since (c .before .before .before .before .before .before .before .before .before .before .before .before .before .before .before .before .before
+    .before .before .before .before .before) in
+    let e : c .before .before .before .before .before .before .before .before .before .put-move2 .result .moves ≡ at x .loop2 .tally .moves = ap
+    (λ (s : Tally). s .moves) (c .before .before .before .before .before .before .before .before .before .put-move2 .ensures .0 .0) in
     omega (arith, e, here (at x) .few-moves, few x)
 
 -- its cell, where its redex changes none
@@ -533,7 +541,8 @@ unchanged c {v} z e q h =
 
 loop2-again-5 : tie.Need-loop2-again-5 Inv-loop2 μ-loop2 Inv-loop3 μ-loop3 Inv-loop μ-loop
 loop2-again-5 c =
-    let f = c .before .before .before .before .before .before .before .before .before .before .before .before .before .before .before .before .before .before .before .before .before .before .before in
+    let f = c .before .before .before .before .before .before .before .before .before .before .before .before .before .before .before .before .before
+    .before .before .before .before .before .before in
     let x = since f in
     let d = asked x in
     let l = at x in
@@ -544,8 +553,12 @@ loop2-again-5 c =
     let queue = c .before .before .before .before .before .before .before .before .before .before .before .before .before .before .after in
     let j = c .before .before .before .before .before .before .if5 in
     let k = c .before .before .before .before .if6 in
-    let acts = c .before .before .before .before .before .before .before .before .before .before .before .before .before .before .before .before .before .begun2 .given .1 in
-    let roomy : fullOf (f .refocus .result .last) ≡ false = sym (c .before .before .before .before .before .before .before .before .before .before .before .before .before .before .before .before .before .before .before .before .before .full .ensures) ∙ c .before .before .before .before .before .before .before .before .before .before .before .before .before .before .before .before .before .before .before .before .if4 .left in
+    let acts = c .before .before .before .before .before .before .before .before .before .before .before .before .before .before .before .before .before
+    .begun2 .given .1 in
+    let roomy : fullOf (f .refocus .result .last) ≡ false = sym (c .before .before .before .before .before .before .before .before .before .before .before
+    .before .before .before .before .before .before .before .before .before .before .full .ensures)
+    ∙ c .before .before .before .before .before .before .before .before .before .before .before .before .before .before .before .before .before .before
+    .before .before .if4 .left in
     let same = c .before .before .before .before .before .changes .ensures in
     let before : put .result .moves ≡ l .loop2 .tally .moves = ap (λ (s : Tally). s .moves) (put .ensures .0 .0) in
     let moves : c .moved4 .result .moves ≡ put .result .moves + 1 = ap (λ (s : Tally). s .moves) (c .moved4 .ensures .0) in
@@ -568,7 +581,8 @@ loop2-again-5 c =
                 (heads-forked (l .loop2 .heads) (j .heads) (l .loop2 .tally .counts .threads % 9) (mover x) (w .4 .ensures) (eq-eqb _ _ (w .0 .taken))
                 (w .2 .ensures)
                 (w .5 ∙ ap (λ (n : ℕ). set (set (l .loop2 .heads) n (w .2 .result)) (mover x) (w .4 .result)) (w .3 .ensures)))
-                (object-put (l .loop2 .objects) _ _ _ (c .before .remainder3 .ensures)) (queue .ensures) (put .ensures .0 .0) (c .moved4 .ensures .0) (put .ensures .1)) (λ w.
+                (object-put (l .loop2 .objects) _ _ _ (c .before .remainder3 .ensures)) (queue .ensures) (put .ensures .0 .0) (c .moved4 .ensures .0)
+                (put .ensures .1)) (λ w.
                 let came = alone f roomy acts (ne-eqb _ _ (w .0 .left)) in
                 moved (words r) (roots r) (setting r) (engine l) (pick d) qs (l .loop2 .i) _ (present x) came refl
                 (map restoreOf (k .cells)) (j .heads) _ (queue .last .0) (put .result) (c .moved4 .result) (put .last .0)
@@ -577,7 +591,8 @@ loop2-again-5 c =
                 (λ u. cell-left (l .loop2 .cells) (k .cells) _ _ (u .1) (unchanged x _ refl came (sym same ∙ u .0 .left))) (k .came))
                 (heads-alone (l .loop2 .heads) (j .heads) (l .loop2 .tally .counts .threads % 9) (mover x) (w .1 .ensures) noHead (ne-eqb _ _ (w .0 .left))
                 (w .2))
-                (object-put (l .loop2 .objects) _ _ _ (c .before .remainder3 .ensures)) (queue .ensures) (put .ensures .0 .0) (c .moved4 .ensures .0) (put .ensures .1)) (j .came) ∙ next d first v qs;
+                (object-put (l .loop2 .objects) _ _ _ (c .before .remainder3 .ensures)) (queue .ensures) (put .ensures .0 .0) (c .moved4 .ensures .0)
+                (put .ensures .1)) (j .came) ∙ next d first v qs;
             unstopped = v .unstopped;
             eight = queue .kept .0 ∙ v .eight;
             moves = moves-before d first v (l .loop2 .i + 1 - 1) (omega arith);
@@ -1058,10 +1073,20 @@ array-set-from-objects : tie.Need-array-set-from-objects Inv-loop2 μ-loop2 Inv-
 array-set-from-objects c = omega (arith, c .remainder .ensures)
 
 add-i-4 : tie.Need-add-i-4 Inv-loop2 μ-loop2 Inv-loop3 μ-loop3 Inv-loop μ-loop
-add-i-4 c = record { fits = omega (arith, few (since (c .before .before .before .before .before .before .before .before .before .before .before .before .before .before))) }
+add-i-4 c = record {
+  fits = omega (
+    arith,
+    few (since (c .before .before .before .before .before .before .before .before .before .before .before .before
+        .before .before)),
+  );
+}
 
 loop2-less-4 : tie.Need-loop2-less-4 Inv-loop2 μ-loop2 Inv-loop3 μ-loop3 Inv-loop μ-loop
-loop2-less-4 c = omega (arith, begun (since (c .before .before .before .before .before .before .before .before .before .before .before .before .before .before)))
+loop2-less-4 c = omega (
+  arith,
+  begun (since (c .before .before .before .before .before .before .before .before .before .before .before .before .before
+      .before)),
+)
 
 forked-requires : tie.Need-forked-requires Inv-loop2 μ-loop2 Inv-loop3 μ-loop3 Inv-loop μ-loop
 forked-requires c κs = search needs
@@ -1118,10 +1143,20 @@ array-set-from-objects-2 : tie.Need-array-set-from-objects-2 Inv-loop2 μ-loop2 
 array-set-from-objects-2 c = omega (arith, c .remainder3 .ensures)
 
 add-i-5 : tie.Need-add-i-5 Inv-loop2 μ-loop2 Inv-loop3 μ-loop3 Inv-loop μ-loop
-add-i-5 c = record { fits = omega (arith, few (since (c .before .before .before .before .before .before .before .before .before .before .before .before .before .before .before .before .before .before .before .before .before .before .before))) }
+add-i-5 c = record {
+  fits = omega (
+    arith,
+    few (since (c .before .before .before .before .before .before .before .before .before .before .before .before
+        .before .before .before .before .before .before .before .before .before .before .before)),
+  );
+}
 
 loop2-less-5 : tie.Need-loop2-less-5 Inv-loop2 μ-loop2 Inv-loop3 μ-loop3 Inv-loop μ-loop
-loop2-less-5 c = omega (arith, begun (since (c .before .before .before .before .before .before .before .before .before .before .before .before .before .before .before .before .before .before .before .before .before .before .before)))
+loop2-less-5 c = omega (
+  arith,
+  begun (since (c .before .before .before .before .before .before .before .before .before .before .before .before .before
+      .before .before .before .before .before .before .before .before .before .before)),
+)
 
 pub explore-spec : {M : Type 1} → statement M
 explore-spec =
@@ -1160,7 +1195,8 @@ explore-spec =
     mul-heads array-set-from-heads-2 no-object-requires remainder-requires mul-objects array-set-from-objects moved-requires
     add-i-4 loop2-less-4 loop2-again-4
     -- the queues, and its record
-    slice-aggregate-after after-requires (λ c κs. fits (since (c .before .before .before .before .before .before .before .before .before .before .before .before)))
+    slice-aggregate-after after-requires (λ c κs. fits (since (c .before .before .before .before .before .before .before .before .before .before .before
+    .before)))
     -- a new thread and the mover, or the mover alone
     forked-requires remainder-requires-2 mul-heads-2 array-set-from-heads-3 moved-requires-2 mul-heads-3 array-set-from-heads-4
     moved-requires-3 mul-heads-4 array-set-from-heads-5

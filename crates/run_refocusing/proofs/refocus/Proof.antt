@@ -57,7 +57,8 @@ whole : (l : Turning) → afterOf (words l) (roots l) (l .loop .more) (second l)
 whole l =
     l .loop .inv .5
     ∙ ap (λ (b : Refocused). afterOf (words l) (roots l) (l .before .before .before .args .forks) (second l) b
-    (refocusFrom (words l) (roots l) (l .before .before .before .args .first) (l .before .before .before .args .stack .now))) (l .before .no-refocusing .ensures)
+    (refocusFrom (words l) (roots l) (l .before .before .before .args .first) (l .before .before .before .args .stack .now)))
+    (l .before .no-refocusing .ensures)
 
 halted : (l : Turning) → 0 < l .loop .left → liveOf (l .loop .go) ≡ false → rest l ≡ here l
 halted l h e = halts (l .loop .left) (words l) (roots l) (l .loop .base) (l .loop .stack) (l .loop .go) (l .loop .depth) h e

@@ -51,7 +51,13 @@ returns c = simp (c .back .ensures, c .before .frame-at .ensures, c .before .bef
 
 returns-2 : tie.Need-returns-2
 unfolding stepOf
-returns-2 c = simp (c .back-condition .ensures, c .before .frame-at2 .ensures, c .before .before .top2 .ensures .0, c .before .before .before .enum-told2 .given .1)
+returns-2 c = simp (
+  c .back-condition .ensures,
+  c .before .frame-at2 .ensures,
+  c .before .before .top2 .ensures .0,
+  c .before .before .before .enum-told2
+      .given .1,
+)
 
 returns-3 : tie.Need-returns-3
 unfolding stepOf

@@ -22,7 +22,8 @@ part-write-start : tie.Need-part-write-start
 part-write-start c = search needs
 
 part-write-end : tie.Need-part-write-end
-part-write-end c = let s = c .before .before .before .before .before .before .before .before in let g = s .pre in let p = c .before .before .before .put-plan .ensures in omega (arith, p .next, p .kept, plan-few _ _ g)
+part-write-end c = let s = c .before .before .before .before .before .before .before .before in let g = s .pre in let p = c .before .before .before
+    .put-plan .ensures in omega (arith, p .next, p .kept, plan-few _ _ g)
 
 slice-aggregate-write : tie.Need-slice-aggregate-write
 slice-aggregate-write c = search needs
@@ -38,7 +39,8 @@ same-length : tie.Need-same-length
 same-length c = search needs
 
 returns : tie.Need-returns
-returns c = plan-text _ (c .before .before .before .before .before .before .before .before .before .before .put-plan .ensures) (c .before .before .before .write .ensures)
+returns c = plan-text _ (c .before .before .before .before .before .before .before .before .before .before .put-plan .ensures)
+    (c .before .before .before .write .ensures)
 
 pub show-long-spec : {M : Type 1} → statement M
 show-long-spec =

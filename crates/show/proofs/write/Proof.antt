@@ -24,19 +24,28 @@ returns c = inl (record { short = rw (c .before .before .before .measure .ensure
 lay-out-requires : tie.Need-lay-out-requires
 lay-out-requires c κs =
     let s = c .before .before .before .before .before .before .before .before .before .before .before .before .before in
-    let m = c .before .before .before .before .before .before .measure .ensures in
-    ((c .before .before .before .before .before .before .before .before .before .rows .ensures, s .pre .0, m .1, s .pre .1), (search (needs, s .pre .2), m .0, c .before .before .before .if1 .left))
+    let m = c .before .before .before .before .before .before .measure .ensures in (
+      (c .before .before .before .before .before .before .before .before .before .rows .ensures, s .pre .0, m .1, s .pre .1),
+      (search (needs, s .pre .2), m .0, c .before .before .before .if1 .left),
+    )
 
 same-length-2 : tie.Need-same-length-2
 same-length-2 c = search needs
 
 same-length-3 : tie.Need-same-length-3
-same-length-3 c = ap L.length (c .before .before .lay-out .ensures) ∙ overwrite-length _ _ (rw (c .before .before .before .before .before .before .before .before .before .measure .ensures .0) at (c .before .before .before .before .before .before .if1 .left))
+same-length-3 c = ap L.length (c .before .before .lay-out .ensures) ∙ overwrite-length _ _
+    (rw (c .before .before .before .before .before .before .before .before .before .measure .ensures .0) at
+    (c .before .before .before .before .before .before .if1 .left))
 
 returns-2 : tie.Need-returns-2
 returns-2 c =
     let e = c .before .before .before .before .before .before .before .before .before .measure .ensures .0 in
-    inr (record { long = rw e at (c .before .before .before .before .before .before .if1 .left); text = c .before .before .lay-out .ensures; answer = ap Value e })
+    inr (record {
+      long = rw e at (c .before .before .before .before .before .before .if1 .left);
+      text = c .before .before .lay-out .ensures;
+      answer = ap
+          Value e;
+    })
 
 pub write-spec : {M : Type 1} → statement M
 write-spec = tie.close (tie.spec rows-requires measure-requires same-length returns lay-out-requires same-length-2 same-length-3 returns-2)

@@ -48,7 +48,8 @@ add-put-sample c = search needs
 slice-aggregate-put-sample : tie.Need-slice-aggregate-put-sample Inv-loop μ-loop
 slice-aggregate-put-sample c =
     let l = c .before .before .before .before .before .before .before .loop in
-    sym (ap length (c .before .before .before .after-record .ensures (take (l .index) (logOf (c .before .before .before .before .before .before .before .before .before .before .before .args .log .now))) (l .inv .1)) ∙ end-length _)
+    sym (ap length (c .before .before .before .after-record .ensures (take (l .index)
+    (logOf (c .before .before .before .before .before .before .before .before .before .before .before .args .log .now))) (l .inv .1)) ∙ end-length _)
 
 put-sample-requires : tie.Need-put-sample-requires Inv-loop μ-loop
 unfolding recordCount sampleLines
